@@ -1,0 +1,8 @@
+//! The program `jp` as a library: a query and a document go in, lines of paths and values come out.
+#![tactic(auto)]
+
+mod device;
+mod input;
+mod output;
+
+pub use device::{Device, Failed, Output, Source};
