@@ -4,5 +4,6 @@
 mod device;
 mod input;
 mod output;
+mod words;
 
 pub use device::{Device, Failed, Output, Source};
