@@ -1,0 +1,51 @@
+// Documents: a value with its invariant.
+ghost use Rattle.std.specs.Prelude.{◌≡◌, [], map, option_map};
+ghost use Rattle.jp_document.specs.Value.{IsDocumentValue, value_of};
+
+use crate::location::Step;
+use crate::lookup::child_value;
+use crate::node::{Node, root_of};
+use crate::value::Json;
+use std::alloc::Global;
+
+/// A JSON document: whole numbers from -(2^63) to (2^64)-1, member names that strictly rise by their
+/// bytes, lists of at most (2^53)-1 items.
+#[derive(Drop)]
+pub struct Document {
+    json: Json,
+    ghost sound: { IsDocumentValue (value_of json) },
+}
+
+impl Document {
+    ghost use Rattle.jp_document.specs.Document.{document_of};
+    ghost use Rattle.jp_document.specs.Location.{key_of, value_at};
+    ghost use Rattle.jp_document.specs.Node.{told, StandsIn};
+
+    /// The document's value.
+    pub fn json(&self) -> &Json
+        ensures value { value_of result.now ≡ document_of self.now }
+        ensures sound { IsDocumentValue (document_of self.now) }
+    {
+        &self.json
+    }
+
+    /// The root, whose location is empty. It takes no memory: the allocator is for the nodes below it.
+    pub fn root(&self, alloc: Global) -> Node<'_>
+        ensures root { told result ≡ ([], document_of self.now) }
+        ensures stands { StandsIn (document_of self.now) result }
+    {
+        root_of(alloc, &self.json)
+    }
+
+    /// The value at a location, None where there is none (RFC 9535 section 1.1).
+    pub fn at(&self, location: &[Step]) -> Option<&Json>
+        ensures { option_map (λ j. value_of j.now) result
+            ≡ value_at (document_of self.now) (map key_of location.now) }
+    {
+        let mut json = &self.json;
+        for step in location {
+            json = child_value(json, *step)?;
+        }
+        Some(json)
+    }
+}

@@ -1,0 +1,30 @@
+// Locations (RFC 9535 section 1.1): lists of steps, of a document or of their own.
+
+/// One step of a location, which borrows its name.
+#[derive(Clone, Copy)]
+pub enum Step<'d> {
+    Name(&'d str),
+    /// From 0.
+    Index(u64),
+}
+
+/// One step of a location, with a name of its own.
+#[derive(Drop)]
+pub enum OwnedStep {
+    Name(String),
+    /// From 0.
+    Index(u64),
+}
+
+/// A location that borrows from no document.
+#[derive(Drop)]
+pub struct OwnedLocation {
+    steps: Vec<OwnedStep>,
+}
+
+impl OwnedLocation {
+    /// The steps, from the root on.
+    pub fn steps(&self) -> &[OwnedStep] {
+        &self.steps
+    }
+}
