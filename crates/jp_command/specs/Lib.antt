@@ -1,3 +1,4 @@
 pub mod Carried
 pub mod Streams
 pub mod CommandLine
+pub mod Lines

@@ -3,7 +3,9 @@
 
 mod device;
 mod input;
+mod lines;
 mod output;
 mod words;
 
 pub use device::{Device, Failed, Output, Source};
+pub use lines::Form;
