@@ -3,5 +3,6 @@ pub mod Location
 pub mod Node
 pub mod Path
 pub mod Spelling
+pub mod Stop
 pub mod Text
 pub mod Value

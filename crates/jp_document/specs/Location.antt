@@ -1,5 +1,5 @@
 -- Locations, their order, and the value that stands at one (RFC 9535 section 1.1).
-use Rattle.std.specs.Prelude.{ℕ, suc, List, [], ◌∷◌, Option, Some, option_and_then}
+use Rattle.std.specs.Prelude.{ℕ, suc, List, [], ◌∷◌, Option, Some, option_and_then, string_bytes}
 use Rattle.std.specs.BTreeMap.{is_at}
 use Rattle.std.specs.Cmp.Lexicographic.{slice_cmp}
 use Rattle.std.specs.Map.{lookup}
@@ -7,7 +7,9 @@ use Rattle.std.specs.Ordering.{nat_cmp}
 use Rattle.std.specs.declared.cmp.Ordering.{Ordering}
 use Rattle.std.specs.declared.cmp.Ordering.TheVariants.{Less, Greater}
 use Rattle.jp_document.specs.declared.location.Step.{Step}
-use Rattle.jp_document.specs.declared.location.Step.TheVariants.{Name, Index}
+use Rattle.jp_document.specs.declared.location.Step.TheVariants as step
+use Rattle.jp_document.specs.declared.location.OwnedStep.{OwnedStep}
+use Rattle.jp_document.specs.declared.location.OwnedStep.TheVariants as owned
 use Rattle.jp_document.specs.Value.{Value, null, boolean, whole, text, list, object, Items, no_items, item, Members, no_members, member}
 
 -- One step of a location: a member's name, by its bytes, or an item's index from 0.
@@ -19,8 +21,12 @@ abbrev pub Location : Type 0
 Location = List Key
 
 abbrev pub key_of : Step → Key
-key_of (Name s) = named s.now
-key_of (Index i) = nth i
+key_of (step.Name s) = named s.now
+key_of (step.Index i) = nth i
+
+abbrev pub owned_key : OwnedStep → Key
+owned_key (owned.Name s) = named (string_bytes s)
+owned_key (owned.Index i) = nth i
 
 -- names compare by bytes, indexes by number
 abbrev pub key_cmp : Key → Key → Ordering

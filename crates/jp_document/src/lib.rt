@@ -18,6 +18,7 @@ mod location;
 mod lookup;
 mod node;
 mod path;
+mod reading;
 mod spelling;
 mod text;
 mod value;

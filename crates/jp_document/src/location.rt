@@ -16,6 +16,21 @@ pub enum OwnedStep {
     Index(u64),
 }
 
+impl OwnedStep {
+    ghost use Rattle.std.specs.Prelude.{◌≡◌};
+    ghost use Rattle.jp_document.specs.Location.{key_of, owned_key};
+
+    /// The same step, which borrows the name.
+    pub(crate) fn as_step(&self) -> Step<'_>
+        ensures { key_of result ≡ owned_key self.now }
+    {
+        match self {
+            OwnedStep::Name(name) => Step::Name(name.as_str()),
+            OwnedStep::Index(index) => Step::Index(*index),
+        }
+    }
+}
+
 /// A location that borrows from no document.
 #[derive(Drop)]
 pub struct OwnedLocation {

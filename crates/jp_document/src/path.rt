@@ -1,9 +1,9 @@
 // Normalized paths (RFC 9535 section 2.7).
 ghost use Rattle.std.specs.Prelude.{◌≡◌, ◌++◌, map, string_bytes, IfOk, OnOk};
-ghost use Rattle.jp_document.specs.Location.{key_of};
+ghost use Rattle.jp_document.specs.Location.{key_of, owned_key};
 ghost use Rattle.jp_document.specs.Path.{path_of, quoted, step_text, index_text};
 
-use crate::location::Step;
+use crate::location::{OwnedStep, Step};
 use crate::spelling::push_quoted;
 use itoa::Buffer;
 use std::alloc::{AllocError, Global};
@@ -36,6 +36,17 @@ pub fn push_path(out: &mut String, location: &[Step]) -> Result<(), AllocError>
         push_step(out, *step)?;
     }
     Ok(())
+}
+
+/// The normalized path of a location that borrows nothing.
+pub(crate) fn owned_path_text(alloc: Global, location: &[OwnedStep]) -> Result<String, AllocError>
+    ensures { IfOk result (λ s. string_bytes s ≡ path_of (map owned_key location.now)) }
+{
+    let mut text = String::from_str(alloc, "$")?;
+    for step in location {
+        push_step(&mut text, step.as_step())?;
+    }
+    Ok(text)
 }
 
 /// Appends one step of a normalized path.

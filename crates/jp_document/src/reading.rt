@@ -2,13 +2,19 @@
 ghost use Rattle.std.specs.Prelude.{◌≡◌, ◌∷◌, [], ◌++◌, map, reverse, Some, true, IfOk, IfErr};
 ghost use Rattle.serde_json.specs.View.{view, items_view, members_view};
 ghost use Rattle.jp_document.specs.Document.{value_of_data, items_of_data, members_of_data};
-ghost use Rattle.jp_document.specs.Stop.{StopsAt, StopsInItems, StopsInMembers};
+ghost use Rattle.jp_document.specs.Stop.{StopsAt, IsFaultAt};
+ghost use Rattle.serde_json.specs.Data.{array, object};
 ghost use Rattle.jp_document.specs.Value.{value_of, items_of, members_of, member_of, everywhere, everywhere_in_items, everywhere_in_members, list_fits, is_allowed};
 
+use crate::fault::DocumentFault;
 use crate::location::OwnedStep;
+use crate::path::owned_path_text;
 use crate::value::{Json, Member};
 use serde_json::{Map, Number, Value};
 use std::alloc::{AllocError, Global};
+
+/// The most items of a list, (2^53)-1.
+const MAX_ITEMS: usize = 9_007_199_254_740_991;
 
 /// Why a reading has no value.
 #[derive(Drop)]
@@ -58,13 +64,13 @@ fn whole_items(alloc: Global, items: Vec<Value>) -> Result<Vec<Json>, Stop>
         (λ v. items_of_data (items_view items.items) ≡ Some (items_of (map value_of v.items))) }
     ensures sound { IfOk result (λ v. everywhere_in_items list_fits (items_of (map value_of v.items)) ≡ true
         → everywhere_in_items is_allowed (items_of (map value_of v.items)) ≡ true) }
-    ensures stop { IfErr result (StopsInItems (items_view items.items)) }
+    ensures stop { IfErr result (StopsAt (array (items_view items.items))) }
 {
     let mut wholes = Vec::with_capacity(alloc, items.len())?;
     let mut index = 0;
     for item in items {
         match whole(alloc, item) {
-            Ok(json) => wholes.push(json)?,
+            Ok(json) => wholes.push(json).map_err(AllocError::from)?,
             Err(stop) => return Err(within(stop, OwnedStep::Index(index))),
         }
         index += 1;
@@ -78,12 +84,14 @@ fn whole_members(alloc: Global, members: Map<String, Value>) -> Result<Vec<Membe
         ≡ Some (members_of (map member_of v.items))) }
     ensures sound { IfOk result (λ v. everywhere_in_members list_fits (members_of (map member_of v.items)) ≡ true
         → everywhere_in_members is_allowed (members_of (map member_of v.items)) ≡ true) }
-    ensures stop { IfErr result (StopsInMembers (members_view members.entries)) }
+    ensures stop { IfErr result (StopsAt (object (members_view members.entries))) }
 {
     let mut wholes = Vec::with_capacity(alloc, members.len())?;
     for (name, member) in members {
         match whole(alloc, member) {
-            Ok(value) => wholes.push(Member { name, value })?,
+            Ok(value) => wholes
+                .push(Member { name, value })
+                .map_err(AllocError::from)?,
             Err(stop) => return Err(within(stop, OwnedStep::Name(name))),
         }
     }
@@ -99,4 +107,58 @@ fn within(stop: Stop, step: OwnedStep) -> Stop {
         },
         Stop::NoMemory => Stop::NoMemory,
     }
+}
+
+impl Stop {
+    /// The fault of the document whose reading stopped so.
+    pub(crate) fn fault(self, alloc: Global) -> DocumentFault
+        ensures path { IsFaultAt self result }
+    {
+        match self {
+            Stop::Fraction(mut steps) => {
+                steps.reverse();
+                match owned_path_text(alloc, &steps) {
+                    Ok(path) => DocumentFault::NotWhole(path),
+                    Err(_) => DocumentFault::NoMemory,
+                }
+            }
+            Stop::NoMemory => DocumentFault::NoMemory,
+        }
+    }
+}
+
+/// Whether each list in the value has at most (2^53)-1 items.
+#[cycle(fit)]
+pub(crate) fn lists_fit(json: &Json) -> bool
+    ensures { result ≡ everywhere list_fits (value_of json.now) }
+{
+    match json {
+        Json::List(items) => items.len() <= MAX_ITEMS && items_fit(items),
+        Json::Members(members) => members_fit(members),
+        _ => true,
+    }
+}
+
+#[cycle(fit)]
+fn items_fit(items: &[Json]) -> bool
+    ensures { result ≡ everywhere_in_items list_fits (items_of (map value_of items.now)) }
+{
+    for item in items {
+        if !lists_fit(item) {
+            return false;
+        }
+    }
+    true
+}
+
+#[cycle(fit)]
+fn members_fit(members: &[Member]) -> bool
+    ensures { result ≡ everywhere_in_members list_fits (members_of (map member_of members.now)) }
+{
+    for member in members {
+        if !lists_fit(&member.value) {
+            return false;
+        }
+    }
+    true
 }

@@ -1,7 +1,7 @@
 // How texts are spelled between quotes.
 ghost use Rattle.std.specs.Prelude.{◌≡◌, ◌<◌, ◌≤◌, ◌++◌, ◌∷◌, [], true, false, length, take, slice_index, string_bytes, IsTrue, OnOk};
 ghost use Rattle.std.specs.List.{flat_map};
-ghost use Rattle.jp_document.specs.Spelling.{spelling, quoted_in, hex_digit};
+ghost use Rattle.jp_document.specs.Spelling.{spelling, quoted_in, hex_digit, control};
 
 use std::alloc::AllocError;
 
@@ -49,6 +49,7 @@ fn plain_len(text: &[u8], quote: u8) -> usize
 }
 
 /// Whether the byte has a spelling of its own.
+#[tactic(auto, unfolding(crate::specs::Spelling::spelling))]
 fn is_marked(byte: u8, quote: u8) -> bool
     requires { quote < 128 }
     ensures plain { result ≡ false → spelling quote byte ≡ byte ∷ [] }
@@ -58,6 +59,7 @@ fn is_marked(byte: u8, quote: u8) -> bool
 }
 
 /// Appends the spelling of one character.
+#[tactic(auto, unfolding(crate::specs::Spelling::spelling))]
 fn push_marked(out: &mut String, byte: u8, quote: u8) -> Result<(), AllocError>
     requires { byte < 128 }
     ensures { OnOk result (string_bytes out.new ≡ string_bytes out.old ++ spelling quote byte) }
@@ -68,27 +70,34 @@ fn push_marked(out: &mut String, byte: u8, quote: u8) -> Result<(), AllocError>
         b'\n' => out.push_str("\\n"),
         0x0c => out.push_str("\\f"),
         b'\r' => out.push_str("\\r"),
-        _ => push_other(out, byte, quote),
+        _ if byte == quote || byte == b'\\' => push_two(out, b'\\', byte),
+        _ if byte < 0x20 => push_control(out, byte),
+        _ => out.push(char::from(byte)),
     }
 }
 
-/// Appends the spelling of a character that has no letter.
-fn push_other(out: &mut String, byte: u8, quote: u8) -> Result<(), AllocError> {
-    if byte == quote || byte == b'\\' {
-        out.push('\\')?;
-        out.push(char::from(byte))
-    } else if byte < 0x20 {
-        out.push_str("\\u00")?;
-        out.push(hex_digit_of(byte / 16))?;
-        out.push(hex_digit_of(byte % 16))
-    } else {
-        out.push(char::from(byte))
-    }
-}
-
-fn hex_digit_of(n: u8) -> char
-    requires { n < 16 }
-    ensures { result ≡ hex_digit n }
+/// Appends a control character by its number.
+fn push_control(out: &mut String, byte: u8) -> Result<(), AllocError>
+    requires { byte < 32 }
+    ensures { OnOk result (string_bytes out.new ≡ string_bytes out.old ++ control byte) }
 {
-    char::from(if n < 10 { b'0' + n } else { b'a' + (n - 10) })
+    out.push_str("\\u00")?;
+    push_two(out, hex_digit_of(byte / 16), hex_digit_of(byte % 16))
+}
+
+fn push_two(out: &mut String, first: u8, second: u8) -> Result<(), AllocError>
+    requires first { first < 128 }
+    requires second { second < 128 }
+    ensures { OnOk result (string_bytes out.new ≡ string_bytes out.old ++ first ∷ second ∷ []) }
+{
+    out.push(char::from(first))?;
+    out.push(char::from(second))
+}
+
+fn hex_digit_of(n: u8) -> u8
+    requires { n < 16 }
+    ensures value { result ≡ hex_digit n }
+    ensures ascii { result < 128 }
+{
+    if n < 10 { b'0' + n } else { b'a' + (n - 10) }
 }
