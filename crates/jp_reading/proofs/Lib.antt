@@ -1,0 +1,5 @@
+pub mod Chars
+pub mod Folds
+pub mod Loops
+pub mod Progress
+pub mod Steps
