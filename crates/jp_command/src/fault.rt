@@ -1,0 +1,40 @@
+//! Why a run did not do what it was asked.
+
+ghost use Rattle.jp_command.specs.declared.fault.Fault.TheVariants.{NoMemory};
+ghost use Rattle.std.specs.Prelude.{◌≡◌};
+
+use jp_document::DocumentFault;
+use jp_query::Refusal;
+use std::alloc::AllocError;
+use thiserror::Error;
+
+/// Why a run did not do what it was asked.
+#[derive(Debug, PartialEq, Drop, Error)]
+pub enum Fault {
+    /// The query is refused; nothing was read or written.
+    #[error("the query is refused: {0:?}")]
+    Query(Refusal),
+    /// The input is no document; nothing was written.
+    #[error("the document is refused: {0:?}")]
+    Document(DocumentFault),
+    /// The input has more than 16,777,216 bytes; nothing was written.
+    #[error("the document is refused: it is too large")]
+    DocumentTooLarge,
+    /// The memory did not suffice; what was written is a front of the output.
+    #[error("want of memory")]
+    NoMemory,
+    /// A read failed; nothing was written.
+    #[error("a read failed")]
+    Read,
+    /// A write failed; what was written is a front of the output.
+    #[error("a write failed")]
+    Write,
+}
+
+impl From<AllocError> for Fault {
+    ghost from_gives = { λ _ fault. fault ≡ NoMemory };
+
+    fn from(_error: AllocError) -> Fault {
+        Fault::NoMemory
+    }
+}
