@@ -1,7 +1,6 @@
 -- The items of a query's tree, in the order in which they begin in a text.
-use Rattle.std.specs.Prelude.{List, [], ◌∷◌, ◌++◌}
+use Rattle.std.specs.Prelude.{List, [], ◌∷◌, ◌++◌, Some, None}
 use Rattle.jp_query.specs.declared.tree.Numeral.{Numeral}
-use Rattle.std.specs.Prelude.{Some}
 use Rattle.jp_reading.specs.Texts.{Spans}
 use Rattle.jp_query.specs.Tree.{SelectorTree, name, index, SelectorTrees, no_selectors, selector_then, SegmentTree, segment, SegmentTrees, no_segments, segment_then, QueryTree, query}
 
@@ -32,7 +31,8 @@ segments_items (segment_then x rest) = segment_items x ++ segments_items rest
 abbrev pub items_of : QueryTree → List QueryItem
 items_of (query absolute all) = segments_items all
 
--- each item has its own span, in the items' order
-pub data EachSpanned : List QueryItem → Spans → Type 0 where
-  none_left : EachSpanned [] []
-  spanned : {x : QueryItem} {xs : List QueryItem} {s : Spans} {span : _} → EachSpanned xs s → EachSpanned (x ∷ xs) (Some span ∷ s)
+-- each item has a span, and there are no others
+abbrev pub EachSpanned : List QueryItem → Spans → Type 0
+EachSpanned [] [] = Unit {0}
+EachSpanned (x ∷ xs) (Some span ∷ s) = EachSpanned xs s
+EachSpanned _ _ = ⊥

@@ -1,7 +1,7 @@
 -- The names of members: shorthands and strings (RFC 9535 sections 2.3.1.1 and 2.5.1.1).
 use Rattle.std.specs.Prelude.{◌≡◌, ℕ, Bool, not, ◌&&◌, ◌||◌, nat_le, ◌==◌, [], ◌∷◌}
 use Rattle.jp_reading.specs.Texts.{Text, Spans}
-use Rattle.jp_reading.specs.Forms.{word, One, ◌⌢◌, Each}
+use Rattle.jp_reading.specs.Forms.{Form, word, One, ◌⌢◌, Each}
 use Rattle.jp_reading.specs.Numbers.{is_digit}
 
 -- name-first (section 2.5.1.1): a letter, `_`, or any scalar value from U+0080 up
@@ -22,7 +22,7 @@ abbrev pub is_plain : ℕ → ℕ → Bool
 is_plain quote c = nat_le 32 c && not (c == quote) && not (c == 92)
 
 -- the characters cs between two of the quotation mark
-abbrev pub Between : ℕ → Text → Spans → ℕ → Text → Type 0
+abbrev pub Between : ℕ → Text → Form
 Between quote cs = word (quote ∷ []) ⌢ Each (One (is_plain quote)) cs ⌢ word (quote ∷ [])
 
 -- string-literal (section 2.3.1.1), without escapes: double quotation marks, or single ones

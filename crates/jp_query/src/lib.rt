@@ -1,8 +1,11 @@
 //! Queries of JSONPath: their trees and the reader of their texts.
 #![tactic(auto)]
 
+mod ints;
+mod names;
 mod parsed;
 mod refusal;
+mod segments;
 mod tree;
 
 pub use jp_reading::Span;

@@ -1,11 +1,18 @@
-ghost use Rattle.std.specs.Prelude.{◌≡◌};
+ghost use Rattle.std.specs.Prelude.{◌≡◌, ◌⊎◌, IfOk, IfErr};
+ghost use Rattle.std.specs.Str.{chars};
 ghost use Rattle.jp_query.specs.Tree.{query_of};
 ghost use Rattle.jp_query.specs.Items.{items_of, EachSpanned};
-ghost use Rattle.jp_query.specs.Spelled.{IsSpelled};
+ghost use Rattle.jp_query.specs.Grammar.{Spells};
+ghost use Rattle.jp_query.specs.Spelled.{IsSpelled, SpellsNothing};
 
-use crate::tree::Query;
-use jp_reading::Span;
+use std::alloc::Global;
 use std::marker::Model;
+
+use jp_reading::{Reader, Span};
+
+use crate::refusal::{Refusal, RefusalKind};
+use crate::segments::query;
+use crate::tree::Query;
 
 /// A query and the spans of its items, as some text spells them.
 #[derive(Debug, Drop)]
@@ -28,6 +35,23 @@ impl Model for Parsed {
     ghost view = { spanned };
 
     ghost invariant = { IsSpelledInside };
+}
+
+/// Reads the text of a query (RFC 9535 section 2.1), in which at most 64 filters, parentheses and calls stand inside one
+/// another.
+///
+/// A text that spells no query is refused as `Syntax`, at the first byte at which it begins none, or at its end.
+/// `NoMemory`, at place 0, says nothing of the text.
+pub fn parse(alloc: Global, text: &str) -> Result<Parsed, Refusal>
+    ensures found { IfOk result (λ p. Spells 64 (query_of p.query) p.spans (chars text.now)) }
+    ensures only { IfErr result (λ r. (r.kind ≡ RefusalKind.NoMemory) ⊎ SpellsNothing 64 (chars text.now)) }
+    ensures kinds { IfErr result (λ r. (r.kind ≡ RefusalKind.Syntax) ⊎ ((r.kind ≡ RefusalKind.NoMemory) × (r.place ≡ 0))) }
+{
+    let mut reader = Reader::new(alloc, text);
+    match query(&mut reader, 64) {
+        Ok(query) => Ok(Parsed { query, spans: reader.into_spans() }),
+        Err(stop) => Err(Refusal::from(stop)),
+    }
 }
 
 impl Parsed {

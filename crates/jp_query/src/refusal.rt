@@ -1,6 +1,8 @@
 ghost use Rattle.std.specs.Prelude.{◌≡◌, codes};
 ghost use Rattle.jp_query.specs.Refusal.{number_of, name_of};
 
+use jp_reading::Stop;
+
 /// Why a query is refused, and where.
 #[derive(Debug, Clone, Copy, PartialEq, Eq)]
 pub struct Refusal {
@@ -34,6 +36,30 @@ pub enum RefusalKind {
     NoMemory,
     /// A text longer than the program takes, at place 0.
     TextTooLong,
+}
+
+impl From<Stop> for Refusal {
+    ghost use Rattle.std.specs.Prelude.{◌≡◌};
+    ghost use Rattle.jp_query.specs.Stops.{refusal_of};
+
+    ghost from_gives = { λ stop r. r ≡ refusal_of stop };
+
+    fn from(stop: Stop) -> Refusal {
+        match stop {
+            Stop::Memory => Refusal {
+                kind: RefusalKind::NoMemory,
+                place: 0,
+            },
+            Stop::Syntax(place) => Refusal {
+                kind: RefusalKind::Syntax,
+                place,
+            },
+            Stop::TooDeep(place) => Refusal {
+                kind: RefusalKind::TooDeep,
+                place,
+            },
+        }
+    }
 }
 
 impl RefusalKind {

@@ -1,7 +1,9 @@
 -- Steps over one character, and over blanks.
-use Rattle.std.proofs.Common.{◌≡◌, ℕ, suc, ◌+◌, ◌<◌, ◌≤◌, Bool, true, false, cond, List, [], ◌∷◌, length, Option, Some, None, inl, inr, refl, sym, ap, ◌∙◌, arith}
+use Rattle.std.proofs.Common.{◌≡◌, ℕ, ◌+◌, ◌<◌, ◌≤◌, Bool, true, false, List, [], ◌∷◌, ◌++◌, append-nil, length, Some, None, inl, inr, refl, sym, ap, ◌∙◌, arith}
 use Rattle.std.proofs.lemmas.Bool.{cases_Bool}
-use Rattle.std.specs.Char.{len_utf8}
+use Rattle.std.proofs.lemmas.Str.{chars_past_char, chars-append, chars-nil, IsUtf8-encode}
+use Rattle.std.specs.Char.{len_utf8, encode_utf8, IsScalar}
+use Rattle.std.specs.Str.{chars, IsUtf8}
 use Rattle.jp_reading.specs.Texts.{Text, Spans, is_blank}
 use Rattle.jp_reading.specs.Outcome.{State, head, first_of, past, past_first, past_blanks, skip, after_blank, passes}
 
@@ -77,3 +79,9 @@ past_blanks-shorter at found (c ∷ t) =
 -- blanks that are skipped leave no longer text
 pub skip-shorter : (p : State) → length (skip p).rest ≤ length p.rest
 skip-shorter p = past_blanks-shorter p.at p.found p.rest
+
+-- a character pushed to the end of a text
+pub chars_push : (s : List ℕ) (c : ℕ) → IsUtf8 s → IsScalar c → chars (s ++ encode_utf8 c) ≡ chars s ++ c ∷ []
+chars_push s c text scalar =
+    chars-append s (encode_utf8 c) text
+    ∙ ap (λ t. chars s ++ t) (chars_past_char (encode_utf8 c) [] c (IsUtf8-encode c scalar) (sym (append-nil (encode_utf8 c))) ∙ ap (λ t. c ∷ t) chars-nil)

@@ -1,4 +1,5 @@
 pub mod Chars
+pub mod Digits
 pub mod Folds
 pub mod Loops
 pub mod Progress

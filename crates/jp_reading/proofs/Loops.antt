@@ -1,5 +1,5 @@
 -- How loops go on and end.
-use Rattle.std.proofs.Common.{◌≡◌, ℕ, zero, suc, ◌+◌, ◌<◌, ◌≤◌, Bool, true, false, List, [], ◌∷◌, length, inl, inr, refl, sym, ap, ◌∙◌, arith}
+use Rattle.std.proofs.Common.{◌≡◌, ℕ, zero, suc, ◌<◌, Bool, true, false, List, [], ◌∷◌, length, inl, inr, refl, ap, arith}
 use Rattle.std.proofs.lemmas.Bool.{cases_Bool}
 use Rattle.jp_reading.specs.Outcome.{State, Outcome, took, stuck, deep, ◌>>=◌, loop, each}
 use Rattle.jp_reading.proofs.Progress.{Moves, Progress}
@@ -33,7 +33,7 @@ pub each-on : {A : Type 0} (begins : State → Bool) (rule : State → Outcome A
 unfolding loop
 each-on begins rule h p on =
     rw on (round-same p (rule p) (loop (length p.rest) begins rule) (each begins rule) (h p)
-      (λ q less. loop-same (length p.rest) (suc (length q.rest)) begins rule h q less (omega arith)))
+    (λ q less. loop-same (length p.rest) (suc (length q.rest)) begins rule h q less (omega arith)))
 
 -- and ends where none does
 pub each-off : {A : Type 0} (begins : State → Bool) (rule : State → Outcome A) (p : State)

@@ -1,7 +1,7 @@
 -- That rules leave shorter texts, so that loops over them end.
-use Rattle.std.proofs.Common.{◌≡◌, ℕ, zero, suc, ◌+◌, ◌<◌, ◌≤◌, Bool, true, false, List, [], ◌∷◌, length, Option, Some, None, inl, inr, refl, sym, ap, ◌∙◌, subst, arith}
+use Rattle.std.proofs.Common.{◌≡◌, ℕ, zero, suc, ◌<◌, ◌≤◌, Bool, length, Option, Some, None, inl, inr, refl, arith}
 use Rattle.std.proofs.lemmas.Bool.{cases_Bool}
-use Rattle.jp_reading.specs.Outcome.{State, Outcome, took, stuck, deep, ◌>>=◌, head, first_of, past, skip, passes, take_passing, take_if, loop, each, item, enter}
+use Rattle.jp_reading.specs.Outcome.{State, Outcome, took, stuck, deep, ◌>>=◌, head, skip, take_passing, take_if, loop, each, item}
 use Rattle.jp_reading.specs.Views.{by}
 use Rattle.jp_reading.proofs.Chars.{past-shorter, skip-shorter}
 

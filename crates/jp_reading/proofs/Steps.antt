@@ -1,6 +1,6 @@
 -- What single steps of a rule do: taking a character, or stopping at it.
-use Rattle.std.proofs.Common.{◌≡◌, ℕ, Bool, true, false, Option, Some, None, refl, sym, ap, ◌∙◌}
-use Rattle.jp_reading.specs.Outcome.{State, Outcome, took, stuck, deep, ◌>>=◌, head, past, passes, take_passing, take_if}
+use Rattle.std.proofs.Common.{◌≡◌, ℕ, Bool, true, false, Option, Some, None, refl}
+use Rattle.jp_reading.specs.Outcome.{State, took, stuck, head, past, passes, take_passing, take_if}
 
 take_passing-takes : (ok : ℕ → Bool) (p : State) (o : Option ℕ) (c : ℕ) → o ≡ Some c → ok c ≡ true
     → take_passing ok p o ≡ took c (past p)

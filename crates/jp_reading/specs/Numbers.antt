@@ -1,5 +1,5 @@
 -- Digits, and the numbers that they write in base ten.
-use Rattle.std.specs.Prelude.{◌≡◌, ℕ, ◌+◌, ◌-◌, ◌*◌, ◌<◌, min, nat_le, Bool, true, ◌&&◌, List, [], ◌∷◌, length}
+use Rattle.std.specs.Prelude.{◌≡◌, ℕ, ◌+◌, ◌-◌, ◌*◌, ◌<◌, min, nat_le, Bool, ◌&&◌, [], ◌∷◌, length}
 use Rattle.jp_reading.specs.Texts.{Text, Spans}
 use Rattle.jp_reading.specs.Forms.{AllPassing}
 use Rattle.jp_reading.specs.Outcome.{State, Outcome, took, ◌>>=◌, head, passes, take_if, each}

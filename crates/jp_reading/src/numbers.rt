@@ -1,9 +1,9 @@
-use crate::reader::{Reader, Stop};
-
 ghost use Rattle.std.specs.Prelude.{◌≡◌, ◌+◌, ◌≤◌, IfOk, IsTrue};
 ghost use Rattle.jp_reading.specs.Outcome.{head, passes};
 ghost use Rattle.jp_reading.specs.Numbers.{is_digit, is_at_digit, digit_at, digits_at, capped};
 ghost use Rattle.jp_reading.specs.Views.{Gives, by};
+
+use crate::reader::{Reader, Stop};
 
 /// Whether the next character is a digit.
 pub fn is_at_digit(reader: &Reader) -> bool
@@ -36,7 +36,10 @@ pub fn natural(reader: &mut Reader, cap: u128) -> Result<u128, Stop>
     let mut number = u128::from(digit(reader)?).min(cap);
     'digits: while is_at_digit(reader) {
         let next = digit(reader)?;
-        number = number.saturating_mul(10).saturating_add(u128::from(next)).min(cap);
+        number = number
+            .saturating_mul(10)
+            .saturating_add(u128::from(next))
+            .min(cap);
     }
     Ok(number)
 }

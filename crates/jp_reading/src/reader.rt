@@ -1,14 +1,13 @@
-use std::alloc::{AllocError, Global};
-use std::marker::Model;
-
-use crate::span::Span;
-
 ghost use Rattle.std.specs.Prelude.{◌≡◌, ◌∷◌, [], ◌+◌, length, MatchOption, IfSome, OnOk, OnErr};
 ghost use Rattle.std.specs.Char.{len_utf8};
 ghost use Rattle.std.specs.Str.{chars, IsUtf8};
 ghost use Rattle.jp_reading.specs.Texts.{is_blank};
-ghost use Rattle.jp_reading.specs.Outcome.{State, head, passes, past, skip, after_blank, is_at, expect, item_since};
+ghost use Rattle.jp_reading.specs.Outcome.{State, head, first_of, passes, past, skip, after_blank, is_at, expect, item_since};
 ghost use Rattle.jp_reading.specs.Views.{Gives};
+
+use crate::span::Span;
+use std::alloc::{AllocError, Global};
+use std::marker::Model;
 
 /// Why reading stops.
 #[derive(Clone, Copy, PartialEq, Eq, Debug)]
@@ -34,12 +33,10 @@ impl From<AllocError> for Stop {
 
 /// The first character of a text and the text after it; None at the end.
 pub fn split_first(text: &str) -> Option<(char, &str)>
-    ensures parts {
-        MatchOption
-            result
-            (chars text.now ≡ [])
-            (λ x. (chars text.now ≡ x.0 ∷ chars x.1.now) × (length text.now ≡ len_utf8 x.0 + length x.1.now))
-    }
+    ensures parts { MatchOption
+        result
+        (chars text.now ≡ [])
+        (λ x. (chars text.now ≡ x.0 ∷ chars x.1.now) × (length text.now ≡ len_utf8 x.0 + length x.1.now)) }
     ensures text { IfSome result (λ x. IsUtf8 x.1.now) }
 {
     let mut characters = text.chars();
@@ -92,8 +89,15 @@ impl<'t> Reader<'t> {
     pub fn peek(&self) -> Option<char>
         ensures { result ≡ head self.now }
     {
+        first_of(self.rest)
+    }
+
+    /// The character after the next; None where there is none.
+    pub fn peek_second(&self) -> Option<char>
+        ensures { result ≡ head (past self.now) }
+    {
         match split_first(self.rest) {
-            Some((first, _)) => Some(first),
+            Some((_, rest)) => first_of(rest),
             None => None,
         }
     }
@@ -221,6 +225,16 @@ fn is_blank(c: char) -> bool
     ensures { result ≡ is_blank c }
 {
     matches!(c, ' ' | '\t' | '\n' | '\r')
+}
+
+// The first character of a text.
+fn first_of(text: &str) -> Option<char>
+    ensures { result ≡ first_of (chars text.now) }
+{
+    match split_first(text) {
+        Some((first, _)) => Some(first),
+        None => None,
+    }
 }
 
 // The first character of a text that is no blank.

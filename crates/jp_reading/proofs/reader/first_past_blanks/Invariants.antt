@@ -9,7 +9,7 @@ abbrev pub invariant-blanks : goal.invariant-blanks
 invariant-blanks l =
     shadow (Utf8 l.rest)
     × (after_blank (record { at = 0; rest = chars l.rest; found = [] })
-      ≡ after_blank (record { at = 0; rest = chars l.fn.text; found = [] }))
+    ≡ after_blank (record { at = 0; rest = chars l.fn.text; found = [] }))
 
 abbrev pub decreases-blanks : goal.decreases-blanks
 decreases-blanks l = length l.rest

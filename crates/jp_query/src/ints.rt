@@ -1,0 +1,57 @@
+ghost use Rattle.std.specs.Prelude.{◌≡◌, ◌^◌, ◌<◌, min};
+ghost use Rattle.jp_reading.specs.Views.{Gives, by};
+ghost use Rattle.jp_query.specs.Reading.{int_at, size_at};
+ghost use Rattle.jp_query.specs.Ints.{whole_of, negative_of};
+
+use jp_reading::{Reader, Stop, natural};
+
+use crate::tree::Numeral;
+
+/// A whole number (RFC 9535 section 2.3.3.1, int).
+#[tactic(auto, unfolding(crate::specs::Reading::int_at))]
+pub fn int(reader: &mut Reader) -> Result<Numeral, Stop>
+    ensures { Gives (λ x. x) result reader.new (int_at reader.old) }
+{
+    if reader.is_at('0') {
+        reader.bump();
+        return Ok(whole(0));
+    }
+    if reader.is_at('-') {
+        reader.bump();
+        return Ok(negative(size(reader)?));
+    }
+    Ok(whole(size(reader)?))
+}
+
+/// The number that digits without a leading zero write, or 2^64 where it is larger.
+#[tactic(auto, unfolding(crate::specs::Reading::size_at))]
+fn size(reader: &mut Reader) -> Result<u128, Stop>
+    ensures { Gives (λ n. n) result reader.new (by (λ n. min n (2 ^ 64)) (size_at reader.old)) }
+{
+    match reader.peek() {
+        Some('1'..='9') => natural(reader, 1 << 64),
+        _ => Err(Stop::Syntax(reader.place())),
+    }
+}
+
+/// The whole number of that size.
+fn whole(size: u128) -> Numeral
+    ensures { result ≡ whole_of size }
+{
+    if size < 1 << 64 {
+        Numeral::Whole(size as i128)
+    } else {
+        Numeral::Beyond
+    }
+}
+
+/// The number below zero of that size.
+fn negative(size: u128) -> Numeral
+    ensures { result ≡ negative_of size }
+{
+    if size <= 1 << 63 {
+        Numeral::Whole(-(size as i128))
+    } else {
+        Numeral::Beyond
+    }
+}
