@@ -1,3 +1,6 @@
 pub mod StreamLemmas
 pub mod CommandLineLemmas
 pub mod Rows
+pub mod LineLemmas
+pub mod AcceptedLemmas
+pub mod NodelistLemmas

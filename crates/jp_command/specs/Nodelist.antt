@@ -24,8 +24,8 @@ item_at n (negsuc i) = if nat_lt i n then Some (n - suc i) else None
 
 -- the item of the list at l that an index selects (section 2.3.3.2)
 abbrev pub item_chosen : Value → ℤ → Location → List Location
-item_chosen d i l = option_map_or (λ k. one_step d l (nth k)) []
-    (option_and_then (λ n. item_at n i) (option_and_then list_length (value_at d l)))
+item_chosen d i l = option_map_or (λ k. one_step d l (nth k))
+    (option_and_then (λ n. item_at n i) (option_and_then list_length (value_at d l))) []
 
 -- what a selector selects at l (section 2.3)
 abbrev pub chosen : Value → SelectorTree → Location → List Location
@@ -44,10 +44,14 @@ abbrev pub visited : Bool → List Location → List Location
 visited false ls = ls
 visited true ls = []
 
+-- what a segment gives from a list of nodes: what it selects at each, joined in the list's order (section 2.5)
+abbrev pub segment_result : SegmentTree → Value → List Location → List Location
+segment_result (segment deep ss) d ls = flat_map (selected d ss) (visited deep ls)
+
 -- what segments give from a list of nodes: each takes the list that the one before it gave
 abbrev pub result : SegmentTrees → Value → List Location → List Location
 result no_segments d ls = ls
-result (segment_then (segment deep ss) rest) d ls = result rest d (flat_map (selected d ss) (visited deep ls))
+result (segment_then s rest) d ls = result rest d (segment_result s d ls)
 
 -- the nodelist: what the segments give from the root alone
 abbrev pub nodelist : QueryTree → Value → List Location

@@ -8,6 +8,10 @@ use Rattle.jp_document.specs.Value.{Value, value_of}
 abbrev pub Place : Type 0
 Place = Location × Option Value
 
+-- the location of a node
+abbrev pub location_of : Located → Location
+location_of node = node.location
+
 -- the place of a node
 abbrev pub seen : Located → Place
 seen node = (node.location, Some (value_of node.value))

@@ -1,10 +1,10 @@
 //! Reading a query that is accepted.
 
-ghost use Rattle.std.specs.Prelude.{◌≡◌, ◌⊎◌, ◌++◌, ◌∷◌, List, None, Some, IfErr, IfOk, OnOk};
+ghost use Rattle.std.specs.Prelude.{◌≡◌, ◌⊎◌, ◌++◌, ◌∷◌, List, Some, IfErr, IfOk, OnOk};
 ghost use Rattle.jp_query.specs.Items.{QueryItem, as_index, int, items_of, segment_items};
 ghost use Rattle.jp_query.specs.Tree.{query_of, segment_of};
 ghost use Rattle.jp_query.specs.declared.refusal.RefusalKind.TheVariants.{NoMemory};
-ghost use Rattle.jp_command.specs.Accepted.{IsAccepted, IsRefused, first_fault, is_index};
+ghost use Rattle.jp_command.specs.Accepted.{IsAccepted, IsFaultless, IsRefused, first_fault, is_index};
 
 use jp_query::{Numeral, Parsed, Query, Refusal, RefusalKind, Segment, Selector, Span, parse};
 use std::alloc::Global;
@@ -26,8 +26,7 @@ pub(crate) fn read_query(alloc: Global, text: &str) -> Result<Query, Refusal>
 
 /// Refuses the first index that is out of range.
 fn check(parsed: &Parsed) -> Result<(), Refusal>
-    ensures ok { OnOk result
-        (first_fault (items_of (query_of parsed.now.query)) parsed.now.spans ≡ None) }
+    ensures ok { OnOk result (IsFaultless (query_of parsed.now.query)) }
     ensures fault { IfErr result (λ refusal.
         first_fault (items_of (query_of parsed.now.query)) parsed.now.spans ≡ Some refusal) }
 {

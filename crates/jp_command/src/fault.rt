@@ -1,10 +1,13 @@
 //! Why a run did not do what it was asked.
 
-ghost use Rattle.jp_command.specs.declared.fault.Fault.TheVariants.{NoMemory};
 ghost use Rattle.std.specs.Prelude.{◌≡◌};
+ghost use Rattle.jp_command.specs.declared.fault.Fault.TheVariants.{NoMemory};
+ghost use Rattle.jp_command.specs.Faults.{fault_of_document, fault_of_input, fault_of_lines, fault_of_refusal};
 
+use crate::input::InputFault;
+use crate::lines::LineFault;
 use jp_document::DocumentFault;
-use jp_query::Refusal;
+use jp_query::{Refusal, RefusalKind};
 use std::alloc::AllocError;
 use thiserror::Error;
 
@@ -36,5 +39,50 @@ impl From<AllocError> for Fault {
 
     fn from(_error: AllocError) -> Fault {
         Fault::NoMemory
+    }
+}
+
+impl From<Refusal> for Fault {
+    ghost from_gives = { λ refusal fault. fault ≡ fault_of_refusal refusal };
+
+    fn from(refusal: Refusal) -> Fault {
+        match refusal.kind {
+            RefusalKind::NoMemory => Fault::NoMemory,
+            _ => Fault::Query(refusal),
+        }
+    }
+}
+
+impl From<InputFault> for Fault {
+    ghost from_gives = { λ fault given. given ≡ fault_of_input fault };
+
+    fn from(fault: InputFault) -> Fault {
+        match fault {
+            InputFault::TooLarge => Fault::DocumentTooLarge,
+            InputFault::Read => Fault::Read,
+            InputFault::NoMemory => Fault::NoMemory,
+        }
+    }
+}
+
+impl From<DocumentFault> for Fault {
+    ghost from_gives = { λ fault given. given ≡ fault_of_document fault };
+
+    fn from(fault: DocumentFault) -> Fault {
+        match fault {
+            DocumentFault::NoMemory => Fault::NoMemory,
+            fault => Fault::Document(fault),
+        }
+    }
+}
+
+impl From<LineFault> for Fault {
+    ghost from_gives = { λ fault given. given ≡ fault_of_lines fault };
+
+    fn from(fault: LineFault) -> Fault {
+        match fault {
+            LineFault::NoMemory => Fault::NoMemory,
+            LineFault::Write => Fault::Write,
+        }
     }
 }

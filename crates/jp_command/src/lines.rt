@@ -2,7 +2,8 @@
 
 ghost use Rattle.std.specs.Prelude.{◌≡◌, ◌⊎◌, ◌++◌, true, IfErr, IsErrOf, OnErr, OnOk, map, string_bytes};
 ghost use Rattle.std.specs.Io.KnownBytes.{Appends};
-ghost use Rattle.jp_command.specs.Lines.{line_of, lines_of, seen};
+ghost use Rattle.jp_command.specs.Lines.{line_of, lines_of};
+ghost use Rattle.jp_command.specs.Places.{seen};
 ghost use Rattle.jp_command.specs.Streams.{AppendsFront};
 ghost use Rattle.jp_command.specs.declared.lines.LineFault.TheVariants.{NoMemory, Write};
 
