@@ -4,3 +4,4 @@ pub mod Rows
 pub mod LineLemmas
 pub mod AcceptedLemmas
 pub mod NodelistLemmas
+pub mod RunLemmas

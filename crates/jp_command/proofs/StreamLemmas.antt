@@ -1,7 +1,8 @@
 -- What is read or written in two steps.
-use Rattle.std.proofs.Common.{◌≡◌, ℕ, ◌-◌, List, [], ◌++◌, length, take, drop, Option, Some, None, Result, Ok, Err, OnErr, sym, ◌∙◌, ap, append_assoc, refl}
+use Rattle.std.proofs.Common.{◌≡◌, ℕ, ◌-◌, List, [], ◌++◌, length, take, drop, Option, Some, None, Result, Ok, Err, OnErr, OnOk, sym, ◌∙◌, ap, append_assoc, refl}
 use Rattle.std.proofs.lemmas.List.{append-nil, take-append-drop, take_rest}
 use Rattle.std.specs.Io.KnownBytes.{Appends, Consumes, Keeps}
+use Rattle.jp_command.specs.Streams.{AppendsFront}
 
 pub Appends-nothing : (a : Option (List ℕ)) → Appends a a []
 Appends-nothing None = tt
@@ -50,3 +51,9 @@ front-step a b c text rest n before written =
 pub OnErr-from : {T E P : Type 0} (r : Result T E) → P → OnErr r P
 OnErr-from (Ok x) p = tt
 OnErr-from (Err e) p = p
+
+-- all of a text, or a front of it, is a front of it
+pub front-either : {T E : Type 0} (a b : Option (List ℕ)) (text : List ℕ) (r : Result T E)
+    → OnOk r (Appends a b text) → OnErr r (AppendsFront a b text) → AppendsFront a b text
+front-either a b text (Ok x) whole front = (text, [], sym (append-nil text), whole)
+front-either a b text (Err e) whole front = front

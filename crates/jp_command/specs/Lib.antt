@@ -7,3 +7,4 @@ pub mod Places
 pub mod Lines
 pub mod Faults
 pub mod Run
+pub mod Line

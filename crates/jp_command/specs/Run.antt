@@ -71,6 +71,6 @@ module _ {R W : Type 0} (remaining : R → Option (List ℕ)) (has_failed : R �
   RunsEval form text i j o p (Err DocumentTooLarge) = ReadsTooMuch text (remaining i) (remaining j) × (p ≡ o)
   RunsEval form text i j o p (Err NoMemory) =
       (p ≡ o) ⊎ WritesFront form text (remaining i) (remaining j) (contents o) (contents p)
-  RunsEval form text i j o p (Err Read) = (has_failed j ≡ true) × (p ≡ o)
+  RunsEval form text i j o p (Err Read) = ((q : QueryTree) × IsAsked text q) × (has_failed j ≡ true) × (p ≡ o)
   RunsEval form text i j o p (Err Write) =
       (writes_failed p ≡ true) × WritesFront form text (remaining i) (remaining j) (contents o) (contents p)
