@@ -1,2 +1,4 @@
 pub mod Paths
 pub mod Spellings
+pub mod Texts
+pub mod Values
