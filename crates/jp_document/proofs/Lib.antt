@@ -1,3 +1,5 @@
+pub mod Items
+pub mod Names
 pub mod Paths
 pub mod Spellings
 pub mod Texts

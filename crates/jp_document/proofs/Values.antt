@@ -10,5 +10,5 @@ value_of-List v = search (rules, the_lemmas)
 pub value_of-Members : (v : Vec Member Global) → value_of (Members v) ≡ object (members_of (map member_of v.items))
 value_of-Members v = search (rules, the_lemmas)
 
-pub member_of-is : (m : Member) → member_of m ≡ (string_bytes m.name, value_of m.value)
-member_of-is m = search (rules, the_lemmas)
+pub member_of_is : (m : Member) → member_of m ≡ (string_bytes m.name, value_of m.value)
+member_of_is m = search (rules, the_lemmas)
