@@ -1,4 +1,6 @@
 pub mod Children
+pub mod Fits
+pub mod Fractions
 pub mod Items
 pub mod Names
 pub mod Paths
