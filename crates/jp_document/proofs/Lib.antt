@@ -1,2 +1,9 @@
+pub mod Children
+pub mod Fits
+pub mod Fractions
+pub mod Items
+pub mod Names
 pub mod Paths
 pub mod Spellings
+pub mod Texts
+pub mod Values

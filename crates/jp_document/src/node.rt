@@ -1,4 +1,4 @@
-// Nodes (RFC 9535 section 1.1): a location with the value that stands there, both borrowed from the document.
+//! Nodes (RFC 9535 section 1.1): a location with the value that stands there, both borrowed from the document.
 ghost use Rattle.std.specs.Prelude.{◌≡◌, ℕ, [], ◌∷◌, ◌++◌, map, option_map, IfOk};
 ghost use Rattle.jp_document.specs.Value.{Value, IsDocumentValue, value_of};
 
@@ -104,10 +104,7 @@ pub fn child_named<'d>(
     ensures stands { (d : Value) → StandsIn d node.now
         → IfOk result (IsNodeAt d (node.now.location ++ named name.now ∷ [])) }
 {
-    let Json::Members(members) = node.value else {
-        return Ok(None);
-    };
-    match member_named(members, name) {
+    match member_named(node.value, name) {
         Some(member) => Ok(Some(node.extended(
             alloc,
             Step::Name(member.name.as_str()),
@@ -127,10 +124,7 @@ pub fn child_at<'d>(
     ensures stands { (d : Value) → StandsIn d node.now
         → IfOk result (IsNodeAt d (node.now.location ++ nth index ∷ [])) }
 {
-    let Json::List(items) = node.value else {
-        return Ok(None);
-    };
-    match item_at(items, index) {
+    match item_at(node.value, index) {
         Some(item) => Ok(Some(node.extended(alloc, Step::Index(index), item)?)),
         None => Ok(None),
     }

@@ -1,5 +1,5 @@
-// The compact text of values: JSON (RFC 8259) without blank space.
-ghost use Rattle.std.specs.Prelude.{◌≡◌, ◌++◌, map, string_bytes, IfOk, OnOk};
+//! The compact text of values: JSON (RFC 8259) without blank space.
+ghost use Rattle.std.specs.Prelude.{◌≡◌, ◌==◌, [], ◌∷◌, ◌++◌, if◌then◌else◌, map, string_bytes, IfOk, OnOk};
 ghost use Rattle.std.specs.List.{join_with_byte};
 ghost use Rattle.jp_document.specs.Text.{text_of, item_texts, member_texts};
 ghost use Rattle.jp_document.specs.Value.{value_of, items_of, members_of, member_of};
@@ -49,9 +49,7 @@ fn push_items(out: &mut String, items: &[Json]) -> Result<(), AllocError>
         ≡ string_bytes out.old ++ join_with_byte 44 (item_texts (items_of (map value_of items.now)))) }
 {
     for (i, item) in items.iter().enumerate() {
-        if i > 0 {
-            out.push(',')?;
-        }
+        push_comma(out, i)?;
         push_value(out, item)?;
     }
     Ok(())
@@ -63,12 +61,18 @@ fn push_members(out: &mut String, members: &[Member]) -> Result<(), AllocError>
         ++ join_with_byte 44 (member_texts (members_of (map member_of members.now)))) }
 {
     for (i, member) in members.iter().enumerate() {
-        if i > 0 {
-            out.push(',')?;
-        }
+        push_comma(out, i)?;
         push_quoted(out, member.name.as_str(), b'"')?;
         out.push(':')?;
         push_value(out, &member.value)?;
     }
     Ok(())
+}
+
+/// Appends the comma before the part at this index: none before the first.
+fn push_comma(out: &mut String, index: usize) -> Result<(), AllocError>
+    ensures { OnOk result (string_bytes out.new
+        ≡ string_bytes out.old ++ (if index == 0 then [] else 44 ∷ [])) }
+{
+    if index > 0 { out.push(',') } else { Ok(()) }
 }

@@ -35,6 +35,7 @@ runs-preserved c =
     let cut : rest ≡ run ++ first ∷ c.split_at-in-runs.result.1.now =
     sym (take-append-drop c.plain_len.result rest) ∙ ap (λ xs. xs ++ drop c.plain_len.result rest) (sym c.split_at.ensures.front)
     ∙ ap (λ xs. run ++ xs) (sym c.split_at.ensures.back ∙ first_and_rest marked first some is ∙ ap (λ xs. first ∷ xs) (sym tail)) in
-    let wrote : string_bytes c.push_marked.new.out ≡ (string_bytes c.runs.out ++ run) ++ spelling c.args.quote first = search rules in
-    (IsUtf8-after marked _ utf8 some ascii tail,
-     moved (spelling c.args.quote) (string_bytes c.args.out.now) (string_bytes c.runs.out) _ run rest _ (flat_map (spelling c.args.quote) c.args.text.now) first cut plain wrote c.runs.invariant.1)
+    let wrote : string_bytes c.push_marked.new.out ≡ (string_bytes c.runs.out ++ run) ++ spelling c.args.quote first = search rules in (
+      IsUtf8-after marked _ utf8 some ascii tail,
+      moved (spelling c.args.quote) (string_bytes c.args.out.now) (string_bytes c.runs.out) _ run rest _ (flat_map (spelling c.args.quote) c.args.text.now) first cut plain wrote c.runs.invariant.1,
+    )
