@@ -1,2 +1,4 @@
+pub mod Moves
+pub mod Rounds
 pub mod Runs
 pub mod Sizes

@@ -11,13 +11,6 @@ use Rattle.jp_reading.proofs.Progress.{Progress, moves-take_if}
 use Rattle.jp_reading.proofs.Folds.{folds_on, folds_end}
 use Rattle.jp_query.specs.Reading.{run_at}
 
--- a character more at the end of a text
-pub chars_push : (s : List ℕ) (c : ℕ) → IsUtf8 s → IsScalar c → chars (s ++ encode_utf8 c) ≡ chars s ++ c ∷ []
-chars_push s c u h =
-    chars-append s (encode_utf8 c) u
-    ∙ ap (λ t. chars s ++ t)
-      (chars_past_char (encode_utf8 c) [] c (IsUtf8-encode c h) (sym (append-nil (encode_utf8 c))) ∙ ap (λ t. c ∷ t) chars-nil)
-
 -- nothing in front changes nothing
 pub with_front-nil : {A : Type 0} (o : Outcome (List A)) → with_front [] o ≡ o
 with_front-nil (took xs q) = refl
@@ -29,7 +22,7 @@ pub run_on : (ok : ℕ → Bool) (p : State) (c : ℕ) (s : Text) → head p ≡
     → with_front s (run_at ok p) ≡ with_front (s ++ c ∷ []) (run_at ok (past p))
 run_on ok p c s e h =
     folds_on (λ q. passes ok (head q)) (take_if ok) (moves-take_if ok) (λ ys. s ++ ys) (λ ys. (s ++ c ∷ []) ++ ys) p (past p) c
-      (rw e h) (take_if-takes ok p c e h) (λ ys. sym (append_assoc s (c ∷ []) ys))
+    (rw e h) (take_if-takes ok p c e h) (λ ys. sym (append_assoc s (c ∷ []) ys))
 
 -- and ends where none does
 pub run_end : (ok : ℕ → Bool) (p : State) (s : Text) → passes ok (head p) ≡ false → with_front s (run_at ok p) ≡ took s p

@@ -5,14 +5,12 @@ ghost use Rattle.jp_query.specs.Items.{items_of, EachSpanned};
 ghost use Rattle.jp_query.specs.Grammar.{Spells};
 ghost use Rattle.jp_query.specs.Spelled.{IsSpelled, SpellsNothing};
 
-use std::alloc::Global;
-use std::marker::Model;
-
-use jp_reading::{Reader, Span};
-
 use crate::refusal::{Refusal, RefusalKind};
 use crate::segments::query;
 use crate::tree::Query;
+use jp_reading::{Reader, Span};
+use std::alloc::Global;
+use std::marker::Model;
 
 /// A query and the spans of its items, as some text spells them.
 #[derive(Debug, Drop)]
@@ -49,7 +47,10 @@ pub fn parse(alloc: Global, text: &str) -> Result<Parsed, Refusal>
 {
     let mut reader = Reader::new(alloc, text);
     match query(&mut reader, 64) {
-        Ok(query) => Ok(Parsed { query, spans: reader.into_spans() }),
+        Ok(query) => Ok(Parsed {
+            query,
+            spans: reader.into_spans(),
+        }),
         Err(stop) => Err(Refusal::from(stop)),
     }
 }
