@@ -1,12 +1,12 @@
 -- The rules of queries leave shorter texts.
-use Rattle.std.proofs.Common.{◌≡◌, ℕ, ◌<◌, ◌≤◌, Bool, true, false, if◌then◌else◌, length, refl, arith}
+use Rattle.std.proofs.Common.{◌≡◌, ℕ, ◌<◌, ◌≤◌, Bool, true, false, if◌then◌else◌, length, refl, [], ◌∷◌, arith}
 use Rattle.jp_reading.specs.Outcome.{State, Outcome, took, stuck, deep, ◌>>=◌, head, past, skip, passes, is, is_at, take_if, expect, each, item}
 use Rattle.jp_reading.specs.Numbers.{is_digit, is_at_digit, digit_at, digits_at, value_from}
 use Rattle.jp_reading.specs.Views.{by}
 use Rattle.jp_reading.proofs.Chars.{past-shorter}
 use Rattle.jp_reading.proofs.Progress.{Moves, Keeps, Progress, keeps-from_moves, keeps-then, moves-then, moves-after, moves-skip, keeps-skip, moves-take_if, moves-by, moves-item, keeps-each}
 use Rattle.jp_reading.proofs.Digits.{digit_at-progress}
-use Rattle.jp_query.specs.Tree.{name, index}
+use Rattle.jp_query.specs.Tree.{name, index, segment, selectors}
 use Rattle.jp_query.specs.Names.{is_name_first, is_name_char, is_plain}
 use Rattle.jp_query.specs.Ints.{is_leading_digit, whole_of, negative_of}
 use Rattle.jp_query.specs.Reading.{run_at, shorthand_at, quoted_at, size_at, int_at, selector_at, bracket_at, dotted_at, segment_at}
@@ -20,12 +20,19 @@ keeps-if : {A : Type 0} (b : Bool) (p : State) (o u : Outcome A) → Keeps p o �
 keeps-if true p o u f g = f
 keeps-if false p o u f g = g
 
+keeps-by : {A B : Type 0} (f : A → B) (p : State) (o : Outcome A) → Keeps p o → Keeps p (by f o)
+keeps-by f p (took x q) h = h
+keeps-by f p (stuck q) h = tt
+keeps-by f p (deep q) h = tt
+
 keeps-run : (ok : ℕ → Bool) (p : State) → Keeps p (run_at ok p)
 keeps-run ok p = keeps-each (λ q. passes ok (head q)) (take_if ok) (moves-take_if ok) p
 
 keeps-shorthand : (p : State) → Keeps p (shorthand_at p)
 unfolding shorthand_at
-keeps-shorthand p = keeps-if (passes is_name_first (head p)) p (run_at is_name_char p) (stuck p) (keeps-run is_name_char p) tt
+keeps-shorthand p =
+    keeps-then p (take_if is_name_first p) _ (keeps-from_moves p (take_if is_name_first p) (moves-take_if is_name_first p))
+      (λ c q. keeps-by (λ cs. c ∷ cs) q (run_at is_name_char q) (keeps-run is_name_char q))
 
 moves-quoted : (quote : ℕ) (p : State) → Moves p (quoted_at quote p)
 unfolding quoted_at
@@ -34,17 +41,11 @@ moves-quoted quote p =
     (λ c q. keeps-then q (run_at (is_plain quote) q) _ (keeps-run (is_plain quote) q)
     (λ cs r. keeps-then r (expect quote r) _ (keeps-from_moves r (expect quote r) (moves-take_if (is quote) r)) (λ d w. omega arith)))
 
-moves-digits : (p : State) → Moves p (digits_at p)
-unfolding digits_at
-moves-digits p =
-    moves-then p (digit_at p) _ (digit_at-progress p)
-    (λ d q. keeps-then q (each is_at_digit digit_at q) _ (keeps-each is_at_digit digit_at digit_at-progress q) (λ ds r. omega arith))
-
 moves-size : (p : State) → Moves p (size_at p)
 unfolding size_at
 moves-size p =
-    moves-if (passes is_leading_digit (head p)) p (by (value_from 0) (digits_at p)) (stuck p)
-    (λ on. moves-by (value_from 0) p (digits_at p) (moves-digits p)) (λ off. tt)
+    moves-then p (take_if is_leading_digit p) _ (moves-take_if is_leading_digit p)
+      (λ d q. keeps-by (λ ds. value_from 0 (d ∷ ds)) q (run_at is_digit q) (keeps-run is_digit q))
 
 moves-int : (p : State) → Moves p (int_at p)
 unfolding int_at
@@ -78,7 +79,8 @@ moves-bracket n p =
 moves-dotted : (p : State) → Moves p (dotted_at p)
 unfolding dotted_at
 moves-dotted p =
-    moves-then p (expect 46 p) _ (moves-take_if (is 46) p) (λ c q. keeps-then q (shorthand_at q) _ (keeps-shorthand q) (λ cs r. omega arith))
+    moves-then p (expect 46 p) _ (moves-take_if (is 46) p)
+      (λ c q. keeps-by (λ cs. segment false (selectors (name cs ∷ []))) q (shorthand_at q) (keeps-shorthand q))
 
 pub moves-segment : (n : ℕ) (p : State) → Moves p (segment_at n p)
 unfolding segment_at
