@@ -1,156 +1,104 @@
--- What rules take, where nothing has to be said of texts that they refuse.
-use Rattle.std.proofs.Common.{◌≡◌, ℕ, zero, suc, Bool, List, [], ◌∷◌, length, Option, Some, None, inl, inr, refl, ap, ◌∙◌}
+-- What a rule took has the form of its value, where nothing is asked of a rule that fails.
+use Rattle.std.proofs.Common.{◌≡◌, ℕ, zero, suc, Bool, true, false, cond, [], ◌∷◌, length, Option, Some, None, inl, inr, refl, subst, arith}
 use Rattle.std.proofs.lemmas.Bool.{cases_Bool, eqb-true}
-use Rattle.jp_reading.specs.Forms.{Form, ◌⌢◌, word, One, Blank, Each, Separated, Item}
-use Rattle.jp_reading.specs.Outcome.{State, Outcome, took, stuck, deep, ◌>>=◌, head, skip, is, take_passing, take_if, expect, loop, each, item}
+use Rattle.jp_reading.specs.Texts.{Text, Spans}
+use Rattle.jp_reading.specs.Forms.{Form, ◌⌢◌, word, One, AllPassing, Each}
+use Rattle.jp_reading.specs.Numbers.{Digits, is_digit, is_at_digit, digit_at, digits_at}
+use Rattle.jp_reading.specs.Outcome.{State, Outcome, took, stuck, deep, ◌>>=◌, head, past, is, take_passing, take_if, expect, loop, each}
 use Rattle.jp_reading.specs.Views.{by}
-use Rattle.jp_reading.proofs.Between.{Reads, Within, Rule, Judged, between-same, reads-then, reads-as}
-use Rattle.jp_reading.proofs.Steps.{past-way, skip-way}
-use Rattle.jp_reading.proofs.Loops.{round}
-use Rattle.jp_reading.proofs.Levels.{Only, Then, Made}
-use Rattle.jp_reading.proofs.Judging.{reads-item}
+use Rattle.jp_reading.proofs.Between.{Reads, Within, between-same, reads-then, reads-as}
+use Rattle.jp_reading.proofs.Steps.{past-way}
 
--- what an outcome took is a text of the form
-abbrev pub Fitting : {A : Type 0} → (A → Form) → State → Outcome A → Type 0
-Fitting F p (took x q) = Reads (F x) p q
-Fitting F p (stuck r) = Unit {0}
-Fitting F p (deep r) = Unit {0}
+-- what was taken from p on has the form of its value
+abbrev pub Fits : {A : Type 0} → (A → Form) → State → Outcome A → Type 0
+Fits F p (took x q) = Reads (F x) p q
+Fits F p (stuck q) = Unit {0}
+Fits F p (deep q) = Unit {0}
 
-pub record Fits {A : Type 0} (F : A → Form) (p : State) (o : Outcome A) : Type 0 where
-  pub is : Fitting F p o
+-- one rule, and then one that goes on from what it read
+pub fits-then : {A B : Type 0} (F : A → Form) (G : B → Form) (p q : State) (o : Outcome A) (k : A → State → Outcome B)
+    → Fits F q o → ((x : A) (r : State) → Reads (F x) q r → Fits G p (k x r)) → Fits G p (o >>= k)
+fits-then F G p q (took x r) k h g = g x r h
+fits-then F G p q (stuck r) k h g = tt
+fits-then F G p q (deep r) k h g = tt
 
--- what is judged fits
-pub fits-judged : {A : Type 0} (R : Rule A) (p : State) (o : Outcome A) → Judged R p o → Fits R.here p o
-fits-judged R p (took x q) h = record { is = h.is }
-fits-judged R p (stuck r) h = record { is = tt }
-fits-judged R p (deep r) h = record { is = tt }
+pub fits-if : {A : Type 0} (F : A → Form) (b : Bool) (p : State) (o r : Outcome A)
+    → (b ≡ true → Fits F p o) → (b ≡ false → Fits F p r) → Fits F p (cond b o r)
+fits-if F true p o r f g = f refl
+fits-if F false p o r f g = g refl
 
--- nothing more, for the value y
-pub fits-end : {A : Type 0} (y : A) (p : State) → Fits (Only y (word [])) p (took y p)
-fits-end y p = record {
-  is = record {
-    spans = [];
-    text = [];
-    way = between-same p;
-    is = record { same = refl; is = record { none = refl; is = refl } };
-  };
-}
+-- values made by f
+pub fits-by : {A B : Type 0} (f : A → B) (F : A → Form) (G : B → Form) (p q : State) (o : Outcome A)
+    → Fits F q o → ((x : A) (r : State) → Reads (F x) q r → Reads (G (f x)) p r) → Fits G p (by f o)
+fits-by f F G p q o h g = fits-then F G p q o (λ x r. took (f x) r) h g
 
--- a wider form
 pub fits-as : {A : Type 0} (F G : A → Form) (p : State) (o : Outcome A) → ((x : A) → Within (F x) (G x)) → Fits F p o → Fits G p o
-fits-as F G p (took x q) w h = record { is = reads-as (F x) (G x) p q (w x) h.is }
-fits-as F G p (stuck r) w h = record { is = tt }
-fits-as F G p (deep r) w h = record { is = tt }
+fits-as F G p (took x q) w h = reads-as (F x) (G x) p q (w x) h
+fits-as F G p (stuck q) w h = tt
+fits-as F G p (deep q) w h = tt
 
--- after a text that was read
-pub fits-behind : {A : Type 0} (P : Form) (F : A → Form) (p q : State) (o : Outcome A)
-    → Reads P p q → Fits F q o → Fits (λ x. P ⌢ F x) p o
-fits-behind P F p q (took x r) h g = record { is = reads-then P (F x) p q r h g.is }
-fits-behind P F p q (stuck r) h g = record { is = tt }
-fits-behind P F p q (deep r) h g = record { is = tt }
+-- nothing at all
+pub reads-nothing : (p : State) → Reads (word []) p p
+reads-nothing p = record { spans = []; text = []; way = between-same p; is = record { none = refl; is = refl } }
 
-pub fits-skip : {A : Type 0} (F : A → Form) (p : State) (o : Outcome A) → Fits F (skip p) o → Fits (λ x. Blank ⌢ F x) p o
-fits-skip F p o h = fits-behind Blank F p (skip p) o (skip-way p) h
+-- a character that stands next
+pub reads-one : (ok : ℕ → Bool) (p : State) (c : ℕ) → head p ≡ Some c → ok c ≡ true → Reads (One ok c) p (past p)
+reads-one ok p c e h = record { spans = []; text = c ∷ []; way = past-way p c e; is = record { none = refl; is = refl; passes = h } }
 
--- one rule after another
-pub fits-then : {A B : Type 0} (F : A → Form) (H : A → B → Form) (p : State) (o : Outcome A) (k : A → State → Outcome B)
-    → Fits F p o → ((x : A) (q : State) → Fits (H x) q (k x q)) → Fits (Then F H) p (o >>= k)
-fits-then F H p (took x q) k h g =
-    fits-as (λ y. F x ⌢ H x y) (Then F H) p (k x q) (λ y s o t j. record { part = x; is = j })
-    (fits-behind (F x) (H x) p q (k x q) h.is (g x q))
-fits-then F H p (stuck r) k h g = record { is = tt }
-fits-then F H p (deep r) k h g = record { is = tt }
+pub reads-word : (p : State) (c : ℕ) → head p ≡ Some c → Reads (word (c ∷ [])) p (past p)
+reads-word p c e = record { spans = []; text = c ∷ []; way = past-way p c e; is = record { none = refl; is = refl } }
 
--- characters
+-- a character that passes
 pub fits-take_if : (ok : ℕ → Bool) (p : State) → Fits (One ok) p (take_if ok p)
 fits-take_if ok p = taken (head p) refl
   where
     taken : (o : Option ℕ) → head p ≡ o → Fits (One ok) p (take_passing ok p o)
-    taken None e = record { is = tt }
+    taken None e = tt
     taken (Some c) e =
         elim (cases_Bool (ok c)) [
-          | inl passing ↦ rw passing (record {
-            is = record {
-              spans = [];
-              text = c ∷ [];
-              way = past-way p c e;
-              is = record { none = refl; is = refl; passes = passing };
-            };
-          })
-          | inr failing ↦ rw failing (record { is = tt })
+          | inl passing ↦ rw passing (reads-one ok p c e passing)
+          | inr failing ↦ rw failing tt
         ]
 
-pub fits-expect : {A : Type 0} (c : ℕ) (F : A → Form) (p : State) (k : ℕ → State → Outcome A)
-    → ((x : ℕ) (q : State) → Fits F q (k x q)) → Fits (λ y. word (c ∷ []) ⌢ F y) p (expect c p >>= k)
-fits-expect c F p k g =
-    fits-as (Then (One (is c)) (λ x. F)) (λ y. word (c ∷ []) ⌢ F y) p (expect c p >>= k) (one-word c F)
-    (fits-then (One (is c)) (λ x. F) p (expect c p) k (fits-take_if (is c) p) g)
-  where
-    one-word : {A : Type 0} (c : ℕ) (F : A → Form) (y : A) → Within (Then (One (is c)) (λ x. F) y) (word (c ∷ []) ⌢ F y)
-    one-word c F y s o t h = record {
-      first_spans = h.is.first_spans;
-      second_spans = h.is.second_spans;
-      first = h.is.first;
-      second = h.is.second;
-      spans = h.is.spans;
-      is = h.is.is;
-      one = record { none = h.is.one.none; is = h.is.one.is ∙ ap (λ x. x ∷ []) (eqb-true h.part c h.is.one.passes) };
-      two = h.is.two;
-    }
-
--- values made by f
-pub fits-made : {A B : Type 0} (f : A → B) (F : A → Form) (p : State) (o : Outcome A) → Fits F p o → Fits (Made f F) p (by f o)
-fits-made f F p (took x q) h = record {
-  is = reads-as (F x) (Made f F (f x)) p q (λ s o t g. record { part = x; same = refl; is = g }) h.is;
-}
-fits-made f F p (stuck r) h = record { is = tt }
-fits-made f F p (deep r) h = record { is = tt }
-
--- items
-pub fits-item : {A : Type 0} (F : A → Form) (p : State) (o : Outcome A) → Fits F p o → Fits (λ x. Item (F x)) p (item p o)
-fits-item F p (took x q) h = record { is = reads-item (F x) p q h.is }
-fits-item F p (stuck r) h = record { is = tt }
-fits-item F p (deep r) h = record { is = tt }
-
--- a value and a list of values after it
-pub fits-cons : {A : Type 0} (F : A → Form) (G : List A → Form) (p : State) (o : Outcome A) (f : State → Outcome (List A))
-    (K : List A → Form) → ((x : A) (xs : List A) → Within (F x ⌢ G xs) (K (x ∷ xs)))
-    → Fits F p o → ((q : State) → Fits G q (f q)) → Fits K p (round o f)
-fits-cons F G p (took x q) f K w h g = rounded F G x p q (f q) K (w x) h.is (g q)
-  where
-    rounded : {A : Type 0} (F : A → Form) (G : List A → Form) (x : A) (p q : State) (o : Outcome (List A))
-        (K : List A → Form) → ((xs : List A) → Within (F x ⌢ G xs) (K (x ∷ xs)))
-        → Reads (F x) p q → Fits G q o → Fits K p (o >>= λ xs r. took (x ∷ xs) r)
-    rounded F G x p q (took xs r) K w h g = record {
-      is = reads-as (F x ⌢ G xs) (K (x ∷ xs)) p r (w xs) (reads-then (F x) (G xs) p q r h g.is);
-    }
-    rounded F G x p q (stuck r) K w h g = record { is = tt }
-    rounded F G x p q (deep r) K w h g = record { is = tt }
-fits-cons F G p (stuck r) f K w h g = record { is = tt }
-fits-cons F G p (deep r) f K w h g = record { is = tt }
-
--- loops
-fits-none : {A : Type 0} (F : A → Form) (p : State) → Fits (Each F) p (took [] p)
-fits-none F p = record { is = record { spans = []; text = []; way = between-same p; is = record { none = refl; is = refl } } }
+-- the character c
+pub fits-expect : (c : ℕ) (p : State) → Fits (λ x. word (c ∷ [])) p (expect c p)
+fits-expect c p =
+    fits-as (One (is c)) (λ x. word (c ∷ [])) p (expect c p)
+    (λ x s o t h. record { none = h.none; is = subst (λ d. t ≡ d ∷ []) (eqb-true x c h.passes) h.is }) (fits-take_if (is c) p)
 
 fits-loop : {A : Type 0} (F : A → Form) (n : ℕ) (begins : State → Bool) (rule : State → Outcome A)
     → ((q : State) → Fits F q (rule q)) → (p : State) → Fits (Each F) p (loop n begins rule p)
 unfolding loop
-fits-loop F zero begins rule h p = fits-none F p
+fits-loop F zero begins rule h p = reads-nothing p
 fits-loop F (suc n) begins rule h p =
-    elim (cases_Bool (begins p)) [
-      | inl on ↦ rw on (fits-cons F (Each F) p (rule p) (loop n begins rule) (Each F) (λ x xs s o t g. g) (h p)
-          (fits-loop F n begins rule h))
-      | inr off ↦ rw off (fits-none F p)
-    ]
+    fits-if (Each F) (begins p) p _ (took [] p)
+    (λ on. fits-then F (Each F) p p (rule p) _ (h p)
+    (λ x q one. fits-by (λ xs. x ∷ xs) (Each F) (Each F) p q (loop n begins rule q) (fits-loop F n begins rule h q)
+    (λ xs r more. reads-then (F x) (Each F xs) p q r one more)))
+    (λ off. reads-nothing p)
 
+-- one after another
 pub fits-each : {A : Type 0} (F : A → Form) (begins : State → Bool) (rule : State → Outcome A)
     → ((q : State) → Fits F q (rule q)) → (p : State) → Fits (Each F) p (each begins rule p)
 fits-each F begins rule h p = fits-loop F (suc (length p.rest)) begins rule h p
 
-pub fits-separated : {A : Type 0} (w : Form) (F : A → Form) (p : State) (o : Outcome A) (begins : State → Bool)
-    (rule : State → Outcome A) → Fits F p o → ((q : State) → Fits (λ x. w ⌢ F x) q (rule q))
-    → Fits (Separated w F) p (round o (each begins rule))
-fits-separated w F p o begins rule h g =
-    fits-cons F (Each (λ x. w ⌢ F x)) p o (each begins rule) (Separated w F) (λ x xs s i t k. k) h
-    (fits-each (λ x. w ⌢ F x) begins rule g)
+each-digits : (ds : Text) (s : Spans) (o : ℕ) (t : Text) → Each (One is_digit) ds s o t
+    → (s ≡ []) × (t ≡ ds) × AllPassing is_digit ds
+each-digits [] s o t h = (h.none, h.is, tt)
+each-digits (d ∷ ds) s o t h =
+    let more = each-digits ds h.second_spans _ h.second h.two in
+    let none = h.one.none in
+    let is = h.one.is in
+    (rw (h.spans, none, more.0) refl, rw (h.is, is, more.1) refl, (h.one.passes, more.2))
+
+-- digits
+pub fits-digits : (p : State) → Fits Digits p (digits_at p)
+unfolding digits_at
+fits-digits p =
+    fits-then (One is_digit) Digits p p (digit_at p) _ (fits-take_if is_digit p)
+    (λ d q one. fits-by (λ ds. d ∷ ds) (Each (One is_digit)) Digits p q (each is_at_digit digit_at q)
+    (fits-each (One is_digit) is_at_digit digit_at (fits-take_if is_digit) q)
+    (λ ds r more. reads-as (One is_digit d ⌢ Each (One is_digit) ds) (Digits (d ∷ ds)) p r
+    (λ s o t h. (let all = each-digits (d ∷ ds) s o t h in
+    record { none = all.0; is = all.1; digits = all.2; some = omega arith }))
+    (reads-then (One is_digit d) (Each (One is_digit) ds) p q r one more)))

@@ -8,7 +8,6 @@ use Rattle.jp_reading.proofs.Between.{Reads, Within, Rule, Judged, reads-as}
 use Rattle.jp_reading.proofs.Levels.{level, one_rule, each_rule}
 use Rattle.jp_reading.proofs.Progress.{Progress, moves-take_if, moves-then, keeps-then, keeps-each}
 use Rattle.jp_reading.proofs.Judging.{judged-as, judged-cons, judged-each, judged-take_if}
-use Rattle.jp_reading.proofs.Fits.{Fits, fits-judged}
 use Rattle.jp_reading.proofs.Again.{split, again-take_if, again-each, again-round, one-first}
 use Rattle.jp_reading.proofs.Digits.{digit_at-progress}
 
@@ -93,9 +92,6 @@ unfolding digits_at
 judged-digits p =
     judged-cons (one_rule is_digit 48 zero_is_digit) (run_rule is_digit) digits_rule p (digit_at p) (each is_at_digit digit_at)
     digits-cons digits-cons (judged-take_if is_digit 48 zero_is_digit p) (judged-run is_digit 48 zero_is_digit)
-
-pub fits-digits : (p : State) → Fits Digits p (digits_at p)
-fits-digits p = fits-judged digits_rule p (digits_at p) (judged-digits p)
 
 pub digits_at-progress : Progress digits_at
 unfolding digits_at
