@@ -3,5 +3,7 @@ pub mod Moves
 pub mod Rounds
 pub mod Rules
 pub mod Runs
+pub mod Shallow
 pub mod Sizes
 pub mod Sound
+pub mod Whole
