@@ -1,3 +1,4 @@
+pub mod Complete
 pub mod Ends
 pub mod Moves
 pub mod Rounds
