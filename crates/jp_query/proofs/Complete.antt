@@ -52,8 +52,11 @@ quoted-again quote ends cs p q h =
     let closed = split (Each (One (is_plain quote)) cs) (word (quote ∷ [])) opened.middle q opened.two in
     let mark = word-first quote [] closed.middle q closed.two in
     let off : passes (is_plain quote) (head closed.middle) ≡ false = rw mark ends in
-    rw (again-expect quote p opened.middle opened.one, run-again (is_plain quote) cs opened.middle closed.middle closed.one off,
-      again-expect quote closed.middle q closed.two) refl
+    rw (
+      again-expect quote p opened.middle opened.one,
+      run-again (is_plain quote) cs opened.middle closed.middle closed.one off,
+      again-expect quote closed.middle q closed.two,
+    ) refl
 
 -- digits without a leading zero, up to what is no digit
 size-again : (c : ℕ) (more : Text) (p q : State) → Reads (Unsigned c more) p q → passes is_digit (head q) ≡ false
@@ -150,8 +153,8 @@ selector-cases n x p q h (indexed i e w) off =
     let double : is_at 34 p ≡ false = apart begins_int (is 34) (head p) (int-not_mark 34 refl) first in
     let single : is_at 39 p ≡ false = apart begins_int (is 39) (head p) (int-not_mark 39 refl) first in
     rw (double, single, e)
-      (again-item (Int i) (index i) p q (by index (int_at p)) number
-        (λ m reads same. ap (by index) (int-again i p m reads (ap (λ t. passes is_digit (first_of t)) same ∙ off))))
+    (again-item (Int i) (index i) p q (by index (int_at p)) number
+    (λ m reads same. ap (by index) (int-again i p m reads (ap (λ t. passes is_digit (first_of t)) same ∙ off))))
 
 selector-again : (n : ℕ) (x : SelectorTree) (p q : State) → Reads (Selector n x) p q → passes is_digit (head q) ≡ false → selector_at n p ≡ took x q
 selector-again n x p q h off = selector-cases n x p q h h.is off
@@ -218,9 +221,13 @@ bracket-again n y p q h =
     let solid : passes is_blank (head before.middle) ≡ false = apart begins_selector is_blank (head before.middle) selector-not_blank first in
     let closed : passes is_blank (head after.middle) ≡ false = rw closes close-not_blank in
     let no_digit : passes is_digit (head after.middle) ≡ false = rw closes close-not_digit in
-    rw (again-expect 91 p opened.middle opened.one, again-skip opened.middle before.middle before.one solid,
+    rw (
+      again-expect 91 p opened.middle opened.one,
+      again-skip opened.middle before.middle before.one solid,
       selector-again n y before.middle selected.middle selected.one (blank-follow is_digit blank-not_digit selected.middle after.middle after.one no_digit),
-      again-skip selected.middle after.middle after.one closed, again-expect 93 after.middle q after.two) refl
+      again-skip selected.middle after.middle after.one closed,
+      again-expect 93 after.middle q after.two,
+    ) refl
 
 -- a dot and a shorthand, up to what is no name's character
 dotted-again : (cs : Text) (p q : State) → Reads (word (46 ∷ []) ⌢ Shorthand cs) p q → passes is_name_char (head q) ≡ false
@@ -249,7 +256,7 @@ segment-first : (n : ℕ) (x : SegmentTree) (p q : State) (h : Reads (Segment n 
     → passes begins_segment (head p) ≡ true
 segment-first n x p q h (bracketed y e w) =
     let opened = split (word (91 ∷ [])) (Blank ⌢ Selector n y ⌢ Blank ⌢ word (93 ∷ [])) p q
-        (reads-is (Segment n x) (word (91 ∷ []) ⌢ Blank ⌢ Selector n y ⌢ Blank ⌢ word (93 ∷ [])) p q h w) in
+    (reads-is (Segment n x) (word (91 ∷ []) ⌢ Blank ⌢ Selector n y ⌢ Blank ⌢ word (93 ∷ [])) p q h w) in
     rw (word-first 91 [] p opened.middle opened.one) refl
 segment-first n x p q h (dotted cs e w) =
     let parts = split (word (46 ∷ [])) (Shorthand cs) p q (reads-is (Segment n x) (word (46 ∷ []) ⌢ Shorthand cs) p q h w) in
@@ -279,7 +286,7 @@ segment-behind n x p q h =
       skipped = subst (λ (r : State). Reads (Segment n x) r q) (sym same) parts.two;
       begins = ap (λ (r : State). passes begins_segment (head r)) same ∙ first;
       apart = blank-follow is_name_char blank-not_name p parts.middle parts.one
-        (apart begins_segment is_name_char (head parts.middle) segment-not_name first);
+          (apart begins_segment is_name_char (head parts.middle) segment-not_name first);
     }
 
 -- segments, up to where none begins
@@ -288,7 +295,7 @@ pub segments-again : (n : ℕ) (xs : List SegmentTree) (p q : State) → Reads (
 unfolding segments_at
 segments-again n xs p q h off follow =
     again-each (λ x. Blank ⌢ Segment n x) (λ t. passes is_name_char (first_of t) ≡ false) (λ r. passes begins_segment (after_blank r))
-      (λ r. segment_at n (skip r)) (segment-progress n)
-      (λ x r w g f. (let stands = segment-behind n x r w g in segment-cases n x (skip r) w stands.skipped stands.skipped.is f))
-      (λ x r w g. (let stands = segment-behind n x r w g in (stands.begins, stands.apart)))
-      xs p q h off follow
+    (λ r. segment_at n (skip r)) (segment-progress n)
+    (λ x r w g f. (let stands = segment-behind n x r w g in segment-cases n x (skip r) w stands.skipped stands.skipped.is f))
+    (λ x r w g. (let stands = segment-behind n x r w g in (stands.begins, stands.apart)))
+    xs p q h off follow

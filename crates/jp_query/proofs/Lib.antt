@@ -1,6 +1,7 @@
 pub mod Complete
 pub mod Ends
 pub mod Moves
+pub mod Refused
 pub mod Rounds
 pub mod Rules
 pub mod Runs

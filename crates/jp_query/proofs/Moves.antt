@@ -32,7 +32,7 @@ keeps-shorthand : (p : State) → Keeps p (shorthand_at p)
 unfolding shorthand_at
 keeps-shorthand p =
     keeps-then p (take_if is_name_first p) _ (keeps-from_moves p (take_if is_name_first p) (moves-take_if is_name_first p))
-      (λ c q. keeps-by (λ cs. c ∷ cs) q (run_at is_name_char q) (keeps-run is_name_char q))
+    (λ c q. keeps-by (λ cs. c ∷ cs) q (run_at is_name_char q) (keeps-run is_name_char q))
 
 moves-quoted : (quote : ℕ) (p : State) → Moves p (quoted_at quote p)
 unfolding quoted_at
@@ -45,7 +45,7 @@ moves-size : (p : State) → Moves p (size_at p)
 unfolding size_at
 moves-size p =
     moves-then p (take_if is_leading_digit p) _ (moves-take_if is_leading_digit p)
-      (λ d q. keeps-by (λ ds. value_from 0 (d ∷ ds)) q (run_at is_digit q) (keeps-run is_digit q))
+    (λ d q. keeps-by (λ ds. value_from 0 (d ∷ ds)) q (run_at is_digit q) (keeps-run is_digit q))
 
 moves-int : (p : State) → Moves p (int_at p)
 unfolding int_at
@@ -80,7 +80,7 @@ moves-dotted : (p : State) → Moves p (dotted_at p)
 unfolding dotted_at
 moves-dotted p =
     moves-then p (expect 46 p) _ (moves-take_if (is 46) p)
-      (λ c q. keeps-by (λ cs. segment false (selectors (name cs ∷ []))) q (shorthand_at q) (keeps-shorthand q))
+    (λ c q. keeps-by (λ cs. segment false (selectors (name cs ∷ []))) q (shorthand_at q) (keeps-shorthand q))
 
 pub moves-segment : (n : ℕ) (p : State) → Moves p (segment_at n p)
 unfolding segment_at

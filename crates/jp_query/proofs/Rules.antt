@@ -26,12 +26,12 @@ pub shorthand-within : (cs : Text) → Within (shorthand_parts.here cs) (Shortha
 shorthand-within cs s o t h =
     let more = h.is.two in
     shorthand h.part more.part more.same
-      (joined-over (One is_name_first h.part) (Made (λ ds. h.part ∷ ds) (Each (One is_name_char)) cs) (Each (One is_name_char) more.part) s o t h.is more.is)
+    (joined-over (One is_name_first h.part) (Made (λ ds. h.part ∷ ds) (Each (One is_name_char)) cs) (Each (One is_name_char) more.part) s o t h.is more.is)
 
 pub shorthand-has : Has (Shorthand (97 ∷ []))
 shorthand-has =
     has-as (One is_name_first 97 ⌢ Each (One is_name_char) []) (Shorthand (97 ∷ [])) (λ s o t h. shorthand 97 [] refl h)
-      (joined-has (One is_name_first 97) (word []) (one_rule is_name_first 97 refl).has (word-has []))
+    (joined-has (One is_name_first 97) (word []) (one_rule is_name_first 97 refl).has (word-has []))
 
 -- a string, as it is read
 abbrev pub quoted_parts : (quote : ℕ) → is_plain quote 97 ≡ true → Rule Text
@@ -40,13 +40,13 @@ quoted_parts quote h = word_rule quote (then_rule (run_rule (is_plain quote) 97 
 pub quoted-within : (quote : ℕ) (plain : is_plain quote 97 ≡ true) (cs : Text) → Within ((quoted_parts quote plain).here cs) (Between quote cs)
 quoted-within quote plain cs s o t h =
     joined-over (word (quote ∷ [])) _ (Each (One (is_plain quote)) cs ⌢ word (quote ∷ [])) s o t h
-      (then-end (Each (One (is_plain quote))) (word (quote ∷ [])) cs h.second_spans _ h.second h.two)
+    (then-end (Each (One (is_plain quote))) (word (quote ∷ [])) cs h.second_spans _ h.second h.two)
 
 pub quoted-has : Has (Quoted [])
 quoted-has =
     has-as (Between 39 []) (Quoted []) (λ s o t h. in_single h)
-      (joined-has (word (39 ∷ [])) (word [] ⌢ word (39 ∷ [])) (word-has (39 ∷ []))
-        (joined-has (word []) (word (39 ∷ [])) (word-has []) (word-has (39 ∷ []))))
+    (joined-has (word (39 ∷ [])) (word [] ⌢ word (39 ∷ [])) (word-has (39 ∷ []))
+    (joined-has (word []) (word (39 ∷ [])) (word-has []) (word-has (39 ∷ []))))
 
 -- ---- numbers
 
@@ -90,7 +90,7 @@ negative-within x s o t h =
     let made = h.two in
     let size = size-within made.part h.second_spans _ h.second made.is in
     negative_int size.first size.more (made.same ∙ ap negative_of size.same)
-      (joined-over (word (45 ∷ [])) (Made negative_of size_parts.here x) (Unsigned size.first size.more) s o t h size.is)
+    (joined-over (word (45 ∷ [])) (Made negative_of size_parts.here x) (Unsigned size.first size.more) s o t h size.is)
 
 -- ---- selectors
 
@@ -125,11 +125,11 @@ child_of x = segment false (selectors (x ∷ []))
 pub segment-lifts : (n : ℕ) (x : SegmentTree) → Within (Segment n x) (Segment (suc n) x)
 segment-lifts n x s o t (bracketed y e h) =
     bracketed y e
-      (joined-lifts (word (91 ∷ [])) (word (91 ∷ [])) (Blank ⌢ Selector n y ⌢ Blank ⌢ word (93 ∷ [])) (Blank ⌢ Selector (suc n) y ⌢ Blank ⌢ word (93 ∷ []))
-        (λ r i u g. g)
-        (joined-lifts Blank Blank (Selector n y ⌢ Blank ⌢ word (93 ∷ [])) (Selector (suc n) y ⌢ Blank ⌢ word (93 ∷ [])) (λ r i u g. g)
-          (joined-lifts (Selector n y) (Selector (suc n) y) (Blank ⌢ word (93 ∷ [])) (Blank ⌢ word (93 ∷ [])) (selector-lifts n y) (λ r i u g. g)))
-        s o t h)
+    (joined-lifts (word (91 ∷ [])) (word (91 ∷ [])) (Blank ⌢ Selector n y ⌢ Blank ⌢ word (93 ∷ [])) (Blank ⌢ Selector (suc n) y ⌢ Blank ⌢ word (93 ∷ []))
+    (λ r i u g. g)
+    (joined-lifts Blank Blank (Selector n y ⌢ Blank ⌢ word (93 ∷ [])) (Selector (suc n) y ⌢ Blank ⌢ word (93 ∷ [])) (λ r i u g. g)
+    (joined-lifts (Selector n y) (Selector (suc n) y) (Blank ⌢ word (93 ∷ [])) (Blank ⌢ word (93 ∷ [])) (selector-lifts n y) (λ r i u g. g)))
+    s o t h)
 segment-lifts n x s o t (dotted cs e h) = dotted cs e h
 
 abbrev pub segment_rule : ℕ → Rule SegmentTree
@@ -139,7 +139,7 @@ segment_rule n = record {
   lifts = segment-lifts n;
   least = child_of (name (97 ∷ []));
   has = has-as (word (46 ∷ []) ⌢ Shorthand (97 ∷ [])) (Segment n (child_of (name (97 ∷ [])))) (λ s o t h. dotted (97 ∷ []) refl h)
-    (joined-has (word (46 ∷ [])) (Shorthand (97 ∷ [])) (word-has (46 ∷ [])) shorthand-has);
+      (joined-has (word (46 ∷ [])) (Shorthand (97 ∷ [])) (word-has (46 ∷ [])) shorthand-has);
 }
 
 -- a selector in brackets, as it is read
@@ -152,9 +152,9 @@ bracket-form n F w y s o t h =
     let inner = h.two in
     let made = then-made_end F Blank (word (93 ∷ [])) child_of y inner.second_spans _ inner.second inner.two in
     bracketed made.part made.same
-      (joined-over (word (91 ∷ [])) _ (Blank ⌢ Selector n made.part ⌢ Blank ⌢ word (93 ∷ [])) s o t h
-        (joined-over Blank _ (Selector n made.part ⌢ Blank ⌢ word (93 ∷ [])) h.second_spans _ h.second inner
-          (joined-lifts (F made.part) (Selector n made.part) (Blank ⌢ word (93 ∷ [])) (Blank ⌢ word (93 ∷ [])) (w made.part) (λ r i u g. g) _ _ _ made.is)))
+    (joined-over (word (91 ∷ [])) _ (Blank ⌢ Selector n made.part ⌢ Blank ⌢ word (93 ∷ [])) s o t h
+    (joined-over Blank _ (Selector n made.part ⌢ Blank ⌢ word (93 ∷ [])) h.second_spans _ h.second inner
+    (joined-lifts (F made.part) (Selector n made.part) (Blank ⌢ word (93 ∷ [])) (Blank ⌢ word (93 ∷ [])) (w made.part) (λ r i u g. g) _ _ _ made.is)))
 
 pub bracket-within : (n : ℕ) (y : SegmentTree) → Within ((bracket_parts n).here y) (Segment n y)
 bracket-within n = bracket-form n (Selector n) (λ x s o t h. h)
@@ -170,4 +170,4 @@ pub dotted-within : (n : ℕ) (y : SegmentTree) → Within (dotted_parts.here y)
 dotted-within n y s o t h =
     let made = h.two in
     dotted made.part made.same
-      (joined-over (word (46 ∷ [])) _ (Shorthand made.part) s o t h (shorthand-within made.part h.second_spans _ h.second made.is))
+    (joined-over (word (46 ∷ [])) _ (Shorthand made.part) s o t h (shorthand-within made.part h.second_spans _ h.second made.is))

@@ -37,4 +37,4 @@ shorthand-run p c e h =
     let char : is_name_char c ≡ true = rw h refl in
     ap (λ (o : Outcome ℕ). o >>= λ d q. by (λ cs. d ∷ cs) (run_at is_name_char q)) (take_if-takes is_name_first p c e h)
     ∙ sym (each-on (λ q. passes is_name_char (head q)) (take_if is_name_char) (moves-take_if is_name_char) p (rw e char)
-      ∙ ap (λ (o : Outcome ℕ). round o (run_at is_name_char)) (take_if-takes is_name_char p c e char))
+    ∙ ap (λ (o : Outcome ℕ). round o (run_at is_name_char)) (take_if-takes is_name_char p c e char))

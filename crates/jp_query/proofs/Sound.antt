@@ -38,24 +38,24 @@ shorthand-judged : (p : State) → Judged shorthand_parts p (shorthand_at p)
 unfolding shorthand_at
 shorthand-judged p =
     judged-then (one_rule is_name_first 97 refl) (λ c. made_rule (λ cs. c ∷ cs) (run_rule is_name_char 97 refl)) p (take_if is_name_first p) _
-      (judged-take_if is_name_first 97 refl p)
-      (λ c q. judged-made (λ cs. c ∷ cs) (run_rule is_name_char 97 refl) q (run_at is_name_char q) (run-judged is_name_char 97 refl q))
+    (judged-take_if is_name_first 97 refl p)
+    (λ c q. judged-made (λ cs. c ∷ cs) (run_rule is_name_char 97 refl) q (run_at is_name_char q) (run-judged is_name_char 97 refl q))
 
 quoted-judged : (quote : ℕ) (h : is_plain quote 97 ≡ true) (p : State) → Judged (quoted_parts quote h) p (quoted_at quote p)
 unfolding quoted_at
 quoted-judged quote h p =
     let characters = run_rule (is_plain quote) 97 h in
     judged-expect quote (then_rule characters (λ cs. word_rule quote (ends_rule cs))) p _
-      (λ c q. judged-then characters (λ cs. word_rule quote (ends_rule cs)) q (run_at (is_plain quote) q) _ (run-judged (is_plain quote) 97 h q)
-        (λ cs r. judged-expect quote (ends_rule cs) r _ (λ d w. judged-end cs w)))
+    (λ c q. judged-then characters (λ cs. word_rule quote (ends_rule cs)) q (run_at (is_plain quote) q) _ (run-judged (is_plain quote) 97 h q)
+    (λ cs r. judged-expect quote (ends_rule cs) r _ (λ d w. judged-end cs w)))
 
 size-judged : (p : State) → Judged size_parts p (size_at p)
 unfolding size_at
 size-judged p =
     let digits = run_rule is_digit 48 is_digit-zero in
     judged-then (one_rule is_leading_digit 49 refl) (λ d. made_rule (λ ds. value_from 0 (d ∷ ds)) digits) p (take_if is_leading_digit p) _
-      (judged-take_if is_leading_digit 49 refl p)
-      (λ d q. judged-made (λ ds. value_from 0 (d ∷ ds)) digits q (run_at is_digit q) (run-judged is_digit 48 is_digit-zero q))
+    (judged-take_if is_leading_digit 49 refl p)
+    (λ d q. judged-made (λ ds. value_from 0 (d ∷ ds)) digits q (run_at is_digit q) (run-judged is_digit 48 is_digit-zero q))
 
 -- past a character that was looked at
 pub reads-past : (c : ℕ) (p : State) → is_at c p ≡ true → Reads (word (c ∷ [])) p (past p)
@@ -70,44 +70,44 @@ int-judged : (p : State) → Judged int_rule p (int_at p)
 unfolding int_at
 int-judged p =
     judged-if int_rule p (is_at 48 p) _ _ (zero-judged p)
-      (judged-if int_rule p (is_at 45 p) _ _
-        (λ minus.
-          judged-as (behind (word (45 ∷ [])) (word-has (45 ∷ [])) (made_rule negative_of size_parts)) int_rule p (by negative_of (size_at (past p)))
-            negative-within negative-within
-            (judged-behind (word (45 ∷ [])) (word-has (45 ∷ [])) (made_rule negative_of size_parts) p (past p) (by negative_of (size_at (past p)))
-              (reads-past 45 p minus) (judged-made negative_of size_parts (past p) (size_at (past p)) (size-judged (past p)))))
-        (judged-as (made_rule whole_of size_parts) int_rule p (by whole_of (size_at p)) positive-within positive-within
-          (judged-made whole_of size_parts p (size_at p) (size-judged p))))
+    (judged-if int_rule p (is_at 45 p) _ _
+    (λ minus.
+    judged-as (behind (word (45 ∷ [])) (word-has (45 ∷ [])) (made_rule negative_of size_parts)) int_rule p (by negative_of (size_at (past p)))
+    negative-within negative-within
+    (judged-behind (word (45 ∷ [])) (word-has (45 ∷ [])) (made_rule negative_of size_parts) p (past p) (by negative_of (size_at (past p)))
+    (reads-past 45 p minus) (judged-made negative_of size_parts (past p) (size_at (past p)) (size-judged (past p)))))
+    (judged-as (made_rule whole_of size_parts) int_rule p (by whole_of (size_at p)) positive-within positive-within
+    (judged-made whole_of size_parts p (size_at p) (size-judged p))))
 
 selector-judged : (n : ℕ) (p : State) → Judged (selector_rule n) p (selector_at n p)
 unfolding selector_at
 selector-judged n p =
     judged-if (selector_rule n) p (is_at 34 p) _ _
-      (λ double. judged-as (made_rule name (quoted_parts 34 refl)) (selector_rule n) p _ (double-within n) (double-within (suc n))
-        (judged-made name (quoted_parts 34 refl) p (quoted_at 34 p) (quoted-judged 34 refl p)))
-      (judged-if (selector_rule n) p (is_at 39 p) _ _
-        (λ single. judged-as (made_rule name (quoted_parts 39 refl)) (selector_rule n) p _ (single-within n) (single-within (suc n))
-          (judged-made name (quoted_parts 39 refl) p (quoted_at 39 p) (quoted-judged 39 refl p)))
-        (judged-as (item_rule (made_rule index int_rule)) (selector_rule n) p _ (index-within n) (index-within (suc n))
-          (judged-item (made_rule index int_rule) p (by index (int_at p)) (judged-made index int_rule p (int_at p) (int-judged p)))))
+    (λ double. judged-as (made_rule name (quoted_parts 34 refl)) (selector_rule n) p _ (double-within n) (double-within (suc n))
+    (judged-made name (quoted_parts 34 refl) p (quoted_at 34 p) (quoted-judged 34 refl p)))
+    (judged-if (selector_rule n) p (is_at 39 p) _ _
+    (λ single. judged-as (made_rule name (quoted_parts 39 refl)) (selector_rule n) p _ (single-within n) (single-within (suc n))
+    (judged-made name (quoted_parts 39 refl) p (quoted_at 39 p) (quoted-judged 39 refl p)))
+    (judged-as (item_rule (made_rule index int_rule)) (selector_rule n) p _ (index-within n) (index-within (suc n))
+    (judged-item (made_rule index int_rule) p (by index (int_at p)) (judged-made index int_rule p (int_at p) (int-judged p)))))
 
 bracket-judged : (n : ℕ) (p : State) → Judged (segment_rule n) p (bracket_at n p)
 unfolding bracket_at
 bracket-judged n p =
     let closes = λ (x : SelectorTree). blank_rule (word_rule 93 (ends_rule (child_of x))) in
     judged-as (bracket_parts n) (segment_rule n) p _ (bracket-within n) (bracket-within_deeper n)
-      (judged-expect 91 (blank_rule (then_rule (selector_rule n) closes)) p _
-        (λ c q. judged-skip (then_rule (selector_rule n) closes) q _
-          (judged-then (selector_rule n) closes (skip q) (selector_at n (skip q)) _ (selector-judged n (skip q))
-            (λ x r. judged-skip (word_rule 93 (ends_rule (child_of x))) r _
-              (judged-expect 93 (ends_rule (child_of x)) (skip r) _ (λ d w. judged-end (child_of x) w))))))
+    (judged-expect 91 (blank_rule (then_rule (selector_rule n) closes)) p _
+    (λ c q. judged-skip (then_rule (selector_rule n) closes) q _
+    (judged-then (selector_rule n) closes (skip q) (selector_at n (skip q)) _ (selector-judged n (skip q))
+    (λ x r. judged-skip (word_rule 93 (ends_rule (child_of x))) r _
+    (judged-expect 93 (ends_rule (child_of x)) (skip r) _ (λ d w. judged-end (child_of x) w))))))
 
 dotted-judged : (n : ℕ) (p : State) → Judged (segment_rule n) p (dotted_at p)
 unfolding dotted_at
 dotted-judged n p =
     judged-as dotted_parts (segment_rule n) p _ (dotted-within n) (dotted-within (suc n))
-      (judged-expect 46 (made_rule (λ cs. child_of (name cs)) shorthand_parts) p _
-        (λ c q. judged-made (λ cs. child_of (name cs)) shorthand_parts q (shorthand_at q) (shorthand-judged q)))
+    (judged-expect 46 (made_rule (λ cs. child_of (name cs)) shorthand_parts) p _
+    (λ c q. judged-made (λ cs. child_of (name cs)) shorthand_parts q (shorthand_at q) (shorthand-judged q)))
 
 segment-judged : (n : ℕ) (p : State) → Judged (segment_rule n) p (segment_at n p)
 unfolding segment_at
@@ -118,4 +118,4 @@ pub segments-judged : (n : ℕ) (p : State) → Judged (each_rule (blank_rule (s
 unfolding segments_at
 segments-judged n p =
     judged-each (blank_rule (segment_rule n)) (λ q. passes begins_segment (after_blank q)) (λ q. segment_at n (skip q))
-      (λ q. judged-skip (segment_rule n) q (segment_at n (skip q)) (segment-judged n (skip q))) p
+    (λ q. judged-skip (segment_rule n) q (segment_at n (skip q)) (segment-judged n (skip q))) p

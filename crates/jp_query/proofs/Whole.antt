@@ -1,19 +1,22 @@
 -- Whole texts: what is read to its end spells a tree, and where reading is stuck the text began a query.
-use Rattle.std.proofs.Common.{◌≡◌, ℕ, ◌+◌, Bool, true, false, if◌then◌else◌, List, [], ◌∷◌, ◌++◌, length, refl, sym, ap, ◌∙◌, subst, append_assoc, append-nil, ◌==◌, arith}
+use Rattle.std.proofs.Common.{◌≡◌, ℕ, zero, suc, ◌+◌, Bool, true, false, if◌then◌else◌, List, [], ◌∷◌, ◌++◌, length, refl, sym, ap, ◌∙◌, subst, append_assoc, append-nil, ◌==◌, arith}
 use Rattle.std.proofs.lemmas.Bool.{eqb-true}
 use Rattle.jp_reading.specs.Texts.{Text, Spans, bytes}
 use Rattle.jp_reading.specs.Forms.{Form, ◌⌢◌, word, Each, Blank}
-use Rattle.jp_reading.specs.Outcome.{State, Outcome, took, stuck, deep, ◌>>=◌, skip, is_end, expect}
+use Rattle.jp_reading.specs.Outcome.{State, Outcome, took, stuck, deep, ◌>>=◌, skip, is_end, expect, passes, after_blank, past_blanks}
 use Rattle.jp_reading.proofs.Steps.{skip-way}
 use Rattle.jp_reading.proofs.Between.{Reads, Front, Stops, Within, Rule, Judged, bytes-append, front-then, front-none, front-as, reads-as, joined-over}
-use Rattle.jp_reading.proofs.Levels.{Made, each_rule, made_rule, word_rule, blank_rule, joined-lifts}
+use Rattle.jp_reading.proofs.Levels.{Made, each_rule, each-lifts, made_rule, word_rule, blank_rule, joined-lifts}
 use Rattle.jp_reading.proofs.Judging.{judged-expect, judged-made}
 use Rattle.jp_query.specs.Tree.{SegmentTree, QueryTree, query, segments}
-use Rattle.jp_reading.proofs.Again.{start, whole-reads}
-use Rattle.jp_query.specs.Grammar.{Segments, Spells}
+use Rattle.jp_reading.proofs.Again.{start, finish, whole-reads, reads-whole, split, again-expect}
+use Rattle.jp_query.specs.Grammar.{Segment, Segments, Spells}
+use Rattle.jp_query.specs.Spelled.{SpellsNothing}
+use Rattle.jp_query.specs.Laws.{OneReading}
 use Rattle.jp_query.specs.Front.{IsFrontBefore}
-use Rattle.jp_query.specs.Reading.{segments_at, query_at}
-use Rattle.jp_query.proofs.Rules.{segment_rule}
+use Rattle.jp_query.specs.Reading.{segments_at, query_at, begins_segment}
+use Rattle.jp_query.proofs.Rules.{segment_rule, segment-lifts}
+use Rattle.jp_query.proofs.Complete.{segments-again}
 use Rattle.jp_query.proofs.Sound.{segments-judged}
 
 -- ---- one more at the end
@@ -36,7 +39,7 @@ joined-assoc P Q R s o t h = record {
     is = refl;
     one = h.one.two;
     two = subst (λ (n : ℕ). R h.second_spans n h.second)
-      (ap (λ u. o + bytes u) h.one.is ∙ (let e = bytes-append h.one.first h.one.second in omega arith)) h.two;
+        (ap (λ u. o + bytes u) h.one.is ∙ (let e = bytes-append h.one.first h.one.second in omega arith)) h.two;
   };
 }
 
@@ -56,7 +59,7 @@ each-append : {A : Type 0} (F : A → Form) (xs : List A) (y : A) → Within (Ea
 each-append F [] y s o t h = word-joined (F y) s o t h
 each-append F (x ∷ xs) y s o t h =
     joined-lifts (F x) (F x) (Each F xs ⌢ F y) (Each F (xs ++ y ∷ [])) (λ r i u g. g) (each-append F xs y) s o t
-      (joined-assoc (F x) (Each F xs) (F y) s o t h)
+    (joined-assoc (F x) (Each F xs) (F y) s o t h)
 
 -- ---- the end of the text
 
@@ -76,8 +79,8 @@ another-segment n xs p r h =
     record {
       value = query_of_parts more;
       front = front-as (Each F xs ⌢ F S.least) (Made query_of_parts (Segments n) (query_of_parts more)) p (skip r)
-        (λ s o t g. record { part = more; same = refl; is = each-append F xs S.least s o t g })
-        (front-then (Each F xs) (F S.least) p r (skip r) h
+          (λ s o t g. record { part = more; same = refl; is = each-append F xs S.least s o t g })
+          (front-then (Each F xs) (F S.least) p r (skip r) h
           (front-then Blank (S.here S.least) r (skip r) (skip r) (skip-way r) (front-none (S.here S.least) (skip r) S.has)));
     }
 
@@ -88,7 +91,7 @@ ends-judged n p (took xs r) h = at_end (is_end r)
     at_end : (b : Bool) → Judged (made_rule query_of_parts (segments_rule n)) p (if b then took (query_of_parts xs) r else stuck (skip r))
     at_end true = record {
       is = reads-as (Segments n xs) (Made query_of_parts (Segments n) (query_of_parts xs)) p r
-        (λ s o t g. record { part = xs; same = refl; is = g }) h.is;
+          (λ s o t g. record { part = xs; same = refl; is = g }) h.is;
     }
     at_end false = record { is = another-segment n xs p r h.is }
 ends-judged n p (stuck r) h = judged-made query_of_parts (segments_rule n) p (stuck r) h
@@ -98,7 +101,7 @@ query-judged : (n : ℕ) (p : State) → Judged (word_rule 36 (made_rule query_o
 unfolding query_at
 query-judged n p =
     judged-expect 36 (made_rule query_of_parts (segments_rule n)) p _
-      (λ c q. ends-judged n q (segments_at n q) (segments-judged n q))
+    (λ c q. ends-judged n q (segments_at n q) (segments-judged n q))
 
 -- what is read ends with the text
 record Ends {A : Type 0} (o : Outcome A) : Type 0 where
@@ -121,7 +124,7 @@ query-ends : (n : ℕ) (p : State) → Ends (query_at n p)
 unfolding query_at
 query-ends n p =
     ends-then (expect 36 p) _ (λ c q. ends-then (segments_at n q) _
-      (λ xs r. ends-if (query_of_parts xs) r (is_end r) (no-characters r.rest)))
+    (λ xs r. ends-if (query_of_parts xs) r (is_end r) (no-characters r.rest)))
 
 spells-of : (n : ℕ) (q : QueryTree) (s : Spans) (text : Text) → (word (36 ∷ []) ⌢ Made query_of_parts (Segments n) q) s 0 text → Spells n q s text
 spells-of n q s text h = record {
@@ -135,7 +138,7 @@ pub read-spells : (n : ℕ) (text : Text) (x : QueryTree) (q : State) → query_
 read-spells n text x q e =
     let judged = rw e at (query-judged n (start text)) in
     spells-of n x q.found text
-      (whole-reads (word (36 ∷ []) ⌢ Made query_of_parts (Segments n) x) text q judged.is ((query-ends n (start text)).at x q e))
+    (whole-reads (word (36 ∷ []) ⌢ Made query_of_parts (Segments n) x) text q judged.is ((query-ends n (start text)).at x q e))
 
 -- where reading is stuck, what stands before begins a text that spells a query
 pub stuck-front : (n : ℕ) (text : Text) (r : State) → query_at n (start text) ≡ stuck r → IsFrontBefore n text r.at
@@ -145,3 +148,52 @@ stuck-front n text r e =
     let front = stops.front in
     let place : bytes front.read ≡ r.at = sym (front.at ∙ omega arith) in
     (front.read, r.rest, front.rest, place, (front.more, stops.value, front.spans, spells-of n stops.value front.spans (front.read ++ front.more) front.is))
+
+-- ---- what spells a tree is read as it
+
+past-end : (at : ℕ) (found : Spans) → passes begins_segment (after_blank (record { at = at; rest = []; found = found })) ≡ false
+unfolding past_blanks
+past-end at found = refl
+
+pub spells-read : (n : ℕ) (q : QueryTree) (s : Spans) (text : Text) → Spells n q s text → query_at n (start text) ≡ took q (finish text s)
+unfolding query_at
+spells-read n q s text h =
+    let parts = split (word (36 ∷ [])) (Segments n h.parts) (start text) (finish text s)
+    (reads-whole (word (36 ∷ []) ⌢ Segments n h.parts) s text h.is) in
+    rw (
+      again-expect 36 (start text) parts.middle parts.one,
+      segments-again n h.parts parts.middle (finish text s) parts.two (past-end (bytes text) s) refl,
+      h.tree,
+    ) refl
+
+-- where nothing is read nothing spells the text
+pub unread-spells_nothing : (n : ℕ) (text : Text) (r : State) → query_at n (start text) ≡ stuck r → SpellsNothing n text
+unread-spells_nothing n text r e q s h = let read = spells-read n q s text h in cc
+
+-- ---- more levels
+
+spells-lifts : (n : ℕ) (q : QueryTree) (s : Spans) (text : Text) → Spells n q s text → Spells (suc n) q s text
+spells-lifts n q s text h = record {
+  parts = h.parts;
+  tree = h.tree;
+  is = joined-lifts (word (36 ∷ [])) (word (36 ∷ [])) (Segments n h.parts) (Segments (suc n) h.parts) (λ r i u g. g)
+      (each-lifts (λ x. Blank ⌢ Segment n x) (λ x. Blank ⌢ Segment (suc n) x)
+      (λ x. joined-lifts Blank Blank (Segment n x) (Segment (suc n) x) (λ r i u g. g) (segment-lifts n x)) h.parts) s 0 text h.is;
+}
+
+spells-more : (k n : ℕ) (q : QueryTree) (s : Spans) (text : Text) → Spells n q s text → Spells (k + n) q s text
+spells-more zero n q s text h = let e : zero + n ≡ n = omega arith in rw e h
+spells-more (suc k) n q s text h =
+    let e : suc k + n ≡ suc (k + n) = omega arith in
+    rw e (spells-lifts (k + n) q s text (spells-more k n q s text h))
+
+-- no text spells two trees, or one tree with two lists of spans
+pub one-reading : OneReading
+one-reading n m q u s t text h g =
+    let first = spells-read (m + n) q s text (spells-more m n q s text h) in
+    let second = spells-read (n + m) u t text (spells-more n m u t text g) in
+    let levels : m + n ≡ n + m = omega arith in
+    let same : ◌≡◌ {A = Outcome QueryTree} (took q (finish text s)) (took u (finish text t)) =
+    sym first ∙ ap (λ k. query_at k (start text)) levels ∙ second in
+    let ends : finish text s ≡ finish text t = cc in
+    (cc, ap (λ (p : State). p.found) ends)
