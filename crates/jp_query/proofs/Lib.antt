@@ -1,2 +1,11 @@
+pub mod Complete
+pub mod Ends
+pub mod Moves
+pub mod Refused
+pub mod Rounds
+pub mod Rules
 pub mod Runs
+pub mod Shallow
 pub mod Sizes
+pub mod Sound
+pub mod Whole

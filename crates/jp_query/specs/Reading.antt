@@ -3,7 +3,7 @@ use Rattle.std.specs.Prelude.{ℕ, ◌||◌, Bool, true, false, if◌then◌else
 use Rattle.jp_query.specs.declared.tree.Numeral.{Numeral}
 use Rattle.jp_reading.specs.Texts.{Text}
 use Rattle.jp_reading.specs.Outcome.{State, Outcome, took, stuck, deep, ◌>>=◌, head, past, skip, after_blank, passes, is, is_at, is_end, take_if, expect, each, item}
-use Rattle.jp_reading.specs.Numbers.{value_from, digits_at}
+use Rattle.jp_reading.specs.Numbers.{is_digit, value_from}
 use Rattle.jp_reading.specs.Views.{by}
 use Rattle.jp_query.specs.Tree.{SelectorTree, name, index, SegmentTree, segment, QueryTree, query, selectors, segments}
 use Rattle.jp_query.specs.Names.{is_name_first, is_name_char, is_plain}
@@ -13,9 +13,9 @@ use Rattle.jp_query.specs.Ints.{is_leading_digit, whole_of, negative_of}
 abbrev pub run_at : (ℕ → Bool) → State → Outcome Text
 run_at ok p = each (λ q. passes ok (head q)) (take_if ok) p
 
--- a shorthand
+-- a shorthand: its first character, then its others
 unfoldable pub shorthand_at : State → Outcome Text
-shorthand_at p = if passes is_name_first (head p) then run_at is_name_char p else stuck p
+shorthand_at p = take_if is_name_first p >>= λ c q. by (λ cs. c ∷ cs) (run_at is_name_char q)
 
 -- a string between two of the quotation mark
 unfoldable pub quoted_at : ℕ → State → Outcome Text
@@ -23,7 +23,7 @@ quoted_at quote p = expect quote p >>= λ _ q. run_at (is_plain quote) q >>= λ 
 
 -- digits without a leading zero
 unfoldable pub size_at : State → Outcome ℕ
-size_at p = if passes is_leading_digit (head p) then by (value_from 0) (digits_at p) else stuck p
+size_at p = take_if is_leading_digit p >>= λ d q. by (λ ds. value_from 0 (d ∷ ds)) (run_at is_digit q)
 
 -- a whole number
 unfoldable pub int_at : State → Outcome Numeral
@@ -42,7 +42,7 @@ bracket_at n p =
 
 -- a dot and a shorthand
 unfoldable pub dotted_at : State → Outcome SegmentTree
-dotted_at p = expect 46 p >>= λ _ q. shorthand_at q >>= λ cs r. took (segment false (selectors (name cs ∷ []))) r
+dotted_at p = expect 46 p >>= λ _ q. by (λ cs. segment false (selectors (name cs ∷ []))) (shorthand_at q)
 
 -- a segment
 unfoldable pub segment_at : ℕ → State → Outcome SegmentTree

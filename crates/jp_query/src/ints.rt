@@ -1,14 +1,13 @@
 ghost use Rattle.std.specs.Prelude.{◌≡◌, ◌^◌, ◌<◌, min};
 ghost use Rattle.jp_reading.specs.Views.{Gives, by};
 ghost use Rattle.jp_query.specs.Reading.{int_at, size_at};
-ghost use Rattle.jp_query.specs.Ints.{whole_of, negative_of};
-
-use jp_reading::{Reader, Stop, natural};
+ghost use Rattle.jp_query.specs.Ints.{whole_of, negative_of, is_leading_digit};
 
 use crate::tree::Numeral;
+use jp_reading::{Reader, Stop, natural};
 
 /// A whole number (RFC 9535 section 2.3.3.1, int).
-#[tactic(auto, unfolding(crate::specs::Reading::int_at))]
+#[tactic(auto, using(crate::proofs::Sizes::sizes), unfolding(crate::specs::Reading::int_at))]
 pub fn int(reader: &mut Reader) -> Result<Numeral, Stop>
     ensures { Gives (λ x. x) result reader.new (int_at reader.old) }
 {
@@ -29,9 +28,16 @@ fn size(reader: &mut Reader) -> Result<u128, Stop>
     ensures { Gives (λ n. n) result reader.new (by (λ n. min n (2 ^ 64)) (size_at reader.old)) }
 {
     match reader.peek() {
-        Some('1'..='9') => natural(reader, 1 << 64),
+        Some(first) if is_leading_digit(first) => natural(reader, 1 << 64),
         _ => Err(Stop::Syntax(reader.place())),
     }
+}
+
+/// Whether a character may begin a whole number other than zero (section 2.3.3.1, DIGIT1).
+fn is_leading_digit(c: char) -> bool
+    ensures { result ≡ is_leading_digit c }
+{
+    matches!(c, '1'..='9')
 }
 
 /// The whole number of that size.

@@ -2,6 +2,7 @@
 #![tactic(auto)]
 
 mod ints;
+pub mod laws;
 mod names;
 mod parsed;
 mod refusal;
@@ -9,6 +10,6 @@ mod segments;
 mod tree;
 
 pub use jp_reading::Span;
-pub use parsed::Parsed;
+pub use parsed::{Parsed, parse};
 pub use refusal::{Refusal, RefusalKind};
 pub use tree::{Numeral, Query, Segment, Selector};

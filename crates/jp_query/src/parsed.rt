@@ -4,15 +4,14 @@ ghost use Rattle.jp_query.specs.Tree.{query_of};
 ghost use Rattle.jp_query.specs.Items.{items_of, EachSpanned};
 ghost use Rattle.jp_query.specs.Grammar.{Spells};
 ghost use Rattle.jp_query.specs.Spelled.{IsSpelled, SpellsNothing};
-
-use std::alloc::Global;
-use std::marker::Model;
-
-use jp_reading::{Reader, Span};
+ghost use Rattle.jp_query.specs.Front.{IsFrontBefore};
 
 use crate::refusal::{Refusal, RefusalKind};
 use crate::segments::query;
 use crate::tree::Query;
+use jp_reading::{Reader, Span};
+use std::alloc::Global;
+use std::marker::Model;
 
 /// A query and the spans of its items, as some text spells them.
 #[derive(Debug, Drop)]
@@ -45,11 +44,15 @@ impl Model for Parsed {
 pub fn parse(alloc: Global, text: &str) -> Result<Parsed, Refusal>
     ensures found { IfOk result (λ p. Spells 64 (query_of p.query) p.spans (chars text.now)) }
     ensures only { IfErr result (λ r. (r.kind ≡ RefusalKind.NoMemory) ⊎ SpellsNothing 64 (chars text.now)) }
+    ensures front { IfErr result (λ r. r.kind ≡ RefusalKind.Syntax → IsFrontBefore 64 (chars text.now) r.place) }
     ensures kinds { IfErr result (λ r. (r.kind ≡ RefusalKind.Syntax) ⊎ ((r.kind ≡ RefusalKind.NoMemory) × (r.place ≡ 0))) }
 {
     let mut reader = Reader::new(alloc, text);
     match query(&mut reader, 64) {
-        Ok(query) => Ok(Parsed { query, spans: reader.into_spans() }),
+        Ok(query) => Ok(Parsed {
+            query,
+            spans: reader.into_spans(),
+        }),
         Err(stop) => Err(Refusal::from(stop)),
     }
 }

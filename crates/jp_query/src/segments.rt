@@ -4,13 +4,11 @@ ghost use Rattle.jp_reading.specs.Views.{Gives};
 ghost use Rattle.jp_query.specs.Tree.{segment, selectors, selector_of, segment_of, query_of};
 ghost use Rattle.jp_query.specs.Reading.{selector_at, bracket_at, dotted_at, segment_at, segments_at, query_at, begins_segment};
 
-use std::alloc::{AllocError, Global};
-
-use jp_reading::{Reader, Stop};
-
 use crate::ints::int;
 use crate::names::{quoted, shorthand};
 use crate::tree::{Query, Segment, Selector};
+use jp_reading::{Reader, Stop};
+use std::alloc::{AllocError, Global};
 
 /// A whole query: the text ends after its segments.
 #[tactic(auto, unfolding(crate::specs::Reading::query_at))]
@@ -37,7 +35,9 @@ fn segments(reader: &mut Reader, levels: u32) -> Result<Vec<Segment>, Stop>
     'segments: while is_before_segment(reader) {
         reader.skip();
         let next = segment(reader, levels)?;
-        segments.push(next).map_err(AllocError::from)?;
+        if segments.push(next).is_err() {
+            return Err(Stop::Memory);
+        }
     }
     Ok(segments)
 }
@@ -108,5 +108,8 @@ fn child(alloc: Global, selector: Selector) -> Result<Segment, AllocError>
 {
     let mut selectors = Vec::new(alloc);
     selectors.push(selector)?;
-    Ok(Segment { descendant: false, selectors })
+    Ok(Segment {
+        descendant: false,
+        selectors,
+    })
 }
