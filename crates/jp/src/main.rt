@@ -5,10 +5,9 @@
 #![tactic(auto)]
 
 use jp_command::{Device, run_line};
-use std::env;
-use std::io;
 use std::io::{BufWriter, ErrorKind};
 use std::process::ExitCode;
+use std::{env, io};
 
 /// How many bytes of output are gathered before they are written.
 const OUTPUT_BUFFER: usize = 65_536;

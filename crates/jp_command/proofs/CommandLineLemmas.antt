@@ -49,5 +49,5 @@ pub task_with_query : (name : Text) (found : Found) (task : Task) (query : Optio
     → option_map (with_task task) query ≡ task_and_query (name, rows_of found)
 task_with_query name found task query is held =
     let P : Option Task → Type 0 = λ o. option_map (with_task task) query
-        ≡ option_and_then (λ t. option_map (with_task t) (first_of (codes "QUERY") (rows_of found))) o in
+    ≡ option_and_then (λ t. option_map (with_task t) (first_of (codes "QUERY") (rows_of found))) o in
     subst P is (ap (option_map (with_task task)) (held ∙ first_value-rows found (codes "QUERY")))

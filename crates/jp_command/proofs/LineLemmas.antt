@@ -34,9 +34,8 @@ front-in_line form nodes i node a b c line within at is written part =
     let before : List ℕ = text_of_nodes form (take i nodes) in
     let after : List ℕ = text_of_nodes form (drop (suc i) nodes) in
     let next : text_of_nodes form (drop i nodes) ≡ line ++ after =
-        ap (text_of_nodes form) (drop-cons nodes i node within)
-        ∙ ap (λ n. line_of form (seen n) ++ after) (sym at) ∙ ap (λ t. t ++ after) (sym is) in
-    (
+    ap (text_of_nodes form) (drop-cons nodes i node within)
+    ∙ ap (λ n. line_of form (seen n) ++ after) (sym at) ∙ ap (λ t. t ++ after) (sym is) in (
       before ++ part.0,
       part.1 ++ after,
       text_of_nodes-cut form nodes i ∙ ap (λ t. before ++ t) (next ∙ ap (λ t. t ++ after) part.2 ∙ append_assoc part.0 part.1 after)

@@ -61,10 +61,10 @@ selected-next d l old now next o xs i x within at before child grown =
     let so_far : List Location = selected d (selectors (map selector_of (take i xs))) l in
     let more : List Location = chosen d (selector_of x) l in
     let all : selected d (selectors (map selector_of (take (i + 1) xs))) l ≡ so_far ++ more =
-        ap (λ ys. selected d (selectors (map selector_of ys)) l) (take_more xs i x within)
-        ∙ ap (λ ts. selected d (selectors ts) l) (map-append selector_of (take i xs) (slice_index_or xs i x ∷ []))
-        ∙ selected-append d (map selector_of (take i xs)) (selector_of (slice_index_or xs i x) ∷ []) l
-        ∙ ap (λ y. so_far ++ (chosen d (selector_of y) l ++ [])) (sym at) ∙ ap (λ t. so_far ++ t) (append-nil more) in
+    ap (λ ys. selected d (selectors (map selector_of ys)) l) (take_more xs i x within)
+    ∙ ap (λ ts. selected d (selectors ts) l) (map-append selector_of (take i xs) (slice_index_or xs i x ∷ []))
+    ∙ selected-append d (map selector_of (take i xs)) (selector_of (slice_index_or xs i x) ∷ []) l
+    ∙ ap (λ y. so_far ++ (chosen d (selector_of y) l ++ [])) (sym at) ∙ ap (λ t. so_far ++ t) (append-nil more) in
     ap (map seen) grown ∙ map-append seen now (option_to_list o) ∙ ap₂ (λ s t. s ++ t) before child
     ∙ append_assoc (map seen old) (map (standing d) so_far) (map (standing d) more)
     ∙ ap (λ t. map seen old ++ t) (sym (map-append (standing d) so_far more))
@@ -83,6 +83,7 @@ nodes-stand d (n ∷ ns) (l ∷ ls) document are =
   where
     head-same : {X : Type 0} {x y : X} {xs ys : List X} → x ∷ xs ≡ y ∷ ys → x ≡ y
     head-same e = cc
+
     tail-same : {X : Type 0} {x y : X} {xs ys : List X} → x ∷ xs ≡ y ∷ ys → xs ≡ ys
     tail-same e = cc
 
@@ -92,9 +93,11 @@ nodes-locations d nodes ls are = sym (firsts_seen nodes) ∙ ap (map first_of) a
   where
     first_of : Place → Location
     first_of p = p.0
+
     firsts_seen : (ns : List Located) → map first_of (map seen ns) ≡ map location_of ns
     firsts_seen [] = refl
     firsts_seen (n ∷ ns) = ap (λ t. n.location ∷ t) (firsts_seen ns)
+
     firsts_standing : (ls : List Location) → map first_of (map (standing d) ls) ≡ ls
     firsts_standing [] = refl
     firsts_standing (l ∷ ls) = ap (λ t. l ∷ t) (firsts_standing ls)
@@ -108,10 +111,10 @@ pub nodes-next : (d : Value) (select : Location → List Location) (nodes now ne
 nodes-next d select nodes now next i n within at before grown =
     let so_far : List Location = flat_map select (map location_of (take i nodes)) in
     let all : flat_map select (map location_of (take (i + 1) nodes)) ≡ so_far ++ select n.location =
-        ap (λ ns. flat_map select (map location_of ns)) (take_more nodes i n within)
-        ∙ ap (flat_map select) (map-append location_of (take i nodes) (slice_index_or nodes i n ∷ []))
-        ∙ flat_map-append select (map location_of (take i nodes)) ((slice_index_or nodes i n).location ∷ [])
-        ∙ ap (λ (m : Located). so_far ++ (select m.location ++ [])) (sym at) ∙ ap (λ t. so_far ++ t) (append-nil (select n.location)) in
+    ap (λ ns. flat_map select (map location_of ns)) (take_more nodes i n within)
+    ∙ ap (flat_map select) (map-append location_of (take i nodes) (slice_index_or nodes i n ∷ []))
+    ∙ flat_map-append select (map location_of (take i nodes)) ((slice_index_or nodes i n).location ∷ [])
+    ∙ ap (λ (m : Located). so_far ++ (select m.location ++ [])) (sym at) ∙ ap (λ t. so_far ++ t) (append-nil (select n.location)) in
     grown ∙ ap (λ t. t ++ map (standing d) (select n.location)) before
     ∙ sym (map-append (standing d) so_far (select n.location)) ∙ ap (map (standing d)) (sym all)
 

@@ -17,3 +17,6 @@ pub use eval::run_eval;
 pub use fault::Fault;
 pub use line::run_line;
 pub use lines::Form;
+
+#[cfg(test)]
+mod tests;

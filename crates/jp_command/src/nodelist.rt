@@ -113,7 +113,11 @@ fn item_of(value: &Json, index: i128) -> Option<u64>
 fn item_at(length: usize, index: i128) -> Option<u64>
     ensures { result ≡ item_at length index }
 {
-    let item = if index < 0 { length as i128 + index } else { index };
+    let item = if index < 0 {
+        length as i128 + index
+    } else {
+        index
+    };
     if 0 <= item && item < length as i128 {
         Some(item as u64)
     } else {

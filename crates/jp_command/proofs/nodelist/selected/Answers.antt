@@ -11,6 +11,6 @@ pub returns-in-Name : goal.returns-in-Name
 returns-in-Name c = λ d stands.
     let l : Location = c.args.node.now.location in
     let step : chosen d (selector_of c.args.selector.now) l ≡ one_step d l (named c.as_str.result.now) =
-        ap (λ s. chosen d (selector_of s) l) c.in-Name.is ∙ one_step-name d l c.as_str.result.now _ c.as_str.utf8 c.as_str.ensures.value in
+    ap (λ s. chosen d (selector_of s) l) c.in-Name.is ∙ one_step-name d l c.as_str.result.now _ c.as_str.utf8 c.as_str.ensures.value in
     let P : List Location → Type 0 = λ ls. IfOk c.child_named.result (λ child. AreNodes d (option_to_list child) ls) in
     subst P (sym step) (IfOk-weaker c.child_named.result _ _ (λ o h. one_step-node d l _ o h) (c.child_named.ensures.stands d stands))
