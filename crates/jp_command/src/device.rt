@@ -1,6 +1,6 @@
 //! Where the bytes come from and where they go.
 
-ghost use Rattle.std.specs.Prelude.{◌≡◌, ℕ, ◌<◌, ◌≤◌, Bool, List, Option, true, false, IfOk, OnOk, OnErr, length};
+ghost use Rattle.std.specs.Prelude.{◌≡◌, ℕ, ◌<◌, ◌≤◌, Bool, List, Option, true, false, IfOk, IsErr, OnOk, OnErr, length};
 ghost use Rattle.std.specs.Io.KnownBytes.{ReadConsumes, WriteAppends, Keeps};
 ghost use Rattle.jp_command.specs.Carried.{carried, carrier_failed};
 
@@ -78,6 +78,16 @@ impl<T> Device<T> {
             failed: false,
         }
     }
+
+    /// Keeps that a call failed.
+    fn fail<X>(&mut self) -> Result<X, Failed>
+        ensures failed { carrier_failed self.new ≡ true }
+        ensures same { carried self.new ≡ carried self.old }
+        ensures answer { IsErr result }
+    {
+        self.failed = true;
+        Err(Failed)
+    }
 }
 
 impl<T: Read> Source for Device<T> {
@@ -88,10 +98,7 @@ impl<T: Read> Source for Device<T> {
     fn read(&mut self, buffer: &mut [u8]) -> Result<usize, Failed> {
         match self.inner.read(buffer) {
             Ok(count) => Ok(count),
-            Err(_) => {
-                self.failed = true;
-                Err(Failed)
-            }
+            Err(_) => self.fail(),
         }
     }
 
@@ -108,20 +115,14 @@ impl<T: Write> Output for Device<T> {
     fn write(&mut self, bytes: &[u8]) -> Result<usize, Failed> {
         match self.inner.write(bytes) {
             Ok(count) if count > 0 || bytes.is_empty() => Ok(count),
-            _ => {
-                self.failed = true;
-                Err(Failed)
-            }
+            _ => self.fail(),
         }
     }
 
     fn flush(&mut self) -> Result<(), Failed> {
         match self.inner.flush() {
             Ok(()) => Ok(()),
-            Err(_) => {
-                self.failed = true;
-                Err(Failed)
-            }
+            Err(_) => self.fail(),
         }
     }
 

@@ -1,4 +1,14 @@
-//! The program `jp` as a library: a query and a document go in, lines of paths and values come out.
+//! The program `jp` as a library: a JSONPath query (RFC 9535) and a document go in, lines of
+//! normalized paths and values come out.
+//!
+//! ```text
+//! let mut output = Device::new(Vec::new(alloc));
+//! run_eval(alloc, "$.a[-1]", Form::Both, &mut Device::new(bytes), &mut output)?;
+//! ```
+//!
+//! `run_eval` runs one query over one input; `specs/Run.antt` has what it says with each answer.
+//! `run_line` is the whole program over its words; `specs/Line.antt` has what it says with each
+//! status.
 #![tactic(auto)]
 
 mod accepted;

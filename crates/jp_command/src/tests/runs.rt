@@ -61,12 +61,12 @@ fn names_the_first_number_that_is_not_whole(rt: HostRuntime) -> Result<(), Fail>
         ("{\"b\":1.5,\"a\":[0,2.5]}", "$['a'][1]"),
     ];
     for (document, path) in rows {
-        match written(rt.alloc(), "$", document) {
-            Err(Fault::Document(DocumentFault::NotWhole(place))) => {
-                assert_eq!(rt; place.as_str(), path)
-            }
-            _ => assert!(rt; false, "{path}"),
-        }
+        let run = written(rt.alloc(), "$", document);
+        let named = match &run {
+            Err(Fault::Document(DocumentFault::NotWhole(found))) => found.as_str() == path,
+            _ => false,
+        };
+        assert!(rt; named, "{path}");
     }
     Ok(())
 }
