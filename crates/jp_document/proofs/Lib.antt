@@ -5,5 +5,7 @@ pub mod Items
 pub mod Names
 pub mod Paths
 pub mod Spellings
+pub mod Stops
 pub mod Texts
 pub mod Values
+pub mod Wholes

@@ -20,6 +20,7 @@ mod node;
 mod path;
 mod reading;
 mod spelling;
+mod stop;
 mod text;
 mod value;
 
