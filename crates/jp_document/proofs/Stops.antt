@@ -18,3 +18,8 @@ StopsAt-within part whole (Fraction steps) (Fraction more) step out at within = 
 StopsAt-within part whole (Fraction steps) NoMemory step out at within = tt
 StopsAt-within part whole NoMemory (Fraction more) step out at within = absurd within
 StopsAt-within part whole NoMemory NoMemory step out at within = tt
+
+pub map-reverse : {A B : Type 0} (f : A → B) (xs : List A) → map f (reverse xs) ≡ reverse (map f xs)
+map-reverse f [] = refl
+map-reverse f (x ∷ xs) =
+    ap (map f) (reverse-append (x ∷ []) xs) ∙ map-append f (reverse xs) (x ∷ []) ∙ ap (λ ys. ys ++ f x ∷ []) (map-reverse f xs) ∙ sym (reverse-append (f x ∷ []) (map f xs))
