@@ -21,6 +21,8 @@ mod path;
 mod reading;
 mod spelling;
 mod stop;
+#[cfg(test)]
+mod tests;
 mod text;
 mod value;
 
