@@ -9,7 +9,8 @@ use Rattle.std.specs.Option.{option_map, option_and_then}
 use Rattle.std.proofs.lemmas.Cmp.{nat_cmp_total, nat_list_cmp_total, tied_itself}
 use Rattle.std.proofs.lemmas.Map.Lookups.{exact_bytes, exact_unsigned}
 use Rattle.serde_json.specs.Data as parsed
-use Rattle.serde_json.specs.Data.{Data, unsigned, negative, float}
+use Rattle.serde_json.specs.Find.{as_u64, as_i64}
+use Rattle.serde_json.specs.Data.{Num, Data, unsigned, negative, float}
 use Rattle.jp_document.specs.Document.{value_of_data, items_of_data, members_of_data, data_items_from, data_members, data_held, data_at, IsFraction, IsFirstFraction}
 use Rattle.jp_document.specs.Location.{Key, named, nth, key_cmp, Location, location_cmp}
 use Rattle.jp_document.specs.Value.{Value, list, object, Items, item, Members, member}
@@ -20,7 +21,7 @@ from_map : {A B : Type 0} (f : A → B) (o : Option A) (b : B) → option_map f 
 from_map f None b is = cc
 from_map f (Some a) b is = (a, refl)
 
-from_both : {A B C : Type 0} (f : A → B → C) (o : Option A) (p : Option B) (c : C) → option_and_then (λ a. option_map (f a) p) o ≡ Some c → ((a : A) × (o ≡ Some a)) × ((b : B) × (p ≡ Some b))
+pub from_both : {A B C : Type 0} (f : A → B → C) (o : Option A) (p : Option B) (c : C) → option_and_then (λ a. option_map (f a) p) o ≡ Some c → ((a : A) × (o ≡ Some a)) × ((b : B) × (p ≡ Some b))
 from_both f None p c is = cc
 from_both f (Some a) None c is = cc
 from_both f (Some a) (Some b) c is = ((a, refl), (b, refl))
@@ -89,7 +90,7 @@ key_same : (k : Key) → key_cmp k k ≡ Equal
 key_same (named s) = tied_itself nat_list_cmp_total s
 key_same (nth i) = tied_itself nat_cmp_total i
 
-key_exact : (j k : Key) → key_cmp j k ≡ Equal → j ≡ k
+pub key_exact : (j k : Key) → key_cmp j k ≡ Equal → j ≡ k
 key_exact (named s) (named t) is = ap named (exact_bytes s t is)
 key_exact (named s) (nth j) is = cc
 key_exact (nth i) (named t) is = cc
@@ -155,5 +156,11 @@ IsFirstFraction-held d l other first = record {
 }
 
 -- a number that is no whole one
-pub IsFirstFraction-number : (x : Float) → IsFirstFraction (parsed.number (float x)) []
+IsFirstFraction-number : (x : Float) → IsFirstFraction (parsed.number (float x)) []
 IsFirstFraction-number x = record { there = (x, refl); least = λ m has. not_below m }
+
+-- a number that is held neither as u64 nor as i64
+pub IsFirstFraction-neither : (n : Num) → None ≡ as_u64 n → None ≡ as_i64 n → IsFirstFraction (parsed.number n) []
+IsFirstFraction-neither (unsigned n) u i = cc
+IsFirstFraction-neither (negative z) u i = cc
+IsFirstFraction-neither (float x) u i = IsFirstFraction-number x

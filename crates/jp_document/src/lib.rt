@@ -20,6 +20,9 @@ mod node;
 mod path;
 mod reading;
 mod spelling;
+mod stop;
+#[cfg(test)]
+mod tests;
 mod text;
 mod value;
 
