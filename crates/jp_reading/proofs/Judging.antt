@@ -1,5 +1,5 @@
 -- What rules read, put together from what their parts read.
-use Rattle.std.proofs.Common.{◌≡◌, ℕ, zero, suc, ◌+◌, Bool, true, List, [], ◌∷◌, ◌++◌, length, Option, Some, None, inl, inr, refl, sym, ap, subst}
+use Rattle.std.proofs.Common.{◌≡◌, ℕ, zero, suc, ◌+◌, Bool, true, false, if◌then◌else◌, List, [], ◌∷◌, ◌++◌, length, Option, Some, None, inl, inr, refl, sym, ap, subst}
 use Rattle.std.proofs.lemmas.Bool.{cases_Bool, eqb-true}
 use Rattle.std.proofs.Math.Seq.{take-append_seam, drop-append_seam}
 use Rattle.std.specs.List.{insert}
@@ -143,6 +143,12 @@ judged-stuck R p = record { is = record { value = R.least; front = front-none (R
 -- a level more is needed at once
 pub judged-deep : {A : Type 0} (R : Rule A) (p : State) → Passes R.deeper p p → Judged R p (deep p)
 judged-deep R p h = record { is = ((record { value = R.least; front = front-none (R.here R.least) p R.has }), h) }
+
+-- either of two ways
+pub judged-if : {A : Type 0} (R : Rule A) (p : State) (b : Bool) (o u : Outcome A)
+    → (b ≡ true → Judged R p o) → (b ≡ false → Judged R p u) → Judged R p (if b then o else u)
+judged-if R p true o u f g = f refl
+judged-if R p false o u f g = g refl
 
 -- a rule with wider forms
 pub judged-as : {A : Type 0} (R S : Rule A) (p : State) (o : Outcome A)
