@@ -12,3 +12,4 @@ pub mod Progress
 pub mod Rows
 pub mod Runs
 pub mod Steps
+pub mod Words
