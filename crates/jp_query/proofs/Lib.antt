@@ -8,4 +8,5 @@ pub mod Runs
 pub mod Shallow
 pub mod Sizes
 pub mod Sound
+pub mod Spanned
 pub mod Whole

@@ -1,3 +1,5 @@
+//! Whole numbers (RFC 9535 section 2.3.3.1).
+
 ghost use Rattle.std.specs.Prelude.{◌≡◌, ◌^◌, ◌<◌, min};
 ghost use Rattle.jp_reading.specs.Views.{Gives, by};
 ghost use Rattle.jp_query.specs.Reading.{int_at, size_at};

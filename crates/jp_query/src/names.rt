@@ -1,3 +1,5 @@
+//! Members' names: shorthands and strings (RFC 9535 sections 2.3.1.1 and 2.5.1.1).
+
 ghost use Rattle.std.specs.Prelude.{◌≡◌};
 ghost use Rattle.std.specs.Str.{chars};
 ghost use Rattle.std.specs.String.{string_bytes};

@@ -1,3 +1,5 @@
+//! Parsed queries, and how they are parsed.
+
 ghost use Rattle.std.specs.Prelude.{◌≡◌, ◌⊎◌, IfOk, IfErr};
 ghost use Rattle.std.specs.Str.{chars};
 ghost use Rattle.jp_query.specs.Tree.{query_of};
@@ -69,6 +71,7 @@ impl Parsed {
     /// Where each item of the query begins and ends in the text, in the items' order.
     pub fn spans(&self) -> &[Option<Span>]
         ensures same { result.now ≡ self.now.spans }
+        ensures each { EachSpanned (items_of (query_of self.now.query)) result.now }
     {
         &self.spans
     }

@@ -1,3 +1,5 @@
+//! Why a query is refused, and where.
+
 ghost use Rattle.std.specs.Prelude.{◌≡◌, codes};
 ghost use Rattle.jp_query.specs.Refusal.{number_of, name_of};
 

@@ -1,3 +1,5 @@
+//! Queries, segments and selectors (RFC 9535 sections 2.1 to 2.5).
+
 ghost use Rattle.std.specs.Prelude.{◌≡◌, [], ◌∷◌, false, map, IfOk};
 ghost use Rattle.jp_reading.specs.Outcome.{after_blank, passes};
 ghost use Rattle.jp_reading.specs.Views.{Gives};

@@ -1,3 +1,5 @@
+//! A query's tree (RFC 9535 sections 2.1 to 2.5).
+
 /// A query: an identifier and segments (RFC 9535 section 2.1).
 #[derive(Debug, PartialEq, Eq, Drop)]
 pub struct Query {

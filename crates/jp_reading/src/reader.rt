@@ -1,3 +1,5 @@
+//! The reader: a text, where reading stands in it, and the spans of the items behind.
+
 ghost use Rattle.std.specs.Prelude.{◌≡◌, ◌∷◌, [], ◌+◌, length, MatchOption, IfSome, IfErr, OnOk, OnErr};
 ghost use Rattle.std.specs.Char.{len_utf8};
 ghost use Rattle.std.specs.Str.{chars, IsUtf8};

@@ -1,3 +1,5 @@
+//! Each function once, beside what it must answer.
+
 use crate::{Reader, Span, Stop, digit, is_at_digit, natural, split_first};
 use std::test::Fail;
 
