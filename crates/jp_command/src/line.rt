@@ -7,7 +7,7 @@ ghost use Rattle.jp_command.specs.Line.{RunsLine, RunsTask, document_fault_name,
 ghost use Rattle.jp_command.specs.Streams.{AppendsFront};
 
 use crate::device::{Output, Source};
-use crate::eval::run_eval;
+use crate::eval::eval_keeping;
 use crate::fault::Fault;
 use crate::lines::Form;
 use crate::output::write_all;
@@ -17,6 +17,7 @@ use clap::error::ErrorKind;
 use jp_document::DocumentFault;
 use std::alloc::{AllocError, Global};
 use std::borrow::CowStr;
+use std::mem;
 
 /// Does what `words` ask for, of which the first is the program's name, and answers the status:
 /// 0 where it is done, 1 where the query is refused, 2 where the words are not ones that the command
@@ -58,9 +59,11 @@ fn run_task<R: Source, W: Output>(
     ensures { RunsTask R.remaining R.has_failed W.contents W.has_failed
         task query.now input.old input.new output.old output.new result }
 {
-    match task {
-        Task::Both => run_eval(alloc, query, Form::Both, input, output)?,
-    }
+    let document = match task {
+        Task::Both => eval_keeping(alloc, query, Form::Both, input, output)?,
+    };
+    // The process ends next, which frees the document faster than a walk over it.
+    mem::forget(document);
     match output.flush() {
         Ok(()) => Ok(()),
         Err(_) => Err(Fault::Write),
