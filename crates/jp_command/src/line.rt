@@ -8,7 +8,7 @@ ghost use Rattle.jp_command.specs.Run.{RunsEval};
 ghost use Rattle.jp_command.specs.Streams.{AppendsFront};
 
 use crate::device::{Output, Source};
-use crate::eval::run_eval;
+use crate::eval::eval_keeping;
 use crate::fault::Fault;
 use crate::lines::Form;
 use crate::output::write_all;
@@ -18,6 +18,7 @@ use clap::error::ErrorKind;
 use jp_document::DocumentFault;
 use std::alloc::{AllocError, Global};
 use std::borrow::CowStr;
+use std::mem;
 
 /// Does what `words` ask for, of which the first is the program's name, and answers the status:
 /// 0 where it is done, 1 where the query is refused, 2 where the words are not ones that the command
@@ -75,7 +76,9 @@ fn eval_to_the_end<R: Source, W: Output>(
     ensures { RunsEval R.remaining R.has_failed W.contents W.has_failed
         form query.now input.old input.new output.old output.new result }
 {
-    run_eval(alloc, query, form, input, output)?;
+    let document = eval_keeping(alloc, query, form, input, output)?;
+    // The process ends next, which frees the document faster than a walk over it.
+    mem::forget(document);
     match output.flush() {
         Ok(()) => Ok(()),
         Err(_) => Err(Fault::Write),
