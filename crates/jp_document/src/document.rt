@@ -61,7 +61,7 @@ impl Document {
         ensures root { told result ≡ ([], document_of self.now) }
         ensures stands { StandsIn (document_of self.now) result }
     {
-        root_of(alloc, &self.json)
+        root_of(alloc, self.json())
     }
 
     /// The value at a location, None where there is none (RFC 9535 section 1.1).
@@ -69,7 +69,7 @@ impl Document {
         ensures { option_map (λ j. value_of j.now) result
             ≡ value_at (document_of self.now) (map key_of location.now) }
     {
-        let mut json = &self.json;
+        let mut json = self.json();
         for step in location {
             json = child_value(json, *step)?;
         }
