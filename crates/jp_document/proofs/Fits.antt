@@ -1,8 +1,8 @@
 -- Which lists fit.
-use Rattle.std.proofs.Common.{◌≡◌, ℕ, suc, ◌<◌, ◌≤◌, Bool, true, false, ◌&&◌, List, [], ◌∷◌, length, map, refl, sym, ap, ◌∙◌, arith, nat_le}
+use Rattle.std.proofs.Common.{◌≡◌, suc, ◌<◌, ◌≤◌, Bool, true, false, ◌&&◌, List, [], ◌∷◌, length, map, refl, sym, ap, ◌∙◌, arith, nat_le}
 use Rattle.std.proofs.lemmas.Bool.{le-leb, lt-leb}
 use Rattle.std.proofs.lemmas.List.{length-map}
-use Rattle.jp_document.specs.Value.{Value, list, Items, items_of, item_count, everywhere, everywhere_in_items, list_fits, value_of}
+use Rattle.jp_document.specs.Value.{Value, list, items_of, item_count, everywhere, everywhere_in_items, list_fits, value_of}
 use Rattle.jp_document.specs.declared.value.Json.{Json}
 
 item_count-items_of : (vs : List Value) → item_count (items_of vs) ≡ length vs

@@ -1,5 +1,5 @@
 -- Nodes (RFC 9535 section 1.1): a location with the value that stands there.
-use Rattle.std.specs.Prelude.{◌≡◌, ℕ, List, [], ◌∷◌, ◌++◌, Option, Some, None, MatchOption, option_map}
+use Rattle.std.specs.Prelude.{◌≡◌, [], ◌∷◌, ◌++◌, Option, Some, None, MatchOption, option_map}
 use Rattle.jp_document.specs.declared.value.Json.{Json}
 use Rattle.jp_document.specs.Location.{Key, Location, child, value_at}
 use Rattle.jp_document.specs.Value.{Value, IsDocumentValue, value_of}

@@ -1,4 +1,4 @@
-use Rattle.std.proofs.Common.{◌≡◌, sym, ap, ◌∙◌, subst, arith, rules}
+use Rattle.std.proofs.Common.{sym, ap, ◌∙◌, arith, rules}
 use Rattle.jp_document.specs.Value.{value_of, everywhere, list_fits}
 use Rattle.jp_document.proofs.Fits.{fits_short, fits_long}
 use Rattle.jp_document.proofs.Values.{value_of-List}

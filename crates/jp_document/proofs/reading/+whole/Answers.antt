@@ -1,10 +1,10 @@
-use Rattle.std.proofs.Common.{◌≡◌, List, [], ◌∷◌, ◌++◌, length, map, string_bytes, sym, ap, ◌∙◌, subst, arith, rules}
+use Rattle.std.proofs.Common.{◌≡◌, [], ◌∷◌, ◌++◌, length, map, sym, ap, ◌∙◌, subst, arith, rules}
 use Rattle.std.proofs.lemmas.List.{nil_from_length}
 use Rattle.std.specs.Vec.Iter.{into_iter_items}
 use Rattle.serde_json.specs.Data as parsed
 use Rattle.serde_json.specs.View.{view, items_view, members_view}
 use Rattle.jp_document.specs.Document.{IsFirstFraction}
-use Rattle.jp_document.specs.Location.{nth, named}
+use Rattle.jp_document.specs.Location.{nth}
 use Rattle.jp_document.specs.Value.{value_of, member_of, members_of}
 use Rattle.jp_document.specs.declared.value.Member.{Member}
 use Rattle.jp_document.specs.declared.location.OwnedStep.TheVariants.{Name, Index}
