@@ -20,7 +20,7 @@ pub child-nth : (i : ℕ) (vs : List Value) → child (list (items_of vs)) (nth 
 child-nth i vs = item_from i 0 i vs (omega arith)
 
 -- what `get` of a slice gives, seen through f
-pub get_seen : {X : Type 0} (f : X → Value) (r : Option (Bor X)) (xs : List X) (i : ℕ) → MatchOption r (length xs ≤ i) (λ x. (i < length xs) × HoldsAt (λ y. x.now ≡ y) xs i)
+pub get_seen : {X Y : Type 0} (f : X → Y) (r : Option (Bor X)) (xs : List X) (i : ℕ) → MatchOption r (length xs ≤ i) (λ x. (i < length xs) × HoldsAt (λ y. x.now ≡ y) xs i)
     → option_map (λ x. f x.now) r ≡ slice_get (map f xs) i
 get_seen f None xs i past = sym (slice_get-map f xs i ∙ ap (option_map f) (slice_get_past xs i past))
 get_seen f (Some x) xs i h = sym (slice_get-map f xs i ∙ ap (option_map f) (slice_get-get_or xs i x.now h.0 ∙ ap Some (sym (h.1 x.now))))

@@ -1,6 +1,7 @@
 pub mod Children
 pub mod Fits
 pub mod Fractions
+pub mod Held
 pub mod Items
 pub mod Names
 pub mod Paths
