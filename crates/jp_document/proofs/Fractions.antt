@@ -85,7 +85,7 @@ not_below : (m : Location) → location_cmp m [] ≢ Less
 not_below [] less = cc
 not_below (k ∷ m) less = cc
 
-key_same : (k : Key) → key_cmp k k ≡ Equal
+pub key_same : (k : Key) → key_cmp k k ≡ Equal
 key_same (named s) = tied_itself nat_list_cmp_total s
 key_same (nth i) = tied_itself nat_cmp_total i
 

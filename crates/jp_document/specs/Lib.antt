@@ -1,4 +1,4 @@
-pub mod Children
+pub mod ChildNodes
 pub mod Document
 pub mod Location
 pub mod Node

@@ -1,6 +1,6 @@
 //! The children of a node (RFC 9535 section 1.1).
 ghost use Rattle.std.specs.Prelude.{◌≡◌, map, IfOk};
-ghost use Rattle.jp_document.specs.Children.{AreNodes, children_of};
+ghost use Rattle.jp_document.specs.ChildNodes.{AreNodes, children_of};
 ghost use Rattle.jp_document.specs.Node.{told, told_children, StandsIn};
 ghost use Rattle.jp_document.specs.Value.{Value};
 
