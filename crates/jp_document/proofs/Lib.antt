@@ -1,6 +1,8 @@
-pub mod Children
+pub mod ChildLaws
+pub mod ChildValues
 pub mod Fits
 pub mod Fractions
+pub mod Held
 pub mod Items
 pub mod Names
 pub mod Paths

@@ -12,11 +12,14 @@
 //! one; each node stands in its document, with the document's own value; paths and texts are exact.
 #![tactic(auto)]
 
+mod child_nodes;
 mod document;
 mod fault;
+pub mod laws;
 mod location;
 mod lookup;
 mod node;
+mod nth;
 mod path;
 mod reading;
 mod spelling;
@@ -26,10 +29,12 @@ mod tests;
 mod text;
 mod value;
 
+pub use child_nodes::children;
 pub use document::Document;
 pub use fault::DocumentFault;
 pub use location::{OwnedLocation, OwnedStep, Step};
 pub use node::{Node, child_at, child_named};
+pub use nth::{child_count, nth_child};
 pub use path::{path_text, push_path, quote};
 pub use text::{push_value, value_text};
 pub use value::{Json, Member};
