@@ -1,16 +1,16 @@
 -- The rules of the grammar, with a text for each, and on one level more.
-use Rattle.std.proofs.Common.{◌≡◌, ℕ, suc, Bool, true, false, List, [], ◌∷◌, refl, ◌∙◌, ap}
+use Rattle.std.proofs.Common.{◌≡◌, ℕ, suc, Bool, true, false, [], ◌∷◌, refl, ◌∙◌, ap}
 use Rattle.jp_query.specs.declared.tree.Numeral.{Numeral}
 use Rattle.jp_reading.specs.Texts.{Text, Spans}
 use Rattle.jp_reading.specs.Forms.{Form, ◌⌢◌, word, One, Each, Blank, Item}
 use Rattle.jp_reading.specs.Numbers.{is_digit, value_from}
 use Rattle.jp_reading.proofs.Between.{Has, Within, Rule, has-as, joined-over}
-use Rattle.jp_reading.proofs.Levels.{Only, Then, Made, level, word-has, blank-has, joined-has, joined-lifts, one_rule, each_rule, word_rule, then_rule, made_rule, ends_rule, blank_rule, item_rule}
+use Rattle.jp_reading.proofs.Levels.{Only, Then, Made, level, word-has, joined-has, joined-lifts, one_rule, each_rule, word_rule, then_rule, made_rule, ends_rule, blank_rule}
 use Rattle.jp_query.specs.Tree.{SelectorTree, name, index, SegmentTree, segment, selectors}
 use Rattle.jp_query.specs.Names.{is_name_first, is_name_char, is_plain, Shorthand, shorthand, Between, Quoted, in_double, in_single}
 use Rattle.jp_query.specs.Ints.{is_leading_digit, whole_of, negative_of, Unsigned, Int, zero_int, positive_int, negative_int}
 use Rattle.jp_query.specs.Grammar.{Selector, named, indexed, Segment, bracketed, dotted}
-use Rattle.jp_query.proofs.Ends.{then-end, then-made_end}
+use Rattle.jp_reading.proofs.Joining.{then-end, then-made_end}
 
 -- ---- names
 

@@ -1,10 +1,10 @@
 -- Each item of a query has its span.
-use Rattle.std.proofs.Common.{◌≡◌, ℕ, Bool, List, [], ◌∷◌, ◌++◌, Some, None, refl, sym, ap, ◌∙◌}
+use Rattle.std.proofs.Common.{◌≡◌, ℕ, Bool, List, [], ◌∷◌, ◌++◌, Some, None, refl, ◌∙◌}
 use Rattle.jp_query.specs.declared.tree.Numeral.{Numeral}
 use Rattle.jp_reading.specs.Texts.{Text, Spans}
 use Rattle.jp_reading.specs.Forms.{Form, ◌⌢◌, word, One, Each, Blank}
 use Rattle.jp_reading.proofs.Runs.{each-run}
-use Rattle.jp_query.specs.Tree.{SelectorTree, name, index, SegmentTree, QueryTree, segments}
+use Rattle.jp_query.specs.Tree.{SelectorTree, SegmentTree, QueryTree, segments}
 use Rattle.jp_query.specs.Names.{is_name_first, is_name_char, is_plain, Shorthand, shorthand, Between, Quoted, in_double, in_single}
 use Rattle.jp_query.specs.Ints.{is_leading_digit, Unsigned, Int, zero_int, positive_int, negative_int}
 use Rattle.jp_query.specs.Grammar.{Selector, named, indexed, Segment, bracketed, dotted, Segments, Spells}

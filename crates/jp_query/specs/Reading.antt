@@ -2,7 +2,7 @@
 use Rattle.std.specs.Prelude.{ℕ, ◌||◌, Bool, true, false, if◌then◌else◌, List, [], ◌∷◌}
 use Rattle.jp_query.specs.declared.tree.Numeral.{Numeral}
 use Rattle.jp_reading.specs.Texts.{Text}
-use Rattle.jp_reading.specs.Outcome.{State, Outcome, took, stuck, deep, ◌>>=◌, head, past, skip, after_blank, passes, is, is_at, is_end, take_if, expect, each, item}
+use Rattle.jp_reading.specs.Outcome.{State, Outcome, took, stuck, ◌>>=◌, head, past, skip, after_blank, passes, is, is_at, is_end, take_if, expect, each, item}
 use Rattle.jp_reading.specs.Numbers.{is_digit, value_from}
 use Rattle.jp_reading.specs.Views.{by}
 use Rattle.jp_query.specs.Tree.{SelectorTree, name, index, SegmentTree, segment, QueryTree, query, selectors, segments}
