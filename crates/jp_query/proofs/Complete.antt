@@ -12,10 +12,12 @@ use Rattle.jp_reading.proofs.Runs.{Run, each-run, again-run}
 use Rattle.jp_reading.proofs.Steps.{is_at-other, passes-apart}
 use Rattle.jp_reading.proofs.Again.{split, word-first, one-first, again-take_if, again-expect, again-skip, inside, again-item, again-each, past-word}
 use Rattle.jp_query.specs.Tree.{SelectorTree, name, index, SegmentTree}
-use Rattle.jp_query.specs.Names.{is_name_first, is_name_char, is_plain, Shorthand, shorthand, Between as Marked, in_double, in_single}
+use Rattle.jp_query.specs.Names.{is_name_first, is_name_char, Shorthand, shorthand}
+use Rattle.jp_query.specs.Strings.{is_escapable, Character, Between as Marked, in_double, in_single}
+use Rattle.jp_query.proofs.Escapes.{characters-again}
 use Rattle.jp_query.specs.Ints.{is_leading_digit, Unsigned, Int, zero_int, positive_int, negative_int}
 use Rattle.jp_query.specs.Grammar.{Selector, named, indexed, Segment, bracketed, dotted}
-use Rattle.jp_query.specs.Reading.{run_at, shorthand_at, quoted_at, size_at, int_at, selector_at, bracket_at, dotted_at, segment_at, segments_at, begins_segment}
+use Rattle.jp_query.specs.Reading.{run_at, begins_character, shorthand_at, quoted_at, size_at, int_at, selector_at, bracket_at, dotted_at, segment_at, segments_at, begins_segment}
 use Rattle.jp_query.proofs.Moves.{segment-progress}
 use Rattle.jp_query.proofs.Rules.{child_of}
 
@@ -40,18 +42,16 @@ shorthand-again : (cs : Text) (p q : State) → Reads (Shorthand cs) p q → pas
 shorthand-again cs p q h off = shorthand-cases cs p q h h.is off
 
 -- a string between two of the quotation mark
-quoted-again : (quote : ℕ) → is_plain quote quote ≡ false → (cs : Text) (p q : State) → Reads (Marked quote cs) p q → quoted_at quote p ≡ took cs q
+quoted-again : (quote : ℕ) → is_escapable quote 117 ≡ false → begins_character quote quote ≡ false
+    → (cs : Text) (p q : State) → Reads (Marked quote cs) p q → quoted_at quote p ≡ took cs q
 unfolding quoted_at
-quoted-again quote ends cs p q h =
-    let opened = split (word (quote ∷ [])) (Each (One (is_plain quote)) cs ⌢ word (quote ∷ [])) p q h in
-    let closed = split (Each (One (is_plain quote)) cs) (word (quote ∷ [])) opened.middle q opened.two in
+quoted-again quote no_u ends cs p q h =
+    let opened = split (word (quote ∷ [])) (Each (Character quote) cs ⌢ word (quote ∷ [])) p q h in
+    let closed = split (Each (Character quote) cs) (word (quote ∷ [])) opened.middle q opened.two in
     let mark = word-first quote [] closed.middle q closed.two in
-    let off : passes (is_plain quote) (head closed.middle) ≡ false = rw mark ends in
-    rw (
-      again-expect quote p opened.middle opened.one,
-      run-again (is_plain quote) cs opened.middle closed.middle closed.one off,
-      again-expect quote closed.middle q closed.two,
-    ) refl
+    let off : passes (begins_character quote) (head closed.middle) ≡ false = rw mark ends in
+    rw (again-expect quote p opened.middle opened.one, characters-again quote no_u cs opened.middle closed.middle closed.one off,
+      again-expect quote closed.middle q closed.two) refl
 
 -- digits without a leading zero, up to what is no digit
 size-again : (c : ℕ) (more : Text) (p q : State) → Reads (Unsigned c more) p q → passes is_digit (head q) ≡ false
@@ -110,7 +110,7 @@ int-not_mark d g c h = grind (arith, nat_tests)
 -- a selector, up to what is no digit
 mark-first : (quote : ℕ) (cs : Text) (p q : State) → Reads (Marked quote cs) p q → head p ≡ Some quote
 mark-first quote cs p q h =
-    let parts = split (word (quote ∷ [])) (Each (One (is_plain quote)) cs ⌢ word (quote ∷ [])) p q h in
+    let parts = split (word (quote ∷ [])) (Each (Character quote) cs ⌢ word (quote ∷ [])) p q h in
     word-first quote [] p parts.middle parts.one
 
 selector-cases : (n : ℕ) (x : SelectorTree) (p q : State) (h : Reads (Selector n x) p q) → Selector n x h.spans p.at h.text
@@ -119,12 +119,12 @@ unfolding selector_at
 selector-cases n x p q h (named cs e (in_double w)) off =
     let string = reads-is (Selector n x) (Marked 34 cs) p q h w in
     let double : is_at 34 p ≡ true = rw (mark-first 34 cs p q string) refl in
-    rw (double, quoted-again 34 refl cs p q string, e) refl
+    rw (double, quoted-again 34 refl refl cs p q string, e) refl
 selector-cases n x p q h (named cs e (in_single w)) off =
     let string = reads-is (Selector n x) (Marked 39 cs) p q h w in
     let double : is_at 34 p ≡ false = rw (mark-first 39 cs p q string) refl in
     let single : is_at 39 p ≡ true = rw (mark-first 39 cs p q string) refl in
-    rw (double, single, quoted-again 39 refl cs p q string, e) refl
+    rw (double, single, quoted-again 39 refl refl cs p q string, e) refl
 selector-cases n x p q h (indexed i e w) off =
     let number = reads-is (Selector n x) (Item (Int i)) p q h w in
     let part = inside (Int i) p q number in

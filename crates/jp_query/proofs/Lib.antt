@@ -1,4 +1,6 @@
 pub mod Complete
+pub mod Escapes
+pub mod HexKinds
 pub mod Moves
 pub mod Refused
 pub mod Rounds

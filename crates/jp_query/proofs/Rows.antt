@@ -7,11 +7,12 @@ use Rattle.jp_reading.specs.Outcome.{past_blanks, loop, stuck}
 use Rattle.jp_reading.specs.Numbers.{is_digit}
 use Rattle.jp_reading.proofs.Again.{start, finish}
 use Rattle.jp_query.specs.Tree.{QueryTree, query, segments, segment, selectors, name, index}
-use Rattle.jp_query.specs.Names.{is_name_first, is_name_char, is_plain}
+use Rattle.jp_query.specs.Names.{is_name_first, is_name_char}
+use Rattle.jp_query.specs.Strings.{is_plain}
 use Rattle.jp_query.specs.Ints.{whole_of, negative_of}
 use Rattle.jp_query.specs.Items.{items_of, int, as_index}
 use Rattle.jp_query.specs.Grammar.{Spells}
-use Rattle.jp_query.specs.Reading.{query_at, segments_at, segment_at, bracket_at, dotted_at, selector_at, int_at, size_at, quoted_at, shorthand_at}
+use Rattle.jp_query.specs.Reading.{query_at, segments_at, segment_at, bracket_at, dotted_at, selector_at, int_at, size_at, quoted_at, characters_at, shorthand_at}
 use Rattle.jp_query.proofs.Whole.{read-spells}
 
 -- a letter, a letter above ASCII and `_` begin a shorthand; a digit only goes on with one
@@ -44,7 +45,7 @@ abbrev names : QueryTree
 names = query true (segments (segment false (selectors (name (97 ∷ []) ∷ [])) ∷ segment false (selectors (name [] ∷ [])) ∷ []))
 
 names-spell : Spells 64 names [] (36 ∷ 32 ∷ 46 ∷ 97 ∷ 91 ∷ 39 ∷ 39 ∷ 93 ∷ [])
-unfolding query_at segments_at segment_at bracket_at dotted_at selector_at quoted_at shorthand_at past_blanks loop is_blank is_digit
+unfolding query_at segments_at segment_at bracket_at dotted_at selector_at quoted_at characters_at shorthand_at past_blanks loop is_blank is_digit
 names-spell = read-spells 64 (36 ∷ 32 ∷ 46 ∷ 97 ∷ 91 ∷ 39 ∷ 39 ∷ 93 ∷ []) names (finish (36 ∷ 32 ∷ 46 ∷ 97 ∷ 91 ∷ 39 ∷ 39 ∷ 93 ∷ []) []) refl
 
 -- `$[01]` is stuck at byte 3, and `$.a` and a blank at its end

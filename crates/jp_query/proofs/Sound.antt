@@ -9,9 +9,11 @@ use Rattle.jp_reading.proofs.Between.{Reads, Judged}
 use Rattle.jp_reading.proofs.Levels.{one_rule, each_rule, made_rule, word_rule, then_rule, ends_rule, blank_rule, item_rule, word-has, behind}
 use Rattle.jp_reading.proofs.Judging.{judged-end, judged-then, judged-as, judged-behind, judged-skip, judged-take_if, judged-expect, judged-made, judged-each, judged-item, judged-if}
 use Rattle.jp_query.specs.Tree.{SelectorTree, name, index}
-use Rattle.jp_query.specs.Names.{is_name_first, is_name_char, is_plain}
+use Rattle.jp_query.specs.Names.{is_name_first, is_name_char}
+use Rattle.jp_query.specs.Strings.{is_plain}
+use Rattle.jp_query.proofs.Escapes.{reads-past, character_rule, characters-judged}
 use Rattle.jp_query.specs.Ints.{is_leading_digit, whole_of, negative_of, zero_int}
-use Rattle.jp_query.specs.Reading.{run_at, shorthand_at, quoted_at, size_at, int_at, selector_at, bracket_at, dotted_at, segment_at, segments_at, begins_segment}
+use Rattle.jp_query.specs.Reading.{run_at, characters_at, shorthand_at, quoted_at, size_at, int_at, selector_at, bracket_at, dotted_at, segment_at, segments_at, begins_segment}
 use Rattle.jp_query.proofs.Rules.{run_rule, shorthand_parts, quoted_parts, is_digit-zero, size_parts, int_rule, positive-within, negative-within, selector_rule, double-within, single-within, index-within, child_of, segment_rule, bracket_parts, bracket-within, bracket-within_deeper, dotted_parts, dotted-within}
 
 run-judged : (ok : ℕ → Bool) (c : ℕ) (h : ok c ≡ true) (p : State) → Judged (run_rule ok c h) p (run_at ok p)
@@ -27,9 +29,9 @@ shorthand-judged p =
 quoted-judged : (quote : ℕ) (h : is_plain quote 97 ≡ true) (p : State) → Judged (quoted_parts quote h) p (quoted_at quote p)
 unfolding quoted_at
 quoted-judged quote h p =
-    let characters = run_rule (is_plain quote) 97 h in
+    let characters = each_rule (character_rule quote h) in
     judged-expect quote (then_rule characters (λ cs. word_rule quote (ends_rule cs))) p _
-    (λ c q. judged-then characters (λ cs. word_rule quote (ends_rule cs)) q (run_at (is_plain quote) q) _ (run-judged (is_plain quote) 97 h q)
+    (λ c q. judged-then characters (λ cs. word_rule quote (ends_rule cs)) q (characters_at quote q) _ (characters-judged quote h q)
     (λ cs r. judged-expect quote (ends_rule cs) r _ (λ d w. judged-end cs w)))
 
 size-judged : (p : State) → Judged size_parts p (size_at p)
@@ -39,10 +41,6 @@ size-judged p =
     judged-then (one_rule is_leading_digit 49 refl) (λ d. made_rule (λ ds. value_from 0 (d ∷ ds)) digits) p (take_if is_leading_digit p) _
     (judged-take_if is_leading_digit 49 refl p)
     (λ d q. judged-made (λ ds. value_from 0 (d ∷ ds)) digits q (run_at is_digit q) (run-judged is_digit 48 is_digit-zero q))
-
--- past a character that was looked at
-pub reads-past : (c : ℕ) (p : State) → is_at c p ≡ true → Reads (word (c ∷ [])) p (past p)
-reads-past c p h = record { spans = []; text = c ∷ []; way = past-way p c (head-is c p h); is = record { none = refl; is = refl } }
 
 zero-judged : (p : State) → is_at 48 p ≡ true → Judged int_rule p (took (whole_of 0) (past p))
 zero-judged p h =

@@ -1,4 +1,4 @@
-use Rattle.std.proofs.Common.{◌≡◌, true, false, Some, None, rules, refl, sym, ap, ◌∙◌, [], ◌∷◌, ◌++◌}
+use Rattle.std.proofs.Common.{◌≡◌, ℕ, Bool, true, false, Some, None, rules, refl, sym, ap, ◌∙◌, [], ◌∷◌, ◌++◌}
 use Rattle.std.specs.Char.{IsScalar}
 use Rattle.std.specs.Str.{chars}
 use Rattle.std.specs.String.{string_bytes}
@@ -9,19 +9,19 @@ use Rattle.jp_reading.proofs.Chars.{chars_push}
 use Rattle.jp_reading.proofs.Steps.{take_if-takes}
 use Rattle.jp_reading.proofs.Progress.{moves-take_if}
 use Rattle.jp_reading.proofs.Folds.{with_front-nil, pushes_on, pushes_end}
-use Rattle.jp_query.specs.Characters.{is_among}
+use Rattle.jp_query.specs.Names.{is_name_char}
 use Rattle.jp_query.specs.Reading.{run_at}
 use Rattle.jp_query.proofs.names.run.Goals as goal
-use Rattle.jp_query.proofs.names.run.Goals.{in-Some+then-not-contains, in_default}
+use Rattle.jp_query.proofs.names.run.Goals.{in-Some+then-not-is_name_char, in_default}
 
 pub characters-init : goal.characters-init
 characters-init c =
-    ap (λ t. with_front t (run_at (is_among c.args.characters) c.args.reader.now)) (ap chars c.new-text.ensures.bytes ∙ chars-nil)
-    ∙ with_front-nil (run_at (is_among c.args.characters) c.args.reader.now)
+    ap (λ t. with_front t (run_at (is_name_char) c.args.reader.now)) (ap chars c.new-text.ensures.bytes ∙ chars-nil)
+    ∙ with_front-nil (run_at (is_name_char) c.args.reader.now)
 
 pub characters-preserved : goal.characters-preserved
 characters-preserved c =
-    let ok = is_among c.args.characters in
+    let ok : ℕ → Bool = is_name_char in
     let text = string_bytes c.characters.text in
     let p = c.characters.reader in
     let next = c.in-Some.next in
@@ -35,10 +35,10 @@ characters-preserved c =
 
 pub returns : goal.returns
 returns c =
-    let ok = is_among c.args.characters in
+    let ok : ℕ → Bool = is_name_char in
     let p = c.characters.reader in
     let done = λ (off : passes ok (head p) ≡ false). sym c.characters.invariant ∙ pushes_end (λ q. passes ok (head q)) (take_if ok) (chars (string_bytes c.characters.text)) p off in
     elim c.match-peek.branch [
-      | in-Some+then-not-contains w ↦ done (let first : head p ≡ Some w.in-Some.next = sym w.in-Some.ensures in rw first (sym w.if-not-contains.ensures))
+      | in-Some+then-not-is_name_char w ↦ done (let first : head p ≡ Some w.in-Some.next = sym w.in-Some.ensures in rw first (sym w.if-not-is_name_char.ensures))
       | in_default w ↦ done (let first : head p ≡ None = sym w.in_default.ensures in rw first refl)
     ]
