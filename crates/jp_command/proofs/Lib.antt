@@ -5,4 +5,6 @@ pub mod LineLemmas
 pub mod AcceptedLemmas
 pub mod NodelistLemmas
 pub mod RunLemmas
+pub mod PathTrees
+pub mod PathSpells
 pub mod LocationLaws

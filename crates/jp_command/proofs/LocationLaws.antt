@@ -1,7 +1,6 @@
 -- The location of a node as a query.
-use Rattle.std.proofs.Common.{◌≡◌, ℕ, suc, pos, ◌<◌, ◌≤◌, ◌-◌, ◌^◌, List, [], ◌∷◌, ◌++◌, map, length, Option, Some, None, IsSome, IsUtf8, true, is_some, inl, inr, refl, ap, sym, ◌∙◌, append_assoc, arith, nat_le, nat_lt, option_and_then, lt-ltb}
+use Rattle.std.proofs.Common.{◌≡◌, ℕ, suc, ◌<◌, ◌≤◌, ◌-◌, ◌^◌, List, [], ◌∷◌, ◌++◌, map, length, Option, Some, None, IsSome, inl, inr, refl, ap, sym, ◌∙◌, append_assoc, arith, option_and_then, lt-ltb}
 use Rattle.std.specs.List.{All, slice_get}
-use Rattle.std.specs.Str.{chars}
 use Rattle.std.proofs.lemmas.Bool.{cases_lt, leb-true}
 use Rattle.std.proofs.lemmas.List.{append-nil}
 use Rattle.std.proofs.lemmas.List.Elements.{All-cons, All-nil}
@@ -11,10 +10,12 @@ use Rattle.jp_document.proofs.Items.{child-nth}
 use Rattle.jp_document.proofs.Names.{and-left, child-object_nth}
 use Rattle.jp_document.specs.Location.{Key, Location, child, named, nth, value_at}
 use Rattle.jp_document.specs.Value.{IsDocumentValue, Items, Value, boolean, item, item_count, items_of, list, no_items, null, object, text, whole}
-use Rattle.jp_query.specs.Items.{items_of as query_items, segments_items}
+use Rattle.jp_query.specs.Items.{segments_items}
 use Rattle.jp_query.specs.Tree.{segments}
 use Rattle.jp_command.specs.Accepted.{fault_of_item}
-use Rattle.jp_command.specs.Laws.{HasTextNames, LocationSelectsItsNode, step_segment}
+use Rattle.jp_command.specs.Laws.{HasTextNames, PathSelectsItsNode}
+use Rattle.jp_command.proofs.PathSpells.{path-is_query}
+use Rattle.jp_command.proofs.PathTrees.{IndexesFit, path_tree, step_segment}
 use Rattle.jp_command.specs.Nodelist.{one_step, result, segment_result}
 use Rattle.jp_command.proofs.NodelistLemmas.{one_step-name}
 
@@ -109,7 +110,21 @@ some_value : (o : Option Value) → IsSome o → (w : Value) × (o ≡ Some w)
 some_value None is = absurd (cc)
 some_value (Some w) is = (w, refl)
 
-pub location_selects_its_node : LocationSelectsItsNode
-location_selects_its_node d l document there texts =
+steps_fit : (v w : Value) (m : Location) → IsDocumentValue v → value_at v m ≡ Some w → IndexesFit m
+steps_fit v w [] document end = tt
+steps_fit v w (named s ∷ m) document end =
+    let u = inside (child v (named s)) w m end in
+    (tt, steps_fit u.0 w m (IsDocumentValue-child v u.0 (named s) document u.1) u.2)
+steps_fit v w (nth i ∷ m) document end =
+    let u = inside (child v (nth i)) w m end in
+    let fits = index_fits v u.0 i document u.1 in
+    (omega arith, steps_fit u.0 w m (IsDocumentValue-child v u.0 (nth i) document u.1) u.2)
+
+pub path_selects_its_node : PathSelectsItsNode
+path_selects_its_node d l document there texts =
     let w = some_value (value_at d l) there in
-    (steps_faultless d w.0 l document w.1, walks d d w.0 [] l refl w.1 texts)
+    let spelled = path-is_query 64 l texts (steps_fit d w.0 l document w.1) in (
+      path_tree l,
+      record { spans = spelled.0; spells = spelled.1; faultless = steps_faultless d w.0 l document w.1 },
+      walks d d w.0 [] l refl w.1 texts,
+    )

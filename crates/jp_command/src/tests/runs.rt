@@ -7,6 +7,8 @@ use std::test::Fail;
 
 const BOOK: &str = "{\"o\":{\"j j\":{\"k.k\":3}},\"'\":{\"@\":2}}";
 
+const ODD: &str = "{\"\\u001f\\n'\\\\\":1}";
+
 const NULLS: &str = "{\"a\":null,\"b\":[null],\"c\":[{}],\"null\":1}";
 
 /// What a run writes, into a writer that takes all.
@@ -40,6 +42,8 @@ fn writes_a_line_for_each_node(rt: HostRuntime) -> Result<(), Fail> {
         (NULLS, "$.b[0]", "$['b'][0]\tnull\n"),
         (NULLS, "$.null", "$['null']\t1\n"),
         ("[0,1,2,3,4]", "$ [-3]", "$[2]\t2\n"),
+        (ODD, "$['\\u001f\\n\\'\\\\']", "$['\\u001f\\n\\'\\\\']\t1\n"),
+        ("{\"a\":1}", "$[\"\\u0061\"]", "$['a']\t1\n"),
         ("0", "$[9007199254740991]", ""),
     ];
     for (document, query, lines) in rows {
