@@ -1,7 +1,7 @@
 -- How a walk goes on: by frames, child by child.
 use Rattle.std.proofs.Common.{◌≡◌, ℕ, zero, suc, ◌+◌, ◌<◌, List, [], ◌∷◌, ◌++◌, length, map, drop, Option, Some, None, refl, sym, ap, ap₂, ◌∙◌, append_assoc, arith}
 use Rattle.std.specs.List.{flat_map, slice_get}
-use Rattle.std.specs.Option.{option_map}
+use Rattle.std.specs.Option.{option_map, IfNone}
 use Rattle.std.proofs.lemmas.List.{append-nil, map-append}
 use Rattle.std.proofs.lemmas.Option.{same_Some}
 use Rattle.jp_document.specs.Location.{Key, named, nth, Location, items_from, members_by_name, held}
@@ -9,7 +9,7 @@ use Rattle.jp_document.specs.Node.{Located, told, told_entry, told_children}
 use Rattle.jp_document.specs.Value.{Value, null, boolean, whole, text, list, object, Items, no_items, item, Members, no_members, member, value_of}
 use Rattle.jp_select.specs.Below.{after, nodes_in, nodes_in_items, nodes_in_members}
 use Rattle.jp_select.specs.Places.{Place, seen}
-use Rattle.jp_select.specs.Walk.{place_beyond, places_in, places_from, given_by}
+use Rattle.jp_select.specs.Walk.{place_beyond, places_in, places_from, given_by, begun_by, Gives}
 use Rattle.jp_select.specs.declared.descent.Frame.{Frame}
 
 -- ---- a value and its children
@@ -77,3 +77,45 @@ pub given-push : (fs : List Frame) (f : Frame) → given_by (fs ++ f ∷ []) ≡
 given-push [] f = sym (append-nil (places_from f.node f.next))
 given-push (g ∷ fs) f =
     ap (λ t. t ++ places_from g.node g.next) (given-push fs f) ∙ append_assoc (places_from f.node f.next) (given_by fs) (places_from g.node g.next)
+
+-- ---- steps of a walk
+
+-- the first step gives the node that the walk begins with
+pub first_gives : (f g : Option Located) (n : Located) (fs gs : List Frame) → Some n ≡ f → g ≡ None → given_by gs ≡ places_from n 0 ++ given_by fs
+    → begun_by f ++ given_by fs ≡ seen n ∷ (begun_by g ++ given_by gs)
+first_gives f g n fs gs first none frames =
+    ap (λ o. begun_by o ++ given_by fs) (sym first)
+    ∙ ap (λ t. t ++ given_by fs) (append-nil (places_in (told n)) ∙ places-node n)
+    ∙ ap (λ t. seen n ∷ t) (sym frames ∙ ap (λ o. begun_by o ++ given_by gs) (sym none))
+
+-- a later one gives the next child of the last frame
+pub child_gives : (before : List Place) (f g : Option Located) (frames popped pushed entered : List Frame) (fr : Frame) (m : Located) (j : ℕ) (o : Option Located)
+    → f ≡ None → begun_by f ++ given_by frames ≡ before → frames ≡ popped ++ fr ∷ []
+    → o ≡ Some m → option_map told o ≡ slice_get (told_children fr.node) fr.next → j ≡ fr.next + 1
+    → pushed ≡ popped ++ record { node = fr.node; next = j } ∷ []
+    → g ≡ f → given_by entered ≡ places_from m 0 ++ given_by pushed
+    → before ≡ seen m ∷ (begun_by g ++ given_by entered)
+child_gives before f g frames popped pushed entered fr m j o none rest pop some held next push same enter =
+    let more : Frame = record { node = fr.node; next = j } in
+    let at : option_map told (Some m) ≡ slice_get (told_children fr.node) fr.next = ap (option_map told) (sym some) ∙ held in
+    sym rest
+    ∙ ap (λ x. begun_by x ++ given_by frames) none
+    ∙ ap given_by pop ∙ given-push popped fr
+    ∙ ap (λ t. t ++ given_by popped) (places-next fr.node m fr.next j at next)
+    ∙ append_assoc (places_in (told m)) (places_from fr.node j) (given_by popped)
+    ∙ ap (λ t. places_in (told m) ++ t) (sym (ap given_by push ∙ given-push popped more))
+    ∙ ap (λ t. t ++ given_by pushed) (places-node m)
+    ∙ ap (λ t. seen m ∷ t) (sym enter ∙ ap (λ x. begun_by x ++ given_by entered) (sym (same ∙ none)))
+
+-- a frame without a next child gives nothing
+pub frame_ends : (f : Option Located) (frames popped : List Frame) (fr : Frame) (o : Option Located)
+    → frames ≡ popped ++ fr ∷ [] → o ≡ None → option_map told o ≡ slice_get (told_children fr.node) fr.next
+    → begun_by f ++ given_by popped ≡ begun_by f ++ given_by frames
+frame_ends f frames popped fr o pop none held =
+    let at : option_map told None ≡ slice_get (told_children fr.node) fr.next = ap (option_map told) (sym none) ∙ held in
+    ap (λ t. begun_by f ++ t) (sym (ap given_by pop ∙ given-push popped fr ∙ ap (λ t. t ++ given_by popped) (places-end fr.node fr.next at)))
+
+-- at the end all has been given
+pub all_given : (done all rest new : List Place) (o : Option Located) → done ++ rest ≡ all → o ≡ None → Gives rest o new → IfNone o (new ≡ []) → done ≡ all
+all_given done all rest new None is none gives end = sym (append-nil done) ∙ ap (λ t. done ++ t) (sym (gives ∙ end)) ∙ is
+all_given done all rest new (Some n) is none gives end = absurd (cc)
