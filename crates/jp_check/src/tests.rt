@@ -1,0 +1,1 @@
+//! Queries that are accepted, and first faults.
