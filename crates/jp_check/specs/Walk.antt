@@ -6,6 +6,7 @@ use Rattle.jp_query.specs.declared.refusal.RefusalKind.{RefusalKind}
 use Rattle.jp_query.specs.declared.refusal.RefusalKind.TheVariants.{IndexRange}
 use Rattle.jp_query.specs.Items.{QueryItem, int}
 use Rattle.jp_query.specs.Refusal.{number_of}
+use Rattle.jp_query.specs.declared.tree.Numeral.{Numeral}
 use Rattle.jp_check.specs.Index.{is_index}
 
 -- how far the walk is: the spans of the items that are still to come, and the first fault of those that were
@@ -13,9 +14,13 @@ pub record Progress : Type 0 where
   pub spans : Spans
   pub first : Option Refusal
 
--- the fault of an item, of several the one with the least number
+-- the fault of an int, if it has one
+abbrev pub fault_of_int : Numeral → Option RefusalKind
+fault_of_int n = if is_index n then None else Some IndexRange
+
+-- the fault of an item, if it has one; of several the one with the least number
 abbrev pub fault_of : QueryItem → Option RefusalKind
-fault_of (int n _) = if is_index n then None else Some IndexRange
+fault_of (int n _) = fault_of_int n
 
 -- whether the one fault stands before the other
 abbrev pub is_before : Refusal → Refusal → Bool

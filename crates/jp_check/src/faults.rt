@@ -1,13 +1,13 @@
 //! The first fault of a query.
 
 ghost use Rattle.std.specs.Prelude.{◌≡◌, MatchOption, Option, None};
-ghost use Rattle.jp_query.specs.Items.{Use, int, items_of, segment_items, selector_items};
+ghost use Rattle.jp_query.specs.Items.{items_of, segment_items, selector_items};
 ghost use Rattle.jp_query.specs.Refusal.{number_of};
 ghost use Rattle.jp_query.specs.Tree.{query_of, segment_of, selector_of};
 ghost use Rattle.jp_check.specs.Faults.{IsFaultless};
 ghost use Rattle.jp_check.specs.First.{IsFirstFault};
 ghost use Rattle.jp_check.specs.Index.{is_index};
-ghost use Rattle.jp_check.specs.Walk.{earlier, fault_of, is_before, past_item, steps};
+ghost use Rattle.jp_check.specs.Walk.{earlier, fault_of_int, is_before, past_item, steps};
 
 use jp_query::{Numeral, Parsed, Query, Refusal, RefusalKind, Segment, Selector, Span};
 use std::marker::Model;
@@ -46,8 +46,7 @@ impl<'s> Model for Walk<'s> {
 impl<'s> Walk<'s> {
     /// A walk with all items to come.
     fn new(spans: &'s [Option<Span>]) -> Walk<'s>
-        ensures spans { result.spans ≡ spans.now }
-        ensures first { result.first ≡ None }
+        ensures { result ≡ record { spans = spans.now; first = None } }
     {
         Walk { spans, first: None }
     }
@@ -60,6 +59,7 @@ impl<'s> Walk<'s> {
     }
 
     /// Goes through the items of a query.
+    #[tactic(auto, using(crate::proofs::Steps::steps_append))]
     fn query(&mut self, query: &Query)
         ensures { self.new ≡ steps (items_of (query_of query.now)) self.old }
     {
@@ -69,6 +69,7 @@ impl<'s> Walk<'s> {
     }
 
     /// Goes through the items of a segment.
+    #[tactic(auto, using(crate::proofs::Steps::steps_append))]
     fn segment(&mut self, segment: &Segment)
         ensures { self.new ≡ steps (segment_items (segment_of segment.now)) self.old }
     {
@@ -124,7 +125,7 @@ fn is_before(one: Refusal, other: Refusal) -> bool
 
 /// The fault of an index, if it is outside -(2^53)+1 to (2^53)-1 (section 2.1).
 fn fault_of_int(number: Numeral) -> Option<RefusalKind>
-    ensures { (role : Use) → result ≡ fault_of (int number role) }
+    ensures { result ≡ fault_of_int number }
 {
     if is_index(number) {
         None
