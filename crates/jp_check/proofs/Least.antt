@@ -87,16 +87,16 @@ own-fault (int n role) = own-int n role (is_index n) refl
 -- ---- the faults of items with their spans
 
 -- one item with its span
-abbrev OfItem : QueryItem → Option Span → Refusal → Type 0
+abbrev pub OfItem : QueryItem → Option Span → Refusal → Type 0
 OfItem x span = IsFaultOf (x ∷ []) (span ∷ [])
 
 -- a fault of one item is its own
-of-item : (x : QueryItem) (span : Option Span) (f : Refusal) (h : OfItem x span f) → (x ≡ h.item) × (span ≡ Some h.span)
+pub of-item : (x : QueryItem) (span : Option Span) (f : Refusal) (h : OfItem x span f) → (x ≡ h.item) × (span ≡ Some h.span)
 of-item x span f h = elim (Contains-push_cases [] (x, span) (h.item, Some h.span) h.among) as (λ _. (x ≡ h.item) × (span ≡ Some h.span))
     [ inl a ↦ absurd (omega (arith, a.1)) | inr e ↦ (ap (λ p. p.0) e, ap (λ p. p.1) e) ]
 
 -- of the first item or of the others
-of-cons : (x : QueryItem) (xs : List QueryItem) (span : Option Span) (spans : Spans) (f : Refusal)
+pub of-cons : (x : QueryItem) (xs : List QueryItem) (span : Option Span) (spans : Spans) (f : Refusal)
     → IsFaultOf (x ∷ xs) (span ∷ spans) f → OfItem x span f ⊎ IsFaultOf xs spans f
 of-cons x xs span spans f h =
     elim (Contains-append_cases ((x, span) ∷ []) (zip xs spans) (h.item, Some h.span) h.among) as (λ _. OfItem x span f ⊎ IsFaultOf xs spans f)
@@ -124,7 +124,7 @@ of-tail x xs span spans f h = record {
 }
 
 -- without items or without spans there is none
-of-none : (items : List QueryItem) (spans : Spans) (f : Refusal) → zip items spans ≡ [] → IsFaultOf items spans f → ⊥
+pub of-none : (items : List QueryItem) (spans : Spans) (f : Refusal) → zip items spans ≡ [] → IsFaultOf items spans f → ⊥
 of-none items spans f e h = absurd (omega (arith, ap length e, h.among.1))
 
 -- ---- the walk

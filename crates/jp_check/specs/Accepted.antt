@@ -13,3 +13,7 @@ pub record IsAcceptedAs (text : Text) (q : QueryTree) : Type 0 where
 -- some text is accepted as the tree
 abbrev pub IsAccepted : QueryTree → Type 0
 IsAccepted q = (text : Text) × IsAcceptedAs text q
+
+-- the text is accepted as no tree
+abbrev pub IsNotAccepted : Text → Type 0
+IsNotAccepted text = (q : QueryTree) → ¬ IsAcceptedAs text q

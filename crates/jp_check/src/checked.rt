@@ -1,16 +1,16 @@
 //! Checked queries, and how they are checked and read.
 
-ghost use Rattle.std.specs.Prelude.{◌≡◌, IfOk, IfErr};
+ghost use Rattle.std.specs.Prelude.{◌≡◌, ◌⊎◌, IfOk, IfErr};
 ghost use Rattle.std.specs.Str.{chars};
 ghost use Rattle.jp_query.specs.Items.{items_of};
 ghost use Rattle.jp_query.specs.Tree.{query_of};
-ghost use Rattle.jp_check.specs.Accepted.{IsAccepted, IsAcceptedAs};
+ghost use Rattle.jp_check.specs.Accepted.{IsAccepted, IsAcceptedAs, IsNotAccepted};
 ghost use Rattle.jp_check.specs.Faults.{IsFaultless};
 ghost use Rattle.jp_check.specs.First.{IsFirstFault};
 ghost use Rattle.jp_check.specs.Refused.{IsRefused};
 
 use crate::faults::first_fault;
-use jp_query::{Parsed, Query, Refusal, parse};
+use jp_query::{Parsed, Query, Refusal, RefusalKind, parse};
 use std::alloc::Global;
 use std::marker::Model;
 
@@ -69,6 +69,7 @@ pub fn check(parsed: Parsed) -> Result<Checked, Refusal>
 pub fn read_query(alloc: Global, text: &str) -> Result<Checked, Refusal>
     ensures accepted { IfOk result (λ query. IsAcceptedAs (chars text.now) (query_of query)) }
     ensures refused { IfErr result (IsRefused (chars text.now)) }
+    ensures only { IfErr result (λ r. (r.kind ≡ RefusalKind.NoMemory) ⊎ IsNotAccepted (chars text.now)) }
 {
     let parsed = parse(alloc, text)?;
     check(parsed)
