@@ -1,5 +1,5 @@
 -- No text is accepted and faulty, and no text has two first faults.
-use Rattle.std.proofs.Common.{◌≡◌, ◌⊎◌, inl, inr, ℕ, ◌<◌, ◌≤◌, ◌==◌, if◌then◌else◌, List, [], ◌∷◌, Result, Ok, Err, IfErr, refl, sym, ap, ◌∙◌, subst, arith}
+use Rattle.std.proofs.Common.{◌≡◌, ◌⊎◌, inl, inr, ℕ, ◌==◌, if◌then◌else◌, List, [], ◌∷◌, Result, Ok, Err, IfErr, refl, sym, ap, ◌∙◌, arith}
 use Rattle.std.specs.List.{All}
 use Rattle.std.proofs.lemmas.List.Elements.{All-head, All-tail}
 use Rattle.jp_reading.specs.Texts.{Text, Spans}
@@ -11,7 +11,7 @@ use Rattle.jp_query.specs.Grammar.{Spells}
 use Rattle.jp_query.specs.Laws.{OneReading}
 use Rattle.jp_query.specs.Refusal.{number_of}
 use Rattle.jp_query.specs.Tree.{QueryTree}
-use Rattle.jp_check.specs.Accepted.{IsAcceptedAs, IsNotAccepted}
+use Rattle.jp_check.specs.Accepted.{IsNotAccepted}
 use Rattle.jp_check.specs.Faults.{HasFault}
 use Rattle.jp_check.specs.First.{IsFaultOf, IsNoLater, IsFirstFault}
 use Rattle.jp_check.specs.Laws.{OneAnswer}
@@ -67,7 +67,7 @@ no_fault [] spans f all h = of-none [] spans f refl h
 no_fault (x ∷ xs) [] f all h = of-none (x ∷ xs) [] f refl h
 no_fault (x ∷ xs) (span ∷ spans) f all h =
     elim (of-cons x xs span spans f h) as (λ _. ⊥) [
-      inl q ↦ All-head NoFault x xs all f.kind (rw (of-item x span f q).0 q.kind)
+      | inl q ↦ All-head NoFault x xs all f.kind (rw (of-item x span f q).0 q.kind)
       | inr q ↦ no_fault xs spans f (All-tail NoFault x xs all) q
     ]
 
@@ -77,11 +77,11 @@ pub one-answer : OneReading → (text : Text) → OneAnswer text
 one-answer one text = record {
   one_tree = λ q u a b. (one 64 64 q u a.spans b.spans text a.spelled b.spelled).0;
   one_fault = λ r f a b.
-  let same = one 64 64 a.tree b.tree a.spans b.spans text a.spelled b.spelled in
-  first-alone (items_of a.tree) a.spans r f a.first (rw (same.0, same.1) b.first);
+      let same = one 64 64 a.tree b.tree a.spans b.spans text a.spelled b.spelled in
+      first-alone (items_of a.tree) a.spans r f a.first (rw (same.0, same.1) b.first);
   not_both = λ q r a b.
-  let same = one 64 64 q b.tree a.spans b.spans text a.spelled b.spelled in
-  no_fault (items_of q) a.spans r a.faultless (rw (same.0, same.1) b.first.is);
+      let same = one 64 64 q b.tree a.spans b.spans text a.spelled b.spelled in
+      no_fault (items_of q) a.spans r a.faultless (rw (same.0, same.1) b.first.is);
 }
 
 -- what is refused is not accepted

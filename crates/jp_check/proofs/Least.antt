@@ -1,6 +1,6 @@
 -- The first fault that the walk finds is the first of all.
-use Rattle.std.proofs.Common.{◌≡◌, ◌⊎◌, inl, inr, ℕ, ◌<◌, ◌≤◌, Bool, true, false, cond, List, [], ◌∷◌, Option, Some, None, MatchOption, length, get_or, refl, sym, ap, ◌∙◌, subst, arith, rules}
-use Rattle.std.specs.List.{All, Contains, zip}
+use Rattle.std.proofs.Common.{◌≡◌, ◌⊎◌, inl, inr, ◌≤◌, Bool, true, false, cond, List, [], ◌∷◌, Option, Some, None, MatchOption, length, refl, sym, ap, subst, arith}
+use Rattle.std.specs.List.{All, zip}
 use Rattle.std.proofs.lemmas.List.Elements.{All-cons, All-nil, Contains-append_left, Contains-append_right, Contains-append_cases, Contains-push, Contains-push_cases}
 use Rattle.jp_reading.specs.Texts.{Spans}
 use Rattle.jp_reading.specs.declared.span.Span.{Span}
@@ -51,15 +51,15 @@ least-earlier : (P Q : Refusal → Type 0) (o : Option Refusal) (r : Refusal) �
 least-earlier P Q None r h g = (inr g.0, λ f e. elim e as (λ _. IsNoLater r f) [ inl p ↦ absurd (h f p) | inr q ↦ g.1 f q ])
 least-earlier P Q (Some first) r h g = chosen (is_before r first) refl
   where
-  chosen : (b : Bool) → is_before r first ≡ b → IsLeast (λ f. P f ⊎ Q f) (cond b (Some r) (Some first))
-  chosen true e = (
-    inr g.0,
-    λ f one. elim one as (λ _. IsNoLater r f) [ inl p ↦ no_later-trans r first f (before-no_later r first e) (h.1 f p) | inr q ↦ g.1 f q ],
-  )
-  chosen false e = (
-    inl h.0,
-    λ f one. elim one as (λ _. IsNoLater first f) [ inl p ↦ h.1 f p | inr q ↦ no_later-trans first r f (not_before-no_later r first e) (g.1 f q) ],
-  )
+    chosen : (b : Bool) → is_before r first ≡ b → IsLeast (λ f. P f ⊎ Q f) (cond b (Some r) (Some first))
+    chosen true e = (
+      inr g.0,
+      λ f one. elim one as (λ _. IsNoLater r f) [ inl p ↦ no_later-trans r first f (before-no_later r first e) (h.1 f p) | inr q ↦ g.1 f q ],
+    )
+    chosen false e = (
+      inl h.0,
+      λ f one. elim one as (λ _. IsNoLater first f) [ inl p ↦ h.1 f p | inr q ↦ no_later-trans first r f (not_before-no_later r first e) (g.1 f q) ],
+    )
 
 -- no more faults
 least-alone : (P Q : Refusal → Type 0) (o : Option Refusal) → ((f : Refusal) → Q f → ⊥) → IsLeast P o → IsLeast (λ f. P f ⊎ Q f) o
@@ -99,9 +99,8 @@ of-item x span f h = elim (Contains-push_cases [] (x, span) (h.item, Some h.span
 pub of-cons : (x : QueryItem) (xs : List QueryItem) (span : Option Span) (spans : Spans) (f : Refusal)
     → IsFaultOf (x ∷ xs) (span ∷ spans) f → OfItem x span f ⊎ IsFaultOf xs spans f
 of-cons x xs span spans f h =
-    elim (Contains-append_cases ((x, span) ∷ []) (zip xs spans) (h.item, Some h.span) h.among) as (λ _. OfItem x span f ⊎ IsFaultOf xs spans f)
-    [
-      inl a ↦ inl (record { item = h.item; span = h.span; among = a; kind = h.kind; place = h.place })
+    elim (Contains-append_cases ((x, span) ∷ []) (zip xs spans) (h.item, Some h.span) h.among) as (λ _. OfItem x span f ⊎ IsFaultOf xs spans f) [
+      | inl a ↦ inl (record { item = h.item; span = h.span; among = a; kind = h.kind; place = h.place })
       | inr a ↦ inr (record { item = h.item; span = h.span; among = a; kind = h.kind; place = h.place })
     ]
 
@@ -137,13 +136,12 @@ past-least P x None span rest first own h =
 past-least P x (Some kind) None rest first own h =
     least-alone P (OfItem x None) first (λ f q. let e = of-item x None f q in cc (e.1)) h
 past-least P x (Some kind) (Some span) rest first own h =
-    least-earlier P (OfItem x (Some span)) first (record { kind = kind; place = span.start }) h
-    (
+    least-earlier P (OfItem x (Some span)) first (record { kind = kind; place = span.start }) h (
       record { item = x; span = span; among = Contains-push [] (x, Some span); kind = own.0; place = refl },
       λ f q.
-      let its = of-item x (Some span) f q in
-      let same : span ≡ q.span = cc (its.1) in
-      inr (rw same (sym q.place), own.1 f.kind (rw its.0 q.kind)),
+          let its = of-item x (Some span) f q in
+          let same : span ≡ q.span = cc (its.1) in
+          inr (rw same (sym q.place), own.1 f.kind (rw its.0 q.kind)),
     )
 
 past-spans : (o : Option RefusalKind) (span : Option Span) (rest : Spans) (first : Option Refusal) → (past_item o (span ∷ rest) first).spans ≡ rest
@@ -156,33 +154,33 @@ least-cons : (P : Refusal → Type 0) (x : QueryItem) (xs : List QueryItem) (spa
     → IsLeast (λ f. (P f ⊎ OfItem x span f) ⊎ IsFaultOf xs spans f) o → IsLeast (λ f. P f ⊎ IsFaultOf (x ∷ xs) (span ∷ spans) f) o
 least-cons P x xs span spans o = least-same (λ f. (P f ⊎ OfItem x span f) ⊎ IsFaultOf xs spans f) (λ f. P f ⊎ IsFaultOf (x ∷ xs) (span ∷ spans) f) o there back
   where
-  there : (f : Refusal) → (P f ⊎ OfItem x span f) ⊎ IsFaultOf xs spans f → P f ⊎ IsFaultOf (x ∷ xs) (span ∷ spans) f
-  there f (inl (inl p)) = inl p
-  there f (inl (inr q)) = inr (of-head x xs span spans f q)
-  there f (inr q) = inr (of-tail x xs span spans f q)
+    there : (f : Refusal) → (P f ⊎ OfItem x span f) ⊎ IsFaultOf xs spans f → P f ⊎ IsFaultOf (x ∷ xs) (span ∷ spans) f
+    there f (inl (inl p)) = inl p
+    there f (inl (inr q)) = inr (of-head x xs span spans f q)
+    there f (inr q) = inr (of-tail x xs span spans f q)
 
-  back : (f : Refusal) → P f ⊎ IsFaultOf (x ∷ xs) (span ∷ spans) f → (P f ⊎ OfItem x span f) ⊎ IsFaultOf xs spans f
-  back f (inl p) = inl (inl p)
-  back f (inr q) = elim (of-cons x xs span spans f q) as (λ _. (P f ⊎ OfItem x span f) ⊎ IsFaultOf xs spans f) [ inl a ↦ inl (inr a) | inr a ↦ inr a ]
+    back : (f : Refusal) → P f ⊎ IsFaultOf (x ∷ xs) (span ∷ spans) f → (P f ⊎ OfItem x span f) ⊎ IsFaultOf xs spans f
+    back f (inl p) = inl (inl p)
+    back f (inr q) = elim (of-cons x xs span spans f q) as (λ _. (P f ⊎ OfItem x span f) ⊎ IsFaultOf xs spans f) [ inl a ↦ inl (inr a) | inr a ↦ inr a ]
 
 -- where spans are missing, the items have no faults
 least-unspanned : (P : Refusal → Type 0) (x : QueryItem) (xs : List QueryItem) (o : Option Refusal) → IsLeast (λ f. P f ⊎ IsFaultOf xs [] f) o → IsLeast (λ f. P f ⊎ IsFaultOf (x ∷ xs) [] f) o
 least-unspanned P x xs o = least-same (λ f. P f ⊎ IsFaultOf xs [] f) (λ f. P f ⊎ IsFaultOf (x ∷ xs) [] f) o there back
   where
-  unspanned : Spans
-  unspanned = []
+    unspanned : Spans
+    unspanned = []
 
-  zip-none : (ys : List QueryItem) → zip ys (unspanned) ≡ []
-  zip-none [] = refl
-  zip-none (y ∷ ys) = refl
+    zip-none : (ys : List QueryItem) → zip ys (unspanned) ≡ []
+    zip-none [] = refl
+    zip-none (y ∷ ys) = refl
 
-  there : (f : Refusal) → P f ⊎ IsFaultOf xs [] f → P f ⊎ IsFaultOf (x ∷ xs) [] f
-  there f (inl p) = inl p
-  there f (inr q) = absurd (of-none xs [] f (zip-none xs) q)
+    there : (f : Refusal) → P f ⊎ IsFaultOf xs [] f → P f ⊎ IsFaultOf (x ∷ xs) [] f
+    there f (inl p) = inl p
+    there f (inr q) = absurd (of-none xs [] f (zip-none xs) q)
 
-  back : (f : Refusal) → P f ⊎ IsFaultOf (x ∷ xs) [] f → P f ⊎ IsFaultOf xs [] f
-  back f (inl p) = inl p
-  back f (inr q) = absurd (of-none (x ∷ xs) [] f refl q)
+    back : (f : Refusal) → P f ⊎ IsFaultOf (x ∷ xs) [] f → P f ⊎ IsFaultOf xs [] f
+    back f (inl p) = inl p
+    back f (inr q) = absurd (of-none (x ∷ xs) [] f refl q)
 
 steps-least : (P : Refusal → Type 0) (items : List QueryItem) (spans : Spans) (first : Option Refusal)
     → IsLeast P first → IsLeast (λ f. P f ⊎ IsFaultOf items spans f) (steps items (record { spans = spans; first = first })).first
@@ -213,7 +211,7 @@ pub found : (items : List QueryItem) (spans : Spans) (o : Option Refusal) → Ea
     → MatchOption o (All (λ item. (kind : RefusalKind) → HasFault item kind → ⊥) items) (IsFirstFault items spans)
 found items spans o each e = told o (rw e (steps-least (λ f. ⊥) items spans None (λ f h. h)))
   where
-  told : (o : Option Refusal) → IsLeast (λ f. ⊥ ⊎ IsFaultOf items spans f) o
-      → MatchOption o (All (λ item. (kind : RefusalKind) → HasFault item kind → ⊥) items) (IsFirstFault items spans)
-  told None h = faultless items spans each (λ f q. h f (inr q))
-  told (Some r) h = record { is = elim h.0 as (λ _. IsFaultOf items spans r) [ inl p ↦ absurd p | inr q ↦ q ]; first = λ f q. h.1 f (inr q) }
+    told : (o : Option Refusal) → IsLeast (λ f. ⊥ ⊎ IsFaultOf items spans f) o
+        → MatchOption o (All (λ item. (kind : RefusalKind) → HasFault item kind → ⊥) items) (IsFirstFault items spans)
+    told None h = faultless items spans each (λ f q. h f (inr q))
+    told (Some r) h = record { is = elim h.0 as (λ _. IsFaultOf items spans r) [ inl p ↦ absurd p | inr q ↦ q ]; first = λ f q. h.1 f (inr q) }

@@ -1,5 +1,5 @@
 -- Which whole numbers may be an index or a part of a slice (RFC 9535 section 2.1).
-use Rattle.std.specs.Prelude.{ℕ, suc, ◌^◌, pos, negsuc, nat_lt, Bool, false}
+use Rattle.std.specs.Prelude.{suc, ◌^◌, pos, negsuc, nat_lt, Bool, false}
 use Rattle.jp_query.specs.declared.tree.Numeral.{Numeral}
 use Rattle.jp_query.specs.declared.tree.Numeral.TheVariants.{Whole}
 
