@@ -10,7 +10,7 @@ use Rattle.jp_query.specs.Strings.{is_escapable, is_hexdig, is_d, is_not_d, is_0
 use Rattle.jp_query.specs.Ints.{is_leading_digit, Unsigned, Int, zero_int, positive_int, negative_int}
 use Rattle.jp_query.specs.Grammar.{Selector, named, indexed, Segment, bracketed, dotted, Segments, Spells}
 use Rattle.jp_reading.specs.Numbers.{is_digit}
-use Rattle.jp_query.specs.Items.{QueryItem, selector_items, segment_items, segments_items, items_of, EachSpanned}
+use Rattle.jp_query.specs.Items.{QueryItem, int, as_index, as_slice_part, selector_items, segment_items, segments_items, items_of, EachSpanned}
 
 -- ---- texts without items
 
@@ -80,7 +80,8 @@ spanned-append : (xs ys : List QueryItem) (s t : Spans) → EachSpanned xs s →
 spanned-append [] ys [] t h g = g
 spanned-append [] ys (one ∷ s) t h g = absurd h
 spanned-append (x ∷ xs) ys [] t h g = absurd h
-spanned-append (x ∷ xs) ys (None ∷ s) t h g = absurd h
+spanned-append (int i as_index ∷ xs) ys (None ∷ s) t h g = absurd h
+spanned-append (int i as_slice_part ∷ xs) ys (None ∷ s) t h g = (h.0, spanned-append xs ys s t h.1 g)
 spanned-append (x ∷ xs) ys (Some span ∷ s) t h g = spanned-append xs ys s t h g
 
 selector-spanned : (n : ℕ) (x : SelectorTree) (s : Spans) (o : ℕ) (t : Text) → Selector n x s o t → EachSpanned (selector_items x) s

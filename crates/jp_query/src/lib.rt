@@ -24,4 +24,4 @@ mod tree;
 pub use jp_reading::Span;
 pub use parsed::{Parsed, parse};
 pub use refusal::{Refusal, RefusalKind};
-pub use tree::{Numeral, Query, Segment, Selector};
+pub use tree::{Numeral, Query, Segment, Selector, Slice};
