@@ -1,5 +1,5 @@
 -- Items found by their indexes.
-use Rattle.std.proofs.Common.{◌≡◌, ℕ, zero, suc, ◌+◌, ◌<◌, ◌≤◌, List, [], ◌∷◌, length, get_or, map, Option, Some, None, Equal, Greater, Bor, is_eq, nat_cmp, cond, refl, sym, ap, ◌∙◌, arith}
+use Rattle.std.proofs.Common.{◌≡◌, ℕ, zero, suc, ◌+◌, ◌<◌, ◌≤◌, List, [], ◌∷◌, length, map, Option, Some, None, Equal, Greater, Bor, is_eq, cond, refl, sym, ap, ◌∙◌, arith}
 use Rattle.std.specs.BTreeMap.{is_at}
 use Rattle.std.specs.Cmp.{nat_cmp_is}
 use Rattle.std.specs.List.{slice_get, HoldsAt}
@@ -7,7 +7,7 @@ use Rattle.std.specs.Map.{lookup}
 use Rattle.std.specs.Option.{MatchOption, option_map}
 use Rattle.std.proofs.lemmas.Option.{slice_get-map, slice_get_past, slice_get-get_or}
 use Rattle.jp_document.specs.Location.{nth, key_cmp, items_from, child}
-use Rattle.jp_document.specs.Value.{Value, list, Items, no_items, item, items_of}
+use Rattle.jp_document.specs.Value.{Value, list, items_of}
 
 -- the item at index i of some items that begin at index k
 item_from : (n k i : ℕ) (vs : List Value) → n ≡ k + i → lookup (is_at (key_cmp (nth n))) (items_from k (items_of vs)) ≡ slice_get vs i

@@ -1,4 +1,5 @@
-pub mod Children
+pub mod ChildLaws
+pub mod ChildValues
 pub mod Fits
 pub mod Fractions
 pub mod Held

@@ -12,8 +12,10 @@
 //! one; each node stands in its document, with the document's own value; paths and texts are exact.
 #![tactic(auto)]
 
+mod child_nodes;
 mod document;
 mod fault;
+pub mod laws;
 mod location;
 mod lookup;
 mod node;
@@ -27,6 +29,7 @@ mod tests;
 mod text;
 mod value;
 
+pub use child_nodes::children;
 pub use document::Document;
 pub use fault::DocumentFault;
 pub use location::{OwnedLocation, OwnedStep, Step};

@@ -3,7 +3,7 @@ use Rattle.std.specs.List.{slice_get}
 use Rattle.jp_document.specs.Location.{held, key_of, value_at}
 use Rattle.jp_document.specs.Node.{told, told_entry, entry_of}
 use Rattle.jp_document.specs.Value.{is_allowed, value_of}
-use Rattle.jp_document.proofs.Children.{value_at-step}
+use Rattle.jp_document.proofs.ChildValues.{value_at-step}
 use Rattle.jp_document.proofs.Held.{told_at, everywhere-held, child-held}
 use Rattle.jp_document.proofs.nth.nth_child.Goals as goal
 
