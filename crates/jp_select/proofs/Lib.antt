@@ -1,3 +1,4 @@
 pub mod Locations
 pub mod Rising
+pub mod Slices
 pub mod Walks

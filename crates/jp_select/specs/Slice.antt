@@ -1,8 +1,7 @@
 -- Array slices (RFC 9535 section 2.3.4.2). An omitted bound is None.
-use Rattle.std.specs.Prelude.{◌≡◌, ℕ, zero, suc, ◌+◌, ◌*◌, ◌%◌, nat_eq, ℤ, pos, negsuc, ◌+ℤ◌, ◌-ℤ◌, ◌<ℤ◌, int_lt, int_le, unsigned_abs, Bool, ◌&&◌, List, [], reverse, filter, Contains, ◌↔◌, Option, unwrap_or}
+use Rattle.std.specs.Prelude.{ℕ, zero, suc, ◌%◌, nat_eq, ℤ, pos, negsuc, ◌+ℤ◌, ◌-ℤ◌, int_lt, int_le, unsigned_abs, Bool, ◌&&◌, List, [], reverse, filter, Option, unwrap_or}
 use Rattle.std.specs.Int.{int_max, int_min}
 use Rattle.std.specs.List.{range_with_len}
-use Rattle.std.specs.List.Sorted.{IsStrictlyIncreasing}
 
 -- a negative number counts from the end of n items (Normalize)
 abbrev pub normalized : ℕ → ℤ → ℤ
@@ -27,19 +26,25 @@ falling_upper n start = held_within (negsuc 0) (pos n -ℤ pos 1) (normalized n 
 abbrev pub falling_lower : ℕ → Option ℤ → ℤ
 falling_lower n end = held_within (negsuc 0) (pos n -ℤ pos 1) (normalized n (unwrap_or end (negsuc n)))
 
--- the size of the step divides the distance
+-- the size of a step divides a distance
 abbrev pub divides : ℕ → ℤ → Bool
-divides step distance = nat_eq (unsigned_abs distance % step) 0
+divides size distance = nat_eq (unsigned_abs distance % size) 0
+
+-- i is at or above the lower bound and below the upper one, some steps above the lower one
+abbrev pub is_rising : ℤ → ℤ → ℕ → ℕ → Bool
+is_rising lower upper size i = int_le lower (pos i) && int_lt (pos i) upper && divides size (pos i -ℤ lower)
+
+-- i is above the lower bound and at or below the upper one, some steps below the upper one
+abbrev pub is_falling : ℤ → ℤ → ℕ → ℕ → Bool
+is_falling lower upper size i = int_lt lower (pos i) && int_le (pos i) upper && divides size (upper -ℤ pos i)
 
 -- the indexes of n items
 abbrev pub indexes : ℕ → List ℕ
 indexes n = range_with_len 0 n
 
--- the items that a slice of n items selects, in its order: none by step 0; by a positive step those from the
--- lower bound on, below the upper one; by a negative step those from the upper bound down, above the lower one
+-- the indexes that a slice of n items selects, in its order: upwards by a positive step, downwards by a
+-- negative one, none by step 0
 abbrev pub slice_of : ℕ → Option ℤ → Option ℤ → ℤ → List ℕ
 slice_of n start end (pos zero) = []
-slice_of n start end (pos (suc k)) =
-    filter (λ i. int_le (rising_lower n start) (pos i) && int_lt (pos i) (rising_upper n end) && divides (suc k) (pos i -ℤ rising_lower n start)) (indexes n)
-slice_of n start end (negsuc k) =
-    reverse (filter (λ i. int_lt (falling_lower n end) (pos i) && int_le (pos i) (falling_upper n start) && divides (suc k) (falling_upper n start -ℤ pos i)) (indexes n))
+slice_of n start end (pos (suc k)) = filter (is_rising (rising_lower n start) (rising_upper n end) (suc k)) (indexes n)
+slice_of n start end (negsuc k) = reverse (filter (is_falling (falling_lower n end) (falling_upper n start) (suc k)) (indexes n))

@@ -3,5 +3,6 @@
 
 mod descent;
 pub mod laws;
+mod slice;
 
 pub use descent::descend;
