@@ -16,6 +16,7 @@ mod names;
 mod parsed;
 mod refusal;
 mod segments;
+mod strings;
 #[cfg(test)]
 mod tests;
 mod tree;
@@ -23,4 +24,4 @@ mod tree;
 pub use jp_reading::Span;
 pub use parsed::{Parsed, parse};
 pub use refusal::{Refusal, RefusalKind};
-pub use tree::{Numeral, Query, Segment, Selector};
+pub use tree::{Numeral, Query, Segment, Selector, Slice};
