@@ -1,3 +1,4 @@
 pub mod Steps
 pub mod Least
 pub mod Alone
+pub mod Rows
