@@ -10,12 +10,12 @@ use Rattle.std.proofs.lemmas.Cmp.{tied_itself}
 use Rattle.std.proofs.lemmas.List.{append-nil, map-append}
 use Rattle.std.proofs.lemmas.List.Elements.{All-cons, All-nil, All-append, All-map, All-weaker}
 use Rattle.std.proofs.lemmas.Option.{same_Some}
+use Rattle.jp_document.specs.ChildNodes.{standing}
 use Rattle.jp_document.specs.Location.{Key, named, nth, key_cmp, Location, location_cmp, items_from, members_by_name, held, child, value_at}
 use Rattle.jp_document.specs.Value.{Value, null, boolean, whole, text, list, object, Items, no_items, item, Members, no_members, member, IsDocumentValue}
-use Rattle.jp_document.proofs.Children.{IsDocumentValue-child}
+use Rattle.jp_document.proofs.ChildValues.{IsDocumentValue-child}
 use Rattle.jp_document.proofs.Held.{key_cmp_total, held-rises, child-held}
 use Rattle.jp_select.specs.Below.{after, nodes_in, nodes_in_items, nodes_in_members, beyond, below}
-use Rattle.jp_select.specs.Places.{Place, standing}
 use Rattle.jp_select.specs.Walk.{place_beyond, places_in}
 
 -- ---- values at longer locations

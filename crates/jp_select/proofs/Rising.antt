@@ -13,11 +13,12 @@ use Rattle.std.proofs.lemmas.List.Elements.{All-contains, Contains-append_left, 
 use Rattle.std.proofs.lemmas.Map.Entries.{place_from_lookup}
 use Rattle.std.proofs.lemmas.Map.Lookups.{exact_bytes, exact_unsigned}
 use Rattle.std.proofs.lemmas.Option.{same_Some, slice_get_within, get_or_from_slice_get}
+use Rattle.jp_document.specs.ChildNodes.{IsListOf}
 use Rattle.jp_document.specs.Location.{Key, named, nth, key_cmp, Location, location_cmp, held, child, value_at}
 use Rattle.jp_document.specs.Value.{Value, IsDocumentValue}
-use Rattle.jp_document.proofs.Children.{IsDocumentValue-child}
+use Rattle.jp_document.proofs.ChildValues.{IsDocumentValue-child}
 use Rattle.jp_document.proofs.Held.{key_cmp_total, held-rises, child-held}
-use Rattle.jp_select.specs.Below.{after, nodes_in, beyond, below, IsBelow, IsListOf}
+use Rattle.jp_select.specs.Below.{after, nodes_in, beyond, below, IsBelow}
 use Rattle.jp_select.proofs.Locations.{value_at-append, IsDocumentValue-at, inner, nodes_in-held, by_children, Stands, nodes_stand}
 
 -- ---- lists that rise

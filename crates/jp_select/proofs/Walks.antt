@@ -4,12 +4,12 @@ use Rattle.std.specs.List.{flat_map, slice_get}
 use Rattle.std.specs.Option.{option_map, IfNone}
 use Rattle.std.proofs.lemmas.List.{append-nil, map-append}
 use Rattle.std.proofs.lemmas.Option.{same_Some}
+use Rattle.jp_document.specs.ChildNodes.{shown}
 use Rattle.jp_document.specs.Location.{Key, named, nth, Location, items_from, members_by_name, held}
 use Rattle.jp_document.specs.Node.{Located, told, told_entry, told_children}
 use Rattle.jp_document.specs.Value.{Value, null, boolean, whole, text, list, object, Items, no_items, item, Members, no_members, member, value_of}
 use Rattle.jp_select.specs.Below.{after, nodes_in, nodes_in_items, nodes_in_members}
-use Rattle.jp_select.specs.Places.{Place, seen}
-use Rattle.jp_select.specs.Walk.{place_beyond, places_in, places_from, given_by, begun_by, Gives}
+use Rattle.jp_select.specs.Walk.{Place, place_beyond, places_in, places_from, given_by, begun_by, Gives}
 use Rattle.jp_select.specs.declared.descent.Frame.{Frame}
 
 -- ---- a value and its children
@@ -40,7 +40,7 @@ places-children l (list vs) = ap₂ (λ m t. (m, Some (list vs)) ∷ t) (append-
 places-children l (object ms) = ap₂ (λ m t. (m, Some (object ms)) ∷ t) (append-nil l) (places_in_members l ms)
 
 -- a node comes before what its children give
-pub places-node : (n : Located) → places_in (told n) ≡ seen n ∷ places_from n 0
+pub places-node : (n : Located) → places_in (told n) ≡ shown n ∷ places_from n 0
 places-node n = places-children n.location (value_of n.value)
 
 -- ---- frames
@@ -82,11 +82,11 @@ given-push (g ∷ fs) f =
 
 -- the first step gives the node that the walk begins with
 pub first_gives : (f g : Option Located) (n : Located) (fs gs : List Frame) → Some n ≡ f → g ≡ None → given_by gs ≡ places_from n 0 ++ given_by fs
-    → begun_by f ++ given_by fs ≡ seen n ∷ (begun_by g ++ given_by gs)
+    → begun_by f ++ given_by fs ≡ shown n ∷ (begun_by g ++ given_by gs)
 first_gives f g n fs gs first none frames =
     ap (λ o. begun_by o ++ given_by fs) (sym first)
     ∙ ap (λ t. t ++ given_by fs) (append-nil (places_in (told n)) ∙ places-node n)
-    ∙ ap (λ t. seen n ∷ t) (sym frames ∙ ap (λ o. begun_by o ++ given_by gs) (sym none))
+    ∙ ap (λ t. shown n ∷ t) (sym frames ∙ ap (λ o. begun_by o ++ given_by gs) (sym none))
 
 -- a later one gives the next child of the last frame
 pub child_gives : (before : List Place) (f g : Option Located) (frames popped pushed entered : List Frame) (fr : Frame) (m : Located) (j : ℕ) (o : Option Located)
@@ -94,7 +94,7 @@ pub child_gives : (before : List Place) (f g : Option Located) (frames popped pu
     → o ≡ Some m → option_map told o ≡ slice_get (told_children fr.node) fr.next → j ≡ fr.next + 1
     → pushed ≡ popped ++ record { node = fr.node; next = j } ∷ []
     → g ≡ f → given_by entered ≡ places_from m 0 ++ given_by pushed
-    → before ≡ seen m ∷ (begun_by g ++ given_by entered)
+    → before ≡ shown m ∷ (begun_by g ++ given_by entered)
 child_gives before f g frames popped pushed entered fr m j o none rest pop some held next push same enter =
     let more : Frame = record { node = fr.node; next = j } in
     let at : option_map told (Some m) ≡ slice_get (told_children fr.node) fr.next = ap (option_map told) (sym some) ∙ held in
@@ -105,7 +105,7 @@ child_gives before f g frames popped pushed entered fr m j o none rest pop some 
     ∙ append_assoc (places_in (told m)) (places_from fr.node j) (given_by popped)
     ∙ ap (λ t. places_in (told m) ++ t) (sym (ap given_by push ∙ given-push popped more))
     ∙ ap (λ t. t ++ given_by pushed) (places-node m)
-    ∙ ap (λ t. seen m ∷ t) (sym enter ∙ ap (λ x. begun_by x ++ given_by entered) (sym (same ∙ none)))
+    ∙ ap (λ t. shown m ∷ t) (sym enter ∙ ap (λ x. begun_by x ++ given_by entered) (sym (same ∙ none)))
 
 -- a frame without a next child gives nothing
 pub frame_ends : (f : Option Located) (frames popped : List Frame) (fr : Frame) (o : Option Located)

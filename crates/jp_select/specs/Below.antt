@@ -1,8 +1,7 @@
 -- A node and its descendants in document order (RFC 9535 section 2.5.2.2).
-use Rattle.std.specs.Prelude.{◌≡◌, ℕ, suc, List, [], ◌∷◌, ◌++◌, map, Contains, IsSome, ◌↔◌}
-use Rattle.std.specs.List.Sorted.{IsStrictlySortedBy}
+use Rattle.std.specs.Prelude.{◌≡◌, ℕ, suc, List, [], ◌∷◌, ◌++◌, map, IsSome}
 use Rattle.std.specs.Option.{option_map_or}
-use Rattle.jp_document.specs.Location.{Key, named, nth, Location, location_cmp, value_at}
+use Rattle.jp_document.specs.Location.{Key, named, nth, Location, value_at}
 use Rattle.jp_document.specs.Value.{Value, null, boolean, whole, text, list, object, Items, no_items, item, Members, no_members, member}
 
 -- a location with its value, as seen from one step before
@@ -40,8 +39,3 @@ pub record IsBelow (d : Value) (l m : Location) : Type 0 where
   pub there : IsSome (value_at d m)
   pub rest : Location
   pub begins : m ≡ l ++ rest
-
--- the locations rise in document order, and are exactly those of which P holds
-pub record IsListOf (P : Location → Type 0) (ls : List Location) : Type 0 where
-  pub rising : IsStrictlySortedBy location_cmp ls
-  pub exactly : (m : Location) → Contains ls m ↔ P m

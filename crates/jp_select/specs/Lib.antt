@@ -1,5 +1,5 @@
 pub mod Below
 pub mod Laws
-pub mod Places
+pub mod Selectors
 pub mod Slice
 pub mod Walk

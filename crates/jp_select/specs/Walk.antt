@@ -1,13 +1,17 @@
 -- What a walk over a node and its descendants still has to give.
 use Rattle.std.specs.Prelude.{◌≡◌, ℕ, List, [], ◌∷◌, ◌++◌, Option, Some, map, drop, option_to_list}
 use Rattle.std.specs.List.{flat_map}
+use Rattle.jp_document.specs.ChildNodes.{shown}
 use Rattle.jp_document.specs.Location.{Location}
 use Rattle.jp_document.specs.Node.{Located, told, told_children}
 use Rattle.jp_document.specs.Value.{Value}
 use Rattle.jp_select.specs.Below.{nodes_in}
-use Rattle.jp_select.specs.Places.{Place, seen}
 use Rattle.jp_select.specs.declared.descent.Descent.{Descent}
 use Rattle.jp_select.specs.declared.descent.Frame.{Frame}
+
+-- a location and the value that stands there, if there is one
+abbrev pub Place : Type 0
+Place = Location × Option Value
 
 -- the place of a value in the one at l
 abbrev pub place_beyond : Location → Location × Value → Place
@@ -36,4 +40,4 @@ rest_of w = begun_by w.first ++ given_by w.frames.items
 
 -- a step from one rest to the next gives a node, or none
 abbrev pub Gives : List Place → Option Located → List Place → Type 0
-Gives before o rest = (before ≡ map seen (option_to_list o) ++ rest)
+Gives before o rest = (before ≡ map shown (option_to_list o) ++ rest)

@@ -1,9 +1,9 @@
 //! The walk over a node and its descendants in document order (RFC 9535 section 2.5.2.2).
 ghost use Rattle.std.specs.Prelude.{◌≡◌, [], ◌++◌, IfOk, IfNone, OnOk};
+ghost use Rattle.jp_document.specs.ChildNodes.{AreNodes};
 ghost use Rattle.jp_document.specs.Node.{told, StandsIn};
 ghost use Rattle.jp_document.specs.Value.{Value};
 ghost use Rattle.jp_select.specs.Below.{below};
-ghost use Rattle.jp_select.specs.Places.{AreNodes};
 ghost use Rattle.jp_select.specs.Walk.{places_in, places_from, given_by, rest_of, Gives};
 
 use jp_document::{Node, child_count, nth_child};
