@@ -16,7 +16,7 @@ use Rattle.jp_check.specs.Faults.{HasFault}
 use Rattle.jp_check.specs.First.{IsFaultOf, IsNoLater, IsFirstFault}
 use Rattle.jp_check.specs.Laws.{OneAnswer}
 use Rattle.jp_check.specs.Refused.{IsFaulty, IsRefusedAs, IsRefused}
-use Rattle.jp_check.proofs.Least.{of-cons, of-item, of-none}
+use Rattle.jp_check.proofs.Least.{NoFault, of-cons, of-item, of-none}
 
 -- ---- kinds have numbers of their own
 
@@ -58,9 +58,6 @@ first-alone : (items : List QueryItem) (spans : Spans) (r f : Refusal) → IsFir
 first-alone items spans r f h g = no_later-both r f (h.first f g.is) (g.first r h.is)
 
 -- ---- no fault without faults
-
-abbrev NoFault : QueryItem → Type 0
-NoFault item = (kind : RefusalKind) → HasFault item kind → ⊥
 
 no_fault : (items : List QueryItem) (spans : Spans) (f : Refusal) → All NoFault items → IsFaultOf items spans f → ⊥
 no_fault [] spans f all h = of-none [] spans f refl h

@@ -1,5 +1,5 @@
 -- The first fault that the walk finds is the first of all.
-use Rattle.std.proofs.Common.{◌≡◌, ◌⊎◌, inl, inr, ◌≤◌, Bool, true, false, cond, List, [], ◌∷◌, Option, Some, None, MatchOption, length, refl, sym, ap, subst, arith}
+use Rattle.std.proofs.Common.{◌≡◌, pos, ◌⊎◌, inl, inr, ◌≤◌, Bool, true, false, cond, List, [], ◌∷◌, Option, Some, None, MatchOption, length, refl, sym, ap, subst, arith}
 use Rattle.std.specs.List.{All, zip}
 use Rattle.std.proofs.lemmas.List.Elements.{All-cons, All-nil, Contains-append_left, Contains-append_right, Contains-append_cases, Contains-push, Contains-push_cases}
 use Rattle.jp_reading.specs.Texts.{Spans}
@@ -8,12 +8,13 @@ use Rattle.jp_query.specs.declared.refusal.Refusal.{Refusal}
 use Rattle.jp_query.specs.declared.refusal.RefusalKind.{RefusalKind}
 use Rattle.jp_query.specs.declared.refusal.RefusalKind.TheVariants.{IndexRange}
 use Rattle.jp_query.specs.declared.tree.Numeral.{Numeral}
-use Rattle.jp_query.specs.Items.{QueryItem, Use, int, EachSpanned}
+use Rattle.jp_query.specs.declared.tree.Numeral.TheVariants.{Whole}
+use Rattle.jp_query.specs.Items.{QueryItem, Use, as_index, as_slice_part, int, EachSpanned}
 use Rattle.jp_query.specs.Refusal.{number_of}
 use Rattle.jp_check.specs.Faults.{HasFault}
 use Rattle.jp_check.specs.First.{IsFaultOf, IsNoLater, IsFirstFault}
 use Rattle.jp_check.specs.Walk.{Progress, fault_of, is_before, earlier, past_item, steps}
-use Rattle.jp_check.specs.Index.{is_index}
+use Rattle.jp_check.specs.Ranges.{is_in_range}
 use Rattle.std.proofs.lemmas.Bool.Decides.{nat_tests}
 
 -- ---- the order of faults
@@ -73,16 +74,16 @@ IsOwn x None = (kind : RefusalKind) → HasFault x kind → ⊥
 IsOwn x (Some kind) = HasFault x kind × ((other : RefusalKind) → HasFault x other → number_of kind ≤ number_of other)
 
 -- an int has no fault but its range
-int-fault : (n : Numeral) (role : Use) (kind : RefusalKind) → HasFault (int n role) kind → (kind ≡ IndexRange) × (is_index n ≡ false)
+int-fault : (n : Numeral) (role : Use) (kind : RefusalKind) → HasFault (int n role) kind → (kind ≡ IndexRange) × (is_in_range n ≡ false)
 int-fault n role IndexRange h = (refl, h)
 int-fault n role _ h = absurd h
 
-own-int : (n : Numeral) (role : Use) (b : Bool) → is_index n ≡ b → IsOwn (int n role) (cond b None (Some IndexRange))
+own-int : (n : Numeral) (role : Use) (b : Bool) → is_in_range n ≡ b → IsOwn (int n role) (cond b None (Some IndexRange))
 own-int n role true e = λ kind h. let is = int-fault n role kind h in cc (is.1)
 own-int n role false e = (e, λ other h. rw (int-fault n role other h).0 (omega arith))
 
 own-fault : (x : QueryItem) → IsOwn x (fault_of x)
-own-fault (int n role) = own-int n role (is_index n) refl
+own-fault (int n role) = own-int n role (is_in_range n) refl
 
 -- ---- the faults of items with their spans
 
@@ -194,24 +195,35 @@ steps-least P (x ∷ xs) (span ∷ spans) first h =
 
 -- ---- from the start
 
+-- an item without faults
+abbrev pub NoFault : QueryItem → Type 0
+NoFault item = (kind : RefusalKind) → HasFault item kind → ⊥
+
+-- an omitted step, which is 1, is in range
+one_in_range : (n : Numeral) → n ≡ Whole (pos 1) → is_in_range n ≡ false → ⊥
+one_in_range n e h = let one : is_in_range n ≡ true = ap is_in_range e in cc (one)
+
 -- no item of a query has a fault where none of those with a span has
 faultless : (items : List QueryItem) (spans : Spans) → EachSpanned items spans → ((f : Refusal) → IsFaultOf items spans f → ⊥)
-    → All (λ item. (kind : RefusalKind) → HasFault item kind → ⊥) items
+    → All NoFault items
 faultless [] spans each none = All-nil _
 faultless (x ∷ xs) [] each none = absurd each
-faultless (x ∷ xs) (None ∷ spans) each none = absurd each
+faultless (int n as_index ∷ xs) (None ∷ spans) each none = absurd each
+faultless (int n as_slice_part ∷ xs) (None ∷ spans) each none =
+    All-cons NoFault (int n as_slice_part) xs (λ kind h. let is = int-fault n as_slice_part kind h in one_in_range n each.0 is.1)
+    (faultless xs spans each.1 (λ f h. none f (of-tail (int n as_slice_part) xs None spans f h)))
 faultless (x ∷ xs) (Some span ∷ spans) each none =
-    All-cons (λ item. (kind : RefusalKind) → HasFault item kind → ⊥) x xs
+    All-cons NoFault x xs
     (λ kind h. none (record { kind = kind; place = span.start }) (record { item = x; span = span; among = Contains-append_left ((x, Some span) ∷ []) (zip xs spans) (x, Some span) (Contains-push [] (x, Some span)); kind = h; place = refl }))
     (faultless xs spans each (λ f h. none f (of-tail x xs (Some span) spans f h)))
 
 -- what the walk finds from the start
 pub found : (items : List QueryItem) (spans : Spans) (o : Option Refusal) → EachSpanned items spans
     → o ≡ (steps items (record { spans = spans; first = None })).first
-    → MatchOption o (All (λ item. (kind : RefusalKind) → HasFault item kind → ⊥) items) (IsFirstFault items spans)
+    → MatchOption o (All NoFault items) (IsFirstFault items spans)
 found items spans o each e = told o (rw e (steps-least (λ f. ⊥) items spans None (λ f h. h)))
   where
     told : (o : Option Refusal) → IsLeast (λ f. ⊥ ⊎ IsFaultOf items spans f) o
-        → MatchOption o (All (λ item. (kind : RefusalKind) → HasFault item kind → ⊥) items) (IsFirstFault items spans)
+        → MatchOption o (All NoFault items) (IsFirstFault items spans)
     told None h = faultless items spans each (λ f q. h f (inr q))
     told (Some r) h = record { is = elim h.0 as (λ _. IsFaultOf items spans r) [ inl p ↦ absurd p | inr q ↦ q ]; first = λ f q. h.1 f (inr q) }

@@ -5,22 +5,22 @@ use Rattle.jp_query.specs.declared.refusal.RefusalKind.TheVariants.{NotWhole, In
 use Rattle.jp_query.specs.declared.tree.Numeral.TheVariants.{Whole, Beyond}
 use Rattle.jp_check.specs.Faults.{HasFault}
 use Rattle.jp_check.specs.First.{IsFaultOf, IsNoLater}
-use Rattle.jp_check.specs.Index.{is_index}
+use Rattle.jp_check.specs.Ranges.{is_in_range}
 
 -- ---- the range of indexes
 
-row-greatest : is_index (Whole (pos 9007199254740991)) ≡ true
+row-greatest : is_in_range (Whole (pos 9007199254740991)) ≡ true
 row-greatest = refl
 
-row-above : is_index (Whole (pos 9007199254740992)) ≡ false
+row-above : is_in_range (Whole (pos 9007199254740992)) ≡ false
 row-above = refl
 
 -- -9007199254740991
-row-least : is_index (Whole (negsuc 9007199254740990)) ≡ true
+row-least : is_in_range (Whole (negsuc 9007199254740990)) ≡ true
 row-least = refl
 
 -- -9007199254740992
-row-below : is_index (Whole (negsuc 9007199254740991)) ≡ false
+row-below : is_in_range (Whole (negsuc 9007199254740991)) ≡ false
 row-below = refl
 
 row-beyond : HasFault (int Beyond as_index) IndexRange

@@ -3,14 +3,13 @@ use Rattle.std.specs.Prelude.{◌≡◌, false}
 use Rattle.std.specs.List.{All}
 use Rattle.jp_query.specs.declared.refusal.RefusalKind.{RefusalKind}
 use Rattle.jp_query.specs.declared.refusal.RefusalKind.TheVariants.{IndexRange}
-use Rattle.jp_query.specs.Items.{QueryItem, int}
+use Rattle.jp_query.specs.Items.{QueryItem, int, items_of}
 use Rattle.jp_query.specs.Tree.{QueryTree}
-use Rattle.jp_query.specs.Items.{items_of}
-use Rattle.jp_check.specs.Index.{is_index}
+use Rattle.jp_check.specs.Ranges.{is_in_range}
 
--- the item has a fault of that kind: an int is out of range (section 2.1)
+-- the item has a fault of that kind: an index or a part of a slice is out of range (section 2.1)
 abbrev pub HasFault : QueryItem → RefusalKind → Type 0
-HasFault (int n _) IndexRange = is_index n ≡ false
+HasFault (int n _) IndexRange = is_in_range n ≡ false
 HasFault (int n _) _ = ⊥
 
 -- no item of the query has a fault

@@ -7,7 +7,7 @@ use Rattle.jp_query.specs.declared.refusal.RefusalKind.TheVariants.{IndexRange}
 use Rattle.jp_query.specs.Items.{QueryItem, int}
 use Rattle.jp_query.specs.Refusal.{number_of}
 use Rattle.jp_query.specs.declared.tree.Numeral.{Numeral}
-use Rattle.jp_check.specs.Index.{is_index}
+use Rattle.jp_check.specs.Ranges.{is_in_range}
 
 -- how far the walk is: the spans of the items that are still to come, and the first fault of those that were
 pub record Progress : Type 0 where
@@ -16,7 +16,7 @@ pub record Progress : Type 0 where
 
 -- the fault of an int, if it has one
 abbrev pub fault_of_int : Numeral → Option RefusalKind
-fault_of_int n = if is_index n then None else Some IndexRange
+fault_of_int n = if is_in_range n then None else Some IndexRange
 
 -- the fault of an item, if it has one; of several the one with the least number
 abbrev pub fault_of : QueryItem → Option RefusalKind

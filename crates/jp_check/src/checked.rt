@@ -48,7 +48,8 @@ impl Checked {
 /// Checks the ranges and types of a query (RFC 9535 sections 2.1 and 2.4.3).
 ///
 /// The refusal is its first fault: the one with the least place, and of several there the one with the least number.
-/// So far the only fault is an index outside -(2^53)+1 to (2^53)-1, `IndexRange` at the index. It takes no memory.
+/// So far the only fault is an index or a part of a slice outside -(2^53)+1 to (2^53)-1, `IndexRange` at that number. It
+/// takes no memory.
 pub fn check(parsed: Parsed) -> Result<Checked, Refusal>
     ensures same { IfOk result (λ query. query ≡ parsed.query) }
     ensures faultless { IfOk result (λ query. IsFaultless (query_of query)) }

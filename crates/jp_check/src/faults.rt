@@ -1,19 +1,19 @@
 //! The first fault of a query.
 
 ghost use Rattle.std.specs.Prelude.{◌≡◌, MatchOption, Option, None};
-ghost use Rattle.jp_query.specs.Items.{items_of, segment_items, selector_items};
+ghost use Rattle.jp_query.specs.Items.{bound_items, items_of, segment_items, selector_items};
 ghost use Rattle.jp_query.specs.Refusal.{number_of};
-ghost use Rattle.jp_query.specs.Tree.{query_of, segment_of, selector_of};
+ghost use Rattle.jp_query.specs.Tree.{query_of, segment_of, selector_of, slice as slice_tree};
 ghost use Rattle.jp_check.specs.Faults.{IsFaultless};
 ghost use Rattle.jp_check.specs.First.{IsFirstFault};
-ghost use Rattle.jp_check.specs.Index.{is_index};
+ghost use Rattle.jp_check.specs.Ranges.{is_in_range};
 ghost use Rattle.jp_check.specs.Walk.{earlier, fault_of_int, is_before, past_item, steps};
 
-use jp_query::{Numeral, Parsed, Query, Refusal, RefusalKind, Segment, Selector, Span};
+use jp_query::{Numeral, Parsed, Query, Refusal, RefusalKind, Segment, Selector, Slice, Span};
 use std::marker::Model;
 
-/// The greatest size of an index, (2^53)-1 (RFC 9535 section 2.1).
-const MAX_INDEX: i128 = 9_007_199_254_740_991;
+/// The greatest size of an index or a part of a slice, (2^53)-1 (RFC 9535 section 2.1).
+const MAX_SIZE: i128 = 9_007_199_254_740_991;
 
 /// The first fault of a query, if it has one.
 pub fn first_fault(parsed: &Parsed) -> Option<Refusal>
@@ -83,9 +83,36 @@ impl<'s> Walk<'s> {
         ensures { self.new ≡ steps (selector_items (selector_of selector.now)) self.old }
     {
         match selector {
-            Selector::Name(_) => {}
-            Selector::Index(index) => self.pass(fault_of_int(*index)),
+            Selector::Name(_) | Selector::Wildcard => {}
+            Selector::Index(index) => self.int(*index),
+            Selector::Slice(slice) => self.slice(slice),
         }
+    }
+
+    /// Goes through the parts of a slice; an omitted step is an item without a span.
+    #[tactic(auto, using(crate::proofs::Steps::steps_append))]
+    fn slice(&mut self, slice: &Slice)
+        ensures { self.new ≡ steps (selector_items (slice_tree slice.now)) self.old }
+    {
+        self.bound(slice.start);
+        self.bound(slice.end);
+        self.int(slice.step);
+    }
+
+    /// Goes through a bound of a slice, if it is there.
+    fn bound(&mut self, bound: Option<Numeral>)
+        ensures { self.new ≡ steps (bound_items bound) self.old }
+    {
+        if let Some(number) = bound {
+            self.int(number);
+        }
+    }
+
+    /// Passes an index or a part of a slice.
+    fn int(&mut self, number: Numeral)
+        ensures { self.new ≡ past_item (fault_of_int number) self.old.spans self.old.first }
+    {
+        self.pass(fault_of_int(number));
     }
 
     /// Passes the next item, which has that fault or none.
@@ -123,23 +150,23 @@ fn is_before(one: Refusal, other: Refusal) -> bool
     one.place < other.place || (one.place == other.place && one.kind.number() < other.kind.number())
 }
 
-/// The fault of an index, if it is outside -(2^53)+1 to (2^53)-1 (section 2.1).
+/// The fault of an index or a part of a slice, if it is outside -(2^53)+1 to (2^53)-1 (section 2.1).
 fn fault_of_int(number: Numeral) -> Option<RefusalKind>
     ensures { result ≡ fault_of_int number }
 {
-    if is_index(number) {
+    if is_in_range(number) {
         None
     } else {
         Some(RefusalKind::IndexRange)
     }
 }
 
-/// Whether a number is from -(2^53)+1 to (2^53)-1.
-fn is_index(number: Numeral) -> bool
-    ensures { result ≡ is_index number }
+/// Whether a number may be an index or a part of a slice: a whole one from -(2^53)+1 to (2^53)-1.
+fn is_in_range(number: Numeral) -> bool
+    ensures { result ≡ is_in_range number }
 {
     match number {
-        Numeral::Whole(whole) => -MAX_INDEX <= whole && whole <= MAX_INDEX,
+        Numeral::Whole(whole) => -MAX_SIZE <= whole && whole <= MAX_SIZE,
         _ => false,
     }
 }
