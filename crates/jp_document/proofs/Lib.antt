@@ -1,3 +1,4 @@
+pub mod Children
 pub mod Items
 pub mod Names
 pub mod Paths

@@ -1,4 +1,4 @@
-// Why bytes are refused.
+//! Why bytes are refused.
 ghost use Rattle.std.specs.Prelude.{◌≡◌};
 ghost use Rattle.jp_document.specs.declared.fault.DocumentFault.TheVariants.{NoMemory};
 

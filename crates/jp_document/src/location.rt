@@ -1,4 +1,6 @@
-// Locations (RFC 9535 section 1.1): lists of steps, of a document or of their own.
+//! Locations (RFC 9535 section 1.1): lists of steps, of a document or of their own.
+
+use std::marker::Model;
 
 /// One step of a location, which borrows its name.
 #[derive(Clone, Copy)]
@@ -37,9 +39,23 @@ pub struct OwnedLocation {
     steps: Vec<OwnedStep>,
 }
 
+impl Model for OwnedLocation {
+    ghost use Rattle.std.specs.Prelude.{map};
+    ghost use Rattle.jp_document.specs.Location.{Location, owned_key};
+
+    ghost Value = { Location };
+
+    ghost view = { λ l. map owned_key l.steps.items };
+}
+
 impl OwnedLocation {
+    ghost use Rattle.std.specs.Prelude.{◌≡◌, map};
+    ghost use Rattle.jp_document.specs.Location.{owned_key};
+
     /// The steps, from the root on.
-    pub fn steps(&self) -> &[OwnedStep] {
+    pub fn steps(&self) -> &[OwnedStep]
+        ensures { map owned_key result.now ≡ self.now }
+    {
         &self.steps
     }
 }

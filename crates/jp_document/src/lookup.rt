@@ -1,4 +1,4 @@
-// What stands one step inside a value.
+//! What stands one step inside a value.
 ghost use Rattle.std.specs.Prelude.{◌≡◌, ℕ, List, map, option_map, true};
 ghost use Rattle.std.specs.Cmp.Lexicographic.{slice_cmp};
 ghost use Rattle.std.specs.Ordering.{nat_cmp};

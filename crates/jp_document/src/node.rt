@@ -1,4 +1,4 @@
-// Nodes (RFC 9535 section 1.1): a location with the value that stands there, both borrowed from the document.
+//! Nodes (RFC 9535 section 1.1): a location with the value that stands there, both borrowed from the document.
 ghost use Rattle.std.specs.Prelude.{◌≡◌, ℕ, [], ◌∷◌, ◌++◌, map, option_map, IfOk};
 ghost use Rattle.jp_document.specs.Value.{Value, IsDocumentValue, value_of};
 

@@ -1,4 +1,4 @@
-// Normalized paths (RFC 9535 section 2.7).
+//! Normalized paths (RFC 9535 section 2.7).
 ghost use Rattle.std.specs.Prelude.{◌≡◌, ◌++◌, map, string_bytes, IfOk, OnOk};
 ghost use Rattle.jp_document.specs.Location.{key_of, owned_key};
 ghost use Rattle.jp_document.specs.Path.{path_of, quoted, step_text, index_text};

@@ -1,4 +1,4 @@
-// From a reading of `serde_json` to a value, or to the first number that is no whole one.
+//! From a reading of `serde_json` to a value, or to the first number that is no whole one.
 ghost use Rattle.std.specs.Prelude.{◌≡◌, ◌∷◌, [], ◌++◌, map, reverse, Some, true, IfOk, IfErr};
 ghost use Rattle.serde_json.specs.View.{view, items_view, members_view};
 ghost use Rattle.jp_document.specs.Document.{value_of_data, items_of_data, members_of_data};

@@ -1,4 +1,4 @@
-// Values as plain data.
+//! Values as plain data.
 
 /// A JSON value whose numbers are whole.
 #[cycle(json)]
