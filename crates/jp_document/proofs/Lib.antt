@@ -1,7 +1,10 @@
 pub mod Children
+pub mod IndexTexts
 pub mod Items
 pub mod Names
 pub mod Paths
+pub mod PathsDiffer
+pub mod Spelled
 pub mod Spellings
 pub mod Texts
 pub mod Values

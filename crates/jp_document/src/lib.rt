@@ -12,12 +12,17 @@
 //! one; each node stands in its document, with the document's own value; paths and texts are exact.
 #![tactic(auto)]
 
+mod characters;
 mod document;
 mod fault;
+pub mod laws;
 mod location;
 mod lookup;
+mod name_reader;
 mod node;
 mod path;
+mod path_fault;
+mod path_reader;
 mod reading;
 mod spelling;
 mod text;
@@ -28,5 +33,7 @@ pub use fault::DocumentFault;
 pub use location::{OwnedLocation, OwnedStep, Step};
 pub use node::{Node, child_at, child_named};
 pub use path::{path_text, push_path, quote};
+pub use path_fault::PathFault;
+pub use path_reader::read_path;
 pub use text::{push_value, value_text};
 pub use value::{Json, Member};
