@@ -64,11 +64,13 @@ some_child l m (Some v) is = let same : told m ≡ (l, v) = same_Some _ _ is in 
 pub child_stands : (d : Value) (n : Located) (k : Key) (o : Option Located) → option_map told o ≡ told_child n k → StandsIn d n → IsNodeAt d (n.location ++ k ∷ []) o
 child_stands d n k None is stands = value_at-step d (value_of n.value) n.location k stands.there ∙ no_child (n.location ++ k ∷ []) (child (value_of n.value) k) is
 child_stands d n k (Some m) is stands =
-    let both = some_child (n.location ++ k ∷ []) m (child (value_of n.value) k) is in
-    (both.0, record {
-      document = stands.document;
-      there = ap (value_at d) both.0 ∙ value_at-step d (value_of n.value) n.location k stands.there ∙ both.1;
-    })
+    let both = some_child (n.location ++ k ∷ []) m (child (value_of n.value) k) is in (
+      both.0,
+      record {
+        document = stands.document;
+        there = ap (value_at d) both.0 ∙ value_at-step d (value_of n.value) n.location k stands.there ∙ both.1;
+      },
+    )
 
 abbrev with_name : List ℕ → Value → List ℕ × Value
 with_name n v = (n, v)

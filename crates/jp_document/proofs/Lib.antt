@@ -1,10 +1,16 @@
 pub mod Children
+pub mod Fits
+pub mod Fractions
 pub mod IndexTexts
 pub mod Items
+pub mod LargeIndexes
 pub mod Names
+pub mod PathMoves
 pub mod Paths
 pub mod PathsDiffer
 pub mod Spelled
 pub mod Spellings
+pub mod Stops
 pub mod Texts
 pub mod Values
+pub mod Wholes

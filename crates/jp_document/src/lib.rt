@@ -25,6 +25,7 @@ mod path_fault;
 mod path_reader;
 mod reading;
 mod spelling;
+mod stop;
 mod text;
 mod value;
 

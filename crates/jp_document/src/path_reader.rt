@@ -30,7 +30,7 @@ pub fn read_path(alloc: Global, text: &str) -> Result<OwnedLocation, PathFault>
 
 /// Whether some index is above (2^53)-1.
 fn is_any_large(steps: &[OwnedStep]) -> bool
-    ensures { result ≡ list_any is_large (map owned_key steps.now) }
+    ensures { result ≡ list_any (λ s. is_large (owned_key s)) steps.now }
 {
     steps.iter().any(|step| is_large(step))
 }

@@ -1,34 +1,19 @@
-//! From a reading of `serde_json` to a value, or to the first number that is no whole one.
-ghost use Rattle.std.specs.Prelude.{◌≡◌, ◌∷◌, [], ◌++◌, map, reverse, Some, true, IfOk, IfErr};
-ghost use Rattle.serde_json.specs.View.{view, items_view, members_view};
+//! From a reading of `serde_json` to a value.
+ghost use Rattle.std.specs.Prelude.{◌≡◌, map, Some, true, IfOk, IfErr};
+ghost use Rattle.serde_json.specs.View.{view, number_view, items_view, members_view};
 ghost use Rattle.jp_document.specs.Document.{value_of_data, items_of_data, members_of_data};
-ghost use Rattle.jp_document.specs.Stop.{StopsAt, IsFaultAt};
-ghost use Rattle.serde_json.specs.Data.{array, object};
-ghost use Rattle.jp_document.specs.Value.{value_of, items_of, members_of, member_of, everywhere, everywhere_in_items, everywhere_in_members, list_fits, is_allowed};
+ghost use Rattle.jp_document.specs.Stop.{StopsAt};
+ghost use Rattle.serde_json.specs.Data.{number as number_data, array, object};
+ghost use Rattle.jp_document.specs.Value.{value_of, items_of, members_of, member_of, names_of, names_rise, everywhere, everywhere_in_items, everywhere_in_members, list_fits, is_allowed};
 
-use crate::fault::DocumentFault;
 use crate::location::OwnedStep;
-use crate::path::owned_path_text;
+use crate::stop::Stop;
 use crate::value::{Json, Member};
 use serde_json::{Map, Number, Value};
 use std::alloc::{AllocError, Global};
 
 /// The most items of a list, (2^53)-1.
 const MAX_ITEMS: usize = 9_007_199_254_740_991;
-
-/// Why a reading has no value.
-#[derive(Drop)]
-pub(crate) enum Stop {
-    /// The first number that is no whole one stands here; the last step comes first.
-    Fraction(Vec<OwnedStep>),
-    NoMemory,
-}
-
-impl From<AllocError> for Stop {
-    fn from(_: AllocError) -> Stop {
-        Stop::NoMemory
-    }
-}
 
 /// The value of a reading. The texts move over, and members come in the order of their names.
 #[cycle(whole)]
@@ -48,7 +33,12 @@ pub(crate) fn whole(alloc: Global, value: Value) -> Result<Json, Stop>
     }
 }
 
-fn whole_number(alloc: Global, number: Number) -> Result<Json, Stop> {
+fn whole_number(alloc: Global, number: Number) -> Result<Json, Stop>
+    ensures value { IfOk result
+        (λ j. value_of_data (number_data (number_view number)) ≡ Some (value_of j)) }
+    ensures sound { IfOk result (λ j. everywhere is_allowed (value_of j) ≡ true) }
+    ensures stop { IfErr result (StopsAt (number_data (number_view number))) }
+{
     if let Some(n) = number.as_u64() {
         Ok(Json::Whole(i128::from(n)))
     } else if let Some(n) = number.as_i64() {
@@ -67,13 +57,11 @@ fn whole_items(alloc: Global, items: Vec<Value>) -> Result<Vec<Json>, Stop>
     ensures stop { IfErr result (StopsAt (array (items_view items.items))) }
 {
     let mut wholes = Vec::with_capacity(alloc, items.len())?;
-    let mut index = 0;
     for item in items {
         match whole(alloc, item) {
             Ok(json) => wholes.push(json).map_err(AllocError::from)?,
-            Err(stop) => return Err(within(stop, OwnedStep::Index(index))),
+            Err(stop) => return Err(stop.within(OwnedStep::Index(wholes.len() as u64))),
         }
-        index += 1;
     }
     Ok(wholes)
 }
@@ -84,6 +72,8 @@ fn whole_members(alloc: Global, members: Map<String, Value>) -> Result<Vec<Membe
         ≡ Some (members_of (map member_of v.items))) }
     ensures sound { IfOk result (λ v. everywhere_in_members list_fits (members_of (map member_of v.items)) ≡ true
         → everywhere_in_members is_allowed (members_of (map member_of v.items)) ≡ true) }
+    ensures rise { IfOk result
+        (λ v. names_rise (names_of (members_of (map member_of v.items))) ≡ true) }
     ensures stop { IfErr result (StopsAt (object (members_view members.entries))) }
 {
     let mut wholes = Vec::with_capacity(alloc, members.len())?;
@@ -92,39 +82,10 @@ fn whole_members(alloc: Global, members: Map<String, Value>) -> Result<Vec<Membe
             Ok(value) => wholes
                 .push(Member { name, value })
                 .map_err(AllocError::from)?,
-            Err(stop) => return Err(within(stop, OwnedStep::Name(name))),
+            Err(stop) => return Err(stop.within(OwnedStep::Name(name))),
         }
     }
     Ok(wholes)
-}
-
-/// The stop seen one step further out.
-fn within(stop: Stop, step: OwnedStep) -> Stop {
-    match stop {
-        Stop::Fraction(mut steps) => match steps.push(step) {
-            Ok(()) => Stop::Fraction(steps),
-            Err(_) => Stop::NoMemory,
-        },
-        Stop::NoMemory => Stop::NoMemory,
-    }
-}
-
-impl Stop {
-    /// The fault of the document whose reading stopped so.
-    pub(crate) fn fault(self, alloc: Global) -> DocumentFault
-        ensures path { IsFaultAt self result }
-    {
-        match self {
-            Stop::Fraction(mut steps) => {
-                steps.reverse();
-                match owned_path_text(alloc, &steps) {
-                    Ok(path) => DocumentFault::NotWhole(path),
-                    Err(_) => DocumentFault::NoMemory,
-                }
-            }
-            Stop::NoMemory => DocumentFault::NoMemory,
-        }
-    }
 }
 
 /// Whether each list in the value has at most (2^53)-1 items.
