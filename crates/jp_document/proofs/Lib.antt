@@ -1,4 +1,5 @@
 pub mod Children
+pub mod Encoded
 pub mod Fits
 pub mod Fractions
 pub mod IndexTexts
@@ -6,6 +7,7 @@ pub mod Items
 pub mod LargeIndexes
 pub mod Names
 pub mod PathMoves
+pub mod PathSound
 pub mod Paths
 pub mod PathsDiffer
 pub mod Spelled

@@ -8,7 +8,7 @@ use Rattle.jp_document.specs.Location.{Key, named, nth, Location}
 use Rattle.jp_document.specs.Path.{quoted, index_text, step_text, path_of}
 use Rattle.jp_document.specs.PathReader.{is_plain, is_letter, meant, has_letter, hex_value}
 use Rattle.jp_document.specs.Spelling.{spelling, control, hex_digit}
-use Rattle.jp_document.proofs.IndexTexts.{value_from-index_text, digits-index_text, Begun, none, some, begun}
+use Rattle.jp_document.proofs.IndexTexts.{value_from-index_text, digits-index_text, Begun, zero_text, other_text, begun}
 use Rattle.jp_document.proofs.Spelled.{Spelled, by_letter, by_number, by_itself, spelled, hex_digit_is}
 
 -- the front and the rest of two equal texts
@@ -110,9 +110,9 @@ bracket = refl
 
 -- an index's text begins with no quote
 no_index : (i : ℕ) (w x y : List ℕ) → Begun i w → 39 ∷ x ≡ w ++ y → ⊥
-no_index i w x y (none z is) h =
+no_index i w x y (zero_text z is) h =
     let at : ◌≡◌ {A = ℕ} 39 48 = ap (λ t. get_or t 0 0) (h ∙ ap (λ t. t ++ y) is) in omega arith
-no_index i w x y (some d ds is digit all above) h =
+no_index i w x y (other_text d ds is digit all above) h =
     let at : 39 ≡ d = ap (λ t. get_or t 0 0) (h ∙ ap (λ t. t ++ y) is) in omega arith
 
 -- a step and what follows
