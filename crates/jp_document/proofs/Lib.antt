@@ -6,7 +6,9 @@ pub mod IndexTexts
 pub mod Items
 pub mod LargeIndexes
 pub mod Names
+pub mod PathComplete
 pub mod PathMoves
+pub mod PathRead
 pub mod PathSound
 pub mod Paths
 pub mod PathsDiffer
