@@ -12,6 +12,7 @@ pub mod PathRead
 pub mod PathSound
 pub mod Paths
 pub mod PathsDiffer
+pub mod Rows
 pub mod Spelled
 pub mod Spellings
 pub mod Stops

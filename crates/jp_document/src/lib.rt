@@ -26,6 +26,8 @@ mod path_reader;
 mod reading;
 mod spelling;
 mod stop;
+#[cfg(test)]
+mod tests;
 mod text;
 mod value;
 

@@ -1,5 +1,6 @@
 //! The compact text of values: JSON (RFC 8259) without blank space.
 ghost use Rattle.std.specs.Prelude.{◌≡◌, ◌==◌, [], ◌∷◌, ◌++◌, if◌then◌else◌, map, string_bytes, IfOk, OnOk};
+ghost use Rattle.std.specs.Fmt.{signed_decimal};
 ghost use Rattle.std.specs.List.{join_with_byte};
 ghost use Rattle.jp_document.specs.Text.{text_of, item_texts, member_texts};
 ghost use Rattle.jp_document.specs.Value.{value_of, items_of, members_of, member_of};
@@ -28,7 +29,7 @@ pub fn push_value(out: &mut String, json: &Json) -> Result<(), AllocError>
         Json::Null => out.push_str("null"),
         Json::Bool(true) => out.push_str("true"),
         Json::Bool(false) => out.push_str("false"),
-        Json::Whole(number) => out.push_str(Buffer::new().format(*number)),
+        Json::Whole(number) => push_whole(out, *number),
         Json::Text(text) => push_quoted(out, text.as_str(), b'"'),
         Json::List(items) => {
             out.push('[')?;
@@ -67,6 +68,17 @@ fn push_members(out: &mut String, members: &[Member]) -> Result<(), AllocError>
         push_value(out, &member.value)?;
     }
     Ok(())
+}
+
+/// Appends a whole number in decimal; numbers of 64 bits are the quick ones to print.
+fn push_whole(out: &mut String, number: i128) -> Result<(), AllocError>
+    ensures { OnOk result (string_bytes out.new ≡ string_bytes out.old ++ signed_decimal number) }
+{
+    let mut buffer = Buffer::new();
+    match i64::try_from(number) {
+        Ok(number) => out.push_str(buffer.format(number)),
+        Err(_) => out.push_str(buffer.format(number)),
+    }
 }
 
 /// Appends the comma before the part at this index: none before the first.
