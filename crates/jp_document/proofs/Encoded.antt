@@ -8,6 +8,7 @@ use Rattle.std.specs.Char.{encode_utf8}
 use Rattle.std.specs.List.{flat_map}
 use Rattle.std.specs.Str.{encode_utf8_all}
 use Rattle.jp_reading.specs.Forms.{AllPassing}
+use Rattle.jp_reading.specs.Numbers.{is_digit}
 use Rattle.jp_document.specs.PathReader.{is_plain, is_letter}
 use Rattle.jp_document.specs.Spelling.{spelling, control, hex_digit}
 use Rattle.jp_document.proofs.Spelled.{Spelled, by_letter, by_number, by_itself, spelled, spelling_is}
@@ -33,6 +34,11 @@ front-ascii (c ∷ v) t w low is =
     let more = front-ascii v one.0 w low.1 one.2 in
     (more.0, one.1 ∙ ap (λ x. c ∷ x) more.1, more.2)
 
+pub digits-ascii : (ds : List ℕ) → AllPassing is_digit ds → Ascii ds
+unfolding is_digit
+digits-ascii [] h = tt
+digits-ascii (d ∷ ds) h = (let digit = h.0 in grind (arith, nat_tests), digits-ascii ds h.1)
+
 -- ---- plain characters
 
 pub high-plain : (c : ℕ) → 128 ≤ c → is_plain c ≡ true
@@ -57,11 +63,11 @@ flat_map-plain (b ∷ bs) h = ap (λ t. t ++ flat_map (spelling 39) bs) (spellin
 
 -- ---- spelled characters
 
-letter-low : (e : ℕ) → is_letter e ≡ true → e < 128
+pub letter-low : (e : ℕ) → is_letter e ≡ true → e < 128
 unfolding is_letter
 letter-low e h = grind (arith, nat_tests)
 
-hex_digit-low : (n : ℕ) → n < 16 → hex_digit n < 128
+pub hex_digit-low : (n : ℕ) → n < 16 → hex_digit n < 128
 hex_digit-low n small =
     elim (cases_Bool (nat_lt n 10)) [
       | inl e ↦ rw e (omega arith)
@@ -107,7 +113,7 @@ peel (b ∷ v) [] x w high is = absurd (let first : b ≡ 39 = ap (λ t. get_or 
 peel (b ∷ v) (c ∷ s) x w high is =
     let first : 128 ≤ b = high 0 (omega arith) in
     let same = high_first b c (v ++ x) (flat_map (spelling 39) s ++ 39 ∷ w) (spelling 39 c) first (spelled c)
-        (is ∙ append_assoc (spelling 39 c) (flat_map (spelling 39) s) (39 ∷ w)) in
+    (is ∙ append_assoc (spelling 39 c) (flat_map (spelling 39) s) (39 ∷ w)) in
     let more = peel v s x w (λ k within. high (suc k) (omega arith)) same.1 in
     (more.0, ap (λ n. n ∷ s) (sym same.0) ∙ ap (λ t. b ∷ t) more.1, more.2)
   where

@@ -1,5 +1,6 @@
 -- Indexes above (2^53)-1 are read as 2^53.
 use Rattle.std.proofs.Common.{◌≡◌, ℕ, min, nat_lt, Bool, true, false, ◌||◌, List, [], ◌∷◌, map, refl, ap, ◌∙◌, arith}
+use Rattle.std.proofs.lemmas.Bool.{or_parts}
 use Rattle.std.proofs.lemmas.Bool.Decides.{nat_tests}
 use Rattle.std.specs.List.{list_any}
 use Rattle.jp_document.specs.Location.{Key, named, nth, Location}
@@ -33,13 +34,9 @@ small-capped : (k : Key) → is_large k ≡ false → capped_key k ≡ k
 small-capped (named s) h = refl
 small-capped (nth i) h = ap nth (small-min i h)
 
-or-false : (a b : Bool) → a || b ≡ false → (a ≡ false) × (b ≡ false)
-or-false true b h = cc
-or-false false b h = (refl, h)
-
 -- where it has none the path itself was read
 pub all_small-capped : (l : Location) → list_any is_large l ≡ false → map capped_key l ≡ l
 all_small-capped [] h = refl
 all_small-capped (k ∷ l) h =
-    let parts = or-false (is_large k) (list_any is_large l) h in
+    let parts = or_parts (is_large k) (list_any is_large l) h in
     ap (λ j. j ∷ map capped_key l) (small-capped k parts.0) ∙ ap (λ m. k ∷ m) (all_small-capped l parts.1)

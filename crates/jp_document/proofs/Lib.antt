@@ -2,9 +2,12 @@ pub mod Children
 pub mod Encoded
 pub mod Fits
 pub mod Fractions
+pub mod Goes
 pub mod IndexTexts
 pub mod Items
 pub mod LargeIndexes
+pub mod NameComplete
+pub mod NameSound
 pub mod Names
 pub mod PathComplete
 pub mod PathMoves

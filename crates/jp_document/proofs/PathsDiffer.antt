@@ -1,10 +1,12 @@
 -- That two locations have one path exactly if they are equal: no step's text begins another's.
-use Rattle.std.proofs.Common.{◌≡◌, ℕ, ◌+◌, ◌*◌, ◌/◌, ◌%◌, ◌<◌, Bool, true, false, List, [], ◌∷◌, ◌++◌, get_or, refl, sym, ap, subst, ◌∙◌, append_assoc, arith}
+use Rattle.std.proofs.Common.{◌≡◌, ℕ, ◌+◌, ◌*◌, ◌/◌, ◌%◌, ◌<◌, Bool, true, false, List, [], ◌∷◌, ◌++◌, get_or, Some, refl, sym, ap, subst, ◌∙◌, append_assoc, arith}
 use Rattle.std.specs.List.{flat_map}
 use Rattle.jp_reading.specs.Forms.{AllPassing}
 use Rattle.jp_reading.specs.Numbers.{is_digit, value_from}
-use Rattle.jp_document.specs.Laws.{PathsDiffer}
-use Rattle.jp_document.specs.Location.{Key, named, nth, Location}
+use Rattle.jp_document.specs.Laws.{PathsDiffer, NodesDiffer}
+use Rattle.jp_document.specs.Location.{Key, named, nth, Location, value_at}
+use Rattle.jp_document.specs.Node.{Located, told, StandsIn}
+use Rattle.jp_document.specs.Value.{Value, value_of}
 use Rattle.jp_document.specs.Path.{quoted, index_text, step_text, path_of}
 use Rattle.jp_document.specs.PathReader.{is_plain, is_letter, meant, has_letter, hex_value}
 use Rattle.jp_document.specs.Spelling.{spelling, control, hex_digit}
@@ -88,7 +90,7 @@ names-cancel [] (d ∷ t) x y h = absurd (no_quote d (spelling 39 d) x _ (spelle
 names-cancel (c ∷ s) [] x y h = absurd (no_quote c (spelling 39 c) y _ (spelled c) (sym h ∙ append_assoc (spelling 39 c) _ _))
 names-cancel (c ∷ s) (d ∷ t) x y h =
     let one = cancel c d (spelling 39 c) (spelling 39 d) (flat_map (spelling 39) s ++ 39 ∷ x) (flat_map (spelling 39) t ++ 39 ∷ y) (spelled c) (spelled d)
-        (sym (append_assoc (spelling 39 c) _ _) ∙ h ∙ append_assoc (spelling 39 d) _ _) in
+    (sym (append_assoc (spelling 39 c) _ _) ∙ h ∙ append_assoc (spelling 39 d) _ _) in
     let more = names-cancel s t x y one.1 in
     (ap (λ n. n ∷ s) one.0 ∙ ap (λ n. d ∷ n) more.0, more.1)
 
@@ -160,3 +162,14 @@ texts-cancel (k ∷ l) (j ∷ m) h =
 
 pub paths-differ : PathsDiffer
 paths-differ l m = ((λ h. texts-cancel l m (let e : flat_map step_text l ≡ flat_map step_text m = cc in e)), (λ e. ap path_of e))
+
+-- at one location stands one value
+pub nodes-differ : NodesDiffer
+nodes-differ d n m stands stays = (
+  (λ h.
+      let same : n.location ≡ m.location = (paths-differ n.location m.location).0 h in
+      let value : Some (value_of n.value) ≡ Some (value_of m.value) = sym stands.there ∙ ap (value_at d) same ∙ stays.there in
+      let alike : value_of n.value ≡ value_of m.value = cc in
+      ap (λ (l : Location). (l, value_of n.value)) same ∙ ap (λ (v : Value). (m.location, v)) alike),
+  (λ e. ap (λ (t : Location × Value). path_of t.0) e),
+)

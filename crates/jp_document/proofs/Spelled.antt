@@ -1,6 +1,6 @@
 -- How a character of a name is spelled: by a letter behind `\`, by its number, or by itself.
 use Rattle.std.proofs.Common.{◌≡◌, ℕ, ◌+◌, ◌*◌, ◌-◌, ◌/◌, ◌%◌, ◌<◌, ◌≤◌, eqb, nat_lt, Bool, true, false, ◌||◌, not, cond, List, [], ◌∷◌, ◌++◌, get_or, inl, inr, refl, sym, ap, subst, ◌∙◌, arith}
-use Rattle.std.proofs.lemmas.Bool.{cases_Bool, eqb-true}
+use Rattle.std.proofs.lemmas.Bool.{cases_Bool, eqb-true, or_parts}
 use Rattle.std.proofs.lemmas.Bool.Decides.{nat_tests}
 use Rattle.jp_document.specs.Spelling.{spelling, control, hex_digit}
 use Rattle.jp_document.specs.PathReader.{is_plain, is_letter, meant, has_letter, is_hex_digit, hex_value, hex_number, is_bit}
@@ -9,10 +9,6 @@ pub data Spelled (c : ℕ) (w : List ℕ) : Type 0 where
   by_letter : (e : ℕ) → is_letter e ≡ true → c ≡ meant e → w ≡ 92 ∷ e ∷ [] → Spelled c w
   by_number : c < 32 → has_letter c ≡ false → w ≡ control c → Spelled c w
   by_itself : is_plain c ≡ true → w ≡ c ∷ [] → Spelled c w
-
-or-false : (a b : Bool) → a || b ≡ false → (a ≡ false) × (b ≡ false)
-or-false true b h = cc
-or-false false b h = (refl, h)
 
 not-true : (b : Bool) → not b ≡ true → b ≡ false
 not-true true h = cc
@@ -77,10 +73,10 @@ letter e is =
 numbered : (c : ℕ) → c < 32 → has_letter c ≡ false → spelling 39 c ≡ control c
 unfolding spelling has_letter
 numbered c low none =
-    let p = or-false (eqb c 8 || eqb c 9 || eqb c 10 || eqb c 12) (eqb c 13) none in
-    let q = or-false (eqb c 8 || eqb c 9 || eqb c 10) (eqb c 12) p.0 in
-    let r = or-false (eqb c 8 || eqb c 9) (eqb c 10) q.0 in
-    let s = or-false (eqb c 8) (eqb c 9) r.0 in
+    let p = or_parts (eqb c 8 || eqb c 9 || eqb c 10 || eqb c 12) (eqb c 13) none in
+    let q = or_parts (eqb c 8 || eqb c 9 || eqb c 10) (eqb c 12) p.0 in
+    let r = or_parts (eqb c 8 || eqb c 9) (eqb c 10) q.0 in
+    let s = or_parts (eqb c 8) (eqb c 9) r.0 in
     let below : nat_lt c 32 ≡ true = grind (arith, nat_tests) in
     let quote : eqb c 39 ≡ false = grind (arith, nat_tests) in
     let slash : eqb c 92 ≡ false = grind (arith, nat_tests) in
@@ -89,8 +85,8 @@ numbered c low none =
 itself : (c : ℕ) → is_plain c ≡ true → spelling 39 c ≡ c ∷ []
 unfolding spelling is_plain
 itself c plain =
-    let p = or-false (nat_lt c 32 || eqb c 39) (eqb c 92) (not-true (nat_lt c 32 || eqb c 39 || eqb c 92) plain) in
-    let q = or-false (nat_lt c 32) (eqb c 39) p.0 in
+    let p = or_parts (nat_lt c 32 || eqb c 39) (eqb c 92) (not-true (nat_lt c 32 || eqb c 39 || eqb c 92) plain) in
+    let q = or_parts (nat_lt c 32) (eqb c 39) p.0 in
     let above = q.0 in
     let a : eqb c 8 ≡ false = grind (arith, nat_tests) in
     let b : eqb c 9 ≡ false = grind (arith, nat_tests) in

@@ -1,8 +1,9 @@
 //! Laws about the definitions, each the contract of a function that does nothing.
-ghost use Rattle.jp_document.specs.Laws.{PathsDiffer};
+ghost use Rattle.jp_document.specs.Laws.{PathsDiffer, NodesDiffer};
 
-/// Two locations have one normalized path exactly if they are equal, and so two nodes of a document.
+/// Two lists of steps have one normalized path exactly if they are equal, and two nodes of a document exactly if
+/// they are the same node (RFC 9535 section 2.7).
 pub fn paths_differ()
-    ensures { PathsDiffer }
-{
-}
+    ensures locations { PathsDiffer }
+    ensures nodes { NodesDiffer }
+{}

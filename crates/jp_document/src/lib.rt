@@ -23,6 +23,8 @@ mod node;
 mod path;
 mod path_fault;
 mod path_reader;
+#[cfg(test)]
+mod path_tests;
 mod reading;
 mod spelling;
 mod stop;

@@ -32,7 +32,7 @@ pub fn read_path(alloc: Global, text: &str) -> Result<OwnedLocation, PathFault>
 fn is_any_large(steps: &[OwnedStep]) -> bool
     ensures { result ≡ list_any (λ s. is_large (owned_key s)) steps.now }
 {
-    steps.iter().any(|step| is_large(step))
+    steps.iter().any(is_large)
 }
 
 fn is_large(step: &OwnedStep) -> bool

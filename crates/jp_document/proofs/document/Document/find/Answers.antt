@@ -11,7 +11,7 @@ loop-step-preserved c =
     let key = c.as_step.ensures ∙ ap owned_key c.step-item.is in (
       IsDocumentValue-child here next _ c.loop-step.invariant.0 (sym c.in_ok-json.ensures),
       walked owned_key c.steps-step-items.result.now c.loop-step.step-index c.step-item.result here next _ c.loop-step-test.true
-      (c.in_ok-json.ensures ∙ ap (child here) key) c.loop-step.invariant.1,
+          (c.in_ok-json.ensures ∙ ap (child here) key) c.loop-step.invariant.1,
     )
 
 pub returns-in_err-json : goal.returns-in_err-json
