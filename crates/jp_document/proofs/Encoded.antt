@@ -1,5 +1,5 @@
 -- Spelled names as characters and as their bytes in UTF-8 (RFC 3629 section 3).
-use Rattle.std.proofs.Common.{◌≡◌, ℕ, zero, suc, ◌+◌, ◌/◌, ◌%◌, ◌<◌, ◌≤◌, nat_lt, eqb, Bool, true, false, ◌||◌, not, cond, List, [], ◌∷◌, ◌++◌, length, get_or, inl, inr, refl, sym, ap, subst, ◌∙◌, append_assoc, append-nil, arith}
+use Rattle.std.proofs.Common.{◌≡◌, ℕ, suc, ◌/◌, ◌%◌, ◌<◌, ◌≤◌, nat_lt, true, List, [], ◌∷◌, ◌++◌, length, get_or, inl, inr, refl, sym, ap, subst, ◌∙◌, append_assoc, append-nil, arith}
 use Rattle.std.proofs.lemmas.Bool.{cases_Bool, cases_lt}
 use Rattle.std.proofs.lemmas.Bool.Decides.{nat_tests}
 use Rattle.std.proofs.lemmas.Grind.{flat_map-append}
@@ -10,7 +10,7 @@ use Rattle.std.specs.Str.{encode_utf8_all}
 use Rattle.jp_reading.specs.Forms.{AllPassing}
 use Rattle.jp_reading.specs.Numbers.{is_digit}
 use Rattle.jp_document.specs.PathReader.{is_plain, is_letter}
-use Rattle.jp_document.specs.Spelling.{spelling, control, hex_digit}
+use Rattle.jp_document.specs.Spelling.{spelling, hex_digit}
 use Rattle.jp_document.proofs.Spelled.{Spelled, by_letter, by_number, by_itself, spelled, spelling_is}
 
 -- each is an ASCII character, which is its own byte

@@ -1,5 +1,5 @@
 -- Indexes above (2^53)-1 are read as 2^53.
-use Rattle.std.proofs.Common.{◌≡◌, ℕ, min, nat_lt, Bool, true, false, ◌||◌, List, [], ◌∷◌, map, refl, ap, ◌∙◌, arith}
+use Rattle.std.proofs.Common.{◌≡◌, ℕ, min, nat_lt, Bool, false, ◌||◌, List, [], ◌∷◌, map, refl, ap, ◌∙◌, arith}
 use Rattle.std.proofs.lemmas.Bool.{or_parts}
 use Rattle.std.proofs.lemmas.Bool.Decides.{nat_tests}
 use Rattle.std.specs.List.{list_any}

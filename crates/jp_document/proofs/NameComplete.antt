@@ -1,32 +1,20 @@
 -- The spelling of each name between quotes is read as that name.
-use Rattle.std.proofs.Common.{◌≡◌, ℕ, zero, suc, ◌+◌, ◌*◌, ◌-◌, ◌/◌, ◌%◌, ◌<◌, ◌≤◌, min, eqb, eq-eqb, nat_lt, Bool, true, false, not, cond, List, [], ◌∷◌, ◌++◌, length, get_or, map, Some, None, inl, inr, refl, sym, ap, subst, ◌∙◌, append_assoc, append-nil, length-append, arith}
+use Rattle.std.proofs.Common.{◌≡◌, ℕ, zero, suc, ◌+◌, ◌*◌, ◌-◌, ◌/◌, ◌%◌, ◌<◌, ◌≤◌, eqb, nat_lt, true, false, not, List, [], ◌∷◌, ◌++◌, length, get_or, inl, inr, refl, sym, ap, subst, ◌∙◌, append_assoc, length-append, arith}
 use Rattle.std.proofs.lemmas.Bool.{cases_Bool, cases_lt}
 use Rattle.std.proofs.lemmas.Bool.Decides.{nat_tests}
 use Rattle.std.proofs.lemmas.Str.{encode_ascii, length-encode, len_utf8_bounds}
 use Rattle.std.specs.Char.{encode_utf8}
 use Rattle.std.specs.List.{flat_map}
 use Rattle.std.specs.Str.{encode_utf8_all}
-use Rattle.jp_reading.specs.Texts.{Text, bytes}
-use Rattle.jp_reading.specs.Forms.{AllPassing}
-use Rattle.jp_reading.specs.Numbers.{Digits, is_digit, is_at_digit, digits_at, value_from, capped}
-use Rattle.jp_reading.specs.Outcome.{State, Outcome, took, stuck, deep, ◌>>=◌, head, first_of, past, passes, is, is_at, is_end, take_if, expect, each}
+use Rattle.jp_reading.specs.Outcome.{State, past, is, is_at, take_if, expect, each}
 use Rattle.jp_reading.specs.Views.{by}
 use Rattle.jp_reading.proofs.Again.{again-round}
-use Rattle.jp_reading.proofs.Between.{Reads}
-use Rattle.jp_reading.proofs.Digits.{capped-is_min}
 use Rattle.jp_reading.proofs.Loops.{each-on, each-off}
-use Rattle.jp_reading.proofs.Runs.{again-digits}
-use Rattle.jp_reading.proofs.Steps.{take_if-takes, is_at-other}
-use Rattle.jp_document.specs.Location.{Key, named, nth, Location}
-use Rattle.jp_document.specs.Path.{index_text, step_text, path_of}
-use Rattle.jp_document.specs.PathReader.{is_plain, is_letter, meant, has_letter, is_hex_digit, hex_value, hex_number, is_bit, without_letter, control_at, escaped_at, character_at, is_inside, characters_at, name_at, index_at, key_at, step_at, steps_at, path_at}
-use Rattle.jp_document.specs.Spelling.{spelling, control, hex_digit}
+use Rattle.jp_document.specs.PathReader.{is_plain, is_letter, meant, has_letter, is_hex_digit, hex_value, hex_number, is_bit, control_at, escaped_at, character_at, is_inside, characters_at, name_at}
+use Rattle.jp_document.specs.Spelling.{spelling, hex_digit}
 use Rattle.jp_document.proofs.Encoded.{high-plain, high-bytes, hex_digit-low, letter-low, peel}
-use Rattle.jp_document.proofs.Goes.{ahead, Goes, goes-then, goes-by, goes-as, Next, next-of, next-ascii, is_at-next, not_at-next, goes-take_if, goes-expect, goes-on, goes-off}
-use Rattle.jp_document.proofs.IndexTexts.{value_from-index_text, digits-index_text, Begun, zero_text, other_text, begun}
-use Rattle.jp_document.proofs.LargeIndexes.{capped_key}
-use Rattle.jp_document.proofs.PathMoves.{character_at-progress, step_at-progress}
-use Rattle.jp_document.proofs.PathsDiffer.{step-named, step-nth}
+use Rattle.jp_document.proofs.Goes.{ahead, Goes, goes-then, goes-by, Next, next-of, next-ascii, is_at-next, not_at-next, goes-take_if, goes-expect, goes-on, goes-off}
+use Rattle.jp_document.proofs.PathMoves.{character_at-progress}
 use Rattle.jp_document.proofs.Spelled.{Spelled, by_letter, by_number, by_itself, spelled, spelling_is, hex_digit_is}
 
 -- ---- characters of names

@@ -1,28 +1,22 @@
 -- What the reader takes for a name is the name's spelling between quotes.
-use Rattle.std.proofs.Common.{◌≡◌, ℕ, ◌+◌, ◌*◌, ◌-◌, ◌/◌, ◌%◌, ◌<◌, ◌≤◌, min, eqb, nat_lt, Bool, true, false, ◌||◌, cond, List, [], ◌∷◌, ◌++◌, length, map, inl, inr, refl, sym, ap, subst, ◌∙◌, append_assoc, append-nil, arith}
+use Rattle.std.proofs.Common.{◌≡◌, ℕ, ◌-◌, ◌/◌, ◌%◌, ◌<◌, ◌≤◌, eqb, nat_lt, Bool, true, List, [], ◌∷◌, ◌++◌, inl, inr, refl, sym, ap, subst, ◌∙◌, arith}
 use Rattle.std.proofs.lemmas.Bool.{cases_Bool, eqb-true}
 use Rattle.std.proofs.lemmas.Bool.Decides.{nat_tests}
 use Rattle.std.proofs.lemmas.Str.{encodes-append}
 use Rattle.std.specs.List.{flat_map}
 use Rattle.std.specs.Str.{encode_utf8_all}
 use Rattle.jp_reading.specs.Texts.{Text, Spans}
-use Rattle.jp_reading.specs.Forms.{Form, ◌⌢◌, word, One, Each, AllPassing}
-use Rattle.jp_reading.specs.Numbers.{Digits, is_digit, digits_at, value_from, capped}
-use Rattle.jp_reading.specs.Outcome.{State, Outcome, took, stuck, deep, ◌>>=◌, head, past, is, is_at, is_end, take_if, expect, each}
+use Rattle.jp_reading.specs.Forms.{Form, ◌⌢◌, word, One, Each}
+use Rattle.jp_reading.specs.Outcome.{State, took, stuck, past, is_at, take_if, expect, each}
 use Rattle.jp_reading.specs.Views.{by}
 use Rattle.jp_reading.proofs.Between.{Reads, Within, reads-then, reads-as}
-use Rattle.jp_reading.proofs.Digits.{capped-is_min}
-use Rattle.jp_reading.proofs.Fits.{Fits, fits-then, fits-if, fits-by, fits-as, reads-word, fits-take_if, fits-expect, fits-each, fits-digits}
+use Rattle.jp_reading.proofs.Fits.{Fits, fits-then, fits-if, fits-by, fits-as, reads-word, fits-take_if, fits-expect, fits-each}
 use Rattle.jp_reading.proofs.Steps.{head-is}
 use Rattle.jp_reading.proofs.Words.{words-join, reads-words}
-use Rattle.jp_document.specs.Location.{Key, named, nth, Location}
-use Rattle.jp_document.specs.Path.{index_text, step_text, path_of}
-use Rattle.jp_document.specs.PathReader.{is_plain, is_letter, meant, has_letter, is_hex_digit, hex_value, hex_number, is_bit, without_letter, control_at, escaped_at, character_at, is_inside, characters_at, name_at, index_at, key_at, step_at, steps_at, path_at}
+use Rattle.jp_document.specs.PathReader.{is_plain, is_letter, meant, has_letter, is_hex_digit, hex_value, hex_number, is_bit, control_at, escaped_at, character_at, is_inside, characters_at, name_at}
 use Rattle.jp_document.specs.Spelling.{spelling, control, hex_digit}
 use Rattle.jp_document.proofs.Encoded.{Ascii, encode-ascii, names-encode}
-use Rattle.jp_document.proofs.IndexTexts.{index_text-value, digits-index_text}
-use Rattle.jp_document.proofs.LargeIndexes.{capped_key}
-use Rattle.jp_document.proofs.Spelled.{Spelled, by_letter, by_number, by_itself, spelling_is}
+use Rattle.jp_document.proofs.Spelled.{by_letter, by_number, by_itself, spelling_is}
 
 -- the text is w in UTF-8
 pub record Written (w : List ℕ) (s : Spans) (o : ℕ) (t : Text) : Type 0 where

@@ -1,9 +1,9 @@
 -- What reading says of the whole text: it is the path of the steps that were read, or of no list of steps.
-use Rattle.std.proofs.Common.{◌≡◌, List, ℕ, [], false, true, map, refl, sym, ap, subst, ◌∙◌}
+use Rattle.std.proofs.Common.{◌≡◌, List, ℕ, false, true, refl, sym, ap, subst, ◌∙◌}
 use Rattle.std.proofs.lemmas.Str.{encodes-chars}
 use Rattle.std.specs.List.{list_any}
 use Rattle.std.specs.Str.{IsUtf8, chars}
-use Rattle.jp_reading.specs.Outcome.{State, Outcome, took, stuck, deep}
+use Rattle.jp_reading.specs.Outcome.{State, Outcome, took}
 use Rattle.jp_reading.specs.Views.{Fails}
 use Rattle.jp_reading.specs.declared.reader.Stop.{Stop}
 use Rattle.jp_reading.specs.declared.reader.Stop.TheVariants.{Memory, Syntax, TooDeep}

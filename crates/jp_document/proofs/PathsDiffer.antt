@@ -1,14 +1,13 @@
 -- That two locations have one path exactly if they are equal: no step's text begins another's.
-use Rattle.std.proofs.Common.{◌≡◌, ℕ, ◌+◌, ◌*◌, ◌/◌, ◌%◌, ◌<◌, Bool, true, false, List, [], ◌∷◌, ◌++◌, get_or, Some, refl, sym, ap, subst, ◌∙◌, append_assoc, arith}
+use Rattle.std.proofs.Common.{◌≡◌, ℕ, ◌/◌, ◌%◌, ◌<◌, true, false, List, [], ◌∷◌, ◌++◌, get_or, Some, refl, sym, ap, ◌∙◌, append_assoc, arith}
 use Rattle.std.specs.List.{flat_map}
 use Rattle.jp_reading.specs.Forms.{AllPassing}
 use Rattle.jp_reading.specs.Numbers.{is_digit, value_from}
 use Rattle.jp_document.specs.Laws.{PathsDiffer, NodesDiffer}
 use Rattle.jp_document.specs.Location.{Key, named, nth, Location, value_at}
-use Rattle.jp_document.specs.Node.{Located, told, StandsIn}
 use Rattle.jp_document.specs.Value.{Value, value_of}
-use Rattle.jp_document.specs.Path.{quoted, index_text, step_text, path_of}
-use Rattle.jp_document.specs.PathReader.{is_plain, is_letter, meant, has_letter, hex_value}
+use Rattle.jp_document.specs.Path.{index_text, step_text, path_of}
+use Rattle.jp_document.specs.PathReader.{is_plain, is_letter, meant, hex_value}
 use Rattle.jp_document.specs.Spelling.{spelling, control, hex_digit}
 use Rattle.jp_document.proofs.IndexTexts.{value_from-index_text, digits-index_text, Begun, zero_text, other_text, begun}
 use Rattle.jp_document.proofs.Spelled.{Spelled, by_letter, by_number, by_itself, spelled, hex_digit_is}

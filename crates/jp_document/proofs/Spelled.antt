@@ -1,9 +1,9 @@
 -- How a character of a name is spelled: by a letter behind `\`, by its number, or by itself.
-use Rattle.std.proofs.Common.{◌≡◌, ℕ, ◌+◌, ◌*◌, ◌-◌, ◌/◌, ◌%◌, ◌<◌, ◌≤◌, eqb, nat_lt, Bool, true, false, ◌||◌, not, cond, List, [], ◌∷◌, ◌++◌, get_or, inl, inr, refl, sym, ap, subst, ◌∙◌, arith}
+use Rattle.std.proofs.Common.{◌≡◌, ℕ, ◌<◌, eqb, nat_lt, Bool, true, false, ◌||◌, not, List, [], ◌∷◌, inl, inr, refl, sym, ap, ◌∙◌, arith}
 use Rattle.std.proofs.lemmas.Bool.{cases_Bool, eqb-true, or_parts}
 use Rattle.std.proofs.lemmas.Bool.Decides.{nat_tests}
 use Rattle.jp_document.specs.Spelling.{spelling, control, hex_digit}
-use Rattle.jp_document.specs.PathReader.{is_plain, is_letter, meant, has_letter, is_hex_digit, hex_value, hex_number, is_bit}
+use Rattle.jp_document.specs.PathReader.{is_plain, is_letter, meant, has_letter, is_hex_digit, hex_value}
 
 pub data Spelled (c : ℕ) (w : List ℕ) : Type 0 where
   by_letter : (e : ℕ) → is_letter e ≡ true → c ≡ meant e → w ≡ 92 ∷ e ∷ [] → Spelled c w

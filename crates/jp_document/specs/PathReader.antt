@@ -3,7 +3,7 @@
 use Rattle.std.specs.Prelude.{ℕ, ◌+◌, ◌-◌, ◌*◌, ◌==◌, ◌||◌, ◌&&◌, not, nat_le, nat_lt, Bool, if◌then◌else◌, List}
 use Rattle.std.specs.Str.{encode_utf8_all}
 use Rattle.jp_reading.specs.Outcome.{State, Outcome, took, stuck, ◌>>=◌, past, is_at, is_end, take_if, expect, each}
-use Rattle.jp_reading.specs.Numbers.{digits_at, capped, is_digit}
+use Rattle.jp_reading.specs.Numbers.{digits_at, capped}
 use Rattle.jp_reading.specs.Views.{by}
 use Rattle.jp_reading.specs.declared.reader.Stop.{Stop}
 use Rattle.jp_reading.specs.declared.reader.Stop.TheVariants as stop

@@ -1,8 +1,8 @@
-use Rattle.std.proofs.Common.{◌≡◌, ◌++◌, ◌∷◌, [], true, false, not, string_bytes, rules, refl, sym, ap, ◌∙◌, append_assoc, append-nil}
+use Rattle.std.proofs.Common.{◌++◌, not, string_bytes, refl, sym, ap, ◌∙◌, append_assoc, append-nil}
 use Rattle.std.proofs.lemmas.Result.{err_from_is_err_and}
 use Rattle.std.specs.Char.{encode_utf8}
 use Rattle.std.specs.Str.{encode_utf8_all}
-use Rattle.jp_reading.specs.Outcome.{took, is_at}
+use Rattle.jp_reading.specs.Outcome.{took}
 use Rattle.jp_reading.proofs.Folds.{folds_on, folds_end, folds_fail}
 use Rattle.jp_reading.proofs.Progress.{moved}
 use Rattle.jp_document.specs.PathReader.{characters_at, is_inside, character_at}
