@@ -1,4 +1,4 @@
-pub mod Steps
-pub mod Least
 pub mod Alone
+pub mod Least
 pub mod Rows
+pub mod Steps
