@@ -103,8 +103,8 @@ pub nodes_stand : (v : Value) → IsDocumentValue v → All (Stands v) (nodes_in
 nodes_stand = by_children (λ v. IsDocumentValue v → All (Stands v) (nodes_in v)) (λ v each document.
     subst (All (Stands v)) (sym (nodes_in-held v)) (All-cons (Stands v) ([], v) (flat_map inner (held v)) refl
     (All-flat_map (Stands v) inner (held v) (λ i e is.
-        let at : child v e.0 ≡ Some e.1 = child-held v i e.0 e.1 document is in
-        stands_under v e.0 e.1 at (each i e.0 e.1 is (IsDocumentValue-child v e.1 e.0 document at))))))
+    let at : child v e.0 ≡ Some e.1 = child-held v i e.0 e.1 document is in
+    stands_under v e.0 e.1 at (each i e.0 e.1 is (IsDocumentValue-child v e.1 e.0 document at))))))
 
 -- ---- the nodes below a node
 

@@ -98,7 +98,7 @@ pub nodes_rise : (v : Value) → IsDocumentValue v → IsStrictlySortedBy locati
 nodes_rise = by_children (λ v. IsDocumentValue v → IsStrictlySortedBy location_cmp (places (nodes_in v))) (λ v each document.
     subst (λ es. IsStrictlySortedBy location_cmp (places es)) (sym (nodes_in-held v))
     (root_and v (held v) (children_rise (held v) (held-rises v document) (λ i k w is.
-        each i k w is (IsDocumentValue-child v w k document (child-held v i k w document is))))))
+    each i k w is (IsDocumentValue-child v w k document (child-held v i k w document is))))))
 
 -- the same, beyond a location
 sorted_beyond : (l : Location) (es : List (Location × Value)) → IsStrictlySortedBy location_cmp (places es) → IsStrictlySortedBy location_cmp (map (beyond l) es)
@@ -201,18 +201,18 @@ below_some d v l document at =
       rising = sorted_beyond l (nodes_in v) (nodes_rise v here);
       exactly = λ m. (
         λ h.
-          let found = contained_back (beyond l) m (nodes_in v) h.0 h.1 h.2 in
-          let stands : value_at v found.0.0 ≡ Some found.0.1 = All-contains (Stands v) (nodes_in v) found.0 (nodes_stand v here) found.1 in
-          record {
-            there = ap is_some (ap (value_at d) (sym found.2) ∙ value_beyond d v l found.0.0 at ∙ stands);
-            rest = found.0.0;
-            begins = sym found.2;
-          },
+            let found = contained_back (beyond l) m (nodes_in v) h.0 h.1 h.2 in
+            let stands : value_at v found.0.0 ≡ Some found.0.1 = All-contains (Stands v) (nodes_in v) found.0 (nodes_stand v here) found.1 in
+            record {
+              there = ap is_some (ap (value_at d) (sym found.2) ∙ value_beyond d v l found.0.0 at ∙ stands);
+              rest = found.0.0;
+              begins = sym found.2;
+            },
         λ b.
-          let value = some_there (value_at d m) b.there in
-          let there : value_at v b.rest ≡ Some value.0 = sym (value_beyond d v l b.rest at) ∙ ap (value_at d) (sym b.begins) ∙ value.1 in
-          let node = nodes_all v b.rest value.0 there in
-          subst (Contains (map (beyond l) (nodes_in v))) (sym b.begins) (contained_map (beyond l) (b.rest, value.0) (nodes_in v) node.0 node.1 node.2),
+            let value = some_there (value_at d m) b.there in
+            let there : value_at v b.rest ≡ Some value.0 = sym (value_beyond d v l b.rest at) ∙ ap (value_at d) (sym b.begins) ∙ value.1 in
+            let node = nodes_all v b.rest value.0 there in
+            subst (Contains (map (beyond l) (nodes_in v))) (sym b.begins) (contained_map (beyond l) (b.rest, value.0) (nodes_in v) node.0 node.1 node.2),
       );
     }
 

@@ -5,5 +5,4 @@ ghost use Rattle.jp_select.specs.Laws.{BelowRises};
 /// (RFC 9535 section 2.5.2.2).
 pub fn below_rises()
     ensures { BelowRises }
-{
-}
+{}

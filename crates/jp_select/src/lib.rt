@@ -16,6 +16,8 @@ mod descent;
 pub mod laws;
 mod selector;
 mod slice;
+#[cfg(test)]
+mod tests;
 
 pub use descent::descend;
 pub use selector::select_plain;

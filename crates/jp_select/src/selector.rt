@@ -44,11 +44,7 @@ fn only<'d>(alloc: Global, node: Option<Node<'d>>) -> Result<Vec<Node<'d>>, Allo
 }
 
 /// The item of a node's list that an index selects (section 2.3.3.2), None where there is none.
-fn item<'d>(
-    alloc: Global,
-    node: &Node<'d>,
-    index: i128,
-) -> Result<Option<Node<'d>>, AllocError>
+fn item<'d>(alloc: Global, node: &Node<'d>, index: i128) -> Result<Option<Node<'d>>, AllocError>
     ensures { (d : Value) → StandsIn d node.now → IfOk result (λ child.
         AreNodes d (option_to_list child) (item_chosen d index node.now.location)) }
 {
@@ -92,11 +88,7 @@ fn list_length(value: &Json) -> Option<u64>
 }
 
 /// The items of a node's list that a slice selects, in its order (section 2.3.4.2).
-fn items<'d>(
-    alloc: Global,
-    node: &Node<'d>,
-    slice: Slice,
-) -> Result<Vec<Node<'d>>, AllocError>
+fn items<'d>(alloc: Global, node: &Node<'d>, slice: Slice) -> Result<Vec<Node<'d>>, AllocError>
     ensures { (d : Value) → StandsIn d node.now → IfOk result (λ nodes.
         AreNodes d nodes.items (items_chosen d slice node.now.location)) }
 {
