@@ -1,14 +1,14 @@
 -- The nodes that segments select.
-use Rattle.std.proofs.Common.{◌≡◌, ℕ, suc, ◌+◌, ◌<◌, Bool, true, false, List, [], ◌∷◌, ◌++◌, Some, length, map, take, drop, drop-cons, slice_index_or, refl, ap, ap₂, ◌∙◌, sym, append_assoc, arith}
+use Rattle.std.proofs.Common.{◌≡◌, ℕ, suc, ◌+◌, ◌<◌, ◌≤◌, true, false, List, [], ◌∷◌, ◌++◌, Some, length, map, take, drop, drop-cons, slice_index_or, refl, ap, ◌∙◌, sym, append_assoc, arith}
 use Rattle.std.specs.List.{All, flat_map}
-use Rattle.std.proofs.lemmas.List.{append-nil, map-append, take_more}
+use Rattle.std.proofs.lemmas.List.{append-nil, map-append, take_all, take_more}
 use Rattle.std.proofs.lemmas.Grind.{flat_map-append}
 use Rattle.std.proofs.lemmas.List.Elements.{All-cons, All-nil}
 use Rattle.jp_document.specs.ChildNodes.{AreNodes, shown, standing}
 use Rattle.jp_document.specs.Location.{Location, value_at}
 use Rattle.jp_document.specs.Node.{Located, StandsIn}
 use Rattle.jp_document.specs.Value.{IsDocumentValue, Value, value_of}
-use Rattle.jp_query.specs.Tree.{SegmentTree, SelectorTree, SelectorTrees, segment, segment_of, segments, selector_of, selectors}
+use Rattle.jp_query.specs.Tree.{SegmentTree, SelectorTrees, segment, segment_of, segments, selector_of, selectors}
 use Rattle.jp_query.specs.declared.tree.Segment.{Segment}
 use Rattle.jp_query.specs.declared.tree.Selector.{Selector}
 use Rattle.jp_select.specs.Below.{below}
@@ -111,6 +111,16 @@ nodes-locations d nodes ls are = sym (firsts_shown nodes) ∙ ap (map first_of) 
     firsts_standing : (ls : List Location) → map first_of (map (standing d) ls) ≡ ls
     firsts_standing [] = refl
     firsts_standing (l ∷ ls) = ap (λ t. l ∷ t) (firsts_standing ls)
+
+-- all visited nodes have been served
+pub below_selected : (d : Value) (ss : SelectorTrees) (l : Location) (old now visited : List Located) (i : ℕ) → length visited ≤ i
+    → AreNodes d visited (below d l)
+    → map shown now ≡ map shown old ++ map (standing d) (by_segment d (segment false ss) (take i visited))
+    → map shown now ≡ map shown old ++ map (standing d) (segment_result (segment true ss) d (l ∷ []))
+below_selected d ss l old now visited i all are grown =
+    grown ∙ ap (λ ns. map shown old ++ map (standing d) (by_segment d (segment false ss) ns)) (take_all i visited all)
+    ∙ ap (λ ls. map shown old ++ map (standing d) (segment_result (segment false ss) d ls)) (nodes-locations d visited (below d l) are)
+    ∙ ap (λ ls. map shown old ++ map (standing d) ls) (sym (descendant_segment-one d ss l))
 
 -- ---- the segments of a query
 

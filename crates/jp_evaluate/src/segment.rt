@@ -57,8 +57,8 @@ fn push_below<'d>(
         (segment_result (segment true (selector_trees (map selector_of selectors.now))) d (node.now.location ∷ []))) }
 {
     let visited = descend(alloc, node.copy(alloc)?)?;
-    for node in &visited {
-        push_selected(alloc, selectors, node, found)?;
+    for place in &visited {
+        push_selected(alloc, selectors, place, found)?;
     }
     Ok(())
 }

@@ -8,6 +8,6 @@ use Rattle.jp_evaluate.proofs.Segments.{by_segment}
 use Rattle.jp_evaluate.proofs.segment.push_below.Given as goal
 
 -- what the selectors select at the nodes so far is there
-abbrev pub invariant-loop-node : goal.invariant-loop-node
-invariant-loop-node l = (d : Value) → All (StandsIn d) l.visited.items → map shown l.found.items ≡ map shown l.fn.found.items
-    ++ map (standing d) (by_segment d (segment false (selectors (map selector_of l.selectors))) (take l.node-index l.visited.items))
+abbrev pub invariant-loop-place : goal.invariant-loop-place
+invariant-loop-place l = (d : Value) → All (StandsIn d) l.place-items → map shown l.found.items ≡ map shown l.fn.found.items
+    ++ map (standing d) (by_segment d (segment false (selectors (map selector_of l.selectors))) (take l.place-index l.place-items))

@@ -1,4 +1,4 @@
-use Rattle.std.proofs.Common.{◌≡◌, map, take}
+use Rattle.std.proofs.Common.{take}
 use Rattle.std.specs.List.{All}
 use Rattle.jp_document.specs.ChildNodes.{AreNodes}
 use Rattle.jp_document.specs.Node.{StandsIn}
