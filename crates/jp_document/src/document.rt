@@ -3,7 +3,7 @@ ghost use Rattle.std.specs.Prelude.{◌≡◌, [], map, option_map, IfOk, IfErr}
 ghost use Rattle.jp_document.specs.Value.{IsDocumentValue, value_of};
 
 use crate::fault::DocumentFault;
-use crate::location::Step;
+use crate::location::{OwnedLocation, Step};
 use crate::lookup::child_value;
 use crate::node::{Node, root_of};
 use crate::reading::whole;
@@ -73,6 +73,18 @@ impl Document {
         let mut json = self.json();
         for step in location {
             json = child_value(json, *step)?;
+        }
+        Some(json)
+    }
+
+    /// The value at a location that borrows nothing, None where there is none.
+    pub fn find(&self, location: &OwnedLocation) -> Option<&Json>
+        ensures { option_map (λ j. value_of j.now) result
+            ≡ value_at (document_of self.now) location.now }
+    {
+        let mut json = self.json();
+        for step in location.steps() {
+            json = child_value(json, step.as_step())?;
         }
         Some(json)
     }

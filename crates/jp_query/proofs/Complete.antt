@@ -3,23 +3,23 @@ use Rattle.std.proofs.Common.{◌≡◌, ℕ, Bool, true, false, List, [], ◌�
 use Rattle.std.proofs.lemmas.Bool.Decides.{nat_tests}
 use Rattle.jp_query.specs.declared.tree.Numeral.{Numeral}
 use Rattle.jp_reading.specs.Texts.{Text, is_blank}
-use Rattle.jp_reading.specs.Forms.{◌⌢◌, word, One, Each, Blank, Item, AllPassing}
-use Rattle.jp_reading.specs.Outcome.{State, took, head, first_of, skip, passes, is, is_at, after_blank}
+use Rattle.jp_reading.specs.Forms.{◌⌢◌, word, One, Each, Blank, Item, AllPassing, Form, Separated}
+use Rattle.jp_reading.specs.Outcome.{State, took, head, first_of, skip, passes, is, is_at, after_blank, each}
 use Rattle.jp_reading.specs.Numbers.{is_digit, value_from}
 use Rattle.jp_reading.specs.Views.{by}
 use Rattle.jp_reading.proofs.Between.{Reads, reads-as, reads-is}
 use Rattle.jp_reading.proofs.Runs.{Run, each-run, again-run}
 use Rattle.jp_reading.proofs.Steps.{is_at-other, passes-apart}
-use Rattle.jp_reading.proofs.Again.{split, word-first, one-first, again-take_if, again-expect, again-skip, inside, again-item, again-each, past-word}
+use Rattle.jp_reading.proofs.Again.{split, word-first, one-first, again-take_if, again-expect, again-skip, inside, again-item, again-each, past-word, again-separated, at-word}
 use Rattle.jp_query.specs.Tree.{SelectorTree, name, index, SegmentTree}
 use Rattle.jp_query.specs.Names.{is_name_first, is_name_char, Shorthand, shorthand}
 use Rattle.jp_query.specs.Strings.{is_escapable, Character, Between as Marked, in_double, in_single}
 use Rattle.jp_query.proofs.Escapes.{characters-again}
 use Rattle.jp_query.specs.Ints.{is_leading_digit, Unsigned, Int, zero_int, positive_int, negative_int}
-use Rattle.jp_query.specs.Grammar.{Selector, named, indexed, Segment, bracketed, dotted}
-use Rattle.jp_query.specs.Reading.{run_at, begins_character, shorthand_at, quoted_at, size_at, int_at, selector_at, bracket_at, dotted_at, segment_at, segments_at, begins_segment}
-use Rattle.jp_query.proofs.Moves.{segment-progress}
-use Rattle.jp_query.proofs.Rules.{child_of}
+use Rattle.jp_query.specs.Grammar.{Selector, named, indexed, Segment, bracketed, dotted, any, Bracket, Member, star, member, deep_bracketed, deep_dotted}
+use Rattle.jp_query.specs.Reading.{run_at, begins_character, shorthand_at, quoted_at, size_at, int_at, selector_at, bracket_at, segment_at, segments_at, begins_segment, entry_at, another_at, entries_at, member_at, selection_at}
+use Rattle.jp_query.proofs.Moves.{segment-progress, another-progress}
+use Rattle.jp_query.proofs.Rules.{comma, segment_of_all, segment_of_one}
 
 -- a run of characters, up to one that does not pass
 run-again : (ok : ℕ → Bool) (cs : Text) (p q : State) → Reads (Each (One ok) cs) p q → passes ok (head q) ≡ false → run_at ok p ≡ took cs q
@@ -50,8 +50,11 @@ quoted-again quote no_u ends cs p q h =
     let closed = split (Each (Character quote) cs) (word (quote ∷ [])) opened.middle q opened.two in
     let mark = word-first quote [] closed.middle q closed.two in
     let off : passes (begins_character quote) (head closed.middle) ≡ false = rw mark ends in
-    rw (again-expect quote p opened.middle opened.one, characters-again quote no_u cs opened.middle closed.middle closed.one off,
-      again-expect quote closed.middle q closed.two) refl
+    rw (
+      again-expect quote p opened.middle opened.one,
+      characters-again quote no_u cs opened.middle closed.middle closed.one off,
+      again-expect quote closed.middle q closed.two,
+    ) refl
 
 -- digits without a leading zero, up to what is no digit
 size-again : (c : ℕ) (more : Text) (p q : State) → Reads (Unsigned c more) p q → passes is_digit (head q) ≡ false
@@ -125,13 +128,21 @@ selector-cases n x p q h (named cs e (in_single w)) off =
     let double : is_at 34 p ≡ false = rw (mark-first 39 cs p q string) refl in
     let single : is_at 39 p ≡ true = rw (mark-first 39 cs p q string) refl in
     rw (double, single, quoted-again 39 refl refl cs p q string, e) refl
+selector-cases n x p q h (any e w) off =
+    let one = reads-is (Selector n x) (word (42 ∷ [])) p q h w in
+    let first = word-first 42 [] p q one in
+    let double : is_at 34 p ≡ false = rw first refl in
+    let single : is_at 39 p ≡ false = rw first refl in
+    let at_star : is_at 42 p ≡ true = rw first refl in
+    rw (double, single, at_star, past-word 42 p q one, e) refl
 selector-cases n x p q h (indexed i e w) off =
     let number = reads-is (Selector n x) (Item (Int i)) p q h w in
     let part = inside (Int i) p q number in
     let first = int-first i p part.middle part.reads part.reads.is in
     let double : is_at 34 p ≡ false = passes-apart begins_int (is 34) (head p) (int-not_mark 34 refl) first in
     let single : is_at 39 p ≡ false = passes-apart begins_int (is 39) (head p) (int-not_mark 39 refl) first in
-    rw (double, single, e)
+    let at_star : is_at 42 p ≡ false = passes-apart begins_int (is 42) (head p) (int-not_mark 42 refl) first in
+    rw (double, single, at_star, e)
     (again-item (Int i) (index i) p q (by index (int_at p)) number
     (λ m reads same. ap (by index) (int-again i p m reads (ap (λ t. passes is_digit (first_of t)) same ∙ off))))
 
@@ -140,7 +151,7 @@ selector-again n x p q h off = selector-cases n x p q h h.is off
 
 -- whether a character may begin a selector
 abbrev begins_selector : ℕ → Bool
-begins_selector c = is 34 c || is 39 c || begins_int c
+begins_selector c = is 34 c || is 39 c || is 42 c || begins_int c
 
 int-selector : (c : ℕ) → begins_int c ≡ true → begins_selector c ≡ true
 int-selector c h = grind (arith, nat_tests)
@@ -153,6 +164,7 @@ selector-first : (n : ℕ) (x : SelectorTree) (p q : State) (h : Reads (Selector
     → passes begins_selector (head p) ≡ true
 selector-first n x p q h (named cs e (in_double w)) = rw (mark-first 34 cs p q (reads-is (Selector n x) (Marked 34 cs) p q h w)) refl
 selector-first n x p q h (named cs e (in_single w)) = rw (mark-first 39 cs p q (reads-is (Selector n x) (Marked 39 cs) p q h w)) refl
+selector-first n x p q h (any e w) = rw (word-first 42 [] p q (reads-is (Selector n x) (word (42 ∷ [])) p q h w)) refl
 selector-first n x p q h (indexed i e w) =
     let part = inside (Int i) p q (reads-is (Selector n x) (Item (Int i)) p q h w) in
     within begins_int begins_selector (head p) int-selector (int-first i p part.middle part.reads part.reads.is)
@@ -178,67 +190,179 @@ blank-not_name : (c : ℕ) → is_blank c ≡ true → is_name_char c ≡ false
 unfolding is_blank is_digit
 blank-not_name c h = grind (arith, nat_tests)
 
-close-not_digit : is_digit 93 ≡ false
+-- a comma or a closing bracket
+abbrev closes : ℕ → Bool
+closes c = is 44 c || is 93 c
+
+closes-not_digit : (c : ℕ) → closes c ≡ true → is_digit c ≡ false
 unfolding is_digit
-close-not_digit = refl
+closes-not_digit c h = grind (arith, nat_tests)
 
-close-not_blank : is_blank 93 ≡ false
+closes-not_blank : (c : ℕ) → closes c ≡ true → is_blank c ≡ false
 unfolding is_blank
-close-not_blank = refl
+closes-not_blank c h = grind (arith, nat_tests)
 
--- a selector in brackets
-bracket-again : (n : ℕ) (y : SelectorTree) (p q : State) → Reads (word (91 ∷ []) ⌢ Blank ⌢ Selector n y ⌢ Blank ⌢ word (93 ∷ [])) p q
-    → bracket_at n p ≡ took (child_of y) q
+-- a selector and the blanks after it, up to a comma or a closing bracket
+abbrev Entry : ℕ → SelectorTree → Form
+Entry n x = Selector n x ⌢ Blank
+
+entry-again : (n : ℕ) (x : SelectorTree) (p q : State) → Reads (Entry n x) p q → passes closes (head q) ≡ true → entry_at n p ≡ took x q
+unfolding entry_at
+entry-again n x p q h ends =
+    let parts = split (Selector n x) Blank p q h in
+    let solid = passes-apart closes is_blank (head q) closes-not_blank ends in
+    let other = passes-apart closes is_digit (head q) closes-not_digit ends in
+    rw (selector-again n x p parts.middle parts.one (blank-follow is_digit blank-not_digit parts.middle q parts.two other), again-skip parts.middle q parts.two solid) refl
+
+entry-first : (n : ℕ) (x : SelectorTree) (p q : State) → Reads (Entry n x) p q → passes begins_selector (head p) ≡ true
+entry-first n x p q h =
+    let parts = split (Selector n x) Blank p q h in
+    selector-first n x p parts.middle parts.one parts.one.is
+
+another-again : (n : ℕ) (x : SelectorTree) (p q : State) → Reads (comma ⌢ Entry n x) p q → passes closes (head q) ≡ true → another_at n p ≡ took x q
+unfolding another_at
+another-again n x p q h ends =
+    let parts = split comma (Entry n x) p q h in
+    let comma_parts = split (word (44 ∷ [])) Blank p parts.middle parts.one in
+    let solid = passes-apart begins_selector is_blank (head parts.middle) selector-not_blank (entry-first n x parts.middle q parts.two) in
+    rw (again-expect 44 p comma_parts.middle comma_parts.one, again-skip comma_parts.middle parts.middle comma_parts.two solid) (entry-again n x parts.middle q parts.two ends)
+
+another-first : (n : ℕ) (x : SelectorTree) (p q : State) → Reads (comma ⌢ Entry n x) p q → head p ≡ Some 44
+another-first n x p q h =
+    let parts = split comma (Entry n x) p q h in
+    let comma_parts = split (word (44 ∷ [])) Blank p parts.middle parts.one in
+    word-first 44 [] p comma_parts.middle comma_parts.one
+
+entries-again : (n : ℕ) (xs : List SelectorTree) (p q : State) → Reads (Separated comma (Entry n) xs) p q → head q ≡ Some 93 → entries_at n p ≡ took xs q
+unfolding entries_at
+entries-again n xs p q h e =
+    again-separated comma (Entry n) (λ t. passes closes (first_of t) ≡ true) (is_at 44) (entry_at n) (another_at n) (another-progress n)
+    (λ x r w g f. entry-again n x r w g f) (λ x r w g f. another-again n x r w g f)
+    (λ x r w g. (let first = another-first n x r w g in (rw first refl, rw first refl)))
+    xs p q h (rw e refl) (rw e refl)
+
+entries-first : (n : ℕ) (xs : List SelectorTree) (p q : State) → Reads (Separated comma (Entry n) xs) p q → passes begins_selector (head p) ≡ true
+entries-first n [] p q h = absurd h.is
+entries-first n (x ∷ xs) p q h =
+    let parts = split (Entry n x) (Each (λ y. comma ⌢ Entry n y) xs) p q h in
+    entry-first n x p parts.middle parts.one
+
+-- selectors in brackets
+bracket-again : (d : Bool) (n : ℕ) (xs : List SelectorTree) (p q : State) → Reads (Bracket n xs) p q → bracket_at d n p ≡ took (segment_of_all d xs) q
 unfolding bracket_at
-bracket-again n y p q h =
-    let opened = split (word (91 ∷ [])) (Blank ⌢ Selector n y ⌢ Blank ⌢ word (93 ∷ [])) p q h in
-    let before = split Blank (Selector n y ⌢ Blank ⌢ word (93 ∷ [])) opened.middle q opened.two in
-    let selected = split (Selector n y) (Blank ⌢ word (93 ∷ [])) before.middle q before.two in
-    let after = split Blank (word (93 ∷ [])) selected.middle q selected.two in
-    let closes = word-first 93 [] after.middle q after.two in
-    let first = selector-first n y before.middle selected.middle selected.one selected.one.is in
-    let solid : passes is_blank (head before.middle) ≡ false = passes-apart begins_selector is_blank (head before.middle) selector-not_blank first in
-    let closed : passes is_blank (head after.middle) ≡ false = rw closes close-not_blank in
-    let no_digit : passes is_digit (head after.middle) ≡ false = rw closes close-not_digit in
+bracket-again d n xs p q h =
+    let all = Separated comma (Entry n) xs in
+    let opened = split (word (91 ∷ [])) (Blank ⌢ all ⌢ word (93 ∷ [])) p q h in
+    let before = split Blank (all ⌢ word (93 ∷ [])) opened.middle q opened.two in
+    let closed = split all (word (93 ∷ [])) before.middle q before.two in
+    let first = entries-first n xs before.middle closed.middle closed.one in
+    let solid = passes-apart begins_selector is_blank (head before.middle) selector-not_blank first in
     rw (
       again-expect 91 p opened.middle opened.one,
       again-skip opened.middle before.middle before.one solid,
-      selector-again n y before.middle selected.middle selected.one (blank-follow is_digit blank-not_digit selected.middle after.middle after.one no_digit),
-      again-skip selected.middle after.middle after.one closed,
-      again-expect 93 after.middle q after.two,
+      entries-again n xs before.middle closed.middle closed.one (word-first 93 [] closed.middle q closed.two),
+      again-expect 93 closed.middle q closed.two,
     ) refl
 
--- a dot and a shorthand, up to what is no name's character
-dotted-again : (cs : Text) (p q : State) → Reads (word (46 ∷ []) ⌢ Shorthand cs) p q → passes is_name_char (head q) ≡ false
-    → dotted_at p ≡ took (child_of (name cs)) q
-unfolding dotted_at
-dotted-again cs p q h off =
-    let parts = split (word (46 ∷ [])) (Shorthand cs) p q h in
-    rw (again-expect 46 p parts.middle parts.one, shorthand-again cs parts.middle q parts.two off) refl
+bracket-first : (n : ℕ) (xs : List SelectorTree) (p q : State) → Reads (Bracket n xs) p q → head p ≡ Some 91
+bracket-first n xs p q h =
+    let opened = split (word (91 ∷ [])) (Blank ⌢ Separated comma (Entry n) xs ⌢ word (93 ∷ [])) p q h in
+    word-first 91 [] p opened.middle opened.one
+
+-- whether a character may begin what stands behind a dot
+abbrev begins_member : ℕ → Bool
+begins_member c = is 42 c || is_name_first c
+
+shorthand-first : (cs : Text) (p q : State) (h : Reads (Shorthand cs) p q) → Shorthand cs h.spans p.at h.text → passes is_name_first (head p) ≡ true
+shorthand-first cs p q h (shorthand c more e is) =
+    let parts = split (One is_name_first c) (Each (One is_name_char) more) p q
+    (reads-is (Shorthand cs) (One is_name_first c ⌢ Each (One is_name_char) more) p q h is) in
+    ap (passes is_name_first) (one-first is_name_first c p parts.middle parts.one) ∙ parts.one.is.passes
+
+name-not_star : (c : ℕ) → is_name_first c ≡ true → is 42 c ≡ false
+name-not_star c h = grind (arith, nat_tests)
+
+name-member : (c : ℕ) → is_name_first c ≡ true → begins_member c ≡ true
+name-member c h = grind (arith, nat_tests)
+
+member-not_dot : (c : ℕ) → begins_member c ≡ true → is 46 c ≡ false
+member-not_dot c h = grind (arith, nat_tests)
+
+member-not_bracket : (c : ℕ) → begins_member c ≡ true → is 91 c ≡ false
+member-not_bracket c h = grind (arith, nat_tests)
+
+member-first : (y : SelectorTree) (p q : State) (h : Reads (Member y) p q) → Member y h.spans p.at h.text → passes begins_member (head p) ≡ true
+member-first y p q h (star e w) = rw (word-first 42 [] p q (reads-is (Member y) (word (42 ∷ [])) p q h w)) refl
+member-first y p q h (member cs e w) =
+    let name_reads = reads-is (Member y) (Shorthand cs) p q h w in
+    within is_name_first begins_member (head p) name-member (shorthand-first cs p q name_reads name_reads.is)
+
+-- `*`, or a shorthand up to what is no name's character
+member-cases : (d : Bool) (y : SelectorTree) (p q : State) (h : Reads (Member y) p q) → Member y h.spans p.at h.text
+    → passes is_name_char (head q) ≡ false → member_at d p ≡ took (segment_of_one d y) q
+unfolding member_at
+member-cases d y p q h (star e w) off =
+    let one = reads-is (Member y) (word (42 ∷ [])) p q h w in
+    let at_star : is_at 42 p ≡ true = rw (word-first 42 [] p q one) refl in
+    rw (at_star, past-word 42 p q one, e) refl
+member-cases d y p q h (member cs e w) off =
+    let name_reads = reads-is (Member y) (Shorthand cs) p q h w in
+    let at_star : is_at 42 p ≡ false = passes-apart is_name_first (is 42) (head p) name-not_star (shorthand-first cs p q name_reads name_reads.is) in
+    rw (at_star, shorthand-again cs p q name_reads off, e) refl
 
 -- a segment
 segment-cases : (n : ℕ) (x : SegmentTree) (p q : State) (h : Reads (Segment n x) p q) → Segment n x h.spans p.at h.text
     → passes is_name_char (head q) ≡ false → segment_at n p ≡ took x q
-unfolding segment_at
-segment-cases n x p q h (bracketed y e w) off =
-    let bracket = reads-is (Segment n x) (word (91 ∷ []) ⌢ Blank ⌢ Selector n y ⌢ Blank ⌢ word (93 ∷ [])) p q h w in
-    let opened = split (word (91 ∷ [])) (Blank ⌢ Selector n y ⌢ Blank ⌢ word (93 ∷ [])) p q bracket in
-    let at_bracket : is_at 91 p ≡ true = rw (word-first 91 [] p opened.middle opened.one) refl in
-    rw (at_bracket, bracket-again n y p q bracket, e) refl
-segment-cases n x p q h (dotted cs e w) off =
-    let dot = reads-is (Segment n x) (word (46 ∷ []) ⌢ Shorthand cs) p q h w in
-    let parts = split (word (46 ∷ [])) (Shorthand cs) p q dot in
+unfolding segment_at selection_at
+segment-cases n x p q h (bracketed ys e w) off =
+    let bracket = reads-is (Segment n x) (Bracket n ys) p q h w in
+    let at_bracket : is_at 91 p ≡ true = rw (bracket-first n ys p q bracket) refl in
+    rw (at_bracket, bracket-again false n ys p q bracket, e) refl
+segment-cases n x p q h (dotted y e w) off =
+    let parts = split (word (46 ∷ [])) (Member y) p q (reads-is (Segment n x) (word (46 ∷ []) ⌢ Member y) p q h w) in
     let at_bracket : is_at 91 p ≡ false = rw (word-first 46 [] p parts.middle parts.one) refl in
-    rw (at_bracket, dotted-again cs p q dot off, e) refl
+    let deep : is_at 46 parts.middle ≡ false = passes-apart begins_member (is 46) (head parts.middle) member-not_dot (member-first y parts.middle q parts.two parts.two.is) in
+    rw (at_bracket, again-expect 46 p parts.middle parts.one, deep, member-cases false y parts.middle q parts.two parts.two.is off, e) refl
+segment-cases n x p q h (deep_bracketed ys e w) off =
+    let one = split (word (46 ∷ [])) (word (46 ∷ []) ⌢ Bracket n ys) p q (reads-is (Segment n x) (word (46 ∷ []) ⌢ word (46 ∷ []) ⌢ Bracket n ys) p q h w) in
+    let two = split (word (46 ∷ [])) (Bracket n ys) one.middle q one.two in
+    let at_bracket : is_at 91 p ≡ false = rw (word-first 46 [] p one.middle one.one) refl in
+    let inner : is_at 91 two.middle ≡ true = rw (bracket-first n ys two.middle q two.two) refl in
+    rw (
+      at_bracket,
+      again-expect 46 p one.middle one.one,
+      at-word 46 [] one.middle two.middle two.one,
+      past-word 46 one.middle two.middle two.one,
+      inner,
+      bracket-again true n ys two.middle q two.two,
+      e,
+    ) refl
+segment-cases n x p q h (deep_dotted y e w) off =
+    let one = split (word (46 ∷ [])) (word (46 ∷ []) ⌢ Member y) p q (reads-is (Segment n x) (word (46 ∷ []) ⌢ word (46 ∷ []) ⌢ Member y) p q h w) in
+    let two = split (word (46 ∷ [])) (Member y) one.middle q one.two in
+    let at_bracket : is_at 91 p ≡ false = rw (word-first 46 [] p one.middle one.one) refl in
+    let inner : is_at 91 two.middle ≡ false = passes-apart begins_member (is 91) (head two.middle) member-not_bracket (member-first y two.middle q two.two two.two.is) in
+    rw (
+      at_bracket,
+      again-expect 46 p one.middle one.one,
+      at-word 46 [] one.middle two.middle two.one,
+      past-word 46 one.middle two.middle two.one,
+      inner,
+      member-cases true y two.middle q two.two two.two.is off,
+      e,
+    ) refl
 
 segment-first : (n : ℕ) (x : SegmentTree) (p q : State) (h : Reads (Segment n x) p q) → Segment n x h.spans p.at h.text
     → passes begins_segment (head p) ≡ true
-segment-first n x p q h (bracketed y e w) =
-    let opened = split (word (91 ∷ [])) (Blank ⌢ Selector n y ⌢ Blank ⌢ word (93 ∷ [])) p q
-    (reads-is (Segment n x) (word (91 ∷ []) ⌢ Blank ⌢ Selector n y ⌢ Blank ⌢ word (93 ∷ [])) p q h w) in
-    rw (word-first 91 [] p opened.middle opened.one) refl
-segment-first n x p q h (dotted cs e w) =
-    let parts = split (word (46 ∷ [])) (Shorthand cs) p q (reads-is (Segment n x) (word (46 ∷ []) ⌢ Shorthand cs) p q h w) in
+segment-first n x p q h (bracketed ys e w) = rw (bracket-first n ys p q (reads-is (Segment n x) (Bracket n ys) p q h w)) refl
+segment-first n x p q h (dotted y e w) =
+    let parts = split (word (46 ∷ [])) (Member y) p q (reads-is (Segment n x) (word (46 ∷ []) ⌢ Member y) p q h w) in
+    rw (word-first 46 [] p parts.middle parts.one) refl
+segment-first n x p q h (deep_bracketed ys e w) =
+    let parts = split (word (46 ∷ [])) (word (46 ∷ []) ⌢ Bracket n ys) p q (reads-is (Segment n x) (word (46 ∷ []) ⌢ word (46 ∷ []) ⌢ Bracket n ys) p q h w) in
+    rw (word-first 46 [] p parts.middle parts.one) refl
+segment-first n x p q h (deep_dotted y e w) =
+    let parts = split (word (46 ∷ [])) (word (46 ∷ []) ⌢ Member y) p q (reads-is (Segment n x) (word (46 ∷ []) ⌢ word (46 ∷ []) ⌢ Member y) p q h w) in
     rw (word-first 46 [] p parts.middle parts.one) refl
 
 segment-not_blank : (c : ℕ) → begins_segment c ≡ true → is_blank c ≡ false

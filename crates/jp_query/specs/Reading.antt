@@ -6,7 +6,7 @@ use Rattle.jp_reading.specs.Texts.{Text}
 use Rattle.jp_reading.specs.Outcome.{State, Outcome, took, stuck, ◌>>=◌, head, past, skip, after_blank, passes, is, is_at, is_end, take_if, expect, each, item}
 use Rattle.jp_reading.specs.Numbers.{is_digit, value_from}
 use Rattle.jp_reading.specs.Views.{by}
-use Rattle.jp_query.specs.Tree.{SelectorTree, name, index, SegmentTree, segment, QueryTree, query, selectors, segments}
+use Rattle.jp_query.specs.Tree.{SelectorTree, name, wildcard, index, SegmentTree, segment, QueryTree, query, selectors, segments}
 use Rattle.jp_query.specs.Names.{is_name_first, is_name_char}
 use Rattle.jp_query.specs.Strings.{is_plain, is_escapable, escaped, is_hexdig, is_d, is_not_d, is_0_to_7, is_8_to_b, is_c_to_f, scalar_of}
 use Rattle.jp_query.specs.Ints.{is_leading_digit, whole_of, negative_of}
@@ -68,20 +68,40 @@ int_at p =
 -- a selector
 unfoldable pub selector_at : ℕ → State → Outcome SelectorTree
 selector_at n p =
-    if is_at 34 p then by name (quoted_at 34 p) else (if is_at 39 p then by name (quoted_at 39 p) else item p (by index (int_at p)))
+    if is_at 34 p then by name (quoted_at 34 p)
+    else (if is_at 39 p then by name (quoted_at 39 p) else (if is_at 42 p then took wildcard (past p) else item p (by index (int_at p))))
 
--- a selector in brackets
-unfoldable pub bracket_at : ℕ → State → Outcome SegmentTree
-bracket_at n p =
-    expect 91 p >>= λ _ q. selector_at n (skip q) >>= λ x r. expect 93 (skip r) >>= λ _ w. took (segment false (selectors (x ∷ []))) w
+-- a selector and the blanks after it
+unfoldable pub entry_at : ℕ → State → Outcome SelectorTree
+entry_at n p = selector_at n p >>= λ x q. took x (skip q)
 
--- a dot and a shorthand
-unfoldable pub dotted_at : State → Outcome SegmentTree
-dotted_at p = expect 46 p >>= λ _ q. by (λ cs. segment false (selectors (name cs ∷ []))) (shorthand_at q)
+-- a comma, blanks, and another selector
+unfoldable pub another_at : ℕ → State → Outcome SelectorTree
+another_at n p = expect 44 p >>= λ _ q. entry_at n (skip q)
+
+-- selectors with commas between them
+unfoldable pub entries_at : ℕ → State → Outcome (List SelectorTree)
+entries_at n p = entry_at n p >>= λ x q. each (is_at 44) (another_at n) q >>= λ xs r. took (x ∷ xs) r
+
+-- selectors in brackets
+unfoldable pub bracket_at : Bool → ℕ → State → Outcome SegmentTree
+bracket_at descendant n p =
+    expect 91 p >>= λ _ q. entries_at n (skip q) >>= λ xs r. expect 93 r >>= λ _ w. took (segment descendant (selectors xs)) w
+
+-- `*` or a shorthand
+unfoldable pub member_at : Bool → State → Outcome SegmentTree
+member_at descendant p =
+    by (λ y. segment descendant (selectors (y ∷ []))) (if is_at 42 p then took wildcard (past p) else by name (shorthand_at p))
+
+-- what stands behind two dots, or what a child segment is without its dot
+unfoldable pub selection_at : Bool → ℕ → State → Outcome SegmentTree
+selection_at descendant n p = if is_at 91 p then bracket_at descendant n p else member_at descendant p
 
 -- a segment
 unfoldable pub segment_at : ℕ → State → Outcome SegmentTree
-segment_at n p = if is_at 91 p then bracket_at n p else dotted_at p
+segment_at n p =
+    if is_at 91 p then bracket_at false n p
+    else (expect 46 p >>= λ _ q. if is_at 46 q then selection_at true n (past q) else member_at false q)
 
 -- whether a character begins a segment
 abbrev pub begins_segment : ℕ → Bool

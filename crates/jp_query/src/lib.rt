@@ -16,6 +16,7 @@ mod names;
 mod parsed;
 mod refusal;
 mod segments;
+mod selectors;
 mod strings;
 #[cfg(test)]
 mod tests;
@@ -24,4 +25,4 @@ mod tree;
 pub use jp_reading::Span;
 pub use parsed::{Parsed, parse};
 pub use refusal::{Refusal, RefusalKind};
-pub use tree::{Numeral, Query, Segment, Selector};
+pub use tree::{Numeral, Query, Segment, Selector, Slice};

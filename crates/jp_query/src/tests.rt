@@ -91,7 +91,11 @@ fn whole_numbers_have_their_range(rt: HostRuntime) -> Result<(), Fail> {
 fn reads_name(alloc: Global, text: &str, wanted: &str) -> Result<bool, AllocError> {
     let segments = vec![in alloc; child(alloc, name(alloc, wanted)?)?]?;
     Ok(match parse(alloc, text) {
-        Ok(parsed) => parsed.into_query() == Query { absolute: true, segments },
+        Ok(parsed) => parsed.into_query()
+            == Query {
+                absolute: true,
+                segments,
+            },
         Err(_) => false,
     })
 }
@@ -105,13 +109,55 @@ fn escapes_are_resolved(rt: HostRuntime) -> Result<(), Fail> {
         (r#"$["\u0041\u00e9\u00E9\uFfFd"]"#, "Aéé\u{fffd}"),
         (r#"$['\ud7ff\uE000\u0000']"#, "\u{d7ff}\u{e000}\u{0}"),
         (r#"$["\uD83D\uDE00"]"#, "😀"),
-        (r#"$['x\ud800\udc00\uDBFF\uDFFFx']"#, "x\u{10000}\u{10ffff}x"),
+        (
+            r#"$['x\ud800\udc00\uDBFF\uDFFFx']"#,
+            "x\u{10000}\u{10ffff}x",
+        ),
         (r#"$["'"]"#, "'"),
         (r#"$['"\u007f\u0080']"#, "\"\u{7f}\u{80}"),
     ];
     for (text, wanted) in rows {
         assert!(rt; reads_name(alloc, text, wanted)?, "{text}");
     }
+    Ok(())
+}
+
+#[test]
+fn selectors_and_descendants_are_read(rt: HostRuntime) -> Result<(), Fail> {
+    let alloc = rt.alloc();
+    let Ok(parsed) = parse(alloc, "$.*..a..*..[ * , 'b',-1 ]") else {
+        panic!(rt; "refused");
+    };
+    assert_eq!(rt;
+        parsed.spans(),
+        [Some(Span { start: 21, end: 23 })].as_slice()
+    );
+    let segments = vec![in alloc;
+        child(alloc, Selector::Wildcard)?,
+        Segment {
+            descendant: true,
+            selectors: vec![in alloc; name(alloc, "a")?]?
+        },
+        Segment {
+            descendant: true,
+            selectors: vec![in alloc; Selector::Wildcard]?
+        },
+        Segment {
+            descendant: true,
+            selectors: vec![in alloc;
+                Selector::Wildcard,
+                name(alloc, "b")?,
+                Selector::Index(Numeral::Whole(-1))
+            ]?
+        },
+    ]?;
+    assert_eq!(rt;
+        parsed.into_query(),
+        Query {
+            absolute: true,
+            segments
+        }
+    );
     Ok(())
 }
 
@@ -154,6 +200,16 @@ fn texts_are_refused_at_their_places(rt: HostRuntime) -> Result<(), Fail> {
         ("$['\u{1f}']", 3),
         ("$.1", 2),
         (" $", 0),
+        ("$[]", 2),
+        ("$[1,]", 4),
+        ("$[,1]", 2),
+        ("$[1 2]", 4),
+        ("$..", 3),
+        ("$...a", 3),
+        ("$.. a", 3),
+        ("$. .a", 2),
+        ("$.*a", 3),
+        ("$.[0]", 2),
     ];
     for (text, place) in rows {
         assert!(rt; is_refused_at(alloc, text, place), "{text:?} at {place}");
