@@ -23,7 +23,7 @@ use Rattle.jp_query.specs.declared.tree.Numeral.TheVariants.{Whole}
 use Rattle.jp_reading.specs.Numbers.{is_digit, value_from}
 use Rattle.jp_command.specs.Laws.{HasTextNames}
 use Rattle.jp_command.proofs.PathTrees.{IndexFits, IndexesFit, path_tree, step_segment}
-use Rattle.jp_reading.specs.Forms.{Blank, Each, Form, One, word, ◌⌢◌}
+use Rattle.jp_reading.specs.Forms.{Blank, Each, Form, One, Separated, word, ◌⌢◌}
 use Rattle.jp_reading.specs.Texts.{Spans, Text, bytes}
 
 -- ---- how a character is spelled, by cases
@@ -207,18 +207,26 @@ both P Q s r o t u one two = record {
 no_blank : (o : ℕ) → Blank [] o []
 no_blank o = record { none = refl; blank = tt }
 
+-- one selector is a list of selectors without a comma
+separated-one : (n : ℕ) (y : SelectorTree) (s : Spans) (p : ℕ) (t : Text) → Selector n y s p t
+    → Separated (word (44 ∷ []) ⌢ Blank) (λ x. Selector n x ⌢ Blank) (y ∷ []) ((s ++ []) ++ []) p t
+separated-one n y s p t one =
+    let same : (t ++ []) ++ [] ≡ t = append-nil (t ++ []) ∙ append-nil t in
+    subst (λ u. Separated (word (44 ∷ []) ⌢ Blank) (λ x. Selector n x ⌢ Blank) (y ∷ []) ((s ++ []) ++ []) p u) same
+    (both (Selector n y ⌢ Blank) (word []) (s ++ []) [] p (t ++ []) [] (both (Selector n y) Blank s [] p t [] one (no_blank _)) (a_word [] _))
+
 bracket-of : (n : ℕ) (y : SelectorTree) (t : Text) (o : ℕ) → ((p : ℕ) → (s : Spans) × Selector n y s p t)
     → (s : Spans) × (Blank ⌢ Segment n (segment false (selectors (y ∷ [])))) s o (91 ∷ (t ++ 93 ∷ []))
 bracket-of n y t o select =
     let at : ℕ = o + bytes [] + bytes (91 ∷ []) + bytes [] in
-    let found = select at in (
+    let found = select at in
+    let all : Form = Separated (word (44 ∷ []) ⌢ Blank) (λ x. Selector n x ⌢ Blank) (y ∷ []) in (
       _,
       both Blank (Segment n (segment false (selectors (y ∷ [])))) [] _ o [] (91 ∷ (t ++ 93 ∷ [])) (no_blank o)
-          (bracketed y refl
-          (both (word (91 ∷ [])) (Blank ⌢ Selector n y ⌢ Blank ⌢ word (93 ∷ [])) [] _ _ (91 ∷ []) (t ++ 93 ∷ []) (a_word (91 ∷ []) _)
-          (both Blank (Selector n y ⌢ Blank ⌢ word (93 ∷ [])) [] _ _ [] (t ++ 93 ∷ []) (no_blank _)
-          (both (Selector n y) (Blank ⌢ word (93 ∷ [])) found.0 _ _ t (93 ∷ []) found.1
-          (both Blank (word (93 ∷ [])) [] [] _ [] (93 ∷ []) (no_blank _) (a_word (93 ∷ []) _)))))),
+          (bracketed (y ∷ []) refl
+          (both (word (91 ∷ [])) (Blank ⌢ all ⌢ word (93 ∷ [])) [] _ _ (91 ∷ []) (t ++ 93 ∷ []) (a_word (91 ∷ []) _)
+          (both Blank (all ⌢ word (93 ∷ [])) [] _ _ [] (t ++ 93 ∷ []) (no_blank _)
+          (both all (word (93 ∷ [])) ((found.0 ++ []) ++ []) [] at t (93 ∷ []) (separated-one n y found.0 at t found.1) (a_word (93 ∷ []) _))))),
     )
 
 step-spells : (n : ℕ) (k : Key) (o : ℕ) → IndexFits k → (s : Spans) × (Blank ⌢ Segment n (step_segment k)) s o (key_chars k)
