@@ -1,1 +1,6 @@
 pub mod Segments
+pub mod PathTrees
+pub mod SpelledNames
+pub mod PathSpells
+pub mod PathBytes
+pub mod LocationLaws
