@@ -1,5 +1,5 @@
 -- What a run of a query over an input says with its answer.
-use Rattle.std.specs.Prelude.{◌≡◌, ◌⊎◌, ℕ, ◌<◌, ◌≤◌, Bool, true, List, length, Option, Result, Ok, Err}
+use Rattle.std.specs.Prelude.{◌≡◌, ◌≢◌, ◌⊎◌, ℕ, ◌<◌, ◌≤◌, Bool, true, List, length, Option, Result, Ok, Err}
 use Rattle.std.specs.Io.KnownBytes.{Appends}
 use Rattle.std.specs.Str.{chars}
 use Rattle.jp_check.specs.Accepted.{IsAcceptedAs, IsNotAccepted}
@@ -7,6 +7,7 @@ use Rattle.jp_check.specs.Refused.{IsRefused}
 use Rattle.jp_document.specs.Document.{IsDocument, IsFaultOf}
 use Rattle.jp_document.specs.Value.{Value}
 use Rattle.jp_document.specs.declared.fault.DocumentFault.{DocumentFault}
+use Rattle.jp_document.specs.declared.fault.DocumentFault.TheVariants as document
 use Rattle.jp_query.specs.Tree.{QueryTree}
 use Rattle.jp_query.specs.declared.refusal.Refusal.{Refusal}
 use Rattle.jp_query.specs.declared.refusal.RefusalKind.TheVariants.{TextTooLong}
@@ -50,12 +51,13 @@ pub record WritesFront (form : Form) (text : List ℕ) (old new before after : O
   pub document : IsDocument bytes d
   pub written : AppendsFront before after (output_of form q d)
 
--- what was read is no document, with the fault f
+-- what was read is no document, with the fault f; want of memory is none
 pub record RefusesDocument (text : List ℕ) (old new : Option (List ℕ)) (f : DocumentFault) : Type 0 where
   pub q : QueryTree
   pub bytes : List ℕ
   pub reads : Reads text old new q bytes
   pub fault : IsFaultOf bytes f
+  pub known : f ≢ document.NoMemory
 
 -- the query is asked, and more than 16,777,216 bytes came
 pub record ReadsTooMuch (text : List ℕ) (old new : Option (List ℕ)) : Type 0 where
