@@ -1,0 +1,48 @@
+-- A loop in code keeps what its rule's loop would still make of what it holds: `by f (each begins rule here)`.
+use Rattle.std.proofs.Common.{◌≡◌, Bool, true, false, List, [], ◌∷◌, ◌++◌, refl, sym, ap, ◌∙◌, append_assoc}
+use Rattle.jp_reading.specs.declared.reader.Stop.{Stop}
+use Rattle.jp_reading.specs.declared.reader.Stop.TheVariants.{Memory, Syntax, TooDeep}
+use Rattle.jp_reading.specs.Outcome.{State, Outcome, took, stuck, deep, ◌>>=◌, each}
+use Rattle.jp_reading.specs.Views.{Fails, by, with_front}
+use Rattle.jp_reading.proofs.Progress.{Progress}
+use Rattle.jp_reading.proofs.Loops.{each-on, each-off, round}
+
+by-round : {A B : Type 0} (f g : List A → B) (x : A) (o : Outcome (List A)) → ((xs : List A) → f (x ∷ xs) ≡ g xs)
+    → by f (o >>= λ xs r. took (x ∷ xs) r) ≡ by g o
+by-round f g x (took xs q) e = ap (λ y. took y q) (e xs)
+by-round f g x (stuck q) e = refl
+by-round f g x (deep q) e = refl
+
+-- a round that took x
+pub folds_on : {A B : Type 0} (begins : State → Bool) (rule : State → Outcome A) → Progress rule
+    → (f g : List A → B) (p q : State) (x : A) → begins p ≡ true → rule p ≡ took x q
+    → ((xs : List A) → f (x ∷ xs) ≡ g xs) → by f (each begins rule p) ≡ by g (each begins rule q)
+folds_on begins rule h f g p q x on e same =
+    ap (by f) (each-on begins rule h p on ∙ ap (λ o. round o (each begins rule)) e)
+    ∙ by-round f g x (each begins rule q) same
+
+-- the end of the loop
+pub folds_end : {A B : Type 0} (begins : State → Bool) (rule : State → Outcome A) (f : List A → B) (p : State)
+    → begins p ≡ false → by f (each begins rule p) ≡ took (f []) p
+folds_end begins rule f p off = ap (by f) (each-off begins rule p off)
+
+-- a rule that fails within another
+pub fails-then : {A B : Type 0} (e : Stop) (o : Outcome A) (k : A → State → Outcome B) → Fails e o → Fails e (o >>= k)
+fails-then Memory o k h = tt
+fails-then (Syntax n) (took x q) k h = elim h [ ]
+fails-then (Syntax n) (stuck q) k h = h
+fails-then (Syntax n) (deep q) k h = h
+fails-then (TooDeep n) (took x q) k h = elim h [ ]
+fails-then (TooDeep n) (stuck q) k h = h
+fails-then (TooDeep n) (deep q) k h = h
+
+-- a round that fails
+pub folds_fail : {A B : Type 0} (begins : State → Bool) (rule : State → Outcome A) → Progress rule
+    → (f : List A → B) (p : State) (e : Stop) → begins p ≡ true → Fails e (rule p) → Fails e (by f (each begins rule p))
+folds_fail begins rule h f p e on failed =
+    rw (each-on begins rule h p on) (fails-then e (round (rule p) (each begins rule)) _ (fails-then e (rule p) _ failed))
+
+-- a list that grows at its end
+pub with_front-on : {A : Type 0} (xs : List A) (x : A) (o : Outcome (List A))
+    → with_front xs (o >>= λ ys r. took (x ∷ ys) r) ≡ with_front (xs ++ x ∷ []) o
+with_front-on xs x o = by-round (λ ys. xs ++ ys) (λ ys. (xs ++ x ∷ []) ++ ys) x o (λ ys. sym (append_assoc xs (x ∷ []) ys))
