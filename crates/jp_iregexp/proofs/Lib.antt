@@ -1,2 +1,4 @@
 pub mod Languages
+pub mod Moves
+pub mod Trees
 mod Rows

@@ -1,10 +1,14 @@
 //! Patterns of I-Regexp (RFC 9485), read exactly.
 #![tactic(auto)]
 
+mod brackets;
+mod branches;
 mod category;
+mod characters;
 mod class;
 pub mod laws;
 mod pattern;
+mod quantifiers;
 
 pub use category::Category;
 pub use class::{CharClass, ClassItem};
