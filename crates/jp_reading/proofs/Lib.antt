@@ -1,6 +1,9 @@
+pub mod Between
 pub mod Chars
 pub mod Digits
 pub mod Folds
+pub mod Judging
+pub mod Levels
 pub mod Loops
 pub mod Progress
 pub mod Steps
