@@ -1,6 +1,7 @@
 pub mod Between
 pub mod Chars
 pub mod Digits
+pub mod Fits
 pub mod Folds
 pub mod Judging
 pub mod Levels
