@@ -25,17 +25,17 @@ pub record Hyphen (x : ClassItem) (s : Spans) (o : ℕ) (t : Text) : Type 0 wher
 pub data Element (x : ClassItem) (s : Spans) (o : ℕ) (t : Text) : Type 0 where
   single : (c : ℕ) → x ≡ item.Range c c → Character is_plain c s o t → Element x s o t
   range : (first last : ℕ) → x ≡ item.Range first last → first ≤ last → (Character is_plain first ⌢ word (codes "-") ⌢ Character is_plain last) s o t → Element x s o t
-  escape : Escape x s o t → Element x s o t
+  class_escape : Escape x s o t → Element x s o t
 
 -- the first item of a class: a `-` may stand there
 pub data First (x : ClassItem) (s : Spans) (o : ℕ) (t : Text) : Type 0 where
-  hyphen : Hyphen x s o t → First x s o t
-  element : Element x s o t → First x s o t
+  first_hyphen : Hyphen x s o t → First x s o t
+  first_element : Element x s o t → First x s o t
 
 -- the end of a class: a `-` may stand there
 pub data Last (xs : List ClassItem) (s : Spans) (o : ℕ) (t : Text) : Type 0 where
-  none : xs ≡ [] → word [] s o t → Last xs s o t
-  hyphen : (x : ClassItem) → xs ≡ x ∷ [] → Hyphen x s o t → Last xs s o t
+  no_hyphen : xs ≡ [] → word [] s o t → Last xs s o t
+  last_hyphen : (x : ClassItem) → xs ≡ x ∷ [] → Hyphen x s o t → Last xs s o t
 
 -- the items of a class in the text's order
 pub record Items (xs : List ClassItem) (s : Spans) (o : ℕ) (t : Text) : Type 0 where
@@ -62,14 +62,18 @@ pub record Number (n : ℕ) (s : Spans) (o : ℕ) (t : Text) : Type 0 where
   pub small : n ≤ 999999999
   pub is : Digits digits s o t
 
+-- how often at most, behind how often at least: as often, with no upper end, or up to another number
+pub data Most (least : ℕ) (most : Option ℕ) (s : Spans) (o : ℕ) (t : Text) : Type 0 where
+  exactly : most ≡ Some least → word [] s o t → Most least most s o t
+  from : most ≡ None → word (codes ",") s o t → Most least most s o t
+  to : (n : ℕ) → most ≡ Some n → least ≤ n → (word (codes ",") ⌢ Number n) s o t → Most least most s o t
+
 -- quantifier: how often at least, and how often at most or with no upper end
 pub data Quantifier (least : ℕ) (most : Option ℕ) (s : Spans) (o : ℕ) (t : Text) : Type 0 where
   any : least ≡ 0 → most ≡ None → word (codes "*") s o t → Quantifier least most s o t
   some : least ≡ 1 → most ≡ None → word (codes "+") s o t → Quantifier least most s o t
   optional : least ≡ 0 → most ≡ Some 1 → word (codes "?") s o t → Quantifier least most s o t
-  exactly : most ≡ Some least → (word (codes "{") ⌢ Number least ⌢ word (codes "}")) s o t → Quantifier least most s o t
-  from : most ≡ None → (word (codes "{") ⌢ Number least ⌢ word (codes ",}")) s o t → Quantifier least most s o t
-  between : (n : ℕ) → most ≡ Some n → least ≤ n → (word (codes "{") ⌢ Number least ⌢ word (codes ",") ⌢ Number n ⌢ word (codes "}")) s o t → Quantifier least most s o t
+  braces : (word (codes "{") ⌢ Number least ⌢ Most least most ⌢ word (codes "}")) s o t → Quantifier least most s o t
 
 -- the class of one character
 abbrev pub one : ℕ → Tree
@@ -84,7 +88,7 @@ module _ (Group : Tree → Form) where
   pub data Atom (x : Tree) (s : Spans) (o : ℕ) (t : Text) : Type 0 where
     character : (c : ℕ) → x ≡ one c → Character is_normal c s o t → Atom x s o t
     anything : x ≡ dot → word (codes ".") s o t → Atom x s o t
-    escape : (i : ClassItem) → x ≡ class false (i ∷ []) → Escape i s o t → Atom x s o t
+    category : (i : ClassItem) → x ≡ class false (i ∷ []) → Escape i s o t → Atom x s o t
     brackets : Class x s o t → Atom x s o t
     group : (word (codes "(") ⌢ Group x ⌢ word (codes ")")) s o t → Atom x s o t
 
@@ -112,4 +116,5 @@ Inside (suc n) x = Branches (Inside n) x
 
 -- a text spells a pattern with at most n groups inside one another
 pub record SpellsPattern (n : ℕ) (x : Tree) (text : Text) : Type 0 where
-  pub is : Branches (Inside n) x [] 0 text
+  pub spans : Spans
+  pub is : Branches (Inside n) x spans 0 text
