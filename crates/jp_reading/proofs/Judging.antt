@@ -6,7 +6,7 @@ use Rattle.std.specs.List.{insert}
 use Rattle.jp_reading.specs.declared.span.Span.{Span}
 use Rattle.jp_reading.specs.Texts.{Spans, bytes}
 use Rattle.jp_reading.specs.Forms.{Form, ◌⌢◌, word, Blank, Item}
-use Rattle.jp_reading.specs.Outcome.{State, Outcome, took, stuck, deep, ◌>>=◌, head, past, skip, is, take_passing, take_if, expect, loop, each, item}
+use Rattle.jp_reading.specs.Outcome.{State, Outcome, took, stuck, deep, ◌>>=◌, head, past, skip, is, take_passing, take_if, expect, loop, each, item_since, item}
 use Rattle.jp_reading.specs.Views.{by}
 use Rattle.jp_reading.proofs.Between.{Reads, Stops, Passes, Has, Within, Rule, Judged, between-same, reads-then, front-then, front-first, reads-as, front-as, front-none, has-as, joined-over}
 use Rattle.jp_reading.proofs.Steps.{past-way, skip-way}
@@ -63,6 +63,22 @@ pub span_inserted : (before inside found : Spans) (a b : Span) → found ≡ bef
     → insert found (length before) (Some a) ≡ before ++ (Some b ∷ inside)
 span_inserted before inside found a b e same =
     rw (e, same, take-append_seam before inside, drop-append_seam before inside) refl
+
+-- an item ends where its text does
+pub reads-item : (P : Form) (p q : State) → Reads P p q → Reads (Item P) p (item_since p.at (length p.found) q)
+reads-item P p q h =
+    let span : Span = record { start = p.at; end = p.at + bytes h.text } in
+    record {
+      spans = Some span ∷ h.spans;
+      text = h.text;
+      way = record {
+        rest = h.way.rest;
+        at = h.way.at;
+        found = span_inserted p.found h.spans q.found (record { start = p.at; end = q.at }) span h.way.found
+            (ap (λ (e : ℕ). record { start = p.at; end = e }) h.way.at);
+      };
+      is = record { inside = h.spans; spans = refl; is = h.is };
+    }
 
 -- ---- rules
 
@@ -258,22 +274,7 @@ judged-separated w has R p o begins rule h g =
 
 -- an item
 pub judged-item : {A : Type 0} (R : Rule A) (p : State) (o : Outcome A) → Judged R p o → Judged (item_rule R) p (item p o)
-judged-item R p (took x q) h =
-    let read = h.is in
-    record {
-      is = record {
-        spans = Some (record { start = p.at; end = p.at + bytes read.text }) ∷ read.spans;
-        text = read.text;
-        way = record {
-          rest = read.way.rest;
-          at = read.way.at;
-          found = span_inserted p.found read.spans q.found (record { start = p.at; end = q.at })
-              (record { start = p.at; end = p.at + bytes read.text }) read.way.found
-              (ap (λ (e : ℕ). record { start = p.at; end = e }) read.way.at);
-        };
-        is = record { inside = read.spans; spans = refl; is = read.is };
-      };
-    }
+judged-item R p (took x q) h = record { is = reads-item (R.here x) p q h.is }
 judged-item R p (stuck r) h = record { is = stops-item R.here p r h.is }
 judged-item R p (deep r) h = record {
   is = (stops-item R.here p r h.is.0, record { next = h.is.1.next; stops = stops-item R.deeper p (past r) h.is.1.stops });

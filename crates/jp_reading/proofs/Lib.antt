@@ -1,3 +1,4 @@
+pub mod Again
 pub mod Between
 pub mod Chars
 pub mod Digits
@@ -7,4 +8,5 @@ pub mod Judging
 pub mod Levels
 pub mod Loops
 pub mod Progress
+pub mod Runs
 pub mod Steps
