@@ -7,3 +7,4 @@ pub mod Characters
 pub mod Codes
 pub mod Grammar
 pub mod Reading
+pub mod Spelled

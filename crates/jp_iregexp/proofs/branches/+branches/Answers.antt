@@ -13,8 +13,8 @@ branch-returns-in_err-next t c =
     let p = err_from_is_err_and c.from_residual.result c.from_residual.ensures.1 in
     rw (p.1, p.2, c.pieces.invariant)
     (folds_fail (λ q. passes begins_piece (head q)) (piece_at (inside_at c.args.groups)) (moves-piece (inside_at c.args.groups) (keeps-inside c.args.groups))
-        (λ xs. pieces (map tree c.pieces.pieces.items ++ xs)) c.pieces.reader c.in_err-next.field-0.0
-        (sym c.is_at.ensures ∙ c.pieces-test.true) c.in_err-next.ensures)
+    (λ xs. pieces (map tree c.pieces.pieces.items ++ xs)) c.pieces.reader c.in_err-next.field-0.0
+    (sym c.is_at.ensures ∙ c.pieces-test.true) c.in_err-next.ensures)
 
 pub branch-pieces-smaller : goal.branch-pieces-smaller
 branch-pieces-smaller t c =
@@ -40,8 +40,8 @@ branches-returns-in_err-next t c =
     let p = err_from_is_err_and c.from_residual-in_err-next.result c.from_residual-in_err-next.ensures.1 in
     rw (p.1, p.2, c.branches.invariant)
     (folds_fail (is_at 124) (next_branch_at (inside_at c.args.groups)) (moves-next_branch (inside_at c.args.groups) (keeps-inside c.args.groups))
-        (λ xs. branches (map tree c.branches.branches.items ++ xs)) c.branches.reader c.in_err-next.field-0.0
-        (sym c.is_at.ensures ∙ c.branches-test.true) c.in_err-next.ensures)
+    (λ xs. branches (map tree c.branches.branches.items ++ xs)) c.branches.reader c.in_err-next.field-0.0
+    (sym c.is_at.ensures ∙ c.branches-test.true) c.in_err-next.ensures)
 
 pub branches-branches-smaller : goal.branches-branches-smaller
 branches-branches-smaller t c =
