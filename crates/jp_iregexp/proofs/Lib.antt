@@ -3,6 +3,7 @@ pub mod CodeLemmas
 pub mod Deeper
 pub mod Languages
 pub mod Moves
+pub mod NoSpans
 pub mod SpeltCharacters
 pub mod SpeltClasses
 pub mod SpeltPatterns

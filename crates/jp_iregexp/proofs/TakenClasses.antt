@@ -14,7 +14,7 @@ use Rattle.jp_iregexp.specs.declared.class.ClassItem.TheVariants as item
 use Rattle.jp_iregexp.specs.Characters.{Character, is_plain}
 use Rattle.jp_iregexp.specs.Tree.{class}
 use Rattle.jp_iregexp.specs.Grammar as grammar
-use Rattle.jp_iregexp.specs.Grammar.{Escape, Hyphen, Element, First, Last, Items, Uncareted, Class, Number, Most, Quantifier, one, dot, Atom, Piece, Branch, Branches, Inside, SpellsPattern}
+use Rattle.jp_iregexp.specs.Grammar.{Escape, Hyphen, Element, First, Last, Items, NotAtCaret, Class, Number, Most, Quantifier, one, dot, Atom, Piece, Branch, Branches, Inside, SpellsPattern}
 use Rattle.jp_iregexp.specs.Reading.{character_at, is_category_sign, category_at, is_at_category, range_at, element_at, begins_element, elements_at, hyphen_at, first_at, last_at, items_at, class_at}
 use Rattle.jp_iregexp.proofs.TakenCharacters.{both, next, words, fits-character, fits-category}
 
@@ -103,9 +103,9 @@ fits-class p =
           (reads-then (word (codes "[^")) (Items xs ⌢ word (codes "]")) p (past q) m (words (codes "[") (codes "^") p q (past q) opening (next 94 q caret))
           (reads-then (Items xs) (word (codes "]")) (past q) u m items end))))
       | inr none ↦ rw none (fits-class-rest false p q q (λ xs u items m end.
-          reads-as (word (codes "[") ⌢ Uncareted xs ⌢ word (codes "]")) (Class (class false xs)) p m (λ s o t g. grammar.plain xs refl g)
-          (reads-then (word (codes "[")) (Uncareted xs ⌢ word (codes "]")) p q m opening
-          (reads-then (Uncareted xs) (word (codes "]")) q u m
+          reads-as (word (codes "[") ⌢ NotAtCaret xs ⌢ word (codes "]")) (Class (class false xs)) p m (λ s o t g. grammar.plain xs refl g)
+          (reads-then (word (codes "[")) (NotAtCaret xs ⌢ word (codes "]")) p q m opening
+          (reads-then (NotAtCaret xs) (word (codes "]")) q u m
           (record {
             spans = items.spans;
             text = items.text;
