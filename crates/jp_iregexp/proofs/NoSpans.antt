@@ -1,38 +1,17 @@
 -- A pattern has no items, so its text has no spans.
-use Rattle.std.proofs.Common.{◌≡◌, ℕ, ◌+◌, List, [], ◌∷◌, ◌++◌, Option, Bool, zero, suc, refl, ◌∙◌}
-use Rattle.jp_reading.specs.Texts.{Text, Spans, bytes}
-use Rattle.jp_reading.specs.Forms.{Form, ◌⌢◌, word, One, Each, Separated}
+use Rattle.std.proofs.Common.{◌≡◌, ℕ, List, [], Option, Bool, zero, suc}
+use Rattle.jp_reading.specs.Texts.{Text, Spans}
+use Rattle.jp_reading.proofs.Bare.{Bare, bare-word, bare-one, bare-joined, bare-each, bare-separated}
+use Rattle.jp_reading.specs.Forms.{Form, One, Each}
 use Rattle.jp_iregexp.specs.declared.class.ClassItem.{ClassItem}
 use Rattle.jp_iregexp.specs.Characters.{Character, itself, escaped}
 use Rattle.jp_iregexp.specs.Tree.{Tree}
 use Rattle.jp_iregexp.specs.Grammar as grammar
 use Rattle.jp_iregexp.specs.Grammar.{Escape, Hyphen, Element, First, Last, Items, Class, Number, Most, Quantifier, Atom, Piece, Branch, Branches, Inside}
 
--- no text of the form has a span
-abbrev Bare : Form → Type 0
-Bare P = (s : Spans) (o : ℕ) (t : Text) → P s o t → s ≡ []
-
-bare-word : (w : Text) → Bare (word w)
-bare-word w s o t h = h.none
-
-bare-joined : (P Q : Form) → Bare P → Bare Q → Bare (P ⌢ Q)
-bare-joined P Q f g s o t h =
-    let one = f h.first_spans o h.first h.one in
-    let two = g h.second_spans (o + bytes h.first) h.second h.two in
-    h.spans ∙ rw (one, two) refl
-
-bare-each : {A : Type 0} (F : A → Form) → ((x : A) → Bare (F x)) → (xs : List A) → Bare (Each F xs)
-bare-each F f [] = bare-word []
-bare-each F f (x ∷ xs) = bare-joined (F x) (Each F xs) (f x) (bare-each F f xs)
-
-bare-separated : {A : Type 0} (P : Form) (F : A → Form) → Bare P → ((x : A) → Bare (F x)) → (xs : List A) → Bare (Separated P F xs)
-bare-separated P F g f [] s o t h = elim h [ ]
-bare-separated P F g f (x ∷ xs) s o t h =
-    bare-joined (F x) (Each (λ y. P ⌢ F y) xs) (f x) (bare-each (λ y. P ⌢ F y) (λ y. bare-joined P (F y) g (f y)) xs) s o t h
-
 bare-character : (plain : ℕ → Bool) (c : ℕ) → Bare (Character plain c)
 bare-character plain c s o t (itself h) = h.none
-bare-character plain c s o t (escaped e is h) = bare-joined _ (One _ e) (bare-word _) (λ s o t g. g.none) s o t h
+bare-character plain c s o t (escaped e is h) = bare-joined _ (One _ e) (bare-word _) (bare-one _ e) s o t h
 
 bare-escape : (x : ClassItem) → Bare (Escape x)
 bare-escape x s o t (grammar.within k e h) = bare-joined _ _ (bare-word _) (bare-joined _ _ (bare-word _) (bare-word _)) s o t h

@@ -8,7 +8,7 @@ use Rattle.jp_reading.specs.Forms.{◌⌢◌, word, One, Each}
 use Rattle.jp_reading.specs.Outcome.{State, took, head, first_of, past, past_first, passes, is, is_at, expect}
 use Rattle.jp_reading.proofs.Steps.{head-is, is_at-other}
 use Rattle.jp_reading.proofs.Between.{Reads, reads-then, reads-is}
-use Rattle.jp_reading.proofs.Again.{Starts, Split, split, reads-none, word-first, one-first, again-expect, again-each, at-word, past-word}
+use Rattle.jp_reading.proofs.Again.{split-word, Starts, Split, split, reads-none, word-first, one-first, again-expect, again-each, at-word, past-word}
 use Rattle.jp_iregexp.specs.declared.class.ClassItem.{ClassItem}
 use Rattle.jp_iregexp.specs.declared.class.ClassItem.TheVariants as item
 use Rattle.jp_iregexp.specs.Characters.{Character, itself, escaped, is_plain, is_escaped}
@@ -17,7 +17,7 @@ use Rattle.jp_iregexp.specs.Grammar as grammar
 use Rattle.jp_iregexp.specs.Grammar.{Escape, Hyphen, Element, First, Last, Items, NotAtCaret, Class, Number, Most, Quantifier, one, dot, Atom, Piece, Branch, Branches, Inside, SpellsPattern}
 use Rattle.jp_iregexp.specs.Reading.{is_category_sign, is_at_category, range_at, element_at, begins_element, elements_at, hyphen_at, first_at, last_at, items_at, negation_at, class_at}
 use Rattle.jp_iregexp.proofs.Moves.{moves-element}
-use Rattle.jp_iregexp.proofs.SpeltCharacters.{split-word, plain-element, plain-no-backslash, escaped-no-sign, again-character, again-escape, Escaped}
+use Rattle.jp_iregexp.proofs.SpeltCharacters.{plain-element, plain-no-backslash, escaped-no-sign, again-character, again-escape, Escaped}
 
 -- the text behind the first character
 abbrev behind : Text → Text
