@@ -1,4 +1,5 @@
-mod Rows
+mod ClassRows
+mod PatternRows
 pub mod CodeLemmas
 pub mod Deeper
 pub mod Languages
