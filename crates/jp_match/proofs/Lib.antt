@@ -1,3 +1,5 @@
 pub mod Cuts
+pub mod Growing
 pub mod Reaching
+pub mod Repeats
 pub mod Shift

@@ -4,7 +4,7 @@ ghost use Rattle.std.specs.Prelude.{◌≡◌, ◌↔◌, ◌≤◌, suc, OnOk, 
 ghost use Rattle.std.specs.Str.{chars};
 ghost use Rattle.jp_iregexp.specs.Tree.{tree, pieces, branches, repeat};
 ghost use Rattle.jp_iregexp.specs.Language.{Language, Power};
-ghost use Rattle.jp_match.specs.Counts.{AreCountsAbove, Times};
+ghost use Rattle.jp_match.specs.Counts.{IsMostAfter, Times};
 ghost use Rattle.jp_match.specs.Part.{HasPart};
 ghost use Rattle.jp_match.specs.Place.{Marked, IsImage};
 
@@ -136,7 +136,7 @@ fn repeat_image(
     ensures image { OnOk result (IsImage (Language (repeat (tree inner.now) least most)) text.now places.old.items places.new.items) }
     ensures counted { tests.old ≤ tests.new }
 {
-    let Some(more) = most_above(most, least) else {
+    let Some(more) = most_after(most, least) else {
         clear(places);
         return Ok(());
     };
@@ -144,13 +144,14 @@ fn repeat_image(
     at_most_image(inner, more, text, places, spare, tests)
 }
 
-/// The most above the least, where there is one; none where no count is allowed.
-fn most_above(most: Option<u32>, least: u32) -> Option<Option<u32>>
-    ensures { AreCountsAbove least most result }
+/// The most words that may still follow once some are taken, where there is a most; none where so many may not
+/// be taken.
+fn most_after(most: Option<u32>, taken: u32) -> Option<Option<u32>>
+    ensures { IsMostAfter most taken result }
 {
     match most {
         None => Some(None),
-        Some(most) => Some(Some(most.checked_sub(least)?)),
+        Some(most) => Some(Some(most.checked_sub(taken)?)),
     }
 }
 
@@ -199,11 +200,10 @@ fn at_most_image(
     let mut left = most;
     while is_any(places) {
         unite(&mut reached, places);
-        left = match left {
-            Some(0) => break,
-            Some(more) => Some(more - 1),
-            None => None,
+        let Some(fewer) = most_after(left, 1) else {
+            break;
         };
+        left = fewer;
         image(inner, text, places, spare, tests)?;
         remove(places, &reached);
     }
