@@ -1,5 +1,6 @@
 //! Laws about the definitions, each the contract of a function that does nothing.
 
+ghost use Rattle.jp_iregexp.specs.Spelled.{OnePattern};
 ghost use Rattle.jp_iregexp.specs.Laws.{BranchesUnite, SequencesCut, RepeatsCut};
 
 /// What the words of a pattern are (RFC 9485, section 4): of an `Either` those of each branch, of a
@@ -9,4 +10,9 @@ pub fn languages()
     ensures branches { BranchesUnite }
     ensures sequences { SequencesCut }
     ensures repeats { RepeatsCut }
+{}
+
+/// No text spells two patterns (RFC 9485, section 3).
+pub fn one_pattern()
+    ensures { OnePattern }
 {}

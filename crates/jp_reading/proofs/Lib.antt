@@ -1,6 +1,12 @@
+pub mod Again
+pub mod Between
 pub mod Chars
 pub mod Digits
+pub mod Fits
 pub mod Folds
+pub mod Judging
+pub mod Levels
 pub mod Loops
 pub mod Progress
+pub mod Runs
 pub mod Steps

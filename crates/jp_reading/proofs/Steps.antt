@@ -1,6 +1,11 @@
--- What single steps of a rule do: taking a character, or stopping at it.
-use Rattle.std.proofs.Common.{◌≡◌, ℕ, Bool, true, false, Option, Some, None, refl}
-use Rattle.jp_reading.specs.Outcome.{State, took, stuck, head, past, passes, take_passing, take_if}
+-- What single steps of a rule do: taking a character, or stopping at it; and passing blanks.
+use Rattle.std.proofs.Common.{◌≡◌, ℕ, ◌+◌, Bool, true, false, [], ◌∷◌, Option, Some, None, inl, inr, refl, sym, ap, append-nil, arith}
+use Rattle.std.proofs.lemmas.Bool.{cases_Bool}
+use Rattle.std.specs.Char.{len_utf8}
+use Rattle.jp_reading.specs.Texts.{Text, Spans, is_blank}
+use Rattle.jp_reading.specs.Forms.{Blank}
+use Rattle.jp_reading.proofs.Between.{Between, Reads, between-same, between-then}
+use Rattle.jp_reading.specs.Outcome.{State, took, stuck, head, first_of, past, past_first, past_blanks, skip, passes, take_passing, take_if}
 
 take_passing-takes : (ok : ℕ → Bool) (p : State) (o : Option ℕ) (c : ℕ) → o ≡ Some c → ok c ≡ true
     → take_passing ok p o ≡ took c (past p)
@@ -17,3 +22,46 @@ take_passing-stops ok p (Some c) h = rw h refl
 -- where none passes the rule is stuck
 pub take_if-stops : (ok : ℕ → Bool) (p : State) → passes ok (head p) ≡ false → take_if ok p ≡ stuck p
 take_if-stops ok p h = take_passing-stops ok p (head p) h
+
+past_first-way : (at : ℕ) (found : Spans) (t : Text) (c : ℕ) → first_of t ≡ Some c
+    → Between (record { at = at; rest = t; found = found }) [] (c ∷ []) (past_first at found t)
+past_first-way at found [] c e = cc
+past_first-way at found (d ∷ t) c e =
+    let same : d ≡ c = cc in
+    record { rest = ap (λ x. x ∷ t) same; at = rw same (omega arith); found = sym (append-nil found) }
+
+-- past a character lies that character
+pub past-way : (p : State) (c : ℕ) → head p ≡ Some c → Between p [] (c ∷ []) (past p)
+past-way p c e = past_first-way p.at p.found p.rest c e
+
+past_blanks-way : (at : ℕ) (found : Spans) (t : Text)
+    → Reads Blank (record { at = at; rest = t; found = found }) (past_blanks at found t)
+unfolding past_blanks
+past_blanks-way at found [] = record {
+  spans = [];
+  text = [];
+  way = between-same (record { at = at; rest = []; found = found });
+  is = record { none = refl; blank = tt };
+}
+past_blanks-way at found (c ∷ t) =
+    elim (cases_Bool (is_blank c)) [
+      | inl blank ↦ rw blank (let p : State = record { at = at; rest = c ∷ t; found = found } in
+          let q : State = record { at = at + len_utf8 c; rest = t; found = found } in
+          let more = past_blanks-way (at + len_utf8 c) found t in
+          record {
+            spans = more.spans;
+            text = c ∷ more.text;
+            way = between-then p q (past_blanks (at + len_utf8 c) found t) [] more.spans (c ∷ []) more.text (past-way p c refl) more.way;
+            is = record { none = more.is.none; blank = (blank, more.is.blank) };
+          })
+      | inr other ↦ rw other (record {
+        spans = [];
+        text = [];
+        way = between-same (record { at = at; rest = c ∷ t; found = found });
+        is = record { none = refl; blank = tt };
+      })
+    ]
+
+-- blanks lie between a reader and where it stands once they are skipped
+pub skip-way : (p : State) → Reads Blank p (skip p)
+skip-way p = past_blanks-way p.at p.found p.rest

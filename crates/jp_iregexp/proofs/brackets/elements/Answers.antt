@@ -1,0 +1,31 @@
+use Rattle.std.proofs.Common.{◌≡◌, ◌<◌, length, refl, rules, sym, ◌∙◌, ap, append_assoc, append-nil, ◌++◌, ◌∷◌, [], arith}
+use Rattle.std.proofs.lemmas.Result.{err_from_is_err_and}
+use Rattle.jp_reading.specs.Outcome.{took, is_at, passes, head}
+use Rattle.jp_reading.proofs.Folds.{folds_on, folds_end, folds_fail}
+use Rattle.jp_iregexp.specs.Reading.{element_at, begins_element}
+use Rattle.jp_iregexp.proofs.Moves.{moves-element, moved}
+use Rattle.jp_iregexp.proofs.brackets.elements.Goals as goal
+
+pub returns-in_err-next : goal.returns-in_err-next
+returns-in_err-next c =
+    let p = err_from_is_err_and c.from_residual.result c.from_residual.ensures.1 in
+    rw (p.1, p.2, c.elements.invariant)
+    (folds_fail (λ q. passes begins_element (head q)) element_at moves-element (λ ys. c.elements.items.items ++ ys) c.elements.reader c.in_err-next.field-0.0
+    (sym c.is_at.ensures ∙ c.elements-test.true) c.in_err-next.ensures)
+
+pub elements-smaller : goal.elements-smaller
+elements-smaller c = moved element_at moves-element c.elements.reader c.element.new.reader c.in_ok-next.next c.in_ok-next.ensures
+
+pub elements-preserved : goal.elements-preserved
+elements-preserved c =
+    let pushed : c.push.new.self.items ≡ c.elements.items.items ++ c.in_ok-next.next ∷ [] = search rules in
+    c.elements.invariant
+    ∙ folds_on (λ q. passes begins_element (head q)) element_at moves-element (λ ys. c.elements.items.items ++ ys) (λ ys. c.push.new.self.items ++ ys)
+    c.elements.reader c.element.new.reader c.in_ok-next.next (sym c.is_at.ensures ∙ c.elements-test.true) c.in_ok-next.ensures
+    (λ ys. rw pushed (sym (append_assoc c.elements.items.items (c.in_ok-next.next ∷ []) ys)))
+
+pub returns : goal.returns
+returns c =
+    c.elements.invariant
+    ∙ folds_end (λ q. passes begins_element (head q)) element_at (λ ys. c.elements.items.items ++ ys) c.elements.reader (sym c.is_at.ensures ∙ c.elements-test.false)
+    ∙ ap (λ xs. took xs c.elements.reader) (append-nil c.elements.items.items)
