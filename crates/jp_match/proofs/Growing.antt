@@ -44,8 +44,8 @@ leads_on L text reached now closed zero place r = inl (still_reached text reache
 leads_on L text reached now closed (suc k) place r =
     let way = halfway L (Power L k) text reached place r in
     elim (closed way.middle way.first) [
-      inl old ↦ elim (leads_on L text reached now closed k place (way.second reached old)) [
-        inl marked ↦ inl marked
+      | inl old ↦ elim (leads_on L text reached now closed k place (way.second reached old)) [
+        | inl marked ↦ inl marked
         | inr on ↦ inr (record { words = on.words; fewer = omega (arith, on.fewer); way = on.way })
       ]
       | inr new ↦ inr (record { words = k; fewer = omega arith; way = way.second now new })
@@ -81,13 +81,13 @@ from_now L text now united stepped next left fewer h kept step fresh closed (suc
     let count : suc k ≡ 1 + k = omega arith in
     let few = (at_most_after left 1 fewer k h).1 (subst (IsAtMost left) count within) in
     elim (marked_or_not united way.middle) [
-      inl marked ↦ elim (leads_on L text united next closed k place (way.second united marked)) [
-        inl there ↦ inl there
+      | inl marked ↦ elim (leads_on L text united next closed k place (way.second united marked)) [
+        | inl there ↦ inl there
         | inr on ↦ inr (reached_as (Power L on.words) (Times L fewer) text next place on.way (on.words, at_most_below fewer k on.words on.fewer few, on.way.holds))
       ]
       | inr not ↦
-        let r' = way.second next (fresh way.middle ((step.reached way.middle).1 way.first) not) in
-        inr (reached_as (Power L k) (Times L fewer) text next place r' (k, few, r'.holds))
+          let r' = way.second next (fresh way.middle ((step.reached way.middle).1 way.first) not) in
+          inr (reached_as (Power L k) (Times L fewer) text next place r' (k, few, r'.holds))
     ]
 
 -- where no word may be taken, only the places themselves are reached
@@ -103,27 +103,27 @@ pub grows_more : (L : List ℕ → Type 0) (text : List ℕ) (first : List Bool)
     Grows L text first most fewer united next
 grows_more L text first most left fewer reached now united stepped next so_far h united_long both step next_long rest =
     let closed : (place : ℕ) → Reached L text united place → Marked united place ⊎ Marked next place =
-      λ place r. elim (marked_or_not united place) [
-        inl marked ↦ inl marked
-        | inr fresh ↦ elim ((both (length r.before)).0 r.begins) [
-          inl old ↦ inl ((both place).1 (so_far.closed place (record { before = r.before; word = r.word; after = r.after; is = r.is; begins = old; holds = r.holds; ends = r.ends })))
-          | inr new ↦ inr ((rest place).1 ((step.reached place).1 (record { before = r.before; word = r.word; after = r.after; is = r.is; begins = new; holds = r.holds; ends = r.ends }), fresh))
-        ]
+    λ place r. elim (marked_or_not united place) [
+      | inl marked ↦ inl marked
+      | inr fresh ↦ elim ((both (length r.before)).0 r.begins) [
+        | inl old ↦ inl ((both place).1 (so_far.closed place (record { before = r.before; word = r.word; after = r.after; is = r.is; begins = old; holds = r.holds; ends = r.ends })))
+        | inr new ↦ inr ((rest place).1 ((step.reached place).1 (record { before = r.before; word = r.word; after = r.after; is = r.is; begins = new; holds = r.holds; ends = r.ends }), fresh))
       ]
+    ]
     in
     record {
       reached_length = united_long ∙ so_far.reached_length;
       now_length = next_long ∙ step.same_length ∙ so_far.now_length;
       each = λ place. (
         λ e. elim e [
-          inl marked ↦ elim ((both place).0 marked) [
-            inl old ↦ (so_far.each place).0 (inl old)
+          | inl marked ↦ elim ((both place).0 marked) [
+            | inl old ↦ (so_far.each place).0 (inl old)
             | inr new ↦ (so_far.each place).0 (inr (by_no_word L text now left place so_far.now_length new))
           ]
           | inr r ↦ (so_far.each place).0 (inr (by_one_more L text now stepped next left fewer place h step (λ p m. ((rest p).0 m).0) r))
         ],
         λ r. elim ((so_far.each place).1 r) [
-          inl old ↦ inl ((both place).1 (inl old))
+          | inl old ↦ inl ((both place).1 (inl old))
           | inr on ↦ from_now L text now united stepped next left fewer h (λ p m. (both p).1 (inr m)) step (λ p m not. (rest p).1 (m, not)) closed on.holds.0 place on.holds.1 (reached_as (Times L left) (Power L on.holds.0) text now place on on.holds.2)
         ],
       );
@@ -148,11 +148,11 @@ grows_last L text first most left reached now united long so_far h united_long b
   same_length = united_long ∙ so_far.reached_length ∙ sym long;
   reached = λ place. (
     λ marked. elim ((both place).0 marked) [
-      inl old ↦ (so_far.each place).0 (inl old)
+      | inl old ↦ (so_far.each place).0 (inl old)
       | inr new ↦ (so_far.each place).0 (inr (by_no_word L text now left place so_far.now_length new))
     ],
     λ r. elim ((so_far.each place).1 r) [
-      inl old ↦ (both place).1 (inl old)
+      | inl old ↦ (both place).1 (inl old)
       | inr on ↦ (both place).1 (inr (still_now L text now left place h on.holds.0 on.holds.1 (reached_as (Times L left) (Power L on.holds.0) text now place on on.holds.2)))
     ],
   );

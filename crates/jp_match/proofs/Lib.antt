@@ -1,4 +1,5 @@
 pub mod Cuts
+pub mod Ends
 pub mod Growing
 pub mod Reaching
 pub mod Repeats

@@ -93,11 +93,11 @@ image_joined L M text a b c ab bc = record {
   same_length = bc.same_length ∙ ab.same_length;
   reached = λ place. (
     λ marked.
-      let second = (bc.reached place).0 marked in
-      onward L M text a b place second ((ab.reached (length second.before)).0 second.begins),
+        let second = (bc.reached place).0 marked in
+        onward L M text a b place second ((ab.reached (length second.before)).0 second.begins),
     λ r.
-      let way = halfway L M text a place r in
-      (bc.reached place).1 (way.second b ((ab.reached way.middle).1 way.first)),
+        let way = halfway L M text a place r in
+        (bc.reached place).1 (way.second b ((ab.reached way.middle).1 way.first)),
   );
 }
 
@@ -148,16 +148,16 @@ pub covers_more : (whole L M : List ℕ → Type 0) (text : List ℕ) (from reac
 covers_more whole L M text from reached now next so_far step both = record {
   each = λ place. (
     λ h. elim h [
-      inl marked ↦ elim ((both place).0 marked) [
-        inl old ↦ (so_far.each place).0 (inl old)
+      | inl marked ↦ elim ((both place).0 marked) [
+        | inl old ↦ (so_far.each place).0 (inl old)
         | inr new ↦ (so_far.each place).0 (inr (reached_by L (λ w. L w ⊎ M w) text from place (λ w l. inl l) ((step.reached place).0 new)))
       ]
       | inr r ↦ (so_far.each place).0 (inr (reached_by M (λ w. L w ⊎ M w) text from place (λ w m. inr m) r))
     ],
     λ r. elim ((so_far.each place).1 r) [
-      inl old ↦ inl ((both place).1 (inl old))
+      | inl old ↦ inl ((both place).1 (inl old))
       | inr r ↦ elim r.holds [
-        inl l ↦ inl ((both place).1 (inr ((step.reached place).1 (reached_as (λ w. L w ⊎ M w) L text from place r l))))
+        | inl l ↦ inl ((both place).1 (inr ((step.reached place).1 (reached_as (λ w. L w ⊎ M w) L text from place r l))))
         | inr m ↦ inr (reached_as (λ w. L w ⊎ M w) M text from place r m)
       ]
     ],

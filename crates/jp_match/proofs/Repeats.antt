@@ -5,7 +5,7 @@ use Rattle.jp_iregexp.specs.Language.{Joined, Power, IsAtMost, Language}
 use Rattle.jp_iregexp.specs.Tree.{Tree, repeat}
 use Rattle.jp_match.specs.Counts.{Times, IsMostAfter}
 use Rattle.jp_match.specs.Place.{Marked, Reached, IsImage}
-use Rattle.jp_match.proofs.Reaching.{Halfway, halfway, image_by, image_none, reached_as, onward, reached_by, reached_still, still_reached, image_joined, image_still}
+use Rattle.jp_match.proofs.Reaching.{Completes, Halfway, halfway, image_by, image_none, reached_as, onward, reached_by, reached_still, still_reached, image_joined, image_still}
 
 -- so many words are first some of them and then the others
 pub power_split : (L : List ℕ → Type 0) (m n s : ℕ) (w : List ℕ) → s ≡ m + n → Power L s w → Joined (Power L m) (Power L n) w
@@ -67,15 +67,23 @@ image_repeat a least most after text x y z h first second =
     image_by (Joined (Power (Language a) least) (Times (Language a) after)) (Language (repeat a least most)) text x z
     (λ w. (
       λ j.
-        let (k, within, more) = j.second in
-        (least + k, omega arith, (at_most_after most least after k h).0 within,
-          power_join (Language a) least k (least + k) w refl (record { front = j.front; back = j.back; is = j.is; first = j.first; second = more })),
+          let (k, within, more) = j.second in (
+            least + k,
+            omega arith,
+            (at_most_after most least after k h).0 within,
+            power_join (Language a) least k (least + k) w refl (record { front = j.front; back = j.back; is = j.is; first = j.first; second = more }),
+          ),
       λ r.
-        let (s, enough, within, all) = r in
-        let more : s ≡ least + (s - least) = omega arith in
-        let j = power_split (Language a) least (s - least) s w more all in
-        record { front = j.front; back = j.back; is = j.is; first = j.first;
-          second = (s - least, (at_most_after most least after (s - least) h).1 (subst (IsAtMost most) more within), j.second) },
+          let (s, enough, within, all) = r in
+          let more : s ≡ least + (s - least) = omega arith in
+          let j = power_split (Language a) least (s - least) s w more all in
+          record {
+            front = j.front;
+            back = j.back;
+            is = j.is;
+            first = j.first;
+            second = (s - least, (at_most_after most least after (s - least) h).1 (subst (IsAtMost most) more within), j.second);
+          },
     ))
     (image_joined (Power (Language a) least) (Times (Language a) after) text x y z first second)
 
@@ -83,3 +91,10 @@ image_repeat a least most after text x y z h first second =
 pub image_no_repeat : (a : Tree) (least : ℕ) (most : Option ℕ) (text : List ℕ) (x z : List Bool) → IsMostAfter most least None → length z ≡ length x → ((place : ℕ) → Marked z place → ⊥) → IsImage (Language (repeat a least most)) text x z
 image_no_repeat a least most text x z h long none =
     image_none (Language (repeat a least most)) text x z long none (λ w r. not_at_most most least r.0 h r.1 r.2)
+
+-- once a word more leaves the set as it is, all further words do
+pub settled_ends : (L whole : List ℕ → Type 0) (text : List ℕ) (first now next : List Bool) (k : ℕ) → length now ≡ suc (length text) → next ≡ now → IsImage L text now next →
+    Completes whole (Power L k) text first now → IsImage whole text first next
+settled_ends L whole text first now next k long same step so_far =
+    subst (λ places. IsImage whole text first places) (sym same)
+    (so_far.ends now (image_settled L text now long (subst (λ places. IsImage L text now places) same step) k))

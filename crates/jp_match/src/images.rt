@@ -10,7 +10,9 @@ ghost use Rattle.jp_match.specs.Place.{Marked, IsImage};
 
 use crate::class_tests::Tests;
 use crate::matching::Matching;
-use crate::places::{Places, Spare, assign, clear, is_any, is_same, remove, shift, unite};
+use crate::places::{
+    Places, Spare, assign, clear, every, is_any, is_same, only_first, remove, shift, unite,
+};
 use jp_iregexp::Pattern;
 use std::alloc::{AllocError, Global};
 use std::mem;
@@ -28,9 +30,8 @@ impl Matching for Images {
         text: &str,
         tests: &mut Tests,
     ) -> Result<bool, AllocError> {
-        let text: Vec<char> = text.chars().collect(alloc)?;
-        let mut places = vec![in alloc; false; text.len() + 1]?;
-        places[0] = true;
+        let text = characters(alloc, text)?;
+        let mut places = only_first(alloc, &text)?;
         image(pattern, &text, &mut places, &mut Spare::new(alloc), tests)?;
         Ok(places[text.len()])
     }
@@ -42,11 +43,18 @@ impl Matching for Images {
         text: &str,
         tests: &mut Tests,
     ) -> Result<bool, AllocError> {
-        let text: Vec<char> = text.chars().collect(alloc)?;
-        let mut places = vec![in alloc; true; text.len() + 1]?;
+        let text = characters(alloc, text)?;
+        let mut places = every(alloc, &text)?;
         image(pattern, &text, &mut places, &mut Spare::new(alloc), tests)?;
         Ok(is_any(&places))
     }
+}
+
+/// The characters of the text.
+fn characters(alloc: Global, text: &str) -> Result<Vec<char>, AllocError>
+    ensures { IfOk result (λ characters. characters.items ≡ chars text.now) }
+{
+    text.chars().collect(alloc)
 }
 
 /// Replaces the places by those that a word of the pattern reaches from them.

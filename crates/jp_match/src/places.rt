@@ -44,6 +44,24 @@ impl Spare {
     }
 }
 
+/// The first place of the text alone.
+pub fn only_first(alloc: Global, text: &[char]) -> Result<Places, AllocError>
+    ensures same_length { IfOk result (λ places. length places.items ≡ suc (length text.now)) }
+    ensures first { IfOk result (λ places. (place : ℕ) → Marked places.items place ↔ (place ≡ 0)) }
+{
+    let mut places = vec![in alloc; false; text.len() + 1]?;
+    places[0] = true;
+    Ok(places)
+}
+
+/// Every place of the text.
+pub fn every(alloc: Global, text: &[char]) -> Result<Places, AllocError>
+    ensures same_length { IfOk result (λ places. length places.items ≡ suc (length text.now)) }
+    ensures every { IfOk result (λ places. (place : ℕ) → Marked places.items place ↔ (place ≤ length text.now)) }
+{
+    vec![in alloc; true; text.len() + 1]
+}
+
 /// Makes the set the same as the other.
 pub fn assign(places: &mut Places, other: &[bool]) -> Result<(), AllocError>
     ensures { OnOk result (places.new.items ≡ other.now) }
