@@ -5,7 +5,7 @@ use Rattle.jp_iregexp.specs.Language.{Joined, Power, IsAtMost, Language}
 use Rattle.jp_iregexp.specs.Tree.{Tree, repeat}
 use Rattle.jp_match.specs.Counts.{Times, IsMostAfter}
 use Rattle.jp_match.specs.Place.{Marked, Reached, IsImage}
-use Rattle.jp_match.proofs.Reaching.{Completes, Halfway, halfway, image_by, image_none, reached_as, onward, reached_by, reached_still, still_reached, image_joined, image_still}
+use Rattle.jp_match.proofs.Reaching.{Completes, completes_more, Halfway, halfway, image_by, image_none, reached_as, onward, reached_by, reached_still, still_reached, image_joined, image_still}
 
 -- so many words are first some of them and then the others
 pub power_split : (L : List ℕ → Type 0) (m n s : ℕ) (w : List ℕ) → s ≡ m + n → Power L s w → Joined (Power L m) (Power L n) w
@@ -92,9 +92,19 @@ pub image_no_repeat : (a : Tree) (least : ℕ) (most : Option ℕ) (text : List 
 image_no_repeat a least most text x z h long none =
     image_none (Language (repeat a least most)) text x z long none (λ w r. not_at_most most least r.0 h r.1 r.2)
 
--- once a word more leaves the set as it is, all further words do
-pub settled_ends : (L whole : List ℕ → Type 0) (text : List ℕ) (first now next : List Bool) (k : ℕ) → length now ≡ suc (length text) → next ≡ now → IsImage L text now next →
+-- a set without places leads nowhere
+image_of_none : (L : List ℕ → Type 0) (text : List ℕ) (a : List Bool) → ((place : ℕ) → Marked a place → ⊥) → IsImage L text a a
+image_of_none L text a none = record {
+  same_length = refl;
+  reached = λ place. (λ marked. absurd (none place marked), λ r. absurd (none (length r.before) r.begins));
+}
+
+-- once no place is left, or a word more leaves the set as it is, all further words do
+pub settled_ends : (L whole : List ℕ → Type 0) (text : List ℕ) (first now next : List Bool) (k n : ℕ) → length now ≡ suc (length text) → ((place : ℕ) → Marked next place → ⊥) ⊎ (next ≡ now) → k ≡ suc n → IsImage L text now next →
     Completes whole (Power L k) text first now → IsImage whole text first next
-settled_ends L whole text first now next k long same step so_far =
+settled_ends L whole text first now next k n long (inl none) more step so_far =
+    let further = completes_more whole L (Power L n) text first now next (subst (λ k. Completes whole (Power L k) text first now) more so_far) step in
+    further.ends next (image_of_none (Power L n) text next none)
+settled_ends L whole text first now next k n long (inr same) more step so_far =
     subst (λ places. IsImage whole text first places) (sym same)
     (so_far.ends now (image_settled L text now long (subst (λ places. IsImage L text now places) same step) k))

@@ -7,7 +7,7 @@ use jp_iregexp::CharClass;
 use std::marker::Model;
 
 /// How often a matcher has tested whether a class holds a character; at most the greatest `u64`.
-#[derive(Debug, Drop)]
+#[derive(Debug, Default, Drop)]
 pub struct Tests {
     count: u64,
 }

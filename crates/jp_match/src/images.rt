@@ -11,7 +11,7 @@ ghost use Rattle.jp_match.specs.Place.{Marked, IsImage};
 use crate::class_tests::Tests;
 use crate::matching::Matching;
 use crate::places::{
-    Places, Spare, assign, clear, every, is_any, is_same, only_first, remove, shift, unite,
+    Places, Spare, assign, clear, every, is_any, is_settled, only_first, remove, shift, unite,
 };
 use jp_iregexp::Pattern;
 use std::alloc::{AllocError, Global};
@@ -96,6 +96,9 @@ fn either_image(
     ensures image { OnOk result (IsImage (Language (branches (map tree parts.now))) text.now places.old.items places.new.items) }
     ensures counted { tests.old ≤ tests.new }
 {
+    if let [only] = parts {
+        return image(only, text, places, spare, tests);
+    }
     let from = spare.copy_of(places)?;
     let mut reached = spare.copy_of(places)?;
     clear(&mut reached);
@@ -181,7 +184,7 @@ fn exactly_image(
     let mut before = spare.copy_of(places)?;
     for _ in 0..count {
         image(inner, text, places, spare, tests)?;
-        if is_same(places, &before) {
+        if is_settled(places, &before) {
             break;
         }
         assign(&mut before, places)?;

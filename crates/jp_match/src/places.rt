@@ -85,8 +85,16 @@ pub fn is_any(places: &[bool]) -> bool
     places.contains(&true)
 }
 
+/// Whether the steps that led from one set to the next lead no further: there is no place left, or the places
+/// are those of before.
+pub fn is_settled(places: &[bool], before: &[bool]) -> bool
+    ensures { IsTrue result ↔ (((place : ℕ) → Marked places.now place → ⊥) ⊎ (places.now ≡ before.now)) }
+{
+    !is_any(places) || is_same(places, before)
+}
+
 /// Whether two sets are the same.
-pub fn is_same(places: &[bool], other: &[bool]) -> bool
+fn is_same(places: &[bool], other: &[bool]) -> bool
     ensures { IsTrue result ↔ (places.now ≡ other.now) }
 {
     places == other

@@ -10,7 +10,7 @@ use Rattle.jp_match.proofs.Reaching.{Completes, Covers, completes_more, complete
 use Rattle.jp_match.proofs.Repeats.{image_repeat, settled_ends}
 use Rattle.jp_match.proofs.Growing.{Grows, grows_more, grows_all, grows_last, absent, absent_falls}
 use Rattle.jp_match.proofs.images.+images.Goals as goal
-use Rattle.jp_match.proofs.images.+images.Goals.{at_most_image-else-loop-left-test, at_most_image-then-loop-left-test+in_default, exactly_image-else-loop-test, exactly_image-then-loop-test+in_ok-image+then-is_same}
+use Rattle.jp_match.proofs.images.+images.Goals.{at_most_image-else-loop-left-test, at_most_image-then-loop-left-test+in_default, exactly_image-else-loop-test, exactly_image-then-loop-test+in_ok-image+then-is_settled}
 
 -- the item of a turn comes before what is left
 drop_item : (xs : List Pattern) (i : ℕ) (x : Pattern) → i < length xs → x ≡ get_or xs i x → drop i xs ≡ x ∷ drop (i + 1) xs
@@ -81,9 +81,10 @@ exactly_image-returns-clause-image t c =
       | exactly_image-else-loop-test w ↦
           let none : c.args.count - c.loop.counter ≡ 0 = omega arith in
           rw w.places-is (completes_all _ _ _ _ c.loop.invariant.long (subst (λ n. Completes (Power L c.args.count) (Power L n) c.args.text.now c.args.places.now.items c.loop.places.items) none c.loop.invariant.completes))
-      | exactly_image-then-loop-test+in_ok-image+then-is_same w ↦
-          let same : w.image.new.places.items ≡ c.loop.places.items = sym w.deref-in-loop.ensures.value ∙ w.is_same.ensures.0 w.if-is_same.true ∙ w.deref-in-loop-2.ensures.value ∙ c.loop.invariant.before in
-          rw w.places-is (settled_ends _ _ _ _ _ _ _ c.loop.invariant.long same w.in_ok-image.ensures.image c.loop.invariant.completes)
+      | exactly_image-then-loop-test+in_ok-image+then-is_settled w ↦
+          let end = rw (w.deref-in-loop.ensures.value, w.deref-in-loop-2.ensures.value, c.loop.invariant.before) at (w.is_settled.ensures.0 w.if-is_settled.true) in
+          let more : c.args.count - c.loop.counter ≡ suc (c.args.count - (c.loop.counter + 1)) = omega arith in
+          rw w.places-is (settled_ends _ _ _ _ _ _ _ _ c.loop.invariant.long end more w.in_ok-image.ensures.image c.loop.invariant.completes)
     ])
 
 pub image-returns-in-Either-clause-image : goal.image-returns-in-Either-clause-image
