@@ -1,8 +1,8 @@
 -- A text that spells a pattern with so many groups inside one another spells it also where more are allowed.
-use Rattle.std.proofs.Common.{◌≡◌, ℕ, zero, suc, ◌≤◌, List, [], ◌∷◌, arith}
+use Rattle.std.proofs.Common.{ℕ, zero, suc, ◌≤◌, arith}
 use Rattle.std.specs.Prelude.{codes}
-use Rattle.jp_reading.specs.Texts.{Text, Spans}
-use Rattle.jp_reading.specs.Forms.{Form, ◌⌢◌, word, Each, Separated}
+use Rattle.jp_reading.specs.Texts.{Text}
+use Rattle.jp_reading.specs.Forms.{Form, ◌⌢◌, word}
 use Rattle.jp_reading.proofs.Between.{Within}
 use Rattle.jp_reading.proofs.Levels.{joined-lifts, each-lifts, separated-lifts}
 use Rattle.jp_iregexp.specs.Tree.{Tree}

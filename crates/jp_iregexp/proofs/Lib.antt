@@ -1,9 +1,15 @@
+mod Rows
 pub mod CodeLemmas
-pub mod Complete
 pub mod Deeper
 pub mod Languages
 pub mod Moves
-pub mod Sound
+pub mod SpeltCharacters
+pub mod SpeltClasses
+pub mod SpeltPatterns
+pub mod SpeltQuantifiers
+pub mod TakenCharacters
+pub mod TakenClasses
+pub mod TakenPatterns
+pub mod TakenQuantifiers
 pub mod Trees
 pub mod Whole
-mod Rows

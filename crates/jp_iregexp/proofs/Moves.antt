@@ -1,50 +1,20 @@
 -- The reader's rules leave shorter texts, so that its loops end.
-use Rattle.std.proofs.Common.{◌≡◌, ℕ, zero, suc, ◌<◌, ◌≤◌, Bool, true, false, cond, ◌&&◌, List, [], ◌∷◌, length, Option, Some, None, inl, inr, refl, subst, arith}
-use Rattle.jp_reading.specs.Texts.{Text, Spans}
-use Rattle.jp_reading.specs.Outcome.{State, Outcome, took, stuck, deep, ◌>>=◌, past, past_first, head, passes, is, is_at, take_if, expect, each}
+use Rattle.std.proofs.Common.{◌≡◌, ℕ, zero, suc, ◌<◌, ◌≤◌, true, false, [], ◌∷◌, length, Option, Some, None, arith}
+use Rattle.jp_reading.specs.Outcome.{State, Outcome, took, stuck, deep, ◌>>=◌, past, is, is_at, take_if, expect, each}
 use Rattle.jp_reading.specs.Views.{by, with_front}
 use Rattle.jp_reading.specs.Numbers.{digits_at, digit_at, is_at_digit, capped}
 use Rattle.jp_reading.proofs.Chars.{past-shorter}
 use Rattle.jp_reading.proofs.Digits.{digit_at-progress}
-use Rattle.jp_reading.proofs.Progress.{Moves, Keeps, Progress, keeps-from_moves, keeps-then, moves-then, moves-after, keeps-after, moves-later, moves-take_if, moves-by, keeps-each}
-use Rattle.jp_iregexp.specs.declared.category.Category.{Category}
+use Rattle.jp_reading.proofs.Progress.{Moves, Keeps, Progress, keeps-from_moves, keeps-then, moves-then, moves-after, keeps-after, moves-take_if, moves-by, keeps-each, past-keeps, moves-if, keeps-if, keeps-by, keeps-take_if}
 use Rattle.jp_iregexp.specs.Codes.{code_of}
 use Rattle.jp_iregexp.specs.Characters.{is_plain, is_escaped, is_normal, meant}
 use Rattle.jp_iregexp.specs.Tree.{Tree}
 use Rattle.jp_iregexp.specs.Grammar.{dot}
-use Rattle.jp_iregexp.specs.Reading.{there, escaped_at, character_at, is_category_sign, second_at, code_at, category_at, is_at_category, range_at, element_at, begins_element, elements_at, hyphen_at, first_at, last_at, items_at, negation_at, class_at, number_at, most_at, braces_at, quantifier_at, escape_at, group_at, atom_at, piece_at, pieces_at, branch_at, next_branch_at, branches_at, inside_at, begins_piece, begins_quantifier}
-
-past_first-keeps : (at : ℕ) (found : Spans) (t : Text) → length (past_first at found t).rest ≤ length t
-past_first-keeps at found [] = omega arith
-past_first-keeps at found (c ∷ t) = omega arith
-
--- past a character the text is no longer
-past-keeps : (p : State) → length (past p).rest ≤ length p.rest
-past-keeps p = past_first-keeps p.at p.found p.rest
-
--- a rule that moves leaves a shorter text where it took something
-pub moved : {A : Type 0} (rule : State → Outcome A) → Progress rule → (p q : State) (x : A) → rule p ≡ took x q → length q.rest < length p.rest
-moved rule h p q x e = subst (Moves p) e (h p)
-
-moves-if : {A : Type 0} (b : Bool) (p : State) (o r : Outcome A) → (b ≡ true → Moves p o) → (b ≡ false → Moves p r) → Moves p (cond b o r)
-moves-if true p o r f g = f refl
-moves-if false p o r f g = g refl
-
-keeps-if : {A : Type 0} (b : Bool) (p : State) (o r : Outcome A) → Keeps p o → Keeps p r → Keeps p (cond b o r)
-keeps-if true p o r f g = f
-keeps-if false p o r f g = g
-
-keeps-by : {A B : Type 0} (f : A → B) (p : State) (o : Outcome A) → Keeps p o → Keeps p (by f o)
-keeps-by f p (took x q) h = h
-keeps-by f p (stuck q) h = tt
-keeps-by f p (deep q) h = tt
+use Rattle.jp_iregexp.specs.Reading.{there, escaped_at, character_at, is_category_sign, second_at, code_at, category_at, is_at_category, range_at, element_at, elements_at, hyphen_at, first_at, items_at, negation_at, class_at, number_at, most_at, braces_at, quantifier_at, escape_at, group_at, atom_at, piece_at, pieces_at, branch_at, next_branch_at, branches_at, inside_at}
 
 keeps-there : {A : Type 0} (o : Option A) (p : State) → Keeps p (there o p)
 keeps-there None p = tt
 keeps-there (Some x) p = omega arith
-
-keeps-take_if : (ok : ℕ → Bool) (p : State) → Keeps p (take_if ok p)
-keeps-take_if ok p = keeps-from_moves p (take_if ok p) (moves-take_if ok p)
 
 moves-escaped : Progress escaped_at
 unfolding escaped_at

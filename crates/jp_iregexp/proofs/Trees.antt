@@ -5,7 +5,7 @@ use Rattle.jp_iregexp.specs.declared.pattern.Pattern.{Pattern}
 use Rattle.jp_iregexp.specs.declared.pattern.Pattern.TheOpen as one
 use Rattle.jp_iregexp.specs.declared.pattern.Pattern.TheVariants as pattern
 use Rattle.jp_iregexp.specs.declared.pattern.Pattern.TheVariants.{rolls-Class, rolls-Either, rolls-Sequence, rolls-Repeat}
-use Rattle.jp_iregexp.specs.declared.pattern.Pattern.TheFolds.{fold-Pattern, fold-roll-Pattern}
+use Rattle.jp_iregexp.specs.declared.pattern.Pattern.TheFolds.{fold-roll-Pattern}
 use Rattle.jp_iregexp.specs.Tree.{Tree, tree, node_tree, class, repeat, branches, pieces}
 
 pub tree_class : (c : CharClass) → tree (pattern.Class c) ≡ class c.negated c.items.items

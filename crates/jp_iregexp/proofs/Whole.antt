@@ -1,19 +1,17 @@
 -- Whole texts: what is read, and that nothing else is spelt.
-use Rattle.std.proofs.Common.{◌≡◌, ℕ, ◌+◌, Bool, true, false, List, [], ◌∷◌, length, refl, sym, ap, ◌∙◌, subst, arith}
-use Rattle.jp_reading.specs.declared.reader.Stop.{Stop}
+use Rattle.std.proofs.Common.{◌≡◌, ℕ, ◌+◌, refl, subst, arith}
 use Rattle.jp_reading.specs.declared.reader.Stop.TheVariants.{Syntax, TooDeep}
 use Rattle.jp_reading.specs.Texts.{Text}
-use Rattle.jp_reading.specs.Outcome.{State, Outcome, took, stuck, deep}
+use Rattle.jp_reading.specs.Outcome.{State, took}
 use Rattle.jp_reading.specs.Views.{Fails}
-use Rattle.jp_reading.proofs.Between.{Reads}
 use Rattle.jp_reading.proofs.Fits.{Fits}
 use Rattle.jp_reading.proofs.Again.{start, finish, reads-whole, whole-reads}
 use Rattle.jp_iregexp.specs.Tree.{Tree}
 use Rattle.jp_iregexp.specs.Grammar.{Branches, Inside, SpellsPattern}
 use Rattle.jp_iregexp.specs.Spelled.{SpellsNone, OnePattern}
 use Rattle.jp_iregexp.specs.Reading.{pattern_at}
-use Rattle.jp_iregexp.proofs.Sound.{fits-pattern, pattern-ends}
-use Rattle.jp_iregexp.proofs.Complete.{again-pattern}
+use Rattle.jp_iregexp.proofs.TakenPatterns.{fits-pattern, pattern-ends}
+use Rattle.jp_iregexp.proofs.SpeltPatterns.{again-pattern}
 use Rattle.jp_iregexp.proofs.Deeper.{deeper}
 
 -- what spells a pattern is read as it

@@ -1,5 +1,5 @@
 -- The codes of categories as texts (RFC 9485 section 3, charProp).
-use Rattle.std.specs.Prelude.{ℕ, Bool, false, ◌==◌, ◌&&◌, List, [], ◌∷◌, Option, Some, None, codes, find}
+use Rattle.std.specs.Prelude.{ℕ, Bool, false, ◌==◌, ◌&&◌, [], ◌∷◌, Option, Some, None, codes, find}
 use Rattle.jp_reading.specs.Texts.{Text}
 use Rattle.jp_iregexp.specs.declared.category.Category.{Category}
 use Rattle.jp_iregexp.specs.declared.category.Category.TheVariants.{L, Ll, Lm, Lo, Lt, Lu, M, Mc, Me, Mn, N, Nd, Nl, No, P, Pc, Pd, Pe, Pf, Pi, Po, Ps, Z, Zl, Zp, Zs, S, Sc, Sk, Sm, So, C, Cc, Cf, Cn, Co}

@@ -1,7 +1,7 @@
 -- Which text spells which pattern (RFC 9485 section 3), with at most n groups inside one another.
 use Rattle.std.specs.Prelude.{◌≡◌, ◌≢◌, ℕ, zero, suc, ◌≤◌, true, false, List, [], ◌∷◌, ◌++◌, Option, Some, None, codes}
 use Rattle.jp_reading.specs.Texts.{Text, Spans}
-use Rattle.jp_reading.specs.Forms.{Form, word, One, ◌⌢◌, Each, Separated, Never}
+use Rattle.jp_reading.specs.Forms.{Form, word, ◌⌢◌, Each, Separated, Never}
 use Rattle.jp_reading.specs.Numbers.{Digits, value_from}
 use Rattle.jp_reading.specs.Outcome.{first_of}
 use Rattle.jp_iregexp.specs.declared.category.Category.{Category}

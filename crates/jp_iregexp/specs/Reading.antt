@@ -1,8 +1,7 @@
 -- What the reader of patterns does, a function for each rule of the grammar (RFC 9485 section 3).
-use Rattle.std.specs.Prelude.{ℕ, zero, suc, ◌==◌, ◌||◌, ◌&&◌, not, nat_le, nat_lt, Bool, true, false, if◌then◌else◌, List, [], ◌∷◌, ◌++◌, Option, Some, None, find}
+use Rattle.std.specs.Prelude.{ℕ, zero, suc, ◌||◌, ◌&&◌, not, nat_lt, Bool, true, false, if◌then◌else◌, List, [], ◌∷◌, ◌++◌, Option, Some, None}
 use Rattle.std.specs.Char.{is_ascii_alphabetic}
-use Rattle.jp_reading.specs.Texts.{Text}
-use Rattle.jp_reading.specs.Outcome.{State, Outcome, took, stuck, deep, ◌>>=◌, head, past, passes, is, is_at, is_end, take_if, expect, each, enter}
+use Rattle.jp_reading.specs.Outcome.{State, Outcome, took, stuck, deep, ◌>>=◌, head, past, passes, is, is_at, is_end, take_if, expect, each}
 use Rattle.jp_reading.specs.Numbers.{digits_at, capped}
 use Rattle.jp_reading.specs.Views.{by, with_front}
 use Rattle.jp_iregexp.specs.declared.category.Category.{Category}

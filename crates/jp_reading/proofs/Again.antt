@@ -3,7 +3,7 @@ use Rattle.std.proofs.Common.{◌≡◌, ℕ, ◌+◌, Bool, true, false, List, 
 use Rattle.std.specs.Char.{len_utf8}
 use Rattle.jp_reading.specs.Texts.{Text, Spans, bytes, is_blank}
 use Rattle.jp_reading.specs.Forms.{Form, ◌⌢◌, word, One, Blank, AllPassing, Each, Separated, Item}
-use Rattle.jp_reading.specs.Outcome.{State, Outcome, took, head, first_of, past, past_first, past_blanks, skip, passes, is, take_if, expect, each, item_since, item}
+use Rattle.jp_reading.specs.Outcome.{State, Outcome, took, head, first_of, past, past_first, past_blanks, skip, passes, is, is_at, take_if, expect, each, item_since, item}
 use Rattle.jp_reading.proofs.Between.{Between, Reads, bytes-append, between-none, state-same}
 use Rattle.jp_reading.proofs.Steps.{take_if-takes}
 use Rattle.jp_reading.proofs.Judging.{span_inserted}
@@ -87,6 +87,13 @@ pub again-expect : (c : ℕ) (p q : State) → Reads (word (c ∷ [])) p q → e
 again-expect c p q h =
     let stands = one-character p q h.spans h.text c h.is.none h.is.is h.way in
     take_if-takes (is c) p c stands.0 (eq-eqb c c refl) ∙ ap (took c) stands.1
+
+-- the same for a word that was looked at
+pub at-word : (c : ℕ) (w : Text) (p q : State) → Reads (word (c ∷ w)) p q → is_at c p ≡ true
+at-word c w p q h = ap (passes (is c)) (word-first c w p q h) ∙ eq-eqb c c refl
+
+pub past-word : (c : ℕ) (p q : State) → Reads (word (c ∷ [])) p q → past p ≡ q
+past-word c p q h = (one-character p q h.spans h.text c h.is.none h.is.is h.way).1
 
 -- blanks are skipped up to what is none
 again-past_blanks : (blanks : Text) (at : ℕ) (found : Spans) (rest : Text) → AllPassing is_blank blanks

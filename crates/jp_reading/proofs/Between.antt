@@ -156,6 +156,10 @@ front-first P Q p r h has =
 pub reads-as : (P Q : Form) (p q : State) → Within P Q → Reads P p q → Reads Q p q
 reads-as P Q p q w h = record { spans = h.spans; text = h.text; way = h.way; is = w h.spans p.at h.text h.is }
 
+-- what was read has another form too
+pub reads-is : (P Q : Form) (p q : State) (h : Reads P p q) → Q h.spans p.at h.text → Reads Q p q
+reads-is P Q p q h is = record { spans = h.spans; text = h.text; way = h.way; is = is }
+
 pub front-as : (P Q : Form) (p r : State) → Within P Q → Front P p r → Front Q p r
 front-as P Q p r w h = record {
   read = h.read;

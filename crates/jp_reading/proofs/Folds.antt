@@ -1,5 +1,5 @@
 -- A loop in code keeps what its rule's loop would still make of what it holds: `by f (each begins rule here)`.
-use Rattle.std.proofs.Common.{◌≡◌, Bool, true, false, List, [], ◌∷◌, ◌++◌, refl, sym, ap, ◌∙◌, append_assoc}
+use Rattle.std.proofs.Common.{◌≡◌, Bool, true, false, List, [], ◌∷◌, ◌++◌, refl, sym, ap, ◌∙◌, append_assoc, append-nil}
 use Rattle.jp_reading.specs.declared.reader.Stop.{Stop}
 use Rattle.jp_reading.specs.declared.reader.Stop.TheVariants.{Memory, Syntax, TooDeep}
 use Rattle.jp_reading.specs.Outcome.{State, Outcome, took, stuck, deep, ◌>>=◌, each}
@@ -46,3 +46,27 @@ folds_fail begins rule h f p e on failed =
 pub with_front-on : {A : Type 0} (xs : List A) (x : A) (o : Outcome (List A))
     → with_front xs (o >>= λ ys r. took (x ∷ ys) r) ≡ with_front (xs ++ x ∷ []) o
 with_front-on xs x o = by-round (λ ys. xs ++ ys) (λ ys. (xs ++ x ∷ []) ++ ys) x o (λ ys. sym (append_assoc xs (x ∷ []) ys))
+
+-- nothing in front changes nothing
+pub with_front-nil : {A : Type 0} (o : Outcome (List A)) → with_front [] o ≡ o
+with_front-nil (took xs q) = refl
+with_front-nil (stuck q) = refl
+with_front-nil (deep q) = refl
+
+-- a loop that pushes each value to a list: a round more, and its end
+pub pushes_on : {A : Type 0} (begins : State → Bool) (rule : State → Outcome A) → Progress rule → (xs : List A)
+    (p q : State) (x : A) → begins p ≡ true → rule p ≡ took x q
+    → with_front xs (each begins rule p) ≡ with_front (xs ++ x ∷ []) (each begins rule q)
+pushes_on begins rule h xs p q x on e =
+    folds_on begins rule h (λ ys. xs ++ ys) (λ ys. (xs ++ x ∷ []) ++ ys) p q x on e (λ ys. sym (append_assoc xs (x ∷ []) ys))
+
+pub pushes_end : {A : Type 0} (begins : State → Bool) (rule : State → Outcome A) (xs : List A) (p : State)
+    → begins p ≡ false → with_front xs (each begins rule p) ≡ took xs p
+pushes_end begins rule xs p off = folds_end begins rule (λ ys. xs ++ ys) p off ∙ ap (λ ys. took ys p) (append-nil xs)
+
+-- one value made into another, and that into a third
+pub by-by : {A B C : Type 0} (f : B → C) (g : A → B) (h : A → C) → ((x : A) → f (g x) ≡ h x) → (o : Outcome A)
+    → by f (by g o) ≡ by h o
+by-by f g h e (took x q) = ap (λ y. took y q) (e x)
+by-by f g h e (stuck q) = refl
+by-by f g h e (deep q) = refl

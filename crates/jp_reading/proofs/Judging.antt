@@ -1,5 +1,5 @@
 -- What rules read, put together from what their parts read.
-use Rattle.std.proofs.Common.{◌≡◌, ℕ, zero, suc, ◌+◌, Bool, true, List, [], ◌∷◌, ◌++◌, length, Option, Some, None, inl, inr, refl, sym, ap, subst}
+use Rattle.std.proofs.Common.{◌≡◌, ℕ, zero, suc, ◌+◌, Bool, true, false, if◌then◌else◌, List, [], ◌∷◌, ◌++◌, length, Option, Some, None, inl, inr, refl, sym, ap, ◌∙◌, subst}
 use Rattle.std.proofs.lemmas.Bool.{cases_Bool, eqb-true}
 use Rattle.std.proofs.Math.Seq.{take-append_seam, drop-append_seam}
 use Rattle.std.specs.List.{insert}
@@ -8,10 +8,11 @@ use Rattle.jp_reading.specs.Texts.{Spans, bytes}
 use Rattle.jp_reading.specs.Forms.{Form, ◌⌢◌, word, Blank, Item}
 use Rattle.jp_reading.specs.Outcome.{State, Outcome, took, stuck, deep, ◌>>=◌, head, past, skip, is, take_passing, take_if, expect, loop, each, item_since, item}
 use Rattle.jp_reading.specs.Views.{by}
-use Rattle.jp_reading.proofs.Between.{Reads, Stops, Passes, Has, Within, Rule, Judged, between-same, reads-then, front-then, front-first, reads-as, front-as, front-none, has-as, joined-over}
-use Rattle.jp_reading.proofs.Steps.{past-way, skip-way}
+use Rattle.jp_reading.proofs.Between.{Reads, Stops, Passes, Has, Within, Rule, Judged, reads-then, front-then, front-first, reads-as, front-as, front-none, has-as, joined-over}
+use Rattle.jp_reading.proofs.Steps.{skip-way}
+use Rattle.jp_reading.proofs.Fits.{reads-nothing, reads-one, reads-word}
 use Rattle.jp_reading.proofs.Loops.{round}
-use Rattle.jp_reading.proofs.Levels.{Then, Made, ends_rule, one_rule, behind, word_rule, blank_rule, word-has, blank-has, then_rule, made_rule, item_rule, each_rule, separated_rule}
+use Rattle.jp_reading.proofs.Levels.{Only, Then, Made, ends_rule, one_rule, behind, word_rule, blank_rule, word-has, blank-has, then_rule, made_rule, item_rule, each_rule, separated_rule}
 
 -- ---- fronts
 
@@ -84,20 +85,11 @@ reads-item P p q h =
 
 -- a value is taken where nothing more is to be read
 pub judged-end : {A : Type 0} (y : A) (p : State) → Judged (ends_rule y) p (took y p)
-judged-end y p = record {
-  is = record {
-    spans = [];
-    text = [];
-    way = between-same p;
-    is = record { same = refl; is = record { none = refl; is = refl } };
-  };
-}
+judged-end y p = record { is = reads-as (word []) (Only y (word []) y) p p (λ s o t h. record { same = refl; is = h }) (reads-nothing p) }
 
 -- nothing at all
 pub judged-none : {A : Type 0} (R : Rule A) (p : State) → Judged (each_rule R) p (took [] p)
-judged-none R p = record {
-  is = record { spans = []; text = []; way = between-same p; is = record { none = refl; is = refl } };
-}
+judged-none R p = record { is = reads-nothing p }
 
 -- one rule after another
 pub judged-then : {A B : Type 0} (F : Rule A) (H : A → Rule B) (p : State) (o : Outcome A) (k : A → State → Outcome B)
@@ -144,6 +136,12 @@ judged-stuck R p = record { is = record { value = R.least; front = front-none (R
 pub judged-deep : {A : Type 0} (R : Rule A) (p : State) → Passes R.deeper p p → Judged R p (deep p)
 judged-deep R p h = record { is = ((record { value = R.least; front = front-none (R.here R.least) p R.has }), h) }
 
+-- either of two ways
+pub judged-if : {A : Type 0} (R : Rule A) (p : State) (b : Bool) (o u : Outcome A)
+    → (b ≡ true → Judged R p o) → (b ≡ false → Judged R p u) → Judged R p (if b then o else u)
+judged-if R p true o u f g = f refl
+judged-if R p false o u f g = g refl
+
 -- a rule with wider forms
 pub judged-as : {A : Type 0} (R S : Rule A) (p : State) (o : Outcome A)
     → ((x : A) → Within (R.here x) (S.here x)) → ((x : A) → Within (R.deeper x) (S.deeper x)) → Judged R p o → Judged S p o
@@ -189,14 +187,7 @@ judged-take_if ok least h p = taken (head p) refl
     taken None e = judged-stuck (one_rule ok least h) p
     taken (Some c) e =
         elim (cases_Bool (ok c)) [
-          | inl passing ↦ rw passing (record {
-            is = record {
-              spans = [];
-              text = c ∷ [];
-              way = past-way p c e;
-              is = record { none = refl; is = refl; passes = passing };
-            };
-          })
+          | inl passing ↦ rw passing (record { is = reads-one ok p c e passing })
           | inr failing ↦ rw failing (judged-stuck (one_rule ok least h) p)
         ]
 
@@ -210,12 +201,7 @@ judged-expect c R p k g = taken (head p) refl
     taken (Some d) e =
         elim (cases_Bool (is c d)) [
           | inl same ↦ rw same (judged-behind (word (c ∷ [])) (word-has (c ∷ [])) R p (past p) (k d (past p))
-              (record {
-                spans = [];
-                text = d ∷ [];
-                way = past-way p d e;
-                is = record { none = refl; is = ap (λ x. x ∷ []) (eqb-true d c same) };
-              }) (g d (past p)))
+              (reads-word p c (e ∙ ap Some (eqb-true d c same))) (g d (past p)))
           | inr other ↦ rw other (judged-stuck (word_rule c R) p)
         ]
 

@@ -4,9 +4,12 @@ pub mod Chars
 pub mod Digits
 pub mod Fits
 pub mod Folds
+pub mod Joining
 pub mod Judging
 pub mod Levels
 pub mod Loops
 pub mod Progress
+pub mod Rows
 pub mod Runs
 pub mod Steps
+pub mod Words

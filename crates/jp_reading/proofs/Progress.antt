@@ -1,7 +1,8 @@
 -- That rules leave shorter texts, so that loops over them end.
-use Rattle.std.proofs.Common.{◌≡◌, ℕ, zero, suc, ◌<◌, ◌≤◌, Bool, length, Option, Some, None, inl, inr, refl, arith}
+use Rattle.std.proofs.Common.{◌≡◌, ℕ, zero, suc, ◌<◌, ◌≤◌, Bool, true, false, if◌then◌else◌, [], ◌∷◌, length, Option, Some, None, inl, inr, refl, subst, arith}
+use Rattle.jp_reading.specs.Texts.{Text, Spans}
 use Rattle.std.proofs.lemmas.Bool.{cases_Bool}
-use Rattle.jp_reading.specs.Outcome.{State, Outcome, took, stuck, deep, ◌>>=◌, head, skip, take_passing, take_if, loop, each, item}
+use Rattle.jp_reading.specs.Outcome.{State, Outcome, took, stuck, deep, ◌>>=◌, head, past, past_first, skip, take_passing, take_if, loop, each, item}
 use Rattle.jp_reading.specs.Views.{by}
 use Rattle.jp_reading.proofs.Chars.{past-shorter, skip-shorter}
 
@@ -68,6 +69,24 @@ moves-later p (took x q) k h g = moves-after p q (k x q) h (g x q)
 moves-later p (stuck q) k h g = tt
 moves-later p (deep q) k h g = tt
 
+-- past the next character
+pub past-keeps : (p : State) → length (past p).rest ≤ length p.rest
+past-keeps p = past_first-keeps p.at p.found p.rest
+  where
+    past_first-keeps : (at : ℕ) (found : Spans) (t : Text) → length (past_first at found t).rest ≤ length t
+    past_first-keeps at found [] = omega arith
+    past_first-keeps at found (c ∷ t) = omega arith
+
+-- either of two ways
+pub moves-if : {A : Type 0} (b : Bool) (p : State) (o u : Outcome A) → (b ≡ true → Moves p o) → (b ≡ false → Moves p u)
+    → Moves p (if b then o else u)
+moves-if true p o u f g = f refl
+moves-if false p o u f g = g refl
+
+pub keeps-if : {A : Type 0} (b : Bool) (p : State) (o u : Outcome A) → Keeps p o → Keeps p u → Keeps p (if b then o else u)
+keeps-if true p o u f g = f
+keeps-if false p o u f g = g
+
 -- after blanks
 pub moves-skip : {A : Type 0} (p : State) (o : Outcome A) → Moves (skip p) o → Moves p o
 moves-skip p o h = moves-after p (skip p) o (skip-shorter p) h
@@ -87,7 +106,15 @@ moves-take_if ok p = taken (head p) refl
           | inr failing ↦ rw failing tt
         ]
 
+pub keeps-take_if : (ok : ℕ → Bool) (p : State) → Keeps p (take_if ok p)
+keeps-take_if ok p = keeps-from_moves p (take_if ok p) (moves-take_if ok p)
+
 -- a value made into another, and an item
+pub keeps-by : {A B : Type 0} (f : A → B) (p : State) (o : Outcome A) → Keeps p o → Keeps p (by f o)
+keeps-by f p (took x q) h = h
+keeps-by f p (stuck q) h = tt
+keeps-by f p (deep q) h = tt
+
 pub moves-by : {A B : Type 0} (f : A → B) (p : State) (o : Outcome A) → Moves p o → Moves p (by f o)
 moves-by f p (took x q) h = h
 moves-by f p (stuck q) h = tt
@@ -113,3 +140,8 @@ keeps-loop (suc n) begins rule h p =
 pub keeps-each : {A : Type 0} (begins : State → Bool) (rule : State → Outcome A)
     → Progress rule → (p : State) → Keeps p (each begins rule p)
 keeps-each begins rule h p = keeps-loop (suc (length p.rest)) begins rule (λ q. keeps-from_moves q (rule q) (h q)) p
+
+-- where a rule that moves took a value
+pub moved : {A : Type 0} (rule : State → Outcome A) → Progress rule → (p q : State) (x : A) → rule p ≡ took x q
+    → length q.rest < length p.rest
+moved rule h p q x e = subst (Moves p) e (h p)

@@ -19,3 +19,6 @@ mod span;
 pub use numbers::{digit, is_at_digit, natural};
 pub use reader::{Reader, Stop, split_first};
 pub use span::Span;
+
+#[cfg(test)]
+mod tests;

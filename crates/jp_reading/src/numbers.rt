@@ -1,4 +1,6 @@
-ghost use Rattle.std.specs.Prelude.{◌≡◌, ◌+◌, ◌≤◌, IfOk, IsTrue};
+//! Digits and the numbers that they write.
+
+ghost use Rattle.std.specs.Prelude.{◌≡◌, ◌+◌, ◌≤◌, IfOk, IfErr, IsTrue};
 ghost use Rattle.jp_reading.specs.Outcome.{head, passes};
 ghost use Rattle.jp_reading.specs.Numbers.{is_digit, is_at_digit, digit_at, digits_at, capped};
 ghost use Rattle.jp_reading.specs.Views.{Gives, by};
@@ -15,10 +17,11 @@ pub fn is_at_digit(reader: &Reader) -> bool
     }
 }
 
-/// Takes a digit and answers its value. Where there is none the answer is `Syntax`.
+/// Takes a digit and answers its value. Where there is none the answer is `Syntax` at that byte, and the reader stays.
 pub fn digit(reader: &mut Reader) -> Result<u8, Stop>
     ensures taken { Gives (λ value. 48 + value) result reader.new (digit_at reader.old) }
     ensures value { IfOk result (λ value. value ≤ 9) }
+    ensures refused { IfErr result (λ stop. (stop ≡ Stop.Syntax reader.old.at) × (reader.new ≡ reader.old)) }
 {
     match reader.peek() {
         Some(next) if is_digit(next) => {
@@ -30,8 +33,10 @@ pub fn digit(reader: &mut Reader) -> Result<u8, Stop>
 }
 
 /// Takes a digit and all digits after it, and answers the number that they write in base ten, or `cap` where it is larger.
+/// Where there is no digit the answer is `Syntax` at that byte, and the reader stays.
 pub fn natural(reader: &mut Reader, cap: u128) -> Result<u128, Stop>
-    ensures { Gives (λ number. number) result reader.new (by (capped cap 0) (digits_at reader.old)) }
+    ensures taken { Gives (λ number. number) result reader.new (by (capped cap 0) (digits_at reader.old)) }
+    ensures refused { IfErr result (λ stop. (stop ≡ Stop.Syntax reader.old.at) × (reader.new ≡ reader.old)) }
 {
     let mut number = u128::from(digit(reader)?).min(cap);
     'digits: while is_at_digit(reader) {

@@ -1,4 +1,6 @@
-ghost use Rattle.std.specs.Prelude.{◌≡◌, ◌∷◌, [], ◌+◌, length, MatchOption, IfSome, OnOk, OnErr};
+//! The reader: a text, where reading stands in it, and the spans of the items behind.
+
+ghost use Rattle.std.specs.Prelude.{◌≡◌, ◌∷◌, [], ◌+◌, length, MatchOption, IfSome, IfErr, OnOk, OnErr};
 ghost use Rattle.std.specs.Char.{len_utf8};
 ghost use Rattle.std.specs.Str.{chars, IsUtf8};
 ghost use Rattle.jp_reading.specs.Texts.{is_blank};
@@ -140,16 +142,13 @@ impl<'t> Reader<'t> {
     pub fn is_at(&self, wanted: char) -> bool
         ensures { result ≡ is_at wanted self.now }
     {
-        match self.peek() {
-            Some(next) => next == wanted,
-            None => false,
-        }
+        self.peek() == Some(wanted)
     }
 
-    /// Takes the next character. It has to be `wanted`: else the answer is `Syntax`, and the reader stays.
+    /// Takes the next character. It has to be `wanted`: else the answer is `Syntax` at its byte, and the reader stays.
     pub fn expect(&mut self, wanted: char) -> Result<(), Stop>
         ensures taken { Gives (λ _. wanted) result self.new (expect wanted self.old) }
-        ensures refused { OnErr result (self.new ≡ self.old) }
+        ensures refused { IfErr result (λ stop. (stop ≡ Stop.Syntax self.old.at) × (self.new ≡ self.old)) }
     {
         if !self.is_at(wanted) {
             return Err(Stop::Syntax(self.place));
@@ -169,10 +168,7 @@ impl<'t> Reader<'t> {
     pub fn is_before(&self, wanted: char) -> bool
         ensures { result ≡ is_at wanted (skip self.now) }
     {
-        match self.peek_past_blank() {
-            Some(next) => next == wanted,
-            None => false,
-        }
+        self.peek_past_blank() == Some(wanted)
     }
 
     /// How many items the reader has passed.
@@ -192,7 +188,7 @@ impl<'t> Reader<'t> {
             start,
             end: self.place,
         };
-        if before < self.spans.len() {
+        if before < self.items() {
             self.spans.insert(before, Some(span))?;
         } else {
             self.spans.push(Some(span))?;

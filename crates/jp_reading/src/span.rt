@@ -1,3 +1,5 @@
+//! The part of a text that an item takes.
+
 /// The bytes of an item in its text: from `start` up to and without `end`.
 #[derive(Clone, Copy, PartialEq, Eq, Debug)]
 pub struct Span {

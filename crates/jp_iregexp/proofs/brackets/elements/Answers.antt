@@ -1,9 +1,10 @@
-use Rattle.std.proofs.Common.{◌≡◌, ◌<◌, length, refl, rules, sym, ◌∙◌, ap, append_assoc, append-nil, ◌++◌, ◌∷◌, [], arith}
+use Rattle.std.proofs.Common.{◌≡◌, rules, sym, ◌∙◌, ◌++◌, ◌∷◌, []}
 use Rattle.std.proofs.lemmas.Result.{err_from_is_err_and}
-use Rattle.jp_reading.specs.Outcome.{took, is_at, passes, head}
-use Rattle.jp_reading.proofs.Folds.{folds_on, folds_end, folds_fail}
+use Rattle.jp_reading.specs.Outcome.{passes, head}
+use Rattle.jp_reading.proofs.Folds.{folds_fail, pushes_on, pushes_end}
 use Rattle.jp_iregexp.specs.Reading.{element_at, begins_element}
-use Rattle.jp_iregexp.proofs.Moves.{moves-element, moved}
+use Rattle.jp_reading.proofs.Progress.{moved}
+use Rattle.jp_iregexp.proofs.Moves.{moves-element}
 use Rattle.jp_iregexp.proofs.brackets.elements.Goals as goal
 
 pub returns-in_err-next : goal.returns-in_err-next
@@ -19,13 +20,11 @@ elements-smaller c = moved element_at moves-element c.elements.reader c.element.
 pub elements-preserved : goal.elements-preserved
 elements-preserved c =
     let pushed : c.push.new.self.items ≡ c.elements.items.items ++ c.in_ok-next.next ∷ [] = search rules in
-    c.elements.invariant
-    ∙ folds_on (λ q. passes begins_element (head q)) element_at moves-element (λ ys. c.elements.items.items ++ ys) (λ ys. c.push.new.self.items ++ ys)
-    c.elements.reader c.element.new.reader c.in_ok-next.next (sym c.is_at.ensures ∙ c.elements-test.true) c.in_ok-next.ensures
-    (λ ys. rw pushed (sym (append_assoc c.elements.items.items (c.in_ok-next.next ∷ []) ys)))
+    rw pushed (c.elements.invariant
+    ∙ pushes_on (λ q. passes begins_element (head q)) element_at moves-element c.elements.items.items c.elements.reader c.element.new.reader
+    c.in_ok-next.next (sym c.is_at.ensures ∙ c.elements-test.true) c.in_ok-next.ensures)
 
 pub returns : goal.returns
 returns c =
     c.elements.invariant
-    ∙ folds_end (λ q. passes begins_element (head q)) element_at (λ ys. c.elements.items.items ++ ys) c.elements.reader (sym c.is_at.ensures ∙ c.elements-test.false)
-    ∙ ap (λ xs. took xs c.elements.reader) (append-nil c.elements.items.items)
+    ∙ pushes_end (λ q. passes begins_element (head q)) element_at c.elements.items.items c.elements.reader (sym c.is_at.ensures ∙ c.elements-test.false)

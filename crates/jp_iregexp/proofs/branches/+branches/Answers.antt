@@ -1,11 +1,12 @@
-use Rattle.std.proofs.Common.{◌≡◌, sym, ◌∙◌, ap, rules, map, append_assoc, append-nil, ◌++◌, ◌∷◌, []}
+use Rattle.std.proofs.Common.{◌≡◌, sym, ◌∙◌, ap, rules, map, append-nil, ◌++◌, ◌∷◌, []}
 use Rattle.std.proofs.lemmas.Result.{err_from_is_err_and}
 use Rattle.jp_reading.specs.Outcome.{took, is_at, passes, head}
 use Rattle.jp_reading.proofs.Folds.{folds_on, folds_end, folds_fail}
-use Rattle.jp_iregexp.specs.Tree.{Tree, tree, branches, pieces}
+use Rattle.jp_iregexp.specs.Tree.{tree, branches, pieces}
 use Rattle.jp_iregexp.specs.Reading.{begins_piece, piece_at, next_branch_at, inside_at}
 use Rattle.jp_iregexp.proofs.Trees.{tree_either, tree_sequence, mapped_push}
-use Rattle.jp_iregexp.proofs.Moves.{moves-piece, moves-next_branch, keeps-inside, moved}
+use Rattle.jp_reading.proofs.Progress.{moved}
+use Rattle.jp_iregexp.proofs.Moves.{moves-piece, moves-next_branch, keeps-inside}
 use Rattle.jp_iregexp.proofs.branches.+branches.Goals as goal
 
 pub branch-returns-in_err-next : goal.branch-returns-in_err-next

@@ -1,4 +1,4 @@
-use Rattle.std.proofs.Common.{◌≡◌, ◌+◌, ◌*◌, ◌∷◌, ◌++◌, length, map}
+use Rattle.std.proofs.Common.{◌≡◌, ◌+◌, ◌*◌, ◌++◌, length, map}
 use Rattle.jp_reading.specs.Outcome.{is_at, each}
 use Rattle.jp_reading.specs.Views.{by}
 use Rattle.jp_iregexp.specs.Tree.{tree, branches, pieces}

@@ -1,4 +1,4 @@
-use Rattle.std.proofs.Common.{◌≡◌, rules, subst}
+use Rattle.std.proofs.Common.{◌≡◌, subst}
 use Rattle.std.specs.Str.{chars}
 use Rattle.jp_reading.specs.Outcome.{State, took}
 use Rattle.jp_reading.specs.declared.reader.Stop.{Stop}

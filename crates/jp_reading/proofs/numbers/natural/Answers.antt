@@ -5,8 +5,8 @@ use Rattle.jp_reading.proofs.Digits.{digit_at-progress, digits_at-first, digits_
 use Rattle.jp_reading.proofs.Folds.{folds_on, folds_end}
 use Rattle.jp_reading.proofs.numbers.natural.Goals as goal
 
-pub returns-in_err-digit : goal.returns-in_err-digit
-returns-in_err-digit c =
+pub returns-in_err-digit-clause-taken : goal.returns-in_err-digit-clause-taken
+returns-in_err-digit-clause-taken c =
     let p = err_from_is_err_and c.from_residual.result c.from_residual.ensures.1 in
     rw (p.1, p.2) (digits_at-fails (capped c.args.cap 0) c.args.reader.now c.in_err-digit.field-0.0 c.in_err-digit.ensures.taken)
 
@@ -28,7 +28,7 @@ digits-preserved c =
     c.digits.reader c.digit-in-digits.new.reader (48 + next) (sym c.is_at_digit.ensures ∙ c.digits-test.true) c.in_ok-next.ensures.taken
     (λ ds. capped-digit c.args.cap c.digits.number next ds ∙ ap (λ n. capped c.args.cap n ds) more)
 
-pub returns : goal.returns
-returns c =
+pub returns-clause-taken : goal.returns-clause-taken
+returns-clause-taken c =
     c.digits.invariant
     ∙ folds_end is_at_digit digit_at (capped c.args.cap c.digits.number) c.digits.reader (sym c.is_at_digit.ensures ∙ c.digits-test.false)
