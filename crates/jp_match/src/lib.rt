@@ -12,3 +12,6 @@ mod places;
 pub use class_tests::Tests;
 pub use images::Images;
 pub use matching::Matching;
+
+#[cfg(test)]
+mod tests;
