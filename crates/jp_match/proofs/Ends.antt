@@ -1,9 +1,8 @@
 -- What the last set says of the whole text, and of its parts.
-use Rattle.std.proofs.Common.{◌≡◌, ◌↔◌, ℕ, suc, ◌+◌, ◌≤◌, Bool, List, [], ◌∷◌, ◌++◌, length, refl, sym, ap, ◌∙◌, subst, arith}
+use Rattle.std.proofs.Common.{◌≡◌, ◌↔◌, ℕ, ◌+◌, ◌≤◌, Bool, List, [], ◌∷◌, ◌++◌, length, refl, sym, ap, ◌∙◌, subst, arith}
 use Rattle.std.proofs.lemmas.List.{length-append, append-nil}
 use Rattle.jp_match.specs.Part.{HasPart}
-use Rattle.jp_match.specs.Place.{Marked, Reached, IsImage}
-use Rattle.jp_match.proofs.Cuts.{marked_below}
+use Rattle.jp_match.specs.Place.{Marked, IsImage}
 
 no_length : (xs : List ℕ) → length xs ≡ 0 → xs ≡ []
 no_length [] h = refl

@@ -1,9 +1,9 @@
 -- Rounds of a repeat that only the new places begin.
-use Rattle.std.proofs.Common.{◌≡◌, ◌↔◌, ◌⊎◌, inl, inr, ℕ, zero, suc, ◌+◌, ◌<◌, ◌≤◌, Bool, true, false, List, [], ◌∷◌, Option, Some, None, length, get_or, refl, sym, ap, ◌∙◌, subst, arith}
+use Rattle.std.proofs.Common.{◌≡◌, ◌↔◌, ◌⊎◌, inl, inr, ℕ, zero, suc, ◌+◌, ◌<◌, ◌≤◌, Bool, true, false, List, [], ◌∷◌, Option, Some, None, length, get_or, refl, sym, ◌∙◌, subst, arith}
 use Rattle.jp_iregexp.specs.Language.{Joined, Power, IsAtMost}
 use Rattle.jp_match.specs.Counts.{Times, IsMostAfter}
 use Rattle.jp_match.specs.Place.{Marked, Reached, IsImage}
-use Rattle.jp_match.proofs.Reaching.{Halfway, halfway, onward, reached_as, reached_still, still_reached}
+use Rattle.jp_match.proofs.Reaching.{halfway, onward, reached_as, reached_from, reached_still, still_reached}
 use Rattle.jp_match.proofs.Repeats.{at_most_after, not_at_most, at_most_zero, at_most_below}
 
 true_or_not : (b : Bool) → (b ≡ true) ⊎ (b ≡ true → ⊥)
@@ -106,8 +106,8 @@ grows_more L text first most left fewer reached now united stepped next so_far h
     λ place r. elim (marked_or_not united place) [
       | inl marked ↦ inl marked
       | inr fresh ↦ elim ((both (length r.before)).0 r.begins) [
-        | inl old ↦ inl ((both place).1 (so_far.closed place (record { before = r.before; word = r.word; after = r.after; is = r.is; begins = old; holds = r.holds; ends = r.ends })))
-        | inr new ↦ inr ((rest place).1 ((step.reached place).1 (record { before = r.before; word = r.word; after = r.after; is = r.is; begins = new; holds = r.holds; ends = r.ends }), fresh))
+        | inl old ↦ inl ((both place).1 (so_far.closed place (reached_from L text united reached place r old)))
+        | inr new ↦ inr ((rest place).1 ((step.reached place).1 (reached_from L text united now place r new), fresh))
       ]
     ]
     in

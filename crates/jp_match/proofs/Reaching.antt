@@ -1,9 +1,9 @@
 -- What sets of places reach by words of a language.
-use Rattle.std.proofs.Common.{◌≡◌, ◌↔◌, ◌⊎◌, inl, inr, ℕ, zero, suc, ◌+◌, ◌<◌, ◌≤◌, Bool, true, false, List, [], ◌∷◌, ◌++◌, length, get_or, refl, sym, ap, ◌∙◌, subst, arith}
+use Rattle.std.proofs.Common.{◌≡◌, ◌↔◌, ◌⊎◌, inl, inr, ℕ, suc, Bool, List, [], ◌++◌, length, refl, sym, ap, ◌∙◌, subst, arith}
 use Rattle.std.proofs.lemmas.List.{length-append, append_assoc}
-use Rattle.jp_iregexp.specs.Language.{Joined, Power}
+use Rattle.jp_iregexp.specs.Language.{Joined}
 use Rattle.jp_match.specs.Place.{Marked, Reached, IsImage}
-use Rattle.jp_match.proofs.Cuts.{Cut, cut_apart, cut_at, marked_below}
+use Rattle.jp_match.proofs.Cuts.{cut_apart, cut_at, marked_below}
 
 -- the way is also one by another language that holds its word
 pub reached_as : (L M : List ℕ → Type 0) (text : List ℕ) (from : List Bool) (place : ℕ) → (r : Reached L text from place) → M r.word → Reached M text from place
@@ -14,6 +14,18 @@ reached_as L M text from place r holds = record {
   is = r.is;
   begins = r.begins;
   holds = holds;
+  ends = r.ends;
+}
+
+-- the way is also one from another set that has its beginning
+pub reached_from : (L : List ℕ → Type 0) (text : List ℕ) (from other : List Bool) (place : ℕ) → (r : Reached L text from place) → Marked other (length r.before) → Reached L text other place
+reached_from L text from other place r begins = record {
+  before = r.before;
+  word = r.word;
+  after = r.after;
+  is = r.is;
+  begins = begins;
+  holds = r.holds;
   ends = r.ends;
 }
 

@@ -1,11 +1,11 @@
 -- What repeats reach.
-use Rattle.std.proofs.Common.{◌≡◌, ◌↔◌, ◌⊎◌, inl, inr, ℕ, zero, suc, ◌+◌, ◌-◌, ◌<◌, ◌≤◌, Bool, true, false, List, [], ◌∷◌, ◌++◌, Option, Some, None, length, get_or, refl, sym, ap, ◌∙◌, subst, arith}
+use Rattle.std.proofs.Common.{◌≡◌, ◌↔◌, ◌⊎◌, inl, inr, ℕ, zero, suc, ◌+◌, ◌-◌, ◌≤◌, Bool, List, [], ◌++◌, Option, Some, None, length, refl, sym, ap, ◌∙◌, subst, arith}
 use Rattle.std.proofs.lemmas.List.{append_assoc}
 use Rattle.jp_iregexp.specs.Language.{Joined, Power, IsAtMost, Language}
 use Rattle.jp_iregexp.specs.Tree.{Tree, repeat}
 use Rattle.jp_match.specs.Counts.{Times, IsMostAfter}
-use Rattle.jp_match.specs.Place.{Marked, Reached, IsImage}
-use Rattle.jp_match.proofs.Reaching.{Completes, completes_more, Halfway, halfway, image_by, image_none, reached_as, onward, reached_by, reached_still, still_reached, image_joined, image_still}
+use Rattle.jp_match.specs.Place.{Marked, IsImage}
+use Rattle.jp_match.proofs.Reaching.{Completes, completes_more, image_by, image_none, image_joined, image_still}
 
 -- so many words are first some of them and then the others
 pub power_split : (L : List ℕ → Type 0) (m n s : ℕ) (w : List ℕ) → s ≡ m + n → Power L s w → Joined (Power L m) (Power L n) w

@@ -1,5 +1,5 @@
 -- A step over one character.
-use Rattle.std.proofs.Common.{◌≡◌, ◌↔◌, ℕ, zero, suc, ◌+◌, ◌≤◌, ◌<◌, Bool, true, false, ◌&&◌, List, [], ◌∷◌, ◌++◌, length, get_or, set, take, drop, ◌≢◌, inl, inr, get_or-set_other, get_or-set_same, refl, sym, ap, ◌∙◌, subst, arith}
+use Rattle.std.proofs.Common.{◌≡◌, ℕ, zero, suc, ◌+◌, ◌≤◌, ◌<◌, Bool, true, false, ◌&&◌, List, [], ◌∷◌, ◌++◌, length, get_or, set, take, drop, ◌≢◌, inl, inr, get_or-set_other, get_or-set_same, refl, sym, ap, ◌∙◌, subst, arith}
 use Rattle.std.proofs.lemmas.List.{length-append, length-take, take-append-drop, drop_more}
 use Rattle.std.proofs.Math.Seq.{get_or-append_seam}
 use Rattle.std.proofs.lemmas.Bool.{cases_lt}
@@ -8,7 +8,7 @@ use Rattle.jp_iregexp.specs.Class.{class_holds}
 use Rattle.jp_iregexp.specs.Tree.{class}
 use Rattle.jp_iregexp.specs.Language.{Language}
 use Rattle.jp_match.specs.Place.{Marked, Reached, IsImage}
-use Rattle.jp_match.proofs.Cuts.{Cut, cut_at, marked_below}
+use Rattle.jp_match.proofs.Cuts.{marked_below}
 
 -- whether a place is entered: the place before it is in the set, and the character between them passes
 abbrev pub shifted : (ℕ → Bool) → List ℕ → List Bool → ℕ → Bool

@@ -1,8 +1,8 @@
 -- A pattern written out has exactly the words of the pattern.
-use Rattle.std.proofs.Common.{◌≡◌, ◌↔◌, ◌⊎◌, inl, inr, ℕ, zero, suc, ◌+◌, ◌≤◌, List, [], ◌∷◌, ◌++◌, Option, Some, None, refl, sym, ap, ◌∙◌, subst, arith}
+use Rattle.std.proofs.Common.{◌↔◌, inl, inr, ℕ, zero, suc, ◌≤◌, List, Some, None, arith}
 use Rattle.jp_iregexp.specs.Tree as tree
 use Rattle.jp_iregexp.specs.Tree.{Tree}
-use Rattle.jp_iregexp.specs.Language.{Joined, Power, IsAtMost, Language}
+use Rattle.jp_iregexp.specs.Language.{Joined, Power, Language}
 use Rattle.jp_match.proofs.Plain.{Plain, Words, at_least, between, counted, unrolled}
 
 -- words of languages with the same words, joined

@@ -9,7 +9,7 @@ use std::marker::Model;
 /// How often a matcher has tested whether a class holds a character; at most the greatest `u64`.
 #[derive(Debug, Default, Drop)]
 pub struct Tests {
-    count: u64,
+    made: u64,
 }
 
 impl Model for Tests {
@@ -17,7 +17,7 @@ impl Model for Tests {
 
     ghost Value = { ℕ };
 
-    ghost view = { λ tests. tests.count };
+    ghost view = { λ tests. tests.made };
 }
 
 impl Tests {
@@ -25,14 +25,14 @@ impl Tests {
     pub fn new() -> Tests
         ensures { result ≡ 0 }
     {
-        Tests { count: 0 }
+        Tests { made: 0 }
     }
 
     /// How many tests there were; the greatest `u64` also stands for more.
     pub fn count(&self) -> u64
         ensures { result ≡ self.now }
     {
-        self.count
+        self.made
     }
 
     /// Whether the class holds the character. Every class test of every matcher goes through here.
@@ -41,7 +41,8 @@ impl Tests {
         ensures counted { self.new ≡ min (self.old + 1) (2 ^ 64 - 1) }
         ensures kept { self.old ≤ self.new }
     {
-        self.count = self.count.saturating_add(1);
+        let Tests { made } = self;
+        *made = made.saturating_add(1);
         class.holds(c)
     }
 }

@@ -1,12 +1,11 @@
 //! The plain matcher: for each part of a pattern, the places that its words reach.
 
-ghost use Rattle.std.specs.Prelude.{◌≡◌, ◌↔◌, ◌≤◌, suc, OnOk, IfOk, IsTrue, length, map, Option, Some};
+ghost use Rattle.std.specs.Prelude.{◌≡◌, ◌≤◌, suc, IfOk, OnOk, length, map};
 ghost use Rattle.std.specs.Str.{chars};
 ghost use Rattle.jp_iregexp.specs.Tree.{tree, pieces, branches, repeat};
 ghost use Rattle.jp_iregexp.specs.Language.{Language, Power};
 ghost use Rattle.jp_match.specs.Counts.{IsMostAfter, Times};
-ghost use Rattle.jp_match.specs.Part.{HasPart};
-ghost use Rattle.jp_match.specs.Place.{Marked, IsImage};
+ghost use Rattle.jp_match.specs.Place.{IsImage};
 
 use crate::class_tests::Tests;
 use crate::matching::Matching;

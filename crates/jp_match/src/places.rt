@@ -1,6 +1,6 @@
 //! Sets of places in a text.
 
-ghost use Rattle.std.specs.Prelude.{◌≡◌, ◌↔◌, ◌⊎◌, ℕ, suc, ◌≤◌, Bool, true, false, not, ◌&&◌, IsTrue, IfOk, OnOk, List, length, replicate};
+ghost use Rattle.std.specs.Prelude.{◌≡◌, ◌↔◌, ◌⊎◌, ℕ, suc, ◌≤◌, IsTrue, IfOk, OnOk, length};
 ghost use Rattle.jp_iregexp.specs.Tree.{class as class_tree};
 ghost use Rattle.jp_iregexp.specs.Language.{Language};
 ghost use Rattle.jp_match.specs.Place.{Marked, IsImage};

@@ -5,10 +5,9 @@ use Rattle.jp_iregexp.specs.declared.pattern.Pattern.{Pattern}
 use Rattle.jp_iregexp.specs.Tree.{tree, branches, pieces}
 use Rattle.jp_iregexp.specs.Language.{Language, Power}
 use Rattle.jp_iregexp.proofs.Trees.{tree_class, tree_either, tree_sequence, tree_repeat}
-use Rattle.jp_match.specs.Place.{Marked, IsImage}
 use Rattle.jp_match.proofs.Reaching.{Completes, Covers, completes_more, completes_all, covers_more}
 use Rattle.jp_match.proofs.Repeats.{image_repeat, settled_ends}
-use Rattle.jp_match.proofs.Growing.{Grows, grows_more, grows_all, grows_last, absent, absent_falls}
+use Rattle.jp_match.proofs.Growing.{grows_more, grows_all, grows_last, absent_falls}
 use Rattle.jp_match.proofs.images.+images.Goals as goal
 use Rattle.jp_match.proofs.images.+images.Goals.{at_most_image-else-loop-left-test, at_most_image-then-loop-left-test+in_default, exactly_image-else-loop-test, exactly_image-then-loop-test+in_ok-image+then-is_settled}
 

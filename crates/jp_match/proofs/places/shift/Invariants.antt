@@ -1,4 +1,4 @@
-use Rattle.std.proofs.Common.{◌≡◌, ◌&&◌, ◌<◌, ◌≤◌, ℕ, false, length, get_or}
+use Rattle.std.proofs.Common.{◌≡◌, ◌<◌, ◌≤◌, ℕ, false, length, get_or}
 use Rattle.jp_iregexp.specs.Class.{class_holds}
 use Rattle.jp_match.proofs.Shift.{shifted}
 use Rattle.jp_match.proofs.places.shift.Given as goal

@@ -1,9 +1,8 @@
-use Rattle.std.proofs.Common.{◌≡◌, ◌↔◌, ◌≤◌, ℕ, length, ◌∙◌, subst}
+use Rattle.std.proofs.Common.{◌∙◌}
 use Rattle.std.specs.Str.{chars}
 use Rattle.jp_iregexp.specs.Tree.{tree}
 use Rattle.jp_iregexp.specs.Language.{Language}
-use Rattle.jp_match.specs.Part.{HasPart}
-use Rattle.jp_match.specs.Place.{Marked, IsImage}
+use Rattle.jp_match.specs.Place.{IsImage}
 use Rattle.jp_match.proofs.Ends.{part_reached}
 use Rattle.jp_match.proofs.images.ImagesMatching.part.Goals as goal
 
