@@ -1,0 +1,17 @@
+//! Matchers: whether a text, or a part of it, is in the language of a pattern (RFC 9485).
+//!
+//! A layer above takes a matcher by the bound [`Matching`], whose two answers are language membership, and
+//! counts class tests in a [`Tests`]. [`Images`] is the plain matcher.
+#![tactic(auto)]
+
+mod class_tests;
+mod images;
+mod matching;
+mod places;
+
+pub use class_tests::Tests;
+pub use images::Images;
+pub use matching::Matching;
+
+#[cfg(test)]
+mod tests;
