@@ -1,12 +1,12 @@
 -- The values one step inside: what holds everywhere holds there, and where they stand in a document.
-use Rattle.std.proofs.Common.{◌≡◌, ℕ, suc, ◌+◌, ◌<◌, Bool, true, false, ◌&&◌, List, [], ◌∷◌, ◌++◌, length, get_or, drop, map, Option, Some, None, cond, refl, sym, ap, subst, ◌∙◌}
+use Rattle.std.proofs.Common.{◌≡◌, ℕ, suc, ◌+◌, ◌<◌, Bool, true, false, List, [], ◌∷◌, ◌++◌, length, get_or, drop, map, Option, Some, None, cond, refl, sym, ap, subst, ◌∙◌}
 use Rattle.std.specs.BTreeMap.{is_at}
 use Rattle.std.specs.Map.{lookup}
 use Rattle.std.proofs.lemmas.List.{drop_more}
 use Rattle.std.proofs.lemmas.Option.{same_Some}
-use Rattle.std.specs.Option.{MatchOption, option_map, option_and_then}
+use Rattle.std.specs.Option.{option_map, option_and_then}
 use Rattle.jp_document.specs.declared.location.Step.{Step}
-use Rattle.jp_document.specs.Location.{Key, key_cmp, key_of, Location, items_from, members_by_name, held, child, value_at}
+use Rattle.jp_document.specs.Location.{Key, key_cmp, key_of, Location, items_from, members_by_name, child, value_at}
 use Rattle.jp_document.specs.Node.{Located, told, told_child, StandsIn, IsNodeAt}
 use Rattle.jp_document.specs.Value.{Value, null, boolean, whole, text, list, object, Items, no_items, item, Members, no_members, member, everywhere, everywhere_in_items, everywhere_in_members, is_allowed, IsDocumentValue, value_of}
 use Rattle.jp_document.proofs.Names.{and-left, and-right}
@@ -81,13 +81,13 @@ value_from_pair n p None is = cc
 value_from_pair n p (Some v) is = let same : p ≡ (n, v) = same_Some _ _ is in ap Some (sym (ap (λ q. q.1) same))
 
 -- one step of a walk along a location: on to a value, or to none
-pub walked : (steps : List Step) (i : ℕ) (e : Step) (v w : Value) (all : Option Value) → i < length steps → Some w ≡ child v (key_of (get_or steps i e)) → value_at v (map key_of (drop i steps)) ≡ all
-    → value_at w (map key_of (drop (i + 1) steps)) ≡ all
-walked steps i e v w all within is before =
-    let next = map key_of (drop (i + 1) steps) in
-    ap (option_and_then (λ x. value_at x next)) is ∙ sym (ap (λ ks. value_at v (map key_of ks)) (drop_more steps i e within)) ∙ before
+pub walked : {S : Type 0} (key : S → Key) (steps : List S) (i : ℕ) (e : S) (v w : Value) (all : Option Value) → i < length steps → Some w ≡ child v (key (get_or steps i e)) → value_at v (map key (drop i steps)) ≡ all
+    → value_at w (map key (drop (i + 1) steps)) ≡ all
+walked key steps i e v w all within is before =
+    let next = map key (drop (i + 1) steps) in
+    ap (option_and_then (λ x. value_at x next)) is ∙ sym (ap (λ ks. value_at v (map key ks)) (drop_more steps i e within)) ∙ before
 
-pub walked_out : (steps : List Step) (i : ℕ) (e : Step) (v : Value) (all : Option Value) → i < length steps → None ≡ child v (key_of (get_or steps i e)) → value_at v (map key_of (drop i steps)) ≡ all → None ≡ all
-walked_out steps i e v all within is before =
-    let next = map key_of (drop (i + 1) steps) in
-    ap (option_and_then (λ x. value_at x next)) is ∙ sym (ap (λ ks. value_at v (map key_of ks)) (drop_more steps i e within)) ∙ before
+pub walked_out : {S : Type 0} (key : S → Key) (steps : List S) (i : ℕ) (e : S) (v : Value) (all : Option Value) → i < length steps → None ≡ child v (key (get_or steps i e)) → value_at v (map key (drop i steps)) ≡ all → None ≡ all
+walked_out key steps i e v all within is before =
+    let next = map key (drop (i + 1) steps) in
+    ap (option_and_then (λ x. value_at x next)) is ∙ sym (ap (λ ks. value_at v (map key ks)) (drop_more steps i e within)) ∙ before
