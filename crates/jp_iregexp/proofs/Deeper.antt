@@ -1,5 +1,5 @@
 -- A text that spells a pattern with so many groups inside one another spells it also where more are allowed.
-use Rattle.std.proofs.Common.{ℕ, zero, suc, ◌≤◌, arith}
+use Rattle.std.proofs.Common.{[], ℕ, zero, suc, ◌≤◌, arith}
 use Rattle.std.specs.Prelude.{codes}
 use Rattle.jp_reading.specs.Texts.{Text}
 use Rattle.jp_reading.specs.Forms.{Form, ◌⌢◌, word}
@@ -42,4 +42,4 @@ lift-inside (suc n) (suc m) h x s o t g = lift-branches (Inside n) (Inside m) (l
 
 -- more groups may stand inside one another
 pub deeper : (n m : ℕ) → n ≤ m → (x : Tree) (t : Text) → SpellsPattern n x t → SpellsPattern m x t
-deeper n m h x t g = record { spans = g.spans; is = lift-branches (Inside n) (Inside m) (lift-inside n m h) x g.spans 0 t g.is }
+deeper n m h x t g = record { is = lift-branches (Inside n) (Inside m) (lift-inside n m h) x [] 0 t g.is }

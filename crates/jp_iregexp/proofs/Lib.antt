@@ -1,8 +1,10 @@
-mod Rows
+mod ClassRows
+mod PatternRows
 pub mod CodeLemmas
 pub mod Deeper
 pub mod Languages
 pub mod Moves
+pub mod NoSpans
 pub mod SpeltCharacters
 pub mod SpeltClasses
 pub mod SpeltPatterns

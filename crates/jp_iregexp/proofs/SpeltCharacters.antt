@@ -2,37 +2,20 @@
 use Rattle.std.proofs.Common.{◌≡◌, ℕ, true, false, [], ◌∷◌, Option, Some, None, refl, sym, ap, ◌∙◌, subst}
 use Rattle.std.specs.Prelude.{codes}
 use Rattle.std.specs.Char.{is_ascii_alphabetic}
-use Rattle.jp_reading.specs.Texts.{Text}
 use Rattle.jp_reading.specs.Forms.{◌⌢◌, word, One}
 use Rattle.jp_reading.specs.Outcome.{State, took, head, past, passes, is, is_at}
 use Rattle.jp_reading.proofs.Steps.{take_if-takes, is-other, is_at-other}
-use Rattle.jp_reading.proofs.Between.{Reads, reads-then, reads-as, reads-is}
-use Rattle.jp_reading.proofs.Again.{Split, split, word-first, one-first, again-take_if, again-expect, at-word, past-word}
+use Rattle.jp_reading.proofs.Between.{Reads, reads-then, reads-is}
+use Rattle.jp_reading.proofs.Again.{split-word, split, word-first, one-first, again-take_if, again-expect, at-word, past-word}
 use Rattle.jp_iregexp.specs.declared.category.Category.{Category}
 use Rattle.jp_iregexp.specs.declared.class.ClassItem.{ClassItem}
 use Rattle.jp_iregexp.specs.declared.class.ClassItem.TheVariants as item
 use Rattle.jp_iregexp.specs.Characters.{Character, itself, escaped, is_plain, is_escaped, meant}
 use Rattle.jp_iregexp.specs.Codes.{letters, pair, code_of}
 use Rattle.jp_iregexp.specs.Grammar as grammar
-use Rattle.jp_iregexp.specs.Grammar.{Escape, Hyphen, Element, First, Last, Items, Uncareted, Class, Number, Most, Quantifier, one, dot, Atom, Piece, Branch, Branches, Inside, SpellsPattern}
+use Rattle.jp_iregexp.specs.Grammar.{Escape, Hyphen, Element, First, Last, Items, NotAtCaret, Class, Number, Most, Quantifier, one, dot, Atom, Piece, Branch, Branches, Inside, SpellsPattern}
 use Rattle.jp_iregexp.specs.Reading.{escaped_at, character_at, is_category_sign, code_at, category_at, begins_element}
 use Rattle.jp_iregexp.proofs.CodeLemmas.{lettered, AreLetters}
-
--- a word is its first character and the others
-pub split-word : (c : ℕ) (w : Text) (p q : State) → Reads (word (c ∷ w)) p q → Split (word (c ∷ [])) (word w) p q
-split-word c w p q h =
-    split (word (c ∷ [])) (word w) p q
-    (reads-as (word (c ∷ w)) (word (c ∷ []) ⌢ word w) p q
-    (λ s o t g. record {
-      first_spans = [];
-      second_spans = [];
-      first = c ∷ [];
-      second = w;
-      spans = g.none;
-      is = g.is;
-      one = record { none = refl; is = refl };
-      two = record { none = refl; is = refl };
-    }) h)
 
 -- a character that stands for itself in a class begins an item
 pub plain-element : (c : ℕ) → is_plain c ≡ true → begins_element c ≡ true

@@ -8,16 +8,16 @@ use Rattle.jp_reading.specs.Forms.{◌⌢◌, word, One, Each}
 use Rattle.jp_reading.specs.Outcome.{State, took, head, first_of, past, past_first, passes, is, is_at, expect}
 use Rattle.jp_reading.proofs.Steps.{head-is, is_at-other}
 use Rattle.jp_reading.proofs.Between.{Reads, reads-then, reads-is}
-use Rattle.jp_reading.proofs.Again.{Starts, Split, split, reads-none, word-first, one-first, again-expect, again-each, at-word, past-word}
+use Rattle.jp_reading.proofs.Again.{split-word, Starts, Split, split, reads-none, word-first, one-first, again-expect, again-each, at-word, past-word}
 use Rattle.jp_iregexp.specs.declared.class.ClassItem.{ClassItem}
 use Rattle.jp_iregexp.specs.declared.class.ClassItem.TheVariants as item
 use Rattle.jp_iregexp.specs.Characters.{Character, itself, escaped, is_plain, is_escaped}
 use Rattle.jp_iregexp.specs.Tree.{Tree, class}
 use Rattle.jp_iregexp.specs.Grammar as grammar
-use Rattle.jp_iregexp.specs.Grammar.{Escape, Hyphen, Element, First, Last, Items, Uncareted, Class, Number, Most, Quantifier, one, dot, Atom, Piece, Branch, Branches, Inside, SpellsPattern}
+use Rattle.jp_iregexp.specs.Grammar.{Escape, Hyphen, Element, First, Last, Items, NotAtCaret, Class, Number, Most, Quantifier, one, dot, Atom, Piece, Branch, Branches, Inside, SpellsPattern}
 use Rattle.jp_iregexp.specs.Reading.{is_category_sign, is_at_category, range_at, element_at, begins_element, elements_at, hyphen_at, first_at, last_at, items_at, negation_at, class_at}
 use Rattle.jp_iregexp.proofs.Moves.{moves-element}
-use Rattle.jp_iregexp.proofs.SpeltCharacters.{split-word, plain-element, plain-no-backslash, escaped-no-sign, again-character, again-escape, Escaped}
+use Rattle.jp_iregexp.proofs.SpeltCharacters.{plain-element, plain-no-backslash, escaped-no-sign, again-character, again-escape, Escaped}
 
 -- the text behind the first character
 abbrev behind : Text → Text
@@ -222,13 +222,13 @@ not-caret (c ∷ t) m r e begins at =
 pub again-class : (x : Tree) (p q : State) → Reads (Class x) p q → class_at p ≡ took x q
 again-class x p q h = elim h.is [
   | grammar.plain xs e g ↦
-      (let parts = split (word (codes "[")) (Uncareted xs ⌢ word (codes "]")) p q (reads-is (Class x) (word (codes "[") ⌢ Uncareted xs ⌢ word (codes "]")) p q h g) in
+      (let parts = split (word (codes "[")) (NotAtCaret xs ⌢ word (codes "]")) p q (reads-is (Class x) (word (codes "[") ⌢ NotAtCaret xs ⌢ word (codes "]")) p q h g) in
       let m = parts.middle in
-      let tail = split (Uncareted xs) (word (codes "]")) m q parts.two in
+      let tail = split (NotAtCaret xs) (word (codes "]")) m q parts.two in
       let items = tail.one in
       let none = not-caret items.text m tail.middle items.way.rest items.is.begins (at-word 93 [] tail.middle q tail.two) in
       class-rest false xs p m m q (again-expect 91 p m parts.one) (rw none refl)
-      (reads-then (Items xs) (word (codes "]")) m tail.middle q (reads-is (Uncareted xs) (Items xs) m tail.middle items items.is.is) tail.two)
+      (reads-then (Items xs) (word (codes "]")) m tail.middle q (reads-is (NotAtCaret xs) (Items xs) m tail.middle items items.is.is) tail.two)
       ∙ ap (λ y. took y q) (sym e))
   | grammar.negated xs e g ↦
       (let parts = split (word (codes "[^")) (Items xs ⌢ word (codes "]")) p q (reads-is (Class x) (word (codes "[^") ⌢ Items xs ⌢ word (codes "]")) p q h g) in

@@ -15,7 +15,7 @@ use Rattle.jp_iregexp.specs.declared.class.ClassItem.{ClassItem}
 use Rattle.jp_iregexp.specs.Characters.{Character, itself, escaped, is_normal, is_escaped, meant}
 use Rattle.jp_iregexp.specs.Tree.{Tree, class, repeat, branches}
 use Rattle.jp_iregexp.specs.Grammar as grammar
-use Rattle.jp_iregexp.specs.Grammar.{Escape, Hyphen, Element, First, Last, Items, Uncareted, Class, Number, Most, Quantifier, one, dot, Atom, Piece, Branch, Branches, Inside, SpellsPattern}
+use Rattle.jp_iregexp.specs.Grammar.{Escape, Hyphen, Element, First, Last, Items, NotAtCaret, Class, Number, Most, Quantifier, one, dot, Atom, Piece, Branch, Branches, Inside, SpellsPattern}
 use Rattle.jp_iregexp.specs.Reading.{is_category_sign, escape_at, group_at, atom_at, piece_at, branch_at, next_branch_at, branches_at, inside_at, pattern_at, begins_piece, begins_quantifier}
 use Rattle.jp_iregexp.proofs.Moves.{moves-piece, moves-next_branch, keeps-inside}
 use Rattle.jp_iregexp.proofs.SpeltCharacters.{escaped-no-sign, again-escaped, again-escape, Escaped}
@@ -57,7 +57,7 @@ branch-quantifier (Some c) h =
 class-first : (x : Tree) (p q : State) → Reads (Class x) p q → head p ≡ Some 91
 class-first x p q h = elim h.is [
   | grammar.plain xs e g ↦
-      (let parts = split (word (codes "[")) (Uncareted xs ⌢ word (codes "]")) p q (reads-is (Class x) (word (codes "[") ⌢ Uncareted xs ⌢ word (codes "]")) p q h g) in
+      (let parts = split (word (codes "[")) (NotAtCaret xs ⌢ word (codes "]")) p q (reads-is (Class x) (word (codes "[") ⌢ NotAtCaret xs ⌢ word (codes "]")) p q h g) in
       word-first 91 [] p parts.middle parts.one)
   | grammar.negated xs e g ↦
       (let parts = split (word (codes "[^")) (Items xs ⌢ word (codes "]")) p q (reads-is (Class x) (word (codes "[^") ⌢ Items xs ⌢ word (codes "]")) p q h g) in

@@ -9,14 +9,13 @@ use Rattle.jp_reading.specs.Forms.{◌⌢◌, word, One}
 use Rattle.jp_reading.specs.Outcome.{State, took, past, passes, is, is_at, take_if, expect}
 use Rattle.jp_reading.specs.Views.{by}
 use Rattle.jp_reading.proofs.Between.{Reads, reads-then, reads-as}
-use Rattle.jp_reading.proofs.Steps.{head-is}
-use Rattle.jp_reading.proofs.Fits.{Fits, fits-then, fits-if, fits-by, fits-as, reads-nothing, reads-word, fits-take_if, fits-expect}
+use Rattle.jp_reading.proofs.Fits.{reads-words, reads-next, Fits, fits-then, fits-if, fits-by, fits-as, reads-nothing, fits-take_if, fits-expect}
 use Rattle.jp_iregexp.specs.declared.category.Category.{Category}
 use Rattle.jp_iregexp.specs.declared.class.ClassItem.TheVariants as item
 use Rattle.jp_iregexp.specs.Characters.{Character, itself, escaped, is_plain, is_escaped, meant}
 use Rattle.jp_iregexp.specs.Codes.{letters, pair, code_of}
 use Rattle.jp_iregexp.specs.Grammar as grammar
-use Rattle.jp_iregexp.specs.Grammar.{Escape, Hyphen, Element, First, Last, Items, Uncareted, Class, Number, Most, Quantifier, one, dot, Atom, Piece, Branch, Branches, Inside, SpellsPattern}
+use Rattle.jp_iregexp.specs.Grammar.{Escape, Hyphen, Element, First, Last, Items, NotAtCaret, Class, Number, Most, Quantifier, one, dot, Atom, Piece, Branch, Branches, Inside, SpellsPattern}
 use Rattle.jp_iregexp.specs.Reading.{there, escaped_at, character_at, is_category_sign, second_at, code_at, category_at}
 use Rattle.jp_iregexp.proofs.CodeLemmas.{code_of-letters}
 
@@ -24,17 +23,6 @@ pub both : (a b : Bool) → a && b ≡ true → (a ≡ true) × (b ≡ true)
 both true true h = (refl, refl)
 both true false h = cc
 both false b h = cc
-
--- the character c stands next
-pub next : (c : ℕ) (p : State) → is_at c p ≡ true → Reads (word (c ∷ [])) p (past p)
-next c p h = reads-word p c (head-is c p h)
-
--- two words are one
-pub words : (v w : Text) (p q r : State) → Reads (word v) p q → Reads (word w) q r → Reads (word (v ++ w)) p r
-words v w p q r h g =
-    reads-as (word v ⌢ word w) (word (v ++ w)) p r
-    (λ s o t k. record { none = rw (k.spans, k.one.none, k.two.none) refl; is = rw (k.is, k.one.is, k.two.is) refl })
-    (reads-then (word v) (word w) p q r h g)
 
 pub fits-escaped : (plain : ℕ → Bool) (p q : State) → Reads (word (codes "\\")) p q → Fits (Character plain) p (escaped_at q)
 unfolding escaped_at
@@ -47,7 +35,7 @@ pub fits-character : (p : State) → Fits (Character is_plain) p (character_at p
 unfolding character_at
 fits-character p =
     fits-if (Character is_plain) (is_at 92 p) p (escaped_at (past p)) (take_if is_plain p)
-    (λ h. fits-escaped is_plain p (past p) (next 92 p h))
+    (λ h. fits-escaped is_plain p (past p) (reads-next 92 p h))
     (λ h. fits-as (One is_plain) (Character is_plain) p (take_if is_plain p) (λ c s o t k. itself k) (fits-take_if is_plain p))
 
 -- the second letter of a code, where there is one
@@ -72,7 +60,7 @@ fits-code p =
     fits-then (One is_ascii_alphabetic) (λ k. word (letters k)) p p (take_if is_ascii_alphabetic p) _ (fits-take_if is_ascii_alphabetic p)
     (λ a q one. fits-then (λ b. word (second b)) (λ k. word (letters k)) p q (second_at q) _ (fits-second q)
     (λ b r two. found a b p r (code_of a b) refl
-    (words (a ∷ []) (second b) p q r (reads-as (One is_ascii_alphabetic a) (word (a ∷ [])) p q (λ s o t g. record { none = g.none; is = g.is }) one) two)))
+    (reads-words (a ∷ []) (second b) p q r (reads-as (One is_ascii_alphabetic a) (word (a ∷ [])) p q (λ s o t g. record { none = g.none; is = g.is }) one) two)))
   where
     found : (a : ℕ) (b : Option ℕ) (p r : State) (o : Option Category) → code_of a b ≡ o → Reads (word (a ∷ [] ++ second b)) p r → Fits (λ k. word (letters k)) p (there o r)
     found a b p r None e h = tt
@@ -92,7 +80,7 @@ fits-category p q behind =
   where
     sign_of : (c : ℕ) (p q q1 : State) → Reads (word (codes "\\")) p q → Reads (One is_category_sign c) q q1 → (is_category_sign c ≡ true) × Reads (word (92 ∷ c ∷ [])) p q1
     sign_of c p q q1 h g =
-        (g.is.passes, words (92 ∷ []) (c ∷ []) p q q1 h (reads-as (One is_category_sign c) (word (c ∷ [])) q q1 (λ s o t k. record { none = k.none; is = k.is }) g))
+        (g.is.passes, reads-words (92 ∷ []) (c ∷ []) p q q1 h (reads-as (One is_category_sign c) (word (c ∷ [])) q q1 (λ s o t k. record { none = k.none; is = k.is }) g))
 
     escape : (c : ℕ) (k : Category) (p q1 q2 q3 q4 : State) → is_category_sign c ≡ true → Reads (word (92 ∷ c ∷ [])) p q1 → Reads (word (codes "{")) q1 q2
         → Reads (word (letters k)) q2 q3 → Reads (word (codes "}")) q3 q4 → Reads (Escape (item.Category k (is 80 c))) p q4
@@ -100,10 +88,10 @@ fits-category p q behind =
         elim (cases_Bool (is 80 c)) [
           | inl h ↦ rw h (reads-as (word (codes "\\P{") ⌢ word (letters k) ⌢ word (codes "}")) (Escape (item.Category k true)) p q4 (λ s o t g. grammar.outside k refl g)
               (reads-then (word (codes "\\P{")) (word (letters k) ⌢ word (codes "}")) p q2 q4
-              (words (codes "\\P") (codes "{") p q1 q2 (subst (λ d. Reads (word (92 ∷ d ∷ [])) p q1) (eqb-true c 80 h) sign) brace)
+              (reads-words (codes "\\P") (codes "{") p q1 q2 (subst (λ d. Reads (word (92 ∷ d ∷ [])) p q1) (eqb-true c 80 h) sign) brace)
               (reads-then (word (letters k)) (word (codes "}")) q2 q3 q4 code last)))
           | inr h ↦ rw h (reads-as (word (codes "\\p{") ⌢ word (letters k) ⌢ word (codes "}")) (Escape (item.Category k false)) p q4 (λ s o t g. grammar.within k refl g)
               (reads-then (word (codes "\\p{")) (word (letters k) ⌢ word (codes "}")) p q2 q4
-              (words (codes "\\p") (codes "{") p q1 q2 (subst (λ d. Reads (word (92 ∷ d ∷ [])) p q1) (sign-is c passes h) sign) brace)
+              (reads-words (codes "\\p") (codes "{") p q1 q2 (subst (λ d. Reads (word (92 ∷ d ∷ [])) p q1) (sign-is c passes h) sign) brace)
               (reads-then (word (letters k)) (word (codes "}")) q2 q3 q4 code last)))
         ]

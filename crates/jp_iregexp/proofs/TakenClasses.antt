@@ -8,21 +8,21 @@ use Rattle.jp_reading.specs.Forms.{◌⌢◌, word, Each}
 use Rattle.jp_reading.specs.Outcome.{State, took, stuck, ◌>>=◌, head, first_of, past, passes, is, is_at, expect}
 use Rattle.jp_reading.specs.Views.{by, with_front}
 use Rattle.jp_reading.proofs.Between.{Reads, reads-then, reads-as}
-use Rattle.jp_reading.proofs.Fits.{Fits, fits-then, fits-if, fits-by, fits-as, reads-nothing, fits-expect, fits-each}
+use Rattle.jp_reading.proofs.Fits.{reads-words, reads-next, Fits, fits-then, fits-if, fits-by, fits-as, reads-nothing, fits-expect, fits-each}
 use Rattle.jp_iregexp.specs.declared.class.ClassItem.{ClassItem}
 use Rattle.jp_iregexp.specs.declared.class.ClassItem.TheVariants as item
 use Rattle.jp_iregexp.specs.Characters.{Character, is_plain}
 use Rattle.jp_iregexp.specs.Tree.{class}
 use Rattle.jp_iregexp.specs.Grammar as grammar
-use Rattle.jp_iregexp.specs.Grammar.{Escape, Hyphen, Element, First, Last, Items, Uncareted, Class, Number, Most, Quantifier, one, dot, Atom, Piece, Branch, Branches, Inside, SpellsPattern}
+use Rattle.jp_iregexp.specs.Grammar.{Escape, Hyphen, Element, First, Last, Items, NotAtCaret, Class, Number, Most, Quantifier, one, dot, Atom, Piece, Branch, Branches, Inside, SpellsPattern}
 use Rattle.jp_iregexp.specs.Reading.{character_at, is_category_sign, category_at, is_at_category, range_at, element_at, begins_element, elements_at, hyphen_at, first_at, last_at, items_at, class_at}
-use Rattle.jp_iregexp.proofs.TakenCharacters.{both, next, words, fits-character, fits-category}
+use Rattle.jp_iregexp.proofs.TakenCharacters.{both, fits-character, fits-category}
 
 fits-range : (c : ℕ) (p q : State) → Reads (Character is_plain c) p q → Fits Element p (range_at c q)
 unfolding range_at
 fits-range c p q first =
     fits-if Element (is_at 45 q && not (is_at 93 (past q))) p _ (took (item.Range c c) q)
-    (λ h. let behind = next 45 q (both (is_at 45 q) (not (is_at 93 (past q))) h).0 in
+    (λ h. let behind = reads-next 45 q (both (is_at 45 q) (not (is_at 93 (past q))) h).0 in
     fits-then (Character is_plain) Element p (past q) (character_at (past q)) _ (fits-character (past q))
     (λ d r two. fits-if Element (nat_lt d c) p (stuck r) (took (item.Range c d) r) (λ less. tt)
     (λ more. reads-as (Character is_plain c ⌢ word (codes "-") ⌢ Character is_plain d) (Element (item.Range c d)) p r
@@ -36,7 +36,7 @@ unfolding element_at
 fits-element p =
     fits-if Element (is_at_category p) p (category_at (past p)) (character_at p >>= λ c q. range_at c q)
     (λ h. fits-as Escape Element p (category_at (past p)) (λ x s o t g. grammar.class_escape g)
-    (fits-category p (past p) (next 92 p (both (is_at 92 p) (passes is_category_sign (head (past p))) h).0)))
+    (fits-category p (past p) (reads-next 92 p (both (is_at 92 p) (passes is_category_sign (head (past p))) h).0)))
     (λ h. fits-then (Character is_plain) Element p p (character_at p) (λ c q. range_at c q) (fits-character p) (λ c q one. fits-range c p q one))
 
 fits-hyphen : (p : State) → Fits Hyphen p (hyphen_at p)
@@ -100,12 +100,12 @@ fits-class p =
     (λ x q opening. (elim (cases_Bool (is_at 94 q)) [
       | inl caret ↦ rw caret (fits-class-rest true p q (past q) (λ xs u items m end.
           reads-as (word (codes "[^") ⌢ Items xs ⌢ word (codes "]")) (Class (class true xs)) p m (λ s o t g. grammar.negated xs refl g)
-          (reads-then (word (codes "[^")) (Items xs ⌢ word (codes "]")) p (past q) m (words (codes "[") (codes "^") p q (past q) opening (next 94 q caret))
+          (reads-then (word (codes "[^")) (Items xs ⌢ word (codes "]")) p (past q) m (reads-words (codes "[") (codes "^") p q (past q) opening (reads-next 94 q caret))
           (reads-then (Items xs) (word (codes "]")) (past q) u m items end))))
       | inr none ↦ rw none (fits-class-rest false p q q (λ xs u items m end.
-          reads-as (word (codes "[") ⌢ Uncareted xs ⌢ word (codes "]")) (Class (class false xs)) p m (λ s o t g. grammar.plain xs refl g)
-          (reads-then (word (codes "[")) (Uncareted xs ⌢ word (codes "]")) p q m opening
-          (reads-then (Uncareted xs) (word (codes "]")) q u m
+          reads-as (word (codes "[") ⌢ NotAtCaret xs ⌢ word (codes "]")) (Class (class false xs)) p m (λ s o t g. grammar.plain xs refl g)
+          (reads-then (word (codes "[")) (NotAtCaret xs ⌢ word (codes "]")) p q m opening
+          (reads-then (NotAtCaret xs) (word (codes "]")) q u m
           (record {
             spans = items.spans;
             text = items.text;

@@ -6,13 +6,13 @@ use Rattle.jp_reading.specs.Texts.{Text}
 use Rattle.jp_reading.specs.Forms.{Form, ◌⌢◌, word, One, Each, Separated}
 use Rattle.jp_reading.specs.Outcome.{State, Outcome, took, stuck, deep, ◌>>=◌, head, past, passes, is_at, is_end, take_if, expect, each}
 use Rattle.jp_reading.proofs.Between.{Reads, reads-then, reads-as}
-use Rattle.jp_reading.proofs.Fits.{Fits, fits-then, fits-if, fits-by, fits-as, fits-take_if, fits-expect, fits-each}
+use Rattle.jp_reading.proofs.Fits.{reads-next, Fits, fits-then, fits-if, fits-by, fits-as, fits-take_if, fits-expect, fits-each}
 use Rattle.jp_iregexp.specs.Characters.{Character, itself, is_normal}
 use Rattle.jp_iregexp.specs.Tree.{Tree, class, repeat, branches, pieces}
 use Rattle.jp_iregexp.specs.Grammar as grammar
-use Rattle.jp_iregexp.specs.Grammar.{Escape, Hyphen, Element, First, Last, Items, Uncareted, Class, Number, Most, Quantifier, one, dot, Atom, Piece, Branch, Branches, Inside, SpellsPattern}
+use Rattle.jp_iregexp.specs.Grammar.{Escape, Hyphen, Element, First, Last, Items, NotAtCaret, Class, Number, Most, Quantifier, one, dot, Atom, Piece, Branch, Branches, Inside, SpellsPattern}
 use Rattle.jp_iregexp.specs.Reading.{escaped_at, is_category_sign, category_at, class_at, quantifier_at, escape_at, group_at, atom_at, piece_at, pieces_at, branch_at, next_branch_at, branches_at, inside_at, pattern_at, begins_piece, begins_quantifier}
-use Rattle.jp_iregexp.proofs.TakenCharacters.{next, fits-escaped, fits-category}
+use Rattle.jp_iregexp.proofs.TakenCharacters.{fits-escaped, fits-category}
 use Rattle.jp_iregexp.proofs.TakenClasses.{fits-class}
 use Rattle.jp_iregexp.proofs.TakenQuantifiers.{fits-quantifier, Counted}
 
@@ -43,9 +43,9 @@ module _ (Group : Tree → Form) (inside : State → Outcome Tree) (fits : (p : 
       (λ h. fits-if (Atom Group) (is_at 91 p) p (class_at p) _
       (λ h. fits-as Class (Atom Group) p (class_at p) (λ x s o t g. grammar.brackets g) (fits-class p))
       (λ h. fits-if (Atom Group) (is_at 46 p) p (took dot (past p)) _
-      (λ h. reads-as (word (codes ".")) (Atom Group dot) p (past p) (λ s o t g. grammar.anything refl g) (next 46 p h))
+      (λ h. reads-as (word (codes ".")) (Atom Group dot) p (past p) (λ s o t g. grammar.anything refl g) (reads-next 46 p h))
       (λ h. fits-if (Atom Group) (is_at 92 p) p (escape_at (past p)) _
-      (λ h. fits-escape p (past p) (next 92 p h))
+      (λ h. fits-escape p (past p) (reads-next 92 p h))
       (λ h. fits-by one (One is_normal) (Atom Group) p p (take_if is_normal p) (fits-take_if is_normal p)
       (λ c q g. reads-as (One is_normal c) (Atom Group (one c)) p q (λ s o t k. grammar.character c refl (itself k)) g)))))
 

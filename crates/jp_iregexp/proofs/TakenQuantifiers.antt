@@ -9,12 +9,11 @@ use Rattle.jp_reading.specs.Outcome.{State, took, stuck, past, is_at, expect}
 use Rattle.jp_reading.specs.Views.{by}
 use Rattle.jp_reading.proofs.Between.{reads-then, reads-as}
 use Rattle.jp_reading.proofs.Digits.{capped-is_min}
-use Rattle.jp_reading.proofs.Fits.{Fits, fits-then, fits-if, fits-by, reads-nothing, fits-expect, fits-digits}
+use Rattle.jp_reading.proofs.Fits.{reads-next, Fits, fits-then, fits-if, fits-by, reads-nothing, fits-expect, fits-digits}
 use Rattle.jp_iregexp.specs.declared.quantifiers.Count.{Count}
 use Rattle.jp_iregexp.specs.Grammar as grammar
-use Rattle.jp_iregexp.specs.Grammar.{Escape, Hyphen, Element, First, Last, Items, Uncareted, Class, Number, Most, Quantifier, one, dot, Atom, Piece, Branch, Branches, Inside, SpellsPattern}
+use Rattle.jp_iregexp.specs.Grammar.{Escape, Hyphen, Element, First, Last, Items, NotAtCaret, Class, Number, Most, Quantifier, one, dot, Atom, Piece, Branch, Branches, Inside, SpellsPattern}
 use Rattle.jp_iregexp.specs.Reading.{number_at, most_at, braces_at, quantifier_at}
-use Rattle.jp_iregexp.proofs.TakenCharacters.{next}
 
 -- a number as it is read, capped
 record Capped (n : ℕ) (s : Spans) (o : ℕ) (t : Text) : Type 0 where
@@ -61,11 +60,11 @@ pub fits-quantifier : (p : State) → Fits Counted p (quantifier_at p)
 unfolding quantifier_at braces_at
 fits-quantifier p =
     fits-if Counted (is_at 42 p) p _ _
-    (λ h. reads-as (word (codes "*")) (Quantifier 0 None) p (past p) (λ s o t g. grammar.any refl refl g) (next 42 p h))
+    (λ h. reads-as (word (codes "*")) (Quantifier 0 None) p (past p) (λ s o t g. grammar.any refl refl g) (reads-next 42 p h))
     (λ h. fits-if Counted (is_at 43 p) p _ _
-    (λ h. reads-as (word (codes "+")) (Quantifier 1 None) p (past p) (λ s o t g. grammar.some refl refl g) (next 43 p h))
+    (λ h. reads-as (word (codes "+")) (Quantifier 1 None) p (past p) (λ s o t g. grammar.some refl refl g) (reads-next 43 p h))
     (λ h. fits-if Counted (is_at 63 p) p _ _
-    (λ h. reads-as (word (codes "?")) (Quantifier 0 (Some 1)) p (past p) (λ s o t g. grammar.optional refl refl g) (next 63 p h))
+    (λ h. reads-as (word (codes "?")) (Quantifier 0 (Some 1)) p (past p) (λ s o t g. grammar.optional refl refl g) (reads-next 63 p h))
     (λ h. fits-then (λ x. word (codes "{")) Counted p p (expect 123 p) _ (fits-expect 123 p)
     (λ x q opening. fits-then Number Counted p q (number_at q) _ (fits-number q)
     (λ n r number. fits-then (Most n) Counted p r (most_at n r) _ (fits-most n r)

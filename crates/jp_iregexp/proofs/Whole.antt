@@ -1,7 +1,7 @@
 -- Whole texts: what is read, and that nothing else is spelt.
-use Rattle.std.proofs.Common.{◌≡◌, ℕ, ◌+◌, refl, subst, arith}
+use Rattle.std.proofs.Common.{[], ◌≡◌, ℕ, ◌+◌, refl, subst, arith}
 use Rattle.jp_reading.specs.declared.reader.Stop.TheVariants.{Syntax, TooDeep}
-use Rattle.jp_reading.specs.Texts.{Text}
+use Rattle.jp_reading.specs.Texts.{Text, Spans}
 use Rattle.jp_reading.specs.Outcome.{State, took}
 use Rattle.jp_reading.specs.Views.{Fails}
 use Rattle.jp_reading.proofs.Fits.{Fits}
@@ -11,19 +11,19 @@ use Rattle.jp_iregexp.specs.Grammar.{Branches, Inside, SpellsPattern}
 use Rattle.jp_iregexp.specs.Spelled.{SpellsNone, OnePattern}
 use Rattle.jp_iregexp.specs.Reading.{pattern_at}
 use Rattle.jp_iregexp.proofs.TakenPatterns.{fits-pattern, pattern-ends}
+use Rattle.jp_iregexp.proofs.NoSpans.{no-spans}
 use Rattle.jp_iregexp.proofs.SpeltPatterns.{again-pattern}
 use Rattle.jp_iregexp.proofs.Deeper.{deeper}
 
 -- what spells a pattern is read as it
-spelt-read : (n : ℕ) (x : Tree) (t : Text) (h : SpellsPattern n x t) → pattern_at n (start t) ≡ took x (finish t h.spans)
-spelt-read n x t h = again-pattern n x (start t) (finish t h.spans) (reads-whole (Branches (Inside n) x) h.spans t h.is) refl
+spelt-read : (n : ℕ) (x : Tree) (t : Text) → SpellsPattern n x t → pattern_at n (start t) ≡ took x (finish t [])
+spelt-read n x t h = again-pattern n x (start t) (finish t []) (reads-whole (Branches (Inside n) x) [] t h.is) refl
 
 -- what is read is spelt
 pub read-spelt : (n : ℕ) (x : Tree) (t : Text) (q : State) → pattern_at n (start t) ≡ took x q → SpellsPattern n x t
-read-spelt n x t q e = record {
-  spans = q.found;
-  is = whole-reads (Branches (Inside n) x) t q (subst (Fits (Branches (Inside n)) (start t)) e (fits-pattern n (start t))) (pattern-ends n (start t) x q e);
-}
+read-spelt n x t q e =
+    let whole = whole-reads (Branches (Inside n) x) t q (subst (Fits (Branches (Inside n)) (start t)) e (fits-pattern n (start t))) (pattern-ends n (start t) x q e) in
+    record { is = subst (λ (s : Spans). Branches (Inside n) x s 0 t) (no-spans n x q.found 0 t whole) whole }
 
 -- where reading fails nothing is spelt
 pub fails-spelt : (n : ℕ) (t : Text) (place : ℕ) → Fails (Syntax place) (pattern_at n (start t)) → SpellsNone n t

@@ -1,3 +1,4 @@
+-- The general categories that a code stands for, and the characters that it holds (RFC 9485 section 3, charProp).
 use Rattle.std.specs.Prelude.{ℕ, Bool}
 use Rattle.unicode.specs.GeneralCategory.{general_category, general_category_eq}
 use Rattle.unicode.specs.GeneralCategoryGroup.{in_group}

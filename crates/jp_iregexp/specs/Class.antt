@@ -1,3 +1,4 @@
+-- The characters that a class holds (RFC 9485 section 3).
 use Rattle.std.specs.Prelude.{ℕ, Bool, List, true, false, ◌&&◌, not, nat_le}
 use Rattle.std.specs.List.{list_any}
 use Rattle.jp_iregexp.specs.Category.{in_category}

@@ -46,13 +46,13 @@ pub record Items (xs : List ClassItem) (s : Spans) (o : ℕ) (t : Text) : Type 0
   pub is : (First first ⌢ Each Element others ⌢ Last last) s o t
 
 -- the same, not beginning with `^`
-pub record Uncareted (xs : List ClassItem) (s : Spans) (o : ℕ) (t : Text) : Type 0 where
+pub record NotAtCaret (xs : List ClassItem) (s : Spans) (o : ℕ) (t : Text) : Type 0 where
   pub begins : first_of t ≢ Some 94
   pub is : Items xs s o t
 
 -- charClassExpr: `^` right after `[` is always the negation
 pub data Class (x : Tree) (s : Spans) (o : ℕ) (t : Text) : Type 0 where
-  plain : (xs : List ClassItem) → x ≡ class false xs → (word (codes "[") ⌢ Uncareted xs ⌢ word (codes "]")) s o t → Class x s o t
+  plain : (xs : List ClassItem) → x ≡ class false xs → (word (codes "[") ⌢ NotAtCaret xs ⌢ word (codes "]")) s o t → Class x s o t
   negated : (xs : List ClassItem) → x ≡ class true xs → (word (codes "[^") ⌢ Items xs ⌢ word (codes "]")) s o t → Class x s o t
 
 -- QuantExact: a number in base ten, at most 999,999,999; leading zeros are allowed
@@ -114,7 +114,6 @@ abbrev pub Inside : ℕ → Tree → Form
 Inside zero x = Never
 Inside (suc n) x = Branches (Inside n) x
 
--- a text spells a pattern with at most n groups inside one another
+-- a text spells a pattern with at most n groups inside one another; a pattern has no items
 pub record SpellsPattern (n : ℕ) (x : Tree) (text : Text) : Type 0 where
-  pub spans : Spans
-  pub is : Branches (Inside n) x spans 0 text
+  pub is : Branches (Inside n) x [] 0 text

@@ -1,3 +1,4 @@
+-- The words of a pattern (RFC 9485 section 4).
 use Rattle.std.specs.Prelude.{◌≡◌, ℕ, zero, suc, ◌≤◌, true, ⊤, List, [], ◌∷◌, ◌++◌, Option, Some, None, ◌⊎◌}
 use Rattle.jp_iregexp.specs.Class.{class_holds}
 use Rattle.jp_iregexp.specs.Tree.{Tree, class, nothing, either, empty, sequence, repeat}
@@ -22,7 +23,7 @@ IsAtMost (Some most) k = k ≤ most
 
 -- the words of a pattern: of a class each character that it holds; of branches the words of either; of
 -- pieces the words of each, joined; of a repeat the words of its inner pattern, joined, as many as it
--- allows (RFC 9485 sections 3 and 4)
+-- allows (RFC 9485 section 4)
 abbrev pub Language : Tree → List ℕ → Type 0
 Language (class negated items) word = (c : ℕ) × (class_holds negated items c ≡ true) × (word ≡ c ∷ [])
 Language nothing word = ⊥

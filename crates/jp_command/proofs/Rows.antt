@@ -1,0 +1,29 @@
+-- What some command lines ask for.
+use Rattle.std.proofs.Common.{◌≡◌, [], ◌∷◌, Some, None, codes, refl}
+use Rattle.clap.proofs.OnLiterals.{clap_on_literals}
+use Rattle.jp_command.specs.CommandLine.{asked, asking, jp}
+use Rattle.jp_command.specs.declared.words.Task.TheVariants.{Both}
+
+both : asked (codes "jp" ∷ codes "both" ∷ codes "$" ∷ []) ≡ Some (Both, codes "$")
+unfolding clap_on_literals jp asking
+both = refl
+
+no_query : asked (codes "jp" ∷ codes "both" ∷ []) ≡ None
+unfolding clap_on_literals jp asking
+no_query = refl
+
+two_queries : asked (codes "jp" ∷ codes "both" ∷ codes "$" ∷ codes "$" ∷ []) ≡ None
+unfolding clap_on_literals jp asking
+two_queries = refl
+
+no_subcommand : asked (codes "jp" ∷ []) ≡ None
+unfolding clap_on_literals jp asking
+no_subcommand = refl
+
+unknown_subcommand : asked (codes "jp" ∷ codes "value" ∷ codes "$" ∷ []) ≡ None
+unfolding clap_on_literals jp asking
+unknown_subcommand = refl
+
+help : asked (codes "jp" ∷ codes "help" ∷ []) ≡ None
+unfolding clap_on_literals jp asking
+help = refl

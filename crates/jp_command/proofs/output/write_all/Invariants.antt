@@ -1,0 +1,14 @@
+use Rattle.std.proofs.Common.{◌≡◌, ◌++◌, ℕ, List, length}
+use Rattle.std.specs.Io.KnownBytes.{Appends}
+use Rattle.jp_command.proofs.output.write_all.Given as goal
+
+-- what is written and the rest are the whole
+abbrev pub invariant-loop-rest : goal.invariant-loop-rest
+invariant-loop-rest g l = record {
+  split : (front : List ℕ) × (l.fn.bytes ≡ front ++ l.rest)
+      × Appends (g.W.Output.contents l.fn.output) (g.W.Output.contents l.output) front;
+  works : g.W.Output.has_failed l.output ≡ g.W.Output.has_failed l.fn.output;
+}
+
+abbrev pub decreases-loop-rest : goal.decreases-loop-rest
+decreases-loop-rest g l = length l.rest

@@ -1,0 +1,11 @@
+-- What a device carries.
+use Rattle.std.specs.Prelude.{Bool}
+use Rattle.jp_command.specs.declared.device.Device.{Device}
+
+-- the reader or the writer inside
+abbrev pub carried : {T : Type 0} → Device T → T
+carried device = device.inner
+
+-- whether a call of it failed
+abbrev pub carrier_failed : {T : Type 0} → Device T → Bool
+carrier_failed device = device.failed

@@ -1,0 +1,32 @@
+-- What the words of a command line ask for.
+use Rattle.std.specs.Prelude.{true, List, Option, Some, None, codes, if◌then◌else◌, option_and_then, option_map}
+use Rattle.std.specs.Str.{bytes_eq}
+use Rattle.clap.specs.Words.{App, Row, Text, fault_of, first_of, new_app, new_rule, subcommand_of, with_rule, with_subcommand}
+use Rattle.clap.specs.Simple.{on_top}
+use Rattle.clap.specs.Walk.{is_empty}
+use Rattle.jp_command.specs.declared.words.Task.{Task}
+use Rattle.jp_command.specs.declared.words.Task.TheVariants.{Both}
+
+-- a subcommand with exactly one positional, the query, which has to be there
+unfoldable pub asking : Text → App
+asking name = with_rule (new_app name) (record (new_rule (codes "QUERY")) { required = true })
+
+-- `jp` with its subcommands, one of which has to be there
+unfoldable pub jp : App
+jp = on_top (λ top. record top { subcommand_required = true })
+    (with_subcommand (new_app (codes "jp")) (asking (codes "both")).top)
+
+-- the task that a subcommand's name stands for
+abbrev pub task_called : Text → Option Task
+task_called name = if bytes_eq name (codes "both") then Some Both else None
+
+-- the task and the query of the subcommand that the words name
+abbrev pub task_and_query : Text × List Row → Option (Task × Text)
+task_and_query entered = option_and_then
+    (λ task. option_map (λ query. (task, query)) (first_of (codes "QUERY") entered.1))
+    (task_called entered.0)
+
+-- what the words ask for, the program's name among them: nothing where clap finds a fault in them
+abbrev pub asked : List Text → Option (Task × Text)
+asked words = if is_empty (fault_of jp words) then option_and_then task_and_query (subcommand_of jp words)
+    else None

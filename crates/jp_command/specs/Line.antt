@@ -1,0 +1,64 @@
+-- What the program says with its status.
+use Rattle.std.specs.Prelude.{◌≡◌, ℕ, Bool, List, ◌∷◌, [], ◌++◌, Option, Some, None, Result, Ok, Err, codes}
+use Rattle.std.specs.Fmt.{decimal}
+use Rattle.jp_document.specs.declared.fault.DocumentFault.{DocumentFault}
+use Rattle.jp_document.specs.declared.fault.DocumentFault.TheVariants as document
+use Rattle.jp_query.specs.Refusal.{name_of}
+use Rattle.jp_command.specs.CommandLine.{asked}
+use Rattle.jp_command.specs.Run.{RunsEval}
+use Rattle.jp_command.specs.Streams.{AppendsFront}
+use Rattle.jp_command.specs.declared.fault.Fault.{Fault}
+use Rattle.jp_command.specs.declared.fault.Fault.TheVariants.{Query, Document, DocumentTooLarge, NoMemory, Read, Write}
+use Rattle.jp_command.specs.declared.lines.Form.TheVariants as form
+use Rattle.jp_command.specs.declared.words.Task.{Task}
+use Rattle.jp_command.specs.declared.words.Task.TheVariants.{Both}
+
+-- the status of a fault
+abbrev pub status_of : Fault → ℕ
+status_of (Query r) = 1
+status_of (Document f) = 3
+status_of DocumentTooLarge = 3
+status_of NoMemory = 4
+status_of Read = 5
+status_of Write = 5
+
+abbrev pub document_fault_name : DocumentFault → List ℕ
+document_fault_name document.NotJson = codes "NotJson"
+document_fault_name (document.NotWhole path) = codes "NotWhole"
+document_fault_name document.ListTooLong = codes "ListTooLong"
+document_fault_name document.NoMemory = codes "NoMemory"
+
+-- what stands in the line of a fault
+abbrev pub fault_text : Fault → List ℕ
+fault_text (Query r) = codes "query refused: " ++ (name_of r.kind ++ (codes " at " ++ decimal r.place))
+fault_text (Document f) = codes "document refused: " ++ document_fault_name f
+fault_text DocumentTooLarge = codes "document refused: DocumentTooLarge"
+fault_text NoMemory = codes "want of memory"
+fault_text Read = codes "read fault"
+fault_text Write = codes "write fault"
+
+-- the line of a fault, which a newline ends
+abbrev pub fault_line : Fault → List ℕ
+fault_line f = fault_text f ++ 10 ∷ []
+
+-- what is said of a run of the program: i and j are the input before and after it, o and p the output
+module _ {R W : Type 0} (remaining : R → Option (List ℕ)) (has_failed : R → Bool)
+    (contents : W → Option (List ℕ)) (writes_failed : W → Bool) where
+  -- a task with its query ended with this answer
+  abbrev pub RunsTask : {X : Type 0} → Task → List ℕ → R → R → W → W → Result X Fault → Type 0
+  RunsTask Both query i j o p answer = RunsEval remaining has_failed contents writes_failed form.Both query i j o p answer
+
+  -- the task that the words ask for ended with this answer
+  pub record RunsWords {X : Type 0} (words : List (List ℕ)) (i j : R) (o p : W) (answer : Result X Fault) : Type 0 where
+    pub task : Task
+    pub query : List ℕ
+    pub asks : asked words ≡ Some (task, query)
+    pub runs : RunsTask task query i j o p answer
+
+  -- what is said with a status; u and v are what takes the fault's line, before and after
+  pub data RunsLine {E : Type 0} (reports : E → Option (List ℕ)) (words : List (List ℕ)) (i j : R) (o p : W) (u v : E) (status : ℕ) : Type 0 where
+    done : status ≡ 0 → RunsWords words i j o p (Ok (tt {0})) → v ≡ u → RunsLine reports words i j o p u v status
+    fault : (f : Fault) → status ≡ status_of f → RunsWords {X = Unit {0}} words i j o p (Err f)
+        → AppendsFront (reports u) (reports v) (fault_line f) → RunsLine reports words i j o p u v status
+    usage : status ≡ 2 → asked words ≡ None → j ≡ i → p ≡ o → RunsLine reports words i j o p u v status
+    memory : status ≡ 4 → j ≡ i → p ≡ o → RunsLine reports words i j o p u v status

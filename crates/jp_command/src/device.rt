@@ -1,0 +1,132 @@
+//! Where the bytes come from and where they go.
+
+ghost use Rattle.std.specs.Prelude.{◌≡◌, ℕ, ◌<◌, ◌≤◌, Bool, List, Option, true, false, IfOk, IsErr, OnOk, OnErr, length};
+ghost use Rattle.std.specs.Io.KnownBytes.{ReadConsumes, WriteAppends, Keeps};
+ghost use Rattle.jp_command.specs.Carried.{carried, carrier_failed};
+
+use std::io::{Read, Write};
+
+/// A read, a write or a flush that failed.
+#[derive(Debug, Clone, Copy, PartialEq, Eq)]
+pub struct Failed;
+
+/// What bytes are read from. It tells its bytes as std's readers do.
+pub trait Source {
+    // The bytes that are still to come, where they are known.
+    ghost remaining: { Self → Option (List ℕ) };
+
+    // Whether a call failed.
+    ghost has_failed: { Self → Bool };
+
+    /// Reads some bytes into the front of `buffer` and answers how many; 0 only at the end of the
+    /// bytes or for a buffer without room.
+    fn read(&mut self, buffer: &mut [u8]) -> Result<usize, Failed>
+        ensures bound { IfOk result (λ count. count ≤ length buffer.new) }
+        ensures bytes { ReadConsumes (remaining self.old) (remaining self.new) result buffer.new }
+        ensures works { OnOk result (has_failed self.new ≡ has_failed self.old) }
+        ensures fails { OnErr result (has_failed self.new ≡ true) };
+
+    /// Whether a call failed.
+    fn failed(&self) -> bool
+        ensures { result ≡ has_failed self.now };
+}
+
+/// What bytes are written to. It tells its bytes as std's writers do.
+pub trait Output {
+    // The bytes that were written, where they are known.
+    ghost contents: { Self → Option (List ℕ) };
+
+    // Whether a call failed.
+    ghost has_failed: { Self → Bool };
+
+    /// Writes some bytes from the front of `bytes` and answers how many, at least one if there
+    /// are any.
+    fn write(&mut self, bytes: &[u8]) -> Result<usize, Failed>
+        ensures bound { IfOk result (λ count. count ≤ length bytes.now) }
+        ensures some { IfOk result (λ count. 0 < length bytes.now → 0 < count) }
+        ensures bytes { WriteAppends (contents self.old) (contents self.new) result bytes.now }
+        ensures works { OnOk result (has_failed self.new ≡ has_failed self.old) }
+        ensures fails { OnErr result (has_failed self.new ≡ true) };
+
+    /// Hands on what a buffer still holds.
+    fn flush(&mut self) -> Result<(), Failed>
+        ensures bytes { Keeps (contents self.old) (contents self.new) }
+        ensures works { OnOk result (has_failed self.new ≡ has_failed self.old) }
+        ensures fails { OnErr result (has_failed self.new ≡ true) };
+
+    /// Whether a call failed.
+    fn failed(&self) -> bool
+        ensures { result ≡ has_failed self.now };
+}
+
+/// Carries any reader or writer of std and keeps whether a call of it failed. A write that takes
+/// none of the bytes it is given fails.
+#[derive(Drop)]
+pub struct Device<T> {
+    inner: T,
+    failed: bool,
+}
+
+impl<T> Device<T> {
+    /// Carries `inner`, of which no call has failed so far.
+    pub fn new(inner: T) -> Device<T>
+        ensures carries { carried result ≡ inner }
+        ensures fresh { carrier_failed result ≡ false }
+    {
+        Device {
+            inner,
+            failed: false,
+        }
+    }
+
+    /// Keeps that a call failed.
+    fn fail<X>(&mut self) -> Result<X, Failed>
+        ensures failed { carrier_failed self.new ≡ true }
+        ensures same { carried self.new ≡ carried self.old }
+        ensures answer { IsErr result }
+    {
+        self.failed = true;
+        Err(Failed)
+    }
+}
+
+impl<T: Read> Source for Device<T> {
+    ghost remaining = { λ device. T.Read.remaining (carried device) };
+
+    ghost has_failed = { carrier_failed };
+
+    fn read(&mut self, buffer: &mut [u8]) -> Result<usize, Failed> {
+        match self.inner.read(buffer) {
+            Ok(count) => Ok(count),
+            Err(_) => self.fail(),
+        }
+    }
+
+    fn failed(&self) -> bool {
+        self.failed
+    }
+}
+
+impl<T: Write> Output for Device<T> {
+    ghost contents = { λ device. T.Write.contents (carried device) };
+
+    ghost has_failed = { carrier_failed };
+
+    fn write(&mut self, bytes: &[u8]) -> Result<usize, Failed> {
+        match self.inner.write(bytes) {
+            Ok(count) if count > 0 || bytes.is_empty() => Ok(count),
+            _ => self.fail(),
+        }
+    }
+
+    fn flush(&mut self) -> Result<(), Failed> {
+        match self.inner.flush() {
+            Ok(()) => Ok(()),
+            Err(_) => self.fail(),
+        }
+    }
+
+    fn failed(&self) -> bool {
+        self.failed
+    }
+}

@@ -1,0 +1,88 @@
+//! Why a run did not do what it was asked.
+
+ghost use Rattle.std.specs.Prelude.{◌≡◌};
+ghost use Rattle.jp_command.specs.declared.fault.Fault.TheVariants.{NoMemory};
+ghost use Rattle.jp_command.specs.Faults.{fault_of_document, fault_of_input, fault_of_lines, fault_of_refusal};
+
+use crate::input::InputFault;
+use crate::lines::LineFault;
+use jp_document::DocumentFault;
+use jp_query::{Refusal, RefusalKind};
+use std::alloc::AllocError;
+use thiserror::Error;
+
+/// Why a run did not do what it was asked.
+#[derive(Debug, PartialEq, Drop, Error)]
+pub enum Fault {
+    /// The query is refused; nothing was read or written.
+    #[error("the query is refused: {0:?}")]
+    Query(Refusal),
+    /// The input is no document; nothing was written.
+    #[error("the document is refused: {0:?}")]
+    Document(DocumentFault),
+    /// The input has more than 16,777,216 bytes; nothing was written.
+    #[error("the document is refused: it is too large")]
+    DocumentTooLarge,
+    /// The memory did not suffice; what was written is a front of the output.
+    #[error("want of memory")]
+    NoMemory,
+    /// A read failed; nothing was written.
+    #[error("a read failed")]
+    Read,
+    /// A write failed; what was written is a front of the output.
+    #[error("a write failed")]
+    Write,
+}
+
+impl From<AllocError> for Fault {
+    ghost from_gives = { λ _ fault. fault ≡ NoMemory };
+
+    fn from(_error: AllocError) -> Fault {
+        Fault::NoMemory
+    }
+}
+
+impl From<Refusal> for Fault {
+    ghost from_gives = { λ refusal fault. fault ≡ fault_of_refusal refusal };
+
+    fn from(refusal: Refusal) -> Fault {
+        match refusal.kind {
+            RefusalKind::NoMemory => Fault::NoMemory,
+            _ => Fault::Query(refusal),
+        }
+    }
+}
+
+impl From<InputFault> for Fault {
+    ghost from_gives = { λ fault given. given ≡ fault_of_input fault };
+
+    fn from(fault: InputFault) -> Fault {
+        match fault {
+            InputFault::TooLarge => Fault::DocumentTooLarge,
+            InputFault::Read => Fault::Read,
+            InputFault::NoMemory => Fault::NoMemory,
+        }
+    }
+}
+
+impl From<DocumentFault> for Fault {
+    ghost from_gives = { λ fault given. given ≡ fault_of_document fault };
+
+    fn from(fault: DocumentFault) -> Fault {
+        match fault {
+            DocumentFault::NoMemory => Fault::NoMemory,
+            fault => Fault::Document(fault),
+        }
+    }
+}
+
+impl From<LineFault> for Fault {
+    ghost from_gives = { λ fault given. given ≡ fault_of_lines fault };
+
+    fn from(fault: LineFault) -> Fault {
+        match fault {
+            LineFault::NoMemory => Fault::NoMemory,
+            LineFault::Write => Fault::Write,
+        }
+    }
+}

@@ -1,0 +1,32 @@
+//! The program `jp` as a library: a JSONPath query (RFC 9535) and a document go in, lines of
+//! normalized paths and values come out.
+//!
+//! ```text
+//! let mut output = Device::new(Vec::new(alloc));
+//! run_eval(alloc, "$.a[-1]", Form::Both, &mut Device::new(bytes), &mut output)?;
+//! ```
+//!
+//! `run_eval` runs one query over one input; `specs/Run.antt` has what it says with each answer.
+//! `run_line` is the whole program over its words; `specs/Line.antt` has what it says with each
+//! status.
+#![tactic(auto)]
+
+mod accepted;
+mod device;
+mod eval;
+mod fault;
+mod input;
+mod line;
+mod lines;
+mod nodelist;
+mod output;
+mod words;
+
+pub use device::{Device, Failed, Output, Source};
+pub use eval::run_eval;
+pub use fault::Fault;
+pub use line::run_line;
+pub use lines::Form;
+
+#[cfg(test)]
+mod tests;

@@ -1,0 +1,141 @@
+//! The whole program over its words.
+
+ghost use Rattle.std.specs.Prelude.{◌≡◌, ◌≢◌, IfOk, map, string_bytes};
+ghost use Rattle.std.specs.Cow.{cow_str_bytes};
+ghost use Rattle.clap.specs.Words.{kind_of};
+ghost use Rattle.jp_command.specs.Line.{RunsLine, RunsTask, document_fault_name, fault_line, status_of};
+ghost use Rattle.jp_command.specs.Streams.{AppendsFront};
+
+use crate::device::{Output, Source};
+use crate::eval::run_eval;
+use crate::fault::Fault;
+use crate::lines::Form;
+use crate::output::write_all;
+use crate::words::{Task, read_words};
+use clap::Error;
+use clap::error::ErrorKind;
+use jp_document::DocumentFault;
+use std::alloc::{AllocError, Global};
+use std::borrow::CowStr;
+
+/// Does what `words` ask for, of which the first is the program's name, and answers the status:
+/// 0 where it is done, 1 where the query is refused, 2 where the words are not ones that the command
+/// line takes, 3 where the document is refused, 4 for want of memory, 5 where the input or the output
+/// failed. Every status but 0 has its line in `faults`, if it can be written there. The output is
+/// flushed once, after a run that is done.
+pub fn run_line<R: Source, W: Output, E: Output>(
+    alloc: Global,
+    words: Vec<String>,
+    input: &mut R,
+    output: &mut W,
+    faults: &mut E,
+) -> u8
+    ensures { RunsLine R.remaining R.has_failed W.contents W.has_failed E.contents
+        (map string_bytes words.items) input.old input.new output.old output.new
+        faults.old faults.new result }
+{
+    match read_words(alloc, &words) {
+        Ok(Some((task, query))) => match run_task(alloc, task, query, input, output) {
+            Ok(()) => 0,
+            Err(fault) => {
+                report(alloc, &fault, faults);
+                status(&fault)
+            }
+        },
+        Ok(None) => 2,
+        Err(error) => refuse_words(alloc, &error, faults),
+    }
+}
+
+/// Runs a task, and flushes the output once it is done.
+fn run_task<R: Source, W: Output>(
+    alloc: Global,
+    task: Task,
+    query: &str,
+    input: &mut R,
+    output: &mut W,
+) -> Result<(), Fault>
+    ensures { RunsTask R.remaining R.has_failed W.contents W.has_failed
+        task query.now input.old input.new output.old output.new result }
+{
+    match task {
+        Task::Both => run_eval(alloc, query, Form::Both, input, output)?,
+    }
+    match output.flush() {
+        Ok(()) => Ok(()),
+        Err(_) => Err(Fault::Write),
+    }
+}
+
+/// The status of a fault.
+fn status(fault: &Fault) -> u8
+    ensures { result ≡ status_of fault.now }
+{
+    match fault {
+        Fault::Query(_) => 1,
+        Fault::Document(_) | Fault::DocumentTooLarge => 3,
+        Fault::NoMemory => 4,
+        Fault::Read | Fault::Write => 5,
+    }
+}
+
+/// Writes the line of a fault. One that cannot be written is left out.
+fn report<E: Output>(alloc: Global, fault: &Fault, faults: &mut E)
+    ensures { AppendsFront (E.contents faults.old) (E.contents faults.new) (fault_line fault.now) }
+{
+    if let Ok(line) = line_of(alloc, fault) {
+        let _ = write_all(faults, line.as_str().as_bytes());
+    }
+}
+
+/// The line of a fault.
+fn line_of(alloc: Global, fault: &Fault) -> Result<CowStr<'static>, AllocError>
+    ensures { IfOk result (λ line. cow_str_bytes line ≡ fault_line fault.now) }
+{
+    Ok(match fault {
+        Fault::Query(refusal) => {
+            let kind = refusal.kind.name();
+            let place = refusal.place;
+            CowStr::Owned(format!(in alloc; "query refused: {kind} at {place}\n")?)
+        }
+        Fault::Document(fault) => {
+            let name = document_fault_name(fault);
+            CowStr::Owned(format!(in alloc; "document refused: {name}\n")?)
+        }
+        Fault::DocumentTooLarge => CowStr::Borrowed("document refused: DocumentTooLarge\n"),
+        Fault::NoMemory => CowStr::Borrowed("want of memory\n"),
+        Fault::Read => CowStr::Borrowed("read fault\n"),
+        Fault::Write => CowStr::Borrowed("write fault\n"),
+    })
+}
+
+/// The name of a document's fault.
+fn document_fault_name(fault: &DocumentFault) -> &'static str
+    ensures { result.now ≡ document_fault_name fault.now }
+{
+    match fault {
+        DocumentFault::NotJson => "NotJson",
+        DocumentFault::NotWhole(_) => "NotWhole",
+        DocumentFault::ListTooLong => "ListTooLong",
+        DocumentFault::NoMemory => "NoMemory",
+    }
+}
+
+/// Writes the text of clap's error, and answers its status.
+fn refuse_words<E: Output>(alloc: Global, error: &Error, faults: &mut E) -> u8
+    ensures memory { kind_of error.now ≡ ErrorKind.OutOfMemory → result ≡ 4 }
+    ensures usage { kind_of error.now ≢ ErrorKind.OutOfMemory → result ≡ 2 }
+{
+    match error.kind() {
+        ErrorKind::OutOfMemory => {
+            report(alloc, &Fault::NoMemory, faults);
+            4
+        }
+        _ => {
+            if let Ok(text) = error.to_string(alloc) {
+                let _ = write_all(faults, text.as_bytes());
+            }
+            2
+        }
+    }
+}

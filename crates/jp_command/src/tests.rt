@@ -1,0 +1,5 @@
+//! Rows of the standard and of the program, on `run_eval` and `run_line`.
+
+mod devices;
+mod runs;
+mod statuses;

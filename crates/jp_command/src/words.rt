@@ -1,0 +1,93 @@
+//! Reading the words of a command line.
+
+ghost use Rattle.std.specs.Prelude.{◌≡◌, ◌⊎◌, None, IfOk, IfErr, [], false, map, option_and_then, option_map, string_bytes};
+ghost use Rattle.clap.specs.Words.{IsAmong, app_of, fault_of, found_of, kind_of, rows_of, subcommand_of, subcommand_rows_of};
+ghost use Rattle.clap.specs.declared.builder.command.Command.TheViews.{out-Command};
+ghost use Rattle.clap.specs.declared.error.kind.ErrorKind.TheVariants.{OutOfMemory};
+ghost use Rattle.jp_command.specs.CommandLine.{asked, asking, jp, task_and_query, task_called};
+
+use clap::{Arg, ArgMatches, Command, Error};
+use std::alloc::{AllocError, Global};
+
+/// What a subcommand does with its query.
+#[derive(Debug, Clone, Copy, PartialEq, Eq)]
+pub(crate) enum Task {
+    /// `both`: writes the path and the value of each node.
+    Both,
+}
+
+/// The task that a subcommand's name stands for.
+fn task_named(name: &str) -> Option<Task>
+    ensures { result ≡ task_called name.now }
+{
+    match name {
+        "both" => Some(Task::Both),
+        _ => None,
+    }
+}
+
+/// A subcommand with a query.
+#[tactic(auto, unfolding(crate::specs::CommandLine::asking))]
+fn asking_command<'w>(alloc: Global, name: &'w str) -> Result<Command<'w>, AllocError>
+    ensures shape { IfOk result (λ command. app_of command ≡ asking name.entry.now) }
+    ensures local { IfOk result (λ command. (out-Command command).has_globals ≡ false) }
+{
+    let query = Arg::new(alloc, "QUERY").required(true);
+    Command::new(alloc, name).arg(query)
+}
+
+/// The whole command line.
+#[tactic(auto, unfolding(crate::specs::CommandLine::jp))]
+fn jp_command<'w>(alloc: Global) -> Result<Command<'w>, AllocError>
+    ensures { IfOk result (λ command. app_of command ≡ jp) }
+{
+    let both = asking_command(alloc, "both")?;
+    let command = Command::new(alloc, "jp").subcommand(both)?;
+    Ok(command.subcommand_required(true))
+}
+
+/// The matches of `words` by the command line.
+fn matches_of<'w>(alloc: Global, words: &'w [String]) -> Result<ArgMatches<'w>, Error>
+    ensures taken { IfOk result (λ _. fault_of jp (map string_bytes words.entry.now) ≡ []) }
+    ensures entered { IfOk result (λ matches. subcommand_rows_of matches
+        ≡ subcommand_of jp (map string_bytes words.entry.now)) }
+    ensures refused { IfErr result (λ error. (kind_of error ≡ OutOfMemory)
+        ⊎ IsAmong (kind_of error) (fault_of jp (map string_bytes words.entry.now))) }
+{
+    let command = jp_command(alloc)?;
+    command.try_get_matches_from(words)
+}
+
+/// What the subcommand `name` with the matches `found` asks for.
+fn asked_by<'w>(name: &str, found: &ArgMatches<'w>) -> Option<(Task, &'w str)>
+    ensures { option_map (λ pair. (pair.0, pair.1.now)) result
+        ≡ task_and_query (name.now, rows_of (found_of found.now)) }
+{
+    let task = task_named(name)?;
+    let query = found.get_str("QUERY")?;
+    Some((task, query))
+}
+
+/// What the subcommand in `matches` asks for.
+fn asked_in<'w>(matches: &ArgMatches<'w>) -> Option<(Task, &'w str)>
+    ensures { option_map (λ pair. (pair.0, pair.1.now)) result
+        ≡ option_and_then task_and_query (subcommand_rows_of matches.now) }
+{
+    let (name, found) = matches.subcommand()?;
+    asked_by(name, found)
+}
+
+/// What `words`, of which the first is the program's name, ask for. `None` where clap takes them
+/// and they name no task with a query.
+pub(crate) fn read_words<'w>(
+    alloc: Global,
+    words: &'w [String],
+) -> Result<Option<(Task, &'w str)>, Error>
+    ensures asked { IfOk result (λ found. option_map (λ pair. (pair.0, pair.1.now)) found
+        ≡ asked (map string_bytes words.entry.now)) }
+    ensures refused { IfErr result (λ error. (kind_of error ≡ OutOfMemory)
+        ⊎ (asked (map string_bytes words.entry.now) ≡ None)) }
+{
+    let matches = matches_of(alloc, words)?;
+    Ok(asked_in(&matches))
+}

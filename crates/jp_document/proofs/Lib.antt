@@ -1,0 +1,12 @@
+pub mod Children
+pub mod Fits
+pub mod Fractions
+pub mod Items
+pub mod Names
+pub mod Paths
+pub mod Rows
+pub mod Spellings
+pub mod Stops
+pub mod Texts
+pub mod Values
+pub mod Wholes

@@ -1,0 +1,14 @@
+-- A `Json`, level by level, beside the value that it stands for.
+use Rattle.std.proofs.Common.{◌≡◌, List, map, Global, Vec, String, string_bytes, rules}
+use Rattle.jp_document.specs.Value.{Value, null, boolean, whole, text, list, object, items_of, members_of, value_of, member_of}
+use Rattle.jp_document.specs.declared.value.Json.{Json, List as ListOf, Members, the_lemmas}
+use Rattle.jp_document.specs.declared.value.Member.{Member}
+
+pub value_of-List : (v : Vec Json Global) → value_of (ListOf v) ≡ list (items_of (map value_of v.items))
+value_of-List v = search (rules, the_lemmas)
+
+pub value_of-Members : (v : Vec Member Global) → value_of (Members v) ≡ object (members_of (map member_of v.items))
+value_of-Members v = search (rules, the_lemmas)
+
+pub member_of_is : (m : Member) → member_of m ≡ (string_bytes m.name, value_of m.value)
+member_of_is m = search (rules, the_lemmas)

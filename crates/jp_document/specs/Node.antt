@@ -1,0 +1,27 @@
+-- Nodes (RFC 9535 section 1.1): a location with the value that stands there.
+use Rattle.std.specs.Prelude.{◌≡◌, ℕ, List, [], ◌∷◌, ◌++◌, Option, Some, None, MatchOption, option_map}
+use Rattle.jp_document.specs.declared.value.Json.{Json}
+use Rattle.jp_document.specs.Location.{Key, Location, child, value_at}
+use Rattle.jp_document.specs.Value.{Value, IsDocumentValue, value_of}
+
+-- what a `Node` shows
+pub record Located : Type 0 where
+  pub location : Location
+  pub value : Json
+
+-- the location and the value of a node
+abbrev pub told : Located → Location × Value
+told n = (n.location, value_of n.value)
+
+-- the location and the value one step below the node, if there is one
+abbrev pub told_child : Located → Key → Option (Location × Value)
+told_child n k = option_map (λ v. (n.location ++ k ∷ [], v)) (child (value_of n.value) k)
+
+-- n stands in the document d: its value is the one that d has at its location
+pub record StandsIn (d : Value) (n : Located) : Type 0 where
+  pub document : IsDocumentValue d
+  pub there : value_at d n.location ≡ Some (value_of n.value)
+
+-- the node of d at l, or None where d has no value there
+abbrev pub IsNodeAt : Value → Location → Option Located → Type 0
+IsNodeAt d l o = MatchOption o (value_at d l ≡ None) (λ n. (n.location ≡ l) × StandsIn d n)

@@ -1,0 +1,29 @@
+-- The compact text of a value: JSON (RFC 8259) with no blank space, members in the value's order.
+use Rattle.std.specs.Prelude.{ℕ, Bool, true, false, List, [], ◌∷◌, ◌++◌, codes}
+use Rattle.std.specs.Fmt.{signed_decimal}
+use Rattle.std.specs.List.{join_with_byte}
+use Rattle.jp_document.specs.Spelling.{quoted_in}
+use Rattle.jp_document.specs.Value.{Value, null, boolean, whole, text, list, object, Items, no_items, item, Members, no_members, member}
+
+-- a text between double quotes
+abbrev pub string_text : List ℕ → List ℕ
+string_text = quoted_in 34
+
+-- `[..]` and `{..}` with `,` between parts and `:` after a name
+abbrev mutual
+  pub text_of : Value → List ℕ
+  text_of null = codes "null"
+  text_of (boolean true) = codes "true"
+  text_of (boolean false) = codes "false"
+  text_of (whole z) = signed_decimal z
+  text_of (text s) = string_text s
+  text_of (list vs) = 91 ∷ (join_with_byte 44 (item_texts vs) ++ 93 ∷ [])
+  text_of (object ms) = 123 ∷ (join_with_byte 44 (member_texts ms) ++ 125 ∷ [])
+
+  pub item_texts : Items → List (List ℕ)
+  item_texts no_items = []
+  item_texts (item v vs) = text_of v ∷ item_texts vs
+
+  pub member_texts : Members → List (List ℕ)
+  member_texts no_members = []
+  member_texts (member n v ms) = (string_text n ++ 58 ∷ text_of v) ∷ member_texts ms

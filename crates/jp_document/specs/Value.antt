@@ -1,0 +1,109 @@
+-- JSON values whose numbers are whole (RFC 9535 section 1.1).
+use Rattle.std.specs.Prelude.{ℕ, suc, ℤ, pos, negsuc, Bool, true, ◌&&◌, nat_lt, nat_le, ◌-◌, ◌^◌, ◌≡◌, List, [], ◌∷◌, string_bytes}
+use Rattle.std.specs.Cmp.Lexicographic.{slice_cmp}
+use Rattle.std.specs.List.{list_all}
+use Rattle.std.specs.Ordering.{is_lt, nat_cmp}
+use Rattle.jp_document.specs.declared.value.Json.{Json, fold-Json}
+use Rattle.jp_document.specs.declared.value.Member.{Member, fold-Member}
+use Rattle.jp_document.specs.declared.value.Json.TheOpen.{Json-F, Member-F}
+
+-- A value: null, a truth value, a whole number, the UTF-8 bytes of a text, a list of values, or named values.
+mutual
+  pub data Value : Type 0 where
+    null : Value
+    boolean : Bool → Value
+    whole : ℤ → Value
+    text : List ℕ → Value
+    list : Items → Value
+    object : Members → Value
+
+  pub data Items : Type 0 where
+    no_items : Items
+    item : Value → Items → Items
+
+  pub data Members : Type 0 where
+    no_members : Members
+    member : List ℕ → Value → Members → Members
+
+-- how many items
+abbrev pub item_count : Items → ℕ
+item_count no_items = 0
+item_count (item v vs) = suc (item_count vs)
+
+-- the names, in the members' order
+abbrev pub names_of : Members → List (List ℕ)
+names_of no_members = []
+names_of (member n v ms) = n ∷ names_of ms
+
+-- each name is below all that come after it, by bytes
+abbrev pub names_rise : List (List ℕ) → Bool
+names_rise [] = true
+names_rise (n ∷ ns) = list_all (λ m. is_lt (slice_cmp nat_cmp n m)) ns && names_rise ns
+
+-- v and every value inside it pass the test
+abbrev mutual
+  pub everywhere : (Value → Bool) → Value → Bool
+  everywhere p null = p null
+  everywhere p (boolean b) = p (boolean b)
+  everywhere p (whole z) = p (whole z)
+  everywhere p (text s) = p (text s)
+  everywhere p (list vs) = p (list vs) && everywhere_in_items p vs
+  everywhere p (object ms) = p (object ms) && everywhere_in_members p ms
+
+  pub everywhere_in_items : (Value → Bool) → Items → Bool
+  everywhere_in_items p no_items = true
+  everywhere_in_items p (item v vs) = everywhere p v && everywhere_in_items p vs
+
+  pub everywhere_in_members : (Value → Bool) → Members → Bool
+  everywhere_in_members p no_members = true
+  everywhere_in_members p (member n v ms) = everywhere p v && everywhere_in_members p ms
+
+-- the number is from -(2^63) to (2^64)-1
+abbrev pub is_in_range : ℤ → Bool
+is_in_range (pos n) = nat_lt n (2 ^ 64)
+is_in_range (negsuc n) = nat_lt n (2 ^ 63)
+
+-- a list has at most (2^53)-1 items
+abbrev pub list_fits : Value → Bool
+list_fits (list vs) = nat_le (item_count vs) (2 ^ 53 - 1)
+list_fits _ = true
+
+-- what a document asks of each value in it: whole numbers in range, lists that fit, names that rise
+abbrev pub is_allowed : Value → Bool
+is_allowed (whole z) = is_in_range z
+is_allowed (list vs) = list_fits (list vs)
+is_allowed (object ms) = names_rise (names_of ms)
+is_allowed _ = true
+
+-- v may be a document's value
+abbrev pub IsDocumentValue : Value → Type 0
+IsDocumentValue v = everywhere is_allowed v ≡ true
+
+-- ---- the value that a `Json` stands for
+
+abbrev pub items_of : List Value → Items
+items_of [] = no_items
+items_of (v ∷ vs) = item v (items_of vs)
+
+abbrev pub members_of : List (List ℕ × Value) → Members
+members_of [] = no_members
+members_of (m ∷ ms) = member m.0 m.1 (members_of ms)
+
+-- one level, with the value of each part in its place
+abbrev pub json_step : Json-F Value (List ℕ × Value) → Value
+json_step Json-F.Null = null
+json_step (Json-F.Bool b) = boolean b
+json_step (Json-F.Whole z) = whole z
+json_step (Json-F.Text s) = text (string_bytes s)
+json_step (Json-F.List v) = list (items_of v.items)
+json_step (Json-F.Members v) = object (members_of v.items)
+
+abbrev pub member_step : Member-F Value (List ℕ × Value) → List ℕ × Value
+member_step m = (string_bytes m.name, m.value)
+
+abbrev pub value_of : Json → Value
+value_of = fold-Json Value (List ℕ × Value) json_step member_step
+
+-- the name and the value of a member
+abbrev pub member_of : Member → List ℕ × Value
+member_of = fold-Member Value (List ℕ × Value) json_step member_step

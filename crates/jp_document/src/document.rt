@@ -1,0 +1,78 @@
+//! Documents: a value with its invariant.
+ghost use Rattle.std.specs.Prelude.{◌≡◌, [], map, option_map, IfOk, IfErr};
+ghost use Rattle.jp_document.specs.Value.{IsDocumentValue, value_of};
+
+use crate::fault::DocumentFault;
+use crate::location::Step;
+use crate::lookup::child_value;
+use crate::node::{Node, root_of};
+use crate::reading::{lists_fit, whole};
+use crate::value::Json;
+use serde_json::Value;
+use std::alloc::Global;
+
+/// A JSON document: whole numbers from -(2^63) to (2^64)-1, member names that strictly rise by their
+/// bytes, lists of at most (2^53)-1 items.
+#[derive(Drop)]
+pub struct Document {
+    json: Json,
+    ghost sound: { IsDocumentValue (value_of json) },
+}
+
+impl Document {
+    ghost use Rattle.jp_document.specs.Document.{document_of, IsDocument, IsFaultOf};
+    ghost use Rattle.jp_document.specs.Location.{key_of, value_at};
+    ghost use Rattle.jp_document.specs.Node.{told, StandsIn};
+
+    /// The document that these bytes are. Refused are: bytes that `serde_json` reads no value from, bytes that
+    /// are no UTF-8 and deeper nesting than 127 levels among them (`NotJson`); a number that is not a whole
+    /// one of 64 bits (`NotWhole`, with the path of the first in document order); where there is none, a
+    /// list of more than (2^53)-1 items (`ListTooLong`).
+    pub fn read(alloc: Global, bytes: &[u8]) -> Result<Document, DocumentFault>
+        ensures ok { IfOk result (λ d. IsDocument bytes.now (document_of d)) }
+        ensures fault { IfErr result (IsFaultOf bytes.now) }
+    {
+        let reading = match Value::from_slice(alloc, bytes) {
+            Ok(reading) => reading,
+            Err(error) if error.is_memory() => return Err(DocumentFault::NoMemory),
+            Err(_) => return Err(DocumentFault::NotJson),
+        };
+        let json = match whole(alloc, reading) {
+            Ok(json) => json,
+            Err(stop) => return Err(stop.fault(alloc)),
+        };
+        if lists_fit(&json) {
+            Ok(Document { json })
+        } else {
+            Err(DocumentFault::ListTooLong)
+        }
+    }
+
+    /// The document's value.
+    pub fn json(&self) -> &Json
+        ensures value { value_of result.now ≡ document_of self.now }
+        ensures sound { IsDocumentValue (document_of self.now) }
+    {
+        &self.json
+    }
+
+    /// The root, whose location is empty. It takes no memory: the allocator is for the nodes below it.
+    pub fn root(&self, alloc: Global) -> Node<'_>
+        ensures root { told result ≡ ([], document_of self.now) }
+        ensures stands { StandsIn (document_of self.now) result }
+    {
+        root_of(alloc, &self.json)
+    }
+
+    /// The value at a location, None where there is none (RFC 9535 section 1.1).
+    pub fn at(&self, location: &[Step]) -> Option<&Json>
+        ensures { option_map (λ j. value_of j.now) result
+            ≡ value_at (document_of self.now) (map key_of location.now) }
+    {
+        let mut json = &self.json;
+        for step in location {
+            json = child_value(json, *step)?;
+        }
+        Some(json)
+    }
+}

@@ -1,0 +1,35 @@
+//! JSON documents whose numbers are whole, their nodes, and normalized paths (RFC 9535).
+//!
+//! `Document::read` takes a document from bytes, `Document::root`, `child_named` and `child_at` walk its
+//! nodes, `path_text` and `value_text` print one:
+//!
+//! ```text
+//! let document = Document::read(alloc, b"{\"a\":[1,2]}")?;
+//! let a = child_named(alloc, &document.root(alloc), "a")?;   // $['a'] [1,2]
+//! ```
+//!
+//! For the layer above: `read` accepts exactly the documents and names the first number that is no whole
+//! one; each node stands in its document, with the document's own value; paths and texts are exact.
+#![tactic(auto)]
+
+mod document;
+mod fault;
+mod location;
+mod lookup;
+mod node;
+mod path;
+mod reading;
+mod spelling;
+mod stop;
+#[cfg(test)]
+mod tests;
+mod text;
+mod value;
+
+pub use document::Document;
+pub use fault::DocumentFault;
+pub use location::{OwnedLocation, OwnedStep, Step};
+pub use node::{Node, child_at, child_named};
+pub use path::{path_text, push_path, quote};
+pub use text::{push_value, value_text};
+pub use value::{Json, Member};

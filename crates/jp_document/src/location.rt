@@ -1,0 +1,61 @@
+//! Locations (RFC 9535 section 1.1): lists of steps, of a document or of their own.
+
+use std::marker::Model;
+
+/// One step of a location, which borrows its name.
+#[derive(Clone, Copy)]
+pub enum Step<'d> {
+    Name(&'d str),
+    /// From 0.
+    Index(u64),
+}
+
+/// One step of a location, with a name of its own.
+#[derive(Drop)]
+pub enum OwnedStep {
+    Name(String),
+    /// From 0.
+    Index(u64),
+}
+
+impl OwnedStep {
+    ghost use Rattle.std.specs.Prelude.{◌≡◌};
+    ghost use Rattle.jp_document.specs.Location.{key_of, owned_key};
+
+    /// The same step, which borrows the name.
+    pub(crate) fn as_step(&self) -> Step<'_>
+        ensures { key_of result ≡ owned_key self.now }
+    {
+        match self {
+            OwnedStep::Name(name) => Step::Name(name.as_str()),
+            OwnedStep::Index(index) => Step::Index(*index),
+        }
+    }
+}
+
+/// A location that borrows from no document.
+#[derive(Drop)]
+pub struct OwnedLocation {
+    steps: Vec<OwnedStep>,
+}
+
+impl Model for OwnedLocation {
+    ghost use Rattle.std.specs.Prelude.{map};
+    ghost use Rattle.jp_document.specs.Location.{Location, owned_key};
+
+    ghost Value = { Location };
+
+    ghost view = { λ l. map owned_key l.steps.items };
+}
+
+impl OwnedLocation {
+    ghost use Rattle.std.specs.Prelude.{◌≡◌, map};
+    ghost use Rattle.jp_document.specs.Location.{owned_key};
+
+    /// The steps, from the root on.
+    pub fn steps(&self) -> &[OwnedStep]
+        ensures { map owned_key result.now ≡ self.now }
+    {
+        &self.steps
+    }
+}

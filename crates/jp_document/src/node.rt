@@ -1,0 +1,131 @@
+//! Nodes (RFC 9535 section 1.1): a location with the value that stands there, both borrowed from the document.
+ghost use Rattle.std.specs.Prelude.{◌≡◌, ℕ, [], ◌∷◌, ◌++◌, map, option_map, IfOk};
+ghost use Rattle.jp_document.specs.Value.{Value, IsDocumentValue, value_of};
+
+use crate::location::Step;
+use crate::lookup::{item_at, member_named};
+use crate::value::Json;
+use std::alloc::{AllocError, Global};
+use std::marker::Model;
+
+/// A location in a document with the value that stands there. It copies nothing of the document.
+#[derive(Drop)]
+pub struct Node<'d> {
+    location: Vec<Step<'d>>,
+    value: &'d Json,
+}
+
+impl<'d> Model for Node<'d> {
+    ghost use Rattle.std.specs.Prelude.{map};
+    ghost use Rattle.jp_document.specs.contracts.value.Json as json;
+    ghost use Rattle.std.specs.Coded.{codes};
+    ghost use Rattle.jp_document.specs.Location.{key_of};
+    ghost use Rattle.jp_document.specs.Node.{Located};
+    ghost use Rattle.jp_document.specs.Value.{IsDocumentValue, value_of};
+
+    ghost Value = { Located };
+
+    ghost coded = { Prim.hlevel (codes, json.the_row.coded) };
+
+    ghost view = { λ n. record { location = map key_of n.location.items; value = n.value.now } };
+
+    ghost invariant = { λ n. IsDocumentValue (value_of n.value.now) };
+}
+
+impl<'d> Node<'d> {
+    ghost use Rattle.jp_document.specs.Location.{key_of};
+
+    /// The steps from the root to this node.
+    pub fn location(&self) -> &[Step<'d>]
+        ensures { map key_of result.now ≡ self.now.location }
+    {
+        &self.location
+    }
+
+    /// The value that stands there.
+    pub fn value(&self) -> &'d Json
+        ensures value { result.now ≡ self.now.value }
+        ensures sound { IsDocumentValue (value_of self.now.value) }
+    {
+        self.value
+    }
+
+    /// The same node.
+    pub fn copy(&self, alloc: Global) -> Result<Node<'d>, AllocError>
+        ensures { IfOk result (λ n. n ≡ self.now) }
+    {
+        Ok(Node {
+            location: Vec::from_slice(alloc, &self.location)?,
+            value: self.value,
+        })
+    }
+
+    /// The node one step further, where this value stands.
+    fn extended(
+        &self,
+        alloc: Global,
+        step: Step<'d>,
+        value: &'d Json,
+    ) -> Result<Node<'d>, AllocError>
+        requires { IsDocumentValue (value_of value.now) }
+        ensures location { IfOk result (λ n. n.location ≡ self.now.location ++ key_of step.entry ∷ []) }
+        ensures value { IfOk result (λ n. n.value ≡ value.now) }
+    {
+        let mut location = Vec::with_capacity(alloc, self.location.len() + 1)?;
+        location.extend_from_slice(&self.location)?;
+        location.push(step)?;
+        Ok(Node { location, value })
+    }
+}
+
+/// The node of the empty location, with this value.
+pub(crate) fn root_of(alloc: Global, value: &Json) -> Node<'_>
+    requires { IsDocumentValue (value_of value.now) }
+    ensures location { result.location ≡ [] }
+    ensures value { result.value ≡ value.now }
+{
+    Node {
+        location: Vec::new(alloc),
+        value,
+    }
+}
+
+ghost use Rattle.jp_document.specs.Location.{named, nth};
+ghost use Rattle.jp_document.specs.Node.{told, told_child, StandsIn, IsNodeAt};
+
+/// The member of this name of the node's object, None where there is none (RFC 9535 section 2.3.1). Its
+/// step borrows the name from the document.
+pub fn child_named<'d>(
+    alloc: Global,
+    node: &Node<'d>,
+    name: &str,
+) -> Result<Option<Node<'d>>, AllocError>
+    ensures held { IfOk result (λ o. option_map told o ≡ told_child node.now (named name.now)) }
+    ensures stands { (d : Value) → StandsIn d node.now
+        → IfOk result (IsNodeAt d (node.now.location ++ named name.now ∷ [])) }
+{
+    match member_named(node.value, name) {
+        Some(member) => Ok(Some(node.extended(
+            alloc,
+            Step::Name(member.name.as_str()),
+            &member.value,
+        )?)),
+        None => Ok(None),
+    }
+}
+
+/// The item at this index of the node's list, None where there is none (RFC 9535 section 2.3.3).
+pub fn child_at<'d>(
+    alloc: Global,
+    node: &Node<'d>,
+    index: u64,
+) -> Result<Option<Node<'d>>, AllocError>
+    ensures held { IfOk result (λ o. option_map told o ≡ told_child node.now (nth index)) }
+    ensures stands { (d : Value) → StandsIn d node.now
+        → IfOk result (IsNodeAt d (node.now.location ++ nth index ∷ [])) }
+{
+    match item_at(node.value, index) {
+        Some(item) => Ok(Some(node.extended(alloc, Step::Index(index), item)?)),
+        None => Ok(None),
+    }
+}

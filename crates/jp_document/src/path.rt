@@ -1,0 +1,69 @@
+//! Normalized paths (RFC 9535 section 2.7).
+ghost use Rattle.std.specs.Prelude.{◌≡◌, ◌++◌, map, string_bytes, IfOk, OnOk};
+ghost use Rattle.jp_document.specs.Location.{key_of, owned_key};
+ghost use Rattle.jp_document.specs.Path.{path_of, quoted, step_text, index_text};
+
+use crate::location::{OwnedStep, Step};
+use crate::spelling::push_quoted;
+use itoa::Buffer;
+use std::alloc::{AllocError, Global};
+
+/// The normalized path of a location.
+pub fn path_text(alloc: Global, location: &[Step]) -> Result<String, AllocError>
+    ensures { IfOk result (λ s. string_bytes s ≡ path_of (map key_of location.now)) }
+{
+    let mut text = String::new(alloc);
+    push_path(&mut text, location)?;
+    Ok(text)
+}
+
+/// A text between single quotes, spelled as a name in a normalized path.
+pub fn quote(alloc: Global, text: &str) -> Result<String, AllocError>
+    ensures { IfOk result (λ s. string_bytes s ≡ quoted text.now) }
+{
+    let mut quoted = String::new(alloc);
+    push_quoted(&mut quoted, text, b'\'')?;
+    Ok(quoted)
+}
+
+/// Appends the normalized path of a location. Where memory is wanting, a part of it may stand there.
+pub fn push_path(out: &mut String, location: &[Step]) -> Result<(), AllocError>
+    ensures { OnOk result
+        (string_bytes out.new ≡ string_bytes out.old ++ path_of (map key_of location.now)) }
+{
+    out.push('$')?;
+    for step in location {
+        push_step(out, *step)?;
+    }
+    Ok(())
+}
+
+/// The normalized path of a location that borrows nothing.
+pub(crate) fn owned_path_text(alloc: Global, location: &[OwnedStep]) -> Result<String, AllocError>
+    ensures { IfOk result (λ s. string_bytes s ≡ path_of (map owned_key location.now)) }
+{
+    let mut text = String::from_str(alloc, "$")?;
+    for step in location {
+        push_step(&mut text, step.as_step())?;
+    }
+    Ok(text)
+}
+
+/// Appends one step of a normalized path.
+pub(crate) fn push_step(out: &mut String, step: Step) -> Result<(), AllocError>
+    ensures { OnOk result
+        (string_bytes out.new ≡ string_bytes out.old ++ step_text (key_of step.entry)) }
+{
+    out.push('[')?;
+    match step {
+        Step::Name(name) => push_quoted(out, name, b'\'')?,
+        Step::Index(index) => push_index(out, index)?,
+    }
+    out.push(']')
+}
+
+fn push_index(out: &mut String, index: u64) -> Result<(), AllocError>
+    ensures { OnOk result (string_bytes out.new ≡ string_bytes out.old ++ index_text index) }
+{
+    out.push_str(Buffer::new().format(index))
+}

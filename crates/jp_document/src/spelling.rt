@@ -1,0 +1,103 @@
+//! How texts are spelled between quotes.
+ghost use Rattle.std.specs.Prelude.{◌≡◌, ◌<◌, ◌≤◌, ◌++◌, ◌∷◌, [], true, false, length, take, slice_index, string_bytes, IsTrue, OnOk};
+ghost use Rattle.std.specs.List.{flat_map};
+ghost use Rattle.jp_document.specs.Spelling.{spelling, quoted_in, hex_digit, control};
+
+use std::alloc::AllocError;
+
+/// Appends the text between two of these quotes, each character as it is spelled there. What needs no
+/// spelling of its own is copied in whole runs.
+pub(crate) fn push_quoted(out: &mut String, text: &str, quote: u8) -> Result<(), AllocError>
+    requires { quote < 128 }
+    ensures { OnOk result (string_bytes out.new ≡ string_bytes out.old ++ quoted_in quote text.now) }
+{
+    out.push(char::from(quote))?;
+    push_spelled(out, text, quote)?;
+    out.push(char::from(quote))
+}
+
+fn push_spelled(out: &mut String, text: &str, quote: u8) -> Result<(), AllocError>
+    requires { quote < 128 }
+    ensures { OnOk result
+        (string_bytes out.new ≡ string_bytes out.old ++ flat_map (spelling quote) text.now) }
+{
+    let mut rest = text;
+    'runs: loop {
+        let (plain, marked) = rest.split_at(plain_len(rest.as_bytes(), quote));
+        out.push_str(plain)?;
+        let Some(first) = marked.as_bytes().first() else {
+            return Ok(());
+        };
+        push_marked(out, *first, quote)?;
+        rest = marked.split_at(1).1;
+    }
+}
+
+/// How many bytes at the start stand for themselves.
+fn plain_len(text: &[u8], quote: u8) -> usize
+    requires { quote < 128 }
+    ensures within { result ≤ length text.now }
+    ensures plain { flat_map (spelling quote) (take result text.now) ≡ take result text.now }
+    ensures ascii { result < length text.now → slice_index text.now result < 128 }
+{
+    for (i, byte) in text.iter().enumerate() {
+        if is_marked(*byte, quote) {
+            return i;
+        }
+    }
+    text.len()
+}
+
+/// Whether the byte has a spelling of its own.
+#[tactic(auto, unfolding(crate::specs::Spelling::spelling))]
+fn is_marked(byte: u8, quote: u8) -> bool
+    requires { quote < 128 }
+    ensures plain { result ≡ false → spelling quote byte ≡ byte ∷ [] }
+    ensures ascii { result ≡ true → byte < 128 }
+{
+    byte < 0x20 || byte == quote || byte == b'\\'
+}
+
+/// Appends the spelling of one character.
+#[tactic(auto, unfolding(crate::specs::Spelling::spelling))]
+fn push_marked(out: &mut String, byte: u8, quote: u8) -> Result<(), AllocError>
+    requires { byte < 128 }
+    ensures { OnOk result (string_bytes out.new ≡ string_bytes out.old ++ spelling quote byte) }
+{
+    match byte {
+        0x08 => out.push_str("\\b"),
+        b'\t' => out.push_str("\\t"),
+        b'\n' => out.push_str("\\n"),
+        0x0c => out.push_str("\\f"),
+        b'\r' => out.push_str("\\r"),
+        _ if byte == quote || byte == b'\\' => push_two(out, b'\\', byte),
+        _ if byte < 0x20 => push_control(out, byte),
+        _ => out.push(char::from(byte)),
+    }
+}
+
+/// Appends a control character by its number.
+fn push_control(out: &mut String, byte: u8) -> Result<(), AllocError>
+    requires { byte < 32 }
+    ensures { OnOk result (string_bytes out.new ≡ string_bytes out.old ++ control byte) }
+{
+    out.push_str("\\u00")?;
+    push_two(out, hex_digit_of(byte / 16), hex_digit_of(byte % 16))
+}
+
+fn push_two(out: &mut String, first: u8, second: u8) -> Result<(), AllocError>
+    requires first { first < 128 }
+    requires second { second < 128 }
+    ensures { OnOk result (string_bytes out.new ≡ string_bytes out.old ++ first ∷ second ∷ []) }
+{
+    out.push(char::from(first))?;
+    out.push(char::from(second))
+}
+
+fn hex_digit_of(n: u8) -> u8
+    requires { n < 16 }
+    ensures value { result ≡ hex_digit n }
+    ensures ascii { result < 128 }
+{
+    if n < 10 { b'0' + n } else { b'a' + (n - 10) }
+}
