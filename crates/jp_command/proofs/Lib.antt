@@ -5,3 +5,4 @@ pub mod LineLemmas
 pub mod AcceptedLemmas
 pub mod NodelistLemmas
 pub mod RunLemmas
+pub mod LocationLaws

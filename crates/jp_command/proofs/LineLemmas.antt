@@ -1,5 +1,5 @@
 -- Lines written one after another.
-use Rattle.std.proofs.Common.{◌≡◌, ℕ, suc, ◌<◌, List, ◌∷◌, ◌++◌, length, take, drop, map, Option, sym, ◌∙◌, ap, append_assoc, drop-cons, slice_index_or}
+use Rattle.std.proofs.Common.{◌≡◌, ℕ, suc, ◌<◌, List, ◌++◌, length, take, drop, map, Option, sym, ◌∙◌, ap, append_assoc, drop-cons, slice_index_or}
 use Rattle.std.proofs.lemmas.Grind.{flat_map-append}
 use Rattle.std.proofs.lemmas.List.{map-append, take-append-drop}
 use Rattle.std.specs.Io.KnownBytes.{Appends}

@@ -2,11 +2,16 @@
 use Rattle.std.proofs.Common.{◌≡◌, [], ◌∷◌, Some, None, codes, refl}
 use Rattle.clap.proofs.OnLiterals.{clap_on_literals}
 use Rattle.jp_command.specs.CommandLine.{asked, asking, jp}
-use Rattle.jp_command.specs.declared.words.Task.TheVariants.{Both}
+use Rattle.jp_command.specs.declared.lines.Form.TheVariants.{Values, Both}
+use Rattle.jp_command.specs.declared.words.Task.TheVariants.{Eval}
 
-both : asked (codes "jp" ∷ codes "both" ∷ codes "$" ∷ []) ≡ Some (Both, codes "$")
+both : asked (codes "jp" ∷ codes "both" ∷ codes "$" ∷ []) ≡ Some (Eval Both, codes "$")
 unfolding clap_on_literals jp asking
 both = refl
+
+values : asked (codes "jp" ∷ codes "eval" ∷ codes "$" ∷ []) ≡ Some (Eval Values, codes "$")
+unfolding clap_on_literals jp asking
+values = refl
 
 no_query : asked (codes "jp" ∷ codes "both" ∷ []) ≡ None
 unfolding clap_on_literals jp asking

@@ -1,5 +1,5 @@
 -- Which queries are accepted, and how others are refused.
-use Rattle.std.specs.Prelude.{◌≡◌, ◌⊎◌, ℕ, suc, pos, negsuc, ◌^◌, ◌<◌, nat_lt, Bool, false, List, [], ◌∷◌, Option, Some, None, if◌then◌else◌, option_map}
+use Rattle.std.specs.Prelude.{◌≡◌, ◌⊎◌, ℕ, suc, pos, negsuc, ◌^◌, nat_lt, Bool, false, List, [], ◌∷◌, Option, Some, None, if◌then◌else◌, option_map}
 use Rattle.std.specs.Option.{option_or}
 use Rattle.std.specs.List.{All}
 use Rattle.std.specs.Str.{chars}

@@ -4,21 +4,29 @@ use Rattle.std.specs.Str.{bytes_eq}
 use Rattle.clap.specs.Words.{App, Row, Text, fault_of, first_of, new_app, new_rule, subcommand_of, with_rule, with_subcommand}
 use Rattle.clap.specs.Simple.{on_top}
 use Rattle.clap.specs.Walk.{is_empty}
+use Rattle.jp_command.specs.declared.lines.Form.TheVariants.{Values, Paths, Both}
 use Rattle.jp_command.specs.declared.words.Task.{Task}
-use Rattle.jp_command.specs.declared.words.Task.TheVariants.{Both}
+use Rattle.jp_command.specs.declared.words.Task.TheVariants.{Eval}
 
 -- a subcommand with exactly one positional, the query, which has to be there
 unfoldable pub asking : Text → App
 asking name = with_rule (new_app name) (record (new_rule (codes "QUERY")) { required = true })
 
+-- the command with one such subcommand more
+abbrev pub with_task : App → Text → App
+with_task app name = with_subcommand app (asking name).top
+
 -- `jp` with its subcommands, one of which has to be there
 unfoldable pub jp : App
 jp = on_top (λ top. record top { subcommand_required = true })
-    (with_subcommand (new_app (codes "jp")) (asking (codes "both")).top)
+    (with_task (with_task (with_task (new_app (codes "jp")) (codes "eval")) (codes "paths")) (codes "both"))
 
 -- the task that a subcommand's name stands for
 abbrev pub task_called : Text → Option Task
-task_called name = if bytes_eq name (codes "both") then Some Both else None
+task_called name =
+    if bytes_eq name (codes "eval") then Some (Eval Values)
+    else (if bytes_eq name (codes "paths") then Some (Eval Paths)
+    else (if bytes_eq name (codes "both") then Some (Eval Both) else None))
 
 -- the task and the query of the subcommand that the words name
 abbrev pub task_and_query : Text × List Row → Option (Task × Text)

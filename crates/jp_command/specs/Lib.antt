@@ -8,3 +8,4 @@ pub mod Lines
 pub mod Faults
 pub mod Run
 pub mod Line
+pub mod Laws

@@ -9,10 +9,12 @@ use Rattle.jp_query.specs.Tree.{QueryTree}
 use Rattle.jp_command.specs.Nodelist.{nodelist}
 use Rattle.jp_command.specs.Places.{Place, standing}
 use Rattle.jp_command.specs.declared.lines.Form.{Form}
-use Rattle.jp_command.specs.declared.lines.Form.TheVariants.{Both}
+use Rattle.jp_command.specs.declared.lines.Form.TheVariants.{Values, Paths, Both}
 
--- what stands in a line: the normalized path (RFC 9535 section 2.7), a tab and the compact text
+-- what stands in a line: the compact text, the normalized path (RFC 9535 section 2.7), or both with a tab between
 abbrev pub shown : Form → Location → Value → List ℕ
+shown Values l v = text_of v
+shown Paths l v = path_of l
 shown Both l v = path_of l ++ 9 ∷ text_of v
 
 -- a line, which a newline ends

@@ -36,12 +36,29 @@ pub fn run_eval<R: Source, W: Output>(
     ensures { RunsEval R.remaining R.has_failed W.contents W.has_failed
         form query.now input.old input.new output.old output.new result }
 {
+    let _document = eval_keeping(alloc, query, form, input, output)?;
+    Ok(())
+}
+
+/// Runs as `run_eval` and hands over the document, so that the caller says whether it is freed.
+pub(crate) fn eval_keeping<R: Source, W: Output>(
+    alloc: Global,
+    query: &str,
+    form: Form,
+    input: &mut R,
+    output: &mut W,
+) -> Result<Document, Fault>
+    ensures { RunsEval R.remaining R.has_failed W.contents W.has_failed
+        form query.now input.old input.new output.old output.new result }
+{
     let query = asked_query(alloc, query)?;
     let bytes = read_all(alloc, input)?;
     let document = Document::read(alloc, &bytes)?;
+    drop(bytes);
     let nodes = nodelist(alloc, &query, &document)?;
     write_lines(alloc, form, &nodes, output)?;
-    Ok(())
+    drop(nodes);
+    Ok(document)
 }
 
 /// Reads a query that is not too long.

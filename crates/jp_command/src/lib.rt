@@ -16,6 +16,7 @@ mod device;
 mod eval;
 mod fault;
 mod input;
+pub mod laws;
 mod line;
 mod lines;
 mod nodelist;

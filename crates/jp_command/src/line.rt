@@ -4,10 +4,11 @@ ghost use Rattle.std.specs.Prelude.{◌≡◌, ◌≢◌, IfOk, map, string_byte
 ghost use Rattle.std.specs.Cow.{cow_str_bytes};
 ghost use Rattle.clap.specs.Words.{kind_of};
 ghost use Rattle.jp_command.specs.Line.{RunsLine, RunsTask, document_fault_name, fault_line, status_of};
+ghost use Rattle.jp_command.specs.Run.{RunsEval};
 ghost use Rattle.jp_command.specs.Streams.{AppendsFront};
 
 use crate::device::{Output, Source};
-use crate::eval::run_eval;
+use crate::eval::eval_keeping;
 use crate::fault::Fault;
 use crate::lines::Form;
 use crate::output::write_all;
@@ -17,6 +18,7 @@ use clap::error::ErrorKind;
 use jp_document::DocumentFault;
 use std::alloc::{AllocError, Global};
 use std::borrow::CowStr;
+use std::mem;
 
 /// Does what `words` ask for, of which the first is the program's name, and answers the status:
 /// 0 where it is done, 1 where the query is refused, 2 where the words are not ones that the command
@@ -47,7 +49,7 @@ pub fn run_line<R: Source, W: Output, E: Output>(
     }
 }
 
-/// Runs a task, and flushes the output once it is done.
+/// Runs a task.
 fn run_task<R: Source, W: Output>(
     alloc: Global,
     task: Task,
@@ -59,8 +61,24 @@ fn run_task<R: Source, W: Output>(
         task query.now input.old input.new output.old output.new result }
 {
     match task {
-        Task::Both => run_eval(alloc, query, Form::Both, input, output)?,
+        Task::Eval(form) => eval_to_the_end(alloc, query, form, input, output),
     }
+}
+
+/// Runs a query over an input, and flushes the output once that is done.
+fn eval_to_the_end<R: Source, W: Output>(
+    alloc: Global,
+    query: &str,
+    form: Form,
+    input: &mut R,
+    output: &mut W,
+) -> Result<(), Fault>
+    ensures { RunsEval R.remaining R.has_failed W.contents W.has_failed
+        form query.now input.old input.new output.old output.new result }
+{
+    let document = eval_keeping(alloc, query, form, input, output)?;
+    // The process ends next, which frees the document faster than a walk over it.
+    mem::forget(document);
     match output.flush() {
         Ok(()) => Ok(()),
         Err(_) => Err(Fault::Write),

@@ -15,6 +15,10 @@ use std::alloc::{AllocError, Global};
 /// What is written of each node.
 #[derive(Debug, Clone, Copy, PartialEq, Eq)]
 pub enum Form {
+    /// The compact text of the value.
+    Values,
+    /// The normalized path.
+    Paths,
     /// The normalized path, a tab and the compact text of the value.
     Both,
 }
@@ -48,6 +52,8 @@ fn push_line(form: Form, node: &Node, line: &mut String) -> Result<(), AllocErro
         (string_bytes line.new ≡ string_bytes line.old ++ line_of form (seen node.now)) }
 {
     match form {
+        Form::Values => push_value(line, node.value())?,
+        Form::Paths => push_path(line, node.location())?,
         Form::Both => {
             push_path(line, node.location())?;
             line.push('\t')?;

@@ -4,16 +4,17 @@ ghost use Rattle.std.specs.Prelude.{◌≡◌, ◌⊎◌, None, IfOk, IfErr, [],
 ghost use Rattle.clap.specs.Words.{IsAmong, app_of, fault_of, found_of, kind_of, rows_of, subcommand_of, subcommand_rows_of};
 ghost use Rattle.clap.specs.declared.builder.command.Command.TheViews.{out-Command};
 ghost use Rattle.clap.specs.declared.error.kind.ErrorKind.TheVariants.{OutOfMemory};
-ghost use Rattle.jp_command.specs.CommandLine.{asked, asking, jp, task_and_query, task_called};
+ghost use Rattle.jp_command.specs.CommandLine.{asked, asking, jp, task_and_query, task_called, with_task};
 
+use crate::lines::Form;
 use clap::{Arg, ArgMatches, Command, Error};
 use std::alloc::{AllocError, Global};
 
 /// What a subcommand does with its query.
 #[derive(Debug, Clone, Copy, PartialEq, Eq)]
 pub(crate) enum Task {
-    /// `both`: writes the path and the value of each node.
-    Both,
+    /// `eval`, `paths` and `both`: writes a line for each node, in this form.
+    Eval(Form),
 }
 
 /// The task that a subcommand's name stands for.
@@ -21,7 +22,9 @@ fn task_named(name: &str) -> Option<Task>
     ensures { result ≡ task_called name.now }
 {
     match name {
-        "both" => Some(Task::Both),
+        "eval" => Some(Task::Eval(Form::Values)),
+        "paths" => Some(Task::Eval(Form::Paths)),
+        "both" => Some(Task::Eval(Form::Both)),
         _ => None,
     }
 }
@@ -36,13 +39,26 @@ fn asking_command<'w>(alloc: Global, name: &'w str) -> Result<Command<'w>, Alloc
     Command::new(alloc, name).arg(query)
 }
 
+/// The command with one such subcommand more.
+fn with_task<'w>(
+    alloc: Global,
+    command: Command<'w>,
+    name: &'w str,
+) -> Result<Command<'w>, AllocError>
+    ensures { IfOk result (λ more.
+        app_of more ≡ with_task (app_of command.entry) name.entry.now) }
+{
+    command.subcommand(asking_command(alloc, name)?)
+}
+
 /// The whole command line.
 #[tactic(auto, unfolding(crate::specs::CommandLine::jp))]
 fn jp_command<'w>(alloc: Global) -> Result<Command<'w>, AllocError>
     ensures { IfOk result (λ command. app_of command ≡ jp) }
 {
-    let both = asking_command(alloc, "both")?;
-    let command = Command::new(alloc, "jp").subcommand(both)?;
+    let command = with_task(alloc, Command::new(alloc, "jp"), "eval")?;
+    let command = with_task(alloc, command, "paths")?;
+    let command = with_task(alloc, command, "both")?;
     Ok(command.subcommand_required(true))
 }
 

@@ -1,5 +1,5 @@
 -- Normalized paths: indexes as `itoa` prints them.
-use Rattle.std.proofs.Common.{◌≡◌, ℕ, zero, suc, ◌+◌, ◌<◌, ◌^◌, eqb, Bool, false, cond, List, ◌∷◌, [], map, refl, sym, ap, ◌∙◌, arith}
+use Rattle.std.proofs.Common.{◌≡◌, ℕ, zero, suc, ◌+◌, ◌<◌, ◌^◌, eqb, false, cond, ◌∷◌, [], map, refl, sym, ap, ◌∙◌, arith}
 use Rattle.std.proofs.Math.Dec.{eqb-suc-zero}
 use Rattle.std.proofs.lemmas.Fmt.{decimal_digit, decimal-digits_of}
 use Rattle.std.specs.Fmt.{decimal}
@@ -10,7 +10,7 @@ index_text-above : (n : ℕ) → eqb n 0 ≡ false → index_text n ≡ map (λ 
 unfolding index_text
 index_text-above n above = ap (λ b. cond b (48 ∷ []) (map (λ d. 48 + d) (digits_of 10 n))) above
 
-index_text-zero : 48 ∷ [] ≡ index_text 0
+pub index_text-zero : 48 ∷ [] ≡ index_text 0
 unfolding index_text
 index_text-zero = refl
 

@@ -1,7 +1,11 @@
+pub mod ChildNodes
 pub mod Document
+pub mod Laws
 pub mod Location
 pub mod Node
 pub mod Path
+pub mod PathFault
+pub mod PathReader
 pub mod Spelling
 pub mod Stop
 pub mod Text

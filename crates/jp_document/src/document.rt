@@ -3,10 +3,10 @@ ghost use Rattle.std.specs.Prelude.{◌≡◌, [], map, option_map, IfOk, IfErr}
 ghost use Rattle.jp_document.specs.Value.{IsDocumentValue, value_of};
 
 use crate::fault::DocumentFault;
-use crate::location::Step;
+use crate::location::{OwnedLocation, Step};
 use crate::lookup::child_value;
 use crate::node::{Node, root_of};
-use crate::reading::{lists_fit, whole};
+use crate::reading::whole;
 use crate::value::Json;
 use serde_json::Value;
 use std::alloc::Global;
@@ -37,11 +37,12 @@ impl Document {
             Err(error) if error.is_memory() => return Err(DocumentFault::NoMemory),
             Err(_) => return Err(DocumentFault::NotJson),
         };
-        let json = match whole(alloc, reading) {
+        let mut fits = true;
+        let json = match whole(alloc, reading, &mut fits) {
             Ok(json) => json,
             Err(stop) => return Err(stop.fault(alloc)),
         };
-        if lists_fit(&json) {
+        if fits {
             Ok(Document { json })
         } else {
             Err(DocumentFault::ListTooLong)
@@ -61,7 +62,7 @@ impl Document {
         ensures root { told result ≡ ([], document_of self.now) }
         ensures stands { StandsIn (document_of self.now) result }
     {
-        root_of(alloc, &self.json)
+        root_of(alloc, self.json())
     }
 
     /// The value at a location, None where there is none (RFC 9535 section 1.1).
@@ -69,9 +70,21 @@ impl Document {
         ensures { option_map (λ j. value_of j.now) result
             ≡ value_at (document_of self.now) (map key_of location.now) }
     {
-        let mut json = &self.json;
+        let mut json = self.json();
         for step in location {
             json = child_value(json, *step)?;
+        }
+        Some(json)
+    }
+
+    /// The value at a location that borrows nothing, None where there is none.
+    pub fn find(&self, location: &OwnedLocation) -> Option<&Json>
+        ensures { option_map (λ j. value_of j.now) result
+            ≡ value_at (document_of self.now) location.now }
+    {
+        let mut json = self.json();
+        for step in location.steps() {
+            json = child_value(json, step.as_step())?;
         }
         Some(json)
     }

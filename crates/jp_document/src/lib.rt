@@ -12,12 +12,21 @@
 //! one; each node stands in its document, with the document's own value; paths and texts are exact.
 #![tactic(auto)]
 
+mod characters;
+mod child_nodes;
 mod document;
 mod fault;
+pub mod laws;
 mod location;
 mod lookup;
+mod name_reader;
 mod node;
+mod nth;
 mod path;
+mod path_fault;
+mod path_reader;
+#[cfg(test)]
+mod path_tests;
 mod reading;
 mod spelling;
 mod stop;
@@ -26,10 +35,14 @@ mod tests;
 mod text;
 mod value;
 
+pub use child_nodes::children;
 pub use document::Document;
 pub use fault::DocumentFault;
 pub use location::{OwnedLocation, OwnedStep, Step};
 pub use node::{Node, child_at, child_named};
+pub use nth::{child_count, nth_child};
 pub use path::{path_text, push_path, quote};
+pub use path_fault::PathFault;
+pub use path_reader::read_path;
 pub use text::{push_value, value_text};
 pub use value::{Json, Member};

@@ -52,6 +52,13 @@ impl OwnedLocation {
     ghost use Rattle.std.specs.Prelude.{◌≡◌, map};
     ghost use Rattle.jp_document.specs.Location.{owned_key};
 
+    /// The location of these steps.
+    pub(crate) fn of(steps: Vec<OwnedStep>) -> OwnedLocation
+        ensures { result ≡ map owned_key steps.items }
+    {
+        OwnedLocation { steps }
+    }
+
     /// The steps, from the root on.
     pub fn steps(&self) -> &[OwnedStep]
         ensures { map owned_key result.now ≡ self.now }

@@ -1,5 +1,7 @@
 //! Nodes (RFC 9535 section 1.1): a location with the value that stands there, both borrowed from the document.
 ghost use Rattle.std.specs.Prelude.{◌≡◌, ℕ, [], ◌∷◌, ◌++◌, map, option_map, IfOk};
+ghost use Rattle.jp_document.specs.Location.{named, nth};
+ghost use Rattle.jp_document.specs.Node.{told, told_child, StandsIn, IsNodeAt};
 ghost use Rattle.jp_document.specs.Value.{Value, IsDocumentValue, value_of};
 
 use crate::location::Step;
@@ -55,13 +57,13 @@ impl<'d> Node<'d> {
         ensures { IfOk result (λ n. n ≡ self.now) }
     {
         Ok(Node {
-            location: Vec::from_slice(alloc, &self.location)?,
+            location: Vec::from_slice(alloc, self.location())?,
             value: self.value,
         })
     }
 
     /// The node one step further, where this value stands.
-    fn extended(
+    pub(crate) fn extended(
         &self,
         alloc: Global,
         step: Step<'d>,
@@ -71,8 +73,9 @@ impl<'d> Node<'d> {
         ensures location { IfOk result (λ n. n.location ≡ self.now.location ++ key_of step.entry ∷ []) }
         ensures value { IfOk result (λ n. n.value ≡ value.now) }
     {
-        let mut location = Vec::with_capacity(alloc, self.location.len() + 1)?;
-        location.extend_from_slice(&self.location)?;
+        let steps = self.location();
+        let mut location = Vec::with_capacity(alloc, steps.len() + 1)?;
+        location.extend_from_slice(steps)?;
         location.push(step)?;
         Ok(Node { location, value })
     }
@@ -89,9 +92,6 @@ pub(crate) fn root_of(alloc: Global, value: &Json) -> Node<'_>
         value,
     }
 }
-
-ghost use Rattle.jp_document.specs.Location.{named, nth};
-ghost use Rattle.jp_document.specs.Node.{told, told_child, StandsIn, IsNodeAt};
 
 /// The member of this name of the node's object, None where there is none (RFC 9535 section 2.3.1). Its
 /// step borrows the name from the document.

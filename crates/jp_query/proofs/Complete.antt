@@ -1,32 +1,29 @@
 -- What spells a value is read as that value, where what follows it may follow.
-use Rattle.std.proofs.Common.{◌≡◌, ℕ, zero, suc, ◌+◌, Bool, true, false, if◌then◌else◌, List, [], ◌∷◌, ◌++◌, length, Option, Some, None, refl, sym, ap, ◌∙◌, subst, arith, ◌||◌}
+use Rattle.std.proofs.Common.{◌≡◌, ℕ, Bool, true, false, List, [], ◌∷◌, ◌++◌, Option, Some, None, refl, sym, ap, ◌∙◌, subst, arith, ◌||◌}
 use Rattle.std.proofs.lemmas.Bool.Decides.{nat_tests}
 use Rattle.jp_query.specs.declared.tree.Numeral.{Numeral}
-use Rattle.jp_reading.specs.Texts.{Text, Spans, bytes, is_blank}
-use Rattle.jp_reading.specs.Forms.{Form, ◌⌢◌, word, One, Each, Blank, Item, AllPassing}
-use Rattle.jp_reading.specs.Outcome.{State, Outcome, took, stuck, deep, ◌>>=◌, head, first_of, past, skip, passes, is, is_at, is_end, take_if, expect, each, item, after_blank}
+use Rattle.jp_reading.specs.Texts.{Text, is_blank}
+use Rattle.jp_reading.specs.Forms.{◌⌢◌, word, One, Each, Blank, Item, AllPassing}
+use Rattle.jp_reading.specs.Outcome.{State, took, head, first_of, skip, passes, is, is_at, after_blank}
 use Rattle.jp_reading.specs.Numbers.{is_digit, value_from}
 use Rattle.jp_reading.specs.Views.{by}
-use Rattle.jp_reading.proofs.Between.{Between, Reads, reads-as}
+use Rattle.jp_reading.proofs.Between.{Reads, reads-as, reads-is}
 use Rattle.jp_reading.proofs.Runs.{Run, each-run, again-run}
-use Rattle.jp_reading.proofs.Steps.{take_if-takes}
-use Rattle.jp_reading.proofs.Progress.{Progress, moves-take_if}
-use Rattle.jp_reading.proofs.Again.{Again, Starts, split, reads-none, word-first, one-first, again-take_if, again-expect, again-skip, inside, again-item, again-each}
-use Rattle.jp_query.specs.Tree.{SelectorTree, name, index, SegmentTree, segment, selectors}
-use Rattle.jp_query.specs.Names.{is_name_first, is_name_char, is_plain, Shorthand, shorthand, Between as Marked, Quoted, in_double, in_single}
-use Rattle.jp_query.specs.Ints.{is_leading_digit, whole_of, negative_of, Unsigned, Int, zero_int, positive_int, negative_int}
+use Rattle.jp_reading.proofs.Steps.{is_at-other, passes-apart}
+use Rattle.jp_reading.proofs.Again.{split, word-first, one-first, again-take_if, again-expect, again-skip, inside, again-item, again-each, past-word}
+use Rattle.jp_query.specs.Tree.{SelectorTree, name, index, SegmentTree}
+use Rattle.jp_query.specs.Names.{is_name_first, is_name_char, Shorthand, shorthand}
+use Rattle.jp_query.specs.Strings.{is_escapable, Character, Between as Marked, in_double, in_single}
+use Rattle.jp_query.proofs.Escapes.{characters-again}
+use Rattle.jp_query.specs.Ints.{is_leading_digit, Unsigned, Int, zero_int, positive_int, negative_int}
 use Rattle.jp_query.specs.Grammar.{Selector, named, indexed, Segment, bracketed, dotted}
-use Rattle.jp_query.specs.Reading.{run_at, shorthand_at, quoted_at, size_at, int_at, selector_at, bracket_at, dotted_at, segment_at, segments_at, begins_segment}
+use Rattle.jp_query.specs.Reading.{run_at, begins_character, shorthand_at, quoted_at, size_at, int_at, selector_at, bracket_at, dotted_at, segment_at, segments_at, begins_segment}
 use Rattle.jp_query.proofs.Moves.{segment-progress}
 use Rattle.jp_query.proofs.Rules.{child_of}
 
 -- a run of characters, up to one that does not pass
 run-again : (ok : ℕ → Bool) (cs : Text) (p q : State) → Reads (Each (One ok) cs) p q → passes ok (head q) ≡ false → run_at ok p ≡ took cs q
 run-again ok cs p q h off = again-run ok cs p q (reads-as (Each (One ok) cs) (Run ok cs) p q (each-run ok cs) h) off
-
--- the parts of a form, read apart
-reads-is : (P Q : Form) (p q : State) → (h : Reads P p q) → Q h.spans p.at h.text → Reads Q p q
-reads-is P Q p q h is = record { spans = h.spans; text = h.text; way = h.way; is = is }
 
 -- a shorthand, up to what is no name's character
 shorthand-joined : (c : ℕ) (more : Text) (p q : State) → Reads (One is_name_first c ⌢ Each (One is_name_char) more) p q
@@ -45,18 +42,16 @@ shorthand-again : (cs : Text) (p q : State) → Reads (Shorthand cs) p q → pas
 shorthand-again cs p q h off = shorthand-cases cs p q h h.is off
 
 -- a string between two of the quotation mark
-quoted-again : (quote : ℕ) → is_plain quote quote ≡ false → (cs : Text) (p q : State) → Reads (Marked quote cs) p q → quoted_at quote p ≡ took cs q
+quoted-again : (quote : ℕ) → is_escapable quote 117 ≡ false → begins_character quote quote ≡ false
+    → (cs : Text) (p q : State) → Reads (Marked quote cs) p q → quoted_at quote p ≡ took cs q
 unfolding quoted_at
-quoted-again quote ends cs p q h =
-    let opened = split (word (quote ∷ [])) (Each (One (is_plain quote)) cs ⌢ word (quote ∷ [])) p q h in
-    let closed = split (Each (One (is_plain quote)) cs) (word (quote ∷ [])) opened.middle q opened.two in
+quoted-again quote no_u ends cs p q h =
+    let opened = split (word (quote ∷ [])) (Each (Character quote) cs ⌢ word (quote ∷ [])) p q h in
+    let closed = split (Each (Character quote) cs) (word (quote ∷ [])) opened.middle q opened.two in
     let mark = word-first quote [] closed.middle q closed.two in
-    let off : passes (is_plain quote) (head closed.middle) ≡ false = rw mark ends in
-    rw (
-      again-expect quote p opened.middle opened.one,
-      run-again (is_plain quote) cs opened.middle closed.middle closed.one off,
-      again-expect quote closed.middle q closed.two,
-    ) refl
+    let off : passes (begins_character quote) (head closed.middle) ≡ false = rw mark ends in
+    rw (again-expect quote p opened.middle opened.one, characters-again quote no_u cs opened.middle closed.middle closed.one off,
+      again-expect quote closed.middle q closed.two) refl
 
 -- digits without a leading zero, up to what is no digit
 size-again : (c : ℕ) (more : Text) (p q : State) → Reads (Unsigned c more) p q → passes is_digit (head q) ≡ false
@@ -71,17 +66,6 @@ size-first c more p q h =
     let parts = split (One is_leading_digit c) (Each (One is_digit) more) p q h in
     (one-first is_leading_digit c p parts.middle parts.one, parts.one.is.passes)
 
--- past a character that was taken
-past-again : (c : ℕ) (p q : State) → Reads (word (c ∷ [])) p q → past p ≡ q
-past-again c p q h =
-    let first = word-first c [] p q h in
-    let taken = take_if-takes (is c) p c first (grind (arith, nat_tests)) in
-    let same = again-expect c p q h in
-    cc
-
-leading-apart : (c d : ℕ) → is_leading_digit c ≡ true → is_leading_digit d ≡ false → is d c ≡ false
-leading-apart c d h g = grind (arith, nat_tests)
-
 -- a whole number, up to what is no digit
 int-cases : (x : Numeral) (p q : State) (h : Reads (Int x) p q) → Int x h.spans p.at h.text → passes is_digit (head q) ≡ false → int_at p ≡ took x q
 unfolding int_at
@@ -89,12 +73,12 @@ int-cases x p q h (zero_int e w) off =
     let zero_read = reads-is (Int x) (word (48 ∷ [])) p q h w in
     let first = word-first 48 [] p q zero_read in
     let at_zero : is_at 48 p ≡ true = rw first refl in
-    rw (at_zero, past-again 48 p q zero_read, e) refl
+    rw (at_zero, past-word 48 p q zero_read, e) refl
 int-cases x p q h (positive_int c more e w) off =
     let digits = reads-is (Int x) (Unsigned c more) p q h w in
     let first = size-first c more p q digits in
-    let no_zero : is_at 48 p ≡ false = rw first.0 (leading-apart c 48 first.1 refl) in
-    let no_minus : is_at 45 p ≡ false = rw first.0 (leading-apart c 45 first.1 refl) in
+    let no_zero : is_at 48 p ≡ false = is_at-other is_leading_digit c 48 p first.0 first.1 refl in
+    let no_minus : is_at 45 p ≡ false = is_at-other is_leading_digit c 45 p first.0 first.1 refl in
     rw (no_zero, no_minus, size-again c more p q digits off, e) refl
 int-cases x p q h (negative_int c more e w) off =
     let minus = reads-is (Int x) (word (45 ∷ []) ⌢ Unsigned c more) p q h w in
@@ -102,7 +86,7 @@ int-cases x p q h (negative_int c more e w) off =
     let first = word-first 45 [] p parts.middle parts.one in
     let no_zero : is_at 48 p ≡ false = rw first refl in
     let at_minus : is_at 45 p ≡ true = rw first refl in
-    rw (no_zero, at_minus, past-again 45 p parts.middle parts.one, size-again c more parts.middle q parts.two off, e) refl
+    rw (no_zero, at_minus, past-word 45 p parts.middle parts.one, size-again c more parts.middle q parts.two off, e) refl
 
 int-again : (x : Numeral) (p q : State) → Reads (Int x) p q → passes is_digit (head q) ≡ false → int_at p ≡ took x q
 int-again x p q h off = int-cases x p q h h.is off
@@ -120,18 +104,13 @@ int-first x p q h (negative_int c more e w) =
     let parts = split (word (45 ∷ [])) (Unsigned c more) p q (reads-is (Int x) (word (45 ∷ []) ⌢ Unsigned c more) p q h w) in
     rw (word-first 45 [] p parts.middle parts.one) refl
 
--- what passes one test does not pass another
-apart : (ok other : ℕ → Bool) (o : Option ℕ) → ((c : ℕ) → ok c ≡ true → other c ≡ false) → passes ok o ≡ true → passes other o ≡ false
-apart ok other None w h = refl
-apart ok other (Some c) w h = w c h
-
 int-not_mark : (d : ℕ) → begins_int d ≡ false → (c : ℕ) → begins_int c ≡ true → is d c ≡ false
 int-not_mark d g c h = grind (arith, nat_tests)
 
 -- a selector, up to what is no digit
 mark-first : (quote : ℕ) (cs : Text) (p q : State) → Reads (Marked quote cs) p q → head p ≡ Some quote
 mark-first quote cs p q h =
-    let parts = split (word (quote ∷ [])) (Each (One (is_plain quote)) cs ⌢ word (quote ∷ [])) p q h in
+    let parts = split (word (quote ∷ [])) (Each (Character quote) cs ⌢ word (quote ∷ [])) p q h in
     word-first quote [] p parts.middle parts.one
 
 selector-cases : (n : ℕ) (x : SelectorTree) (p q : State) (h : Reads (Selector n x) p q) → Selector n x h.spans p.at h.text
@@ -140,18 +119,18 @@ unfolding selector_at
 selector-cases n x p q h (named cs e (in_double w)) off =
     let string = reads-is (Selector n x) (Marked 34 cs) p q h w in
     let double : is_at 34 p ≡ true = rw (mark-first 34 cs p q string) refl in
-    rw (double, quoted-again 34 refl cs p q string, e) refl
+    rw (double, quoted-again 34 refl refl cs p q string, e) refl
 selector-cases n x p q h (named cs e (in_single w)) off =
     let string = reads-is (Selector n x) (Marked 39 cs) p q h w in
     let double : is_at 34 p ≡ false = rw (mark-first 39 cs p q string) refl in
     let single : is_at 39 p ≡ true = rw (mark-first 39 cs p q string) refl in
-    rw (double, single, quoted-again 39 refl cs p q string, e) refl
+    rw (double, single, quoted-again 39 refl refl cs p q string, e) refl
 selector-cases n x p q h (indexed i e w) off =
     let number = reads-is (Selector n x) (Item (Int i)) p q h w in
     let part = inside (Int i) p q number in
     let first = int-first i p part.middle part.reads part.reads.is in
-    let double : is_at 34 p ≡ false = apart begins_int (is 34) (head p) (int-not_mark 34 refl) first in
-    let single : is_at 39 p ≡ false = apart begins_int (is 39) (head p) (int-not_mark 39 refl) first in
+    let double : is_at 34 p ≡ false = passes-apart begins_int (is 34) (head p) (int-not_mark 34 refl) first in
+    let single : is_at 39 p ≡ false = passes-apart begins_int (is 39) (head p) (int-not_mark 39 refl) first in
     rw (double, single, e)
     (again-item (Int i) (index i) p q (by index (int_at p)) number
     (λ m reads same. ap (by index) (int-again i p m reads (ap (λ t. passes is_digit (first_of t)) same ∙ off))))
@@ -218,7 +197,7 @@ bracket-again n y p q h =
     let after = split Blank (word (93 ∷ [])) selected.middle q selected.two in
     let closes = word-first 93 [] after.middle q after.two in
     let first = selector-first n y before.middle selected.middle selected.one selected.one.is in
-    let solid : passes is_blank (head before.middle) ≡ false = apart begins_selector is_blank (head before.middle) selector-not_blank first in
+    let solid : passes is_blank (head before.middle) ≡ false = passes-apart begins_selector is_blank (head before.middle) selector-not_blank first in
     let closed : passes is_blank (head after.middle) ≡ false = rw closes close-not_blank in
     let no_digit : passes is_digit (head after.middle) ≡ false = rw closes close-not_digit in
     rw (
@@ -280,13 +259,13 @@ segment-behind : (n : ℕ) (x : SegmentTree) (p q : State) → Reads (Blank ⌢ 
 segment-behind n x p q h =
     let parts = split Blank (Segment n x) p q h in
     let first = segment-first n x parts.middle q parts.two parts.two.is in
-    let solid = apart begins_segment is_blank (head parts.middle) segment-not_blank first in
+    let solid = passes-apart begins_segment is_blank (head parts.middle) segment-not_blank first in
     let same = again-skip p parts.middle parts.one solid in
     record {
       skipped = subst (λ (r : State). Reads (Segment n x) r q) (sym same) parts.two;
       begins = ap (λ (r : State). passes begins_segment (head r)) same ∙ first;
       apart = blank-follow is_name_char blank-not_name p parts.middle parts.one
-          (apart begins_segment is_name_char (head parts.middle) segment-not_name first);
+          (passes-apart begins_segment is_name_char (head parts.middle) segment-not_name first);
     }
 
 -- segments, up to where none begins

@@ -1,8 +1,10 @@
 pub mod Complete
-pub mod Ends
+pub mod Escapes
+pub mod HexKinds
 pub mod Moves
 pub mod Refused
 pub mod Rounds
+pub mod Rows
 pub mod Rules
 pub mod Runs
 pub mod Shallow

@@ -1,29 +1,15 @@
 -- The rules of queries leave shorter texts.
-use Rattle.std.proofs.Common.{◌≡◌, ℕ, ◌<◌, ◌≤◌, Bool, true, false, if◌then◌else◌, length, refl, [], ◌∷◌, arith}
-use Rattle.jp_reading.specs.Outcome.{State, Outcome, took, stuck, deep, ◌>>=◌, head, past, skip, passes, is, is_at, take_if, expect, each, item}
-use Rattle.jp_reading.specs.Numbers.{is_digit, is_at_digit, digit_at, digits_at, value_from}
+use Rattle.std.proofs.Common.{ℕ, ◌<◌, ◌≤◌, Bool, false, [], ◌∷◌, arith}
+use Rattle.jp_reading.specs.Outcome.{State, head, past, skip, passes, is, is_at, take_if, expect}
+use Rattle.jp_reading.specs.Numbers.{is_digit, value_from}
 use Rattle.jp_reading.specs.Views.{by}
 use Rattle.jp_reading.proofs.Chars.{past-shorter}
-use Rattle.jp_reading.proofs.Progress.{Moves, Keeps, Progress, keeps-from_moves, keeps-then, moves-then, moves-after, moves-skip, keeps-skip, moves-take_if, moves-by, moves-item, keeps-each}
-use Rattle.jp_reading.proofs.Digits.{digit_at-progress}
+use Rattle.jp_reading.proofs.Progress.{Moves, Keeps, Progress, keeps-from_moves, keeps-then, moves-then, moves-after, moves-skip, keeps-skip, moves-take_if, moves-by, moves-item, moves-if, keeps-by, keeps-each}
+use Rattle.jp_query.proofs.Escapes.{keeps-characters}
 use Rattle.jp_query.specs.Tree.{name, index, segment, selectors}
-use Rattle.jp_query.specs.Names.{is_name_first, is_name_char, is_plain}
+use Rattle.jp_query.specs.Names.{is_name_first, is_name_char}
 use Rattle.jp_query.specs.Ints.{is_leading_digit, whole_of, negative_of}
-use Rattle.jp_query.specs.Reading.{run_at, shorthand_at, quoted_at, size_at, int_at, selector_at, bracket_at, dotted_at, segment_at}
-
-moves-if : {A : Type 0} (b : Bool) (p : State) (o u : Outcome A) → (b ≡ true → Moves p o) → (b ≡ false → Moves p u)
-    → Moves p (if b then o else u)
-moves-if true p o u f g = f refl
-moves-if false p o u f g = g refl
-
-keeps-if : {A : Type 0} (b : Bool) (p : State) (o u : Outcome A) → Keeps p o → Keeps p u → Keeps p (if b then o else u)
-keeps-if true p o u f g = f
-keeps-if false p o u f g = g
-
-keeps-by : {A B : Type 0} (f : A → B) (p : State) (o : Outcome A) → Keeps p o → Keeps p (by f o)
-keeps-by f p (took x q) h = h
-keeps-by f p (stuck q) h = tt
-keeps-by f p (deep q) h = tt
+use Rattle.jp_query.specs.Reading.{run_at, characters_at, shorthand_at, quoted_at, size_at, int_at, selector_at, bracket_at, dotted_at, segment_at}
 
 keeps-run : (ok : ℕ → Bool) (p : State) → Keeps p (run_at ok p)
 keeps-run ok p = keeps-each (λ q. passes ok (head q)) (take_if ok) (moves-take_if ok) p
@@ -38,7 +24,7 @@ moves-quoted : (quote : ℕ) (p : State) → Moves p (quoted_at quote p)
 unfolding quoted_at
 moves-quoted quote p =
     moves-then p (expect quote p) _ (moves-take_if (is quote) p)
-    (λ c q. keeps-then q (run_at (is_plain quote) q) _ (keeps-run (is_plain quote) q)
+    (λ c q. keeps-then q (characters_at quote q) _ (keeps-characters quote q)
     (λ cs r. keeps-then r (expect quote r) _ (keeps-from_moves r (expect quote r) (moves-take_if (is quote) r)) (λ d w. omega arith)))
 
 moves-size : (p : State) → Moves p (size_at p)

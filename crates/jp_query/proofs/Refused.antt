@@ -1,19 +1,18 @@
 -- What is true of a text whose reading stopped.
-use Rattle.std.proofs.Common.{◌≡◌, ◌⊎◌, ℕ, inl, inr, refl, sym, ap, subst}
+use Rattle.std.proofs.Common.{◌≡◌, ◌⊎◌, ℕ, inl, inr, refl, sym, ap}
 use Rattle.jp_reading.specs.declared.reader.Stop.{Stop}
 use Rattle.jp_reading.specs.declared.reader.Stop.TheVariants as stop
 use Rattle.jp_reading.specs.Texts.{Text}
 use Rattle.jp_reading.specs.Outcome.{State, Outcome, took, stuck, deep}
 use Rattle.jp_reading.specs.Views.{Fails}
 use Rattle.jp_reading.proofs.Again.{start}
-use Rattle.jp_query.specs.declared.refusal.RefusalKind.{RefusalKind}
 use Rattle.jp_query.specs.declared.refusal.RefusalKind.TheVariants.{Syntax, NoMemory}
 use Rattle.jp_query.specs.Tree.{QueryTree}
 use Rattle.jp_query.specs.Reading.{query_at}
 use Rattle.jp_query.specs.Spelled.{SpellsNothing}
 use Rattle.jp_query.specs.Front.{IsFrontBefore}
 use Rattle.jp_query.specs.Stops.{refusal_of}
-use Rattle.jp_query.proofs.Shallow.{Shallow, shallow-query}
+use Rattle.jp_query.proofs.Shallow.{shallow-query}
 use Rattle.jp_query.proofs.Whole.{stuck-front, unread-spells_nothing}
 
 -- a stop of reading that is not want of memory
@@ -34,19 +33,21 @@ never-deep n text place (took x q) e h = h
 never-deep n text place (stuck r) e h = h
 never-deep n text place (deep r) e h = rw e at (shallow-query n (start text))
 
-pub refused-only : (n : ℕ) (text : Text) (s : Stop) → Fails s (query_at n (start text)) → ((refusal_of s).kind ≡ NoMemory) ⊎ SpellsNothing n text
-refused-only n text stop.Memory h = inl refl
-refused-only n text (stop.Syntax place) h = inr (stuck-refuses n text place (query_at n (start text)) refl h).nothing
-refused-only n text (stop.TooDeep place) h = absurd (never-deep n text place (query_at n (start text)) refl h)
+-- each from the state of a reader at the text's start
+pub refused-only : (n : ℕ) (text : Text) (p : State) (s : Stop) → p ≡ start text → Fails s (query_at n p)
+    → ((refusal_of s).kind ≡ NoMemory) ⊎ SpellsNothing n text
+refused-only n text p stop.Memory e h = inl refl
+refused-only n text p (stop.Syntax place) e h = inr (stuck-refuses n text place (query_at n p) (ap (query_at n) (sym e)) h).nothing
+refused-only n text p (stop.TooDeep place) e h = absurd (never-deep n text place (query_at n p) (ap (query_at n) (sym e)) h)
 
-pub refused-kinds : (n : ℕ) (text : Text) (s : Stop) → Fails s (query_at n (start text))
+pub refused-kinds : (n : ℕ) (text : Text) (p : State) (s : Stop) → p ≡ start text → Fails s (query_at n p)
     → ((refusal_of s).kind ≡ Syntax) ⊎ (((refusal_of s).kind ≡ NoMemory) × ((refusal_of s).place ≡ 0))
-refused-kinds n text stop.Memory h = inr (refl, refl)
-refused-kinds n text (stop.Syntax place) h = inl refl
-refused-kinds n text (stop.TooDeep place) h = absurd (never-deep n text place (query_at n (start text)) refl h)
+refused-kinds n text p stop.Memory e h = inr (refl, refl)
+refused-kinds n text p (stop.Syntax place) e h = inl refl
+refused-kinds n text p (stop.TooDeep place) e h = absurd (never-deep n text place (query_at n p) (ap (query_at n) (sym e)) h)
 
-pub refused-front : (n : ℕ) (text : Text) (s : Stop) → Fails s (query_at n (start text)) → (refusal_of s).kind ≡ Syntax
-    → IsFrontBefore n text (refusal_of s).place
-refused-front n text stop.Memory h e = cc
-refused-front n text (stop.Syntax place) h e = (stuck-refuses n text place (query_at n (start text)) refl h).front
-refused-front n text (stop.TooDeep place) h e = absurd (never-deep n text place (query_at n (start text)) refl h)
+pub refused-front : (n : ℕ) (text : Text) (p : State) (s : Stop) → p ≡ start text → Fails s (query_at n p)
+    → (refusal_of s).kind ≡ Syntax → IsFrontBefore n text (refusal_of s).place
+refused-front n text p stop.Memory e h kind = cc
+refused-front n text p (stop.Syntax place) e h kind = (stuck-refuses n text place (query_at n p) (ap (query_at n) (sym e)) h).front
+refused-front n text p (stop.TooDeep place) e h kind = absurd (never-deep n text place (query_at n p) (ap (query_at n) (sym e)) h)

@@ -1,16 +1,18 @@
 -- The rules of the grammar, with a text for each, and on one level more.
-use Rattle.std.proofs.Common.{◌≡◌, ℕ, suc, Bool, true, false, List, [], ◌∷◌, refl, ◌∙◌, ap}
+use Rattle.std.proofs.Common.{◌≡◌, ℕ, suc, Bool, true, false, [], ◌∷◌, refl, ◌∙◌, ap}
 use Rattle.jp_query.specs.declared.tree.Numeral.{Numeral}
 use Rattle.jp_reading.specs.Texts.{Text, Spans}
 use Rattle.jp_reading.specs.Forms.{Form, ◌⌢◌, word, One, Each, Blank, Item}
 use Rattle.jp_reading.specs.Numbers.{is_digit, value_from}
 use Rattle.jp_reading.proofs.Between.{Has, Within, Rule, has-as, joined-over}
-use Rattle.jp_reading.proofs.Levels.{Only, Then, Made, level, word-has, blank-has, joined-has, joined-lifts, one_rule, each_rule, word_rule, then_rule, made_rule, ends_rule, blank_rule, item_rule}
+use Rattle.jp_reading.proofs.Levels.{Only, Then, Made, level, word-has, joined-has, joined-lifts, one_rule, each_rule, word_rule, then_rule, made_rule, ends_rule, blank_rule}
 use Rattle.jp_query.specs.Tree.{SelectorTree, name, index, SegmentTree, segment, selectors}
-use Rattle.jp_query.specs.Names.{is_name_first, is_name_char, is_plain, Shorthand, shorthand, Between, Quoted, in_double, in_single}
+use Rattle.jp_query.specs.Names.{is_name_first, is_name_char, Shorthand, shorthand}
+use Rattle.jp_query.specs.Strings.{is_plain, Character, Between, Quoted, in_double, in_single}
+use Rattle.jp_query.proofs.Escapes.{character_rule}
 use Rattle.jp_query.specs.Ints.{is_leading_digit, whole_of, negative_of, Unsigned, Int, zero_int, positive_int, negative_int}
 use Rattle.jp_query.specs.Grammar.{Selector, named, indexed, Segment, bracketed, dotted}
-use Rattle.jp_query.proofs.Ends.{then-end, then-made_end}
+use Rattle.jp_reading.proofs.Joining.{then-end, then-made_end}
 
 -- ---- names
 
@@ -35,12 +37,12 @@ shorthand-has =
 
 -- a string, as it is read
 abbrev pub quoted_parts : (quote : ℕ) → is_plain quote 97 ≡ true → Rule Text
-quoted_parts quote h = word_rule quote (then_rule (run_rule (is_plain quote) 97 h) (λ cs. word_rule quote (ends_rule cs)))
+quoted_parts quote h = word_rule quote (then_rule (each_rule (character_rule quote h)) (λ cs. word_rule quote (ends_rule cs)))
 
 pub quoted-within : (quote : ℕ) (plain : is_plain quote 97 ≡ true) (cs : Text) → Within ((quoted_parts quote plain).here cs) (Between quote cs)
 quoted-within quote plain cs s o t h =
-    joined-over (word (quote ∷ [])) _ (Each (One (is_plain quote)) cs ⌢ word (quote ∷ [])) s o t h
-    (then-end (Each (One (is_plain quote))) (word (quote ∷ [])) cs h.second_spans _ h.second h.two)
+    joined-over (word (quote ∷ [])) _ (Each (Character quote) cs ⌢ word (quote ∷ [])) s o t h
+    (then-end (Each (Character quote)) (word (quote ∷ [])) cs h.second_spans _ h.second h.two)
 
 pub quoted-has : Has (Quoted [])
 quoted-has =

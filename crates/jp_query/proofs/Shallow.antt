@@ -1,12 +1,14 @@
 -- No rule needs a level.
-use Rattle.std.proofs.Common.{◌≡◌, ℕ, zero, suc, Bool, true, false, if◌then◌else◌, List, [], ◌∷◌, length, Option, Some, None}
-use Rattle.jp_reading.specs.Outcome.{State, Outcome, took, stuck, deep, ◌>>=◌, head, past, skip, passes, is, is_at, is_end, take_passing, take_if, expect, loop, each, item, after_blank}
+use Rattle.std.proofs.Common.{◌&&◌, ℕ, zero, suc, Bool, true, false, if◌then◌else◌, [], ◌∷◌, length, Option, Some, None}
+use Rattle.jp_reading.specs.Outcome.{State, Outcome, took, stuck, deep, ◌>>=◌, head, past, skip, passes, is, is_at, is_end, take_passing, take_if, expect, loop, after_blank}
 use Rattle.jp_reading.specs.Numbers.{is_digit, value_from}
 use Rattle.jp_reading.specs.Views.{by}
 use Rattle.jp_query.specs.Tree.{name, index}
-use Rattle.jp_query.specs.Names.{is_name_first, is_name_char, is_plain}
+use Rattle.std.specs.Char.{digit_value}
+use Rattle.jp_query.specs.Names.{is_name_first, is_name_char}
+use Rattle.jp_query.specs.Strings.{is_plain, is_escapable, escaped, is_hexdig, is_d, is_not_d, is_0_to_7, is_8_to_b, is_c_to_f, scalar_of}
 use Rattle.jp_query.specs.Ints.{is_leading_digit, whole_of, negative_of}
-use Rattle.jp_query.specs.Reading.{run_at, shorthand_at, quoted_at, size_at, int_at, selector_at, bracket_at, dotted_at, segment_at, segments_at, query_at, begins_segment}
+use Rattle.jp_query.specs.Reading.{run_at, shorthand_at, unit_at, surrogates_at, hexchar_at, escape_at, character_at, characters_at, begins_character, quoted_at, size_at, int_at, selector_at, bracket_at, dotted_at, segment_at, segments_at, query_at, begins_segment}
 
 -- the outcome is not that a level is missing
 abbrev pub Shallow : {A : Type 0} → Outcome A → Type 0
@@ -49,12 +51,42 @@ shallow-shorthand p =
     shallow-then (take_if is_name_first p) _ (shallow-take_if is_name_first p)
     (λ c q. shallow-by (λ cs. c ∷ cs) (run_at is_name_char q) (shallow-run is_name_char q))
 
+shallow-digit : (ok : ℕ → Bool) (p : State) → Shallow (by digit_value (take_if ok p))
+shallow-digit ok p = shallow-by digit_value (take_if ok p) (shallow-take_if ok p)
+
+shallow-unit : (first second : ℕ → Bool) (p : State) → Shallow (unit_at first second p)
+unfolding unit_at
+shallow-unit first second p =
+    shallow-then (by digit_value (take_if first p)) _ (shallow-digit first p)
+      (λ a q. shallow-then (by digit_value (take_if second q)) _ (shallow-digit second q)
+        (λ b r. shallow-then (by digit_value (take_if is_hexdig r)) _ (shallow-digit is_hexdig r)
+          (λ c w. shallow-then (by digit_value (take_if is_hexdig w)) _ (shallow-digit is_hexdig w) (λ d x. tt))))
+
+shallow-hexchar : (p : State) → Shallow (hexchar_at p)
+unfolding hexchar_at surrogates_at
+shallow-hexchar p =
+    shallow-if (passes is_d (head p) && passes is_8_to_b (head (past p))) _ _
+      (shallow-then (unit_at is_d is_8_to_b p) _ (shallow-unit is_d is_8_to_b p)
+        (λ high q. shallow-then (expect 92 q) _ (shallow-take_if (is 92) q)
+          (λ c r. shallow-then (expect 117 r) _ (shallow-take_if (is 117) r)
+            (λ d w. shallow-by (scalar_of high) (unit_at is_d is_c_to_f w) (shallow-unit is_d is_c_to_f w)))))
+      (shallow-if (passes is_d (head p)) _ _ (shallow-unit is_d is_0_to_7 p) (shallow-unit is_not_d is_hexdig p))
+
+shallow-character : (quote : ℕ) (p : State) → Shallow (character_at quote p)
+unfolding character_at escape_at
+shallow-character quote p =
+    shallow-if (is_at 92 p) _ _
+      (shallow-if (is_at 117 (past p)) _ _ (shallow-hexchar (past (past p)))
+        (shallow-by escaped (take_if (is_escapable quote) (past p)) (shallow-take_if (is_escapable quote) (past p))))
+      (shallow-take_if (is_plain quote) p)
+
 shallow-quoted : (quote : ℕ) (p : State) → Shallow (quoted_at quote p)
-unfolding quoted_at
+unfolding quoted_at characters_at
 shallow-quoted quote p =
     shallow-then (expect quote p) _ (shallow-take_if (is quote) p)
-    (λ c q. shallow-then (run_at (is_plain quote) q) _ (shallow-run (is_plain quote) q)
-    (λ cs r. shallow-then (expect quote r) _ (shallow-take_if (is quote) r) (λ d w. tt)))
+      (λ c q. shallow-then (characters_at quote q) _
+        (shallow-loop (suc (length q.rest)) (λ r. passes (begins_character quote) (head r)) (character_at quote) (shallow-character quote) q)
+        (λ cs r. shallow-then (expect quote r) _ (shallow-take_if (is quote) r) (λ d w. tt)))
 
 shallow-size : (p : State) → Shallow (size_at p)
 unfolding size_at

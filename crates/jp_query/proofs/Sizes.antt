@@ -1,23 +1,15 @@
 -- Sizes of whole numbers: one past the range tells the range as well as the size itself.
-use Rattle.std.proofs.Common.{◌≡◌, ℕ, ◌+◌, ◌-◌, ◌*◌, ◌^◌, min, Bool, true, false, List, [], ◌∷◌, Some, inl, inr, refl, sym, ap, ◌∙◌, arith, nat_lt, nat_le, cond}
-use Rattle.std.specs.Prelude.{pos, neg_ℤ}
-use Rattle.jp_query.specs.declared.tree.Numeral.{Numeral}
-use Rattle.jp_reading.specs.Texts.{Text}
-use Rattle.jp_reading.specs.Outcome.{State, Outcome, took, stuck, deep, ◌>>=◌, head, past, passes}
+use Rattle.std.proofs.Common.{◌≡◌, ℕ, ◌^◌, min, true, false, ◌∷◌, Some, inl, inr, refl, sym, ap, ◌∙◌, arith, nat_lt, nat_le}
+use Rattle.jp_reading.specs.Outcome.{State, Outcome, ◌>>=◌, head, past}
 use Rattle.jp_reading.specs.Numbers.{is_digit, value_from, digits_at, capped}
 use Rattle.jp_reading.specs.Views.{by}
 use Rattle.jp_reading.proofs.Digits.{capped-is_min, digits_at-first}
 use Rattle.jp_reading.proofs.Steps.{take_if-takes}
+use Rattle.jp_reading.proofs.Folds.{by-by}
 use Rattle.std.proofs.lemmas.Bool.Decides.{nat_tests}
-use Rattle.std.proofs.lemmas.Bool.{cases_Bool, ltb-true, ltb-false, lt-ltb, le-ltb, leb-true, leb-false, le-leb, lt-leb}
+use Rattle.std.proofs.lemmas.Bool.{cases_Bool, ltb-true, ltb-false, lt-leb}
 use Rattle.jp_query.specs.Ints.{whole_of, negative_of, is_leading_digit}
 use Rattle.jp_query.specs.Reading.{size_at, run_at}
-
--- two views one after the other
-pub by-by : {A B C : Type 0} (f : B → C) (g : A → B) (h : A → C) → ((x : A) → f (g x) ≡ h x) → (o : Outcome A) → by f (by g o) ≡ by h o
-by-by f g h e (took x q) = ap (λ y. took y q) (e x)
-by-by f g h e (stuck q) = refl
-by-by f g h e (deep q) = refl
 
 digit-from_leading : (c : ℕ) → is_leading_digit c ≡ true → is_digit c ≡ true
 unfolding is_digit

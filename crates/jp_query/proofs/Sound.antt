@@ -1,35 +1,20 @@
 -- What the rules read is what the grammar says; and where they are stuck, a text of the grammar begins so.
-use Rattle.std.proofs.Common.{◌≡◌, ℕ, suc, Bool, true, false, if◌then◌else◌, List, [], ◌∷◌, Option, Some, None, refl, sym, ap}
-use Rattle.std.proofs.lemmas.Bool.{eqb-true}
-use Rattle.jp_query.specs.declared.tree.Numeral.{Numeral}
+use Rattle.std.proofs.Common.{◌≡◌, ℕ, suc, Bool, true, [], ◌∷◌, refl}
 use Rattle.jp_reading.specs.Forms.{word}
-use Rattle.jp_reading.specs.Outcome.{State, Outcome, took, stuck, deep, ◌>>=◌, head, past, skip, passes, is, is_at, take_if, expect, each, item, after_blank}
+use Rattle.jp_reading.specs.Outcome.{State, took, head, past, skip, passes, is_at, take_if, after_blank}
 use Rattle.jp_reading.specs.Numbers.{is_digit, value_from}
 use Rattle.jp_reading.specs.Views.{by}
-use Rattle.jp_reading.proofs.Steps.{past-way}
-use Rattle.jp_reading.proofs.Between.{Reads, Within, Rule, Judged}
-use Rattle.jp_reading.proofs.Levels.{Made, one_rule, each_rule, made_rule, word_rule, then_rule, ends_rule, blank_rule, item_rule, word-has, behind}
-use Rattle.jp_reading.proofs.Judging.{judged-end, judged-then, judged-as, judged-behind, judged-skip, judged-take_if, judged-expect, judged-made, judged-each, judged-item}
-use Rattle.jp_query.specs.Tree.{SelectorTree, name, index, SegmentTree}
-use Rattle.jp_query.specs.Names.{is_name_first, is_name_char, is_plain}
-use Rattle.jp_query.specs.Ints.{is_leading_digit, whole_of, negative_of, Int, zero_int}
-use Rattle.jp_query.specs.Grammar.{Selector, Segment}
-use Rattle.jp_query.specs.Reading.{run_at, shorthand_at, quoted_at, size_at, int_at, selector_at, bracket_at, dotted_at, segment_at, segments_at, begins_segment}
+use Rattle.jp_reading.proofs.Steps.{past-way, head-is}
+use Rattle.jp_reading.proofs.Between.{Reads, Judged}
+use Rattle.jp_reading.proofs.Levels.{one_rule, each_rule, made_rule, word_rule, then_rule, ends_rule, blank_rule, item_rule, word-has, behind}
+use Rattle.jp_reading.proofs.Judging.{judged-end, judged-then, judged-as, judged-behind, judged-skip, judged-take_if, judged-expect, judged-made, judged-each, judged-item, judged-if}
+use Rattle.jp_query.specs.Tree.{SelectorTree, name, index}
+use Rattle.jp_query.specs.Names.{is_name_first, is_name_char}
+use Rattle.jp_query.specs.Strings.{is_plain}
+use Rattle.jp_query.proofs.Escapes.{reads-past, character_rule, characters-judged}
+use Rattle.jp_query.specs.Ints.{is_leading_digit, whole_of, negative_of, zero_int}
+use Rattle.jp_query.specs.Reading.{run_at, characters_at, shorthand_at, quoted_at, size_at, int_at, selector_at, bracket_at, dotted_at, segment_at, segments_at, begins_segment}
 use Rattle.jp_query.proofs.Rules.{run_rule, shorthand_parts, quoted_parts, is_digit-zero, size_parts, int_rule, positive-within, negative-within, selector_rule, double-within, single-within, index-within, child_of, segment_rule, bracket_parts, bracket-within, bracket-within_deeper, dotted_parts, dotted-within}
-
--- a rule that goes one of two ways
-judged-if : {A : Type 0} (R : Rule A) (p : State) (b : Bool) (o u : Outcome A) → (b ≡ true → Judged R p o) → Judged R p u
-    → Judged R p (if b then o else u)
-judged-if R p true o u f g = f refl
-judged-if R p false o u f g = g
-
--- the character that a test found
-some-is : (c : ℕ) (o : Option ℕ) → passes (is c) o ≡ true → o ≡ Some c
-some-is c None h = cc
-some-is c (Some d) h = ap Some (eqb-true d c h)
-
-pub head-is : (c : ℕ) (p : State) → is_at c p ≡ true → head p ≡ Some c
-head-is c p h = some-is c (head p) h
 
 run-judged : (ok : ℕ → Bool) (c : ℕ) (h : ok c ≡ true) (p : State) → Judged (run_rule ok c h) p (run_at ok p)
 run-judged ok c h p = judged-each (one_rule ok c h) (λ q. passes ok (head q)) (take_if ok) (judged-take_if ok c h) p
@@ -44,9 +29,9 @@ shorthand-judged p =
 quoted-judged : (quote : ℕ) (h : is_plain quote 97 ≡ true) (p : State) → Judged (quoted_parts quote h) p (quoted_at quote p)
 unfolding quoted_at
 quoted-judged quote h p =
-    let characters = run_rule (is_plain quote) 97 h in
+    let characters = each_rule (character_rule quote h) in
     judged-expect quote (then_rule characters (λ cs. word_rule quote (ends_rule cs))) p _
-    (λ c q. judged-then characters (λ cs. word_rule quote (ends_rule cs)) q (run_at (is_plain quote) q) _ (run-judged (is_plain quote) 97 h q)
+    (λ c q. judged-then characters (λ cs. word_rule quote (ends_rule cs)) q (characters_at quote q) _ (characters-judged quote h q)
     (λ cs r. judged-expect quote (ends_rule cs) r _ (λ d w. judged-end cs w)))
 
 size-judged : (p : State) → Judged size_parts p (size_at p)
@@ -57,10 +42,6 @@ size-judged p =
     (judged-take_if is_leading_digit 49 refl p)
     (λ d q. judged-made (λ ds. value_from 0 (d ∷ ds)) digits q (run_at is_digit q) (run-judged is_digit 48 is_digit-zero q))
 
--- past a character that was looked at
-pub reads-past : (c : ℕ) (p : State) → is_at c p ≡ true → Reads (word (c ∷ [])) p (past p)
-reads-past c p h = record { spans = []; text = c ∷ []; way = past-way p c (head-is c p h); is = record { none = refl; is = refl } }
-
 zero-judged : (p : State) → is_at 48 p ≡ true → Judged int_rule p (took (whole_of 0) (past p))
 zero-judged p h =
     let read = reads-past 48 p h in
@@ -70,13 +51,13 @@ int-judged : (p : State) → Judged int_rule p (int_at p)
 unfolding int_at
 int-judged p =
     judged-if int_rule p (is_at 48 p) _ _ (zero-judged p)
-    (judged-if int_rule p (is_at 45 p) _ _
+    (λ nonzero. judged-if int_rule p (is_at 45 p) _ _
     (λ minus.
     judged-as (behind (word (45 ∷ [])) (word-has (45 ∷ [])) (made_rule negative_of size_parts)) int_rule p (by negative_of (size_at (past p)))
     negative-within negative-within
     (judged-behind (word (45 ∷ [])) (word-has (45 ∷ [])) (made_rule negative_of size_parts) p (past p) (by negative_of (size_at (past p)))
     (reads-past 45 p minus) (judged-made negative_of size_parts (past p) (size_at (past p)) (size-judged (past p)))))
-    (judged-as (made_rule whole_of size_parts) int_rule p (by whole_of (size_at p)) positive-within positive-within
+    (λ unsigned. judged-as (made_rule whole_of size_parts) int_rule p (by whole_of (size_at p)) positive-within positive-within
     (judged-made whole_of size_parts p (size_at p) (size-judged p))))
 
 selector-judged : (n : ℕ) (p : State) → Judged (selector_rule n) p (selector_at n p)
@@ -85,10 +66,10 @@ selector-judged n p =
     judged-if (selector_rule n) p (is_at 34 p) _ _
     (λ double. judged-as (made_rule name (quoted_parts 34 refl)) (selector_rule n) p _ (double-within n) (double-within (suc n))
     (judged-made name (quoted_parts 34 refl) p (quoted_at 34 p) (quoted-judged 34 refl p)))
-    (judged-if (selector_rule n) p (is_at 39 p) _ _
+    (λ other. judged-if (selector_rule n) p (is_at 39 p) _ _
     (λ single. judged-as (made_rule name (quoted_parts 39 refl)) (selector_rule n) p _ (single-within n) (single-within (suc n))
     (judged-made name (quoted_parts 39 refl) p (quoted_at 39 p) (quoted-judged 39 refl p)))
-    (judged-as (item_rule (made_rule index int_rule)) (selector_rule n) p _ (index-within n) (index-within (suc n))
+    (λ number. judged-as (item_rule (made_rule index int_rule)) (selector_rule n) p _ (index-within n) (index-within (suc n))
     (judged-item (made_rule index int_rule) p (by index (int_at p)) (judged-made index int_rule p (int_at p) (int-judged p)))))
 
 bracket-judged : (n : ℕ) (p : State) → Judged (segment_rule n) p (bracket_at n p)
@@ -111,7 +92,7 @@ dotted-judged n p =
 
 segment-judged : (n : ℕ) (p : State) → Judged (segment_rule n) p (segment_at n p)
 unfolding segment_at
-segment-judged n p = judged-if (segment_rule n) p (is_at 91 p) _ _ (λ on. bracket-judged n p) (dotted-judged n p)
+segment-judged n p = judged-if (segment_rule n) p (is_at 91 p) _ _ (λ on. bracket-judged n p) (λ off. dotted-judged n p)
 
 -- segments, each behind blanks
 pub segments-judged : (n : ℕ) (p : State) → Judged (each_rule (blank_rule (segment_rule n))) p (segments_at n p)

@@ -1,11 +1,12 @@
 -- Each item of a query has its span.
-use Rattle.std.proofs.Common.{◌≡◌, ℕ, Bool, List, [], ◌∷◌, ◌++◌, Some, None, refl, sym, ap, ◌∙◌}
+use Rattle.std.proofs.Common.{◌≡◌, ℕ, Bool, List, [], ◌∷◌, ◌++◌, Some, None, refl, ◌∙◌}
 use Rattle.jp_query.specs.declared.tree.Numeral.{Numeral}
 use Rattle.jp_reading.specs.Texts.{Text, Spans}
 use Rattle.jp_reading.specs.Forms.{Form, ◌⌢◌, word, One, Each, Blank}
 use Rattle.jp_reading.proofs.Runs.{each-run}
-use Rattle.jp_query.specs.Tree.{SelectorTree, name, index, SegmentTree, QueryTree, segments}
-use Rattle.jp_query.specs.Names.{is_name_first, is_name_char, is_plain, Shorthand, shorthand, Between, Quoted, in_double, in_single}
+use Rattle.jp_query.specs.Tree.{SelectorTree, SegmentTree, QueryTree, segments}
+use Rattle.jp_query.specs.Names.{is_name_first, is_name_char, Shorthand, shorthand}
+use Rattle.jp_query.specs.Strings.{is_escapable, is_hexdig, is_d, is_not_d, is_0_to_7, is_8_to_b, is_c_to_f, Unit, digits, Hexchar, not_d, below_surrogates, surrogates, Character, plain, escape, hex, Between, Quoted, in_double, in_single}
 use Rattle.jp_query.specs.Ints.{is_leading_digit, Unsigned, Int, zero_int, positive_int, negative_int}
 use Rattle.jp_query.specs.Grammar.{Selector, named, indexed, Segment, bracketed, dotted, Segments, Spells}
 use Rattle.jp_reading.specs.Numbers.{is_digit}
@@ -26,10 +27,36 @@ word-plain w s o t h = h.none
 run-plain : (ok : ℕ → Bool) (cs : Text) → Plain (Each (One ok) cs)
 run-plain ok cs s o t h = (each-run ok cs s o t h).none
 
+unit-plain : (first second : ℕ → Bool) (v : ℕ) → Plain (Unit first second v)
+unit-plain first second v s o t (digits a b c d e h) =
+    joined-plain (One first a) (One second b ⌢ One is_hexdig c ⌢ One is_hexdig d) (λ r i u g. g.none)
+      (joined-plain (One second b) (One is_hexdig c ⌢ One is_hexdig d) (λ r i u g. g.none)
+        (joined-plain (One is_hexdig c) (One is_hexdig d) (λ r i u g. g.none) (λ r i u g. g.none))) s o t h
+
+hexchar-plain : (c : ℕ) → Plain (Hexchar c)
+hexchar-plain c s o t (not_d h) = unit-plain is_not_d is_hexdig c s o t h
+hexchar-plain c s o t (below_surrogates h) = unit-plain is_d is_0_to_7 c s o t h
+hexchar-plain c s o t (surrogates high low e h) =
+    joined-plain (Unit is_d is_8_to_b high) (word (92 ∷ []) ⌢ word (117 ∷ []) ⌢ Unit is_d is_c_to_f low) (unit-plain is_d is_8_to_b high)
+      (joined-plain (word (92 ∷ [])) (word (117 ∷ []) ⌢ Unit is_d is_c_to_f low) (word-plain (92 ∷ []))
+        (joined-plain (word (117 ∷ [])) (Unit is_d is_c_to_f low) (word-plain (117 ∷ [])) (unit-plain is_d is_c_to_f low))) s o t h
+
+character-plain : (quote c : ℕ) → Plain (Character quote c)
+character-plain quote c s o t (plain h) = h.none
+character-plain quote c s o t (escape letter e h) =
+    joined-plain (word (92 ∷ [])) (One (is_escapable quote) letter) (word-plain (92 ∷ [])) (λ r i u g. g.none) s o t h
+character-plain quote c s o t (hex h) =
+    joined-plain (word (92 ∷ [])) (word (117 ∷ []) ⌢ Hexchar c) (word-plain (92 ∷ []))
+      (joined-plain (word (117 ∷ [])) (Hexchar c) (word-plain (117 ∷ [])) (hexchar-plain c)) s o t h
+
+each-plain : (F : ℕ → Form) → ((c : ℕ) → Plain (F c)) → (cs : Text) → Plain (Each F cs)
+each-plain F f [] s o t h = h.none
+each-plain F f (c ∷ cs) s o t h = joined-plain (F c) (Each F cs) (f c) (each-plain F f cs) s o t h
+
 between-plain : (quote : ℕ) (cs : Text) → Plain (Between quote cs)
 between-plain quote cs =
-    joined-plain (word (quote ∷ [])) (Each (One (is_plain quote)) cs ⌢ word (quote ∷ [])) (word-plain (quote ∷ []))
-    (joined-plain (Each (One (is_plain quote)) cs) (word (quote ∷ [])) (run-plain (is_plain quote) cs) (word-plain (quote ∷ [])))
+    joined-plain (word (quote ∷ [])) (Each (Character quote) cs ⌢ word (quote ∷ [])) (word-plain (quote ∷ []))
+      (joined-plain (Each (Character quote) cs) (word (quote ∷ [])) (each-plain (Character quote) (character-plain quote) cs) (word-plain (quote ∷ [])))
 
 quoted-plain : (cs : Text) → Plain (Quoted cs)
 quoted-plain cs s o t (in_double h) = between-plain 34 cs s o t h

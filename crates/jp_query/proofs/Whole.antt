@@ -1,12 +1,13 @@
 -- Whole texts: what is read to its end spells a tree, and where reading is stuck the text began a query.
-use Rattle.std.proofs.Common.{◌≡◌, ℕ, zero, suc, ◌+◌, Bool, true, false, if◌then◌else◌, List, [], ◌∷◌, ◌++◌, length, refl, sym, ap, ◌∙◌, subst, append_assoc, append-nil, ◌==◌, arith}
+use Rattle.std.proofs.Common.{◌≡◌, ℕ, zero, suc, ◌+◌, Bool, true, false, if◌then◌else◌, List, [], ◌∷◌, ◌++◌, length, refl, sym, ap, ◌∙◌, ◌==◌, arith}
 use Rattle.std.proofs.lemmas.Bool.{eqb-true}
 use Rattle.jp_reading.specs.Texts.{Text, Spans, bytes}
-use Rattle.jp_reading.specs.Forms.{Form, ◌⌢◌, word, Each, Blank}
+use Rattle.jp_reading.specs.Forms.{◌⌢◌, word, Each, Blank}
 use Rattle.jp_reading.specs.Outcome.{State, Outcome, took, stuck, deep, ◌>>=◌, skip, is_end, expect, passes, after_blank, past_blanks}
 use Rattle.jp_reading.proofs.Steps.{skip-way}
-use Rattle.jp_reading.proofs.Between.{Reads, Front, Stops, Within, Rule, Judged, bytes-append, front-then, front-none, front-as, reads-as, joined-over}
+use Rattle.jp_reading.proofs.Between.{Reads, Stops, Rule, Judged, front-then, front-none, front-as, reads-as, joined-over}
 use Rattle.jp_reading.proofs.Levels.{Made, each_rule, each-lifts, made_rule, word_rule, blank_rule, joined-lifts}
+use Rattle.jp_reading.proofs.Joining.{each-append}
 use Rattle.jp_reading.proofs.Judging.{judged-expect, judged-made}
 use Rattle.jp_query.specs.Tree.{SegmentTree, QueryTree, query, segments}
 use Rattle.jp_reading.proofs.Again.{start, finish, whole-reads, reads-whole, split, again-expect}
@@ -18,48 +19,6 @@ use Rattle.jp_query.specs.Reading.{segments_at, query_at, begins_segment}
 use Rattle.jp_query.proofs.Rules.{segment_rule, segment-lifts}
 use Rattle.jp_query.proofs.Complete.{segments-again}
 use Rattle.jp_query.proofs.Sound.{segments-judged}
-
--- ---- one more at the end
-
-joined-assoc : (P Q R : Form) → Within ((P ⌢ Q) ⌢ R) (P ⌢ Q ⌢ R)
-joined-assoc P Q R s o t h = record {
-  first_spans = h.one.first_spans;
-  second_spans = h.one.second_spans ++ h.second_spans;
-  first = h.one.first;
-  second = h.one.second ++ h.second;
-  spans = h.spans ∙ ap (λ v. v ++ h.second_spans) h.one.spans ∙ append_assoc h.one.first_spans h.one.second_spans h.second_spans;
-  is = h.is ∙ ap (λ u. u ++ h.second) h.one.is ∙ append_assoc h.one.first h.one.second h.second;
-  one = h.one.one;
-  two = record {
-    first_spans = h.one.second_spans;
-    second_spans = h.second_spans;
-    first = h.one.second;
-    second = h.second;
-    spans = refl;
-    is = refl;
-    one = h.one.two;
-    two = subst (λ (n : ℕ). R h.second_spans n h.second)
-        (ap (λ u. o + bytes u) h.one.is ∙ (let e = bytes-append h.one.first h.one.second in omega arith)) h.two;
-  };
-}
-
-word-joined : (P : Form) → Within (word [] ⌢ P) (P ⌢ word [])
-word-joined P s o t h = record {
-  first_spans = h.second_spans;
-  second_spans = [];
-  first = h.second;
-  second = [];
-  spans = h.spans ∙ ap (λ v. v ++ h.second_spans) h.one.none ∙ sym (append-nil h.second_spans);
-  is = h.is ∙ ap (λ u. u ++ h.second) h.one.is ∙ sym (append-nil h.second);
-  one = subst (λ (n : ℕ). P h.second_spans n h.second) (ap (λ u. o + bytes u) h.one.is ∙ omega arith) h.two;
-  two = record { none = refl; is = refl };
-}
-
-each-append : {A : Type 0} (F : A → Form) (xs : List A) (y : A) → Within (Each F xs ⌢ F y) (Each F (xs ++ y ∷ []))
-each-append F [] y s o t h = word-joined (F y) s o t h
-each-append F (x ∷ xs) y s o t h =
-    joined-lifts (F x) (F x) (Each F xs ⌢ F y) (Each F (xs ++ y ∷ [])) (λ r i u g. g) (each-append F xs y) s o t
-    (joined-assoc (F x) (Each F xs) (F y) s o t h)
 
 -- ---- the end of the text
 

@@ -5,7 +5,8 @@ use Rattle.jp_query.specs.declared.tree.Numeral.{Numeral}
 use Rattle.jp_reading.specs.Texts.{Text, Spans}
 use Rattle.jp_reading.specs.Forms.{Form, word, ◌⌢◌, Blank, Each, Item}
 use Rattle.jp_query.specs.Tree.{SelectorTree, name, index, SegmentTree, segment, QueryTree, query, selectors, segments}
-use Rattle.jp_query.specs.Names.{Shorthand, Quoted}
+use Rattle.jp_query.specs.Names.{Shorthand}
+use Rattle.jp_query.specs.Strings.{Quoted}
 use Rattle.jp_query.specs.Ints.{Int}
 
 -- selector (section 2.3): a name between quotation marks, or an index, which is an item

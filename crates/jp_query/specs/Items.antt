@@ -1,5 +1,5 @@
 -- The items of a query's tree, in the order in which they begin in a text.
-use Rattle.std.specs.Prelude.{List, [], ◌∷◌, ◌++◌, Some, None}
+use Rattle.std.specs.Prelude.{List, [], ◌∷◌, ◌++◌, Some}
 use Rattle.jp_query.specs.declared.tree.Numeral.{Numeral}
 use Rattle.jp_reading.specs.Texts.{Spans}
 use Rattle.jp_query.specs.Tree.{SelectorTree, name, index, SelectorTrees, no_selectors, selector_then, SegmentTree, segment, SegmentTrees, no_segments, segment_then, QueryTree, query}

@@ -1,6 +1,6 @@
-pub mod Characters
 pub mod Front
 pub mod Grammar
+pub mod HexDigits
 pub mod Ints
 pub mod Items
 pub mod Laws
@@ -10,4 +10,5 @@ pub mod Reading
 pub mod Refusal
 pub mod Spelled
 pub mod Stops
+pub mod Strings
 pub mod Tree

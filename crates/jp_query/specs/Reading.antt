@@ -1,12 +1,14 @@
 -- What the reader of queries does, a function for each rule of the grammar (RFC 9535 appendix A).
-use Rattle.std.specs.Prelude.{ℕ, ◌||◌, Bool, true, false, if◌then◌else◌, List, [], ◌∷◌}
+use Rattle.std.specs.Char.{digit_value}
+use Rattle.std.specs.Prelude.{◌+◌, ◌*◌, ◌&&◌, ℕ, ◌||◌, Bool, true, false, if◌then◌else◌, List, [], ◌∷◌}
 use Rattle.jp_query.specs.declared.tree.Numeral.{Numeral}
 use Rattle.jp_reading.specs.Texts.{Text}
-use Rattle.jp_reading.specs.Outcome.{State, Outcome, took, stuck, deep, ◌>>=◌, head, past, skip, after_blank, passes, is, is_at, is_end, take_if, expect, each, item}
+use Rattle.jp_reading.specs.Outcome.{State, Outcome, took, stuck, ◌>>=◌, head, past, skip, after_blank, passes, is, is_at, is_end, take_if, expect, each, item}
 use Rattle.jp_reading.specs.Numbers.{is_digit, value_from}
 use Rattle.jp_reading.specs.Views.{by}
 use Rattle.jp_query.specs.Tree.{SelectorTree, name, index, SegmentTree, segment, QueryTree, query, selectors, segments}
-use Rattle.jp_query.specs.Names.{is_name_first, is_name_char, is_plain}
+use Rattle.jp_query.specs.Names.{is_name_first, is_name_char}
+use Rattle.jp_query.specs.Strings.{is_plain, is_escapable, escaped, is_hexdig, is_d, is_not_d, is_0_to_7, is_8_to_b, is_c_to_f, scalar_of}
 use Rattle.jp_query.specs.Ints.{is_leading_digit, whole_of, negative_of}
 
 -- character after character, as long as the next one passes
@@ -17,9 +19,42 @@ run_at ok p = each (λ q. passes ok (head q)) (take_if ok) p
 unfoldable pub shorthand_at : State → Outcome Text
 shorthand_at p = take_if is_name_first p >>= λ c q. by (λ cs. c ∷ cs) (run_at is_name_char q)
 
+-- four hexadecimal digits, of which the first two pass these tests
+unfoldable pub unit_at : (ℕ → Bool) → (ℕ → Bool) → State → Outcome ℕ
+unit_at first second p =
+    by digit_value (take_if first p) >>= λ a q. by digit_value (take_if second q) >>= λ b r. by digit_value (take_if is_hexdig r) >>= λ c w.
+    by digit_value (take_if is_hexdig w) >>= λ d x. took (((a * 16 + b) * 16 + c) * 16 + d) x
+
+-- a surrogate pair, from its first digit
+unfoldable pub surrogates_at : State → Outcome ℕ
+surrogates_at p =
+    unit_at is_d is_8_to_b p >>= λ high q. expect 92 q >>= λ _ r. expect 117 r >>= λ _ w. by (scalar_of high) (unit_at is_d is_c_to_f w)
+
+-- a character by its hexadecimal digits: a surrogate pair, a D and a digit up to 7, or no D
+unfoldable pub hexchar_at : State → Outcome ℕ
+hexchar_at p =
+    if passes is_d (head p) && passes is_8_to_b (head (past p)) then surrogates_at p
+    else (if passes is_d (head p) then unit_at is_d is_0_to_7 p else unit_at is_not_d is_hexdig p)
+
+-- what stands behind a backslash
+unfoldable pub escape_at : ℕ → State → Outcome ℕ
+escape_at quote p = if is_at 117 p then hexchar_at (past p) else by escaped (take_if (is_escapable quote) p)
+
+-- a character of a string
+unfoldable pub character_at : ℕ → State → Outcome ℕ
+character_at quote p = if is_at 92 p then escape_at quote (past p) else take_if (is_plain quote) p
+
+-- whether one begins
+abbrev pub begins_character : ℕ → ℕ → Bool
+begins_character quote c = is_plain quote c || is 92 c
+
+-- character after character
+unfoldable pub characters_at : ℕ → State → Outcome Text
+characters_at quote p = each (λ q. passes (begins_character quote) (head q)) (character_at quote) p
+
 -- a string between two of the quotation mark
 unfoldable pub quoted_at : ℕ → State → Outcome Text
-quoted_at quote p = expect quote p >>= λ _ q. run_at (is_plain quote) q >>= λ cs r. expect quote r >>= λ _ w. took cs w
+quoted_at quote p = expect quote p >>= λ _ q. characters_at quote q >>= λ cs r. expect quote r >>= λ _ w. took cs w
 
 -- digits without a leading zero
 unfoldable pub size_at : State → Outcome ℕ

@@ -16,6 +16,7 @@ mod names;
 mod parsed;
 mod refusal;
 mod segments;
+mod strings;
 #[cfg(test)]
 mod tests;
 mod tree;

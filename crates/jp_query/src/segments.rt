@@ -7,7 +7,8 @@ ghost use Rattle.jp_query.specs.Tree.{segment, selectors, selector_of, segment_o
 ghost use Rattle.jp_query.specs.Reading.{selector_at, bracket_at, dotted_at, segment_at, segments_at, query_at, begins_segment};
 
 use crate::ints::int;
-use crate::names::{quoted, shorthand};
+use crate::names::shorthand;
+use crate::strings::quoted;
 use crate::tree::{Query, Segment, Selector};
 use jp_reading::{Reader, Stop};
 use std::alloc::{AllocError, Global};

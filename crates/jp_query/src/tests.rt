@@ -87,6 +87,34 @@ fn whole_numbers_have_their_range(rt: HostRuntime) -> Result<(), Fail> {
     Ok(())
 }
 
+/// Whether the text is a query of one segment, with that name.
+fn reads_name(alloc: Global, text: &str, wanted: &str) -> Result<bool, AllocError> {
+    let segments = vec![in alloc; child(alloc, name(alloc, wanted)?)?]?;
+    Ok(match parse(alloc, text) {
+        Ok(parsed) => parsed.into_query() == Query { absolute: true, segments },
+        Err(_) => false,
+    })
+}
+
+#[test]
+fn escapes_are_resolved(rt: HostRuntime) -> Result<(), Fail> {
+    let alloc = rt.alloc();
+    let rows = [
+        (r#"$["\b\f\n\r\t\/\\\""]"#, "\u{8}\u{c}\n\r\t/\\\""),
+        (r#"$['\b\f\n\r\t\/\\\'']"#, "\u{8}\u{c}\n\r\t/\\'"),
+        (r#"$["\u0041\u00e9\u00E9\uFfFd"]"#, "Aéé\u{fffd}"),
+        (r#"$['\ud7ff\uE000\u0000']"#, "\u{d7ff}\u{e000}\u{0}"),
+        (r#"$["\uD83D\uDE00"]"#, "😀"),
+        (r#"$['x\ud800\udc00\uDBFF\uDFFFx']"#, "x\u{10000}\u{10ffff}x"),
+        (r#"$["'"]"#, "'"),
+        (r#"$['"\u007f\u0080']"#, "\"\u{7f}\u{80}"),
+    ];
+    for (text, wanted) in rows {
+        assert!(rt; reads_name(alloc, text, wanted)?, "{text}");
+    }
+    Ok(())
+}
+
 /// Whether the text is refused as `Syntax` at that byte.
 fn is_refused_at(alloc: Global, text: &str, place: usize) -> bool {
     match parse(alloc, text) {
@@ -110,7 +138,20 @@ fn texts_are_refused_at_their_places(rt: HostRuntime) -> Result<(), Fail> {
         ("$['é'!]", 6),
         ("$['a\"]", 6),
         ("$[\"a']", 6),
-        ("$['\\'']", 3),
+        (r#"$["\uD83D"]"#, 9),
+        (r#"$["\uDC00"]"#, 6),
+        (r#"$["\'"]"#, 4),
+        (r#"$['\"']"#, 4),
+        (r#"$['\uD83D\u0041']"#, 11),
+        (r#"$['\uD83D\n']"#, 10),
+        (r#"$['\uD83D\uD83D']"#, 12),
+        (r#"$['\udbffx']"#, 9),
+        (r#"$['\u00g0']"#, 7),
+        (r#"$['\u004']"#, 8),
+        (r#"$['\U0041']"#, 4),
+        (r#"$['\0']"#, 4),
+        (r#"$['\"#, 4),
+        ("$['\u{1f}']", 3),
         ("$.1", 2),
         (" $", 0),
     ];

@@ -1,5 +1,5 @@
 -- Digits and the numbers that they write.
-use Rattle.std.proofs.Common.{◌≡◌, ℕ, ◌+◌, ◌-◌, ◌*◌, ◌≤◌, min, [], ◌∷◌, inl, inr, refl, ap, ◌∙◌, arith}
+use Rattle.std.proofs.Common.{◌≡◌, ℕ, ◌+◌, ◌-◌, ◌*◌, ◌≤◌, min, [], ◌∷◌, inl, inr, refl, sym, ap, ◌∙◌, arith}
 use Rattle.std.proofs.lemmas.Bool.{cases_lt}
 use Rattle.jp_reading.specs.declared.reader.Stop.{Stop}
 use Rattle.jp_reading.specs.Texts.{Text}
@@ -63,3 +63,11 @@ pub capped-is_min : (most n : ℕ) (ds : Text) → n ≤ most → capped most n 
 capped-is_min most n [] h = omega arith
 capped-is_min most n (d ∷ ds) h =
     capped-is_min most (min (n * 10 + (d - 48)) most) ds (omega arith) ∙ value_from-capped most (n * 10 + (d - 48)) ds
+
+-- no digits write more than the cap
+pub capped-took : (most n : ℕ) (o : Outcome Text) (q : State) → by (capped most 0) o ≡ took n q → n ≤ most
+capped-took most n (took ds r) q e =
+    let same : capped most 0 ds ≡ n = cc in
+    let least : min (value_from 0 ds) most ≡ n = sym (capped-is_min most 0 ds (omega arith)) ∙ same in omega arith
+capped-took most n (stuck r) q e = cc
+capped-took most n (deep r) q e = cc

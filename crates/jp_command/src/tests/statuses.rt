@@ -64,6 +64,29 @@ fn tells_the_status_with_its_line(rt: HostRuntime) -> Result<(), Fail> {
 }
 
 #[test]
+fn writes_the_form_of_its_subcommand(rt: HostRuntime) -> Result<(), Fail> {
+    let alloc = rt.alloc();
+    let rows = [
+        ("eval", "2\n"),
+        ("paths", "$['\\'']['@']\n"),
+        ("both", "$['\\'']['@']\t2\n"),
+    ];
+    for (subcommand, text) in rows {
+        let mut output = Vec::new(alloc);
+        let ended = run_line(
+            alloc,
+            words(alloc, &["jp", subcommand, "$[\"'\"][\"@\"]"])?,
+            &mut Device::new(b"{\"o\":{\"j j\":{\"k.k\":3}},\"'\":{\"@\":2}}".as_slice()),
+            &mut Device::new(&mut output),
+            &mut Device::new(Vec::new(alloc)),
+        );
+        assert_eq!(rt; ended, 0);
+        assert_eq!(rt; output.as_slice(), text.as_bytes());
+    }
+    Ok(())
+}
+
+#[test]
 fn leaves_the_input_of_a_refused_query_unread(rt: HostRuntime) -> Result<(), Fail> {
     let alloc = rt.alloc();
     let mut document: &[u8] = b"[1]";

@@ -1,4 +1,4 @@
-use Rattle.std.proofs.Common.{◌≡◌, None, rules, arith}
+use Rattle.std.proofs.Common.{◌≡◌, None, arith}
 use Rattle.std.proofs.lemmas.Grind.{common_steps}
 use Rattle.jp_query.specs.Items.{EachSpanned, items_of}
 use Rattle.jp_query.specs.Tree.{query_of}

@@ -1,5 +1,4 @@
-use Rattle.std.proofs.Common.{◌≡◌, Some, map, rules, string_bytes, sym}
-use Rattle.jp_command.specs.CommandLine.{asked}
+use Rattle.std.proofs.Common.{rules}
 use Rattle.jp_command.specs.Line.{fault}
 use Rattle.jp_command.proofs.line.run_line.Goals as goal
 

@@ -1,4 +1,4 @@
-use Rattle.std.proofs.Common.{rules, ◌≡◌, List, ℕ}
+use Rattle.std.proofs.Common.{rules, ◌≡◌}
 use Rattle.jp_command.specs.Lines.{line_of}
 use Rattle.jp_command.specs.Places.{seen}
 use Rattle.jp_command.proofs.LineLemmas.{front-lines, front-in_line}

@@ -1,4 +1,4 @@
-use Rattle.std.proofs.Common.{◌≡◌, ◌+◌, drop, List, ap, map, subst, sym, ◌∙◌}
+use Rattle.std.proofs.Common.{◌+◌, drop, List, ap, map, subst, sym, ◌∙◌}
 use Rattle.std.specs.List.{All}
 use Rattle.jp_document.specs.Document.{document_of}
 use Rattle.jp_document.specs.Location.{Location}

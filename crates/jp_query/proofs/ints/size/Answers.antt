@@ -1,5 +1,4 @@
-use Rattle.std.proofs.Common.{◌≡◌, true, Some, sym}
-use Rattle.jp_reading.specs.Outcome.{head}
+use Rattle.std.proofs.Common.{sym}
 use Rattle.jp_query.proofs.Sizes.{size-natural}
 use Rattle.jp_query.proofs.ints.size.Goals as goal
 

@@ -1,4 +1,4 @@
-use Rattle.std.proofs.Common.{◌≡◌, sym}
+use Rattle.std.proofs.Common.{sym}
 use Rattle.jp_query.proofs.Runs.{shorthand-run}
 use Rattle.jp_query.proofs.names.shorthand.Goals as goal
 

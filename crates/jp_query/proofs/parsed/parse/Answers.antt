@@ -1,7 +1,5 @@
-use Rattle.std.proofs.Common.{◌≡◌, sym, ap, ◌∙◌}
+use Rattle.std.proofs.Common.{sym, ap, ◌∙◌}
 use Rattle.std.specs.Str.{chars}
-use Rattle.jp_reading.specs.Views.{Fails}
-use Rattle.jp_reading.proofs.Again.{start}
 use Rattle.jp_query.specs.Tree.{query_of}
 use Rattle.jp_query.specs.Grammar.{Spells}
 use Rattle.jp_query.specs.Reading.{query_at}
@@ -23,15 +21,12 @@ invariant_of-result c =
 
 pub returns-in-Err-clause-only : goal.returns-in-Err-clause-only
 returns-in-Err-clause-only c =
-    let fails : Fails c.in-Err.stop (query_at 64 (start (chars c.args.text.now))) = rw c.new-reader.ensures at c.in-Err.ensures in
-    rw c.from.ensures (refused-only 64 (chars c.args.text.now) c.in-Err.stop fails)
+    rw c.from.ensures (refused-only 64 (chars c.args.text.now) c.new-reader.result c.in-Err.stop c.new-reader.ensures c.in-Err.ensures)
 
 pub returns-in-Err-clause-kinds : goal.returns-in-Err-clause-kinds
 returns-in-Err-clause-kinds c =
-    let fails : Fails c.in-Err.stop (query_at 64 (start (chars c.args.text.now))) = rw c.new-reader.ensures at c.in-Err.ensures in
-    rw c.from.ensures (refused-kinds 64 (chars c.args.text.now) c.in-Err.stop fails)
+    rw c.from.ensures (refused-kinds 64 (chars c.args.text.now) c.new-reader.result c.in-Err.stop c.new-reader.ensures c.in-Err.ensures)
 
 pub returns-in-Err-clause-front : goal.returns-in-Err-clause-front
 returns-in-Err-clause-front c =
-    let fails : Fails c.in-Err.stop (query_at 64 (start (chars c.args.text.now))) = rw c.new-reader.ensures at c.in-Err.ensures in
-    rw c.from.ensures (refused-front 64 (chars c.args.text.now) c.in-Err.stop fails)
+    rw c.from.ensures (refused-front 64 (chars c.args.text.now) c.new-reader.result c.in-Err.stop c.new-reader.ensures c.in-Err.ensures)

@@ -1,10 +1,10 @@
-use Rattle.std.proofs.Common.{◌≡◌, ◌++◌, ◌∷◌, length, sym, ap, ◌∙◌, map, [], true, not, is_ok}
+use Rattle.std.proofs.Common.{◌≡◌, ◌++◌, ◌∷◌, sym, ap, ◌∙◌, map, [], true, not, is_ok}
 use Rattle.std.proofs.lemmas.List.{map-append}
 use Rattle.std.proofs.lemmas.Result.{err_from_is_err_and}
-use Rattle.jp_reading.specs.Outcome.{took, skip, after_blank, passes}
-use Rattle.jp_reading.specs.Views.{with_front, Fails}
+use Rattle.jp_reading.specs.Outcome.{skip}
+use Rattle.jp_reading.specs.Views.{Fails}
 use Rattle.jp_query.specs.Tree.{segment_of}
-use Rattle.jp_query.specs.Reading.{segments_at, segment_at}
+use Rattle.jp_query.specs.Reading.{segment_at}
 use Rattle.jp_query.proofs.Rounds as rounds
 use Rattle.jp_query.proofs.segments.segments.Goals as goal
 

@@ -1,0 +1,5 @@
+use Rattle.jp_document.proofs.PathsDiffer.{paths-differ, nodes-differ}
+use Rattle.jp_document.proofs.laws.paths_differ.Goals as goal
+
+pub returns : goal.returns
+returns c = record { locations = paths-differ; nodes = nodes-differ }

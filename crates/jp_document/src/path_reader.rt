@@ -1,0 +1,111 @@
+//! Reading normalized paths (RFC 9535 section 2.7).
+ghost use Rattle.std.specs.Prelude.{◌≡◌, ◌≤◌, map, false, IfOk, IfErr};
+ghost use Rattle.std.specs.List.{list_any};
+ghost use Rattle.jp_reading.specs.Views.{Gives};
+ghost use Rattle.jp_document.specs.Location.{owned_key};
+ghost use Rattle.jp_document.specs.Path.{path_of};
+ghost use Rattle.jp_document.specs.PathFault.{is_large, IsPathFaultOf};
+ghost use Rattle.jp_document.specs.PathReader.{index_at, key_at, step_at, steps_at, path_at};
+
+use crate::location::{OwnedLocation, OwnedStep};
+use crate::name_reader::name;
+use crate::path_fault::PathFault;
+use jp_reading::{Reader, Stop, natural};
+use std::alloc::{AllocError, Global};
+
+/// The location whose normalized path the text is. Refused are: a text that is the path of no list of steps
+/// (`NotNormalized`), so each other spelling of a step, as `["a"]` or `[01]`, and each text that goes on after
+/// its path; a path with an index above (2^53)-1 (`IndexRange`).
+pub fn read_path(alloc: Global, text: &str) -> Result<OwnedLocation, PathFault>
+    ensures path { IfOk result (λ l. text.now ≡ path_of l) }
+    ensures small { IfOk result (λ l. list_any is_large l ≡ false) }
+    ensures fault { IfErr result (IsPathFaultOf text.now) }
+{
+    let steps = path(&mut Reader::new(alloc, text))?;
+    if is_any_large(&steps) {
+        return Err(PathFault::IndexRange);
+    }
+    Ok(OwnedLocation::of(steps))
+}
+
+/// Whether some index is above (2^53)-1.
+fn is_any_large(steps: &[OwnedStep]) -> bool
+    ensures { result ≡ list_any (λ s. is_large (owned_key s)) steps.now }
+{
+    steps.iter().any(is_large)
+}
+
+fn is_large(step: &OwnedStep) -> bool
+    ensures { result ≡ is_large (owned_key step.now) }
+{
+    match step {
+        OwnedStep::Name(_) => false,
+        OwnedStep::Index(index) => *index > LARGEST_INDEX,
+    }
+}
+
+/// The largest index of a location: (2^53)-1.
+const LARGEST_INDEX: u64 = 9_007_199_254_740_991;
+
+/// Takes a whole path: the text ends behind it. An index above (2^53)-1 is read as 2^53.
+#[tactic(auto, unfolding(crate::specs::PathReader::path_at))]
+fn path(reader: &mut Reader) -> Result<Vec<OwnedStep>, Stop>
+    ensures { Gives (λ v. map owned_key v.items) result reader.new (path_at reader.old) }
+{
+    reader.expect('$')?;
+    let steps = steps(reader)?;
+    match reader.peek() {
+        Some(_) => Err(Stop::Syntax(reader.place())),
+        None => Ok(steps),
+    }
+}
+
+/// Takes step after step, as long as another begins.
+fn steps(reader: &mut Reader) -> Result<Vec<OwnedStep>, Stop>
+    ensures { Gives (λ v. map owned_key v.items) result reader.new (steps_at reader.old) }
+{
+    let mut steps = Vec::new(reader.alloc());
+    'steps: while reader.is_at('[') {
+        let next = step(reader)?;
+        steps.push(next).map_err(AllocError::from)?;
+    }
+    Ok(steps)
+}
+
+/// Takes a step between brackets.
+#[tactic(auto, unfolding(crate::specs::PathReader::step_at))]
+fn step(reader: &mut Reader) -> Result<OwnedStep, Stop>
+    ensures { Gives owned_key result reader.new (step_at reader.old) }
+{
+    reader.expect('[')?;
+    let key = key(reader)?;
+    reader.expect(']')?;
+    Ok(key)
+}
+
+/// Takes a name or an index.
+#[tactic(auto, unfolding(crate::specs::PathReader::key_at))]
+fn key(reader: &mut Reader) -> Result<OwnedStep, Stop>
+    ensures { Gives owned_key result reader.new (key_at reader.old) }
+{
+    if reader.is_at('\'') {
+        let name = name(reader)?;
+        Ok(OwnedStep::Name(name))
+    } else {
+        let index = index(reader)?;
+        Ok(OwnedStep::Index(index))
+    }
+}
+
+/// Takes an index without a leading zero, and answers 2^53 where it is larger.
+#[tactic(auto, unfolding(crate::specs::PathReader::index_at))]
+fn index(reader: &mut Reader) -> Result<u64, Stop>
+    ensures { Gives (λ n. n) result reader.new (index_at reader.old) }
+{
+    if reader.is_at('0') {
+        reader.bump();
+        return Ok(0);
+    }
+    let index = natural(reader, LARGEST_INDEX as u128 + 1)?;
+    Ok(index as u64)
+}

@@ -1,0 +1,58 @@
+-- Worked rows: what the definitions say of small texts.
+use Rattle.std.proofs.Common.{◌≡◌, true, false, [], ◌∷◌, Some, refl}
+use Rattle.std.specs.Prelude.{pos, negsuc}
+use Rattle.jp_query.specs.declared.tree.Numeral.TheVariants.{Whole, Beyond}
+use Rattle.jp_reading.specs.Texts.{is_blank}
+use Rattle.jp_reading.specs.Outcome.{past_blanks, loop, stuck}
+use Rattle.jp_reading.specs.Numbers.{is_digit}
+use Rattle.jp_reading.proofs.Again.{start, finish}
+use Rattle.jp_query.specs.Tree.{QueryTree, query, segments, segment, selectors, name, index}
+use Rattle.jp_query.specs.Names.{is_name_first, is_name_char}
+use Rattle.jp_query.specs.Strings.{is_plain}
+use Rattle.jp_query.specs.Ints.{whole_of, negative_of}
+use Rattle.jp_query.specs.Items.{items_of, int, as_index}
+use Rattle.jp_query.specs.Grammar.{Spells}
+use Rattle.jp_query.specs.Reading.{query_at, segments_at, segment_at, bracket_at, dotted_at, selector_at, int_at, size_at, quoted_at, characters_at, shorthand_at}
+use Rattle.jp_query.proofs.Whole.{read-spells}
+
+-- a letter, a letter above ASCII and `_` begin a shorthand; a digit only goes on with one
+shorthand-rows : (is_name_first 97 ≡ true) × (is_name_first 233 ≡ true) × (is_name_first 95 ≡ true) × (is_name_first 48 ≡ false) × (is_name_char 48 ≡ true)
+unfolding is_digit
+shorthand-rows = (refl, refl, refl, refl, refl)
+
+-- between single quotation marks a double one stands for itself, a single one, a backslash and U+001F do not
+plain-rows : (is_plain 39 34 ≡ true) × (is_plain 39 39 ≡ false) × (is_plain 39 92 ≡ false) × (is_plain 39 31 ≡ false) × (is_plain 39 127 ≡ true)
+plain-rows = (refl, refl, refl, refl, refl)
+
+-- the ends of the range
+range-rows : (whole_of 18446744073709551615 ≡ Whole (pos 18446744073709551615)) × (whole_of 18446744073709551616 ≡ Beyond)
+    × (negative_of 9223372036854775808 ≡ Whole (negsuc 9223372036854775807)) × (negative_of 9223372036854775809 ≡ Beyond)
+range-rows = (refl, refl, refl, refl)
+
+-- `$[10]`: one index, from byte 2 up to byte 4
+abbrev ten : QueryTree
+ten = query true (segments (segment false (selectors (index (Whole (pos 10)) ∷ [])) ∷ []))
+
+index-spells : Spells 64 ten (Some (record { start = 2; end = 4 }) ∷ []) (36 ∷ 91 ∷ 49 ∷ 48 ∷ 93 ∷ [])
+unfolding query_at segments_at segment_at bracket_at selector_at int_at size_at past_blanks loop is_blank is_digit
+index-spells = read-spells 64 (36 ∷ 91 ∷ 49 ∷ 48 ∷ 93 ∷ []) ten (finish (36 ∷ 91 ∷ 49 ∷ 48 ∷ 93 ∷ []) (Some (record { start = 2; end = 4 }) ∷ [])) refl
+
+index-items : items_of ten ≡ int (Whole (pos 10)) as_index ∷ []
+index-items = refl
+
+-- `$ .a['']`: two names, no item
+abbrev names : QueryTree
+names = query true (segments (segment false (selectors (name (97 ∷ []) ∷ [])) ∷ segment false (selectors (name [] ∷ [])) ∷ []))
+
+names-spell : Spells 64 names [] (36 ∷ 32 ∷ 46 ∷ 97 ∷ 91 ∷ 39 ∷ 39 ∷ 93 ∷ [])
+unfolding query_at segments_at segment_at bracket_at dotted_at selector_at quoted_at characters_at shorthand_at past_blanks loop is_blank is_digit
+names-spell = read-spells 64 (36 ∷ 32 ∷ 46 ∷ 97 ∷ 91 ∷ 39 ∷ 39 ∷ 93 ∷ []) names (finish (36 ∷ 32 ∷ 46 ∷ 97 ∷ 91 ∷ 39 ∷ 39 ∷ 93 ∷ []) []) refl
+
+-- `$[01]` is stuck at byte 3, and `$.a` and a blank at its end
+zero-row : query_at 64 (start (36 ∷ 91 ∷ 48 ∷ 49 ∷ 93 ∷ [])) ≡ stuck (record { at = 3; rest = 49 ∷ 93 ∷ []; found = Some (record { start = 2; end = 3 }) ∷ [] })
+unfolding query_at segments_at segment_at bracket_at selector_at int_at past_blanks loop is_blank is_digit
+zero-row = refl
+
+blank-row : query_at 64 (start (36 ∷ 46 ∷ 97 ∷ 32 ∷ [])) ≡ stuck (record { at = 4; rest = []; found = [] })
+unfolding query_at segments_at segment_at dotted_at shorthand_at past_blanks loop is_blank is_digit
+blank-row = refl

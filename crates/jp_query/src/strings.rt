@@ -1,0 +1,232 @@
+//! Strings (RFC 9535 section 2.3.1.1, string-literal).
+
+ghost use Rattle.std.specs.Prelude.{◌≡◌, ◌<◌, ◌&&◌, true, IfOk};
+ghost use Rattle.std.specs.Char.{digit_value, InScalarRange};
+ghost use Rattle.std.specs.Str.{chars};
+ghost use Rattle.std.specs.String.{string_bytes};
+ghost use Rattle.jp_reading.specs.Outcome.{head, past, passes, take_if};
+ghost use Rattle.jp_reading.specs.Views.{Gives, by};
+ghost use Rattle.jp_query.specs.Strings.{is_plain, is_escapable, escaped, is_d, is_8_to_b};
+ghost use Rattle.jp_query.specs.HexDigits.{holds_value, is_one_of, IsUnitOf};
+ghost use Rattle.jp_query.specs.Reading.{quoted_at, characters_at, character_at, escape_at, hexchar_at, surrogates_at, unit_at, begins_character};
+
+use jp_reading::{Reader, Stop};
+
+/// A string between two of the quotation mark.
+#[tactic(auto, unfolding(crate::specs::Reading::quoted_at))]
+pub fn quoted(reader: &mut Reader, quote: char) -> Result<String, Stop>
+    ensures { Gives (λ s. chars (string_bytes s)) result reader.new (quoted_at quote reader.old) }
+{
+    reader.expect(quote)?;
+    let text = characters(reader, quote)?;
+    reader.expect(quote)?;
+    Ok(text)
+}
+
+/// Character after character, as long as one begins.
+fn characters(reader: &mut Reader, quote: char) -> Result<String, Stop>
+    ensures { Gives (λ s. chars (string_bytes s)) result reader.new (characters_at quote reader.old) }
+{
+    let mut text = String::new(reader.alloc());
+    'characters: while is_at_character(reader, quote) {
+        let next = character(reader, quote)?;
+        text.push(next)?;
+    }
+    Ok(text)
+}
+
+/// Whether a character of the string begins here.
+fn is_at_character(reader: &Reader, quote: char) -> bool
+    ensures { result ≡ passes (begins_character quote) (head reader.now) }
+{
+    match reader.peek() {
+        Some(next) => is_plain(quote, next) || next == '\\',
+        None => false,
+    }
+}
+
+/// A character that stands for itself, or what an escape stands for.
+#[tactic(auto, unfolding(crate::specs::Reading::character_at))]
+fn character(reader: &mut Reader, quote: char) -> Result<char, Stop>
+    ensures { Gives (λ c. c) result reader.new (character_at quote reader.old) }
+{
+    match reader.peek() {
+        Some('\\') => {
+            reader.bump();
+            escape(reader, quote)
+        },
+        Some(next) if is_plain(quote, next) => {
+            reader.bump();
+            Ok(next)
+        },
+        _ => Err(Stop::Syntax(reader.place())),
+    }
+}
+
+/// What stands behind a backslash.
+#[tactic(auto, unfolding(crate::specs::Reading::escape_at))]
+fn escape(reader: &mut Reader, quote: char) -> Result<char, Stop>
+    ensures { Gives (λ c. c) result reader.new (escape_at quote reader.old) }
+{
+    match reader.peek() {
+        Some('u') => {
+            reader.bump();
+            hexchar(reader)
+        },
+        Some(letter) if is_escapable(quote, letter) => {
+            reader.bump();
+            Ok(escaped(letter))
+        },
+        _ => Err(Stop::Syntax(reader.place())),
+    }
+}
+
+/// Four hexadecimal digits that write a character, or a surrogate pair in two escapes (hexchar).
+#[tactic(auto, unfolding(crate::specs::Reading::hexchar_at))]
+fn hexchar(reader: &mut Reader) -> Result<char, Stop>
+    ensures { Gives (λ c. c) result reader.new (hexchar_at reader.old) }
+{
+    if is_at_surrogates(reader) {
+        return surrogates(reader);
+    }
+    if is_at(reader.peek(), HexDigit::D) {
+        return Ok(scalar(unit(reader, HexDigit::D, HexDigit::UpTo7)?));
+    }
+    Ok(scalar(unit(reader, HexDigit::NotD, HexDigit::Any)?))
+}
+
+/// A surrogate pair: the digits of its first half, a backslash, `u`, and the digits of its second half.
+#[tactic(auto, unfolding(crate::specs::Reading::surrogates_at))]
+fn surrogates(reader: &mut Reader) -> Result<char, Stop>
+    ensures { Gives (λ c. c) result reader.new (surrogates_at reader.old) }
+{
+    let high = unit(reader, HexDigit::D, HexDigit::EightToB)?;
+    reader.expect('\\')?;
+    reader.expect('u')?;
+    let low = unit(reader, HexDigit::D, HexDigit::FromC)?;
+    Ok(scalar(0x1_0000 + (high - 0xd800) * 0x400 + (low - 0xdc00)))
+}
+
+/// Whether the digits of the first half of a surrogate pair begin here.
+fn is_at_surrogates(reader: &Reader) -> bool
+    ensures { result ≡ (passes is_d (head reader.now) && passes is_8_to_b (head (past reader.now))) }
+{
+    is_at(reader.peek(), HexDigit::D) && is_at(reader.peek_second(), HexDigit::EightToB)
+}
+
+/// Four hexadecimal digits, of which the first two are of these kinds.
+#[tactic(auto, unfolding(crate::specs::Reading::unit_at))]
+fn unit(reader: &mut Reader, first: HexDigit, second: HexDigit) -> Result<u32, Stop>
+    ensures taken { Gives (λ v. v) result reader.new (unit_at (is_one_of first) (is_one_of second) reader.old) }
+    ensures range { IfOk result (λ v. IsUnitOf first second v) }
+{
+    let a = digit(reader, first)?;
+    let b = digit(reader, second)?;
+    let c = digit(reader, HexDigit::Any)?;
+    let d = digit(reader, HexDigit::Any)?;
+    Ok(((a * 16 + b) * 16 + c) * 16 + d)
+}
+
+/// The value of a hexadecimal digit of that kind.
+fn digit(reader: &mut Reader, kind: HexDigit) -> Result<u32, Stop>
+    ensures taken { Gives (λ v. v) result reader.new (by digit_value (take_if (is_one_of kind) reader.old)) }
+    ensures range { IfOk result (λ v. holds_value kind v ≡ true) }
+    ensures below { IfOk result (λ v. v < 16) }
+{
+    match reader.peek() {
+        Some(next) if kind.contains(next) => {
+            reader.bump();
+            Ok(value_of(next))
+        },
+        _ => Err(Stop::Syntax(reader.place())),
+    }
+}
+
+/// Whether a character is a hexadecimal digit of that kind.
+fn is_at(next: Option<char>, kind: HexDigit) -> bool
+    ensures { result ≡ passes (is_one_of kind) next }
+{
+    match next {
+        Some(c) => kind.contains(c),
+        None => false,
+    }
+}
+
+/// Kinds of hexadecimal digits, in either case.
+#[derive(Clone, Copy)]
+enum HexDigit {
+    Any,
+    NotD,
+    D,
+    UpTo7,
+    EightToB,
+    FromC,
+}
+
+impl HexDigit {
+    fn contains(self, c: char) -> bool
+        ensures { result ≡ is_one_of self c }
+    {
+        match c.to_digit(16) {
+            Some(value) => self.holds(value),
+            None => false,
+        }
+    }
+
+    fn holds(self, value: u32) -> bool
+        ensures { result ≡ holds_value self value }
+    {
+        match self {
+            HexDigit::Any => value < 16,
+            HexDigit::NotD => value < 16 && value != 13,
+            HexDigit::D => value == 13,
+            HexDigit::UpTo7 => value < 8,
+            HexDigit::EightToB => value >= 8 && value < 12,
+            HexDigit::FromC => value >= 12 && value < 16,
+        }
+    }
+}
+
+/// The value of a hexadecimal digit.
+fn value_of(digit: char) -> u32
+    requires { digit_value digit < 16 }
+    ensures { result ≡ digit_value digit }
+{
+    digit.to_digit(16).unwrap()
+}
+
+/// The character of that scalar value.
+fn scalar(code: u32) -> char
+    requires { InScalarRange code }
+    ensures { result ≡ code }
+{
+    char::from_u32(code).unwrap()
+}
+
+/// Whether a character stands for itself between two of the quotation mark (unescaped).
+fn is_plain(quote: char, c: char) -> bool
+    ensures { result ≡ is_plain quote c }
+{
+    c >= ' ' && c != quote && c != '\\'
+}
+
+/// Whether a character may follow a backslash between two of the quotation mark, but for `u` (escapable).
+fn is_escapable(quote: char, c: char) -> bool
+    ensures { result ≡ is_escapable quote c }
+{
+    c == quote || matches!(c, 'b' | 'f' | 'n' | 'r' | 't' | '/' | '\\')
+}
+
+/// What such a character stands for behind a backslash.
+fn escaped(letter: char) -> char
+    ensures { result ≡ escaped letter }
+{
+    match letter {
+        'b' => '\u{8}',
+        'f' => '\u{c}',
+        'n' => '\n',
+        'r' => '\r',
+        't' => '\t',
+        other => other,
+    }
+}
