@@ -17,7 +17,8 @@ use std::alloc::{AllocError, Global};
 use std::mem;
 
 /// The plain matcher. It goes down the pattern once and keeps sets of places in the text, a mark for each
-/// place. A repeat goes on only while its set changes, so its counts cost nothing.
+/// place. A repeat goes on only while its set changes, so it ends after about as many rounds as the text has
+/// characters, however large its counts; each round walks the text once for each class.
 #[derive(Clone, Copy, Debug, Default)]
 pub struct Images;
 
