@@ -9,14 +9,13 @@ use Rattle.std.proofs.lemmas.Bool.Decides.{nat_tests}
 use Rattle.jp_query.specs.declared.tree.Numeral.{Numeral}
 use Rattle.jp_reading.specs.Texts.{Text, is_blank, Spans, bytes}
 use Rattle.jp_reading.specs.Forms.{◌⌢◌, word, One, Each, Blank, Item, AllPassing, Form, Separated, Omitted}
-use Rattle.jp_reading.specs.Outcome.{State, took, head, first_of, skip, passes, is, is_at, after_blank, each, omit, past_blanks, item}
+use Rattle.jp_reading.specs.Outcome.{State, took, head, first_of, skip, passes, is, is_at, after_blank, omit, past_blanks, item}
 use Rattle.jp_reading.specs.Numbers.{is_digit, value_from}
-use Rattle.jp_reading.specs.Views.{by}
 use Rattle.jp_reading.proofs.Between.{Reads, reads-as, reads-is, between-then, state-same}
 use Rattle.jp_reading.proofs.Runs.{Run, each-run, again-run}
 use Rattle.jp_reading.proofs.Steps.{is_at-other, passes-apart}
 use Rattle.jp_reading.proofs.Again.{split, word-first, one-first, again-take_if, again-expect, again-skip, inside, again-item, again-each, past-word, again-separated, at-word, reads-none}
-use Rattle.jp_query.specs.Tree.{SelectorTree, name, index, SegmentTree, slice}
+use Rattle.jp_query.specs.Tree.{SelectorTree, SegmentTree, slice}
 use Rattle.jp_query.specs.Names.{is_name_first, is_name_char, Shorthand, shorthand}
 use Rattle.jp_query.specs.Strings.{is_escapable, Character, Between as Marked, in_double, in_single}
 use Rattle.jp_query.proofs.Escapes.{characters-again}

@@ -1,13 +1,12 @@
 -- The rules of queries leave shorter texts.
 use Rattle.jp_query.specs.declared.tree.Numeral.{Numeral}
-use Rattle.std.proofs.Common.{ℕ, ◌<◌, ◌≤◌, Bool, false, [], ◌∷◌, arith, ◌≡◌, true, if◌then◌else◌, Option, Some, None}
-use Rattle.jp_reading.specs.Outcome.{State, head, past, skip, passes, is, is_at, take_if, expect, took, stuck, each, item, after_blank}
+use Rattle.std.proofs.Common.{ℕ, ◌<◌, ◌≤◌, Bool, false, ◌∷◌, arith, true, Option, Some, None}
+use Rattle.jp_reading.specs.Outcome.{State, head, past, skip, passes, is, is_at, take_if, expect, each, item, after_blank}
 use Rattle.jp_reading.specs.Numbers.{is_digit, value_from}
-use Rattle.jp_reading.specs.Views.{by}
 use Rattle.jp_reading.proofs.Chars.{past-shorter, skip-shorter}
 use Rattle.jp_reading.proofs.Progress.{Moves, Keeps, Progress, keeps-from_moves, keeps-then, moves-then, moves-after, moves-skip, keeps-skip, moves-take_if, moves-by, moves-item, moves-if, keeps-by, keeps-each, keeps-if, keeps-take_if, keeps-after, past-keeps}
 use Rattle.jp_query.proofs.Escapes.{keeps-characters}
-use Rattle.jp_query.specs.Tree.{name, index, segment, selectors, wildcard, slice}
+use Rattle.jp_query.specs.Tree.{name, slice}
 use Rattle.jp_query.specs.Names.{is_name_first, is_name_char}
 use Rattle.jp_query.specs.Ints.{is_leading_digit, whole_of, negative_of}
 use Rattle.jp_query.specs.Reading.{run_at, characters_at, shorthand_at, quoted_at, size_at, int_at, selector_at, bracket_at, segment_at, entry_at, another_at, entries_at, member_at, selection_at, begins_int, bound_at, later_step_at, step_at, slice_of, slice_at, number_at}

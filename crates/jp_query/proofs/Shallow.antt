@@ -4,7 +4,7 @@ use Rattle.std.proofs.Common.{◌&&◌, ℕ, zero, suc, Bool, true, false, if◌
 use Rattle.jp_reading.specs.Outcome.{State, Outcome, took, stuck, deep, ◌>>=◌, head, past, skip, passes, is, is_at, is_end, take_passing, take_if, expect, loop, after_blank, each, item}
 use Rattle.jp_reading.specs.Numbers.{is_digit, value_from}
 use Rattle.jp_reading.specs.Views.{by}
-use Rattle.jp_query.specs.Tree.{name, index, wildcard, slice}
+use Rattle.jp_query.specs.Tree.{name, slice}
 use Rattle.std.specs.Char.{digit_value}
 use Rattle.jp_query.specs.Names.{is_name_first, is_name_char}
 use Rattle.jp_query.specs.Strings.{is_plain, is_escapable, escaped, is_hexdig, is_d, is_not_d, is_0_to_7, is_8_to_b, is_c_to_f, scalar_of}

@@ -2,7 +2,7 @@
 use Rattle.std.specs.Prelude.{pos}
 use Rattle.jp_query.specs.declared.tree.Numeral.{Numeral}
 use Rattle.jp_query.specs.declared.tree.Numeral.TheVariants.{Whole}
-use Rattle.jp_query.specs.Slices.{Bound, no_bound, Step, no_step, empty_step, given_step}
+use Rattle.jp_query.specs.Slices.{no_bound, Step, no_step, empty_step, given_step}
 use Rattle.jp_reading.proofs.Joining.{then-end}
 use Rattle.jp_query.specs.Grammar.{Selector, any, Bracket, Member, star, bracketed}
 use Rattle.std.proofs.Common.{◌≡◌, ℕ, suc, Bool, true, [], ◌∷◌, refl, false, List, if◌then◌else◌, Option, Some, None, arith}
@@ -10,17 +10,16 @@ use Rattle.jp_reading.specs.Forms.{word, ◌⌢◌, Blank, Omitted}
 use Rattle.jp_reading.specs.Outcome.{State, took, head, past, skip, passes, is_at, take_if, after_blank, omit, item, is}
 use Rattle.jp_reading.specs.Numbers.{is_digit, value_from}
 use Rattle.jp_reading.specs.Views.{by}
-use Rattle.jp_reading.proofs.Steps.{past-way, head-is}
-use Rattle.jp_reading.proofs.Between.{Reads, Judged, Rule, joined-over, reads-as, reads-then, between-same}
+use Rattle.jp_reading.proofs.Between.{Reads, Judged, joined-over, reads-as, reads-then, between-same}
 use Rattle.jp_reading.proofs.Levels.{one_rule, each_rule, made_rule, word_rule, then_rule, ends_rule, blank_rule, item_rule, word-has, behind}
 use Rattle.jp_reading.proofs.Judging.{judged-end, judged-then, judged-as, judged-behind, judged-skip, judged-take_if, judged-expect, judged-made, judged-each, judged-item, judged-if, judged-separated}
-use Rattle.jp_query.specs.Tree.{SelectorTree, name, index, wildcard, slice}
+use Rattle.jp_query.specs.Tree.{SelectorTree, name, wildcard, slice}
 use Rattle.jp_query.specs.Names.{is_name_first, is_name_char}
 use Rattle.jp_query.specs.Strings.{is_plain}
 use Rattle.jp_query.proofs.Escapes.{reads-past, character_rule, characters-judged}
 use Rattle.jp_query.specs.Ints.{is_leading_digit, whole_of, negative_of, zero_int}
 use Rattle.jp_query.specs.Reading.{run_at, characters_at, shorthand_at, quoted_at, size_at, int_at, selector_at, bracket_at, segment_at, segments_at, begins_segment, entry_at, another_at, entries_at, member_at, selection_at, begins_int, bound_at, later_step_at, step_at, slice_of, slice_at, number_at}
-use Rattle.jp_query.proofs.Rules.{run_rule, shorthand_parts, quoted_parts, is_digit-zero, size_parts, int_rule, positive-within, negative-within, selector_rule, double-within, single-within, index-within, segment_rule, entry_rule, comma, comma-has, comma-within, entries_rule, segment_of_all, segment_of_one, bracket_parts, bracket-within, bracket-within_deeper, member_rule, member-within, dot_rule, dot-within, dot_member, dot_bracket, dot_deep, bound_rule, bound_parts, bound-within, step_rule, Rest, rest_parts, rest-within, rest_rule, starts-within, AfterInt, alone, goes_on, after_rule, number_parts, number-within}
+use Rattle.jp_query.proofs.Rules.{run_rule, shorthand_parts, quoted_parts, is_digit-zero, size_parts, int_rule, positive-within, negative-within, selector_rule, double-within, single-within, segment_rule, entry_rule, comma, comma-has, comma-within, entries_rule, segment_of_all, segment_of_one, bracket_parts, bracket-within, bracket-within_deeper, member_rule, member-within, dot_rule, dot-within, dot_member, dot_bracket, dot_deep, bound_rule, bound_parts, bound-within, step_rule, Rest, rest_parts, rest-within, rest_rule, starts-within, alone, goes_on, after_rule, number_parts, number-within}
 
 run-judged : (ok : ℕ → Bool) (c : ℕ) (h : ok c ≡ true) (p : State) → Judged (run_rule ok c h) p (run_at ok p)
 run-judged ok c h p = judged-each (one_rule ok c h) (λ q. passes ok (head q)) (take_if ok) (judged-take_if ok c h) p
