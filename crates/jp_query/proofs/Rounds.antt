@@ -1,12 +1,12 @@
--- The loop over segments: a round, its end, and a round that fails.
-use Rattle.std.proofs.Common.{◌≡◌, ℕ, ◌<◌, true, false, List, [], ◌∷◌, ◌++◌, length}
+-- The loops over segments and selectors.
+use Rattle.std.proofs.Common.{◌≡◌, ℕ, ◌<◌, true, false, List, [], ◌∷◌, ◌++◌, length, refl}
 use Rattle.jp_reading.specs.declared.reader.Stop.{Stop}
-use Rattle.jp_reading.specs.Outcome.{State, took, skip, after_blank, passes}
+use Rattle.jp_reading.specs.Outcome.{State, took, skip, after_blank, passes, each, is_at}
 use Rattle.jp_reading.specs.Views.{Fails, with_front}
 use Rattle.jp_reading.proofs.Progress.{moved}
 use Rattle.jp_reading.proofs.Folds.{pushes_on, pushes_end, folds_fail}
-use Rattle.jp_query.specs.Tree.{SegmentTree}
-use Rattle.jp_query.specs.Reading.{segment_at, segments_at, begins_segment}
+use Rattle.jp_query.specs.Tree.{SegmentTree, SelectorTree}
+use Rattle.jp_query.specs.Reading.{segment_at, segments_at, begins_segment, entry_at, another_at, entries_at}
 use Rattle.jp_query.proofs.Moves.{segment-progress}
 
 -- a segment more
@@ -32,3 +32,9 @@ segments_fail n p xs e on failed =
 -- a segment leaves a shorter text
 pub segments-smaller : (n : ℕ) (p q : State) (x : SegmentTree) → segment_at n (skip p) ≡ took x q → length q.rest < length p.rest
 segments-smaller n p q x e = moved (λ r. segment_at n (skip r)) (segment-progress n) p q x e
+
+-- the first selector in brackets
+pub entries_first : (n : ℕ) (p q : State) (x : SelectorTree) → entry_at n p ≡ took x q
+    → with_front (x ∷ []) (each (is_at 44) (another_at n) q) ≡ entries_at n p
+unfolding entries_at
+entries_first n p q x e = rw e refl

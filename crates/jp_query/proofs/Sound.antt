@@ -1,20 +1,25 @@
 -- What the rules read is what the grammar says; and where they are stuck, a text of the grammar begins so.
-use Rattle.std.proofs.Common.{◌≡◌, ℕ, suc, Bool, true, [], ◌∷◌, refl}
-use Rattle.jp_reading.specs.Forms.{word}
-use Rattle.jp_reading.specs.Outcome.{State, took, head, past, skip, passes, is_at, take_if, after_blank}
+use Rattle.std.specs.Prelude.{pos}
+use Rattle.jp_query.specs.declared.tree.Numeral.{Numeral}
+use Rattle.jp_query.specs.declared.tree.Numeral.TheVariants.{Whole}
+use Rattle.jp_query.specs.Slices.{no_bound, Step, no_step, empty_step, given_step}
+use Rattle.jp_reading.proofs.Joining.{then-end}
+use Rattle.jp_query.specs.Grammar.{Selector, any, Bracket, Member, star, bracketed}
+use Rattle.std.proofs.Common.{◌≡◌, ℕ, suc, Bool, true, [], ◌∷◌, refl, false, List, if◌then◌else◌, Option, Some, None, arith}
+use Rattle.jp_reading.specs.Forms.{word, ◌⌢◌, Blank, Omitted}
+use Rattle.jp_reading.specs.Outcome.{State, took, head, past, skip, passes, is_at, take_if, after_blank, omit, item, is}
 use Rattle.jp_reading.specs.Numbers.{is_digit, value_from}
 use Rattle.jp_reading.specs.Views.{by}
-use Rattle.jp_reading.proofs.Steps.{past-way, head-is}
-use Rattle.jp_reading.proofs.Between.{Reads, Judged}
+use Rattle.jp_reading.proofs.Between.{Reads, Judged, joined-over, reads-as, reads-then, between-same}
 use Rattle.jp_reading.proofs.Levels.{one_rule, each_rule, made_rule, word_rule, then_rule, ends_rule, blank_rule, item_rule, word-has, behind}
-use Rattle.jp_reading.proofs.Judging.{judged-end, judged-then, judged-as, judged-behind, judged-skip, judged-take_if, judged-expect, judged-made, judged-each, judged-item, judged-if}
-use Rattle.jp_query.specs.Tree.{SelectorTree, name, index}
+use Rattle.jp_reading.proofs.Judging.{judged-end, judged-then, judged-as, judged-behind, judged-skip, judged-take_if, judged-expect, judged-made, judged-each, judged-item, judged-if, judged-separated}
+use Rattle.jp_query.specs.Tree.{SelectorTree, name, wildcard, slice}
 use Rattle.jp_query.specs.Names.{is_name_first, is_name_char}
 use Rattle.jp_query.specs.Strings.{is_plain}
 use Rattle.jp_query.proofs.Escapes.{reads-past, character_rule, characters-judged}
 use Rattle.jp_query.specs.Ints.{is_leading_digit, whole_of, negative_of, zero_int}
-use Rattle.jp_query.specs.Reading.{run_at, characters_at, shorthand_at, quoted_at, size_at, int_at, selector_at, bracket_at, dotted_at, segment_at, segments_at, begins_segment}
-use Rattle.jp_query.proofs.Rules.{run_rule, shorthand_parts, quoted_parts, is_digit-zero, size_parts, int_rule, positive-within, negative-within, selector_rule, double-within, single-within, index-within, child_of, segment_rule, bracket_parts, bracket-within, bracket-within_deeper, dotted_parts, dotted-within}
+use Rattle.jp_query.specs.Reading.{run_at, characters_at, shorthand_at, quoted_at, size_at, int_at, selector_at, bracket_at, segment_at, segments_at, begins_segment, entry_at, another_at, entries_at, member_at, selection_at, begins_int, bound_at, later_step_at, step_at, slice_of, slice_at, number_at}
+use Rattle.jp_query.proofs.Rules.{run_rule, shorthand_parts, quoted_parts, is_digit-zero, size_parts, int_rule, positive-within, negative-within, selector_rule, double-within, single-within, segment_rule, entry_rule, comma, comma-has, comma-within, entries_rule, segment_of_all, segment_of_one, bracket_parts, bracket-within, bracket-within_deeper, member_rule, member-within, dot_rule, dot-within, dot_member, dot_bracket, dot_deep, bound_rule, bound_parts, bound-within, step_rule, Rest, rest_parts, rest-within, rest_rule, starts-within, alone, goes_on, after_rule, number_parts, number-within}
 
 run-judged : (ok : ℕ → Bool) (c : ℕ) (h : ok c ≡ true) (p : State) → Judged (run_rule ok c h) p (run_at ok p)
 run-judged ok c h p = judged-each (one_rule ok c h) (λ q. passes ok (head q)) (take_if ok) (judged-take_if ok c h) p
@@ -60,6 +65,69 @@ int-judged p =
     (λ unsigned. judged-as (made_rule whole_of size_parts) int_rule p (by whole_of (size_at p)) positive-within positive-within
     (judged-made whole_of size_parts p (size_at p) (size-judged p))))
 
+omit-reads : (p : State) → Reads Omitted p (omit p)
+omit-reads p = record {
+  spans = None ∷ [];
+  text = [];
+  way = record { rest = refl; at = omega arith; found = refl };
+  is = record { spans = refl; is = refl };
+}
+
+int_item-judged : (p : State) → Judged (item_rule int_rule) p (item p (int_at p))
+int_item-judged p = judged-item int_rule p (int_at p) (int-judged p)
+
+bound-judged : (p : State) → Judged bound_rule p (bound_at p)
+unfolding bound_at
+bound-judged p =
+    judged-if bound_rule p (passes begins_int (head p)) _ _
+    (λ on. judged-as bound_parts bound_rule p _ bound-within bound-within
+    (judged-then (item_rule int_rule) (λ i. blank_rule (ends_rule (Some i))) p (item p (int_at p)) _ (int_item-judged p)
+    (λ i q. judged-skip (ends_rule (Some i)) q (took (Some i) (skip q)) (judged-end (Some i) (skip q)))))
+    (λ off. record { is = record { spans = []; text = []; way = between-same p; is = no_bound refl (record { none = refl; is = refl }) } })
+
+step-judged : (p : State) → Judged step_rule p (step_at p)
+unfolding step_at later_step_at
+step-judged p =
+    let colon = word-has (58 ∷ []) in
+    judged-if step_rule p (is_at 58 p) _ _
+    (λ on. judged-if step_rule p (passes begins_int (after_blank (past p))) _ _
+    (λ given. judged-as (behind (word (58 ∷ [])) colon (blank_rule (item_rule int_rule))) step_rule p _ (λ x s o t h. given_step h) (λ x s o t h. given_step h)
+    (judged-behind (word (58 ∷ [])) colon (blank_rule (item_rule int_rule)) p (past p) _ (reads-past 58 p on)
+    (judged-skip (item_rule int_rule) (past p) _ (int_item-judged (skip (past p))))))
+    (λ none. record {
+      is = reads-as (word (58 ∷ []) ⌢ Omitted) (Step (Whole (pos 1))) p (omit (past p)) (λ s o t g. empty_step refl g)
+          (reads-then (word (58 ∷ [])) Omitted p (past p) (omit (past p)) (reads-past 58 p on) (omit-reads (past p)));
+    }))
+    (λ off. record { is = reads-as Omitted (Step (Whole (pos 1))) p (omit p) (λ s o t g. no_step refl g) (omit-reads p) })
+
+slice-judged : (start : Option Numeral) (p : State) → Judged (rest_rule start) p (slice_at start p)
+unfolding slice_at
+slice-judged start p =
+    let steps = λ (end : Option Numeral). made_rule (slice_of start end) step_rule in
+    judged-as (rest_parts start) (rest_rule start) p _ (rest-within start) (rest-within start)
+    (judged-expect 58 (blank_rule (then_rule bound_rule steps)) p _
+    (λ c q. judged-skip (then_rule bound_rule steps) q _
+    (judged-then bound_rule steps (skip q) (bound_at (skip q)) _ (bound-judged (skip q))
+    (λ end r. judged-made (slice_of start end) step_rule r (step_at r) (step-judged r)))))
+
+number-judged : (n : ℕ) (p : State) → Judged (selector_rule n) p (number_at p)
+unfolding number_at
+number-judged n p =
+    judged-as number_parts (selector_rule n) p _ (number-within n) (number-within (suc n))
+    (judged-then (item_rule int_rule) after_rule p (item p (int_at p)) _ (int_item-judged p)
+    (λ i q. judged-if (after_rule i) q (passes (is 58) (after_blank q)) _ _
+    (λ on. judged-as (blank_rule (made_rule slice (rest_rule (Some i)))) (after_rule i) q _
+    (λ x s o t h. goes_on h.two.part h.two.same (joined-over Blank _ (Rest (Some i) h.two.part) s o t h h.two.is))
+    (λ x s o t h. goes_on h.two.part h.two.same (joined-over Blank _ (Rest (Some i) h.two.part) s o t h h.two.is))
+    (judged-skip (made_rule slice (rest_rule (Some i))) q _
+    (judged-made slice (rest_rule (Some i)) (skip q) (slice_at (Some i) (skip q)) (slice-judged (Some i) (skip q)))))
+    (λ off. record { is = record { spans = []; text = []; way = between-same q; is = alone refl (record { none = refl; is = refl }) } })))
+
+star-judged : (n : ℕ) (p : State) → is_at 42 p ≡ true → Judged (selector_rule n) p (took wildcard (past p))
+star-judged n p h =
+    let read = reads-past 42 p h in
+    record { is = record { spans = read.spans; text = read.text; way = read.way; is = any refl read.is } }
+
 selector-judged : (n : ℕ) (p : State) → Judged (selector_rule n) p (selector_at n p)
 unfolding selector_at
 selector-judged n p =
@@ -69,30 +137,78 @@ selector-judged n p =
     (λ other. judged-if (selector_rule n) p (is_at 39 p) _ _
     (λ single. judged-as (made_rule name (quoted_parts 39 refl)) (selector_rule n) p _ (single-within n) (single-within (suc n))
     (judged-made name (quoted_parts 39 refl) p (quoted_at 39 p) (quoted-judged 39 refl p)))
-    (λ number. judged-as (item_rule (made_rule index int_rule)) (selector_rule n) p _ (index-within n) (index-within (suc n))
-    (judged-item (made_rule index int_rule) p (by index (int_at p)) (judged-made index int_rule p (int_at p) (int-judged p)))))
+    (λ unquoted. judged-if (selector_rule n) p (is_at 42 p) _ _ (star-judged n p)
+    (λ unstarred. judged-if (selector_rule n) p (is_at 58 p) _ _
+    (λ colon. judged-as (made_rule slice (rest_rule None)) (selector_rule n) p _ (starts-within n) (starts-within (suc n))
+    (judged-made slice (rest_rule None) p (slice_at None p) (slice-judged None p)))
+    (λ number. number-judged n p))))
 
-bracket-judged : (n : ℕ) (p : State) → Judged (segment_rule n) p (bracket_at n p)
+entry-judged : (n : ℕ) (p : State) → Judged (entry_rule n) p (entry_at n p)
+unfolding entry_at
+entry-judged n p =
+    judged-as (then_rule (selector_rule n) (λ x. blank_rule (ends_rule x))) (entry_rule n) p _ (then-end (Selector n) Blank) (then-end (Selector (suc n)) Blank)
+    (judged-then (selector_rule n) (λ x. blank_rule (ends_rule x)) p (selector_at n p) _ (selector-judged n p)
+    (λ x q. judged-skip (ends_rule x) q (took x (skip q)) (judged-end x (skip q))))
+
+another-judged : (n : ℕ) (p : State) → Judged (behind comma comma-has (entry_rule n)) p (another_at n p)
+unfolding another_at
+another-judged n p =
+    judged-as (word_rule 44 (blank_rule (entry_rule n))) (behind comma comma-has (entry_rule n)) p _ (comma-within n) (comma-within (suc n))
+    (judged-expect 44 (blank_rule (entry_rule n)) p _ (λ c q. judged-skip (entry_rule n) q (entry_at n (skip q)) (entry-judged n (skip q))))
+
+entries-judged : (n : ℕ) (p : State) → Judged (entries_rule n) p (entries_at n p)
+unfolding entries_at
+entries-judged n p = judged-separated comma comma-has (entry_rule n) p (entry_at n p) (is_at 44) (another_at n) (entry-judged n p) (another-judged n)
+
+bracket-judged : (d : Bool) (n : ℕ) (p : State) → Judged (bracket_parts d n) p (bracket_at d n p)
 unfolding bracket_at
-bracket-judged n p =
-    let closes = λ (x : SelectorTree). blank_rule (word_rule 93 (ends_rule (child_of x))) in
-    judged-as (bracket_parts n) (segment_rule n) p _ (bracket-within n) (bracket-within_deeper n)
-    (judged-expect 91 (blank_rule (then_rule (selector_rule n) closes)) p _
-    (λ c q. judged-skip (then_rule (selector_rule n) closes) q _
-    (judged-then (selector_rule n) closes (skip q) (selector_at n (skip q)) _ (selector-judged n (skip q))
-    (λ x r. judged-skip (word_rule 93 (ends_rule (child_of x))) r _
-    (judged-expect 93 (ends_rule (child_of x)) (skip r) _ (λ d w. judged-end (child_of x) w))))))
+bracket-judged d n p =
+    let closes = λ (xs : List SelectorTree). word_rule 93 (ends_rule (segment_of_all d xs)) in
+    judged-expect 91 (blank_rule (then_rule (entries_rule n) closes)) p _
+    (λ c q. judged-skip (then_rule (entries_rule n) closes) q _
+    (judged-then (entries_rule n) closes (skip q) (entries_at n (skip q)) _ (entries-judged n (skip q))
+    (λ xs r. judged-expect 93 (ends_rule (segment_of_all d xs)) r _ (λ e w. judged-end (segment_of_all d xs) w))))
 
-dotted-judged : (n : ℕ) (p : State) → Judged (segment_rule n) p (dotted_at p)
-unfolding dotted_at
-dotted-judged n p =
-    judged-as dotted_parts (segment_rule n) p _ (dotted-within n) (dotted-within (suc n))
-    (judged-expect 46 (made_rule (λ cs. child_of (name cs)) shorthand_parts) p _
-    (λ c q. judged-made (λ cs. child_of (name cs)) shorthand_parts q (shorthand_at q) (shorthand-judged q)))
+member-judged : (d : Bool) (p : State) → Judged (made_rule (segment_of_one d) member_rule) p (member_at d p)
+unfolding member_at
+member-judged d p =
+    judged-made (segment_of_one d) member_rule p _
+    (judged-if member_rule p (is_at 42 p) _ _
+    (λ on. (let read = reads-past 42 p on in record { is = record { spans = read.spans; text = read.text; way = read.way; is = star refl read.is } }))
+    (λ off. judged-as (made_rule name shorthand_parts) member_rule p _ member-within member-within
+    (judged-made name shorthand_parts p (shorthand_at p) (shorthand-judged p))))
+
+-- behind the first dot
+dot-judged : (n : ℕ) (p : State) → Judged (dot_rule n) p (if is_at 46 p then selection_at true n (past p) else member_at false p)
+unfolding selection_at
+dot-judged n p =
+    let dot = word-has (46 ∷ []) in
+    let deep = made_rule (segment_of_one true) member_rule in
+    judged-if (dot_rule n) p (is_at 46 p) _ _
+    (λ on. judged-if (dot_rule n) p (is_at 91 (past p)) _ _
+    (λ bracket. judged-as (behind (word (46 ∷ [])) dot (bracket_parts true n)) (dot_rule n) p _
+    (λ x s o t h. (let made = bracket-within true n x h.second_spans _ h.second h.two in
+    dot_bracket made.part made.same (joined-over (word (46 ∷ [])) _ (Bracket n made.part) s o t h made.is)))
+    (λ x s o t h. (let made = bracket-within_deeper true n x h.second_spans _ h.second h.two in
+    dot_bracket made.part made.same (joined-over (word (46 ∷ [])) _ (Bracket (suc n) made.part) s o t h made.is)))
+    (judged-behind (word (46 ∷ [])) dot (bracket_parts true n) p (past p) (bracket_at true n (past p)) (reads-past 46 p on) (bracket-judged true n (past p))))
+    (λ plain. judged-as (behind (word (46 ∷ [])) dot deep) (dot_rule n) p _
+    (λ x s o t h. dot_deep h.two.part h.two.same (joined-over (word (46 ∷ [])) _ (Member h.two.part) s o t h h.two.is))
+    (λ x s o t h. dot_deep h.two.part h.two.same (joined-over (word (46 ∷ [])) _ (Member h.two.part) s o t h h.two.is))
+    (judged-behind (word (46 ∷ [])) dot deep p (past p) (member_at true (past p)) (reads-past 46 p on) (member-judged true (past p)))))
+    (λ off. judged-as (made_rule (segment_of_one false) member_rule) (dot_rule n) p (member_at false p)
+    (λ x s o t h. dot_member h.part h.same h.is) (λ x s o t h. dot_member h.part h.same h.is) (member-judged false p))
 
 segment-judged : (n : ℕ) (p : State) → Judged (segment_rule n) p (segment_at n p)
 unfolding segment_at
-segment-judged n p = judged-if (segment_rule n) p (is_at 91 p) _ _ (λ on. bracket-judged n p) (λ off. dotted-judged n p)
+segment-judged n p =
+    judged-if (segment_rule n) p (is_at 91 p) _ _
+    (λ on. judged-as (bracket_parts false n) (segment_rule n) p (bracket_at false n p)
+    (λ x s o t h. (let made = bracket-within false n x s o t h in bracketed made.part made.same made.is))
+    (λ x s o t h. (let made = bracket-within_deeper false n x s o t h in bracketed made.part made.same made.is))
+    (bracket-judged false n p))
+    (λ off. judged-as (word_rule 46 (dot_rule n)) (segment_rule n) p _ (dot-within n) (dot-within (suc n))
+    (judged-expect 46 (dot_rule n) p _ (λ c q. dot-judged n q)))
 
 -- segments, each behind blanks
 pub segments-judged : (n : ℕ) (p : State) → Judged (each_rule (blank_rule (segment_rule n))) p (segments_at n p)

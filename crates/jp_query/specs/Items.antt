@@ -1,20 +1,30 @@
 -- The items of a query's tree, in the order in which they begin in a text.
-use Rattle.std.specs.Prelude.{List, [], ◌∷◌, ◌++◌, Some}
+use Rattle.std.specs.Prelude.{◌≡◌, pos, Option, List, [], ◌∷◌, ◌++◌, Some, None}
 use Rattle.jp_query.specs.declared.tree.Numeral.{Numeral}
+use Rattle.jp_query.specs.declared.tree.Numeral.TheVariants.{Whole}
 use Rattle.jp_reading.specs.Texts.{Spans}
-use Rattle.jp_query.specs.Tree.{SelectorTree, name, index, SelectorTrees, no_selectors, selector_then, SegmentTree, segment, SegmentTrees, no_segments, segment_then, QueryTree, query}
+use Rattle.jp_query.specs.Tree.{SelectorTree, name, wildcard, index, slice, SelectorTrees, no_selectors, selector_then, SegmentTree, segment, SegmentTrees, no_segments, segment_then, QueryTree, query}
 
--- what an item is there for: an index (RFC 9535 section 2.3.3)
+-- what an item is there for: an index (RFC 9535 section 2.3.3), or a part of a slice (section 2.3.4)
 pub data Use : Type 0 where
   as_index : Use
+  as_slice_part : Use
 
 -- an item: a whole number and its use
 pub data QueryItem : Type 0 where
   int : Numeral → Use → QueryItem
 
+-- a bound of a slice, if it is there
+abbrev pub bound_items : Option Numeral → List QueryItem
+bound_items None = []
+bound_items (Some i) = int i as_slice_part ∷ []
+
+-- a slice has its step among its items also where the text omits it
 abbrev pub selector_items : SelectorTree → List QueryItem
 selector_items (name cs) = []
+selector_items wildcard = []
 selector_items (index i) = int i as_index ∷ []
+selector_items (slice parts) = bound_items parts.start ++ bound_items parts.end ++ int parts.step as_slice_part ∷ []
 
 abbrev pub selectors_items : SelectorTrees → List QueryItem
 selectors_items no_selectors = []
@@ -31,8 +41,9 @@ segments_items (segment_then x rest) = segment_items x ++ segments_items rest
 abbrev pub items_of : QueryTree → List QueryItem
 items_of (query absolute all) = segments_items all
 
--- each item has a span, and there are no others
+-- each item has a span, but for an omitted step, which is 1; and there are no others
 abbrev pub EachSpanned : List QueryItem → Spans → Type 0
 EachSpanned [] [] = Unit {0}
 EachSpanned (x ∷ xs) (Some span ∷ s) = EachSpanned xs s
+EachSpanned (int i as_slice_part ∷ xs) (None ∷ s) = (i ≡ Whole (pos 1)) × EachSpanned xs s
 EachSpanned _ _ = ⊥

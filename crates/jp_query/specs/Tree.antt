@@ -5,14 +5,17 @@ use Rattle.std.specs.Str.{chars}
 use Rattle.std.specs.String.{string_bytes}
 use Rattle.jp_query.specs.declared.tree.Numeral.{Numeral}
 use Rattle.jp_query.specs.declared.tree.Selector.{Selector}
-use Rattle.jp_query.specs.declared.tree.Selector.TheVariants.{Name, Index}
+use Rattle.jp_query.specs.declared.tree.Selector.TheVariants.{Name, Wildcard, Index, Slice as Sliced}
+use Rattle.jp_query.specs.declared.tree.Slice.{Slice}
 use Rattle.jp_query.specs.declared.tree.Segment.{Segment}
 use Rattle.jp_query.specs.declared.tree.Query.{Query}
 
--- a selector (section 2.3): a member's name as scalar values, or an index
+-- a selector (section 2.3): a member's name as scalar values, all children, an index, or a slice
 pub data SelectorTree : Type 0 where
   name : List ℕ → SelectorTree
+  wildcard : SelectorTree
   index : Numeral → SelectorTree
+  slice : Slice → SelectorTree
 
 -- the selectors of a segment, in order
 pub data SelectorTrees : Type 0 where
@@ -45,7 +48,9 @@ segments (x ∷ xs) = segment_then x (segments xs)
 -- the tree of a selector of the program
 abbrev pub selector_of : Selector → SelectorTree
 selector_of (Name s) = name (chars (string_bytes s))
+selector_of Wildcard = wildcard
 selector_of (Index n) = index n
+selector_of (Sliced s) = slice s
 
 -- the tree of a segment of the program
 abbrev pub segment_of : Segment → SegmentTree

@@ -16,6 +16,8 @@ mod names;
 mod parsed;
 mod refusal;
 mod segments;
+mod selectors;
+mod slices;
 mod strings;
 #[cfg(test)]
 mod tests;
@@ -24,4 +26,4 @@ mod tree;
 pub use jp_reading::Span;
 pub use parsed::{Parsed, parse};
 pub use refusal::{Refusal, RefusalKind};
-pub use tree::{Numeral, Query, Segment, Selector};
+pub use tree::{Numeral, Query, Segment, Selector, Slice};

@@ -1,14 +1,13 @@
 //! Queries, segments and selectors (RFC 9535 sections 2.1 to 2.5).
 
-ghost use Rattle.std.specs.Prelude.{◌≡◌, [], ◌∷◌, false, map, IfOk};
+ghost use Rattle.std.specs.Prelude.{◌≡◌, [], ◌∷◌, map, IfOk};
 ghost use Rattle.jp_reading.specs.Outcome.{after_blank, passes};
 ghost use Rattle.jp_reading.specs.Views.{Gives};
 ghost use Rattle.jp_query.specs.Tree.{segment, selectors, selector_of, segment_of, query_of};
-ghost use Rattle.jp_query.specs.Reading.{selector_at, bracket_at, dotted_at, segment_at, segments_at, query_at, begins_segment};
+ghost use Rattle.jp_query.specs.Reading.{bracket_at, member_at, selection_at, segment_at, segments_at, query_at, begins_segment};
 
-use crate::ints::int;
 use crate::names::shorthand;
-use crate::strings::quoted;
+use crate::selectors::entries;
 use crate::tree::{Query, Segment, Selector};
 use jp_reading::{Reader, Stop};
 use std::alloc::{AllocError, Global};
@@ -52,67 +51,70 @@ fn is_before_segment(reader: &Reader) -> bool
     matches!(reader.peek_past_blank(), Some('[' | '.'))
 }
 
-/// A child segment (RFC 9535 section 2.5.1).
+/// A child segment or a descendant segment (RFC 9535 section 2.5).
 #[tactic(auto, unfolding(crate::specs::Reading::segment_at))]
 fn segment(reader: &mut Reader, levels: u32) -> Result<Segment, Stop>
     ensures { Gives segment_of result reader.new (segment_at levels reader.old) }
 {
     if reader.is_at('[') {
-        bracketed(reader, levels)
+        return bracketed(reader, levels, false);
+    }
+    reader.expect('.')?;
+    if reader.is_at('.') {
+        reader.bump();
+        return selection(reader, levels, true);
+    }
+    member(reader, false)
+}
+
+/// What stands behind two dots: selectors in brackets, `*` or a member's name.
+#[tactic(auto, unfolding(crate::specs::Reading::selection_at))]
+fn selection(reader: &mut Reader, levels: u32, descendant: bool) -> Result<Segment, Stop>
+    ensures { Gives segment_of result reader.new (selection_at descendant levels reader.old) }
+{
+    if reader.is_at('[') {
+        bracketed(reader, levels, descendant)
     } else {
-        dotted(reader)
+        member(reader, descendant)
     }
 }
 
-/// A selector in brackets.
+/// Selectors in brackets.
 #[tactic(auto, unfolding(crate::specs::Reading::bracket_at))]
-fn bracketed(reader: &mut Reader, levels: u32) -> Result<Segment, Stop>
-    ensures { Gives segment_of result reader.new (bracket_at levels reader.old) }
+fn bracketed(reader: &mut Reader, levels: u32, descendant: bool) -> Result<Segment, Stop>
+    ensures { Gives segment_of result reader.new (bracket_at descendant levels reader.old) }
 {
     reader.expect('[')?;
     reader.skip();
-    let selector = selector(reader, levels)?;
-    reader.skip();
+    let selectors = entries(reader, levels)?;
     reader.expect(']')?;
-    Ok(child(reader.alloc(), selector)?)
+    Ok(Segment {
+        descendant,
+        selectors,
+    })
 }
 
-/// A dot and a member's name.
-#[tactic(auto, unfolding(crate::specs::Reading::dotted_at))]
-fn dotted(reader: &mut Reader) -> Result<Segment, Stop>
-    ensures { Gives segment_of result reader.new (dotted_at reader.old) }
+/// `*` or a member's name behind a dot.
+#[tactic(auto, unfolding(crate::specs::Reading::member_at))]
+fn member(reader: &mut Reader, descendant: bool) -> Result<Segment, Stop>
+    ensures { Gives segment_of result reader.new (member_at descendant reader.old) }
 {
-    reader.expect('.')?;
+    if reader.is_at('*') {
+        reader.bump();
+        return Ok(alone(reader.alloc(), descendant, Selector::Wildcard)?);
+    }
     let name = shorthand(reader)?;
-    Ok(child(reader.alloc(), Selector::Name(name))?)
+    Ok(alone(reader.alloc(), descendant, Selector::Name(name))?)
 }
 
-/// A selector (section 2.3).
-#[tactic(auto, unfolding(crate::specs::Reading::selector_at))]
-fn selector(reader: &mut Reader, levels: u32) -> Result<Selector, Stop>
-    ensures { Gives selector_of result reader.new (selector_at levels reader.old) }
-{
-    if reader.is_at('"') {
-        return Ok(Selector::Name(quoted(reader, '"')?));
-    }
-    if reader.is_at('\'') {
-        return Ok(Selector::Name(quoted(reader, '\'')?));
-    }
-    let start = reader.place();
-    let before = reader.items();
-    let index = int(reader)?;
-    reader.add_item(start, before)?;
-    Ok(Selector::Index(index))
-}
-
-/// The child segment of one selector.
-fn child(alloc: Global, selector: Selector) -> Result<Segment, AllocError>
-    ensures { IfOk result (λ s. segment_of s ≡ segment false (selectors (selector_of selector ∷ []))) }
+/// The segment of one selector.
+fn alone(alloc: Global, descendant: bool, selector: Selector) -> Result<Segment, AllocError>
+    ensures { IfOk result (λ s. segment_of s ≡ segment descendant (selectors (selector_of selector ∷ []))) }
 {
     let mut selectors = Vec::new(alloc);
     selectors.push(selector)?;
     Ok(Segment {
-        descendant: false,
+        descendant,
         selectors,
     })
 }

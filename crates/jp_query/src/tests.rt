@@ -1,6 +1,6 @@
 //! Queries of RFC 9535 read, and texts refused with their places.
 
-use crate::{Numeral, Query, RefusalKind, Segment, Selector, Span, parse};
+use crate::{Numeral, Query, RefusalKind, Segment, Selector, Slice, Span, parse};
 use std::alloc::{AllocError, Global};
 use std::test::Fail;
 
@@ -91,7 +91,11 @@ fn whole_numbers_have_their_range(rt: HostRuntime) -> Result<(), Fail> {
 fn reads_name(alloc: Global, text: &str, wanted: &str) -> Result<bool, AllocError> {
     let segments = vec![in alloc; child(alloc, name(alloc, wanted)?)?]?;
     Ok(match parse(alloc, text) {
-        Ok(parsed) => parsed.into_query() == Query { absolute: true, segments },
+        Ok(parsed) => parsed.into_query()
+            == Query {
+                absolute: true,
+                segments,
+            },
         Err(_) => false,
     })
 }
@@ -105,13 +109,117 @@ fn escapes_are_resolved(rt: HostRuntime) -> Result<(), Fail> {
         (r#"$["\u0041\u00e9\u00E9\uFfFd"]"#, "Aéé\u{fffd}"),
         (r#"$['\ud7ff\uE000\u0000']"#, "\u{d7ff}\u{e000}\u{0}"),
         (r#"$["\uD83D\uDE00"]"#, "😀"),
-        (r#"$['x\ud800\udc00\uDBFF\uDFFFx']"#, "x\u{10000}\u{10ffff}x"),
+        (
+            r#"$['x\ud800\udc00\uDBFF\uDFFFx']"#,
+            "x\u{10000}\u{10ffff}x",
+        ),
         (r#"$["'"]"#, "'"),
         (r#"$['"\u007f\u0080']"#, "\"\u{7f}\u{80}"),
     ];
     for (text, wanted) in rows {
         assert!(rt; reads_name(alloc, text, wanted)?, "{text}");
     }
+    Ok(())
+}
+
+#[test]
+fn selectors_and_descendants_are_read(rt: HostRuntime) -> Result<(), Fail> {
+    let alloc = rt.alloc();
+    let Ok(parsed) = parse(alloc, "$.*..a..*..[ * , 'b',-1 ]") else {
+        panic!(rt; "refused");
+    };
+    assert_eq!(rt;
+        parsed.spans(),
+        [Some(Span { start: 21, end: 23 })].as_slice()
+    );
+    let segments = vec![in alloc;
+        child(alloc, Selector::Wildcard)?,
+        Segment {
+            descendant: true,
+            selectors: vec![in alloc; name(alloc, "a")?]?
+        },
+        Segment {
+            descendant: true,
+            selectors: vec![in alloc; Selector::Wildcard]?
+        },
+        Segment {
+            descendant: true,
+            selectors: vec![in alloc;
+                Selector::Wildcard,
+                name(alloc, "b")?,
+                Selector::Index(Numeral::Whole(-1))
+            ]?
+        },
+    ]?;
+    assert_eq!(rt;
+        parsed.into_query(),
+        Query {
+            absolute: true,
+            segments
+        }
+    );
+    Ok(())
+}
+
+/// Whether the text is a query of one slice.
+fn reads_slice(
+    alloc: Global,
+    text: &str,
+    start: Option<Numeral>,
+    end: Option<Numeral>,
+    step: i128,
+) -> Result<bool, AllocError> {
+    let slice = Slice {
+        start,
+        end,
+        step: Numeral::Whole(step),
+    };
+    let segments = vec![in alloc; child(alloc, Selector::Slice(slice))?]?;
+    Ok(match parse(alloc, text) {
+        Ok(parsed) => parsed.into_query()
+            == Query {
+                absolute: true,
+                segments,
+            },
+        Err(_) => false,
+    })
+}
+
+#[test]
+fn slices_are_read(rt: HostRuntime) -> Result<(), Fail> {
+    let alloc = rt.alloc();
+    let rows = [
+        ("$[1 : 2 : 3]", Some(1), Some(2), 3),
+        ("$[5:1:-2]", Some(5), Some(1), -2),
+        ("$[::-1]", None, None, -1),
+        ("$[::]", None, None, 1),
+        ("$[:]", None, None, 1),
+        ("$[1: ]", Some(1), None, 1),
+        ("$[ 1 : : ]", Some(1), None, 1),
+        ("$[:2 :\t0 ]", None, Some(2), 0),
+    ];
+    for (text, start, end, step) in rows {
+        assert!(rt;
+            reads_slice(
+                alloc,
+                text,
+                start.map(Numeral::Whole),
+                end.map(Numeral::Whole),
+                step
+            )?,
+            "{text}"
+        );
+    }
+    let Ok(parsed) = parse(alloc, "$[1 : -2][::3]") else {
+        panic!(rt; "refused");
+    };
+    let spans = [
+        Some(Span { start: 2, end: 3 }),
+        Some(Span { start: 6, end: 8 }),
+        None,
+        Some(Span { start: 12, end: 13 }),
+    ];
+    assert_eq!(rt; parsed.spans(), spans.as_slice());
     Ok(())
 }
 
@@ -154,6 +262,21 @@ fn texts_are_refused_at_their_places(rt: HostRuntime) -> Result<(), Fail> {
         ("$['\u{1f}']", 3),
         ("$.1", 2),
         (" $", 0),
+        ("$[]", 2),
+        ("$[1:2:3:4]", 7),
+        ("$[:a]", 3),
+        ("$[1:--2]", 5),
+        ("$[::01]", 5),
+        ("$[1:2 3]", 6),
+        ("$[1,]", 4),
+        ("$[,1]", 2),
+        ("$[1 2]", 4),
+        ("$..", 3),
+        ("$...a", 3),
+        ("$.. a", 3),
+        ("$. .a", 2),
+        ("$.*a", 3),
+        ("$.[0]", 2),
     ];
     for (text, place) in rows {
         assert!(rt; is_refused_at(alloc, text, place), "{text:?} at {place}");

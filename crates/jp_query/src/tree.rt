@@ -20,8 +20,20 @@ pub struct Segment {
 pub enum Selector {
     /// The member of that name (section 2.3.1).
     Name(String),
+    /// All children (section 2.3.2).
+    Wildcard,
     /// The item at that index, counted from the end where it is negative (section 2.3.3).
     Index(Numeral),
+    /// Items from a start up to an end, step by step (section 2.3.4).
+    Slice(Slice),
+}
+
+/// The bounds and the step of a slice (RFC 9535 section 2.3.4). An omitted step is 1.
+#[derive(Debug, Clone, Copy, PartialEq, Eq)]
+pub struct Slice {
+    pub start: Option<Numeral>,
+    pub end: Option<Numeral>,
+    pub step: Numeral,
 }
 
 /// A number as a query writes it.

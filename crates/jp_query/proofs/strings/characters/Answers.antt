@@ -1,11 +1,11 @@
-use Rattle.std.proofs.Common.{◌≡◌, ℕ, true, false, ◌++◌, ◌∷◌, [], rules, sym, ap, ◌∙◌}
+use Rattle.std.proofs.Common.{◌≡◌, ◌++◌, ◌∷◌, [], rules, sym, ap, ◌∙◌}
 use Rattle.std.specs.Char.{IsScalar}
 use Rattle.std.specs.Str.{chars}
 use Rattle.std.specs.String.{string_bytes}
 use Rattle.std.proofs.lemmas.Str.{chars-nil, IsUtf8-string_bytes}
 use Rattle.std.proofs.lemmas.Result.{err_from_is_err_and}
 use Rattle.jp_reading.specs.Outcome.{passes, head}
-use Rattle.jp_reading.specs.Views.{with_front, Fails}
+use Rattle.jp_reading.specs.Views.{with_front}
 use Rattle.jp_reading.proofs.Chars.{chars_push}
 use Rattle.jp_reading.proofs.Progress.{moved}
 use Rattle.jp_reading.proofs.Folds.{with_front-nil, pushes_on, pushes_end, folds_fail}
@@ -24,8 +24,8 @@ returns-in_err-next c =
     let p = err_from_is_err_and c.from_residual.result c.from_residual.ensures.1 in
     let text = chars (string_bytes c.characters.text) in
     rw (p.1, p.2, ← c.characters.invariant)
-      (folds_fail (λ q. passes (begins_character c.args.quote) (head q)) (character_at c.args.quote) (character-progress c.args.quote) (λ ys. text ++ ys)
-        c.characters.reader c.in_err-next.field-0.0 (sym c.is_at_character.ensures ∙ c.characters-test.true) c.in_err-next.ensures)
+    (folds_fail (λ q. passes (begins_character c.args.quote) (head q)) (character_at c.args.quote) (character-progress c.args.quote) (λ ys. text ++ ys)
+    c.characters.reader c.in_err-next.field-0.0 (sym c.is_at_character.ensures ∙ c.characters-test.true) c.in_err-next.ensures)
 
 pub characters-smaller : goal.characters-smaller
 characters-smaller c =
@@ -38,9 +38,9 @@ characters-preserved c =
     let next = c.in_ok-next.next in
     let scalar : IsScalar next = search rules in
     let pushed : chars (string_bytes c.push.new.self) ≡ chars text ++ next ∷ [] =
-        ap chars c.in_ok-push.ensures.bytes ∙ chars_push text next (IsUtf8-string_bytes c.characters.text) scalar in
+    ap chars c.in_ok-push.ensures.bytes ∙ chars_push text next (IsUtf8-string_bytes c.characters.text) scalar in
     let step = pushes_on (λ q. passes (begins_character c.args.quote) (head q)) (character_at c.args.quote) (character-progress c.args.quote) (chars text)
-        c.characters.reader c.character.new.reader next (sym c.is_at_character.ensures ∙ c.characters-test.true) c.in_ok-next.ensures in
+    c.characters.reader c.character.new.reader next (sym c.is_at_character.ensures ∙ c.characters-test.true) c.in_ok-next.ensures in
     rw (pushed, ← step) c.characters.invariant
 
 pub returns : goal.returns
@@ -48,4 +48,4 @@ unfolding characters_at
 returns c =
     sym c.characters.invariant
     ∙ pushes_end (λ q. passes (begins_character c.args.quote) (head q)) (character_at c.args.quote) (chars (string_bytes c.characters.text)) c.characters.reader
-      (sym c.is_at_character.ensures ∙ c.characters-test.false)
+    (sym c.is_at_character.ensures ∙ c.characters-test.false)

@@ -1,0 +1,86 @@
+//! Selectors (RFC 9535 section 2.3), and what stands between brackets (section 2.5.1.1).
+
+ghost use Rattle.std.specs.Prelude.{◌≡◌, map};
+ghost use Rattle.jp_reading.specs.Views.{Gives};
+ghost use Rattle.jp_query.specs.Tree.{selector_of};
+ghost use Rattle.jp_query.specs.Reading.{selector_at, entry_at, another_at, entries_at, number_at};
+
+use crate::ints::int_item;
+use crate::slices::slice;
+use crate::strings::quoted;
+use crate::tree::Selector;
+use jp_reading::{Reader, Stop};
+
+/// Selectors with commas between them, and blank space round each. The reader stands before the first, and then past the
+/// blanks after the last.
+#[tactic(auto, unfolding(crate::specs::Reading::entries_at))]
+pub fn entries(reader: &mut Reader, levels: u32) -> Result<Vec<Selector>, Stop>
+    ensures { Gives (λ v. map selector_of v.items) result reader.new (entries_at levels reader.old) }
+{
+    let mut selectors = Vec::new(reader.alloc());
+    let first = entry(reader, levels)?;
+    if selectors.push(first).is_err() {
+        return Err(Stop::Memory);
+    }
+    'entries: while reader.is_at(',') {
+        let next = another(reader, levels)?;
+        if selectors.push(next).is_err() {
+            return Err(Stop::Memory);
+        }
+    }
+    Ok(selectors)
+}
+
+/// A comma, blanks, and another selector with the blanks after it.
+#[tactic(auto, unfolding(crate::specs::Reading::another_at))]
+fn another(reader: &mut Reader, levels: u32) -> Result<Selector, Stop>
+    ensures { Gives selector_of result reader.new (another_at levels reader.old) }
+{
+    reader.expect(',')?;
+    reader.skip();
+    entry(reader, levels)
+}
+
+/// A selector and the blanks after it.
+#[tactic(auto, unfolding(crate::specs::Reading::entry_at))]
+fn entry(reader: &mut Reader, levels: u32) -> Result<Selector, Stop>
+    ensures { Gives selector_of result reader.new (entry_at levels reader.old) }
+{
+    let selector = selector(reader, levels)?;
+    reader.skip();
+    Ok(selector)
+}
+
+/// A selector.
+#[tactic(auto, unfolding(crate::specs::Reading::selector_at))]
+fn selector(reader: &mut Reader, levels: u32) -> Result<Selector, Stop>
+    ensures { Gives selector_of result reader.new (selector_at levels reader.old) }
+{
+    if reader.is_at('"') {
+        return Ok(Selector::Name(quoted(reader, '"')?));
+    }
+    if reader.is_at('\'') {
+        return Ok(Selector::Name(quoted(reader, '\'')?));
+    }
+    if reader.is_at('*') {
+        reader.bump();
+        return Ok(Selector::Wildcard);
+    }
+    if reader.is_at(':') {
+        return Ok(Selector::Slice(slice(reader, None)?));
+    }
+    number(reader)
+}
+
+/// An index, or a slice that starts with it.
+#[tactic(auto, unfolding(crate::specs::Reading::number_at))]
+fn number(reader: &mut Reader) -> Result<Selector, Stop>
+    ensures { Gives selector_of result reader.new (number_at reader.old) }
+{
+    let index = int_item(reader)?;
+    if reader.is_before(':') {
+        reader.skip();
+        return Ok(Selector::Slice(slice(reader, Some(index))?));
+    }
+    Ok(Selector::Index(index))
+}
