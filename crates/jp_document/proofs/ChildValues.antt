@@ -5,8 +5,7 @@ use Rattle.std.specs.Map.{lookup}
 use Rattle.std.proofs.lemmas.List.{drop_more}
 use Rattle.std.proofs.lemmas.Option.{same_Some}
 use Rattle.std.specs.Option.{option_map, option_and_then}
-use Rattle.jp_document.specs.declared.location.Step.{Step}
-use Rattle.jp_document.specs.Location.{Key, key_cmp, key_of, Location, items_from, members_by_name, child, value_at}
+use Rattle.jp_document.specs.Location.{Key, key_cmp, Location, items_from, members_by_name, child, value_at}
 use Rattle.jp_document.specs.Node.{Located, told, told_child, StandsIn, IsNodeAt}
 use Rattle.jp_document.specs.Value.{Value, null, boolean, whole, text, list, object, Items, no_items, item, Members, no_members, member, everywhere, everywhere_in_items, everywhere_in_members, is_allowed, IsDocumentValue, value_of}
 use Rattle.jp_document.proofs.Names.{and-left, and-right}

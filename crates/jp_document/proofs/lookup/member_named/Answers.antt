@@ -1,4 +1,4 @@
-use Rattle.std.proofs.Common.{map, get_or, Some, None, Ok, Err, option_map, sym, ap, ◌∙◌, rules}
+use Rattle.std.proofs.Common.{map, get_or, None, Ok, Err, option_map, sym, ap, rules}
 use Rattle.std.proofs.lemmas.Fn.{always_returns_same}
 use Rattle.jp_document.specs.Value.{value_of, member_of}
 use Rattle.jp_document.proofs.Names.{bytes_cmp, found_pair, child_at_name, sorted_members, searched_name}
