@@ -1,7 +1,6 @@
 -- Where the numbers of a reading stand that are no whole ones.
-use Rattle.std.proofs.Common.{◌≡◌, ◌≢◌, ℕ, zero, suc, ◌+◌, ◌<◌, ◌≤◌, Float, Bool, true, false, List, [], ◌∷◌, Option, Some, None, Ordering, Less, Equal, Greater, is_eq, nat_cmp, cond, refl, sym, ap, subst, ◌∙◌, arith}
+use Rattle.std.proofs.Common.{◌≡◌, ◌≢◌, ℕ, suc, Float, Bool, true, false, List, [], ◌∷◌, Option, Some, None, Ordering, Less, Equal, Greater, is_eq, cond, refl, ap, ◌∙◌}
 use Rattle.std.specs.BTreeMap.{is_at}
-use Rattle.std.specs.Cmp.Lexicographic.{slice_cmp}
 use Rattle.std.specs.Map.{lookup}
 use Rattle.std.specs.Ordering.{ordering_then}
 use Rattle.std.proofs.lemmas.Option.{same_Some}
@@ -86,7 +85,7 @@ not_below : (m : Location) → location_cmp m [] ≢ Less
 not_below [] less = cc
 not_below (k ∷ m) less = cc
 
-key_same : (k : Key) → key_cmp k k ≡ Equal
+pub key_same : (k : Key) → key_cmp k k ≡ Equal
 key_same (named s) = tied_itself nat_list_cmp_total s
 key_same (nth i) = tied_itself nat_cmp_total i
 

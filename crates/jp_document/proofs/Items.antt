@@ -1,5 +1,5 @@
 -- Items found by their indexes.
-use Rattle.std.proofs.Common.{◌≡◌, ℕ, zero, suc, ◌+◌, ◌<◌, ◌≤◌, List, [], ◌∷◌, length, get_or, map, Option, Some, None, Equal, Greater, Bor, is_eq, nat_cmp, cond, refl, sym, ap, ◌∙◌, arith}
+use Rattle.std.proofs.Common.{◌≡◌, ℕ, zero, suc, ◌+◌, ◌<◌, ◌≤◌, List, [], ◌∷◌, length, map, Option, Some, None, Equal, Greater, Bor, is_eq, cond, refl, sym, ap, ◌∙◌, arith}
 use Rattle.std.specs.BTreeMap.{is_at}
 use Rattle.std.specs.Cmp.{nat_cmp_is}
 use Rattle.std.specs.List.{slice_get, HoldsAt}
@@ -7,7 +7,7 @@ use Rattle.std.specs.Map.{lookup}
 use Rattle.std.specs.Option.{MatchOption, option_map}
 use Rattle.std.proofs.lemmas.Option.{slice_get-map, slice_get_past, slice_get-get_or}
 use Rattle.jp_document.specs.Location.{nth, key_cmp, items_from, child}
-use Rattle.jp_document.specs.Value.{Value, list, Items, no_items, item, items_of}
+use Rattle.jp_document.specs.Value.{Value, list, items_of}
 
 -- the item at index i of some items that begin at index k
 item_from : (n k i : ℕ) (vs : List Value) → n ≡ k + i → lookup (is_at (key_cmp (nth n))) (items_from k (items_of vs)) ≡ slice_get vs i
@@ -20,7 +20,7 @@ pub child-nth : (i : ℕ) (vs : List Value) → child (list (items_of vs)) (nth 
 child-nth i vs = item_from i 0 i vs (omega arith)
 
 -- what `get` of a slice gives, seen through f
-pub get_seen : {X : Type 0} (f : X → Value) (r : Option (Bor X)) (xs : List X) (i : ℕ) → MatchOption r (length xs ≤ i) (λ x. (i < length xs) × HoldsAt (λ y. x.now ≡ y) xs i)
+pub get_seen : {X Y : Type 0} (f : X → Y) (r : Option (Bor X)) (xs : List X) (i : ℕ) → MatchOption r (length xs ≤ i) (λ x. (i < length xs) × HoldsAt (λ y. x.now ≡ y) xs i)
     → option_map (λ x. f x.now) r ≡ slice_get (map f xs) i
 get_seen f None xs i past = sym (slice_get-map f xs i ∙ ap (option_map f) (slice_get_past xs i past))
 get_seen f (Some x) xs i h = sym (slice_get-map f xs i ∙ ap (option_map f) (slice_get-get_or xs i x.now h.0 ∙ ap Some (sym (h.1 x.now))))

@@ -1,8 +1,10 @@
-pub mod Children
+pub mod ChildLaws
+pub mod ChildValues
 pub mod Encoded
 pub mod Fits
 pub mod Fractions
 pub mod Goes
+pub mod Held
 pub mod IndexTexts
 pub mod Items
 pub mod LargeIndexes

@@ -1,11 +1,11 @@
 -- Rows of the definitions, computed.
-use Rattle.std.proofs.Common.{◌≡◌, ℕ, pos, negsuc, Bool, true, false, List, [], ◌∷◌, Some, None, Less, refl, codes}
+use Rattle.std.proofs.Common.{◌≡◌, pos, negsuc, true, false, [], ◌∷◌, Some, None, Less, refl, codes}
 use Rattle.std.specs.Fmt.{digits}
-use Rattle.jp_document.specs.Location.{Key, named, nth, location_cmp, value_at}
+use Rattle.jp_document.specs.Location.{named, nth, location_cmp, value_at}
 use Rattle.jp_document.specs.Path.{path_of, index_text}
 use Rattle.jp_document.specs.Spelling.{spelling}
 use Rattle.jp_document.specs.Text.{text_of}
-use Rattle.jp_document.specs.Value.{Value, null, boolean, whole, text, list, object, Items, no_items, item, Members, no_members, member, names_rise, is_in_range}
+use Rattle.jp_document.specs.Value.{Value, null, boolean, whole, text, list, object, no_items, item, no_members, member, names_rise, is_in_range}
 
 root_path : path_of [] ≡ codes "$"
 root_path = refl

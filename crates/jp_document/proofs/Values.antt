@@ -1,6 +1,6 @@
 -- A `Json`, level by level, beside the value that it stands for.
-use Rattle.std.proofs.Common.{◌≡◌, List, map, Global, Vec, String, string_bytes, rules}
-use Rattle.jp_document.specs.Value.{Value, null, boolean, whole, text, list, object, items_of, members_of, value_of, member_of}
+use Rattle.std.proofs.Common.{◌≡◌, map, Global, Vec, string_bytes, rules}
+use Rattle.jp_document.specs.Value.{list, object, items_of, members_of, value_of, member_of}
 use Rattle.jp_document.specs.declared.value.Json.{Json, List as ListOf, Members, the_lemmas}
 use Rattle.jp_document.specs.declared.value.Member.{Member}
 

@@ -1,5 +1,5 @@
 -- A reading turned into a value, part by part.
-use Rattle.std.proofs.Common.{◌≡◌, ℕ, zero, suc, ◌+◌, ◌<◌, Bool, true, false, ◌&&◌, List, [], ◌∷◌, ◌++◌, length, map, Option, Some, None, String, Global, Ordering, Less, Equal, Greater, is_eq, is_lt, string_bytes, string_cmp, cond, refl, sym, ap, subst, ◌∙◌, arith, append_assoc, append-nil, add-one}
+use Rattle.std.proofs.Common.{◌≡◌, ℕ, suc, ◌<◌, Bool, true, false, ◌&&◌, List, [], ◌∷◌, ◌++◌, length, map, Option, Some, String, Global, Ordering, Less, Equal, Greater, is_eq, is_lt, string_bytes, string_cmp, cond, refl, sym, ap, subst, ◌∙◌, arith, append_assoc, append-nil, add-one}
 use Rattle.std.specs.BTreeMap.{is_at}
 use Rattle.std.specs.Cmp.{nat_cmp_is}
 use Rattle.std.specs.List.{AllByRecursion, list_all}
@@ -8,7 +8,7 @@ use Rattle.std.specs.Map.{lookup, keys_of}
 use Rattle.std.specs.Option.{option_map, option_and_then}
 use Rattle.std.specs.Ordering.{ordering_reverse}
 use Rattle.std.proofs.lemmas.Cmp.{nat_list_cmp_total}
-use Rattle.std.proofs.lemmas.List.{map-append, length-map, length_push}
+use Rattle.std.proofs.lemmas.List.{map-append, length_push}
 use Rattle.std.proofs.lemmas.Map.Keys.{sorted_head, sorted_tail}
 use Rattle.std.proofs.lemmas.Option.{same_Some}
 use Rattle.serde_json.specs.Data as parsed
@@ -17,7 +17,7 @@ use Rattle.serde_json.specs.View.{view, items_view, members_view}
 use Rattle.serde_json.specs.declared.value.Value.{Value as Reading}
 use Rattle.jp_document.specs.Document.{value_of_data, items_of_data, members_of_data, data_items_from, data_members, IsFirstFraction}
 use Rattle.jp_document.specs.Location.{Key, named, nth, key_cmp, Location}
-use Rattle.jp_document.specs.Value.{Value, list, object, Items, item, items_of, Members, member, members_of, names_of, names_rise, everywhere, everywhere_in_items, everywhere_in_members, list_fits, is_allowed, value_of, member_of}
+use Rattle.jp_document.specs.Value.{Value, item, items_of, Members, member, members_of, names_of, names_rise, everywhere, everywhere_in_items, everywhere_in_members, list_fits, is_allowed, value_of, member_of}
 use Rattle.jp_document.specs.declared.value.Json.{Json}
 use Rattle.jp_document.specs.declared.value.Member.{Member}
 use Rattle.jp_document.proofs.Fractions.{IsFirstIn, IsAbove, from_both, key_exact, skipped, hit, IsFirstFraction-held}

@@ -1,3 +1,4 @@
+pub mod ChildNodes
 pub mod Document
 pub mod Laws
 pub mod Location

@@ -10,7 +10,7 @@ use Rattle.jp_document.specs.declared.location.Step.{Step}
 use Rattle.jp_document.specs.declared.location.Step.TheVariants as step
 use Rattle.jp_document.specs.declared.location.OwnedStep.{OwnedStep}
 use Rattle.jp_document.specs.declared.location.OwnedStep.TheVariants as owned
-use Rattle.jp_document.specs.Value.{Value, null, boolean, whole, text, list, object, Items, no_items, item, Members, no_members, member}
+use Rattle.jp_document.specs.Value.{Value, list, object, Items, no_items, item, Members, no_members, member}
 
 -- One step of a location: a member's name, by its bytes, or an item's index from 0.
 pub data Key : Type 0 where

@@ -3,7 +3,6 @@ use Rattle.std.specs.Prelude.{◌≡◌, [], ◌∷◌, ◌++◌, map, reverse, 
 use Rattle.serde_json.specs.Data.{Data}
 use Rattle.jp_document.specs.declared.location.OwnedStep.{OwnedStep}
 use Rattle.jp_document.specs.declared.stop.Stop.{Stop}
-use Rattle.jp_document.specs.declared.stop.Stop.TheVariants as Stop
 use Rattle.jp_document.specs.declared.stop.Stop.TheVariants.{Fraction}
 use Rattle.jp_document.specs.declared.fault.DocumentFault.{DocumentFault}
 use Rattle.jp_document.specs.declared.fault.DocumentFault.TheVariants.{NotJson, NotWhole, ListTooLong, NoMemory}

@@ -1,5 +1,5 @@
 -- The compact text of a value: JSON (RFC 8259) with no blank space, members in the value's order.
-use Rattle.std.specs.Prelude.{ℕ, Bool, true, false, List, [], ◌∷◌, ◌++◌, codes}
+use Rattle.std.specs.Prelude.{ℕ, true, false, List, [], ◌∷◌, ◌++◌, codes}
 use Rattle.std.specs.Fmt.{signed_decimal}
 use Rattle.std.specs.List.{join_with_byte}
 use Rattle.jp_document.specs.Spelling.{quoted_in}

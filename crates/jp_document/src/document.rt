@@ -6,7 +6,7 @@ use crate::fault::DocumentFault;
 use crate::location::{OwnedLocation, Step};
 use crate::lookup::child_value;
 use crate::node::{Node, root_of};
-use crate::reading::{lists_fit, whole};
+use crate::reading::whole;
 use crate::value::Json;
 use serde_json::Value;
 use std::alloc::Global;
@@ -37,11 +37,12 @@ impl Document {
             Err(error) if error.is_memory() => return Err(DocumentFault::NoMemory),
             Err(_) => return Err(DocumentFault::NotJson),
         };
-        let json = match whole(alloc, reading) {
+        let mut fits = true;
+        let json = match whole(alloc, reading, &mut fits) {
             Ok(json) => json,
             Err(stop) => return Err(stop.fault(alloc)),
         };
-        if lists_fit(&json) {
+        if fits {
             Ok(Document { json })
         } else {
             Err(DocumentFault::ListTooLong)

@@ -1,5 +1,12 @@
 //! Laws about the definitions, each the contract of a function that does nothing.
+ghost use Rattle.jp_document.specs.ChildNodes.{ChildrenAreExact};
 ghost use Rattle.jp_document.specs.Laws.{PathsDiffer, NodesDiffer};
+
+/// The children of a node are exactly the nodes one step longer, rising in document order (RFC 9535
+/// section 1.1).
+pub fn children_are_exact()
+    ensures { ChildrenAreExact }
+{}
 
 /// Two lists of steps have one normalized path exactly if they are equal, and two nodes of a document exactly if
 /// they are the same node (RFC 9535 section 2.7).

@@ -63,7 +63,7 @@ impl<'d> Node<'d> {
     }
 
     /// The node one step further, where this value stands.
-    fn extended(
+    pub(crate) fn extended(
         &self,
         alloc: Global,
         step: Step<'d>,

@@ -1,10 +1,10 @@
 //! From a reading of `serde_json` to a value.
-ghost use Rattle.std.specs.Prelude.{◌≡◌, map, Some, true, IfOk, IfErr};
+ghost use Rattle.std.specs.Prelude.{◌≡◌, ◌&&◌, map, Some, true, IfOk, IfErr};
 ghost use Rattle.serde_json.specs.View.{view, number_view, items_view, members_view};
 ghost use Rattle.jp_document.specs.Document.{value_of_data, items_of_data, members_of_data};
 ghost use Rattle.jp_document.specs.Stop.{StopsAt};
 ghost use Rattle.serde_json.specs.Data.{number as number_data, array, object};
-ghost use Rattle.jp_document.specs.Value.{value_of, items_of, members_of, member_of, names_of, names_rise, everywhere, everywhere_in_items, everywhere_in_members, list_fits, is_allowed};
+ghost use Rattle.jp_document.specs.Value.{value_of, list, items_of, members_of, member_of, names_of, names_rise, everywhere, everywhere_in_items, everywhere_in_members, list_fits, is_allowed};
 
 use crate::location::OwnedStep;
 use crate::stop::Stop;
@@ -15,12 +15,14 @@ use std::alloc::{AllocError, Global};
 /// The most items of a list, (2^53)-1.
 const MAX_ITEMS: usize = 9_007_199_254_740_991;
 
-/// The value of a reading. The texts move over, and members come in the order of their names.
+/// The value of a reading. The texts move over, and members come in the order of their names. `fits` is cleared
+/// where some list has more than (2^53)-1 items.
 #[cycle(whole)]
-pub(crate) fn whole(alloc: Global, value: Value) -> Result<Json, Stop>
+pub(crate) fn whole(alloc: Global, value: Value, fits: &mut bool) -> Result<Json, Stop>
     ensures value { IfOk result (λ j. value_of_data (view value) ≡ Some (value_of j)) }
     ensures sound { IfOk result (λ j. everywhere list_fits (value_of j) ≡ true
         → everywhere is_allowed (value_of j) ≡ true) }
+    ensures fits { IfOk result (λ j. fits.new ≡ (everywhere list_fits (value_of j) && fits.old)) }
     ensures stop { IfErr result (StopsAt (view value)) }
 {
     match value {
@@ -28,8 +30,14 @@ pub(crate) fn whole(alloc: Global, value: Value) -> Result<Json, Stop>
         Value::Bool(b) => Ok(Json::Bool(b)),
         Value::Number(number) => whole_number(alloc, number),
         Value::String(text) => Ok(Json::Text(text)),
-        Value::Array(items) => Ok(Json::List(whole_items(alloc, items)?)),
-        Value::Object(members) => Ok(Json::Members(whole_members(alloc, members)?)),
+        Value::Array(items) => {
+            let list = whole_items(alloc, items, fits)?;
+            if !is_short(&list) {
+                *fits = false;
+            }
+            Ok(Json::List(list))
+        }
+        Value::Object(members) => Ok(Json::Members(whole_members(alloc, members, fits)?)),
     }
 }
 
@@ -49,16 +57,18 @@ fn whole_number(alloc: Global, number: Number) -> Result<Json, Stop>
 }
 
 #[cycle(whole)]
-fn whole_items(alloc: Global, items: Vec<Value>) -> Result<Vec<Json>, Stop>
+fn whole_items(alloc: Global, items: Vec<Value>, fits: &mut bool) -> Result<Vec<Json>, Stop>
     ensures value { IfOk result
         (λ v. items_of_data (items_view items.items) ≡ Some (items_of (map value_of v.items))) }
     ensures sound { IfOk result (λ v. everywhere_in_items list_fits (items_of (map value_of v.items)) ≡ true
         → everywhere_in_items is_allowed (items_of (map value_of v.items)) ≡ true) }
+    ensures fits { IfOk result (λ v. fits.new
+        ≡ (everywhere_in_items list_fits (items_of (map value_of v.items)) && fits.old)) }
     ensures stop { IfErr result (StopsAt (array (items_view items.items))) }
 {
     let mut wholes = Vec::with_capacity(alloc, items.len())?;
     for item in items {
-        match whole(alloc, item) {
+        match whole(alloc, item, fits) {
             Ok(json) => wholes.push(json).map_err(AllocError::from)?,
             Err(stop) => return Err(stop.within(OwnedStep::Index(wholes.len() as u64))),
         }
@@ -67,18 +77,24 @@ fn whole_items(alloc: Global, items: Vec<Value>) -> Result<Vec<Json>, Stop>
 }
 
 #[cycle(whole)]
-fn whole_members(alloc: Global, members: Map<String, Value>) -> Result<Vec<Member>, Stop>
+fn whole_members(
+    alloc: Global,
+    members: Map<String, Value>,
+    fits: &mut bool,
+) -> Result<Vec<Member>, Stop>
     ensures value { IfOk result (λ v. members_of_data (members_view members.entries)
         ≡ Some (members_of (map member_of v.items))) }
     ensures sound { IfOk result (λ v. everywhere_in_members list_fits (members_of (map member_of v.items)) ≡ true
         → everywhere_in_members is_allowed (members_of (map member_of v.items)) ≡ true) }
     ensures rise { IfOk result
         (λ v. names_rise (names_of (members_of (map member_of v.items))) ≡ true) }
+    ensures fits { IfOk result (λ v. fits.new
+        ≡ (everywhere_in_members list_fits (members_of (map member_of v.items)) && fits.old)) }
     ensures stop { IfErr result (StopsAt (object (members_view members.entries))) }
 {
     let mut wholes = Vec::with_capacity(alloc, members.len())?;
     for (name, member) in members {
-        match whole(alloc, member) {
+        match whole(alloc, member, fits) {
             Ok(value) => wholes
                 .push(Member { name, value })
                 .map_err(AllocError::from)?,
@@ -88,38 +104,9 @@ fn whole_members(alloc: Global, members: Map<String, Value>) -> Result<Vec<Membe
     Ok(wholes)
 }
 
-/// Whether each list in the value has at most (2^53)-1 items.
-#[cycle(fit)]
-pub(crate) fn lists_fit(json: &Json) -> bool
-    ensures { result ≡ everywhere list_fits (value_of json.now) }
+/// Whether a list has at most (2^53)-1 items.
+fn is_short(items: &[Json]) -> bool
+    ensures { result ≡ list_fits (list (items_of (map value_of items.now))) }
 {
-    match json {
-        Json::List(items) => items.len() <= MAX_ITEMS && items_fit(items),
-        Json::Members(members) => members_fit(members),
-        _ => true,
-    }
-}
-
-#[cycle(fit)]
-fn items_fit(items: &[Json]) -> bool
-    ensures { result ≡ everywhere_in_items list_fits (items_of (map value_of items.now)) }
-{
-    for item in items {
-        if !lists_fit(item) {
-            return false;
-        }
-    }
-    true
-}
-
-#[cycle(fit)]
-fn members_fit(members: &[Member]) -> bool
-    ensures { result ≡ everywhere_in_members list_fits (members_of (map member_of members.now)) }
-{
-    for member in members {
-        if !lists_fit(&member.value) {
-            return false;
-        }
-    }
-    true
+    items.len() <= MAX_ITEMS
 }

@@ -1,11 +1,7 @@
-use Rattle.std.proofs.Common.{◌≡◌, List, map, get_or, Some, None, Ok, Err, string_bytes, option_map, refl, sym, ap, ◌∙◌, subst, rules}
-use Rattle.std.specs.List.Sorted.{IsStrictlySortedBy, IsBinarySearchResult}
-use Rattle.std.specs.Map.{keys_of, lookup}
-use Rattle.std.specs.Ordering.{eq_by_cmp}
+use Rattle.std.proofs.Common.{map, get_or, Some, None, Ok, Err, option_map, sym, ap, ◌∙◌, rules}
 use Rattle.std.proofs.lemmas.Fn.{always_returns_same}
 use Rattle.jp_document.specs.Value.{value_of, member_of}
 use Rattle.jp_document.proofs.Names.{bytes_cmp, child_at_name, sorted_members, searched_name}
-use Rattle.jp_document.proofs.Values.{member_of_is}
 use Rattle.jp_document.proofs.lookup.member_named.Goals as goal
 
 pub returns-in-Ok : goal.returns-in-Ok

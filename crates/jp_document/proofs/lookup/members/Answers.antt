@@ -1,4 +1,4 @@
-use Rattle.std.proofs.Common.{◌≡◌, map, ap, ◌∙◌, inl, inr, rules}
+use Rattle.std.proofs.Common.{map, ap, ◌∙◌, inl, inr, rules}
 use Rattle.jp_document.specs.Location.{child, named}
 use Rattle.jp_document.specs.Value.{items_of, value_of}
 use Rattle.jp_document.specs.declared.value.Json.{the_lemmas}

@@ -1,9 +1,9 @@
-use Rattle.std.proofs.Common.{◌≡◌, Some, None, option_map, sym, ap, ◌∙◌, subst, arith, rules}
+use Rattle.std.proofs.Common.{◌≡◌, Some, None, option_map, ap, subst, arith, rules}
 use Rattle.std.proofs.lemmas.Grind.{common_steps}
 use Rattle.jp_document.specs.Node.{told, told_child}
 use Rattle.jp_document.specs.Location.{named}
 use Rattle.jp_document.specs.Value.{IsDocumentValue, value_of, member_of}
-use Rattle.jp_document.proofs.Children.{child_stands, value_from_pair, IsDocumentValue-child}
+use Rattle.jp_document.proofs.ChildValues.{child_stands, value_from_pair, IsDocumentValue-child}
 use Rattle.jp_document.proofs.Values.{member_of_is}
 use Rattle.jp_document.proofs.node.child_named.Goals as goal
 

@@ -1,13 +1,14 @@
-use Rattle.std.proofs.Common.{◌≡◌, List, [], ◌∷◌, ◌++◌, length, map, string_bytes, sym, ap, ◌∙◌, subst, arith, rules}
+use Rattle.std.proofs.Common.{◌≡◌, [], ◌∷◌, ◌++◌, length, map, sym, ap, ◌∙◌, subst, arith, rules}
 use Rattle.std.proofs.lemmas.List.{nil_from_length}
 use Rattle.std.specs.Vec.Iter.{into_iter_items}
 use Rattle.serde_json.specs.Data as parsed
 use Rattle.serde_json.specs.View.{view, items_view, members_view}
 use Rattle.jp_document.specs.Document.{IsFirstFraction}
-use Rattle.jp_document.specs.Location.{nth, named}
+use Rattle.jp_document.specs.Location.{nth}
 use Rattle.jp_document.specs.Value.{value_of, member_of, members_of}
 use Rattle.jp_document.specs.declared.value.Member.{Member}
 use Rattle.jp_document.specs.declared.location.OwnedStep.TheVariants.{Name, Index}
+use Rattle.jp_document.proofs.Fits.{items_fit_more, members_fit_more}
 use Rattle.jp_document.proofs.Stops.{StopsAt-within}
 use Rattle.jp_document.proofs.Values.{member_of_is}
 use Rattle.jp_document.proofs.Wholes.{ItemsSoFar, items_more, items_stop, items_end, items_sound, MembersSoFar, members_more, members_stop, members_end, members_sound, names_rise-read}
@@ -22,8 +23,11 @@ whole_items-loop-item-preserved t c =
     let pushed : c.push.new.self.items ≡ done ++ c.in-Ok.json ∷ [] = search rules in
     let so = subst (λ r. ItemsSoFar all r done) steps.0 c.loop-item.invariant.0 in
     let long = c.loop-item.invariant.1 ∙ ap length steps.0 in
-    let short = steps.1 in
-    (subst (ItemsSoFar all rest) (sym pushed) (items_more all rest done c.in-Some.item c.in-Ok.json c.in-Ok.ensures.value c.in-Ok.ensures.sound so), omega arith)
+    let short = steps.1 in (
+      subst (ItemsSoFar all rest) (sym pushed) (items_more all rest done c.in-Some.item c.in-Ok.json c.in-Ok.ensures.value c.in-Ok.ensures.sound so),
+      omega arith,
+      items_fit_more done _ c.in-Ok.json c.loop-item.fits _ _ pushed c.loop-item.invariant.2 c.in-Ok.ensures.fits,
+    )
 
 pub whole_items-returns-in-Err-clause-stop : goal.whole_items-returns-in-Err-clause-stop
 whole_items-returns-in-Err-clause-stop t c =
@@ -51,8 +55,10 @@ whole_members-loop-name-preserved t c =
     let m : Member = record { name = c.in-Some.name; value = c.in-Ok.value } in
     let step : c.loop-name.name-iterator ≡ (c.in-Some.name, c.in-Some.member) ∷ rest = search rules in
     let pushed : c.push.new.self.items ≡ done ++ m ∷ [] = search rules in
-    let so = subst (λ r. MembersSoFar all r done) step c.loop-name.invariant in
-    subst (MembersSoFar all rest) (sym pushed) (members_more all rest done (c.in-Some.name, c.in-Some.member) m (value_of c.in-Ok.value) (member_of_is m) c.in-Ok.ensures.value c.in-Ok.ensures.sound so)
+    let so = subst (λ r. MembersSoFar all r done) step c.loop-name.invariant.0 in (
+      subst (MembersSoFar all rest) (sym pushed) (members_more all rest done (c.in-Some.name, c.in-Some.member) m (value_of c.in-Ok.value) (member_of_is m) c.in-Ok.ensures.value c.in-Ok.ensures.sound so),
+      members_fit_more done _ m (value_of c.in-Ok.value) c.loop-name.fits _ _ pushed (ap (λ p. p.1) (member_of_is m)) c.loop-name.invariant.1 c.in-Ok.ensures.fits,
+    )
 
 pub whole_members-returns-in-Err-clause-stop : goal.whole_members-returns-in-Err-clause-stop
 whole_members-returns-in-Err-clause-stop t c =
@@ -60,20 +66,20 @@ whole_members-returns-in-Err-clause-stop t c =
     let done = c.loop-name.wholes.items in
     let rest = c.next.new.self in
     let step : c.loop-name.name-iterator ≡ (c.in-Some.name, c.in-Some.member) ∷ rest = search rules in
-    let so = subst (λ r. MembersSoFar all r done) step c.loop-name.invariant in
+    let so = subst (λ r. MembersSoFar all r done) step c.loop-name.invariant.0 in
     StopsAt-within (view c.in-Some.member) (parsed.object (members_view all)) c.in-Err.stop c.within.result (Name c.in-Some.name)
     (λ l first. members_stop all rest done (c.in-Some.name, c.in-Some.member) l first so) c.in-Err.ensures.stop c.within.ensures
 
 pub whole_members-returns-clause-value : goal.whole_members-returns-clause-value
 whole_members-returns-clause-value t c =
     let none : c.loop-name.name-iterator ≡ [] = search rules in
-    members_end c.args.members.entries c.loop-name.wholes.items (subst (λ r. MembersSoFar c.args.members.entries r c.loop-name.wholes.items) none c.loop-name.invariant)
+    members_end c.args.members.entries c.loop-name.wholes.items (subst (λ r. MembersSoFar c.args.members.entries r c.loop-name.wholes.items) none c.loop-name.invariant.0)
 
 pub whole_members-returns-clause-sound : goal.whole_members-returns-clause-sound
-whole_members-returns-clause-sound t c = members_sound (map member_of c.loop-name.wholes.items) c.loop-name.invariant.sound
+whole_members-returns-clause-sound t c = members_sound (map member_of c.loop-name.wholes.items) c.loop-name.invariant.0.sound
 
 pub whole_members-returns-clause-rise : goal.whole_members-returns-clause-rise
 whole_members-returns-clause-rise t c =
     let none : c.loop-name.name-iterator ≡ [] = search rules in
-    let value = members_end c.args.members.entries c.loop-name.wholes.items (subst (λ r. MembersSoFar c.args.members.entries r c.loop-name.wholes.items) none c.loop-name.invariant) in
+    let value = members_end c.args.members.entries c.loop-name.wholes.items (subst (λ r. MembersSoFar c.args.members.entries r c.loop-name.wholes.items) none c.loop-name.invariant.0) in
     names_rise-read c.args.members.entries (members_of (map member_of c.loop-name.wholes.items)) c.len.ensures.ordered value

@@ -1,0 +1,5 @@
+use Rattle.jp_document.proofs.ChildLaws.{children_exact}
+use Rattle.jp_document.proofs.laws.children_are_exact.Goals as goal
+
+pub returns : goal.returns
+returns c = children_exact

@@ -1,0 +1,67 @@
+//! Child nodes by their positions in document order.
+ghost use Rattle.std.specs.Prelude.{◌≡◌, ℕ, ◌<◌, Some, IfOk, IfSome, OnSome, length, map, option_map, slice_get};
+ghost use Rattle.jp_document.specs.Location.{held};
+ghost use Rattle.jp_document.specs.Node.{told, told_children, entry_of, StandsIn};
+ghost use Rattle.jp_document.specs.Value.{Value, value_of, member_of, items_of, members_of, list, object};
+
+use crate::location::Step;
+use crate::node::Node;
+use crate::value::{Json, Member};
+use std::alloc::{AllocError, Global};
+
+/// How many children the node has: a list has its items, an object its members, other values none.
+pub fn child_count(node: &Node) -> usize
+    ensures { result ≡ length (told_children node.now) }
+{
+    match node.value() {
+        Json::List(items) => items.len(),
+        Json::Members(members) => members.len(),
+        Json::Null | Json::Bool(_) | Json::Whole(_) | Json::Text(_) => 0,
+    }
+}
+
+/// The child at this position in document order, from 0, None where the node has no more children.
+pub fn nth_child<'d>(
+    alloc: Global,
+    node: &Node<'d>,
+    position: usize,
+) -> Result<Option<Node<'d>>, AllocError>
+    ensures held { IfOk result (λ o. option_map told o ≡ slice_get (told_children node.now) position) }
+    ensures stands { (d : Value) → StandsIn d node.now → IfOk result (λ o. IfSome o (StandsIn d)) }
+    ensures more { IfOk result (λ o. OnSome o (position < usize.MAX)) }
+{
+    match entry_at(node.value(), position) {
+        Some((step, value)) => Ok(Some(node.extended(alloc, step, value)?)),
+        None => Ok(None),
+    }
+}
+
+/// The value at this position one step inside, with its step.
+fn entry_at(json: &Json, position: usize) -> Option<(Step<'_>, &Json)>
+    ensures entry { option_map entry_of result ≡ slice_get (held (value_of json.now)) position }
+    ensures more { OnSome result (position < usize.MAX) }
+{
+    match json {
+        Json::List(items) => item_entry(items, position),
+        Json::Members(members) => member_entry(members, position),
+        Json::Null | Json::Bool(_) | Json::Whole(_) | Json::Text(_) => None,
+    }
+}
+
+fn item_entry(items: &[Json], position: usize) -> Option<(Step<'_>, &Json)>
+    ensures entry { option_map entry_of result
+        ≡ slice_get (held (list (items_of (map value_of items.now)))) position }
+    ensures more { OnSome result (position < usize.MAX) }
+{
+    let item = items.get(position)?;
+    Some((Step::Index(position as u64), item))
+}
+
+fn member_entry(members: &[Member], position: usize) -> Option<(Step<'_>, &Json)>
+    ensures entry { option_map entry_of result
+        ≡ slice_get (held (object (members_of (map member_of members.now)))) position }
+    ensures more { OnSome result (position < usize.MAX) }
+{
+    let member = members.get(position)?;
+    Some((Step::Name(member.name.as_str()), &member.value))
+}

@@ -1,0 +1,12 @@
+pub mod Complete
+pub mod Ends
+pub mod Moves
+pub mod Refused
+pub mod Rounds
+pub mod Rules
+pub mod Runs
+pub mod Shallow
+pub mod Sizes
+pub mod Sound
+pub mod Spanned
+pub mod Whole

@@ -1,0 +1,60 @@
+-- Sizes of whole numbers: one past the range tells the range as well as the size itself.
+use Rattle.std.proofs.Common.{◌≡◌, ℕ, ◌+◌, ◌-◌, ◌*◌, ◌^◌, min, Bool, true, false, List, [], ◌∷◌, Some, inl, inr, refl, sym, ap, ◌∙◌, arith, nat_lt, nat_le, cond}
+use Rattle.std.specs.Prelude.{pos, neg_ℤ}
+use Rattle.jp_query.specs.declared.tree.Numeral.{Numeral}
+use Rattle.jp_reading.specs.Texts.{Text}
+use Rattle.jp_reading.specs.Outcome.{State, Outcome, took, stuck, deep, ◌>>=◌, head, past, passes}
+use Rattle.jp_reading.specs.Numbers.{is_digit, value_from, digits_at, capped}
+use Rattle.jp_reading.specs.Views.{by}
+use Rattle.jp_reading.proofs.Digits.{capped-is_min, digits_at-first}
+use Rattle.jp_reading.proofs.Steps.{take_if-takes}
+use Rattle.std.proofs.lemmas.Bool.Decides.{nat_tests}
+use Rattle.std.proofs.lemmas.Bool.{cases_Bool, ltb-true, ltb-false, lt-ltb, le-ltb, leb-true, leb-false, le-leb, lt-leb}
+use Rattle.jp_query.specs.Ints.{whole_of, negative_of, is_leading_digit}
+use Rattle.jp_query.specs.Reading.{size_at, run_at}
+
+-- two views one after the other
+pub by-by : {A B C : Type 0} (f : B → C) (g : A → B) (h : A → C) → ((x : A) → f (g x) ≡ h x) → (o : Outcome A) → by f (by g o) ≡ by h o
+by-by f g h e (took x q) = ap (λ y. took y q) (e x)
+by-by f g h e (stuck q) = refl
+by-by f g h e (deep q) = refl
+
+digit-from_leading : (c : ℕ) → is_leading_digit c ≡ true → is_digit c ≡ true
+unfolding is_digit
+digit-from_leading c h = grind (arith, nat_tests)
+
+-- the size as `natural` reads it
+pub size-natural : (p : State) (c : ℕ) → head p ≡ Some c → is_leading_digit c ≡ true
+    → by (λ n. min n (2 ^ 64)) (size_at p) ≡ by (capped (2 ^ 64) 0) (digits_at p)
+unfolding size_at
+size-natural p c e h =
+    ap (λ (o : Outcome ℕ). by (λ n. min n (2 ^ 64)) (o >>= λ d q. by (λ ds. value_from 0 (d ∷ ds)) (run_at is_digit q))) (take_if-takes is_leading_digit p c e h)
+    ∙ by-by (λ n. min n (2 ^ 64)) (λ ds. value_from 0 (c ∷ ds)) (λ ds. capped (2 ^ 64) 0 (c ∷ ds)) (λ ds. sym (capped-is_min (2 ^ 64) 0 (c ∷ ds) (omega arith))) (run_at is_digit (past p))
+    ∙ sym (digits_at-first (capped (2 ^ 64) 0) (λ ds. capped (2 ^ 64) 0 (c ∷ ds)) p (past p) c (take_if-takes is_digit p c e (digit-from_leading c h)) (λ ds. refl))
+
+whole-min : (n : ℕ) → whole_of (min n (2 ^ 64)) ≡ whole_of n
+whole-min n =
+    elim (cases_Bool (nat_lt n (2 ^ 64))) [
+      | inl below ↦ let h = ltb-true n (2 ^ 64) below in let e : min n (2 ^ 64) ≡ n = omega arith in ap whole_of e
+      | inr above ↦ let h = ltb-false n (2 ^ 64) above in let e : min n (2 ^ 64) ≡ 2 ^ 64 = omega arith in ap whole_of e ∙ rw above refl
+    ]
+
+negative-min : (n : ℕ) → negative_of (min n (2 ^ 64)) ≡ negative_of n
+negative-min n =
+    elim (cases_Bool (nat_lt n (2 ^ 64))) [
+      | inl below ↦ let h = ltb-true n (2 ^ 64) below in let e : min n (2 ^ 64) ≡ n = omega arith in ap negative_of e
+      | inr above ↦
+          let h = ltb-false n (2 ^ 64) above in
+          let e : min n (2 ^ 64) ≡ 2 ^ 64 = omega arith in
+          let out : nat_le n (2 ^ 63) ≡ false = lt-leb n (2 ^ 63) (omega arith) in
+          ap negative_of e ∙ rw out refl
+    ]
+
+-- the range is told as well by the capped size
+pub by-whole : (o : Outcome ℕ) → by whole_of (by (λ n. min n (2 ^ 64)) o) ≡ by whole_of o
+by-whole o = by-by whole_of (λ n. min n (2 ^ 64)) whole_of whole-min o
+
+pub by-negative : (o : Outcome ℕ) → by negative_of (by (λ n. min n (2 ^ 64)) o) ≡ by negative_of o
+by-negative o = by-by negative_of (λ n. min n (2 ^ 64)) negative_of negative-min o
+
+pub ruleset sizes = (by-whole, by-negative)

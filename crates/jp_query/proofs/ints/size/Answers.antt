@@ -1,0 +1,8 @@
+use Rattle.std.proofs.Common.{◌≡◌, true, Some, sym}
+use Rattle.jp_reading.specs.Outcome.{head}
+use Rattle.jp_query.proofs.Sizes.{size-natural}
+use Rattle.jp_query.proofs.ints.size.Goals as goal
+
+pub returns-in-Some : goal.returns-in-Some
+returns-in-Some c =
+    rw (size-natural c.args.reader.now c.in-Some.first (sym c.in-Some.ensures) (sym c.if-is_leading_digit.ensures)) c.natural.ensures.taken

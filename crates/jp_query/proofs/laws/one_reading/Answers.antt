@@ -1,0 +1,5 @@
+use Rattle.jp_query.proofs.Whole.{one-reading}
+use Rattle.jp_query.proofs.laws.one_reading.Goals as goal
+
+pub returns : goal.returns
+returns c = one-reading

@@ -1,0 +1,37 @@
+use Rattle.std.proofs.Common.{◌≡◌, sym, ap, ◌∙◌}
+use Rattle.std.specs.Str.{chars}
+use Rattle.jp_reading.specs.Views.{Fails}
+use Rattle.jp_reading.proofs.Again.{start}
+use Rattle.jp_query.specs.Tree.{query_of}
+use Rattle.jp_query.specs.Grammar.{Spells}
+use Rattle.jp_query.specs.Reading.{query_at}
+use Rattle.jp_query.proofs.Whole.{read-spells}
+use Rattle.jp_query.proofs.Refused.{refused-only, refused-kinds, refused-front}
+use Rattle.jp_query.proofs.parsed.parse.Goals as goal
+
+pub returns-in-Ok-clause-found : goal.returns-in-Ok-clause-found
+returns-in-Ok-clause-found c =
+    rw c.into_spans.ensures
+    (read-spells 64 (chars c.args.text.now) (query_of c.in-Ok.query) c.query.new.reader (ap (query_at 64) (sym c.new-reader.ensures) ∙ c.in-Ok.ensures))
+
+pub invariant_of-result : goal.invariant_of-result
+invariant_of-result c =
+    let spells : Spells 64 (query_of c.in-Ok.query) c.into_spans.result.items (chars c.args.text.now) =
+    rw c.into_spans.ensures
+    (read-spells 64 (chars c.args.text.now) (query_of c.in-Ok.query) c.query.new.reader (ap (query_at 64) (sym c.new-reader.ensures) ∙ c.in-Ok.ensures)) in
+    (chars c.args.text.now, spells)
+
+pub returns-in-Err-clause-only : goal.returns-in-Err-clause-only
+returns-in-Err-clause-only c =
+    let fails : Fails c.in-Err.stop (query_at 64 (start (chars c.args.text.now))) = rw c.new-reader.ensures at c.in-Err.ensures in
+    rw c.from.ensures (refused-only 64 (chars c.args.text.now) c.in-Err.stop fails)
+
+pub returns-in-Err-clause-kinds : goal.returns-in-Err-clause-kinds
+returns-in-Err-clause-kinds c =
+    let fails : Fails c.in-Err.stop (query_at 64 (start (chars c.args.text.now))) = rw c.new-reader.ensures at c.in-Err.ensures in
+    rw c.from.ensures (refused-kinds 64 (chars c.args.text.now) c.in-Err.stop fails)
+
+pub returns-in-Err-clause-front : goal.returns-in-Err-clause-front
+returns-in-Err-clause-front c =
+    let fails : Fails c.in-Err.stop (query_at 64 (start (chars c.args.text.now))) = rw c.new-reader.ensures at c.in-Err.ensures in
+    rw c.from.ensures (refused-front 64 (chars c.args.text.now) c.in-Err.stop fails)

@@ -1,0 +1,13 @@
+pub mod Characters
+pub mod Front
+pub mod Grammar
+pub mod Ints
+pub mod Items
+pub mod Laws
+pub mod Names
+pub mod Parsed
+pub mod Reading
+pub mod Refusal
+pub mod Spelled
+pub mod Stops
+pub mod Tree

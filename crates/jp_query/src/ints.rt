@@ -1,0 +1,65 @@
+//! Whole numbers (RFC 9535 section 2.3.3.1).
+
+ghost use Rattle.std.specs.Prelude.{◌≡◌, ◌^◌, ◌<◌, min};
+ghost use Rattle.jp_reading.specs.Views.{Gives, by};
+ghost use Rattle.jp_query.specs.Reading.{int_at, size_at};
+ghost use Rattle.jp_query.specs.Ints.{whole_of, negative_of, is_leading_digit};
+
+use crate::tree::Numeral;
+use jp_reading::{Reader, Stop, natural};
+
+/// A whole number (RFC 9535 section 2.3.3.1, int).
+#[tactic(auto, using(crate::proofs::Sizes::sizes), unfolding(crate::specs::Reading::int_at))]
+pub fn int(reader: &mut Reader) -> Result<Numeral, Stop>
+    ensures { Gives (λ x. x) result reader.new (int_at reader.old) }
+{
+    if reader.is_at('0') {
+        reader.bump();
+        return Ok(whole(0));
+    }
+    if reader.is_at('-') {
+        reader.bump();
+        return Ok(negative(size(reader)?));
+    }
+    Ok(whole(size(reader)?))
+}
+
+/// The number that digits without a leading zero write, or 2^64 where it is larger.
+#[tactic(auto, unfolding(crate::specs::Reading::size_at))]
+fn size(reader: &mut Reader) -> Result<u128, Stop>
+    ensures { Gives (λ n. n) result reader.new (by (λ n. min n (2 ^ 64)) (size_at reader.old)) }
+{
+    match reader.peek() {
+        Some(first) if is_leading_digit(first) => natural(reader, 1 << 64),
+        _ => Err(Stop::Syntax(reader.place())),
+    }
+}
+
+/// Whether a character may begin a whole number other than zero (section 2.3.3.1, DIGIT1).
+fn is_leading_digit(c: char) -> bool
+    ensures { result ≡ is_leading_digit c }
+{
+    matches!(c, '1'..='9')
+}
+
+/// The whole number of that size.
+fn whole(size: u128) -> Numeral
+    ensures { result ≡ whole_of size }
+{
+    if size < 1 << 64 {
+        Numeral::Whole(size as i128)
+    } else {
+        Numeral::Beyond
+    }
+}
+
+/// The number below zero of that size.
+fn negative(size: u128) -> Numeral
+    ensures { result ≡ negative_of size }
+{
+    if size <= 1 << 63 {
+        Numeral::Whole(-(size as i128))
+    } else {
+        Numeral::Beyond
+    }
+}

@@ -1,0 +1,26 @@
+//! Queries of JSONPath (RFC 9535): their trees, and the reader of their texts.
+//!
+//! ```text
+//! let parsed = parse(alloc, "$.store['book'][0]")?;
+//! parsed.query();    // three child segments: a name, a name, an index
+//! parsed.spans();    // the index stands from byte 16 up to 17
+//! ```
+//!
+//! The contract for the crates above: `parse` answers a query exactly for the texts that spell one by the grammar of
+//! `specs/Grammar.antt`, with its tree and the spans of its items; and no text spells two.
+#![tactic(auto)]
+
+mod ints;
+pub mod laws;
+mod names;
+mod parsed;
+mod refusal;
+mod segments;
+#[cfg(test)]
+mod tests;
+mod tree;
+
+pub use jp_reading::Span;
+pub use parsed::{Parsed, parse};
+pub use refusal::{Refusal, RefusalKind};
+pub use tree::{Numeral, Query, Segment, Selector};

@@ -1,0 +1,86 @@
+//! Parsed queries, and how they are parsed.
+
+ghost use Rattle.std.specs.Prelude.{◌≡◌, ◌⊎◌, IfOk, IfErr};
+ghost use Rattle.std.specs.Str.{chars};
+ghost use Rattle.jp_query.specs.Tree.{query_of};
+ghost use Rattle.jp_query.specs.Items.{items_of, EachSpanned};
+ghost use Rattle.jp_query.specs.Grammar.{Spells};
+ghost use Rattle.jp_query.specs.Spelled.{IsSpelled, SpellsNothing};
+ghost use Rattle.jp_query.specs.Front.{IsFrontBefore};
+
+use crate::refusal::{Refusal, RefusalKind};
+use crate::segments::query;
+use crate::tree::Query;
+use jp_reading::{Reader, Span};
+use std::alloc::Global;
+use std::marker::Model;
+
+/// A query and the spans of its items, as some text spells them.
+#[derive(Debug, Drop)]
+pub struct Parsed {
+    query: Query,
+    spans: Vec<Option<Span>>,
+}
+
+impl Model for Parsed {
+    ghost use Rattle.jp_query.specs.Spelled.{Spanned};
+    ghost use Rattle.jp_query.specs.contracts.tree.Query as q;
+    ghost use Rattle.std.specs.Coded.{codes};
+
+    ghost Value = { Spanned };
+
+    ghost coded = { Prim.hlevel (codes, q.the_row.coded) };
+
+    ghost use Rattle.jp_query.specs.Parsed.{spanned, IsSpelledInside};
+
+    ghost view = { spanned };
+
+    ghost invariant = { IsSpelledInside };
+}
+
+/// Reads the text of a query (RFC 9535 section 2.1), in which at most 64 filters, parentheses and calls stand inside one
+/// another.
+///
+/// A text that spells no query is refused as `Syntax`, at the first byte at which it begins none, or at its end.
+/// `NoMemory`, at place 0, says nothing of the text.
+pub fn parse(alloc: Global, text: &str) -> Result<Parsed, Refusal>
+    ensures found { IfOk result (λ p. Spells 64 (query_of p.query) p.spans (chars text.now)) }
+    ensures only { IfErr result (λ r. (r.kind ≡ RefusalKind.NoMemory) ⊎ SpellsNothing 64 (chars text.now)) }
+    ensures front { IfErr result (λ r. r.kind ≡ RefusalKind.Syntax → IsFrontBefore 64 (chars text.now) r.place) }
+    ensures kinds { IfErr result (λ r. (r.kind ≡ RefusalKind.Syntax) ⊎ ((r.kind ≡ RefusalKind.NoMemory) × (r.place ≡ 0))) }
+{
+    let mut reader = Reader::new(alloc, text);
+    match query(&mut reader, 64) {
+        Ok(query) => Ok(Parsed {
+            query,
+            spans: reader.into_spans(),
+        }),
+        Err(stop) => Err(Refusal::from(stop)),
+    }
+}
+
+impl Parsed {
+    /// The tree of the query.
+    pub fn query(&self) -> &Query
+        ensures same { result.now ≡ self.now.query }
+        ensures spelled { IsSpelled 64 (query_of self.now.query) self.now.spans }
+    {
+        &self.query
+    }
+
+    /// Where each item of the query begins and ends in the text, in the items' order.
+    pub fn spans(&self) -> &[Option<Span>]
+        ensures same { result.now ≡ self.now.spans }
+        ensures each { EachSpanned (items_of (query_of self.now.query)) result.now }
+    {
+        &self.spans
+    }
+
+    /// The tree of the query, which is handed over.
+    pub fn into_query(self) -> Query
+        ensures same { result ≡ self.query }
+        ensures spelled { IsSpelled 64 (query_of self.query) self.spans }
+    {
+        self.query
+    }
+}

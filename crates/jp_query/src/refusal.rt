@@ -1,0 +1,105 @@
+//! Why a query is refused, and where.
+
+ghost use Rattle.std.specs.Prelude.{◌≡◌, codes};
+ghost use Rattle.jp_query.specs.Refusal.{number_of, name_of};
+
+use jp_reading::Stop;
+
+/// Why a query is refused, and where.
+#[derive(Debug, Clone, Copy, PartialEq, Eq)]
+pub struct Refusal {
+    pub kind: RefusalKind,
+    /// The byte offset in the query's text, from 0; the text's end has the text's length.
+    pub place: usize,
+}
+
+/// The kinds of refusal, numbered from 1 in this order.
+#[derive(Debug, Clone, Copy, PartialEq, Eq)]
+pub enum RefusalKind {
+    /// The text is no query: at the first place where it begins none, or at its end.
+    Syntax,
+    /// Filters, parentheses and calls stand more than 64 deep inside one another.
+    TooDeep,
+    /// A literal with a fraction or an exponent.
+    NotWhole,
+    /// A whole literal outside -(2^63) to (2^64)-1.
+    NumberRange,
+    /// An index or a part of a slice outside -(2^53)+1 to (2^53)-1.
+    IndexRange,
+    /// A call of a function that is none of RFC 9535 section 2.4.
+    UnknownFunction,
+    /// A call with a wrong number of arguments.
+    ArgumentCount,
+    /// A query that stands for one value and is not singular (section 2.3.5.1).
+    NotSingular,
+    /// A call or an argument of the wrong type (section 2.4.3).
+    IllTyped,
+    /// Want of memory, at place 0.
+    NoMemory,
+    /// A text longer than the program takes, at place 0.
+    TextTooLong,
+}
+
+impl From<Stop> for Refusal {
+    ghost use Rattle.std.specs.Prelude.{◌≡◌};
+    ghost use Rattle.jp_query.specs.Stops.{refusal_of};
+
+    ghost from_gives = { λ stop r. r ≡ refusal_of stop };
+
+    fn from(stop: Stop) -> Refusal {
+        match stop {
+            Stop::Memory => Refusal {
+                kind: RefusalKind::NoMemory,
+                place: 0,
+            },
+            Stop::Syntax(place) => Refusal {
+                kind: RefusalKind::Syntax,
+                place,
+            },
+            Stop::TooDeep(place) => Refusal {
+                kind: RefusalKind::TooDeep,
+                place,
+            },
+        }
+    }
+}
+
+impl RefusalKind {
+    /// The number of the kind, from 1 to 11.
+    pub fn number(self) -> u8
+        ensures { result ≡ number_of self }
+    {
+        match self {
+            RefusalKind::Syntax => 1,
+            RefusalKind::TooDeep => 2,
+            RefusalKind::NotWhole => 3,
+            RefusalKind::NumberRange => 4,
+            RefusalKind::IndexRange => 5,
+            RefusalKind::UnknownFunction => 6,
+            RefusalKind::ArgumentCount => 7,
+            RefusalKind::NotSingular => 8,
+            RefusalKind::IllTyped => 9,
+            RefusalKind::NoMemory => 10,
+            RefusalKind::TextTooLong => 11,
+        }
+    }
+
+    /// The name of the kind, as it stands in this enum.
+    pub fn name(self) -> &'static str
+        ensures { result.now ≡ name_of self }
+    {
+        match self {
+            RefusalKind::Syntax => "Syntax",
+            RefusalKind::TooDeep => "TooDeep",
+            RefusalKind::NotWhole => "NotWhole",
+            RefusalKind::NumberRange => "NumberRange",
+            RefusalKind::IndexRange => "IndexRange",
+            RefusalKind::UnknownFunction => "UnknownFunction",
+            RefusalKind::ArgumentCount => "ArgumentCount",
+            RefusalKind::NotSingular => "NotSingular",
+            RefusalKind::IllTyped => "IllTyped",
+            RefusalKind::NoMemory => "NoMemory",
+            RefusalKind::TextTooLong => "TextTooLong",
+        }
+    }
+}
