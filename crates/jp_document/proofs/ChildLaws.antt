@@ -1,16 +1,14 @@
 -- The children of a node: what its list shows, and that it is the list of the nodes one step longer.
-use Rattle.std.proofs.Common.{◌≡◌, ◌↔◌, ℕ, zero, suc, ◌+◌, ◌-◌, ◌<◌, ◌≤◌, true, false, true≢false, List, [], ◌∷◌, ◌++◌, length, get_or, take, map, Option, Some, None, is_some, unwrap_or, Ordering, Less, Equal, is_eq, refl, sym, ap, subst, ◌∙◌, arith, append_assoc}
-use Rattle.std.specs.Cmp.Lexicographic.{slice_cmp}
+use Rattle.std.proofs.Common.{◌≡◌, ℕ, zero, suc, ◌+◌, ◌<◌, true, false, true≢false, List, [], ◌∷◌, ◌++◌, length, take, map, Option, Some, None, is_some, unwrap_or, Less, Equal, refl, sym, ap, subst, ◌∙◌, arith}
 use Rattle.std.specs.List.{slice_get, AllByRecursion, Contains}
 use Rattle.std.specs.List.Sorted.{IsStrictlySortedBy}
-use Rattle.std.specs.Map.{keys_of, lookup}
+use Rattle.std.specs.Map.{keys_of}
 use Rattle.std.specs.Option.{option_map, option_and_then}
-use Rattle.std.specs.Ordering.{eq_by_cmp, ordering_then}
+use Rattle.std.specs.Ordering.{ordering_then}
 use Rattle.std.proofs.lemmas.List.{get_or-map, length-map, length_push, map-append, take_more}
-use Rattle.std.proofs.lemmas.Map.Keys.{sorted_head, sorted_tail}
 use Rattle.std.proofs.lemmas.Map.Views.{Contains-from_lookup, tells_apart}
-use Rattle.std.proofs.lemmas.Option.{slice_get-map, slice_get-get_or, slice_get_within, slice_get_past, same_Some}
-use Rattle.jp_document.specs.ChildNodes.{IsListOf, IsChild, steps_below, children_of, shown, standing, AreNodes, ChildrenAreExact}
+use Rattle.std.proofs.lemmas.Option.{slice_get-map, slice_get-get_or, slice_get_within, same_Some}
+use Rattle.jp_document.specs.ChildNodes.{IsListOf, IsChild, steps_below, children_of, standing, AreNodes, ChildrenAreExact}
 use Rattle.jp_document.specs.Location.{Key, key_cmp, Location, location_cmp, held, child, value_at}
 use Rattle.jp_document.specs.Node.{Located, told, told_entry, told_children, StandsIn}
 use Rattle.jp_document.specs.Value.{Value, IsDocumentValue, value_of}

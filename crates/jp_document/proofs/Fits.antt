@@ -1,5 +1,5 @@
 -- Which lists fit, as one flag for all of a value says it.
-use Rattle.std.proofs.Common.{◌≡◌, ℕ, suc, Bool, true, false, ◌&&◌, List, [], ◌∷◌, ◌++◌, length, map, refl, sym, ap, ◌∙◌, arith, nat_le}
+use Rattle.std.proofs.Common.{◌≡◌, ℕ, suc, Bool, true, false, ◌&&◌, List, [], ◌∷◌, ◌++◌, length, map, refl, sym, ap, ◌∙◌, nat_le}
 use Rattle.std.proofs.lemmas.List.{length-map, map-append}
 use Rattle.jp_document.specs.Value.{Value, list, items_of, item_count, members_of, everywhere, everywhere_in_items, everywhere_in_members, list_fits, value_of, member_of}
 use Rattle.jp_document.specs.declared.value.Json.{Json}

@@ -1,5 +1,5 @@
 -- Members found by their names, which rise.
-use Rattle.std.proofs.Common.{◌≡◌, ℕ, suc, ◌+◌, ◌<◌, Bool, true, false, ◌&&◌, List, [], ◌∷◌, length, get_or, map, Option, Some, None, Result, Ok, Err, Ordering, Less, Equal, Greater, is_eq, is_lt, nat_cmp, cond, refl, sym, ap, subst, ◌∙◌, arith, inl, inr, MatchResult}
+use Rattle.std.proofs.Common.{◌≡◌, ℕ, suc, ◌+◌, ◌<◌, Bool, true, false, ◌&&◌, List, [], ◌∷◌, length, get_or, map, Option, Some, None, option_map, Result, Ok, Err, Ordering, Less, Equal, Greater, is_eq, is_lt, nat_cmp, cond, refl, sym, ap, subst, ◌∙◌, arith, inl, inr, MatchResult}
 use Rattle.std.specs.Cmp.Lexicographic.{slice_cmp}
 use Rattle.std.specs.List.{list_all, AllByRecursion}
 use Rattle.std.specs.List.Sorted.{IsStrictlySortedBy, IsNonDecreasingBy, IsBinarySearchResult}
@@ -23,6 +23,9 @@ and-left false b h = h
 pub and-right : (a b : Bool) → (a && b) ≡ true → b ≡ true
 and-right true b h = h
 and-right false b h = cc
+
+abbrev named_with : {V : Type 0} → List ℕ → V → List ℕ × V
+named_with q v = (q, v)
 
 abbrev pub bytes_cmp : List ℕ → List ℕ → Ordering
 bytes_cmp = slice_cmp nat_cmp
@@ -112,3 +115,7 @@ child-list_named q vs = no_name_among q 0 vs
 pub child-object_nth : (i : ℕ) (ms : Members) → child (object ms) (nth i) ≡ None
 child-object_nth i no_members = refl
 child-object_nth i (member n v ms) = child-object_nth i ms
+
+-- the member that a bisection found, beside what a look-up by its name gives
+pub found_pair : {X V : Type 0} (f : X → List ℕ × V) (q : List ℕ) (x y : X) (o : Option V) → x ≡ y → (f y).0 ≡ q → o ≡ Some (f y).1 → Some (f x) ≡ option_map (named_with q) o
+found_pair f q x y o is name here = ap Some (ap f is ∙ ap (λ n. named_with n (f y).1) name) ∙ ap (option_map (named_with q)) (sym here)

@@ -1,5 +1,5 @@
 -- Lists of locations in document order, and the children of a node (RFC 9535 section 1.1).
-use Rattle.std.specs.Prelude.{◌≡◌, ◌↔◌, List, [], ◌∷◌, ◌++◌, Option, Some, None, map, option_map, unwrap_or, IsSome}
+use Rattle.std.specs.Prelude.{◌≡◌, ◌↔◌, List, [], ◌∷◌, ◌++◌, Option, Some, map, option_map, unwrap_or, IsSome}
 use Rattle.std.specs.List.{Contains}
 use Rattle.std.specs.List.Sorted.{IsStrictlySortedBy}
 use Rattle.jp_document.specs.Location.{Key, Location, location_cmp, held, value_at}

@@ -1,5 +1,5 @@
 -- Nodes (RFC 9535 section 1.1): a location with the value that stands there.
-use Rattle.std.specs.Prelude.{◌≡◌, ℕ, List, [], ◌∷◌, ◌++◌, Option, Some, None, MatchOption, map, option_map}
+use Rattle.std.specs.Prelude.{◌≡◌, List, [], ◌∷◌, ◌++◌, Option, Some, None, MatchOption, map, option_map}
 use Rattle.std.specs.Borrow.{Bor}
 use Rattle.jp_document.specs.declared.location.Step.{Step}
 use Rattle.jp_document.specs.declared.value.Json.{Json}

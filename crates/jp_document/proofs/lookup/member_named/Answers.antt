@@ -1,7 +1,7 @@
-use Rattle.std.proofs.Common.{map, get_or, Some, None, Ok, Err, option_map, sym, ap, ◌∙◌, rules}
+use Rattle.std.proofs.Common.{map, get_or, None, Ok, Err, option_map, sym, ap, rules}
 use Rattle.std.proofs.lemmas.Fn.{always_returns_same}
 use Rattle.jp_document.specs.Value.{value_of, member_of}
-use Rattle.jp_document.proofs.Names.{bytes_cmp, child_at_name, sorted_members, searched_name}
+use Rattle.jp_document.proofs.Names.{bytes_cmp, found_pair, child_at_name, sorted_members, searched_name}
 use Rattle.jp_document.proofs.lookup.member_named.Goals as goal
 
 pub returns-in-Ok : goal.returns-in-Ok
@@ -14,8 +14,7 @@ returns-in-Ok c =
     let hit = c.in-Ok.ensures.position (λ m. bytes_cmp (member_of m).0 q) (always_returns_same _ _ _ (λ a r f k. search rules)) in
     let both = searched_name member_of q ms (Ok i) sorted hit m c.in-Ok.ensures.bound in
     let here = child_at_name (value_of c.args.json.now) q (map member_of ms) _ (c.members-members.ensures.found q) both.1 in
-    let hit_is = ap member_of c.index-members-place.is ∙ ap (λ n. (n, (member_of (get_or ms i m)).1)) both.0 in
-    ap Some hit_is ∙ ap (option_map (λ v. (q, v))) (sym here)
+    found_pair member_of q m (get_or ms i m) _ c.index-members-place.is both.0 here
 
 pub returns-in-Err : goal.returns-in-Err
 returns-in-Err c =

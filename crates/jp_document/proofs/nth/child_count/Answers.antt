@@ -1,8 +1,8 @@
-use Rattle.std.proofs.Common.{◌≡◌, length, map, sym, ap, ◌∙◌}
+use Rattle.std.proofs.Common.{length, map, sym, ap, ◌∙◌}
 use Rattle.std.proofs.lemmas.List.{length-map}
-use Rattle.jp_document.specs.Location.{held, items_from, members_by_name}
+use Rattle.jp_document.specs.Location.{held}
 use Rattle.jp_document.specs.Node.{told_entry}
-use Rattle.jp_document.specs.Value.{items_of, members_of, member_of, value_of}
+use Rattle.jp_document.specs.Value.{member_of, value_of}
 use Rattle.jp_document.proofs.Held.{at_name, length-items_from, members-held}
 use Rattle.jp_document.proofs.Values.{value_of-List, value_of-Members}
 use Rattle.jp_document.proofs.nth.child_count.Goals as goal

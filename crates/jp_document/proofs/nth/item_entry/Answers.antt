@@ -1,4 +1,4 @@
-use Rattle.std.proofs.Common.{◌≡◌, map, option_map, sym, ap, ◌∙◌}
+use Rattle.std.proofs.Common.{map, option_map, sym, ap, ◌∙◌}
 use Rattle.jp_document.specs.Node.{entry_of}
 use Rattle.jp_document.specs.Value.{value_of}
 use Rattle.jp_document.proofs.Held.{at_index, item_held}
