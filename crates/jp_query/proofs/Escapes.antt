@@ -64,7 +64,7 @@ keeps-characters quote p = keeps-each (λ q. passes (begins_character quote) (he
 -- ---- rules
 
 -- two parts of other forms
-joined-both : (P P' Q Q' : Form) (s : Spans) (o : ℕ) (t : Text) (h : (P ⌢ Q) s o t) → P' h.first_spans o h.first
+pub joined-both : (P P' Q Q' : Form) (s : Spans) (o : ℕ) (t : Text) (h : (P ⌢ Q) s o t) → P' h.first_spans o h.first
     → Q' h.second_spans (o + bytes h.first) h.second → (P' ⌢ Q') s o t
 joined-both P P' Q Q' s o t h one two = record {
   first_spans = h.first_spans;

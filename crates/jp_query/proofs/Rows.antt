@@ -12,7 +12,7 @@ use Rattle.jp_query.specs.Strings.{is_plain}
 use Rattle.jp_query.specs.Ints.{whole_of, negative_of}
 use Rattle.jp_query.specs.Items.{items_of, int, as_index}
 use Rattle.jp_query.specs.Grammar.{Spells}
-use Rattle.jp_query.specs.Reading.{query_at, segments_at, segment_at, bracket_at, selector_at, int_at, size_at, quoted_at, characters_at, shorthand_at, entry_at, another_at, entries_at, member_at, selection_at}
+use Rattle.jp_query.specs.Reading.{query_at, segments_at, segment_at, bracket_at, selector_at, int_at, size_at, quoted_at, characters_at, shorthand_at, entry_at, another_at, entries_at, member_at, selection_at, number_at}
 use Rattle.jp_query.proofs.Whole.{read-spells}
 
 -- a letter, a letter above ASCII and `_` begin a shorthand; a digit only goes on with one
@@ -34,7 +34,7 @@ abbrev ten : QueryTree
 ten = query true (segments (segment false (selectors (index (Whole (pos 10)) ∷ [])) ∷ []))
 
 index-spells : Spells 64 ten (Some (record { start = 2; end = 4 }) ∷ []) (36 ∷ 91 ∷ 49 ∷ 48 ∷ 93 ∷ [])
-unfolding query_at segments_at segment_at bracket_at entries_at another_at entry_at selector_at int_at size_at past_blanks loop is_blank is_digit
+unfolding query_at segments_at segment_at bracket_at entries_at another_at entry_at selector_at number_at int_at size_at past_blanks loop is_blank is_digit
 index-spells = read-spells 64 (36 ∷ 91 ∷ 49 ∷ 48 ∷ 93 ∷ []) ten (finish (36 ∷ 91 ∷ 49 ∷ 48 ∷ 93 ∷ []) (Some (record { start = 2; end = 4 }) ∷ [])) refl
 
 index-items : items_of ten ≡ int (Whole (pos 10)) as_index ∷ []
@@ -50,7 +50,7 @@ names-spell = read-spells 64 (36 ∷ 32 ∷ 46 ∷ 97 ∷ 91 ∷ 39 ∷ 39 ∷ 9
 
 -- `$[01]` is stuck at byte 3, and `$.a` and a blank at its end
 zero-row : query_at 64 (start (36 ∷ 91 ∷ 48 ∷ 49 ∷ 93 ∷ [])) ≡ stuck (record { at = 3; rest = 49 ∷ 93 ∷ []; found = Some (record { start = 2; end = 3 }) ∷ [] })
-unfolding query_at segments_at segment_at bracket_at entries_at another_at entry_at selector_at int_at past_blanks loop is_blank is_digit
+unfolding query_at segments_at segment_at bracket_at entries_at another_at entry_at selector_at number_at int_at past_blanks loop is_blank is_digit
 zero-row = refl
 
 blank-row : query_at 64 (start (36 ∷ 46 ∷ 97 ∷ 32 ∷ [])) ≡ stuck (record { at = 4; rest = []; found = [] })
