@@ -58,6 +58,8 @@ fn texts_are_refused_with_their_first_faults(rt: HostRuntime) -> Result<(), Fail
         ),
         ("$.é[0, 99999999999999999999]", RefusalKind::IndexRange, 8),
         ("$..[*, -9007199254740992]", RefusalKind::IndexRange, 7),
+        ("$[0:9007199254740992]", RefusalKind::IndexRange, 4),
+        ("$[::][::-9007199254740992]", RefusalKind::IndexRange, 8),
         ("$[9007199254740992", RefusalKind::Syntax, 18),
     ];
     for (text, kind, place) in rows {
