@@ -1,0 +1,229 @@
+-- The first fault that the walk finds is the first of all.
+use Rattle.std.proofs.Common.{◌≡◌, pos, ◌⊎◌, inl, inr, ◌≤◌, Bool, true, false, cond, List, [], ◌∷◌, Option, Some, None, MatchOption, length, refl, sym, ap, subst, arith}
+use Rattle.std.specs.List.{All, zip}
+use Rattle.std.proofs.lemmas.List.Elements.{All-cons, All-nil, Contains-append_left, Contains-append_right, Contains-append_cases, Contains-push, Contains-push_cases}
+use Rattle.jp_reading.specs.Texts.{Spans}
+use Rattle.jp_reading.specs.declared.span.Span.{Span}
+use Rattle.jp_query.specs.declared.refusal.Refusal.{Refusal}
+use Rattle.jp_query.specs.declared.refusal.RefusalKind.{RefusalKind}
+use Rattle.jp_query.specs.declared.refusal.RefusalKind.TheVariants.{IndexRange}
+use Rattle.jp_query.specs.declared.tree.Numeral.{Numeral}
+use Rattle.jp_query.specs.declared.tree.Numeral.TheVariants.{Whole}
+use Rattle.jp_query.specs.Items.{QueryItem, Use, as_index, as_slice_part, int, EachSpanned}
+use Rattle.jp_query.specs.Refusal.{number_of}
+use Rattle.jp_check.specs.Faults.{HasFault}
+use Rattle.jp_check.specs.First.{IsFaultOf, IsNoLater, IsFirstFault}
+use Rattle.jp_check.specs.Walk.{Progress, fault_of, is_before, earlier, past_item, steps}
+use Rattle.jp_check.specs.Ranges.{is_in_range}
+use Rattle.std.proofs.lemmas.Bool.Decides.{nat_tests}
+
+-- ---- the order of faults
+
+no_later-refl : (r : Refusal) → IsNoLater r r
+no_later-refl r = inr (refl, omega arith)
+
+no_later-trans : (r f g : Refusal) → IsNoLater r f → IsNoLater f g → IsNoLater r g
+no_later-trans r f g (inl a) (inl b) = inl (omega arith)
+no_later-trans r f g (inl a) (inr b) = inl (omega arith)
+no_later-trans r f g (inr a) (inl b) = inl (omega arith)
+no_later-trans r f g (inr a) (inr b) = inr (omega arith, omega arith)
+
+before-no_later : (r f : Refusal) → is_before r f ≡ true → IsNoLater r f
+before-no_later r f h = grind (arith, nat_tests)
+
+not_before-no_later : (r f : Refusal) → is_before r f ≡ false → IsNoLater f r
+not_before-no_later r f h = grind (arith, nat_tests)
+
+-- ---- the least of some faults
+
+-- none is such a fault, or this is the first such fault
+abbrev pub IsLeast : (Refusal → Type 0) → Option Refusal → Type 0
+IsLeast P None = (f : Refusal) → P f → ⊥
+IsLeast P (Some r) = P r × ((f : Refusal) → P f → IsNoLater r f)
+
+-- the same faults have the same first one
+least-same : (P Q : Refusal → Type 0) (o : Option Refusal) → ((f : Refusal) → P f → Q f) → ((f : Refusal) → Q f → P f) → IsLeast P o → IsLeast Q o
+least-same P Q None there back h = λ f q. h f (back f q)
+least-same P Q (Some r) there back h = (there r h.0, λ f q. h.1 f (back f q))
+
+-- one more fault
+least-earlier : (P Q : Refusal → Type 0) (o : Option Refusal) (r : Refusal) → IsLeast P o → IsLeast Q (Some r)
+    → IsLeast (λ f. P f ⊎ Q f) (earlier o r)
+least-earlier P Q None r h g = (inr g.0, λ f e. elim e as (λ _. IsNoLater r f) [ inl p ↦ absurd (h f p) | inr q ↦ g.1 f q ])
+least-earlier P Q (Some first) r h g = chosen (is_before r first) refl
+  where
+    chosen : (b : Bool) → is_before r first ≡ b → IsLeast (λ f. P f ⊎ Q f) (cond b (Some r) (Some first))
+    chosen true e = (
+      inr g.0,
+      λ f one. elim one as (λ _. IsNoLater r f) [ inl p ↦ no_later-trans r first f (before-no_later r first e) (h.1 f p) | inr q ↦ g.1 f q ],
+    )
+    chosen false e = (
+      inl h.0,
+      λ f one. elim one as (λ _. IsNoLater first f) [ inl p ↦ h.1 f p | inr q ↦ no_later-trans first r f (not_before-no_later r first e) (g.1 f q) ],
+    )
+
+-- no more faults
+least-alone : (P Q : Refusal → Type 0) (o : Option Refusal) → ((f : Refusal) → Q f → ⊥) → IsLeast P o → IsLeast (λ f. P f ⊎ Q f) o
+least-alone P Q o none = least-same P (λ f. P f ⊎ Q f) o (λ f p. inl p) (λ f one. elim one as (λ _. P f) [ inl p ↦ p | inr q ↦ absurd (none f q) ])
+
+-- ---- the fault of an item
+
+-- the item has none, or this kind and none with a smaller number
+abbrev IsOwn : QueryItem → Option RefusalKind → Type 0
+IsOwn x None = (kind : RefusalKind) → HasFault x kind → ⊥
+IsOwn x (Some kind) = HasFault x kind × ((other : RefusalKind) → HasFault x other → number_of kind ≤ number_of other)
+
+-- an int has no fault but its range
+int-fault : (n : Numeral) (role : Use) (kind : RefusalKind) → HasFault (int n role) kind → (kind ≡ IndexRange) × (is_in_range n ≡ false)
+int-fault n role IndexRange h = (refl, h)
+int-fault n role _ h = absurd h
+
+own-int : (n : Numeral) (role : Use) (b : Bool) → is_in_range n ≡ b → IsOwn (int n role) (cond b None (Some IndexRange))
+own-int n role true e = λ kind h. let is = int-fault n role kind h in cc (is.1)
+own-int n role false e = (e, λ other h. rw (int-fault n role other h).0 (omega arith))
+
+own-fault : (x : QueryItem) → IsOwn x (fault_of x)
+own-fault (int n role) = own-int n role (is_in_range n) refl
+
+-- ---- the faults of items with their spans
+
+-- one item with its span
+abbrev pub OfItem : QueryItem → Option Span → Refusal → Type 0
+OfItem x span = IsFaultOf (x ∷ []) (span ∷ [])
+
+-- a fault of one item is its own
+pub of-item : (x : QueryItem) (span : Option Span) (f : Refusal) (h : OfItem x span f) → (x ≡ h.item) × (span ≡ Some h.span)
+of-item x span f h = elim (Contains-push_cases [] (x, span) (h.item, Some h.span) h.among) as (λ _. (x ≡ h.item) × (span ≡ Some h.span))
+    [ inl a ↦ absurd (omega (arith, a.1)) | inr e ↦ (ap (λ p. p.0) e, ap (λ p. p.1) e) ]
+
+-- of the first item or of the others
+pub of-cons : (x : QueryItem) (xs : List QueryItem) (span : Option Span) (spans : Spans) (f : Refusal)
+    → IsFaultOf (x ∷ xs) (span ∷ spans) f → OfItem x span f ⊎ IsFaultOf xs spans f
+of-cons x xs span spans f h =
+    elim (Contains-append_cases ((x, span) ∷ []) (zip xs spans) (h.item, Some h.span) h.among) as (λ _. OfItem x span f ⊎ IsFaultOf xs spans f) [
+      | inl a ↦ inl (record { item = h.item; span = h.span; among = a; kind = h.kind; place = h.place })
+      | inr a ↦ inr (record { item = h.item; span = h.span; among = a; kind = h.kind; place = h.place })
+    ]
+
+of-head : (x : QueryItem) (xs : List QueryItem) (span : Option Span) (spans : Spans) (f : Refusal) → OfItem x span f → IsFaultOf (x ∷ xs) (span ∷ spans) f
+of-head x xs span spans f h = record {
+  item = h.item;
+  span = h.span;
+  among = Contains-append_left ((x, span) ∷ []) (zip xs spans) (h.item, Some h.span) h.among;
+  kind = h.kind;
+  place = h.place;
+}
+
+of-tail : (x : QueryItem) (xs : List QueryItem) (span : Option Span) (spans : Spans) (f : Refusal) → IsFaultOf xs spans f → IsFaultOf (x ∷ xs) (span ∷ spans) f
+of-tail x xs span spans f h = record {
+  item = h.item;
+  span = h.span;
+  among = Contains-append_right ((x, span) ∷ []) (zip xs spans) (h.item, Some h.span) h.among;
+  kind = h.kind;
+  place = h.place;
+}
+
+-- without items or without spans there is none
+pub of-none : (items : List QueryItem) (spans : Spans) (f : Refusal) → zip items spans ≡ [] → IsFaultOf items spans f → ⊥
+of-none items spans f e h = absurd (omega (arith, ap length e, h.among.1))
+
+-- ---- the walk
+
+-- past one item
+past-least : (P : Refusal → Type 0) (x : QueryItem) (o : Option RefusalKind) (span : Option Span) (rest : Spans) (first : Option Refusal)
+    → IsOwn x o → IsLeast P first → IsLeast (λ f. P f ⊎ OfItem x span f) (past_item o (span ∷ rest) first).first
+past-least P x None span rest first own h =
+    least-alone P (OfItem x span) first (λ f q. own f.kind (rw (of-item x span f q).0 q.kind)) h
+past-least P x (Some kind) None rest first own h =
+    least-alone P (OfItem x None) first (λ f q. let e = of-item x None f q in cc (e.1)) h
+past-least P x (Some kind) (Some span) rest first own h =
+    least-earlier P (OfItem x (Some span)) first (record { kind = kind; place = span.start }) h (
+      record { item = x; span = span; among = Contains-push [] (x, Some span); kind = own.0; place = refl },
+      λ f q.
+          let its = of-item x (Some span) f q in
+          let same : span ≡ q.span = cc (its.1) in
+          inr (rw same (sym q.place), own.1 f.kind (rw its.0 q.kind)),
+    )
+
+past-spans : (o : Option RefusalKind) (span : Option Span) (rest : Spans) (first : Option Refusal) → (past_item o (span ∷ rest) first).spans ≡ rest
+past-spans None span rest first = refl
+past-spans (Some kind) None rest first = refl
+past-spans (Some kind) (Some span) rest first = refl
+
+-- the faults so far, of one item and of the others are those so far and of the items
+least-cons : (P : Refusal → Type 0) (x : QueryItem) (xs : List QueryItem) (span : Option Span) (spans : Spans) (o : Option Refusal)
+    → IsLeast (λ f. (P f ⊎ OfItem x span f) ⊎ IsFaultOf xs spans f) o → IsLeast (λ f. P f ⊎ IsFaultOf (x ∷ xs) (span ∷ spans) f) o
+least-cons P x xs span spans o = least-same (λ f. (P f ⊎ OfItem x span f) ⊎ IsFaultOf xs spans f) (λ f. P f ⊎ IsFaultOf (x ∷ xs) (span ∷ spans) f) o there back
+  where
+    there : (f : Refusal) → (P f ⊎ OfItem x span f) ⊎ IsFaultOf xs spans f → P f ⊎ IsFaultOf (x ∷ xs) (span ∷ spans) f
+    there f (inl (inl p)) = inl p
+    there f (inl (inr q)) = inr (of-head x xs span spans f q)
+    there f (inr q) = inr (of-tail x xs span spans f q)
+
+    back : (f : Refusal) → P f ⊎ IsFaultOf (x ∷ xs) (span ∷ spans) f → (P f ⊎ OfItem x span f) ⊎ IsFaultOf xs spans f
+    back f (inl p) = inl (inl p)
+    back f (inr q) = elim (of-cons x xs span spans f q) as (λ _. (P f ⊎ OfItem x span f) ⊎ IsFaultOf xs spans f) [ inl a ↦ inl (inr a) | inr a ↦ inr a ]
+
+-- where spans are missing, the items have no faults
+least-unspanned : (P : Refusal → Type 0) (x : QueryItem) (xs : List QueryItem) (o : Option Refusal) → IsLeast (λ f. P f ⊎ IsFaultOf xs [] f) o → IsLeast (λ f. P f ⊎ IsFaultOf (x ∷ xs) [] f) o
+least-unspanned P x xs o = least-same (λ f. P f ⊎ IsFaultOf xs [] f) (λ f. P f ⊎ IsFaultOf (x ∷ xs) [] f) o there back
+  where
+    unspanned : Spans
+    unspanned = []
+
+    zip-none : (ys : List QueryItem) → zip ys (unspanned) ≡ []
+    zip-none [] = refl
+    zip-none (y ∷ ys) = refl
+
+    there : (f : Refusal) → P f ⊎ IsFaultOf xs [] f → P f ⊎ IsFaultOf (x ∷ xs) [] f
+    there f (inl p) = inl p
+    there f (inr q) = absurd (of-none xs [] f (zip-none xs) q)
+
+    back : (f : Refusal) → P f ⊎ IsFaultOf (x ∷ xs) [] f → P f ⊎ IsFaultOf xs [] f
+    back f (inl p) = inl p
+    back f (inr q) = absurd (of-none (x ∷ xs) [] f refl q)
+
+steps-least : (P : Refusal → Type 0) (items : List QueryItem) (spans : Spans) (first : Option Refusal)
+    → IsLeast P first → IsLeast (λ f. P f ⊎ IsFaultOf items spans f) (steps items (record { spans = spans; first = first })).first
+steps-least P [] spans first h = least-alone P (IsFaultOf [] spans) first (λ f. of-none [] spans f refl) h
+steps-least P (x ∷ xs) [] first h = least-unspanned P x xs _ (steps-least P xs [] first h)
+steps-least P (x ∷ xs) (span ∷ spans) first h =
+    let next : Progress = past_item (fault_of x) (span ∷ spans) first in
+    let later = steps-least (λ f. P f ⊎ OfItem x span f) xs next.spans next.first (past-least P x (fault_of x) span spans first (own-fault x) h) in
+    least-cons P x xs span spans (steps xs next).first
+    (subst (λ (s : Spans). IsLeast (λ f. (P f ⊎ OfItem x span f) ⊎ IsFaultOf xs s f) (steps xs next).first) (past-spans (fault_of x) span spans first) later)
+
+-- ---- from the start
+
+-- an item without faults
+abbrev pub NoFault : QueryItem → Type 0
+NoFault item = (kind : RefusalKind) → HasFault item kind → ⊥
+
+-- an omitted step, which is 1, is in range
+one_in_range : (n : Numeral) → n ≡ Whole (pos 1) → is_in_range n ≡ false → ⊥
+one_in_range n e h = let one : is_in_range n ≡ true = ap is_in_range e in cc (one)
+
+-- no item of a query has a fault where none of those with a span has
+faultless : (items : List QueryItem) (spans : Spans) → EachSpanned items spans → ((f : Refusal) → IsFaultOf items spans f → ⊥)
+    → All NoFault items
+faultless [] spans each none = All-nil _
+faultless (x ∷ xs) [] each none = absurd each
+faultless (int n as_index ∷ xs) (None ∷ spans) each none = absurd each
+faultless (int n as_slice_part ∷ xs) (None ∷ spans) each none =
+    All-cons NoFault (int n as_slice_part) xs (λ kind h. let is = int-fault n as_slice_part kind h in one_in_range n each.0 is.1)
+    (faultless xs spans each.1 (λ f h. none f (of-tail (int n as_slice_part) xs None spans f h)))
+faultless (x ∷ xs) (Some span ∷ spans) each none =
+    All-cons NoFault x xs
+    (λ kind h. none (record { kind = kind; place = span.start }) (record { item = x; span = span; among = Contains-append_left ((x, Some span) ∷ []) (zip xs spans) (x, Some span) (Contains-push [] (x, Some span)); kind = h; place = refl }))
+    (faultless xs spans each (λ f h. none f (of-tail x xs (Some span) spans f h)))
+
+-- what the walk finds from the start
+pub found : (items : List QueryItem) (spans : Spans) (o : Option Refusal) → EachSpanned items spans
+    → o ≡ (steps items (record { spans = spans; first = None })).first
+    → MatchOption o (All NoFault items) (IsFirstFault items spans)
+found items spans o each e = told o (rw e (steps-least (λ f. ⊥) items spans None (λ f h. h)))
+  where
+    told : (o : Option Refusal) → IsLeast (λ f. ⊥ ⊎ IsFaultOf items spans f) o
+        → MatchOption o (All NoFault items) (IsFirstFault items spans)
+    told None h = faultless items spans each (λ f q. h f (inr q))
+    told (Some r) h = record { is = elim h.0 as (λ _. IsFaultOf items spans r) [ inl p ↦ absurd p | inr q ↦ q ]; first = λ f q. h.1 f (inr q) }

@@ -1,0 +1,10 @@
+use Rattle.std.proofs.Common.{refl}
+use Rattle.jp_query.specs.Items.{items_of}
+use Rattle.jp_query.specs.Tree.{query_of}
+use Rattle.jp_check.proofs.Least.{found}
+use Rattle.jp_check.proofs.faults.first_fault.Goals as goal
+
+pub returns : goal.returns
+returns c =
+    found (items_of (query_of c.args.parsed.now.query)) c.args.parsed.now.spans c.first.result (rw c.spans.ensures.same at c.spans.ensures.each)
+    (rw (c.first.ensures, c.query-2.ensures, c.new-walk.ensures, c.spans.ensures.same, c.query.ensures.same) refl)

@@ -1,0 +1,19 @@
+-- Which queries are accepted (RFC 9535 sections 2.1 and 2.1.1).
+use Rattle.jp_reading.specs.Texts.{Text, Spans}
+use Rattle.jp_query.specs.Grammar.{Spells}
+use Rattle.jp_query.specs.Tree.{QueryTree}
+use Rattle.jp_check.specs.Faults.{IsFaultless}
+
+-- the text spells the tree within 64 levels, and no item of the tree has a fault
+pub record IsAcceptedAs (text : Text) (q : QueryTree) : Type 0 where
+  pub spans : Spans
+  pub spelled : Spells 64 q spans text
+  pub faultless : IsFaultless q
+
+-- some text is accepted as the tree
+abbrev pub IsAccepted : QueryTree → Type 0
+IsAccepted q = (text : Text) × IsAcceptedAs text q
+
+-- the text is accepted as no tree
+abbrev pub IsNotAccepted : Text → Type 0
+IsNotAccepted text = (q : QueryTree) → ¬ IsAcceptedAs text q

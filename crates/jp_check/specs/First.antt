@@ -1,0 +1,27 @@
+-- The first fault of a query: the one with the least place, and of several there the one with the least number.
+use Rattle.std.specs.Prelude.{◌≡◌, ◌⊎◌, ◌<◌, ◌≤◌, List, Some}
+use Rattle.std.specs.List.{Contains, zip}
+use Rattle.jp_reading.specs.Texts.{Spans}
+use Rattle.jp_reading.specs.declared.span.Span.{Span}
+use Rattle.jp_query.specs.declared.refusal.Refusal.{Refusal}
+use Rattle.jp_query.specs.Items.{QueryItem}
+use Rattle.jp_query.specs.Refusal.{number_of}
+use Rattle.jp_check.specs.Faults.{HasFault}
+
+-- one of the items has a fault of that kind, and its span starts at that place
+pub record IsFaultOf (items : List QueryItem) (spans : Spans) (fault : Refusal) : Type 0 where
+  pub item : QueryItem
+  pub span : Span
+  pub among : Contains (zip items spans) (item, Some span)
+  pub kind : HasFault item fault.kind
+  pub place : fault.place ≡ span.start
+
+-- the one stands at a smaller place, or at the same place with a number that is no greater
+abbrev pub IsNoLater : Refusal → Refusal → Type 0
+IsNoLater one other =
+    (one.place < other.place) ⊎ ((one.place ≡ other.place) × (number_of one.kind ≤ number_of other.kind))
+
+-- the fault of one of the items, and none is before it
+pub record IsFirstFault (items : List QueryItem) (spans : Spans) (fault : Refusal) : Type 0 where
+  pub is : IsFaultOf items spans fault
+  pub first : (other : Refusal) → IsFaultOf items spans other → IsNoLater fault other

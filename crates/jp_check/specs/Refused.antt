@@ -1,0 +1,31 @@
+-- How texts are refused.
+use Rattle.std.specs.Prelude.{◌≡◌, ℕ}
+use Rattle.jp_reading.specs.Texts.{Text, Spans}
+use Rattle.jp_query.specs.declared.refusal.Refusal.{Refusal}
+use Rattle.jp_query.specs.declared.refusal.RefusalKind.{RefusalKind}
+use Rattle.jp_query.specs.declared.refusal.RefusalKind.TheVariants.{Syntax, TooDeep, NoMemory, TextTooLong}
+use Rattle.jp_query.specs.Front.{IsFrontBefore}
+use Rattle.jp_query.specs.Grammar.{Spells}
+use Rattle.jp_query.specs.Items.{items_of}
+use Rattle.jp_query.specs.Spelled.{SpellsNothing}
+use Rattle.jp_query.specs.Tree.{QueryTree}
+use Rattle.jp_check.specs.First.{IsFirstFault}
+
+-- the text spells a tree within 64 levels, and this is the first fault of its items
+pub record IsFaulty (text : Text) (fault : Refusal) : Type 0 where
+  pub tree : QueryTree
+  pub spans : Spans
+  pub spelled : Spells 64 tree spans text
+  pub first : IsFirstFault (items_of tree) spans fault
+
+-- what a refusal of that kind, at that place, says of the text; want of memory says nothing of it
+abbrev pub IsRefusedAs : Text → RefusalKind → ℕ → Type 0
+IsRefusedAs text NoMemory place = place ≡ 0
+IsRefusedAs text Syntax place = SpellsNothing 64 text × IsFrontBefore 64 text place
+IsRefusedAs text TooDeep place = ⊥
+IsRefusedAs text TextTooLong place = ⊥
+IsRefusedAs text kind place = IsFaulty text (record { kind = kind; place = place })
+
+-- the text is refused so
+abbrev pub IsRefused : Text → Refusal → Type 0
+IsRefused text refusal = IsRefusedAs text refusal.kind refusal.place

@@ -1,0 +1,77 @@
+//! Checked queries, and how they are checked and read.
+
+ghost use Rattle.std.specs.Prelude.{◌≡◌, ◌⊎◌, IfOk, IfErr};
+ghost use Rattle.std.specs.Str.{chars};
+ghost use Rattle.jp_query.specs.Items.{items_of};
+ghost use Rattle.jp_query.specs.Tree.{query_of};
+ghost use Rattle.jp_check.specs.Accepted.{IsAccepted, IsAcceptedAs, IsNotAccepted};
+ghost use Rattle.jp_check.specs.Faults.{IsFaultless};
+ghost use Rattle.jp_check.specs.First.{IsFirstFault};
+ghost use Rattle.jp_check.specs.Refused.{IsRefused};
+
+use crate::faults::first_fault;
+use jp_query::{Parsed, Query, Refusal, RefusalKind, parse};
+use std::alloc::Global;
+use std::marker::Model;
+
+/// The tree of a query that is accepted (RFC 9535 sections 2.1 and 2.4.3).
+#[derive(Debug, Drop)]
+pub struct Checked {
+    query: Query,
+}
+
+impl Model for Checked {
+    ghost use Rattle.jp_query.specs.declared.tree.Query.{Query};
+    ghost use Rattle.jp_query.specs.contracts.tree.Query as q;
+
+    ghost Value = { Query };
+
+    ghost coded = { q.the_row.coded };
+
+    ghost use Rattle.jp_check.specs.Checked.{IsAcceptedInside};
+
+    ghost view = { λ c. c.query };
+
+    ghost invariant = { IsAcceptedInside };
+}
+
+impl Checked {
+    /// The tree of the query.
+    pub fn query(&self) -> &Query
+        ensures same { result.now ≡ self.now }
+        ensures accepted { IsAccepted (query_of self.now) }
+    {
+        &self.query
+    }
+}
+
+/// Checks the ranges and types of a query (RFC 9535 sections 2.1 and 2.4.3).
+///
+/// The refusal is its first fault: the one with the least place, and of several there the one with the least number.
+/// So far the only fault is an index or a part of a slice outside -(2^53)+1 to (2^53)-1, `IndexRange` at that number. It
+/// takes no memory.
+pub fn check(parsed: Parsed) -> Result<Checked, Refusal>
+    ensures same { IfOk result (λ query. query ≡ parsed.query) }
+    ensures faultless { IfOk result (λ query. IsFaultless (query_of query)) }
+    ensures first { IfErr result (IsFirstFault (items_of (query_of parsed.query)) parsed.spans) }
+{
+    match first_fault(&parsed) {
+        Some(fault) => Err(fault),
+        None => Ok(Checked {
+            query: parsed.into_query(),
+        }),
+    }
+}
+
+/// Reads a query: parses the text, then checks what it spells.
+///
+/// It is refused as `parse` refuses it (`Syntax`, or `NoMemory` at place 0, which says nothing of the text), or else as
+/// `check` does, with its first fault.
+pub fn read_query(alloc: Global, text: &str) -> Result<Checked, Refusal>
+    ensures accepted { IfOk result (λ query. IsAcceptedAs (chars text.now) (query_of query)) }
+    ensures refused { IfErr result (IsRefused (chars text.now)) }
+    ensures only { IfErr result (λ r. (r.kind ≡ RefusalKind.NoMemory) ⊎ IsNotAccepted (chars text.now)) }
+{
+    let parsed = parse(alloc, text)?;
+    check(parsed)
+}

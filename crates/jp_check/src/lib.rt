@@ -1,0 +1,19 @@
+//! Which queries are accepted: those without a fault of ranges or types (RFC 9535 sections 2.1 and 2.4.3).
+//!
+//! ```text
+//! let checked = read_query(alloc, "$.store['book'][0]")?;
+//! checked.query();                        // the query's tree
+//! read_query(alloc, "$[9007199254740992]")  // refused: IndexRange at 2
+//! ```
+//!
+//! The contract for the crates above: `read_query` answers a tree exactly for the texts that are accepted as it, by
+//! `specs/Accepted.antt`; each other text is refused as the parser refuses it, or with its first fault.
+#![tactic(auto)]
+
+mod checked;
+mod faults;
+pub mod laws;
+#[cfg(test)]
+mod tests;
+
+pub use checked::{Checked, check, read_query};
