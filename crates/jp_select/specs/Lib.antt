@@ -1,0 +1,5 @@
+pub mod Below
+pub mod Laws
+pub mod Selectors
+pub mod Slice
+pub mod Walk

@@ -1,0 +1,89 @@
+//! The walk over a node and its descendants in document order (RFC 9535 section 2.5.2.2).
+ghost use Rattle.std.specs.Prelude.{◌≡◌, [], ◌++◌, map, IfOk, IfNone, OnOk};
+ghost use Rattle.jp_document.specs.ChildNodes.{AreNodes, standing};
+ghost use Rattle.jp_document.specs.Node.{told, StandsIn};
+ghost use Rattle.jp_document.specs.Value.{Value};
+ghost use Rattle.jp_select.specs.Below.{below};
+ghost use Rattle.jp_select.specs.Walk.{places_in, places_from, given_by, rest_of, Gives};
+
+use jp_document::{Node, child_count, nth_child};
+use std::alloc::{AllocError, Global};
+
+/// The node and all its descendants, in document order: each node before its descendants, siblings in the
+/// order of their parent's children (RFC 9535 section 2.5.2.2).
+pub fn descend<'d>(alloc: Global, node: Node<'d>) -> Result<Vec<Node<'d>>, AllocError>
+    ensures { (d : Value) → StandsIn d node.entry
+        → IfOk result (λ nodes. AreNodes d nodes.items (below d node.entry.location)) }
+{
+    let mut nodes = Vec::new(alloc);
+    let mut descent = descend_each(alloc, node);
+    while let Some(next) = descent.advance()? {
+        nodes.push(next)?;
+    }
+    Ok(nodes)
+}
+
+/// A walk over a node and its descendants in document order, to be taken node by node. It takes no memory
+/// before the first node is asked for, and its own memory follows the depth of the walk.
+pub fn descend_each<'d>(alloc: Global, node: Node<'d>) -> Descent<'d>
+    ensures values { rest_of result ≡ places_in (told node.entry) }
+    ensures nodes { (d : Value) → StandsIn d node.entry
+        → rest_of result ≡ map (standing d) (below d node.entry.location) }
+{
+    Descent {
+        alloc,
+        first: Some(node),
+        frames: Vec::new(alloc),
+    }
+}
+
+/// A node whose children are being visited, and the position of the next of them.
+#[derive(Drop)]
+struct Frame<'d> {
+    node: Node<'d>,
+    next: usize,
+}
+
+/// A walk under way: the node that it begins with, while it has not been given, and a frame for each node
+/// on the way from there to the one that was given last.
+#[derive(Drop)]
+pub struct Descent<'d> {
+    alloc: Global,
+    first: Option<Node<'d>>,
+    frames: Vec<Frame<'d>>,
+}
+
+impl<'d> Descent<'d> {
+    /// The next node, None at the end.
+    pub fn advance(&mut self) -> Result<Option<Node<'d>>, AllocError>
+        ensures gives { IfOk result (λ o. Gives (rest_of self.old) o (rest_of self.new)) }
+        ensures end { IfOk result (λ o. IfNone o (rest_of self.new ≡ [])) }
+    {
+        if let Some(node) = self.first.take() {
+            self.enter(&node)?;
+            return Ok(Some(node));
+        }
+        while let Some(mut frame) = self.frames.pop() {
+            if let Some(child) = nth_child(self.alloc, &frame.node, frame.next)? {
+                frame.next += 1;
+                self.frames.push(frame)?;
+                self.enter(&child)?;
+                return Ok(Some(child));
+            }
+        }
+        Ok(None)
+    }
+
+    /// Puts the children of a node before all that was still to be given.
+    fn enter(&mut self, node: &Node<'d>) -> Result<(), AllocError>
+        ensures first { self.new.first ≡ self.old.first }
+        ensures frames { OnOk result (given_by self.new.frames.items
+            ≡ places_from node.now 0 ++ given_by self.old.frames.items) }
+    {
+        if child_count(node) > 0 {
+            let node = node.copy(self.alloc)?;
+            self.frames.push(Frame { node, next: 0 })?;
+        }
+        Ok(())
+    }
+}

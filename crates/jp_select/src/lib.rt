@@ -1,0 +1,23 @@
+//! What selectors and descendant segments select (RFC 9535 sections 2.3 and 2.5.2).
+//!
+//! ```text
+//! let document = Document::read(alloc, b"[5,3,[8]]")?;
+//! let root = document.root(alloc);
+//! select_plain(alloc, &root, &Selector::Wildcard)?;   // $[0] $[1] $[2]
+//! descend(alloc, root)?;                              // $ $[0] $[1] $[2] $[2][0]
+//! ```
+//!
+//! For the layer above: in each document in which the node stands, `select_plain` gives the nodes at the
+//! locations that the standard has for the selector, in its order, and `descend` those of the node and all
+//! its descendants, in document order.
+#![tactic(auto)]
+
+mod descent;
+pub mod laws;
+mod selector;
+mod slice;
+#[cfg(test)]
+mod tests;
+
+pub use descent::{Descent, descend, descend_each};
+pub use selector::select_plain;
