@@ -1,7 +1,7 @@
 -- The nodes that segments select.
-use Rattle.std.proofs.Common.{◌≡◌, ℕ, suc, ◌+◌, ◌<◌, ◌≤◌, true, false, List, [], ◌∷◌, ◌++◌, Some, length, map, take, drop, drop-cons, slice_index_or, refl, ap, ◌∙◌, sym, append_assoc, arith}
+use Rattle.std.proofs.Common.{◌≡◌, ℕ, suc, ◌+◌, ◌<◌, true, false, List, [], ◌∷◌, ◌++◌, Some, length, map, take, drop, drop-cons, slice_index_or, refl, ap, ◌∙◌, sym, append_assoc, arith}
 use Rattle.std.specs.List.{All, flat_map}
-use Rattle.std.proofs.lemmas.List.{append-nil, map-append, take_all, take_more}
+use Rattle.std.proofs.lemmas.List.{append-nil, map-append, take_more}
 use Rattle.std.proofs.lemmas.Grind.{flat_map-append}
 use Rattle.std.proofs.lemmas.List.Elements.{All-cons, All-nil}
 use Rattle.jp_document.specs.ChildNodes.{AreNodes, shown, standing}
@@ -75,11 +75,6 @@ by_segment-append d s ns ms = ap (segment_result s d) (map-append location_of ns
 pub child_segment-one : (d : Value) (ss : SelectorTrees) (l : Location) → segment_result (segment false ss) d (l ∷ []) ≡ selected d ss l
 child_segment-one d ss l = append-nil (selected d ss l)
 
--- a descendant segment at one node is the child segment at it and its descendants
-pub descendant_segment-one : (d : Value) (ss : SelectorTrees) (l : Location)
-    → segment_result (segment true ss) d (l ∷ []) ≡ segment_result (segment false ss) d (below d l)
-descendant_segment-one d ss l = ap (flat_map (selected d ss)) (append-nil (below d l))
-
 -- ---- the nodes of a list
 
 -- nodes of d stand in it
@@ -111,16 +106,6 @@ nodes-locations d nodes ls are = sym (firsts_shown nodes) ∙ ap (map first_of) 
     firsts_standing : (ls : List Location) → map first_of (map (standing d) ls) ≡ ls
     firsts_standing [] = refl
     firsts_standing (l ∷ ls) = ap (λ t. l ∷ t) (firsts_standing ls)
-
--- all visited nodes have been served
-pub below_selected : (d : Value) (ss : SelectorTrees) (l : Location) (old now visited : List Located) (i : ℕ) → length visited ≤ i
-    → AreNodes d visited (below d l)
-    → map shown now ≡ map shown old ++ map (standing d) (by_segment d (segment false ss) (take i visited))
-    → map shown now ≡ map shown old ++ map (standing d) (segment_result (segment true ss) d (l ∷ []))
-below_selected d ss l old now visited i all are grown =
-    grown ∙ ap (λ ns. map shown old ++ map (standing d) (by_segment d (segment false ss) ns)) (take_all i visited all)
-    ∙ ap (λ ls. map shown old ++ map (standing d) (segment_result (segment false ss) d ls)) (nodes-locations d visited (below d l) are)
-    ∙ ap (λ ls. map shown old ++ map (standing d) ls) (sym (descendant_segment-one d ss l))
 
 -- ---- the segments of a query
 
