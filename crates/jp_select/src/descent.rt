@@ -1,6 +1,6 @@
 //! The walk over a node and its descendants in document order (RFC 9535 section 2.5.2.2).
-ghost use Rattle.std.specs.Prelude.{◌≡◌, [], ◌++◌, IfOk, IfNone, OnOk, map};
-ghost use Rattle.jp_document.specs.ChildNodes.{AreNodes, standing};
+ghost use Rattle.std.specs.Prelude.{◌≡◌, [], ◌++◌, IfOk, IfNone, OnOk};
+ghost use Rattle.jp_document.specs.ChildNodes.{AreNodes};
 ghost use Rattle.jp_document.specs.Node.{told, StandsIn};
 ghost use Rattle.jp_document.specs.Value.{Value};
 ghost use Rattle.jp_select.specs.Below.{below};
@@ -30,22 +30,18 @@ struct Frame<'d> {
     next: usize,
 }
 
-/// A walk under way over a node and all its descendants, in document order, that gives one node at a time: it holds the
-/// node that it begins with, while it has not been given, and a frame for each node on the way from there to the one
-/// that was given last.
+/// A walk under way: the node that it begins with, while it has not been given, and a frame for each node
+/// on the way from there to the one that was given last.
 #[derive(Drop)]
-pub struct Descent<'d> {
+struct Descent<'d> {
     alloc: Global,
     first: Option<Node<'d>>,
     frames: Vec<Frame<'d>>,
 }
 
 impl<'d> Descent<'d> {
-    /// The walk that begins with a node.
-    pub fn new(alloc: Global, node: Node<'d>) -> Descent<'d>
-        ensures held { rest_of result ≡ places_in (told node.entry) }
-        ensures nodes { (d : Value) → StandsIn d node.entry
-            → rest_of result ≡ map (standing d) (below d node.entry.location) }
+    fn new(alloc: Global, node: Node<'d>) -> Descent<'d>
+        ensures { rest_of result ≡ places_in (told node.entry) }
     {
         Descent {
             alloc,
@@ -55,7 +51,7 @@ impl<'d> Descent<'d> {
     }
 
     /// The next node, None at the end.
-    pub fn advance(&mut self) -> Result<Option<Node<'d>>, AllocError>
+    fn advance(&mut self) -> Result<Option<Node<'d>>, AllocError>
         ensures gives { IfOk result (λ o. Gives (rest_of self.old) o (rest_of self.new)) }
         ensures end { IfOk result (λ o. IfNone o (rest_of self.new ≡ [])) }
     {
