@@ -1,0 +1,120 @@
+-- The nodes that segments select.
+use Rattle.std.proofs.Common.{◌≡◌, ℕ, suc, ◌+◌, ◌<◌, true, false, List, [], ◌∷◌, ◌++◌, Some, length, map, take, drop, drop-cons, slice_index_or, refl, ap, ◌∙◌, sym, append_assoc, arith}
+use Rattle.std.specs.List.{All, flat_map}
+use Rattle.std.proofs.lemmas.List.{append-nil, map-append, take_more}
+use Rattle.std.proofs.lemmas.Grind.{flat_map-append}
+use Rattle.std.proofs.lemmas.List.Elements.{All-cons, All-nil}
+use Rattle.jp_document.specs.ChildNodes.{AreNodes, shown, standing}
+use Rattle.jp_document.specs.Location.{Location, value_at}
+use Rattle.jp_document.specs.Node.{Located, StandsIn}
+use Rattle.jp_document.specs.Value.{IsDocumentValue, Value, value_of}
+use Rattle.jp_query.specs.Tree.{SegmentTree, SelectorTrees, segment, segment_of, segments, selector_of, selectors}
+use Rattle.jp_query.specs.declared.tree.Segment.{Segment}
+use Rattle.jp_query.specs.declared.tree.Selector.{Selector}
+use Rattle.jp_select.specs.Below.{below}
+use Rattle.jp_select.specs.Selectors.{chosen}
+use Rattle.jp_select.specs.Walk.{Place}
+use Rattle.jp_evaluate.specs.Nodelist.{location_of, result, segment_result, selected}
+
+-- ---- lists that grow by what each element gives
+
+-- one element more
+pub grown-next : {X : Type 0} (d : Value) (gives : List X → List Location)
+    → ((xs ys : List X) → gives (xs ++ ys) ≡ gives xs ++ gives ys)
+    → (old now next : List Located) (xs : List X) (i : ℕ) (x : X) → i < length xs → x ≡ slice_index_or xs i x
+    → map shown now ≡ map shown old ++ map (standing d) (gives (take i xs))
+    → map shown next ≡ map shown now ++ map (standing d) (gives (x ∷ []))
+    → map shown next ≡ map shown old ++ map (standing d) (gives (take (i + 1) xs))
+grown-next d gives joined old now next xs i x within at before grown =
+    let so_far : List Location = gives (take i xs) in
+    let more : List Location = gives (x ∷ []) in
+    let all : gives (take (i + 1) xs) ≡ so_far ++ more =
+    ap gives (take_more xs i x within) ∙ joined (take i xs) (slice_index_or xs i x ∷ [])
+    ∙ ap (λ y. so_far ++ gives (y ∷ [])) (sym at) in
+    grown ∙ ap (λ t. t ++ map (standing d) more) before
+    ∙ append_assoc (map shown old) (map (standing d) so_far) (map (standing d) more)
+    ∙ ap (λ t. map shown old ++ t) (sym (map-append (standing d) so_far more))
+    ∙ ap (λ t. map shown old ++ map (standing d) t) (sym all)
+
+-- ---- selectors
+
+-- what selectors of the program select at l
+abbrev pub by_selectors : Value → Location → List Selector → List Location
+by_selectors d l xs = selected d (selectors (map selector_of xs)) l
+
+pub by_selectors-append : (d : Value) (l : Location) (xs ys : List Selector) → by_selectors d l (xs ++ ys) ≡ by_selectors d l xs ++ by_selectors d l ys
+by_selectors-append d l [] ys = refl
+by_selectors-append d l (x ∷ xs) ys =
+    ap (λ t. chosen d (selector_of x) l ++ t) (by_selectors-append d l xs ys)
+    ∙ sym (append_assoc (chosen d (selector_of x) l) (by_selectors d l xs) (by_selectors d l ys))
+
+-- the nodes that one selector gave are appended
+pub by_selector : (d : Value) (l : Location) (s : Selector) (old chosen_nodes new : List Located)
+    → new ≡ old ++ chosen_nodes → AreNodes d chosen_nodes (chosen d (selector_of s) l)
+    → map shown new ≡ map shown old ++ map (standing d) (by_selectors d l (s ∷ []))
+by_selector d l s old chosen_nodes new grown are =
+    ap (map shown) grown ∙ map-append shown old chosen_nodes ∙ ap (λ t. map shown old ++ t) are
+    ∙ ap (λ t. map shown old ++ map (standing d) t) (sym (append-nil (chosen d (selector_of s) l)))
+
+-- ---- segments
+
+-- what a segment gives from nodes
+abbrev pub by_segment : Value → SegmentTree → List Located → List Location
+by_segment d s ns = segment_result s d (map location_of ns)
+
+segment_result-append : (d : Value) (s : SegmentTree) (ls ms : List Location) → segment_result s d (ls ++ ms) ≡ segment_result s d ls ++ segment_result s d ms
+segment_result-append d (segment false ss) ls ms = flat_map-append (selected d ss) ls ms
+segment_result-append d (segment true ss) ls ms =
+    ap (flat_map (selected d ss)) (flat_map-append (below d) ls ms)
+    ∙ flat_map-append (selected d ss) (flat_map (below d) ls) (flat_map (below d) ms)
+
+pub by_segment-append : (d : Value) (s : SegmentTree) (ns ms : List Located) → by_segment d s (ns ++ ms) ≡ by_segment d s ns ++ by_segment d s ms
+by_segment-append d s ns ms = ap (segment_result s d) (map-append location_of ns ms) ∙ segment_result-append d s (map location_of ns) (map location_of ms)
+
+-- a child segment at one node
+pub child_segment-one : (d : Value) (ss : SelectorTrees) (l : Location) → segment_result (segment false ss) d (l ∷ []) ≡ selected d ss l
+child_segment-one d ss l = append-nil (selected d ss l)
+
+-- ---- the nodes of a list
+
+-- nodes of d stand in it
+pub nodes-stand : (d : Value) (nodes : List Located) (ls : List Location) → IsDocumentValue d → AreNodes d nodes ls → All (StandsIn d) nodes
+nodes-stand d [] ls document are = All-nil (StandsIn d)
+nodes-stand d (n ∷ ns) [] document are = absurd (cc)
+nodes-stand d (n ∷ ns) (l ∷ ls) document are =
+    let same : n.location ≡ l = ap (λ (p : Place). p.0) (head-same are) in
+    let there : value_at d n.location ≡ Some (value_of n.value) = ap (value_at d) same ∙ sym (ap (λ (p : Place). p.1) (head-same are)) in
+    All-cons (StandsIn d) n ns (record { document = document; there = there }) (nodes-stand d ns ls document (tail-same are))
+  where
+    head-same : {X : Type 0} {x y : X} {xs ys : List X} → x ∷ xs ≡ y ∷ ys → x ≡ y
+    head-same e = cc
+
+    tail-same : {X : Type 0} {x y : X} {xs ys : List X} → x ∷ xs ≡ y ∷ ys → xs ≡ ys
+    tail-same e = cc
+
+-- their locations are the list
+pub nodes-locations : (d : Value) (nodes : List Located) (ls : List Location) → AreNodes d nodes ls → map location_of nodes ≡ ls
+nodes-locations d nodes ls are = sym (firsts_shown nodes) ∙ ap (map first_of) are ∙ firsts_standing ls
+  where
+    first_of : Place → Location
+    first_of p = p.0
+
+    firsts_shown : (ns : List Located) → map first_of (map shown ns) ≡ map location_of ns
+    firsts_shown [] = refl
+    firsts_shown (n ∷ ns) = ap (λ t. n.location ∷ t) (firsts_shown ns)
+
+    firsts_standing : (ls : List Location) → map first_of (map (standing d) ls) ≡ ls
+    firsts_standing [] = refl
+    firsts_standing (l ∷ ls) = ap (λ t. l ∷ t) (firsts_standing ls)
+
+-- ---- the segments of a query
+
+-- one segment more
+pub result-next : (d : Value) (items : List Segment) (i : ℕ) (s : Segment) (ls : List Location) → i < length items → s ≡ slice_index_or items i s
+    → result (segments (map segment_of (drop i items))) d ls
+    ≡ result (segments (map segment_of (drop (i + 1) items))) d (segment_result (segment_of s) d ls)
+result-next d items i s ls within at =
+    let next : suc i ≡ i + 1 = omega arith in
+    ap (λ xs. result (segments (map segment_of xs)) d ls) (drop-cons items i s within)
+    ∙ ap (λ (x : Segment). result (segments (map segment_of (drop (suc i) items))) d (segment_result (segment_of x) d ls)) (sym at)
+    ∙ ap (λ n. result (segments (map segment_of (drop n items))) d (segment_result (segment_of s) d ls)) next

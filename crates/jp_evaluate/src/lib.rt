@@ -1,0 +1,18 @@
+//! The evaluation of queries over documents (RFC 9535 section 2.1.2).
+//!
+//! ```text
+//! let document = Document::read(alloc, b"[{\"a\":1},{\"a\":2}]")?;
+//! let query = read_query(alloc, "$..a")?;
+//! evaluate(alloc, &document, &query)?;   // $[0]['a'] $[1]['a']
+//! ```
+//!
+//! The contract for the crates above: `evaluate` gives the document's own nodes at the locations of the query's
+//! nodelist, by `specs/Nodelist.antt`, in order and with repeats.
+#![tactic(auto)]
+
+mod evaluation;
+mod segment;
+#[cfg(test)]
+mod tests;
+
+pub use evaluation::evaluate;

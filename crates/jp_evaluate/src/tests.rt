@@ -1,0 +1,54 @@
+//! Nodelists by rows.
+use crate::evaluate;
+use jp_check::read_query;
+use jp_document::{Document, path_text};
+use std::alloc::Global;
+use std::test::Fail;
+
+const NESTED: &[u8] = br#"{"o":{"j":1,"k":2},"a":[5,3,[{"j":4},{"k":6}]]}"#;
+
+/// The paths of the nodelist, each with a blank before it.
+fn nodelist(alloc: Global, bytes: &[u8], query: &str) -> Result<String, Fail> {
+    let query = read_query(alloc, query).ok().ok_or("refused")?;
+    let document = Document::read(alloc, bytes)?;
+    let mut paths = String::new(alloc);
+    for node in &evaluate(alloc, &document, &query)? {
+        paths.push_str(" ")?;
+        paths.push_str(path_text(alloc, node.location())?.as_str())?;
+    }
+    Ok(paths)
+}
+
+#[test]
+fn child_segments(rt: HostRuntime) -> Result<(), Fail> {
+    let alloc = rt.alloc();
+    for (query, paths) in [
+        ("$", " $"),
+        ("$.a[-1][0].j", " $['a'][2][0]['j']"),
+        ("$.a[*,0]", " $['a'][0] $['a'][1] $['a'][2] $['a'][0]"),
+        (
+            "$[*][*]",
+            " $['a'][0] $['a'][1] $['a'][2] $['o']['j'] $['o']['k']",
+        ),
+        ("$.a.j", ""),
+    ] {
+        assert_eq!(rt; nodelist(alloc, NESTED, query)?.as_str(), paths);
+    }
+    Ok(())
+}
+
+#[test]
+fn descendant_segments(rt: HostRuntime) -> Result<(), Fail> {
+    let alloc = rt.alloc();
+    for (query, paths) in [
+        ("$..j", " $['a'][2][0]['j'] $['o']['j']"),
+        ("$..[0]", " $['a'][0] $['a'][2][0]"),
+        (
+            "$..*",
+            " $['a'] $['o'] $['a'][0] $['a'][1] $['a'][2] $['a'][2][0] $['a'][2][1] $['a'][2][0]['j'] $['a'][2][1]['k'] $['o']['j'] $['o']['k']",
+        ),
+    ] {
+        assert_eq!(rt; nodelist(alloc, NESTED, query)?.as_str(), paths);
+    }
+    Ok(())
+}
