@@ -2,7 +2,7 @@ pub mod StreamLemmas
 pub mod CommandLineLemmas
 pub mod Rows
 pub mod LineLemmas
-pub mod AcceptedLemmas
-pub mod NodelistLemmas
 pub mod RunLemmas
+pub mod PathTrees
+pub mod PathSpells
 pub mod LocationLaws

@@ -6,36 +6,36 @@ use Rattle.std.specs.Io.KnownBytes.{Appends}
 use Rattle.std.specs.List.{flat_map}
 use Rattle.jp_document.specs.Node.{Located}
 use Rattle.jp_command.specs.Lines.{line_of, lines_of}
-use Rattle.jp_command.specs.Places.{seen}
+use Rattle.jp_document.specs.ChildNodes.{shown}
 use Rattle.jp_command.specs.Streams.{AppendsFront}
 use Rattle.jp_command.specs.declared.lines.Form.{Form}
 use Rattle.jp_command.proofs.StreamLemmas.{Appends-twice}
 
 abbrev text_of_nodes : Form → List Located → List ℕ
-text_of_nodes form nodes = lines_of form (map seen nodes)
+text_of_nodes form nodes = lines_of form (map shown nodes)
 
 text_of_nodes-cut : (form : Form) (nodes : List Located) (i : ℕ)
     → text_of_nodes form nodes ≡ text_of_nodes form (take i nodes) ++ text_of_nodes form (drop i nodes)
 text_of_nodes-cut form nodes i =
-    ap (text_of_nodes form) (sym (take-append-drop i nodes)) ∙ ap (flat_map (line_of form)) (map-append seen (take i nodes) (drop i nodes))
-    ∙ flat_map-append (line_of form) (map seen (take i nodes)) (map seen (drop i nodes))
+    ap (text_of_nodes form) (sym (take-append-drop i nodes)) ∙ ap (flat_map (line_of form)) (map-append shown (take i nodes) (drop i nodes))
+    ∙ flat_map-append (line_of form) (map shown (take i nodes)) (map shown (drop i nodes))
 
 -- whole lines are a front
 pub front-lines : (form : Form) (nodes : List Located) (i : ℕ) (a b : Option (List ℕ))
-    → Appends a b (lines_of form (map seen (take i nodes))) → AppendsFront a b (lines_of form (map seen nodes))
+    → Appends a b (lines_of form (map shown (take i nodes))) → AppendsFront a b (lines_of form (map shown nodes))
 front-lines form nodes i a b written =
     (text_of_nodes form (take i nodes), text_of_nodes form (drop i nodes), text_of_nodes-cut form nodes i, written)
 
 -- whole lines and a front of the next are a front
 pub front-in_line : (form : Form) (nodes : List Located) (i : ℕ) (node : Located) (a b c : Option (List ℕ)) (line : List ℕ)
-    → i < length nodes → node ≡ slice_index_or nodes i node → line ≡ line_of form (seen node)
-    → Appends a b (lines_of form (map seen (take i nodes))) → AppendsFront b c line → AppendsFront a c (lines_of form (map seen nodes))
+    → i < length nodes → node ≡ slice_index_or nodes i node → line ≡ line_of form (shown node)
+    → Appends a b (lines_of form (map shown (take i nodes))) → AppendsFront b c line → AppendsFront a c (lines_of form (map shown nodes))
 front-in_line form nodes i node a b c line within at is written part =
     let before : List ℕ = text_of_nodes form (take i nodes) in
     let after : List ℕ = text_of_nodes form (drop (suc i) nodes) in
     let next : text_of_nodes form (drop i nodes) ≡ line ++ after =
     ap (text_of_nodes form) (drop-cons nodes i node within)
-    ∙ ap (λ n. line_of form (seen n) ++ after) (sym at) ∙ ap (λ t. t ++ after) (sym is) in (
+    ∙ ap (λ n. line_of form (shown n) ++ after) (sym at) ∙ ap (λ t. t ++ after) (sym is) in (
       before ++ part.0,
       part.1 ++ after,
       text_of_nodes-cut form nodes i ∙ ap (λ t. before ++ t) (next ∙ ap (λ t. t ++ after) part.2 ∙ append_assoc part.0 part.1 after)

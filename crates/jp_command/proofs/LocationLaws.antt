@@ -1,7 +1,6 @@
 -- The location of a node as a query.
-use Rattle.std.proofs.Common.{◌≡◌, ℕ, suc, pos, ◌<◌, ◌≤◌, ◌-◌, ◌^◌, List, [], ◌∷◌, ◌++◌, map, length, Option, Some, None, IsSome, IsUtf8, true, is_some, inl, inr, refl, ap, sym, ◌∙◌, append_assoc, arith, nat_le, nat_lt, option_and_then, lt-ltb}
+use Rattle.std.proofs.Common.{true, pos, ◌≡◌, ℕ, suc, ◌<◌, ◌≤◌, ◌-◌, ◌^◌, List, [], ◌∷◌, ◌++◌, map, length, Option, Some, None, IsSome, inl, inr, refl, ap, sym, ◌∙◌, append_assoc, arith, option_and_then, lt-ltb}
 use Rattle.std.specs.List.{All, slice_get}
-use Rattle.std.specs.Str.{chars}
 use Rattle.std.proofs.lemmas.Bool.{cases_lt, leb-true}
 use Rattle.std.proofs.lemmas.List.{append-nil}
 use Rattle.std.proofs.lemmas.List.Elements.{All-cons, All-nil}
@@ -11,12 +10,21 @@ use Rattle.jp_document.proofs.Items.{child-nth}
 use Rattle.jp_document.proofs.Names.{and-left, child-object_nth}
 use Rattle.jp_document.specs.Location.{Key, Location, child, named, nth, value_at}
 use Rattle.jp_document.specs.Value.{IsDocumentValue, Items, Value, boolean, item, item_count, items_of, list, no_items, null, object, text, whole}
-use Rattle.jp_query.specs.Items.{items_of as query_items, segments_items}
+use Rattle.jp_query.specs.Items.{segments_items}
 use Rattle.jp_query.specs.Tree.{segments}
-use Rattle.jp_command.specs.Accepted.{fault_of_item}
-use Rattle.jp_command.specs.Laws.{HasTextNames, LocationSelectsItsNode, step_segment}
-use Rattle.jp_command.specs.Nodelist.{one_step, result, segment_result}
-use Rattle.jp_command.proofs.NodelistLemmas.{one_step-name}
+use Rattle.jp_check.specs.Faults.{HasFault}
+use Rattle.jp_check.specs.Ranges.{is_in_range}
+use Rattle.jp_query.specs.Items.{Use, as_index, int}
+use Rattle.jp_query.specs.declared.refusal.RefusalKind.{RefusalKind}
+use Rattle.jp_query.specs.declared.refusal.RefusalKind.TheVariants as kind
+use Rattle.jp_query.specs.declared.tree.Numeral.{Numeral}
+use Rattle.jp_query.specs.declared.tree.Numeral.TheVariants.{Whole}
+use Rattle.jp_command.specs.Laws.{HasTextNames, PathSelectsItsNode}
+use Rattle.jp_command.proofs.PathSpells.{path-is_query}
+use Rattle.jp_command.proofs.PathTrees.{IndexesFit, path_tree, step_segment}
+use Rattle.jp_evaluate.specs.Nodelist.{result, segment_result}
+use Rattle.jp_select.specs.Selectors.{one_step}
+use Rattle.std.proofs.lemmas.Str.{encodes-chars}
 
 as_items : (vs : Items) → (xs : List Value) × (vs ≡ items_of xs)
 as_items no_items = ([], refl)
@@ -54,7 +62,7 @@ present d u l k there = rw there refl
 step_result : (d v u : Value) (l : Location) (k : Key) → value_at d l ≡ Some v → child v k ≡ Some u → HasTextNames (k ∷ [])
     → segment_result (step_segment k) d (l ∷ []) ≡ (l ++ k ∷ []) ∷ []
 step_result d v u l (named s) at there texts =
-    append-nil _ ∙ append-nil _ ∙ one_step-name d l s s texts.0 refl ∙ present d u l (named s) (value_at-step d v l (named s) at ∙ there)
+    append-nil _ ∙ append-nil _ ∙ ap (λ b. one_step d l (named b)) (encodes-chars s texts.0) ∙ present d u l (named s) (value_at-step d v l (named s) at ∙ there)
 step_result d (list vs) u l (nth i) at there texts =
     append-nil _ ∙ append-nil _
     ∙ rw at (rw (lt-ltb i (item_count vs) (within_items vs i u there)) (present d u l (nth i) (value_at-step d (list vs) l (nth i) at ∙ there)))
@@ -94,22 +102,50 @@ index_fits (boolean b) u i document there = absurd (cc)
 index_fits (whole z) u i document there = absurd (cc)
 index_fits (text s) u i document there = absurd (cc)
 
+in_range : (n : Numeral) (u : Use) → is_in_range n ≡ true → (k : RefusalKind) → HasFault (int n u) k → ⊥
+in_range n u fits kind.IndexRange fault = absurd (cc)
+in_range n u fits kind.Syntax fault = fault
+in_range n u fits kind.TooDeep fault = fault
+in_range n u fits kind.NotWhole fault = fault
+in_range n u fits kind.NumberRange fault = fault
+in_range n u fits kind.UnknownFunction fault = fault
+in_range n u fits kind.ArgumentCount fault = fault
+in_range n u fits kind.NotSingular fault = fault
+in_range n u fits kind.IllTyped fault = fault
+in_range n u fits kind.NoMemory fault = fault
+in_range n u fits kind.TextTooLong fault = fault
+
 steps_faultless : (v w : Value) (m : Location) → IsDocumentValue v → value_at v m ≡ Some w
-    → All (λ x. fault_of_item x ≡ None) (segments_items (segments (map step_segment m)))
-steps_faultless v w [] document end = All-nil (λ x. fault_of_item x ≡ None)
+    → All (λ x. (k : RefusalKind) → ¬ HasFault x k) (segments_items (segments (map step_segment m)))
+steps_faultless v w [] document end = All-nil (λ x. (k : RefusalKind) → ¬ HasFault x k)
 steps_faultless v w (named s ∷ m) document end =
     let u = inside (child v (named s)) w m end in
     steps_faultless u.0 w m (IsDocumentValue-child v u.0 (named s) document u.1) u.2
 steps_faultless v w (nth i ∷ m) document end =
     let u = inside (child v (nth i)) w m end in
-    All-cons (λ x. fault_of_item x ≡ None) _ _ (rw (lt-ltb i (2 ^ 53) (index_fits v u.0 i document u.1)) refl)
+    All-cons (λ x. (k : RefusalKind) → ¬ HasFault x k) (int (Whole (pos i)) as_index) (segments_items (segments (map step_segment m)))
+    (in_range (Whole (pos i)) as_index (lt-ltb i (2 ^ 53) (index_fits v u.0 i document u.1)))
     (steps_faultless u.0 w m (IsDocumentValue-child v u.0 (nth i) document u.1) u.2)
 
 some_value : (o : Option Value) → IsSome o → (w : Value) × (o ≡ Some w)
 some_value None is = absurd (cc)
 some_value (Some w) is = (w, refl)
 
-pub location_selects_its_node : LocationSelectsItsNode
-location_selects_its_node d l document there texts =
+steps_fit : (v w : Value) (m : Location) → IsDocumentValue v → value_at v m ≡ Some w → IndexesFit m
+steps_fit v w [] document end = tt
+steps_fit v w (named s ∷ m) document end =
+    let u = inside (child v (named s)) w m end in
+    (tt, steps_fit u.0 w m (IsDocumentValue-child v u.0 (named s) document u.1) u.2)
+steps_fit v w (nth i ∷ m) document end =
+    let u = inside (child v (nth i)) w m end in
+    let fits = index_fits v u.0 i document u.1 in
+    (omega arith, steps_fit u.0 w m (IsDocumentValue-child v u.0 (nth i) document u.1) u.2)
+
+pub path_selects_its_node : PathSelectsItsNode
+path_selects_its_node d l document there texts =
     let w = some_value (value_at d l) there in
-    (steps_faultless d w.0 l document w.1, walks d d w.0 [] l refl w.1 texts)
+    let spelled = path-is_query 64 l texts (steps_fit d w.0 l document w.1) in (
+      path_tree l,
+      record { spans = spelled.0; spelled = spelled.1; faultless = steps_faultless d w.0 l document w.1 },
+      walks d d w.0 [] l refl w.1 texts,
+    )

@@ -1,9 +1,6 @@
 pub mod Carried
 pub mod Streams
 pub mod CommandLine
-pub mod Accepted
-pub mod Nodelist
-pub mod Places
 pub mod Lines
 pub mod Faults
 pub mod Run

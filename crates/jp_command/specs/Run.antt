@@ -1,13 +1,15 @@
 -- What a run of a query over an input says with its answer.
 use Rattle.std.specs.Prelude.{◌≡◌, ◌⊎◌, ℕ, ◌<◌, ◌≤◌, Bool, true, List, length, Option, Result, Ok, Err}
 use Rattle.std.specs.Io.KnownBytes.{Appends}
+use Rattle.std.specs.Str.{chars}
+use Rattle.jp_check.specs.Accepted.{IsAcceptedAs, IsNotAccepted}
+use Rattle.jp_check.specs.Refused.{IsRefused}
 use Rattle.jp_document.specs.Document.{IsDocument, IsFaultOf}
 use Rattle.jp_document.specs.Value.{Value}
 use Rattle.jp_document.specs.declared.fault.DocumentFault.{DocumentFault}
 use Rattle.jp_query.specs.Tree.{QueryTree}
 use Rattle.jp_query.specs.declared.refusal.Refusal.{Refusal}
 use Rattle.jp_query.specs.declared.refusal.RefusalKind.TheVariants.{TextTooLong}
-use Rattle.jp_command.specs.Accepted.{IsAccepted, IsRefused}
 use Rattle.jp_command.specs.Lines.{output_of}
 use Rattle.jp_command.specs.Streams.{AppendsFront, GivesAll, GivesMore}
 use Rattle.jp_command.specs.declared.fault.Fault.{Fault}
@@ -17,12 +19,12 @@ use Rattle.jp_command.specs.declared.lines.Form.{Form}
 -- the query, in bytes, has at most 1,048,576 of them and is accepted as the tree q
 pub record IsAsked (text : List ℕ) (q : QueryTree) : Type 0 where
   pub short : length text ≤ 1048576
-  pub accepted : IsAccepted text q
+  pub accepted : IsAcceptedAs (chars text) q
 
--- the query is too long, or else refused with r
+-- the query is too long, or else not accepted and refused with r
 pub data RefusesQuery (text : List ℕ) (r : Refusal) : Type 0 where
   too_long : 1048576 < length text → r ≡ record { kind = TextTooLong; place = 0 } → RefusesQuery text r
-  refused : length text ≤ 1048576 → IsRefused text r → RefusesQuery text r
+  refused : length text ≤ 1048576 → IsNotAccepted (chars text) → IsRefused (chars text) r → RefusesQuery text r
 
 -- the query is asked, and the input came to its end with these bytes, at most 16,777,216
 pub record Reads (text : List ℕ) (old new : Option (List ℕ)) (q : QueryTree) (bytes : List ℕ) : Type 0 where

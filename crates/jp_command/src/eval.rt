@@ -5,14 +5,14 @@ ghost use Rattle.jp_query.specs.Tree.{query_of};
 ghost use Rattle.jp_query.specs.declared.refusal.RefusalKind.TheVariants.{NoMemory};
 ghost use Rattle.jp_command.specs.Run.{IsAsked, RefusesQuery, RunsEval};
 
-use crate::accepted::read_query;
 use crate::device::{Output, Source};
 use crate::fault::Fault;
 use crate::input::read_all;
 use crate::lines::{Form, write_lines};
-use crate::nodelist::nodelist;
+use jp_check::{Checked, read_query};
 use jp_document::Document;
-use jp_query::{Query, Refusal, RefusalKind};
+use jp_evaluate::evaluate;
+use jp_query::{Refusal, RefusalKind};
 use std::alloc::Global;
 
 /// The most bytes that a query may have.
@@ -55,14 +55,14 @@ pub(crate) fn eval_keeping<R: Source, W: Output>(
     let bytes = read_all(alloc, input)?;
     let document = Document::read(alloc, &bytes)?;
     drop(bytes);
-    let nodes = nodelist(alloc, &query, &document)?;
+    let nodes = evaluate(alloc, &document, &query)?;
     write_lines(alloc, form, &nodes, output)?;
     drop(nodes);
     Ok(document)
 }
 
 /// Reads a query that is not too long.
-fn asked_query(alloc: Global, text: &str) -> Result<Query, Refusal>
+fn asked_query(alloc: Global, text: &str) -> Result<Checked, Refusal>
     ensures asked { IfOk result (λ query. IsAsked text.now (query_of query)) }
     ensures refused { IfErr result
         (λ refusal. (refusal.kind ≡ NoMemory) ⊎ RefusesQuery text.now refusal) }

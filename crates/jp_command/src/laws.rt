@@ -1,10 +1,9 @@
 //! Laws over the definitions.
 
-ghost use Rattle.jp_command.specs.Laws.{LocationSelectsItsNode};
+ghost use Rattle.jp_command.specs.Laws.{PathSelectsItsNode};
 
-/// The location of a node, taken as a query with one child segment for each step (RFC 9535 section
-/// 2.7), has no fault and selects that node alone.
-pub fn location_selects_its_node()
-    ensures { LocationSelectsItsNode }
-{
-}
+/// The normalized path of a node, read as a query, is accepted and selects that node alone (RFC 9535
+/// section 2.7).
+pub fn path_selects_its_node()
+    ensures { PathSelectsItsNode }
+{}

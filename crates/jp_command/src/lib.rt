@@ -11,7 +11,6 @@
 //! status.
 #![tactic(auto)]
 
-mod accepted;
 mod device;
 mod eval;
 mod fault;
@@ -19,7 +18,6 @@ mod input;
 pub mod laws;
 mod line;
 mod lines;
-mod nodelist;
 mod output;
 mod words;
 

@@ -3,7 +3,7 @@
 ghost use Rattle.std.specs.Prelude.{◌≡◌, ◌⊎◌, ◌++◌, true, IfErr, IsErrOf, OnErr, OnOk, map, string_bytes};
 ghost use Rattle.std.specs.Io.KnownBytes.{Appends};
 ghost use Rattle.jp_command.specs.Lines.{line_of, lines_of};
-ghost use Rattle.jp_command.specs.Places.{seen};
+ghost use Rattle.jp_document.specs.ChildNodes.{shown};
 ghost use Rattle.jp_command.specs.Streams.{AppendsFront};
 ghost use Rattle.jp_command.specs.declared.lines.LineFault.TheVariants.{NoMemory, Write};
 
@@ -49,7 +49,7 @@ impl From<Failed> for LineFault {
 /// Appends the line of `node`.
 fn push_line(form: Form, node: &Node, line: &mut String) -> Result<(), AllocError>
     ensures { OnOk result
-        (string_bytes line.new ≡ string_bytes line.old ++ line_of form (seen node.now)) }
+        (string_bytes line.new ≡ string_bytes line.old ++ line_of form (shown node.now)) }
 {
     match form {
         Form::Values => push_value(line, node.value())?,
@@ -71,9 +71,9 @@ pub(crate) fn write_lines<W: Output>(
     output: &mut W,
 ) -> Result<(), LineFault>
     ensures ok { OnOk result (Appends (W.contents output.old) (W.contents output.new)
-        (lines_of form (map seen nodes.now))) }
+        (lines_of form (map shown nodes.now))) }
     ensures front { OnErr result (AppendsFront (W.contents output.old) (W.contents output.new)
-        (lines_of form (map seen nodes.now))) }
+        (lines_of form (map shown nodes.now))) }
     ensures failed { IsErrOf result LineFault.Write → W.has_failed output.new ≡ true }
 {
     let mut line = String::new(alloc);

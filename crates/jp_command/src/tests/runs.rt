@@ -7,16 +7,27 @@ use std::test::Fail;
 
 const BOOK: &str = "{\"o\":{\"j j\":{\"k.k\":3}},\"'\":{\"@\":2}}";
 
+const ODD: &str = "{\"\\u001f\\n'\\\\\":1}";
+
+const FLAT: &str = "{\"o\":{\"j\":1,\"k\":2},\"a\":[5,3]}";
+
+const NESTED: &str = "{\"o\":{\"j\":1,\"k\":2},\"a\":[5,3,[{\"j\":4},{\"k\":6}]]}";
+
 const NULLS: &str = "{\"a\":null,\"b\":[null],\"c\":[{}],\"null\":1}";
 
 /// What a run writes, into a writer that takes all.
 fn written(alloc: Global, query: &str, document: &str) -> Result<Vec<u8>, Fault> {
+    written_as(alloc, Form::Both, query, document)
+}
+
+/// What a run in this form writes.
+fn written_as(alloc: Global, form: Form, query: &str, document: &str) -> Result<Vec<u8>, Fault> {
     let mut bytes = Vec::new(alloc);
     let mut output = Device::new(&mut bytes);
     run_eval(
         alloc,
         query,
-        Form::Both,
+        form,
         &mut Device::new(document.as_bytes()),
         &mut output,
     )?;
@@ -40,11 +51,68 @@ fn writes_a_line_for_each_node(rt: HostRuntime) -> Result<(), Fail> {
         (NULLS, "$.b[0]", "$['b'][0]\tnull\n"),
         (NULLS, "$.null", "$['null']\t1\n"),
         ("[0,1,2,3,4]", "$ [-3]", "$[2]\t2\n"),
+        (ODD, "$['\\u001f\\n\\'\\\\']", "$['\\u001f\\n\\'\\\\']\t1\n"),
+        ("{\"a\":1}", "$[\"\\u0061\"]", "$['a']\t1\n"),
         ("0", "$[9007199254740991]", ""),
     ];
     for (document, query, lines) in rows {
         match written(rt.alloc(), query, document) {
             Ok(bytes) => assert_eq!(rt; bytes.as_slice(), lines.as_bytes(), "{query}"),
+            Err(fault) => assert!(rt; false, "{query}: {fault}"),
+        }
+    }
+    Ok(())
+}
+
+#[test]
+fn writes_the_paths_of_the_nodelist(rt: HostRuntime) -> Result<(), Fail> {
+    let rows = [
+        (FLAT, "$[*]", "$['a'] $['o'] "),
+        (FLAT, "$.o[*]", "$['o']['j'] $['o']['k'] "),
+        (
+            FLAT,
+            "$.o[*, *]",
+            "$['o']['j'] $['o']['k'] $['o']['j'] $['o']['k'] ",
+        ),
+        (FLAT, "$.a[*]", "$['a'][0] $['a'][1] "),
+        ("[0,1,2,3]", "$[0, 3]", "$[0] $[3] "),
+        ("[0,1,2,3]", "$[0,0]", "$[0] $[0] "),
+        ("[0,1]", "$[*,0]", "$[0] $[1] $[0] "),
+        (NESTED, "$..j", "$['a'][2][0]['j'] $['o']['j'] "),
+        (NESTED, "$..[0]", "$['a'][0] $['a'][2][0] "),
+        (
+            NESTED,
+            "$..*",
+            "$['a'] $['o'] $['a'][0] $['a'][1] $['a'][2] $['a'][2][0] $['a'][2][1] $['a'][2][0]['j'] \
+             $['a'][2][1]['k'] $['o']['j'] $['o']['k'] ",
+        ),
+        (NESTED, "$..o", "$['o'] "),
+        (
+            NESTED,
+            "$.o..[*, *]",
+            "$['o']['j'] $['o']['k'] $['o']['j'] $['o']['k'] ",
+        ),
+        (
+            NESTED,
+            "$.a..[0, 1]",
+            "$['a'][0] $['a'][1] $['a'][2][0] $['a'][2][1] ",
+        ),
+        (
+            "{\"b\":1,\"B\":2,\"é\":3,\"\":4}",
+            "$.*",
+            "$[''] $['B'] $['b'] $['é'] ",
+        ),
+        (ODD, "$.*", "$['\\u001f\\n\\'\\\\'] "),
+    ];
+    for (document, query, paths) in rows {
+        match written_as(rt.alloc(), Form::Paths, query, document) {
+            Ok(bytes) => {
+                let blank_for_newline: Vec<u8> = bytes
+                    .iter()
+                    .map(|byte| if *byte == b'\n' { b' ' } else { *byte })
+                    .collect(rt.alloc())?;
+                assert_eq!(rt; blank_for_newline.as_slice(), paths.as_bytes(), "{query}");
+            }
             Err(fault) => assert!(rt; false, "{query}: {fault}"),
         }
     }

@@ -1,6 +1,6 @@
 use Rattle.std.proofs.Common.{rules, ◌≡◌}
 use Rattle.jp_command.specs.Lines.{line_of}
-use Rattle.jp_command.specs.Places.{seen}
+use Rattle.jp_document.specs.ChildNodes.{shown}
 use Rattle.jp_command.proofs.LineLemmas.{front-lines, front-in_line}
 use Rattle.jp_command.proofs.StreamLemmas.{OnErr-from}
 use Rattle.jp_command.proofs.lines.write_lines.Goals as goal
@@ -11,6 +11,6 @@ returns-in_err-push_line-clause-front g c =
 
 pub returns-in_err-write_all-clause-front : goal.returns-in_err-write_all-clause-front
 returns-in_err-write_all-clause-front g c =
-    let line : c.as_bytes.result.now ≡ line_of c.args.form (seen c.node-item.result) = search rules in
+    let line : c.as_bytes.result.now ≡ line_of c.args.form (shown c.node-item.result) = search rules in
     OnErr-from _ (front-in_line c.args.form c.args.nodes.now c.loop-node.node-index c.node-item.result _ _ _ c.as_bytes.result.now
     (search rules) c.node-item.is line c.loop-node.invariant c.in_err-write_all.ensures.front)

@@ -1,0 +1,23 @@
+-- A location as a query with one child segment for each step.
+use Rattle.std.proofs.Common.{◌<◌, ◌^◌, pos, true, false, [], ◌∷◌, map}
+use Rattle.std.specs.Str.{chars}
+use Rattle.jp_document.specs.Location.{Key, Location, named, nth}
+use Rattle.jp_query.specs.Tree.{QueryTree, SegmentTree, index, name, query, segment, segments, selectors}
+use Rattle.jp_query.specs.declared.tree.Numeral.TheVariants.{Whole}
+
+-- a step as a child segment with one selector
+abbrev pub step_segment : Key → SegmentTree
+step_segment (named s) = segment false (selectors (name (chars s) ∷ []))
+step_segment (nth i) = segment false (selectors (index (Whole (pos i)) ∷ []))
+
+abbrev pub path_tree : Location → QueryTree
+path_tree l = query true (segments (map step_segment l))
+
+-- an index in a location fits 64 bits
+abbrev pub IndexFits : Key → Type 0
+IndexFits (named s) = Unit {0}
+IndexFits (nth i) = i < 2 ^ 64
+
+abbrev pub IndexesFit : Location → Type 0
+IndexesFit [] = Unit {0}
+IndexesFit (k ∷ l) = IndexFits k × IndexesFit l
