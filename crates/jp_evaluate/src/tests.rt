@@ -30,6 +30,7 @@ fn child_segments(rt: HostRuntime) -> Result<(), Fail> {
             "$[*][*]",
             " $['a'][0] $['a'][1] $['a'][2] $['o']['j'] $['o']['k']",
         ),
+        ("$.a[::-1]", " $['a'][2] $['a'][1] $['a'][0]"),
         ("$.a.j", ""),
     ] {
         assert_eq!(rt; nodelist(alloc, NESTED, query)?.as_str(), paths);

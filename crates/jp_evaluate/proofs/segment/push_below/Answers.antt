@@ -8,7 +8,7 @@ use Rattle.jp_evaluate.proofs.segment.push_below.Goals as goal
 pub loop-descent-init : goal.loop-descent-init
 loop-descent-init c = λ d stands.
     none_done d (selectors (map selector_of c.args.selectors.now)) c.args.node.now.location c.in_ok-copy.field-0.location c.args.found.now.items _
-    (ap (λ (n : Located). n.location) c.in_ok-copy.ensures) (c.new-descent.ensures.nodes d (subst (StandsIn d) (sym c.in_ok-copy.ensures) stands))
+    (ap (λ (n : Located). n.location) c.in_ok-copy.ensures) (c.descend_each-descent.ensures.nodes d (subst (StandsIn d) (sym c.in_ok-copy.ensures) stands))
 
 pub loop-descent-preserved : goal.loop-descent-preserved
 loop-descent-preserved c = λ d stands.
