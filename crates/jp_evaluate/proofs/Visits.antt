@@ -2,7 +2,7 @@
 use Rattle.std.proofs.Common.{◌≡◌, true, List, [], ◌∷◌, ◌++◌, Option, Some, None, map, refl, ap, ◌∙◌, sym, append_assoc}
 use Rattle.std.specs.List.{flat_map}
 use Rattle.std.specs.Option.{IfNone}
-use Rattle.std.proofs.lemmas.List.{append-nil, map-append}
+use Rattle.std.proofs.lemmas.List.{append-nil}
 use Rattle.std.proofs.lemmas.Grind.{flat_map-append}
 use Rattle.jp_document.specs.ChildNodes.{shown, standing}
 use Rattle.jp_document.specs.Location.{Location, value_at}
@@ -12,6 +12,7 @@ use Rattle.jp_query.specs.Tree.{SelectorTrees, segment}
 use Rattle.jp_select.specs.Below.{below}
 use Rattle.jp_select.specs.Walk.{Gives, Place}
 use Rattle.jp_evaluate.specs.Nodelist.{segment_result, selected}
+use Rattle.jp_evaluate.proofs.Segments.{grown, head-same, place-same, tail-same, value-same}
 
 -- of the locations to visit some are done, whose selections are there, and the rest are those that a walk still gives
 pub record IsUnderWay (d : Value) (ss : SelectorTrees) (all : List Location) (old now : List Located) (rest : List Place) : Type 0 where
@@ -32,12 +33,6 @@ none_done d ss l m old rest same walk = record {
   there = sym (append-nil (map shown old));
 }
 
-head-same : {X : Type 0} {x y : X} {xs ys : List X} → x ∷ xs ≡ y ∷ ys → x ≡ y
-head-same e = cc
-
-tail-same : {X : Type 0} {x y : X} {xs ys : List X} → x ∷ xs ≡ y ∷ ys → xs ≡ ys
-tail-same e = cc
-
 -- the node that a walk gives is the first that waits
 record IsFirst (d : Value) (n : Located) (rest : List Place) (waiting : List Location) : Type 0 where
   more : List Location
@@ -47,14 +42,12 @@ record IsFirst (d : Value) (n : Located) (rest : List Place) (waiting : List Loc
 
 first_waits : (d : Value) (n : Located) (rest : List Place) (waiting : List Location) → shown n ∷ rest ≡ map (standing d) waiting → IsFirst d n rest waiting
 first_waits d n rest [] e = absurd (cc)
-first_waits d n rest (l ∷ ls) e =
-    let same : n.location ≡ l = ap (λ (p : Place). p.0) (head-same e) in
-    record {
-      more = ls;
-      first = ap (λ k. k ∷ ls) (sym same);
-      walk = tail-same e;
-      there = ap (value_at d) same ∙ sym (ap (λ (p : Place). p.1) (head-same e));
-    }
+first_waits d n rest (l ∷ ls) e = record {
+  more = ls;
+  first = ap (λ k. k ∷ ls) (sym (place-same d n l (head-same e)));
+  walk = tail-same e;
+  there = value-same d n l (head-same e);
+}
 
 given_first : (d : Value) (n : Located) (o : Option Located) (rest after : List Place) (waiting : List Location)
     → o ≡ Some n → Gives rest o after → rest ≡ map (standing d) waiting → IsFirst d n after waiting
@@ -73,7 +66,7 @@ given_stands d ss all old now rest after n o document visit is gives =
 pub one_done : (d : Value) (ss : SelectorTrees) (all : List Location) (old now next : List Located) (rest after : List Place) (n : Located) (o : Option Located)
     → IsUnderWay d ss all old now rest → o ≡ Some n → Gives rest o after
     → map shown next ≡ map shown now ++ map (standing d) (selected d ss n.location) → IsUnderWay d ss all old next after
-one_done d ss all old now next rest after n o visit is gives grown =
+one_done d ss all old now next rest after n o visit is gives more_of =
     let first = given_first d n o rest after visit.waiting is gives visit.walk in
     let one : List Location = selected d ss n.location in
     let so_far : List Location = flat_map (selected d ss) visit.done in
@@ -83,9 +76,7 @@ one_done d ss all old now next rest after n o visit is gives grown =
       parts = append_assoc visit.done (n.location ∷ []) first.more ∙ ap (λ ls. visit.done ++ ls) (sym first.first) ∙ visit.parts;
       walk = first.walk;
       there =
-          grown ∙ ap (λ t. t ++ map (standing d) one) visit.there
-          ∙ append_assoc (map shown old) (map (standing d) so_far) (map (standing d) one)
-          ∙ ap (λ t. map shown old ++ t) (sym (map-append (standing d) so_far one))
+          grown d so_far one old now next visit.there more_of
           ∙ ap (λ ls. map shown old ++ map (standing d) (so_far ++ ls)) (sym (append-nil one))
           ∙ ap (λ ls. map shown old ++ map (standing d) ls) (sym (flat_map-append (selected d ss) visit.done (n.location ∷ [])));
     }

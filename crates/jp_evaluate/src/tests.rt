@@ -53,3 +53,14 @@ fn descendant_segments(rt: HostRuntime) -> Result<(), Fail> {
     }
     Ok(())
 }
+
+#[test]
+fn half_a_million_segments(rt: HostRuntime) -> Result<(), Fail> {
+    let alloc = rt.alloc();
+    let mut query = String::from_str(alloc, "$")?;
+    for _ in 0..524_287 {
+        query.push_str(".a")?;
+    }
+    assert_eq!(rt; nodelist(alloc, NESTED, &query)?.as_str(), "");
+    Ok(())
+}
