@@ -3,6 +3,3 @@ pub mod CommandLineLemmas
 pub mod Rows
 pub mod LineLemmas
 pub mod RunLemmas
-pub mod PathTrees
-pub mod PathSpells
-pub mod LocationLaws

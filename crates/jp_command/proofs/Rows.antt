@@ -1,8 +1,14 @@
--- What some command lines ask for.
-use Rattle.std.proofs.Common.{◌≡◌, [], ◌∷◌, Some, None, codes, refl}
+-- What some command lines ask for, and what a run writes.
+use Rattle.std.proofs.Common.{◌≡◌, [], ◌∷◌, ◌++◌, true, false, negsuc, Some, None, codes, refl}
 use Rattle.clap.proofs.OnLiterals.{clap_on_literals}
 use Rattle.jp_command.specs.CommandLine.{asked, asking, jp}
-use Rattle.jp_command.specs.declared.lines.Form.TheVariants.{Values, Both}
+use Rattle.jp_command.specs.declared.lines.Form.TheVariants.{Values, Paths, Both}
+use Rattle.jp_command.specs.Lines.{output_of}
+use Rattle.jp_document.specs.Path.{index_text}
+use Rattle.jp_document.specs.Spelling.{spelling}
+use Rattle.jp_document.specs.Value.{Value, item, list, no_items, text}
+use Rattle.jp_query.specs.Tree.{QueryTree, index, query, segment, segments, selectors}
+use Rattle.jp_query.specs.declared.tree.Numeral.TheVariants.{Whole}
 use Rattle.jp_command.specs.declared.words.Task.TheVariants.{Eval}
 
 both : asked (codes "jp" ∷ codes "both" ∷ codes "$" ∷ []) ≡ Some (Eval Both, codes "$")
@@ -32,3 +38,22 @@ unknown_subcommand = refl
 help : asked (codes "jp" ∷ codes "help" ∷ []) ≡ None
 unfolding clap_on_literals jp asking
 help = refl
+
+-- `$[-2]` on `["a","b"]`, in each form
+abbrev two : Value
+two = list (item (text (codes "a")) (item (text (codes "b")) no_items))
+
+abbrev last_but_one : QueryTree
+last_but_one = query true (segments (segment false (selectors (index (Whole (negsuc 1)) ∷ [])) ∷ []))
+
+values_of : output_of Values last_but_one two ≡ 34 ∷ 97 ∷ 34 ∷ 10 ∷ []
+unfolding spelling
+values_of = refl
+
+paths_of : output_of Paths last_but_one two ≡ codes "$[0]" ++ 10 ∷ []
+unfolding index_text
+paths_of = refl
+
+both_of : output_of Both last_but_one two ≡ codes "$[0]" ++ 9 ∷ 34 ∷ 97 ∷ 34 ∷ 10 ∷ []
+unfolding index_text spelling
+both_of = refl

@@ -5,4 +5,3 @@ pub mod Lines
 pub mod Faults
 pub mod Run
 pub mod Line
-pub mod Laws

@@ -15,7 +15,6 @@ mod device;
 mod eval;
 mod fault;
 mod input;
-pub mod laws;
 mod line;
 mod lines;
 mod output;

@@ -1,1 +1,2 @@
 pub mod Nodelist
+pub mod Laws

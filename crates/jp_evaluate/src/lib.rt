@@ -7,10 +7,12 @@
 //! ```
 //!
 //! The contract for the crates above: `evaluate` gives the document's own nodes at the locations of the query's
-//! nodelist, by `specs/Nodelist.antt`, in order and with repeats.
+//! nodelist, by `specs/Nodelist.antt`, in order and with repeats. The law in `laws` says that the normalized path of a
+//! node, read as a query, selects that node alone.
 #![tactic(auto)]
 
 mod evaluation;
+pub mod laws;
 mod segment;
 #[cfg(test)]
 mod tests;

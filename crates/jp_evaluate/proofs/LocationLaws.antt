@@ -19,9 +19,9 @@ use Rattle.jp_query.specs.declared.refusal.RefusalKind.{RefusalKind}
 use Rattle.jp_query.specs.declared.refusal.RefusalKind.TheVariants as kind
 use Rattle.jp_query.specs.declared.tree.Numeral.{Numeral}
 use Rattle.jp_query.specs.declared.tree.Numeral.TheVariants.{Whole}
-use Rattle.jp_command.specs.Laws.{HasTextNames, PathSelectsItsNode}
-use Rattle.jp_command.proofs.PathSpells.{path-is_query}
-use Rattle.jp_command.proofs.PathTrees.{IndexesFit, path_tree, step_segment}
+use Rattle.jp_evaluate.specs.Laws.{HasTextNames, PathSelectsItsNode}
+use Rattle.jp_evaluate.proofs.PathBytes.{path-is_query}
+use Rattle.jp_evaluate.proofs.PathTrees.{IndexesFit, path_tree, step_segment}
 use Rattle.jp_evaluate.specs.Nodelist.{result, segment_result}
 use Rattle.jp_select.specs.Selectors.{one_step}
 use Rattle.std.proofs.lemmas.Str.{encodes-chars}

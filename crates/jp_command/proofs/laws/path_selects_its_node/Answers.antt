@@ -1,5 +1,0 @@
-use Rattle.jp_command.proofs.LocationLaws.{path_selects_its_node}
-use Rattle.jp_command.proofs.laws.path_selects_its_node.Goals as goal
-
-pub returns : goal.returns
-returns c = path_selects_its_node
