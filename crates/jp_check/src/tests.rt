@@ -56,11 +56,28 @@ fn texts_are_refused_with_their_first_faults(rt: HostRuntime) -> Result<(), Fail
             RefusalKind::IndexRange,
             2,
         ),
-        ("$.é[0][99999999999999999999]", RefusalKind::IndexRange, 8),
+        ("$.é[0, 99999999999999999999]", RefusalKind::IndexRange, 8),
+        ("$..[*, -9007199254740992]", RefusalKind::IndexRange, 7),
+        ("$[0:9007199254740992]", RefusalKind::IndexRange, 4),
+        ("$[::][::-9007199254740992]", RefusalKind::IndexRange, 8),
         ("$[9007199254740992", RefusalKind::Syntax, 18),
     ];
     for (text, kind, place) in rows {
         assert!(rt; is_refused(alloc, text, kind, place), "{text:?} at {place}");
     }
+    Ok(())
+}
+
+#[test]
+fn half_a_million_segments_are_accepted(rt: HostRuntime) -> Result<(), Fail> {
+    let alloc = rt.alloc();
+    let mut text = String::from_str(alloc, "$")?;
+    for _ in 0..524_288 {
+        text.push_str(".a")?;
+    }
+    let Ok(checked) = read_query(alloc, &text) else {
+        panic!(rt; "refused");
+    };
+    assert_eq!(rt; checked.query().segments.len(), 524_288);
     Ok(())
 }

@@ -82,10 +82,10 @@ impl Document {
         ensures { option_map (λ j. value_of j.now) result
             ≡ value_at (document_of self.now) location.now }
     {
-        let mut json = self.json();
+        let mut value = self.json();
         for step in location.steps() {
-            json = child_value(json, step.as_step())?;
+            value = child_value(value, step.as_step())?;
         }
-        Some(json)
+        Some(value)
     }
 }

@@ -1,15 +1,18 @@
 //! JSON documents whose numbers are whole, their nodes, and normalized paths (RFC 9535).
 //!
 //! `Document::read` takes a document from bytes, `Document::root`, `child_named` and `child_at` walk its
-//! nodes, `path_text` and `value_text` print one:
+//! nodes, `path_text` and `value_text` print one. `read_path` reads a path again, and `Document::find` finds
+//! the value at its location:
 //!
 //! ```text
 //! let document = Document::read(alloc, b"{\"a\":[1,2]}")?;
 //! let a = child_named(alloc, &document.root(alloc), "a")?;   // $['a'] [1,2]
+//! let two = document.find(&read_path(alloc, "$['a'][1]")?);   // 2
 //! ```
 //!
 //! For the layer above: `read` accepts exactly the documents and names the first number that is no whole
-//! one; each node stands in its document, with the document's own value; paths and texts are exact.
+//! one; each node stands in its document, with the document's own value; paths and texts are exact, and
+//! `read_path` accepts exactly the normalized paths, of which no two locations have the same.
 #![tactic(auto)]
 
 mod characters;

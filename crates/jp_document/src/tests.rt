@@ -1,6 +1,6 @@
 //! Rows of documents, nodes and paths.
 use crate::{
-    Document, DocumentFault, Json, Step, child_at, child_named, path_text, quote, value_text,
+    Document, DocumentFault, Step, child_at, child_named, children, path_text, quote, value_text,
 };
 use std::test::Fail;
 
@@ -37,6 +37,22 @@ fn children_by_index(rt: HostRuntime) -> Result<(), Fail> {
     assert_eq!(rt; path_text(alloc, second.location())?.as_str(), "$[1]");
     assert_eq!(rt; value_text(alloc, second.value())?.as_str(), r#""b""#);
     assert!(rt; child_at(alloc, &root, 2)?.is_none());
+    Ok(())
+}
+
+#[test]
+fn children_in_document_order(rt: HostRuntime) -> Result<(), Fail> {
+    let alloc = rt.alloc();
+    let text = br#"{"o":{"j":1,"k":2},"a":[5,3,[{"j":4},{"k":6}]]}"#;
+    let document = Document::read(alloc, text)?;
+    let nodes = children(alloc, &document.root(alloc))?;
+    assert_eq!(rt; nodes.len(), 2);
+    assert_eq!(rt; path_text(alloc, nodes[0].location())?.as_str(), "$['a']");
+    assert_eq!(rt; path_text(alloc, nodes[1].location())?.as_str(), "$['o']");
+    assert_eq!(rt;
+        value_text(alloc, nodes[1].value())?.as_str(),
+        r#"{"j":1,"k":2}"#
+    );
     Ok(())
 }
 

@@ -1,4 +1,6 @@
+pub mod Rows
 pub mod Segments
+pub mod Visits
 pub mod PathTrees
 pub mod SpelledNames
 pub mod PathSpells

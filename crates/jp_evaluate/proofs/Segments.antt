@@ -1,7 +1,7 @@
 -- The nodes that segments select.
-use Rattle.std.proofs.Common.{◌≡◌, ℕ, suc, ◌+◌, ◌<◌, ◌≤◌, true, false, List, [], ◌∷◌, ◌++◌, Some, length, map, take, drop, drop-cons, slice_index_or, refl, ap, ◌∙◌, sym, append_assoc, arith}
+use Rattle.std.proofs.Common.{◌≡◌, ℕ, suc, ◌+◌, ◌<◌, true, false, List, [], ◌∷◌, ◌++◌, Some, length, map, take, drop, drop-cons, slice_index_or, refl, ap, ◌∙◌, sym, append_assoc, arith}
 use Rattle.std.specs.List.{All, flat_map}
-use Rattle.std.proofs.lemmas.List.{append-nil, map-append, take_all, take_more}
+use Rattle.std.proofs.lemmas.List.{append-nil, map-append, take_more}
 use Rattle.std.proofs.lemmas.Grind.{flat_map-append}
 use Rattle.std.proofs.lemmas.List.Elements.{All-cons, All-nil}
 use Rattle.jp_document.specs.ChildNodes.{AreNodes, shown, standing}
@@ -18,6 +18,16 @@ use Rattle.jp_evaluate.specs.Nodelist.{location_of, result, segment_result, sele
 
 -- ---- lists that grow by what each element gives
 
+-- what more there is comes after what there was
+pub grown : (d : Value) (so_far more : List Location) (old now next : List Located)
+    → map shown now ≡ map shown old ++ map (standing d) so_far
+    → map shown next ≡ map shown now ++ map (standing d) more
+    → map shown next ≡ map shown old ++ map (standing d) (so_far ++ more)
+grown d so_far more old now next before more_of =
+    more_of ∙ ap (λ t. t ++ map (standing d) more) before
+    ∙ append_assoc (map shown old) (map (standing d) so_far) (map (standing d) more)
+    ∙ ap (λ t. map shown old ++ t) (sym (map-append (standing d) so_far more))
+
 -- one element more
 pub grown-next : {X : Type 0} (d : Value) (gives : List X → List Location)
     → ((xs ys : List X) → gives (xs ++ ys) ≡ gives xs ++ gives ys)
@@ -25,15 +35,11 @@ pub grown-next : {X : Type 0} (d : Value) (gives : List X → List Location)
     → map shown now ≡ map shown old ++ map (standing d) (gives (take i xs))
     → map shown next ≡ map shown now ++ map (standing d) (gives (x ∷ []))
     → map shown next ≡ map shown old ++ map (standing d) (gives (take (i + 1) xs))
-grown-next d gives joined old now next xs i x within at before grown =
-    let so_far : List Location = gives (take i xs) in
-    let more : List Location = gives (x ∷ []) in
-    let all : gives (take (i + 1) xs) ≡ so_far ++ more =
+grown-next d gives joined old now next xs i x within at before more_of =
+    let all : gives (take (i + 1) xs) ≡ gives (take i xs) ++ gives (x ∷ []) =
     ap gives (take_more xs i x within) ∙ joined (take i xs) (slice_index_or xs i x ∷ [])
-    ∙ ap (λ y. so_far ++ gives (y ∷ [])) (sym at) in
-    grown ∙ ap (λ t. t ++ map (standing d) more) before
-    ∙ append_assoc (map shown old) (map (standing d) so_far) (map (standing d) more)
-    ∙ ap (λ t. map shown old ++ t) (sym (map-append (standing d) so_far more))
+    ∙ ap (λ y. gives (take i xs) ++ gives (y ∷ [])) (sym at) in
+    grown d (gives (take i xs)) (gives (x ∷ [])) old now next before more_of
     ∙ ap (λ t. map shown old ++ map (standing d) t) (sym all)
 
 -- ---- selectors
@@ -75,27 +81,27 @@ by_segment-append d s ns ms = ap (segment_result s d) (map-append location_of ns
 pub child_segment-one : (d : Value) (ss : SelectorTrees) (l : Location) → segment_result (segment false ss) d (l ∷ []) ≡ selected d ss l
 child_segment-one d ss l = append-nil (selected d ss l)
 
--- a descendant segment at one node is the child segment at it and its descendants
-pub descendant_segment-one : (d : Value) (ss : SelectorTrees) (l : Location)
-    → segment_result (segment true ss) d (l ∷ []) ≡ segment_result (segment false ss) d (below d l)
-descendant_segment-one d ss l = ap (flat_map (selected d ss)) (append-nil (below d l))
-
 -- ---- the nodes of a list
+
+pub head-same : {X : Type 0} {x y : X} {xs ys : List X} → x ∷ xs ≡ y ∷ ys → x ≡ y
+head-same e = cc
+
+pub tail-same : {X : Type 0} {x y : X} {xs ys : List X} → x ∷ xs ≡ y ∷ ys → xs ≡ ys
+tail-same e = cc
+
+-- the place of a node is that of a location
+pub place-same : (d : Value) (n : Located) (l : Location) → shown n ≡ standing d l → n.location ≡ l
+place-same d n l e = ap (λ (p : Place). p.0) e
+
+pub value-same : (d : Value) (n : Located) (l : Location) → shown n ≡ standing d l → value_at d n.location ≡ Some (value_of n.value)
+value-same d n l e = ap (value_at d) (place-same d n l e) ∙ sym (ap (λ (p : Place). p.1) e)
 
 -- nodes of d stand in it
 pub nodes-stand : (d : Value) (nodes : List Located) (ls : List Location) → IsDocumentValue d → AreNodes d nodes ls → All (StandsIn d) nodes
 nodes-stand d [] ls document are = All-nil (StandsIn d)
 nodes-stand d (n ∷ ns) [] document are = absurd (cc)
 nodes-stand d (n ∷ ns) (l ∷ ls) document are =
-    let same : n.location ≡ l = ap (λ (p : Place). p.0) (head-same are) in
-    let there : value_at d n.location ≡ Some (value_of n.value) = ap (value_at d) same ∙ sym (ap (λ (p : Place). p.1) (head-same are)) in
-    All-cons (StandsIn d) n ns (record { document = document; there = there }) (nodes-stand d ns ls document (tail-same are))
-  where
-    head-same : {X : Type 0} {x y : X} {xs ys : List X} → x ∷ xs ≡ y ∷ ys → x ≡ y
-    head-same e = cc
-
-    tail-same : {X : Type 0} {x y : X} {xs ys : List X} → x ∷ xs ≡ y ∷ ys → xs ≡ ys
-    tail-same e = cc
+    All-cons (StandsIn d) n ns (record { document = document; there = value-same d n l (head-same are) }) (nodes-stand d ns ls document (tail-same are))
 
 -- their locations are the list
 pub nodes-locations : (d : Value) (nodes : List Located) (ls : List Location) → AreNodes d nodes ls → map location_of nodes ≡ ls
@@ -111,16 +117,6 @@ nodes-locations d nodes ls are = sym (firsts_shown nodes) ∙ ap (map first_of) 
     firsts_standing : (ls : List Location) → map first_of (map (standing d) ls) ≡ ls
     firsts_standing [] = refl
     firsts_standing (l ∷ ls) = ap (λ t. l ∷ t) (firsts_standing ls)
-
--- all visited nodes have been served
-pub below_selected : (d : Value) (ss : SelectorTrees) (l : Location) (old now visited : List Located) (i : ℕ) → length visited ≤ i
-    → AreNodes d visited (below d l)
-    → map shown now ≡ map shown old ++ map (standing d) (by_segment d (segment false ss) (take i visited))
-    → map shown now ≡ map shown old ++ map (standing d) (segment_result (segment true ss) d (l ∷ []))
-below_selected d ss l old now visited i all are grown =
-    grown ∙ ap (λ ns. map shown old ++ map (standing d) (by_segment d (segment false ss) ns)) (take_all i visited all)
-    ∙ ap (λ ls. map shown old ++ map (standing d) (segment_result (segment false ss) d ls)) (nodes-locations d visited (below d l) are)
-    ∙ ap (λ ls. map shown old ++ map (standing d) ls) (sym (descendant_segment-one d ss l))
 
 -- ---- the segments of a query
 

@@ -8,7 +8,7 @@ ghost use Rattle.jp_evaluate.specs.Nodelist.{location_of, segment_result, select
 
 use jp_document::Node;
 use jp_query::{Segment, Selector};
-use jp_select::{descend, select_plain};
+use jp_select::{descend_each, select_plain};
 use std::alloc::{AllocError, Global};
 
 /// What a segment selects at nodes, joined in their order.
@@ -56,9 +56,9 @@ fn push_below<'d>(
         ≡ map shown found.old.items ++ map (standing d)
         (segment_result (segment true (selector_trees (map selector_of selectors.now))) d (node.now.location ∷ []))) }
 {
-    let visited = descend(alloc, node.copy(alloc)?)?;
-    for place in &visited {
-        push_selected(alloc, selectors, place, found)?;
+    let mut descent = descend_each(alloc, node.copy(alloc)?);
+    while let Some(next) = descent.advance()? {
+        push_selected(alloc, selectors, &next, found)?;
     }
     Ok(())
 }

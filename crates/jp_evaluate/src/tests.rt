@@ -30,6 +30,7 @@ fn child_segments(rt: HostRuntime) -> Result<(), Fail> {
             "$[*][*]",
             " $['a'][0] $['a'][1] $['a'][2] $['o']['j'] $['o']['k']",
         ),
+        ("$.a[::-1]", " $['a'][2] $['a'][1] $['a'][0]"),
         ("$.a.j", ""),
     ] {
         assert_eq!(rt; nodelist(alloc, NESTED, query)?.as_str(), paths);
@@ -50,5 +51,16 @@ fn descendant_segments(rt: HostRuntime) -> Result<(), Fail> {
     ] {
         assert_eq!(rt; nodelist(alloc, NESTED, query)?.as_str(), paths);
     }
+    Ok(())
+}
+
+#[test]
+fn half_a_million_segments(rt: HostRuntime) -> Result<(), Fail> {
+    let alloc = rt.alloc();
+    let mut query = String::from_str(alloc, "$")?;
+    for _ in 0..524_287 {
+        query.push_str(".a")?;
+    }
+    assert_eq!(rt; nodelist(alloc, NESTED, &query)?.as_str(), "");
     Ok(())
 }

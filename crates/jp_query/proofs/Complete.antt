@@ -1,23 +1,27 @@
 -- What spells a value is read as that value, where what follows it may follow.
-use Rattle.std.proofs.Common.{◌≡◌, ℕ, Bool, true, false, List, [], ◌∷◌, ◌++◌, Option, Some, None, refl, sym, ap, ◌∙◌, subst, arith, ◌||◌}
+use Rattle.jp_query.specs.declared.tree.Slice.{Slice}
+use Rattle.jp_query.specs.Slices.{Bound, no_bound, bound, Step, no_step, empty_step, given_step, Sliced}
+use Rattle.std.specs.Char.{len_utf8}
+use Rattle.std.proofs.lemmas.Bool.{cases_Bool}
+use Rattle.jp_reading.proofs.Chars.{skip-none, after_blank-same}
+use Rattle.std.proofs.Common.{◌≡◌, ℕ, Bool, true, false, List, [], ◌∷◌, ◌++◌, Option, Some, None, refl, sym, ap, ◌∙◌, subst, arith, ◌||◌, inl, inr, append-nil, ◌+◌}
 use Rattle.std.proofs.lemmas.Bool.Decides.{nat_tests}
 use Rattle.jp_query.specs.declared.tree.Numeral.{Numeral}
-use Rattle.jp_reading.specs.Texts.{Text, is_blank}
-use Rattle.jp_reading.specs.Forms.{◌⌢◌, word, One, Each, Blank, Item, AllPassing, Form, Separated}
-use Rattle.jp_reading.specs.Outcome.{State, took, head, first_of, skip, passes, is, is_at, after_blank, each}
+use Rattle.jp_reading.specs.Texts.{Text, is_blank, Spans, bytes}
+use Rattle.jp_reading.specs.Forms.{◌⌢◌, word, One, Each, Blank, Item, AllPassing, Form, Separated, Omitted}
+use Rattle.jp_reading.specs.Outcome.{State, took, head, first_of, skip, passes, is, is_at, after_blank, omit, past_blanks, item}
 use Rattle.jp_reading.specs.Numbers.{is_digit, value_from}
-use Rattle.jp_reading.specs.Views.{by}
-use Rattle.jp_reading.proofs.Between.{Reads, reads-as, reads-is}
+use Rattle.jp_reading.proofs.Between.{Reads, reads-as, reads-is, between-then, state-same}
 use Rattle.jp_reading.proofs.Runs.{Run, each-run, again-run}
 use Rattle.jp_reading.proofs.Steps.{is_at-other, passes-apart}
-use Rattle.jp_reading.proofs.Again.{split, word-first, one-first, again-take_if, again-expect, again-skip, inside, again-item, again-each, past-word, again-separated, at-word}
-use Rattle.jp_query.specs.Tree.{SelectorTree, name, index, SegmentTree}
+use Rattle.jp_reading.proofs.Again.{split, word-first, one-first, again-take_if, again-expect, again-skip, inside, again-item, again-each, past-word, again-separated, at-word, reads-none}
+use Rattle.jp_query.specs.Tree.{SelectorTree, SegmentTree, slice}
 use Rattle.jp_query.specs.Names.{is_name_first, is_name_char, Shorthand, shorthand}
 use Rattle.jp_query.specs.Strings.{is_escapable, Character, Between as Marked, in_double, in_single}
 use Rattle.jp_query.proofs.Escapes.{characters-again}
 use Rattle.jp_query.specs.Ints.{is_leading_digit, Unsigned, Int, zero_int, positive_int, negative_int}
-use Rattle.jp_query.specs.Grammar.{Selector, named, indexed, Segment, bracketed, dotted, any, Bracket, Member, star, member, deep_bracketed, deep_dotted}
-use Rattle.jp_query.specs.Reading.{run_at, begins_character, shorthand_at, quoted_at, size_at, int_at, selector_at, bracket_at, segment_at, segments_at, begins_segment, entry_at, another_at, entries_at, member_at, selection_at}
+use Rattle.jp_query.specs.Grammar.{Selector, named, indexed, Segment, bracketed, dotted, any, Bracket, Member, star, member, deep_bracketed, deep_dotted, sliced}
+use Rattle.jp_query.specs.Reading.{run_at, begins_character, shorthand_at, quoted_at, size_at, int_at, selector_at, bracket_at, segment_at, segments_at, begins_segment, entry_at, another_at, entries_at, member_at, selection_at, begins_int, bound_at, later_step_at, step_at, slice_of, slice_at, number_at}
 use Rattle.jp_query.proofs.Moves.{segment-progress, another-progress}
 use Rattle.jp_query.proofs.Rules.{comma, segment_of_all, segment_of_one}
 
@@ -94,10 +98,6 @@ int-cases x p q h (negative_int c more e w) off =
 int-again : (x : Numeral) (p q : State) → Reads (Int x) p q → passes is_digit (head q) ≡ false → int_at p ≡ took x q
 int-again x p q h off = int-cases x p q h h.is off
 
--- whether a character may begin a whole number
-abbrev begins_int : ℕ → Bool
-begins_int c = is 48 c || is 45 c || is_leading_digit c
-
 int-first : (x : Numeral) (p q : State) (h : Reads (Int x) p q) → Int x h.spans p.at h.text → passes begins_int (head p) ≡ true
 int-first x p q h (zero_int e w) = rw (word-first 48 [] p q (reads-is (Int x) (word (48 ∷ [])) p q h w)) refl
 int-first x p q h (positive_int c more e w) =
@@ -116,42 +116,9 @@ mark-first quote cs p q h =
     let parts = split (word (quote ∷ [])) (Each (Character quote) cs ⌢ word (quote ∷ [])) p q h in
     word-first quote [] p parts.middle parts.one
 
-selector-cases : (n : ℕ) (x : SelectorTree) (p q : State) (h : Reads (Selector n x) p q) → Selector n x h.spans p.at h.text
-    → passes is_digit (head q) ≡ false → selector_at n p ≡ took x q
-unfolding selector_at
-selector-cases n x p q h (named cs e (in_double w)) off =
-    let string = reads-is (Selector n x) (Marked 34 cs) p q h w in
-    let double : is_at 34 p ≡ true = rw (mark-first 34 cs p q string) refl in
-    rw (double, quoted-again 34 refl refl cs p q string, e) refl
-selector-cases n x p q h (named cs e (in_single w)) off =
-    let string = reads-is (Selector n x) (Marked 39 cs) p q h w in
-    let double : is_at 34 p ≡ false = rw (mark-first 39 cs p q string) refl in
-    let single : is_at 39 p ≡ true = rw (mark-first 39 cs p q string) refl in
-    rw (double, single, quoted-again 39 refl refl cs p q string, e) refl
-selector-cases n x p q h (any e w) off =
-    let one = reads-is (Selector n x) (word (42 ∷ [])) p q h w in
-    let first = word-first 42 [] p q one in
-    let double : is_at 34 p ≡ false = rw first refl in
-    let single : is_at 39 p ≡ false = rw first refl in
-    let at_star : is_at 42 p ≡ true = rw first refl in
-    rw (double, single, at_star, past-word 42 p q one, e) refl
-selector-cases n x p q h (indexed i e w) off =
-    let number = reads-is (Selector n x) (Item (Int i)) p q h w in
-    let part = inside (Int i) p q number in
-    let first = int-first i p part.middle part.reads part.reads.is in
-    let double : is_at 34 p ≡ false = passes-apart begins_int (is 34) (head p) (int-not_mark 34 refl) first in
-    let single : is_at 39 p ≡ false = passes-apart begins_int (is 39) (head p) (int-not_mark 39 refl) first in
-    let at_star : is_at 42 p ≡ false = passes-apart begins_int (is 42) (head p) (int-not_mark 42 refl) first in
-    rw (double, single, at_star, e)
-    (again-item (Int i) (index i) p q (by index (int_at p)) number
-    (λ m reads same. ap (by index) (int-again i p m reads (ap (λ t. passes is_digit (first_of t)) same ∙ off))))
-
-selector-again : (n : ℕ) (x : SelectorTree) (p q : State) → Reads (Selector n x) p q → passes is_digit (head q) ≡ false → selector_at n p ≡ took x q
-selector-again n x p q h off = selector-cases n x p q h h.is off
-
 -- whether a character may begin a selector
 abbrev begins_selector : ℕ → Bool
-begins_selector c = is 34 c || is 39 c || is 42 c || begins_int c
+begins_selector c = is 34 c || is 39 c || is 42 c || is 58 c || begins_int c
 
 int-selector : (c : ℕ) → begins_int c ≡ true → begins_selector c ≡ true
 int-selector c h = grind (arith, nat_tests)
@@ -159,6 +126,21 @@ int-selector c h = grind (arith, nat_tests)
 within : (ok other : ℕ → Bool) (o : Option ℕ) → ((c : ℕ) → ok c ≡ true → other c ≡ true) → passes ok o ≡ true → passes other o ≡ true
 within ok other None w h = h
 within ok other (Some c) w h = w c h
+
+colon-first : (y : Slice) (p q : State) → Reads (word (58 ∷ []) ⌢ Blank ⌢ Bound y.end ⌢ Step y.step) p q → head p ≡ Some 58
+colon-first y p q h =
+    let one = split (word (58 ∷ [])) (Blank ⌢ Bound y.end ⌢ Step y.step) p q h in
+    word-first 58 [] p one.middle one.one
+
+slice-first : (y : Slice) (p m q : State) (h : Reads (Bound y.start) p m) → Bound y.start h.spans p.at h.text
+    → Reads (word (58 ∷ []) ⌢ Blank ⌢ Bound y.end ⌢ Step y.step) m q → passes begins_selector (head p) ≡ true
+slice-first y p m q h (no_bound e w) g =
+    let first : head p ≡ Some 58 = ap head (reads-none p m (reads-is (Bound y.start) (word []) p m h w)) ∙ colon-first y m q g in
+    rw first refl
+slice-first y p m q h (bound i e w) g =
+    let parts = split (Item (Int i)) Blank p m (reads-is (Bound y.start) (Item (Int i) ⌢ Blank) p m h w) in
+    let part = inside (Int i) p parts.middle parts.one in
+    within begins_int begins_selector (head p) int-selector (int-first i p part.middle part.reads part.reads.is)
 
 selector-first : (n : ℕ) (x : SelectorTree) (p q : State) (h : Reads (Selector n x) p q) → Selector n x h.spans p.at h.text
     → passes begins_selector (head p) ≡ true
@@ -168,6 +150,10 @@ selector-first n x p q h (any e w) = rw (word-first 42 [] p q (reads-is (Selecto
 selector-first n x p q h (indexed i e w) =
     let part = inside (Int i) p q (reads-is (Selector n x) (Item (Int i)) p q h w) in
     within begins_int begins_selector (head p) int-selector (int-first i p part.middle part.reads part.reads.is)
+selector-first n x p q h (sliced y e w) =
+    let all = reads-is (Selector n x) (Sliced y) p q h w in
+    let start = split (Bound y.start) (word (58 ∷ []) ⌢ Blank ⌢ Bound y.end ⌢ Step y.step) p q all in
+    slice-first y p start.middle q start.one start.one.is start.two
 
 selector-not_blank : (c : ℕ) → begins_selector c ≡ true → is_blank c ≡ false
 unfolding is_blank
@@ -202,17 +188,260 @@ closes-not_blank : (c : ℕ) → closes c ≡ true → is_blank c ≡ false
 unfolding is_blank
 closes-not_blank c h = grind (arith, nat_tests)
 
+closes-not_colon : (c : ℕ) → closes c ≡ true → is 58 c ≡ false
+closes-not_colon c h = grind (arith, nat_tests)
+
+closes-not_int : (c : ℕ) → closes c ≡ true → begins_int c ≡ false
+closes-not_int c h = grind (arith, nat_tests)
+
+int-not_blank : (c : ℕ) → begins_int c ≡ true → is_blank c ≡ false
+unfolding is_blank
+int-not_blank c h = grind (arith, nat_tests)
+
+colon-not_blank : is_blank 58 ≡ false
+unfolding is_blank
+colon-not_blank = refl
+
+colon-not_digit : is_digit 58 ≡ false
+unfolding is_digit
+colon-not_digit = refl
+
+-- a whole number as an item, up to what is no digit
+int_item-again : (i : Numeral) (p q : State) → Reads (Item (Int i)) p q → passes is_digit (head q) ≡ false → item p (int_at p) ≡ took i q
+int_item-again i p q h off =
+    again-item (Int i) i p q (int_at p) h (λ m reads same. int-again i p m reads (ap (λ t. passes is_digit (first_of t)) same ∙ off))
+
+int_item-first : (i : Numeral) (p q : State) → Reads (Item (Int i)) p q → passes begins_int (head p) ≡ true
+int_item-first i p q h =
+    let part = inside (Int i) p q h in
+    int-first i p part.middle part.reads part.reads.is
+
+-- ---- omitted items and blanks
+
+omitted-state : (p q : State) → Reads Omitted p q → omit p ≡ q
+omitted-state p q h =
+    state-same (omit p) q (sym (h.way.at ∙ ap (λ t. p.at + bytes t) h.is.is ∙ omega arith)) (h.way.rest ∙ ap (λ t. t ++ q.rest) h.is.is)
+    (sym (h.way.found ∙ ap (λ s. p.found ++ s) h.is.spans))
+
+blank-omit : (p q : State) → Reads Blank p q → Reads Blank (omit p) (omit q)
+blank-omit p q h = record {
+  spans = [];
+  text = h.text;
+  way = record {
+    rest = h.way.rest;
+    at = h.way.at;
+    found = ap (λ f. f ++ None ∷ []) (h.way.found ∙ ap (λ s. p.found ++ s) h.is.none ∙ append-nil p.found) ∙ sym (append-nil (p.found ++ None ∷ []));
+  };
+  is = record { none = refl; blank = h.is.blank };
+}
+
+all-append : (ok : ℕ → Bool) (t u : Text) → AllPassing ok t → AllPassing ok u → AllPassing ok (t ++ u)
+all-append ok [] u f g = g
+all-append ok (c ∷ t) u f g = (f.0, all-append ok t u f.1 g)
+
+blank-join : (p m q : State) → Reads Blank p m → Reads Blank m q → Reads Blank p q
+blank-join p m q h g = record {
+  spans = h.spans ++ g.spans;
+  text = h.text ++ g.text;
+  way = between-then p m q h.spans g.spans h.text g.text h.way g.way;
+  is = record { none = rw (h.is.none, g.is.none) refl; blank = all-append is_blank h.text g.text h.is.blank g.is.blank };
+}
+
+blanks-omit : (at : ℕ) (found : Spans) (t : Text) → past_blanks at (found ++ None ∷ []) t ≡ omit (past_blanks at found t)
+unfolding past_blanks
+blanks-omit at found [] = refl
+blanks-omit at found (c ∷ t) =
+    elim (cases_Bool (is_blank c)) [
+      | inl blank ↦ rw blank (blanks-omit (at + len_utf8 c) found t)
+      | inr other ↦ rw other refl
+    ]
+
+-- an item that is omitted among blanks is omitted behind them
+omit-trails : (p d m q : State) → Reads Blank p d → Reads Omitted d m → Reads Blank m q → passes is_blank (head q) ≡ false
+    → (omit (skip p) ≡ q) × Reads Blank (omit p) q
+omit-trails p d m q before none after solid =
+    let all = blank-join (omit p) m q (subst (λ (r : State). Reads Blank (omit p) r) (omitted-state d m none) (blank-omit p d before)) after in
+    (sym (blanks-omit p.at p.found p.rest) ∙ again-skip (omit p) q all solid, all)
+
+-- ---- slices
+
+-- a step is read behind blanks, and reading ends before blanks alone
+record StepRead (x : Numeral) (p q : State) : Type 0 where
+  r : State
+  reads : step_at (skip p) ≡ took x r
+  ends : skip r ≡ q
+  no_int : passes begins_int (head (skip p)) ≡ false
+  no_digit : passes is_digit (head p) ≡ false
+
+step-cases : (x : Numeral) (p d m q : State) → Reads Blank p d → (h : Reads (Step x) d m) → Step x h.spans d.at h.text → Reads Blank m q
+    → passes closes (head q) ≡ true → StepRead x p q
+unfolding step_at later_step_at
+step-cases x p d m q before h (no_step e w) after ends =
+    let solid = passes-apart closes is_blank (head q) closes-not_blank ends in
+    let trail = omit-trails p d m q before (reads-is (Step x) Omitted d m h w) after solid in
+    let same : head (skip p) ≡ head q = ap head trail.0 in
+    let colon : is_at 58 (skip p) ≡ false = ap (passes (is 58)) same ∙ passes-apart closes (is 58) (head q) closes-not_colon ends in
+    record {
+      r = omit (skip p);
+      reads = rw (colon, e) refl;
+      ends = ap skip trail.0 ∙ skip-none q solid;
+      no_int = ap (passes begins_int) same ∙ passes-apart closes begins_int (head q) closes-not_int ends;
+      no_digit = blank-follow is_digit blank-not_digit (omit p) q trail.1 (passes-apart closes is_digit (head q) closes-not_digit ends);
+    }
+step-cases x p d m q before h (empty_step e w) after ends =
+    let parts = split (word (58 ∷ [])) Omitted d m (reads-is (Step x) (word (58 ∷ []) ⌢ Omitted) d m h w) in
+    let first = word-first 58 [] d parts.middle parts.one in
+    let solid : passes is_blank (head d) ≡ false = rw first colon-not_blank in
+    let skipped = again-skip p d before solid in
+    let none = omitted-state parts.middle m parts.two in
+    let last = again-skip m q after (passes-apart closes is_blank (head q) closes-not_blank ends) in
+    let later : passes begins_int (after_blank parts.middle) ≡ false =
+    ap (passes begins_int) (after_blank-same parts.middle m (ap (λ (r : State). r.rest) none) ∙ ap head last)
+    ∙ passes-apart closes begins_int (head q) closes-not_int ends in
+    record {
+      r = m;
+      reads = rw (skipped, at-word 58 [] d parts.middle parts.one, past-word 58 d parts.middle parts.one, later, none, e) refl;
+      ends = last;
+      no_int = ap (λ (r : State). passes begins_int (head r)) skipped ∙ rw first refl;
+      no_digit = blank-follow is_digit blank-not_digit p d before (rw first colon-not_digit);
+    }
+step-cases x p d m q before h (given_step w) after ends =
+    let one = split (word (58 ∷ [])) (Blank ⌢ Item (Int x)) d m (reads-is (Step x) (word (58 ∷ []) ⌢ Blank ⌢ Item (Int x)) d m h w) in
+    let two = split Blank (Item (Int x)) one.middle m one.two in
+    let first = word-first 58 [] d one.middle one.one in
+    let solid : passes is_blank (head d) ≡ false = rw first colon-not_blank in
+    let skipped = again-skip p d before solid in
+    let begins = int_item-first x two.middle m two.two in
+    let inner = again-skip one.middle two.middle two.one (passes-apart begins_int is_blank (head two.middle) int-not_blank begins) in
+    let later : passes begins_int (after_blank one.middle) ≡ true = ap (λ (r : State). passes begins_int (head r)) inner ∙ begins in
+    let off = blank-follow is_digit blank-not_digit m q after (passes-apart closes is_digit (head q) closes-not_digit ends) in
+    record {
+      r = m;
+      reads = rw (skipped, at-word 58 [] d one.middle one.one, past-word 58 d one.middle one.one, later, inner) (int_item-again x two.middle m two.two off);
+      ends = again-skip m q after (passes-apart closes is_blank (head q) closes-not_blank ends);
+      no_int = ap (λ (r : State). passes begins_int (head r)) skipped ∙ rw first refl;
+      no_digit = blank-follow is_digit blank-not_digit p d before (rw first colon-not_digit);
+    }
+
+-- a slice is read from its colon on
+record RestRead (y : Slice) (p q : State) : Type 0 where
+  r : State
+  reads : slice_at y.start p ≡ took y r
+  ends : skip r ≡ q
+
+bound-cases : (y : Slice) (p b c d m q : State) → Reads (word (58 ∷ [])) p b → Reads Blank b c → (h : Reads (Bound y.end) c d) → Bound y.end h.spans c.at h.text
+    → Reads (Step y.step) d m → Reads Blank m q → passes closes (head q) ≡ true → RestRead y p q
+unfolding slice_at bound_at
+bound-cases y p b c d m q colon before h (no_bound e w) g after ends =
+    let same = reads-none c d (reads-is (Bound y.end) (word []) c d h w) in
+    let steps = step-cases y.step b d m q (subst (λ (r : State). Reads Blank b r) same before) g g.is after ends in
+    record {
+      r = steps.r;
+      reads = rw (again-expect 58 p b colon, steps.no_int, steps.reads) (ap (λ (z : Option Numeral). took (slice_of y.start z y.step) steps.r) (sym e));
+      ends = steps.ends;
+    }
+bound-cases y p b c d m q colon before h (bound i e w) g after ends =
+    let parts = split (Item (Int i)) Blank c d (reads-is (Bound y.end) (Item (Int i) ⌢ Blank) c d h w) in
+    let steps = step-cases y.step parts.middle d m q parts.two g g.is after ends in
+    let begins = int_item-first i c parts.middle parts.one in
+    let skipped = again-skip b c before (passes-apart begins_int is_blank (head c) int-not_blank begins) in
+    record {
+      r = steps.r;
+      reads = rw (again-expect 58 p b colon, skipped, begins, int_item-again i c parts.middle parts.one steps.no_digit, steps.reads)
+          (ap (λ (z : Option Numeral). took (slice_of y.start z y.step) steps.r) (sym e));
+      ends = steps.ends;
+    }
+
+rest-again : (y : Slice) (p m q : State) → Reads (word (58 ∷ []) ⌢ Blank ⌢ Bound y.end ⌢ Step y.step) p m → Reads Blank m q
+    → passes closes (head q) ≡ true → RestRead y p q
+rest-again y p m q h after ends =
+    let one = split (word (58 ∷ [])) (Blank ⌢ Bound y.end ⌢ Step y.step) p m h in
+    let two = split Blank (Bound y.end ⌢ Step y.step) one.middle m one.two in
+    let three = split (Bound y.end) (Step y.step) two.middle m two.two in
+    bound-cases y p one.middle two.middle three.middle m q one.one two.one three.one three.one.is three.two after ends
+
+slice-cases : (n : ℕ) (y : Slice) (p m q : State) (h : Reads (Bound y.start) p m) → Bound y.start h.spans p.at h.text → head m ≡ Some 58
+    → RestRead y m q → entry_at n p ≡ took (slice y) q
+unfolding entry_at selector_at number_at
+slice-cases n y p m q h (no_bound e w) first rest =
+    let same = reads-none p m (reads-is (Bound y.start) (word []) p m h w) in
+    let here : head p ≡ Some 58 = ap head same ∙ first in
+    let double : is_at 34 p ≡ false = rw here refl in
+    let single : is_at 39 p ≡ false = rw here refl in
+    let at_star : is_at 42 p ≡ false = rw here refl in
+    let colon : is_at 58 p ≡ true = rw here refl in
+    let read : slice_at None p ≡ took y rest.r = ap (λ (z : Option Numeral). slice_at z p) (sym e) ∙ ap (slice_at y.start) same ∙ rest.reads in
+    rw (double, single, at_star, colon, read, rest.ends) refl
+slice-cases n y p m q h (bound i e w) first rest =
+    let parts = split (Item (Int i)) Blank p m (reads-is (Bound y.start) (Item (Int i) ⌢ Blank) p m h w) in
+    let begins = int_item-first i p parts.middle parts.one in
+    let double : is_at 34 p ≡ false = passes-apart begins_int (is 34) (head p) (int-not_mark 34 refl) begins in
+    let single : is_at 39 p ≡ false = passes-apart begins_int (is 39) (head p) (int-not_mark 39 refl) begins in
+    let at_star : is_at 42 p ≡ false = passes-apart begins_int (is 42) (head p) (int-not_mark 42 refl) begins in
+    let at_colon : is_at 58 p ≡ false = passes-apart begins_int (is 58) (head p) (int-not_mark 58 refl) begins in
+    let solid : passes is_blank (head m) ≡ false = rw first colon-not_blank in
+    let no_digit : passes is_digit (head m) ≡ false = rw first colon-not_digit in
+    let skipped = again-skip parts.middle m parts.two solid in
+    let colon : passes (is 58) (after_blank parts.middle) ≡ true = ap (λ (r : State). passes (is 58) (head r)) skipped ∙ rw first refl in
+    let read : slice_at (Some i) m ≡ took y rest.r = ap (λ (z : Option Numeral). slice_at z m) (sym e) ∙ rest.reads in
+    rw (
+      double,
+      single,
+      at_star,
+      at_colon,
+      int_item-again i p parts.middle parts.one (blank-follow is_digit blank-not_digit parts.middle m parts.two no_digit),
+      colon,
+      skipped,
+      read,
+      rest.ends,
+    ) refl
+
+-- ---- entries
+
 -- a selector and the blanks after it, up to a comma or a closing bracket
 abbrev Entry : ℕ → SelectorTree → Form
 Entry n x = Selector n x ⌢ Blank
 
+entry-cases : (n : ℕ) (x : SelectorTree) (p m q : State) (h : Reads (Selector n x) p m) → Selector n x h.spans p.at h.text → Reads Blank m q
+    → passes closes (head q) ≡ true → entry_at n p ≡ took x q
+unfolding entry_at selector_at number_at
+entry-cases n x p m q h (named cs e (in_double w)) after ends =
+    let string = reads-is (Selector n x) (Marked 34 cs) p m h w in
+    let double : is_at 34 p ≡ true = rw (mark-first 34 cs p m string) refl in
+    rw (double, quoted-again 34 refl refl cs p m string, again-skip m q after (passes-apart closes is_blank (head q) closes-not_blank ends), e) refl
+entry-cases n x p m q h (named cs e (in_single w)) after ends =
+    let string = reads-is (Selector n x) (Marked 39 cs) p m h w in
+    let double : is_at 34 p ≡ false = rw (mark-first 39 cs p m string) refl in
+    let single : is_at 39 p ≡ true = rw (mark-first 39 cs p m string) refl in
+    rw (double, single, quoted-again 39 refl refl cs p m string, again-skip m q after (passes-apart closes is_blank (head q) closes-not_blank ends), e) refl
+entry-cases n x p m q h (any e w) after ends =
+    let one = reads-is (Selector n x) (word (42 ∷ [])) p m h w in
+    let first = word-first 42 [] p m one in
+    let double : is_at 34 p ≡ false = rw first refl in
+    let single : is_at 39 p ≡ false = rw first refl in
+    let at_star : is_at 42 p ≡ true = rw first refl in
+    rw (double, single, at_star, past-word 42 p m one, again-skip m q after (passes-apart closes is_blank (head q) closes-not_blank ends), e) refl
+entry-cases n x p m q h (indexed i e w) after ends =
+    let number = reads-is (Selector n x) (Item (Int i)) p m h w in
+    let begins = int_item-first i p m number in
+    let double : is_at 34 p ≡ false = passes-apart begins_int (is 34) (head p) (int-not_mark 34 refl) begins in
+    let single : is_at 39 p ≡ false = passes-apart begins_int (is 39) (head p) (int-not_mark 39 refl) begins in
+    let at_star : is_at 42 p ≡ false = passes-apart begins_int (is 42) (head p) (int-not_mark 42 refl) begins in
+    let at_colon : is_at 58 p ≡ false = passes-apart begins_int (is 58) (head p) (int-not_mark 58 refl) begins in
+    let skipped = again-skip m q after (passes-apart closes is_blank (head q) closes-not_blank ends) in
+    let off = blank-follow is_digit blank-not_digit m q after (passes-apart closes is_digit (head q) closes-not_digit ends) in
+    let colon : passes (is 58) (after_blank m) ≡ false =
+    ap (λ (r : State). passes (is 58) (head r)) skipped ∙ passes-apart closes (is 58) (head q) closes-not_colon ends in
+    rw (double, single, at_star, at_colon, int_item-again i p m number off, colon, skipped, e) refl
+entry-cases n x p m q h (sliced y e w) after ends =
+    let start = split (Bound y.start) (word (58 ∷ []) ⌢ Blank ⌢ Bound y.end ⌢ Step y.step) p m (reads-is (Selector n x) (Sliced y) p m h w) in
+    slice-cases n y p start.middle q start.one start.one.is (colon-first y start.middle m start.two) (rest-again y start.middle m q start.two after ends)
+    ∙ ap (λ z. took z q) (sym e)
+
 entry-again : (n : ℕ) (x : SelectorTree) (p q : State) → Reads (Entry n x) p q → passes closes (head q) ≡ true → entry_at n p ≡ took x q
-unfolding entry_at
 entry-again n x p q h ends =
     let parts = split (Selector n x) Blank p q h in
-    let solid = passes-apart closes is_blank (head q) closes-not_blank ends in
-    let other = passes-apart closes is_digit (head q) closes-not_digit ends in
-    rw (selector-again n x p parts.middle parts.one (blank-follow is_digit blank-not_digit parts.middle q parts.two other), again-skip parts.middle q parts.two solid) refl
+    entry-cases n x p parts.middle q parts.one parts.one.is parts.two ends
 
 entry-first : (n : ℕ) (x : SelectorTree) (p q : State) → Reads (Entry n x) p q → passes begins_selector (head p) ≡ true
 entry-first n x p q h =

@@ -1,15 +1,15 @@
 -- Characters of strings and their escapes: read as the grammar says, and no other way.
-use Rattle.std.proofs.Common.{◌≡◌, ℕ, ◌+◌, ◌*◌, Bool, true, false, if◌then◌else◌, ◌&&◌, List, [], ◌∷◌, Option, Some, None, refl, sym, ap, ◌∙◌, arith}
+use Rattle.std.proofs.Common.{◌≡◌, ℕ, ◌+◌, ◌*◌, Bool, true, false, ◌&&◌, [], ◌∷◌, Some, refl, sym, ap, ◌∙◌, arith}
 use Rattle.std.specs.Char.{digit_value}
 use Rattle.std.proofs.lemmas.Bool.Decides.{nat_tests}
 use Rattle.jp_reading.specs.Texts.{Text, Spans, bytes}
 use Rattle.jp_reading.specs.Forms.{Form, ◌⌢◌, word, One, Each}
-use Rattle.jp_reading.specs.Outcome.{State, Outcome, took, stuck, deep, ◌>>=◌, head, past, passes, is, is_at, take_if, expect, each}
+use Rattle.jp_reading.specs.Outcome.{State, took, head, past, passes, is, is_at, take_if, expect}
 use Rattle.jp_reading.specs.Views.{by}
-use Rattle.jp_reading.proofs.Steps.{past-way, head-is, is-other, is_at-other, take_if-takes}
+use Rattle.jp_reading.proofs.Steps.{past-way, head-is, is_at-other, take_if-takes}
 use Rattle.jp_reading.proofs.Progress.{Moves, Keeps, Progress, keeps-from_moves, keeps-then, moves-then, moves-after, past-keeps, moves-take_if, keeps-take_if, moves-by, keeps-by, moves-if, keeps-each}
-use Rattle.jp_reading.proofs.Between.{Reads, Has, Within, Rule, Judged, has-as, joined-over, reads-is}
-use Rattle.jp_reading.proofs.Levels.{Then, Made, level, word-has, one_rule, each_rule, word_rule, then_rule, made_rule, behind}
+use Rattle.jp_reading.proofs.Between.{Reads, Within, Rule, Judged, has-as, joined-over, reads-is}
+use Rattle.jp_reading.proofs.Levels.{Made, level, word-has, one_rule, each_rule, word_rule, then_rule, made_rule, behind}
 use Rattle.jp_reading.proofs.Judging.{judged-then, judged-as, judged-behind, judged-take_if, judged-expect, judged-made, judged-each, judged-if}
 use Rattle.jp_reading.proofs.Again.{split, one-first, again-take_if, again-expect, again-each, word-first, at-word, past-word}
 use Rattle.jp_query.specs.Strings.{is_plain, is_escapable, escaped, is_hexdig, is_d, is_not_d, is_0_to_7, is_8_to_b, is_c_to_f, unit_of, scalar_of, Unit as Digits, digits, Hexchar, not_d, below_surrogates, surrogates, Character, plain, escape, hex}
@@ -64,7 +64,7 @@ keeps-characters quote p = keeps-each (λ q. passes (begins_character quote) (he
 -- ---- rules
 
 -- two parts of other forms
-joined-both : (P P' Q Q' : Form) (s : Spans) (o : ℕ) (t : Text) (h : (P ⌢ Q) s o t) → P' h.first_spans o h.first
+pub joined-both : (P P' Q Q' : Form) (s : Spans) (o : ℕ) (t : Text) (h : (P ⌢ Q) s o t) → P' h.first_spans o h.first
     → Q' h.second_spans (o + bytes h.first) h.second → (P' ⌢ Q') s o t
 joined-both P P' Q Q' s o t h one two = record {
   first_spans = h.first_spans;

@@ -1,15 +1,15 @@
 -- The rules of queries leave shorter texts.
-use Rattle.std.proofs.Common.{ℕ, ◌<◌, ◌≤◌, Bool, false, [], ◌∷◌, arith, ◌≡◌, true, if◌then◌else◌}
-use Rattle.jp_reading.specs.Outcome.{State, head, past, skip, passes, is, is_at, take_if, expect, took, stuck, each}
+use Rattle.jp_query.specs.declared.tree.Numeral.{Numeral}
+use Rattle.std.proofs.Common.{ℕ, ◌<◌, ◌≤◌, Bool, false, ◌∷◌, arith, true, Option, Some, None}
+use Rattle.jp_reading.specs.Outcome.{State, head, past, skip, passes, is, is_at, take_if, expect, each, item, after_blank}
 use Rattle.jp_reading.specs.Numbers.{is_digit, value_from}
-use Rattle.jp_reading.specs.Views.{by}
 use Rattle.jp_reading.proofs.Chars.{past-shorter, skip-shorter}
 use Rattle.jp_reading.proofs.Progress.{Moves, Keeps, Progress, keeps-from_moves, keeps-then, moves-then, moves-after, moves-skip, keeps-skip, moves-take_if, moves-by, moves-item, moves-if, keeps-by, keeps-each, keeps-if, keeps-take_if, keeps-after, past-keeps}
 use Rattle.jp_query.proofs.Escapes.{keeps-characters}
-use Rattle.jp_query.specs.Tree.{name, index, segment, selectors, wildcard}
+use Rattle.jp_query.specs.Tree.{name, slice}
 use Rattle.jp_query.specs.Names.{is_name_first, is_name_char}
 use Rattle.jp_query.specs.Ints.{is_leading_digit, whole_of, negative_of}
-use Rattle.jp_query.specs.Reading.{run_at, characters_at, shorthand_at, quoted_at, size_at, int_at, selector_at, bracket_at, segment_at, entry_at, another_at, entries_at, member_at, selection_at}
+use Rattle.jp_query.specs.Reading.{run_at, characters_at, shorthand_at, quoted_at, size_at, int_at, selector_at, bracket_at, segment_at, entry_at, another_at, entries_at, member_at, selection_at, begins_int, bound_at, later_step_at, step_at, slice_of, slice_at, number_at}
 
 keeps-run : (ok : ℕ → Bool) (p : State) → Keeps p (run_at ok p)
 keeps-run ok p = keeps-each (λ q. passes ok (head q)) (take_if ok) (moves-take_if ok) p
@@ -45,13 +45,47 @@ moves-int p =
     lt_le : {a b : ℕ} → a < b → a ≤ b
     lt_le h = omega arith
 
+moves-int_item : (p : State) → Moves p (item p (int_at p))
+moves-int_item p = moves-item p (int_at p) (moves-int p)
+
+keeps-bound : (p : State) → Keeps p (bound_at p)
+unfolding bound_at
+keeps-bound p =
+    keeps-if (passes begins_int (head p)) p _ _
+    (keeps-then p (item p (int_at p)) _ (keeps-from_moves p (item p (int_at p)) (moves-int_item p)) (λ i q. skip-shorter q)) (omega arith)
+
+keeps-later_step : (p : State) → Keeps p (later_step_at p)
+unfolding later_step_at
+keeps-later_step p =
+    keeps-if (passes begins_int (after_blank p)) p _ _
+    (keeps-skip p (item (skip p) (int_at (skip p))) (keeps-from_moves (skip p) (item (skip p) (int_at (skip p))) (moves-int_item (skip p)))) (omega arith)
+
+keeps-step : (p : State) → Keeps p (step_at p)
+unfolding step_at
+keeps-step p = keeps-if (is_at 58 p) p _ _ (keeps-after p (past p) (later_step_at (past p)) (past-keeps p) (keeps-later_step (past p))) (omega arith)
+
+moves-slice : (start : Option Numeral) (p : State) → Moves p (slice_at start p)
+unfolding slice_at
+moves-slice start p =
+    moves-then p (expect 58 p) _ (moves-take_if (is 58) p)
+    (λ c q. keeps-then q (bound_at (skip q)) _ (keeps-skip q (bound_at (skip q)) (keeps-bound (skip q)))
+    (λ end r. keeps-by (slice_of start end) r (step_at r) (keeps-step r)))
+
+moves-number : (p : State) → Moves p (number_at p)
+unfolding number_at
+moves-number p =
+    moves-then p (item p (int_at p)) _ (moves-int_item p)
+    (λ i q. keeps-if (passes (is 58) (after_blank q)) q _ _
+    (keeps-by slice q (slice_at (Some i) (skip q)) (keeps-skip q (slice_at (Some i) (skip q))
+    (keeps-from_moves (skip q) (slice_at (Some i) (skip q)) (moves-slice (Some i) (skip q))))) (omega arith))
+
 moves-selector : (n : ℕ) (p : State) → Moves p (selector_at n p)
 unfolding selector_at
 moves-selector n p =
     moves-if (is_at 34 p) p _ _ (λ on. moves-by name p (quoted_at 34 p) (moves-quoted 34 p))
     (λ single. moves-if (is_at 39 p) p _ _ (λ on. moves-by name p (quoted_at 39 p) (moves-quoted 39 p))
     (λ star. moves-if (is_at 42 p) p _ _ (λ on. past-shorter (is 42) p on)
-    (λ number. moves-item p (by index (int_at p)) (moves-by index p (int_at p) (moves-int p)))))
+    (λ colon. moves-if (is_at 58 p) p _ _ (λ on. moves-by slice p (slice_at None p) (moves-slice None p)) (λ number. moves-number p))))
 
 moves-entry : (n : ℕ) (p : State) → Moves p (entry_at n p)
 unfolding entry_at

@@ -1,18 +1,18 @@
 -- Worked rows: what the definitions say of small texts.
-use Rattle.std.proofs.Common.{◌≡◌, true, false, [], ◌∷◌, Some, refl}
+use Rattle.std.proofs.Common.{◌≡◌, true, false, [], ◌∷◌, Some, refl, None}
 use Rattle.std.specs.Prelude.{pos, negsuc}
 use Rattle.jp_query.specs.declared.tree.Numeral.TheVariants.{Whole, Beyond}
 use Rattle.jp_reading.specs.Texts.{is_blank}
 use Rattle.jp_reading.specs.Outcome.{past_blanks, loop, stuck}
 use Rattle.jp_reading.specs.Numbers.{is_digit}
 use Rattle.jp_reading.proofs.Again.{start, finish}
-use Rattle.jp_query.specs.Tree.{QueryTree, query, segments, segment, selectors, name, index}
+use Rattle.jp_query.specs.Tree.{QueryTree, query, segments, segment, selectors, name, index, wildcard, slice}
 use Rattle.jp_query.specs.Names.{is_name_first, is_name_char}
-use Rattle.jp_query.specs.Strings.{is_plain}
+use Rattle.jp_query.specs.Strings.{is_plain, scalar_of, escaped, is_escapable}
 use Rattle.jp_query.specs.Ints.{whole_of, negative_of}
 use Rattle.jp_query.specs.Items.{items_of, int, as_index}
 use Rattle.jp_query.specs.Grammar.{Spells}
-use Rattle.jp_query.specs.Reading.{query_at, segments_at, segment_at, bracket_at, selector_at, int_at, size_at, quoted_at, characters_at, shorthand_at, entry_at, another_at, entries_at, member_at, selection_at}
+use Rattle.jp_query.specs.Reading.{query_at, segments_at, segment_at, bracket_at, selector_at, int_at, size_at, quoted_at, characters_at, shorthand_at, entry_at, another_at, entries_at, member_at, selection_at, number_at, bound_at, step_at, slice_at}
 use Rattle.jp_query.proofs.Whole.{read-spells}
 
 -- a letter, a letter above ASCII and `_` begin a shorthand; a digit only goes on with one
@@ -34,7 +34,7 @@ abbrev ten : QueryTree
 ten = query true (segments (segment false (selectors (index (Whole (pos 10)) ∷ [])) ∷ []))
 
 index-spells : Spells 64 ten (Some (record { start = 2; end = 4 }) ∷ []) (36 ∷ 91 ∷ 49 ∷ 48 ∷ 93 ∷ [])
-unfolding query_at segments_at segment_at bracket_at entries_at another_at entry_at selector_at int_at size_at past_blanks loop is_blank is_digit
+unfolding query_at segments_at segment_at bracket_at entries_at another_at entry_at selector_at number_at int_at size_at past_blanks loop is_blank is_digit
 index-spells = read-spells 64 (36 ∷ 91 ∷ 49 ∷ 48 ∷ 93 ∷ []) ten (finish (36 ∷ 91 ∷ 49 ∷ 48 ∷ 93 ∷ []) (Some (record { start = 2; end = 4 }) ∷ [])) refl
 
 index-items : items_of ten ≡ int (Whole (pos 10)) as_index ∷ []
@@ -50,9 +50,28 @@ names-spell = read-spells 64 (36 ∷ 32 ∷ 46 ∷ 97 ∷ 91 ∷ 39 ∷ 39 ∷ 9
 
 -- `$[01]` is stuck at byte 3, and `$.a` and a blank at its end
 zero-row : query_at 64 (start (36 ∷ 91 ∷ 48 ∷ 49 ∷ 93 ∷ [])) ≡ stuck (record { at = 3; rest = 49 ∷ 93 ∷ []; found = Some (record { start = 2; end = 3 }) ∷ [] })
-unfolding query_at segments_at segment_at bracket_at entries_at another_at entry_at selector_at int_at past_blanks loop is_blank is_digit
+unfolding query_at segments_at segment_at bracket_at entries_at another_at entry_at selector_at number_at int_at past_blanks loop is_blank is_digit
 zero-row = refl
 
 blank-row : query_at 64 (start (36 ∷ 46 ∷ 97 ∷ 32 ∷ [])) ≡ stuck (record { at = 4; rest = []; found = [] })
 unfolding query_at segments_at segment_at member_at selection_at shorthand_at past_blanks loop is_blank is_digit
 blank-row = refl
+
+-- `$[:]`: neither bound, and an omitted step, which is 1 and has no span
+abbrev all : QueryTree
+all = query true (segments (segment false (selectors (slice (record { start = None; end = None; step = Whole (pos 1) }) ∷ [])) ∷ []))
+
+slice-spells : Spells 64 all (None ∷ []) (36 ∷ 91 ∷ 58 ∷ 93 ∷ [])
+unfolding query_at segments_at segment_at bracket_at entries_at another_at entry_at selector_at slice_at bound_at step_at past_blanks loop is_blank
+slice-spells = read-spells 64 (36 ∷ 91 ∷ 58 ∷ 93 ∷ []) all (finish (36 ∷ 91 ∷ 58 ∷ 93 ∷ []) (None ∷ [])) refl
+
+-- `$..*`: a descendant segment of a wildcard
+descend-spells : Spells 64 (query true (segments (segment true (selectors (wildcard ∷ [])) ∷ []))) [] (36 ∷ 46 ∷ 46 ∷ 42 ∷ [])
+unfolding query_at segments_at segment_at selection_at member_at past_blanks loop is_blank
+descend-spells =
+    read-spells 64 (36 ∷ 46 ∷ 46 ∷ 42 ∷ []) (query true (segments (segment true (selectors (wildcard ∷ [])) ∷ [])))
+    (finish (36 ∷ 46 ∷ 46 ∷ 42 ∷ []) []) refl
+
+-- the pair D83D, DE00 is U+1F600; `\b` is U+0008, and `\/` a slash
+escape-rows : (scalar_of 55357 56832 ≡ 128512) × (escaped 98 ≡ 8) × (escaped 47 ≡ 47) × (is_escapable 34 39 ≡ false) × (is_escapable 39 39 ≡ true)
+escape-rows = (refl, refl, refl, refl, refl)

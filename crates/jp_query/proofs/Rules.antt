@@ -1,18 +1,23 @@
 -- The rules of the grammar, with a text for each, and on one level more.
-use Rattle.std.proofs.Common.{◌≡◌, ℕ, suc, Bool, true, false, [], ◌∷◌, refl, ◌∙◌, ap, ◌+◌, List, ◌++◌, sym, subst, append_assoc, arith}
+use Rattle.std.specs.Prelude.{pos}
+use Rattle.jp_query.specs.Slices.{Bound, no_bound, bound, Step, no_step}
+use Rattle.jp_query.specs.declared.tree.Numeral.TheVariants.{Whole}
+use Rattle.jp_query.specs.declared.tree.Slice.{Slice}
+use Rattle.jp_query.specs.Reading.{slice_of}
+use Rattle.std.proofs.Common.{◌≡◌, ℕ, suc, Bool, true, false, [], ◌∷◌, refl, ◌∙◌, ap, ◌+◌, List, ◌++◌, sym, subst, append_assoc, arith, Option, Some, None}
 use Rattle.jp_query.specs.declared.tree.Numeral.{Numeral}
 use Rattle.jp_reading.specs.Texts.{Text, Spans, bytes}
-use Rattle.jp_reading.specs.Forms.{Form, ◌⌢◌, word, One, Each, Blank, Item, Separated}
+use Rattle.jp_reading.specs.Forms.{Form, ◌⌢◌, word, One, Each, Blank, Item}
 use Rattle.jp_reading.specs.Numbers.{is_digit, value_from}
 use Rattle.jp_reading.proofs.Between.{Has, Within, Rule, has-as, joined-over, bytes-append}
-use Rattle.jp_reading.proofs.Levels.{Only, Then, Made, level, word-has, joined-has, joined-lifts, one_rule, each_rule, word_rule, then_rule, made_rule, ends_rule, blank_rule, blank-has, separated_rule}
-use Rattle.jp_query.specs.Tree.{SelectorTree, name, index, SegmentTree, segment, selectors}
+use Rattle.jp_reading.proofs.Levels.{Only, Then, Made, level, word-has, joined-has, joined-lifts, one_rule, each_rule, word_rule, then_rule, made_rule, ends_rule, blank_rule, blank-has, separated_rule, item_rule}
+use Rattle.jp_query.specs.Tree.{SelectorTree, name, index, SegmentTree, segment, selectors, slice}
 use Rattle.jp_query.specs.Names.{is_name_first, is_name_char, Shorthand, shorthand}
 use Rattle.jp_query.specs.Strings.{is_plain, Character, Between, Quoted, in_double, in_single}
-use Rattle.jp_query.proofs.Escapes.{character_rule}
+use Rattle.jp_query.proofs.Escapes.{character_rule, joined-both}
 use Rattle.jp_query.specs.Ints.{is_leading_digit, whole_of, negative_of, Unsigned, Int, zero_int, positive_int, negative_int}
-use Rattle.jp_query.specs.Grammar.{Selector, named, indexed, Segment, bracketed, dotted, any, Bracket, Member, member, deep_bracketed, deep_dotted}
-use Rattle.jp_reading.proofs.Joining.{then-end, joined-only}
+use Rattle.jp_query.specs.Grammar.{Selector, named, indexed, Segment, bracketed, dotted, any, Bracket, Member, member, deep_bracketed, deep_dotted, sliced}
+use Rattle.jp_reading.proofs.Joining.{then-end, joined-only, joined-word}
 
 -- ---- names
 
@@ -100,6 +105,7 @@ pub selector-lifts : (n : ℕ) (x : SelectorTree) → Within (Selector n x) (Sel
 selector-lifts n x s o t (named cs e h) = named cs e h
 selector-lifts n x s o t (any e h) = any e h
 selector-lifts n x s o t (indexed i e h) = indexed i e h
+selector-lifts n x s o t (sliced y e h) = sliced y e h
 
 abbrev pub selector_rule : ℕ → Rule SelectorTree
 selector_rule n = record {
@@ -119,7 +125,7 @@ single-within n x s o t h = named h.part h.same (in_single (quoted-within 39 ref
 pub index-within : (n : ℕ) (x : SelectorTree) → Within (Item (Made index Int x)) (Selector n x)
 index-within n x s o t h = indexed h.is.part h.is.same (record { inside = h.inside; spans = h.spans; is = h.is.is })
 
--- ---- brackets
+-- ---- slices
 
 -- a text of F, then one of P, for a value made of the part
 then-made_one : {A B : Type 0} (F : A → Form) (P : Form) (f : A → B) (y : B) → Within (Then F (λ z x. P ⌢ Only (f z) (word []) x) y) (Made f (λ z. F z ⌢ P) y)
@@ -148,6 +154,88 @@ joined-back P Q R s o t h = record {
   };
   two = subst (λ (k : ℕ). R h.two.second_spans k h.two.second) (let e = bytes-append h.first h.two.first in omega arith) h.two.two;
 }
+
+-- nothing before
+nothing-before : (P : Form) → Within P (word [] ⌢ P)
+nothing-before P s o t h = record {
+  first_spans = [];
+  second_spans = s;
+  first = [];
+  second = t;
+  spans = refl;
+  is = refl;
+  one = record { none = refl; is = refl };
+  two = subst (λ (k : ℕ). P s k t) (let e : o ≡ o + 0 = omega arith in e) h;
+}
+
+abbrev pub bound_rule : Rule (Option Numeral)
+bound_rule = level Bound None (λ o. ([], [], no_bound refl (record { none = refl; is = refl })))
+
+abbrev pub bound_parts : Rule (Option Numeral)
+bound_parts = then_rule (item_rule int_rule) (λ i. blank_rule (ends_rule (Some i)))
+
+pub bound-within : (x : Option Numeral) → Within (bound_parts.here x) (Bound x)
+bound-within x s o t h =
+    let made = then-made_one (λ i. Item (Int i)) Blank (λ i. Some i) x s o t h in
+    bound made.part made.same made.is
+
+abbrev pub step_rule : Rule Numeral
+step_rule = level Step (Whole (pos 1)) (λ o. (None ∷ [], [], no_step refl (record { spans = refl; is = refl })))
+
+-- a slice with that start, from its colon on
+pub record Rest (start : Option Numeral) (y : Slice) (s : Spans) (o : ℕ) (t : Text) : Type 0 where
+  pub same : y.start ≡ start
+  pub is : (word (58 ∷ []) ⌢ Blank ⌢ Bound y.end ⌢ Step y.step) s o t
+
+abbrev pub rest_parts : Option Numeral → Rule Slice
+rest_parts start = word_rule 58 (blank_rule (then_rule bound_rule (λ end. made_rule (slice_of start end) step_rule)))
+
+pub rest-within : (start : Option Numeral) (y : Slice) → Within ((rest_parts start).here y) (Rest start y)
+rest-within start y s o t h =
+    let bounds = h.two.two in
+    let made = bounds.is.two in
+    subst (λ (z : Slice). Rest start z s o t) (sym made.same) (record {
+      same = refl;
+      is = joined-over (word (58 ∷ [])) _ (Blank ⌢ Bound bounds.part ⌢ Step made.part) s o t h
+          (joined-over Blank _ (Bound bounds.part ⌢ Step made.part) h.second_spans _ h.second h.two
+          (joined-over (Bound bounds.part) _ (Step made.part) h.two.second_spans _ h.two.second bounds.is made.is));
+    })
+
+abbrev pub rest_rule : Option Numeral → Rule Slice
+rest_rule start =
+    level (Rest start) (rest_parts start).least
+    (has-as ((rest_parts start).here (rest_parts start).least) (Rest start (rest_parts start).least) (rest-within start (rest_parts start).least) (rest_parts start).has)
+
+pub starts-within : (n : ℕ) (x : SelectorTree) → Within (Made slice (Rest None) x) (Selector n x)
+starts-within n x s o t h =
+    let front = nothing-before (word (58 ∷ []) ⌢ Blank ⌢ Bound h.part.end ⌢ Step h.part.step) s o t h.is.is in
+    sliced h.part h.same
+    (joined-both (word []) (Bound h.part.start) _ (word (58 ∷ []) ⌢ Blank ⌢ Bound h.part.end ⌢ Step h.part.step) s o t front (no_bound h.is.same front.one) front.two)
+
+-- what stands behind a whole number
+pub data AfterInt (i : Numeral) (x : SelectorTree) (s : Spans) (o : ℕ) (t : Text) : Type 0 where
+  alone : x ≡ index i → word [] s o t → AfterInt i x s o t
+  goes_on : (y : Slice) → x ≡ slice y → (Blank ⌢ Rest (Some i) y) s o t → AfterInt i x s o t
+
+abbrev pub after_rule : Numeral → Rule SelectorTree
+after_rule i = level (AfterInt i) (index i) (λ o. ([], [], alone refl (record { none = refl; is = refl })))
+
+abbrev pub number_parts : Rule SelectorTree
+number_parts = then_rule (item_rule int_rule) after_rule
+
+pub number-within : (n : ℕ) (x : SelectorTree) → Within (number_parts.here x) (Selector n x)
+number-within n x s o t h = after_cases h.is.two
+  where
+    after_cases : AfterInt h.part x h.is.second_spans (o + bytes h.is.first) h.is.second → Selector n x s o t
+    after_cases (alone e w) = indexed h.part e (joined-word (Item (Int h.part)) s o t (joined-over (Item (Int h.part)) (AfterInt h.part x) (word []) s o t h.is w))
+    after_cases (goes_on y e w) =
+        let all = joined-back (Item (Int h.part)) Blank (Rest (Some h.part) y) s o t
+        (joined-over (Item (Int h.part)) (AfterInt h.part x) (Blank ⌢ Rest (Some h.part) y) s o t h.is w) in
+        sliced y e
+        (joined-both (Item (Int h.part) ⌢ Blank) (Bound y.start) _ (word (58 ∷ []) ⌢ Blank ⌢ Bound y.end ⌢ Step y.step) s o t all
+        (bound h.part all.two.same all.one) all.two.is)
+
+-- ---- brackets
 
 -- a selector and the blanks after it
 abbrev pub entry_rule : ℕ → Rule SelectorTree

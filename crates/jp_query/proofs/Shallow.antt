@@ -1,14 +1,15 @@
 -- No rule needs a level.
+use Rattle.jp_query.specs.declared.tree.Numeral.{Numeral}
 use Rattle.std.proofs.Common.{◌&&◌, ℕ, zero, suc, Bool, true, false, if◌then◌else◌, [], ◌∷◌, length, Option, Some, None}
-use Rattle.jp_reading.specs.Outcome.{State, Outcome, took, stuck, deep, ◌>>=◌, head, past, skip, passes, is, is_at, is_end, take_passing, take_if, expect, loop, after_blank, each}
+use Rattle.jp_reading.specs.Outcome.{State, Outcome, took, stuck, deep, ◌>>=◌, head, past, skip, passes, is, is_at, is_end, take_passing, take_if, expect, loop, after_blank, each, item}
 use Rattle.jp_reading.specs.Numbers.{is_digit, value_from}
 use Rattle.jp_reading.specs.Views.{by}
-use Rattle.jp_query.specs.Tree.{name, index, wildcard}
+use Rattle.jp_query.specs.Tree.{name, slice}
 use Rattle.std.specs.Char.{digit_value}
 use Rattle.jp_query.specs.Names.{is_name_first, is_name_char}
 use Rattle.jp_query.specs.Strings.{is_plain, is_escapable, escaped, is_hexdig, is_d, is_not_d, is_0_to_7, is_8_to_b, is_c_to_f, scalar_of}
 use Rattle.jp_query.specs.Ints.{is_leading_digit, whole_of, negative_of}
-use Rattle.jp_query.specs.Reading.{run_at, shorthand_at, unit_at, surrogates_at, hexchar_at, escape_at, character_at, characters_at, begins_character, quoted_at, size_at, int_at, selector_at, bracket_at, segment_at, segments_at, query_at, begins_segment, entry_at, another_at, entries_at, member_at, selection_at}
+use Rattle.jp_query.specs.Reading.{run_at, shorthand_at, unit_at, surrogates_at, hexchar_at, escape_at, character_at, characters_at, begins_character, quoted_at, size_at, int_at, selector_at, bracket_at, segment_at, segments_at, query_at, begins_segment, entry_at, another_at, entries_at, member_at, selection_at, begins_int, bound_at, later_step_at, step_at, slice_of, slice_at, number_at}
 
 -- the outcome is not that a level is missing
 abbrev pub Shallow : {A : Type 0} → Outcome A → Type 0
@@ -100,13 +101,33 @@ shallow-int p =
     shallow-if (is_at 48 p) _ _ tt
     (shallow-if (is_at 45 p) _ _ (shallow-by negative_of (size_at (past p)) (shallow-size (past p))) (shallow-by whole_of (size_at p) (shallow-size p)))
 
+shallow-int_item : (p : State) → Shallow (item p (int_at p))
+shallow-int_item p = shallow-then (int_at p) _ (shallow-int p) (λ x q. tt)
+
+shallow-bound : (p : State) → Shallow (bound_at p)
+unfolding bound_at
+shallow-bound p = shallow-if (passes begins_int (head p)) _ _ (shallow-then (item p (int_at p)) _ (shallow-int_item p) (λ i q. tt)) tt
+
+shallow-step : (p : State) → Shallow (step_at p)
+unfolding step_at later_step_at
+shallow-step p =
+    shallow-if (is_at 58 p) _ _ (shallow-if (passes begins_int (after_blank (past p))) _ _ (shallow-int_item (skip (past p))) tt) tt
+
+shallow-slice : (start : Option Numeral) (p : State) → Shallow (slice_at start p)
+unfolding slice_at
+shallow-slice start p =
+    shallow-then (expect 58 p) _ (shallow-take_if (is 58) p)
+    (λ c q. shallow-then (bound_at (skip q)) _ (shallow-bound (skip q)) (λ end r. shallow-by (slice_of start end) (step_at r) (shallow-step r)))
+
 shallow-selector : (n : ℕ) (p : State) → Shallow (selector_at n p)
-unfolding selector_at
+unfolding selector_at number_at
 shallow-selector n p =
     shallow-if (is_at 34 p) _ _ (shallow-by name (quoted_at 34 p) (shallow-quoted 34 p))
     (shallow-if (is_at 39 p) _ _ (shallow-by name (quoted_at 39 p) (shallow-quoted 39 p))
     (shallow-if (is_at 42 p) _ _ tt
-    (shallow-then (by index (int_at p)) _ (shallow-by index (int_at p) (shallow-int p)) (λ x q. tt))))
+    (shallow-if (is_at 58 p) _ _ (shallow-by slice (slice_at None p) (shallow-slice None p))
+    (shallow-then (item p (int_at p)) _ (shallow-int_item p)
+    (λ i q. shallow-if (passes (is 58) (after_blank q)) _ _ (shallow-by slice (slice_at (Some i) (skip q)) (shallow-slice (Some i) (skip q))) tt)))))
 
 shallow-entry : (n : ℕ) (p : State) → Shallow (entry_at n p)
 unfolding entry_at

@@ -1,22 +1,25 @@
 -- What the rules read is what the grammar says; and where they are stuck, a text of the grammar begins so.
+use Rattle.std.specs.Prelude.{pos}
+use Rattle.jp_query.specs.declared.tree.Numeral.{Numeral}
+use Rattle.jp_query.specs.declared.tree.Numeral.TheVariants.{Whole}
+use Rattle.jp_query.specs.Slices.{no_bound, Step, no_step, empty_step, given_step}
 use Rattle.jp_reading.proofs.Joining.{then-end}
 use Rattle.jp_query.specs.Grammar.{Selector, any, Bracket, Member, star, bracketed}
-use Rattle.std.proofs.Common.{◌≡◌, ℕ, suc, Bool, true, [], ◌∷◌, refl, false, List, if◌then◌else◌}
-use Rattle.jp_reading.specs.Forms.{word, ◌⌢◌, Blank}
-use Rattle.jp_reading.specs.Outcome.{State, took, head, past, skip, passes, is_at, take_if, after_blank}
+use Rattle.std.proofs.Common.{◌≡◌, ℕ, suc, Bool, true, [], ◌∷◌, refl, false, List, if◌then◌else◌, Option, Some, None, arith}
+use Rattle.jp_reading.specs.Forms.{word, ◌⌢◌, Blank, Omitted}
+use Rattle.jp_reading.specs.Outcome.{State, took, head, past, skip, passes, is_at, take_if, after_blank, omit, item, is}
 use Rattle.jp_reading.specs.Numbers.{is_digit, value_from}
 use Rattle.jp_reading.specs.Views.{by}
-use Rattle.jp_reading.proofs.Steps.{past-way, head-is}
-use Rattle.jp_reading.proofs.Between.{Reads, Judged, Rule, joined-over}
+use Rattle.jp_reading.proofs.Between.{Reads, Judged, joined-over, reads-as, reads-then, between-same}
 use Rattle.jp_reading.proofs.Levels.{one_rule, each_rule, made_rule, word_rule, then_rule, ends_rule, blank_rule, item_rule, word-has, behind}
 use Rattle.jp_reading.proofs.Judging.{judged-end, judged-then, judged-as, judged-behind, judged-skip, judged-take_if, judged-expect, judged-made, judged-each, judged-item, judged-if, judged-separated}
-use Rattle.jp_query.specs.Tree.{SelectorTree, name, index, wildcard}
+use Rattle.jp_query.specs.Tree.{SelectorTree, name, wildcard, slice}
 use Rattle.jp_query.specs.Names.{is_name_first, is_name_char}
 use Rattle.jp_query.specs.Strings.{is_plain}
 use Rattle.jp_query.proofs.Escapes.{reads-past, character_rule, characters-judged}
 use Rattle.jp_query.specs.Ints.{is_leading_digit, whole_of, negative_of, zero_int}
-use Rattle.jp_query.specs.Reading.{run_at, characters_at, shorthand_at, quoted_at, size_at, int_at, selector_at, bracket_at, segment_at, segments_at, begins_segment, entry_at, another_at, entries_at, member_at, selection_at}
-use Rattle.jp_query.proofs.Rules.{run_rule, shorthand_parts, quoted_parts, is_digit-zero, size_parts, int_rule, positive-within, negative-within, selector_rule, double-within, single-within, index-within, segment_rule, entry_rule, comma, comma-has, comma-within, entries_rule, segment_of_all, segment_of_one, bracket_parts, bracket-within, bracket-within_deeper, member_rule, member-within, dot_rule, dot-within, dot_member, dot_bracket, dot_deep}
+use Rattle.jp_query.specs.Reading.{run_at, characters_at, shorthand_at, quoted_at, size_at, int_at, selector_at, bracket_at, segment_at, segments_at, begins_segment, entry_at, another_at, entries_at, member_at, selection_at, begins_int, bound_at, later_step_at, step_at, slice_of, slice_at, number_at}
+use Rattle.jp_query.proofs.Rules.{run_rule, shorthand_parts, quoted_parts, is_digit-zero, size_parts, int_rule, positive-within, negative-within, selector_rule, double-within, single-within, segment_rule, entry_rule, comma, comma-has, comma-within, entries_rule, segment_of_all, segment_of_one, bracket_parts, bracket-within, bracket-within_deeper, member_rule, member-within, dot_rule, dot-within, dot_member, dot_bracket, dot_deep, bound_rule, bound_parts, bound-within, step_rule, Rest, rest_parts, rest-within, rest_rule, starts-within, alone, goes_on, after_rule, number_parts, number-within}
 
 run-judged : (ok : ℕ → Bool) (c : ℕ) (h : ok c ≡ true) (p : State) → Judged (run_rule ok c h) p (run_at ok p)
 run-judged ok c h p = judged-each (one_rule ok c h) (λ q. passes ok (head q)) (take_if ok) (judged-take_if ok c h) p
@@ -62,6 +65,64 @@ int-judged p =
     (λ unsigned. judged-as (made_rule whole_of size_parts) int_rule p (by whole_of (size_at p)) positive-within positive-within
     (judged-made whole_of size_parts p (size_at p) (size-judged p))))
 
+omit-reads : (p : State) → Reads Omitted p (omit p)
+omit-reads p = record {
+  spans = None ∷ [];
+  text = [];
+  way = record { rest = refl; at = omega arith; found = refl };
+  is = record { spans = refl; is = refl };
+}
+
+int_item-judged : (p : State) → Judged (item_rule int_rule) p (item p (int_at p))
+int_item-judged p = judged-item int_rule p (int_at p) (int-judged p)
+
+bound-judged : (p : State) → Judged bound_rule p (bound_at p)
+unfolding bound_at
+bound-judged p =
+    judged-if bound_rule p (passes begins_int (head p)) _ _
+    (λ on. judged-as bound_parts bound_rule p _ bound-within bound-within
+    (judged-then (item_rule int_rule) (λ i. blank_rule (ends_rule (Some i))) p (item p (int_at p)) _ (int_item-judged p)
+    (λ i q. judged-skip (ends_rule (Some i)) q (took (Some i) (skip q)) (judged-end (Some i) (skip q)))))
+    (λ off. record { is = record { spans = []; text = []; way = between-same p; is = no_bound refl (record { none = refl; is = refl }) } })
+
+step-judged : (p : State) → Judged step_rule p (step_at p)
+unfolding step_at later_step_at
+step-judged p =
+    let colon = word-has (58 ∷ []) in
+    judged-if step_rule p (is_at 58 p) _ _
+    (λ on. judged-if step_rule p (passes begins_int (after_blank (past p))) _ _
+    (λ given. judged-as (behind (word (58 ∷ [])) colon (blank_rule (item_rule int_rule))) step_rule p _ (λ x s o t h. given_step h) (λ x s o t h. given_step h)
+    (judged-behind (word (58 ∷ [])) colon (blank_rule (item_rule int_rule)) p (past p) _ (reads-past 58 p on)
+    (judged-skip (item_rule int_rule) (past p) _ (int_item-judged (skip (past p))))))
+    (λ none. record {
+      is = reads-as (word (58 ∷ []) ⌢ Omitted) (Step (Whole (pos 1))) p (omit (past p)) (λ s o t g. empty_step refl g)
+          (reads-then (word (58 ∷ [])) Omitted p (past p) (omit (past p)) (reads-past 58 p on) (omit-reads (past p)));
+    }))
+    (λ off. record { is = reads-as Omitted (Step (Whole (pos 1))) p (omit p) (λ s o t g. no_step refl g) (omit-reads p) })
+
+slice-judged : (start : Option Numeral) (p : State) → Judged (rest_rule start) p (slice_at start p)
+unfolding slice_at
+slice-judged start p =
+    let steps = λ (end : Option Numeral). made_rule (slice_of start end) step_rule in
+    judged-as (rest_parts start) (rest_rule start) p _ (rest-within start) (rest-within start)
+    (judged-expect 58 (blank_rule (then_rule bound_rule steps)) p _
+    (λ c q. judged-skip (then_rule bound_rule steps) q _
+    (judged-then bound_rule steps (skip q) (bound_at (skip q)) _ (bound-judged (skip q))
+    (λ end r. judged-made (slice_of start end) step_rule r (step_at r) (step-judged r)))))
+
+number-judged : (n : ℕ) (p : State) → Judged (selector_rule n) p (number_at p)
+unfolding number_at
+number-judged n p =
+    judged-as number_parts (selector_rule n) p _ (number-within n) (number-within (suc n))
+    (judged-then (item_rule int_rule) after_rule p (item p (int_at p)) _ (int_item-judged p)
+    (λ i q. judged-if (after_rule i) q (passes (is 58) (after_blank q)) _ _
+    (λ on. judged-as (blank_rule (made_rule slice (rest_rule (Some i)))) (after_rule i) q _
+    (λ x s o t h. goes_on h.two.part h.two.same (joined-over Blank _ (Rest (Some i) h.two.part) s o t h h.two.is))
+    (λ x s o t h. goes_on h.two.part h.two.same (joined-over Blank _ (Rest (Some i) h.two.part) s o t h h.two.is))
+    (judged-skip (made_rule slice (rest_rule (Some i))) q _
+    (judged-made slice (rest_rule (Some i)) (skip q) (slice_at (Some i) (skip q)) (slice-judged (Some i) (skip q)))))
+    (λ off. record { is = record { spans = []; text = []; way = between-same q; is = alone refl (record { none = refl; is = refl }) } })))
+
 star-judged : (n : ℕ) (p : State) → is_at 42 p ≡ true → Judged (selector_rule n) p (took wildcard (past p))
 star-judged n p h =
     let read = reads-past 42 p h in
@@ -77,8 +138,10 @@ selector-judged n p =
     (λ single. judged-as (made_rule name (quoted_parts 39 refl)) (selector_rule n) p _ (single-within n) (single-within (suc n))
     (judged-made name (quoted_parts 39 refl) p (quoted_at 39 p) (quoted-judged 39 refl p)))
     (λ unquoted. judged-if (selector_rule n) p (is_at 42 p) _ _ (star-judged n p)
-    (λ number. judged-as (item_rule (made_rule index int_rule)) (selector_rule n) p _ (index-within n) (index-within (suc n))
-    (judged-item (made_rule index int_rule) p (by index (int_at p)) (judged-made index int_rule p (int_at p) (int-judged p))))))
+    (λ unstarred. judged-if (selector_rule n) p (is_at 58 p) _ _
+    (λ colon. judged-as (made_rule slice (rest_rule None)) (selector_rule n) p _ (starts-within n) (starts-within (suc n))
+    (judged-made slice (rest_rule None) p (slice_at None p) (slice-judged None p)))
+    (λ number. number-judged n p))))
 
 entry-judged : (n : ℕ) (p : State) → Judged (entry_rule n) p (entry_at n p)
 unfolding entry_at

@@ -1,17 +1,19 @@
 -- Each item of a query has its span.
+use Rattle.jp_query.specs.declared.tree.Slice.{Slice}
+use Rattle.jp_query.specs.Slices.{Bound, no_bound, bound, Step, no_step, empty_step, given_step, Sliced}
 use Rattle.jp_query.proofs.Rules.{comma}
-use Rattle.std.proofs.Common.{◌≡◌, ℕ, Bool, List, [], ◌∷◌, ◌++◌, Some, None, refl, ◌∙◌, append-nil}
+use Rattle.std.proofs.Common.{◌≡◌, ℕ, Bool, List, [], ◌∷◌, ◌++◌, Some, None, refl, ◌∙◌, append-nil, Option, append_assoc}
 use Rattle.jp_query.specs.declared.tree.Numeral.{Numeral}
 use Rattle.jp_reading.specs.Texts.{Text, Spans}
 use Rattle.jp_reading.specs.Forms.{Form, ◌⌢◌, word, One, Each, Blank, Separated}
 use Rattle.jp_reading.proofs.Runs.{each-run}
-use Rattle.jp_query.specs.Tree.{SelectorTree, SegmentTree, QueryTree, segments, selectors}
+use Rattle.jp_query.specs.Tree.{SelectorTree, SegmentTree, QueryTree, segments, selectors, slice}
 use Rattle.jp_query.specs.Names.{is_name_first, is_name_char, Shorthand, shorthand}
 use Rattle.jp_query.specs.Strings.{is_escapable, is_hexdig, is_d, is_not_d, is_0_to_7, is_8_to_b, is_c_to_f, Unit, digits, Hexchar, not_d, below_surrogates, surrogates, Character, plain, escape, hex, Between, Quoted, in_double, in_single}
 use Rattle.jp_query.specs.Ints.{is_leading_digit, Unsigned, Int, zero_int, positive_int, negative_int}
-use Rattle.jp_query.specs.Grammar.{Selector, named, indexed, Segment, bracketed, dotted, Segments, Spells, any, Bracket, Member, star, member, deep_bracketed, deep_dotted}
+use Rattle.jp_query.specs.Grammar.{Selector, named, indexed, Segment, bracketed, dotted, Segments, Spells, any, Bracket, Member, star, member, deep_bracketed, deep_dotted, sliced}
 use Rattle.jp_reading.specs.Numbers.{is_digit}
-use Rattle.jp_query.specs.Items.{QueryItem, int, as_index, as_slice_part, selector_items, segment_items, segments_items, items_of, EachSpanned, selectors_items}
+use Rattle.jp_query.specs.Items.{QueryItem, int, as_index, as_slice_part, selector_items, segment_items, segments_items, items_of, EachSpanned, selectors_items, bound_items}
 
 -- ---- texts without items
 
@@ -85,9 +87,30 @@ spanned-append (int i as_index ∷ xs) ys (None ∷ s) t h g = absurd h
 spanned-append (int i as_slice_part ∷ xs) ys (None ∷ s) t h g = (h.0, spanned-append xs ys s t h.1 g)
 spanned-append (x ∷ xs) ys (Some span ∷ s) t h g = spanned-append xs ys s t h g
 
+bound-spanned : (x : Option Numeral) (s : Spans) (o : ℕ) (t : Text) → Bound x s o t → EachSpanned (bound_items x) s
+bound-spanned x s o t (no_bound e h) = rw (e, h.none) tt
+bound-spanned x s o t (bound i e h) =
+    rw (e, h.spans, h.two.none, append-nil h.first_spans, h.one.spans, int-plain i h.one.inside o h.first h.one.is) tt
+
+step-spanned : (x : Numeral) (s : Spans) (o : ℕ) (t : Text) → Step x s o t → EachSpanned (int x as_slice_part ∷ []) s
+step-spanned x s o t (no_step e h) = rw h.spans (e, tt)
+step-spanned x s o t (empty_step e h) = rw (h.spans, h.one.none, h.two.spans) (e, tt)
+step-spanned x s o t (given_step h) =
+    rw (h.spans, h.one.none, h.two.spans, h.two.one.none, h.two.two.spans, int-plain x h.two.two.inside _ h.two.second h.two.two.is) tt
+
+slice-spanned : (y : Slice) (s : Spans) (o : ℕ) (t : Text) → Sliced y s o t → EachSpanned (selector_items (slice y)) s
+slice-spanned y s o t h =
+    let bounds = h.two.two.two in
+    rw (h.spans, h.two.spans, h.two.one.none, h.two.two.spans, h.two.two.one.none, bounds.spans, ← append_assoc h.first_spans bounds.first_spans bounds.second_spans)
+    (spanned-append (bound_items y.start ++ bound_items y.end) (int y.step as_slice_part ∷ []) (h.first_spans ++ bounds.first_spans) bounds.second_spans
+    (spanned-append (bound_items y.start) (bound_items y.end) h.first_spans bounds.first_spans
+    (bound-spanned y.start h.first_spans o h.first h.one) (bound-spanned y.end bounds.first_spans _ bounds.first bounds.one))
+    (step-spanned y.step bounds.second_spans _ bounds.second bounds.two))
+
 selector-spanned : (n : ℕ) (x : SelectorTree) (s : Spans) (o : ℕ) (t : Text) → Selector n x s o t → EachSpanned (selector_items x) s
 selector-spanned n x s o t (named cs e h) = rw (e, quoted-plain cs s o t h) tt
 selector-spanned n x s o t (any e h) = rw (e, h.none) tt
+selector-spanned n x s o t (sliced y e h) = rw e (slice-spanned y s o t h)
 selector-spanned n x s o t (indexed i e h) = rw (e, h.spans, int-plain i h.inside o t h.is) tt
 
 entry-spanned : (n : ℕ) (x : SelectorTree) (s : Spans) (o : ℕ) (t : Text) → (Selector n x ⌢ Blank) s o t → EachSpanned (selector_items x) s

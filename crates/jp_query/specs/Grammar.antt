@@ -1,19 +1,22 @@
 -- Which text spells which tree of a query, and where its items stand in it (RFC 9535 appendix A).
 -- At most n levels stand inside one another; no rule here is a level.
+use Rattle.jp_query.specs.declared.tree.Slice.{Slice}
+use Rattle.jp_query.specs.Slices.{Sliced}
 use Rattle.std.specs.Prelude.{◌≡◌, ℕ, true, false, List, [], ◌∷◌}
 use Rattle.jp_query.specs.declared.tree.Numeral.{Numeral}
 use Rattle.jp_reading.specs.Texts.{Text, Spans}
 use Rattle.jp_reading.specs.Forms.{Form, word, ◌⌢◌, Blank, Each, Separated, Item}
-use Rattle.jp_query.specs.Tree.{SelectorTree, name, wildcard, index, SegmentTree, segment, QueryTree, query, selectors, segments}
+use Rattle.jp_query.specs.Tree.{SelectorTree, name, wildcard, index, SegmentTree, segment, QueryTree, query, selectors, segments, slice}
 use Rattle.jp_query.specs.Names.{Shorthand}
 use Rattle.jp_query.specs.Strings.{Quoted}
 use Rattle.jp_query.specs.Ints.{Int}
 
--- selector (section 2.3): a name between quotation marks, `*`, or an index, which is an item
+-- selector (section 2.3): a name between quotation marks, `*`, an index, which is an item, or a slice
 pub data Selector (n : ℕ) (x : SelectorTree) (s : Spans) (o : ℕ) (t : Text) : Type 0 where
   named : (cs : Text) → x ≡ name cs → Quoted cs s o t → Selector n x s o t
   any : x ≡ wildcard → word (42 ∷ []) s o t → Selector n x s o t
   indexed : (i : Numeral) → x ≡ index i → Item (Int i) s o t → Selector n x s o t
+  sliced : (y : Slice) → x ≡ slice y → Sliced y s o t → Selector n x s o t
 
 -- bracketed-selection (section 2.5.1.1): selectors between brackets, with commas between them; blank
 -- space may stand round each

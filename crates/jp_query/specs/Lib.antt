@@ -8,6 +8,7 @@ pub mod Names
 pub mod Parsed
 pub mod Reading
 pub mod Refusal
+pub mod Slices
 pub mod Spelled
 pub mod Stops
 pub mod Strings

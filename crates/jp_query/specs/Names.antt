@@ -1,7 +1,7 @@
 -- Members' names after a dot (RFC 9535 section 2.5.1.1).
-use Rattle.std.specs.Prelude.{◌≡◌, ℕ, Bool, not, ◌&&◌, ◌||◌, nat_le, ◌==◌, [], ◌∷◌}
+use Rattle.std.specs.Prelude.{◌≡◌, ℕ, Bool, ◌&&◌, ◌||◌, nat_le, ◌==◌, ◌∷◌}
 use Rattle.jp_reading.specs.Texts.{Text, Spans}
-use Rattle.jp_reading.specs.Forms.{Form, word, One, ◌⌢◌, Each}
+use Rattle.jp_reading.specs.Forms.{One, ◌⌢◌, Each}
 use Rattle.jp_reading.specs.Numbers.{is_digit}
 
 -- name-first (section 2.5.1.1): a letter, `_`, or any scalar value from U+0080 up

@@ -1,12 +1,14 @@
 -- What the reader of queries does, a function for each rule of the grammar (RFC 9535 appendix A).
+use Rattle.jp_query.specs.declared.tree.Numeral.TheVariants.{Whole}
+use Rattle.jp_query.specs.declared.tree.Slice.{Slice}
 use Rattle.std.specs.Char.{digit_value}
-use Rattle.std.specs.Prelude.{◌+◌, ◌*◌, ◌&&◌, ℕ, ◌||◌, Bool, true, false, if◌then◌else◌, List, [], ◌∷◌}
+use Rattle.std.specs.Prelude.{◌+◌, ◌*◌, ◌&&◌, ℕ, ◌||◌, Bool, true, false, if◌then◌else◌, List, [], ◌∷◌, Option, Some, None, pos}
 use Rattle.jp_query.specs.declared.tree.Numeral.{Numeral}
 use Rattle.jp_reading.specs.Texts.{Text}
-use Rattle.jp_reading.specs.Outcome.{State, Outcome, took, stuck, ◌>>=◌, head, past, skip, after_blank, passes, is, is_at, is_end, take_if, expect, each, item}
+use Rattle.jp_reading.specs.Outcome.{State, Outcome, took, stuck, ◌>>=◌, head, past, skip, after_blank, passes, is, is_at, is_end, take_if, expect, each, item, omit}
 use Rattle.jp_reading.specs.Numbers.{is_digit, value_from}
 use Rattle.jp_reading.specs.Views.{by}
-use Rattle.jp_query.specs.Tree.{SelectorTree, name, wildcard, index, SegmentTree, segment, QueryTree, query, selectors, segments}
+use Rattle.jp_query.specs.Tree.{SelectorTree, name, wildcard, index, SegmentTree, segment, QueryTree, query, selectors, segments, slice}
 use Rattle.jp_query.specs.Names.{is_name_first, is_name_char}
 use Rattle.jp_query.specs.Strings.{is_plain, is_escapable, escaped, is_hexdig, is_d, is_not_d, is_0_to_7, is_8_to_b, is_c_to_f, scalar_of}
 use Rattle.jp_query.specs.Ints.{is_leading_digit, whole_of, negative_of}
@@ -65,11 +67,41 @@ unfoldable pub int_at : State → Outcome Numeral
 int_at p =
     if is_at 48 p then took (whole_of 0) (past p) else (if is_at 45 p then by negative_of (size_at (past p)) else by whole_of (size_at p))
 
+-- whether a character begins a whole number
+abbrev pub begins_int : ℕ → Bool
+begins_int c = is 48 c || is 45 c || is_leading_digit c
+
+-- a bound and the blanks after it, if one begins
+unfoldable pub bound_at : State → Outcome (Option Numeral)
+bound_at p = if passes begins_int (head p) then (item p (int_at p) >>= λ i q. took (Some i) (skip q)) else took None p
+
+-- a step behind its colon, if one begins past the blanks
+unfoldable pub later_step_at : State → Outcome Numeral
+later_step_at p = if passes begins_int (after_blank p) then item (skip p) (int_at (skip p)) else took (Whole (pos 1)) (omit p)
+
+-- a colon and a step, if there is one
+unfoldable pub step_at : State → Outcome Numeral
+step_at p = if is_at 58 p then later_step_at (past p) else took (Whole (pos 1)) (omit p)
+
+-- the slice of these parts
+abbrev pub slice_of : Option Numeral → Option Numeral → Numeral → Slice
+slice_of start end step = record { start = start; end = end; step = step }
+
+-- a slice with that start, from its colon on
+unfoldable pub slice_at : Option Numeral → State → Outcome Slice
+slice_at start p = expect 58 p >>= λ _ q. bound_at (skip q) >>= λ end r. by (slice_of start end) (step_at r)
+
+-- an index, or a slice that starts with it
+unfoldable pub number_at : State → Outcome SelectorTree
+number_at p =
+    item p (int_at p) >>= λ i q. if passes (is 58) (after_blank q) then by slice (slice_at (Some i) (skip q)) else took (index i) q
+
 -- a selector
 unfoldable pub selector_at : ℕ → State → Outcome SelectorTree
 selector_at n p =
     if is_at 34 p then by name (quoted_at 34 p)
-    else (if is_at 39 p then by name (quoted_at 39 p) else (if is_at 42 p then took wildcard (past p) else item p (by index (int_at p))))
+    else (if is_at 39 p then by name (quoted_at 39 p)
+    else (if is_at 42 p then took wildcard (past p) else (if is_at 58 p then by slice (slice_at None p) else number_at p)))
 
 -- a selector and the blanks after it
 unfoldable pub entry_at : ℕ → State → Outcome SelectorTree

@@ -1,16 +1,35 @@
 //! Whole numbers (RFC 9535 section 2.3.3.1).
 
 ghost use Rattle.std.specs.Prelude.{◌≡◌, ◌^◌, ◌<◌, min};
+ghost use Rattle.jp_reading.specs.Outcome.{item, passes};
 ghost use Rattle.jp_reading.specs.Views.{Gives, by};
-ghost use Rattle.jp_query.specs.Reading.{int_at, size_at};
+ghost use Rattle.jp_query.specs.Reading.{int_at, size_at, begins_int};
 ghost use Rattle.jp_query.specs.Ints.{whole_of, negative_of, is_leading_digit};
 
 use crate::tree::Numeral;
 use jp_reading::{Reader, Stop, natural};
 
+/// A whole number, which is an item.
+pub fn int_item(reader: &mut Reader) -> Result<Numeral, Stop>
+    ensures { Gives (λ x. x) result reader.new (item reader.old (int_at reader.old)) }
+{
+    let start = reader.place();
+    let before = reader.items();
+    let number = int(reader)?;
+    reader.add_item(start, before)?;
+    Ok(number)
+}
+
+/// Whether a character begins a whole number.
+pub fn begins_int(next: Option<char>) -> bool
+    ensures { result ≡ passes begins_int next }
+{
+    matches!(next, Some('0' | '-' | '1'..='9'))
+}
+
 /// A whole number (RFC 9535 section 2.3.3.1, int).
 #[tactic(auto, using(crate::proofs::Sizes::sizes), unfolding(crate::specs::Reading::int_at))]
-pub fn int(reader: &mut Reader) -> Result<Numeral, Stop>
+fn int(reader: &mut Reader) -> Result<Numeral, Stop>
     ensures { Gives (λ x. x) result reader.new (int_at reader.old) }
 {
     if reader.is_at('0') {

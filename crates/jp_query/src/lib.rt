@@ -17,6 +17,7 @@ mod parsed;
 mod refusal;
 mod segments;
 mod selectors;
+mod slices;
 mod strings;
 #[cfg(test)]
 mod tests;

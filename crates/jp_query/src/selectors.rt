@@ -3,9 +3,10 @@
 ghost use Rattle.std.specs.Prelude.{◌≡◌, map};
 ghost use Rattle.jp_reading.specs.Views.{Gives};
 ghost use Rattle.jp_query.specs.Tree.{selector_of};
-ghost use Rattle.jp_query.specs.Reading.{selector_at, entry_at, another_at, entries_at};
+ghost use Rattle.jp_query.specs.Reading.{selector_at, entry_at, another_at, entries_at, number_at};
 
-use crate::ints::int;
+use crate::ints::int_item;
+use crate::slices::slice;
 use crate::strings::quoted;
 use crate::tree::Selector;
 use jp_reading::{Reader, Stop};
@@ -65,9 +66,21 @@ fn selector(reader: &mut Reader, levels: u32) -> Result<Selector, Stop>
         reader.bump();
         return Ok(Selector::Wildcard);
     }
-    let start = reader.place();
-    let before = reader.items();
-    let index = int(reader)?;
-    reader.add_item(start, before)?;
+    if reader.is_at(':') {
+        return Ok(Selector::Slice(slice(reader, None)?));
+    }
+    number(reader)
+}
+
+/// An index, or a slice that starts with it.
+#[tactic(auto, unfolding(crate::specs::Reading::number_at))]
+fn number(reader: &mut Reader) -> Result<Selector, Stop>
+    ensures { Gives selector_of result reader.new (number_at reader.old) }
+{
+    let index = int_item(reader)?;
+    if reader.is_before(':') {
+        reader.skip();
+        return Ok(Selector::Slice(slice(reader, Some(index))?));
+    }
     Ok(Selector::Index(index))
 }

@@ -1,6 +1,6 @@
 //! Queries of RFC 9535 read, and texts refused with their places.
 
-use crate::{Numeral, Query, RefusalKind, Segment, Selector, Span, parse};
+use crate::{Numeral, Query, RefusalKind, Segment, Selector, Slice, Span, parse};
 use std::alloc::{AllocError, Global};
 use std::test::Fail;
 
@@ -161,6 +161,68 @@ fn selectors_and_descendants_are_read(rt: HostRuntime) -> Result<(), Fail> {
     Ok(())
 }
 
+/// Whether the text is a query of one slice.
+fn reads_slice(
+    alloc: Global,
+    text: &str,
+    start: Option<Numeral>,
+    end: Option<Numeral>,
+    step: i128,
+) -> Result<bool, AllocError> {
+    let slice = Slice {
+        start,
+        end,
+        step: Numeral::Whole(step),
+    };
+    let segments = vec![in alloc; child(alloc, Selector::Slice(slice))?]?;
+    Ok(match parse(alloc, text) {
+        Ok(parsed) => parsed.into_query()
+            == Query {
+                absolute: true,
+                segments,
+            },
+        Err(_) => false,
+    })
+}
+
+#[test]
+fn slices_are_read(rt: HostRuntime) -> Result<(), Fail> {
+    let alloc = rt.alloc();
+    let rows = [
+        ("$[1 : 2 : 3]", Some(1), Some(2), 3),
+        ("$[5:1:-2]", Some(5), Some(1), -2),
+        ("$[::-1]", None, None, -1),
+        ("$[::]", None, None, 1),
+        ("$[:]", None, None, 1),
+        ("$[1: ]", Some(1), None, 1),
+        ("$[ 1 : : ]", Some(1), None, 1),
+        ("$[:2 :\t0 ]", None, Some(2), 0),
+    ];
+    for (text, start, end, step) in rows {
+        assert!(rt;
+            reads_slice(
+                alloc,
+                text,
+                start.map(Numeral::Whole),
+                end.map(Numeral::Whole),
+                step
+            )?,
+            "{text}"
+        );
+    }
+    let Ok(parsed) = parse(alloc, "$[1 : -2][::3]") else {
+        panic!(rt; "refused");
+    };
+    let spans = [
+        Some(Span { start: 2, end: 3 }),
+        Some(Span { start: 6, end: 8 }),
+        None,
+        Some(Span { start: 12, end: 13 }),
+    ];
+    assert_eq!(rt; parsed.spans(), spans.as_slice());
+    Ok(())
+}
+
 /// Whether the text is refused as `Syntax` at that byte.
 fn is_refused_at(alloc: Global, text: &str, place: usize) -> bool {
     match parse(alloc, text) {
@@ -201,6 +263,11 @@ fn texts_are_refused_at_their_places(rt: HostRuntime) -> Result<(), Fail> {
         ("$.1", 2),
         (" $", 0),
         ("$[]", 2),
+        ("$[1:2:3:4]", 7),
+        ("$[:a]", 3),
+        ("$[1:--2]", 5),
+        ("$[::01]", 5),
+        ("$[1:2 3]", 6),
         ("$[1,]", 4),
         ("$[,1]", 2),
         ("$[1 2]", 4),

@@ -4,7 +4,7 @@ use Rattle.std.specs.Char.{len_utf8}
 use Rattle.jp_reading.specs.Texts.{Text, Spans, bytes, is_blank}
 use Rattle.jp_reading.specs.Forms.{Form, ◌⌢◌, word, One, Blank, AllPassing, Each, Separated, Item}
 use Rattle.jp_reading.specs.Outcome.{State, Outcome, took, head, first_of, past, past_first, past_blanks, skip, passes, is, is_at, take_if, expect, each, item_since, item}
-use Rattle.jp_reading.proofs.Between.{Between, Reads, bytes-append, between-none, state-same}
+use Rattle.jp_reading.proofs.Between.{reads-as, Between, Reads, bytes-append, between-none, state-same}
 use Rattle.jp_reading.proofs.Steps.{take_if-takes}
 use Rattle.jp_reading.proofs.Judging.{span_inserted}
 use Rattle.jp_reading.proofs.Progress.{Progress}
@@ -47,6 +47,22 @@ split P Q p q h =
         is = parts.two;
       };
     }
+
+-- a word is its first character and the others
+pub split-word : (c : ℕ) (w : Text) (p q : State) → Reads (word (c ∷ w)) p q → Split (word (c ∷ [])) (word w) p q
+split-word c w p q h =
+    split (word (c ∷ [])) (word w) p q
+    (reads-as (word (c ∷ w)) (word (c ∷ []) ⌢ word w) p q
+    (λ s o t g. record {
+      first_spans = [];
+      second_spans = [];
+      first = c ∷ [];
+      second = w;
+      spans = g.none;
+      is = g.is;
+      one = record { none = refl; is = refl };
+      two = record { none = refl; is = refl };
+    }) h)
 
 -- a word of no characters is nothing
 pub reads-none : (p q : State) → Reads (word []) p q → p ≡ q

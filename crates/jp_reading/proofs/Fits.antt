@@ -1,13 +1,13 @@
 -- What a rule took has the form of its value, where nothing is asked of a rule that fails.
-use Rattle.std.proofs.Common.{◌≡◌, ℕ, zero, suc, Bool, true, false, cond, [], ◌∷◌, length, Option, Some, None, inl, inr, refl, subst, arith}
+use Rattle.std.proofs.Common.{◌≡◌, ℕ, zero, suc, Bool, true, false, cond, [], ◌∷◌, ◌++◌, length, Option, Some, None, inl, inr, refl, subst, arith}
 use Rattle.std.proofs.lemmas.Bool.{cases_Bool, eqb-true}
 use Rattle.jp_reading.specs.Texts.{Text, Spans}
 use Rattle.jp_reading.specs.Forms.{Form, ◌⌢◌, word, One, AllPassing, Each}
 use Rattle.jp_reading.specs.Numbers.{Digits, is_digit, is_at_digit, digit_at, digits_at}
-use Rattle.jp_reading.specs.Outcome.{State, Outcome, took, stuck, deep, ◌>>=◌, head, past, is, take_passing, take_if, expect, loop, each}
+use Rattle.jp_reading.specs.Outcome.{State, Outcome, took, stuck, deep, ◌>>=◌, head, past, is, is_at, take_passing, take_if, expect, loop, each}
 use Rattle.jp_reading.specs.Views.{by}
 use Rattle.jp_reading.proofs.Between.{Reads, Within, between-same, reads-then, reads-as}
-use Rattle.jp_reading.proofs.Steps.{past-way}
+use Rattle.jp_reading.proofs.Steps.{past-way, head-is}
 
 -- what was taken from p on has the form of its value
 abbrev pub Fits : {A : Type 0} → (A → Form) → State → Outcome A → Type 0
@@ -102,3 +102,14 @@ fits-digits p =
     (λ s o t h. (let all = each-digits (d ∷ ds) s o t h in
     record { none = all.0; is = all.1; digits = all.2; some = omega arith }))
     (reads-then (One is_digit d) (Each (One is_digit) ds) p q r one more)))
+
+-- two words, one after the other, are one
+pub reads-words : (v w : Text) (p q r : State) → Reads (word v) p q → Reads (word w) q r → Reads (word (v ++ w)) p r
+reads-words v w p q r h g =
+    reads-as (word v ⌢ word w) (word (v ++ w)) p r
+    (λ s o t k. record { none = rw (k.spans, k.one.none, k.two.none) refl; is = rw (k.is, k.one.is, k.two.is) refl })
+    (reads-then (word v) (word w) p q r h g)
+
+-- the character c, where it stands next
+pub reads-next : (c : ℕ) (p : State) → is_at c p ≡ true → Reads (word (c ∷ [])) p (past p)
+reads-next c p h = reads-word p c (head-is c p h)

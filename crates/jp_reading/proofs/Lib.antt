@@ -1,4 +1,5 @@
 pub mod Again
+pub mod Bare
 pub mod Between
 pub mod Chars
 pub mod Digits

@@ -1,5 +1,5 @@
 -- Forms of text, out of which a grammar's rules are put together (RFC 5234 section 3).
-use Rattle.std.specs.Prelude.{◌≡◌, ℕ, ◌+◌, Bool, true, List, [], ◌∷◌, ◌++◌, Some}
+use Rattle.std.specs.Prelude.{◌≡◌, ℕ, ◌+◌, Bool, true, List, [], ◌∷◌, ◌++◌, Some, None}
 use Rattle.jp_reading.specs.Texts.{Text, Spans, bytes, is_blank}
 
 -- a form says of the spans of the items in a text, the byte where the text begins, and the text, that they belong together
@@ -61,3 +61,8 @@ pub record Item (P : Form) (s : Spans) (o : ℕ) (t : Text) : Type 0 where
   pub inside : Spans
   pub spans : s ≡ Some (record { start = o; end = o + bytes t }) ∷ inside
   pub is : P inside o t
+
+-- an omitted item: no text, and no span
+pub record Omitted (s : Spans) (o : ℕ) (t : Text) : Type 0 where
+  pub spans : s ≡ None ∷ []
+  pub is : t ≡ []

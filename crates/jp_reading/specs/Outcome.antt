@@ -1,5 +1,5 @@
 -- What a reader does, as functions on what it has read so far.
-use Rattle.std.specs.Prelude.{ℕ, zero, suc, ◌+◌, ◌==◌, Bool, false, if◌then◌else◌, List, [], ◌∷◌, length, Option, Some, None, insert}
+use Rattle.std.specs.Prelude.{ℕ, zero, suc, ◌+◌, ◌==◌, Bool, false, if◌then◌else◌, List, [], ◌∷◌, length, Option, Some, None, insert, ◌++◌}
 use Rattle.std.specs.Char.{len_utf8}
 use Rattle.jp_reading.specs.Texts.{Text, Spans, is_blank}
 
@@ -107,3 +107,7 @@ item p o = o >>= λ x q. took x (item_since p.at (length p.found) q)
 abbrev pub enter : {A : Type 0} → ℕ → State → (ℕ → Outcome A) → Outcome A
 enter zero p inside = deep p
 enter (suc n) p inside = inside n
+
+-- an item that the text omits has no span
+abbrev pub omit : State → State
+omit p = record { at = p.at; rest = p.rest; found = p.found ++ None ∷ [] }

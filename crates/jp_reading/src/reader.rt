@@ -4,7 +4,7 @@ ghost use Rattle.std.specs.Prelude.{◌≡◌, ◌∷◌, [], ◌+◌, length, M
 ghost use Rattle.std.specs.Char.{len_utf8};
 ghost use Rattle.std.specs.Str.{chars, IsUtf8};
 ghost use Rattle.jp_reading.specs.Texts.{is_blank};
-ghost use Rattle.jp_reading.specs.Outcome.{State, head, first_of, passes, past, skip, after_blank, is_at, expect, item_since};
+ghost use Rattle.jp_reading.specs.Outcome.{State, head, first_of, passes, past, skip, after_blank, is_at, expect, item_since, omit};
 ghost use Rattle.jp_reading.specs.Views.{Gives};
 
 use crate::span::Span;
@@ -193,6 +193,15 @@ impl<'t> Reader<'t> {
         } else {
             self.spans.push(Some(span))?;
         }
+        Ok(())
+    }
+
+    /// Counts an item that the text omits: it has no span.
+    pub fn omit_item(&mut self) -> Result<(), AllocError>
+        ensures added { OnOk result (self.new ≡ omit self.old) }
+        ensures refused { OnErr result (self.new ≡ self.old) }
+    {
+        self.spans.push(None)?;
         Ok(())
     }
 

@@ -43,7 +43,8 @@ fn keeps_outer_items_before_inner_ones(rt: HostRuntime) -> Result<(), Fail> {
     reader.add_item(inner.0, inner.1)?;
     reader.expect(']')?;
     reader.add_item(outer.0, outer.1)?;
-    assert_eq!(rt; reader.items(), 2);
+    reader.omit_item()?;
+    assert_eq!(rt; reader.items(), 3);
     let mut letters: Vec<u8> = Vec::new(reader.alloc());
     letters.push(7)?;
     assert_eq!(rt; letters.as_slice(), [7].as_slice());
@@ -51,6 +52,7 @@ fn keeps_outer_items_before_inner_ones(rt: HostRuntime) -> Result<(), Fail> {
     let expected = [
         Some(Span { start: 0, end: 4 }),
         Some(Span { start: 1, end: 3 }),
+        None,
     ];
     assert_eq!(rt; spans.as_slice(), expected.as_slice());
     Ok(())

@@ -1,20 +1,14 @@
 -- Values and their locations: what stands in a value, and where.
-use Rattle.std.proofs.Common.{◌≡◌, ℕ, zero, suc, ◌+◌, ◌<◌, List, [], ◌∷◌, ◌++◌, length, map, Option, Some, None, Less, Equal, cond, is_eq, refl, sym, ap, ap₂, subst, ◌∙◌, append_assoc, arith}
-use Rattle.std.specs.BTreeMap.{is_at}
-use Rattle.std.specs.List.{All, AllByRecursion, Contains, flat_map, slice_get}
-use Rattle.std.specs.List.Sorted.{IsStrictlySortedBy}
-use Rattle.std.specs.Map.{lookup, keys_of}
-use Rattle.std.specs.Option.{IsSome, option_and_then, option_map_or}
-use Rattle.std.specs.Ordering.{ordering_then}
-use Rattle.std.proofs.lemmas.Cmp.{tied_itself}
-use Rattle.std.proofs.lemmas.List.{append-nil, map-append}
+use Rattle.std.proofs.Common.{◌≡◌, ℕ, zero, suc, List, [], ◌∷◌, ◌++◌, map, Option, Some, None, refl, sym, ap, ap₂, subst, ◌∙◌, arith}
+use Rattle.std.specs.List.{All, flat_map, slice_get}
+use Rattle.std.specs.Option.{option_and_then, option_map_or}
 use Rattle.std.proofs.lemmas.List.Elements.{All-cons, All-nil, All-append, All-map, All-weaker}
 use Rattle.std.proofs.lemmas.Option.{same_Some}
 use Rattle.jp_document.specs.ChildNodes.{standing}
-use Rattle.jp_document.specs.Location.{Key, named, nth, key_cmp, Location, location_cmp, items_from, members_by_name, held, child, value_at}
+use Rattle.jp_document.specs.Location.{Key, named, nth, Location, items_from, members_by_name, held, child, value_at}
 use Rattle.jp_document.specs.Value.{Value, null, boolean, whole, text, list, object, Items, no_items, item, Members, no_members, member, IsDocumentValue}
 use Rattle.jp_document.proofs.ChildValues.{IsDocumentValue-child}
-use Rattle.jp_document.proofs.Held.{key_cmp_total, held-rises, child-held}
+use Rattle.jp_document.proofs.Held.{child-held}
 use Rattle.jp_select.specs.Below.{after, nodes_in, nodes_in_items, nodes_in_members, beyond, below}
 use Rattle.jp_select.specs.Walk.{place_beyond, places_in}
 

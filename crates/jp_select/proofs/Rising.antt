@@ -1,18 +1,17 @@
 -- The nodes in a value are all that stand there, and rise in document order.
-use Rattle.std.proofs.Common.{◌≡◌, ℕ, zero, suc, ◌+◌, ◌<◌, List, [], ◌∷◌, ◌++◌, length, get_or, map, Option, Some, None, Ordering, Less, Equal, Greater, is_eq, true, refl, sym, ap, subst, ◌∙◌, arith, ◌↔◌}
+use Rattle.std.proofs.Common.{◌≡◌, ℕ, zero, suc, ◌<◌, List, [], ◌∷◌, ◌++◌, length, get_or, map, Option, Some, None, Ordering, Less, Equal, Greater, is_eq, true, refl, sym, ap, subst, ◌∙◌, arith}
 use Rattle.std.specs.BTreeMap.{is_at}
-use Rattle.std.specs.Cmp.Lexicographic.{slice_cmp}
-use Rattle.std.specs.List.{All, AllByRecursion, Contains, flat_map, slice_get}
+use Rattle.std.specs.List.{AllByRecursion, Contains, flat_map, slice_get}
 use Rattle.std.specs.List.Sorted.{IsStrictlySortedBy}
-use Rattle.std.specs.Map.{lookup, keys_of}
+use Rattle.std.specs.Map.{keys_of}
 use Rattle.std.specs.Option.{IsSome, is_some, option_and_then, option_map_or}
-use Rattle.std.specs.Ordering.{ordering_then, nat_cmp}
+use Rattle.std.specs.Ordering.{ordering_then}
 use Rattle.std.proofs.lemmas.Cmp.{tied_itself}
-use Rattle.std.proofs.lemmas.List.{append-nil, map-append}
+use Rattle.std.proofs.lemmas.List.{map-append}
 use Rattle.std.proofs.lemmas.List.Elements.{All-contains, Contains-append_left, Contains-append_right}
 use Rattle.std.proofs.lemmas.Map.Entries.{place_from_lookup}
 use Rattle.std.proofs.lemmas.Map.Lookups.{exact_bytes, exact_unsigned}
-use Rattle.std.proofs.lemmas.Option.{same_Some, slice_get_within, get_or_from_slice_get}
+use Rattle.std.proofs.lemmas.Option.{same_Some}
 use Rattle.jp_document.specs.ChildNodes.{IsListOf}
 use Rattle.jp_document.specs.Location.{Key, named, nth, key_cmp, Location, location_cmp, held, child, value_at}
 use Rattle.jp_document.specs.Value.{Value, IsDocumentValue}
@@ -127,10 +126,10 @@ exact_step (named s) (nth j) h = absurd (cc)
 exact_step (nth i) (named t) h = absurd (cc)
 exact_step (nth i) (nth j) h = ap nth (exact_unsigned i j (equal (key_cmp (nth i) (nth j)) h))
 
-contained_head : {X : Type 0} (x : X) (xs : List X) → Contains (x ∷ xs) x
+pub contained_head : {X : Type 0} (x : X) (xs : List X) → Contains (x ∷ xs) x
 contained_head x xs = (0, omega arith, refl)
 
-contained_tail : {X : Type 0} (x y : X) (xs : List X) → Contains xs y → Contains (x ∷ xs) y
+pub contained_tail : {X : Type 0} (x y : X) (xs : List X) → Contains xs y → Contains (x ∷ xs) y
 contained_tail x y xs h = (suc h.0, omega (arith, h.1), h.2)
 
 contained_map : {X Y : Type 0} (f : X → Y) (x : X) (xs : List X) (i : ℕ) → i < length xs → get_or xs i x ≡ x → Contains (map f xs) (f x)

@@ -1,18 +1,14 @@
 -- The nodes that a selector selects.
-use Rattle.std.proofs.Common.{◌≡◌, ℕ, suc, ◌+◌, ◌<◌, List, [], ◌∷◌, ◌++◌, Option, Some, None, length, map, take, option_to_list, slice_index_or, vec_len, Vec, Global, IsUtf8, refl, ap, ap₂, ◌∙◌, sym, subst}
-use Rattle.std.specs.List.{flat_map}
-use Rattle.std.specs.Option.{option_and_then, option_map_or}
+use Rattle.std.proofs.Common.{◌≡◌, ℕ, suc, List, [], ◌∷◌, ◌++◌, Option, Some, None, length, map, option_to_list, vec_len, Vec, Global, IsUtf8, refl, ap, ◌∙◌, sym, subst}
 use Rattle.std.specs.Str.{chars, encode_utf8_all}
-use Rattle.std.proofs.lemmas.List.{append-nil, map-append, take_more}
-use Rattle.std.proofs.lemmas.Grind.{flat_map-append}
 use Rattle.std.proofs.lemmas.Str.{encodes-chars}
 use Rattle.jp_document.proofs.Values.{value_of-List}
-use Rattle.jp_document.specs.ChildNodes.{AreNodes, shown, standing}
-use Rattle.jp_document.specs.Location.{Key, Location, named, nth, value_at}
-use Rattle.jp_document.specs.Node.{IsNodeAt, Located, StandsIn}
+use Rattle.jp_document.specs.ChildNodes.{AreNodes}
+use Rattle.jp_document.specs.Location.{Key, Location, named, value_at}
+use Rattle.jp_document.specs.Node.{IsNodeAt, Located}
 use Rattle.jp_document.specs.Value.{Value, item_count, items_of, value_of}
 use Rattle.jp_document.specs.declared.value.Json.{Json, List as ListOf}
-use Rattle.jp_select.specs.Selectors.{item_step, length_at, list_length, one_step}
+use Rattle.jp_select.specs.Selectors.{list_length, one_step}
 
 item_count-of : (items : List Json) → item_count (items_of (map value_of items)) ≡ length items
 item_count-of [] = refl

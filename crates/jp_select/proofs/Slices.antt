@@ -1,24 +1,12 @@
 -- Slices, index by index.
-use Rattle.std.proofs.Common.{◌≡◌, ◌≢◌, ℕ, zero, suc, ◌+◌, ◌-◌, ◌<◌, ◌≤◌, ◌%◌, Bool, true, false, ◌&&◌, cond, leb, ltb, nat_eq, ℤ, pos, negsuc, ◌+ℤ◌, ◌-ℤ◌, int_le, int_lt, unsigned_abs, List, [], ◌∷◌, ◌++◌, reverse, Option, refl, sym, ap, ap₂, subst, ◌∙◌, inl, inr, arith}
+use Rattle.std.proofs.Common.{◌≡◌, ℕ, zero, suc, ◌+◌, ◌-◌, ◌<◌, ◌≤◌, ◌%◌, Bool, true, false, ◌&&◌, cond, leb, ltb, nat_eq, ℤ, pos, negsuc, ◌+ℤ◌, ◌-ℤ◌, int_le, int_lt, unsigned_abs, [], ◌∷◌, ◌++◌, reverse, Option, refl, sym, ap, ap₂, ◌∙◌, inl, inr, arith}
 use Rattle.std.specs.List.{filter, range_with_len}
-use Rattle.std.proofs.lemmas.Bool.{cases_lt}
+use Rattle.std.proofs.lemmas.Bool.{cases_lt, le-leb, le-ltb, lt-leb, lt-ltb}
 use Rattle.std.proofs.lemmas.Bool.Decides.{nat_tests}
 use Rattle.std.proofs.lemmas.Int.{ints}
 use Rattle.std.proofs.lemmas.List.{reverse-append}
 use Rattle.std.proofs.Math.Nat.{add-mod_right, mod-eq_of_lt}
 use Rattle.jp_select.specs.Slice.{rising_lower, rising_upper, falling_lower, falling_upper, divides, is_rising, is_falling, indexes, slice_of}
-
-leb_yes : (a b : ℕ) → a ≤ b → leb a b ≡ true
-leb_yes a b h = grind (arith, nat_tests)
-
-leb_no : (a b : ℕ) → b < a → leb a b ≡ false
-leb_no a b h = grind (arith, nat_tests)
-
-ltb_yes : (a b : ℕ) → a < b → ltb a b ≡ true
-ltb_yes a b h = grind (arith, nat_tests)
-
-ltb_no : (a b : ℕ) → b ≤ a → ltb a b ≡ false
-ltb_no a b h = grind (arith, nat_tests)
 
 eq_no : (a : ℕ) → 0 < a → nat_eq a 0 ≡ false
 eq_no a h = grind (arith, nat_tests)
@@ -27,7 +15,7 @@ and_false : (b : Bool) → (b && false) ≡ false
 and_false true = refl
 and_false false = refl
 
-distance : (i j : ℕ) → i ≤ j → pos j -ℤ pos i ≡ pos (j - i)
+pub distance : (i j : ℕ) → i ≤ j → pos j -ℤ pos i ≡ pos (j - i)
 distance i j h = omega (arith, ints)
 
 -- ---- filters over indexes
@@ -83,15 +71,15 @@ filter_last p q i a (suc n) from to after here none same =
 -- ---- upwards
 
 rising_before : (i u s j : ℕ) → j < i → is_rising (pos i) (pos u) s j ≡ false
-rising_before i u s j less = ap (λ b. b && ltb j u && divides s (pos j -ℤ pos i)) (leb_no i j less)
+rising_before i u s j less = ap (λ b. b && ltb j u && divides s (pos j -ℤ pos i)) (lt-leb i j less)
 
 rising_past : (i u s j : ℕ) → u ≤ j → is_rising (pos i) (pos u) s j ≡ false
-rising_past i u s j past = ap (λ b. leb i j && b && divides s (pos j -ℤ pos i)) (ltb_no j u past) ∙ ap (λ b. b && divides s (pos j -ℤ pos i)) (and_false (leb i j))
+rising_past i u s j past = ap (λ b. leb i j && b && divides s (pos j -ℤ pos i)) (le-ltb j u past) ∙ ap (λ b. b && divides s (pos j -ℤ pos i)) (and_false (leb i j))
 
 rising_here : (i u s : ℕ) → i < u → 0 < s → is_rising (pos i) (pos u) s i ≡ true
 rising_here i u s within positive =
     let none : unsigned_abs (pos i -ℤ pos i) % s ≡ 0 = ap (λ z. unsigned_abs z % s) (distance i i (omega arith)) ∙ omega arith in
-    rw (leb_yes i i (omega arith)) (rw (ltb_yes i u within) (rw none refl))
+    rw (le-leb i i (omega arith)) (rw (lt-ltb i u within) (rw none refl))
 
 same_rest : (m s : ℕ) → nat_eq ((m + s) % s) 0 ≡ nat_eq (m % s) 0
 same_rest m s = ap (λ r. nat_eq r 0) (add-mod_right m s)
@@ -110,7 +98,7 @@ rising_later i u s j less positive =
       | inr above ↦
           let far : j - i ≡ (j - (i + s)) + s = omega arith in
           ap (λ z. leb i j && ltb j u && nat_eq (unsigned_abs z % s) 0) (distance i j (omega arith))
-          ∙ ap₂ (λ b c. b && ltb j u && c) (leb_yes i j (omega arith) ∙ sym (leb_yes (i + s) j above)) (ap (λ m. nat_eq (m % s) 0) far ∙ same_rest (j - (i + s)) s)
+          ∙ ap₂ (λ b c. b && ltb j u && c) (le-leb i j (omega arith) ∙ sym (le-leb (i + s) j above)) (ap (λ m. nat_eq (m % s) 0) far ∙ same_rest (j - (i + s)) s)
           ∙ ap (λ z. leb (i + s) j && ltb j u && nat_eq (unsigned_abs z % s) 0) (sym (distance (i + s) j above))
     ]
 
@@ -139,23 +127,23 @@ is_below lower above s = is_falling (pos lower -ℤ pos 1) (pos above -ℤ pos 1
 one_less : (k : ℕ) → pos (suc k) -ℤ pos 1 ≡ pos k
 one_less k = omega (arith, ints)
 
-above_lower : (l j : ℕ) → l ≤ j → int_lt (pos l -ℤ pos 1) (pos j) ≡ true
+pub above_lower : (l j : ℕ) → l ≤ j → int_lt (pos l -ℤ pos 1) (pos j) ≡ true
 above_lower zero j h = refl
-above_lower (suc k) j h = ap (λ z. int_lt z (pos j)) (one_less k) ∙ ltb_yes k j (omega arith)
+above_lower (suc k) j h = ap (λ z. int_lt z (pos j)) (one_less k) ∙ lt-ltb k j (omega arith)
 
-not_above_lower : (l j : ℕ) → j < l → int_lt (pos l -ℤ pos 1) (pos j) ≡ false
+pub not_above_lower : (l j : ℕ) → j < l → int_lt (pos l -ℤ pos 1) (pos j) ≡ false
 not_above_lower zero j h = absurd (omega arith)
-not_above_lower (suc k) j h = ap (λ z. int_lt z (pos j)) (one_less k) ∙ ltb_no k j (omega arith)
+not_above_lower (suc k) j h = ap (λ z. int_lt z (pos j)) (one_less k) ∙ le-ltb k j (omega arith)
 
-below_upper : (a j : ℕ) → j < a → int_le (pos j) (pos a -ℤ pos 1) ≡ true
+pub below_upper : (a j : ℕ) → j < a → int_le (pos j) (pos a -ℤ pos 1) ≡ true
 below_upper zero j h = absurd (omega arith)
-below_upper (suc k) j h = ap (int_le (pos j)) (one_less k) ∙ leb_yes j k (omega arith)
+below_upper (suc k) j h = ap (int_le (pos j)) (one_less k) ∙ le-leb j k (omega arith)
 
-not_below_upper : (a j : ℕ) → a ≤ j → int_le (pos j) (pos a -ℤ pos 1) ≡ false
+pub not_below_upper : (a j : ℕ) → a ≤ j → int_le (pos j) (pos a -ℤ pos 1) ≡ false
 not_below_upper zero j h = refl
-not_below_upper (suc k) j h = ap (int_le (pos j)) (one_less k) ∙ leb_no j k (omega arith)
+not_below_upper (suc k) j h = ap (int_le (pos j)) (one_less k) ∙ lt-leb j k (omega arith)
 
-distance_down : (a j : ℕ) → j < a → (pos a -ℤ pos 1) -ℤ pos j ≡ pos (a - 1 - j)
+pub distance_down : (a j : ℕ) → j < a → (pos a -ℤ pos 1) -ℤ pos j ≡ pos (a - 1 - j)
 distance_down a j h = omega (arith, ints)
 
 falling_after : (l a s j : ℕ) → a ≤ j → is_below l a s j ≡ false

@@ -1,6 +1,6 @@
 //! The walk over a node and its descendants in document order (RFC 9535 section 2.5.2.2).
-ghost use Rattle.std.specs.Prelude.{◌≡◌, [], ◌++◌, IfOk, IfNone, OnOk};
-ghost use Rattle.jp_document.specs.ChildNodes.{AreNodes};
+ghost use Rattle.std.specs.Prelude.{◌≡◌, [], ◌++◌, map, IfOk, IfNone, OnOk};
+ghost use Rattle.jp_document.specs.ChildNodes.{AreNodes, standing};
 ghost use Rattle.jp_document.specs.Node.{told, StandsIn};
 ghost use Rattle.jp_document.specs.Value.{Value};
 ghost use Rattle.jp_select.specs.Below.{below};
@@ -16,11 +16,25 @@ pub fn descend<'d>(alloc: Global, node: Node<'d>) -> Result<Vec<Node<'d>>, Alloc
         → IfOk result (λ nodes. AreNodes d nodes.items (below d node.entry.location)) }
 {
     let mut nodes = Vec::new(alloc);
-    let mut descent = Descent::new(alloc, node);
+    let mut descent = descend_each(alloc, node);
     while let Some(next) = descent.advance()? {
         nodes.push(next)?;
     }
     Ok(nodes)
+}
+
+/// A walk over a node and its descendants in document order, to be taken node by node. It takes no memory
+/// before the first node is asked for, and its own memory follows the depth of the walk.
+pub fn descend_each<'d>(alloc: Global, node: Node<'d>) -> Descent<'d>
+    ensures values { rest_of result ≡ places_in (told node.entry) }
+    ensures nodes { (d : Value) → StandsIn d node.entry
+        → rest_of result ≡ map (standing d) (below d node.entry.location) }
+{
+    Descent {
+        alloc,
+        first: Some(node),
+        frames: Vec::new(alloc),
+    }
 }
 
 /// A node whose children are being visited, and the position of the next of them.
@@ -33,25 +47,15 @@ struct Frame<'d> {
 /// A walk under way: the node that it begins with, while it has not been given, and a frame for each node
 /// on the way from there to the one that was given last.
 #[derive(Drop)]
-struct Descent<'d> {
+pub struct Descent<'d> {
     alloc: Global,
     first: Option<Node<'d>>,
     frames: Vec<Frame<'d>>,
 }
 
 impl<'d> Descent<'d> {
-    fn new(alloc: Global, node: Node<'d>) -> Descent<'d>
-        ensures { rest_of result ≡ places_in (told node.entry) }
-    {
-        Descent {
-            alloc,
-            first: Some(node),
-            frames: Vec::new(alloc),
-        }
-    }
-
-    /// The next node, None at the end.
-    fn advance(&mut self) -> Result<Option<Node<'d>>, AllocError>
+    /// The next node, None at the end. After an error nothing is said of what is left.
+    pub fn advance(&mut self) -> Result<Option<Node<'d>>, AllocError>
         ensures gives { IfOk result (λ o. Gives (rest_of self.old) o (rest_of self.new)) }
         ensures end { IfOk result (λ o. IfNone o (rest_of self.new ≡ [])) }
     {

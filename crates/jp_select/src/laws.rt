@@ -1,8 +1,14 @@
 //! What is true of the definitions that the calls cite: functions without a body, each for one law.
-ghost use Rattle.jp_select.specs.Laws.{BelowRises};
+ghost use Rattle.jp_select.specs.Laws.{BelowRises, SlicesAreExact};
 
 /// A node and its descendants are exactly the nodes whose locations begin with its own, in document order
 /// (RFC 9535 section 2.5.2.2).
 pub fn below_rises()
     ensures { BelowRises }
+{}
+
+/// A slice selects exactly the indexes that its step leads to within its bounds, in the direction of the
+/// step, and none by step 0 (RFC 9535 section 2.3.4.2).
+pub fn slices_are_exact()
+    ensures { SlicesAreExact }
 {}

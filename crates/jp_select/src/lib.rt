@@ -19,5 +19,5 @@ mod slice;
 #[cfg(test)]
 mod tests;
 
-pub use descent::descend;
+pub use descent::{Descent, descend, descend_each};
 pub use selector::select_plain;

@@ -1,5 +1,5 @@
 //! Rows of selectors and descendants.
-use crate::{descend, select_plain};
+use crate::{descend, descend_each, select_plain};
 use jp_document::{Document, Node, path_text};
 use jp_query::{Numeral, Selector, Slice};
 use std::alloc::{AllocError, Global};
@@ -38,6 +38,11 @@ fn slice(start: Option<i128>, end: Option<i128>, step: i128) -> Selector {
 fn descendants(rt: HostRuntime) -> Result<(), Fail> {
     let alloc = rt.alloc();
     let document = Document::read(alloc, NESTED)?;
+    let mut walk = descend_each(alloc, document.root(alloc));
+    let root = walk.advance()?.ok_or("no node")?;
+    let first = walk.advance()?.ok_or("no node")?;
+    assert_eq!(rt; path_text(alloc, root.location())?.as_str(), "$");
+    assert_eq!(rt; path_text(alloc, first.location())?.as_str(), "$['a']");
     let nodes = descend(alloc, document.root(alloc))?;
     assert_eq!(rt;
         paths(alloc, &nodes)?.as_str(),

@@ -1,29 +1,26 @@
-use Rattle.std.proofs.Common.{List, ◌++◌, ◌∙◌, false, ap, map, subst, sym}
-use Rattle.jp_document.specs.ChildNodes.{AreNodes, shown, standing}
+use Rattle.std.proofs.Common.{ap, map, subst, sym}
 use Rattle.jp_document.specs.Node.{Located, StandsIn}
-use Rattle.jp_query.specs.Tree.{SelectorTrees, segment, selector_of, selectors}
-use Rattle.jp_select.specs.Below.{below}
-use Rattle.jp_evaluate.proofs.Segments.{below_selected, by_segment, by_segment-append, child_segment-one, grown-next, nodes-stand}
+use Rattle.jp_query.specs.Tree.{selector_of, selectors}
+use Rattle.jp_select.specs.Walk.{rest_of}
+use Rattle.jp_evaluate.proofs.Visits.{all_done, given_stands, none_done, one_done}
 use Rattle.jp_evaluate.proofs.segment.push_below.Goals as goal
 
-pub loop-place-preserved : goal.loop-place-preserved
-loop-place-preserved c = λ d stand.
-    let ss : SelectorTrees = selectors (map selector_of c.args.selectors.now) in
-    let here : StandsIn d c.place-item.result =
-    subst (StandsIn d) (sym c.place-item.is) (stand c.loop-place.place-index c.place-item.result c.loop-place-test.true) in
-    grown-next d (by_segment d (segment false ss)) (by_segment-append d (segment false ss)) c.args.found.now.items c.loop-place.found.items _
-    _ c.loop-place.place-index c.place-item.result c.loop-place-test.true c.place-item.is
-    (c.loop-place.invariant d stand)
-    (c.in_ok-push_selected.ensures d here ∙ ap (λ ls. map shown c.loop-place.found.items ++ map (standing d) ls) (sym (child_segment-one d ss c.place-item.result.location)))
+pub loop-descent-init : goal.loop-descent-init
+loop-descent-init c = λ d stands.
+    none_done d (selectors (map selector_of c.args.selectors.now)) c.args.node.now.location c.in_ok-copy.field-0.location c.args.found.now.items _
+    (ap (λ (n : Located). n.location) c.in_ok-copy.ensures) (c.descend_each-descent.ensures.nodes d (subst (StandsIn d) (sym c.in_ok-copy.ensures) stands))
+
+pub loop-descent-preserved : goal.loop-descent-preserved
+loop-descent-preserved c = λ d stands.
+    let visit = c.loop-descent.invariant d stands in
+    let there : StandsIn d c.in-Some.next =
+    given_stands d _ _ _ _ (rest_of c.loop-descent.descent) (rest_of c.advance.new.self) c.in-Some.next c.in_ok-next.field-0 stands.document visit
+    c.in-Some.is c.in_ok-next.ensures.gives in
+    one_done d _ _ _ _ _ (rest_of c.loop-descent.descent) (rest_of c.advance.new.self) c.in-Some.next c.in_ok-next.field-0 visit
+    c.in-Some.is c.in_ok-next.ensures.gives (c.in_ok-push_selected.ensures d there)
 
 pub returns : goal.returns
 returns c = λ d stands.
-    let ss : SelectorTrees = selectors (map selector_of c.args.selectors.now) in
-    let copied : StandsIn d c.in_ok-copy.field-0 = subst (StandsIn d) (sym c.in_ok-copy.ensures) stands in
-    let visited : AreNodes d c.in_ok-visited.visited.items (below d c.args.node.now.location) =
-    subst (λ (n : Located). AreNodes d c.in_ok-visited.visited.items (below d n.location)) c.in_ok-copy.ensures (c.in_ok-visited.ensures d copied) in
-    let there : AreNodes d c.deref-place-items.result.now (below d c.args.node.now.location) =
-    subst (λ (ns : List Located). AreNodes d ns (below d c.args.node.now.location)) (sym c.deref-place-items.ensures.value) visited in
-    below_selected d ss c.args.node.now.location c.args.found.now.items c.loop-place.found.items c.deref-place-items.result.now c.loop-place.place-index
-    c.loop-place-test.false there
-    (c.loop-place.invariant d (nodes-stand d c.deref-place-items.result.now _ stands.document there))
+    all_done d (selectors (map selector_of c.args.selectors.now)) c.args.node.now.location c.args.found.now.items c.loop-descent.found.items
+    (rest_of c.loop-descent.descent) (rest_of c.advance.new.self) c.in_ok-next.field-0 (c.loop-descent.invariant d stands)
+    c.in_default.is c.in_ok-next.ensures.gives c.in_ok-next.ensures.end

@@ -1,12 +1,11 @@
 use Rattle.std.proofs.Common.{◌≡◌, ◌++◌, ◌∷◌, sym, ap, ◌∙◌, map, [], true, not, is_ok}
 use Rattle.std.proofs.lemmas.List.{map-append}
 use Rattle.std.proofs.lemmas.Result.{err_from_is_err_and}
-use Rattle.jp_reading.specs.Outcome.{is_at, each}
-use Rattle.jp_reading.specs.Views.{with_front}
+use Rattle.jp_reading.specs.Outcome.{is_at}
 use Rattle.jp_reading.proofs.Progress.{moved}
 use Rattle.jp_reading.proofs.Folds.{pushes_on, pushes_end, folds_fail}
 use Rattle.jp_query.specs.Tree.{selector_of}
-use Rattle.jp_query.specs.Reading.{another_at, entries_at}
+use Rattle.jp_query.specs.Reading.{another_at}
 use Rattle.jp_query.proofs.Moves.{another-progress}
 use Rattle.jp_query.proofs.Rounds.{entries_first}
 use Rattle.jp_query.proofs.selectors.entries.Goals as goal

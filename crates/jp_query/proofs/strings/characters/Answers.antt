@@ -1,11 +1,11 @@
-use Rattle.std.proofs.Common.{◌≡◌, ℕ, true, false, ◌++◌, ◌∷◌, [], rules, sym, ap, ◌∙◌}
+use Rattle.std.proofs.Common.{◌≡◌, ◌++◌, ◌∷◌, [], rules, sym, ap, ◌∙◌}
 use Rattle.std.specs.Char.{IsScalar}
 use Rattle.std.specs.Str.{chars}
 use Rattle.std.specs.String.{string_bytes}
 use Rattle.std.proofs.lemmas.Str.{chars-nil, IsUtf8-string_bytes}
 use Rattle.std.proofs.lemmas.Result.{err_from_is_err_and}
 use Rattle.jp_reading.specs.Outcome.{passes, head}
-use Rattle.jp_reading.specs.Views.{with_front, Fails}
+use Rattle.jp_reading.specs.Views.{with_front}
 use Rattle.jp_reading.proofs.Chars.{chars_push}
 use Rattle.jp_reading.proofs.Progress.{moved}
 use Rattle.jp_reading.proofs.Folds.{with_front-nil, pushes_on, pushes_end, folds_fail}

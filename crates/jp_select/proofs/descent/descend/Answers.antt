@@ -1,4 +1,4 @@
-use Rattle.std.proofs.Common.{◌≡◌, map, sym, ◌∙◌}
+use Rattle.std.proofs.Common.{map, sym, ◌∙◌}
 use Rattle.jp_document.specs.Value.{value_of}
 use Rattle.jp_document.specs.ChildNodes.{shown}
 use Rattle.jp_select.specs.Walk.{rest_of}

@@ -1,9 +1,9 @@
-use Rattle.std.proofs.Common.{◌≡◌, ℕ, ℤ, ◌+◌, ◌-◌, [], ◌∷◌, ◌++◌, pos, negsuc, ◌+ℤ◌, ◌-ℤ◌, unwrap_or, reverse, append_assoc, sym, ap, ◌∙◌, arith, rules, to_z, of_z}
+use Rattle.std.proofs.Common.{◌≡◌, ℕ, ℤ, ◌-◌, [], ◌∷◌, ◌++◌, pos, negsuc, ◌+ℤ◌, ◌-ℤ◌, unwrap_or, reverse, append_assoc, sym, ap, ◌∙◌, arith, rules, to_z, of_z}
 use Rattle.std.specs.List.{filter}
 use Rattle.std.specs.Int.{w128}
 use Rattle.std.proofs.lemmas.Int.{ints, to_z-of_z}
 use Rattle.std.proofs.lemmas.List.{append-nil}
-use Rattle.jp_select.specs.Slice.{held_within, indexes, normalized, falling_lower, falling_upper, slice_of}
+use Rattle.jp_select.specs.Slice.{held_within, indexes, normalized, falling_lower, falling_upper}
 use Rattle.jp_select.proofs.Slices.{is_below, falling-next, falling-end, falling-starts}
 use Rattle.jp_select.proofs.slice.falling.Goals as goal
 

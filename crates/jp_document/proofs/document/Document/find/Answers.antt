@@ -6,18 +6,18 @@ use Rattle.jp_document.proofs.document.Document.find.Goals as goal
 
 pub loop-step-preserved : goal.loop-step-preserved
 loop-step-preserved c =
-    let here = value_of c.loop-step.json.now in
-    let next = value_of c.in_ok-json.json.now in
+    let here = value_of c.loop-step.value.now in
+    let next = value_of c.in_ok-value.value.now in
     let key = c.as_step.ensures ∙ ap owned_key c.step-item.is in (
-      IsDocumentValue-child here next _ c.loop-step.invariant.0 (sym c.in_ok-json.ensures),
+      IsDocumentValue-child here next _ c.loop-step.invariant.0 (sym c.in_ok-value.ensures),
       walked owned_key c.steps-step-items.result.now c.loop-step.step-index c.step-item.result here next _ c.loop-step-test.true
-          (c.in_ok-json.ensures ∙ ap (child here) key) c.loop-step.invariant.1,
+          (c.in_ok-value.ensures ∙ ap (child here) key) c.loop-step.invariant.1,
     )
 
-pub returns-in_err-json : goal.returns-in_err-json
-returns-in_err-json c =
-    let here = value_of c.loop-step.json.now in
+pub returns-in_err-value : goal.returns-in_err-value
+returns-in_err-value c =
+    let here = value_of c.loop-step.value.now in
     let key = c.as_step.ensures ∙ ap owned_key c.step-item.is in
     ap (option_map (λ j. value_of j.now)) c.from_residual.ensures
     ∙ walked_out owned_key c.steps-step-items.result.now c.loop-step.step-index c.step-item.result here _ c.loop-step-test.true
-    (c.in_err-json.ensures ∙ ap (child here) key) c.loop-step.invariant.1
+    (c.in_err-value.ensures ∙ ap (child here) key) c.loop-step.invariant.1

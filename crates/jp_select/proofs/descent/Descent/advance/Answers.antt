@@ -1,4 +1,4 @@
-use Rattle.std.proofs.Common.{◌≡◌, ◌+◌, ap, sym, ◌∙◌, refl, Some, None, rules, arith}
+use Rattle.std.proofs.Common.{◌+◌, ◌∙◌, refl}
 use Rattle.jp_select.specs.Walk.{rest_of}
 use Rattle.jp_select.proofs.Walks.{first_gives, child_gives, frame_ends}
 use Rattle.jp_select.proofs.descent.Descent.advance.Goals as goal

@@ -1,4 +1,4 @@
-use Rattle.std.proofs.Common.{◌≡◌, ◌++◌, ap, ◌∙◌}
+use Rattle.std.proofs.Common.{◌++◌, ap, ◌∙◌}
 use Rattle.jp_select.specs.Walk.{given_by, places_from}
 use Rattle.jp_select.proofs.Walks.{given-push}
 use Rattle.jp_select.proofs.descent.Descent.enter.Goals as goal

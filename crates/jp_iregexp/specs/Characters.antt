@@ -1,0 +1,30 @@
+-- The characters of patterns, alone and behind `\`.
+use Rattle.std.specs.Prelude.{◌≡◌, ℕ, Bool, ◌==◌, not, if◌then◌else◌, codes}
+use Rattle.std.specs.List.{list_any}
+use Rattle.jp_reading.specs.Texts.{Text, Spans}
+use Rattle.jp_reading.specs.Forms.{word, One, ◌⌢◌}
+
+-- whether a character is one of a text's
+abbrev pub is_among : Text → ℕ → Bool
+is_among t c = list_any (λ d. c == d) t
+
+-- a character that stands for itself outside a class (RFC 9485 section 3, NormalChar)
+unfoldable pub is_normal : ℕ → Bool
+is_normal c = not (is_among (codes "()*+.?[\\]{|}") c)
+
+-- a character that stands for itself in a class (RFC 9485 section 3, CCchar)
+unfoldable pub is_plain : ℕ → Bool
+is_plain c = not (is_among (codes "-[\\]") c)
+
+-- a character that may stand behind `\` (RFC 9485 section 3, SingleCharEsc)
+unfoldable pub is_escaped : ℕ → Bool
+is_escaped e = is_among (codes "()*+-.?[\\]^nrt{|}") e
+
+-- what it stands for there: n, r and t for line feed, carriage return and tab, each other for itself
+unfoldable pub meant : ℕ → ℕ
+meant e = if e == 110 then 10 else (if e == 114 then 13 else (if e == 116 then 9 else e))
+
+-- the character c, by itself where it is plain or behind `\`
+pub data Character (plain : ℕ → Bool) (c : ℕ) (s : Spans) (o : ℕ) (t : Text) : Type 0 where
+  itself : One plain c s o t → Character plain c s o t
+  escaped : (e : ℕ) → c ≡ meant e → (word (codes "\\") ⌢ One is_escaped e) s o t → Character plain c s o t

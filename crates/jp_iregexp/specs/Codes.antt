@@ -1,0 +1,60 @@
+-- The codes of categories as texts (RFC 9485 section 3, charProp).
+use Rattle.std.specs.Prelude.{ℕ, Bool, false, ◌==◌, ◌&&◌, [], ◌∷◌, Option, Some, None, codes, find}
+use Rattle.jp_reading.specs.Texts.{Text}
+use Rattle.jp_iregexp.specs.declared.category.Category.{Category}
+use Rattle.jp_iregexp.specs.declared.category.Category.TheVariants.{L, Ll, Lm, Lo, Lt, Lu, M, Mc, Me, Mn, N, Nd, Nl, No, P, Pc, Pd, Pe, Pf, Pi, Po, Ps, Z, Zl, Zp, Zs, S, Sc, Sk, Sm, So, C, Cc, Cf, Cn, Co}
+use Rattle.jp_iregexp.specs.declared.category.TheConstants.Category.{ALL}
+
+-- the letters of a code
+unfoldable pub letters : Category → Text
+letters L = codes "L"
+letters Ll = codes "Ll"
+letters Lm = codes "Lm"
+letters Lo = codes "Lo"
+letters Lt = codes "Lt"
+letters Lu = codes "Lu"
+letters M = codes "M"
+letters Mc = codes "Mc"
+letters Me = codes "Me"
+letters Mn = codes "Mn"
+letters N = codes "N"
+letters Nd = codes "Nd"
+letters Nl = codes "Nl"
+letters No = codes "No"
+letters P = codes "P"
+letters Pc = codes "Pc"
+letters Pd = codes "Pd"
+letters Pe = codes "Pe"
+letters Pf = codes "Pf"
+letters Pi = codes "Pi"
+letters Po = codes "Po"
+letters Ps = codes "Ps"
+letters Z = codes "Z"
+letters Zl = codes "Zl"
+letters Zp = codes "Zp"
+letters Zs = codes "Zs"
+letters S = codes "S"
+letters Sc = codes "Sc"
+letters Sk = codes "Sk"
+letters Sm = codes "Sm"
+letters So = codes "So"
+letters C = codes "C"
+letters Cc = codes "Cc"
+letters Cf = codes "Cf"
+letters Cn = codes "Cn"
+letters Co = codes "Co"
+
+-- a letter, and a second one where there is one
+abbrev pub pair : ℕ → Option ℕ → Text
+pair a None = a ∷ []
+pair a (Some b) = a ∷ b ∷ []
+
+-- whether a text has just these letters
+abbrev pub is_pair : ℕ → Option ℕ → Text → Bool
+is_pair a None (c ∷ []) = c == a
+is_pair a (Some b) (c ∷ d ∷ []) = c == a && d == b
+is_pair a b t = false
+
+-- the code with these letters, if there is one
+unfoldable pub code_of : ℕ → Option ℕ → Option Category
+code_of a b = find (λ k. is_pair a b (letters k)) ALL

@@ -1,0 +1,10 @@
+pub mod Category
+pub mod Class
+pub mod Language
+pub mod Laws
+pub mod Tree
+pub mod Characters
+pub mod Codes
+pub mod Grammar
+pub mod Reading
+pub mod Spelled

@@ -1,0 +1,162 @@
+//! Categories and classes as texts (RFC 9485, section 3).
+
+ghost use Rattle.std.specs.Prelude.{◌≡◌, IfOk};
+ghost use Rattle.jp_reading.specs.Outcome.{took};
+ghost use Rattle.jp_reading.specs.Views.{Gives, with_front};
+ghost use Rattle.jp_iregexp.specs.Tree.{class};
+ghost use Rattle.jp_iregexp.specs.Reading.{category_at, code_at, second_at, class_at, negation_at, items_at, elements_at, first_at, last_at, hyphen_at, element_at, range_at, is_at_category};
+
+use crate::category::Category;
+use crate::characters::{Characters, character, is_at, take};
+use crate::class::{CharClass, ClassItem};
+use jp_reading::{Reader, Stop};
+use std::alloc::AllocError;
+
+/// What stands behind `\` for a category or for all characters outside it (charClassEsc).
+#[tactic(auto, unfolding(crate::specs::Reading::category_at))]
+pub(crate) fn category(reader: &mut Reader) -> Result<ClassItem, Stop>
+    ensures { Gives (λ x. x) result reader.new (category_at reader.old) }
+{
+    let sign = take(reader, Characters::CategorySign)?;
+    reader.expect('{')?;
+    let code = code(reader)?;
+    reader.expect('}')?;
+    Ok(ClassItem::Category {
+        code,
+        negated: sign == 'P',
+    })
+}
+
+/// The code of a category, up to the brace behind it.
+#[tactic(auto, unfolding(crate::specs::Reading::code_at))]
+fn code(reader: &mut Reader) -> Result<Category, Stop>
+    ensures { Gives (λ x. x) result reader.new (code_at reader.old) }
+{
+    let first = take(reader, Characters::Letter)?;
+    let second = second_letter(reader)?;
+    match Category::of_letters(first, second) {
+        Some(code) => Ok(code),
+        None => Err(Stop::Syntax(reader.place())),
+    }
+}
+
+fn second_letter(reader: &mut Reader) -> Result<Option<char>, Stop>
+    ensures { Gives (λ x. x) result reader.new (second_at reader.old) }
+{
+    if reader.is_at('}') {
+        return Ok(None);
+    }
+    let letter = take(reader, Characters::Letter)?;
+    Ok(Some(letter))
+}
+
+/// A class (charClassExpr).
+#[tactic(auto, unfolding(crate::specs::Reading::class_at))]
+pub(crate) fn class(reader: &mut Reader) -> Result<CharClass, Stop>
+    ensures { Gives (λ c. class c.negated c.items.items) result reader.new (class_at reader.old) }
+{
+    reader.expect('[')?;
+    let negated = negation(reader);
+    let items = items(reader)?;
+    reader.expect(']')?;
+    Ok(CharClass { negated, items })
+}
+
+// A `^` right after `[` is always the negation.
+fn negation(reader: &mut Reader) -> bool
+    ensures { negation_at reader.old ≡ took result reader.new }
+{
+    let is_negated = reader.is_at('^');
+    if is_negated {
+        reader.bump();
+    }
+    is_negated
+}
+
+/// The items of a class: a `-` may be the first or the last.
+#[tactic(auto, unfolding(crate::specs::Reading::items_at))]
+fn items(reader: &mut Reader) -> Result<Vec<ClassItem>, Stop>
+    ensures { Gives (λ v. v.items) result reader.new (items_at reader.old) }
+{
+    let first = first_item(reader)?;
+    let mut items = Vec::new(reader.alloc());
+    items.push(first).map_err(AllocError::from)?;
+    let items = elements(reader, items)?;
+    last_item(reader, items)
+}
+
+/// These items, and item after item as long as another begins.
+fn elements(reader: &mut Reader, mut items: Vec<ClassItem>) -> Result<Vec<ClassItem>, Stop>
+    ensures { Gives (λ v. v.items) result reader.new (with_front items.items (elements_at reader.old)) }
+{
+    'elements: while is_at(reader, Characters::Element) {
+        let next = element(reader)?;
+        items.push(next).map_err(AllocError::from)?;
+    }
+    Ok(items)
+}
+
+/// These items, and a `-` that ends the class.
+fn last_item(reader: &mut Reader, mut items: Vec<ClassItem>) -> Result<Vec<ClassItem>, Stop>
+    ensures { Gives (λ v. v.items) result reader.new (last_at items.items reader.old) }
+{
+    if reader.is_at('-') {
+        let last = hyphen(reader)?;
+        items.push(last).map_err(AllocError::from)?;
+    }
+    Ok(items)
+}
+
+fn first_item(reader: &mut Reader) -> Result<ClassItem, Stop>
+    ensures { Gives (λ x. x) result reader.new (first_at reader.old) }
+{
+    if reader.is_at('-') {
+        hyphen(reader)
+    } else {
+        element(reader)
+    }
+}
+
+// A `-` that stands for itself.
+fn hyphen(reader: &mut Reader) -> Result<ClassItem, Stop>
+    ensures { Gives (λ x. x) result reader.new (hyphen_at reader.old) }
+{
+    reader.expect('-')?;
+    Ok(ClassItem::Range('-', '-'))
+}
+
+/// An item of a class: a character, a range or a category (CCE1, charClassEsc).
+#[tactic(auto, unfolding(crate::specs::Reading::element_at))]
+fn element(reader: &mut Reader) -> Result<ClassItem, Stop>
+    ensures { Gives (λ x. x) result reader.new (element_at reader.old) }
+{
+    if is_at_category(reader) {
+        reader.bump();
+        return category(reader);
+    }
+    let first = character(reader)?;
+    range(reader, first)
+}
+
+fn is_at_category(reader: &Reader) -> bool
+    ensures { result ≡ is_at_category reader.now }
+{
+    reader.is_at('\\') && matches!(reader.peek_second(), Some('p' | 'P'))
+}
+
+/// The range that begins with a character: up to the one behind a `-`, or, where the `-` ends the class
+/// or stands not there, that character alone.
+#[tactic(auto, unfolding(crate::specs::Reading::range_at))]
+fn range(reader: &mut Reader, first: char) -> Result<ClassItem, Stop>
+    ensures { Gives (λ x. x) result reader.new (range_at first reader.old) }
+{
+    if !reader.is_at('-') || reader.peek_second() == Some(']') {
+        return Ok(ClassItem::Range(first, first));
+    }
+    reader.bump();
+    let last = character(reader)?;
+    if last < first {
+        return Err(Stop::Syntax(reader.place()));
+    }
+    Ok(ClassItem::Range(first, last))
+}

@@ -1,0 +1,129 @@
+//! The characters of patterns, alone and behind `\` (RFC 9485, section 3).
+
+ghost use Rattle.std.specs.Prelude.{◌≡◌};
+ghost use Rattle.jp_reading.specs.Outcome.{passes, head, take_if};
+ghost use Rattle.jp_reading.specs.Views.{Gives};
+ghost use Rattle.jp_iregexp.specs.Characters.{is_normal, is_plain, is_escaped, meant};
+ghost use Rattle.jp_iregexp.specs.Reading.{is_one_of, escaped_at, character_at};
+
+use jp_reading::{Reader, Stop};
+
+/// The characters that may stand at a place of a pattern.
+#[derive(Clone, Copy)]
+pub(crate) enum Characters {
+    /// Those that stand for themselves outside a class.
+    Normal,
+    /// Those that stand for themselves in a class.
+    Plain,
+    /// Those that stand for a character behind `\`.
+    Escaped,
+    /// Those that begin a category behind `\`.
+    CategorySign,
+    /// Those of which codes are made.
+    Letter,
+    /// Those that begin an item of a class behind its first one.
+    Element,
+    /// Those that begin a quantifier.
+    Quantifier,
+    /// Those that begin a piece.
+    Piece,
+}
+
+impl Characters {
+    fn contains(self, c: char) -> bool
+        ensures { result ≡ is_one_of self c }
+    {
+        match self {
+            Characters::Normal => is_normal(c),
+            Characters::Plain => is_plain(c),
+            Characters::Escaped => is_escaped(c),
+            Characters::CategorySign => c == 'p' || c == 'P',
+            Characters::Letter => c.is_ascii_alphabetic(),
+            Characters::Element => !(c == '-' || c == ']'),
+            Characters::Quantifier => matches!(c, '*' | '+' | '?' | '{'),
+            Characters::Piece => !(c == '|' || c == ')'),
+        }
+    }
+}
+
+/// Whether the next character is one of these.
+pub(crate) fn is_at(reader: &Reader, characters: Characters) -> bool
+    ensures { result ≡ passes (is_one_of characters) (head reader.now) }
+{
+    match reader.peek() {
+        Some(next) => characters.contains(next),
+        None => false,
+    }
+}
+
+/// Takes the next character, which has to be one of these.
+pub(crate) fn take(reader: &mut Reader, characters: Characters) -> Result<char, Stop>
+    ensures { Gives (λ c. c) result reader.new (take_if (is_one_of characters) reader.old) }
+{
+    match reader.peek() {
+        Some(next) if characters.contains(next) => {
+            reader.bump();
+            Ok(next)
+        },
+        _ => Err(Stop::Syntax(reader.place())),
+    }
+}
+
+/// The character that stands behind `\`.
+#[tactic(auto, unfolding(crate::specs::Reading::escaped_at))]
+pub(crate) fn escaped(reader: &mut Reader) -> Result<char, Stop>
+    ensures { Gives (λ c. c) result reader.new (escaped_at reader.old) }
+{
+    let letter = take(reader, Characters::Escaped)?;
+    Ok(meant(letter))
+}
+
+/// A character of a class.
+#[tactic(auto, unfolding(crate::specs::Reading::character_at))]
+pub(crate) fn character(reader: &mut Reader) -> Result<char, Stop>
+    ensures { Gives (λ c. c) result reader.new (character_at reader.old) }
+{
+    if reader.is_at('\\') {
+        reader.bump();
+        escaped(reader)
+    } else {
+        take(reader, Characters::Plain)
+    }
+}
+
+/// Whether a character stands for itself outside a class (NormalChar).
+#[tactic(auto, unfolding(crate::specs::Characters::is_normal))]
+fn is_normal(c: char) -> bool
+    ensures { result ≡ is_normal c }
+{
+    !matches!(c, '('..='+' | '.' | '?' | '['..=']' | '{'..='}')
+}
+
+/// Whether a character stands for itself in a class (CCchar).
+#[tactic(auto, unfolding(crate::specs::Characters::is_plain))]
+fn is_plain(c: char) -> bool
+    ensures { result ≡ is_plain c }
+{
+    !matches!(c, '-' | '['..=']')
+}
+
+/// Whether a character may stand behind `\` (SingleCharEsc).
+#[tactic(auto, unfolding(crate::specs::Characters::is_escaped))]
+fn is_escaped(c: char) -> bool
+    ensures { result ≡ is_escaped c }
+{
+    matches!(c, '('..='+' | '-' | '.' | '?' | '['..='^' | 'n' | 'r' | 't' | '{'..='}')
+}
+
+/// What a character behind `\` stands for.
+#[tactic(auto, unfolding(crate::specs::Characters::meant))]
+fn meant(c: char) -> char
+    ensures { result ≡ meant c }
+{
+    match c {
+        'n' => '\n',
+        'r' => '\r',
+        't' => '\t',
+        _ => c,
+    }
+}

@@ -1,0 +1,51 @@
+//! Character classes (RFC 9485, section 3).
+
+ghost use Rattle.std.specs.Prelude.{◌≡◌};
+ghost use Rattle.std.specs.List.{list_any};
+ghost use Rattle.jp_iregexp.specs.Class.{item_holds, class_holds};
+
+use crate::category::Category;
+
+/// A character class: with `negated` it holds the characters that no item holds, else those that one does.
+#[derive(Debug, PartialEq, Eq, Drop)]
+pub struct CharClass {
+    pub negated: bool,
+    pub items: Vec<ClassItem>,
+}
+
+/// An item of a character class.
+#[derive(Clone, Copy, Debug, PartialEq, Eq)]
+pub enum ClassItem {
+    /// The characters from the first to the last, both included; none where the last is below the first.
+    Range(char, char),
+    /// The characters of a general category, with `negated` all others.
+    Category { code: Category, negated: bool },
+}
+
+impl CharClass {
+    /// Whether the class holds the character. The categories are those of the crate `unicode`.
+    #[tactic(auto, unfolding(crate::specs::Class::class_holds))]
+    pub fn holds(&self, c: char) -> bool
+        ensures { result ≡ class_holds self.now.negated self.now.items.items c }
+    {
+        is_any_holding(&self.items, c) != self.negated
+    }
+}
+
+impl ClassItem {
+    #[tactic(auto, unfolding(crate::specs::Class::item_holds))]
+    fn holds(&self, c: char) -> bool
+        ensures { result ≡ item_holds c self.now }
+    {
+        match *self {
+            ClassItem::Range(first, last) => first <= c && c <= last,
+            ClassItem::Category { code, negated } => code.holds(c) != negated,
+        }
+    }
+}
+
+fn is_any_holding(items: &[ClassItem], c: char) -> bool
+    ensures { result ≡ list_any (item_holds c) items.now }
+{
+    items.iter().any(|item| item.holds(c))
+}

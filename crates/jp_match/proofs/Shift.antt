@@ -1,0 +1,89 @@
+-- A step over one character.
+use Rattle.std.proofs.Common.{◌≡◌, ℕ, zero, suc, ◌+◌, ◌≤◌, ◌<◌, Bool, true, false, ◌&&◌, List, [], ◌∷◌, ◌++◌, length, get_or, set, take, drop, ◌≢◌, inl, inr, get_or-set_other, get_or-set_same, refl, sym, ap, ◌∙◌, subst, arith}
+use Rattle.std.proofs.lemmas.List.{length-append, length-take, take-append-drop, drop_more}
+use Rattle.std.proofs.Math.Seq.{get_or-append_seam}
+use Rattle.std.proofs.lemmas.Bool.{cases_lt}
+use Rattle.jp_iregexp.specs.declared.class.ClassItem.{ClassItem}
+use Rattle.jp_iregexp.specs.Class.{class_holds}
+use Rattle.jp_iregexp.specs.Tree.{class}
+use Rattle.jp_iregexp.specs.Language.{Language}
+use Rattle.jp_match.specs.Place.{Marked, Reached, IsImage}
+use Rattle.jp_match.proofs.Cuts.{marked_below}
+
+-- whether a place is entered: the place before it is in the set, and the character between them passes
+abbrev pub shifted : (ℕ → Bool) → List ℕ → List Bool → ℕ → Bool
+shifted passes text from zero = false
+shifted passes text from (suc k) = get_or from k false && passes (get_or text k 0)
+
+and_parts : (a b : Bool) → (a && b) ≡ true → (a ≡ true) × (b ≡ true)
+and_parts true b h = (refl, h)
+and_parts false b h = absurd (cc)
+
+-- a text cut before and after one character
+record CutRound (text : List ℕ) (place : ℕ) : Type 0 where
+  before : List ℕ
+  after : List ℕ
+  is : text ≡ before ++ (get_or text place 0 ∷ [] ++ after)
+  ends : length before ≡ place
+
+cut_round : (text : List ℕ) (place : ℕ) → place < length text → CutRound text place
+cut_round text place h = record {
+  before = take place text;
+  after = drop (place + 1) text;
+  is = sym (take-append-drop place text) ∙ ap (λ w. take place text ++ w) (drop_more text place 0 h);
+  ends = omega (arith, length-take place text);
+}
+
+to_reached : (negated : Bool) (items : List ClassItem) (text : List ℕ) (from : List Bool) → length from ≡ suc (length text) → (place : ℕ) → place ≤ length text →
+    shifted (class_holds negated items) text from place ≡ true → Reached (Language (class negated items)) text from place
+to_reached negated items text from long zero within h = absurd (cc)
+to_reached negated items text from long (suc k) within h =
+    let both = and_parts (get_or from k false) (class_holds negated items (get_or text k 0)) h in
+    let cut = cut_round text k (omega arith) in
+    record {
+      before = cut.before;
+      word = get_or text k 0 ∷ [];
+      after = cut.after;
+      is = cut.is;
+      begins = subst (Marked from) (sym cut.ends) both.0;
+      holds = (get_or text k 0, both.1, refl);
+      ends = omega (arith, cut.ends);
+    }
+
+of_reached : (negated : Bool) (items : List ClassItem) (text : List ℕ) (from : List Bool) (before word after : List ℕ) (c : ℕ) →
+    text ≡ before ++ (word ++ after) → Marked from (length before) → class_holds negated items c ≡ true → word ≡ c ∷ [] →
+    (length before < length text) × (shifted (class_holds negated items) text from (suc (length before)) ≡ true)
+of_reached negated items text from before word after c is begins holds one =
+    let whole : text ≡ before ++ c ∷ after = is ∙ ap (λ w. before ++ (w ++ after)) one in
+    let here : get_or text (length before) 0 ≡ c = ap (λ t. get_or t (length before) 0) whole ∙ get_or-append_seam before c after 0 in
+    (omega (arith, ap length whole, length-append before (c ∷ after)), rw (begins, here) holds)
+
+-- the last place is written once all others are
+pub last_entered : (enters : ℕ → Bool) (places : List Bool) (i last : ℕ) (arrives : Bool) →
+    ((k : ℕ) → k < i → get_or places k false ≡ enters k) → arrives ≡ enters i → i ≡ last → last < length places →
+    (k : ℕ) → k ≤ last → get_or (set places last arrives) k false ≡ enters k
+last_entered enters places i last arrives done carried at inside k within = elim (cases_lt k last) [
+  | inl below ↦ let ne : k ≢ last = omega arith in rw get_or-set_other (done k (omega arith))
+  | inr above ↦
+      let same : last ≡ k = omega arith in
+      subst (λ j. get_or (set places last arrives) j false ≡ enters j) same (rw get_or-set_same (carried ∙ ap enters at))
+]
+
+-- the words of a class lead over the characters that it holds
+pub image_shift : (negated : Bool) (items : List ClassItem) (text : List ℕ) (from to : List Bool) →
+    length from ≡ suc (length text) → length to ≡ length from →
+    ((k : ℕ) → k ≤ length text → get_or to k false ≡ shifted (class_holds negated items) text from k) →
+    IsImage (Language (class negated items)) text from to
+image_shift negated items text from to long same marks = record {
+  same_length = same;
+  reached = λ place. (
+    λ marked.
+        let within : place ≤ length text = omega (arith, marked_below to place marked) in
+        to_reached negated items text from long place within (sym (marks place within) ∙ marked),
+    λ r.
+        let (c, holds, one) = r.holds in
+        let (inside, shifts) = of_reached negated items text from r.before r.word r.after c r.is r.begins holds one in
+        let at : suc (length r.before) ≡ place = omega (arith, r.ends, ap length one) in
+        subst (Marked to) at (marks (suc (length r.before)) (omega arith) ∙ shifts),
+  );
+}

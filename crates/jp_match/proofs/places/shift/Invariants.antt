@@ -1,0 +1,15 @@
+use Rattle.std.proofs.Common.{◌≡◌, ◌<◌, ◌≤◌, ℕ, false, length, get_or}
+use Rattle.jp_iregexp.specs.Class.{class_holds}
+use Rattle.jp_match.proofs.Shift.{shifted}
+use Rattle.jp_match.proofs.places.shift.Given as goal
+
+abbrev pub invariant-loop-i : goal.invariant-loop-i
+invariant-loop-i l =
+    let enters = shifted (class_holds l.class.negated l.class.items.items) l.text l.fn.places.items in
+    record {
+      same_length : length l.places.items ≡ length l.fn.places.items;
+      carried : l.arrives ≡ enters l.i;
+      done : (k : ℕ) → k < l.i → get_or l.places.items k false ≡ enters k;
+      left : (k : ℕ) → l.i ≤ k → get_or l.places.items k false ≡ get_or l.fn.places.items k false;
+      counted : l.fn.tests ≤ l.tests;
+    }

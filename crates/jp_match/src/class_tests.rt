@@ -1,0 +1,48 @@
+//! The count of class tests.
+
+ghost use Rattle.std.specs.Prelude.{◌≡◌, ◌+◌, ◌-◌, ◌^◌, ◌≤◌, min};
+ghost use Rattle.jp_iregexp.specs.Class.{class_holds};
+
+use jp_iregexp::CharClass;
+use std::marker::Model;
+
+/// How often a matcher has tested whether a class holds a character; at most the greatest `u64`.
+#[derive(Debug, Default, Drop)]
+pub struct Tests {
+    made: u64,
+}
+
+impl Model for Tests {
+    ghost use Rattle.std.specs.Prelude.{ℕ};
+
+    ghost Value = { ℕ };
+
+    ghost view = { λ tests. tests.made };
+}
+
+impl Tests {
+    /// No test so far.
+    pub fn new() -> Tests
+        ensures { result ≡ 0 }
+    {
+        Tests { made: 0 }
+    }
+
+    /// How many tests there were; the greatest `u64` also stands for more.
+    pub fn count(&self) -> u64
+        ensures { result ≡ self.now }
+    {
+        self.made
+    }
+
+    /// Whether the class holds the character. Every class test of every matcher goes through here.
+    pub(crate) fn holds(&mut self, class: &CharClass, c: char) -> bool
+        ensures answer { result ≡ class_holds class.now.negated class.now.items.items c }
+        ensures counted { self.new ≡ min (self.old + 1) (2 ^ 64 - 1) }
+        ensures kept { self.old ≤ self.new }
+    {
+        let Tests { made } = self;
+        *made = made.saturating_add(1);
+        class.holds(c)
+    }
+}

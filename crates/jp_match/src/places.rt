@@ -1,0 +1,138 @@
+//! Sets of places in a text.
+
+ghost use Rattle.std.specs.Prelude.{◌≡◌, ◌↔◌, ◌⊎◌, ℕ, suc, ◌≤◌, IsTrue, IfOk, OnOk, length};
+ghost use Rattle.jp_iregexp.specs.Tree.{class as class_tree};
+ghost use Rattle.jp_iregexp.specs.Language.{Language};
+ghost use Rattle.jp_match.specs.Place.{Marked, IsImage};
+
+use crate::class_tests::Tests;
+use jp_iregexp::CharClass;
+use std::alloc::{AllocError, Global};
+
+/// Whether a place is in the set, for the place before each character and for the one at the end.
+pub type Places = Vec<bool>;
+
+/// Sets that are not in use, to be written anew.
+#[derive(Drop)]
+pub struct Spare {
+    alloc: Global,
+    sets: Vec<Places>,
+}
+
+impl Spare {
+    /// No set yet.
+    pub fn new(alloc: Global) -> Spare {
+        Spare {
+            alloc,
+            sets: Vec::new(alloc),
+        }
+    }
+
+    /// A copy of the set.
+    pub fn copy_of(&mut self, places: &[bool]) -> Result<Places, AllocError>
+        ensures { IfOk result (λ copy. copy.items ≡ places.now) }
+    {
+        let mut copy = self.sets.pop().unwrap_or(Vec::new(self.alloc));
+        assign(&mut copy, places)?;
+        Ok(copy)
+    }
+
+    /// Takes a set that is no longer in use.
+    pub fn give_back(&mut self, places: Places) -> Result<(), AllocError> {
+        self.sets.push(places)?;
+        Ok(())
+    }
+}
+
+/// The first place of the text alone.
+pub fn only_first(alloc: Global, text: &[char]) -> Result<Places, AllocError>
+    ensures same_length { IfOk result (λ places. length places.items ≡ suc (length text.now)) }
+    ensures first { IfOk result (λ places. (place : ℕ) → Marked places.items place ↔ (place ≡ 0)) }
+{
+    let mut places = vec![in alloc; false; text.len() + 1]?;
+    places[0] = true;
+    Ok(places)
+}
+
+/// Every place of the text.
+pub fn every(alloc: Global, text: &[char]) -> Result<Places, AllocError>
+    ensures same_length { IfOk result (λ places. length places.items ≡ suc (length text.now)) }
+    ensures every { IfOk result (λ places. (place : ℕ) → Marked places.items place ↔ (place ≤ length text.now)) }
+{
+    vec![in alloc; true; text.len() + 1]
+}
+
+/// Makes the set the same as the other.
+pub fn assign(places: &mut Places, other: &[bool]) -> Result<(), AllocError>
+    ensures { OnOk result (places.new.items ≡ other.now) }
+{
+    places.clear();
+    places.extend_from_slice(other)
+}
+
+/// Takes every place out of the set.
+pub fn clear(places: &mut Places)
+    ensures same_length { length places.new.items ≡ length places.old.items }
+    ensures none { (place : ℕ) → Marked places.new.items place → ⊥ }
+{
+    places.fill(false);
+}
+
+/// Whether any place is in the set.
+pub fn is_any(places: &[bool]) -> bool
+    ensures { IsTrue result ↔ ((place : ℕ) × Marked places.now place) }
+{
+    places.contains(&true)
+}
+
+/// Whether the steps that led from one set to the next lead no further: there is no place left, or the places
+/// are those of before.
+pub fn is_settled(places: &[bool], before: &[bool]) -> bool
+    ensures { IsTrue result ↔ (((place : ℕ) → Marked places.now place → ⊥) ⊎ (places.now ≡ before.now)) }
+{
+    !is_any(places) || is_same(places, before)
+}
+
+/// Whether two sets are the same.
+fn is_same(places: &[bool], other: &[bool]) -> bool
+    ensures { IsTrue result ↔ (places.now ≡ other.now) }
+{
+    places == other
+}
+
+/// Adds the places of the other set.
+pub fn unite(places: &mut Places, other: &[bool])
+    requires { length places.old.items ≡ length other.now }
+    ensures same_length { length places.new.items ≡ length places.old.items }
+    ensures both { (place : ℕ) → Marked places.new.items place ↔ (Marked places.old.items place ⊎ Marked other.now place) }
+{
+    for (i, also) in other.iter().enumerate() {
+        places[i] = places[i] || *also;
+    }
+}
+
+/// Takes out the places of the other set.
+pub fn remove(places: &mut Places, other: &[bool])
+    requires { length places.old.items ≡ length other.now }
+    ensures same_length { length places.new.items ≡ length places.old.items }
+    ensures rest { (place : ℕ) → Marked places.new.items place ↔ (Marked places.old.items place × (Marked other.now place → ⊥)) }
+{
+    for (i, taken) in other.iter().enumerate() {
+        places[i] = places[i] && !*taken;
+    }
+}
+
+/// Moves each place past the character that follows it, where the class holds that character.
+pub fn shift(class: &CharClass, text: &[char], places: &mut Places, tests: &mut Tests)
+    requires { length places.old.items ≡ suc (length text.now) }
+    ensures image { IsImage (Language (class_tree class.now.negated class.now.items.items)) text.now places.old.items places.new.items }
+    ensures counted { tests.old ≤ tests.new }
+{
+    let mut arrives = false;
+    for (i, c) in text.iter().enumerate() {
+        let leaves = places[i];
+        places[i] = arrives;
+        arrives = leaves && tests.holds(class, *c);
+    }
+    places[text.len()] = arrives;
+}

@@ -1,0 +1,23 @@
+-- Slices (RFC 9535 section 2.3.4.1).
+use Rattle.std.specs.Prelude.{◌≡◌, ℕ, pos, Option, Some, None, [], ◌∷◌}
+use Rattle.jp_query.specs.declared.tree.Numeral.{Numeral}
+use Rattle.jp_query.specs.declared.tree.Numeral.TheVariants.{Whole}
+use Rattle.jp_query.specs.declared.tree.Slice.{Slice}
+use Rattle.jp_reading.specs.Texts.{Text, Spans}
+use Rattle.jp_reading.specs.Forms.{Form, word, ◌⌢◌, Blank, Item, Omitted}
+use Rattle.jp_query.specs.Ints.{Int}
+
+-- start S, or end S: a bound and the blanks after it, or neither
+pub data Bound (x : Option Numeral) (s : Spans) (o : ℕ) (t : Text) : Type 0 where
+  no_bound : x ≡ None → word [] s o t → Bound x s o t
+  bound : (i : Numeral) → x ≡ Some i → (Item (Int i) ⌢ Blank) s o t → Bound x s o t
+
+-- ":" [S step], or nothing: an omitted step is 1
+pub data Step (x : Numeral) (s : Spans) (o : ℕ) (t : Text) : Type 0 where
+  no_step : x ≡ Whole (pos 1) → Omitted s o t → Step x s o t
+  empty_step : x ≡ Whole (pos 1) → (word (58 ∷ []) ⌢ Omitted) s o t → Step x s o t
+  given_step : (word (58 ∷ []) ⌢ Blank ⌢ Item (Int x)) s o t → Step x s o t
+
+-- slice-selector: [start S] ":" S [end S] [":" [S step]]
+abbrev pub Sliced : Slice → Form
+Sliced x = Bound x.start ⌢ word (58 ∷ []) ⌢ Blank ⌢ Bound x.end ⌢ Step x.step

@@ -1,0 +1,56 @@
+-- Worked rows of the definitions.
+use Rattle.std.proofs.Common.{◌≡◌, pos, negsuc, [], ◌∷◌, Some, None, refl}
+use Rattle.jp_document.specs.Location.{Location, named, nth}
+use Rattle.jp_document.specs.Value.{Value, null, list, object, no_items, item, no_members, member}
+use Rattle.jp_select.specs.Below.{below}
+use Rattle.jp_select.specs.Selectors.{item_at}
+use Rattle.jp_select.specs.Slice.{slice_of}
+
+-- ---- slices of seven items (RFC 9535 section 2.3.4.3)
+
+omitted_end : slice_of 7 (Some (pos 5)) None (pos 1) ≡ 5 ∷ 6 ∷ []
+omitted_end = refl
+
+with_step : slice_of 7 (Some (pos 1)) (Some (pos 5)) (pos 2) ≡ 1 ∷ 3 ∷ []
+with_step = refl
+
+downwards : slice_of 7 (Some (pos 5)) (Some (pos 1)) (negsuc 1) ≡ 5 ∷ 3 ∷ []
+downwards = refl
+
+reversed : slice_of 7 None None (negsuc 0) ≡ 6 ∷ 5 ∷ 4 ∷ 3 ∷ 2 ∷ 1 ∷ 0 ∷ []
+reversed = refl
+
+from_the_end : slice_of 7 (Some (negsuc 2)) (Some (negsuc 0)) (pos 1) ≡ 4 ∷ 5 ∷ []
+from_the_end = refl
+
+step_0 : slice_of 7 None None (pos 0) ≡ []
+step_0 = refl
+
+past_the_bounds : slice_of 7 (Some (pos 10)) (Some (pos 0)) (negsuc 2) ≡ 6 ∷ 3 ∷ []
+past_the_bounds = refl
+
+-- ---- indexes (section 2.3.3)
+
+last_item : item_at 7 (negsuc 0) ≡ Some 6
+last_item = refl
+
+before_the_first : item_at 7 (negsuc 7) ≡ None
+before_the_first = refl
+
+-- ---- descendants (section 2.5.2)
+
+-- {"a": [null, [null]], "b": null}
+abbrev sample : Value
+sample = object (member (97 ∷ []) (list (item null (item (list (item null no_items)) no_items))) (member (98 ∷ []) null no_members))
+
+abbrev a : Location
+a = named (97 ∷ []) ∷ []
+
+below_root : below sample [] ≡ [] ∷ a ∷ (named (97 ∷ []) ∷ nth 0 ∷ []) ∷ (named (97 ∷ []) ∷ nth 1 ∷ []) ∷ (named (97 ∷ []) ∷ nth 1 ∷ nth 0 ∷ []) ∷ (named (98 ∷ []) ∷ []) ∷ []
+below_root = refl
+
+below_leaf : below sample (named (98 ∷ []) ∷ []) ≡ (named (98 ∷ []) ∷ []) ∷ []
+below_leaf = refl
+
+below_nothing : below sample (nth 3 ∷ []) ≡ []
+below_nothing = refl

@@ -1,0 +1,5 @@
+use Rattle.jp_select.proofs.SliceLaws.{slice_law}
+use Rattle.jp_select.proofs.laws.slices_are_exact.Goals as goal
+
+pub returns : goal.returns
+returns c = slice_law
