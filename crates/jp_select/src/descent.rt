@@ -54,7 +54,7 @@ pub struct Descent<'d> {
 }
 
 impl<'d> Descent<'d> {
-    /// The next node, None at the end.
+    /// The next node, None at the end. After an error nothing is said of what is left.
     pub fn advance(&mut self) -> Result<Option<Node<'d>>, AllocError>
         ensures gives { IfOk result (λ o. Gives (rest_of self.old) o (rest_of self.new)) }
         ensures end { IfOk result (λ o. IfNone o (rest_of self.new ≡ [])) }
