@@ -16,7 +16,7 @@ fn words(alloc: Global, line: &[&str]) -> Result<Vec<String>, AllocError> {
 fn tells_the_status_with_its_line(rt: HostRuntime) -> Result<(), Fail> {
     let alloc = rt.alloc();
     let bad_text: &[u8] = b"\"\xff\"";
-    let rows: [(&str, &[u8], u8, &str); 20] = [
+    let rows: [(&str, &[u8], u8, &str); 21] = [
         ("$[1]", b"[0,1]", 0, ""),
         ("$.a", b"[0,1]", 0, ""),
         ("", b"1", 1, "query refused: Syntax at 0\n"),
@@ -41,6 +41,12 @@ fn tells_the_status_with_its_line(rt: HostRuntime) -> Result<(), Fail> {
         ("$[\"\\'\"]", b"1", 1, "query refused: Syntax at 4\n"),
         ("$[\"\\uD83D\"]", b"1", 1, "query refused: Syntax at 9\n"),
         ("$[\"\\uDC00\"]", b"1", 1, "query refused: Syntax at 6\n"),
+        (
+            "$[0:9007199254740992]",
+            b"1",
+            1,
+            "query refused: IndexRange at 4\n",
+        ),
         ("$", b"", 3, "document refused: NotJson\n"),
         ("$", b"[1", 3, "document refused: NotJson\n"),
         ("$", b"1 2", 3, "document refused: NotJson\n"),
