@@ -10,6 +10,7 @@ use jp_document::Node;
 use jp_query::{Segment, Selector};
 use jp_select::{descend_each, select_plain};
 use std::alloc::{AllocError, Global};
+use std::mem;
 
 /// What a segment selects at nodes, joined in their order.
 pub(crate) fn selected_by<'d>(
@@ -76,7 +77,18 @@ fn push_selected<'d>(
 {
     for selector in selectors {
         let mut chosen = select_plain(alloc, node, selector)?;
-        found.append(&mut chosen)?;
+        append(found, &mut chosen)?;
     }
     Ok(())
+}
+
+/// Appends the chosen nodes. Where none was found before, their list is taken whole.
+fn append<'d>(found: &mut Vec<Node<'d>>, chosen: &mut Vec<Node<'d>>) -> Result<(), AllocError>
+    ensures { OnOk result (found.new.items ≡ found.old.items ++ chosen.old.items) }
+{
+    if found.is_empty() {
+        mem::swap(found, chosen);
+        return Ok(());
+    }
+    found.append(chosen)
 }

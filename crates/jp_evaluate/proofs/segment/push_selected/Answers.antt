@@ -7,4 +7,4 @@ loop-selector-preserved c = λ d stands.
     grown-next d (by_selectors d l) (by_selectors-append d l) c.args.found.now.items c.loop-selector.found.items _
     c.args.selectors.now c.loop-selector.selector-index c.selector-item.result c.loop-selector-test.true c.selector-item.is
     (c.loop-selector.invariant d stands)
-    (by_selector d l c.selector-item.result c.loop-selector.found.items c.in_ok-chosen.chosen.items _ c.in_ok-append.ensures.items (c.in_ok-chosen.ensures d stands))
+    (by_selector d l c.selector-item.result c.loop-selector.found.items c.in_ok-chosen.chosen.items _ c.in_ok-append.ensures (c.in_ok-chosen.ensures d stands))
