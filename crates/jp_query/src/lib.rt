@@ -26,4 +26,4 @@ mod tree;
 pub use jp_reading::Span;
 pub use parsed::{Parsed, parse};
 pub use refusal::{Refusal, RefusalKind};
-pub use tree::{Numeral, Query, Segment, Selector, Slice};
+pub use tree::{Expr, Literal, Numeral, Op, Operand, Query, Segment, Selector, Slice, Subject};
