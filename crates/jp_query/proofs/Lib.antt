@@ -2,6 +2,7 @@ pub mod Complete
 pub mod Escapes
 pub mod HexKinds
 pub mod Moves
+pub mod Numerals
 pub mod Refused
 pub mod Rounds
 pub mod Rows
@@ -11,4 +12,5 @@ pub mod Shallow
 pub mod Sizes
 pub mod Sound
 pub mod Spanned
+pub mod Trees
 pub mod Whole

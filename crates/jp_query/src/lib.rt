@@ -10,9 +10,12 @@
 //! `specs/Grammar.antt`, with its tree and the spans of its items; and no text spells two.
 #![tactic(auto)]
 
+mod expressions;
 mod ints;
 pub mod laws;
+mod literals;
 mod names;
+mod operators;
 mod parsed;
 mod refusal;
 mod segments;
