@@ -1,6 +1,7 @@
 pub mod Complete
 pub mod Escapes
 pub mod HexKinds
+pub mod Lifts
 pub mod Moves
 pub mod Refused
 pub mod Rounds
