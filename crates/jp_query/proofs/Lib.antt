@@ -11,5 +11,6 @@ pub mod Runs
 pub mod Shallow
 pub mod Sizes
 pub mod Sound
+pub mod SoundLiterals
 pub mod Spanned
 pub mod Whole
