@@ -11,6 +11,7 @@ pub mod Runs
 pub mod Shallow
 pub mod Sizes
 pub mod Sound
+pub mod SoundExpressions
 pub mod SoundLiterals
 pub mod Spanned
 pub mod Whole

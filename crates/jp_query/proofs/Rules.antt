@@ -131,13 +131,13 @@ filter-within I x s o t h = filtered h.part h.same h.is
 -- ---- slices
 
 -- a text of F, then one of P, for a value made of the part
-then-made_one : {A B : Type 0} (F : A → Form) (P : Form) (f : A → B) (y : B) → Within (Then F (λ z x. P ⌢ Only (f z) (word []) x) y) (Made f (λ z. F z ⌢ P) y)
+pub then-made_one : {A B : Type 0} (F : A → Form) (P : Form) (f : A → B) (y : B) → Within (Then F (λ z x. P ⌢ Only (f z) (word []) x) y) (Made f (λ z. F z ⌢ P) y)
 then-made_one F P f y s o t h =
     let ends = joined-only P (f h.part) y h.is.second_spans _ h.is.second h.is.two in
     record { part = h.part; same = ends.0; is = joined-over (F h.part) (P ⌢ Only (f h.part) (word []) y) P s o t h.is ends.1 }
 
 -- three parts, the first two together
-joined-back : (P Q R : Form) → Within (P ⌢ Q ⌢ R) ((P ⌢ Q) ⌢ R)
+pub joined-back : (P Q R : Form) → Within (P ⌢ Q ⌢ R) ((P ⌢ Q) ⌢ R)
 joined-back P Q R s o t h = record {
   first_spans = h.first_spans ++ h.two.first_spans;
   second_spans = h.two.second_spans;
