@@ -12,6 +12,7 @@ pub mod Shallow
 pub mod Sizes
 pub mod Sound
 pub mod SoundExpressions
+pub mod SoundLevels
 pub mod SoundLiterals
 pub mod Spanned
 pub mod Whole
