@@ -1,6 +1,7 @@
 pub mod Complete
 pub mod Escapes
 pub mod HexKinds
+pub mod Lifts
 pub mod Moves
 pub mod Refused
 pub mod Rounds
@@ -10,5 +11,8 @@ pub mod Runs
 pub mod Shallow
 pub mod Sizes
 pub mod Sound
+pub mod SoundExpressions
+pub mod SoundLevels
+pub mod SoundLiterals
 pub mod Spanned
 pub mod Whole
