@@ -1,5 +1,5 @@
-pub mod Complete
 pub mod Escapes
+pub mod Follows
 pub mod HexKinds
 pub mod Lifts
 pub mod Moves
@@ -14,4 +14,13 @@ pub mod SoundExpressions
 pub mod SoundLevels
 pub mod SoundLiterals
 pub mod Spanned
+pub mod SpeltExpressions
+pub mod SpeltInts
+pub mod SpeltLiterals
+pub mod SpeltNames
+pub mod SpeltOperands
+pub mod SpeltSegments
+pub mod SpeltSelectors
+pub mod SpeltSlices
+pub mod Unique
 pub mod Whole
