@@ -1,20 +1,20 @@
 -- What spells a literal or an operator is read as it, where what follows it may follow.
-use Rattle.std.proofs.Common.{◌≡◌, ℕ, Bool, true, false, ◌&&◌, ◌||◌, [], ◌∷◌, Option, Some, None, refl, ap, ◌∙◌, arith}
+use Rattle.std.proofs.Common.{◌≡◌, ℕ, Bool, true, false, ◌||◌, [], ◌∷◌, refl, ap, ◌∙◌, arith}
 use Rattle.std.proofs.lemmas.Bool.Decides.{nat_tests}
 use Rattle.jp_query.specs.declared.tree.Numeral.{Numeral}
 use Rattle.jp_query.specs.declared.tree.Op.{Op}
 use Rattle.jp_query.specs.declared.tree.Op.TheVariants.{Equal, Unequal, Less, LessEqual, Greater, GreaterEqual}
 use Rattle.jp_reading.specs.Texts.{Text, is_blank}
 use Rattle.jp_reading.specs.Forms.{◌⌢◌, word, One, Each, Item}
-use Rattle.jp_reading.specs.Outcome.{State, took, head, first_of, past, passes, is, is_at, item}
+use Rattle.jp_reading.specs.Outcome.{State, took, head, past, passes, is, is_at, item}
 use Rattle.jp_reading.specs.Numbers.{is_digit}
 use Rattle.jp_reading.proofs.Between.{Reads, reads-is}
 use Rattle.jp_reading.proofs.Steps.{take_if-takes, passes-apart}
-use Rattle.jp_reading.proofs.Again.{split, split-word, word-first, one-first, again-take_if, again-expect, inside, again-item, past-word, at-word, reads-none}
+use Rattle.jp_reading.proofs.Again.{split, split-word, word-first, one-first, again-take_if, again-expect, inside, past-word, at-word, reads-none}
 use Rattle.jp_query.specs.Tree.{LiteralTree, true_literal, false_literal, null_literal}
-use Rattle.jp_query.specs.Ints.{Int, whole_of}
+use Rattle.jp_query.specs.Ints.{Int}
 use Rattle.jp_query.specs.Strings.{Between as Marked, in_double, in_single}
-use Rattle.jp_query.specs.Literals.{Optional, left_out, written, Digits, Decimals, decimals, is_e, is_sign, Exponent, unsigned, signed, Mantissa, whole, minus_zero, numeral, Number, number, Literal, of_number, of_text, of_true, of_false, of_null, spelling}
+use Rattle.jp_query.specs.Literals.{Optional, left_out, written, Digits, Decimals, decimals, is_e, is_sign, Exponent, unsigned, signed, Mantissa, whole, minus_zero, Number, number, Literal, of_number, of_text, of_true, of_false, of_null, spelling}
 use Rattle.jp_query.specs.Reading.{word_at, digits_at, decimals_at, exponent_at, mantissa_at, number_literal_at, literal_at, with_equals_at, operator_at, begins_int, begins_operator, begins_query}
 use Rattle.jp_query.proofs.Follows.{within, ends_side, side-not_digit, side-not_dot, side-not_e, behind, behind-head, blank-not_digit, blank-not_dot, blank-not_e}
 use Rattle.jp_query.proofs.SpeltNames.{run-again, quoted-again, mark-first}
@@ -77,8 +77,7 @@ decimals-cases b p q h (left_out e w) digit dot =
     rw (same, dot, e) (refl, digit)
 decimals-cases b p q h (written e (decimals c more w)) digit dot =
     let parts = split (word (46 ∷ [])) (Digits c more) p q (reads-is (Optional Decimals b) (word (46 ∷ []) ⌢ Digits c more) p q h w) in
-    let first = word-first 46 [] p parts.middle parts.one in
-    (
+    let first = word-first 46 [] p parts.middle parts.one in (
       rw (at-word 46 [] p parts.middle parts.one, past-word 46 p parts.middle parts.one, digits-again c more parts.middle q parts.two digit, e) refl,
       rw first dot-not_digit,
     )
@@ -179,8 +178,7 @@ literal-cases x p q h (of_number n e w) ended =
     let no_single : is_at 39 p ≡ false = passes-apart begins_int (is 39) (head p) (int-not_mark 39 refl) begins in
     let no_t : is_at 116 p ≡ false = passes-apart begins_int (is 116) (head p) (int-not_mark 116 refl) begins in
     let no_f : is_at 102 p ≡ false = passes-apart begins_int (is 102) (head p) (int-not_mark 102 refl) begins in
-    let no_n : is_at 110 p ≡ false = passes-apart begins_int (is 110) (head p) (int-not_mark 110 refl) begins in
-    (
+    let no_n : is_at 110 p ≡ false = passes-apart begins_int (is 110) (head p) (int-not_mark 110 refl) begins in (
       rw (no_double, no_single, no_t, no_f, no_n, number-cases n p q reads reads.is ended, e) refl,
       within begins_int begins_literal (head p) int-literal begins,
     )
