@@ -17,7 +17,7 @@ use Rattle.jp_query.proofs.Moves.{part-progress, basic-progress, conjunction-pro
 use Rattle.jp_query.proofs.Follows.{within, behind, behind-after, blank-behind, closes, ends_conjunction, ends_basic, ends_side, closes-conjunction, conjunction-basic, basic-side, closes-not_bar, conjunction-not_and, basic-not_operator}
 use Rattle.jp_query.proofs.SpeltLiterals.{begins_literal, literal_item-again, literal-not_mark, literal-not_query}
 use Rattle.jp_query.proofs.SpeltSelectors.{Known}
-use Rattle.jp_query.proofs.SpeltOperands.{query-first, query-not_mark, query-again, comparison-again, operator-behind}
+use Rattle.jp_query.proofs.SpeltOperands.{query-first, query-not_blank, query-not_mark, query-again, comparison-again, operator-behind}
 
 -- ---- basic expressions
 
@@ -34,10 +34,6 @@ literal-basic c h = grind (arith, nat_tests)
 basic-not_blank : (c : ℕ) → begins_basic c ≡ true → is_blank c ≡ false
 unfolding is_blank
 basic-not_blank c h = grind (arith, nat_tests)
-
-query-not_blank : (c : ℕ) → begins_query c ≡ true → is_blank c ≡ false
-unfolding is_blank
-query-not_blank c h = grind (arith, nat_tests)
 
 parenthesis-not_blank : is_blank 40 ≡ false
 unfolding is_blank

@@ -14,13 +14,14 @@ use Rattle.jp_query.specs.Literals.{Literal, spelling}
 use Rattle.jp_query.specs.Grammar.{Segments, InnerQuery, from_root, from_current, Side, literal_side, query_side}
 use Rattle.jp_query.specs.Reading.{Inner, segments_at, inner_query_at, side_at, comparison_at, begins_query, begins_segment, begins_operator}
 use Rattle.jp_query.proofs.Follows.{within, behind, behind-after, behind-head, blank-follow, blank-not_name, blank-not_equals, ends_basic, ends_side, basic-side, operator-side, operator-not_blank, side-not_name, side-not_segment}
-use Rattle.jp_query.proofs.SpeltLiterals.{begins_literal, literal_item-again, literal-not_query, operator-again, operator-first}
+use Rattle.jp_query.proofs.SpeltLiterals.{begins_literal, literal_item-again, literal-not_query}
+use Rattle.jp_query.proofs.SpeltOperators.{operator-again, operator-first}
 use Rattle.jp_query.proofs.SpeltSelectors.{Known}
 use Rattle.jp_query.proofs.SpeltSegments.{segments-again}
 
 -- ---- queries inside others
 
-query-not_blank : (c : ℕ) → begins_query c ≡ true → is_blank c ≡ false
+pub query-not_blank : (c : ℕ) → begins_query c ≡ true → is_blank c ≡ false
 unfolding is_blank
 query-not_blank c h = grind (arith, nat_tests)
 
