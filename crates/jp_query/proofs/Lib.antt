@@ -9,7 +9,6 @@ pub mod Rounds
 pub mod Rows
 pub mod Rules
 pub mod Runs
-pub mod Shallow
 pub mod Sizes
 pub mod Sound
 pub mod SoundExpressions

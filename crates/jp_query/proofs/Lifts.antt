@@ -1,7 +1,7 @@
 -- The forms of the grammar over another form of the expressions one level further in.
 use Rattle.std.proofs.Common.{◌≡◌, ℕ, zero, suc, ◌+◌, List, [], ◌∷◌, arith}
 use Rattle.jp_reading.specs.Texts.{Text, Spans}
-use Rattle.jp_reading.specs.Forms.{Form, word, ◌⌢◌, Blank, Each, Separated, Item}
+use Rattle.jp_reading.specs.Forms.{Form, word, ◌⌢◌, Blank, Separated}
 use Rattle.jp_reading.proofs.Between.{Within}
 use Rattle.jp_reading.proofs.Levels.{joined-lifts, item-lifts, each-lifts, separated-lifts}
 use Rattle.jp_query.specs.declared.tree.Op.{Op}

@@ -4,13 +4,13 @@ use Rattle.jp_query.specs.Slices.{Bound, no_bound, bound, Step, no_step}
 use Rattle.jp_query.specs.declared.tree.Numeral.TheVariants.{Whole}
 use Rattle.jp_query.specs.declared.tree.Slice.{Slice}
 use Rattle.jp_query.specs.Reading.{slice_of}
-use Rattle.std.proofs.Common.{◌≡◌, ℕ, suc, Bool, true, false, [], ◌∷◌, refl, ◌∙◌, ap, ◌+◌, List, ◌++◌, sym, subst, append_assoc, arith, Option, Some, None}
+use Rattle.std.proofs.Common.{◌≡◌, ℕ, Bool, true, false, [], ◌∷◌, refl, ◌∙◌, ap, ◌+◌, List, ◌++◌, sym, subst, append_assoc, arith, Option, Some, None}
 use Rattle.jp_query.specs.declared.tree.Numeral.{Numeral}
 use Rattle.jp_reading.specs.Texts.{Text, Spans, bytes}
 use Rattle.jp_reading.specs.Forms.{Form, ◌⌢◌, word, One, Each, Blank, Item}
 use Rattle.jp_reading.specs.Numbers.{is_digit, value_from}
 use Rattle.jp_reading.proofs.Between.{Has, Within, Rule, has-as, joined-over, bytes-append}
-use Rattle.jp_reading.proofs.Levels.{Only, Then, Made, level, word-has, joined-has, joined-lifts, one_rule, each_rule, word_rule, then_rule, made_rule, ends_rule, blank_rule, blank-has, separated_rule, item_rule}
+use Rattle.jp_reading.proofs.Levels.{Only, Then, Made, level, word-has, joined-has, one_rule, each_rule, word_rule, then_rule, made_rule, ends_rule, blank_rule, blank-has, separated_rule, item_rule}
 use Rattle.jp_query.specs.Tree.{SelectorTree, name, index, filter, SegmentTree, segment, selectors, slice, ExprTree}
 use Rattle.jp_query.specs.Names.{is_name_first, is_name_char, Shorthand, shorthand}
 use Rattle.jp_query.specs.Strings.{is_plain, Character, Between, Quoted, in_double, in_single}

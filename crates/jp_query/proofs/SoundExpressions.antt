@@ -1,23 +1,20 @@
 -- What the rules of expressions read is what the grammar says, with each number of levels.
-use Rattle.std.proofs.Common.{◌≡◌, ℕ, zero, suc, ◌+◌, Bool, true, false, List, [], ◌∷◌, ◌++◌, refl, sym, ap, ◌∙◌, subst, arith}
+use Rattle.std.proofs.Common.{◌≡◌, ℕ, ◌+◌, Bool, true, false, List, [], ◌∷◌, refl, sym, ap, ◌∙◌, subst}
 use Rattle.jp_reading.specs.Texts.{Text, Spans, bytes}
-use Rattle.jp_reading.specs.Forms.{Form, word, ◌⌢◌, Blank, Each, Separated, Item}
-use Rattle.jp_reading.specs.Outcome.{State, Outcome, took, deep, ◌>>=◌, head, past, skip, after_blank, passes, is_at, is, expect, each, item}
-use Rattle.jp_reading.specs.Views.{by}
-use Rattle.jp_reading.proofs.Between.{Has, Within, Rule, Front, Judged, has-as, joined-over, between-same, front-as}
-use Rattle.jp_reading.proofs.Levels.{Only, Then, Made, word-has, blank-has, joined-has, item-lifts, item-has, ends_rule, behind, word_rule, blank_rule, then_rule, made_rule, item_rule, separated_rule}
+use Rattle.jp_reading.specs.Forms.{Form, word, ◌⌢◌, Blank, Item}
+use Rattle.jp_reading.specs.Outcome.{State, ◌>>=◌, head, past, skip, after_blank, passes, is_at, item}
+use Rattle.jp_reading.proofs.Between.{Has, Within, Rule, Judged, has-as, joined-over, between-same, front-as}
+use Rattle.jp_reading.proofs.Levels.{Only, Then, Made, word-has, blank-has, joined-has, item-has, ends_rule, behind, word_rule, blank_rule, then_rule, made_rule, item_rule}
 use Rattle.jp_reading.proofs.Joining.{joined-assoc, joined-word, then-made_end}
-use Rattle.jp_reading.proofs.Judging.{judged-end, judged-then, judged-as, judged-behind, judged-skip, judged-if, judged-expect, judged-made, judged-item, judged-separated, judged-deep}
-use Rattle.jp_reading.proofs.Words.{words-join}
+use Rattle.jp_reading.proofs.Judging.{judged-end, judged-then, judged-as, judged-behind, judged-skip, judged-if, judged-expect, judged-made, judged-item, judged-deep}
 use Rattle.jp_query.specs.declared.tree.Op.{Op}
-use Rattle.jp_query.specs.declared.tree.Op.TheVariants.{Equal}
-use Rattle.jp_query.specs.Tree.{SegmentTree, segments, QueryTree, query, ExprTree, any_of, all_of, negation, comparison, exists, OperandTree, literal, node_value, LiteralTree}
+use Rattle.jp_query.specs.Tree.{SegmentTree, segments, QueryTree, query, ExprTree, negation, comparison, exists, OperandTree, literal, node_value, LiteralTree}
 use Rattle.jp_query.specs.Literals.{Literal, spelling}
-use Rattle.jp_query.specs.Grammar.{joined, Segments, InnerQuery, from_root, from_current, Side, literal_side, query_side, Parenthesis, Basic, grouped, not_grouped, compared, tested, not_tested, Conjunction, conjunction, Expression, disjunction, Inside}
-use Rattle.jp_query.specs.Reading.{Inner, begins_query, begins_operator, segments_at, literal_at, operator_at, inner_query_at, side_at, comparison_at, test_at, parenthesis_at, negated_at, basic_at, part_at, parts_at, conjunction_at, expression_at, inside}
+use Rattle.jp_query.specs.Grammar.{Segments, InnerQuery, from_root, from_current, Side, literal_side, query_side, Parenthesis, Basic, grouped, not_grouped, compared, tested, not_tested}
+use Rattle.jp_query.specs.Reading.{Inner, begins_query, begins_operator, segments_at, literal_at, operator_at, inner_query_at, side_at, comparison_at, test_at, parenthesis_at, negated_at, basic_at}
 use Rattle.jp_query.proofs.Escapes.{reads-past, joined-both}
-use Rattle.jp_query.proofs.Lifts.{Deeper, after-lifts, before-lifts, rooted-lifts, inner_query-lifts, side-lifts, parenthesis-lifts, compared-lifts, basic-lifts, conjunction-lifts, expression-lifts, inside-lifts}
-use Rattle.jp_query.proofs.Rules.{Level, segments_rule, joined-back, then-made_one}
+use Rattle.jp_query.proofs.Lifts.{after-lifts, rooted-lifts, inner_query-lifts, side-lifts, parenthesis-lifts, compared-lifts, basic-lifts}
+use Rattle.jp_query.proofs.Rules.{Level, segments_rule}
 use Rattle.jp_query.proofs.Sound.{Opens, none_left, some_left, opened_rule, front-mark, mark-next, segments-judged}
 use Rattle.jp_query.proofs.SoundLiterals.{literal_rule, literal-judged, operator_rule, operator-judged}
 

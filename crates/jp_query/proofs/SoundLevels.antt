@@ -1,12 +1,9 @@
 -- What the rules of `&&` and `||` read is what the grammar says, and so is an expression at each number of levels.
-use Rattle.std.proofs.Common.{◌≡◌, ℕ, zero, suc, List, [], ◌∷◌, refl}
-use Rattle.jp_reading.specs.Texts.{Text, Spans}
+use Rattle.std.proofs.Common.{ℕ, zero, suc, [], ◌∷◌, refl}
 use Rattle.jp_reading.specs.Forms.{Form, word, ◌⌢◌, Blank, Separated}
-use Rattle.jp_reading.specs.Outcome.{State, Outcome, skip, after_blank, passes, is, expect}
-use Rattle.jp_reading.specs.Views.{by}
+use Rattle.jp_reading.specs.Outcome.{State, Outcome, skip, after_blank, passes, is}
 use Rattle.jp_reading.proofs.Between.{Has, Within, Rule, Judged, has-as}
 use Rattle.jp_reading.proofs.Levels.{Made, word-has, blank-has, joined-has, behind, word_rule, blank_rule, made_rule, separated_rule}
-use Rattle.jp_reading.proofs.Joining.{joined-assoc}
 use Rattle.jp_reading.proofs.Judging.{judged-as, judged-skip, judged-expect, judged-made, judged-separated}
 use Rattle.jp_reading.proofs.Words.{words-join}
 use Rattle.jp_query.specs.Tree.{ExprTree, any_of, all_of, exists}

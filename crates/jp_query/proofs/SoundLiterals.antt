@@ -1,26 +1,24 @@
 -- What the rules of literals and operators read is what the grammar says.
-use Rattle.std.proofs.Common.{◌≡◌, ℕ, Bool, true, false, ◌&&◌, List, [], ◌∷◌, ◌+◌, ◌++◌, Option, Some, None, refl, sym, ap, ◌∙◌, subst, arith}
-use Rattle.std.proofs.lemmas.Bool.{eqb-true}
+use Rattle.std.proofs.Common.{◌≡◌, ℕ, Bool, true, false, ◌&&◌, [], ◌∷◌, ◌+◌, Option, Some, None, refl, sym, ap, ◌∙◌, subst}
 use Rattle.jp_reading.specs.Texts.{Text, Spans, bytes}
 use Rattle.jp_reading.specs.Forms.{Form, word, One, ◌⌢◌, Each}
-use Rattle.jp_reading.specs.Outcome.{State, Outcome, took, head, past, passes, is_at, is, take_if, expect, item}
+use Rattle.jp_reading.specs.Outcome.{State, took, head, past, passes, is_at, take_if}
 use Rattle.jp_reading.specs.Numbers.{is_digit}
-use Rattle.jp_reading.specs.Views.{by}
-use Rattle.jp_reading.proofs.Between.{Has, Within, Rule, Reads, Judged, has-as, joined-over, reads-as, reads-then, between-same}
+use Rattle.jp_reading.proofs.Between.{Has, Within, Rule, Reads, Judged, has-as, joined-over, reads-as, between-same}
 use Rattle.jp_reading.proofs.Fits.{reads-one}
-use Rattle.jp_reading.proofs.Levels.{Only, Made, level, word-has, one_rule, ends_rule, behind, word_rule, then_rule, made_rule, item_rule}
-use Rattle.jp_reading.proofs.Judging.{judged-end, judged-then, judged-as, judged-behind, judged-if, judged-expect, judged-made, judged-take_if, judged-item}
+use Rattle.jp_reading.proofs.Levels.{Only, Made, level, word-has, one_rule, ends_rule, behind, word_rule, then_rule, made_rule}
+use Rattle.jp_reading.proofs.Judging.{judged-end, judged-then, judged-as, judged-behind, judged-if, judged-expect, judged-made, judged-take_if}
 use Rattle.jp_reading.proofs.Joining.{joined-only_two}
 use Rattle.jp_reading.proofs.Words.{words-join, reads-words}
 use Rattle.jp_query.specs.declared.tree.Numeral.{Numeral}
 use Rattle.jp_query.specs.declared.tree.Op.{Op}
-use Rattle.jp_query.specs.declared.tree.Op.TheVariants.{Equal, Unequal, Less, LessEqual, Greater, GreaterEqual}
+use Rattle.jp_query.specs.declared.tree.Op.TheVariants.{Equal, Unequal, Greater, GreaterEqual}
 use Rattle.jp_query.specs.Tree.{LiteralTree, number as number_literal, text, true_literal, false_literal, null_literal}
 use Rattle.jp_query.specs.Ints.{Int, whole_of}
 use Rattle.jp_query.specs.Literals.{Optional, left_out, written, Digits, Decimals, decimals, is_e, is_sign, Exponent, unsigned, signed, Mantissa, whole, minus_zero, numeral, Number, number, Literal, of_number, of_text, of_true, of_false, of_null, spelling}
 use Rattle.jp_query.specs.Strings.{Quoted, in_double, in_single}
 use Rattle.jp_query.specs.Reading.{run_at, int_at, quoted_at, word_at, digits_at, decimals_at, exponent_at, mantissa_at, number_literal_at, literal_at, with_equals_at, operator_at}
-use Rattle.jp_query.proofs.Escapes.{reads-past, joined-both}
+use Rattle.jp_query.proofs.Escapes.{reads-past}
 use Rattle.jp_query.proofs.Rules.{run_rule, quoted_parts, quoted-within, quoted-has, is_digit-zero, int_rule}
 use Rattle.jp_query.proofs.Sound.{run-judged, quoted-judged, int-judged}
 
