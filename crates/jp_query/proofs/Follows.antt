@@ -4,7 +4,7 @@ use Rattle.std.proofs.lemmas.Bool.{cases_Bool}
 use Rattle.std.proofs.lemmas.Bool.Decides.{nat_tests}
 use Rattle.jp_reading.specs.Texts.{Text, is_blank}
 use Rattle.jp_reading.specs.Forms.{AllPassing, Blank}
-use Rattle.jp_reading.specs.Outcome.{State, head, first_of, past_blanks, skip, after_blank, passes, is, is_at}
+use Rattle.jp_reading.specs.Outcome.{State, head, first_of, past_blanks, after_blank, passes, is}
 use Rattle.jp_reading.specs.Numbers.{is_digit}
 use Rattle.jp_reading.proofs.Between.{Reads}
 use Rattle.jp_reading.proofs.Chars.{skip-none, after_blank-same}

@@ -4,6 +4,7 @@ pub mod Follows
 pub mod HexKinds
 pub mod Lifts
 pub mod Moves
+pub mod NoItems
 pub mod Refused
 pub mod Rounds
 pub mod Rows
@@ -20,6 +21,7 @@ pub mod SpeltInts
 pub mod SpeltLiterals
 pub mod SpeltNames
 pub mod SpeltOperands
+pub mod SpeltOperators
 pub mod SpeltSegments
 pub mod SpeltSelectors
 pub mod SpeltSlices

@@ -1,23 +1,23 @@
 -- What spells an expression is read as it, up to what closes it.
-use Rattle.std.proofs.Common.{◌≡◌, ℕ, zero, suc, Bool, true, false, List, [], ◌∷◌, Option, Some, refl, sym, ap, ◌∙◌, subst, eq-eqb, arith, ◌||◌}
+use Rattle.std.proofs.Common.{◌≡◌, ℕ, zero, suc, Bool, true, false, List, [], ◌∷◌, Some, refl, sym, ap, ◌∙◌, subst, eq-eqb, arith, ◌||◌}
 use Rattle.std.proofs.lemmas.Bool.Decides.{nat_tests}
 use Rattle.jp_query.specs.declared.tree.Op.{Op}
-use Rattle.jp_reading.specs.Texts.{Text, is_blank}
+use Rattle.jp_reading.specs.Texts.{is_blank}
 use Rattle.jp_reading.specs.Forms.{Form, ◌⌢◌, word, Blank, Each, Item, Separated}
-use Rattle.jp_reading.specs.Outcome.{State, Outcome, took, head, skip, past, passes, is, is_at, after_blank, item}
+use Rattle.jp_reading.specs.Outcome.{State, Outcome, took, head, skip, passes, is, is_at, after_blank}
 use Rattle.jp_reading.proofs.Progress.{Progress}
 use Rattle.jp_reading.proofs.Between.{Reads, reads-is, reads-then}
 use Rattle.jp_reading.proofs.Steps.{passes-apart}
-use Rattle.jp_reading.proofs.Again.{Again, Split, split, split-word, word-first, again-expect, again-skip, again-separated, past-word, reads-none}
-use Rattle.jp_query.specs.Tree.{ExprTree, any_of, all_of, negation, comparison, exists, OperandTree, literal, node_value, QueryTree}
+use Rattle.jp_reading.proofs.Again.{split, split-word, word-first, again-expect, again-skip, again-separated, past-word, reads-none}
+use Rattle.jp_query.specs.Tree.{ExprTree, negation, comparison, exists, OperandTree}
 use Rattle.jp_query.specs.Literals.{Literal, spelling}
-use Rattle.jp_query.specs.Grammar.{joined, InnerQuery, Side, literal_side, query_side, Parenthesis, Comparison, Basic, grouped, not_grouped, compared, tested, not_tested, Conjunction, conjunction, Expression, disjunction, Inside}
+use Rattle.jp_query.specs.Grammar.{InnerQuery, Side, literal_side, query_side, Parenthesis, Comparison, Basic, grouped, not_grouped, compared, tested, not_tested, Conjunction, conjunction, Expression, disjunction, Inside}
 use Rattle.jp_query.specs.Reading.{Inner, test_at, parenthesis_at, negated_at, basic_at, part_at, parts_at, conjunction_at, expression_at, inside, begins_query, begins_operator}
-use Rattle.jp_query.proofs.Moves.{Nested, part-progress, basic-progress, conjunction-progress, inside-progress}
-use Rattle.jp_query.proofs.Follows.{within, behind, behind-after, head-behind, blank-behind, closes, ends_conjunction, ends_basic, ends_side, closes-conjunction, conjunction-basic, basic-side, closes-not_bar, conjunction-not_and, basic-not_operator}
+use Rattle.jp_query.proofs.Moves.{part-progress, basic-progress, conjunction-progress, inside-progress}
+use Rattle.jp_query.proofs.Follows.{within, behind, behind-after, blank-behind, closes, ends_conjunction, ends_basic, ends_side, closes-conjunction, conjunction-basic, basic-side, closes-not_bar, conjunction-not_and, basic-not_operator}
 use Rattle.jp_query.proofs.SpeltLiterals.{begins_literal, literal_item-again, literal-not_mark, literal-not_query}
 use Rattle.jp_query.proofs.SpeltSelectors.{Known}
-use Rattle.jp_query.proofs.SpeltOperands.{query-first, query-not_mark, query-again, comparison-again, OperatorBehind, operator-behind}
+use Rattle.jp_query.proofs.SpeltOperands.{query-first, query-not_blank, query-not_mark, query-again, comparison-again, operator-behind}
 
 -- ---- basic expressions
 
@@ -34,10 +34,6 @@ literal-basic c h = grind (arith, nat_tests)
 basic-not_blank : (c : ℕ) → begins_basic c ≡ true → is_blank c ≡ false
 unfolding is_blank
 basic-not_blank c h = grind (arith, nat_tests)
-
-query-not_blank : (c : ℕ) → begins_query c ≡ true → is_blank c ≡ false
-unfolding is_blank
-query-not_blank c h = grind (arith, nat_tests)
 
 parenthesis-not_blank : is_blank 40 ≡ false
 unfolding is_blank

@@ -1,21 +1,19 @@
--- What spells a literal or an operator is read as it, where what follows it may follow.
-use Rattle.std.proofs.Common.{◌≡◌, ℕ, Bool, true, false, ◌&&◌, ◌||◌, [], ◌∷◌, Option, Some, None, refl, ap, ◌∙◌, arith}
+-- What spells a literal is read as it, where what follows it may follow.
+use Rattle.std.proofs.Common.{◌≡◌, ℕ, Bool, true, false, ◌||◌, [], ◌∷◌, refl, ap, ◌∙◌, arith}
 use Rattle.std.proofs.lemmas.Bool.Decides.{nat_tests}
 use Rattle.jp_query.specs.declared.tree.Numeral.{Numeral}
-use Rattle.jp_query.specs.declared.tree.Op.{Op}
-use Rattle.jp_query.specs.declared.tree.Op.TheVariants.{Equal, Unequal, Less, LessEqual, Greater, GreaterEqual}
-use Rattle.jp_reading.specs.Texts.{Text, is_blank}
+use Rattle.jp_reading.specs.Texts.{Text}
 use Rattle.jp_reading.specs.Forms.{◌⌢◌, word, One, Each, Item}
-use Rattle.jp_reading.specs.Outcome.{State, took, head, first_of, past, passes, is, is_at, item}
+use Rattle.jp_reading.specs.Outcome.{State, took, head, past, passes, is, is_at, item}
 use Rattle.jp_reading.specs.Numbers.{is_digit}
 use Rattle.jp_reading.proofs.Between.{Reads, reads-is}
 use Rattle.jp_reading.proofs.Steps.{take_if-takes, passes-apart}
-use Rattle.jp_reading.proofs.Again.{split, split-word, word-first, one-first, again-take_if, again-expect, inside, again-item, past-word, at-word, reads-none}
+use Rattle.jp_reading.proofs.Again.{split, split-word, word-first, one-first, again-take_if, again-expect, inside, past-word, at-word, reads-none}
 use Rattle.jp_query.specs.Tree.{LiteralTree, true_literal, false_literal, null_literal}
-use Rattle.jp_query.specs.Ints.{Int, whole_of}
+use Rattle.jp_query.specs.Ints.{Int}
 use Rattle.jp_query.specs.Strings.{Between as Marked, in_double, in_single}
-use Rattle.jp_query.specs.Literals.{Optional, left_out, written, Digits, Decimals, decimals, is_e, is_sign, Exponent, unsigned, signed, Mantissa, whole, minus_zero, numeral, Number, number, Literal, of_number, of_text, of_true, of_false, of_null, spelling}
-use Rattle.jp_query.specs.Reading.{word_at, digits_at, decimals_at, exponent_at, mantissa_at, number_literal_at, literal_at, with_equals_at, operator_at, begins_int, begins_operator, begins_query}
+use Rattle.jp_query.specs.Literals.{Optional, left_out, written, Digits, Decimals, decimals, is_e, is_sign, Exponent, unsigned, signed, Mantissa, whole, minus_zero, Number, number, Literal, of_number, of_text, of_true, of_false, of_null}
+use Rattle.jp_query.specs.Reading.{word_at, digits_at, decimals_at, exponent_at, mantissa_at, number_literal_at, literal_at, begins_int, begins_query}
 use Rattle.jp_query.proofs.Follows.{within, ends_side, side-not_digit, side-not_dot, side-not_e, behind, behind-head, blank-not_digit, blank-not_dot, blank-not_e}
 use Rattle.jp_query.proofs.SpeltNames.{run-again, quoted-again, mark-first}
 use Rattle.jp_query.proofs.SpeltInts.{int-again, int-first, int-no_minus_zero, int-not_mark}
@@ -77,8 +75,7 @@ decimals-cases b p q h (left_out e w) digit dot =
     rw (same, dot, e) (refl, digit)
 decimals-cases b p q h (written e (decimals c more w)) digit dot =
     let parts = split (word (46 ∷ [])) (Digits c more) p q (reads-is (Optional Decimals b) (word (46 ∷ []) ⌢ Digits c more) p q h w) in
-    let first = word-first 46 [] p parts.middle parts.one in
-    (
+    let first = word-first 46 [] p parts.middle parts.one in (
       rw (at-word 46 [] p parts.middle parts.one, past-word 46 p parts.middle parts.one, digits-again c more parts.middle q parts.two digit, e) refl,
       rw first dot-not_digit,
     )
@@ -179,8 +176,7 @@ literal-cases x p q h (of_number n e w) ended =
     let no_single : is_at 39 p ≡ false = passes-apart begins_int (is 39) (head p) (int-not_mark 39 refl) begins in
     let no_t : is_at 116 p ≡ false = passes-apart begins_int (is 116) (head p) (int-not_mark 116 refl) begins in
     let no_f : is_at 102 p ≡ false = passes-apart begins_int (is 102) (head p) (int-not_mark 102 refl) begins in
-    let no_n : is_at 110 p ≡ false = passes-apart begins_int (is 110) (head p) (int-not_mark 110 refl) begins in
-    (
+    let no_n : is_at 110 p ≡ false = passes-apart begins_int (is 110) (head p) (int-not_mark 110 refl) begins in (
       rw (no_double, no_single, no_t, no_f, no_n, number-cases n p q reads reads.is ended, e) refl,
       within begins_int begins_literal (head p) int-literal begins,
     )
@@ -242,70 +238,6 @@ literal_item-again x p q h follow =
     let read = literal-cases x p part.middle part.reads part.reads.is ended in
     record { reads = ap (item p) read.0 ∙ ap (took x) part.spanned; begins = read.1 }
 
--- ---- operators
-
-pub operator-again : (op : Op) (p q : State) → Reads (word (spelling op)) p q → is_at 61 q ≡ false → operator_at p ≡ took op q
-unfolding operator_at with_equals_at
-operator-again Equal p q h off =
-    let parts = split-word 61 (61 ∷ []) p q h in
-    let first = word-first 61 [] p parts.middle parts.one in
-    let at_equals : is_at 61 p ≡ true = rw first refl in
-    rw (at_equals, past-word 61 p parts.middle parts.one, again-expect 61 parts.middle q parts.two) refl
-operator-again Unequal p q h off =
-    let parts = split-word 33 (61 ∷ []) p q h in
-    let first = word-first 33 [] p parts.middle parts.one in
-    let no_equals : is_at 61 p ≡ false = rw first refl in
-    let at_mark : is_at 33 p ≡ true = rw first refl in
-    rw (no_equals, at_mark, past-word 33 p parts.middle parts.one, again-expect 61 parts.middle q parts.two) refl
-operator-again Less p q h off =
-    let first = word-first 60 [] p q h in
-    let no_equals : is_at 61 p ≡ false = rw first refl in
-    let no_mark : is_at 33 p ≡ false = rw first refl in
-    let at_less : is_at 60 p ≡ true = rw first refl in
-    rw (no_equals, no_mark, at_less, past-word 60 p q h, off) refl
-operator-again LessEqual p q h off =
-    let parts = split-word 60 (61 ∷ []) p q h in
-    let first = word-first 60 [] p parts.middle parts.one in
-    let no_equals : is_at 61 p ≡ false = rw first refl in
-    let no_mark : is_at 33 p ≡ false = rw first refl in
-    let at_less : is_at 60 p ≡ true = rw first refl in
-    rw (
-      no_equals,
-      no_mark,
-      at_less,
-      past-word 60 p parts.middle parts.one,
-      at-word 61 [] parts.middle q parts.two,
-      past-word 61 parts.middle q parts.two,
-    ) refl
-operator-again Greater p q h off =
-    let first = word-first 62 [] p q h in
-    let no_equals : is_at 61 p ≡ false = rw first refl in
-    let no_mark : is_at 33 p ≡ false = rw first refl in
-    let no_less : is_at 60 p ≡ false = rw first refl in
-    rw (no_equals, no_mark, no_less, again-expect 62 p q h, off) refl
-operator-again GreaterEqual p q h off =
-    let parts = split-word 62 (61 ∷ []) p q h in
-    let first = word-first 62 [] p parts.middle parts.one in
-    let no_equals : is_at 61 p ≡ false = rw first refl in
-    let no_mark : is_at 33 p ≡ false = rw first refl in
-    let no_less : is_at 60 p ≡ false = rw first refl in
-    rw (
-      no_equals,
-      no_mark,
-      no_less,
-      again-expect 62 p parts.middle parts.one,
-      at-word 61 [] parts.middle q parts.two,
-      past-word 61 parts.middle q parts.two,
-    ) refl
-
-pub operator-first : (op : Op) (p q : State) → Reads (word (spelling op)) p q → passes begins_operator (head p) ≡ true
-operator-first Equal p q h = rw (word-first 61 (61 ∷ []) p q h) refl
-operator-first Unequal p q h = rw (word-first 33 (61 ∷ []) p q h) refl
-operator-first Less p q h = rw (word-first 60 [] p q h) refl
-operator-first LessEqual p q h = rw (word-first 60 (61 ∷ []) p q h) refl
-operator-first Greater p q h = rw (word-first 62 [] p q h) refl
-operator-first GreaterEqual p q h = rw (word-first 62 (61 ∷ []) p q h) refl
-
 -- ---- what the characters are not that begin a literal
 
 pub literal-not_mark : (d : ℕ) → begins_literal d ≡ false → (c : ℕ) → begins_literal c ≡ true → is d c ≡ false
@@ -313,7 +245,3 @@ literal-not_mark d g c h = grind (arith, nat_tests)
 
 pub literal-not_query : (c : ℕ) → begins_literal c ≡ true → begins_query c ≡ false
 literal-not_query c h = grind (arith, nat_tests)
-
-pub literal-not_blank : (c : ℕ) → begins_literal c ≡ true → is_blank c ≡ false
-unfolding is_blank
-literal-not_blank c h = grind (arith, nat_tests)

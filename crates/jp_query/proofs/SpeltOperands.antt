@@ -4,23 +4,24 @@ use Rattle.std.proofs.lemmas.Bool.Decides.{nat_tests}
 use Rattle.jp_query.specs.declared.tree.Op.{Op}
 use Rattle.jp_reading.specs.Texts.{is_blank}
 use Rattle.jp_reading.specs.Forms.{Form, ◌⌢◌, word, Blank, Item}
-use Rattle.jp_reading.specs.Outcome.{State, took, head, first_of, skip, passes, is, is_at, after_blank, item}
+use Rattle.jp_reading.specs.Outcome.{State, took, head, skip, passes, is, is_at, after_blank}
 use Rattle.jp_reading.proofs.Between.{Reads, reads-is}
 use Rattle.jp_reading.proofs.Steps.{passes-apart}
 use Rattle.jp_reading.proofs.Again.{split, word-first, again-expect, again-skip, again-item, inside, past-word}
-use Rattle.jp_query.specs.Tree.{SegmentTree, QueryTree, ExprTree, OperandTree, LiteralTree, comparison}
+use Rattle.jp_query.specs.Tree.{SegmentTree, QueryTree, ExprTree, OperandTree, comparison}
 use Rattle.jp_query.specs.Names.{is_name_char}
 use Rattle.jp_query.specs.Literals.{Literal, spelling}
 use Rattle.jp_query.specs.Grammar.{Segments, InnerQuery, from_root, from_current, Side, literal_side, query_side}
 use Rattle.jp_query.specs.Reading.{Inner, segments_at, inner_query_at, side_at, comparison_at, begins_query, begins_segment, begins_operator}
-use Rattle.jp_query.proofs.Follows.{within, behind, behind-after, behind-head, blank-behind, blank-follow, blank-not_name, blank-not_equals, ends_basic, ends_side, basic-side, operator-side, operator-not_blank, side-not_name, side-not_segment}
-use Rattle.jp_query.proofs.SpeltLiterals.{begins_literal, literal_item-again, literal-not_mark, literal-not_query, literal-not_blank, operator-again, operator-first}
+use Rattle.jp_query.proofs.Follows.{within, behind, behind-after, behind-head, blank-follow, blank-not_name, blank-not_equals, ends_basic, ends_side, basic-side, operator-side, operator-not_blank, side-not_name, side-not_segment}
+use Rattle.jp_query.proofs.SpeltLiterals.{begins_literal, literal_item-again, literal-not_query}
+use Rattle.jp_query.proofs.SpeltOperators.{operator-again, operator-first}
 use Rattle.jp_query.proofs.SpeltSelectors.{Known}
 use Rattle.jp_query.proofs.SpeltSegments.{segments-again}
 
 -- ---- queries inside others
 
-query-not_blank : (c : ℕ) → begins_query c ≡ true → is_blank c ≡ false
+pub query-not_blank : (c : ℕ) → begins_query c ≡ true → is_blank c ≡ false
 unfolding is_blank
 query-not_blank c h = grind (arith, nat_tests)
 
@@ -53,15 +54,15 @@ module _ (I : ExprTree → Form) (inner : Inner) (known : Known I inner) where
   query-cases q p r h (from_root xs e w) follow =
       again-item (word (36 ∷ []) ⌢ Segments I xs) q p r _ (reads-is (InnerQuery I q) (Item (word (36 ∷ []) ⌢ Segments I xs)) p r h w)
       (λ m reads same. (
-        let marked = split (word (36 ∷ [])) (Segments I xs) p m reads in
-        let root : is_at 36 p ≡ true = rw (word-first 36 [] p marked.middle marked.one) refl in
-        rw (root, past-word 36 p marked.middle marked.one, segments-before xs marked.middle m marked.two (rw same follow), e) refl))
+      let marked = split (word (36 ∷ [])) (Segments I xs) p m reads in
+      let root : is_at 36 p ≡ true = rw (word-first 36 [] p marked.middle marked.one) refl in
+      rw (root, past-word 36 p marked.middle marked.one, segments-before xs marked.middle m marked.two (rw same follow), e) refl))
   query-cases q p r h (from_current xs e w) follow =
       again-item (word (64 ∷ []) ⌢ Segments I xs) q p r _ (reads-is (InnerQuery I q) (Item (word (64 ∷ []) ⌢ Segments I xs)) p r h w)
       (λ m reads same. (
-        let marked = split (word (64 ∷ [])) (Segments I xs) p m reads in
-        let root : is_at 36 p ≡ false = rw (word-first 64 [] p marked.middle marked.one) refl in
-        rw (root, again-expect 64 p marked.middle marked.one, segments-before xs marked.middle m marked.two (rw same follow), e) refl))
+      let marked = split (word (64 ∷ [])) (Segments I xs) p m reads in
+      let root : is_at 36 p ≡ false = rw (word-first 64 [] p marked.middle marked.one) refl in
+      rw (root, again-expect 64 p marked.middle marked.one, segments-before xs marked.middle m marked.two (rw same follow), e) refl))
 
   -- a query inside another
   pub query-again : (q : QueryTree) (p r : State) → Reads (InnerQuery I q) p r → passes ends_side (behind r.rest) ≡ true → inner_query_at inner p ≡ took q r

@@ -3,15 +3,14 @@ use Rattle.std.proofs.Common.{◌≡◌, ℕ, Bool, true, false, List, [], ◌�
 use Rattle.std.proofs.lemmas.Bool.Decides.{nat_tests}
 use Rattle.jp_query.specs.declared.tree.Numeral.{Numeral}
 use Rattle.jp_query.specs.declared.tree.Slice.{Slice}
-use Rattle.jp_reading.specs.Texts.{Text, is_blank}
+use Rattle.jp_reading.specs.Texts.{is_blank}
 use Rattle.jp_reading.specs.Forms.{Form, ◌⌢◌, word, Each, Blank, Item, Separated}
-use Rattle.jp_reading.specs.Outcome.{State, took, head, first_of, skip, passes, is, is_at, after_blank}
+use Rattle.jp_reading.specs.Outcome.{State, took, head, first_of, passes, is, is_at, after_blank}
 use Rattle.jp_reading.specs.Numbers.{is_digit}
-use Rattle.jp_reading.proofs.Progress.{Progress}
 use Rattle.jp_reading.proofs.Between.{Reads, reads-is}
 use Rattle.jp_reading.proofs.Steps.{passes-apart}
 use Rattle.jp_reading.proofs.Again.{split, word-first, again-expect, again-skip, inside, past-word, again-separated, reads-none}
-use Rattle.jp_query.specs.Tree.{SelectorTree, slice, filter, ExprTree, segment, selectors}
+use Rattle.jp_query.specs.Tree.{SelectorTree, slice, ExprTree, segment, selectors}
 use Rattle.jp_query.specs.Strings.{Between as Marked, in_double, in_single}
 use Rattle.jp_query.specs.Ints.{Int}
 use Rattle.jp_query.specs.Slices.{Bound, no_bound, bound, Step, Sliced}

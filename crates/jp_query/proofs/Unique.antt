@@ -1,5 +1,5 @@
 -- Whole texts: what spells a query is read as it, so that no text spells two.
-use Rattle.std.proofs.Common.{◌≡◌, ℕ, ◌+◌, Bool, false, [], ◌∷◌, refl, sym, ap, ◌∙◌, arith}
+use Rattle.std.proofs.Common.{◌≡◌, ℕ, ◌+◌, false, [], ◌∷◌, refl, sym, ap, ◌∙◌, arith}
 use Rattle.jp_reading.specs.Texts.{Text, Spans, bytes}
 use Rattle.jp_reading.specs.Forms.{◌⌢◌, word}
 use Rattle.jp_reading.specs.Outcome.{State, Outcome, took, stuck, deep, past_blanks, after_blank, passes}
