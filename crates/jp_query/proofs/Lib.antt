@@ -10,11 +10,13 @@ pub mod Rounds
 pub mod Rows
 pub mod Rules
 pub mod Runs
+pub mod SegmentRules
 pub mod Sizes
 pub mod Sound
 pub mod SoundExpressions
 pub mod SoundLevels
 pub mod SoundLiterals
+pub mod SoundOperands
 pub mod Spanned
 pub mod SpeltExpressions
 pub mod SpeltInts

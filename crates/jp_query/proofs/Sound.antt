@@ -20,7 +20,8 @@ use Rattle.jp_query.specs.Strings.{is_plain}
 use Rattle.jp_query.specs.Ints.{is_leading_digit, whole_of, negative_of, zero_int}
 use Rattle.jp_query.specs.Reading.{Inner, run_at, characters_at, shorthand_at, quoted_at, size_at, int_at, selector_at, bracket_at, segment_at, segments_at, begins_segment, entry_at, another_at, entries_at, member_at, selection_at, begins_int, bound_at, later_step_at, step_at, slice_of, slice_at, number_at}
 use Rattle.jp_query.proofs.Escapes.{reads-past, character_rule, characters-judged}
-use Rattle.jp_query.proofs.Rules.{Level, run_rule, shorthand_parts, quoted_parts, is_digit-zero, size_parts, int_rule, positive-within, negative-within, selector_rule, double-within, single-within, filter-within, segment_rule, segments_rule, entry_rule, comma, comma-has, comma-within, entries_rule, segment_of_all, segment_of_one, bracket_parts, bracket-within, bracket-within_deeper, member_rule, member-within, dot_rule, dot-within, dot_member, dot_bracket, dot_deep, bound_rule, bound_parts, bound-within, step_rule, Rest, rest_parts, rest-within, rest_rule, starts-within, alone, goes_on, after_rule, number_parts, number-within}
+use Rattle.jp_query.proofs.Rules.{Level, run_rule, shorthand_parts, quoted_parts, is_digit-zero, size_parts, int_rule, positive-within, negative-within, selector_rule, double-within, single-within, filter-within, bound_rule, bound_parts, bound-within, step_rule, Rest, rest_parts, rest-within, rest_rule, starts-within, alone, goes_on, after_rule, number_parts, number-within}
+use Rattle.jp_query.proofs.SegmentRules.{segment_rule, segments_rule, entry_rule, comma, comma-has, comma-within, entries_rule, segment_of_all, segment_of_one, bracket_parts, bracket-within, bracket-within_deeper, member_rule, member-within, dot_rule, dot-within, dot_member, dot_bracket, dot_deep}
 
 pub run-judged : (ok : ℕ → Bool) (c : ℕ) (h : ok c ≡ true) (p : State) → Judged (run_rule ok c h) p (run_at ok p)
 run-judged ok c h p = judged-each (one_rule ok c h) (λ q. passes ok (head q)) (take_if ok) (judged-take_if ok c h) p

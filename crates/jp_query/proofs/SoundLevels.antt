@@ -12,7 +12,8 @@ use Rattle.jp_query.specs.Reading.{Inner, part_at, parts_at, basic_at, conjuncti
 use Rattle.jp_query.proofs.Lifts.{after-lifts, before-lifts, conjunction-lifts, expression-lifts, inside-lifts}
 use Rattle.jp_query.proofs.Rules.{Level, joined-back}
 use Rattle.jp_query.proofs.Sound.{Opens, none_left, some_left, opened_rule}
-use Rattle.jp_query.proofs.SoundExpressions.{current, basic_rule, basic-judged}
+use Rattle.jp_query.proofs.SoundOperands.{current}
+use Rattle.jp_query.proofs.SoundExpressions.{basic_rule, basic-judged}
 
 -- ---- parts with a mark twice between them
 

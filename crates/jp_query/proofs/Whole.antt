@@ -15,9 +15,10 @@ use Rattle.jp_query.specs.Tree.{SegmentTree, QueryTree}
 use Rattle.jp_query.specs.Grammar.{Segments, Inside, Spells}
 use Rattle.jp_query.specs.Front.{IsFront, IsFrontBefore, IsTooDeepBefore}
 use Rattle.jp_query.specs.Reading.{segments_at, inside, query_at}
-use Rattle.jp_query.proofs.Rules.{Level, segment_rule, segments_rule}
+use Rattle.jp_query.proofs.Rules.{Level}
+use Rattle.jp_query.proofs.SegmentRules.{segment_rule, segments_rule}
 use Rattle.jp_query.proofs.Sound.{segments-judged}
-use Rattle.jp_query.proofs.SoundExpressions.{query_of_parts}
+use Rattle.jp_query.proofs.SoundOperands.{query_of_parts}
 use Rattle.jp_query.proofs.SoundLevels.{level_at, inside-judged}
 
 -- ---- the end of the text
