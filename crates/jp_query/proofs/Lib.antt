@@ -1,4 +1,5 @@
 pub mod Escapes
+pub mod FilterRows
 pub mod Follows
 pub mod HexKinds
 pub mod Lifts
