@@ -10,7 +10,7 @@ use Rattle.jp_query.specs.Slices.{Bound, no_bound, bound, Step, no_step, empty_s
 use Rattle.jp_query.specs.Grammar.{joined, Member, star, member, Selector, named, any, indexed, sliced, filtered, Bracket, Segment, bracketed, dotted, deep_bracketed, deep_dotted, Segments, InnerQuery, from_root, from_current, Side, literal_side, query_side, Parenthesis, Comparison, Basic, grouped, not_grouped, compared, tested, not_tested, Conjunction, conjunction, Expression, disjunction, Inside, Spells}
 use Rattle.jp_query.specs.Items.{Use, as_index, as_slice_part, as_side, as_test, QueryItem, int, constant, inner, bound_items, selector_items, selectors_items, segment_items, segments_items, items_of, expr_items, exprs_items, operand_items, EachSpanned}
 use Rattle.jp_reading.proofs.Bare.{Bare, bare-word, bare-joined}
-use Rattle.jp_query.proofs.Rules.{comma}
+use Rattle.jp_query.proofs.SegmentRules.{comma}
 use Rattle.jp_query.proofs.NoItems.{quoted-bare, shorthand-bare, int-bare, literal-bare}
 
 -- ---- lists of items

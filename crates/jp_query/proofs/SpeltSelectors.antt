@@ -16,7 +16,7 @@ use Rattle.jp_query.specs.Ints.{Int}
 use Rattle.jp_query.specs.Slices.{Bound, no_bound, bound, Step, Sliced}
 use Rattle.jp_query.specs.Grammar.{Selector, named, any, indexed, sliced, filtered, Bracket}
 use Rattle.jp_query.specs.Reading.{Inner, selector_at, number_at, slice_at, entry_at, another_at, entries_at, bracket_at, begins_int}
-use Rattle.jp_query.proofs.Rules.{comma}
+use Rattle.jp_query.proofs.SegmentRules.{comma}
 use Rattle.jp_query.proofs.Moves.{Nested, another-progress}
 use Rattle.jp_query.proofs.Follows.{within, behind, blank-behind, blank-follow, blank-not_digit, closes, closes-not_digit, closes-not_blank, closes-not_colon}
 use Rattle.jp_query.proofs.SpeltNames.{quoted-again, mark-first}
