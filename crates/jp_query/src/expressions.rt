@@ -6,6 +6,7 @@ ghost use Rattle.jp_reading.specs.Views.{Gives, by};
 ghost use Rattle.jp_query.specs.Tree.{expr_of, operand_of, query_of};
 ghost use Rattle.jp_query.specs.Reading.{inside, expression_at, conjunction_at, basic_at, negated_at, parenthesis_at, test_at, comparison_at, side_at, inner_query_at, part_at};
 
+use crate::lists::append;
 use crate::literals::literal_item;
 use crate::operators::{is_before_operator, operator};
 use crate::segments::segments;
@@ -36,15 +37,11 @@ fn expression(reader: &mut Reader, levels: u32) -> Result<Expr, Stop>
         return Ok(first);
     }
     let mut parts = Vec::new(reader.alloc());
-    if parts.push(first).is_err() {
-        return Err(Stop::Memory);
-    }
+    append(&mut parts, first)?;
     'parts: while reader.is_before('|') {
         joint(reader, '|')?;
         let next = conjunction(reader, levels)?;
-        if parts.push(next).is_err() {
-            return Err(Stop::Memory);
-        }
+        append(&mut parts, next)?;
     }
     Ok(Expr::AnyOf(parts))
 }
@@ -60,15 +57,11 @@ fn conjunction(reader: &mut Reader, levels: u32) -> Result<Expr, Stop>
         return Ok(first);
     }
     let mut parts = Vec::new(reader.alloc());
-    if parts.push(first).is_err() {
-        return Err(Stop::Memory);
-    }
+    append(&mut parts, first)?;
     'parts: while reader.is_before('&') {
         joint(reader, '&')?;
         let next = basic(reader, levels)?;
-        if parts.push(next).is_err() {
-            return Err(Stop::Memory);
-        }
+        append(&mut parts, next)?;
     }
     Ok(Expr::AllOf(parts))
 }

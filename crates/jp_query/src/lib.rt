@@ -11,8 +11,11 @@
 #![tactic(auto)]
 
 mod expressions;
+#[cfg(test)]
+mod filter_tests;
 mod ints;
 pub mod laws;
+mod lists;
 mod literals;
 mod names;
 mod operators;

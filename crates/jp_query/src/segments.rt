@@ -6,6 +6,7 @@ ghost use Rattle.jp_reading.specs.Views.{Gives};
 ghost use Rattle.jp_query.specs.Tree.{segment, selectors, selector_of, segment_of, query_of};
 ghost use Rattle.jp_query.specs.Reading.{inside, bracket_at, member_at, segment_at, segments_at, query_at, begins_segment};
 
+use crate::lists::append;
 use crate::names::shorthand;
 use crate::selectors::entries;
 use crate::tree::{Query, Segment, Selector};
@@ -38,9 +39,7 @@ pub fn segments(reader: &mut Reader, levels: u32) -> Result<Vec<Segment>, Stop>
     'segments: while is_before_segment(reader) {
         reader.skip();
         let next = segment(reader, levels)?;
-        if segments.push(next).is_err() {
-            return Err(Stop::Memory);
-        }
+        append(&mut segments, next)?;
     }
     Ok(segments)
 }
@@ -106,7 +105,7 @@ fn alone(alloc: Global, descendant: bool, selector: Selector) -> Result<Segment,
     ensures { IfOk result (λ s. segment_of s ≡ segment descendant (selectors (selector_of selector ∷ []))) }
 {
     let mut selectors = Vec::new(alloc);
-    selectors.push(selector)?;
+    append(&mut selectors, selector)?;
     Ok(Segment {
         descendant,
         selectors,

@@ -7,6 +7,7 @@ ghost use Rattle.jp_query.specs.Reading.{inside, selector_at, entries_at, number
 
 use crate::expressions::inside;
 use crate::ints::int_item;
+use crate::lists::append;
 use crate::slices::slice;
 use crate::strings::quoted;
 use crate::tree::Selector;
@@ -22,17 +23,13 @@ pub fn entries(reader: &mut Reader, levels: u32) -> Result<Vec<Selector>, Stop>
     let mut selectors = Vec::new(reader.alloc());
     let first = selector(reader, levels)?;
     reader.skip();
-    if selectors.push(first).is_err() {
-        return Err(Stop::Memory);
-    }
+    append(&mut selectors, first)?;
     'entries: while reader.is_at(',') {
         reader.bump();
         reader.skip();
         let next = selector(reader, levels)?;
         reader.skip();
-        if selectors.push(next).is_err() {
-            return Err(Stop::Memory);
-        }
+        append(&mut selectors, next)?;
     }
     Ok(selectors)
 }

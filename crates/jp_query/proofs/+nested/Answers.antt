@@ -1,4 +1,4 @@
-use Rattle.std.proofs.Common.{◌≡◌, ◌≤◌, ◌++◌, ◌∷◌, [], true, false, not, is_ok, length, map, sym, ap, ◌∙◌, arith}
+use Rattle.std.proofs.Common.{◌≡◌, ◌≤◌, ◌++◌, ◌∷◌, [], false, length, map, sym, ap, ◌∙◌, arith}
 use Rattle.std.proofs.lemmas.List.{map-append, length-map, length-append}
 use Rattle.std.proofs.lemmas.Result.{err_from_is_err_and}
 use Rattle.jp_reading.specs.Outcome.{took, past, skip, passes, is, after_blank}
@@ -29,9 +29,8 @@ segments::segments-segments-smaller t c =
 
 pub segments::segments-segments-preserved : goal.segments::segments-segments-preserved
 segments::segments-segments-preserved t c =
-    let ok : is_ok c.push.result ≡ true = c.is_err.ensures.negation ∙ ap not c.if-is_err.false in
-    let items : c.push.new.self.items ≡ c.segments.segments.items ++ c.in_ok-next.next ∷ [] = rw ok at c.push.ensures.items in
-    let pushed : map segment_of c.push.new.self.items ≡ map segment_of c.segments.segments.items ++ segment_of c.in_ok-next.next ∷ [] =
+    let items : c.append.new.list.items ≡ c.segments.segments.items ++ c.in_ok-next.next ∷ [] = c.in_ok-append.ensures in
+    let pushed : map segment_of c.append.new.list.items ≡ map segment_of c.segments.segments.items ++ segment_of c.in_ok-next.next ∷ [] =
     ap (map segment_of) items ∙ map-append segment_of c.segments.segments.items (c.in_ok-next.next ∷ []) in
     rw pushed
     (sym (rounds.segments_on (inside c.args.levels) (inside-progress c.args.levels) c.segments.reader c.segment.new.reader
@@ -49,9 +48,8 @@ segments::segments-returns t c =
 
 pub selectors::entries-entries-init : goal.selectors::entries-entries-init
 selectors::entries-entries-init t c =
-    let ok : is_ok c.push.result ≡ true = c.is_err.ensures.negation ∙ ap not c.if-is_err.false in
-    let items : c.push.new.self.items ≡ c.new-selectors.result.items ++ c.in_ok-first.first ∷ [] = rw ok at c.push.ensures.items in
-    let one : map selector_of c.push.new.self.items ≡ selector_of c.in_ok-first.first ∷ [] =
+    let items : c.append.new.list.items ≡ c.new-selectors.result.items ++ c.in_ok-first.first ∷ [] = c.in_ok-append.ensures in
+    let one : map selector_of c.append.new.list.items ≡ selector_of c.in_ok-first.first ∷ [] =
     ap (map selector_of) (items ∙ ap (λ xs. xs ++ c.in_ok-first.first ∷ []) c.new-selectors.ensures.items) in
     rw (one, c.skip.ensures) (rounds.entries_first (inside c.args.levels) c.args.reader.now c.selector.new.reader (selector_of c.in_ok-first.first) c.in_ok-first.ensures)
 
@@ -73,9 +71,8 @@ selectors::entries-entries-smaller t c =
 
 pub selectors::entries-entries-preserved : goal.selectors::entries-entries-preserved
 selectors::entries-entries-preserved t c =
-    let ok : is_ok c.push-in-entries.result ≡ true = c.is_err-in-entries.ensures.negation ∙ ap not c.if-is_err-2.false in
-    let items : c.push-in-entries.new.self.items ≡ c.entries.selectors.items ++ c.in_ok-next.next ∷ [] = rw ok at c.push-in-entries.ensures.items in
-    let pushed : map selector_of c.push-in-entries.new.self.items ≡ map selector_of c.entries.selectors.items ++ selector_of c.in_ok-next.next ∷ [] =
+    let items : c.append-in-entries.new.list.items ≡ c.entries.selectors.items ++ c.in_ok-next.next ∷ [] = c.in_ok-append-2.ensures in
+    let pushed : map selector_of c.append-in-entries.new.list.items ≡ map selector_of c.entries.selectors.items ++ selector_of c.in_ok-next.next ∷ [] =
     ap (map selector_of) items ∙ map-append selector_of c.entries.selectors.items (c.in_ok-next.next ∷ []) in
     rw (pushed, c.skip-in-entries-2.ensures)
     (sym (rounds.another-on (inside c.args.levels) (inside-progress c.args.levels) c.entries.reader c.selector-in-entries.new.reader
@@ -123,19 +120,18 @@ expressions::conjunction-parts-smaller t c =
 
 pub expressions::conjunction-parts-preserved : goal.expressions::conjunction-parts-preserved
 expressions::conjunction-parts-preserved t c =
-    let ok : is_ok c.push-in-parts.result ≡ true = c.is_err-in-parts.ensures.negation ∙ ap not c.if-is_err-2.false in
-    let items : c.push-in-parts.new.self.items ≡ c.parts.parts.items ++ c.in_ok-next.next ∷ [] = rw ok at c.push-in-parts.ensures.items in
-    let pushed : map expr_of c.push-in-parts.new.self.items ≡ map expr_of c.parts.parts.items ++ expr_of c.in_ok-next.next ∷ [] =
+    let items : c.append-in-parts.new.list.items ≡ c.parts.parts.items ++ c.in_ok-next.next ∷ [] = c.in_ok-append-2.ensures in
+    let pushed : map expr_of c.append-in-parts.new.list.items ≡ map expr_of c.parts.parts.items ++ expr_of c.in_ok-next.next ∷ [] =
     ap (map expr_of) items ∙ map-append expr_of c.parts.parts.items (c.in_ok-next.next ∷ []) in
     let some = c.parts.invariant.some in
-    let two : 2 ≤ length c.push-in-parts.new.self.items = rw items (omega (arith, length-append c.parts.parts.items (c.in_ok-next.next ∷ []))) in
+    let two : 2 ≤ length c.append-in-parts.new.list.items = rw items (omega (arith, length-append c.parts.parts.items (c.in_ok-next.next ∷ []))) in
     record {
       total =
-        rw pushed
-        (sym (rounds.others-on 38 (basic_at (inside c.args.levels)) (basic-progress (inside c.args.levels) (inside-progress c.args.levels))
-        c.parts.reader c.joint.new.reader c.basic-in-parts.new.reader (map expr_of c.parts.parts.items) (expr_of c.in_ok-next.next) 38
-        (sym c.is_before-in-parts.ensures ∙ c.parts-test.true) c.in_ok-joint.ensures c.in_ok-next.ensures)
-        ∙ c.parts.invariant.total);
+          rw pushed
+          (sym (rounds.others-on 38 (basic_at (inside c.args.levels)) (basic-progress (inside c.args.levels) (inside-progress c.args.levels))
+          c.parts.reader c.joint.new.reader c.basic-in-parts.new.reader (map expr_of c.parts.parts.items) (expr_of c.in_ok-next.next) 38
+          (sym c.is_before-in-parts.ensures ∙ c.parts-test.true) c.in_ok-joint.ensures c.in_ok-next.ensures)
+          ∙ c.parts.invariant.total);
       some = omega arith;
       several = λ off. two;
     }
@@ -183,19 +179,18 @@ expressions::expression-parts-smaller t c =
 
 pub expressions::expression-parts-preserved : goal.expressions::expression-parts-preserved
 expressions::expression-parts-preserved t c =
-    let ok : is_ok c.push-in-parts.result ≡ true = c.is_err-in-parts.ensures.negation ∙ ap not c.if-is_err-2.false in
-    let items : c.push-in-parts.new.self.items ≡ c.parts.parts.items ++ c.in_ok-next.next ∷ [] = rw ok at c.push-in-parts.ensures.items in
-    let pushed : map expr_of c.push-in-parts.new.self.items ≡ map expr_of c.parts.parts.items ++ expr_of c.in_ok-next.next ∷ [] =
+    let items : c.append-in-parts.new.list.items ≡ c.parts.parts.items ++ c.in_ok-next.next ∷ [] = c.in_ok-append-2.ensures in
+    let pushed : map expr_of c.append-in-parts.new.list.items ≡ map expr_of c.parts.parts.items ++ expr_of c.in_ok-next.next ∷ [] =
     ap (map expr_of) items ∙ map-append expr_of c.parts.parts.items (c.in_ok-next.next ∷ []) in
     let some = c.parts.invariant.some in
-    let two : 2 ≤ length c.push-in-parts.new.self.items = rw items (omega (arith, length-append c.parts.parts.items (c.in_ok-next.next ∷ []))) in
+    let two : 2 ≤ length c.append-in-parts.new.list.items = rw items (omega (arith, length-append c.parts.parts.items (c.in_ok-next.next ∷ []))) in
     record {
       total =
-        rw pushed
-        (sym (rounds.others-on 124 (conjunction_at (inside c.args.levels)) (conjunction-progress (inside c.args.levels) (inside-progress c.args.levels))
-        c.parts.reader c.joint.new.reader c.conjunction-in-parts.new.reader (map expr_of c.parts.parts.items) (expr_of c.in_ok-next.next) 124
-        (sym c.is_before-in-parts.ensures ∙ c.parts-test.true) c.in_ok-joint.ensures c.in_ok-next.ensures)
-        ∙ c.parts.invariant.total);
+          rw pushed
+          (sym (rounds.others-on 124 (conjunction_at (inside c.args.levels)) (conjunction-progress (inside c.args.levels) (inside-progress c.args.levels))
+          c.parts.reader c.joint.new.reader c.conjunction-in-parts.new.reader (map expr_of c.parts.parts.items) (expr_of c.in_ok-next.next) 124
+          (sym c.is_before-in-parts.ensures ∙ c.parts-test.true) c.in_ok-joint.ensures c.in_ok-next.ensures)
+          ∙ c.parts.invariant.total);
       some = omega arith;
       several = λ off. two;
     }
