@@ -1,4 +1,5 @@
 pub mod Below
+pub mod Comparison
 pub mod Laws
 pub mod Selectors
 pub mod Slice

@@ -12,6 +12,7 @@
 //! its descendants, in document order.
 #![tactic(auto)]
 
+mod comparison;
 mod descent;
 pub mod laws;
 mod selector;
@@ -19,5 +20,6 @@ mod slice;
 #[cfg(test)]
 mod tests;
 
+pub use comparison::{equal, less};
 pub use descent::{Descent, descend, descend_each};
 pub use selector::select_plain;

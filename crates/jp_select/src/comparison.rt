@@ -1,0 +1,25 @@
+//! Comparisons of values and of Nothing (RFC 9535 section 2.3.5.2.2).
+ghost use Rattle.std.specs.Prelude.{◌≡◌, ◌↔◌, IsTrue};
+ghost use Rattle.jp_document.specs.Value.{value_of};
+ghost use Rattle.jp_select.specs.Comparison.{equals, is_less, side_of};
+
+use jp_document::Json;
+
+/// Whether `left == right`, where None is Nothing: Nothing equals only Nothing, and values are equal where
+/// they are the same (RFC 9535 section 2.3.5.2.2).
+pub fn equal(left: Option<&Json>, right: Option<&Json>) -> bool
+    ensures value { result ≡ equals (side_of left.entry) (side_of right.entry) }
+    ensures same { IsTrue result ↔ (side_of left.entry ≡ side_of right.entry) }
+{
+    let _ = (left, right);
+    false
+}
+
+/// Whether `left < right`, where None is Nothing: two numbers in order, or two texts in the order of their
+/// scalar values; else false (RFC 9535 section 2.3.5.2.2).
+pub fn less(left: Option<&Json>, right: Option<&Json>) -> bool
+    ensures { result ≡ is_less (side_of left.entry) (side_of right.entry) }
+{
+    let _ = (left, right);
+    false
+}
