@@ -4,4 +4,6 @@ pub mod Rows
 pub mod Selections
 pub mod SliceLaws
 pub mod Slices
+pub mod TextOrder
 pub mod Walks
+pub mod Weights

@@ -1,14 +1,8 @@
 -- Comparisons of values and of Nothing (RFC 9535 section 2.3.5.2.2). Nothing is None.
-use Rattle.std.specs.Prelude.{ℕ, Bool, true, false, ◌&&◌, ◌||◌, ◌==◌, nat_lt, int_lt, List, [], ◌∷◌, Option, Some, None, option_map, bytes_eq}
-use Rattle.std.specs.Borrow.{Bor}
+use Rattle.std.specs.Prelude.{ℕ, Bool, true, false, ◌&&◌, ◌||◌, ◌==◌, nat_lt, int_lt, List, [], ◌∷◌, Option, Some, None, bytes_eq}
 use Rattle.std.specs.Ordering.{int_eq}
 use Rattle.std.specs.Str.{chars}
-use Rattle.jp_document.specs.Value.{Value, null, boolean, whole, text, list, object, Items, no_items, item, Members, no_members, member, value_of}
-use Rattle.jp_document.specs.declared.value.Json.{Json}
-
--- the value that a side of a comparison has, or Nothing
-abbrev pub side_of : Option (Bor Json) → Option Value
-side_of o = option_map (λ j. value_of j.now) o
+use Rattle.jp_document.specs.Value.{Value, null, boolean, whole, text, list, object, Items, no_items, item, Members, no_members, member}
 
 -- ---- equal
 

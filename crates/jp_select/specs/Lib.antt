@@ -1,4 +1,5 @@
 pub mod Below
+pub mod Comparable
 pub mod Comparison
 pub mod Laws
 pub mod Selectors
