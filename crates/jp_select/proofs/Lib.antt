@@ -1,6 +1,7 @@
 pub mod Locations
 pub mod Rising
 pub mod Rows
+pub mod Sameness
 pub mod Selections
 pub mod SliceLaws
 pub mod Slices
