@@ -17,5 +17,5 @@ Comparable::equals-returns-in-Members-Members-clause-same t c =
 pub same_items-returns-then-lefts-rights : goal.same_items-returns-then-lefts-rights
 same_items-returns-then-lefts-rights t c = items_unlike c.args.lefts.now c.args.rights.now c.if-lefts-rights.true
 
-pub same_members-returns-then-lefts-rights : goal.same_members-returns-then-lefts-rights
-same_members-returns-then-lefts-rights t c = members_unlike c.args.lefts.now c.args.rights.now c.if-lefts-rights.true
+pub same_members-returns-then-members-others : goal.same_members-returns-then-members-others
+same_members-returns-then-members-others t c = members_unlike c.args.members.now c.args.others.now c.if-members-others.true
