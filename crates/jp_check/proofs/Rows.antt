@@ -1,7 +1,6 @@
 -- The definitions at work.
 use Rattle.std.proofs.Common.{◌≡◌, inl, inr, true, false, pos, negsuc, List, [], ◌∷◌, Some, refl, arith}
-use Rattle.jp_reading.specs.Texts.{Spans}
-use Rattle.jp_query.specs.Items.{QueryItem, int, constant, inner, as_index, as_side, as_test, items_of}
+use Rattle.jp_query.specs.Items.{int, constant, inner, as_index, as_side, as_test, items_of}
 use Rattle.jp_query.specs.declared.refusal.RefusalKind.TheVariants.{NotWhole, NumberRange, IndexRange, NotSingular}
 use Rattle.jp_query.specs.declared.tree.Numeral.TheVariants.{Whole, Beyond, Fraction}
 use Rattle.jp_query.specs.declared.tree.Op.TheVariants.{Equal}

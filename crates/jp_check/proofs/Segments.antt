@@ -1,7 +1,7 @@
 -- Singular segments.
 use Rattle.std.proofs.Common.{◌≡◌, ◌≤◌, Bool, true, false, List, [], ◌∷◌, length, map, refl, arith, sym, ap, ◌∙◌}
 use Rattle.jp_query.specs.Singular.{is_single_segment}
-use Rattle.jp_query.specs.Tree.{SelectorTree, segment, segment_of, selector_of, selectors}
+use Rattle.jp_query.specs.Tree.{segment, segment_of, selector_of, selectors}
 use Rattle.jp_query.specs.declared.tree.Segment.{Segment, out-Segment}
 use Rattle.jp_query.specs.declared.tree.Selector.{Selector}
 use Rattle.jp_check.proofs.Trees.{segment_of-is}

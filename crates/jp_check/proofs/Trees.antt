@@ -1,6 +1,6 @@
 -- The trees of some values of the program.
 use Rattle.std.proofs.Common.{◌≡◌, map, rules}
-use Rattle.jp_query.specs.declared.tree.Expr.{Expr, the_lemmas}
+use Rattle.jp_query.specs.declared.tree.Expr.{the_lemmas}
 use Rattle.jp_query.specs.declared.tree.Expr.TheVariants.{Compare}
 use Rattle.jp_query.specs.declared.tree.Op.{Op}
 use Rattle.jp_query.specs.declared.tree.Operand.{Operand}

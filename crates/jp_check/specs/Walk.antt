@@ -4,7 +4,7 @@ use Rattle.jp_reading.specs.Texts.{Spans}
 use Rattle.jp_query.specs.declared.refusal.Refusal.{Refusal}
 use Rattle.jp_query.specs.declared.refusal.RefusalKind.{RefusalKind}
 use Rattle.jp_query.specs.declared.refusal.RefusalKind.TheVariants.{NotWhole, NumberRange, IndexRange, NotSingular}
-use Rattle.jp_query.specs.Items.{QueryItem, int, constant, inner, Use, as_side}
+use Rattle.jp_query.specs.Items.{QueryItem, int, constant, inner, as_side}
 use Rattle.jp_query.specs.Refusal.{number_of}
 use Rattle.jp_query.specs.Singular.{is_singular}
 use Rattle.jp_query.specs.Tree.{LiteralTree, number, QueryTree}
