@@ -4,10 +4,12 @@ pub mod HexDigits
 pub mod Ints
 pub mod Items
 pub mod Laws
+pub mod Literals
 pub mod Names
 pub mod Parsed
 pub mod Reading
 pub mod Refusal
+pub mod Singular
 pub mod Slices
 pub mod Spelled
 pub mod Stops

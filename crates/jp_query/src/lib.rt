@@ -10,9 +10,15 @@
 //! `specs/Grammar.antt`, with its tree and the spans of its items; and no text spells two.
 #![tactic(auto)]
 
+mod expressions;
+#[cfg(test)]
+mod filter_tests;
 mod ints;
 pub mod laws;
+mod lists;
+mod literals;
 mod names;
+mod operators;
 mod parsed;
 mod refusal;
 mod segments;
@@ -26,4 +32,4 @@ mod tree;
 pub use jp_reading::Span;
 pub use parsed::{Parsed, parse};
 pub use refusal::{Refusal, RefusalKind};
-pub use tree::{Numeral, Query, Segment, Selector, Slice};
+pub use tree::{Expr, Literal, Numeral, Op, Operand, Query, Segment, Selector, Slice, Subject};

@@ -1,6 +1,7 @@
 //! A query's tree (RFC 9535 sections 2.1 to 2.5).
 
 /// A query: an identifier and segments (RFC 9535 section 2.1).
+#[cycle(tree)]
 #[derive(Debug, PartialEq, Eq, Drop)]
 pub struct Query {
     /// Whether the identifier is `$`, the root, and not `@`, the current node.
@@ -9,6 +10,7 @@ pub struct Query {
 }
 
 /// A child segment, or a descendant segment (RFC 9535 section 2.5).
+#[cycle(tree)]
 #[derive(Debug, PartialEq, Eq, Drop)]
 pub struct Segment {
     pub descendant: bool,
@@ -16,6 +18,7 @@ pub struct Segment {
 }
 
 /// A selector (RFC 9535 section 2.3).
+#[cycle(tree)]
 #[derive(Debug, PartialEq, Eq, Drop)]
 pub enum Selector {
     /// The member of that name (section 2.3.1).
@@ -26,6 +29,8 @@ pub enum Selector {
     Index(Numeral),
     /// Items from a start up to an end, step by step (section 2.3.4).
     Slice(Slice),
+    /// The children for which the expression is true (section 2.3.5).
+    Filter(Expr),
 }
 
 /// The bounds and the step of a slice (RFC 9535 section 2.3.4). An omitted step is 1.
@@ -45,4 +50,62 @@ pub enum Numeral {
     Beyond,
     /// A number with a fraction or an exponent.
     Fraction,
+}
+
+/// A logical expression of a filter (RFC 9535 section 2.3.5.1).
+#[cycle(tree)]
+#[derive(Debug, PartialEq, Eq, Drop)]
+pub enum Expr {
+    /// `||`: two parts or more, of which one is true.
+    AnyOf(Vec<Expr>),
+    /// `&&`: two parts or more, which all are true.
+    AllOf(Vec<Expr>),
+    /// `!`: its part is not true.
+    Not(Box<Expr>),
+    /// Two sides and the operator between them.
+    Compare {
+        left: Operand,
+        op: Op,
+        right: Operand,
+    },
+    /// A test expression.
+    Test(Subject),
+}
+
+/// What a test expression asks for (RFC 9535 section 2.3.5.1).
+#[cycle(tree)]
+#[derive(Debug, PartialEq, Eq, Drop)]
+pub enum Subject {
+    /// Whether the query selects a node.
+    Query(Query),
+}
+
+/// A side of a comparison (RFC 9535 section 2.3.5.1, comparable).
+#[cycle(tree)]
+#[derive(Debug, PartialEq, Eq, Drop)]
+pub enum Operand {
+    Literal(Literal),
+    /// The value of the node that a singular query selects, or Nothing.
+    Query(Query),
+}
+
+/// A literal (RFC 9535 section 2.3.5.1).
+#[derive(Debug, PartialEq, Eq, Drop)]
+pub enum Literal {
+    Number(Numeral),
+    Text(String),
+    True,
+    False,
+    Null,
+}
+
+/// A comparison operator (RFC 9535 section 2.3.5.1, comparison-op).
+#[derive(Debug, Clone, Copy, PartialEq, Eq)]
+pub enum Op {
+    Equal,
+    Unequal,
+    Less,
+    LessEqual,
+    Greater,
+    GreaterEqual,
 }
