@@ -1,4 +1,6 @@
 pub mod Below
+pub mod Comparable
+pub mod Comparison
 pub mod Laws
 pub mod Selectors
 pub mod Slice

@@ -12,6 +12,8 @@
 //! its descendants, in document order.
 #![tactic(auto)]
 
+mod comparable;
+mod comparison;
 mod descent;
 pub mod laws;
 mod selector;
@@ -19,5 +21,7 @@ mod slice;
 #[cfg(test)]
 mod tests;
 
+pub use comparable::Comparable;
+pub use comparison::{equal, less};
 pub use descent::{Descent, descend, descend_each};
 pub use selector::select_plain;
