@@ -1,3 +1,4 @@
+pub mod EqualValues
 pub mod Locations
 pub mod Rising
 pub mod Rows

@@ -1,10 +1,8 @@
 -- `equals` answers true exactly where both sides are the same.
-use Rattle.std.proofs.Common.{◌≡◌, ℕ, suc, ◌+◌, ◌<◌, ◌≢◌, ◌↔◌, ◌&&◌, Bool, true, false, IsTrue, List, [], ◌∷◌, length, map, Option, Some, None, string_bytes, refl, subst, sym, ap, ap₂, ◌∙◌, arith}
+use Rattle.std.proofs.Common.{◌≡◌, ℕ, suc, ◌≢◌, ◌↔◌, ◌&&◌, Bool, true, false, IsTrue, List, [], ◌∷◌, length, map, Option, Some, None, refl, sym, ap, ap₂, ◌∙◌}
 use Rattle.std.proofs.lemmas.Bool.{and_parts, and_from, and_right}
 use Rattle.std.proofs.lemmas.Bool.Decides.{Decides-int_eq}
-use Rattle.std.proofs.lemmas.Option.{same_Some}
 use Rattle.std.proofs.lemmas.Slice.Eq.{bytes_eq-Decides}
-use Rattle.std.specs.Ordering.{int_eq}
 use Rattle.std.specs.Str.{bytes_eq}
 use Rattle.jp_document.specs.Value.{Value, null, boolean, whole, text, list, object, Items, no_items, item, Members, no_members, member, items_of, members_of, value_of, member_of}
 use Rattle.jp_document.specs.declared.value.Json.{Json}
@@ -65,11 +63,11 @@ mutual
 
 -- ---- with Nothing beside the values
 
-equals_itself : (o : Option Value) → equals o o ≡ true
+pub equals_itself : (o : Option Value) → equals o o ≡ true
 equals_itself None = refl
 equals_itself (Some v) = same_itself v
 
-equals_is : (o p : Option Value) → equals o p ≡ true → o ≡ p
+pub equals_is : (o p : Option Value) → equals o p ≡ true → o ≡ p
 equals_is None None h = refl
 equals_is (Some v) (Some w) h = ap Some (same_is v w h)
 equals_is _ _ h = absurd (cc)

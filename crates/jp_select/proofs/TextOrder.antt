@@ -1,14 +1,14 @@
 -- The order of UTF-8 texts by their bytes is that of their scalar values (RFC 3629 section 1).
-use Rattle.std.proofs.Common.{◌≡◌, ℕ, ◌+◌, ◌/◌, ◌%◌, ◌<◌, ◌≤◌, nat_lt, ◌==◌, ◌⊎◌, inl, inr, List, [], ◌∷◌, ◌++◌, Ordering, Less, Equal, Greater, true, false, refl, sym, subst, ap, ap₂, ◌∙◌, arith}
+use Rattle.std.proofs.Common.{◌≡◌, ℕ, ◌+◌, ◌/◌, ◌%◌, ◌<◌, ◌≤◌, ◌⊎◌, inl, inr, List, [], ◌∷◌, ◌++◌, Ordering, Less, Equal, true, false, refl, sym, subst, ap, ap₂, ◌∙◌, arith}
 use Rattle.std.proofs.lemmas.Bool.{cases_lt}
 use Rattle.std.proofs.lemmas.Bool.Decides.{nat_tests}
-use Rattle.std.proofs.lemmas.Cmp.{nat_list_cmp_total, tied_itself, nat_cmp_total}
+use Rattle.std.proofs.lemmas.Cmp.{nat_list_cmp_total}
 use Rattle.std.proofs.lemmas.Str.{encodes-chars}
 use Rattle.std.proofs.Math.Utf8.{encode}
 use Rattle.std.specs.Char.{encode_utf8}
 use Rattle.std.specs.Cmp.{nat_cmp_is}
 use Rattle.std.specs.Cmp.Lexicographic.{slice_cmp}
-use Rattle.std.specs.Ordering.{MatchOrdering, is_lt, nat_cmp, ordering_reverse, ordering_then}
+use Rattle.std.specs.Ordering.{is_lt, nat_cmp, ordering_reverse, ordering_then}
 use Rattle.std.specs.Str.{IsUtf8, chars, encode_utf8_all}
 use Rattle.jp_select.specs.Comparison.{is_below}
 
@@ -33,7 +33,7 @@ abbrev last_byte : ℕ → ℕ
 last_byte c = 128 + c % 64
 
 by_bits : (c d : ℕ) → c < d → (c / 64 < d / 64) ⊎ ((c / 64 ≡ d / 64) × (last_byte c < last_byte d))
-by_bits c d less = elim (cases_lt (c / 64) (d / 64)) [ | inl h ↦ inl h | inr h ↦ inr (omega arith, omega arith) ]
+by_bits c d less = elim (cases_lt (c / 64) (d / 64)) [ inl h ↦ inl h | inr h ↦ inr (omega arith, omega arith) ]
 
 two_lower : (k c d : ℕ) (x y : List ℕ) → c < d → bytes_cmp ((k + c / 64) ∷ last_byte c ∷ x) ((k + d / 64) ∷ last_byte d ∷ y) ≡ Less
 two_lower k c d x y less =
@@ -48,9 +48,9 @@ three_lower k c d x y less =
     elim (by_bits c d less) [
       | inl h ↦ two_lower k (c / 64) (d / 64) (last_byte c ∷ x) (last_byte d ∷ y) h
       | inr h ↦
-        same_first (k + c / 64 / 64) (k + d / 64 / 64) (last_byte (c / 64) ∷ last_byte c ∷ x) (last_byte (d / 64) ∷ last_byte d ∷ y) (ap (λ q. k + q / 64) h.0)
-        ∙ same_first (last_byte (c / 64)) (last_byte (d / 64)) (last_byte c ∷ x) (last_byte d ∷ y) (ap last_byte h.0)
-        ∙ lower_first (last_byte c) (last_byte d) x y h.1
+          same_first (k + c / 64 / 64) (k + d / 64 / 64) (last_byte (c / 64) ∷ last_byte c ∷ x) (last_byte (d / 64) ∷ last_byte d ∷ y) (ap (λ q. k + q / 64) h.0)
+          ∙ same_first (last_byte (c / 64)) (last_byte (d / 64)) (last_byte c ∷ x) (last_byte d ∷ y) (ap last_byte h.0)
+          ∙ lower_first (last_byte c) (last_byte d) x y h.1
     ]
 
 four_lower : (k c d : ℕ) (x y : List ℕ) → c < d
@@ -59,11 +59,11 @@ four_lower k c d x y less =
     elim (by_bits c d less) [
       | inl h ↦ three_lower k (c / 64) (d / 64) (last_byte c ∷ x) (last_byte d ∷ y) h
       | inr h ↦
-        same_first (k + c / 64 / 64 / 64) (k + d / 64 / 64 / 64) (last_byte (c / 64 / 64) ∷ last_byte (c / 64) ∷ last_byte c ∷ x) (last_byte (d / 64 / 64) ∷ last_byte (d / 64) ∷ last_byte d ∷ y)
-        (ap (λ q. k + q / 64 / 64) h.0)
-        ∙ same_first (last_byte (c / 64 / 64)) (last_byte (d / 64 / 64)) (last_byte (c / 64) ∷ last_byte c ∷ x) (last_byte (d / 64) ∷ last_byte d ∷ y) (ap (λ q. last_byte (q / 64)) h.0)
-        ∙ same_first (last_byte (c / 64)) (last_byte (d / 64)) (last_byte c ∷ x) (last_byte d ∷ y) (ap last_byte h.0)
-        ∙ lower_first (last_byte c) (last_byte d) x y h.1
+          same_first (k + c / 64 / 64 / 64) (k + d / 64 / 64 / 64) (last_byte (c / 64 / 64) ∷ last_byte (c / 64) ∷ last_byte c ∷ x) (last_byte (d / 64 / 64) ∷ last_byte (d / 64) ∷ last_byte d ∷ y)
+          (ap (λ q. k + q / 64 / 64) h.0)
+          ∙ same_first (last_byte (c / 64 / 64)) (last_byte (d / 64 / 64)) (last_byte (c / 64) ∷ last_byte c ∷ x) (last_byte (d / 64) ∷ last_byte d ∷ y) (ap (λ q. last_byte (q / 64)) h.0)
+          ∙ same_first (last_byte (c / 64)) (last_byte (d / 64)) (last_byte c ∷ x) (last_byte d ∷ y) (ap last_byte h.0)
+          ∙ lower_first (last_byte c) (last_byte d) x y h.1
     ]
 
 -- ---- characters
@@ -150,8 +150,8 @@ encoded (c ∷ cs) (d ∷ ds) =
       | inr up ↦ elim (cases_lt d c) [
         | inl more ↦ ap is_lt (turned (encode_utf8 c ++ x) (encode_utf8 d ++ y) ∙ ap ordering_reverse (lower_character d c y x more)) ∙ sym (is_below-higher c d cs ds more)
         | inr down ↦
-          let same : c ≡ d = omega arith in
-          ap (λ e. is_lt (bytes_cmp (encode_utf8 c ++ x) (encode_utf8 e ++ y))) (sym same) ∙ ap is_lt (same_front (encode_utf8 c) x y) ∙ encoded cs ds ∙ sym (is_below-same c d cs ds same)
+            let same : c ≡ d = omega arith in
+            ap (λ e. is_lt (bytes_cmp (encode_utf8 c ++ x) (encode_utf8 e ++ y))) (sym same) ∙ ap is_lt (same_front (encode_utf8 c) x y) ∙ encoded cs ds ∙ sym (is_below-same c d cs ds same)
       ]
     ]
 

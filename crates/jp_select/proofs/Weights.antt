@@ -1,8 +1,6 @@
 -- How many values there are in one: what falls from a value to those in it.
-use Rattle.std.proofs.Common.{◌≡◌, ℕ, suc, ◌+◌, ◌<◌, ◌≤◌, List, [], ◌∷◌, Option, Some, None, map, sym, ap, subst, ◌∙◌, arith}
-use Rattle.jp_document.specs.Value.{Value, null, boolean, whole, text, list, object, Items, no_items, item, Members, no_members, member, items_of, members_of, value_of, member_of}
-use Rattle.jp_document.specs.declared.value.Member.{Member}
-use Rattle.jp_document.proofs.Values.{member_of_is}
+use Rattle.std.proofs.Common.{ℕ, suc, ◌+◌, Option, Some, None}
+use Rattle.jp_document.specs.Value.{Value, list, object, Items, no_items, item, Members, no_members, member}
 
 abbrev mutual
   pub weight : Value → ℕ

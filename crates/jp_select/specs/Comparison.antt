@@ -1,8 +1,10 @@
 -- Comparisons of values and of Nothing (RFC 9535 section 2.3.5.2.2). Nothing is None.
-use Rattle.std.specs.Prelude.{ℕ, Bool, true, false, ◌&&◌, ◌||◌, ◌==◌, nat_lt, int_lt, List, [], ◌∷◌, Option, Some, None, bytes_eq}
+use Rattle.std.specs.Prelude.{ℕ, Bool, true, false, not, ◌&&◌, ◌||◌, ◌==◌, nat_lt, int_lt, List, [], ◌∷◌, Option, Some, None, bytes_eq}
 use Rattle.std.specs.Ordering.{int_eq}
 use Rattle.std.specs.Str.{chars}
 use Rattle.jp_document.specs.Value.{Value, null, boolean, whole, text, list, object, Items, no_items, item, Members, no_members, member}
+use Rattle.jp_query.specs.declared.tree.Op.{Op}
+use Rattle.jp_query.specs.declared.tree.Op.TheVariants.{Equal, Unequal, Less, LessEqual, Greater, GreaterEqual}
 
 -- ---- equal
 
@@ -53,3 +55,18 @@ value_less _ _ = false
 abbrev pub is_less : Option Value → Option Value → Bool
 is_less (Some v) (Some w) = value_less v w
 is_less _ _ = false
+
+-- ---- the operators
+
+-- `<=`: less or equal
+abbrev pub at_most : Option Value → Option Value → Bool
+at_most a b = is_less a b || equals a b
+
+-- `a != b` is true where `a == b` is not; `a > b` is `b < a`; `a >= b` is `b <= a`
+abbrev pub compared : Op → Option Value → Option Value → Bool
+compared Equal a b = equals a b
+compared Unequal a b = not (equals a b)
+compared Less a b = is_less a b
+compared LessEqual a b = at_most a b
+compared Greater a b = is_less b a
+compared GreaterEqual a b = at_most b a

@@ -96,7 +96,9 @@ fn same_members(lefts: &[Member], rights: &[Member]) -> bool
         return false;
     }
     for (left, right) in lefts.iter().zip(rights) {
-        if left.name.as_str() != right.name.as_str() || !Comparable::of(Some(&left.value)).equals(Comparable::of(Some(&right.value))) {
+        if left.name.as_str() != right.name.as_str()
+            || !Comparable::of(Some(&left.value)).equals(Comparable::of(Some(&right.value)))
+        {
             return false;
         }
     }

@@ -22,6 +22,6 @@ mod slice;
 mod tests;
 
 pub use comparable::Comparable;
-pub use comparison::{equal, less};
+pub use comparison::{compare, equal, less};
 pub use descent::{Descent, descend, descend_each};
 pub use selector::select_plain;

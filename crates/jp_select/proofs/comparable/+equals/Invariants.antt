@@ -23,7 +23,7 @@ invariant-same_items-loop-left l =
     record {
       same : same_items (items_of (map value_of l.lefts)) (items_of (map value_of l.rights)) ≡ same_items (items_of (map value_of xs)) (items_of (map value_of ys));
       long : length xs ≡ length ys;
-      within : weight_items (items_of (map value_of xs)) ≤ weight_items (items_of (map value_of l.lefts))
+      within : weight_items (items_of (map value_of xs)) ≤ weight_items (items_of (map value_of l.lefts));
     }
 
 abbrev pub invariant-same_members-loop-left : goal.invariant-same_members-loop-left
@@ -33,5 +33,5 @@ invariant-same_members-loop-left l =
     record {
       same : same_members (members_of (map member_of l.lefts)) (members_of (map member_of l.rights)) ≡ same_members (members_of (map member_of xs)) (members_of (map member_of ys));
       long : length xs ≡ length ys;
-      within : weight_members (members_of (map member_of xs)) ≤ weight_members (members_of (map member_of l.lefts))
+      within : weight_members (members_of (map member_of xs)) ≤ weight_members (members_of (map member_of l.lefts));
     }
