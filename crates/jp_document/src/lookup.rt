@@ -9,10 +9,11 @@ use crate::location::Step;
 use crate::value::{Json, Member};
 use std::cmp::Ordering;
 
-/// The value one step inside, None where there is none.
-pub(crate) fn child_value<'d>(json: &'d Json, step: Step) -> Option<&'d Json>
-    requires { IsDocumentValue (value_of json.now) }
-    ensures { option_map (λ j. value_of j.now) result
+/// The value one step inside, None where there is none: the member of that name of an object (RFC 9535
+/// section 2.3.1), the item at that index of a list (section 2.3.3). The names of the object's members have to
+/// rise, as those of every document do; of other objects nothing is said.
+pub fn child_value<'d>(json: &'d Json, step: Step) -> Option<&'d Json>
+    ensures { IsDocumentValue (value_of json.now) → option_map (λ j. value_of j.now) result
         ≡ child (value_of json.now) (key_of step.entry) }
 {
     match step {
@@ -23,8 +24,7 @@ pub(crate) fn child_value<'d>(json: &'d Json, step: Step) -> Option<&'d Json>
 
 /// The member of this name, None where there is none, in steps logarithmic in the members.
 pub(crate) fn member_named<'d>(json: &'d Json, name: &str) -> Option<&'d Member>
-    requires { IsDocumentValue (value_of json.now) }
-    ensures { option_map (λ m. member_of m.now) result
+    ensures { IsDocumentValue (value_of json.now) → option_map (λ m. member_of m.now) result
         ≡ option_map (λ v. (name.now, v)) (child (value_of json.now) (named name.now)) }
 {
     let members = members(json);

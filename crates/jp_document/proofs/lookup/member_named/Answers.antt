@@ -5,22 +5,22 @@ use Rattle.jp_document.proofs.Names.{bytes_cmp, found_pair, child_at_name, sorte
 use Rattle.jp_document.proofs.lookup.member_named.Goals as goal
 
 pub returns-in-Ok : goal.returns-in-Ok
-returns-in-Ok c =
+returns-in-Ok c = λ document.
     let ms = c.members-members.result.now in
     let q = c.args.name.now in
     let i = c.in-Ok.place in
     let m = c.index-members-place.result in
-    let sorted = sorted_members (map member_of ms) (c.members-members.ensures.rise c.requires) in
+    let sorted = sorted_members (map member_of ms) (c.members-members.ensures.rise document) in
     let hit = c.in-Ok.ensures.position (λ m. bytes_cmp (member_of m).0 q) (always_returns_same _ _ _ (λ a r f k. search rules)) in
     let both = searched_name member_of q ms (Ok i) sorted hit m c.in-Ok.ensures.bound in
     let here = child_at_name (value_of c.args.json.now) q (map member_of ms) _ (c.members-members.ensures.found q) both.1 in
     found_pair member_of q m (get_or ms i m) _ c.index-members-place.is both.0 here
 
 pub returns-in-Err : goal.returns-in-Err
-returns-in-Err c =
+returns-in-Err c = λ document.
     let ms = c.members-members.result.now in
     let q = c.args.name.now in
-    let sorted = sorted_members (map member_of ms) (c.members-members.ensures.rise c.requires) in
+    let sorted = sorted_members (map member_of ms) (c.members-members.ensures.rise document) in
     let miss = c.in-Err.ensures.position (λ m. bytes_cmp (member_of m).0 q) (always_returns_same _ _ _ (λ a r f k. search rules)) in
     let none = searched_name member_of q ms (Err c.in-Err.field-0) sorted miss in
     let here = child_at_name (value_of c.args.json.now) q (map member_of ms) None (c.members-members.ensures.found q) none in
