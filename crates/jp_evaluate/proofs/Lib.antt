@@ -6,3 +6,6 @@ pub mod SpelledNames
 pub mod PathSpells
 pub mod PathBytes
 pub mod LocationLaws
+pub mod Trees
+pub mod Leads
+pub mod Singular

@@ -12,7 +12,9 @@
 #![tactic(auto)]
 
 mod evaluation;
+mod filter;
 pub mod laws;
+mod operand;
 mod segment;
 #[cfg(test)]
 mod tests;
