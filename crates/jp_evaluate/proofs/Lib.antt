@@ -8,4 +8,9 @@ pub mod PathBytes
 pub mod LocationLaws
 pub mod Trees
 pub mod Leads
-pub mod Singular
+pub mod Along
+pub mod Sizes
+pub mod Children
+pub mod Starts
+pub mod Selections
+pub mod Kept

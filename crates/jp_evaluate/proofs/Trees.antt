@@ -1,5 +1,5 @@
 -- The trees of the program's values, one layer at a time.
-use Rattle.std.proofs.Common.{◌≡◌, map, Box, Global, String, Vec, string_bytes, rules}
+use Rattle.std.proofs.Common.{◌≡◌, map, refl, Box, Global, String, Vec, string_bytes, rules}
 use Rattle.std.specs.Str.{chars}
 use Rattle.jp_query.specs.declared.tree.Expr.{Expr, the_lemmas}
 use Rattle.jp_query.specs.declared.tree.Expr.TheVariants.{AllOf, AnyOf, Compare, Not, Test}
@@ -11,6 +11,7 @@ use Rattle.jp_query.specs.declared.tree.Query.{Query, out-Query}
 use Rattle.jp_query.specs.declared.tree.Segment.{Segment, out-Segment}
 use Rattle.jp_query.specs.declared.tree.Selector.{Selector}
 use Rattle.jp_query.specs.declared.tree.Selector.TheVariants as one
+use Rattle.jp_query.specs.declared.tree.Subject.{Subject}
 use Rattle.jp_query.specs.declared.tree.Subject.TheVariants as subject
 use Rattle.jp_query.specs.declared.tree.Numeral.{Numeral}
 use Rattle.jp_query.specs.declared.tree.Slice.{Slice}
@@ -57,3 +58,7 @@ selector_of-Slice s = search (rules, the_lemmas)
 
 pub selector_of-Filter : (e : Expr) → selector_of (one.Filter e) ≡ filter (expr_of e)
 selector_of-Filter e = search (rules, the_lemmas)
+
+-- a subject is a query
+pub subject_query : (s : Subject) → (q : Query) × (s ≡ subject.Query q)
+subject_query (subject.Query q) = (q, refl)

@@ -10,10 +10,11 @@ ghost use Rattle.jp_select.specs.Selectors.{item_step, one_step};
 ghost use Rattle.jp_evaluate.specs.Nodelist.{all_hold, any_holds, holds, selected, selection};
 ghost use Rattle.jp_evaluate.specs.Search.{leads, Wherever};
 
-use crate::operand::{operand_value, start};
+use crate::operand::operand_value;
+use crate::singular::{item_selected, start};
 use jp_document::{Json, Step, child_value, nth_value};
-use jp_query::{Expr, Numeral, Segment, Selector, Subject};
-use jp_select::{compare, item_of, slice_items};
+use jp_query::{Expr, Segment, Selector, Subject};
+use jp_select::{compare, slice_items};
 use std::alloc::{AllocError, Global};
 
 /// Whether an expression is true of a current value, `@`, in a document whose root is `$`.
@@ -36,9 +37,14 @@ pub(crate) fn holds(
             operand_value(left, root, current),
             operand_value(right, root, current),
         )),
-        Expr::Test(Subject::Query(query)) => {
-            leads(alloc, &query.segments, root, start(query, root, current))
-        }
+        Expr::Test(subject) => match subject {
+            Subject::Query(query) => leads(
+                alloc,
+                &query.segments,
+                root,
+                start(query, root, current),
+            ),
+        },
     }
 }
 
@@ -149,11 +155,10 @@ fn leads_through(
     match selector {
         Selector::Name(name) => { leads_from(alloc, Step::Name(name.as_str()), rest, root, value) }
         Selector::Wildcard => any_child(alloc, rest, root, value),
-        Selector::Index(Numeral::Whole(index)) => match item_of(value, *index) {
+        Selector::Index(index) => match item_selected(value, *index) {
             Some(item) => leads_from(alloc, Step::Index(item), rest, root, value),
             None => Ok(false),
         },
-        Selector::Index(_) => Ok(false),
         Selector::Slice(slice) => {
             any_item(
                 alloc,

@@ -16,6 +16,7 @@ mod filter;
 pub mod laws;
 mod operand;
 mod segment;
+mod singular;
 #[cfg(test)]
 mod tests;
 

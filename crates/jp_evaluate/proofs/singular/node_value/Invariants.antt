@@ -4,8 +4,8 @@ use Rattle.jp_query.specs.Singular.{is_singular}
 use Rattle.jp_query.specs.Tree.{query_of}
 use Rattle.jp_evaluate.specs.Nodelist.{nodelist_at, value_of_node}
 use Rattle.jp_evaluate.specs.Search.{Wherever}
-use Rattle.jp_evaluate.proofs.Singular.{of_segments, values_along}
-use Rattle.jp_evaluate.proofs.operand.node_value.Given as goal
+use Rattle.jp_evaluate.proofs.Along.{of_segments, values_along}
+use Rattle.jp_evaluate.proofs.singular.node_value.Given as goal
 
 -- the segments to come lead from here where all segments lead from the start
 abbrev pub invariant-loop-segment : goal.invariant-loop-segment

@@ -1,9 +1,9 @@
 use Rattle.std.proofs.Common.{◌≡◌, ◌≢◌, ◌∙◌, ap, length, sym, arith}
 use Rattle.std.specs.List.{slice_get}
 use Rattle.jp_document.specs.Value.{value_of}
-use Rattle.jp_evaluate.proofs.Singular.{not_child, not_single, single}
-use Rattle.jp_evaluate.proofs.operand.single_value.Goals as goal
-use Rattle.jp_evaluate.proofs.operand.single_value.Goals.{then-segment-via-then-segment, then-segment-via-else-segment+then-len-ne1}
+use Rattle.jp_evaluate.proofs.Along.{not_child, not_single, single}
+use Rattle.jp_evaluate.proofs.singular.single_value.Goals as goal
+use Rattle.jp_evaluate.proofs.singular.single_value.Goals.{then-segment-via-then-segment, then-segment-via-else-segment+then-len-ne1}
 
 pub returns-then-segment : goal.returns-then-segment
 returns-then-segment c = λ document.

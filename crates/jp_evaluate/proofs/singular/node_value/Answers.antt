@@ -5,12 +5,14 @@ use Rattle.jp_query.specs.Tree.{segment_of}
 use Rattle.jp_select.specs.Comparable.{side_of}
 use Rattle.jp_evaluate.specs.Nodelist.{start_of}
 use Rattle.jp_evaluate.specs.Search.{single_value}
-use Rattle.jp_evaluate.proofs.Singular.{along-next, along-query, of_segments, inside, single_inside, values_along}
-use Rattle.jp_evaluate.proofs.operand.node_value.Goals as goal
+use Rattle.jp_evaluate.proofs.Along.{along-next, along-query, of_segments, inside, single_inside, values_along}
+use Rattle.jp_evaluate.proofs.Starts.{start_stands}
+use Rattle.jp_evaluate.proofs.singular.node_value.Goals as goal
 
 pub loop-segment-init : goal.loop-segment-init
 loop-segment-init c = λ l at.
-    let start = c.start-value.ensures l at in (
+    let start =
+    start_stands (out-Query c.args.query.now).absolute c.args.root.now c.args.current.now c.start-value.result.now l c.start-value.ensures at in (
       inside (value_of c.args.root.now) (value_of c.start-value.result.now) (start_of (out-Query c.args.query.now).absolute l) start,
       ap (λ xs. values_along (of_segments xs) (value_of c.start-value.result.now)) c.deref-segment-items.ensures.value
           ∙ along-query c.args.query.now (value_of c.args.root.now) (value_of c.start-value.result.now) l start,

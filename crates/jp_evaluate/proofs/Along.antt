@@ -16,9 +16,9 @@ use Rattle.jp_query.specs.declared.tree.Selector.{Selector}
 use Rattle.jp_query.specs.declared.tree.Selector.TheVariants.{Name}
 use Rattle.jp_query.specs.Tree.{SegmentTree, SegmentTrees, SelectorTree, filter, index, name, no_segments, no_selectors, query_of, segment, segment_of, segment_then, segments, selector_of, selector_then, selectors, slice, wildcard}
 use Rattle.jp_select.proofs.Locations.{IsDocumentValue-at}
-use Rattle.jp_select.specs.Selectors.{item_at, item_step, list_length, one_step}
+use Rattle.jp_select.specs.Selectors.{item_step, one_step}
 use Rattle.jp_evaluate.specs.Nodelist.{nodelist_at, result, start_of, value_of_node}
-use Rattle.jp_evaluate.specs.Search.{StandsAt, chosen_value, single_value}
+use Rattle.jp_evaluate.specs.Search.{StandsAt, chosen_value, item_selected, single_value}
 use Rattle.jp_evaluate.proofs.Leads.{result-none}
 use Rattle.jp_evaluate.proofs.Trees.{query_of-is, segment_of-is, selector_of-Name}
 
@@ -105,8 +105,7 @@ along_one : (x : SelectorTree) (rest : SegmentTrees) (d v : Value) (l : Location
 along_one (name cs) rest d v l at each =
     let k = named (encode_utf8_all cs) in
     along_step rest d l k (child v k) at.document (value_at-step d v l k at.there) (each k)
-along_one (index (Whole i)) rest d v l at each =
-    rw at.there (along_item rest d v l (option_and_then (λ n. item_at n i) (list_length v)) at each)
+along_one (index (Whole i)) rest d v l at each = rw at.there (along_item rest d v l (item_selected (Whole i) v) at each)
 along_one (index Beyond) rest d v l at each = nowhere rest d
 along_one (index Fraction) rest d v l at each = nowhere rest d
 along_one wildcard rest d v l at each = refl
@@ -126,13 +125,11 @@ along (segment_then (segment false (selector_then x (selector_then y more))) res
 
 chosen_inside : (x : SelectorTree) (v w : Value) → IsDocumentValue v → chosen_value x v ≡ Some w → IsDocumentValue w
 chosen_inside (name cs) v w document is = IsDocumentValue-child v w (named (encode_utf8_all cs)) document is
-chosen_inside (index (Whole i)) v w document is = item_inside (option_and_then (λ n. item_at n i) (list_length v)) is
+chosen_inside (index i) v w document is = item_inside (item_selected i v) is
   where
-    item_inside : (item : Option ℕ) → option_and_then (λ i. child v (nth i)) item ≡ Some w → IsDocumentValue w
+    item_inside : (item : Option ℕ) → option_and_then (λ k. child v (nth k)) item ≡ Some w → IsDocumentValue w
     item_inside None is = absurd (cc)
-    item_inside (Some i) is = IsDocumentValue-child v w (nth i) document is
-chosen_inside (index Beyond) v w document is = absurd (cc)
-chosen_inside (index Fraction) v w document is = absurd (cc)
+    item_inside (Some k) is = IsDocumentValue-child v w (nth k) document is
 chosen_inside wildcard v w document is = absurd (cc)
 chosen_inside (slice s) v w document is = absurd (cc)
 chosen_inside (filter e) v w document is = absurd (cc)
