@@ -50,9 +50,11 @@ holds-leads-requires t c =
     let found = rw is.1 at c.deref-in-Test.ensures.value in
     let whole : m ≡ suc (segments_size (segments (map segment_of (out-Query q).segments.items))) =
     ap expr_size (ap expr_of c.in-Test.is ∙ ap (λ s. expr_of (Test s)) is.1 ∙ expr_of-Test q) ∙ ap query_size (query_of-is q) in
-    let part = ap (λ xs. segments_size (segments (map segment_of xs))) found in
-    (subst (λ (k : ℕ). measure n (value_of c.args.root.now) (value_of c.start.result.now) < k) c.decreases
-    (start_falls (out-Query q).absolute n m c.args.root.now c.args.current.now c.start.result.now begins (omega arith)), tt)
+    let part = ap (λ xs. segments_size (segments (map segment_of xs))) found in (
+      subst (λ (k : ℕ). measure n (value_of c.args.root.now) (value_of c.start.result.now) < k) c.decreases
+          (start_falls (out-Query q).absolute n m c.args.root.now c.args.current.now c.start.result.now begins (omega arith)),
+      tt,
+    )
 
 pub holds-returns-in-Test : goal.holds-returns-in-Test
 holds-returns-in-Test t c = λ l at.
