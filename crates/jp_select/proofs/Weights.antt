@@ -14,7 +14,7 @@ abbrev mutual
 
   pub weight_members : Members → ℕ
   weight_members no_members = 0
-  weight_members (member n v ms) = suc (weight v + weight_members ms)
+  weight_members (member n v ms) = suc (suc (weight v + weight_members ms))
 
 abbrev pub weight_of : Option Value → ℕ
 weight_of None = 0

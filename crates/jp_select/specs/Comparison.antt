@@ -30,6 +30,10 @@ abbrev mutual
   same_members (member m v ms) (member n w ns) = bytes_eq m n && same_value v w && same_members ms ns
   same_members _ _ = false
 
+-- members of one name with the same value
+abbrev pub same_member : List ℕ × Value → List ℕ × Value → Bool
+same_member m n = bytes_eq m.0 n.0 && same_value m.1 n.1
+
 -- `==`: Nothing equals only Nothing
 abbrev pub equals : Option Value → Option Value → Bool
 equals None None = true

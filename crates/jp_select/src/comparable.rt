@@ -2,7 +2,7 @@
 ghost use Rattle.std.specs.Prelude.{◌≡◌, ◌↔◌, IsTrue, map, chars};
 ghost use Rattle.jp_document.specs.Value.{value_of, items_of, members_of, member_of};
 ghost use Rattle.jp_select.specs.Comparable.{comparable_of, side_of};
-ghost use Rattle.jp_select.specs.Comparison.{equals, is_less, is_below, same_items, same_members};
+ghost use Rattle.jp_select.specs.Comparison.{equals, is_less, is_below, same_items, same_member, same_members};
 
 use jp_document::{Json, Member};
 
@@ -73,9 +73,11 @@ fn is_below(left: &str, right: &str) -> bool
     left < right
 }
 
+/// Whether two lists have as many items, each the same as the other's.
 #[cycle(equals)]
 fn same_items(lefts: &[Json], rights: &[Json]) -> bool
-    ensures { result ≡ same_items (items_of (map value_of lefts.now)) (items_of (map value_of rights.now)) }
+    ensures { result
+        ≡ same_items (items_of (map value_of lefts.now)) (items_of (map value_of rights.now)) }
 {
     if lefts.len() != rights.len() {
         return false;
@@ -88,19 +90,28 @@ fn same_items(lefts: &[Json], rights: &[Json]) -> bool
     true
 }
 
+/// Whether two objects have as many members, each the same as the other's.
 #[cycle(equals)]
-fn same_members(lefts: &[Member], rights: &[Member]) -> bool
-    ensures { result ≡ same_members (members_of (map member_of lefts.now)) (members_of (map member_of rights.now)) }
+fn same_members(members: &[Member], others: &[Member]) -> bool
+    ensures { result
+        ≡ same_members (members_of (map member_of members.now)) (members_of (map member_of others.now)) }
 {
-    if lefts.len() != rights.len() {
+    if members.len() != others.len() {
         return false;
     }
-    for (left, right) in lefts.iter().zip(rights) {
-        if left.name.as_str() != right.name.as_str()
-            || !Comparable::of(Some(&left.value)).equals(Comparable::of(Some(&right.value)))
-        {
+    for (member, other) in members.iter().zip(others) {
+        if !same_member(member, other) {
             return false;
         }
     }
     true
+}
+
+/// Whether two members have one name and the same value.
+#[cycle(equals)]
+fn same_member(member: &Member, other: &Member) -> bool
+    ensures { result ≡ same_member (member_of member.now) (member_of other.now) }
+{
+    member.name.as_str() == other.name.as_str()
+        && Comparable::of(Some(&member.value)).equals(Comparable::of(Some(&other.value)))
 }

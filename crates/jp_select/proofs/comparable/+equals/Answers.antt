@@ -1,4 +1,4 @@
-use Rattle.std.proofs.Common.{sym, ap, ap₂, ◌∙◌}
+use Rattle.std.proofs.Common.{◌≢◌, length, sym, ap, ap₂, ◌∙◌, arith}
 use Rattle.jp_select.specs.Comparable.{comparable_of}
 use Rattle.jp_select.specs.Comparison.{equals}
 use Rattle.jp_select.proofs.Sameness.{equals-exact, items_unlike, members_unlike}
@@ -15,7 +15,11 @@ Comparable::equals-returns-in-Members-Members-clause-same t c =
     equals-exact (comparable_of c.args.self) (comparable_of c.args.other) c.same_members.result (c.same_members.ensures ∙ sym sides)
 
 pub same_items-returns-then-lefts-rights : goal.same_items-returns-then-lefts-rights
-same_items-returns-then-lefts-rights t c = items_unlike c.args.lefts.now c.args.rights.now c.if-lefts-rights.true
+same_items-returns-then-lefts-rights t c =
+    let unlike : length c.args.lefts.now ≢ length c.args.rights.now = omega arith in
+    items_unlike c.args.lefts.now c.args.rights.now unlike
 
-pub same_members-returns-then-lefts-rights : goal.same_members-returns-then-lefts-rights
-same_members-returns-then-lefts-rights t c = members_unlike c.args.lefts.now c.args.rights.now c.if-lefts-rights.true
+pub same_members-returns-then-members-others : goal.same_members-returns-then-members-others
+same_members-returns-then-members-others t c =
+    let unlike : length c.args.members.now ≢ length c.args.others.now = omega arith in
+    members_unlike c.args.members.now c.args.others.now unlike
