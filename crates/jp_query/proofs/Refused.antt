@@ -6,48 +6,56 @@ use Rattle.jp_reading.specs.Texts.{Text}
 use Rattle.jp_reading.specs.Outcome.{State, Outcome, took, stuck, deep}
 use Rattle.jp_reading.specs.Views.{Fails}
 use Rattle.jp_reading.proofs.Again.{start}
-use Rattle.jp_query.specs.declared.refusal.RefusalKind.TheVariants.{Syntax, NoMemory}
+use Rattle.jp_query.specs.declared.refusal.RefusalKind.TheVariants.{Syntax, TooDeep, NoMemory}
 use Rattle.jp_query.specs.Tree.{QueryTree}
 use Rattle.jp_query.specs.Reading.{query_at}
 use Rattle.jp_query.specs.Spelled.{SpellsNothing}
-use Rattle.jp_query.specs.Front.{IsFrontBefore}
+use Rattle.jp_query.specs.Front.{IsFrontBefore, IsTooDeepBefore}
 use Rattle.jp_query.specs.Stops.{refusal_of}
-use Rattle.jp_query.proofs.Shallow.{shallow-query}
-use Rattle.jp_query.proofs.Whole.{stuck-front, unread-spells_nothing}
+use Rattle.jp_query.proofs.Unique.{unread-spells_nothing, deep-spells_nothing}
+use Rattle.jp_query.proofs.Whole.{stuck-front, deep-front}
 
--- a stop of reading that is not want of memory
-pub record Refuses (n : ℕ) (text : Text) (place : ℕ) : Type 0 where
-  pub nothing : SpellsNothing n text
-  pub front : IsFrontBefore n text place
+-- what stops at a place reads nothing, and is stuck there
+record Stuck (n : ℕ) (text : Text) (place : ℕ) : Type 0 where
+  nothing : SpellsNothing n text
+  front : IsFrontBefore n text place
 
-stuck-refuses : (n : ℕ) (text : Text) (place : ℕ) (o : Outcome QueryTree) → query_at n (start text) ≡ o → Fails (stop.Syntax place) o → Refuses n text place
-stuck-refuses n text place (took x q) e h = absurd h
-stuck-refuses n text place (stuck r) e h = record {
-  nothing = unread-spells_nothing n text r e;
-  front = rw h (stuck-front n text r e);
-}
-stuck-refuses n text place (deep r) e h = absurd h
+stuck-at : (n : ℕ) (text : Text) (place : ℕ) (o : Outcome QueryTree) → query_at n (start text) ≡ o → Fails (stop.Syntax place) o → Stuck n text place
+stuck-at n text place (took x q) e h = absurd h
+stuck-at n text place (stuck r) e h = record { nothing = unread-spells_nothing n text r e; front = rw h (stuck-front n text r e) }
+stuck-at n text place (deep r) e h = absurd h
 
-never-deep : (n : ℕ) (text : Text) (place : ℕ) (o : Outcome QueryTree) → query_at n (start text) ≡ o → Fails (stop.TooDeep place) o → ⊥
-never-deep n text place (took x q) e h = h
-never-deep n text place (stuck r) e h = h
-never-deep n text place (deep r) e h = rw e at (shallow-query n (start text))
+-- or needs a level more there
+record Deep (n : ℕ) (text : Text) (place : ℕ) : Type 0 where
+  nothing : SpellsNothing n text
+  front : IsTooDeepBefore n text place
+
+deep-at : (n : ℕ) (text : Text) (place : ℕ) (o : Outcome QueryTree) → query_at n (start text) ≡ o → Fails (stop.TooDeep place) o → Deep n text place
+deep-at n text place (took x q) e h = absurd h
+deep-at n text place (stuck r) e h = absurd h
+deep-at n text place (deep r) e h = record { nothing = deep-spells_nothing n text r e; front = rw h (deep-front n text r e) }
 
 -- each from the state of a reader at the text's start
 pub refused-only : (n : ℕ) (text : Text) (p : State) (s : Stop) → p ≡ start text → Fails s (query_at n p)
     → ((refusal_of s).kind ≡ NoMemory) ⊎ SpellsNothing n text
 refused-only n text p stop.Memory e h = inl refl
-refused-only n text p (stop.Syntax place) e h = inr (stuck-refuses n text place (query_at n p) (ap (query_at n) (sym e)) h).nothing
-refused-only n text p (stop.TooDeep place) e h = absurd (never-deep n text place (query_at n p) (ap (query_at n) (sym e)) h)
+refused-only n text p (stop.Syntax place) e h = inr (stuck-at n text place (query_at n p) (ap (query_at n) (sym e)) h).nothing
+refused-only n text p (stop.TooDeep place) e h = inr (deep-at n text place (query_at n p) (ap (query_at n) (sym e)) h).nothing
 
-pub refused-kinds : (n : ℕ) (text : Text) (p : State) (s : Stop) → p ≡ start text → Fails s (query_at n p)
-    → ((refusal_of s).kind ≡ Syntax) ⊎ (((refusal_of s).kind ≡ NoMemory) × ((refusal_of s).place ≡ 0))
-refused-kinds n text p stop.Memory e h = inr (refl, refl)
-refused-kinds n text p (stop.Syntax place) e h = inl refl
-refused-kinds n text p (stop.TooDeep place) e h = absurd (never-deep n text place (query_at n p) (ap (query_at n) (sym e)) h)
+pub refused-kinds : (s : Stop)
+    → ((refusal_of s).kind ≡ Syntax) ⊎ ((refusal_of s).kind ≡ TooDeep) ⊎ (((refusal_of s).kind ≡ NoMemory) × ((refusal_of s).place ≡ 0))
+refused-kinds stop.Memory = inr (inr (refl, refl))
+refused-kinds (stop.Syntax place) = inl refl
+refused-kinds (stop.TooDeep place) = inr (inl refl)
 
 pub refused-front : (n : ℕ) (text : Text) (p : State) (s : Stop) → p ≡ start text → Fails s (query_at n p)
     → (refusal_of s).kind ≡ Syntax → IsFrontBefore n text (refusal_of s).place
 refused-front n text p stop.Memory e h kind = cc
-refused-front n text p (stop.Syntax place) e h kind = (stuck-refuses n text place (query_at n p) (ap (query_at n) (sym e)) h).front
-refused-front n text p (stop.TooDeep place) e h kind = absurd (never-deep n text place (query_at n p) (ap (query_at n) (sym e)) h)
+refused-front n text p (stop.Syntax place) e h kind = (stuck-at n text place (query_at n p) (ap (query_at n) (sym e)) h).front
+refused-front n text p (stop.TooDeep place) e h kind = cc
+
+pub refused-deep : (n : ℕ) (text : Text) (p : State) (s : Stop) → p ≡ start text → Fails s (query_at n p)
+    → (refusal_of s).kind ≡ TooDeep → IsTooDeepBefore n text (refusal_of s).place
+refused-deep n text p stop.Memory e h kind = cc
+refused-deep n text p (stop.Syntax place) e h kind = cc
+refused-deep n text p (stop.TooDeep place) e h kind = (deep-at n text place (query_at n p) (ap (query_at n) (sym e)) h).front

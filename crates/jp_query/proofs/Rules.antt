@@ -1,22 +1,23 @@
--- The rules of the grammar, with a text for each, and on one level more.
+-- The rules of names, numbers, slices and selectors, with a text for each, and on one level more.
 use Rattle.std.specs.Prelude.{pos}
 use Rattle.jp_query.specs.Slices.{Bound, no_bound, bound, Step, no_step}
 use Rattle.jp_query.specs.declared.tree.Numeral.TheVariants.{Whole}
 use Rattle.jp_query.specs.declared.tree.Slice.{Slice}
 use Rattle.jp_query.specs.Reading.{slice_of}
-use Rattle.std.proofs.Common.{◌≡◌, ℕ, suc, Bool, true, false, [], ◌∷◌, refl, ◌∙◌, ap, ◌+◌, List, ◌++◌, sym, subst, append_assoc, arith, Option, Some, None}
+use Rattle.std.proofs.Common.{◌≡◌, ℕ, Bool, true, [], ◌∷◌, refl, ◌∙◌, ap, ◌+◌, ◌++◌, sym, subst, append_assoc, arith, Option, Some, None}
 use Rattle.jp_query.specs.declared.tree.Numeral.{Numeral}
 use Rattle.jp_reading.specs.Texts.{Text, Spans, bytes}
 use Rattle.jp_reading.specs.Forms.{Form, ◌⌢◌, word, One, Each, Blank, Item}
 use Rattle.jp_reading.specs.Numbers.{is_digit, value_from}
 use Rattle.jp_reading.proofs.Between.{Has, Within, Rule, has-as, joined-over, bytes-append}
-use Rattle.jp_reading.proofs.Levels.{Only, Then, Made, level, word-has, joined-has, joined-lifts, one_rule, each_rule, word_rule, then_rule, made_rule, ends_rule, blank_rule, blank-has, separated_rule, item_rule}
-use Rattle.jp_query.specs.Tree.{SelectorTree, name, index, SegmentTree, segment, selectors, slice}
+use Rattle.jp_reading.proofs.Levels.{Only, Then, Made, level, word-has, joined-has, one_rule, each_rule, word_rule, then_rule, made_rule, ends_rule, blank_rule, item_rule}
+use Rattle.jp_query.specs.Tree.{SelectorTree, name, index, filter, slice, ExprTree}
 use Rattle.jp_query.specs.Names.{is_name_first, is_name_char, Shorthand, shorthand}
 use Rattle.jp_query.specs.Strings.{is_plain, Character, Between, Quoted, in_double, in_single}
 use Rattle.jp_query.proofs.Escapes.{character_rule, joined-both}
 use Rattle.jp_query.specs.Ints.{is_leading_digit, whole_of, negative_of, Unsigned, Int, zero_int, positive_int, negative_int}
-use Rattle.jp_query.specs.Grammar.{Selector, named, indexed, Segment, bracketed, dotted, any, Bracket, Member, member, deep_bracketed, deep_dotted, sliced}
+use Rattle.jp_query.specs.Grammar.{Selector, named, indexed, sliced, filtered}
+use Rattle.jp_query.proofs.Lifts.{Deeper, selector-lifts}
 use Rattle.jp_reading.proofs.Joining.{then-end, joined-only, joined-word}
 
 -- ---- names
@@ -99,42 +100,44 @@ negative-within x s o t h =
     negative_int size.first size.more (made.same ∙ ap negative_of size.same)
     (joined-over (word (45 ∷ [])) (Made negative_of size_parts.here x) (Unsigned size.first size.more) s o t h size.is)
 
+-- ---- levels
+
+-- the form of the expressions one level further in, and the same with one level more
+pub record Level : Type 1 where
+  pub here : ExprTree → Form
+  pub deeper : ExprTree → Form
+  pub lifts : Deeper here deeper
+
 -- ---- selectors
 
-pub selector-lifts : (n : ℕ) (x : SelectorTree) → Within (Selector n x) (Selector (suc n) x)
-selector-lifts n x s o t (named cs e h) = named cs e h
-selector-lifts n x s o t (any e h) = any e h
-selector-lifts n x s o t (indexed i e h) = indexed i e h
-selector-lifts n x s o t (sliced y e h) = sliced y e h
-
-abbrev pub selector_rule : ℕ → Rule SelectorTree
-selector_rule n = record {
-  here = Selector n;
-  deeper = Selector (suc n);
-  lifts = selector-lifts n;
+abbrev pub selector_rule : Level → Rule SelectorTree
+selector_rule L = record {
+  here = Selector L.here;
+  deeper = Selector L.deeper;
+  lifts = selector-lifts L.here L.deeper L.lifts;
   least = name [];
-  has = has-as (Quoted []) (Selector n (name [])) (λ s o t h. named [] refl h) quoted-has;
+  has = has-as (Quoted []) (Selector L.here (name [])) (λ s o t h. named [] refl h) quoted-has;
 }
 
-pub double-within : (n : ℕ) (x : SelectorTree) → Within (Made name (quoted_parts 34 refl).here x) (Selector n x)
-double-within n x s o t h = named h.part h.same (in_double (quoted-within 34 refl h.part s o t h.is))
+pub double-within : (I : ExprTree → Form) (x : SelectorTree) → Within (Made name (quoted_parts 34 refl).here x) (Selector I x)
+double-within I x s o t h = named h.part h.same (in_double (quoted-within 34 refl h.part s o t h.is))
 
-pub single-within : (n : ℕ) (x : SelectorTree) → Within (Made name (quoted_parts 39 refl).here x) (Selector n x)
-single-within n x s o t h = named h.part h.same (in_single (quoted-within 39 refl h.part s o t h.is))
+pub single-within : (I : ExprTree → Form) (x : SelectorTree) → Within (Made name (quoted_parts 39 refl).here x) (Selector I x)
+single-within I x s o t h = named h.part h.same (in_single (quoted-within 39 refl h.part s o t h.is))
 
-pub index-within : (n : ℕ) (x : SelectorTree) → Within (Item (Made index Int x)) (Selector n x)
-index-within n x s o t h = indexed h.is.part h.is.same (record { inside = h.inside; spans = h.spans; is = h.is.is })
+pub filter-within : (I : ExprTree → Form) (x : SelectorTree) → Within (Made filter (λ e. word (63 ∷ []) ⌢ Blank ⌢ I e) x) (Selector I x)
+filter-within I x s o t h = filtered h.part h.same h.is
 
 -- ---- slices
 
 -- a text of F, then one of P, for a value made of the part
-then-made_one : {A B : Type 0} (F : A → Form) (P : Form) (f : A → B) (y : B) → Within (Then F (λ z x. P ⌢ Only (f z) (word []) x) y) (Made f (λ z. F z ⌢ P) y)
+pub then-made_one : {A B : Type 0} (F : A → Form) (P : Form) (f : A → B) (y : B) → Within (Then F (λ z x. P ⌢ Only (f z) (word []) x) y) (Made f (λ z. F z ⌢ P) y)
 then-made_one F P f y s o t h =
     let ends = joined-only P (f h.part) y h.is.second_spans _ h.is.second h.is.two in
     record { part = h.part; same = ends.0; is = joined-over (F h.part) (P ⌢ Only (f h.part) (word []) y) P s o t h.is ends.1 }
 
 -- three parts, the first two together
-joined-back : (P Q R : Form) → Within (P ⌢ Q ⌢ R) ((P ⌢ Q) ⌢ R)
+pub joined-back : (P Q R : Form) → Within (P ⌢ Q ⌢ R) ((P ⌢ Q) ⌢ R)
 joined-back P Q R s o t h = record {
   first_spans = h.first_spans ++ h.two.first_spans;
   second_spans = h.two.second_spans;
@@ -206,8 +209,8 @@ rest_rule start =
     level (Rest start) (rest_parts start).least
     (has-as ((rest_parts start).here (rest_parts start).least) (Rest start (rest_parts start).least) (rest-within start (rest_parts start).least) (rest_parts start).has)
 
-pub starts-within : (n : ℕ) (x : SelectorTree) → Within (Made slice (Rest None) x) (Selector n x)
-starts-within n x s o t h =
+pub starts-within : (I : ExprTree → Form) (x : SelectorTree) → Within (Made slice (Rest None) x) (Selector I x)
+starts-within I x s o t h =
     let front = nothing-before (word (58 ∷ []) ⌢ Blank ⌢ Bound h.part.end ⌢ Step h.part.step) s o t h.is.is in
     sliced h.part h.same
     (joined-both (word []) (Bound h.part.start) _ (word (58 ∷ []) ⌢ Blank ⌢ Bound h.part.end ⌢ Step h.part.step) s o t front (no_bound h.is.same front.one) front.two)
@@ -223,10 +226,10 @@ after_rule i = level (AfterInt i) (index i) (λ o. ([], [], alone refl (record {
 abbrev pub number_parts : Rule SelectorTree
 number_parts = then_rule (item_rule int_rule) after_rule
 
-pub number-within : (n : ℕ) (x : SelectorTree) → Within (number_parts.here x) (Selector n x)
-number-within n x s o t h = after_cases h.is.two
+pub number-within : (I : ExprTree → Form) (x : SelectorTree) → Within (number_parts.here x) (Selector I x)
+number-within I x s o t h = after_cases h.is.two
   where
-    after_cases : AfterInt h.part x h.is.second_spans (o + bytes h.is.first) h.is.second → Selector n x s o t
+    after_cases : AfterInt h.part x h.is.second_spans (o + bytes h.is.first) h.is.second → Selector I x s o t
     after_cases (alone e w) = indexed h.part e (joined-word (Item (Int h.part)) s o t (joined-over (Item (Int h.part)) (AfterInt h.part x) (word []) s o t h.is w))
     after_cases (goes_on y e w) =
         let all = joined-back (Item (Int h.part)) Blank (Rest (Some h.part) y) s o t
@@ -234,124 +237,3 @@ number-within n x s o t h = after_cases h.is.two
         sliced y e
         (joined-both (Item (Int h.part) ⌢ Blank) (Bound y.start) _ (word (58 ∷ []) ⌢ Blank ⌢ Bound y.end ⌢ Step y.step) s o t all
         (bound h.part all.two.same all.one) all.two.is)
-
--- ---- brackets
-
--- a selector and the blanks after it
-abbrev pub entry_rule : ℕ → Rule SelectorTree
-entry_rule n = record {
-  here = λ x. Selector n x ⌢ Blank;
-  deeper = λ x. Selector (suc n) x ⌢ Blank;
-  lifts = λ x. joined-lifts (Selector n x) (Selector (suc n) x) Blank Blank (selector-lifts n x) (λ s o t h. h);
-  least = name [];
-  has = joined-has (Selector n (name [])) Blank (selector_rule n).has blank-has;
-}
-
--- what stands between two selectors
-abbrev pub comma : Form
-comma = word (44 ∷ []) ⌢ Blank
-
-pub comma-has : Has comma
-comma-has = joined-has (word (44 ∷ [])) Blank (word-has (44 ∷ [])) blank-has
-
-pub comma-within : (n : ℕ) (x : SelectorTree) → Within (word (44 ∷ []) ⌢ Blank ⌢ Selector n x ⌢ Blank) (comma ⌢ Selector n x ⌢ Blank)
-comma-within n x = joined-back (word (44 ∷ [])) Blank (Selector n x ⌢ Blank)
-
-abbrev pub entries_rule : ℕ → Rule (List SelectorTree)
-entries_rule n = separated_rule comma (entry_rule n)
-
--- the segment of the selectors in brackets
-abbrev pub segment_of_all : Bool → List SelectorTree → SegmentTree
-segment_of_all descendant ys = segment descendant (selectors ys)
-
--- the segment of one selector
-abbrev pub segment_of_one : Bool → SelectorTree → SegmentTree
-segment_of_one descendant y = segment descendant (selectors (y ∷ []))
-
--- selectors in brackets, as they are read
-abbrev pub bracket_parts : Bool → ℕ → Rule SegmentTree
-bracket_parts d n = word_rule 91 (blank_rule (then_rule (entries_rule n) (λ xs. word_rule 93 (ends_rule (segment_of_all d xs)))))
-
-bracket-form : (d : Bool) (F : List SelectorTree → Form) (y : SegmentTree)
-    → Within (word (91 ∷ []) ⌢ Blank ⌢ Then F (λ z x. word (93 ∷ []) ⌢ Only (segment_of_all d z) (word []) x) y)
-    (Made (segment_of_all d) (λ ys. word (91 ∷ []) ⌢ Blank ⌢ F ys ⌢ word (93 ∷ [])) y)
-bracket-form d F y s o t h =
-    let inner = h.two in
-    let made = then-made_one F (word (93 ∷ [])) (segment_of_all d) y inner.second_spans _ inner.second inner.two in
-    record {
-      part = made.part;
-      same = made.same;
-      is = joined-over (word (91 ∷ [])) _ (Blank ⌢ F made.part ⌢ word (93 ∷ [])) s o t h
-          (joined-over Blank _ (F made.part ⌢ word (93 ∷ [])) h.second_spans _ h.second inner made.is);
-    }
-
-pub bracket-within : (d : Bool) (n : ℕ) (y : SegmentTree) → Within ((bracket_parts d n).here y) (Made (segment_of_all d) (Bracket n) y)
-bracket-within d n y = bracket-form d (entries_rule n).here y
-
-pub bracket-within_deeper : (d : Bool) (n : ℕ) (y : SegmentTree) → Within ((bracket_parts d n).deeper y) (Made (segment_of_all d) (Bracket (suc n)) y)
-bracket-within_deeper d n y = bracket-form d (entries_rule n).deeper y
-
-bracket-lifts : (n : ℕ) (ys : List SelectorTree) → Within (Bracket n ys) (Bracket (suc n) ys)
-bracket-lifts n ys =
-    let here = (entries_rule n).here ys in
-    let deeper = (entries_rule n).deeper ys in
-    joined-lifts (word (91 ∷ [])) (word (91 ∷ [])) (Blank ⌢ here ⌢ word (93 ∷ [])) (Blank ⌢ deeper ⌢ word (93 ∷ [])) (λ s o t h. h)
-    (joined-lifts Blank Blank (here ⌢ word (93 ∷ [])) (deeper ⌢ word (93 ∷ [])) (λ s o t h. h)
-    (joined-lifts here deeper (word (93 ∷ [])) (word (93 ∷ [])) ((entries_rule n).lifts ys) (λ s o t h. h)))
-
--- ---- segments
-
--- a wildcard or a shorthand
-abbrev pub member_rule : Rule SelectorTree
-member_rule = level Member (name (97 ∷ [])) (has-as (Shorthand (97 ∷ [])) (Member (name (97 ∷ []))) (λ s o t h. member (97 ∷ []) refl h) shorthand-has)
-
-pub member-within : (y : SelectorTree) → Within (Made name shorthand_parts.here y) (Member y)
-member-within y s o t h = member h.part h.same (shorthand-within h.part s o t h.is)
-
-pub segment-lifts : (n : ℕ) (x : SegmentTree) → Within (Segment n x) (Segment (suc n) x)
-segment-lifts n x s o t (bracketed ys e h) = bracketed ys e (bracket-lifts n ys s o t h)
-segment-lifts n x s o t (dotted y e h) = dotted y e h
-segment-lifts n x s o t (deep_bracketed ys e h) =
-    deep_bracketed ys e
-    (joined-lifts (word (46 ∷ [])) (word (46 ∷ [])) (word (46 ∷ []) ⌢ Bracket n ys) (word (46 ∷ []) ⌢ Bracket (suc n) ys) (λ r i u g. g)
-    (joined-lifts (word (46 ∷ [])) (word (46 ∷ [])) (Bracket n ys) (Bracket (suc n) ys) (λ r i u g. g) (bracket-lifts n ys)) s o t h)
-segment-lifts n x s o t (deep_dotted y e h) = deep_dotted y e h
-
--- what stands behind the first dot of a segment
-pub data Dot (n : ℕ) (x : SegmentTree) (s : Spans) (o : ℕ) (t : Text) : Type 0 where
-  dot_member : (y : SelectorTree) → x ≡ segment_of_one false y → Member y s o t → Dot n x s o t
-  dot_bracket : (ys : List SelectorTree) → x ≡ segment_of_all true ys → (word (46 ∷ []) ⌢ Bracket n ys) s o t → Dot n x s o t
-  dot_deep : (y : SelectorTree) → x ≡ segment_of_one true y → (word (46 ∷ []) ⌢ Member y) s o t → Dot n x s o t
-
-pub dot-lifts : (n : ℕ) (x : SegmentTree) → Within (Dot n x) (Dot (suc n) x)
-dot-lifts n x s o t (dot_member y e h) = dot_member y e h
-dot-lifts n x s o t (dot_bracket ys e h) =
-    dot_bracket ys e (joined-lifts (word (46 ∷ [])) (word (46 ∷ [])) (Bracket n ys) (Bracket (suc n) ys) (λ r i u g. g) (bracket-lifts n ys) s o t h)
-dot-lifts n x s o t (dot_deep y e h) = dot_deep y e h
-
-abbrev pub dot_rule : ℕ → Rule SegmentTree
-dot_rule n = record {
-  here = Dot n;
-  deeper = Dot (suc n);
-  lifts = dot-lifts n;
-  least = segment_of_one false member_rule.least;
-  has = has-as (Member member_rule.least) (Dot n (segment_of_one false member_rule.least)) (λ s o t h. dot_member member_rule.least refl h) member_rule.has;
-}
-
-pub dot-within : (n : ℕ) (x : SegmentTree) → Within (word (46 ∷ []) ⌢ Dot n x) (Segment n x)
-dot-within n x s o t h = dot_cases h.two
-  where
-    dot_cases : Dot n x h.second_spans (o + bytes h.first) h.second → Segment n x s o t
-    dot_cases (dot_member y e g) = dotted y e (joined-over (word (46 ∷ [])) (Dot n x) (Member y) s o t h g)
-    dot_cases (dot_bracket ys e g) = deep_bracketed ys e (joined-over (word (46 ∷ [])) (Dot n x) (word (46 ∷ []) ⌢ Bracket n ys) s o t h g)
-    dot_cases (dot_deep y e g) = deep_dotted y e (joined-over (word (46 ∷ [])) (Dot n x) (word (46 ∷ []) ⌢ Member y) s o t h g)
-
-abbrev pub segment_rule : ℕ → Rule SegmentTree
-segment_rule n = record {
-  here = Segment n;
-  deeper = Segment (suc n);
-  lifts = segment-lifts n;
-  least = (dot_rule n).least;
-  has = has-as (word (46 ∷ []) ⌢ Dot n (dot_rule n).least) (Segment n (dot_rule n).least) (dot-within n (dot_rule n).least)
-      (joined-has (word (46 ∷ [])) (Dot n (dot_rule n).least) (word-has (46 ∷ [])) (dot_rule n).has);
-}

@@ -1,27 +1,29 @@
 -- What the rules read is what the grammar says; and where they are stuck, a text of the grammar begins so.
 use Rattle.std.specs.Prelude.{pos}
-use Rattle.jp_query.specs.declared.tree.Numeral.{Numeral}
-use Rattle.jp_query.specs.declared.tree.Numeral.TheVariants.{Whole}
-use Rattle.jp_query.specs.Slices.{no_bound, Step, no_step, empty_step, given_step}
-use Rattle.jp_reading.proofs.Joining.{then-end}
-use Rattle.jp_query.specs.Grammar.{Selector, any, Bracket, Member, star, bracketed}
-use Rattle.std.proofs.Common.{◌≡◌, ℕ, suc, Bool, true, [], ◌∷◌, refl, false, List, if◌then◌else◌, Option, Some, None, arith}
-use Rattle.jp_reading.specs.Forms.{word, ◌⌢◌, Blank, Omitted}
-use Rattle.jp_reading.specs.Outcome.{State, took, head, past, skip, passes, is_at, take_if, after_blank, omit, item, is}
+use Rattle.std.proofs.Common.{◌≡◌, ◌<◌, ℕ, Bool, true, [], ◌∷◌, length, refl, false, List, if◌then◌else◌, Option, Some, None, arith}
+use Rattle.jp_reading.specs.Forms.{Form, word, ◌⌢◌, Blank, Omitted}
+use Rattle.jp_reading.specs.Outcome.{State, took, deep, head, past, skip, passes, is_at, take_if, after_blank, omit, item, is}
 use Rattle.jp_reading.specs.Numbers.{is_digit, value_from}
 use Rattle.jp_reading.specs.Views.{by}
-use Rattle.jp_reading.proofs.Between.{Reads, Judged, joined-over, reads-as, reads-then, between-same}
-use Rattle.jp_reading.proofs.Levels.{one_rule, each_rule, made_rule, word_rule, then_rule, ends_rule, blank_rule, item_rule, word-has, behind}
-use Rattle.jp_reading.proofs.Judging.{judged-end, judged-then, judged-as, judged-behind, judged-skip, judged-take_if, judged-expect, judged-made, judged-each, judged-item, judged-if, judged-separated}
-use Rattle.jp_query.specs.Tree.{SelectorTree, name, wildcard, slice}
+use Rattle.jp_reading.proofs.Chars.{past-shorter}
+use Rattle.jp_reading.proofs.Between.{Has, Rule, Front, Reads, Judged, joined-over, reads-as, reads-then, between-same, front-as, front-then, front-none}
+use Rattle.jp_reading.proofs.Levels.{one_rule, each_rule, made_rule, word_rule, then_rule, ends_rule, blank_rule, item_rule, word-has, blank-has, joined-has, behind}
+use Rattle.jp_reading.proofs.Joining.{then-end}
+use Rattle.jp_reading.proofs.Judging.{judged-end, judged-then, judged-as, judged-behind, judged-skip, judged-take_if, judged-expect, judged-made, judged-each, judged-item, judged-if, judged-separated, judged-deep}
+use Rattle.jp_query.specs.declared.tree.Numeral.{Numeral}
+use Rattle.jp_query.specs.declared.tree.Numeral.TheVariants.{Whole}
+use Rattle.jp_query.specs.Tree.{SelectorTree, ExprTree, name, wildcard, slice, filter}
+use Rattle.jp_query.specs.Slices.{no_bound, Step, no_step, empty_step, given_step}
+use Rattle.jp_query.specs.Grammar.{Selector, any, filtered, Bracket, Member, star, bracketed}
 use Rattle.jp_query.specs.Names.{is_name_first, is_name_char}
 use Rattle.jp_query.specs.Strings.{is_plain}
-use Rattle.jp_query.proofs.Escapes.{reads-past, character_rule, characters-judged}
 use Rattle.jp_query.specs.Ints.{is_leading_digit, whole_of, negative_of, zero_int}
-use Rattle.jp_query.specs.Reading.{run_at, characters_at, shorthand_at, quoted_at, size_at, int_at, selector_at, bracket_at, segment_at, segments_at, begins_segment, entry_at, another_at, entries_at, member_at, selection_at, begins_int, bound_at, later_step_at, step_at, slice_of, slice_at, number_at}
-use Rattle.jp_query.proofs.Rules.{run_rule, shorthand_parts, quoted_parts, is_digit-zero, size_parts, int_rule, positive-within, negative-within, selector_rule, double-within, single-within, segment_rule, entry_rule, comma, comma-has, comma-within, entries_rule, segment_of_all, segment_of_one, bracket_parts, bracket-within, bracket-within_deeper, member_rule, member-within, dot_rule, dot-within, dot_member, dot_bracket, dot_deep, bound_rule, bound_parts, bound-within, step_rule, Rest, rest_parts, rest-within, rest_rule, starts-within, alone, goes_on, after_rule, number_parts, number-within}
+use Rattle.jp_query.specs.Reading.{Inner, run_at, characters_at, shorthand_at, quoted_at, size_at, int_at, selector_at, bracket_at, segment_at, segments_at, begins_segment, entry_at, another_at, entries_at, member_at, selection_at, begins_int, bound_at, later_step_at, step_at, slice_of, slice_at, number_at}
+use Rattle.jp_query.proofs.Escapes.{reads-past, character_rule, characters-judged}
+use Rattle.jp_query.proofs.Rules.{Level, run_rule, shorthand_parts, quoted_parts, is_digit-zero, size_parts, int_rule, positive-within, negative-within, selector_rule, double-within, single-within, filter-within, bound_rule, bound_parts, bound-within, step_rule, Rest, rest_parts, rest-within, rest_rule, starts-within, alone, goes_on, after_rule, number_parts, number-within}
+use Rattle.jp_query.proofs.SegmentRules.{segment_rule, segments_rule, entry_rule, comma, comma-has, comma-within, entries_rule, segment_of_all, segment_of_one, bracket_parts, bracket-within, bracket-within_deeper, member_rule, member-within, dot_rule, dot-within, dot_member, dot_bracket, dot_deep}
 
-run-judged : (ok : ℕ → Bool) (c : ℕ) (h : ok c ≡ true) (p : State) → Judged (run_rule ok c h) p (run_at ok p)
+pub run-judged : (ok : ℕ → Bool) (c : ℕ) (h : ok c ≡ true) (p : State) → Judged (run_rule ok c h) p (run_at ok p)
 run-judged ok c h p = judged-each (one_rule ok c h) (λ q. passes ok (head q)) (take_if ok) (judged-take_if ok c h) p
 
 shorthand-judged : (p : State) → Judged shorthand_parts p (shorthand_at p)
@@ -31,7 +33,7 @@ shorthand-judged p =
     (judged-take_if is_name_first 97 refl p)
     (λ c q. judged-made (λ cs. c ∷ cs) (run_rule is_name_char 97 refl) q (run_at is_name_char q) (run-judged is_name_char 97 refl q))
 
-quoted-judged : (quote : ℕ) (h : is_plain quote 97 ≡ true) (p : State) → Judged (quoted_parts quote h) p (quoted_at quote p)
+pub quoted-judged : (quote : ℕ) (h : is_plain quote 97 ≡ true) (p : State) → Judged (quoted_parts quote h) p (quoted_at quote p)
 unfolding quoted_at
 quoted-judged quote h p =
     let characters = each_rule (character_rule quote h) in
@@ -52,7 +54,7 @@ zero-judged p h =
     let read = reads-past 48 p h in
     record { is = record { spans = read.spans; text = read.text; way = read.way; is = zero_int refl read.is } }
 
-int-judged : (p : State) → Judged int_rule p (int_at p)
+pub int-judged : (p : State) → Judged int_rule p (int_at p)
 unfolding int_at
 int-judged p =
     judged-if int_rule p (is_at 48 p) _ _ (zero-judged p)
@@ -110,10 +112,10 @@ slice-judged start p =
     (judged-then bound_rule steps (skip q) (bound_at (skip q)) _ (bound-judged (skip q))
     (λ end r. judged-made (slice_of start end) step_rule r (step_at r) (step-judged r)))))
 
-number-judged : (n : ℕ) (p : State) → Judged (selector_rule n) p (number_at p)
+number-judged : (L : Level) (p : State) → Judged (selector_rule L) p (number_at p)
 unfolding number_at
-number-judged n p =
-    judged-as number_parts (selector_rule n) p _ (number-within n) (number-within (suc n))
+number-judged L p =
+    judged-as number_parts (selector_rule L) p _ (number-within L.here) (number-within L.deeper)
     (judged-then (item_rule int_rule) after_rule p (item p (int_at p)) _ (int_item-judged p)
     (λ i q. judged-if (after_rule i) q (passes (is 58) (after_blank q)) _ _
     (λ on. judged-as (blank_rule (made_rule slice (rest_rule (Some i)))) (after_rule i) q _
@@ -123,50 +125,94 @@ number-judged n p =
     (judged-made slice (rest_rule (Some i)) (skip q) (slice_at (Some i) (skip q)) (slice-judged (Some i) (skip q)))))
     (λ off. record { is = record { spans = []; text = []; way = between-same q; is = alone refl (record { none = refl; is = refl }) } })))
 
-star-judged : (n : ℕ) (p : State) → is_at 42 p ≡ true → Judged (selector_rule n) p (took wildcard (past p))
-star-judged n p h =
+star-judged : (L : Level) (p : State) → is_at 42 p ≡ true → Judged (selector_rule L) p (took wildcard (past p))
+star-judged L p h =
     let read = reads-past 42 p h in
     record { is = record { spans = read.spans; text = read.text; way = read.way; is = any refl read.is } }
 
-selector-judged : (n : ℕ) (p : State) → Judged (selector_rule n) p (selector_at n p)
-unfolding selector_at
-selector-judged n p =
-    judged-if (selector_rule n) p (is_at 34 p) _ _
-    (λ double. judged-as (made_rule name (quoted_parts 34 refl)) (selector_rule n) p _ (double-within n) (double-within (suc n))
-    (judged-made name (quoted_parts 34 refl) p (quoted_at 34 p) (quoted-judged 34 refl p)))
-    (λ other. judged-if (selector_rule n) p (is_at 39 p) _ _
-    (λ single. judged-as (made_rule name (quoted_parts 39 refl)) (selector_rule n) p _ (single-within n) (single-within (suc n))
-    (judged-made name (quoted_parts 39 refl) p (quoted_at 39 p) (quoted-judged 39 refl p)))
-    (λ unquoted. judged-if (selector_rule n) p (is_at 42 p) _ _ (star-judged n p)
-    (λ unstarred. judged-if (selector_rule n) p (is_at 58 p) _ _
-    (λ colon. judged-as (made_rule slice (rest_rule None)) (selector_rule n) p _ (starts-within n) (starts-within (suc n))
-    (judged-made slice (rest_rule None) p (slice_at None p) (slice-judged None p)))
-    (λ number. number-judged n p))))
+-- ---- one level further in
 
-entry-judged : (n : ℕ) (p : State) → Judged (entry_rule n) p (entry_at n p)
+-- a mark, blanks, and an expression of the level
+abbrev pub opened_rule : ℕ → (L : Level) (least : ExprTree) → Has (L.here least) → Rule ExprTree
+opened_rule c L least has = word_rule c (blank_rule (record { here = L.here; deeper = L.deeper; lifts = L.lifts; least = least; has = has }))
+
+-- how the expressions of a level are read: where no level is left no text has the form, one more is needed at the mark,
+-- and with it there is a text; else they are read as a rule
+pub data Opens (L : Level) (inner : Inner) : Type 1 where
+  none_left : ((c : ℕ) (p : State) → inner c p ≡ deep p) → (least : ExprTree) → Has (L.deeper least) → Opens L inner
+  some_left : (least : ExprTree) (has : Has (L.here least)) → ((c : ℕ) (p : State) → Judged (opened_rule c L least has) p (inner c p))
+      → Opens L inner
+
+-- past a mark that stands next a text of the form may follow
+pub front-mark : (c : ℕ) (P : Form) → Has P → (p : State) → is_at c p ≡ true → Front (word (c ∷ []) ⌢ P) p (past p)
+front-mark c P has p on = front-then (word (c ∷ [])) P p (past p) (past p) (reads-past c p on) (front-none P (past p) has)
+
+-- where a mark stands next, some text is left
+pub mark-next : (c : ℕ) (p : State) → is_at c p ≡ true → 0 < length p.rest
+mark-next c p on = let h = past-shorter (is c) p on in omega arith
+
+filter-judged : (L : Level) (inner : Inner) → Opens L inner → (p : State) → is_at 63 p ≡ true → Judged (selector_rule L) p (by filter (inner 63 p))
+filter-judged L inner (none_left closed e has) p on =
+    let behind = Blank ⌢ L.deeper e in
+    rw (closed 63 p) (judged-deep (selector_rule L) p (record {
+      next = mark-next 63 p on;
+      stops = record {
+        value = filter e;
+        front = front-as (word (63 ∷ []) ⌢ behind) (Selector L.deeper (filter e)) p (past p) (λ s o t h. filtered e refl h)
+            (front-mark 63 behind (joined-has Blank (L.deeper e) blank-has has) p on);
+      };
+    }))
+filter-judged L inner (some_left e has reads) p on =
+    let R = opened_rule 63 L e has in
+    judged-as (made_rule filter R) (selector_rule L) p (by filter (inner 63 p)) (filter-within L.here) (filter-within L.deeper)
+    (judged-made filter R p (inner 63 p) (reads 63 p))
+
+-- ---- selectors and segments, where the expressions inside are read by `inner`
+
+selector-judged : (L : Level) (inner : Inner) → Opens L inner → (p : State) → Judged (selector_rule L) p (selector_at inner p)
+unfolding selector_at
+selector-judged L inner opens p =
+    judged-if (selector_rule L) p (is_at 34 p) _ _
+    (λ double. judged-as (made_rule name (quoted_parts 34 refl)) (selector_rule L) p _ (double-within L.here) (double-within L.deeper)
+    (judged-made name (quoted_parts 34 refl) p (quoted_at 34 p) (quoted-judged 34 refl p)))
+    (λ other. judged-if (selector_rule L) p (is_at 39 p) _ _
+    (λ single. judged-as (made_rule name (quoted_parts 39 refl)) (selector_rule L) p _ (single-within L.here) (single-within L.deeper)
+    (judged-made name (quoted_parts 39 refl) p (quoted_at 39 p) (quoted-judged 39 refl p)))
+    (λ unquoted. judged-if (selector_rule L) p (is_at 42 p) _ _ (star-judged L p)
+    (λ unstarred. judged-if (selector_rule L) p (is_at 58 p) _ _
+    (λ colon. judged-as (made_rule slice (rest_rule None)) (selector_rule L) p _ (starts-within L.here) (starts-within L.deeper)
+    (judged-made slice (rest_rule None) p (slice_at None p) (slice-judged None p)))
+    (λ plain. judged-if (selector_rule L) p (is_at 63 p) _ _ (filter-judged L inner opens p) (λ number. number-judged L p)))))
+
+entry-judged : (L : Level) (inner : Inner) → Opens L inner → (p : State) → Judged (entry_rule L) p (entry_at inner p)
 unfolding entry_at
-entry-judged n p =
-    judged-as (then_rule (selector_rule n) (λ x. blank_rule (ends_rule x))) (entry_rule n) p _ (then-end (Selector n) Blank) (then-end (Selector (suc n)) Blank)
-    (judged-then (selector_rule n) (λ x. blank_rule (ends_rule x)) p (selector_at n p) _ (selector-judged n p)
+entry-judged L inner opens p =
+    judged-as (then_rule (selector_rule L) (λ x. blank_rule (ends_rule x))) (entry_rule L) p _
+    (then-end (Selector L.here) Blank) (then-end (Selector L.deeper) Blank)
+    (judged-then (selector_rule L) (λ x. blank_rule (ends_rule x)) p (selector_at inner p) _ (selector-judged L inner opens p)
     (λ x q. judged-skip (ends_rule x) q (took x (skip q)) (judged-end x (skip q))))
 
-another-judged : (n : ℕ) (p : State) → Judged (behind comma comma-has (entry_rule n)) p (another_at n p)
+another-judged : (L : Level) (inner : Inner) → Opens L inner → (p : State) → Judged (behind comma comma-has (entry_rule L)) p (another_at inner p)
 unfolding another_at
-another-judged n p =
-    judged-as (word_rule 44 (blank_rule (entry_rule n))) (behind comma comma-has (entry_rule n)) p _ (comma-within n) (comma-within (suc n))
-    (judged-expect 44 (blank_rule (entry_rule n)) p _ (λ c q. judged-skip (entry_rule n) q (entry_at n (skip q)) (entry-judged n (skip q))))
+another-judged L inner opens p =
+    let entry = entry_rule L in
+    judged-as (word_rule 44 (blank_rule entry)) (behind comma comma-has entry) p _
+    (λ x. comma-within (entry.here x)) (λ x. comma-within (entry.deeper x))
+    (judged-expect 44 (blank_rule entry) p _ (λ c q. judged-skip entry q (entry_at inner (skip q)) (entry-judged L inner opens (skip q))))
 
-entries-judged : (n : ℕ) (p : State) → Judged (entries_rule n) p (entries_at n p)
+entries-judged : (L : Level) (inner : Inner) → Opens L inner → (p : State) → Judged (entries_rule L) p (entries_at inner p)
 unfolding entries_at
-entries-judged n p = judged-separated comma comma-has (entry_rule n) p (entry_at n p) (is_at 44) (another_at n) (entry-judged n p) (another-judged n)
+entries-judged L inner opens p =
+    judged-separated comma comma-has (entry_rule L) p (entry_at inner p) (is_at 44) (another_at inner)
+    (entry-judged L inner opens p) (another-judged L inner opens)
 
-bracket-judged : (d : Bool) (n : ℕ) (p : State) → Judged (bracket_parts d n) p (bracket_at d n p)
+bracket-judged : (d : Bool) (L : Level) (inner : Inner) → Opens L inner → (p : State) → Judged (bracket_parts d L) p (bracket_at d inner p)
 unfolding bracket_at
-bracket-judged d n p =
+bracket-judged d L inner opens p =
     let closes = λ (xs : List SelectorTree). word_rule 93 (ends_rule (segment_of_all d xs)) in
-    judged-expect 91 (blank_rule (then_rule (entries_rule n) closes)) p _
-    (λ c q. judged-skip (then_rule (entries_rule n) closes) q _
-    (judged-then (entries_rule n) closes (skip q) (entries_at n (skip q)) _ (entries-judged n (skip q))
+    judged-expect 91 (blank_rule (then_rule (entries_rule L) closes)) p _
+    (λ c q. judged-skip (then_rule (entries_rule L) closes) q _
+    (judged-then (entries_rule L) closes (skip q) (entries_at inner (skip q)) _ (entries-judged L inner opens (skip q))
     (λ xs r. judged-expect 93 (ends_rule (segment_of_all d xs)) r _ (λ e w. judged-end (segment_of_all d xs) w))))
 
 member-judged : (d : Bool) (p : State) → Judged (made_rule (segment_of_one d) member_rule) p (member_at d p)
@@ -179,40 +225,42 @@ member-judged d p =
     (judged-made name shorthand_parts p (shorthand_at p) (shorthand-judged p))))
 
 -- behind the first dot
-dot-judged : (n : ℕ) (p : State) → Judged (dot_rule n) p (if is_at 46 p then selection_at true n (past p) else member_at false p)
+dot-judged : (L : Level) (inner : Inner) → Opens L inner → (p : State)
+    → Judged (dot_rule L) p (if is_at 46 p then selection_at true inner (past p) else member_at false p)
 unfolding selection_at
-dot-judged n p =
+dot-judged L inner opens p =
     let dot = word-has (46 ∷ []) in
-    let deep = made_rule (segment_of_one true) member_rule in
-    judged-if (dot_rule n) p (is_at 46 p) _ _
-    (λ on. judged-if (dot_rule n) p (is_at 91 (past p)) _ _
-    (λ bracket. judged-as (behind (word (46 ∷ [])) dot (bracket_parts true n)) (dot_rule n) p _
-    (λ x s o t h. (let made = bracket-within true n x h.second_spans _ h.second h.two in
-    dot_bracket made.part made.same (joined-over (word (46 ∷ [])) _ (Bracket n made.part) s o t h made.is)))
-    (λ x s o t h. (let made = bracket-within_deeper true n x h.second_spans _ h.second h.two in
-    dot_bracket made.part made.same (joined-over (word (46 ∷ [])) _ (Bracket (suc n) made.part) s o t h made.is)))
-    (judged-behind (word (46 ∷ [])) dot (bracket_parts true n) p (past p) (bracket_at true n (past p)) (reads-past 46 p on) (bracket-judged true n (past p))))
-    (λ plain. judged-as (behind (word (46 ∷ [])) dot deep) (dot_rule n) p _
+    let deep_members = made_rule (segment_of_one true) member_rule in
+    judged-if (dot_rule L) p (is_at 46 p) _ _
+    (λ on. judged-if (dot_rule L) p (is_at 91 (past p)) _ _
+    (λ bracket. judged-as (behind (word (46 ∷ [])) dot (bracket_parts true L)) (dot_rule L) p _
+    (λ x s o t h. (let made = bracket-within true L x h.second_spans _ h.second h.two in
+    dot_bracket made.part made.same (joined-over (word (46 ∷ [])) _ (Bracket L.here made.part) s o t h made.is)))
+    (λ x s o t h. (let made = bracket-within_deeper true L x h.second_spans _ h.second h.two in
+    dot_bracket made.part made.same (joined-over (word (46 ∷ [])) _ (Bracket L.deeper made.part) s o t h made.is)))
+    (judged-behind (word (46 ∷ [])) dot (bracket_parts true L) p (past p) (bracket_at true inner (past p)) (reads-past 46 p on)
+    (bracket-judged true L inner opens (past p))))
+    (λ plain. judged-as (behind (word (46 ∷ [])) dot deep_members) (dot_rule L) p _
     (λ x s o t h. dot_deep h.two.part h.two.same (joined-over (word (46 ∷ [])) _ (Member h.two.part) s o t h h.two.is))
     (λ x s o t h. dot_deep h.two.part h.two.same (joined-over (word (46 ∷ [])) _ (Member h.two.part) s o t h h.two.is))
-    (judged-behind (word (46 ∷ [])) dot deep p (past p) (member_at true (past p)) (reads-past 46 p on) (member-judged true (past p)))))
-    (λ off. judged-as (made_rule (segment_of_one false) member_rule) (dot_rule n) p (member_at false p)
+    (judged-behind (word (46 ∷ [])) dot deep_members p (past p) (member_at true (past p)) (reads-past 46 p on) (member-judged true (past p)))))
+    (λ off. judged-as (made_rule (segment_of_one false) member_rule) (dot_rule L) p (member_at false p)
     (λ x s o t h. dot_member h.part h.same h.is) (λ x s o t h. dot_member h.part h.same h.is) (member-judged false p))
 
-segment-judged : (n : ℕ) (p : State) → Judged (segment_rule n) p (segment_at n p)
+segment-judged : (L : Level) (inner : Inner) → Opens L inner → (p : State) → Judged (segment_rule L) p (segment_at inner p)
 unfolding segment_at
-segment-judged n p =
-    judged-if (segment_rule n) p (is_at 91 p) _ _
-    (λ on. judged-as (bracket_parts false n) (segment_rule n) p (bracket_at false n p)
-    (λ x s o t h. (let made = bracket-within false n x s o t h in bracketed made.part made.same made.is))
-    (λ x s o t h. (let made = bracket-within_deeper false n x s o t h in bracketed made.part made.same made.is))
-    (bracket-judged false n p))
-    (λ off. judged-as (word_rule 46 (dot_rule n)) (segment_rule n) p _ (dot-within n) (dot-within (suc n))
-    (judged-expect 46 (dot_rule n) p _ (λ c q. dot-judged n q)))
+segment-judged L inner opens p =
+    judged-if (segment_rule L) p (is_at 91 p) _ _
+    (λ on. judged-as (bracket_parts false L) (segment_rule L) p (bracket_at false inner p)
+    (λ x s o t h. (let made = bracket-within false L x s o t h in bracketed made.part made.same made.is))
+    (λ x s o t h. (let made = bracket-within_deeper false L x s o t h in bracketed made.part made.same made.is))
+    (bracket-judged false L inner opens p))
+    (λ off. judged-as (word_rule 46 (dot_rule L)) (segment_rule L) p _ (dot-within L.here) (dot-within L.deeper)
+    (judged-expect 46 (dot_rule L) p _ (λ c q. dot-judged L inner opens q)))
 
 -- segments, each behind blanks
-pub segments-judged : (n : ℕ) (p : State) → Judged (each_rule (blank_rule (segment_rule n))) p (segments_at n p)
+pub segments-judged : (L : Level) (inner : Inner) → Opens L inner → (p : State) → Judged (segments_rule L) p (segments_at inner p)
 unfolding segments_at
-segments-judged n p =
-    judged-each (blank_rule (segment_rule n)) (λ q. passes begins_segment (after_blank q)) (λ q. segment_at n (skip q))
-    (λ q. judged-skip (segment_rule n) q (segment_at n (skip q)) (segment-judged n (skip q))) p
+segments-judged L inner opens p =
+    judged-each (blank_rule (segment_rule L)) (λ q. passes begins_segment (after_blank q)) (λ q. segment_at inner (skip q))
+    (λ q. judged-skip (segment_rule L) q (segment_at inner (skip q)) (segment-judged L inner opens (skip q))) p

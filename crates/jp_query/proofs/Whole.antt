@@ -1,66 +1,63 @@
--- Whole texts: what is read to its end spells a tree, and where reading is stuck the text began a query.
-use Rattle.std.proofs.Common.{◌≡◌, ℕ, zero, suc, ◌+◌, Bool, true, false, if◌then◌else◌, List, [], ◌∷◌, ◌++◌, length, refl, sym, ap, ◌∙◌, ◌==◌, arith}
+-- Whole texts: what is read to its end spells a tree, and where reading stops the text began a query.
+use Rattle.std.proofs.Common.{◌≡◌, ℕ, suc, Bool, true, false, if◌then◌else◌, List, [], ◌∷◌, ◌++◌, length, refl, sym, ◌∙◌, ◌==◌, subst, append_assoc, arith}
 use Rattle.std.proofs.lemmas.Bool.{eqb-true}
+use Rattle.std.proofs.lemmas.List.{append_cancel_right}
 use Rattle.jp_reading.specs.Texts.{Text, Spans, bytes}
-use Rattle.jp_reading.specs.Forms.{◌⌢◌, word, Each, Blank}
-use Rattle.jp_reading.specs.Outcome.{State, Outcome, took, stuck, deep, ◌>>=◌, skip, is_end, expect, passes, after_blank, past_blanks}
+use Rattle.jp_reading.specs.Forms.{Form, ◌⌢◌, word, Each, Blank}
+use Rattle.jp_reading.specs.Outcome.{State, Outcome, took, stuck, deep, ◌>>=◌, past, skip, is_end, expect}
 use Rattle.jp_reading.proofs.Steps.{skip-way}
-use Rattle.jp_reading.proofs.Between.{Reads, Stops, Rule, Judged, front-then, front-none, front-as, reads-as, joined-over}
-use Rattle.jp_reading.proofs.Levels.{Made, each_rule, each-lifts, made_rule, word_rule, blank_rule, joined-lifts}
+use Rattle.jp_reading.proofs.Between.{Reads, Stops, Passes, Judged, front-then, front-none, front-as, reads-as, joined-over}
+use Rattle.jp_reading.proofs.Levels.{Made, made_rule, word_rule}
 use Rattle.jp_reading.proofs.Joining.{each-append}
 use Rattle.jp_reading.proofs.Judging.{judged-expect, judged-made}
-use Rattle.jp_query.specs.Tree.{SegmentTree, QueryTree, query, segments}
-use Rattle.jp_reading.proofs.Again.{start, finish, whole-reads, reads-whole, split, again-expect}
-use Rattle.jp_query.specs.Grammar.{Segment, Segments, Spells}
-use Rattle.jp_query.specs.Spelled.{SpellsNothing}
-use Rattle.jp_query.specs.Laws.{OneReading}
-use Rattle.jp_query.specs.Front.{IsFrontBefore}
-use Rattle.jp_query.specs.Reading.{segments_at, query_at, begins_segment}
-use Rattle.jp_query.proofs.Rules.{segment_rule, segment-lifts}
-use Rattle.jp_query.proofs.Complete.{segments-again}
+use Rattle.jp_reading.proofs.Again.{start, whole-reads}
+use Rattle.jp_query.specs.Tree.{SegmentTree, QueryTree}
+use Rattle.jp_query.specs.Grammar.{Segments, Inside, Spells}
+use Rattle.jp_query.specs.Front.{IsFront, IsFrontBefore, IsTooDeepBefore}
+use Rattle.jp_query.specs.Reading.{segments_at, inside, query_at}
+use Rattle.jp_query.proofs.Rules.{Level}
+use Rattle.jp_query.proofs.SegmentRules.{segment_rule, segments_rule}
 use Rattle.jp_query.proofs.Sound.{segments-judged}
+use Rattle.jp_query.proofs.SoundOperands.{query_of_parts}
+use Rattle.jp_query.proofs.SoundLevels.{level_at, inside-judged}
 
 -- ---- the end of the text
 
--- segments, each behind blanks
-abbrev segments_rule : ℕ → Rule (List SegmentTree)
-segments_rule n = each_rule (blank_rule (segment_rule n))
-
-abbrev query_of_parts : List SegmentTree → QueryTree
-query_of_parts xs = query true (segments xs)
-
 -- where the text goes on after its segments, yet another segment could follow past the blanks
-another-segment : (n : ℕ) (xs : List SegmentTree) (p r : State) → Reads (Segments n xs) p r → Stops (Made query_of_parts (Segments n)) p (skip r)
-another-segment n xs p r h =
-    let S = segment_rule n in
+another-segment : (L : Level) (xs : List SegmentTree) (p r : State) → Reads (Segments L.here xs) p r
+    → Stops (Made (query_of_parts true) (Segments L.here)) p (skip r)
+another-segment L xs p r h =
+    let S = segment_rule L in
     let F = λ (x : SegmentTree). Blank ⌢ S.here x in
     let more = xs ++ S.least ∷ [] in
     record {
-      value = query_of_parts more;
-      front = front-as (Each F xs ⌢ F S.least) (Made query_of_parts (Segments n) (query_of_parts more)) p (skip r)
+      value = query_of_parts true more;
+      front = front-as (Each F xs ⌢ F S.least) (Made (query_of_parts true) (Segments L.here) (query_of_parts true more)) p (skip r)
           (λ s o t g. record { part = more; same = refl; is = each-append F xs S.least s o t g })
           (front-then (Each F xs) (F S.least) p r (skip r) h
           (front-then Blank (S.here S.least) r (skip r) (skip r) (skip-way r) (front-none (S.here S.least) (skip r) S.has)));
     }
 
-ends-judged : (n : ℕ) (p : State) (o : Outcome (List SegmentTree)) → Judged (segments_rule n) p o
-    → Judged (made_rule query_of_parts (segments_rule n)) p (o >>= λ xs r. if is_end r then took (query_of_parts xs) r else stuck (skip r))
-ends-judged n p (took xs r) h = at_end (is_end r)
+ends-judged : (L : Level) (p : State) (o : Outcome (List SegmentTree)) → Judged (segments_rule L) p o
+    → Judged (made_rule (query_of_parts true) (segments_rule L)) p
+    (o >>= λ xs r. if is_end r then took (query_of_parts true xs) r else stuck (skip r))
+ends-judged L p (took xs r) h = at_end (is_end r)
   where
-    at_end : (b : Bool) → Judged (made_rule query_of_parts (segments_rule n)) p (if b then took (query_of_parts xs) r else stuck (skip r))
+    at_end : (b : Bool) → Judged (made_rule (query_of_parts true) (segments_rule L)) p (if b then took (query_of_parts true xs) r else stuck (skip r))
     at_end true = record {
-      is = reads-as (Segments n xs) (Made query_of_parts (Segments n) (query_of_parts xs)) p r
+      is = reads-as (Segments L.here xs) (Made (query_of_parts true) (Segments L.here) (query_of_parts true xs)) p r
           (λ s o t g. record { part = xs; same = refl; is = g }) h.is;
     }
-    at_end false = record { is = another-segment n xs p r h.is }
-ends-judged n p (stuck r) h = judged-made query_of_parts (segments_rule n) p (stuck r) h
-ends-judged n p (deep r) h = judged-made query_of_parts (segments_rule n) p (deep r) h
+    at_end false = record { is = another-segment L xs p r h.is }
+ends-judged L p (stuck r) h = judged-made (query_of_parts true) (segments_rule L) p (stuck r) h
+ends-judged L p (deep r) h = judged-made (query_of_parts true) (segments_rule L) p (deep r) h
 
-query-judged : (n : ℕ) (p : State) → Judged (word_rule 36 (made_rule query_of_parts (segments_rule n))) p (query_at n p)
+query-judged : (n : ℕ) (p : State) → Judged (word_rule 36 (made_rule (query_of_parts true) (segments_rule (level_at n)))) p (query_at n p)
 unfolding query_at
 query-judged n p =
-    judged-expect 36 (made_rule query_of_parts (segments_rule n)) p _
-    (λ c q. ends-judged n q (segments_at n q) (segments-judged n q))
+    let L = level_at n in
+    judged-expect 36 (made_rule (query_of_parts true) (segments_rule L)) p _
+    (λ c q. ends-judged L q (segments_at (inside n) q) (segments-judged L (inside n) (inside-judged n) q))
 
 -- what is read ends with the text
 record Ends {A : Type 0} (o : Outcome A) : Type 0 where
@@ -82,77 +79,65 @@ ends-if y r false h = record { at = λ x q e. cc }
 query-ends : (n : ℕ) (p : State) → Ends (query_at n p)
 unfolding query_at
 query-ends n p =
-    ends-then (expect 36 p) _ (λ c q. ends-then (segments_at n q) _
-    (λ xs r. ends-if (query_of_parts xs) r (is_end r) (no-characters r.rest)))
+    ends-then (expect 36 p) _ (λ c q. ends-then (segments_at (inside n) q) _
+    (λ xs r. ends-if (query_of_parts true xs) r (is_end r) (no-characters r.rest)))
 
-spells-of : (n : ℕ) (q : QueryTree) (s : Spans) (text : Text) → (word (36 ∷ []) ⌢ Made query_of_parts (Segments n) q) s 0 text → Spells n q s text
+-- a query with n levels, as it is read
+abbrev whole : ℕ → QueryTree → Form
+whole n q = word (36 ∷ []) ⌢ Made (query_of_parts true) (Segments (Inside n)) q
+
+spells-of : (n : ℕ) (q : QueryTree) (s : Spans) (text : Text) → whole n q s 0 text → Spells n q s text
 spells-of n q s text h = record {
   parts = h.two.part;
   tree = h.two.same;
-  is = joined-over (word (36 ∷ [])) (Made query_of_parts (Segments n) q) (Segments n h.two.part) s 0 text h h.two.is;
+  is = joined-over (word (36 ∷ [])) (Made (query_of_parts true) (Segments (Inside n)) q) (Segments (Inside n) h.two.part) s 0 text h h.two.is;
 }
 
 -- what is read spells the text
 pub read-spells : (n : ℕ) (text : Text) (x : QueryTree) (q : State) → query_at n (start text) ≡ took x q → Spells n x q.found text
 read-spells n text x q e =
     let judged = rw e at (query-judged n (start text)) in
-    spells-of n x q.found text
-    (whole-reads (word (36 ∷ []) ⌢ Made query_of_parts (Segments n) x) text q judged.is ((query-ends n (start text)).at x q e))
+    spells-of n x q.found text (whole-reads (whole n x) text q judged.is ((query-ends n (start text)).at x q e))
 
--- where reading is stuck, what stands before begins a text that spells a query
+-- ---- where reading stops
+
+-- what stands before a stop begins a text that spells a query
+front-of : (n : ℕ) (text : Text) (r : State) (h : Stops (whole n) (start text) r) → IsFront n h.front.read
+front-of n text r h =
+    (h.front.more, h.value, h.front.spans, spells-of n h.value h.front.spans (h.front.read ++ h.front.more) h.front.is)
+
+place-of : (n : ℕ) (text : Text) (r : State) (h : Stops (whole n) (start text) r) → bytes h.front.read ≡ r.at
+place-of n text r h = sym (h.front.at ∙ omega arith)
+
 pub stuck-front : (n : ℕ) (text : Text) (r : State) → query_at n (start text) ≡ stuck r → IsFrontBefore n text r.at
 stuck-front n text r e =
     let judged = rw e at (query-judged n (start text)) in
     let stops = judged.is in
-    let front = stops.front in
-    let place : bytes front.read ≡ r.at = sym (front.at ∙ omega arith) in
-    (front.read, r.rest, front.rest, place, (front.more, stops.value, front.spans, spells-of n stops.value front.spans (front.read ++ front.more) front.is))
+    (stops.front.read, r.rest, stops.front.rest, place-of n text r stops, front-of n text r stops)
 
--- ---- what spells a tree is read as it
+-- so it does where a level is missing, and with one level more the character there goes on
+deep-parts : (n : ℕ) (text : Text) (at : ℕ) (rest : Text) (found : Spans)
+    → Stops (whole n) (start text) (record { at = at; rest = rest; found = found })
+    → Passes (whole (suc n)) (start text) (record { at = at; rest = rest; found = found }) → IsTooDeepBefore n text at
+deep-parts n text at [] found h g = absurd (let none = g.next in omega arith)
+deep-parts n text at (mark ∷ behind) found h g =
+    let r : State = record { at = at; rest = mark ∷ behind; found = found } in
+    let before = h.front.read in
+    let through = g.stops.front in
+    let same : through.read ≡ before ++ mark ∷ [] =
+    append_cancel_right through.read (before ++ mark ∷ []) behind
+    (sym through.rest ∙ h.front.rest ∙ sym (append_assoc before (mark ∷ []) behind)) in
+    record {
+      before = before;
+      mark = mark;
+      behind = behind;
+      parts = h.front.rest;
+      place_is = place-of n text r h;
+      front = front-of n text r h;
+      deeper = subst (IsFront (suc n)) same (front-of (suc n) text (past r) g.stops);
+    }
 
-past-end : (at : ℕ) (found : Spans) → passes begins_segment (after_blank (record { at = at; rest = []; found = found })) ≡ false
-unfolding past_blanks
-past-end at found = refl
-
-pub spells-read : (n : ℕ) (q : QueryTree) (s : Spans) (text : Text) → Spells n q s text → query_at n (start text) ≡ took q (finish text s)
-unfolding query_at
-spells-read n q s text h =
-    let parts = split (word (36 ∷ [])) (Segments n h.parts) (start text) (finish text s)
-    (reads-whole (word (36 ∷ []) ⌢ Segments n h.parts) s text h.is) in
-    rw (
-      again-expect 36 (start text) parts.middle parts.one,
-      segments-again n h.parts parts.middle (finish text s) parts.two (past-end (bytes text) s) refl,
-      h.tree,
-    ) refl
-
--- where nothing is read nothing spells the text
-pub unread-spells_nothing : (n : ℕ) (text : Text) (r : State) → query_at n (start text) ≡ stuck r → SpellsNothing n text
-unread-spells_nothing n text r e q s h = let read = spells-read n q s text h in cc
-
--- ---- more levels
-
-spells-lifts : (n : ℕ) (q : QueryTree) (s : Spans) (text : Text) → Spells n q s text → Spells (suc n) q s text
-spells-lifts n q s text h = record {
-  parts = h.parts;
-  tree = h.tree;
-  is = joined-lifts (word (36 ∷ [])) (word (36 ∷ [])) (Segments n h.parts) (Segments (suc n) h.parts) (λ r i u g. g)
-      (each-lifts (λ x. Blank ⌢ Segment n x) (λ x. Blank ⌢ Segment (suc n) x)
-      (λ x. joined-lifts Blank Blank (Segment n x) (Segment (suc n) x) (λ r i u g. g) (segment-lifts n x)) h.parts) s 0 text h.is;
-}
-
-spells-more : (k n : ℕ) (q : QueryTree) (s : Spans) (text : Text) → Spells n q s text → Spells (k + n) q s text
-spells-more zero n q s text h = let e : zero + n ≡ n = omega arith in rw e h
-spells-more (suc k) n q s text h =
-    let e : suc k + n ≡ suc (k + n) = omega arith in
-    rw e (spells-lifts (k + n) q s text (spells-more k n q s text h))
-
--- no text spells two trees, or one tree with two lists of spans
-pub one-reading : OneReading
-one-reading n m q u s t text h g =
-    let first = spells-read (m + n) q s text (spells-more m n q s text h) in
-    let second = spells-read (n + m) u t text (spells-more n m u t text g) in
-    let levels : m + n ≡ n + m = omega arith in
-    let same : ◌≡◌ {A = Outcome QueryTree} (took q (finish text s)) (took u (finish text t)) =
-    sym first ∙ ap (λ k. query_at k (start text)) levels ∙ second in
-    let ends : finish text s ≡ finish text t = cc in
-    (cc, ap (λ (p : State). p.found) ends)
+pub deep-front : (n : ℕ) (text : Text) (r : State) → query_at n (start text) ≡ deep r → IsTooDeepBefore n text r.at
+deep-front n text r e =
+    let judged = rw e at (query-judged n (start text)) in
+    deep-parts n text r.at r.rest r.found judged.is.0 judged.is.1
