@@ -108,7 +108,7 @@ is_child d v l m document there has =
     let e = entry_at l m (held v) has in
     (ap is_some (ap (value_at d) (sym e.3) ∙ child_there d v l e.0 e.1 document there e.2), (e.1.0, sym e.3))
 
-Contains-map : {A B : Type 0} (f : A → B) (xs : List A) (x : A) → Contains xs x → Contains (map f xs) (f x)
+pub Contains-map : {A B : Type 0} (f : A → B) (xs : List A) (x : A) → Contains xs x → Contains (map f xs) (f x)
 Contains-map f xs x has = (has.0, subst (λ n. has.0 < n) (sym (length-map xs f)) has.1, get_or-map f xs has.0 x (f x) has.1 ∙ ap f has.2)
 
 some_of : (o : Option Value) → is_some o ≡ true → (w : Value) × (o ≡ Some w)

@@ -6,3 +6,11 @@ pub mod SpelledNames
 pub mod PathSpells
 pub mod PathBytes
 pub mod LocationLaws
+pub mod Trees
+pub mod Leads
+pub mod Along
+pub mod Sizes
+pub mod Children
+pub mod Starts
+pub mod Selections
+pub mod Kept

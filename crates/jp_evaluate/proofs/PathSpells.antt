@@ -10,10 +10,10 @@ use Rattle.std.specs.Str.{chars}
 use Rattle.std.proofs.lemmas.Int.Digits.{all_below_base_digits_of, first_digits_of, number_digits_of}
 use Rattle.jp_document.specs.Location.{Key, Location, named, nth}
 use Rattle.jp_document.specs.Path.{index_text}
-use Rattle.jp_query.specs.Grammar.{Segment, Selector, Spells, bracketed, indexed, named as by_name}
+use Rattle.jp_query.specs.Grammar.{Inside, Segment, Selector, Spells, bracketed, indexed, named as by_name}
 use Rattle.jp_query.specs.Ints.{Int, is_leading_digit, positive_int, whole_of, zero_int}
 use Rattle.jp_query.specs.Strings.{in_single}
-use Rattle.jp_query.specs.Tree.{SelectorTree, index, name, segment, selectors}
+use Rattle.jp_query.specs.Tree.{ExprTree, SelectorTree, index, name, segment, selectors}
 use Rattle.jp_query.specs.declared.tree.Numeral.TheVariants.{Whole}
 use Rattle.jp_reading.specs.Numbers.{is_digit, value_from}
 use Rattle.jp_evaluate.proofs.PathTrees.{IndexFits, IndexesFit, path_tree, step_segment}
@@ -86,56 +86,56 @@ no_blank : (o : ℕ) → Blank [] o []
 no_blank o = record { none = refl; blank = tt }
 
 -- one selector is a list of selectors without a comma
-separated-one : (n : ℕ) (y : SelectorTree) (s : Spans) (p : ℕ) (t : Text) → Selector n y s p t
-    → Separated (word (44 ∷ []) ⌢ Blank) (λ x. Selector n x ⌢ Blank) (y ∷ []) ((s ++ []) ++ []) p t
-separated-one n y s p t one =
+separated-one : (Inner : ExprTree → Form) (y : SelectorTree) (s : Spans) (p : ℕ) (t : Text) → Selector Inner y s p t
+    → Separated (word (44 ∷ []) ⌢ Blank) (λ x. Selector Inner x ⌢ Blank) (y ∷ []) ((s ++ []) ++ []) p t
+separated-one Inner y s p t one =
     let same : (t ++ []) ++ [] ≡ t = append-nil (t ++ []) ∙ append-nil t in
-    subst (λ u. Separated (word (44 ∷ []) ⌢ Blank) (λ x. Selector n x ⌢ Blank) (y ∷ []) ((s ++ []) ++ []) p u) same
-    (both (Selector n y ⌢ Blank) (word []) (s ++ []) [] p (t ++ []) [] (both (Selector n y) Blank s [] p t [] one (no_blank _)) (a_word [] _))
+    subst (λ u. Separated (word (44 ∷ []) ⌢ Blank) (λ x. Selector Inner x ⌢ Blank) (y ∷ []) ((s ++ []) ++ []) p u) same
+    (both (Selector Inner y ⌢ Blank) (word []) (s ++ []) [] p (t ++ []) [] (both (Selector Inner y) Blank s [] p t [] one (no_blank _)) (a_word [] _))
 
-bracket-of : (n : ℕ) (y : SelectorTree) (t : Text) (o : ℕ) → ((p : ℕ) → (s : Spans) × Selector n y s p t)
-    → (s : Spans) × (Blank ⌢ Segment n (segment false (selectors (y ∷ [])))) s o (91 ∷ (t ++ 93 ∷ []))
-bracket-of n y t o select =
+bracket-of : (Inner : ExprTree → Form) (y : SelectorTree) (t : Text) (o : ℕ) → ((p : ℕ) → (s : Spans) × Selector Inner y s p t)
+    → (s : Spans) × (Blank ⌢ Segment Inner (segment false (selectors (y ∷ [])))) s o (91 ∷ (t ++ 93 ∷ []))
+bracket-of Inner y t o select =
     let at : ℕ = o + bytes [] + bytes (91 ∷ []) + bytes [] in
     let found = select at in
-    let all : Form = Separated (word (44 ∷ []) ⌢ Blank) (λ x. Selector n x ⌢ Blank) (y ∷ []) in (
+    let all : Form = Separated (word (44 ∷ []) ⌢ Blank) (λ x. Selector Inner x ⌢ Blank) (y ∷ []) in (
       _,
-      both Blank (Segment n (segment false (selectors (y ∷ [])))) [] _ o [] (91 ∷ (t ++ 93 ∷ [])) (no_blank o)
+      both Blank (Segment Inner (segment false (selectors (y ∷ [])))) [] _ o [] (91 ∷ (t ++ 93 ∷ [])) (no_blank o)
           (bracketed (y ∷ []) refl
           (both (word (91 ∷ [])) (Blank ⌢ all ⌢ word (93 ∷ [])) [] _ _ (91 ∷ []) (t ++ 93 ∷ []) (a_word (91 ∷ []) _)
           (both Blank (all ⌢ word (93 ∷ [])) [] _ _ [] (t ++ 93 ∷ []) (no_blank _)
-          (both all (word (93 ∷ [])) ((found.0 ++ []) ++ []) [] at t (93 ∷ []) (separated-one n y found.0 at t found.1) (a_word (93 ∷ []) _))))),
+          (both all (word (93 ∷ [])) ((found.0 ++ []) ++ []) [] at t (93 ∷ []) (separated-one Inner y found.0 at t found.1) (a_word (93 ∷ []) _))))),
     )
 
-step-spells : (n : ℕ) (k : Key) (o : ℕ) → IndexFits k → (s : Spans) × (Blank ⌢ Segment n (step_segment k)) s o (key_chars k)
-step-spells n (named s) o fits =
-    bracket-of n (name (chars s)) (39 ∷ (flat_map (spelling 39) (chars s) ++ 39 ∷ [])) o
+step-spells : (Inner : ExprTree → Form) (k : Key) (o : ℕ) → IndexFits k → (s : Spans) × (Blank ⌢ Segment Inner (step_segment k)) s o (key_chars k)
+step-spells Inner (named s) o fits =
+    bracket-of Inner (name (chars s)) (39 ∷ (flat_map (spelling 39) (chars s) ++ 39 ∷ [])) o
     (λ p. ([], by_name (chars s) refl (in_single (between-of (chars s) p))))
-step-spells n (nth i) o fits =
-    bracket-of n (index (Whole (pos i))) (index_text i) o
+step-spells Inner (nth i) o fits =
+    bracket-of Inner (index (Whole (pos i))) (index_text i) o
     (λ p. (
       Some (record { start = p; end = p + bytes (index_text i) }) ∷ [],
       indexed (Whole (pos i)) refl (record { inside = []; spans = refl; is = index-of i p fits }),
     ))
 
-segments-spell : (n : ℕ) (l : Location) (o : ℕ) → IndexesFit l
-    → (s : Spans) × Each (λ x. Blank ⌢ Segment n x) (map step_segment l) s o (flat_map key_chars l)
-segments-spell n [] o fits = ([], a_word [] o)
-segments-spell n (k ∷ l) o fits =
-    let one = step-spells n k o fits.0 in
-    let more = segments-spell n l (o + bytes (key_chars k)) fits.1 in (
+segments-spell : (Inner : ExprTree → Form) (l : Location) (o : ℕ) → IndexesFit l
+    → (s : Spans) × Each (λ x. Blank ⌢ Segment Inner x) (map step_segment l) s o (flat_map key_chars l)
+segments-spell Inner [] o fits = ([], a_word [] o)
+segments-spell Inner (k ∷ l) o fits =
+    let one = step-spells Inner k o fits.0 in
+    let more = segments-spell Inner l (o + bytes (key_chars k)) fits.1 in (
       one.0 ++ more.0,
-      both (Blank ⌢ Segment n (step_segment k)) (Each (λ x. Blank ⌢ Segment n x) (map step_segment l)) one.0 more.0 o
+      both (Blank ⌢ Segment Inner (step_segment k)) (Each (λ x. Blank ⌢ Segment Inner x) (map step_segment l)) one.0 more.0 o
           (key_chars k) (flat_map key_chars l) one.1 more.1,
     )
 
 pub path-spells : (n : ℕ) (l : Location) → IndexesFit l → (s : Spans) × Spells n (path_tree l) s (36 ∷ flat_map key_chars l)
 path-spells n l fits =
-    let more = segments-spell n l (0 + bytes (36 ∷ [])) fits in (
+    let more = segments-spell (Inside n) l (0 + bytes (36 ∷ [])) fits in (
       more.0,
       record {
         parts = map step_segment l;
         tree = refl;
-        is = both (word (36 ∷ [])) (Each (λ x. Blank ⌢ Segment n x) (map step_segment l)) [] more.0 0 (36 ∷ []) (flat_map key_chars l) (a_word (36 ∷ []) 0) more.1;
+        is = both (word (36 ∷ [])) (Each (λ x. Blank ⌢ Segment (Inside n) x) (map step_segment l)) [] more.0 0 (36 ∷ []) (flat_map key_chars l) (a_word (36 ∷ []) 0) more.1;
       },
     )

@@ -12,9 +12,8 @@ use Rattle.jp_query.specs.Tree.{SegmentTree, SelectorTrees, segment, segment_of,
 use Rattle.jp_query.specs.declared.tree.Segment.{Segment}
 use Rattle.jp_query.specs.declared.tree.Selector.{Selector}
 use Rattle.jp_select.specs.Below.{below}
-use Rattle.jp_select.specs.Selectors.{chosen}
 use Rattle.jp_select.specs.Walk.{Place}
-use Rattle.jp_evaluate.specs.Nodelist.{location_of, result, segment_result, selected}
+use Rattle.jp_evaluate.specs.Nodelist.{location_of, result, segment_result, selected, selection}
 
 -- ---- lists that grow by what each element gives
 
@@ -46,21 +45,24 @@ grown-next d gives joined old now next xs i x within at before more_of =
 
 -- what selectors of the program select at l
 abbrev pub by_selectors : Value → Location → List Selector → List Location
-by_selectors d l xs = selected d (selectors (map selector_of xs)) l
+by_selectors d l xs = selected (selectors (map selector_of xs)) d l
 
 pub by_selectors-append : (d : Value) (l : Location) (xs ys : List Selector) → by_selectors d l (xs ++ ys) ≡ by_selectors d l xs ++ by_selectors d l ys
 by_selectors-append d l [] ys = refl
 by_selectors-append d l (x ∷ xs) ys =
-    ap (λ t. chosen d (selector_of x) l ++ t) (by_selectors-append d l xs ys)
-    ∙ sym (append_assoc (chosen d (selector_of x) l) (by_selectors d l xs) (by_selectors d l ys))
+    ap (λ t. selection (selector_of x) d l ++ t) (by_selectors-append d l xs ys)
+    ∙ sym (append_assoc (selection (selector_of x) d l) (by_selectors d l xs) (by_selectors d l ys))
 
--- the nodes that one selector gave are appended
-pub by_selector : (d : Value) (l : Location) (s : Selector) (old chosen_nodes new : List Located)
-    → new ≡ old ++ chosen_nodes → AreNodes d chosen_nodes (chosen d (selector_of s) l)
-    → map shown new ≡ map shown old ++ map (standing d) (by_selectors d l (s ∷ []))
-by_selector d l s old chosen_nodes new grown are =
-    ap (map shown) grown ∙ map-append shown old chosen_nodes ∙ ap (λ t. map shown old ++ t) are
-    ∙ ap (λ t. map shown old ++ map (standing d) t) (sym (append-nil (chosen d (selector_of s) l)))
+-- the nodes that one selector selects are appended
+pub by_selector : (d : Value) (l : Location) (s : Selector) (now next : List Located)
+    → map shown next ≡ map shown now ++ map (standing d) (selection (selector_of s) d l)
+    → map shown next ≡ map shown now ++ map (standing d) (by_selectors d l (s ∷ []))
+by_selector d l s now next more = more ∙ ap (λ t. map shown now ++ map (standing d) t) (sym (append-nil (selection (selector_of s) d l)))
+
+-- nodes are appended
+pub appended : (d : Value) (ls : List Location) (old more new : List Located) → new ≡ old ++ more → AreNodes d more ls
+    → map shown new ≡ map shown old ++ map (standing d) ls
+appended d ls old more new grown are = ap (map shown) grown ∙ map-append shown old more ∙ ap (λ t. map shown old ++ t) are
 
 -- ---- segments
 
@@ -68,18 +70,18 @@ by_selector d l s old chosen_nodes new grown are =
 abbrev pub by_segment : Value → SegmentTree → List Located → List Location
 by_segment d s ns = segment_result s d (map location_of ns)
 
-segment_result-append : (d : Value) (s : SegmentTree) (ls ms : List Location) → segment_result s d (ls ++ ms) ≡ segment_result s d ls ++ segment_result s d ms
-segment_result-append d (segment false ss) ls ms = flat_map-append (selected d ss) ls ms
+pub segment_result-append : (d : Value) (s : SegmentTree) (ls ms : List Location) → segment_result s d (ls ++ ms) ≡ segment_result s d ls ++ segment_result s d ms
+segment_result-append d (segment false ss) ls ms = flat_map-append (selected ss d) ls ms
 segment_result-append d (segment true ss) ls ms =
-    ap (flat_map (selected d ss)) (flat_map-append (below d) ls ms)
-    ∙ flat_map-append (selected d ss) (flat_map (below d) ls) (flat_map (below d) ms)
+    ap (flat_map (selected ss d)) (flat_map-append (below d) ls ms)
+    ∙ flat_map-append (selected ss d) (flat_map (below d) ls) (flat_map (below d) ms)
 
 pub by_segment-append : (d : Value) (s : SegmentTree) (ns ms : List Located) → by_segment d s (ns ++ ms) ≡ by_segment d s ns ++ by_segment d s ms
 by_segment-append d s ns ms = ap (segment_result s d) (map-append location_of ns ms) ∙ segment_result-append d s (map location_of ns) (map location_of ms)
 
 -- a child segment at one node
-pub child_segment-one : (d : Value) (ss : SelectorTrees) (l : Location) → segment_result (segment false ss) d (l ∷ []) ≡ selected d ss l
-child_segment-one d ss l = append-nil (selected d ss l)
+pub child_segment-one : (d : Value) (ss : SelectorTrees) (l : Location) → segment_result (segment false ss) d (l ∷ []) ≡ selected ss d l
+child_segment-one d ss l = append-nil (selected ss d l)
 
 -- ---- the nodes of a list
 

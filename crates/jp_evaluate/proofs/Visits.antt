@@ -20,7 +20,7 @@ pub record IsUnderWay (d : Value) (ss : SelectorTrees) (all : List Location) (ol
   pub waiting : List Location
   pub parts : done ++ waiting ≡ all
   pub walk : rest ≡ map (standing d) waiting
-  pub there : map shown now ≡ map shown old ++ map (standing d) (flat_map (selected d ss) done)
+  pub there : map shown now ≡ map shown old ++ map (standing d) (flat_map (selected ss d) done)
 
 -- at the start none is done
 pub none_done : (d : Value) (ss : SelectorTrees) (l m : Location) (old : List Located) (rest : List Place) → m ≡ l
@@ -65,11 +65,11 @@ given_stands d ss all old now rest after n o document visit is gives =
 -- one node more
 pub one_done : (d : Value) (ss : SelectorTrees) (all : List Location) (old now next : List Located) (rest after : List Place) (n : Located) (o : Option Located)
     → IsUnderWay d ss all old now rest → o ≡ Some n → Gives rest o after
-    → map shown next ≡ map shown now ++ map (standing d) (selected d ss n.location) → IsUnderWay d ss all old next after
+    → map shown next ≡ map shown now ++ map (standing d) (selected ss d n.location) → IsUnderWay d ss all old next after
 one_done d ss all old now next rest after n o visit is gives more_of =
     let first = given_first d n o rest after visit.waiting is gives visit.walk in
-    let one : List Location = selected d ss n.location in
-    let so_far : List Location = flat_map (selected d ss) visit.done in
+    let one : List Location = selected ss d n.location in
+    let so_far : List Location = flat_map (selected ss d) visit.done in
     record {
       done = visit.done ++ n.location ∷ [];
       waiting = first.more;
@@ -78,7 +78,7 @@ one_done d ss all old now next rest after n o visit is gives more_of =
       there =
           grown d so_far one old now next visit.there more_of
           ∙ ap (λ ls. map shown old ++ map (standing d) (so_far ++ ls)) (sym (append-nil one))
-          ∙ ap (λ ls. map shown old ++ map (standing d) ls) (sym (flat_map-append (selected d ss) visit.done (n.location ∷ [])));
+          ∙ ap (λ ls. map shown old ++ map (standing d) ls) (sym (flat_map-append (selected ss d) visit.done (n.location ∷ [])));
     }
 
 none_waits : (d : Value) (waiting : List Location) → [] ≡ map (standing d) waiting → waiting ≡ []
@@ -97,4 +97,4 @@ all_done d ss l old now rest after o visit is gives end =
     let none : visit.waiting ≡ [] = none_waits d visit.waiting (sym (at_end rest after o is gives end) ∙ visit.walk) in
     let done : visit.done ≡ below d l ++ [] =
     sym (append-nil visit.done) ∙ ap (λ ls. visit.done ++ ls) (sym none) ∙ visit.parts ∙ sym (append-nil (below d l)) in
-    visit.there ∙ ap (λ ls. map shown old ++ map (standing d) (flat_map (selected d ss) ls)) done
+    visit.there ∙ ap (λ ls. map shown old ++ map (standing d) (flat_map (selected ss d) ls)) done

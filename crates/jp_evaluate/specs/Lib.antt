@@ -1,2 +1,3 @@
-pub mod Nodelist
 pub mod Laws
+pub mod Nodelist
+pub mod Search

@@ -1,21 +1,21 @@
 -- The nodelist of a query (RFC 9535 section 2.1.2), as the locations of its nodes.
-use Rattle.std.specs.Prelude.{Bool, true, false, List, [], ◌∷◌, ◌++◌}
+use Rattle.std.specs.Prelude.{Bool, true, false, not, ◌&&◌, ◌||◌, if◌then◌else◌, List, [], ◌∷◌, ◌++◌, filter as those_of, Option, Some, None}
 use Rattle.std.specs.List.{flat_map}
-use Rattle.jp_document.specs.Location.{Location}
+use Rattle.std.specs.Str.{encode_utf8_all}
+use Rattle.jp_document.specs.ChildNodes.{children_of}
+use Rattle.jp_document.specs.Location.{Location, value_at}
 use Rattle.jp_document.specs.Node.{Located}
-use Rattle.jp_document.specs.Value.{Value}
-use Rattle.jp_query.specs.Tree.{QueryTree, SegmentTree, SegmentTrees, SelectorTrees, no_segments, no_selectors, query, segment, segment_then, selector_then}
+use Rattle.jp_document.specs.Value.{Value, null, boolean, whole, text as text_value}
+use Rattle.jp_query.specs.Singular.{is_singular}
+use Rattle.jp_query.specs.Tree.{ExprTree, ExprTrees, LiteralTree, OperandTree, QueryTree, SegmentTree, SegmentTrees, SelectorTree, SelectorTrees, all_of, any_of, comparison, exists, expr_then, false_literal, filter, index, literal, name, negation, no_exprs, no_segments, no_selectors, node_value, null_literal, number, query, segment, segment_then, selector_then, slice, text, true_literal, wildcard}
+use Rattle.jp_query.specs.declared.tree.Numeral.TheVariants.{Whole}
 use Rattle.jp_select.specs.Below.{below}
+use Rattle.jp_select.specs.Comparison.{compared}
 use Rattle.jp_select.specs.Selectors.{chosen}
 
 -- the location of a node
 abbrev pub location_of : Located → Location
 location_of node = node.location
-
--- what selectors select at l: what each selects, in their order (section 2.5.1.2)
-abbrev pub selected : Value → SelectorTrees → Location → List Location
-selected d no_selectors l = []
-selected d (selector_then s rest) l = chosen d s l ++ selected d rest l
 
 -- the nodes at which a segment applies its selectors: a child segment at the nodes themselves (section 2.5.1.2), a
 -- descendant segment at each node and its descendants (section 2.5.2.2)
@@ -23,15 +23,84 @@ abbrev pub visited : Bool → Value → List Location → List Location
 visited false d ls = ls
 visited true d ls = flat_map (below d) ls
 
--- what a segment gives from a list of nodes: what it selects at each node that it visits, joined in their order (section 2.5)
-abbrev pub segment_result : SegmentTree → Value → List Location → List Location
-segment_result (segment descendant ss) d ls = flat_map (selected d ss) (visited descendant d ls)
+-- where a query begins: at the root, or, with `@`, at the current node c (section 2.3.5.1)
+abbrev pub start_of : Bool → Location → Location
+start_of true c = []
+start_of false c = c
 
--- what segments give from a list of nodes: each takes the list that the one before it gave (section 2.1.2)
-abbrev pub result : SegmentTrees → Value → List Location → List Location
-result no_segments d ls = ls
-result (segment_then s rest) d ls = result rest d (segment_result s d ls)
+-- there is a node in the list
+abbrev pub has_node : List Location → Bool
+has_node [] = false
+has_node (l ∷ ls) = true
 
--- the nodelist of a query over the value d: what its segments give from the root alone
+-- the value of the node of a list of at most one; Nothing where it has none
+abbrev pub value_of_node : Value → List Location → Option Value
+value_of_node d [] = None
+value_of_node d (l ∷ ls) = value_at d l
+
+-- the value of a literal; a number that is not whole, or beyond 64 bits, has none here
+abbrev pub literal_value : LiteralTree → Option Value
+literal_value (number (Whole z)) = Some (whole z)
+literal_value (number _) = None
+literal_value (text cs) = Some (text_value (encode_utf8_all cs))
+literal_value true_literal = Some (boolean true)
+literal_value false_literal = Some (boolean false)
+literal_value null_literal = Some null
+
+-- d is the document's value throughout; l, c and the members of ls are locations in it
+abbrev mutual
+  -- what a selector selects at l: a filter the children of which its expression is true, in their order (section
+  -- 2.3.5.2), any other what is chosen by itself
+  pub selection : SelectorTree → Value → Location → List Location
+  selection (name cs) d l = chosen d (name cs) l
+  selection wildcard d l = chosen d wildcard l
+  selection (index i) d l = chosen d (index i) l
+  selection (slice s) d l = chosen d (slice s) l
+  selection (filter e) d l = those_of (holds e d) (children_of d l)
+
+  -- what selectors select at l: what each selects, in their order (section 2.5.1.2)
+  pub selected : SelectorTrees → Value → Location → List Location
+  selected no_selectors d l = []
+  selected (selector_then s rest) d l = selection s d l ++ selected rest d l
+
+  -- what a segment gives from a list of nodes: what it selects at each node that it visits, joined in their order
+  -- (section 2.5)
+  pub segment_result : SegmentTree → Value → List Location → List Location
+  segment_result (segment descendant ss) d ls = flat_map (selected ss d) (visited descendant d ls)
+
+  -- what segments give from a list of nodes: each takes the list that the one before it gave (section 2.1.2)
+  pub result : SegmentTrees → Value → List Location → List Location
+  result no_segments d ls = ls
+  result (segment_then s rest) d ls = result rest d (segment_result s d ls)
+
+  -- the nodelist of a query, where c is the current node
+  pub nodelist_at : QueryTree → Value → Location → List Location
+  nodelist_at (query absolute all) d c = result all d (start_of absolute c ∷ [])
+
+  -- whether an expression is true where c is the current node (section 2.3.5.2)
+  pub holds : ExprTree → Value → Location → Bool
+  holds (any_of es) d c = any_holds es d c
+  holds (all_of es) d c = all_hold es d c
+  holds (negation e) d c = not (holds e d c)
+  holds (comparison left op right) d c = compared op (operand_value left d c) (operand_value right d c)
+  holds (exists q) d c = has_node (nodelist_at q d c)
+
+  -- some of the expressions is true
+  pub any_holds : ExprTrees → Value → Location → Bool
+  any_holds no_exprs d c = false
+  any_holds (expr_then e rest) d c = holds e d c || any_holds rest d c
+
+  -- all of the expressions are true
+  pub all_hold : ExprTrees → Value → Location → Bool
+  all_hold no_exprs d c = true
+  all_hold (expr_then e rest) d c = holds e d c && all_hold rest d c
+
+  -- the value of a side of a comparison: that of the literal, or of a singular query's node (section 2.3.5.2.2); other
+  -- queries have none
+  pub operand_value : OperandTree → Value → Location → Option Value
+  operand_value (literal x) d c = literal_value x
+  operand_value (node_value q) d c = if is_singular q then value_of_node d (nodelist_at q d c) else None
+
+-- the nodelist of a query over the value d: what its segments give from the root
 abbrev pub nodelist : QueryTree → Value → List Location
-nodelist (query absolute all) d = result all d ([] ∷ [])
+nodelist q d = nodelist_at q d []

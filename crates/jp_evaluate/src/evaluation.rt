@@ -24,7 +24,7 @@ pub fn evaluate<'d>(
     let mut nodes = Vec::new(alloc);
     nodes.push(document.root(alloc))?;
     for segment in &query.segments {
-        nodes = selected_by(alloc, segment, &nodes)?;
+        nodes = selected_by(alloc, segment, document.json(), &nodes)?;
     }
     Ok(nodes)
 }

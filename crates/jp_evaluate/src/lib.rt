@@ -12,8 +12,11 @@
 #![tactic(auto)]
 
 mod evaluation;
+mod filter;
 pub mod laws;
+mod operand;
 mod segment;
+mod singular;
 #[cfg(test)]
 mod tests;
 

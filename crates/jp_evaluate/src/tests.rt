@@ -55,6 +55,39 @@ fn descendant_segments(rt: HostRuntime) -> Result<(), Fail> {
 }
 
 #[test]
+fn filters(rt: HostRuntime) -> Result<(), Fail> {
+    let alloc = rt.alloc();
+    for (document, query, paths) in [
+        ("[1,2,1]", "$[?$[0]==@]", " $[0] $[2]"),
+        ("[[0],[1]]", "$[?@[ 0 ]==-0]", " $[0]"),
+        ("[{}]", "$[?@.x==@.y, ?@.x<@.y, ?@.x==null]", " $[0]"),
+        (
+            r#"{"b":[null,false],"c":[{}]}"#,
+            "$[?@[0]][?@==null]",
+            " $['b'][0]",
+        ),
+        (
+            r#"[{"b":"j"},{"b":"kilo"},5,[{"b":6}]]"#,
+            "$[?@.b=='kilo'||@[?@.b]]",
+            " $[1] $[3]",
+        ),
+        (
+            r#"{"p":1,"q":2,"r":3,"s":5,"t":{"u":6}}"#,
+            "$[?@>1&&@<4,?!(@.u||@<5)]",
+            " $['q'] $['r'] $['s']",
+        ),
+        ("[[[3],[4]],[[5]],6]", "$[?@[-1:][?@==$[0][1][0]]]", " $[0]"),
+        ("[[[3],[4]],[[5]],6]", "$[?@..[?@==5]]", " $[1]"),
+    ] {
+        assert_eq!(rt;
+            nodelist(alloc, document.as_bytes(), query)?.as_str(),
+            paths
+        );
+    }
+    Ok(())
+}
+
+#[test]
 fn half_a_million_segments(rt: HostRuntime) -> Result<(), Fail> {
     let alloc = rt.alloc();
     let mut query = String::from_str(alloc, "$")?;
@@ -62,5 +95,11 @@ fn half_a_million_segments(rt: HostRuntime) -> Result<(), Fail> {
         query.push_str(".a")?;
     }
     assert_eq!(rt; nodelist(alloc, NESTED, &query)?.as_str(), "");
+    let mut filter = String::from_str(alloc, "$[?@")?;
+    for _ in 0..524_287 {
+        filter.push_str(".*")?;
+    }
+    filter.push_str("]")?;
+    assert_eq!(rt; nodelist(alloc, NESTED, &filter)?.as_str(), "");
     Ok(())
 }

@@ -29,4 +29,4 @@ mod tests;
 pub use comparable::Comparable;
 pub use comparison::{compare, equal, less};
 pub use descent::{Descent, descend, descend_each};
-pub use selector::select_plain;
+pub use selector::{item_of, select_plain, slice_items};

@@ -1,6 +1,7 @@
 //! What a plain selector selects at a node (RFC 9535 section 2.3).
-ghost use Rattle.std.specs.Prelude.{◌≡◌, IfOk, option_and_then, option_to_list};
+ghost use Rattle.std.specs.Prelude.{◌≡◌, [], IfOk, option_and_then, option_to_list};
 ghost use Rattle.std.specs.List.{flat_map};
+ghost use Rattle.std.specs.Option.{option_map_or};
 ghost use Rattle.jp_document.specs.ChildNodes.{AreNodes};
 ghost use Rattle.jp_document.specs.Node.{StandsIn};
 ghost use Rattle.jp_document.specs.Value.{Value, value_of};
@@ -56,8 +57,9 @@ fn item<'d>(alloc: Global, node: &Node<'d>, index: i128) -> Result<Option<Node<'
     }
 }
 
-/// Which item of a list an index stands for, None where there is none or the value is no list.
-fn item_of(value: &Json, index: i128) -> Option<u64>
+/// Which item of a list an index selects (section 2.3.3.2), counted from the end where it is negative; None where there
+/// is none or the value is no list.
+pub fn item_of(value: &Json, index: i128) -> Option<u64>
     ensures { result ≡ option_and_then (λ n. item_at n index) (list_length (value_of value.now)) }
 {
     item_at(list_length(value)?, index)
@@ -94,8 +96,16 @@ fn items<'d>(alloc: Global, node: &Node<'d>, slice: Slice) -> Result<Vec<Node<'d
     ensures { (d : Value) → StandsIn d node.now → IfOk result (λ nodes.
         AreNodes d nodes.items (items_chosen d slice node.now.location)) }
 {
-    match list_length(node.value()) {
-        Some(length) => items_at(alloc, node, &indexes(alloc, length, slice)?),
+    items_at(alloc, node, &slice_items(alloc, node.value(), slice)?)
+}
+
+/// The indexes of the items of a list that a slice selects, in its order (section 2.3.4.2); none of another value.
+pub fn slice_items(alloc: Global, value: &Json, slice: Slice) -> Result<Vec<u64>, AllocError>
+    ensures { IfOk result (λ items. items.items
+        ≡ option_map_or (indexes_chosen slice) (list_length (value_of value.now)) []) }
+{
+    match list_length(value) {
+        Some(length) => indexes(alloc, length, slice),
         None => Ok(Vec::new(alloc)),
     }
 }

@@ -10,15 +10,15 @@ use Rattle.jp_document.proofs.node.child_named.Goals as goal
 pub extended-requires : goal.extended-requires
 extended-requires c =
     let m = c.in-Some.member.now in
-    let found = value_from_pair c.args.name.now (member_of m) _ c.in-Some.ensures in
+    let found = value_from_pair c.args.name.now (member_of m) _ (c.in-Some.ensures.found c.node.invariant) in
     subst IsDocumentValue (ap (λ p. p.1) (member_of_is m)) (IsDocumentValue-child (value_of c.node.inside.value.now) (member_of m).1 (named c.args.name.now) c.node.invariant found)
 
 pub returns-in_ok-extended-in-Some-clause-stands : goal.returns-in_ok-extended-in-Some-clause-stands
 returns-in_ok-extended-in-Some-clause-stands c =
     let n = c.args.node.now in
     let k = named c.args.name.now in
-    let held : option_map told (Some c.in_ok-extended-in-Some.field-0) ≡ told_child n k = grind (arith, common_steps, member_of_is) in
+    let held : option_map told (Some c.in_ok-extended-in-Some.field-0) ≡ told_child n k = grind (arith, common_steps, member_of_is, c.in-Some.ensures.found c.node.invariant) in
     λ d stands. child_stands d n k (Some c.in_ok-extended-in-Some.field-0) held stands
 
 pub returns-in-None-clause-stands : goal.returns-in-None-clause-stands
-returns-in-None-clause-stands c = λ d stands. child_stands d c.args.node.now (named c.args.name.now) None (search rules) stands
+returns-in-None-clause-stands c = λ d stands. child_stands d c.args.node.now (named c.args.name.now) None (grind (arith, common_steps, c.in-None.ensures.found c.node.invariant)) stands

@@ -17,7 +17,7 @@ loop-segment-preserved c =
     let stand : All (StandsIn d) c.loop-segment.nodes.items =
     nodes-stand d c.loop-segment.nodes.items ls c.root.ensures.stands.document c.loop-segment.invariant.own in
     let found : AreNodes d c.in_ok-nodes.nodes.items (segment_result (segment_of c.segment-item.result) d ls) =
-    rw (← c.deref.ensures.value) (c.in_ok-nodes.ensures d (subst (All (StandsIn d)) (sym c.deref.ensures.value) stand)) in
+    (rw (c.json.ensures.value, c.deref.ensures.value) at c.in_ok-nodes.ensures) stand in
     let there = nodes-locations d c.in_ok-nodes.nodes.items _ found in
     record {
       own = subst (AreNodes d c.in_ok-nodes.nodes.items) (sym there) found;

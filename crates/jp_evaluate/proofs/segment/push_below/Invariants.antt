@@ -1,6 +1,6 @@
 use Rattle.std.proofs.Common.{length, map}
 use Rattle.jp_document.specs.Node.{StandsIn}
-use Rattle.jp_document.specs.Value.{Value}
+use Rattle.jp_document.specs.Value.{value_of}
 use Rattle.jp_query.specs.Tree.{selector_of, selectors}
 use Rattle.jp_select.specs.Below.{below}
 use Rattle.jp_select.specs.Walk.{rest_of}
@@ -9,8 +9,8 @@ use Rattle.jp_evaluate.proofs.segment.push_below.Given as goal
 
 -- what the selectors select at the nodes so far is there
 abbrev pub invariant-loop-descent : goal.invariant-loop-descent
-invariant-loop-descent l = (d : Value) → StandsIn d l.node → IsUnderWay d (selectors (map selector_of l.selectors))
-    (below d l.node.location) l.fn.found.items l.found.items (rest_of l.descent)
+invariant-loop-descent l = StandsIn (value_of l.root) l.node → IsUnderWay (value_of l.root) (selectors (map selector_of l.selectors))
+    (below (value_of l.root) l.node.location) l.fn.found.items l.found.items (rest_of l.descent)
 
 abbrev pub decreases-loop-descent : goal.decreases-loop-descent
 decreases-loop-descent l = length (rest_of l.descent)
