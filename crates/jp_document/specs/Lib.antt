@@ -1,4 +1,5 @@
 pub mod ChildNodes
+pub mod Direct
 pub mod Document
 pub mod Laws
 pub mod Location

@@ -17,6 +17,7 @@
 
 mod characters;
 mod child_nodes;
+mod direct;
 mod document;
 mod fault;
 pub mod laws;
