@@ -1,20 +1,20 @@
 -- Reading straight from the tokens: where it stands after each item and each member.
 use Rattle.std.proofs.Common.{◌≡◌, ℕ, ◌-◌, ◌<◌, ◌≤◌, true, List, [], ◌∷◌, ◌++◌, length, map, Some, None, refl, sym, ap, subst, ◌∙◌, append_assoc, append-nil}
-use Rattle.std.specs.List.{insert, list_all}
+use Rattle.std.specs.BTreeMap.{insert_entry}
+use Rattle.std.specs.List.{list_all}
 use Rattle.std.proofs.lemmas.List.{map-append}
 use Rattle.json.specs.Token.{Token}
 use Rattle.json.specs.Json.{after_end_array, read_key, members, value}
 use Rattle.serde_json.specs.Data as parsed
 use Rattle.serde_json.specs.Read.{of_members, converted}
 use Rattle.std.specs.Prelude.{IsUtf8}
-use Rattle.jp_document.specs.Direct.{IsPlace, ReadsItems, ReadsMembers, ReadsText, ReadsValue}
+use Rattle.jp_document.specs.Direct.{ReadsItems, ReadsMembers, ReadsText, ReadsValue}
 use Rattle.jp_document.specs.Document.{IsDocument}
-use Rattle.jp_document.specs.Value.{Value, null, boolean, whole, text, list, object, Items, no_items, item, Members, no_members, member, list_fits, IsDocumentValue, everywhere, everywhere_in_items, everywhere_in_members, is_allowed, items_of, members_of, names_of, names_rise, value_of, member_of}
+use Rattle.jp_document.specs.Value.{Value, null, boolean, whole, text, list, object, Items, no_items, item, Members, no_members, member, list_fits, IsDocumentValue, everywhere, everywhere_in_items, everywhere_in_members, is_allowed, items_of, members_of, names_of, names_rise, value_of}
 use Rattle.jp_document.specs.declared.value.Json.{Json}
-use Rattle.jp_document.specs.declared.value.Member.{Member}
 use Rattle.jp_document.proofs.DirectTurns.{items_turn, items_over, member_turn, members_over}
-use Rattle.jp_document.proofs.Places.{Entry, pair, data_of, members_of_data-entries, pairs_insert, put_insert, rise_insert, seen_insert, sound_insert}
-use Rattle.jp_document.proofs.Names.{and-left, and-right}
+use Rattle.jp_document.proofs.Places.{Entry, pair, data_of, members_of_data-entries, put_entry, pairs-put_entry, data_of-put_entry, rise_insert, sound_insert}
+use Rattle.jp_document.proofs.Names.{bytes_cmp, and-left, and-right}
 use Rattle.jp_document.proofs.Wholes.{all-items, all_push, both}
 
 -- ---- items
@@ -43,33 +43,31 @@ items_sound found j before here =
 -- ---- members
 
 -- the members so far, with the data that was read of them, and the members to come
-pub record MembersAhead (depth : ℕ) (initial : List Token) (n : ℕ) (ts : List Token) (found : List Member) : Type 0 where
+pub record MembersAhead (depth : ℕ) (initial : List Token) (n : ℕ) (ts : List Token) (found : List (List ℕ × Value)) : Type 0 where
   pub entries : List Entry
-  pub seen : map member_of found ≡ map pair entries
+  pub seen : found ≡ map pair entries
   pub ahead : converted (λ js. of_members js parsed.no_members) (members (value depth) (length initial) initial) ≡ converted (λ js. of_members js (data_of entries)) (members (value depth) n ts)
-  pub rise : names_rise (names_of (members_of (map member_of found))) ≡ true
-  pub sound : everywhere_in_members is_allowed (members_of (map member_of found)) ≡ true
+  pub rise : names_rise (names_of (members_of found)) ≡ true
+  pub sound : everywhere_in_members is_allowed (members_of found) ≡ true
 
 pub members_begin : (depth : ℕ) (ts : List Token) → MembersAhead depth ts (length ts) ts []
 members_begin depth ts = record { entries = []; seen = refl; ahead = refl; rise = refl; sound = refl }
 
-pub members_more : (depth : ℕ) (initial : List Token) (n : ℕ) (k : List ℕ) (ts s r : List Token) (found : List Member) (place : ℕ) (m : Member) (v : Value) → 0 < n → read_key ts ≡ Some (Some k, s) → ReadsValue depth s r v
-    → IsDocumentValue v → IsPlace (map member_of found) k place → member_of m ≡ (k, v) → MembersAhead depth initial n ts found → MembersAhead depth initial (n - 1) r (insert found place m)
-members_more depth initial n k ts s r found place m v some key x sound at is so =
+pub members_more : (depth : ℕ) (initial : List Token) (n : ℕ) (k : List ℕ) (ts s r : List Token) (found : List (List ℕ × Value)) (v : Value) → 0 < n → read_key ts ≡ Some (Some k, s) → ReadsValue depth s r v → IsDocumentValue v
+    → MembersAhead depth initial n ts found → MembersAhead depth initial (n - 1) r (insert_entry bytes_cmp found k v)
+members_more depth initial n k ts s r found v some key x sound so =
     let e : Entry = record { name = k; reading = x.reading; value = v; holds = x.holds } in
-    let inserted : map member_of (insert found place m) ≡ insert (map member_of found) place (k, v) = seen_insert member_of found place m ∙ ap (insert (map member_of found) place) is in
-    let there = subst (λ ms. IsPlace ms k place) so.seen at in
     record {
-      entries = insert so.entries place e;
-      seen = inserted ∙ ap (λ ms. insert ms place (k, v)) so.seen ∙ sym (pairs_insert so.entries place e);
+      entries = put_entry e so.entries;
+      seen = ap (λ ms. insert_entry bytes_cmp ms k v) so.seen ∙ sym (pairs-put_entry e so.entries);
       ahead = so.ahead ∙ member_turn depth n (data_of so.entries) k ts s r v x some key
-          ∙ ap (λ old. converted (λ js. of_members js old) (members (value depth) (n - 1) r)) (put_insert e so.entries place there.below there.above);
-      rise = ap (λ ms. names_rise (names_of (members_of ms))) inserted ∙ rise_insert (map member_of found) place (k, v) so.rise at;
-      sound = ap (λ ms. everywhere_in_members is_allowed (members_of ms)) inserted ∙ sound_insert is_allowed (map member_of found) place (k, v) so.sound sound;
+          ∙ ap (λ old. converted (λ js. of_members js old) (members (value depth) (n - 1) r)) (sym (data_of-put_entry e so.entries));
+      rise = rise_insert found k v so.rise;
+      sound = sound_insert is_allowed found k v so.sound sound;
     }
 
-pub members_end : (depth : ℕ) (initial : List Token) (n : ℕ) (ts r : List Token) (found : List Member) → length ts ≤ n → read_key ts ≡ Some (None, r) → MembersAhead depth initial n ts found
-    → ReadsMembers depth (length initial) initial r (members_of (map member_of found))
+pub members_end : (depth : ℕ) (initial : List Token) (n : ℕ) (ts r : List Token) (found : List (List ℕ × Value)) → length ts ≤ n → read_key ts ≡ Some (None, r) → MembersAhead depth initial n ts found
+    → ReadsMembers depth (length initial) initial r (members_of found)
 members_end depth initial n ts r found enough over so = record {
   reading = data_of so.entries;
   read = so.ahead ∙ members_over depth n (data_of so.entries) ts r enough over;

@@ -1,25 +1,20 @@
-//! Values straight from the tokens of a text. What is read here is what `serde_json` reads; texts that are left
-//! to it are those that are no document, and those with an object whose names fall far or come twice.
+//! Values straight from the tokens of a text, as `serde_json` reads them. What is no document is left to it.
 ghost use Rattle.std.specs.Prelude.{◌≡◌, ◌<◌, ◌==◌, true, false, Some, IfSome, IsTrue, OnSome, length, map, slice_index};
 ghost use Rattle.serde_json.specs.Data.{unsigned, negative};
 ghost use Rattle.serde_json.specs.Read.{number_from};
-ghost use Rattle.jp_document.specs.Direct.{IsPlace, IsWholeText, ReadsItems, ReadsMembers, ReadsText, ReadsValue};
+ghost use Rattle.jp_document.specs.Direct.{IsWholeText, ReadsItems, ReadsMembers, ReadsText, ReadsValue};
 ghost use Rattle.jp_document.specs.Document.{IsDocument};
 ghost use Rattle.jp_document.specs.Value.{IsDocumentValue, everywhere_in_items, everywhere_in_members, is_allowed, is_in_range, items_of, list, list_fits, member_of, members_of, names_of, names_rise, value_of};
 
-use crate::lookup::name_order;
+use crate::growing::Growing;
 use crate::reading::is_short;
 use crate::value::{Json, Member};
 use fast_float::Numeral;
 use json::{Reader, Scratch, Token};
 use std::alloc::Global;
-use std::cmp::Ordering;
 
 /// The most levels of lists and objects.
 const MAX_DEPTH: usize = 127;
-
-/// How many members a member is moved over at most to come to its place.
-const MAX_MOVED: usize = 64;
 
 /// The value of bytes that are a document. None says nothing of the bytes.
 pub(crate) fn direct_value(alloc: Global, bytes: &[u8]) -> Option<Json>
@@ -99,32 +94,14 @@ fn members(alloc: Global, reader: &mut Reader<'_>, depth: usize) -> Option<Vec<M
         (λ v. names_rise (names_of (members_of (map member_of v.items))) ≡ true) }
     ensures shorter { OnSome result (length reader.new < length reader.old) }
 {
-    let mut found = Vec::new(alloc);
+    let mut found = Growing::new(alloc);
     'members: while let Some(name) = reader.next_key().ok()? {
-        let place = place_of(&found, name)?;
         let name = String::from_str(alloc, name).ok()?;
         let value = value(alloc, reader, depth)?;
-        found.insert(place, Member { name, value }).ok()?;
+        found = found.with(alloc, name, value)?;
     }
-    found.shrink_to_fit();
-    Some(found)
-}
-
-/// Where a member of this name goes among members whose names rise. None where the name is there, or the
-/// place is far from the end.
-fn place_of(members: &[Member], name: &str) -> Option<usize>
-    requires { names_rise (names_of (members_of (map member_of members.now))) ≡ true }
-    ensures { IfSome result (IsPlace (map member_of members.now) name.now) }
-{
-    let mut place = members.len();
-    'down: while place > 0 && members.len() - place < MAX_MOVED {
-        match name_order(&members[place - 1], name) {
-            Ordering::Less => return Some(place),
-            Ordering::Equal => return None,
-            Ordering::Greater => place -= 1,
-        }
-    }
-    if place == 0 { Some(0) } else { None }
+    let all = found.members(alloc)?;
+    Some(all)
 }
 
 /// The whole number of 64 bits that these characters of JSON write.

@@ -1,18 +1,19 @@
 use Rattle.std.proofs.Common.{◌≡◌, ◌-◌, ◌<◌, [], ◌∷◌, ◌++◌, length, Some, None, string_bytes, sym, ap, subst, ◌∙◌, arith, rules}
 use mir.Val.{to_z, of_z}
 use Rattle.std.specs.Int.{w128}
-use Rattle.std.specs.List.{insert}
+use Rattle.std.specs.BTreeMap.{insert_entry}
 use Rattle.json.specs.Token.{Token}
 use Rattle.json.specs.Json.{after_end_array, read_key}
 use Rattle.json.specs.Reads.{token_of}
 use Rattle.json.proofs.Grammar.{read_key-shorter}
 use Rattle.jp_document.specs.Direct.{ReadsValue}
-use Rattle.jp_document.specs.Value.{null, boolean, whole, text, value_of, member_of}
+use Rattle.jp_document.specs.Growing.{seen}
+use Rattle.jp_document.proofs.Names.{bytes_cmp}
+use Rattle.jp_document.specs.Value.{null, boolean, whole, text, value_of}
 use Rattle.jp_document.specs.declared.value.Json.{Null, Bool, Whole, Text, the_lemmas}
-use Rattle.jp_document.specs.declared.value.Member.{Member}
 use Rattle.jp_document.proofs.DirectAhead.{items_more, items_end, items_sound, members_more, members_end}
 use Rattle.jp_document.proofs.DirectTurns.{reads-null, reads-boolean, reads-text, reads-whole, reads-list, reads-object}
-use Rattle.jp_document.proofs.Values.{member_of_is, value_of-List, value_of-Members}
+use Rattle.jp_document.proofs.Values.{value_of-List, value_of-Members}
 use Rattle.jp_document.proofs.direct.+direct.Goals as goal
 
 pub value-returns-in-Null-clause-reads : goal.value-returns-in-Null-clause-reads
@@ -94,17 +95,16 @@ members-members-preserved t c =
     let less = read_key-shorter l.reader (Some k) s named in
     let lesser = c.in_ok-value.ensures.shorter in
     let copied : string_bytes c.in_ok-name-2.name ≡ k = search rules in
-    let m : Member = record { name = c.in_ok-name-2.name; value = c.in_ok-value.value } in
-    let is : member_of m ≡ (k, value_of c.in_ok-value.value) = member_of_is m ∙ ap (λ b. (b, value_of c.in_ok-value.value)) copied in
-    let inserted : c.insert.new.self.items ≡ insert l.found.items c.in_ok-place.place m = search rules in (
+    let v = value_of c.in_ok-value.value in
+    let more : seen c.in_ok-found.found ≡ insert_entry bytes_cmp (seen l.found) k v = c.in_ok-found.ensures ∙ ap (λ b. insert_entry bytes_cmp (seen l.found) b v) copied in (
       n - 1,
       omega (arith, l.invariant.1),
       omega (arith, l.invariant.2),
-      rw inserted (members_more c.args.depth c.args.reader.now n k l.reader s r l.found.items c.in_ok-place.place m (value_of c.in_ok-value.value) (omega (arith, l.invariant.1)) named c.in_ok-value.ensures.reads c.in_ok-value.ensures.sound (search rules) is l.invariant.3),
+      rw more (members_more c.args.depth c.args.reader.now n k l.reader s r (seen l.found) v (omega (arith, l.invariant.1)) named c.in_ok-value.ensures.reads c.in_ok-value.ensures.sound l.invariant.3),
     )
 
 pub members-returns-clause-reads : goal.members-returns-clause-reads
 members-returns-clause-reads t c =
     let l = c.members in
     let over : read_key l.reader ≡ Some (None, c.next_key.new.self) = grind arith in
-    rw c.shrink_to_fit.ensures.items (members_end c.args.depth c.args.reader.now l.invariant.0 l.reader c.next_key.new.self l.found.items l.invariant.1 over l.invariant.3)
+    rw c.in_ok-all.ensures (members_end c.args.depth c.args.reader.now l.invariant.0 l.reader c.next_key.new.self (seen l.found) l.invariant.1 over l.invariant.3)
