@@ -1,5 +1,7 @@
 pub mod ChildLaws
 pub mod ChildValues
+pub mod DirectAhead
+pub mod DirectTurns
 pub mod Encoded
 pub mod Fits
 pub mod Fractions
@@ -17,6 +19,7 @@ pub mod PathRead
 pub mod PathSound
 pub mod Paths
 pub mod PathsDiffer
+pub mod Places
 pub mod Rows
 pub mod Spelled
 pub mod Spellings

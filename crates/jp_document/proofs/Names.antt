@@ -34,7 +34,7 @@ pub names_of-members_of : (ps : List (List ℕ × Value)) → names_of (members_
 names_of-members_of [] = refl
 names_of-members_of (p ∷ ps) = ap (λ ns. p.0 ∷ ns) (names_of-members_of ps)
 
-is_less : (o : Ordering) → is_lt o ≡ true → o ≡ Less
+pub is_less : (o : Ordering) → is_lt o ≡ true → o ≡ Less
 is_less Less h = refl
 is_less Equal h = cc
 is_less Greater h = cc

@@ -52,15 +52,15 @@ IsAbove-members k es below = record { above = λ q e is. above_in_members k es q
 
 -- ---- what holds everywhere among parts
 
-all-items : (p : Value → Bool) (vs : List Value) → everywhere_in_items p (items_of vs) ≡ list_all (everywhere p) vs
+pub all-items : (p : Value → Bool) (vs : List Value) → everywhere_in_items p (items_of vs) ≡ list_all (everywhere p) vs
 all-items p [] = refl
 all-items p (v ∷ vs) = ap (λ b. everywhere p v && b) (all-items p vs)
 
-all-members : (p : Value → Bool) (ms : List (List ℕ × Value)) → everywhere_in_members p (members_of ms) ≡ list_all (λ m. everywhere p m.1) ms
+pub all-members : (p : Value → Bool) (ms : List (List ℕ × Value)) → everywhere_in_members p (members_of ms) ≡ list_all (λ m. everywhere p m.1) ms
 all-members p [] = refl
 all-members p (m ∷ ms) = ap (λ b. everywhere p m.1 && b) (all-members p ms)
 
-both : (a b : Bool) → a ≡ true → b ≡ true → (a && b) ≡ true
+pub both : (a b : Bool) → a ≡ true → b ≡ true → (a && b) ≡ true
 both true b h k = k
 both false b h k = cc
 
@@ -72,7 +72,7 @@ all_last : {X : Type 0} (t : X → Bool) (xs : List X) (x : X) → list_all t (x
 all_last t [] x h = and-left _ _ h
 all_last t (y ∷ xs) x h = all_last t xs x (and-right _ _ h)
 
-all_push : {X : Type 0} (t : X → Bool) (xs : List X) (x : X) → list_all t xs ≡ true → t x ≡ true → list_all t (xs ++ x ∷ []) ≡ true
+pub all_push : {X : Type 0} (t : X → Bool) (xs : List X) (x : X) → list_all t xs ≡ true → t x ≡ true → list_all t (xs ++ x ∷ []) ≡ true
 all_push t [] x h k = both _ _ k refl
 all_push t (y ∷ xs) x h k = both _ _ (and-left _ _ h) (all_push t xs x (and-right _ _ h) k)
 

@@ -1,5 +1,7 @@
 pub mod ChildNodes
+pub mod Direct
 pub mod Document
+pub mod Growing
 pub mod Laws
 pub mod Location
 pub mod Node

@@ -2,13 +2,13 @@
 ghost use Rattle.std.specs.Prelude.{◌≡◌, [], map, option_map, IfOk, IfErr};
 ghost use Rattle.jp_document.specs.Value.{IsDocumentValue, value_of};
 
+use crate::direct::direct_value;
 use crate::fault::DocumentFault;
 use crate::location::{OwnedLocation, Step};
 use crate::lookup::child_value;
 use crate::node::{Node, root_of};
-use crate::reading::whole;
+use crate::reading::parsed_value;
 use crate::value::Json;
-use serde_json::Value;
 use std::alloc::Global;
 
 /// A JSON document: whole numbers from -(2^63) to (2^64)-1, member names that strictly rise by their
@@ -32,21 +32,11 @@ impl Document {
         ensures ok { IfOk result (λ d. IsDocument bytes.now (document_of d)) }
         ensures fault { IfErr result (IsFaultOf bytes.now) }
     {
-        let reading = match Value::from_slice(alloc, bytes) {
-            Ok(reading) => reading,
-            Err(error) if error.is_memory() => return Err(DocumentFault::NoMemory),
-            Err(_) => return Err(DocumentFault::NotJson),
+        let json = match direct_value(alloc, bytes) {
+            Some(json) => json,
+            None => parsed_value(alloc, bytes)?,
         };
-        let mut fits = true;
-        let json = match whole(alloc, reading, &mut fits) {
-            Ok(json) => json,
-            Err(stop) => return Err(stop.fault(alloc)),
-        };
-        if fits {
-            Ok(Document { json })
-        } else {
-            Err(DocumentFault::ListTooLong)
-        }
+        Ok(Document { json })
     }
 
     /// The document's value.

@@ -17,8 +17,12 @@
 
 mod characters;
 mod child_nodes;
+mod direct;
+#[cfg(test)]
+mod direct_tests;
 mod document;
 mod fault;
+mod growing;
 pub mod laws;
 mod location;
 mod lookup;

@@ -39,7 +39,7 @@ pub(crate) fn member_named<'d>(json: &'d Json, name: &str) -> Option<&'d Member>
 
 /// The order of the member's name beside another, by their bytes.
 #[tactic(auto, using(crate::proofs::Values::member_of_is))]
-fn name_order(member: &Member, name: &str) -> Ordering
+pub(crate) fn name_order(member: &Member, name: &str) -> Ordering
     ensures { result ≡ slice_cmp nat_cmp (member_of member.now).0 name.now }
 {
     member.name.as_str().cmp(name)

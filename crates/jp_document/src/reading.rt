@@ -1,11 +1,12 @@
 //! From a reading of `serde_json` to a value.
 ghost use Rattle.std.specs.Prelude.{◌≡◌, ◌&&◌, map, Some, true, IfOk, IfErr};
 ghost use Rattle.serde_json.specs.View.{view, number_view, items_view, members_view};
-ghost use Rattle.jp_document.specs.Document.{value_of_data, items_of_data, members_of_data};
+ghost use Rattle.jp_document.specs.Document.{IsDocument, IsFaultOf, value_of_data, items_of_data, members_of_data};
 ghost use Rattle.jp_document.specs.Stop.{StopsAt};
 ghost use Rattle.serde_json.specs.Data.{number as number_data, array, object};
-ghost use Rattle.jp_document.specs.Value.{value_of, list, items_of, members_of, member_of, names_of, names_rise, everywhere, everywhere_in_items, everywhere_in_members, list_fits, is_allowed};
+ghost use Rattle.jp_document.specs.Value.{IsDocumentValue, value_of, list, items_of, members_of, member_of, names_of, names_rise, everywhere, everywhere_in_items, everywhere_in_members, list_fits, is_allowed};
 
+use crate::fault::DocumentFault;
 use crate::location::OwnedStep;
 use crate::stop::Stop;
 use crate::value::{Json, Member};
@@ -15,10 +16,33 @@ use std::alloc::{AllocError, Global};
 /// The most items of a list, (2^53)-1.
 const MAX_ITEMS: usize = 9_007_199_254_740_991;
 
+/// The value that `serde_json` parses from bytes that are a document, else what is wrong with them.
+pub(crate) fn parsed_value(alloc: Global, bytes: &[u8]) -> Result<Json, DocumentFault>
+    ensures ok { IfOk result (λ j. IsDocument bytes.now (value_of j)) }
+    ensures sound { IfOk result (λ j. IsDocumentValue (value_of j)) }
+    ensures fault { IfErr result (IsFaultOf bytes.now) }
+{
+    let parsed = match Value::from_slice(alloc, bytes) {
+        Ok(parsed) => parsed,
+        Err(error) if error.is_memory() => return Err(DocumentFault::NoMemory),
+        Err(_) => return Err(DocumentFault::NotJson),
+    };
+    let mut fits = true;
+    let json = match whole(alloc, parsed, &mut fits) {
+        Ok(json) => json,
+        Err(stop) => return Err(stop.fault(alloc)),
+    };
+    if fits {
+        Ok(json)
+    } else {
+        Err(DocumentFault::ListTooLong)
+    }
+}
+
 /// The value of a reading. The texts move over, and members come in the order of their names. `fits` is cleared
 /// where some list has more than (2^53)-1 items.
 #[cycle(whole)]
-pub(crate) fn whole(alloc: Global, value: Value, fits: &mut bool) -> Result<Json, Stop>
+fn whole(alloc: Global, value: Value, fits: &mut bool) -> Result<Json, Stop>
     ensures value { IfOk result (λ j. value_of_data (view value) ≡ Some (value_of j)) }
     ensures sound { IfOk result (λ j. everywhere list_fits (value_of j) ≡ true
         → everywhere is_allowed (value_of j) ≡ true) }
@@ -105,7 +129,7 @@ fn whole_members(
 }
 
 /// Whether a list has at most (2^53)-1 items.
-fn is_short(items: &[Json]) -> bool
+pub(crate) fn is_short(items: &[Json]) -> bool
     ensures { result ≡ list_fits (list (items_of (map value_of items.now))) }
 {
     items.len() <= MAX_ITEMS

@@ -1,0 +1,111 @@
+-- Reading straight from the tokens: where it stands after each item and each member.
+use Rattle.std.proofs.Common.{◌≡◌, ℕ, ◌-◌, ◌<◌, ◌≤◌, true, List, [], ◌∷◌, ◌++◌, length, map, Some, None, refl, sym, ap, subst, ◌∙◌, append_assoc, append-nil}
+use Rattle.std.specs.BTreeMap.{insert_entry}
+use Rattle.std.specs.List.{list_all}
+use Rattle.std.proofs.lemmas.List.{map-append}
+use Rattle.json.specs.Token.{Token}
+use Rattle.json.specs.Json.{after_end_array, read_key, members, value}
+use Rattle.serde_json.specs.Data as parsed
+use Rattle.serde_json.specs.Read.{of_members, converted}
+use Rattle.std.specs.Prelude.{IsUtf8}
+use Rattle.jp_document.specs.Direct.{ReadsItems, ReadsMembers, ReadsText, ReadsValue}
+use Rattle.jp_document.specs.Document.{IsDocument}
+use Rattle.jp_document.specs.Value.{Value, null, boolean, whole, text, list, object, Items, no_items, item, Members, no_members, member, list_fits, IsDocumentValue, everywhere, everywhere_in_items, everywhere_in_members, is_allowed, items_of, members_of, names_of, names_rise, value_of}
+use Rattle.jp_document.specs.declared.value.Json.{Json}
+use Rattle.jp_document.proofs.DirectTurns.{items_turn, items_over, member_turn, members_over}
+use Rattle.jp_document.proofs.Places.{Entry, pair, data_of, members_of_data-entries, put_entry, pairs-put_entry, data_of-put_entry, rise_insert, sound_insert}
+use Rattle.jp_document.proofs.Names.{bytes_cmp, and-left, and-right}
+use Rattle.jp_document.proofs.Wholes.{all-items, all_push, both}
+
+-- ---- items
+
+-- whatever the items to come are, they complete the list
+abbrev pub ItemsAhead : ℕ → List Token → ℕ → List Token → List Json → Type 0
+ItemsAhead depth initial n ts found = (vs : List Value) (r : List Token) → ReadsItems depth n ts r (items_of vs) → ReadsItems depth (length initial) initial r (items_of (map value_of found ++ vs))
+
+pub items_more : (depth : ℕ) (initial : List Token) (n : ℕ) (ts r : List Token) (found : List Json) (j : Json) → 0 < n → after_end_array ts ≡ None → ReadsValue depth ts r (value_of j)
+    → ItemsAhead depth initial n ts found → ItemsAhead depth initial (n - 1) r (found ++ j ∷ [])
+items_more depth initial n ts r found j some going x ahead vs s later =
+    subst (λ ws. ReadsItems depth (length initial) initial s (items_of ws))
+    (sym (ap (λ ws. ws ++ vs) (map-append value_of found (j ∷ [])) ∙ append_assoc (map value_of found) (value_of j ∷ []) vs))
+    (ahead (value_of j ∷ vs) s (items_turn depth n ts r s (value_of j) (items_of vs) some going x later))
+
+pub items_end : (depth : ℕ) (initial : List Token) (n : ℕ) (ts r : List Token) (found : List Json) → length ts ≤ n → after_end_array ts ≡ Some r → ItemsAhead depth initial n ts found
+    → ReadsItems depth (length initial) initial r (items_of (map value_of found))
+items_end depth initial n ts r found enough over ahead =
+    subst (λ ws. ReadsItems depth (length initial) initial r (items_of ws)) (append-nil (map value_of found)) (ahead [] r (items_over depth n ts r enough over))
+
+pub items_sound : (found : List Json) (j : Json) → everywhere_in_items is_allowed (items_of (map value_of found)) ≡ true → IsDocumentValue (value_of j) → everywhere_in_items is_allowed (items_of (map value_of (found ++ j ∷ []))) ≡ true
+items_sound found j before here =
+    all-items is_allowed (map value_of (found ++ j ∷ []))
+    ∙ subst (λ vs. list_all (everywhere is_allowed) vs ≡ true) (sym (map-append value_of found (j ∷ []))) (all_push (everywhere is_allowed) (map value_of found) (value_of j) (sym (all-items is_allowed (map value_of found)) ∙ before) here)
+
+-- ---- members
+
+-- the members so far, with the data that was read of them, and the members to come
+pub record MembersAhead (depth : ℕ) (initial : List Token) (n : ℕ) (ts : List Token) (found : List (List ℕ × Value)) : Type 0 where
+  pub entries : List Entry
+  pub seen : found ≡ map pair entries
+  pub ahead : converted (λ js. of_members js parsed.no_members) (members (value depth) (length initial) initial) ≡ converted (λ js. of_members js (data_of entries)) (members (value depth) n ts)
+  pub rise : names_rise (names_of (members_of found)) ≡ true
+  pub sound : everywhere_in_members is_allowed (members_of found) ≡ true
+
+pub members_begin : (depth : ℕ) (ts : List Token) → MembersAhead depth ts (length ts) ts []
+members_begin depth ts = record { entries = []; seen = refl; ahead = refl; rise = refl; sound = refl }
+
+pub members_more : (depth : ℕ) (initial : List Token) (n : ℕ) (k : List ℕ) (ts s r : List Token) (found : List (List ℕ × Value)) (v : Value) → 0 < n → read_key ts ≡ Some (Some k, s) → ReadsValue depth s r v → IsDocumentValue v
+    → MembersAhead depth initial n ts found → MembersAhead depth initial (n - 1) r (insert_entry bytes_cmp found k v)
+members_more depth initial n k ts s r found v some key x sound so =
+    let e : Entry = record { name = k; reading = x.reading; value = v; holds = x.holds } in
+    record {
+      entries = put_entry e so.entries;
+      seen = ap (λ ms. insert_entry bytes_cmp ms k v) so.seen ∙ sym (pairs-put_entry e so.entries);
+      ahead = so.ahead ∙ member_turn depth n (data_of so.entries) k ts s r v x some key
+          ∙ ap (λ old. converted (λ js. of_members js old) (members (value depth) (n - 1) r)) (sym (data_of-put_entry e so.entries));
+      rise = rise_insert found k v so.rise;
+      sound = sound_insert is_allowed found k v so.sound sound;
+    }
+
+pub members_end : (depth : ℕ) (initial : List Token) (n : ℕ) (ts r : List Token) (found : List (List ℕ × Value)) → length ts ≤ n → read_key ts ≡ Some (None, r) → MembersAhead depth initial n ts found
+    → ReadsMembers depth (length initial) initial r (members_of found)
+members_end depth initial n ts r found enough over so = record {
+  reading = data_of so.entries;
+  read = so.ahead ∙ members_over depth n (data_of so.entries) ts r enough over;
+  holds = members_of_data-entries so.entries ∙ ap (λ ms. Some (members_of ms)) (sym so.seen);
+}
+
+-- ---- documents
+
+fits_alone : (v : Value) → is_allowed v ≡ true → list_fits v ≡ true
+fits_alone null h = refl
+fits_alone (boolean b) h = refl
+fits_alone (whole z) h = refl
+fits_alone (text s) h = refl
+fits_alone (list vs) h = h
+fits_alone (object ms) h = refl
+
+-- a value that a document may hold has no list that is too long
+mutual
+  pub fits-allowed : (v : Value) → everywhere is_allowed v ≡ true → everywhere list_fits v ≡ true
+  fits-allowed null h = refl
+  fits-allowed (boolean b) h = refl
+  fits-allowed (whole z) h = refl
+  fits-allowed (text s) h = refl
+  fits-allowed (list vs) h = both _ _ (fits_alone (list vs) (and-left _ _ h)) (items_fit-allowed vs (and-right _ _ h))
+  fits-allowed (object ms) h = members_fit-allowed ms (and-right _ _ h)
+
+  items_fit-allowed : (vs : Items) → everywhere_in_items is_allowed vs ≡ true → everywhere_in_items list_fits vs ≡ true
+  items_fit-allowed no_items h = refl
+  items_fit-allowed (item v vs) h = both _ _ (fits-allowed v (and-left _ _ h)) (items_fit-allowed vs (and-right _ _ h))
+
+  members_fit-allowed : (ms : Members) → everywhere_in_members is_allowed ms ≡ true → everywhere_in_members list_fits ms ≡ true
+  members_fit-allowed no_members h = refl
+  members_fit-allowed (member n v ms) h = both _ _ (fits-allowed v (and-left _ _ h)) (members_fit-allowed ms (and-right _ _ h))
+
+pub document_from_text : (bytes : List ℕ) (v : Value) → IsUtf8 bytes → ReadsText bytes v → IsDocumentValue v → IsDocument bytes v
+document_from_text bytes v utf8 x sound = record {
+  reading = x.reading;
+  reads = record { utf8 = utf8; reading = x.read };
+  holds = x.holds;
+  fits = fits-allowed v sound;
+}

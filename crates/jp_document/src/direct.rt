@@ -1,0 +1,138 @@
+//! Values straight from the tokens of a text, as `serde_json` reads them. What is no document is left to it.
+ghost use Rattle.std.specs.Prelude.{◌≡◌, ◌<◌, ◌==◌, true, false, Some, IfSome, IsTrue, OnSome, length, map, slice_index};
+ghost use Rattle.serde_json.specs.Data.{unsigned, negative};
+ghost use Rattle.serde_json.specs.Read.{number_from};
+ghost use Rattle.jp_document.specs.Direct.{IsWholeText, ReadsItems, ReadsMembers, ReadsText, ReadsValue};
+ghost use Rattle.jp_document.specs.Document.{IsDocument};
+ghost use Rattle.jp_document.specs.Value.{IsDocumentValue, everywhere_in_items, everywhere_in_members, is_allowed, is_in_range, items_of, list, list_fits, member_of, members_of, names_of, names_rise, value_of};
+
+use crate::growing::Growing;
+use crate::reading::is_short;
+use crate::value::{Json, Member};
+use fast_float::Numeral;
+use json::{Reader, Scratch, Token};
+use std::alloc::Global;
+
+/// The most levels of lists and objects.
+const MAX_DEPTH: usize = 127;
+
+/// The value of bytes that are a document. None says nothing of the bytes.
+pub(crate) fn direct_value(alloc: Global, bytes: &[u8]) -> Option<Json>
+    ensures document { IfSome result (λ j. IsDocument bytes.now (value_of j)) }
+    ensures sound { IfSome result (λ j. IsDocumentValue (value_of j)) }
+{
+    let text = simdutf8::compat::from_utf8(bytes).ok()?;
+    let json = text_value(alloc, text)?;
+    Some(json)
+}
+
+fn text_value(alloc: Global, text: &str) -> Option<Json>
+    ensures reads { IfSome result (λ j. ReadsText text.now (value_of j)) }
+    ensures sound { IfSome result (λ j. IsDocumentValue (value_of j)) }
+{
+    let mut scratch = Scratch::new(alloc);
+    let mut reader = Reader::new(text, &mut scratch).ok()?;
+    let json = value(alloc, &mut reader, MAX_DEPTH)?;
+    match reader.next() {
+        Some(_) => None,
+        None => Some(json),
+    }
+}
+
+#[cycle(direct)]
+fn value(alloc: Global, reader: &mut Reader<'_>, depth: usize) -> Option<Json>
+    ensures reads { IfSome result (λ j. ReadsValue depth reader.old reader.new (value_of j)) }
+    ensures sound { IfSome result (λ j. IsDocumentValue (value_of j)) }
+    ensures shorter { OnSome result (length reader.new < length reader.old) }
+{
+    let token = reader.next()?;
+    match token {
+        Token::Null => Some(Json::Null),
+        Token::Bool(truth) => Some(Json::Bool(truth)),
+        Token::Number(text) => Some(Json::Whole(whole(text)?)),
+        Token::String(text) => Some(Json::Text(String::from_str(alloc, text).ok()?)),
+        Token::BeginArray => {
+            if depth == 0 {
+                return None;
+            }
+            Some(Json::List(items(alloc, reader, depth - 1)?))
+        }
+        Token::BeginObject => {
+            if depth == 0 {
+                return None;
+            }
+            Some(Json::Members(members(alloc, reader, depth - 1)?))
+        }
+        Token::EndObject | Token::EndArray | Token::Key(_) | Token::Bad => None,
+    }
+}
+
+#[cycle(direct)]
+fn items(alloc: Global, reader: &mut Reader<'_>, depth: usize) -> Option<Vec<Json>>
+    ensures reads { IfSome result (λ v. ReadsItems depth (length reader.old) reader.old reader.new
+        (items_of (map value_of v.items))) }
+    ensures sound { IfSome result (λ v. everywhere_in_items is_allowed (items_of (map value_of v.items)) ≡ true) }
+    ensures short { IfSome result (λ v. list_fits (list (items_of (map value_of v.items))) ≡ true) }
+    ensures shorter { OnSome result (length reader.new < length reader.old) }
+{
+    let mut found = Vec::new(alloc);
+    'items: while !reader.take_end_array() {
+        let item = value(alloc, reader, depth)?;
+        found.push(item).ok()?;
+    }
+    found.shrink_to_fit();
+    if is_short(&found) { Some(found) } else { None }
+}
+
+#[cycle(direct)]
+fn members(alloc: Global, reader: &mut Reader<'_>, depth: usize) -> Option<Vec<Member>>
+    ensures reads { IfSome result (λ v. ReadsMembers depth (length reader.old) reader.old reader.new
+        (members_of (map member_of v.items))) }
+    ensures sound { IfSome result
+        (λ v. everywhere_in_members is_allowed (members_of (map member_of v.items)) ≡ true) }
+    ensures rise { IfSome result
+        (λ v. names_rise (names_of (members_of (map member_of v.items))) ≡ true) }
+    ensures shorter { OnSome result (length reader.new < length reader.old) }
+{
+    let mut found = Growing::new(alloc);
+    'members: while let Some(name) = reader.next_key().ok()? {
+        let name = String::from_str(alloc, name).ok()?;
+        let value = value(alloc, reader, depth)?;
+        found = found.with(alloc, name, value)?;
+    }
+    let all = found.members(alloc)?;
+    Some(all)
+}
+
+/// The whole number of 64 bits that these characters of JSON write.
+fn whole(text: &str) -> Option<i128>
+    ensures value { IfSome result (IsWholeText text.now) }
+    ensures range { IfSome result (λ n. is_in_range n ≡ true) }
+{
+    let bytes = text.as_bytes();
+    if has_minus(bytes) {
+        Some(i128::from(below_zero(&Numeral::scan(&bytes[1..]))?))
+    } else {
+        Some(i128::from(from_zero(&Numeral::scan(bytes))?))
+    }
+}
+
+fn has_minus(bytes: &[u8]) -> bool
+    ensures value { result ≡ (slice_index bytes.now 0 == 45) }
+    ensures some { IsTrue result → 0 < length bytes.now }
+{
+    !bytes.is_empty() && bytes[0] == b'-'
+}
+
+fn from_zero(numeral: &Numeral<'_>) -> Option<u64>
+    ensures { IfSome result (λ n. number_from false numeral.now ≡ Some (unsigned n)) }
+{
+    numeral.to_u64()
+}
+
+fn below_zero(numeral: &Numeral<'_>) -> Option<i64>
+    ensures { IfSome result (λ n. number_from true numeral.now ≡ Some (negative n)) }
+{
+    let number = numeral.to_i64(true)?;
+    if number < 0 { Some(number) } else { None }
+}
