@@ -1,3 +1,4 @@
+pub mod Agreeing
 pub mod Escapes
 pub mod FilterRows
 pub mod Follows
