@@ -8,6 +8,7 @@ use Rattle.jp_reading.specs.Outcome.{State, Outcome, took, ◌>>=◌, head, past
 use Rattle.jp_reading.specs.Numbers.{is_digit, value_from}
 use Rattle.jp_reading.specs.Views.{by}
 use Rattle.jp_reading.proofs.Progress.{moves-take_if}
+use Rattle.jp_reading.proofs.Steps.{head-is}
 use Rattle.jp_query.specs.declared.tree.Numeral.{Numeral}
 use Rattle.jp_query.specs.declared.tree.Numeral.TheVariants.{Whole}
 use Rattle.jp_query.specs.declared.tree.Op.{Op}
@@ -176,3 +177,90 @@ local-number =
     (λ i. local-from unblanked _ (local-if unblanked unblanked (λ q. passes (is 58) (after_blank q)) _ _ (tests-after (is 58))
     (local-by unblanked unblanked slice (λ q. slice_at (Some i) (skip q)) (local-skip unblanked (slice_at (Some i)) (local-slice (Some i))))
     (local-took unblanked (index i))))
+
+-- ---- literals and operators
+
+local-word : {A : Type 0} (x : A) (w : Text) → Local all all (word_at x w)
+local-word x [] = local-took all x
+local-word x (c ∷ w) = local-then all all all (expect c) _ (local-take_if (is c)) (λ d. local-word x w)
+
+local-digits : Local all all digits_at
+unfolding digits_at
+local-digits =
+    local-then all all all (take_if is_digit) _ (local-take_if is_digit) (λ d. local-by all all (λ ds. true) (run_at is_digit) (local-run is_digit))
+
+local-decimals : Local all all decimals_at
+unfolding decimals_at
+local-decimals = local-if all all (is_at 46) _ (took false) (tests-head (is 46)) (local-past all digits_at local-digits) (local-took all false)
+
+local-exponent : Local all all exponent_at
+unfolding exponent_at
+local-exponent =
+    local-if all all (λ p. passes is_e (head p)) (λ p. if passes is_sign (head (past p)) then digits_at (past (past p)) else digits_at (past p)) (took false)
+    (tests-head is_e)
+    (local-past all (λ q. if passes is_sign (head q) then digits_at (past q) else digits_at q)
+    (local-if all all (λ q. passes is_sign (head q)) _ digits_at (tests-head is_sign) (local-past all digits_at local-digits) local-digits))
+    (local-took all false)
+
+-- a whole number or -0, where each character is looked at once
+sign_first : State → Outcome Numeral
+sign_first p =
+    if is_at 45 p then (if is_at 48 (past p) then took (whole_of 0) (past (past p)) else by negative_of (size_at (past p))) else int_at p
+
+local-sign_first : Local all all sign_first
+unfolding sign_first
+local-sign_first =
+    local-if all all (is_at 45) _ int_at (tests-head (is 45))
+    (local-past all (λ q. if is_at 48 q then took (whole_of 0) (past q) else by negative_of (size_at q))
+    (local-if all all (is_at 48) _ _ (tests-head (is 48)) (local-past all (took (whole_of 0)) (local-took all (whole_of 0)))
+    (local-by all all negative_of size_at local-size)))
+    local-int
+
+by_its_sign : (p : State) → mantissa_at p ≡ sign_first p
+unfolding mantissa_at sign_first int_at
+by_its_sign p =
+    elim (cases_Bool (is_at 45 p)) [
+      | inl on ↦ let e = head-is 45 p on in
+          elim (cases_Bool (is_at 48 (past p))) [
+            | inl zero ↦ rw (e, zero) refl
+            | inr other ↦ rw (e, other) refl
+          ]
+      | inr off ↦ rw off refl
+    ]
+
+local-mantissa : Local all all mantissa_at
+local-mantissa = local-as all all sign_first mantissa_at by_its_sign local-sign_first
+
+local-number_literal : Local all all number_literal_at
+unfolding number_literal_at
+local-number_literal =
+    local-then all all all mantissa_at _ local-mantissa
+    (λ x. local-then all all all decimals_at _ local-decimals
+    (λ has_decimals. local-by all all (λ has_exponent. numeral x has_decimals has_exponent) exponent_at local-exponent))
+
+pub local-literal : Local all all literal_at
+unfolding literal_at
+local-literal =
+    local-if all all (is_at 34) _ _ (tests-head (is 34)) (local-by all all text (quoted_at 34) (local-quoted 34))
+    (local-if all all (is_at 39) _ _ (tests-head (is 39)) (local-by all all text (quoted_at 39) (local-quoted 39))
+    (local-if all all (is_at 116) _ _ (tests-head (is 116)) (local-word true_literal (116 ∷ 114 ∷ 117 ∷ 101 ∷ []))
+    (local-if all all (is_at 102) _ _ (tests-head (is 102)) (local-word false_literal (102 ∷ 97 ∷ 108 ∷ 115 ∷ 101 ∷ []))
+    (local-if all all (is_at 110) _ _ (tests-head (is 110)) (local-word null_literal (110 ∷ 117 ∷ 108 ∷ 108 ∷ []))
+    (local-by all all number number_literal_at local-number_literal)))))
+
+local-equals : (op : Op) → Local all all (with_equals_at op)
+unfolding with_equals_at
+local-equals op = local-by all all (λ c. op) (expect 61) (local-take_if (is 61))
+
+local-one_or_two : (one two : Op) → Local all all (λ q. if is_at 61 q then took two (past q) else took one q)
+local-one_or_two one two =
+    local-if all all (is_at 61) _ (took one) (tests-head (is 61)) (local-past all (took two) (local-took all two)) (local-took all one)
+
+pub local-operator : Local all all operator_at
+unfolding operator_at
+local-operator =
+    local-if all all (is_at 61) _ _ (tests-head (is 61)) (local-past all (with_equals_at Equal) (local-equals Equal))
+    (local-if all all (is_at 33) _ _ (tests-head (is 33)) (local-past all (with_equals_at Unequal) (local-equals Unequal))
+    (local-if all all (is_at 60) _ _ (tests-head (is 60))
+    (local-past all (λ q. if is_at 61 q then took LessEqual (past q) else took Less q) (local-one_or_two Less LessEqual))
+    (local-then all all all (expect 62) _ (local-take_if (is 62)) (λ c. local-one_or_two Greater GreaterEqual))))
