@@ -191,7 +191,7 @@ skips u at found (c ∷ t) =
     on blank (none_behind e k) = none_behind (rw blank e) (rw blank k)
 
 -- behind blanks there is as much wherever they stand
-unblanked-skip : (p : State) → unblanked p.rest ≡ length (skip p).rest
+pub unblanked-skip : (p : State) → unblanked p.rest ≡ length (skip p).rest
 unblanked-skip p = ap length (past_blanks-rest 0 p.at [] p.found p.rest)
 
 unblanked-less : (t : Text) → unblanked t ≤ length t

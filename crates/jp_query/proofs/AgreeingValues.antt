@@ -114,7 +114,7 @@ local-character quote =
     local-if all all (is_at 92) _ (take_if (is_plain quote)) (tests-head (is 92)) (local-past all (escape_at quote) (local-escape quote))
     (local-take_if (is_plain quote))
 
-local-quoted : (quote : ℕ) → Local all all (quoted_at quote)
+pub local-quoted : (quote : ℕ) → Local all all (quoted_at quote)
 unfolding quoted_at characters_at
 local-quoted quote =
     local-then all all all (expect quote) _ (local-take_if (is quote))

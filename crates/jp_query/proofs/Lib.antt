@@ -1,4 +1,5 @@
 pub mod Agreeing
+pub mod AgreeingRules
 pub mod AgreeingValues
 pub mod Escapes
 pub mod FilterRows
