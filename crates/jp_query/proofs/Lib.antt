@@ -1,4 +1,5 @@
 pub mod Agreeing
+pub mod AgreeingLevels
 pub mod AgreeingRules
 pub mod AgreeingValues
 pub mod Escapes
