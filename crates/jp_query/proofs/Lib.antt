@@ -9,6 +9,7 @@ pub mod HexKinds
 pub mod Lifts
 pub mod Moves
 pub mod NoItems
+pub mod Numerals
 pub mod Refused
 pub mod Rounds
 pub mod Rows
@@ -31,5 +32,6 @@ pub mod SpeltOperators
 pub mod SpeltSegments
 pub mod SpeltSelectors
 pub mod SpeltSlices
+pub mod Trees
 pub mod Unique
 pub mod Whole

@@ -10,6 +10,7 @@ use Rattle.jp_query.specs.Slices.{Bound, no_bound, bound, Step, no_step, empty_s
 use Rattle.jp_query.specs.Grammar.{joined, Member, star, member, Selector, named, any, indexed, sliced, filtered, Bracket, Segment, bracketed, dotted, deep_bracketed, deep_dotted, Segments, InnerQuery, from_root, from_current, Side, literal_side, query_side, Parenthesis, Comparison, Basic, grouped, not_grouped, compared, tested, not_tested, Conjunction, conjunction, Expression, disjunction, Inside, Spells}
 use Rattle.jp_query.specs.Items.{Use, as_index, as_slice_part, as_side, as_test, QueryItem, int, constant, inner, bound_items, selector_items, selectors_items, segment_items, segments_items, items_of, expr_items, exprs_items, operand_items, EachSpanned}
 use Rattle.jp_reading.proofs.Bare.{Bare, bare-word, bare-joined}
+use Rattle.jp_query.proofs.SegmentRules.{comma}
 use Rattle.jp_query.proofs.NoItems.{quoted-bare, shorthand-bare, int-bare, literal-bare}
 
 -- ---- lists of items
@@ -50,7 +51,7 @@ member-spanned : (y : SelectorTree) (s : Spans) (o : ℕ) (t : Text) → Member 
 member-spanned y s o t (star e h) = rw (e, h.none) tt
 member-spanned y s o t (member cs e h) = rw (e, shorthand-bare cs s o t h) tt
 
-comma-bare : Bare (word (44 ∷ []) ⌢ Blank)
+comma-bare : Bare comma
 comma-bare = bare-joined (word (44 ∷ [])) Blank (bare-word (44 ∷ [])) (λ r i u g. g.none)
 
 -- what separates two parts holds no item
@@ -78,7 +79,7 @@ module _ (I : ExprTree → Form) (inside-spanned : (e : ExprTree) (s : Spans) (o
   entry-spanned : (x : SelectorTree) (s : Spans) (o : ℕ) (t : Text) → (Selector I x ⌢ Blank) s o t → EachSpanned (selector_items x) s
   entry-spanned x s o t h = rw (h.spans, h.two.none, append-nil h.first_spans) (selector-spanned x h.first_spans o h.first h.one)
 
-  others-spanned : (xs : List SelectorTree) (s : Spans) (o : ℕ) (t : Text) → Each (λ x. (word (44 ∷ []) ⌢ Blank) ⌢ Selector I x ⌢ Blank) xs s o t
+  others-spanned : (xs : List SelectorTree) (s : Spans) (o : ℕ) (t : Text) → Each (λ x. comma ⌢ Selector I x ⌢ Blank) xs s o t
       → EachSpanned (selectors_items (selectors xs)) s
   others-spanned [] s o t h = rw h.none tt
   others-spanned (x ∷ xs) s o t h =
@@ -87,7 +88,7 @@ module _ (I : ExprTree → Form) (inside-spanned : (e : ExprTree) (s : Spans) (o
       (spanned-append (selector_items x) (selectors_items (selectors xs)) h.one.second_spans h.second_spans
       (entry-spanned x h.one.second_spans _ h.one.second h.one.two) (others-spanned xs h.second_spans _ h.second h.two))
 
-  entries-spanned : (xs : List SelectorTree) (s : Spans) (o : ℕ) (t : Text) → Separated (word (44 ∷ []) ⌢ Blank) (λ x. Selector I x ⌢ Blank) xs s o t
+  entries-spanned : (xs : List SelectorTree) (s : Spans) (o : ℕ) (t : Text) → Separated comma (λ x. Selector I x ⌢ Blank) xs s o t
       → EachSpanned (selectors_items (selectors xs)) s
   entries-spanned [] s o t h = absurd h
   entries-spanned (x ∷ xs) s o t h =

@@ -16,6 +16,7 @@ use Rattle.jp_query.specs.Ints.{Int}
 use Rattle.jp_query.specs.Slices.{Bound, no_bound, bound, Step, Sliced}
 use Rattle.jp_query.specs.Grammar.{Selector, named, any, indexed, sliced, filtered, Bracket}
 use Rattle.jp_query.specs.Reading.{Inner, selector_at, number_at, slice_at, entry_at, another_at, entries_at, bracket_at, begins_int}
+use Rattle.jp_query.proofs.SegmentRules.{comma}
 use Rattle.jp_query.proofs.Moves.{Nested, another-progress}
 use Rattle.jp_query.proofs.Follows.{within, behind, blank-behind, blank-follow, blank-not_digit, closes, closes-not_digit, closes-not_blank, closes-not_colon}
 use Rattle.jp_query.proofs.SpeltNames.{quoted-again, mark-first}
@@ -49,10 +50,6 @@ slice-first y p m q h (bound i e w) g =
 selector-not_blank : (c : ℕ) → begins_selector c ≡ true → is_blank c ≡ false
 unfolding is_blank
 selector-not_blank c h = grind (arith, nat_tests)
-
--- a comma, and the blanks after it
-abbrev comma : Form
-comma = word (44 ∷ []) ⌢ Blank
 
 -- a selector and the blanks after it
 abbrev Entry : (ExprTree → Form) → SelectorTree → Form

@@ -29,7 +29,7 @@ pub fn begins_int(next: Option<char>) -> bool
 
 /// A whole number (RFC 9535 section 2.3.3.1, int).
 #[tactic(auto, using(crate::proofs::Sizes::sizes), unfolding(crate::specs::Reading::int_at))]
-fn int(reader: &mut Reader) -> Result<Numeral, Stop>
+pub fn int(reader: &mut Reader) -> Result<Numeral, Stop>
     ensures { Gives (λ x. x) result reader.new (int_at reader.old) }
 {
     if reader.is_at('0') {

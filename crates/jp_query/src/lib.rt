@@ -10,9 +10,15 @@
 //! `specs/Grammar.antt`, with its tree and the spans of its items; and no text spells two.
 #![tactic(auto)]
 
+mod expressions;
+#[cfg(test)]
+mod filter_tests;
 mod ints;
 pub mod laws;
+mod lists;
+mod literals;
 mod names;
+mod operators;
 mod parsed;
 mod refusal;
 mod segments;

@@ -4,8 +4,9 @@ ghost use Rattle.std.specs.Prelude.{◌≡◌, [], ◌∷◌, map, IfOk};
 ghost use Rattle.jp_reading.specs.Outcome.{after_blank, passes};
 ghost use Rattle.jp_reading.specs.Views.{Gives};
 ghost use Rattle.jp_query.specs.Tree.{segment, selectors, selector_of, segment_of, query_of};
-ghost use Rattle.jp_query.specs.Reading.{bracket_at, member_at, selection_at, segment_at, segments_at, query_at, begins_segment};
+ghost use Rattle.jp_query.specs.Reading.{inside, bracket_at, member_at, segment_at, segments_at, query_at, begins_segment};
 
+use crate::lists::append;
 use crate::names::shorthand;
 use crate::selectors::entries;
 use crate::tree::{Query, Segment, Selector};
@@ -30,16 +31,15 @@ pub fn query(reader: &mut Reader, levels: u32) -> Result<Query, Stop>
 }
 
 /// Segment after segment, with blank space before each; the reader stays before blank space that none follows.
-fn segments(reader: &mut Reader, levels: u32) -> Result<Vec<Segment>, Stop>
-    ensures { Gives (λ v. map segment_of v.items) result reader.new (segments_at levels reader.old) }
+#[cycle(nested)]
+pub fn segments(reader: &mut Reader, levels: u32) -> Result<Vec<Segment>, Stop>
+    ensures { Gives (λ v. map segment_of v.items) result reader.new (segments_at (inside levels) reader.old) }
 {
     let mut segments = Vec::new(reader.alloc());
     'segments: while is_before_segment(reader) {
         reader.skip();
         let next = segment(reader, levels)?;
-        if segments.push(next).is_err() {
-            return Err(Stop::Memory);
-        }
+        append(&mut segments, next)?;
     }
     Ok(segments)
 }
@@ -52,37 +52,30 @@ fn is_before_segment(reader: &Reader) -> bool
 }
 
 /// A child segment or a descendant segment (RFC 9535 section 2.5).
-#[tactic(auto, unfolding(crate::specs::Reading::segment_at))]
+#[cycle(nested)]
+#[tactic(auto, unfolding(crate::specs::Reading::segment_at, crate::specs::Reading::selection_at))]
 fn segment(reader: &mut Reader, levels: u32) -> Result<Segment, Stop>
-    ensures { Gives segment_of result reader.new (segment_at levels reader.old) }
+    ensures { Gives segment_of result reader.new (segment_at (inside levels) reader.old) }
 {
     if reader.is_at('[') {
         return bracketed(reader, levels, false);
     }
     reader.expect('.')?;
-    if reader.is_at('.') {
-        reader.bump();
-        return selection(reader, levels, true);
+    if !reader.is_at('.') {
+        return member(reader, false);
     }
-    member(reader, false)
-}
-
-/// What stands behind two dots: selectors in brackets, `*` or a member's name.
-#[tactic(auto, unfolding(crate::specs::Reading::selection_at))]
-fn selection(reader: &mut Reader, levels: u32, descendant: bool) -> Result<Segment, Stop>
-    ensures { Gives segment_of result reader.new (selection_at descendant levels reader.old) }
-{
+    reader.bump();
     if reader.is_at('[') {
-        bracketed(reader, levels, descendant)
-    } else {
-        member(reader, descendant)
+        return bracketed(reader, levels, true);
     }
+    member(reader, true)
 }
 
 /// Selectors in brackets.
+#[cycle(nested)]
 #[tactic(auto, unfolding(crate::specs::Reading::bracket_at))]
 fn bracketed(reader: &mut Reader, levels: u32, descendant: bool) -> Result<Segment, Stop>
-    ensures { Gives segment_of result reader.new (bracket_at descendant levels reader.old) }
+    ensures { Gives segment_of result reader.new (bracket_at descendant (inside levels) reader.old) }
 {
     reader.expect('[')?;
     reader.skip();
@@ -112,7 +105,7 @@ fn alone(alloc: Global, descendant: bool, selector: Selector) -> Result<Segment,
     ensures { IfOk result (λ s. segment_of s ≡ segment descendant (selectors (selector_of selector ∷ []))) }
 {
     let mut selectors = Vec::new(alloc);
-    selectors.push(selector)?;
+    append(&mut selectors, selector)?;
     Ok(Segment {
         descendant,
         selectors,

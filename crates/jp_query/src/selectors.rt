@@ -3,9 +3,11 @@
 ghost use Rattle.std.specs.Prelude.{◌≡◌, map};
 ghost use Rattle.jp_reading.specs.Views.{Gives};
 ghost use Rattle.jp_query.specs.Tree.{selector_of};
-ghost use Rattle.jp_query.specs.Reading.{selector_at, entry_at, another_at, entries_at, number_at};
+ghost use Rattle.jp_query.specs.Reading.{inside, selector_at, entries_at, number_at};
 
+use crate::expressions::inside;
 use crate::ints::int_item;
+use crate::lists::append;
 use crate::slices::slice;
 use crate::strings::quoted;
 use crate::tree::Selector;
@@ -13,48 +15,30 @@ use jp_reading::{Reader, Stop};
 
 /// Selectors with commas between them, and blank space round each. The reader stands before the first, and then past the
 /// blanks after the last.
-#[tactic(auto, unfolding(crate::specs::Reading::entries_at))]
+#[cycle(nested)]
+#[tactic(auto, unfolding(crate::specs::Reading::entries_at, crate::specs::Reading::entry_at))]
 pub fn entries(reader: &mut Reader, levels: u32) -> Result<Vec<Selector>, Stop>
-    ensures { Gives (λ v. map selector_of v.items) result reader.new (entries_at levels reader.old) }
+    ensures { Gives (λ v. map selector_of v.items) result reader.new (entries_at (inside levels) reader.old) }
 {
     let mut selectors = Vec::new(reader.alloc());
-    let first = entry(reader, levels)?;
-    if selectors.push(first).is_err() {
-        return Err(Stop::Memory);
-    }
+    let first = selector(reader, levels)?;
+    reader.skip();
+    append(&mut selectors, first)?;
     'entries: while reader.is_at(',') {
-        let next = another(reader, levels)?;
-        if selectors.push(next).is_err() {
-            return Err(Stop::Memory);
-        }
+        reader.bump();
+        reader.skip();
+        let next = selector(reader, levels)?;
+        reader.skip();
+        append(&mut selectors, next)?;
     }
     Ok(selectors)
 }
 
-/// A comma, blanks, and another selector with the blanks after it.
-#[tactic(auto, unfolding(crate::specs::Reading::another_at))]
-fn another(reader: &mut Reader, levels: u32) -> Result<Selector, Stop>
-    ensures { Gives selector_of result reader.new (another_at levels reader.old) }
-{
-    reader.expect(',')?;
-    reader.skip();
-    entry(reader, levels)
-}
-
-/// A selector and the blanks after it.
-#[tactic(auto, unfolding(crate::specs::Reading::entry_at))]
-fn entry(reader: &mut Reader, levels: u32) -> Result<Selector, Stop>
-    ensures { Gives selector_of result reader.new (entry_at levels reader.old) }
-{
-    let selector = selector(reader, levels)?;
-    reader.skip();
-    Ok(selector)
-}
-
 /// A selector.
+#[cycle(nested)]
 #[tactic(auto, unfolding(crate::specs::Reading::selector_at))]
 fn selector(reader: &mut Reader, levels: u32) -> Result<Selector, Stop>
-    ensures { Gives selector_of result reader.new (selector_at levels reader.old) }
+    ensures { Gives selector_of result reader.new (selector_at (inside levels) reader.old) }
 {
     if reader.is_at('"') {
         return Ok(Selector::Name(quoted(reader, '"')?));
@@ -68,6 +52,9 @@ fn selector(reader: &mut Reader, levels: u32) -> Result<Selector, Stop>
     }
     if reader.is_at(':') {
         return Ok(Selector::Slice(slice(reader, None)?));
+    }
+    if reader.is_at('?') {
+        return Ok(Selector::Filter(inside(reader, '?', levels)?));
     }
     number(reader)
 }

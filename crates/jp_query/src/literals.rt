@@ -1,0 +1,122 @@
+//! Literals (RFC 9535 section 2.3.5.1, literal).
+
+ghost use Rattle.std.specs.Prelude.{true};
+ghost use Rattle.jp_reading.specs.Outcome.{item};
+ghost use Rattle.jp_reading.specs.Views.{Gives};
+ghost use Rattle.jp_query.specs.Tree.{LiteralTree, literal_of};
+ghost use Rattle.jp_query.specs.Reading.{literal_at, word_at, number_literal_at, mantissa_at, decimals_at, exponent_at, digits_at};
+
+use crate::ints::int;
+use crate::strings::quoted;
+use crate::tree::{Literal, Numeral};
+use jp_reading::{Reader, Stop, natural};
+
+/// A literal, which is an item.
+pub fn literal_item(reader: &mut Reader) -> Result<Literal, Stop>
+    ensures { Gives literal_of result reader.new (item reader.old (literal_at reader.old)) }
+{
+    let start = reader.place();
+    let before = reader.items();
+    let literal = literal(reader)?;
+    reader.add_item(start, before)?;
+    Ok(literal)
+}
+
+/// A literal: a string, a word, or a number.
+#[tactic(auto, unfolding(crate::specs::Reading::literal_at))]
+fn literal(reader: &mut Reader) -> Result<Literal, Stop>
+    ensures { Gives literal_of result reader.new (literal_at reader.old) }
+{
+    match reader.peek() {
+        Some('"') => Ok(Literal::Text(quoted(reader, '"')?)),
+        Some('\'') => Ok(Literal::Text(quoted(reader, '\'')?)),
+        Some('t') => {
+            word(reader, ['t', 'r', 'u', 'e'].as_slice())?;
+            Ok(Literal::True)
+        },
+        Some('f') => {
+            word(reader, ['f', 'a', 'l', 's', 'e'].as_slice())?;
+            Ok(Literal::False)
+        },
+        Some('n') => {
+            word(reader, ['n', 'u', 'l', 'l'].as_slice())?;
+            Ok(Literal::Null)
+        },
+        _ => Ok(Literal::Number(number(reader)?)),
+    }
+}
+
+/// Takes the letters one by one.
+fn word(reader: &mut Reader, letters: &[char]) -> Result<(), Stop>
+    ensures { (x : LiteralTree) → Gives (λ _. x) result reader.new (word_at x letters.now reader.old) }
+{
+    'letters: for letter in letters {
+        reader.expect(*letter)?;
+    }
+    Ok(())
+}
+
+/// A number, with a fraction and an exponent or without.
+#[tactic(auto, unfolding(crate::specs::Reading::number_literal_at))]
+fn number(reader: &mut Reader) -> Result<Numeral, Stop>
+    ensures { Gives (λ x. x) result reader.new (number_literal_at reader.old) }
+{
+    let whole = mantissa(reader)?;
+    let has_decimals = decimals(reader)?;
+    let has_exponent = exponent(reader)?;
+    if has_decimals || has_exponent {
+        Ok(Numeral::Fraction)
+    } else {
+        Ok(whole)
+    }
+}
+
+/// A whole number, or `-0`, which is 0.
+#[tactic(auto, unfolding(crate::specs::Reading::mantissa_at))]
+fn mantissa(reader: &mut Reader) -> Result<Numeral, Stop>
+    ensures { Gives (λ x. x) result reader.new (mantissa_at reader.old) }
+{
+    if reader.is_at('-') && reader.peek_second() == Some('0') {
+        reader.bump();
+        reader.bump();
+        return Ok(Numeral::Whole(0));
+    }
+    int(reader)
+}
+
+/// A dot and digits, if there is a dot; whether there is one.
+#[tactic(auto, unfolding(crate::specs::Reading::decimals_at))]
+fn decimals(reader: &mut Reader) -> Result<bool, Stop>
+    ensures { Gives (λ there. there) result reader.new (decimals_at reader.old) }
+{
+    if !reader.is_at('.') {
+        return Ok(false);
+    }
+    reader.bump();
+    digits(reader)?;
+    Ok(true)
+}
+
+/// An `e`, a sign or none, and digits, if there is an `e`; whether there is one.
+#[tactic(auto, unfolding(crate::specs::Reading::exponent_at))]
+fn exponent(reader: &mut Reader) -> Result<bool, Stop>
+    ensures { Gives (λ there. there) result reader.new (exponent_at reader.old) }
+{
+    if !matches!(reader.peek(), Some('e' | 'E')) {
+        return Ok(false);
+    }
+    reader.bump();
+    if matches!(reader.peek(), Some('+' | '-')) {
+        reader.bump();
+    }
+    digits(reader)?;
+    Ok(true)
+}
+
+/// Digits, at least one; their value does not count.
+fn digits(reader: &mut Reader) -> Result<(), Stop>
+    ensures { Gives (λ _. true) result reader.new (digits_at reader.old) }
+{
+    natural(reader, 0)?;
+    Ok(())
+}

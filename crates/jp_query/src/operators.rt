@@ -1,0 +1,64 @@
+//! Operators of comparisons (RFC 9535 section 2.3.5.1, comparison-op).
+
+ghost use Rattle.std.specs.Prelude.{◌≡◌, if◌then◌else◌};
+ghost use Rattle.jp_reading.specs.Outcome.{took, past, is_at, after_blank, passes};
+ghost use Rattle.jp_reading.specs.Views.{Gives};
+ghost use Rattle.jp_query.specs.Reading.{operator_at, with_equals_at, begins_operator};
+
+use crate::tree::Op;
+use jp_reading::{Reader, Stop};
+
+/// An operator of a comparison.
+#[tactic(auto, unfolding(crate::specs::Reading::operator_at))]
+pub fn operator(reader: &mut Reader) -> Result<Op, Stop>
+    ensures { Gives (λ op. op) result reader.new (operator_at reader.old) }
+{
+    match reader.peek() {
+        Some('=') => {
+            reader.bump();
+            with_equals(reader, Op::Equal)
+        },
+        Some('!') => {
+            reader.bump();
+            with_equals(reader, Op::Unequal)
+        },
+        Some('<') => {
+            reader.bump();
+            Ok(alone_or_with_equals(reader, Op::Less, Op::LessEqual))
+        },
+        Some('>') => {
+            reader.bump();
+            Ok(alone_or_with_equals(reader, Op::Greater, Op::GreaterEqual))
+        },
+        _ => Err(Stop::Syntax(reader.place())),
+    }
+}
+
+/// Whether an operator of a comparison begins past the blanks.
+pub fn is_before_operator(reader: &Reader) -> bool
+    ensures { result ≡ passes begins_operator (after_blank reader.now) }
+{
+    matches!(reader.peek_past_blank(), Some('=' | '!' | '<' | '>'))
+}
+
+/// The operator whose first character is taken, and whose second is `=`.
+#[tactic(auto, unfolding(crate::specs::Reading::with_equals_at))]
+fn with_equals(reader: &mut Reader, op: Op) -> Result<Op, Stop>
+    ensures { Gives (λ x. x) result reader.new (with_equals_at op reader.old) }
+{
+    reader.expect('=')?;
+    Ok(op)
+}
+
+/// The operator whose first character is taken: the one with a `=` after it, if it stands there, or the other.
+fn alone_or_with_equals(reader: &mut Reader, alone: Op, with_equals: Op) -> Op
+    ensures { took result reader.new
+        ≡ (if is_at 61 reader.old then took with_equals (past reader.old) else took alone reader.old) }
+{
+    if reader.is_at('=') {
+        reader.bump();
+        with_equals
+    } else {
+        alone
+    }
+}
