@@ -10,7 +10,9 @@ pub mod Lifts
 pub mod Moves
 pub mod NoItems
 pub mod Numerals
+pub mod Places
 pub mod Refused
+pub mod RefusedPlaces
 pub mod Rounds
 pub mod Rows
 pub mod Rules

@@ -52,7 +52,7 @@ ends-judged L p (took xs r) h = at_end (is_end r)
 ends-judged L p (stuck r) h = judged-made (query_of_parts true) (segments_rule L) p (stuck r) h
 ends-judged L p (deep r) h = judged-made (query_of_parts true) (segments_rule L) p (deep r) h
 
-query-judged : (n : ℕ) (p : State) → Judged (word_rule 36 (made_rule (query_of_parts true) (segments_rule (level_at n)))) p (query_at n p)
+pub query-judged : (n : ℕ) (p : State) → Judged (word_rule 36 (made_rule (query_of_parts true) (segments_rule (level_at n)))) p (query_at n p)
 unfolding query_at
 query-judged n p =
     let L = level_at n in
