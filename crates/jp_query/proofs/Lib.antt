@@ -10,6 +10,7 @@ pub mod Lifts
 pub mod Moves
 pub mod NoItems
 pub mod Numerals
+pub mod OneRefusal
 pub mod Places
 pub mod Refused
 pub mod RefusedPlaces

@@ -64,7 +64,7 @@ no-further n before behind mark stops spelled =
 -- ---- places
 
 -- of two fronts of a text with as many bytes each is the other, and the same is left behind them
-same-cut : (front other rest left : Text) → front ++ rest ≡ other ++ left → bytes front ≡ bytes other → (front ≡ other) × (rest ≡ left)
+pub same-cut : (front other rest left : Text) → front ++ rest ≡ other ++ left → bytes front ≡ bytes other → (front ≡ other) × (rest ≡ left)
 same-cut [] [] rest left e b = (refl, e)
 same-cut [] (c ∷ other) rest left e b = let some = len_utf8_bounds c in absurd (omega arith)
 same-cut (c ∷ front) [] rest left e b = let some = len_utf8_bounds c in absurd (omega arith)

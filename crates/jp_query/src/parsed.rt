@@ -6,7 +6,7 @@ ghost use Rattle.jp_query.specs.Tree.{query_of};
 ghost use Rattle.jp_query.specs.Items.{items_of, EachSpanned};
 ghost use Rattle.jp_query.specs.Grammar.{Spells};
 ghost use Rattle.jp_query.specs.Spelled.{IsSpelled, SpellsNothing};
-ghost use Rattle.jp_query.specs.Front.{IsFrontBefore, IsTooDeepBefore};
+ghost use Rattle.jp_query.specs.Front.{IsSyntaxAt, IsTooDeepAt};
 
 use crate::refusal::{Refusal, RefusalKind};
 use crate::segments::query;
@@ -46,8 +46,8 @@ impl Model for Parsed {
 pub fn parse(alloc: Global, text: &str) -> Result<Parsed, Refusal>
     ensures found { IfOk result (λ p. Spells 64 (query_of p.query) p.spans (chars text.now)) }
     ensures only { IfErr result (λ r. (r.kind ≡ RefusalKind.NoMemory) ⊎ SpellsNothing 64 (chars text.now)) }
-    ensures front { IfErr result (λ r. r.kind ≡ RefusalKind.Syntax → IsFrontBefore 64 (chars text.now) r.place) }
-    ensures deep { IfErr result (λ r. r.kind ≡ RefusalKind.TooDeep → IsTooDeepBefore 64 (chars text.now) r.place) }
+    ensures syntax { IfErr result (λ r. r.kind ≡ RefusalKind.Syntax → IsSyntaxAt 64 (chars text.now) r.place) }
+    ensures deep { IfErr result (λ r. r.kind ≡ RefusalKind.TooDeep → IsTooDeepAt 64 (chars text.now) r.place) }
     ensures kinds { IfErr
         result
         (λ r. (r.kind ≡ RefusalKind.Syntax) ⊎ (r.kind ≡ RefusalKind.TooDeep) ⊎ ((r.kind ≡ RefusalKind.NoMemory) × (r.place ≡ 0))) }
