@@ -6,7 +6,7 @@ use Rattle.jp_reading.specs.Texts.{Text, Spans}
 use Rattle.jp_query.specs.declared.refusal.Refusal.{Refusal}
 use Rattle.jp_query.specs.declared.refusal.RefusalKind.{RefusalKind}
 use Rattle.jp_query.specs.declared.refusal.RefusalKind.TheVariants.{Syntax, TooDeep, NotWhole, NumberRange, IndexRange, UnknownFunction, ArgumentCount, NotSingular, IllTyped, NoMemory, TextTooLong}
-use Rattle.jp_query.specs.Items.{QueryItem, int, items_of}
+use Rattle.jp_query.specs.Items.{QueryItem, int, constant, inner, as_side, items_of}
 use Rattle.jp_query.specs.Grammar.{Spells}
 use Rattle.jp_query.specs.Laws.{OneReading}
 use Rattle.jp_query.specs.Refusal.{number_of}
@@ -85,7 +85,7 @@ one-answer one text = record {
 pub refused-only : OneReading → (text : Text) (kind : RefusalKind) (place : ℕ) → IsRefusedAs text kind place → (kind ≡ NoMemory) ⊎ IsNotAccepted text
 refused-only one text NoMemory place h = inl refl
 refused-only one text Syntax place h = inr (λ q a. h.0 q a.spans a.spelled)
-refused-only one text TooDeep place h = absurd h
+refused-only one text TooDeep place h = inr (λ q a. h.0 q a.spans a.spelled)
 refused-only one text TextTooLong place h = absurd h
 refused-only one text kind place h = inr (λ q a. (one-answer one text).not_both q (record { kind = kind; place = place }) a h)
 
@@ -96,17 +96,33 @@ refused-result one text (Err r) h = refused-only one text r.kind r.place h
 
 -- ---- a first fault refuses the text
 
-no_syntax : (x : QueryItem) → HasFault x Syntax → ⊥
+-- a kind that is no fault of any item
+abbrev NoFaultKind : RefusalKind → Type 0
+NoFaultKind kind = (x : QueryItem) → HasFault x kind → ⊥
+
+no_syntax : NoFaultKind Syntax
 no_syntax (int n role) h = h
+no_syntax (constant l role) h = h
+no_syntax (inner q as_side) h = h
+no_syntax (inner q role) h = h
 
-no_too_deep : (x : QueryItem) → HasFault x TooDeep → ⊥
+no_too_deep : NoFaultKind TooDeep
 no_too_deep (int n role) h = h
+no_too_deep (constant l role) h = h
+no_too_deep (inner q as_side) h = h
+no_too_deep (inner q role) h = h
 
-no_memory : (x : QueryItem) → HasFault x NoMemory → ⊥
+no_memory : NoFaultKind NoMemory
 no_memory (int n role) h = h
+no_memory (constant l role) h = h
+no_memory (inner q as_side) h = h
+no_memory (inner q role) h = h
 
-no_too_long : (x : QueryItem) → HasFault x TextTooLong → ⊥
+no_too_long : NoFaultKind TextTooLong
 no_too_long (int n role) h = h
+no_too_long (constant l role) h = h
+no_too_long (inner q as_side) h = h
+no_too_long (inner q role) h = h
 
 faulty-refused : (text : Text) (kind : RefusalKind) (place : ℕ) → IsFaulty text (record { kind = kind; place = place }) → IsRefusedAs text kind place
 faulty-refused text Syntax place h = absurd (no_syntax h.first.is.item h.first.is.kind)

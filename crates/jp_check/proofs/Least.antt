@@ -1,21 +1,20 @@
 -- The first fault that the walk finds is the first of all.
-use Rattle.std.proofs.Common.{◌≡◌, pos, ◌⊎◌, inl, inr, ◌≤◌, Bool, true, false, cond, List, [], ◌∷◌, Option, Some, None, MatchOption, length, refl, sym, ap, subst, arith}
+use Rattle.std.proofs.Common.{◌≡◌, pos, ◌⊎◌, inl, inr, Bool, true, false, cond, List, [], ◌∷◌, Option, Some, None, MatchOption, length, refl, sym, ap, subst, arith}
 use Rattle.std.specs.List.{All, zip}
 use Rattle.std.proofs.lemmas.List.Elements.{All-cons, All-nil, Contains-append_left, Contains-append_right, Contains-append_cases, Contains-push, Contains-push_cases}
 use Rattle.jp_reading.specs.Texts.{Spans}
 use Rattle.jp_reading.specs.declared.span.Span.{Span}
 use Rattle.jp_query.specs.declared.refusal.Refusal.{Refusal}
 use Rattle.jp_query.specs.declared.refusal.RefusalKind.{RefusalKind}
-use Rattle.jp_query.specs.declared.refusal.RefusalKind.TheVariants.{IndexRange}
 use Rattle.jp_query.specs.declared.tree.Numeral.{Numeral}
 use Rattle.jp_query.specs.declared.tree.Numeral.TheVariants.{Whole}
-use Rattle.jp_query.specs.Items.{QueryItem, Use, as_index, as_slice_part, int, EachSpanned}
-use Rattle.jp_query.specs.Refusal.{number_of}
+use Rattle.jp_query.specs.Items.{QueryItem, as_index, as_slice_part, as_side, as_test, int, constant, inner, EachSpanned}
 use Rattle.jp_check.specs.Faults.{HasFault}
 use Rattle.jp_check.specs.First.{IsFaultOf, IsNoLater, IsFirstFault}
 use Rattle.jp_check.specs.Walk.{Progress, fault_of, is_before, earlier, past_item, steps}
 use Rattle.jp_check.specs.Ranges.{is_in_range}
 use Rattle.std.proofs.lemmas.Bool.Decides.{nat_tests}
+use Rattle.jp_check.proofs.OwnFault.{IsOwn, int-fault, own-fault}
 
 -- ---- the order of faults
 
@@ -65,25 +64,6 @@ least-earlier P Q (Some first) r h g = chosen (is_before r first) refl
 -- no more faults
 least-alone : (P Q : Refusal → Type 0) (o : Option Refusal) → ((f : Refusal) → Q f → ⊥) → IsLeast P o → IsLeast (λ f. P f ⊎ Q f) o
 least-alone P Q o none = least-same P (λ f. P f ⊎ Q f) o (λ f p. inl p) (λ f one. elim one as (λ _. P f) [ inl p ↦ p | inr q ↦ absurd (none f q) ])
-
--- ---- the fault of an item
-
--- the item has none, or this kind and none with a smaller number
-abbrev IsOwn : QueryItem → Option RefusalKind → Type 0
-IsOwn x None = (kind : RefusalKind) → HasFault x kind → ⊥
-IsOwn x (Some kind) = HasFault x kind × ((other : RefusalKind) → HasFault x other → number_of kind ≤ number_of other)
-
--- an int has no fault but its range
-int-fault : (n : Numeral) (role : Use) (kind : RefusalKind) → HasFault (int n role) kind → (kind ≡ IndexRange) × (is_in_range n ≡ false)
-int-fault n role IndexRange h = (refl, h)
-int-fault n role _ h = absurd h
-
-own-int : (n : Numeral) (role : Use) (b : Bool) → is_in_range n ≡ b → IsOwn (int n role) (cond b None (Some IndexRange))
-own-int n role true e = λ kind h. let is = int-fault n role kind h in cc (is.1)
-own-int n role false e = (e, λ other h. rw (int-fault n role other h).0 (omega arith))
-
-own-fault : (x : QueryItem) → IsOwn x (fault_of x)
-own-fault (int n role) = own-int n role (is_in_range n) refl
 
 -- ---- the faults of items with their spans
 
@@ -212,6 +192,10 @@ faultless (int n as_index ∷ xs) (None ∷ spans) each none = absurd each
 faultless (int n as_slice_part ∷ xs) (None ∷ spans) each none =
     All-cons NoFault (int n as_slice_part) xs (λ kind h. let is = int-fault n as_slice_part kind h in one_in_range n each.0 is.1)
     (faultless xs spans each.1 (λ f h. none f (of-tail (int n as_slice_part) xs None spans f h)))
+faultless (int n as_side ∷ xs) (None ∷ spans) each none = absurd each
+faultless (int n as_test ∷ xs) (None ∷ spans) each none = absurd each
+faultless (constant l role ∷ xs) (None ∷ spans) each none = absurd each
+faultless (inner q role ∷ xs) (None ∷ spans) each none = absurd each
 faultless (x ∷ xs) (Some span ∷ spans) each none =
     All-cons NoFault x xs
     (λ kind h. none (record { kind = kind; place = span.start }) (record { item = x; span = span; among = Contains-append_left ((x, Some span) ∷ []) (zip xs spans) (x, Some span) (Contains-push [] (x, Some span)); kind = h; place = refl }))

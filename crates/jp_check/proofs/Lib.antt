@@ -1,4 +1,7 @@
 pub mod Alone
 pub mod Least
+pub mod OwnFault
 pub mod Rows
+pub mod Segments
 pub mod Steps
+pub mod Trees

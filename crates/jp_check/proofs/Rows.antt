@@ -1,11 +1,14 @@
 -- The definitions at work.
-use Rattle.std.proofs.Common.{◌≡◌, inl, inr, true, false, pos, negsuc, [], ◌∷◌, Some, refl, arith}
-use Rattle.jp_query.specs.Items.{int, as_index}
-use Rattle.jp_query.specs.declared.refusal.RefusalKind.TheVariants.{NotWhole, IndexRange}
-use Rattle.jp_query.specs.declared.tree.Numeral.TheVariants.{Whole, Beyond}
+use Rattle.std.proofs.Common.{◌≡◌, inl, inr, true, false, pos, negsuc, List, [], ◌∷◌, Some, refl, arith}
+use Rattle.jp_query.specs.Items.{int, constant, inner, as_index, as_side, as_test, items_of}
+use Rattle.jp_query.specs.declared.refusal.RefusalKind.TheVariants.{NotWhole, NumberRange, IndexRange, NotSingular}
+use Rattle.jp_query.specs.declared.tree.Numeral.TheVariants.{Whole, Beyond, Fraction}
+use Rattle.jp_query.specs.declared.tree.Op.TheVariants.{Equal}
+use Rattle.jp_query.specs.Tree.{SelectorTree, name, wildcard, index, filter, segment, QueryTree, query, ExprTree, all_of, comparison, literal, node_value, number, selectors, segments, exprs}
 use Rattle.jp_check.specs.Faults.{HasFault}
-use Rattle.jp_check.specs.First.{IsFaultOf, IsNoLater}
+use Rattle.jp_check.specs.First.{IsFaultOf, IsNoLater, IsFirstFault}
 use Rattle.jp_check.specs.Ranges.{is_in_range}
+use Rattle.jp_check.proofs.Least.{found}
 
 -- ---- the range of indexes
 
@@ -52,3 +55,77 @@ row-fault = record {
   kind = refl;
   place = refl;
 }
+
+-- ---- literals
+
+row-fraction : HasFault (constant (number Fraction) as_side) NotWhole
+row-fraction = refl
+
+row-fraction-alone : HasFault (constant (number Fraction) as_side) NumberRange → ⊥
+row-fraction-alone h = cc
+
+row-beyond-literal : HasFault (constant (number Beyond) as_side) NumberRange
+row-beyond-literal = refl
+
+-- 18446744073709551615 may be a literal, and is no index
+row-greatest-literal : HasFault (constant (number (Whole (pos 18446744073709551615))) as_side) NumberRange → ⊥
+row-greatest-literal h = cc
+
+row-greatest-index : HasFault (int (Whole (pos 18446744073709551615)) as_index) IndexRange
+row-greatest-index = refl
+
+-- ---- queries inside others
+
+-- `@` and one segment of these selectors
+at_current : List SelectorTree → QueryTree
+at_current xs = query false (segments (segment false (selectors xs) ∷ []))
+
+-- `@`
+row-current : HasFault (inner (query false (segments [])) as_side) NotSingular → ⊥
+row-current h = cc
+
+-- `@.a`
+row-single : HasFault (inner (at_current (name (97 ∷ []) ∷ [])) as_side) NotSingular → ⊥
+unfolding at_current
+row-single h = cc
+
+-- `@.*`
+row-wildcard : HasFault (inner (at_current (wildcard ∷ [])) as_side) NotSingular
+unfolding at_current
+row-wildcard = refl
+
+-- `@.*` as a test
+row-test : HasFault (inner (at_current (wildcard ∷ [])) as_test) NotSingular → ⊥
+row-test h = h
+
+-- `@[0,1]`
+row-several : HasFault (inner (at_current (index (Whole (pos 0)) ∷ index (Whole (pos 1)) ∷ [])) as_side) NotSingular
+unfolding at_current
+row-several = refl
+
+-- `@..a`
+row-descendant : HasFault (inner (query false (segments (segment true (selectors (name (97 ∷ []) ∷ [])) ∷ []))) as_side) NotSingular
+row-descendant = refl
+
+-- ---- first faults of filters
+
+-- `$[?` the expression `]`
+filtered : ExprTree → QueryTree
+filtered e = query true (segments (segment false (selectors (filter e ∷ [])) ∷ []))
+
+-- `$[?@.*==1.0]`: of two faults the query's stands first, at 3
+row-query-first : IsFirstFault (items_of (filtered (comparison (node_value (at_current (wildcard ∷ []))) Equal (literal (number Fraction)))))
+    (Some (record { start = 3; end = 6 }) ∷ Some (record { start = 8; end = 11 }) ∷ []) (record { kind = NotSingular; place = 3 })
+unfolding at_current filtered
+row-query-first = found _ _ (Some (record { kind = NotSingular; place = 3 })) tt refl
+
+-- `$[?@.a==1.0&&@.*==2]`: of two faults the literal's stands first, at 8
+row-literal-first : IsFirstFault
+    (items_of (filtered (all_of (exprs (
+    comparison (node_value (at_current (name (97 ∷ []) ∷ []))) Equal (literal (number Fraction))
+    ∷ comparison (node_value (at_current (wildcard ∷ []))) Equal (literal (number (Whole (pos 2))))
+    ∷ [])))))
+    (Some (record { start = 3; end = 6 }) ∷ Some (record { start = 8; end = 11 }) ∷ Some (record { start = 13; end = 16 }) ∷ Some (record { start = 18; end = 19 }) ∷ [])
+    (record { kind = NotWhole; place = 8 })
+unfolding at_current filtered
+row-literal-first = found _ _ (Some (record { kind = NotWhole; place = 8 })) tt refl

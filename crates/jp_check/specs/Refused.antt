@@ -4,7 +4,7 @@ use Rattle.jp_reading.specs.Texts.{Text, Spans}
 use Rattle.jp_query.specs.declared.refusal.Refusal.{Refusal}
 use Rattle.jp_query.specs.declared.refusal.RefusalKind.{RefusalKind}
 use Rattle.jp_query.specs.declared.refusal.RefusalKind.TheVariants.{Syntax, TooDeep, NoMemory, TextTooLong}
-use Rattle.jp_query.specs.Front.{IsFrontBefore}
+use Rattle.jp_query.specs.Front.{IsFrontBefore, IsTooDeepBefore}
 use Rattle.jp_query.specs.Grammar.{Spells}
 use Rattle.jp_query.specs.Items.{items_of}
 use Rattle.jp_query.specs.Spelled.{SpellsNothing}
@@ -22,7 +22,7 @@ pub record IsFaulty (text : Text) (fault : Refusal) : Type 0 where
 abbrev pub IsRefusedAs : Text → RefusalKind → ℕ → Type 0
 IsRefusedAs text NoMemory place = place ≡ 0
 IsRefusedAs text Syntax place = SpellsNothing 64 text × IsFrontBefore 64 text place
-IsRefusedAs text TooDeep place = ⊥
+IsRefusedAs text TooDeep place = SpellsNothing 64 text × IsTooDeepBefore 64 text place
 IsRefusedAs text TextTooLong place = ⊥
 IsRefusedAs text kind place = IsFaulty text (record { kind = kind; place = place })
 

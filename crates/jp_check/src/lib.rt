@@ -1,9 +1,10 @@
-//! Which queries are accepted: those without a fault of ranges or types (RFC 9535 sections 2.1 and 2.4.3).
+//! Which queries are accepted: those without a fault of numbers or types (RFC 9535 sections 2.1, 2.3.5.1 and 2.4.3).
 //!
 //! ```text
 //! let checked = read_query(alloc, "$.store['book'][0]")?;
 //! checked.query();                        // the query's tree
 //! read_query(alloc, "$[9007199254740992]")  // refused: IndexRange at 2
+//! read_query(alloc, "$[?@.*==1]")           // refused: NotSingular at 3
 //! ```
 //!
 //! The contract for the crates above: `read_query` answers a tree exactly for the texts that are accepted as it, by
@@ -13,7 +14,10 @@
 mod checked;
 mod faults;
 pub mod laws;
+mod ranges;
+mod singular;
 #[cfg(test)]
 mod tests;
+mod walk;
 
 pub use checked::{Checked, check, read_query};

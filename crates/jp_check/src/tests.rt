@@ -1,4 +1,4 @@
-//! Queries at the ends of the range of indexes, and first faults at their places.
+//! Queries at the ends of the ranges of numbers, and first faults at their places.
 
 use crate::{check, laws, read_query};
 use jp_query::{Numeral, Query, RefusalKind, Segment, Selector, parse};
@@ -37,6 +37,22 @@ fn queries_without_faults_are_accepted(rt: HostRuntime) -> Result<(), Fail> {
     Ok(())
 }
 
+#[test]
+fn filters_without_faults_are_accepted(rt: HostRuntime) -> Result<(), Fail> {
+    let alloc = rt.alloc();
+    let rows = [
+        "$[?@==18446744073709551615]",
+        "$[?@==-9223372036854775808]",
+        "$[?@[ 'a' ] [0]==$]",
+        "$[?@.*&&@..a]",
+        "$[?'1.5'!=null]",
+    ];
+    for text in rows {
+        assert!(rt; read_query(alloc, text).is_ok(), "{text:?}");
+    }
+    Ok(())
+}
+
 /// Whether `read_query` refuses the text so.
 fn is_refused(alloc: Global, text: &str, kind: RefusalKind, place: usize) -> bool {
     match read_query(alloc, text) {
@@ -61,6 +77,22 @@ fn texts_are_refused_with_their_first_faults(rt: HostRuntime) -> Result<(), Fail
         ("$[0:9007199254740992]", RefusalKind::IndexRange, 4),
         ("$[::][::-9007199254740992]", RefusalKind::IndexRange, 8),
         ("$[9007199254740992", RefusalKind::Syntax, 18),
+        ("$.a[?@>3.5]", RefusalKind::NotWhole, 7),
+        ("$[?99999999999999999999e0==1]", RefusalKind::NotWhole, 3),
+        ("$[?'1.5'==1.5]", RefusalKind::NotWhole, 10),
+        ("$[?@==18446744073709551616]", RefusalKind::NumberRange, 6),
+        ("$[?@==-9223372036854775809]", RefusalKind::NumberRange, 6),
+        ("$[?@.*==1]", RefusalKind::NotSingular, 3),
+        ("$[?@[0,1]==1]", RefusalKind::NotSingular, 3),
+        ("$[?1==$..a]", RefusalKind::NotSingular, 6),
+        ("$[?@.*==1.0]", RefusalKind::NotSingular, 3),
+        ("$[?@.a==1.0&&@.*==2]", RefusalKind::NotWhole, 8),
+        ("$[?@[?@.a==1.5]==2]", RefusalKind::NotSingular, 3),
+        (
+            "$[?!(@.a||@[9007199254740992])]",
+            RefusalKind::IndexRange,
+            12,
+        ),
     ];
     for (text, kind, place) in rows {
         assert!(rt; is_refused(alloc, text, kind, place), "{text:?} at {place}");
@@ -68,16 +100,25 @@ fn texts_are_refused_with_their_first_faults(rt: HostRuntime) -> Result<(), Fail
     Ok(())
 }
 
-#[test]
-fn half_a_million_segments_are_accepted(rt: HostRuntime) -> Result<(), Fail> {
-    let alloc = rt.alloc();
-    let mut text = String::from_str(alloc, "$")?;
+/// The front, half a million shorthand segments, and the back.
+fn with_segments(alloc: Global, front: &str, back: &str) -> Result<String, AllocError> {
+    let mut text = String::from_str(alloc, front)?;
     for _ in 0..524_288 {
         text.push_str(".a")?;
     }
+    text.push_str(back)?;
+    Ok(text)
+}
+
+#[test]
+fn half_a_million_segments_are_accepted(rt: HostRuntime) -> Result<(), Fail> {
+    let alloc = rt.alloc();
+    let text = with_segments(alloc, "$", "")?;
     let Ok(checked) = read_query(alloc, &text) else {
         panic!(rt; "refused");
     };
     assert_eq!(rt; checked.query().segments.len(), 524_288);
+    let side = with_segments(alloc, "$[?@", "==1]")?;
+    assert!(rt; read_query(alloc, &side).is_ok());
     Ok(())
 }

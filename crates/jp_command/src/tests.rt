@@ -1,5 +1,6 @@
 //! Rows of the standard and of the program, on `run_eval` and `run_line`.
 
 mod devices;
+mod filters;
 mod runs;
 mod statuses;

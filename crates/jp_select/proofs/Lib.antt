@@ -1,7 +1,11 @@
+pub mod EqualValues
 pub mod Locations
 pub mod Rising
 pub mod Rows
+pub mod Sameness
 pub mod Selections
 pub mod SliceLaws
 pub mod Slices
+pub mod TextOrder
 pub mod Walks
+pub mod Weights

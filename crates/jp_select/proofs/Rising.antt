@@ -120,7 +120,7 @@ equal Less h = cc
 equal Equal h = refl
 equal Greater h = cc
 
-exact_step : (k j : Key) → is_eq (key_cmp k j) ≡ true → k ≡ j
+pub exact_step : (k j : Key) → is_eq (key_cmp k j) ≡ true → k ≡ j
 exact_step (named s) (named t) h = ap named (exact_bytes s t (equal (key_cmp (named s) (named t)) h))
 exact_step (named s) (nth j) h = absurd (cc)
 exact_step (nth i) (named t) h = absurd (cc)

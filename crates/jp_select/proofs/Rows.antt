@@ -1,8 +1,10 @@
 -- Worked rows of the definitions.
-use Rattle.std.proofs.Common.{◌≡◌, pos, negsuc, [], ◌∷◌, Some, None, refl}
+use Rattle.std.proofs.Common.{◌≡◌, true, false, pos, negsuc, [], ◌∷◌, Some, None, refl}
 use Rattle.jp_document.specs.Location.{Location, named, nth}
-use Rattle.jp_document.specs.Value.{Value, null, list, object, no_items, item, no_members, member}
+use Rattle.jp_document.specs.Value.{Value, null, boolean, whole, text, list, object, no_items, item, no_members, member}
+use Rattle.jp_query.specs.declared.tree.Op.TheVariants.{Equal, Less, LessEqual, Greater}
 use Rattle.jp_select.specs.Below.{below}
+use Rattle.jp_select.specs.Comparison.{compared, is_below}
 use Rattle.jp_select.specs.Selectors.{item_at}
 use Rattle.jp_select.specs.Slice.{slice_of}
 
@@ -54,3 +56,33 @@ below_leaf = refl
 
 below_nothing : below sample (nth 3 ∷ []) ≡ []
 below_nothing = refl
+
+-- ---- comparisons (section 2.3.5.3)
+
+nothing_is_nothing : compared LessEqual None None ≡ true
+nothing_is_nothing = refl
+
+nothing_is_not_null : compared Equal None (Some null) ≡ false
+nothing_is_not_null = refl
+
+number_is_no_text : compared Equal (Some (whole (pos 13))) (Some (text (49 ∷ 51 ∷ []))) ≡ false
+number_is_no_text = refl
+
+object_at_most_itself : compared LessEqual (Some sample) (Some sample) ≡ true
+object_at_most_itself = refl
+
+object_not_below_itself : compared Less (Some sample) (Some sample) ≡ false
+object_not_below_itself = refl
+
+beyond_53_bits : compared Greater (Some (whole (pos 18446744073709551615))) (Some (whole (pos 18446744073709551614))) ≡ true
+beyond_53_bits = refl
+
+true_at_most_true : compared LessEqual (Some (boolean true)) (Some (boolean true)) ≡ true
+true_at_most_true = refl
+
+-- U+FFFF is below U+1F600
+higher_scalar : is_below (0xffff ∷ []) (0x1f600 ∷ []) ≡ true
+higher_scalar = refl
+
+longer_text : is_below (97 ∷ []) (97 ∷ 97 ∷ []) ≡ true
+longer_text = refl

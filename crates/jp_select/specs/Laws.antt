@@ -1,11 +1,13 @@
 -- What is true of the definitions, in the standard's words.
-use Rattle.std.specs.Prelude.{◌≡◌, ◌↔◌, ℕ, suc, ◌*◌, ℤ, pos, negsuc, ◌+ℤ◌, ◌<ℤ◌, List, [], reverse, Contains, Option}
+use Rattle.std.specs.Prelude.{◌≡◌, ◌↔◌, ℕ, suc, ◌*◌, ℤ, pos, negsuc, ◌+ℤ◌, ◌<ℤ◌, List, [], reverse, Contains, Option, Some, true}
 use Rattle.std.specs.List.Sorted.{IsStrictlySortedBy}
 use Rattle.std.specs.Ordering.{nat_cmp}
 use Rattle.jp_document.specs.ChildNodes.{IsListOf}
 use Rattle.jp_document.specs.Location.{Location}
 use Rattle.jp_document.specs.Value.{Value, IsDocumentValue}
 use Rattle.jp_select.specs.Below.{below, IsBelow}
+use Rattle.jp_select.specs.Comparison.{equals}
+use Rattle.jp_select.specs.Equality.{IsEqual}
 use Rattle.jp_select.specs.Slice.{rising_lower, rising_upper, falling_lower, falling_upper, slice_of}
 
 -- a node and its descendants are exactly the nodes whose locations begin with its own, in document order
@@ -28,3 +30,7 @@ pub record SlicesAreExact : Type 0 where
   pub upwards : (n : ℕ) (start end : Option ℤ) (k : ℕ) → IsRisingSlice (rising_lower n start) (rising_upper n end) (suc k) (slice_of n start end (pos (suc k)))
   pub downwards : (n : ℕ) (start end : Option ℤ) (k : ℕ) → IsFallingSlice (falling_lower n end) (falling_upper n start) (suc k) (slice_of n start end (negsuc k))
   pub nowhere : (n : ℕ) (start end : Option ℤ) → slice_of n start end (pos 0) ≡ []
+
+-- `==` is true of two documents' values exactly where they are equal (RFC 9535 section 2.3.5.2.2)
+abbrev pub EqualsIsExact : Type 0
+EqualsIsExact = (v w : Value) → IsDocumentValue v → IsDocumentValue w → (equals (Some v) (Some w) ≡ true) ↔ IsEqual v w

@@ -6,7 +6,7 @@ use Rattle.std.specs.Str.{encode_utf8_all}
 use Rattle.jp_document.specs.ChildNodes.{children_of}
 use Rattle.jp_document.specs.Location.{Key, Location, named, nth, value_at}
 use Rattle.jp_document.specs.Value.{Value, item_count, list}
-use Rattle.jp_query.specs.Tree.{SelectorTree, name, wildcard, index, slice}
+use Rattle.jp_query.specs.Tree.{SelectorTree, name, wildcard, index, slice, filter}
 use Rattle.jp_query.specs.declared.tree.Numeral.{Numeral}
 use Rattle.jp_query.specs.declared.tree.Numeral.TheVariants.{Whole}
 use Rattle.jp_query.specs.declared.tree.Slice.{Slice}
@@ -60,10 +60,12 @@ indexes_chosen s n = indexes_of n (bound_of s.start) (bound_of s.end) (whole_of 
 abbrev pub items_chosen : Value → Slice → Location → List Location
 items_chosen d s l = option_map_or (λ n. flat_map (item_step d l) (indexes_chosen s n)) (length_at d l) []
 
--- what a selector selects at l
+-- what a plain selector selects at l: a name, a wildcard, an index or a slice. A filter is none of these: what it
+-- selects depends on queries of its own, and here it chooses nothing
 abbrev pub chosen : Value → SelectorTree → Location → List Location
 chosen d (name cs) l = one_step d l (named (encode_utf8_all cs))
 chosen d wildcard l = children_of d l
 chosen d (index (Whole i)) l = item_chosen d i l
 chosen d (index _) l = []
 chosen d (slice s) l = items_chosen d s l
+chosen d (filter e) l = []

@@ -1,5 +1,5 @@
 //! What is true of the definitions that the calls cite: functions without a body, each for one law.
-ghost use Rattle.jp_select.specs.Laws.{BelowRises, SlicesAreExact};
+ghost use Rattle.jp_select.specs.Laws.{BelowRises, EqualsIsExact, SlicesAreExact};
 
 /// A node and its descendants are exactly the nodes whose locations begin with its own, in document order
 /// (RFC 9535 section 2.5.2.2).
@@ -11,4 +11,10 @@ pub fn below_rises()
 /// step, and none by step 0 (RFC 9535 section 2.3.4.2).
 pub fn slices_are_exact()
     ensures { SlicesAreExact }
+{}
+
+/// `==` holds between the values of documents exactly where they are equal as the standard has it: lists item by
+/// item, objects by the same names with equal values, in whatever order (RFC 9535 section 2.3.5.2.2).
+pub fn equals_is_exact()
+    ensures { EqualsIsExact }
 {}

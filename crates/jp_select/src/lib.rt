@@ -1,17 +1,24 @@
-//! What selectors and descendant segments select (RFC 9535 sections 2.3 and 2.5.2).
+//! What selectors and descendant segments select, and how values compare (RFC 9535 sections 2.3 and 2.5.2).
 //!
 //! ```text
 //! let document = Document::read(alloc, b"[5,3,[8]]")?;
 //! let root = document.root(alloc);
 //! select_plain(alloc, &root, &Selector::Wildcard)?;   // $[0] $[1] $[2]
 //! descend(alloc, root)?;                              // $ $[0] $[1] $[2] $[2][0]
+//! let five = Comparable::of(document.at(&[Step::Index(0)]));
+//! compare(Op::Less, Comparable::Whole(3), five);      // true
 //! ```
 //!
 //! For the layer above: in each document in which the node stands, `select_plain` gives the nodes at the
 //! locations that the standard has for the selector, in its order, and `descend` those of the node and all
-//! its descendants, in document order.
+//! its descendants, in document order. `compare` answers what the standard has for an operator between two values,
+//! or Nothing, and takes no memory.
 #![tactic(auto)]
 
+mod comparable;
+mod comparison;
+#[cfg(test)]
+mod comparison_tests;
 mod descent;
 pub mod laws;
 mod selector;
@@ -19,5 +26,7 @@ mod slice;
 #[cfg(test)]
 mod tests;
 
+pub use comparable::Comparable;
+pub use comparison::{compare, equal, less};
 pub use descent::{Descent, descend, descend_each};
 pub use selector::select_plain;

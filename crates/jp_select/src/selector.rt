@@ -1,4 +1,4 @@
-//! What a selector selects at a node (RFC 9535 section 2.3).
+//! What a plain selector selects at a node (RFC 9535 section 2.3).
 ghost use Rattle.std.specs.Prelude.{◌≡◌, IfOk, option_and_then, option_to_list};
 ghost use Rattle.std.specs.List.{flat_map};
 ghost use Rattle.jp_document.specs.ChildNodes.{AreNodes};
@@ -12,9 +12,10 @@ use jp_document::{Json, Node, child_at, child_named, children};
 use jp_query::{Numeral, Selector, Slice};
 use std::alloc::{AllocError, Global};
 
-/// The nodes that a selector selects at a node, in its order (section 2.3): of an object the member of that
-/// name; of any value all children; of a list the item at that index, or the items of that slice. An index or
-/// a slice with a number that is not whole, or beyond 64 bits, selects nothing.
+/// The nodes that a plain selector selects at a node, in its order (section 2.3): of an object the member of
+/// that name; of any value all children; of a list the item at that index, or the items of that slice. An index
+/// or a slice with a number that is not whole, or beyond 64 bits, selects nothing. A filter is no plain selector:
+/// what it selects is not answered here, and it gives no node.
 pub fn select_plain<'d>(
     alloc: Global,
     node: &Node<'d>,
@@ -29,6 +30,7 @@ pub fn select_plain<'d>(
         Selector::Index(Numeral::Whole(index)) => only(alloc, item(alloc, node, *index)?),
         Selector::Index(_) => Ok(Vec::new(alloc)),
         Selector::Slice(slice) => items(alloc, node, *slice),
+        Selector::Filter(_) => Ok(Vec::new(alloc)),
     }
 }
 

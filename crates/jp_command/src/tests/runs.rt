@@ -18,7 +18,7 @@ const NESTED: &str = "{\"o\":{\"j\":1,\"k\":2},\"a\":[5,3,[{\"j\":4},{\"k\":6}]]
 const NULLS: &str = "{\"a\":null,\"b\":[null],\"c\":[{}],\"null\":1}";
 
 /// What a run writes, into a writer that takes all.
-fn written(alloc: Global, query: &str, document: &str) -> Result<Vec<u8>, Fault> {
+pub fn written(alloc: Global, query: &str, document: &str) -> Result<Vec<u8>, Fault> {
     written_as(alloc, Form::Both, query, document)
 }
 
@@ -33,6 +33,17 @@ fn written_as(alloc: Global, form: Form, query: &str, document: &str) -> Result<
         &mut Device::new(document.as_bytes()),
         &mut output,
     )?;
+    Ok(bytes)
+}
+
+/// The paths that a run writes, with a blank behind each.
+pub fn paths(alloc: Global, query: &str, document: &str) -> Result<Vec<u8>, Fault> {
+    let mut bytes = written_as(alloc, Form::Paths, query, document)?;
+    for byte in bytes.iter_mut() {
+        if *byte == b'\n' {
+            *byte = b' ';
+        }
+    }
     Ok(bytes)
 }
 
@@ -117,15 +128,9 @@ fn writes_the_paths_of_the_nodelist(rt: HostRuntime) -> Result<(), Fail> {
         ),
         (ODD, "$.*", "$['\\u001f\\n\\'\\\\'] "),
     ];
-    for (document, query, paths) in rows {
-        match written_as(rt.alloc(), Form::Paths, query, document) {
-            Ok(bytes) => {
-                let blank_for_newline: Vec<u8> = bytes
-                    .iter()
-                    .map(|byte| if *byte == b'\n' { b' ' } else { *byte })
-                    .collect(rt.alloc())?;
-                assert_eq!(rt; blank_for_newline.as_slice(), paths.as_bytes(), "{query}");
-            }
+    for (document, query, nodes) in rows {
+        match paths(rt.alloc(), query, document) {
+            Ok(bytes) => assert_eq!(rt; bytes.as_slice(), nodes.as_bytes(), "{query}"),
             Err(fault) => assert!(rt; false, "{query}: {fault}"),
         }
     }

@@ -2,7 +2,7 @@ use Rattle.std.proofs.Common.{refl}
 use Rattle.jp_query.specs.Items.{items_of}
 use Rattle.jp_query.specs.Tree.{query_of}
 use Rattle.jp_check.proofs.Least.{found}
-use Rattle.jp_check.proofs.faults.first_fault.Goals as goal
+use Rattle.jp_check.proofs.walk.first_fault.Goals as goal
 
 pub returns : goal.returns
 returns c =

@@ -1,0 +1,20 @@
+use Rattle.std.proofs.Common.{◌≡◌, drop, map}
+use Rattle.jp_query.specs.Items.{exprs_items, items_of, segment_items, segments_items, selectors_items}
+use Rattle.jp_query.specs.Tree.{expr_of, exprs, query_of, segment_of, segments, selector_of, selectors}
+use Rattle.jp_check.specs.Walk.{steps}
+use Rattle.jp_check.proofs.walk.Walk.+walk.Given as goal
+
+-- the items of the segments still to come lead to where those of all lead
+abbrev pub invariant-query-loop-segment : goal.invariant-query-loop-segment
+invariant-query-loop-segment l = steps (items_of (query_of l.query)) l.initial.self
+    ≡ steps (segments_items (segments (map segment_of (drop l.segment-index l.segment-items)))) l.self
+
+-- the items of the selectors still to come lead to where those of all lead
+abbrev pub invariant-segment-loop-selector : goal.invariant-segment-loop-selector
+invariant-segment-loop-selector l = steps (segment_items (segment_of l.segment)) l.initial.self
+    ≡ steps (selectors_items (selectors (map selector_of (drop l.selector-index l.selector-items)))) l.self
+
+-- the items of the parts still to come lead to where those of all lead
+abbrev pub invariant-parts-loop-part : goal.invariant-parts-loop-part
+invariant-parts-loop-part l = steps (exprs_items (exprs (map expr_of l.parts))) l.initial.self
+    ≡ steps (exprs_items (exprs (map expr_of (drop l.part-index l.parts)))) l.self

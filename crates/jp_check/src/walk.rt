@@ -1,0 +1,199 @@
+//! The walk over the items of a query, with their spans.
+
+ghost use Rattle.std.specs.Prelude.{◌≡◌, map, MatchOption, Option, None};
+ghost use Rattle.jp_query.specs.Items.{bound_items, expr_items, exprs_items, items_of, operand_items, segment_items, selector_items};
+ghost use Rattle.jp_query.specs.Refusal.{number_of};
+ghost use Rattle.jp_query.specs.Tree.{expr_of, exprs, operand_of, query_of, segment_of, selector_of, slice as slice_tree};
+ghost use Rattle.jp_check.specs.Faults.{IsFaultless};
+ghost use Rattle.jp_check.specs.First.{IsFirstFault};
+ghost use Rattle.jp_check.specs.Walk.{earlier, fault_of_int, is_before, past_item, steps};
+
+use crate::faults::{fault_of_int, fault_of_literal, fault_of_side};
+use jp_query::{
+    Expr, Numeral, Operand, Parsed, Query, Refusal, RefusalKind, Segment, Selector, Slice, Span,
+    Subject,
+};
+use std::marker::Model;
+
+/// The first fault of a query, if it has one.
+pub fn first_fault(parsed: &Parsed) -> Option<Refusal>
+    ensures { MatchOption result
+        (IsFaultless (query_of parsed.now.query))
+        (IsFirstFault (items_of (query_of parsed.now.query)) parsed.now.spans) }
+{
+    let mut walk = Walk::new(parsed.spans());
+    walk.query(parsed.query());
+    walk.first()
+}
+
+/// A walk over the items of a query, with their spans.
+#[derive(Drop)]
+struct Walk<'s> {
+    /// The spans of the items that are still to come.
+    spans: &'s [Option<Span>],
+    /// The first fault of the items that were.
+    first: Option<Refusal>,
+}
+
+impl<'s> Model for Walk<'s> {
+    ghost use Rattle.jp_check.specs.Walk.{Progress};
+
+    ghost Value = { Progress };
+
+    ghost view = { λ w. record { spans = w.spans.now; first = w.first } };
+}
+
+impl<'s> Walk<'s> {
+    /// A walk with all items to come.
+    fn new(spans: &'s [Option<Span>]) -> Walk<'s>
+        ensures { result ≡ record { spans = spans.now; first = None } }
+    {
+        Walk { spans, first: None }
+    }
+
+    /// The first fault so far.
+    fn first(&self) -> Option<Refusal>
+        ensures { result ≡ self.now.first }
+    {
+        self.first
+    }
+
+    /// Goes through the items of a query.
+    #[cycle(walk)]
+    fn query(&mut self, query: &Query)
+        ensures { self.new ≡ steps (items_of (query_of query.now)) self.old }
+    {
+        for segment in &query.segments {
+            self.segment(segment);
+        }
+    }
+
+    /// Goes through the items of a segment.
+    #[cycle(walk)]
+    fn segment(&mut self, segment: &Segment)
+        ensures { self.new ≡ steps (segment_items (segment_of segment.now)) self.old }
+    {
+        for selector in &segment.selectors {
+            self.selector(selector);
+        }
+    }
+
+    /// Goes through the items of a selector.
+    #[cycle(walk)]
+    fn selector(&mut self, selector: &Selector)
+        ensures { self.new ≡ steps (selector_items (selector_of selector.now)) self.old }
+    {
+        match selector {
+            Selector::Name(_) | Selector::Wildcard => {}
+            Selector::Index(index) => self.int(*index),
+            Selector::Slice(slice) => self.slice(slice),
+            Selector::Filter(expr) => self.expr(expr),
+        }
+    }
+
+    /// Goes through the items of a logical expression.
+    #[cycle(walk)]
+    fn expr(&mut self, expr: &Expr)
+        ensures { self.new ≡ steps (expr_items (expr_of expr.now)) self.old }
+    {
+        match expr {
+            Expr::AnyOf(parts) | Expr::AllOf(parts) => self.parts(parts),
+            Expr::Not(part) => self.expr(part),
+            Expr::Compare { left, op: _, right } => {
+                self.side(left);
+                self.side(right);
+            }
+            Expr::Test(Subject::Query(query)) => self.inner(query, None),
+        }
+    }
+
+    /// Goes through the items of the parts of an expression.
+    #[cycle(walk)]
+    fn parts(&mut self, parts: &[Expr])
+        ensures { self.new ≡ steps (exprs_items (exprs (map expr_of parts.now))) self.old }
+    {
+        for part in parts {
+            self.expr(part);
+        }
+    }
+
+    /// Goes through the items of a side of a comparison, where a query has to be singular.
+    #[cycle(walk)]
+    fn side(&mut self, side: &Operand)
+        ensures { self.new ≡ steps (operand_items (operand_of side.now)) self.old }
+    {
+        match side {
+            Operand::Literal(literal) => self.pass(fault_of_literal(literal)),
+            Operand::Query(query) => self.inner(query, fault_of_side(query)),
+        }
+    }
+
+    /// Goes through an inner query, which has that fault or none, and then through the items in it.
+    #[cycle(walk)]
+    fn inner(&mut self, query: &Query, fault: Option<RefusalKind>)
+        ensures { self.new ≡ steps (items_of (query_of query.now)) (past_item fault self.old.spans self.old.first) }
+    {
+        self.pass(fault);
+        self.query(query);
+    }
+
+    /// Goes through the parts of a slice; an omitted step is an item without a span.
+    #[tactic(auto, using(crate::proofs::Steps::steps_append))]
+    fn slice(&mut self, slice: &Slice)
+        ensures { self.new ≡ steps (selector_items (slice_tree slice.now)) self.old }
+    {
+        self.bound(slice.start);
+        self.bound(slice.end);
+        self.int(slice.step);
+    }
+
+    /// Goes through a bound of a slice, if it is there.
+    fn bound(&mut self, bound: Option<Numeral>)
+        ensures { self.new ≡ steps (bound_items bound) self.old }
+    {
+        if let Some(number) = bound {
+            self.int(number);
+        }
+    }
+
+    /// Passes an index or a part of a slice.
+    fn int(&mut self, number: Numeral)
+        ensures { self.new ≡ past_item (fault_of_int number) self.old.spans self.old.first }
+    {
+        self.pass(fault_of_int(number));
+    }
+
+    /// Passes the next item, which has that fault or none.
+    fn pass(&mut self, fault: Option<RefusalKind>)
+        ensures { self.new ≡ past_item fault self.old.spans self.old.first }
+    {
+        let Some((span, rest)) = self.spans.split_first() else {
+            return;
+        };
+        self.spans = rest;
+        if let (Some(kind), Some(span)) = (fault, span) {
+            self.note(Refusal {
+                kind,
+                place: span.start,
+            });
+        }
+    }
+
+    /// Keeps the fault if it is the first so far.
+    fn note(&mut self, fault: Refusal)
+        ensures spans { self.new.spans ≡ self.old.spans }
+        ensures first { self.new.first ≡ earlier self.old.first fault }
+    {
+        match self.first {
+            Some(first) if !is_before(fault, first) => {}
+            _ => self.first = Some(fault),
+        }
+    }
+}
+
+/// Whether the one fault stands before the other: at a smaller place, or at the same place with a smaller number.
+fn is_before(one: Refusal, other: Refusal) -> bool
+    ensures { result ≡ is_before one other }
+{
+    one.place < other.place || (one.place == other.place && one.kind.number() < other.kind.number())
+}
