@@ -13,7 +13,6 @@ pub mod Numerals
 pub mod OneRefusal
 pub mod Places
 pub mod Refused
-pub mod RefusedPlaces
 pub mod Rounds
 pub mod Rows
 pub mod Rules

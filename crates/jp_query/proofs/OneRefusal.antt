@@ -1,5 +1,6 @@
 -- A text that spells no tree is refused with one kind and at one place.
 use Rattle.std.proofs.Common.{◌≡◌, ◌⊎◌, ℕ, suc, ◌+◌, [], ◌∷◌, ◌++◌, inl, inr, refl, sym, ap, ◌∙◌, subst, append_assoc, append-nil}
+use Rattle.std.proofs.lemmas.List.{append_cancel_left}
 use Rattle.jp_reading.specs.Texts.{Text, Spans, bytes}
 use Rattle.jp_reading.specs.Outcome.{State, Outcome, took, stuck, deep}
 use Rattle.jp_reading.proofs.Again.{start}
@@ -12,7 +13,7 @@ use Rattle.jp_query.specs.Front.{IsFront, IsNoFront, IsUnfinished, IsRefusedAt, 
 use Rattle.jp_query.specs.Laws.{IsRefusalAt, IsRefusedOnce, OneRefusal}
 use Rattle.jp_query.specs.Reading.{query_at}
 use Rattle.jp_query.proofs.Whole.{read-spells}
-use Rattle.jp_query.proofs.Places.{same-cut, stuck-place, deep-place}
+use Rattle.jp_query.proofs.Places.{stuck-place, deep-place}
 
 -- ---- fronts of one text
 
@@ -53,13 +54,16 @@ record Point (n : ℕ) (text : Text) (place : ℕ) : Type 0 where
   front : IsFront n before
   no_further : (mark : ℕ) (behind : Text) → rest ≡ mark ∷ behind → IsNoFront n (before ++ mark ∷ [])
 
-one-point : (n : ℕ) (text : Text) (place other : ℕ) → Point n text place → Point n text other → place ≡ other
-one-point n text place other h g = meets (meet h.before g.before h.rest g.rest (sym h.parts ∙ g.parts))
+one-front : (n : ℕ) (text : Text) (place other : ℕ) (h : Point n text place) (g : Point n text other) → h.before ≡ g.before
+one-front n text place other h g = meets (meet h.before g.before h.rest g.rest (sym h.parts ∙ g.parts))
   where
-    meets : Meet h.before g.before h.rest g.rest → place ≡ other
-    meets (together e) = sym h.place_is ∙ ap bytes e ∙ g.place_is
+    meets : Meet h.before g.before h.rest g.rest → h.before ≡ g.before
+    meets (together e) = e
     meets (further c t u e f) = absurd (h.no_further c t e (front-less n (h.before ++ c ∷ []) u (subst (IsFront n) f g.front)))
     meets (less c t u e f) = absurd (g.no_further c t e (front-less n (g.before ++ c ∷ []) u (subst (IsFront n) f h.front)))
+
+one-point : (n : ℕ) (text : Text) (place other : ℕ) → Point n text place → Point n text other → place ≡ other
+one-point n text place other h g = sym h.place_is ∙ ap bytes (one-front n text place other h g) ∙ g.place_is
 
 -- at a character, and at the end
 mark-point : (n : ℕ) (text : Text) (place : ℕ) (before behind : Text) (mark : ℕ) → text ≡ before ++ mark ∷ behind → bytes before ≡ place
@@ -88,13 +92,16 @@ deep-point : (n : ℕ) (text : Text) (place : ℕ) → IsTooDeepAt n text place 
 deep-point n text place h = mark-point n text place h.before h.behind h.mark h.parts h.place_is h.front h.no_front
 
 -- through a mark that begins a level too many the text goes on one level deeper, through any other it does not
-not-both : (n : ℕ) (text : Text) (place : ℕ) → IsSyntaxAt n text place → IsTooDeepAt n text place → ⊥
-not-both n text place (inl h) g =
+not-both : (n : ℕ) (text : Text) (place other : ℕ) → IsSyntaxAt n text place → IsTooDeepAt n text other → ⊥
+unfolding syntax-point mark-point deep-point
+not-both n text place other (inl h) g =
     g.no_front (front-less n (g.before ++ g.mark ∷ []) g.behind (subst (IsFront n) (g.parts ∙ sym (append_assoc g.before (g.mark ∷ []) g.behind)) h.front))
-not-both n text place (inr h) g =
-    let cut = same-cut h.before g.before (h.mark ∷ h.behind) (g.mark ∷ g.behind) (sym h.parts ∙ g.parts) (h.place_is ∙ sym g.place_is) in
-    let same : h.mark ≡ g.mark = cc in
-    h.none_deeper (rw (cut.0, same) g.deeper)
+not-both n text place other (inr h) g =
+    let before = one-front n text place other (syntax-point n text place (inr h)) (deep-point n text other g) in
+    let left : h.mark ∷ h.behind ≡ g.mark ∷ g.behind =
+    append_cancel_left g.before (h.mark ∷ h.behind) (g.mark ∷ g.behind) (ap (λ t. t ++ h.mark ∷ h.behind) (sym before) ∙ sym h.parts ∙ g.parts) in
+    let mark : h.mark ≡ g.mark = cc in
+    h.none_deeper (rw (before, mark) g.deeper)
 
 -- ---- the law
 
@@ -104,12 +111,8 @@ once n text kind other place elsewhere (inl h) (inl g) =
     (h.0 ∙ sym g.0, one-point n text place elsewhere (syntax-point n text place h.1) (syntax-point n text elsewhere g.1))
 once n text kind other place elsewhere (inr h) (inr g) =
     (h.0 ∙ sym g.0, one-point n text place elsewhere (deep-point n text place h.1) (deep-point n text elsewhere g.1))
-once n text kind other place elsewhere (inl h) (inr g) =
-    let same = one-point n text place elsewhere (syntax-point n text place h.1) (deep-point n text elsewhere g.1) in
-    absurd (not-both n text elsewhere (subst (IsSyntaxAt n text) same h.1) g.1)
-once n text kind other place elsewhere (inr h) (inl g) =
-    let same = one-point n text elsewhere place (syntax-point n text elsewhere g.1) (deep-point n text place h.1) in
-    absurd (not-both n text place (subst (IsSyntaxAt n text) same g.1) h.1)
+once n text kind other place elsewhere (inl h) (inr g) = absurd (not-both n text place elsewhere h.1 g.1)
+once n text kind other place elsewhere (inr h) (inl g) = absurd (not-both n text elsewhere place g.1 h.1)
 
 nothing-spelled : (n : ℕ) (text : Text) (before behind : Text) (mark : ℕ) → text ≡ before ++ mark ∷ behind → IsNoFront n (before ++ mark ∷ [])
     → SpellsNothing n text

@@ -1,9 +1,9 @@
 -- Where a text is refused it goes on to no query, and nowhere before.
 use Rattle.std.proofs.Common.{◌≡◌, ◌⊎◌, ℕ, suc, ◌+◌, ◌≤◌, [], ◌∷◌, ◌++◌, length, inl, inr, refl, sym, ap, ◌∙◌, subst, append_assoc, append-nil, length-append, arith}
-use Rattle.std.proofs.lemmas.Str.{len_utf8_bounds}
-use Rattle.std.specs.Char.{len_utf8}
-use Rattle.jp_reading.specs.Texts.{Text, bytes}
-use Rattle.jp_reading.specs.Outcome.{State, Outcome, took, stuck, deep}
+use Rattle.std.proofs.lemmas.List.{append_cancel_right}
+use Rattle.jp_reading.specs.Texts.{Text, Spans, bytes}
+use Rattle.jp_reading.specs.Outcome.{State, Outcome, took, stuck, deep, past}
+use Rattle.jp_reading.proofs.Between.{Stops, Passes}
 use Rattle.jp_reading.proofs.Again.{start}
 use Rattle.jp_query.specs.Front.{IsFront, IsNoFront, IsSyntaxAt, IsTooDeepAt}
 use Rattle.jp_query.specs.Reading.{query_at}
@@ -11,7 +11,7 @@ use Rattle.jp_query.proofs.Agreeing.{all, Agrees, same, ended, Ends, extended, l
 use Rattle.jp_query.proofs.AgreeingRules.{local-query}
 use Rattle.jp_query.proofs.AgreeingLevels.{stuck-deeper}
 use Rattle.jp_query.proofs.Unique.{spells-read, unread-spells_nothing}
-use Rattle.jp_query.proofs.Whole.{query-judged, stuck-front, deep-front}
+use Rattle.jp_query.proofs.Whole.{query-judged, whole, spells-of}
 
 -- ---- no further
 
@@ -63,72 +63,71 @@ no-further n before behind mark stops spelled =
 
 -- ---- places
 
--- of two fronts of a text with as many bytes each is the other, and the same is left behind them
-pub same-cut : (front other rest left : Text) → front ++ rest ≡ other ++ left → bytes front ≡ bytes other → (front ≡ other) × (rest ≡ left)
-same-cut [] [] rest left e b = (refl, e)
-same-cut [] (c ∷ other) rest left e b = let some = len_utf8_bounds c in absurd (omega arith)
-same-cut (c ∷ front) [] rest left e b = let some = len_utf8_bounds c in absurd (omega arith)
-same-cut (c ∷ front) (d ∷ other) rest left e b =
-    let first : c ≡ d = cc in
-    let behind : front ++ rest ≡ other ++ left = cc in
-    let size : len_utf8 c ≡ len_utf8 d = ap len_utf8 first in
-    let cut = same-cut front other rest left behind (omega arith) in
-    (cong-cons first cut.0, cut.1)
-  where
-    cong-cons : {c d : ℕ} {t u : Text} → c ≡ d → t ≡ u → c ∷ t ≡ d ∷ u
-    cong-cons e f = cc
+-- what stands before a stop begins a text that spells a query
+front-of : (n : ℕ) (text : Text) (r : State) (h : Stops (whole n) (start text) r) → IsFront n h.front.read
+front-of n text r h =
+    (h.front.more, h.value, h.front.spans, spells-of n h.value h.front.spans (h.front.read ++ h.front.more) h.front.is)
 
--- where reading stops, what is left stands behind the front with as many bytes as the place says
-stuck-left : (n : ℕ) (text : Text) (r : State) → query_at n (start text) ≡ stuck r → (front rest : Text) → text ≡ front ++ rest → bytes front ≡ r.at
-    → r.rest ≡ rest
-stuck-left n text r e front rest parts place =
-    let read = (rw e at (query-judged n (start text))).is.front in
-    (same-cut read.read front r.rest rest (sym read.rest ∙ parts) (sym (read.at ∙ omega arith) ∙ sym place)).1
+place-of : (n : ℕ) (text : Text) (r : State) (h : Stops (whole n) (start text) r) → bytes h.front.read ≡ r.at
+place-of n text r h = sym (h.front.at ∙ omega arith)
 
-deep-left : (n : ℕ) (text : Text) (r : State) → query_at n (start text) ≡ deep r → (front rest : Text) → text ≡ front ++ rest → bytes front ≡ r.at
-    → r.rest ≡ rest
-deep-left n text r e front rest parts place =
-    let read = (rw e at (query-judged n (start text))).is.0.front in
-    (same-cut read.read front r.rest rest (sym read.rest ∙ parts) (sym (read.at ∙ omega arith) ∙ sym place)).1
-
-syntax-parts : (n : ℕ) (text : Text) (r : State) → query_at n (start text) ≡ stuck r → (front rest : Text) → text ≡ front ++ rest
-    → bytes front ≡ r.at → IsFront n front → IsSyntaxAt n text r.at
-syntax-parts n text r e front [] parts place is =
-    let all_read : front ≡ text = sym (parts ∙ append-nil front) in
+syntax-parts : (n : ℕ) (text : Text) (at : ℕ) (rest : Text) (found : Spans)
+    → query_at n (start text) ≡ stuck (record { at = at; rest = rest; found = found })
+    → Stops (whole n) (start text) (record { at = at; rest = rest; found = found }) → IsSyntaxAt n text at
+syntax-parts n text at [] found e h =
+    let r : State = record { at = at; rest = []; found = found } in
+    let all_read : h.front.read ≡ text = sym (h.front.rest ∙ append-nil h.front.read) in
     inl (record {
-      place_is = subst (λ (t : Text). bytes t ≡ r.at) all_read place;
-      front = subst (IsFront n) all_read is;
+      place_is = subst (λ (t : Text). bytes t ≡ at) all_read (place-of n text r h);
+      front = subst (IsFront n) all_read (front-of n text r h);
       nothing = unread-spells_nothing n text r e;
     })
-syntax-parts n text r e front (mark ∷ behind) parts place is =
-    let left = stuck-left n text r e front (mark ∷ behind) parts place in
-    let stops = λ (k : ℕ) (f : query_at k (start text) ≡ stuck r). no-further k front behind mark (rw (sym parts, f) left) in
+syntax-parts n text at (mark ∷ behind) found e h =
+    let r : State = record { at = at; rest = mark ∷ behind; found = found } in
+    let before = h.front.read in
+    let stops = λ (k : ℕ) (f : query_at k (start text) ≡ stuck r). no-further k before behind mark (rw (sym h.front.rest, f) refl) in
     inr (record {
-      before = front;
+      before = before;
       mark = mark;
       behind = behind;
-      parts = parts;
-      place_is = place;
-      front = is;
+      parts = h.front.rest;
+      place_is = place-of n text r h;
+      front = front-of n text r h;
       no_front = stops n e;
       none_deeper = stops (suc n) (stuck-deeper n (start text) r e);
     })
 
 -- where reading is stuck
 pub stuck-place : (n : ℕ) (text : Text) (r : State) → query_at n (start text) ≡ stuck r → IsSyntaxAt n text r.at
-stuck-place n text r e = let before = stuck-front n text r e in syntax-parts n text r e before.0 before.1 before.2 before.3 before.4
+stuck-place n text r e =
+    let judged = rw e at (query-judged n (start text)) in
+    syntax-parts n text r.at r.rest r.found e judged.is
 
--- where a level is missing
+deep-parts : (n : ℕ) (text : Text) (at : ℕ) (rest : Text) (found : Spans)
+    → query_at n (start text) ≡ deep (record { at = at; rest = rest; found = found })
+    → Stops (whole n) (start text) (record { at = at; rest = rest; found = found })
+    → Passes (whole (suc n)) (start text) (record { at = at; rest = rest; found = found }) → IsTooDeepAt n text at
+deep-parts n text at [] found e h g = absurd (let none = g.next in omega arith)
+deep-parts n text at (mark ∷ behind) found e h g =
+    let r : State = record { at = at; rest = mark ∷ behind; found = found } in
+    let before = h.front.read in
+    let through = g.stops.front in
+    let same_text : through.read ≡ before ++ mark ∷ [] =
+    append_cancel_right through.read (before ++ mark ∷ []) behind
+    (sym through.rest ∙ h.front.rest ∙ sym (append_assoc before (mark ∷ []) behind)) in
+    record {
+      before = before;
+      mark = mark;
+      behind = behind;
+      parts = h.front.rest;
+      place_is = place-of n text r h;
+      front = front-of n text r h;
+      no_front = no-further n before behind mark (rw (sym h.front.rest, e) refl);
+      deeper = subst (IsFront (suc n)) same_text (front-of (suc n) text (past r) g.stops);
+    }
+
+-- where a level is missing, and with one level more the character there goes on
 pub deep-place : (n : ℕ) (text : Text) (r : State) → query_at n (start text) ≡ deep r → IsTooDeepAt n text r.at
 deep-place n text r e =
-    let h = deep-front n text r e in
-    record {
-      before = h.before;
-      mark = h.mark;
-      behind = h.behind;
-      parts = h.parts;
-      place_is = h.place_is;
-      front = h.front;
-      no_front = no-further n h.before h.behind h.mark (rw (sym h.parts, e) (deep-left n text r e h.before (h.mark ∷ h.behind) h.parts h.place_is));
-      deeper = h.deeper;
-    }
+    let judged = rw e at (query-judged n (start text)) in
+    deep-parts n text r.at r.rest r.found e judged.is.0 judged.is.1

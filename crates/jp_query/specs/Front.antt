@@ -13,21 +13,6 @@ IsFront n front = (more : Text) × (q : QueryTree) × (s : Spans) × Spells n q 
 abbrev pub IsNoFront : ℕ → Text → Type 0
 IsNoFront n front = IsFront n front → ⊥
 
--- what stands before that byte of the text is a front
-abbrev pub IsFrontBefore : ℕ → Text → ℕ → Type 0
-IsFrontBefore n text place = (front rest : Text) × (text ≡ front ++ rest) × (bytes front ≡ place) × IsFront n front
-
--- what stands before that byte of the text is a front, and through the character there the text is a front with one
--- level more
-pub record IsTooDeepBefore (n : ℕ) (text : Text) (place : ℕ) : Type 0 where
-  pub before : Text
-  pub mark : ℕ
-  pub behind : Text
-  pub parts : text ≡ before ++ mark ∷ behind
-  pub place_is : bytes before ≡ place
-  pub front : IsFront n before
-  pub deeper : IsFront (suc n) (before ++ mark ∷ [])
-
 -- that byte is the end of the text, which is a front and spells no tree
 pub record IsUnfinished (n : ℕ) (text : Text) (place : ℕ) : Type 0 where
   pub place_is : bytes text ≡ place

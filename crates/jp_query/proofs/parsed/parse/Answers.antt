@@ -4,8 +4,7 @@ use Rattle.jp_query.specs.Tree.{query_of}
 use Rattle.jp_query.specs.Grammar.{Spells}
 use Rattle.jp_query.specs.Reading.{query_at}
 use Rattle.jp_query.proofs.Whole.{read-spells}
-use Rattle.jp_query.proofs.Refused.{refused-only, refused-kinds}
-use Rattle.jp_query.proofs.RefusedPlaces.{refused-syntax, refused-deep}
+use Rattle.jp_query.proofs.Refused.{refused-only, refused-kinds, refused-syntax, refused-deep}
 use Rattle.jp_query.proofs.parsed.parse.Goals as goal
 
 pub returns-in-Ok-clause-found : goal.returns-in-Ok-clause-found
