@@ -1,4 +1,4 @@
--- A text that spells no tree is refused with one kind and at one place.
+-- A text spells a tree, or is refused with one kind and at one place.
 use Rattle.std.proofs.Common.{◌≡◌, ◌⊎◌, ℕ, suc, ◌+◌, [], ◌∷◌, ◌++◌, inl, inr, refl, sym, ap, ◌∙◌, subst, append_assoc, append-nil}
 use Rattle.std.proofs.lemmas.List.{append_cancel_left}
 use Rattle.jp_reading.specs.Texts.{Text, Spans, bytes}
@@ -124,11 +124,11 @@ only n text kind place (inl (e, inl h)) = h.nothing
 only n text kind place (inl (e, inr h)) = nothing-spelled n text h.before h.behind h.mark h.parts h.no_front
 only n text kind place (inr (e, h)) = nothing-spelled n text h.before h.behind h.mark h.parts h.no_front
 
-refused : (n : ℕ) (text : Text) (o : Outcome QueryTree) → query_at n (start text) ≡ o → SpellsNothing n text
-    → (kind : RefusalKind) × (place : ℕ) × IsRefusalAt n text kind place
-refused n text (took q r) e h = absurd (h q r.found (read-spells n text q r e))
-refused n text (stuck r) e h = (Syntax, r.at, inl (refl, stuck-place n text r e))
-refused n text (deep r) e h = (TooDeep, r.at, inr (refl, deep-place n text r e))
+answered : (n : ℕ) (text : Text) (o : Outcome QueryTree) → query_at n (start text) ≡ o
+    → ((q : QueryTree) × (s : Spans) × Spells n q s text) ⊎ ((kind : RefusalKind) × (place : ℕ) × IsRefusalAt n text kind place)
+answered n text (took q r) e = inl (q, r.found, read-spells n text q r e)
+answered n text (stuck r) e = inr (Syntax, r.at, inl (refl, stuck-place n text r e))
+answered n text (deep r) e = inr (TooDeep, r.at, inr (refl, deep-place n text r e))
 
 pub one-refusal : OneRefusal
-one-refusal n text = record { refused = refused n text (query_at n (start text)) refl; once = once n text; only = only n text }
+one-refusal n text = record { answered = answered n text (query_at n (start text)) refl; once = once n text; only = only n text }

@@ -16,12 +16,13 @@ OneReading = (n m : ℕ) (q u : QueryTree) (s t : Spans) (text : Text) → Spell
 abbrev pub IsRefusalAt : ℕ → Text → RefusalKind → ℕ → Type 0
 IsRefusalAt n text kind place = ((kind ≡ Syntax) × IsSyntaxAt n text place) ⊎ ((kind ≡ TooDeep) × IsTooDeepAt n text place)
 
--- a text that spells no tree is refused, with one kind and at one place, and no other text is
+-- a text spells a tree, or is refused, with one kind and at one place; and not both
 pub record IsRefusedOnce (n : ℕ) (text : Text) : Type 0 where
-  pub refused : SpellsNothing n text → (kind : RefusalKind) × (place : ℕ) × IsRefusalAt n text kind place
+  pub answered : ((q : QueryTree) × (s : Spans) × Spells n q s text) ⊎ ((kind : RefusalKind) × (place : ℕ) × IsRefusalAt n text kind place)
   pub once : (kind other : RefusalKind) (place elsewhere : ℕ) → IsRefusalAt n text kind place → IsRefusalAt n text other elsewhere
       → (kind ≡ other) × (place ≡ elsewhere)
   pub only : (kind : RefusalKind) (place : ℕ) → IsRefusalAt n text kind place → SpellsNothing n text
 
+-- whatever the text, and the levels
 abbrev pub OneRefusal : Type 0
 OneRefusal = (n : ℕ) (text : Text) → IsRefusedOnce n text

@@ -7,7 +7,7 @@ pub fn one_reading()
     ensures { OneReading }
 {}
 
-/// A text that spells no tree is refused with one kind and at one place, and no other text is, whatever the levels.
+/// Each text spells a tree, or is refused with one kind and at one place, and not both, whatever the levels.
 pub fn one_refusal()
     ensures { OneRefusal }
 {}
