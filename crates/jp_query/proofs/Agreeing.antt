@@ -1,9 +1,9 @@
 -- Reading a text, and reading it with more behind it: the same happens, unless reading comes to the end of the shorter text.
-use Rattle.std.proofs.Common.{◌≡◌, ℕ, zero, suc, ◌+◌, ◌<◌, ◌≤◌, ◌⊎◌, Bool, true, false, if◌then◌else◌, List, [], ◌∷◌, ◌++◌, length, Option, Some, None, inl, inr, refl, sym, ap, ◌∙◌, length-append, arith}
+use Rattle.std.proofs.Common.{◌≡◌, ℕ, zero, suc, ◌+◌, ◌≤◌, Bool, true, false, if◌then◌else◌, [], ◌∷◌, ◌++◌, length, Option, Some, None, inl, inr, refl, ap, length-append, arith}
 use Rattle.std.proofs.lemmas.Bool.{cases_Bool}
 use Rattle.std.specs.Char.{len_utf8}
 use Rattle.jp_reading.specs.Texts.{Text, Spans, is_blank}
-use Rattle.jp_reading.specs.Outcome.{State, Outcome, took, stuck, deep, ◌>>=◌, head, first_of, past, past_first, past_blanks, skip, after_blank, passes, is, is_at, take_passing, take_if, loop, each, item_since, item, omit}
+use Rattle.jp_reading.specs.Outcome.{State, Outcome, took, stuck, deep, ◌>>=◌, head, first_of, past, past_first, past_blanks, skip, after_blank, passes, take_passing, take_if, loop, each, item_since, item, omit}
 use Rattle.jp_reading.specs.Views.{by}
 use Rattle.jp_reading.proofs.Chars.{past_blanks-rest, skip-shorter}
 use Rattle.jp_reading.proofs.Progress.{Progress, past-keeps}
@@ -170,7 +170,7 @@ local-take_if ok = record {
         → Agrees all u (take_if ok (record { at = at; rest = t; found = found })) (take_if ok (record { at = at; rest = t ++ u; found = found }))
     longer-taken u at found [] =
         ended (omega arith) (taken (length u) (record { at = at; rest = u; found = found }) (first_of u) (omega arith))
-    longer-taken u at found (c ∷ t) = elim (cases_Bool (ok c)) [ | inl on ↦ rw on (same refl) | inr off ↦ rw off (same refl) ]
+    longer-taken u at found (c ∷ t) = elim (cases_Bool (ok c)) [ inl on ↦ rw on (same refl) | inr off ↦ rw off (same refl) ]
 
 -- blanks are skipped alike, unless there is nothing behind them
 data Skips (u : Text) (at : ℕ) (found : Spans) (t : Text) : Type 0 where

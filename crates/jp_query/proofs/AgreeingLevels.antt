@@ -1,5 +1,5 @@
 -- Reading with one level more does the same, but where a level is missing.
-use Rattle.std.proofs.Common.{◌≡◌, ℕ, zero, suc, Bool, true, false, if◌then◌else◌, List, [], ◌∷◌, length, refl, ◌∙◌}
+use Rattle.std.proofs.Common.{◌≡◌, ℕ, zero, suc, Bool, true, false, if◌then◌else◌, length, refl, ◌∙◌}
 use Rattle.jp_reading.specs.Outcome.{State, Outcome, took, stuck, deep, ◌>>=◌, head, past, skip, after_blank, passes, is, is_at, expect, loop, each, item}
 use Rattle.jp_reading.specs.Views.{by}
 use Rattle.jp_query.specs.Tree.{filter, query, any_of, all_of, negation, comparison, exists, OperandTree, literal, node_value, segments}

@@ -1,16 +1,16 @@
 -- Selectors, segments, expressions and whole queries are read alike, whatever stands behind them.
-use Rattle.std.proofs.Common.{◌≡◌, ℕ, zero, suc, ◌≤◌, Bool, true, false, if◌then◌else◌, List, [], ◌∷◌, ◌++◌, length, Option, Some, None, inl, inr, refl, ◌==◌, arith}
+use Rattle.std.proofs.Common.{◌≡◌, ℕ, zero, suc, ◌≤◌, Bool, true, false, if◌then◌else◌, [], ◌∷◌, ◌++◌, length, None, inl, inr, ◌==◌, arith}
 use Rattle.std.proofs.lemmas.Bool.{cases_Bool, eqb-true}
 use Rattle.jp_reading.specs.Texts.{Text, Spans}
-use Rattle.jp_reading.specs.Outcome.{State, Outcome, took, stuck, deep, ◌>>=◌, head, past, skip, after_blank, passes, is, is_at, is_end, take_if, expect, each, item}
+use Rattle.jp_reading.specs.Outcome.{State, Outcome, took, stuck, ◌>>=◌, head, past, skip, after_blank, passes, is, is_at, is_end, expect, item}
 use Rattle.jp_reading.specs.Views.{by}
 use Rattle.jp_reading.proofs.Chars.{skip-shorter}
-use Rattle.jp_query.specs.Tree.{SelectorTree, name, wildcard, slice, filter, SegmentTree, segment, selectors, segments, QueryTree, query, any_of, all_of, negation, comparison, exists, OperandTree, literal, node_value}
+use Rattle.jp_query.specs.Tree.{name, wildcard, slice, filter, segment, selectors, segments, query, any_of, all_of, negation, comparison, exists, OperandTree, literal, node_value}
 use Rattle.jp_query.specs.Grammar.{joined}
-use Rattle.jp_query.specs.Reading.{Inner, inside, quoted_at, slice_at, number_at, selector_at, entry_at, another_at, entries_at, shorthand_at, bracket_at, member_at, selection_at, segment_at, begins_segment, segments_at, literal_at, operator_at, inner_query_at, begins_query, begins_operator, side_at, comparison_at, test_at, parenthesis_at, negated_at, basic_at, part_at, parts_at, conjunction_at, expression_at, query_at}
+use Rattle.jp_query.specs.Reading.{Inner, inside, quoted_at, slice_at, selector_at, entry_at, another_at, entries_at, shorthand_at, bracket_at, member_at, selection_at, segment_at, begins_segment, segments_at, literal_at, operator_at, inner_query_at, begins_query, begins_operator, side_at, comparison_at, test_at, parenthesis_at, negated_at, basic_at, part_at, parts_at, conjunction_at, expression_at, query_at}
 use Rattle.jp_query.proofs.Moves.{Nested, another-progress, segment-progress, part-progress, basic-progress, conjunction-progress, inside-progress}
 use Rattle.jp_reading.proofs.Progress.{Progress}
-use Rattle.jp_query.proofs.Agreeing.{all, unblanked, unblanked-skip, Local, Ends, Agrees, ended, longer, local-then, local-took, local-by, local-stuck, local-deep, local-item, local-if, tests-head, tests-after, local-past, local-take_if, local-skip, local-from, local-to, local-each}
+use Rattle.jp_query.proofs.Agreeing.{all, unblanked, unblanked-skip, Local, Ends, Agrees, ended, local-then, local-took, local-by, local-stuck, local-deep, local-item, local-if, tests-head, tests-after, local-past, local-take_if, local-skip, local-from, local-to, local-each}
 use Rattle.jp_query.proofs.AgreeingValues.{local-quoted, local-slice, local-number, local-shorthand, local-literal, local-operator}
 
 -- an expression one level further in is read alike

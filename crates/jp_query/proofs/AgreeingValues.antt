@@ -1,10 +1,10 @@
 -- Names, strings, numbers, slices and literals are read alike, whatever stands behind them.
 use Rattle.std.specs.Prelude.{pos}
-use Rattle.std.proofs.Common.{◌≡◌, ℕ, ◌+◌, ◌*◌, Bool, true, false, ◌&&◌, if◌then◌else◌, List, [], ◌∷◌, Option, Some, None, inl, inr, refl, sym, ap, ◌∙◌}
+use Rattle.std.proofs.Common.{◌≡◌, ℕ, ◌+◌, ◌*◌, Bool, true, false, if◌then◌else◌, [], ◌∷◌, Option, Some, None, inl, inr, refl}
 use Rattle.std.proofs.lemmas.Bool.{cases_Bool}
 use Rattle.std.specs.Char.{digit_value}
 use Rattle.jp_reading.specs.Texts.{Text}
-use Rattle.jp_reading.specs.Outcome.{State, Outcome, took, ◌>>=◌, head, past, skip, after_blank, passes, is, is_at, take_if, expect, each, item, omit}
+use Rattle.jp_reading.specs.Outcome.{State, Outcome, took, ◌>>=◌, head, past, skip, after_blank, passes, is, is_at, take_if, expect, item}
 use Rattle.jp_reading.specs.Numbers.{is_digit, value_from}
 use Rattle.jp_reading.specs.Views.{by}
 use Rattle.jp_reading.proofs.Progress.{moves-take_if}

@@ -1,16 +1,16 @@
 -- A text spells a tree, or is refused with one kind and at one place.
-use Rattle.std.proofs.Common.{◌≡◌, ◌⊎◌, ℕ, suc, ◌+◌, [], ◌∷◌, ◌++◌, inl, inr, refl, sym, ap, ◌∙◌, subst, append_assoc, append-nil}
+use Rattle.std.proofs.Common.{◌≡◌, ◌⊎◌, ℕ, [], ◌∷◌, ◌++◌, inl, inr, refl, sym, ap, ◌∙◌, subst, append_assoc, append-nil}
 use Rattle.std.proofs.lemmas.List.{append_cancel_left}
 use Rattle.jp_reading.specs.Texts.{Text, Spans, bytes}
-use Rattle.jp_reading.specs.Outcome.{State, Outcome, took, stuck, deep}
+use Rattle.jp_reading.specs.Outcome.{Outcome, took, stuck, deep}
 use Rattle.jp_reading.proofs.Again.{start}
 use Rattle.jp_query.specs.declared.refusal.RefusalKind.{RefusalKind}
 use Rattle.jp_query.specs.declared.refusal.RefusalKind.TheVariants.{Syntax, TooDeep}
 use Rattle.jp_query.specs.Tree.{QueryTree}
 use Rattle.jp_query.specs.Grammar.{Spells}
 use Rattle.jp_query.specs.Spelled.{SpellsNothing}
-use Rattle.jp_query.specs.Front.{IsFront, IsNoFront, IsUnfinished, IsRefusedAt, IsSyntaxAt, IsTooDeepAt}
-use Rattle.jp_query.specs.Laws.{IsRefusalAt, IsRefusedOnce, OneRefusal}
+use Rattle.jp_query.specs.Front.{IsFront, IsNoFront, IsSyntaxAt, IsTooDeepAt}
+use Rattle.jp_query.specs.Laws.{IsRefusalAt, OneRefusal}
 use Rattle.jp_query.specs.Reading.{query_at}
 use Rattle.jp_query.proofs.Whole.{read-spells}
 use Rattle.jp_query.proofs.Places.{stuck-place, deep-place}

@@ -1,5 +1,5 @@
 -- Where a text is refused it goes on to no query, and nowhere before.
-use Rattle.std.proofs.Common.{◌≡◌, ◌⊎◌, ℕ, suc, ◌+◌, ◌≤◌, [], ◌∷◌, ◌++◌, length, inl, inr, refl, sym, ap, ◌∙◌, subst, append_assoc, append-nil, length-append, arith}
+use Rattle.std.proofs.Common.{◌≡◌, ℕ, suc, ◌≤◌, [], ◌∷◌, ◌++◌, length, inl, inr, refl, sym, ap, ◌∙◌, subst, append_assoc, append-nil, length-append, arith}
 use Rattle.std.proofs.lemmas.List.{append_cancel_right}
 use Rattle.jp_reading.specs.Texts.{Text, Spans, bytes}
 use Rattle.jp_reading.specs.Outcome.{State, Outcome, took, stuck, deep, past}
@@ -7,7 +7,7 @@ use Rattle.jp_reading.proofs.Between.{Stops, Passes}
 use Rattle.jp_reading.proofs.Again.{start}
 use Rattle.jp_query.specs.Front.{IsFront, IsNoFront, IsSyntaxAt, IsTooDeepAt}
 use Rattle.jp_query.specs.Reading.{query_at}
-use Rattle.jp_query.proofs.Agreeing.{all, Agrees, same, ended, Ends, extended, longer}
+use Rattle.jp_query.proofs.Agreeing.{all, Agrees, same, ended, longer}
 use Rattle.jp_query.proofs.AgreeingRules.{local-query}
 use Rattle.jp_query.proofs.AgreeingLevels.{stuck-deeper}
 use Rattle.jp_query.proofs.Unique.{spells-read, unread-spells_nothing}

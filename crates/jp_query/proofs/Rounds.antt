@@ -1,9 +1,9 @@
 -- The loops over segments, over selectors, and over the parts of an expression.
-use Rattle.std.proofs.Common.{◌≡◌, ℕ, ◌<◌, ◌≤◌, true, false, List, [], ◌∷◌, ◌++◌, length, refl, sym, ap, ◌∙◌, arith}
+use Rattle.std.proofs.Common.{◌≡◌, ℕ, ◌<◌, ◌≤◌, true, false, List, [], ◌∷◌, ◌++◌, length, refl, ap, ◌∙◌, arith}
 use Rattle.jp_reading.specs.declared.reader.Stop.{Stop}
 use Rattle.jp_reading.specs.declared.reader.Stop.TheVariants.{Memory, Syntax, TooDeep}
 use Rattle.jp_reading.specs.Outcome.{State, Outcome, took, stuck, deep, ◌>>=◌, past, skip, after_blank, passes, is, is_at, expect, each}
-use Rattle.jp_reading.specs.Views.{Fails, by, with_front}
+use Rattle.jp_reading.specs.Views.{Fails, with_front}
 use Rattle.jp_reading.proofs.Progress.{Progress, moved}
 use Rattle.jp_reading.proofs.Loops.{each-off}
 use Rattle.jp_reading.proofs.Folds.{pushes_on, pushes_end, folds_fail, fails-then}

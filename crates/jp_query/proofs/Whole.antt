@@ -1,12 +1,11 @@
 -- Whole texts: what is read to its end spells a tree, and what is read before a stop began one.
-use Rattle.std.proofs.Common.{◌≡◌, ℕ, suc, Bool, true, false, if◌then◌else◌, List, [], ◌∷◌, ◌++◌, length, refl, sym, ◌∙◌, ◌==◌, subst, append_assoc, arith}
+use Rattle.std.proofs.Common.{◌≡◌, ℕ, Bool, true, false, if◌then◌else◌, List, [], ◌∷◌, ◌++◌, length, refl, ◌==◌, arith}
 use Rattle.std.proofs.lemmas.Bool.{eqb-true}
-use Rattle.std.proofs.lemmas.List.{append_cancel_right}
-use Rattle.jp_reading.specs.Texts.{Text, Spans, bytes}
+use Rattle.jp_reading.specs.Texts.{Text, Spans}
 use Rattle.jp_reading.specs.Forms.{Form, ◌⌢◌, word, Each, Blank}
-use Rattle.jp_reading.specs.Outcome.{State, Outcome, took, stuck, deep, ◌>>=◌, past, skip, is_end, expect}
+use Rattle.jp_reading.specs.Outcome.{State, Outcome, took, stuck, deep, ◌>>=◌, skip, is_end, expect}
 use Rattle.jp_reading.proofs.Steps.{skip-way}
-use Rattle.jp_reading.proofs.Between.{Reads, Stops, Passes, Judged, front-then, front-none, front-as, reads-as, joined-over}
+use Rattle.jp_reading.proofs.Between.{Reads, Stops, Judged, front-then, front-none, front-as, reads-as, joined-over}
 use Rattle.jp_reading.proofs.Levels.{Made, made_rule, word_rule}
 use Rattle.jp_reading.proofs.Joining.{each-append}
 use Rattle.jp_reading.proofs.Judging.{judged-expect, judged-made}

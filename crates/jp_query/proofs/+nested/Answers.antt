@@ -2,11 +2,11 @@ use Rattle.std.proofs.Common.{◌≡◌, ◌≤◌, ◌++◌, ◌∷◌, [], fal
 use Rattle.std.proofs.lemmas.List.{map-append, length-map, length-append}
 use Rattle.std.proofs.lemmas.Result.{err_from_is_err_and}
 use Rattle.jp_reading.specs.Outcome.{took, past, skip, passes, is, after_blank}
-use Rattle.jp_reading.specs.Views.{Fails, by, with_front}
+use Rattle.jp_reading.specs.Views.{Fails, by}
 use Rattle.jp_reading.proofs.Folds.{fails-then}
 use Rattle.jp_query.specs.Tree.{expr_of, selector_of, segment_of, any_of, all_of}
 use Rattle.jp_query.specs.Grammar.{joined}
-use Rattle.jp_query.specs.Reading.{inside, segment_at, selector_at, basic_at, conjunction_at, expression_at, part_at, parts_at}
+use Rattle.jp_query.specs.Reading.{inside, segment_at, selector_at, basic_at, conjunction_at, expression_at, parts_at}
 use Rattle.jp_query.proofs.Moves.{inside-progress, basic-progress, conjunction-progress}
 use Rattle.jp_query.proofs.Trees.{tree_any_of, tree_all_of}
 use Rattle.jp_query.proofs.Rounds as rounds
