@@ -1,5 +1,5 @@
--- No text is accepted and faulty, and no text has two first faults.
-use Rattle.std.proofs.Common.{◌≡◌, ◌⊎◌, inl, inr, ℕ, ◌==◌, if◌then◌else◌, List, [], ◌∷◌, Result, Ok, Err, IfErr, refl, sym, ap, ◌∙◌, arith}
+-- No text is accepted and refused, and no text is refused in two ways.
+use Rattle.std.proofs.Common.{◌≡◌, ◌⊎◌, inl, inr, ℕ, ◌==◌, if◌then◌else◌, List, [], ◌∷◌, Result, Ok, Err, IfErr, refl, sym, ap, ◌∙◌, subst, arith, Option, Some, None, MatchOption}
 use Rattle.std.specs.List.{All}
 use Rattle.std.proofs.lemmas.List.Elements.{All-head, All-tail}
 use Rattle.jp_reading.specs.Texts.{Text, Spans}
@@ -8,15 +8,18 @@ use Rattle.jp_query.specs.declared.refusal.RefusalKind.{RefusalKind}
 use Rattle.jp_query.specs.declared.refusal.RefusalKind.TheVariants.{Syntax, TooDeep, NotWhole, NumberRange, IndexRange, UnknownFunction, ArgumentCount, NotSingular, IllTyped, NoMemory, TextTooLong}
 use Rattle.jp_query.specs.Items.{QueryItem, int, constant, inner, as_side, items_of}
 use Rattle.jp_query.specs.Grammar.{Spells}
-use Rattle.jp_query.specs.Laws.{OneReading}
+use Rattle.jp_query.specs.Laws.{OneReading, IsRefusalAt, OneRefusal}
+use Rattle.jp_query.specs.Spelled.{SpellsNothing}
 use Rattle.jp_query.specs.Refusal.{number_of}
 use Rattle.jp_query.specs.Tree.{QueryTree}
-use Rattle.jp_check.specs.Accepted.{IsNotAccepted}
+use Rattle.jp_check.specs.Accepted.{IsAcceptedAs, IsNotAccepted}
 use Rattle.jp_check.specs.Faults.{HasFault}
 use Rattle.jp_check.specs.First.{IsFaultOf, IsNoLater, IsFirstFault}
 use Rattle.jp_check.specs.Laws.{OneAnswer}
-use Rattle.jp_check.specs.Refused.{IsFaulty, IsRefusedAs, IsRefused}
-use Rattle.jp_check.proofs.Least.{NoFault, of-cons, of-item, of-none}
+use Rattle.jp_check.specs.Refused.{IsFaulty, IsRefusedAs, IsRefused, IsRefusedForItself}
+use Rattle.jp_check.proofs.Least.{NoFault, of-cons, of-item, of-none, found}
+use Rattle.jp_check.specs.Walk.{steps}
+use Rattle.jp_query.proofs.Spanned.{each-spanned}
 
 -- ---- kinds have numbers of their own
 
@@ -68,31 +71,56 @@ no_fault (x ∷ xs) (span ∷ spans) f all h =
       | inr q ↦ no_fault xs spans f (All-tail NoFault x xs all) q
     ]
 
--- ---- the law
+-- ---- refusals exclude each other
 
-pub one-answer : OneReading → (text : Text) → OneAnswer text
-one-answer one text = record {
-  one_tree = λ q u a b. (one 64 64 q u a.spans b.spans text a.spelled b.spelled).0;
-  one_fault = λ r f a b.
-      let same = one 64 64 a.tree b.tree a.spans b.spans text a.spelled b.spelled in
-      first-alone (items_of a.tree) a.spans r f a.first (rw (same.0, same.1) b.first);
-  not_both = λ q r a b.
-      let same = one 64 64 q b.tree a.spans b.spans text a.spelled b.spelled in
-      no_fault (items_of q) a.spans r a.faultless (rw (same.0, same.1) b.first.is);
-}
+faults-same : OneReading → (text : Text) (r f : Refusal) → IsFaulty text r → IsFaulty text f → r ≡ f
+faults-same one text r f a b =
+    let same = one 64 64 a.tree b.tree a.spans b.spans text a.spelled b.spelled in
+    first-alone (items_of a.tree) a.spans r f a.first (rw (same.0, same.1) b.first)
+
+not-faulty : OneReading → (text : Text) (q : QueryTree) (r : Refusal) → IsAcceptedAs text q → IsFaulty text r → ⊥
+not-faulty one text q r a b =
+    let same = one 64 64 q b.tree a.spans b.spans text a.spelled b.spelled in
+    no_fault (items_of q) a.spans r a.faultless (rw (same.0, same.1) b.first.is)
+
+-- why a text is refused: want of memory, that it is no query, or a fault
+data Why (text : Text) (r : Refusal) : Type 0 where
+  memory : r.kind ≡ NoMemory → Why text r
+  no_query : SpellsNothing 64 text → IsRefusalAt 64 text r.kind r.place → Why text r
+  faulty : IsFaulty text r → Why text r
+
+why : (text : Text) (kind : RefusalKind) (place : ℕ) → IsRefusedAs text kind place → Why text (record { kind = kind; place = place })
+why text NoMemory place h = memory refl
+why text Syntax place h = no_query h.0 (inl (refl, h.1))
+why text TooDeep place h = no_query h.0 (inr (refl, h.1))
+why text TextTooLong place h = absurd h
+why text kind place h = faulty h
+
+not-refused : OneReading → (text : Text) (q : QueryTree) (r : Refusal) → IsAcceptedAs text q → Why text r → ¬ (r.kind ≡ NoMemory) → ⊥
+not-refused one text q r a (memory e) told = told e
+not-refused one text q r a (no_query nothing at) told = nothing q a.spans a.spelled
+not-refused one text q r a (faulty h) told = not-faulty one text q r a h
+
+refusals-same : OneReading → OneRefusal → (text : Text) (r f : Refusal) → Why text r → Why text f → ¬ (r.kind ≡ NoMemory) → ¬ (f.kind ≡ NoMemory) → r ≡ f
+refusals-same one once text r f (memory e) h told too = absurd (told e)
+refusals-same one once text r f (no_query nothing at) (memory e) told too = absurd (too e)
+refusals-same one once text r f (faulty g) (memory e) told too = absurd (too e)
+refusals-same one once text r f (no_query nothing at) (no_query none elsewhere) told too =
+    let same = (once 64 text).once r.kind f.kind r.place f.place at elsewhere in same-refusal r f same.0 same.1
+refusals-same one once text r f (no_query nothing at) (faulty h) told too = absurd (nothing h.tree h.spans h.spelled)
+refusals-same one once text r f (faulty h) (no_query nothing at) told too = absurd (nothing h.tree h.spans h.spelled)
+refusals-same one once text r f (faulty h) (faulty g) told too = faults-same one text r f h g
 
 -- what is refused is not accepted
-pub refused-only : OneReading → (text : Text) (kind : RefusalKind) (place : ℕ) → IsRefusedAs text kind place → (kind ≡ NoMemory) ⊎ IsNotAccepted text
-refused-only one text NoMemory place h = inl refl
-refused-only one text Syntax place h = inr (λ q a. h.0 q a.spans a.spelled)
-refused-only one text TooDeep place h = inr (λ q a. h.0 q a.spans a.spelled)
-refused-only one text TextTooLong place h = absurd h
-refused-only one text kind place h = inr (λ q a. (one-answer one text).not_both q (record { kind = kind; place = place }) a h)
+refused-only : OneReading → (text : Text) (r : Refusal) → Why text r → (r.kind ≡ NoMemory) ⊎ IsNotAccepted text
+refused-only one text r (memory e) = inl e
+refused-only one text r (no_query nothing at) = inr (λ q a. nothing q a.spans a.spelled)
+refused-only one text r (faulty h) = inr (λ q a. not-faulty one text q r a h)
 
 pub refused-result : {T : Type 0} → OneReading → (text : Text) (result : Result T Refusal) → IfErr result (IsRefused text)
     → IfErr result (λ r. (r.kind ≡ NoMemory) ⊎ IsNotAccepted text)
 refused-result one text (Ok x) h = tt
-refused-result one text (Err r) h = refused-only one text r.kind r.place h
+refused-result one text (Err r) h = refused-only one text r (why text r.kind r.place h)
 
 -- ---- a first fault refuses the text
 
@@ -131,7 +159,52 @@ faulty-refused text NoMemory place h = absurd (no_memory h.first.is.item h.first
 faulty-refused text TextTooLong place h = absurd (no_too_long h.first.is.item h.first.is.kind)
 faulty-refused text kind place h = h
 
+refused-for_itself : (text : Text) (kind : RefusalKind) (place : ℕ) → IsFaulty text (record { kind = kind; place = place })
+    → IsRefusedForItself text (record { kind = kind; place = place })
+refused-for_itself text kind place h = (
+  faulty-refused text kind place h,
+  λ e. no_memory h.first.is.item (subst (HasFault h.first.is.item) e h.first.is.kind),
+)
+
 pub first-refused : {T : Type 0} (text : Text) (q : QueryTree) (spans : Spans) (result : Result T Refusal) → Spells 64 q spans text
     → IfErr result (IsFirstFault (items_of q) spans) → IfErr result (IsRefused text)
 first-refused text q spans (Ok x) h e = tt
 first-refused text q spans (Err r) h e = faulty-refused text r.kind r.place (record { tree = q; spans = spans; spelled = h; first = e })
+
+-- ---- each text has one answer
+
+-- what spells a tree is accepted as it, or has a first fault
+spelled-answered : (text : Text) (q : QueryTree) (spans : Spans) → Spells 64 q spans text
+    → ((u : QueryTree) × IsAcceptedAs text u) ⊎ ((r : Refusal) × IsRefusedForItself text r)
+spelled-answered text q spans h =
+    let first = (steps (items_of q) (record { spans = spans; first = None })).first in
+    told first (found (items_of q) spans first (each-spanned 64 q spans text h) refl)
+  where
+    told : (o : Option Refusal) → MatchOption o (All NoFault (items_of q)) (IsFirstFault (items_of q) spans)
+        → ((u : QueryTree) × IsAcceptedAs text u) ⊎ ((r : Refusal) × IsRefusedForItself text r)
+    told None all = inl (q, record { spans = spans; spelled = h; faultless = all })
+    told (Some r) e = inr (r, refused-for_itself text r.kind r.place (record { tree = q; spans = spans; spelled = h; first = e }))
+
+-- what spells none is refused as the parser refuses it
+unspelled-refused : (text : Text) (kind : RefusalKind) (place : ℕ) → SpellsNothing 64 text → IsRefusalAt 64 text kind place
+    → IsRefusedForItself text (record { kind = kind; place = place })
+unspelled-refused text kind place nothing (inl (e, at)) = rw e ((nothing, at), λ memory. cc)
+unspelled-refused text kind place nothing (inr (e, at)) = rw e ((nothing, at), λ memory. cc)
+
+answered : OneRefusal → (text : Text) → ((q : QueryTree) × IsAcceptedAs text q) ⊎ ((r : Refusal) × IsRefusedForItself text r)
+answered once text = told ((once 64 text).answered)
+  where
+    told : ((q : QueryTree) × (s : Spans) × Spells 64 q s text) ⊎ ((kind : RefusalKind) × (place : ℕ) × IsRefusalAt 64 text kind place)
+        → ((q : QueryTree) × IsAcceptedAs text q) ⊎ ((r : Refusal) × IsRefusedForItself text r)
+    told (inl (q, s, h)) = spelled-answered text q s h
+    told (inr (kind, place, at)) = inr (record { kind = kind; place = place }, unspelled-refused text kind place ((once 64 text).only kind place at) at)
+
+pub one-answer : OneReading → OneRefusal → (text : Text) → OneAnswer text
+one-answer one once text = record {
+  answered = answered once text;
+  one_tree = λ q u a b. (one 64 64 q u a.spans b.spans text a.spelled b.spelled).0;
+  one_fault = faults-same one text;
+  one_refusal = λ r f a b. refusals-same one once text r f (why text r.kind r.place a.0) (why text f.kind f.place b.0) a.1 b.1;
+  not_faulty = not-faulty one text;
+  not_both = λ q r a b. not-refused one text q r a (why text r.kind r.place b.0) b.1;
+}

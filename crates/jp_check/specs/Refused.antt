@@ -4,7 +4,7 @@ use Rattle.jp_reading.specs.Texts.{Text, Spans}
 use Rattle.jp_query.specs.declared.refusal.Refusal.{Refusal}
 use Rattle.jp_query.specs.declared.refusal.RefusalKind.{RefusalKind}
 use Rattle.jp_query.specs.declared.refusal.RefusalKind.TheVariants.{Syntax, TooDeep, NoMemory, TextTooLong}
-use Rattle.jp_query.specs.Front.{IsFrontBefore, IsTooDeepBefore}
+use Rattle.jp_query.specs.Front.{IsSyntaxAt, IsTooDeepAt}
 use Rattle.jp_query.specs.Grammar.{Spells}
 use Rattle.jp_query.specs.Items.{items_of}
 use Rattle.jp_query.specs.Spelled.{SpellsNothing}
@@ -21,11 +21,15 @@ pub record IsFaulty (text : Text) (fault : Refusal) : Type 0 where
 -- what a refusal of that kind, at that place, says of the text; want of memory says nothing of it
 abbrev pub IsRefusedAs : Text → RefusalKind → ℕ → Type 0
 IsRefusedAs text NoMemory place = place ≡ 0
-IsRefusedAs text Syntax place = SpellsNothing 64 text × IsFrontBefore 64 text place
-IsRefusedAs text TooDeep place = SpellsNothing 64 text × IsTooDeepBefore 64 text place
+IsRefusedAs text Syntax place = SpellsNothing 64 text × IsSyntaxAt 64 text place
+IsRefusedAs text TooDeep place = SpellsNothing 64 text × IsTooDeepAt 64 text place
 IsRefusedAs text TextTooLong place = ⊥
 IsRefusedAs text kind place = IsFaulty text (record { kind = kind; place = place })
 
 -- the text is refused so
 abbrev pub IsRefused : Text → Refusal → Type 0
 IsRefused text refusal = IsRefusedAs text refusal.kind refusal.place
+
+-- the text is refused for what it is, and not for want of memory
+abbrev pub IsRefusedForItself : Text → Refusal → Type 0
+IsRefusedForItself text refusal = IsRefused text refusal × ¬ (refusal.kind ≡ NoMemory)

@@ -1,3 +1,7 @@
+pub mod Agreeing
+pub mod AgreeingLevels
+pub mod AgreeingRules
+pub mod AgreeingValues
 pub mod Escapes
 pub mod FilterRows
 pub mod Follows
@@ -6,6 +10,8 @@ pub mod Lifts
 pub mod Moves
 pub mod NoItems
 pub mod Numerals
+pub mod OneRefusal
+pub mod Places
 pub mod Refused
 pub mod Rounds
 pub mod Rows

@@ -10,30 +10,30 @@ use Rattle.jp_query.specs.declared.refusal.RefusalKind.TheVariants.{Syntax, TooD
 use Rattle.jp_query.specs.Tree.{QueryTree}
 use Rattle.jp_query.specs.Reading.{query_at}
 use Rattle.jp_query.specs.Spelled.{SpellsNothing}
-use Rattle.jp_query.specs.Front.{IsFrontBefore, IsTooDeepBefore}
+use Rattle.jp_query.specs.Front.{IsSyntaxAt, IsTooDeepAt}
 use Rattle.jp_query.specs.Stops.{refusal_of}
 use Rattle.jp_query.proofs.Unique.{unread-spells_nothing, deep-spells_nothing}
-use Rattle.jp_query.proofs.Whole.{stuck-front, deep-front}
+use Rattle.jp_query.proofs.Places.{stuck-place, deep-place}
 
 -- what stops at a place reads nothing, and is stuck there
 record Stuck (n : ℕ) (text : Text) (place : ℕ) : Type 0 where
   nothing : SpellsNothing n text
-  front : IsFrontBefore n text place
+  stands : IsSyntaxAt n text place
 
 stuck-at : (n : ℕ) (text : Text) (place : ℕ) (o : Outcome QueryTree) → query_at n (start text) ≡ o → Fails (stop.Syntax place) o → Stuck n text place
 stuck-at n text place (took x q) e h = absurd h
-stuck-at n text place (stuck r) e h = record { nothing = unread-spells_nothing n text r e; front = rw h (stuck-front n text r e) }
+stuck-at n text place (stuck r) e h = record { nothing = unread-spells_nothing n text r e; stands = rw h (stuck-place n text r e) }
 stuck-at n text place (deep r) e h = absurd h
 
 -- or needs a level more there
 record Deep (n : ℕ) (text : Text) (place : ℕ) : Type 0 where
   nothing : SpellsNothing n text
-  front : IsTooDeepBefore n text place
+  stands : IsTooDeepAt n text place
 
 deep-at : (n : ℕ) (text : Text) (place : ℕ) (o : Outcome QueryTree) → query_at n (start text) ≡ o → Fails (stop.TooDeep place) o → Deep n text place
 deep-at n text place (took x q) e h = absurd h
 deep-at n text place (stuck r) e h = absurd h
-deep-at n text place (deep r) e h = record { nothing = deep-spells_nothing n text r e; front = rw h (deep-front n text r e) }
+deep-at n text place (deep r) e h = record { nothing = deep-spells_nothing n text r e; stands = rw h (deep-place n text r e) }
 
 -- each from the state of a reader at the text's start
 pub refused-only : (n : ℕ) (text : Text) (p : State) (s : Stop) → p ≡ start text → Fails s (query_at n p)
@@ -48,14 +48,14 @@ refused-kinds stop.Memory = inr (inr (refl, refl))
 refused-kinds (stop.Syntax place) = inl refl
 refused-kinds (stop.TooDeep place) = inr (inl refl)
 
-pub refused-front : (n : ℕ) (text : Text) (p : State) (s : Stop) → p ≡ start text → Fails s (query_at n p)
-    → (refusal_of s).kind ≡ Syntax → IsFrontBefore n text (refusal_of s).place
-refused-front n text p stop.Memory e h kind = cc
-refused-front n text p (stop.Syntax place) e h kind = (stuck-at n text place (query_at n p) (ap (query_at n) (sym e)) h).front
-refused-front n text p (stop.TooDeep place) e h kind = cc
+pub refused-syntax : (n : ℕ) (text : Text) (p : State) (s : Stop) → p ≡ start text → Fails s (query_at n p)
+    → (refusal_of s).kind ≡ Syntax → IsSyntaxAt n text (refusal_of s).place
+refused-syntax n text p stop.Memory e h kind = cc
+refused-syntax n text p (stop.Syntax place) e h kind = (stuck-at n text place (query_at n p) (ap (query_at n) (sym e)) h).stands
+refused-syntax n text p (stop.TooDeep place) e h kind = cc
 
 pub refused-deep : (n : ℕ) (text : Text) (p : State) (s : Stop) → p ≡ start text → Fails s (query_at n p)
-    → (refusal_of s).kind ≡ TooDeep → IsTooDeepBefore n text (refusal_of s).place
+    → (refusal_of s).kind ≡ TooDeep → IsTooDeepAt n text (refusal_of s).place
 refused-deep n text p stop.Memory e h kind = cc
 refused-deep n text p (stop.Syntax place) e h kind = cc
-refused-deep n text p (stop.TooDeep place) e h kind = (deep-at n text place (query_at n p) (ap (query_at n) (sym e)) h).front
+refused-deep n text p (stop.TooDeep place) e h kind = (deep-at n text place (query_at n p) (ap (query_at n) (sym e)) h).stands

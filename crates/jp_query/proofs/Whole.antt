@@ -1,19 +1,17 @@
--- Whole texts: what is read to its end spells a tree, and where reading stops the text began a query.
-use Rattle.std.proofs.Common.{◌≡◌, ℕ, suc, Bool, true, false, if◌then◌else◌, List, [], ◌∷◌, ◌++◌, length, refl, sym, ◌∙◌, ◌==◌, subst, append_assoc, arith}
+-- Whole texts: what is read to its end spells a tree, and what is read before a stop began one.
+use Rattle.std.proofs.Common.{◌≡◌, ℕ, Bool, true, false, if◌then◌else◌, List, [], ◌∷◌, ◌++◌, length, refl, ◌==◌, arith}
 use Rattle.std.proofs.lemmas.Bool.{eqb-true}
-use Rattle.std.proofs.lemmas.List.{append_cancel_right}
-use Rattle.jp_reading.specs.Texts.{Text, Spans, bytes}
+use Rattle.jp_reading.specs.Texts.{Text, Spans}
 use Rattle.jp_reading.specs.Forms.{Form, ◌⌢◌, word, Each, Blank}
-use Rattle.jp_reading.specs.Outcome.{State, Outcome, took, stuck, deep, ◌>>=◌, past, skip, is_end, expect}
+use Rattle.jp_reading.specs.Outcome.{State, Outcome, took, stuck, deep, ◌>>=◌, skip, is_end, expect}
 use Rattle.jp_reading.proofs.Steps.{skip-way}
-use Rattle.jp_reading.proofs.Between.{Reads, Stops, Passes, Judged, front-then, front-none, front-as, reads-as, joined-over}
+use Rattle.jp_reading.proofs.Between.{Reads, Stops, Judged, front-then, front-none, front-as, reads-as, joined-over}
 use Rattle.jp_reading.proofs.Levels.{Made, made_rule, word_rule}
 use Rattle.jp_reading.proofs.Joining.{each-append}
 use Rattle.jp_reading.proofs.Judging.{judged-expect, judged-made}
 use Rattle.jp_reading.proofs.Again.{start, whole-reads}
 use Rattle.jp_query.specs.Tree.{SegmentTree, QueryTree}
 use Rattle.jp_query.specs.Grammar.{Segments, Inside, Spells}
-use Rattle.jp_query.specs.Front.{IsFront, IsFrontBefore, IsTooDeepBefore}
 use Rattle.jp_query.specs.Reading.{segments_at, inside, query_at}
 use Rattle.jp_query.proofs.Rules.{Level}
 use Rattle.jp_query.proofs.SegmentRules.{segment_rule, segments_rule}
@@ -52,7 +50,7 @@ ends-judged L p (took xs r) h = at_end (is_end r)
 ends-judged L p (stuck r) h = judged-made (query_of_parts true) (segments_rule L) p (stuck r) h
 ends-judged L p (deep r) h = judged-made (query_of_parts true) (segments_rule L) p (deep r) h
 
-query-judged : (n : ℕ) (p : State) → Judged (word_rule 36 (made_rule (query_of_parts true) (segments_rule (level_at n)))) p (query_at n p)
+pub query-judged : (n : ℕ) (p : State) → Judged (word_rule 36 (made_rule (query_of_parts true) (segments_rule (level_at n)))) p (query_at n p)
 unfolding query_at
 query-judged n p =
     let L = level_at n in
@@ -83,10 +81,10 @@ query-ends n p =
     (λ xs r. ends-if (query_of_parts true xs) r (is_end r) (no-characters r.rest)))
 
 -- a query with n levels, as it is read
-abbrev whole : ℕ → QueryTree → Form
+abbrev pub whole : ℕ → QueryTree → Form
 whole n q = word (36 ∷ []) ⌢ Made (query_of_parts true) (Segments (Inside n)) q
 
-spells-of : (n : ℕ) (q : QueryTree) (s : Spans) (text : Text) → whole n q s 0 text → Spells n q s text
+pub spells-of : (n : ℕ) (q : QueryTree) (s : Spans) (text : Text) → whole n q s 0 text → Spells n q s text
 spells-of n q s text h = record {
   parts = h.two.part;
   tree = h.two.same;
@@ -98,46 +96,3 @@ pub read-spells : (n : ℕ) (text : Text) (x : QueryTree) (q : State) → query_
 read-spells n text x q e =
     let judged = rw e at (query-judged n (start text)) in
     spells-of n x q.found text (whole-reads (whole n x) text q judged.is ((query-ends n (start text)).at x q e))
-
--- ---- where reading stops
-
--- what stands before a stop begins a text that spells a query
-front-of : (n : ℕ) (text : Text) (r : State) (h : Stops (whole n) (start text) r) → IsFront n h.front.read
-front-of n text r h =
-    (h.front.more, h.value, h.front.spans, spells-of n h.value h.front.spans (h.front.read ++ h.front.more) h.front.is)
-
-place-of : (n : ℕ) (text : Text) (r : State) (h : Stops (whole n) (start text) r) → bytes h.front.read ≡ r.at
-place-of n text r h = sym (h.front.at ∙ omega arith)
-
-pub stuck-front : (n : ℕ) (text : Text) (r : State) → query_at n (start text) ≡ stuck r → IsFrontBefore n text r.at
-stuck-front n text r e =
-    let judged = rw e at (query-judged n (start text)) in
-    let stops = judged.is in
-    (stops.front.read, r.rest, stops.front.rest, place-of n text r stops, front-of n text r stops)
-
--- so it does where a level is missing, and with one level more the character there goes on
-deep-parts : (n : ℕ) (text : Text) (at : ℕ) (rest : Text) (found : Spans)
-    → Stops (whole n) (start text) (record { at = at; rest = rest; found = found })
-    → Passes (whole (suc n)) (start text) (record { at = at; rest = rest; found = found }) → IsTooDeepBefore n text at
-deep-parts n text at [] found h g = absurd (let none = g.next in omega arith)
-deep-parts n text at (mark ∷ behind) found h g =
-    let r : State = record { at = at; rest = mark ∷ behind; found = found } in
-    let before = h.front.read in
-    let through = g.stops.front in
-    let same : through.read ≡ before ++ mark ∷ [] =
-    append_cancel_right through.read (before ++ mark ∷ []) behind
-    (sym through.rest ∙ h.front.rest ∙ sym (append_assoc before (mark ∷ []) behind)) in
-    record {
-      before = before;
-      mark = mark;
-      behind = behind;
-      parts = h.front.rest;
-      place_is = place-of n text r h;
-      front = front-of n text r h;
-      deeper = subst (IsFront (suc n)) same (front-of (suc n) text (past r) g.stops);
-    }
-
-pub deep-front : (n : ℕ) (text : Text) (r : State) → query_at n (start text) ≡ deep r → IsTooDeepBefore n text r.at
-deep-front n text r e =
-    let judged = rw e at (query-judged n (start text)) in
-    deep-parts n text r.at r.rest r.found judged.is.0 judged.is.1

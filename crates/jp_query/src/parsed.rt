@@ -6,7 +6,7 @@ ghost use Rattle.jp_query.specs.Tree.{query_of};
 ghost use Rattle.jp_query.specs.Items.{items_of, EachSpanned};
 ghost use Rattle.jp_query.specs.Grammar.{Spells};
 ghost use Rattle.jp_query.specs.Spelled.{IsSpelled, SpellsNothing};
-ghost use Rattle.jp_query.specs.Front.{IsFrontBefore, IsTooDeepBefore};
+ghost use Rattle.jp_query.specs.Front.{IsSyntaxAt, IsTooDeepAt};
 
 use crate::refusal::{Refusal, RefusalKind};
 use crate::segments::query;
@@ -40,14 +40,14 @@ impl Model for Parsed {
 
 /// Reads the text of a query (RFC 9535 section 2.1), in which at most 64 filters and parentheses stand inside one another.
 ///
-/// A text that spells no query is refused: as `TooDeep`, at the mark `?` or `(` with which a 65th level begins, where what
-/// stands before begins a query and one level more would let the mark stand; else as `Syntax`, at the first byte at which it
-/// begins none, or at its end. `NoMemory`, at place 0, says nothing of the text.
+/// A text that spells no query is refused at the first byte with whose character it can go on to no query, or at its end: as
+/// `TooDeep` where one level more would let that character stand, which is then the mark `?` or `(` of the 65th level, else as
+/// `Syntax`. `NoMemory`, at place 0, says nothing of the text.
 pub fn parse(alloc: Global, text: &str) -> Result<Parsed, Refusal>
     ensures found { IfOk result (λ p. Spells 64 (query_of p.query) p.spans (chars text.now)) }
     ensures only { IfErr result (λ r. (r.kind ≡ RefusalKind.NoMemory) ⊎ SpellsNothing 64 (chars text.now)) }
-    ensures front { IfErr result (λ r. r.kind ≡ RefusalKind.Syntax → IsFrontBefore 64 (chars text.now) r.place) }
-    ensures deep { IfErr result (λ r. r.kind ≡ RefusalKind.TooDeep → IsTooDeepBefore 64 (chars text.now) r.place) }
+    ensures syntax { IfErr result (λ r. r.kind ≡ RefusalKind.Syntax → IsSyntaxAt 64 (chars text.now) r.place) }
+    ensures deep { IfErr result (λ r. r.kind ≡ RefusalKind.TooDeep → IsTooDeepAt 64 (chars text.now) r.place) }
     ensures kinds { IfErr
         result
         (λ r. (r.kind ≡ RefusalKind.Syntax) ⊎ (r.kind ≡ RefusalKind.TooDeep) ⊎ ((r.kind ≡ RefusalKind.NoMemory) × (r.place ≡ 0))) }

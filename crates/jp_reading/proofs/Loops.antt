@@ -15,7 +15,7 @@ round-same p (stuck q) f g h e = refl
 round-same p (deep q) f g h e = refl
 
 -- more rounds than characters are as good as any other such number
-loop-same : {A : Type 0} (n m : ℕ) (begins : State → Bool) (rule : State → Outcome A) → Progress rule → (p : State)
+pub loop-same : {A : Type 0} (n m : ℕ) (begins : State → Bool) (rule : State → Outcome A) → Progress rule → (p : State)
     → length p.rest < n → length p.rest < m → loop n begins rule p ≡ loop m begins rule p
 unfolding loop
 loop-same zero m begins rule h p a b = absurd (omega arith)

@@ -4,7 +4,7 @@ use Rattle.jp_query.specs.Tree.{query_of}
 use Rattle.jp_query.specs.Grammar.{Spells}
 use Rattle.jp_query.specs.Reading.{query_at}
 use Rattle.jp_query.proofs.Whole.{read-spells}
-use Rattle.jp_query.proofs.Refused.{refused-only, refused-kinds, refused-front, refused-deep}
+use Rattle.jp_query.proofs.Refused.{refused-only, refused-kinds, refused-syntax, refused-deep}
 use Rattle.jp_query.proofs.parsed.parse.Goals as goal
 
 pub returns-in-Ok-clause-found : goal.returns-in-Ok-clause-found
@@ -26,9 +26,9 @@ returns-in-Err-clause-only c =
 pub returns-in-Err-clause-kinds : goal.returns-in-Err-clause-kinds
 returns-in-Err-clause-kinds c = rw c.from.ensures (refused-kinds c.in-Err.stop)
 
-pub returns-in-Err-clause-front : goal.returns-in-Err-clause-front
-returns-in-Err-clause-front c =
-    rw c.from.ensures (refused-front 64 (chars c.args.text.now) c.new-reader.result c.in-Err.stop c.new-reader.ensures c.in-Err.ensures)
+pub returns-in-Err-clause-syntax : goal.returns-in-Err-clause-syntax
+returns-in-Err-clause-syntax c =
+    rw c.from.ensures (refused-syntax 64 (chars c.args.text.now) c.new-reader.result c.in-Err.stop c.new-reader.ensures c.in-Err.ensures)
 
 pub returns-in-Err-clause-deep : goal.returns-in-Err-clause-deep
 returns-in-Err-clause-deep c =
