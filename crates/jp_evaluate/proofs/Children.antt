@@ -1,14 +1,13 @@
 -- The children of a value, from a position on, wherever it stands.
-use Rattle.std.proofs.Common.{◌≡◌, ℕ, zero, suc, ◌+◌, ◌<◌, Bool, true, false, ◌||◌, ◌&&◌, Bor, List, [], ◌∷◌, ◌++◌, Option, Some, None, drop, length, map, option_map, append_assoc, if◌then◌else◌, refl, ap, ap₂, ◌∙◌, sym, subst, arith}
+use Rattle.std.proofs.Common.{◌≡◌, ℕ, zero, suc, ◌+◌, ◌<◌, Bool, true, false, ◌||◌, ◌&&◌, List, [], ◌∷◌, ◌++◌, Option, Some, None, drop, length, map, option_map, append_assoc, if◌then◌else◌, refl, ap, ap₂, ◌∙◌, sym}
 use Rattle.std.specs.List.{filter, flat_map, list_any, slice_get}
 use Rattle.std.proofs.lemmas.List.{append-nil, drop_more, map-append}
 use Rattle.std.proofs.lemmas.Option.{same_Some, slice_get-get_or, slice_get_within}
 use Rattle.jp_document.proofs.Held.{child-held}
 use Rattle.jp_document.proofs.ChildValues.{value_at-step}
-use Rattle.jp_document.specs.ChildNodes.{children_of, steps_below}
+use Rattle.jp_document.specs.ChildNodes.{children_of}
 use Rattle.jp_document.specs.Location.{Key, Location, child, held, value_at}
-use Rattle.jp_document.specs.Value.{IsDocumentValue, Value, value_of}
-use Rattle.jp_document.specs.declared.value.Json.{Json}
+use Rattle.jp_document.specs.Value.{Value}
 use Rattle.jp_query.specs.Tree.{SegmentTrees, SelectorTrees, segment, segment_then}
 use Rattle.jp_select.proofs.Locations.{inner, nodes_in-held}
 use Rattle.jp_select.specs.Below.{after, below, beyond, nodes_in}

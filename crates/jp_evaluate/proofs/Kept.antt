@@ -1,11 +1,11 @@
 -- The children that a filter keeps, one after another.
-use Rattle.std.proofs.Common.{◌≡◌, ℕ, zero, suc, ◌+◌, ◌<◌, Bool, true, false, List, [], ◌∷◌, ◌++◌, Some, None, if◌then◌else◌, Option, option_map, length, map, take, refl, ap, ◌∙◌, sym, append_assoc, arith}
+use Rattle.std.proofs.Common.{◌≡◌, ℕ, zero, suc, ◌+◌, Bool, true, false, List, [], ◌∷◌, ◌++◌, Some, None, if◌then◌else◌, Option, option_map, map, take, refl, ap, ◌∙◌, sym}
 use Rattle.std.specs.List.{filter, slice_get}
 use Rattle.std.proofs.lemmas.List.{append-nil, map-append, take_more}
 use Rattle.std.proofs.lemmas.List.Elements.{filter-append}
 use Rattle.std.proofs.lemmas.Option.{same_Some, slice_get-get_or, slice_get-map, slice_get_within}
 use Rattle.jp_document.specs.ChildNodes.{children_of, shown, standing}
-use Rattle.jp_document.specs.Location.{Key, Location, held}
+use Rattle.jp_document.specs.Location.{Location, held}
 use Rattle.jp_document.specs.Node.{Located, told, told_children, told_entry}
 use Rattle.jp_document.specs.Value.{Value, value_of}
 use Rattle.jp_evaluate.specs.Search.{StandsAt}

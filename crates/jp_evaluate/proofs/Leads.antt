@@ -1,11 +1,10 @@
 -- Whether segments lead on from a list of nodes.
-use Rattle.std.proofs.Common.{◌≡◌, Bool, true, false, ◌||◌, List, [], ◌∷◌, ◌++◌, refl, ap, ap₂, ◌∙◌, sym}
+use Rattle.std.proofs.Common.{◌≡◌, Bool, true, false, ◌||◌, List, [], ◌∷◌, ◌++◌, refl, ap, ◌∙◌, sym}
 use Rattle.std.specs.List.{flat_map, list_any}
-use Rattle.std.proofs.lemmas.Grind.{flat_map-append}
 use Rattle.std.proofs.lemmas.List.{append-nil}
 use Rattle.jp_document.specs.Location.{Location}
 use Rattle.jp_document.specs.Value.{Value}
-use Rattle.jp_query.specs.Tree.{SegmentTree, SegmentTrees, SelectorTrees, no_segments, segment, segment_then}
+use Rattle.jp_query.specs.Tree.{SegmentTrees, SelectorTrees, no_segments, segment, segment_then}
 use Rattle.jp_select.specs.Below.{below}
 use Rattle.jp_evaluate.specs.Nodelist.{has_node, result, segment_result, selected}
 use Rattle.jp_evaluate.specs.Search.{leads}

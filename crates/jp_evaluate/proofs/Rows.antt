@@ -1,9 +1,11 @@
 -- Worked rows of the definitions.
-use Rattle.std.proofs.Common.{◌≡◌, pos, negsuc, true, false, List, [], ◌∷◌, refl}
+use Rattle.std.proofs.Common.{◌≡◌, ℕ, pos, negsuc, true, false, List, [], ◌∷◌, refl}
+use lib.Utf8.{encode}
 use Rattle.jp_document.specs.Location.{Key, Location, named, nth}
 use Rattle.jp_document.specs.Value.{Value, null, list, object, no_items, item, no_members, member}
-use Rattle.jp_query.specs.Tree.{SegmentTree, index, query, segment, segments, selectors, wildcard}
+use Rattle.jp_query.specs.Tree.{ExprTree, QueryTree, SegmentTree, all_of, any_of, comparison, exists, exprs, filter, index, literal, name, negation, no_segments, node_value, null_literal, query, segment, segments, selectors, wildcard}
 use Rattle.jp_query.specs.declared.tree.Numeral.TheVariants.{Whole}
+use Rattle.jp_query.specs.declared.tree.Op.TheVariants.{Equal}
 use Rattle.jp_evaluate.specs.Nodelist.{nodelist}
 
 -- {"a": [null, [null]], "b": null}
@@ -50,3 +52,55 @@ visited_twice = refl
 -- $[0]
 nothing : of_segments (segment false (selectors (index (Whole (pos 0)) ∷ [])) ∷ []) ≡ []
 nothing = refl
+
+-- ---- filters
+
+abbrev kept_by : ExprTree → List Location
+kept_by e = of_segments (segment false (selectors (filter e ∷ [])) ∷ [])
+
+-- a query of the current node, or of the root, by one member
+abbrev at : List ℕ → QueryTree
+at name_chars = query false (segments (segment false (selectors (name name_chars ∷ [])) ∷ []))
+
+abbrev current : QueryTree
+current = query false no_segments
+
+abbrev root_b : QueryTree
+root_b = query true (segments (segment false (selectors (name (98 ∷ []) ∷ [])) ∷ []))
+
+abbrev children : QueryTree
+children = query false (segments (segment false (selectors (wildcard ∷ [])) ∷ []))
+
+-- $[?@.*]: a value without children has no node to test
+tested : kept_by (exists children) ≡ (a ∷ []) ∷ []
+tested = refl
+
+-- $[?@]: null is there
+present_null : kept_by (exists current) ≡ (a ∷ []) ∷ (b ∷ []) ∷ []
+present_null = refl
+
+-- $[?@==null]
+equal_null : kept_by (comparison (node_value current) Equal (literal null_literal)) ≡ (b ∷ []) ∷ []
+equal_null = refl
+
+-- $[?@.x==null]: no value is not null
+missing_null : kept_by (comparison (node_value (at (120 ∷ []))) Equal (literal null_literal)) ≡ []
+missing_null = refl
+
+-- $[?@.x==@.y]: no value equals no value
+both_missing : kept_by (comparison (node_value (at (120 ∷ []))) Equal (node_value (at (121 ∷ [])))) ≡ (a ∷ []) ∷ (b ∷ []) ∷ []
+both_missing = refl
+
+-- $[?$.b==@]: the root is that of the document
+from_root : kept_by (comparison (node_value root_b) Equal (node_value current)) ≡ (b ∷ []) ∷ []
+unfolding encode
+from_root = refl
+
+-- $[?@[?@==null]]: in the inner filter the current node is the inner child
+nested : kept_by (exists (query false (segments (segment false (selectors (filter (comparison (node_value current) Equal (literal null_literal)) ∷ [])) ∷ []))))
+    ≡ (a ∷ []) ∷ []
+nested = refl
+
+-- $[?!@.*||@.*&&@]
+joined_truths : kept_by (any_of (exprs (negation (exists children) ∷ all_of (exprs (exists children ∷ exists current ∷ [])) ∷ []))) ≡ (a ∷ []) ∷ (b ∷ []) ∷ []
+joined_truths = refl

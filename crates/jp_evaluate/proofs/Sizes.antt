@@ -1,10 +1,10 @@
 -- The sizes of trees and of values, by which the evaluation of filters ends.
-use Rattle.std.proofs.Common.{◌≡◌, ℕ, zero, suc, ◌+◌, ◌*◌, ◌<◌, ◌≤◌, List, [], ◌∷◌, Some, length, map, slice_index_or, refl, ap, sym, ◌∙◌, subst, inl, inr, arith}
+use Rattle.std.proofs.Common.{◌≡◌, ℕ, zero, suc, ◌+◌, ◌*◌, ◌<◌, ◌≤◌, List, [], ◌∷◌, Some, length, map, slice_index_or, ap, ◌∙◌, arith}
 use Rattle.std.specs.List.{Contains, slice_get}
 use Rattle.std.proofs.lemmas.Option.{same_Some, slice_get-get_or}
 use Rattle.jp_document.specs.Location.{Key, held, items_from, members_by_name, named, nth}
 use Rattle.jp_document.specs.Value.{Items, Members, Value, boolean, item, list, member, no_items, no_members, null, object, text as text_value, whole}
-use Rattle.jp_query.specs.Tree.{ExprTree, ExprTrees, OperandTree, QueryTree, SegmentTree, SegmentTrees, SelectorTree, SelectorTrees, all_of, any_of, comparison, exists, expr_of, expr_then, exprs, filter, index, literal, name, negation, no_exprs, no_segments, no_selectors, node_value, query, segment, segment_of, segment_then, segments, selector_of, selector_then, selectors, slice, wildcard}
+use Rattle.jp_query.specs.Tree.{ExprTree, ExprTrees, QueryTree, SegmentTree, SegmentTrees, SelectorTree, SelectorTrees, all_of, any_of, comparison, exists, expr_of, expr_then, exprs, filter, index, name, negation, no_exprs, no_segments, no_selectors, query, segment, segment_then, selector_of, selector_then, selectors, slice, wildcard}
 use Rattle.jp_query.specs.declared.tree.Expr.{Expr}
 use Rattle.jp_query.specs.declared.tree.Selector.{Selector}
 

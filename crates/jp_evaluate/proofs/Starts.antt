@@ -1,7 +1,7 @@
 -- Where inner queries begin.
-use Rattle.std.proofs.Common.{◌≡◌, ℕ, ◌<◌, Bool, true, false, if◌then◌else◌, refl, sym, ap, subst, arith}
+use Rattle.std.proofs.Common.{◌≡◌, ℕ, ◌<◌, Bool, true, false, if◌then◌else◌, refl, sym, subst, arith}
 use Rattle.jp_document.specs.Location.{Location}
-use Rattle.jp_document.specs.Value.{Value, value_of}
+use Rattle.jp_document.specs.Value.{value_of}
 use Rattle.jp_document.specs.declared.value.Json.{Json}
 use Rattle.jp_evaluate.specs.Nodelist.{start_of}
 use Rattle.jp_evaluate.specs.Search.{StandsAt}

@@ -9,7 +9,6 @@ use Rattle.jp_query.specs.declared.tree.Operand.{Operand}
 use Rattle.jp_query.specs.declared.tree.Operand.TheVariants as side
 use Rattle.jp_query.specs.declared.tree.Query.{Query, out-Query}
 use Rattle.jp_query.specs.declared.tree.Segment.{Segment, out-Segment}
-use Rattle.jp_query.specs.declared.tree.Selector.{Selector}
 use Rattle.jp_query.specs.declared.tree.Selector.TheVariants as one
 use Rattle.jp_query.specs.declared.tree.Subject.{Subject}
 use Rattle.jp_query.specs.declared.tree.Subject.TheVariants as subject

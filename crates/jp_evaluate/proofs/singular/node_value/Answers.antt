@@ -1,8 +1,7 @@
-use Rattle.std.proofs.Common.{◌≡◌, Option, Some, drop, length, option_and_then, sym, ap, ◌∙◌}
-use Rattle.jp_document.specs.Value.{Value, value_of}
+use Rattle.std.proofs.Common.{◌≡◌, Some, sym, ap, ◌∙◌}
+use Rattle.jp_document.specs.Value.{value_of}
 use Rattle.jp_query.specs.declared.tree.Query.{out-Query}
 use Rattle.jp_query.specs.Tree.{segment_of}
-use Rattle.jp_select.specs.Comparable.{side_of}
 use Rattle.jp_evaluate.specs.Nodelist.{start_of}
 use Rattle.jp_evaluate.specs.Search.{single_value}
 use Rattle.jp_evaluate.proofs.Along.{along-next, along-query, of_segments, inside, single_inside, values_along}
