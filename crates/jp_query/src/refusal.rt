@@ -18,7 +18,7 @@ pub struct Refusal {
 pub enum RefusalKind {
     /// The text is no query: at the first place where it begins none, or at its end.
     Syntax,
-    /// Filters, parentheses and calls stand more than 64 deep inside one another.
+    /// Filters and parentheses stand more than 64 deep inside one another.
     TooDeep,
     /// A literal with a fraction or an exponent.
     NotWhole,
