@@ -1,5 +1,6 @@
 use super::runs::{paths, written};
 use crate::Fault;
+use jp_check::read_query;
 use jp_query::{Refusal, RefusalKind};
 use std::alloc::{AllocError, Global};
 use std::test::Fail;
@@ -163,17 +164,17 @@ fn nests_filters_and_parentheses_64_deep(rt: HostRuntime) -> Result<(), Fail> {
             query.push_str(closing)?;
         }
         query.push_str(end)?;
-        let expected = match deep {
-            None => Ok(Vec::new(alloc)),
-            Some(place) => Err(Fault::Query(Refusal {
-                kind: RefusalKind::TooDeep,
-                place,
-            })),
+        let place = match read_query(alloc, query.as_str()) {
+            Ok(_) => None,
+            Err(refusal) => {
+                assert!(rt;
+                    refusal.kind == RefusalKind::TooDeep,
+                    "{count} times {opening}"
+                );
+                Some(refusal.place)
+            }
         };
-        assert!(rt;
-            written(alloc, query.as_str(), "[]") == expected,
-            "{count} times {opening}"
-        );
+        assert!(rt; place == deep, "{count} times {opening}");
     }
     Ok(())
 }

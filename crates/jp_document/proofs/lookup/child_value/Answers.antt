@@ -1,4 +1,4 @@
-use Rattle.std.proofs.Common.{◌≡◌, ℕ, Option, Some, None, Bor, option_map, sym, subst}
+use Rattle.std.proofs.Common.{◌≡◌, Option, Some, None, Bor, option_map, sym, subst}
 use Rattle.std.specs.List.{Contains}
 use Rattle.std.specs.Option.{IfSome}
 use Rattle.std.proofs.lemmas.Map.Views.{Contains-from_lookup, tells_apart}

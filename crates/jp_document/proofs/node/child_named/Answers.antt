@@ -1,4 +1,4 @@
-use Rattle.std.proofs.Common.{◌≡◌, Some, None, option_map, ap, subst, arith, rules}
+use Rattle.std.proofs.Common.{◌≡◌, Some, None, option_map, ap, subst, arith}
 use Rattle.std.proofs.lemmas.Grind.{common_steps}
 use Rattle.jp_document.specs.Node.{told, told_child}
 use Rattle.jp_document.specs.Location.{named}
