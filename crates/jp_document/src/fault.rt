@@ -4,17 +4,17 @@ ghost use Rattle.jp_document.specs.declared.fault.DocumentFault.TheVariants.{NoM
 
 use std::alloc::AllocError;
 
-/// Why bytes are no document.
+/// Why bytes are no document, numbered from 1 in this order.
 #[derive(Debug, PartialEq, Drop)]
 pub enum DocumentFault {
-    /// 1: they hold no JSON value, or more than one, or are no UTF-8, or nest deeper than 127 levels.
+    /// They hold no JSON value, or more than one, or are no UTF-8, or nest deeper than 127 levels.
     NotJson,
-    /// 2: some number is not a whole one of 64 bits. It holds the normalized path of the first such number,
+    /// Some number is not a whole one of 64 bits. It holds the normalized path of the first such number,
     /// in document order.
     NotWhole(String),
-    /// 3: every number is whole, and some list has more than (2^53)-1 items.
+    /// Every number is whole, and some list has more than (2^53)-1 items.
     ListTooLong,
-    /// 4: the memory did not suffice.
+    /// The memory did not suffice.
     NoMemory,
 }
 
@@ -23,5 +23,21 @@ impl From<AllocError> for DocumentFault {
 
     fn from(_: AllocError) -> DocumentFault {
         DocumentFault::NoMemory
+    }
+}
+
+impl DocumentFault {
+    ghost use Rattle.jp_document.specs.Faults.{document_fault_number};
+
+    /// The number of the fault, from 1 to 4.
+    pub fn number(&self) -> u8
+        ensures { result ≡ document_fault_number self.now }
+    {
+        match self {
+            DocumentFault::NotJson => 1,
+            DocumentFault::NotWhole(_) => 2,
+            DocumentFault::ListTooLong => 3,
+            DocumentFault::NoMemory => 4,
+        }
     }
 }

@@ -3,14 +3,14 @@ ghost use Rattle.std.specs.Prelude.{◌≡◌};
 
 use jp_reading::Stop;
 
-/// Why a text gives no location.
+/// Why a text gives no location, numbered from 1 in this order.
 #[derive(Debug, PartialEq, Drop)]
 pub enum PathFault {
-    /// 1: it is the normalized path of no list of steps.
+    /// It is the normalized path of no list of steps.
     NotNormalized,
-    /// 2: it is a normalized path, and some index is above (2^53)-1.
+    /// It is a normalized path, and some index is above (2^53)-1.
     IndexRange,
-    /// 3: the memory did not suffice.
+    /// The memory did not suffice.
     NoMemory,
 }
 
@@ -23,6 +23,21 @@ impl From<Stop> for PathFault {
         match stop {
             Stop::Memory => PathFault::NoMemory,
             Stop::Syntax(_) | Stop::TooDeep(_) => PathFault::NotNormalized,
+        }
+    }
+}
+
+impl PathFault {
+    ghost use Rattle.jp_document.specs.Faults.{path_fault_number};
+
+    /// The number of the fault, from 1 to 3.
+    pub fn number(&self) -> u8
+        ensures { result ≡ path_fault_number self.now }
+    {
+        match self {
+            PathFault::NotNormalized => 1,
+            PathFault::IndexRange => 2,
+            PathFault::NoMemory => 3,
         }
     }
 }
