@@ -4,7 +4,7 @@ use Rattle.std.specs.Io.KnownBytes.{Appends}
 use Rattle.std.specs.Str.{chars}
 use Rattle.jp_check.specs.Accepted.{IsAcceptedAs, IsNotAccepted}
 use Rattle.jp_check.specs.Refused.{IsRefused}
-use Rattle.jp_document.specs.Document.{IsDocument, IsFaultOf}
+use Rattle.jp_document.specs.Document.{IsDocument, IsDocumentFault}
 use Rattle.jp_document.specs.Value.{Value}
 use Rattle.jp_document.specs.declared.fault.DocumentFault.{DocumentFault}
 use Rattle.jp_document.specs.declared.fault.DocumentFault.TheVariants as document
@@ -56,7 +56,7 @@ pub record RefusesDocument (text : List ℕ) (old new : Option (List ℕ)) (f : 
   pub q : QueryTree
   pub bytes : List ℕ
   pub reads : Reads text old new q bytes
-  pub fault : IsFaultOf bytes f
+  pub fault : IsDocumentFault bytes f
   pub known : f ≢ document.NoMemory
 
 -- the query is asked, and more than 16,777,216 bytes came

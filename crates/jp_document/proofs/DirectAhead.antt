@@ -10,12 +10,12 @@ use Rattle.serde_json.specs.Read.{of_members, converted}
 use Rattle.std.specs.Prelude.{IsUtf8}
 use Rattle.jp_document.specs.Direct.{ReadsItems, ReadsMembers, ReadsText, ReadsValue}
 use Rattle.jp_document.specs.Document.{IsDocument}
-use Rattle.jp_document.specs.Value.{Value, null, boolean, whole, text, list, object, Items, no_items, item, Members, no_members, member, list_fits, IsDocumentValue, everywhere, everywhere_in_items, everywhere_in_members, is_allowed, items_of, members_of, names_of, names_rise, value_of}
+use Rattle.jp_document.specs.Value.{Value, IsDocumentValue, everywhere, everywhere_in_items, everywhere_in_members, is_allowed, items_of, members_of, names_of, names_rise, value_of}
 use Rattle.jp_document.specs.declared.value.Json.{Json}
 use Rattle.jp_document.proofs.DirectTurns.{items_turn, items_over, member_turn, members_over}
 use Rattle.jp_document.proofs.Places.{Entry, pair, data_of, members_of_data-entries, put_entry, pairs-put_entry, data_of-put_entry, rise_insert, sound_insert}
-use Rattle.jp_document.proofs.Names.{bytes_cmp, and-left, and-right}
-use Rattle.jp_document.proofs.Wholes.{all-items, all_push, both}
+use Rattle.jp_document.proofs.Names.{bytes_cmp}
+use Rattle.jp_document.proofs.Wholes.{all-items, all_push}
 
 -- ---- items
 
@@ -76,36 +76,10 @@ members_end depth initial n ts r found enough over so = record {
 
 -- ---- documents
 
-fits_alone : (v : Value) → is_allowed v ≡ true → list_fits v ≡ true
-fits_alone null h = refl
-fits_alone (boolean b) h = refl
-fits_alone (whole z) h = refl
-fits_alone (text s) h = refl
-fits_alone (list vs) h = h
-fits_alone (object ms) h = refl
-
--- a value that a document may hold has no list that is too long
-mutual
-  pub fits-allowed : (v : Value) → everywhere is_allowed v ≡ true → everywhere list_fits v ≡ true
-  fits-allowed null h = refl
-  fits-allowed (boolean b) h = refl
-  fits-allowed (whole z) h = refl
-  fits-allowed (text s) h = refl
-  fits-allowed (list vs) h = both _ _ (fits_alone (list vs) (and-left _ _ h)) (items_fit-allowed vs (and-right _ _ h))
-  fits-allowed (object ms) h = members_fit-allowed ms (and-right _ _ h)
-
-  items_fit-allowed : (vs : Items) → everywhere_in_items is_allowed vs ≡ true → everywhere_in_items list_fits vs ≡ true
-  items_fit-allowed no_items h = refl
-  items_fit-allowed (item v vs) h = both _ _ (fits-allowed v (and-left _ _ h)) (items_fit-allowed vs (and-right _ _ h))
-
-  members_fit-allowed : (ms : Members) → everywhere_in_members is_allowed ms ≡ true → everywhere_in_members list_fits ms ≡ true
-  members_fit-allowed no_members h = refl
-  members_fit-allowed (member n v ms) h = both _ _ (fits-allowed v (and-left _ _ h)) (members_fit-allowed ms (and-right _ _ h))
-
 pub document_from_text : (bytes : List ℕ) (v : Value) → IsUtf8 bytes → ReadsText bytes v → IsDocumentValue v → IsDocument bytes v
 document_from_text bytes v utf8 x sound = record {
   reading = x.reading;
   reads = record { utf8 = utf8; reading = x.read };
   holds = x.holds;
-  fits = fits-allowed v sound;
+  valid = sound;
 }

@@ -124,7 +124,7 @@ held-rises (boolean b) document = tt
 held-rises (whole z) document = tt
 held-rises (text s) document = tt
 held-rises (list vs) document = items-rise 0 vs
-held-rises (object ms) document = members-rise ms (sorted_from_rise (names_of ms) (and-left _ _ document))
+held-rises (object ms) document = members-rise ms (sorted_from_rise (names_of ms) (and-left _ _ (and-left _ _ document)))
 
 -- the value one step inside at an entry's step is the entry's
 pub child-held : (v : Value) (i : ℕ) (k : Key) (w : Value) → IsDocumentValue v → slice_get (held v) i ≡ Some (k, w) → child v k ≡ Some w

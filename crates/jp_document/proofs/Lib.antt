@@ -24,6 +24,7 @@ pub mod Rows
 pub mod Spelled
 pub mod Spellings
 pub mod Stops
+pub mod TextNames
 pub mod Texts
 pub mod Values
 pub mod Wholes

@@ -5,7 +5,7 @@ use Rattle.jp_document.specs.Location.{named, nth, location_cmp, value_at}
 use Rattle.jp_document.specs.Path.{path_of, index_text}
 use Rattle.jp_document.specs.Spelling.{spelling}
 use Rattle.jp_document.specs.Text.{text_of}
-use Rattle.jp_document.specs.Value.{Value, null, boolean, whole, text, list, object, no_items, item, no_members, member, names_rise, is_in_range}
+use Rattle.jp_document.specs.Value.{Value, null, boolean, whole, text, list, object, no_items, item, no_members, member, names_rise, fits_64_bits}
 
 root_path : path_of [] ≡ codes "$"
 root_path = refl
@@ -61,14 +61,14 @@ rising = refl
 repeated : names_rise (codes "a" ∷ codes "a" ∷ []) ≡ false
 repeated = refl
 
-greatest : is_in_range (pos 18446744073709551615) ≡ true
+greatest : fits_64_bits (pos 18446744073709551615) ≡ true
 greatest = refl
 
-too_great : is_in_range (pos 18446744073709551616) ≡ false
+too_great : fits_64_bits (pos 18446744073709551616) ≡ false
 too_great = refl
 
-least : is_in_range (negsuc 9223372036854775807) ≡ true
+least : fits_64_bits (negsuc 9223372036854775807) ≡ true
 least = refl
 
-too_small : is_in_range (negsuc 9223372036854775808) ≡ false
+too_small : fits_64_bits (negsuc 9223372036854775808) ≡ false
 too_small = refl

@@ -1,5 +1,5 @@
 -- Which bytes are a document, and why others are none.
-use Rattle.std.specs.Prelude.{◌≡◌, ◌≢◌, ℕ, suc, pos, false, true, Float, List, [], ◌∷◌, Option, Some, None, option_map, option_and_then, string_bytes, IsUtf8}
+use Rattle.std.specs.Prelude.{◌≡◌, ◌≢◌, ℕ, suc, pos, false, Float, List, [], ◌∷◌, Option, Some, None, option_map, option_and_then, string_bytes, IsUtf8}
 use Rattle.std.specs.BTreeMap.{is_at}
 use Rattle.std.specs.Map.{lookup}
 use Rattle.std.specs.declared.cmp.Ordering.TheVariants.{Less}
@@ -8,7 +8,7 @@ use Rattle.serde_json.specs.Data.{Data, unsigned, negative, float}
 use Rattle.serde_json.specs.Read.{read}
 use Rattle.jp_document.specs.Location.{Key, named, nth, key_cmp, Location, location_cmp}
 use Rattle.jp_document.specs.Path.{path_of}
-use Rattle.jp_document.specs.Value.{Value, null, boolean, whole, text, list, object, Items, no_items, item, Members, no_members, member, everywhere, list_fits, value_of}
+use Rattle.jp_document.specs.Value.{Value, null, boolean, whole, text, list, object, Items, no_items, item, Members, no_members, member, everywhere, list_fits, IsDocumentValue, value_of}
 use Rattle.jp_document.specs.declared.document.Document.{Document}
 use Rattle.jp_document.specs.declared.fault.DocumentFault.{DocumentFault}
 use Rattle.jp_document.specs.declared.fault.DocumentFault.TheVariants.{NotJson, NotWhole, ListTooLong, NoMemory}
@@ -42,16 +42,12 @@ abbrev mutual
   members_of_data parsed.no_members = Some no_members
   members_of_data (parsed.member n d ms) = option_and_then (λ v. option_map (member n v) (members_of_data ms)) (value_of_data d)
 
--- no list is longer than (2^53)-1 items
-abbrev pub ListsFit : Value → Type 0
-ListsFit v = everywhere list_fits v ≡ true
-
 -- the bytes are a document, whose value is v
 pub record IsDocument (bytes : List ℕ) (v : Value) : Type 0 where
   pub reading : Data
   pub reads : Reads bytes reading
   pub holds : value_of_data reading ≡ Some v
-  pub fits : ListsFit v
+  pub valid : IsDocumentValue v
 
 -- ---- the first number that is no whole one
 
@@ -99,9 +95,23 @@ pub record HasLongList (bytes : List ℕ) : Type 0 where
   pub holds : value_of_data reading ≡ Some value
   pub too_long : everywhere list_fits value ≡ false
 
+-- ---- what is wrong with bytes
+
+-- What is wrong with bytes that are no document: no reading, a first number that is no whole one, at this path, or a list that
+-- is too long.
+pub data Defect : Type 0 where
+  not_json : Defect
+  not_whole : List ℕ → Defect
+  list_too_long : Defect
+
+abbrev pub HasDefect : List ℕ → Defect → Type 0
+HasDefect bytes not_json = (d : Data) → Reads bytes d → ⊥
+HasDefect bytes (not_whole path) = HasFraction bytes path
+HasDefect bytes list_too_long = HasLongList bytes
+
 -- why the bytes are no document; want of memory says nothing of them
-abbrev pub IsFaultOf : List ℕ → DocumentFault → Type 0
-IsFaultOf bytes NotJson = (d : Data) → Reads bytes d → ⊥
-IsFaultOf bytes (NotWhole path) = HasFraction bytes (string_bytes path)
-IsFaultOf bytes ListTooLong = HasLongList bytes
-IsFaultOf bytes NoMemory = Unit {0}
+abbrev pub IsDocumentFault : List ℕ → DocumentFault → Type 0
+IsDocumentFault bytes NotJson = HasDefect bytes not_json
+IsDocumentFault bytes (NotWhole path) = HasDefect bytes (not_whole (string_bytes path))
+IsDocumentFault bytes ListTooLong = HasDefect bytes list_too_long
+IsDocumentFault bytes NoMemory = Unit {0}

@@ -3,6 +3,7 @@ use Rattle.std.specs.Prelude.{ℕ, suc, ℤ, pos, negsuc, Bool, true, ◌&&◌, 
 use Rattle.std.specs.Cmp.Lexicographic.{slice_cmp}
 use Rattle.std.specs.List.{list_all}
 use Rattle.std.specs.Ordering.{is_lt, nat_cmp}
+use Rattle.std.specs.Str.{is_utf8}
 use Rattle.jp_document.specs.declared.value.Json.{Json, fold-Json}
 use Rattle.jp_document.specs.declared.value.Member.{Member, fold-Member}
 use Rattle.jp_document.specs.declared.value.Json.TheOpen.{Json-F, Member-F}
@@ -58,22 +59,28 @@ abbrev mutual
   everywhere_in_members p no_members = true
   everywhere_in_members p (member n v ms) = everywhere p v && everywhere_in_members p ms
 
--- the number is from -(2^63) to (2^64)-1
-abbrev pub is_in_range : ℤ → Bool
-is_in_range (pos n) = nat_lt n (2 ^ 64)
-is_in_range (negsuc n) = nat_lt n (2 ^ 63)
+-- the number is held as i64 or u64: it is from -(2^63) to (2^64)-1
+abbrev pub fits_64_bits : ℤ → Bool
+fits_64_bits (pos n) = nat_lt n (2 ^ 64)
+fits_64_bits (negsuc n) = nat_lt n (2 ^ 63)
 
 -- a list has at most (2^53)-1 items
 abbrev pub list_fits : Value → Bool
 list_fits (list vs) = nat_le (item_count vs) (2 ^ 53 - 1)
 list_fits _ = true
 
--- what a document asks of each value in it: whole numbers in range, lists that fit, names that rise
+-- the names rise, and each is a text: the UTF-8 of scalar values (RFC 8259 section 8.1)
+abbrev pub names_fit : List (List ℕ) → Bool
+names_fit ns = names_rise ns && list_all is_utf8 ns
+
+-- what a document asks of each value in it: whole numbers of 64 bits, texts in UTF-8, lists that fit, names that fit
 abbrev pub is_allowed : Value → Bool
-is_allowed (whole z) = is_in_range z
+is_allowed null = true
+is_allowed (boolean b) = true
+is_allowed (whole z) = fits_64_bits z
+is_allowed (text s) = is_utf8 s
 is_allowed (list vs) = list_fits (list vs)
-is_allowed (object ms) = names_rise (names_of ms)
-is_allowed _ = true
+is_allowed (object ms) = names_fit (names_of ms)
 
 -- v may be a document's value
 abbrev pub IsDocumentValue : Value → Type 0

@@ -4,7 +4,7 @@ ghost use Rattle.serde_json.specs.Data.{unsigned, negative};
 ghost use Rattle.serde_json.specs.Read.{number_from};
 ghost use Rattle.jp_document.specs.Direct.{IsWholeText, ReadsItems, ReadsMembers, ReadsText, ReadsValue};
 ghost use Rattle.jp_document.specs.Document.{IsDocument};
-ghost use Rattle.jp_document.specs.Value.{IsDocumentValue, everywhere_in_items, everywhere_in_members, is_allowed, is_in_range, items_of, list, list_fits, member_of, members_of, names_of, names_rise, value_of};
+ghost use Rattle.jp_document.specs.Value.{IsDocumentValue, everywhere_in_items, everywhere_in_members, is_allowed, fits_64_bits, items_of, list, list_fits, member_of, members_of, names_fit, names_of, value_of};
 
 use crate::growing::Growing;
 use crate::reading::is_short;
@@ -90,8 +90,8 @@ fn members(alloc: Global, reader: &mut Reader<'_>, depth: usize) -> Option<Vec<M
         (members_of (map member_of v.items))) }
     ensures sound { IfSome result
         (λ v. everywhere_in_members is_allowed (members_of (map member_of v.items)) ≡ true) }
-    ensures rise { IfSome result
-        (λ v. names_rise (names_of (members_of (map member_of v.items))) ≡ true) }
+    ensures names { IfSome result
+        (λ v. names_fit (names_of (members_of (map member_of v.items))) ≡ true) }
     ensures shorter { OnSome result (length reader.new < length reader.old) }
 {
     let mut found = Growing::new(alloc);
@@ -107,7 +107,7 @@ fn members(alloc: Global, reader: &mut Reader<'_>, depth: usize) -> Option<Vec<M
 /// The whole number of 64 bits that these characters of JSON write.
 fn whole(text: &str) -> Option<i128>
     ensures value { IfSome result (IsWholeText text.now) }
-    ensures range { IfSome result (λ n. is_in_range n ≡ true) }
+    ensures range { IfSome result (λ n. fits_64_bits n ≡ true) }
 {
     let bytes = text.as_bytes();
     if has_minus(bytes) {

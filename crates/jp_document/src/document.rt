@@ -11,8 +11,8 @@ use crate::reading::parsed_value;
 use crate::value::Json;
 use std::alloc::Global;
 
-/// A JSON document: whole numbers from -(2^63) to (2^64)-1, member names that strictly rise by their
-/// bytes, lists of at most (2^53)-1 items.
+/// A JSON document: whole numbers from -(2^63) to (2^64)-1, texts in UTF-8, member names that are texts and
+/// strictly rise by their bytes, lists of at most (2^53)-1 items.
 #[derive(Drop)]
 pub struct Document {
     json: Json,
@@ -20,7 +20,7 @@ pub struct Document {
 }
 
 impl Document {
-    ghost use Rattle.jp_document.specs.Document.{document_of, IsDocument, IsFaultOf};
+    ghost use Rattle.jp_document.specs.Document.{document_of, IsDocument, IsDocumentFault};
     ghost use Rattle.jp_document.specs.Location.{key_of, value_at};
     ghost use Rattle.jp_document.specs.Node.{told, StandsIn};
 
@@ -30,7 +30,7 @@ impl Document {
     /// list of more than (2^53)-1 items (`ListTooLong`).
     pub fn read(alloc: Global, bytes: &[u8]) -> Result<Document, DocumentFault>
         ensures ok { IfOk result (λ d. IsDocument bytes.now (document_of d)) }
-        ensures fault { IfErr result (IsFaultOf bytes.now) }
+        ensures fault { IfErr result (IsDocumentFault bytes.now) }
     {
         let json = match direct_value(alloc, bytes) {
             Some(json) => json,

@@ -1,10 +1,10 @@
 //! From a reading of `serde_json` to a value.
 ghost use Rattle.std.specs.Prelude.{◌≡◌, ◌&&◌, map, Some, true, IfOk, IfErr};
 ghost use Rattle.serde_json.specs.View.{view, number_view, items_view, members_view};
-ghost use Rattle.jp_document.specs.Document.{IsDocument, IsFaultOf, value_of_data, items_of_data, members_of_data};
+ghost use Rattle.jp_document.specs.Document.{IsDocument, IsDocumentFault, value_of_data, items_of_data, members_of_data};
 ghost use Rattle.jp_document.specs.Stop.{StopsAt};
 ghost use Rattle.serde_json.specs.Data.{number as number_data, array, object};
-ghost use Rattle.jp_document.specs.Value.{IsDocumentValue, value_of, list, items_of, members_of, member_of, names_of, names_rise, everywhere, everywhere_in_items, everywhere_in_members, list_fits, is_allowed};
+ghost use Rattle.jp_document.specs.Value.{IsDocumentValue, value_of, list, items_of, members_of, member_of, names_fit, names_of, everywhere, everywhere_in_items, everywhere_in_members, list_fits, is_allowed};
 
 use crate::fault::DocumentFault;
 use crate::location::OwnedStep;
@@ -20,7 +20,7 @@ const MAX_ITEMS: usize = 9_007_199_254_740_991;
 pub(crate) fn parsed_value(alloc: Global, bytes: &[u8]) -> Result<Json, DocumentFault>
     ensures ok { IfOk result (λ j. IsDocument bytes.now (value_of j)) }
     ensures sound { IfOk result (λ j. IsDocumentValue (value_of j)) }
-    ensures fault { IfErr result (IsFaultOf bytes.now) }
+    ensures fault { IfErr result (IsDocumentFault bytes.now) }
 {
     let parsed = match Value::from_slice(alloc, bytes) {
         Ok(parsed) => parsed,
@@ -110,8 +110,8 @@ fn whole_members(
         ≡ Some (members_of (map member_of v.items))) }
     ensures sound { IfOk result (λ v. everywhere_in_members list_fits (members_of (map member_of v.items)) ≡ true
         → everywhere_in_members is_allowed (members_of (map member_of v.items)) ≡ true) }
-    ensures rise { IfOk result
-        (λ v. names_rise (names_of (members_of (map member_of v.items))) ≡ true) }
+    ensures names { IfOk result
+        (λ v. names_fit (names_of (members_of (map member_of v.items))) ≡ true) }
     ensures fits { IfOk result (λ v. fits.new
         ≡ (everywhere_in_members list_fits (members_of (map member_of v.items)) && fits.old)) }
     ensures stop { IfErr result (StopsAt (object (members_view members.entries))) }

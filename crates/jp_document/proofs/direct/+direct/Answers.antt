@@ -13,7 +13,9 @@ use Rattle.jp_document.specs.Value.{null, boolean, whole, text, value_of}
 use Rattle.jp_document.specs.declared.value.Json.{Null, Bool, Whole, Text, the_lemmas}
 use Rattle.jp_document.proofs.DirectAhead.{items_more, items_end, items_sound, members_more, members_end}
 use Rattle.jp_document.proofs.DirectTurns.{reads-null, reads-boolean, reads-text, reads-whole, reads-list, reads-object}
+use Rattle.jp_document.proofs.TextNames.{names_are_texts, text_is_allowed}
 use Rattle.jp_document.proofs.Values.{value_of-List, value_of-Members}
+use Rattle.jp_document.proofs.Wholes.{both}
 use Rattle.jp_document.proofs.direct.+direct.Goals as goal
 
 pub value-returns-in-Null-clause-reads : goal.value-returns-in-Null-clause-reads
@@ -108,3 +110,11 @@ members-returns-clause-reads t c =
     let l = c.members in
     let over : read_key l.reader ≡ Some (None, c.next_key.new.self) = grind arith in
     rw c.in_ok-all.ensures (members_end c.args.depth c.args.reader.now l.invariant.0 l.reader c.next_key.new.self (seen l.found) l.invariant.1 over l.invariant.3)
+
+pub members-returns-clause-names : goal.members-returns-clause-names
+members-returns-clause-names t c =
+    let rise = c.members.invariant.3.rise in
+    both _ _ (rw c.in_ok-all.ensures rise) (names_are_texts c.in_ok-all.all.items)
+
+pub value-returns-in_ok-ok-in-String-clause-sound : goal.value-returns-in_ok-ok-in-String-clause-sound
+value-returns-in_ok-ok-in-String-clause-sound t c = text_is_allowed c.in_ok-ok-in-String.field-0

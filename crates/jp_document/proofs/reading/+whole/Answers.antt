@@ -11,7 +11,8 @@ use Rattle.jp_document.specs.declared.location.OwnedStep.TheVariants.{Name, Inde
 use Rattle.jp_document.proofs.Fits.{items_fit_more, members_fit_more}
 use Rattle.jp_document.proofs.Stops.{StopsAt-within}
 use Rattle.jp_document.proofs.Values.{member_of_is}
-use Rattle.jp_document.proofs.Wholes.{ItemsSoFar, items_more, items_stop, items_end, items_sound, MembersSoFar, members_more, members_stop, members_end, members_sound, names_rise-read}
+use Rattle.jp_document.proofs.TextNames.{names_are_texts, text_is_allowed}
+use Rattle.jp_document.proofs.Wholes.{both, ItemsSoFar, items_more, items_stop, items_end, items_sound, MembersSoFar, members_more, members_stop, members_end, members_sound, names_rise-read}
 use Rattle.jp_document.proofs.reading.+whole.Goals as goal
 
 pub whole_items-loop-item-preserved : goal.whole_items-loop-item-preserved
@@ -78,8 +79,11 @@ whole_members-returns-clause-value t c =
 pub whole_members-returns-clause-sound : goal.whole_members-returns-clause-sound
 whole_members-returns-clause-sound t c = members_sound (map member_of c.loop-name.wholes.items) c.loop-name.invariant.0.sound
 
-pub whole_members-returns-clause-rise : goal.whole_members-returns-clause-rise
-whole_members-returns-clause-rise t c =
+pub whole_members-returns-clause-names : goal.whole_members-returns-clause-names
+whole_members-returns-clause-names t c =
     let none : c.loop-name.name-iterator ≡ [] = search rules in
     let value = members_end c.args.members.entries c.loop-name.wholes.items (subst (λ r. MembersSoFar c.args.members.entries r c.loop-name.wholes.items) none c.loop-name.invariant.0) in
-    names_rise-read c.args.members.entries (members_of (map member_of c.loop-name.wholes.items)) c.len.ensures.ordered value
+    both _ _ (names_rise-read c.args.members.entries (members_of (map member_of c.loop-name.wholes.items)) c.len.ensures.ordered value) (names_are_texts c.loop-name.wholes.items)
+
+pub whole-returns-in-String-clause-sound : goal.whole-returns-in-String-clause-sound
+whole-returns-in-String-clause-sound t c = λ fits. text_is_allowed c.in-String.text
