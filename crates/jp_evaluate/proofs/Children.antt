@@ -10,7 +10,7 @@ use Rattle.jp_document.specs.Location.{Key, Location, child, held, value_at}
 use Rattle.jp_document.specs.Value.{Value}
 use Rattle.jp_query.specs.Tree.{SegmentTrees, SelectorTrees, segment, segment_then}
 use Rattle.jp_select.proofs.Locations.{inner, nodes_in-held}
-use Rattle.jp_select.specs.Below.{after, below, beyond, nodes_in}
+use Rattle.jp_select.specs.Subtree.{after, subtree, beyond, nodes_in}
 use Rattle.jp_evaluate.specs.Nodelist.{selected}
 use Rattle.jp_evaluate.specs.Search.{StandsAt, leads}
 use Rattle.jp_evaluate.proofs.Leads.{leads-descendant, list_any-flat_map}
@@ -134,20 +134,20 @@ beyond-after : (l : Location) (k : Key) (es : List (Location × Value)) → map 
 beyond-after l k [] = refl
 beyond-after l k (e ∷ es) = ap₂ (λ m ms. m ∷ ms) (sym (append_assoc l (k ∷ []) e.0)) (beyond-after l k es)
 
-below-each : (d : Value) (l : Location) (es : List (Key × Value)) → ((i : ℕ) (e : Key × Value) → slice_get es i ≡ Some e → value_at d (child_location l e) ≡ Some e.1)
-    → map (beyond l) (flat_map inner es) ≡ flat_map (below d) (map (child_location l) es)
-below-each d l [] each = refl
-below-each d l (e ∷ es) each =
-    let here : below d (child_location l e) ≡ map (beyond (child_location l e)) (nodes_in e.1) = rw (each 0 e refl) refl in
+subtree-each : (d : Value) (l : Location) (es : List (Key × Value)) → ((i : ℕ) (e : Key × Value) → slice_get es i ≡ Some e → value_at d (child_location l e) ≡ Some e.1)
+    → map (beyond l) (flat_map inner es) ≡ flat_map (subtree d) (map (child_location l) es)
+subtree-each d l [] each = refl
+subtree-each d l (e ∷ es) each =
+    let here : subtree d (child_location l e) ≡ map (beyond (child_location l e)) (nodes_in e.1) = rw (each 0 e refl) refl in
     map-append (beyond l) (inner e) (flat_map inner es)
-    ∙ ap₂ (λ ms ns. ms ++ ns) (beyond-after l e.0 (nodes_in e.1) ∙ sym here) (below-each d l es (λ i x is. each (suc i) x is))
+    ∙ ap₂ (λ ms ns. ms ++ ns) (beyond-after l e.0 (nodes_in e.1) ∙ sym here) (subtree-each d l es (λ i x is. each (suc i) x is))
 
 -- a node comes before what is below each of its children
-below-children : (d v : Value) (l : Location) → StandsAt d v l → below d l ≡ l ∷ flat_map (below d) (map (child_location l) (held v))
-below-children d v l at =
-    let here : below d l ≡ map (beyond l) (nodes_in v) = rw at.there refl in
+subtree-children : (d v : Value) (l : Location) → StandsAt d v l → subtree d l ≡ l ∷ flat_map (subtree d) (map (child_location l) (held v))
+subtree-children d v l at =
+    let here : subtree d l ≡ map (beyond l) (nodes_in v) = rw at.there refl in
     here ∙ ap (map (beyond l)) (nodes_in-held v)
-    ∙ ap₂ (λ m ms. m ∷ ms) (append-nil l) (below-each d l (held v) (λ i e is. (entry_stands d v e.1 l i (record { key = e.0; at = is }) at).there))
+    ∙ ap₂ (λ m ms. m ∷ ms) (append-nil l) (subtree-each d l (held v) (λ i e is. (entry_stands d v e.1 l i (record { key = e.0; at = is }) at).there))
 
 -- a descendant segment leads on from a node, or from below a child
 pub leads-inside : (ss : SelectorTrees) (rest : SegmentTrees) (d v : Value) (l : Location) → StandsAt d v l
@@ -156,6 +156,6 @@ pub leads-inside : (ss : SelectorTrees) (rest : SegmentTrees) (d v : Value) (l :
 leads-inside ss rest d v l at =
     let on : Location → Bool = λ m. list_any (leads rest d) (selected ss d m) in
     let ms : List Location = map (child_location l) (held v) in
-    leads-descendant ss rest d l ∙ ap (list_any on) (below-children d v l at)
-    ∙ ap (λ b. on l || b) (list_any-flat_map on (below d) ms
-    ∙ list_any-same (λ m. list_any on (below d m)) (leads (segment_then (segment true ss) rest) d) ms (λ m. sym (leads-descendant ss rest d m)))
+    leads-descendant ss rest d l ∙ ap (list_any on) (subtree-children d v l at)
+    ∙ ap (λ b. on l || b) (list_any-flat_map on (subtree d) ms
+    ∙ list_any-same (λ m. list_any on (subtree d m)) (leads (segment_then (segment true ss) rest) d) ms (λ m. sym (leads-descendant ss rest d m)))

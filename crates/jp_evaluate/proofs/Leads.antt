@@ -5,7 +5,7 @@ use Rattle.std.proofs.lemmas.List.{append-nil}
 use Rattle.jp_document.specs.Location.{Location}
 use Rattle.jp_document.specs.Value.{Value}
 use Rattle.jp_query.specs.Tree.{SegmentTrees, SelectorTrees, no_segments, segment, segment_then}
-use Rattle.jp_select.specs.Below.{below}
+use Rattle.jp_select.specs.Subtree.{subtree}
 use Rattle.jp_evaluate.specs.Nodelist.{has_node, result, segment_result, selected}
 use Rattle.jp_evaluate.specs.Search.{leads}
 use Rattle.jp_evaluate.proofs.Segments.{segment_result-append}
@@ -54,8 +54,8 @@ leads-child ss rest d l = has_node-result rest d (selected ss d l ++ []) ∙ ap 
 
 -- a descendant segment and more
 pub leads-descendant : (ss : SelectorTrees) (rest : SegmentTrees) (d : Value) (l : Location)
-    → leads (segment_then (segment true ss) rest) d l ≡ list_any (λ m. list_any (leads rest d) (selected ss d m)) (below d l)
+    → leads (segment_then (segment true ss) rest) d l ≡ list_any (λ m. list_any (leads rest d) (selected ss d m)) (subtree d l)
 leads-descendant ss rest d l =
-    has_node-result rest d (flat_map (selected ss d) (below d l ++ []))
-    ∙ list_any-flat_map (leads rest d) (selected ss d) (below d l ++ [])
-    ∙ ap (list_any (λ m. list_any (leads rest d) (selected ss d m))) (append-nil (below d l))
+    has_node-result rest d (flat_map (selected ss d) (subtree d l ++ []))
+    ∙ list_any-flat_map (leads rest d) (selected ss d) (subtree d l ++ [])
+    ∙ ap (list_any (λ m. list_any (leads rest d) (selected ss d m))) (append-nil (subtree d l))

@@ -11,7 +11,7 @@ use Rattle.jp_document.specs.Value.{IsDocumentValue, Value, value_of}
 use Rattle.jp_query.specs.Tree.{SegmentTree, SelectorTrees, segment, segment_of, segments, selector_of, selectors}
 use Rattle.jp_query.specs.declared.tree.Segment.{Segment}
 use Rattle.jp_query.specs.declared.tree.Selector.{Selector}
-use Rattle.jp_select.specs.Below.{below}
+use Rattle.jp_select.specs.Subtree.{subtree}
 use Rattle.jp_select.specs.Walk.{Place}
 use Rattle.jp_evaluate.specs.Nodelist.{location_of, result, segment_result, selected, selection}
 
@@ -73,8 +73,8 @@ by_segment d s ns = segment_result s d (map location_of ns)
 pub segment_result-append : (d : Value) (s : SegmentTree) (ls ms : List Location) → segment_result s d (ls ++ ms) ≡ segment_result s d ls ++ segment_result s d ms
 segment_result-append d (segment false ss) ls ms = flat_map-append (selected ss d) ls ms
 segment_result-append d (segment true ss) ls ms =
-    ap (flat_map (selected ss d)) (flat_map-append (below d) ls ms)
-    ∙ flat_map-append (selected ss d) (flat_map (below d) ls) (flat_map (below d) ms)
+    ap (flat_map (selected ss d)) (flat_map-append (subtree d) ls ms)
+    ∙ flat_map-append (selected ss d) (flat_map (subtree d) ls) (flat_map (subtree d) ms)
 
 pub by_segment-append : (d : Value) (s : SegmentTree) (ns ms : List Located) → by_segment d s (ns ++ ms) ≡ by_segment d s ns ++ by_segment d s ms
 by_segment-append d s ns ms = ap (segment_result s d) (map-append location_of ns ms) ∙ segment_result-append d s (map location_of ns) (map location_of ms)

@@ -9,8 +9,8 @@ use Rattle.jp_document.specs.Location.{Location, value_at}
 use Rattle.jp_document.specs.Node.{Located, StandsIn}
 use Rattle.jp_document.specs.Value.{IsDocumentValue, Value, value_of}
 use Rattle.jp_query.specs.Tree.{SelectorTrees, segment}
-use Rattle.jp_select.specs.Below.{below}
-use Rattle.jp_select.specs.Walk.{Gives, Place}
+use Rattle.jp_select.specs.Subtree.{subtree}
+use Rattle.jp_select.specs.Walk.{Yields, Place}
 use Rattle.jp_evaluate.specs.Nodelist.{segment_result, selected}
 use Rattle.jp_evaluate.proofs.Segments.{grown, head-same, place-same, tail-same, value-same}
 
@@ -24,12 +24,12 @@ pub record IsUnderWay (d : Value) (ss : SelectorTrees) (all : List Location) (ol
 
 -- at the start none is done
 pub none_done : (d : Value) (ss : SelectorTrees) (l m : Location) (old : List Located) (rest : List Place) → m ≡ l
-    → rest ≡ map (standing d) (below d m) → IsUnderWay d ss (below d l) old old rest
+    → rest ≡ map (standing d) (subtree d m) → IsUnderWay d ss (subtree d l) old old rest
 none_done d ss l m old rest same walk = record {
   done = [];
-  waiting = below d l;
+  waiting = subtree d l;
   parts = refl;
-  walk = walk ∙ ap (λ k. map (standing d) (below d k)) same;
+  walk = walk ∙ ap (λ k. map (standing d) (subtree d k)) same;
   there = sym (append-nil (map shown old));
 }
 
@@ -50,7 +50,7 @@ first_waits d n rest (l ∷ ls) e = record {
 }
 
 given_first : (d : Value) (n : Located) (o : Option Located) (rest after : List Place) (waiting : List Location)
-    → o ≡ Some n → Gives rest o after → rest ≡ map (standing d) waiting → IsFirst d n after waiting
+    → o ≡ Some n → Yields rest o after → rest ≡ map (standing d) waiting → IsFirst d n after waiting
 given_first d n None rest after waiting is gives walk = absurd (cc)
 given_first d n (Some m) rest after waiting is gives walk =
     let same : m ≡ n = cc in
@@ -58,13 +58,13 @@ given_first d n (Some m) rest after waiting is gives walk =
 
 -- it stands in the document
 pub given_stands : (d : Value) (ss : SelectorTrees) (all : List Location) (old now : List Located) (rest after : List Place) (n : Located) (o : Option Located)
-    → IsDocumentValue d → IsUnderWay d ss all old now rest → o ≡ Some n → Gives rest o after → StandsIn d n
+    → IsDocumentValue d → IsUnderWay d ss all old now rest → o ≡ Some n → Yields rest o after → StandsIn d n
 given_stands d ss all old now rest after n o document visit is gives =
     record { document = document; there = (given_first d n o rest after visit.waiting is gives visit.walk).there }
 
 -- one node more
 pub one_done : (d : Value) (ss : SelectorTrees) (all : List Location) (old now next : List Located) (rest after : List Place) (n : Located) (o : Option Located)
-    → IsUnderWay d ss all old now rest → o ≡ Some n → Gives rest o after
+    → IsUnderWay d ss all old now rest → o ≡ Some n → Yields rest o after
     → map shown next ≡ map shown now ++ map (standing d) (selected ss d n.location) → IsUnderWay d ss all old next after
 one_done d ss all old now next rest after n o visit is gives more_of =
     let first = given_first d n o rest after visit.waiting is gives visit.walk in
@@ -85,16 +85,16 @@ none_waits : (d : Value) (waiting : List Location) → [] ≡ map (standing d) w
 none_waits d [] e = refl
 none_waits d (l ∷ ls) e = absurd (cc)
 
-at_end : (rest after : List Place) (o : Option Located) → o ≡ None → Gives rest o after → IfNone o (after ≡ []) → rest ≡ []
+at_end : (rest after : List Place) (o : Option Located) → o ≡ None → Yields rest o after → IfNone o (after ≡ []) → rest ≡ []
 at_end rest after None is gives end = gives ∙ end
 at_end rest after (Some n) is gives end = absurd (cc)
 
 -- at the end all are done
 pub all_done : (d : Value) (ss : SelectorTrees) (l : Location) (old now : List Located) (rest after : List Place) (o : Option Located)
-    → IsUnderWay d ss (below d l) old now rest → o ≡ None → Gives rest o after → IfNone o (after ≡ [])
+    → IsUnderWay d ss (subtree d l) old now rest → o ≡ None → Yields rest o after → IfNone o (after ≡ [])
     → map shown now ≡ map shown old ++ map (standing d) (segment_result (segment true ss) d (l ∷ []))
 all_done d ss l old now rest after o visit is gives end =
     let none : visit.waiting ≡ [] = none_waits d visit.waiting (sym (at_end rest after o is gives end) ∙ visit.walk) in
-    let done : visit.done ≡ below d l ++ [] =
-    sym (append-nil visit.done) ∙ ap (λ ls. visit.done ++ ls) (sym none) ∙ visit.parts ∙ sym (append-nil (below d l)) in
+    let done : visit.done ≡ subtree d l ++ [] =
+    sym (append-nil visit.done) ∙ ap (λ ls. visit.done ++ ls) (sym none) ∙ visit.parts ∙ sym (append-nil (subtree d l)) in
     visit.there ∙ ap (λ ls. map shown old ++ map (standing d) (flat_map (selected ss d) ls)) done

@@ -9,7 +9,7 @@ use Rattle.jp_document.specs.Value.{Value, null, boolean, whole, text as text_va
 use Rattle.jp_query.specs.Singular.{is_singular}
 use Rattle.jp_query.specs.Tree.{ExprTree, ExprTrees, LiteralTree, OperandTree, QueryTree, SegmentTree, SegmentTrees, SelectorTree, SelectorTrees, all_of, any_of, comparison, exists, expr_then, false_literal, filter, index, literal, name, negation, no_exprs, no_segments, no_selectors, node_value, null_literal, number, query, segment, segment_then, selector_then, slice, text, true_literal, wildcard}
 use Rattle.jp_query.specs.declared.tree.Numeral.TheVariants.{Whole}
-use Rattle.jp_select.specs.Below.{below}
+use Rattle.jp_select.specs.Subtree.{subtree}
 use Rattle.jp_select.specs.Comparison.{compared}
 use Rattle.jp_select.specs.Selectors.{chosen}
 
@@ -21,7 +21,7 @@ location_of node = node.location
 -- descendant segment at each node and its descendants (section 2.5.2.2)
 abbrev pub visited : Bool → Value → List Location → List Location
 visited false d ls = ls
-visited true d ls = flat_map (below d) ls
+visited true d ls = flat_map (subtree d) ls
 
 -- where a query begins: at the root, or, with `@`, at the current node c (section 2.3.5.1)
 abbrev pub start_of : Bool → Location → Location

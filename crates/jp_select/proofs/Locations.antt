@@ -9,7 +9,7 @@ use Rattle.jp_document.specs.Location.{Key, named, nth, Location, items_from, me
 use Rattle.jp_document.specs.Value.{Value, null, boolean, whole, text, list, object, Items, no_items, item, Members, no_members, member, IsDocumentValue}
 use Rattle.jp_document.proofs.ChildValues.{IsDocumentValue-child}
 use Rattle.jp_document.proofs.Held.{child-held}
-use Rattle.jp_select.specs.Below.{after, nodes_in, nodes_in_items, nodes_in_members, beyond, below}
+use Rattle.jp_select.specs.Subtree.{after, nodes_in, nodes_in_items, nodes_in_members, beyond, subtree}
 use Rattle.jp_select.specs.Walk.{place_beyond, places_in}
 
 -- ---- values at longer locations
@@ -100,7 +100,7 @@ nodes_stand = by_children (λ v. IsDocumentValue v → All (Stands v) (nodes_in 
     let at : child v e.0 ≡ Some e.1 = child-held v i e.0 e.1 document is in
     stands_under v e.0 e.1 at (each i e.0 e.1 is (IsDocumentValue-child v e.1 e.0 document at))))))
 
--- ---- the nodes below a node
+-- ---- a node and its descendants
 
 places-standing : (d v : Value) (l : Location) (es : List (Location × Value)) → value_at d l ≡ Some v → All (Stands v) es → map (standing d) (map (beyond l) es) ≡ map (place_beyond l) es
 places-standing d v l [] at all = refl
@@ -108,7 +108,7 @@ places-standing d v l (e ∷ es) at all =
     let here : value_at d (l ++ e.0) ≡ Some e.1 = value_at-append d l e.0 ∙ ap (option_and_then (λ w. value_at w e.0)) at ∙ all 0 e (omega arith) in
     ap₂ (λ o t. (l ++ e.0, o) ∷ t) here (places-standing d v l es at (λ i x within. all (suc i) x (omega arith)))
 
-pub below-places : (d v : Value) (l : Location) → IsDocumentValue d → value_at d l ≡ Some v → map (standing d) (below d l) ≡ places_in (l, v)
-below-places d v l document at =
+pub subtree-places : (d v : Value) (l : Location) → IsDocumentValue d → value_at d l ≡ Some v → map (standing d) (subtree d l) ≡ places_in (l, v)
+subtree-places d v l document at =
     ap (λ o. map (standing d) (option_map_or (λ w. map (beyond l) (nodes_in w)) o [])) at
     ∙ places-standing d v l (nodes_in v) at (nodes_stand v (IsDocumentValue-at d v l document at))

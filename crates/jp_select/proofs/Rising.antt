@@ -17,7 +17,7 @@ use Rattle.jp_document.specs.Location.{Key, named, nth, key_cmp, Location, locat
 use Rattle.jp_document.specs.Value.{Value, IsDocumentValue}
 use Rattle.jp_document.proofs.ChildValues.{IsDocumentValue-child}
 use Rattle.jp_document.proofs.Held.{key_cmp_total, held-rises, child-held}
-use Rattle.jp_select.specs.Below.{after, nodes_in, beyond, below, IsBelow}
+use Rattle.jp_select.specs.Subtree.{after, nodes_in, beyond, subtree, IsInSubtree}
 use Rattle.jp_select.proofs.Locations.{value_at-append, IsDocumentValue-at, inner, nodes_in-held, by_children, Stands, nodes_stand}
 
 -- ---- lists that rise
@@ -184,8 +184,8 @@ no_locations : IsStrictlySortedBy location_cmp []
 unfolding IsStrictlySortedBy
 no_locations = tt
 
-below_none : (d : Value) (l : Location) → value_at d l ≡ None → IsListOf (IsBelow d l) []
-below_none d l at = record {
+subtree_none : (d : Value) (l : Location) → value_at d l ≡ None → IsListOf (IsInSubtree d l) []
+subtree_none d l at = record {
   rising = no_locations;
   exactly = λ m. (
     λ h. absurd (omega (arith, h.1)),
@@ -193,8 +193,8 @@ below_none d l at = record {
   );
 }
 
-below_some : (d v : Value) (l : Location) → IsDocumentValue d → value_at d l ≡ Some v → IsListOf (IsBelow d l) (map (beyond l) (nodes_in v))
-below_some d v l document at =
+subtree_some : (d v : Value) (l : Location) → IsDocumentValue d → value_at d l ≡ Some v → IsListOf (IsInSubtree d l) (map (beyond l) (nodes_in v))
+subtree_some d v l document at =
     let here : IsDocumentValue v = IsDocumentValue-at d v l document at in
     record {
       rising = sorted_beyond l (nodes_in v) (nodes_rise v here);
@@ -215,9 +215,9 @@ below_some d v l document at =
       );
     }
 
-pub below_law : (d : Value) (l : Location) → IsDocumentValue d → IsListOf (IsBelow d l) (below d l)
-below_law d l document = cases (value_at d l) refl
+pub subtree_law : (d : Value) (l : Location) → IsDocumentValue d → IsListOf (IsInSubtree d l) (subtree d l)
+subtree_law d l document = cases (value_at d l) refl
   where
-    cases : (o : Option Value) → value_at d l ≡ o → IsListOf (IsBelow d l) (option_map_or (λ v. map (beyond l) (nodes_in v)) o [])
-    cases None at = below_none d l at
-    cases (Some v) at = below_some d v l document at
+    cases : (o : Option Value) → value_at d l ≡ o → IsListOf (IsInSubtree d l) (option_map_or (λ v. map (beyond l) (nodes_in v)) o [])
+    cases None at = subtree_none d l at
+    cases (Some v) at = subtree_some d v l document at

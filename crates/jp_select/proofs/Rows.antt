@@ -3,8 +3,8 @@ use Rattle.std.proofs.Common.{◌≡◌, true, false, pos, negsuc, [], ◌∷◌
 use Rattle.jp_document.specs.Location.{Location, named, nth}
 use Rattle.jp_document.specs.Value.{Value, null, boolean, whole, text, list, object, no_items, item, no_members, member}
 use Rattle.jp_query.specs.declared.tree.Op.TheVariants.{Equal, Less, LessEqual, Greater}
-use Rattle.jp_select.specs.Below.{below}
-use Rattle.jp_select.specs.Comparison.{compared, is_below}
+use Rattle.jp_select.specs.Subtree.{subtree}
+use Rattle.jp_select.specs.Comparison.{compared, precedes}
 use Rattle.jp_select.specs.Selectors.{item_at}
 use Rattle.jp_select.specs.Slice.{slice_of}
 
@@ -48,14 +48,14 @@ sample = object (member (97 ∷ []) (list (item null (item (list (item null no_i
 abbrev a : Location
 a = named (97 ∷ []) ∷ []
 
-below_root : below sample [] ≡ [] ∷ a ∷ (named (97 ∷ []) ∷ nth 0 ∷ []) ∷ (named (97 ∷ []) ∷ nth 1 ∷ []) ∷ (named (97 ∷ []) ∷ nth 1 ∷ nth 0 ∷ []) ∷ (named (98 ∷ []) ∷ []) ∷ []
-below_root = refl
+subtree_root : subtree sample [] ≡ [] ∷ a ∷ (named (97 ∷ []) ∷ nth 0 ∷ []) ∷ (named (97 ∷ []) ∷ nth 1 ∷ []) ∷ (named (97 ∷ []) ∷ nth 1 ∷ nth 0 ∷ []) ∷ (named (98 ∷ []) ∷ []) ∷ []
+subtree_root = refl
 
-below_leaf : below sample (named (98 ∷ []) ∷ []) ≡ (named (98 ∷ []) ∷ []) ∷ []
-below_leaf = refl
+subtree_leaf : subtree sample (named (98 ∷ []) ∷ []) ≡ (named (98 ∷ []) ∷ []) ∷ []
+subtree_leaf = refl
 
-below_nothing : below sample (nth 3 ∷ []) ≡ []
-below_nothing = refl
+subtree_nothing : subtree sample (nth 3 ∷ []) ≡ []
+subtree_nothing = refl
 
 -- ---- comparisons (section 2.3.5.3)
 
@@ -80,9 +80,9 @@ beyond_53_bits = refl
 true_at_most_true : compared LessEqual (Some (boolean true)) (Some (boolean true)) ≡ true
 true_at_most_true = refl
 
--- U+FFFF is below U+1F600
-higher_scalar : is_below (0xffff ∷ []) (0x1f600 ∷ []) ≡ true
+-- U+FFFF precedes U+1F600
+higher_scalar : precedes (0xffff ∷ []) (0x1f600 ∷ []) ≡ true
 higher_scalar = refl
 
-longer_text : is_below (97 ∷ []) (97 ∷ 97 ∷ []) ≡ true
+longer_text : precedes (97 ∷ []) (97 ∷ 97 ∷ []) ≡ true
 longer_text = refl

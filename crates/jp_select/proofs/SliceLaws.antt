@@ -15,7 +15,7 @@ use Rattle.jp_document.proofs.Names.{and-left, and-right}
 use Rattle.jp_select.specs.Laws.{IsRisingSlice, IsFallingSlice, SlicesAreExact}
 use Rattle.jp_select.specs.Slice.{normalized, held_within, rising_lower, rising_upper, falling_lower, falling_upper, is_rising, is_falling, indexes}
 use Rattle.jp_select.proofs.Rising.{contained_head, contained_tail}
-use Rattle.jp_select.proofs.Slices.{distance, distance_down, above_lower, not_above_lower, below_upper, not_below_upper, is_below}
+use Rattle.jp_select.proofs.Slices.{distance, distance_down, above_lower, not_above_lower, below_upper, not_below_upper, falls_between}
 
 -- ---- filters of indexes
 
@@ -89,7 +89,7 @@ rising_from a u s i m positive high at =
     gap : (a x i : ℕ) → i ≡ a + x → i - a ≡ x
     gap a x i at = omega arith
 
-falling_means : (l y s i : ℕ) → is_below l y s i ≡ true → ((pos l -ℤ pos 1) <ℤ pos i) × ((m : ℕ) × (pos i +ℤ pos (m * s) ≡ pos y -ℤ pos 1))
+falling_means : (l y s i : ℕ) → falls_between l y s i ≡ true → ((pos l -ℤ pos 1) <ℤ pos i) × ((m : ℕ) × (pos i +ℤ pos (m * s) ≡ pos y -ℤ pos 1))
 falling_means l y s i h =
     let lows = int_lt (pos l -ℤ pos 1) (pos i) in
     let highs = int_le (pos i) (pos y -ℤ pos 1) in
@@ -101,7 +101,7 @@ falling_means l y s i h =
     let at : pos (i + (y - 1 - i)) ≡ pos y -ℤ pos 1 = omega (arith, ints) in
     (omega (arith, ints), ((y - 1 - i) / s, ap (λ n. pos (i + n)) steps ∙ at))
 
-falling_from : (l y s i m : ℕ) → 0 < s → l ≤ i → i + m * s + 1 ≡ y → is_below l y s i ≡ true
+falling_from : (l y s i m : ℕ) → 0 < s → l ≤ i → i + m * s + 1 ≡ y → falls_between l y s i ≡ true
 falling_from l y s i m positive low at =
     let high : i < y = plain i (m * s) y at in
     let far : y - 1 - i ≡ m * s = gap i (m * s) y at in
@@ -131,9 +131,9 @@ rising_exact n k (pos a) (pos u) low up most =
       );
     }
 
-falling_exact : (n k l y : ℕ) → y ≤ n → IsFallingSlice (pos l -ℤ pos 1) (pos y -ℤ pos 1) (suc k) (reverse (filter (is_below l y (suc k)) (indexes n)))
+falling_exact : (n k l y : ℕ) → y ≤ n → IsFallingSlice (pos l -ℤ pos 1) (pos y -ℤ pos 1) (suc k) (reverse (filter (falls_between l y (suc k)) (indexes n)))
 falling_exact n k l y most =
-    let p = is_below l y (suc k) in
+    let p = falls_between l y (suc k) in
     let xs = filter p (indexes n) in
     record {
       falling = subst (IsStrictlySortedBy nat_cmp) (sym (reverse-reverse xs)) (filter_rises p n);

@@ -121,8 +121,9 @@ rising-starts n start end (suc k) lower upper positive low up = ap₂ (λ l u. f
 
 -- ---- downwards, with both bounds one higher
 
-abbrev pub is_below : ℕ → ℕ → ℕ → ℕ → Bool
-is_below lower above s = is_falling (pos lower -ℤ pos 1) (pos above -ℤ pos 1) s
+-- an index that a falling slice selects, from the lower number up and below the upper one
+abbrev pub falls_between : ℕ → ℕ → ℕ → ℕ → Bool
+falls_between lower above s = is_falling (pos lower -ℤ pos 1) (pos above -ℤ pos 1) s
 
 one_less : (k : ℕ) → pos (suc k) -ℤ pos 1 ≡ pos k
 one_less k = omega (arith, ints)
@@ -146,22 +147,22 @@ not_below_upper (suc k) j h = ap (int_le (pos j)) (one_less k) ∙ lt-leb j k (o
 pub distance_down : (a j : ℕ) → j < a → (pos a -ℤ pos 1) -ℤ pos j ≡ pos (a - 1 - j)
 distance_down a j h = omega (arith, ints)
 
-falling_after : (l a s j : ℕ) → a ≤ j → is_below l a s j ≡ false
+falling_after : (l a s j : ℕ) → a ≤ j → falls_between l a s j ≡ false
 falling_after l a s j past =
     let low = int_lt (pos l -ℤ pos 1) (pos j) in
     let rest = divides s ((pos a -ℤ pos 1) -ℤ pos j) in
     ap (λ b. low && b && rest) (not_below_upper a j past) ∙ ap (λ b. b && rest) (and_false low)
 
-falling_under : (l a s j : ℕ) → j < l → is_below l a s j ≡ false
+falling_under : (l a s j : ℕ) → j < l → falls_between l a s j ≡ false
 falling_under l a s j under = ap (λ b. b && int_le (pos j) (pos a -ℤ pos 1) && divides s ((pos a -ℤ pos 1) -ℤ pos j)) (not_above_lower l j under)
 
-falling_here : (l i a s : ℕ) → l ≤ i → a ≡ i + 1 → 0 < s → is_below l a s i ≡ true
+falling_here : (l i a s : ℕ) → l ≤ i → a ≡ i + 1 → 0 < s → falls_between l a s i ≡ true
 falling_here l i a s within at positive =
     let near : a - 1 - i ≡ 0 = omega arith in
     let none : unsigned_abs ((pos a -ℤ pos 1) -ℤ pos i) % s ≡ 0 = ap (λ z. unsigned_abs z % s) (distance_down a i (omega arith)) ∙ ap (λ m. m % s) near ∙ omega arith in
     ap₂ (λ b c. b && c && divides s ((pos a -ℤ pos 1) -ℤ pos i)) (above_lower l i within) (below_upper a i (omega arith)) ∙ ap (λ r. nat_eq r 0) none
 
-falling_sooner : (l i a s j : ℕ) → a ≡ i + 1 → j < i → 0 < s → is_below l a s j ≡ is_below l (a - s) s j
+falling_sooner : (l i a s j : ℕ) → a ≡ i + 1 → j < i → 0 < s → falls_between l a s j ≡ falls_between l (a - s) s j
 falling_sooner l i a s j at less positive =
     let low = int_lt (pos l -ℤ pos 1) (pos j) in
     elim (cases_lt j (a - s)) [
@@ -177,16 +178,16 @@ falling_sooner l i a s j at less positive =
           ∙ sym (falling_after l (a - s) s j above)
     ]
 
-pub falling-next : (l a s n : ℕ) → l < a → a ≤ n → 0 < s → reverse (filter (is_below l a s) (indexes n)) ≡ (a - 1) ∷ reverse (filter (is_below l (a - s) s) (indexes n))
+pub falling-next : (l a s n : ℕ) → l < a → a ≤ n → 0 < s → reverse (filter (falls_between l a s) (indexes n)) ≡ (a - 1) ∷ reverse (filter (falls_between l (a - s) s) (indexes n))
 falling-next l a s n within fits positive =
     let i = a - 1 in
-    ap reverse (filter_last (is_below l a s) (is_below l (a - s) s) i 0 n (omega arith) (omega arith)
+    ap reverse (filter_last (falls_between l a s) (falls_between l (a - s) s) i 0 n (omega arith) (omega arith)
     (λ j h. falling_after l a s j (omega arith)) (falling_here l i a s (omega arith) (omega arith) positive)
     (λ j h. falling_after l (a - s) s j (omega arith)) (λ j h. falling_sooner l i a s j (omega arith) h positive))
-    ∙ reverse-append (filter (is_below l (a - s) s) (indexes n)) (i ∷ [])
+    ∙ reverse-append (filter (falls_between l (a - s) s) (indexes n)) (i ∷ [])
 
-pub falling-end : (l a s n : ℕ) → a ≤ l → reverse (filter (is_below l a s) (indexes n)) ≡ []
-falling-end l a s n past = ap reverse (filter_none (is_below l a s) 0 n (λ j h. elim (cases_lt j l) [
+pub falling-end : (l a s n : ℕ) → a ≤ l → reverse (filter (falls_between l a s) (indexes n)) ≡ []
+falling-end l a s n past = ap reverse (filter_none (falls_between l a s) 0 n (λ j h. elim (cases_lt j l) [
   | inl under ↦ falling_under l a s j under
   | inr above ↦ falling_after l a s j (omega arith)
 ]))
@@ -195,7 +196,7 @@ one_lower : (a : ℕ) (z : ℤ) → pos a ≡ z +ℤ pos 1 → pos a -ℤ pos 1 
 one_lower a z is = omega (arith, ints)
 
 pub falling-starts : (n : ℕ) (start end : Option ℤ) (s lower above : ℕ) → 0 < s → pos lower ≡ falling_lower n end +ℤ pos 1 → pos above ≡ falling_upper n start +ℤ pos 1
-    → reverse (filter (is_below lower above s) (indexes n)) ≡ slice_of n start end (negsuc (s - 1))
+    → reverse (filter (falls_between lower above s) (indexes n)) ≡ slice_of n start end (negsuc (s - 1))
 falling-starts n start end s lower above positive low up =
     let size : s ≡ suc (s - 1) = omega arith in
     ap₂ (λ l u. reverse (filter (is_falling l u s) (indexes n))) (one_lower lower (falling_lower n end) low) (one_lower above (falling_upper n start) up)

@@ -10,7 +10,7 @@ use Rattle.std.specs.Cmp.{nat_cmp_is}
 use Rattle.std.specs.Cmp.Lexicographic.{slice_cmp}
 use Rattle.std.specs.Ordering.{is_lt, nat_cmp, ordering_reverse, ordering_then}
 use Rattle.std.specs.Str.{IsUtf8, chars, encode_utf8_all}
-use Rattle.jp_select.specs.Comparison.{is_below}
+use Rattle.jp_select.specs.Comparison.{precedes}
 
 abbrev bytes_cmp : List ℕ → List ℕ → Ordering
 bytes_cmp = slice_cmp nat_cmp
@@ -129,16 +129,16 @@ some_byte c bs x (four h) = refl
 turned : (x y : List ℕ) → bytes_cmp x y ≡ ordering_reverse (bytes_cmp y x)
 turned = nat_list_cmp_total.antisymm
 
-is_below-lower : (c d : ℕ) (cs ds : List ℕ) → c < d → is_below (c ∷ cs) (d ∷ ds) ≡ true
-is_below-lower c d cs ds less = grind (arith, nat_tests)
+precedes-lower : (c d : ℕ) (cs ds : List ℕ) → c < d → precedes (c ∷ cs) (d ∷ ds) ≡ true
+precedes-lower c d cs ds less = grind (arith, nat_tests)
 
-is_below-same : (c d : ℕ) (cs ds : List ℕ) → c ≡ d → is_below (c ∷ cs) (d ∷ ds) ≡ is_below cs ds
-is_below-same c d cs ds same = grind (arith, nat_tests)
+precedes-same : (c d : ℕ) (cs ds : List ℕ) → c ≡ d → precedes (c ∷ cs) (d ∷ ds) ≡ precedes cs ds
+precedes-same c d cs ds same = grind (arith, nat_tests)
 
-is_below-higher : (c d : ℕ) (cs ds : List ℕ) → d < c → is_below (c ∷ cs) (d ∷ ds) ≡ false
-is_below-higher c d cs ds more = grind (arith, nat_tests)
+precedes-higher : (c d : ℕ) (cs ds : List ℕ) → d < c → precedes (c ∷ cs) (d ∷ ds) ≡ false
+precedes-higher c d cs ds more = grind (arith, nat_tests)
 
-encoded : (cs ds : List ℕ) → is_lt (bytes_cmp (encode_utf8_all cs) (encode_utf8_all ds)) ≡ is_below cs ds
+encoded : (cs ds : List ℕ) → is_lt (bytes_cmp (encode_utf8_all cs) (encode_utf8_all ds)) ≡ precedes cs ds
 encoded [] [] = refl
 encoded [] (d ∷ ds) = ap is_lt (some_byte d (encode_utf8 d) (encode_utf8_all ds) (bytes d))
 encoded (c ∷ cs) [] = ap is_lt (turned (encode_utf8_all (c ∷ cs)) [] ∙ ap ordering_reverse (some_byte c (encode_utf8 c) (encode_utf8_all cs) (bytes c)))
@@ -146,15 +146,15 @@ encoded (c ∷ cs) (d ∷ ds) =
     let x : List ℕ = encode_utf8_all cs in
     let y : List ℕ = encode_utf8_all ds in
     elim (cases_lt c d) [
-      | inl less ↦ ap is_lt (lower_character c d x y less) ∙ sym (is_below-lower c d cs ds less)
+      | inl less ↦ ap is_lt (lower_character c d x y less) ∙ sym (precedes-lower c d cs ds less)
       | inr up ↦ elim (cases_lt d c) [
-        | inl more ↦ ap is_lt (turned (encode_utf8 c ++ x) (encode_utf8 d ++ y) ∙ ap ordering_reverse (lower_character d c y x more)) ∙ sym (is_below-higher c d cs ds more)
+        | inl more ↦ ap is_lt (turned (encode_utf8 c ++ x) (encode_utf8 d ++ y) ∙ ap ordering_reverse (lower_character d c y x more)) ∙ sym (precedes-higher c d cs ds more)
         | inr down ↦
             let same : c ≡ d = omega arith in
-            ap (λ e. is_lt (bytes_cmp (encode_utf8 c ++ x) (encode_utf8 e ++ y))) (sym same) ∙ ap is_lt (same_front (encode_utf8 c) x y) ∙ encoded cs ds ∙ sym (is_below-same c d cs ds same)
+            ap (λ e. is_lt (bytes_cmp (encode_utf8 c ++ x) (encode_utf8 e ++ y))) (sym same) ∙ ap is_lt (same_front (encode_utf8 c) x y) ∙ encoded cs ds ∙ sym (precedes-same c d cs ds same)
       ]
     ]
 
 -- the order of two texts by their bytes is that of their scalar values
-pub bytes-is_below : (s t : List ℕ) → IsUtf8 s → IsUtf8 t → is_lt (slice_cmp nat_cmp s t) ≡ is_below (chars s) (chars t)
-bytes-is_below s t u v = ap₂ (λ x y. is_lt (bytes_cmp x y)) (sym (encodes-chars s u)) (sym (encodes-chars t v)) ∙ encoded (chars s) (chars t)
+pub bytes-precedes : (s t : List ℕ) → IsUtf8 s → IsUtf8 t → is_lt (slice_cmp nat_cmp s t) ≡ precedes (chars s) (chars t)
+bytes-precedes s t u v = ap₂ (λ x y. is_lt (bytes_cmp x y)) (sym (encodes-chars s u)) (sym (encodes-chars t v)) ∙ encoded (chars s) (chars t)

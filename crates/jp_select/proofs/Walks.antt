@@ -8,8 +8,8 @@ use Rattle.jp_document.specs.ChildNodes.{shown}
 use Rattle.jp_document.specs.Location.{Key, named, nth, Location, items_from, members_by_name, held}
 use Rattle.jp_document.specs.Node.{Located, told, told_entry, told_children}
 use Rattle.jp_document.specs.Value.{Value, null, boolean, whole, text, list, object, Items, no_items, item, Members, no_members, member, value_of}
-use Rattle.jp_select.specs.Below.{after, nodes_in, nodes_in_items, nodes_in_members}
-use Rattle.jp_select.specs.Walk.{Place, place_beyond, places_in, places_from, given_by, begun_by, Gives}
+use Rattle.jp_select.specs.Subtree.{after, nodes_in, nodes_in_items, nodes_in_members}
+use Rattle.jp_select.specs.Walk.{Place, place_beyond, places_in, places_from, given_by, begun_by, Yields}
 use Rattle.jp_select.specs.declared.descent.Frame.{Frame}
 
 -- ---- a value and its children
@@ -116,6 +116,6 @@ frame_ends f frames popped fr o pop none held =
     ap (λ t. begun_by f ++ t) (sym (ap given_by pop ∙ given-push popped fr ∙ ap (λ t. t ++ given_by popped) (places-end fr.node fr.next at)))
 
 -- at the end all has been given
-pub all_given : (done all rest new : List Place) (o : Option Located) → done ++ rest ≡ all → o ≡ None → Gives rest o new → IfNone o (new ≡ []) → done ≡ all
+pub all_given : (done all rest new : List Place) (o : Option Located) → done ++ rest ≡ all → o ≡ None → Yields rest o new → IfNone o (new ≡ []) → done ≡ all
 all_given done all rest new None is none gives end = sym (append-nil done) ∙ ap (λ t. done ++ t) (sym (gives ∙ end)) ∙ is
 all_given done all rest new (Some n) is none gives end = absurd (cc)

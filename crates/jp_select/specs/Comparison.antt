@@ -42,17 +42,17 @@ equals _ _ = false
 
 -- ---- less
 
--- lexical order of scalar values: the empty text is below any other; of two others the one whose first
--- scalar value is lower, or, where those are the same, the one whose remainder is below the other's
-abbrev pub is_below : List ℕ → List ℕ → Bool
-is_below cs [] = false
-is_below [] (d ∷ ds) = true
-is_below (c ∷ cs) (d ∷ ds) = nat_lt c d || ((c == d) && is_below cs ds)
+-- lexical order of scalar values: the empty text precedes any other; of two others the one whose first scalar value is lower
+-- does, or, where those are the same, the one whose remainder precedes the other's
+abbrev pub precedes : List ℕ → List ℕ → Bool
+precedes cs [] = false
+precedes [] (d ∷ ds) = true
+precedes (c ∷ cs) (d ∷ ds) = nat_lt c d || ((c == d) && precedes cs ds)
 
 -- two numbers in order, or two texts
 abbrev pub value_less : Value → Value → Bool
 value_less (whole x) (whole y) = int_lt x y
-value_less (text s) (text t) = is_below (chars s) (chars t)
+value_less (text s) (text t) = precedes (chars s) (chars t)
 value_less _ _ = false
 
 -- `<`: nothing is less with Nothing

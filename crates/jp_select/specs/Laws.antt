@@ -5,15 +5,15 @@ use Rattle.std.specs.Ordering.{nat_cmp}
 use Rattle.jp_document.specs.ChildNodes.{IsListOf}
 use Rattle.jp_document.specs.Location.{Location}
 use Rattle.jp_document.specs.Value.{Value, IsDocumentValue}
-use Rattle.jp_select.specs.Below.{below, IsBelow}
+use Rattle.jp_select.specs.Subtree.{subtree, IsInSubtree}
 use Rattle.jp_select.specs.Comparison.{equals}
 use Rattle.jp_select.specs.Equality.{IsEqual}
 use Rattle.jp_select.specs.Slice.{rising_lower, rising_upper, falling_lower, falling_upper, slice_of}
 
 -- a node and its descendants are exactly the nodes whose locations begin with its own, in document order
 -- (RFC 9535 section 2.5.2.2)
-abbrev pub BelowRises : Type 0
-BelowRises = (d : Value) (l : Location) → IsDocumentValue d → IsListOf (IsBelow d l) (below d l)
+abbrev pub SubtreeRises : Type 0
+SubtreeRises = (d : Value) (l : Location) → IsDocumentValue d → IsListOf (IsInSubtree d l) (subtree d l)
 
 -- the indexes rise, and are exactly lower, lower + step, lower + 2 * step .. below upper
 pub record IsRisingSlice (lower upper : ℤ) (step : ℕ) (is : List ℕ) : Type 0 where

@@ -1,4 +1,4 @@
-pub mod Below
+pub mod Subtree
 pub mod Comparable
 pub mod Comparison
 pub mod Equality

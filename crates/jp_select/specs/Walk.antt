@@ -5,7 +5,7 @@ use Rattle.jp_document.specs.ChildNodes.{shown}
 use Rattle.jp_document.specs.Location.{Location}
 use Rattle.jp_document.specs.Node.{Located, told, told_children}
 use Rattle.jp_document.specs.Value.{Value}
-use Rattle.jp_select.specs.Below.{nodes_in}
+use Rattle.jp_select.specs.Subtree.{nodes_in}
 use Rattle.jp_select.specs.declared.descent.Descent.{Descent}
 use Rattle.jp_select.specs.declared.descent.Frame.{Frame}
 
@@ -39,5 +39,5 @@ abbrev pub rest_of : Descent → List Place
 rest_of w = begun_by w.first ++ given_by w.frames.items
 
 -- a step from one rest to the next gives a node, or none
-abbrev pub Gives : List Place → Option Located → List Place → Type 0
-Gives before o rest = (before ≡ map shown (option_to_list o) ++ rest)
+abbrev pub Yields : List Place → Option Located → List Place → Type 0
+Yields before o rest = (before ≡ map shown (option_to_list o) ++ rest)

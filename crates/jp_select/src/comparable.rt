@@ -2,7 +2,7 @@
 ghost use Rattle.std.specs.Prelude.{◌≡◌, ◌↔◌, IsTrue, map, chars};
 ghost use Rattle.jp_document.specs.Value.{value_of, items_of, members_of, member_of};
 ghost use Rattle.jp_select.specs.Comparable.{comparable_of, side_of};
-ghost use Rattle.jp_select.specs.Comparison.{equals, is_less, is_below, same_items, same_member, same_members};
+ghost use Rattle.jp_select.specs.Comparison.{equals, is_less, precedes, same_items, same_member, same_members};
 
 use jp_document::{Json, Member};
 
@@ -60,15 +60,15 @@ impl<'a> Comparable<'a> {
     {
         match (self, other) {
             (Comparable::Whole(left), Comparable::Whole(right)) => left < right,
-            (Comparable::Text(left), Comparable::Text(right)) => is_below(left, right),
+            (Comparable::Text(left), Comparable::Text(right)) => precedes(left, right),
             _ => false,
         }
     }
 }
 
-/// Whether a text is below another in the order of scalar values, which is that of the bytes.
-fn is_below(left: &str, right: &str) -> bool
-    ensures { result ≡ is_below (chars left.now) (chars right.now) }
+/// Whether a text precedes another in the order of scalar values, which is that of the bytes.
+fn precedes(left: &str, right: &str) -> bool
+    ensures { result ≡ precedes (chars left.now) (chars right.now) }
 {
     left < right
 }

@@ -3,8 +3,8 @@ ghost use Rattle.std.specs.Prelude.{◌≡◌, [], ◌++◌, map, IfOk, IfNone, 
 ghost use Rattle.jp_document.specs.ChildNodes.{AreNodes, standing};
 ghost use Rattle.jp_document.specs.Node.{told, StandsIn};
 ghost use Rattle.jp_document.specs.Value.{Value};
-ghost use Rattle.jp_select.specs.Below.{below};
-ghost use Rattle.jp_select.specs.Walk.{places_in, places_from, given_by, rest_of, Gives};
+ghost use Rattle.jp_select.specs.Subtree.{subtree};
+ghost use Rattle.jp_select.specs.Walk.{places_in, places_from, given_by, rest_of, Yields};
 
 use jp_document::{Node, child_count, nth_child};
 use std::alloc::{AllocError, Global};
@@ -13,7 +13,7 @@ use std::alloc::{AllocError, Global};
 /// order of their parent's children (RFC 9535 section 2.5.2.2).
 pub fn descend<'d>(alloc: Global, node: Node<'d>) -> Result<Vec<Node<'d>>, AllocError>
     ensures { (d : Value) → StandsIn d node.entry
-        → IfOk result (λ nodes. AreNodes d nodes.items (below d node.entry.location)) }
+        → IfOk result (λ nodes. AreNodes d nodes.items (subtree d node.entry.location)) }
 {
     let mut nodes = Vec::new(alloc);
     let mut descent = descend_each(alloc, node);
@@ -28,7 +28,7 @@ pub fn descend<'d>(alloc: Global, node: Node<'d>) -> Result<Vec<Node<'d>>, Alloc
 pub fn descend_each<'d>(alloc: Global, node: Node<'d>) -> Descent<'d>
     ensures values { rest_of result ≡ places_in (told node.entry) }
     ensures nodes { (d : Value) → StandsIn d node.entry
-        → rest_of result ≡ map (standing d) (below d node.entry.location) }
+        → rest_of result ≡ map (standing d) (subtree d node.entry.location) }
 {
     Descent {
         alloc,
@@ -56,7 +56,7 @@ pub struct Descent<'d> {
 impl<'d> Descent<'d> {
     /// The next node, None at the end. After an error nothing is said of what is left.
     pub fn advance(&mut self) -> Result<Option<Node<'d>>, AllocError>
-        ensures gives { IfOk result (λ o. Gives (rest_of self.old) o (rest_of self.new)) }
+        ensures gives { IfOk result (λ o. Yields (rest_of self.old) o (rest_of self.new)) }
         ensures end { IfOk result (λ o. IfNone o (rest_of self.new ≡ [])) }
     {
         if let Some(node) = self.first.take() {

@@ -1,10 +1,10 @@
 //! What is true of the definitions that the calls cite: functions without a body, each for one law.
-ghost use Rattle.jp_select.specs.Laws.{BelowRises, EqualsIsExact, SlicesAreExact};
+ghost use Rattle.jp_select.specs.Laws.{SubtreeRises, EqualsIsExact, SlicesAreExact};
 
 /// A node and its descendants are exactly the nodes whose locations begin with its own, in document order
 /// (RFC 9535 section 2.5.2.2).
-pub fn below_rises()
-    ensures { BelowRises }
+pub fn subtree_rises()
+    ensures { SubtreeRises }
 {}
 
 /// A slice selects exactly the indexes that its step leads to within its bounds, in the direction of the

@@ -4,7 +4,7 @@ use Rattle.std.specs.Int.{w128}
 use Rattle.std.proofs.lemmas.Int.{ints, to_z-of_z}
 use Rattle.std.proofs.lemmas.List.{append-nil}
 use Rattle.jp_select.specs.Slice.{held_within, indexes, normalized, falling_lower, falling_upper}
-use Rattle.jp_select.proofs.Slices.{is_below, falling-next, falling-end, falling-starts}
+use Rattle.jp_select.proofs.Slices.{falls_between, falling-next, falling-end, falling-starts}
 use Rattle.jp_select.proofs.slice.falling.Goals as goal
 
 pub loop-above-preserved : goal.loop-above-preserved
@@ -13,7 +13,7 @@ loop-above-preserved c =
     let above = c.loop-above.above in
     let lower = c.one_higher-lower.result in
     let next = c.saturating_sub-above.result in
-    let from = λ (a : ℕ). reverse (filter (is_below lower a c.args.size) (indexes c.args.length)) in
+    let from = λ (a : ℕ). reverse (filter (falls_between lower a c.args.size) (indexes c.args.length)) in
     record {
       within = omega (arith, c.saturating_sub-above.ensures, c.loop-above.invariant.within);
       all =
@@ -36,7 +36,7 @@ loop-above-init c =
     record {
       within = c.one_higher-above.ensures.within;
       all =
-          ap (λ t. t ++ reverse (filter (is_below c.one_higher-lower.result c.one_higher-above.result c.args.size) (indexes n))) c.new-indexes.ensures.items
+          ap (λ t. t ++ reverse (filter (falls_between c.one_higher-lower.result c.one_higher-above.result c.args.size) (indexes n))) c.new-indexes.ensures.items
           ∙ falling-starts n c.args.start c.args.end c.args.size c.one_higher-lower.result c.one_higher-above.result c.requires.positive lower above;
     }
 

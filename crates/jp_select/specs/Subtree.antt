@@ -31,11 +31,11 @@ abbrev pub beyond : Location → Location × Value → Location
 beyond l e = l ++ e.0
 
 -- the locations of the node of d at l and of its descendants, in document order
-abbrev pub below : Value → Location → List Location
-below d l = option_map_or (λ v. map (beyond l) (nodes_in v)) (value_at d l) []
+abbrev pub subtree : Value → Location → List Location
+subtree d l = option_map_or (λ v. map (beyond l) (nodes_in v)) (value_at d l) []
 
 -- m is the location of a node of d, and begins with l
-pub record IsBelow (d : Value) (l m : Location) : Type 0 where
+pub record IsInSubtree (d : Value) (l m : Location) : Type 0 where
   pub there : IsSome (value_at d m)
   pub rest : Location
   pub begins : m ≡ l ++ rest
