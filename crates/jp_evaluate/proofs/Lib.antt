@@ -14,3 +14,4 @@ pub mod Children
 pub mod Starts
 pub mod Selections
 pub mod Kept
+pub mod NodelistNodes

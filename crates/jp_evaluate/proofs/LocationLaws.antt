@@ -8,6 +8,7 @@ use Rattle.std.proofs.lemmas.Option.{slice_get_past}
 use Rattle.jp_document.proofs.ChildValues.{IsDocumentValue-child, value_at-step}
 use Rattle.jp_document.proofs.Items.{child-nth}
 use Rattle.jp_document.proofs.Names.{and-left, child-object_nth}
+use Rattle.jp_document.proofs.TextNames.{IsUtf8-child_named}
 use Rattle.jp_document.specs.Location.{Key, Location, child, named, nth, value_at}
 use Rattle.jp_document.specs.Value.{IsDocumentValue, Items, Value, boolean, item, item_count, items_of, list, no_items, null, object, text, whole}
 use Rattle.jp_query.specs.Items.{segments_items}
@@ -19,9 +20,9 @@ use Rattle.jp_query.specs.declared.refusal.RefusalKind.{RefusalKind}
 use Rattle.jp_query.specs.declared.refusal.RefusalKind.TheVariants as kind
 use Rattle.jp_query.specs.declared.tree.Numeral.{Numeral}
 use Rattle.jp_query.specs.declared.tree.Numeral.TheVariants.{Whole}
-use Rattle.jp_evaluate.specs.Laws.{HasTextNames, PathSelectsItsNode}
+use Rattle.jp_evaluate.specs.Laws.{PathSelectsItsNode}
 use Rattle.jp_evaluate.proofs.PathBytes.{path-is_query}
-use Rattle.jp_evaluate.proofs.PathTrees.{IndexesFit, path_tree, step_segment}
+use Rattle.jp_evaluate.proofs.PathTrees.{HasTextNames, IndexesFit, path_tree, step_segment}
 use Rattle.jp_evaluate.specs.Nodelist.{result, segment_result}
 use Rattle.jp_select.specs.Selectors.{one_step}
 use Rattle.std.proofs.lemmas.Str.{encodes-chars}
@@ -141,9 +142,19 @@ steps_fit v w (nth i ∷ m) document end =
     let fits = index_fits v u.0 i document u.1 in
     (omega arith, steps_fit u.0 w m (IsDocumentValue-child v u.0 (nth i) document u.1) u.2)
 
+names_are_texts : (v w : Value) (m : Location) → IsDocumentValue v → value_at v m ≡ Some w → HasTextNames m
+names_are_texts v w [] document end = tt
+names_are_texts v w (named s ∷ m) document end =
+    let u = inside (child v (named s)) w m end in
+    (IsUtf8-child_named v u.0 s document u.1, names_are_texts u.0 w m (IsDocumentValue-child v u.0 (named s) document u.1) u.2)
+names_are_texts v w (nth i ∷ m) document end =
+    let u = inside (child v (nth i)) w m end in
+    names_are_texts u.0 w m (IsDocumentValue-child v u.0 (nth i) document u.1) u.2
+
 pub path_selects_its_node : PathSelectsItsNode
-path_selects_its_node d l document there texts =
+path_selects_its_node d l document there =
     let w = some_value (value_at d l) there in
+    let texts = names_are_texts d w.0 l document w.1 in
     let spelled = path-is_query 64 l texts (steps_fit d w.0 l document w.1) in (
       path_tree l,
       record { spans = spelled.0; spelled = spelled.1; faultless = steps_faultless d w.0 l document w.1 },

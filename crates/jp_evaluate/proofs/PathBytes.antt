@@ -15,8 +15,7 @@ use Rattle.std.proofs.lemmas.Int.Digits.{all_below_base_digits_of}
 use Rattle.jp_document.specs.Location.{Key, Location, named, nth}
 use Rattle.jp_document.specs.Path.{index_text, path_of, step_text}
 use Rattle.jp_query.specs.Grammar.{Spells}
-use Rattle.jp_evaluate.specs.Laws.{HasTextNames}
-use Rattle.jp_evaluate.proofs.PathTrees.{IndexesFit, path_tree}
+use Rattle.jp_evaluate.proofs.PathTrees.{HasTextNames, IndexesFit, path_tree}
 use Rattle.jp_reading.specs.Texts.{Spans, Text}
 use Rattle.jp_evaluate.proofs.SpelledNames.{Spelled, bare, lettered, numbered, spelled}
 use Rattle.jp_evaluate.proofs.PathSpells.{key_chars, path-spells}

@@ -1,5 +1,5 @@
 -- A location as a query with one child segment for each step.
-use Rattle.std.proofs.Common.{◌<◌, ◌^◌, pos, true, false, [], ◌∷◌, map}
+use Rattle.std.proofs.Common.{◌<◌, ◌^◌, IsUtf8, pos, true, false, [], ◌∷◌, map}
 use Rattle.std.specs.Str.{chars}
 use Rattle.jp_document.specs.Location.{Key, Location, named, nth}
 use Rattle.jp_query.specs.Tree.{QueryTree, SegmentTree, index, name, query, segment, segments, selectors}
@@ -21,3 +21,9 @@ IndexFits (nth i) = i < 2 ^ 64
 abbrev pub IndexesFit : Location → Type 0
 IndexesFit [] = Unit {0}
 IndexesFit (k ∷ l) = IndexFits k × IndexesFit l
+
+-- the names in a location are texts
+abbrev pub HasTextNames : Location → Type 0
+HasTextNames [] = Unit {0}
+HasTextNames (named s ∷ l) = IsUtf8 s × HasTextNames l
+HasTextNames (nth i ∷ l) = HasTextNames l

@@ -1,9 +1,19 @@
 //! Laws over the definitions.
 
-ghost use Rattle.jp_evaluate.specs.Laws.{PathSelectsItsNode};
+ghost use Rattle.jp_evaluate.specs.Laws.{PathSelectsItsNode, SelectsNodesAlone, SingularSelectsOne};
 
-/// The normalized path of a node, read as a query, is accepted and selects that node alone (RFC 9535
-/// section 2.7).
+/// The normalized path of a node of a document, read as a query, is accepted and selects that node alone
+/// (RFC 9535 section 2.7).
 pub fn path_selects_its_node()
     ensures { PathSelectsItsNode }
+{}
+
+/// Each location of a nodelist is that of a node of the document (section 2.1.2).
+pub fn selects_nodes_alone()
+    ensures { SelectsNodesAlone }
+{}
+
+/// A singular query selects at most one node, whatever the document (section 2.3.5.1).
+pub fn singular_selects_one()
+    ensures { SingularSelectsOne }
 {}
