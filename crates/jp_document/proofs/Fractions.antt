@@ -16,7 +16,7 @@ use Rattle.jp_document.specs.Value.{Value, list, object, Items, item, Members, m
 
 -- ---- a reading with a value has no such number
 
-from_map : {A B : Type 0} (f : A → B) (o : Option A) (b : B) → option_map f o ≡ Some b → (a : A) × (o ≡ Some a)
+pub from_map : {A B : Type 0} (f : A → B) (o : Option A) (b : B) → option_map f o ≡ Some b → (a : A) × (o ≡ Some a)
 from_map f None b is = cc
 from_map f (Some a) b is = (a, refl)
 
@@ -155,7 +155,7 @@ IsFirstFraction-held d l other first = record {
 }
 
 -- a number that is no whole one
-IsFirstFraction-number : (x : Float) → IsFirstFraction (parsed.number (float x)) []
+pub IsFirstFraction-number : (x : Float) → IsFirstFraction (parsed.number (float x)) []
 IsFirstFraction-number x = record { there = (x, refl); least = λ m has. not_below m }
 
 -- a number that is held neither as u64 nor as i64

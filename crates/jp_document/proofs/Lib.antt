@@ -1,5 +1,6 @@
 pub mod ChildLaws
 pub mod ChildValues
+pub mod Defects
 pub mod DirectAhead
 pub mod DirectTurns
 pub mod Encoded
@@ -13,6 +14,7 @@ pub mod LargeIndexes
 pub mod NameComplete
 pub mod NameSound
 pub mod Names
+pub mod ParsedTexts
 pub mod PathComplete
 pub mod PathMoves
 pub mod PathRead
@@ -20,11 +22,15 @@ pub mod PathSound
 pub mod Paths
 pub mod PathsDiffer
 pub mod Places
+pub mod ReadData
+pub mod ReadValues
 pub mod Rows
 pub mod Spelled
 pub mod Spellings
 pub mod Stops
+pub mod StringContents
 pub mod TextNames
 pub mod Texts
+pub mod TokenTexts
 pub mod Values
 pub mod Wholes

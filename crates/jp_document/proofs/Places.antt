@@ -81,7 +81,7 @@ by_order t Less a b c p q r = p
 by_order t Equal a b c p q r = q
 by_order t Greater a b c p q r = r
 
-all_insert : (t : Value → Bool) (ms : List Pair) (k : List ℕ) (v : Value) → list_all (λ m. t m.1) ms ≡ true → t v ≡ true → list_all (λ m. t m.1) (insert_entry bytes_cmp ms k v) ≡ true
+pub all_insert : {V : Type 0} (t : V → Bool) (ms : List (List ℕ × V)) (k : List ℕ) (v : V) → list_all (λ m. t m.1) ms ≡ true → t v ≡ true → list_all (λ m. t m.1) (insert_entry bytes_cmp ms k v) ≡ true
 all_insert t [] k v h p = both _ _ p refl
 all_insert t (m ∷ ms) k v h p =
     by_order (list_all (λ m. t m.1)) (bytes_cmp k m.0) ((k, v) ∷ m ∷ ms) ((m.0, v) ∷ ms) (m ∷ insert_entry bytes_cmp ms k v) (both _ _ p h) (both _ _ p (and-right _ _ h)) (both _ _ (and-left _ _ h) (all_insert t ms k v (and-right _ _ h) p))
@@ -94,18 +94,18 @@ above_all : (k n : List ℕ) (ns : List (List ℕ)) → bytes_cmp k n ≡ Less �
 above_all k n [] first h = refl
 above_all k n (m ∷ ns) first h = both _ _ (ap is_lt (nat_list_cmp_total.trans k n m first (is_less _ (and-left _ _ h)))) (above_all k n ns first (and-right _ _ h))
 
-keys_by : (t : List ℕ → Bool) (ms : List Pair) (k : List ℕ) (v : Value) → list_all t (keys_of ms) ≡ true → t k ≡ true → list_all t (keys_of (insert_entry bytes_cmp ms k v)) ≡ true
+pub keys_by : {V : Type 0} (t : List ℕ → Bool) (ms : List (List ℕ × V)) (k : List ℕ) (v : V) → list_all t (keys_of ms) ≡ true → t k ≡ true → list_all t (keys_of (insert_entry bytes_cmp ms k v)) ≡ true
 keys_by t [] k v h p = both _ _ p refl
 keys_by t (m ∷ ms) k v h p =
     by_order (λ ns. list_all t (keys_of ns)) (bytes_cmp k m.0) ((k, v) ∷ m ∷ ms) ((m.0, v) ∷ ms) (m ∷ insert_entry bytes_cmp ms k v) (both _ _ p h) h (both _ _ (and-left _ _ h) (keys_by t ms k v (and-right _ _ h) p))
 
-rise_by : (k : List ℕ) (v : Value) (m : Pair) (ms more : List Pair) (o : Ordering) → bytes_cmp k m.0 ≡ o → names_rise (keys_of (m ∷ ms)) ≡ true → (bytes_cmp k m.0 ≡ Greater → names_rise (keys_of (m ∷ more)) ≡ true)
+rise_by : {V : Type 0} (k : List ℕ) (v : V) (m : List ℕ × V) (ms more : List (List ℕ × V)) (o : Ordering) → bytes_cmp k m.0 ≡ o → names_rise (keys_of (m ∷ ms)) ≡ true → (bytes_cmp k m.0 ≡ Greater → names_rise (keys_of (m ∷ more)) ≡ true)
     → names_rise (keys_of (match_ordering o ((k, v) ∷ m ∷ ms) ((m.0, v) ∷ ms) (m ∷ more))) ≡ true
 rise_by k v m ms more Less is rise later = both _ _ (both _ _ (ap is_lt is) (above_all k m.0 (keys_of ms) is (and-left _ _ rise))) rise
 rise_by k v m ms more Equal is rise later = rise
 rise_by k v m ms more Greater is rise later = later is
 
-keys_rise : (ms : List Pair) (k : List ℕ) (v : Value) → names_rise (keys_of ms) ≡ true → names_rise (keys_of (insert_entry bytes_cmp ms k v)) ≡ true
+pub keys_rise : {V : Type 0} (ms : List (List ℕ × V)) (k : List ℕ) (v : V) → names_rise (keys_of ms) ≡ true → names_rise (keys_of (insert_entry bytes_cmp ms k v)) ≡ true
 keys_rise [] k v rise = refl
 keys_rise (m ∷ ms) k v rise =
     rise_by k v m ms (insert_entry bytes_cmp ms k v) (bytes_cmp k m.0) refl rise
@@ -141,7 +141,7 @@ abbrev pub put_entry : Entry → List Entry → List Entry
 put_entry x [] = x ∷ []
 put_entry x (e ∷ es) = match_ordering (bytes_cmp x.name e.name) (x ∷ e ∷ es) (renamed e.name x ∷ es) (e ∷ put_entry x es)
 
-through : {X Y : Type 0} (f : X → Y) (o : Ordering) (a b c : X) → f (match_ordering o a b c) ≡ match_ordering o (f a) (f b) (f c)
+pub through : {X Y : Type 0} (f : X → Y) (o : Ordering) (a b c : X) → f (match_ordering o a b c) ≡ match_ordering o (f a) (f b) (f c)
 through f Less a b c = refl
 through f Equal a b c = refl
 through f Greater a b c = refl

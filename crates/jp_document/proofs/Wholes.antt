@@ -25,7 +25,7 @@ use Rattle.jp_document.proofs.Names.{bytes_cmp, and-left, and-right}
 
 -- ---- what stands later is above
 
-above_by : (q k n : Key) (d e : Data) (rest : Option Data) (o : Ordering) → key_cmp q n ≡ o → cond (is_eq o) (Some d) rest ≡ Some e → key_cmp n k ≡ Greater → (rest ≡ Some e → key_cmp q k ≡ Greater) → key_cmp q k ≡ Greater
+pub above_by : (q k n : Key) (d e : Data) (rest : Option Data) (o : Ordering) → key_cmp q n ≡ o → cond (is_eq o) (Some d) rest ≡ Some e → key_cmp n k ≡ Greater → (rest ≡ Some e → key_cmp q k ≡ Greater) → key_cmp q k ≡ Greater
 above_by q k n d e rest Less at is here later = later is
 above_by q k n d e rest Equal at is here later = ap (λ j. key_cmp j k) (key_exact q n at) ∙ here
 above_by q k n d e rest Greater at is here later = later is
@@ -158,7 +158,7 @@ members_sound ms sound fits = all-members is_allowed ms ∙ sound (sym (all-memb
 
 -- ---- the names of the members
 
-both_is : {A B C : Type 0} (f : A → B → C) (o : Option A) (p : Option B) (c : C) (a : A) (b : B) → option_and_then (λ a. option_map (f a) p) o ≡ Some c → o ≡ Some a → p ≡ Some b → c ≡ f a b
+pub both_is : {A B C : Type 0} (f : A → B → C) (o : Option A) (p : Option B) (c : C) (a : A) (b : B) → option_and_then (λ a. option_map (f a) p) o ≡ Some c → o ≡ Some a → p ≡ Some b → c ≡ f a b
 both_is f o p c a b is here later = same_Some _ _ (sym is ∙ ap (option_and_then (λ a. option_map (f a) p)) here ∙ ap (option_map (f a)) later)
 
 names_of_data : (es : List Entry) (ws : Members) → members_of_data (members_view es) ≡ Some ws → names_of ws ≡ map string_bytes (keys_of es)

@@ -1,5 +1,6 @@
 -- Laws about the definitions.
-use Rattle.std.specs.Prelude.{◌≡◌, ◌↔◌}
+use Rattle.std.specs.Prelude.{◌≡◌, ◌↔◌, ◌⊎◌, ℕ, List}
+use Rattle.jp_document.specs.Document.{Defect, HasDefect, IsDocument}
 use Rattle.jp_document.specs.Location.{Location}
 use Rattle.jp_document.specs.Node.{Located, told, StandsIn}
 use Rattle.jp_document.specs.Path.{path_of}
@@ -12,3 +13,14 @@ PathsDiffer = (l m : Location) → (path_of l ≡ path_of m) ↔ (l ≡ m)
 -- two nodes of a document have one path exactly if they are the same node
 abbrev pub NodesDiffer : Type 0
 NodesDiffer = (d : Value) (n m : Located) → StandsIn d n → StandsIn d m → (path_of n.location ≡ path_of m.location) ↔ (told n ≡ told m)
+
+-- bytes are a document, and the document of one value, or have a defect, and one alone; and not both
+pub record IsDocumentOrDefect (bytes : List ℕ) : Type 0 where
+  pub answered : ((v : Value) × IsDocument bytes v) ⊎ ((x : Defect) × HasDefect bytes x)
+  pub one_value : (v w : Value) → IsDocument bytes v → IsDocument bytes w → v ≡ w
+  pub one_defect : (x y : Defect) → HasDefect bytes x → HasDefect bytes y → x ≡ y
+  pub not_both : (v : Value) (x : Defect) → IsDocument bytes v → HasDefect bytes x → ⊥
+
+-- whatever the bytes
+abbrev pub DocumentOrDefect : Type 0
+DocumentOrDefect = (bytes : List ℕ) → IsDocumentOrDefect bytes

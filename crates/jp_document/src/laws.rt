@@ -1,6 +1,6 @@
 //! Laws about the definitions, each the contract of a function that does nothing.
 ghost use Rattle.jp_document.specs.ChildNodes.{ChildrenAreExact};
-ghost use Rattle.jp_document.specs.Laws.{PathsDiffer, NodesDiffer};
+ghost use Rattle.jp_document.specs.Laws.{DocumentOrDefect, PathsDiffer, NodesDiffer};
 
 /// The children of a node are exactly the nodes one step longer, rising in document order (RFC 9535
 /// section 1.1).
@@ -13,4 +13,9 @@ pub fn children_are_exact()
 pub fn paths_differ()
     ensures locations { PathsDiffer }
     ensures nodes { NodesDiffer }
+{}
+
+/// Bytes are a document, and the document of one value, or have a defect, and one alone; and not both.
+pub fn document_or_defect()
+    ensures { DocumentOrDefect }
 {}
