@@ -6,24 +6,24 @@ use Rattle.jp_query.specs.declared.tree.Numeral.TheVariants.{Whole, Beyond, Frac
 use Rattle.jp_query.specs.declared.tree.Op.TheVariants.{Equal}
 use Rattle.jp_query.specs.Tree.{SelectorTree, name, wildcard, index, filter, segment, QueryTree, query, ExprTree, all_of, comparison, literal, node_value, number, selectors, segments, exprs}
 use Rattle.jp_check.specs.Faults.{HasFault}
-use Rattle.jp_check.specs.First.{IsFaultOf, IsNoLater, IsFirstFault}
-use Rattle.jp_check.specs.Ranges.{is_in_range}
+use Rattle.jp_check.specs.First.{IsItemFault, IsNoLater, IsFirstFault}
+use Rattle.jp_check.specs.Ranges.{is_in_index_range}
 use Rattle.jp_check.proofs.Least.{found}
 
 -- ---- the range of indexes
 
-row-greatest : is_in_range (Whole (pos 9007199254740991)) ≡ true
+row-greatest : is_in_index_range (Whole (pos 9007199254740991)) ≡ true
 row-greatest = refl
 
-row-above : is_in_range (Whole (pos 9007199254740992)) ≡ false
+row-above : is_in_index_range (Whole (pos 9007199254740992)) ≡ false
 row-above = refl
 
 -- -9007199254740991
-row-least : is_in_range (Whole (negsuc 9007199254740990)) ≡ true
+row-least : is_in_index_range (Whole (negsuc 9007199254740990)) ≡ true
 row-least = refl
 
 -- -9007199254740992
-row-below : is_in_range (Whole (negsuc 9007199254740991)) ≡ false
+row-below : is_in_index_range (Whole (negsuc 9007199254740991)) ≡ false
 row-below = refl
 
 row-beyond : HasFault (int Beyond as_index) IndexRange
@@ -46,7 +46,7 @@ row-later (inr h) = absurd (omega (arith, h.0))
 
 -- ---- `$[0][9007199254740992]`: its one fault stands at 5
 
-row-fault : IsFaultOf (int (Whole (pos 0)) as_index ∷ int (Whole (pos 9007199254740992)) as_index ∷ [])
+row-fault : IsItemFault (int (Whole (pos 0)) as_index ∷ int (Whole (pos 9007199254740992)) as_index ∷ [])
     (Some (record { start = 2; end = 3 }) ∷ Some (record { start = 5; end = 21 }) ∷ []) (record { kind = IndexRange; place = 5 })
 row-fault = record {
   item = int (Whole (pos 9007199254740992)) as_index;
