@@ -20,7 +20,7 @@ use Rattle.jp_check.specs.Laws.{OneAnswer}
 use Rattle.jp_check.specs.Refused.{IsFaulty, RefusalSays, IsRefused, IsRefusedForItself}
 use Rattle.jp_check.proofs.Least.{NoFault, of-cons, of-item, of-none, found}
 use Rattle.jp_check.specs.Walk.{steps}
-use Rattle.jp_query.proofs.Spanned.{each-spanned}
+use Rattle.jp_query.proofs.ItemSpans.{spans-of_items}
 
 -- ---- kinds have numbers of their own
 
@@ -183,7 +183,7 @@ spelled-answered : (text : Text) (q : QueryTree) (spans : Spans) → Spells leve
     → ((u : QueryTree) × IsAcceptedAs text u) ⊎ ((r : Refusal) × IsRefusedForItself text r)
 spelled-answered text q spans h =
     let first = (steps (items_of q) (record { spans = spans; first = None })).first in
-    told first (found (items_of q) spans first (each-spanned level_limit q spans text h) refl)
+    told first (found text (items_of q) spans first (spans-of_items level_limit q spans text h).each refl)
   where
     told : (o : Option Refusal) → MatchOption o (All NoFault (items_of q)) (IsFirstFault (items_of q) spans)
         → ((u : QueryTree) × IsAcceptedAs text u) ⊎ ((r : Refusal) × IsRefusedForItself text r)

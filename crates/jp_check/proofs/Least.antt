@@ -2,17 +2,16 @@
 use Rattle.std.proofs.Common.{◌≡◌, pos, ◌⊎◌, inl, inr, Bool, true, false, cond, List, [], ◌∷◌, Option, Some, None, MatchOption, length, refl, sym, ap, subst, arith}
 use Rattle.std.specs.List.{All, zip}
 use Rattle.std.proofs.lemmas.List.Elements.{All-cons, All-nil, Contains-append_left, Contains-append_right, Contains-append_cases, Contains-push, Contains-push_cases}
-use Rattle.jp_reading.specs.Texts.{Spans}
+use Rattle.jp_reading.specs.Texts.{Text, Spans}
 use Rattle.jp_reading.specs.declared.span.Span.{Span}
 use Rattle.jp_query.specs.declared.refusal.Refusal.{Refusal}
 use Rattle.jp_query.specs.declared.refusal.RefusalKind.{RefusalKind}
-use Rattle.jp_query.specs.declared.tree.Numeral.{Numeral}
 use Rattle.jp_query.specs.declared.tree.Numeral.TheVariants.{Whole}
-use Rattle.jp_query.specs.Items.{QueryItem, as_index, as_slice_part, as_side, as_test, int, constant, inner, EachSpanned}
+use Rattle.jp_query.specs.Items.{QueryItem, as_step, int}
+use Rattle.jp_query.specs.ItemSpans.{EachSpanned}
 use Rattle.jp_check.specs.Faults.{HasFault}
 use Rattle.jp_check.specs.First.{IsItemFault, IsNoLater, IsFirstFault}
 use Rattle.jp_check.specs.Walk.{Progress, fault_of, is_before, earlier, past_item, steps}
-use Rattle.jp_check.specs.Ranges.{is_in_index_range}
 use Rattle.std.proofs.lemmas.Bool.Decides.{nat_tests}
 use Rattle.jp_check.proofs.OwnFault.{IsOwn, int-fault, own-fault}
 
@@ -179,35 +178,37 @@ steps-least P (x ∷ xs) (span ∷ spans) first h =
 abbrev pub NoFault : QueryItem → Type 0
 NoFault item = (kind : RefusalKind) → HasFault item kind → ⊥
 
--- an omitted step, which is 1, is in range
-one_in_range : (n : Numeral) → n ≡ Whole (pos 1) → is_in_index_range n ≡ false → ⊥
-one_in_range n e h = let one : is_in_index_range n ≡ true = ap is_in_index_range e in cc (one)
+-- an omitted step, which is 1, has none
+omitted_faultless : (x : QueryItem) → x ≡ int (Whole (pos 1)) as_step → NoFault x
+omitted_faultless x e kind h =
+    let is = int-fault (Whole (pos 1)) as_step kind (subst (λ y. HasFault y kind) e h) in
+    cc (is.1)
 
 -- no item of a query has a fault where none of those with a span has
-faultless : (items : List QueryItem) (spans : Spans) → EachSpanned items spans → ((f : Refusal) → IsItemFault items spans f → ⊥)
+faultless : (text : Text) (items : List QueryItem) (spans : Spans) → EachSpanned text items spans → ((f : Refusal) → IsItemFault items spans f → ⊥)
     → All NoFault items
-faultless [] spans each none = All-nil _
-faultless (x ∷ xs) [] each none = absurd each
-faultless (int n as_index ∷ xs) (None ∷ spans) each none = absurd each
-faultless (int n as_slice_part ∷ xs) (None ∷ spans) each none =
-    All-cons NoFault (int n as_slice_part) xs (λ kind h. let is = int-fault n as_slice_part kind h in one_in_range n each.0 is.1)
-    (faultless xs spans each.1 (λ f h. none f (of-tail (int n as_slice_part) xs None spans f h)))
-faultless (int n as_side ∷ xs) (None ∷ spans) each none = absurd each
-faultless (int n as_test ∷ xs) (None ∷ spans) each none = absurd each
-faultless (constant l role ∷ xs) (None ∷ spans) each none = absurd each
-faultless (inner q role ∷ xs) (None ∷ spans) each none = absurd each
-faultless (x ∷ xs) (Some span ∷ spans) each none =
+faultless text [] spans each none = All-nil _
+faultless text (x ∷ xs) [] each none = absurd each
+faultless text (x ∷ xs) (None ∷ spans) each none =
+    All-cons NoFault x xs (omitted_faultless x each.0) (faultless text xs spans each.1 (λ f h. none f (of-tail x xs None spans f h)))
+faultless text (x ∷ xs) (Some span ∷ spans) each none =
     All-cons NoFault x xs
     (λ kind h. none (record { kind = kind; place = span.start }) (record { item = x; span = span; among = Contains-append_left ((x, Some span) ∷ []) (zip xs spans) (x, Some span) (Contains-push [] (x, Some span)); kind = h; place = refl }))
-    (faultless xs spans each (λ f h. none f (of-tail x xs (Some span) spans f h)))
+    (faultless text xs spans each.1 (λ f h. none f (of-tail x xs (Some span) spans f h)))
 
 -- what the walk finds from the start
-pub found : (items : List QueryItem) (spans : Spans) (o : Option Refusal) → EachSpanned items spans
+least-found : (items : List QueryItem) (spans : Spans) (o : Option Refusal) → o ≡ (steps items (record { spans = spans; first = None })).first
+    → IsLeast (λ f. ⊥ ⊎ IsItemFault items spans f) o
+least-found items spans o e = rw e (steps-least (λ f. ⊥) items spans None (λ f h. h))
+
+pub found-fault : (items : List QueryItem) (spans : Spans) (r : Refusal) → Some r ≡ (steps items (record { spans = spans; first = None })).first
+    → IsFirstFault items spans r
+found-fault items spans r e =
+    let h = least-found items spans (Some r) e in
+    record { is = elim h.0 as (λ _. IsItemFault items spans r) [ inl p ↦ absurd p | inr q ↦ q ]; first = λ f q. h.1 f (inr q) }
+
+pub found : (text : Text) (items : List QueryItem) (spans : Spans) (o : Option Refusal) → EachSpanned text items spans
     → o ≡ (steps items (record { spans = spans; first = None })).first
     → MatchOption o (All NoFault items) (IsFirstFault items spans)
-found items spans o each e = told o (rw e (steps-least (λ f. ⊥) items spans None (λ f h. h)))
-  where
-    told : (o : Option Refusal) → IsLeast (λ f. ⊥ ⊎ IsItemFault items spans f) o
-        → MatchOption o (All NoFault items) (IsFirstFault items spans)
-    told None h = faultless items spans each (λ f q. h f (inr q))
-    told (Some r) h = record { is = elim h.0 as (λ _. IsItemFault items spans r) [ inl p ↦ absurd p | inr q ↦ q ]; first = λ f q. h.1 f (inr q) }
+found text items spans None each e = let h = least-found items spans None e in faultless text items spans each (λ f q. h f (inr q))
+found text items spans (Some r) each e = found-fault items spans r e

@@ -4,7 +4,7 @@ use Rattle.jp_query.specs.declared.refusal.RefusalKind.{RefusalKind}
 use Rattle.jp_query.specs.declared.refusal.RefusalKind.TheVariants.{NotWhole, NumberRange, IndexRange, NotSingular}
 use Rattle.jp_query.specs.declared.tree.Numeral.{Numeral}
 use Rattle.jp_query.specs.declared.tree.Numeral.TheVariants.{Whole, Beyond, Fraction}
-use Rattle.jp_query.specs.Items.{QueryItem, Use, as_index, as_slice_part, as_side, as_test, int, constant, inner}
+use Rattle.jp_query.specs.Items.{QueryItem, Use, as_index, as_bound, as_step, as_side, as_test, int, constant, inner}
 use Rattle.jp_query.specs.Refusal.{number_of}
 use Rattle.jp_query.specs.Singular.{is_singular}
 use Rattle.jp_query.specs.Tree.{QueryTree, LiteralTree, number, text, true_literal, false_literal, null_literal}
@@ -67,5 +67,6 @@ own-fault (int n role) = own-int n role (is_in_index_range n) refl
 own-fault (constant l role) = own-literal l role
 own-fault (inner q as_side) = own-side q (is_singular q) refl
 own-fault (inner q as_index) = λ kind h. h
-own-fault (inner q as_slice_part) = λ kind h. h
+own-fault (inner q as_bound) = λ kind h. h
+own-fault (inner q as_step) = λ kind h. h
 own-fault (inner q as_test) = λ kind h. h

@@ -8,7 +8,7 @@ use Rattle.jp_query.specs.Tree.{SelectorTree, name, wildcard, index, filter, seg
 use Rattle.jp_check.specs.Faults.{HasFault}
 use Rattle.jp_check.specs.First.{IsItemFault, IsNoLater, IsFirstFault}
 use Rattle.jp_check.specs.Ranges.{is_in_index_range}
-use Rattle.jp_check.proofs.Least.{found}
+use Rattle.jp_check.proofs.Least.{found-fault}
 
 -- ---- the range of indexes
 
@@ -117,7 +117,7 @@ filtered e = query true (segments (segment false (selectors (filter e ∷ [])) �
 row-query-first : IsFirstFault (items_of (filtered (comparison (node_value (at_current (wildcard ∷ []))) Equal (literal (number Fraction)))))
     (Some (record { start = 3; end = 6 }) ∷ Some (record { start = 8; end = 11 }) ∷ []) (record { kind = NotSingular; place = 3 })
 unfolding at_current filtered
-row-query-first = found _ _ (Some (record { kind = NotSingular; place = 3 })) tt refl
+row-query-first = found-fault _ _ (record { kind = NotSingular; place = 3 }) refl
 
 -- `$[?@.a==1.0&&@.*==2]`: of two faults the literal's stands first, at 8
 row-literal-first : IsFirstFault
@@ -128,4 +128,4 @@ row-literal-first : IsFirstFault
     (Some (record { start = 3; end = 6 }) ∷ Some (record { start = 8; end = 11 }) ∷ Some (record { start = 13; end = 16 }) ∷ Some (record { start = 18; end = 19 }) ∷ [])
     (record { kind = NotWhole; place = 8 })
 unfolding at_current filtered
-row-literal-first = found _ _ (Some (record { kind = NotWhole; place = 8 })) tt refl
+row-literal-first = found-fault _ _ (record { kind = NotWhole; place = 8 }) refl

@@ -1,6 +1,7 @@
 pub mod Grammar
 pub mod HexDigits
 pub mod Ints
+pub mod ItemSpans
 pub mod Items
 pub mod Laws
 pub mod Levels

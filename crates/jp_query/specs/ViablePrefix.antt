@@ -7,14 +7,15 @@ use Rattle.jp_query.specs.Spelled.{SpellsNothing}
 
 -- some text that begins with this one spells a tree
 abbrev pub IsViablePrefix : ℕ → Text → Type 0
-IsViablePrefix n prefix = (more : Text) × (q : QueryTree) × (s : Spans) × Spells n q s (prefix ++ more)
+IsViablePrefix n prefix =
+    (more : Text) × (q : QueryTree) × (s : Spans) × Spells n q s (prefix ++ more)
 
 -- no text that begins with this one spells a tree
 abbrev pub IsNoViablePrefix : ℕ → Text → Type 0
 IsNoViablePrefix n prefix = IsViablePrefix n prefix → ⊥
 
--- that byte is the end of the longest viable prefix of the text: what is before it is viable, and through the character
--- there it is not
+-- that byte is the end of the longest viable prefix of the text: what is before it is viable, and
+-- through the character there it is not
 pub record EndsViablePrefix (n : ℕ) (text : Text) (place : ℕ) : Type 0 where
   pub before : Text
   pub mark : ℕ
@@ -40,6 +41,7 @@ pub record IsUnfinishedAt (n : ℕ) (text : Text) (place : ℕ) : Type 0 where
   pub is_viable : IsViablePrefix n text
   pub nothing : SpellsNothing n text
 
--- the text is no query, and that byte is the place of its refusal: its first character that goes on to no query, or its end
+-- the text is no query, and that byte is the place of its refusal: its first character that goes on
+-- to no query, or its end
 abbrev pub IsSyntaxAt : ℕ → Text → ℕ → Type 0
 IsSyntaxAt n text place = IsUnfinishedAt n text place ⊎ IsUnexpectedAt n text place

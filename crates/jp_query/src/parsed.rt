@@ -3,7 +3,7 @@
 ghost use Rattle.std.specs.Prelude.{◌≡◌, ◌⊎◌, IfOk, IfErr};
 ghost use Rattle.std.specs.Str.{chars};
 ghost use Rattle.jp_query.specs.Tree.{query_of};
-ghost use Rattle.jp_query.specs.Items.{items_of, EachSpanned};
+ghost use Rattle.jp_query.specs.ItemSpans.{IsSpelledWithSpans};
 ghost use Rattle.jp_query.specs.Grammar.{Spells};
 ghost use Rattle.jp_query.specs.Spelled.{IsSpelled, SpellsNothing};
 ghost use Rattle.jp_query.specs.Levels.{level_limit};
@@ -79,7 +79,7 @@ impl Parsed {
     /// Where each item of the query begins and ends in the text, in the items' order.
     pub fn spans(&self) -> &[Option<Span>]
         ensures same { result.now ≡ self.now.spans }
-        ensures each { EachSpanned (items_of (query_of self.now.query)) result.now }
+        ensures each { IsSpelledWithSpans level_limit (query_of self.now.query) result.now }
     {
         &self.spans
     }
