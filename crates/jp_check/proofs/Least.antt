@@ -2,17 +2,16 @@
 use Rattle.std.proofs.Common.{◌≡◌, pos, ◌⊎◌, inl, inr, Bool, true, false, cond, List, [], ◌∷◌, Option, Some, None, MatchOption, length, refl, sym, ap, subst, arith}
 use Rattle.std.specs.List.{All, zip}
 use Rattle.std.proofs.lemmas.List.Elements.{All-cons, All-nil, Contains-append_left, Contains-append_right, Contains-append_cases, Contains-push, Contains-push_cases}
-use Rattle.jp_reading.specs.Texts.{Spans}
+use Rattle.jp_reading.specs.Texts.{Text, Spans}
 use Rattle.jp_reading.specs.declared.span.Span.{Span}
 use Rattle.jp_query.specs.declared.refusal.Refusal.{Refusal}
 use Rattle.jp_query.specs.declared.refusal.RefusalKind.{RefusalKind}
-use Rattle.jp_query.specs.declared.tree.Numeral.{Numeral}
 use Rattle.jp_query.specs.declared.tree.Numeral.TheVariants.{Whole}
-use Rattle.jp_query.specs.Items.{QueryItem, as_index, as_slice_part, as_side, as_test, int, constant, inner, EachSpanned}
+use Rattle.jp_query.specs.Items.{QueryItem, as_step, int}
+use Rattle.jp_query.specs.ItemSpans.{EachSpanned}
 use Rattle.jp_check.specs.Faults.{HasFault}
-use Rattle.jp_check.specs.First.{IsFaultOf, IsNoLater, IsFirstFault}
+use Rattle.jp_check.specs.First.{IsItemFault, IsNoLater, IsFirstFault}
 use Rattle.jp_check.specs.Walk.{Progress, fault_of, is_before, earlier, past_item, steps}
-use Rattle.jp_check.specs.Ranges.{is_in_range}
 use Rattle.std.proofs.lemmas.Bool.Decides.{nat_tests}
 use Rattle.jp_check.proofs.OwnFault.{IsOwn, int-fault, own-fault}
 
@@ -69,7 +68,7 @@ least-alone P Q o none = least-same P (λ f. P f ⊎ Q f) o (λ f p. inl p) (λ 
 
 -- one item with its span
 abbrev pub OfItem : QueryItem → Option Span → Refusal → Type 0
-OfItem x span = IsFaultOf (x ∷ []) (span ∷ [])
+OfItem x span = IsItemFault (x ∷ []) (span ∷ [])
 
 -- a fault of one item is its own
 pub of-item : (x : QueryItem) (span : Option Span) (f : Refusal) (h : OfItem x span f) → (x ≡ h.item) × (span ≡ Some h.span)
@@ -78,14 +77,14 @@ of-item x span f h = elim (Contains-push_cases [] (x, span) (h.item, Some h.span
 
 -- of the first item or of the others
 pub of-cons : (x : QueryItem) (xs : List QueryItem) (span : Option Span) (spans : Spans) (f : Refusal)
-    → IsFaultOf (x ∷ xs) (span ∷ spans) f → OfItem x span f ⊎ IsFaultOf xs spans f
+    → IsItemFault (x ∷ xs) (span ∷ spans) f → OfItem x span f ⊎ IsItemFault xs spans f
 of-cons x xs span spans f h =
-    elim (Contains-append_cases ((x, span) ∷ []) (zip xs spans) (h.item, Some h.span) h.among) as (λ _. OfItem x span f ⊎ IsFaultOf xs spans f) [
+    elim (Contains-append_cases ((x, span) ∷ []) (zip xs spans) (h.item, Some h.span) h.among) as (λ _. OfItem x span f ⊎ IsItemFault xs spans f) [
       | inl a ↦ inl (record { item = h.item; span = h.span; among = a; kind = h.kind; place = h.place })
       | inr a ↦ inr (record { item = h.item; span = h.span; among = a; kind = h.kind; place = h.place })
     ]
 
-of-head : (x : QueryItem) (xs : List QueryItem) (span : Option Span) (spans : Spans) (f : Refusal) → OfItem x span f → IsFaultOf (x ∷ xs) (span ∷ spans) f
+of-head : (x : QueryItem) (xs : List QueryItem) (span : Option Span) (spans : Spans) (f : Refusal) → OfItem x span f → IsItemFault (x ∷ xs) (span ∷ spans) f
 of-head x xs span spans f h = record {
   item = h.item;
   span = h.span;
@@ -94,7 +93,7 @@ of-head x xs span spans f h = record {
   place = h.place;
 }
 
-of-tail : (x : QueryItem) (xs : List QueryItem) (span : Option Span) (spans : Spans) (f : Refusal) → IsFaultOf xs spans f → IsFaultOf (x ∷ xs) (span ∷ spans) f
+of-tail : (x : QueryItem) (xs : List QueryItem) (span : Option Span) (spans : Spans) (f : Refusal) → IsItemFault xs spans f → IsItemFault (x ∷ xs) (span ∷ spans) f
 of-tail x xs span spans f h = record {
   item = h.item;
   span = h.span;
@@ -104,7 +103,7 @@ of-tail x xs span spans f h = record {
 }
 
 -- without items or without spans there is none
-pub of-none : (items : List QueryItem) (spans : Spans) (f : Refusal) → zip items spans ≡ [] → IsFaultOf items spans f → ⊥
+pub of-none : (items : List QueryItem) (spans : Spans) (f : Refusal) → zip items spans ≡ [] → IsItemFault items spans f → ⊥
 of-none items spans f e h = absurd (omega (arith, ap length e, h.among.1))
 
 -- ---- the walk
@@ -132,21 +131,21 @@ past-spans (Some kind) (Some span) rest first = refl
 
 -- the faults so far, of one item and of the others are those so far and of the items
 least-cons : (P : Refusal → Type 0) (x : QueryItem) (xs : List QueryItem) (span : Option Span) (spans : Spans) (o : Option Refusal)
-    → IsLeast (λ f. (P f ⊎ OfItem x span f) ⊎ IsFaultOf xs spans f) o → IsLeast (λ f. P f ⊎ IsFaultOf (x ∷ xs) (span ∷ spans) f) o
-least-cons P x xs span spans o = least-same (λ f. (P f ⊎ OfItem x span f) ⊎ IsFaultOf xs spans f) (λ f. P f ⊎ IsFaultOf (x ∷ xs) (span ∷ spans) f) o there back
+    → IsLeast (λ f. (P f ⊎ OfItem x span f) ⊎ IsItemFault xs spans f) o → IsLeast (λ f. P f ⊎ IsItemFault (x ∷ xs) (span ∷ spans) f) o
+least-cons P x xs span spans o = least-same (λ f. (P f ⊎ OfItem x span f) ⊎ IsItemFault xs spans f) (λ f. P f ⊎ IsItemFault (x ∷ xs) (span ∷ spans) f) o there back
   where
-    there : (f : Refusal) → (P f ⊎ OfItem x span f) ⊎ IsFaultOf xs spans f → P f ⊎ IsFaultOf (x ∷ xs) (span ∷ spans) f
+    there : (f : Refusal) → (P f ⊎ OfItem x span f) ⊎ IsItemFault xs spans f → P f ⊎ IsItemFault (x ∷ xs) (span ∷ spans) f
     there f (inl (inl p)) = inl p
     there f (inl (inr q)) = inr (of-head x xs span spans f q)
     there f (inr q) = inr (of-tail x xs span spans f q)
 
-    back : (f : Refusal) → P f ⊎ IsFaultOf (x ∷ xs) (span ∷ spans) f → (P f ⊎ OfItem x span f) ⊎ IsFaultOf xs spans f
+    back : (f : Refusal) → P f ⊎ IsItemFault (x ∷ xs) (span ∷ spans) f → (P f ⊎ OfItem x span f) ⊎ IsItemFault xs spans f
     back f (inl p) = inl (inl p)
-    back f (inr q) = elim (of-cons x xs span spans f q) as (λ _. (P f ⊎ OfItem x span f) ⊎ IsFaultOf xs spans f) [ inl a ↦ inl (inr a) | inr a ↦ inr a ]
+    back f (inr q) = elim (of-cons x xs span spans f q) as (λ _. (P f ⊎ OfItem x span f) ⊎ IsItemFault xs spans f) [ inl a ↦ inl (inr a) | inr a ↦ inr a ]
 
 -- where spans are missing, the items have no faults
-least-unspanned : (P : Refusal → Type 0) (x : QueryItem) (xs : List QueryItem) (o : Option Refusal) → IsLeast (λ f. P f ⊎ IsFaultOf xs [] f) o → IsLeast (λ f. P f ⊎ IsFaultOf (x ∷ xs) [] f) o
-least-unspanned P x xs o = least-same (λ f. P f ⊎ IsFaultOf xs [] f) (λ f. P f ⊎ IsFaultOf (x ∷ xs) [] f) o there back
+least-unspanned : (P : Refusal → Type 0) (x : QueryItem) (xs : List QueryItem) (o : Option Refusal) → IsLeast (λ f. P f ⊎ IsItemFault xs [] f) o → IsLeast (λ f. P f ⊎ IsItemFault (x ∷ xs) [] f) o
+least-unspanned P x xs o = least-same (λ f. P f ⊎ IsItemFault xs [] f) (λ f. P f ⊎ IsItemFault (x ∷ xs) [] f) o there back
   where
     unspanned : Spans
     unspanned = []
@@ -155,23 +154,23 @@ least-unspanned P x xs o = least-same (λ f. P f ⊎ IsFaultOf xs [] f) (λ f. P
     zip-none [] = refl
     zip-none (y ∷ ys) = refl
 
-    there : (f : Refusal) → P f ⊎ IsFaultOf xs [] f → P f ⊎ IsFaultOf (x ∷ xs) [] f
+    there : (f : Refusal) → P f ⊎ IsItemFault xs [] f → P f ⊎ IsItemFault (x ∷ xs) [] f
     there f (inl p) = inl p
     there f (inr q) = absurd (of-none xs [] f (zip-none xs) q)
 
-    back : (f : Refusal) → P f ⊎ IsFaultOf (x ∷ xs) [] f → P f ⊎ IsFaultOf xs [] f
+    back : (f : Refusal) → P f ⊎ IsItemFault (x ∷ xs) [] f → P f ⊎ IsItemFault xs [] f
     back f (inl p) = inl p
     back f (inr q) = absurd (of-none (x ∷ xs) [] f refl q)
 
 steps-least : (P : Refusal → Type 0) (items : List QueryItem) (spans : Spans) (first : Option Refusal)
-    → IsLeast P first → IsLeast (λ f. P f ⊎ IsFaultOf items spans f) (steps items (record { spans = spans; first = first })).first
-steps-least P [] spans first h = least-alone P (IsFaultOf [] spans) first (λ f. of-none [] spans f refl) h
+    → IsLeast P first → IsLeast (λ f. P f ⊎ IsItemFault items spans f) (steps items (record { spans = spans; first = first })).first
+steps-least P [] spans first h = least-alone P (IsItemFault [] spans) first (λ f. of-none [] spans f refl) h
 steps-least P (x ∷ xs) [] first h = least-unspanned P x xs _ (steps-least P xs [] first h)
 steps-least P (x ∷ xs) (span ∷ spans) first h =
     let next : Progress = past_item (fault_of x) (span ∷ spans) first in
     let later = steps-least (λ f. P f ⊎ OfItem x span f) xs next.spans next.first (past-least P x (fault_of x) span spans first (own-fault x) h) in
     least-cons P x xs span spans (steps xs next).first
-    (subst (λ (s : Spans). IsLeast (λ f. (P f ⊎ OfItem x span f) ⊎ IsFaultOf xs s f) (steps xs next).first) (past-spans (fault_of x) span spans first) later)
+    (subst (λ (s : Spans). IsLeast (λ f. (P f ⊎ OfItem x span f) ⊎ IsItemFault xs s f) (steps xs next).first) (past-spans (fault_of x) span spans first) later)
 
 -- ---- from the start
 
@@ -179,35 +178,37 @@ steps-least P (x ∷ xs) (span ∷ spans) first h =
 abbrev pub NoFault : QueryItem → Type 0
 NoFault item = (kind : RefusalKind) → HasFault item kind → ⊥
 
--- an omitted step, which is 1, is in range
-one_in_range : (n : Numeral) → n ≡ Whole (pos 1) → is_in_range n ≡ false → ⊥
-one_in_range n e h = let one : is_in_range n ≡ true = ap is_in_range e in cc (one)
+-- an omitted step, which is 1, has none
+omitted_faultless : (x : QueryItem) → x ≡ int (Whole (pos 1)) as_step → NoFault x
+omitted_faultless x e kind h =
+    let is = int-fault (Whole (pos 1)) as_step kind (subst (λ y. HasFault y kind) e h) in
+    cc (is.1)
 
 -- no item of a query has a fault where none of those with a span has
-faultless : (items : List QueryItem) (spans : Spans) → EachSpanned items spans → ((f : Refusal) → IsFaultOf items spans f → ⊥)
+faultless : (text : Text) (items : List QueryItem) (spans : Spans) → EachSpanned text items spans → ((f : Refusal) → IsItemFault items spans f → ⊥)
     → All NoFault items
-faultless [] spans each none = All-nil _
-faultless (x ∷ xs) [] each none = absurd each
-faultless (int n as_index ∷ xs) (None ∷ spans) each none = absurd each
-faultless (int n as_slice_part ∷ xs) (None ∷ spans) each none =
-    All-cons NoFault (int n as_slice_part) xs (λ kind h. let is = int-fault n as_slice_part kind h in one_in_range n each.0 is.1)
-    (faultless xs spans each.1 (λ f h. none f (of-tail (int n as_slice_part) xs None spans f h)))
-faultless (int n as_side ∷ xs) (None ∷ spans) each none = absurd each
-faultless (int n as_test ∷ xs) (None ∷ spans) each none = absurd each
-faultless (constant l role ∷ xs) (None ∷ spans) each none = absurd each
-faultless (inner q role ∷ xs) (None ∷ spans) each none = absurd each
-faultless (x ∷ xs) (Some span ∷ spans) each none =
+faultless text [] spans each none = All-nil _
+faultless text (x ∷ xs) [] each none = absurd each
+faultless text (x ∷ xs) (None ∷ spans) each none =
+    All-cons NoFault x xs (omitted_faultless x each.0) (faultless text xs spans each.1 (λ f h. none f (of-tail x xs None spans f h)))
+faultless text (x ∷ xs) (Some span ∷ spans) each none =
     All-cons NoFault x xs
     (λ kind h. none (record { kind = kind; place = span.start }) (record { item = x; span = span; among = Contains-append_left ((x, Some span) ∷ []) (zip xs spans) (x, Some span) (Contains-push [] (x, Some span)); kind = h; place = refl }))
-    (faultless xs spans each (λ f h. none f (of-tail x xs (Some span) spans f h)))
+    (faultless text xs spans each.1 (λ f h. none f (of-tail x xs (Some span) spans f h)))
 
 -- what the walk finds from the start
-pub found : (items : List QueryItem) (spans : Spans) (o : Option Refusal) → EachSpanned items spans
+least-found : (items : List QueryItem) (spans : Spans) (o : Option Refusal) → o ≡ (steps items (record { spans = spans; first = None })).first
+    → IsLeast (λ f. ⊥ ⊎ IsItemFault items spans f) o
+least-found items spans o e = rw e (steps-least (λ f. ⊥) items spans None (λ f h. h))
+
+pub found-fault : (items : List QueryItem) (spans : Spans) (r : Refusal) → Some r ≡ (steps items (record { spans = spans; first = None })).first
+    → IsFirstFault items spans r
+found-fault items spans r e =
+    let h = least-found items spans (Some r) e in
+    record { is = elim h.0 as (λ _. IsItemFault items spans r) [ inl p ↦ absurd p | inr q ↦ q ]; first = λ f q. h.1 f (inr q) }
+
+pub found : (text : Text) (items : List QueryItem) (spans : Spans) (o : Option Refusal) → EachSpanned text items spans
     → o ≡ (steps items (record { spans = spans; first = None })).first
     → MatchOption o (All NoFault items) (IsFirstFault items spans)
-found items spans o each e = told o (rw e (steps-least (λ f. ⊥) items spans None (λ f h. h)))
-  where
-    told : (o : Option Refusal) → IsLeast (λ f. ⊥ ⊎ IsFaultOf items spans f) o
-        → MatchOption o (All NoFault items) (IsFirstFault items spans)
-    told None h = faultless items spans each (λ f q. h f (inr q))
-    told (Some r) h = record { is = elim h.0 as (λ _. IsFaultOf items spans r) [ inl p ↦ absurd p | inr q ↦ q ]; first = λ f q. h.1 f (inr q) }
+found text items spans None each e = let h = least-found items spans None e in faultless text items spans each (λ f q. h f (inr q))
+found text items spans (Some r) each e = found-fault items spans r e

@@ -1,6 +1,7 @@
 pub mod Alone
 pub mod Least
 pub mod OwnFault
+pub mod OwnText
 pub mod Rows
 pub mod Segments
 pub mod Steps

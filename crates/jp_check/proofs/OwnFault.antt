@@ -4,12 +4,12 @@ use Rattle.jp_query.specs.declared.refusal.RefusalKind.{RefusalKind}
 use Rattle.jp_query.specs.declared.refusal.RefusalKind.TheVariants.{NotWhole, NumberRange, IndexRange, NotSingular}
 use Rattle.jp_query.specs.declared.tree.Numeral.{Numeral}
 use Rattle.jp_query.specs.declared.tree.Numeral.TheVariants.{Whole, Beyond, Fraction}
-use Rattle.jp_query.specs.Items.{QueryItem, Use, as_index, as_slice_part, as_side, as_test, int, constant, inner}
+use Rattle.jp_query.specs.Items.{QueryItem, Use, as_index, as_bound, as_step, as_side, as_test, int, constant, inner}
 use Rattle.jp_query.specs.Refusal.{number_of}
 use Rattle.jp_query.specs.Singular.{is_singular}
 use Rattle.jp_query.specs.Tree.{QueryTree, LiteralTree, number, text, true_literal, false_literal, null_literal}
 use Rattle.jp_check.specs.Faults.{HasFault}
-use Rattle.jp_check.specs.Ranges.{is_in_range}
+use Rattle.jp_check.specs.Ranges.{is_in_index_range}
 use Rattle.jp_check.specs.Walk.{fault_of, fault_of_literal}
 
 -- the item has none, or this kind and none with a smaller number
@@ -18,11 +18,11 @@ IsOwn x None = (kind : RefusalKind) → HasFault x kind → ⊥
 IsOwn x (Some kind) = HasFault x kind × ((other : RefusalKind) → HasFault x other → number_of kind ≤ number_of other)
 
 -- an int has no fault but its range
-pub int-fault : (n : Numeral) (role : Use) (kind : RefusalKind) → HasFault (int n role) kind → (kind ≡ IndexRange) × (is_in_range n ≡ false)
+pub int-fault : (n : Numeral) (role : Use) (kind : RefusalKind) → HasFault (int n role) kind → (kind ≡ IndexRange) × (is_in_index_range n ≡ false)
 int-fault n role IndexRange h = (refl, h)
 int-fault n role _ h = absurd h
 
-own-int : (n : Numeral) (role : Use) (b : Bool) → is_in_range n ≡ b → IsOwn (int n role) (cond b None (Some IndexRange))
+own-int : (n : Numeral) (role : Use) (b : Bool) → is_in_index_range n ≡ b → IsOwn (int n role) (cond b None (Some IndexRange))
 own-int n role true e = λ kind h. let is = int-fault n role kind h in cc (is.1)
 own-int n role false e = (e, λ other h. rw (int-fault n role other h).0 (omega arith))
 
@@ -63,9 +63,10 @@ own-side q false e = (e, λ other h. rw (side-fault q other h).0 (omega arith))
 
 -- the fault of an item is its own
 pub own-fault : (x : QueryItem) → IsOwn x (fault_of x)
-own-fault (int n role) = own-int n role (is_in_range n) refl
+own-fault (int n role) = own-int n role (is_in_index_range n) refl
 own-fault (constant l role) = own-literal l role
 own-fault (inner q as_side) = own-side q (is_singular q) refl
 own-fault (inner q as_index) = λ kind h. h
-own-fault (inner q as_slice_part) = λ kind h. h
+own-fault (inner q as_bound) = λ kind h. h
+own-fault (inner q as_step) = λ kind h. h
 own-fault (inner q as_test) = λ kind h. h

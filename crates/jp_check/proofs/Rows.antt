@@ -6,24 +6,24 @@ use Rattle.jp_query.specs.declared.tree.Numeral.TheVariants.{Whole, Beyond, Frac
 use Rattle.jp_query.specs.declared.tree.Op.TheVariants.{Equal}
 use Rattle.jp_query.specs.Tree.{SelectorTree, name, wildcard, index, filter, segment, QueryTree, query, ExprTree, all_of, comparison, literal, node_value, number, selectors, segments, exprs}
 use Rattle.jp_check.specs.Faults.{HasFault}
-use Rattle.jp_check.specs.First.{IsFaultOf, IsNoLater, IsFirstFault}
-use Rattle.jp_check.specs.Ranges.{is_in_range}
-use Rattle.jp_check.proofs.Least.{found}
+use Rattle.jp_check.specs.First.{IsItemFault, IsNoLater, IsFirstFault}
+use Rattle.jp_check.specs.Ranges.{is_in_index_range}
+use Rattle.jp_check.proofs.Least.{found-fault}
 
 -- ---- the range of indexes
 
-row-greatest : is_in_range (Whole (pos 9007199254740991)) ≡ true
+row-greatest : is_in_index_range (Whole (pos 9007199254740991)) ≡ true
 row-greatest = refl
 
-row-above : is_in_range (Whole (pos 9007199254740992)) ≡ false
+row-above : is_in_index_range (Whole (pos 9007199254740992)) ≡ false
 row-above = refl
 
 -- -9007199254740991
-row-least : is_in_range (Whole (negsuc 9007199254740990)) ≡ true
+row-least : is_in_index_range (Whole (negsuc 9007199254740990)) ≡ true
 row-least = refl
 
 -- -9007199254740992
-row-below : is_in_range (Whole (negsuc 9007199254740991)) ≡ false
+row-below : is_in_index_range (Whole (negsuc 9007199254740991)) ≡ false
 row-below = refl
 
 row-beyond : HasFault (int Beyond as_index) IndexRange
@@ -46,7 +46,7 @@ row-later (inr h) = absurd (omega (arith, h.0))
 
 -- ---- `$[0][9007199254740992]`: its one fault stands at 5
 
-row-fault : IsFaultOf (int (Whole (pos 0)) as_index ∷ int (Whole (pos 9007199254740992)) as_index ∷ [])
+row-fault : IsItemFault (int (Whole (pos 0)) as_index ∷ int (Whole (pos 9007199254740992)) as_index ∷ [])
     (Some (record { start = 2; end = 3 }) ∷ Some (record { start = 5; end = 21 }) ∷ []) (record { kind = IndexRange; place = 5 })
 row-fault = record {
   item = int (Whole (pos 9007199254740992)) as_index;
@@ -117,7 +117,7 @@ filtered e = query true (segments (segment false (selectors (filter e ∷ [])) �
 row-query-first : IsFirstFault (items_of (filtered (comparison (node_value (at_current (wildcard ∷ []))) Equal (literal (number Fraction)))))
     (Some (record { start = 3; end = 6 }) ∷ Some (record { start = 8; end = 11 }) ∷ []) (record { kind = NotSingular; place = 3 })
 unfolding at_current filtered
-row-query-first = found _ _ (Some (record { kind = NotSingular; place = 3 })) tt refl
+row-query-first = found-fault _ _ (record { kind = NotSingular; place = 3 }) refl
 
 -- `$[?@.a==1.0&&@.*==2]`: of two faults the literal's stands first, at 8
 row-literal-first : IsFirstFault
@@ -128,4 +128,4 @@ row-literal-first : IsFirstFault
     (Some (record { start = 3; end = 6 }) ∷ Some (record { start = 8; end = 11 }) ∷ Some (record { start = 13; end = 16 }) ∷ Some (record { start = 18; end = 19 }) ∷ [])
     (record { kind = NotWhole; place = 8 })
 unfolding at_current filtered
-row-literal-first = found _ _ (Some (record { kind = NotWhole; place = 8 })) tt refl
+row-literal-first = found-fault _ _ (record { kind = NotWhole; place = 8 }) refl

@@ -1,13 +1,14 @@
 -- Which queries are accepted (RFC 9535 sections 2.1 and 2.1.1).
 use Rattle.jp_reading.specs.Texts.{Text, Spans}
 use Rattle.jp_query.specs.Grammar.{Spells}
+use Rattle.jp_query.specs.Levels.{level_limit}
 use Rattle.jp_query.specs.Tree.{QueryTree}
 use Rattle.jp_check.specs.Faults.{IsFaultless}
 
--- the text spells the tree within 64 levels, and no item of the tree has a fault
+-- the text spells the tree within the limit of levels, and no item of the tree has a fault
 pub record IsAcceptedAs (text : Text) (q : QueryTree) : Type 0 where
   pub spans : Spans
-  pub spelled : Spells 64 q spans text
+  pub spelled : Spells level_limit q spans text
   pub faultless : IsFaultless q
 
 -- some text is accepted as the tree

@@ -7,7 +7,7 @@ use Rattle.jp_query.specs.declared.tree.Numeral.TheVariants.{Beyond, Fraction}
 use Rattle.jp_query.specs.Items.{QueryItem, int, constant, inner, as_side, items_of}
 use Rattle.jp_query.specs.Singular.{is_singular}
 use Rattle.jp_query.specs.Tree.{QueryTree, number}
-use Rattle.jp_check.specs.Ranges.{is_in_range}
+use Rattle.jp_check.specs.Ranges.{is_in_index_range}
 
 -- the item has a fault of that kind: a literal is a number with a fraction or an exponent, or a whole number outside
 -- -(2^63) to (2^64)-1; an index or a part of a slice is out of range (section 2.1); a query that is a side of a
@@ -15,7 +15,7 @@ use Rattle.jp_check.specs.Ranges.{is_in_range}
 abbrev pub HasFault : QueryItem → RefusalKind → Type 0
 HasFault (constant l _) NotWhole = l ≡ number Fraction
 HasFault (constant l _) NumberRange = l ≡ number Beyond
-HasFault (int n _) IndexRange = is_in_range n ≡ false
+HasFault (int n _) IndexRange = is_in_index_range n ≡ false
 HasFault (inner q as_side) NotSingular = is_singular q ≡ false
 HasFault _ _ = ⊥
 

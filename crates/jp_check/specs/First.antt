@@ -9,7 +9,7 @@ use Rattle.jp_query.specs.Refusal.{number_of}
 use Rattle.jp_check.specs.Faults.{HasFault}
 
 -- one of the items has a fault of that kind, and its span starts at that place
-pub record IsFaultOf (items : List QueryItem) (spans : Spans) (fault : Refusal) : Type 0 where
+pub record IsItemFault (items : List QueryItem) (spans : Spans) (fault : Refusal) : Type 0 where
   pub item : QueryItem
   pub span : Span
   pub among : Contains (zip items spans) (item, Some span)
@@ -23,5 +23,5 @@ IsNoLater one other =
 
 -- the fault of one of the items, and none is before it
 pub record IsFirstFault (items : List QueryItem) (spans : Spans) (fault : Refusal) : Type 0 where
-  pub is : IsFaultOf items spans fault
-  pub first : (other : Refusal) → IsFaultOf items spans other → IsNoLater fault other
+  pub is : IsItemFault items spans fault
+  pub first : (other : Refusal) → IsItemFault items spans other → IsNoLater fault other

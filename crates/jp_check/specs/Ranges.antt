@@ -4,7 +4,7 @@ use Rattle.jp_query.specs.declared.tree.Numeral.{Numeral}
 use Rattle.jp_query.specs.declared.tree.Numeral.TheVariants.{Whole}
 
 -- a whole number from -(2^53)+1 to (2^53)-1
-abbrev pub is_in_range : Numeral → Bool
-is_in_range (Whole (pos size)) = nat_lt size (2 ^ 53)
-is_in_range (Whole (negsuc less)) = nat_lt (suc less) (2 ^ 53)
-is_in_range _ = false
+abbrev pub is_in_index_range : Numeral → Bool
+is_in_index_range (Whole (pos size)) = nat_lt size (2 ^ 53)
+is_in_index_range (Whole (negsuc less)) = nat_lt (suc less) (2 ^ 53)
+is_in_index_range _ = false

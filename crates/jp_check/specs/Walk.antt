@@ -10,7 +10,7 @@ use Rattle.jp_query.specs.Singular.{is_singular}
 use Rattle.jp_query.specs.Tree.{LiteralTree, number, QueryTree}
 use Rattle.jp_query.specs.declared.tree.Numeral.{Numeral}
 use Rattle.jp_query.specs.declared.tree.Numeral.TheVariants.{Beyond, Fraction}
-use Rattle.jp_check.specs.Ranges.{is_in_range}
+use Rattle.jp_check.specs.Ranges.{is_in_index_range}
 
 -- how far the walk is: the spans of the items that are still to come, and the first fault of those that were
 pub record Progress : Type 0 where
@@ -19,7 +19,7 @@ pub record Progress : Type 0 where
 
 -- the fault of an int, if it has one
 abbrev pub fault_of_int : Numeral → Option RefusalKind
-fault_of_int n = if is_in_range n then None else Some IndexRange
+fault_of_int n = if is_in_index_range n then None else Some IndexRange
 
 -- the fault of a literal, if it has one
 abbrev pub fault_of_literal : LiteralTree → Option RefusalKind

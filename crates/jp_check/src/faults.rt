@@ -4,7 +4,7 @@ ghost use Rattle.std.specs.Prelude.{◌≡◌};
 ghost use Rattle.jp_query.specs.Tree.{literal_of, query_of};
 ghost use Rattle.jp_check.specs.Walk.{fault_of_int, fault_of_literal, fault_of_side};
 
-use crate::ranges::is_in_range;
+use crate::ranges::is_in_index_range;
 use crate::singular::is_singular;
 use jp_query::{Literal, Numeral, Query, RefusalKind};
 
@@ -12,7 +12,7 @@ use jp_query::{Literal, Numeral, Query, RefusalKind};
 pub fn fault_of_int(number: Numeral) -> Option<RefusalKind>
     ensures { result ≡ fault_of_int number }
 {
-    if is_in_range(number) {
+    if is_in_index_range(number) {
         None
     } else {
         Some(RefusalKind::IndexRange)

@@ -1,9 +1,9 @@
 //! Laws of acceptance, each the contract of a function that does nothing.
 
 ghost use Rattle.jp_reading.specs.Texts.{Text};
-ghost use Rattle.jp_check.specs.Laws.{OneAnswer};
+ghost use Rattle.jp_check.specs.Laws.{FaultAtItsItem, OneAnswer};
 
-use jp_query::laws::{one_reading, one_refusal};
+use jp_query::laws::{one_reading, one_refusal, spans_of_items};
 
 /// Each text is accepted as one tree, or is refused in one way, with its first fault or as no query, at one place; and not
 /// both, want of memory aside.
@@ -12,4 +12,12 @@ pub fn one_answer()
 {
     one_reading();
     one_refusal();
+}
+
+/// A fault is that of one of the query's items, and its place is the byte where the text of that item
+/// starts.
+pub fn fault_at_its_item()
+    ensures { FaultAtItsItem }
+{
+    spans_of_items();
 }

@@ -1,7 +1,7 @@
 //! The range of indexes.
 
 ghost use Rattle.std.specs.Prelude.{◌≡◌};
-ghost use Rattle.jp_check.specs.Ranges.{is_in_range};
+ghost use Rattle.jp_check.specs.Ranges.{is_in_index_range};
 
 use jp_query::Numeral;
 
@@ -9,8 +9,8 @@ use jp_query::Numeral;
 const MAX_SIZE: i128 = 9_007_199_254_740_991;
 
 /// Whether a number may be an index or a part of a slice: a whole one from -(2^53)+1 to (2^53)-1.
-pub fn is_in_range(number: Numeral) -> bool
-    ensures { result ≡ is_in_range number }
+pub fn is_in_index_range(number: Numeral) -> bool
+    ensures { result ≡ is_in_index_range number }
 {
     match number {
         Numeral::Whole(whole) => -MAX_SIZE <= whole && whole <= MAX_SIZE,

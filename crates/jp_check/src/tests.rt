@@ -34,6 +34,7 @@ fn queries_without_faults_are_accepted(rt: HostRuntime) -> Result<(), Fail> {
     let least = query_of_index(alloc, -9007199254740991)?;
     assert!(rt; *checked.query() == least);
     laws::one_answer();
+    laws::fault_at_its_item();
     Ok(())
 }
 

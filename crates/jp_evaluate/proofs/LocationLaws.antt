@@ -14,7 +14,8 @@ use Rattle.jp_document.specs.Value.{IsDocumentValue, Items, Value, boolean, item
 use Rattle.jp_query.specs.Items.{segments_items}
 use Rattle.jp_query.specs.Tree.{segments}
 use Rattle.jp_check.specs.Faults.{HasFault}
-use Rattle.jp_check.specs.Ranges.{is_in_range}
+use Rattle.jp_check.specs.Ranges.{is_in_index_range}
+use Rattle.jp_query.specs.Levels.{level_limit}
 use Rattle.jp_query.specs.Items.{Use, as_index, int}
 use Rattle.jp_query.specs.declared.refusal.RefusalKind.{RefusalKind}
 use Rattle.jp_query.specs.declared.refusal.RefusalKind.TheVariants as kind
@@ -103,7 +104,7 @@ index_fits (boolean b) u i document there = absurd (cc)
 index_fits (whole z) u i document there = absurd (cc)
 index_fits (text s) u i document there = absurd (cc)
 
-in_range : (n : Numeral) (u : Use) → is_in_range n ≡ true → (k : RefusalKind) → HasFault (int n u) k → ⊥
+in_range : (n : Numeral) (u : Use) → is_in_index_range n ≡ true → (k : RefusalKind) → HasFault (int n u) k → ⊥
 in_range n u fits kind.IndexRange fault = absurd (cc)
 in_range n u fits kind.Syntax fault = fault
 in_range n u fits kind.TooDeep fault = fault
@@ -155,7 +156,7 @@ pub path_selects_its_node : PathSelectsItsNode
 path_selects_its_node d l document there =
     let w = some_value (value_at d l) there in
     let texts = names_are_texts d w.0 l document w.1 in
-    let spelled = path-is_query 64 l texts (steps_fit d w.0 l document w.1) in (
+    let spelled = path-is_query level_limit l texts (steps_fit d w.0 l document w.1) in (
       path_tree l,
       record { spans = spelled.0; spelled = spelled.1; faultless = steps_faultless d w.0 l document w.1 },
       walks d d w.0 [] l refl w.1 texts,

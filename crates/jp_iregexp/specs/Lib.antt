@@ -6,5 +6,6 @@ pub mod Tree
 pub mod Characters
 pub mod Codes
 pub mod Grammar
+pub mod Groups
 pub mod Reading
 pub mod Spelled

@@ -7,8 +7,8 @@
 //! ```
 //!
 //! The contract for the crates above: `read_pattern` answers a pattern exactly for the texts that spell one
-//! by the grammar of `specs/Grammar.antt` within 64 groups, and no text spells two. `CharClass::holds` is
-//! `class_holds` of `specs/Class.antt`, by the general categories of `unicode`. `Language` of
+//! by the grammar of `specs/Grammar.antt` within the limit of groups, and no text spells two.
+//! `CharClass::holds` is `class_holds` of `specs/Class.antt`, by the general categories of `unicode`. `Language` of
 //! `specs/Language.antt` says which words a pattern stands for.
 #![tactic(auto)]
 
@@ -25,7 +25,7 @@ mod read;
 pub use category::Category;
 pub use class::{CharClass, ClassItem};
 pub use pattern::Pattern;
-pub use read::{PatternFault, read_pattern};
+pub use read::{GROUP_LIMIT, PatternFault, read_pattern};
 
 #[cfg(test)]
 mod tests;

@@ -4,6 +4,7 @@ ghost use Rattle.std.specs.Prelude.{◌≡◌, IfOk, IfErr};
 ghost use Rattle.std.specs.Str.{chars};
 ghost use Rattle.jp_iregexp.specs.Tree.{tree};
 ghost use Rattle.jp_iregexp.specs.Grammar.{SpellsPattern};
+ghost use Rattle.jp_iregexp.specs.Groups.{group_limit};
 ghost use Rattle.jp_iregexp.specs.Spelled.{SpellsNone};
 
 use crate::branches::pattern;
@@ -11,23 +12,27 @@ use crate::pattern::Pattern;
 use jp_reading::{Reader, Stop};
 use std::alloc::Global;
 
+/// How many groups may be inside one another at most.
+pub const GROUP_LIMIT: u32 = 64;
+
 /// Why a text is not read as a pattern.
 #[derive(Clone, Copy, Debug, PartialEq, Eq)]
 pub enum PatternFault {
-    /// The text spells no pattern with at most 64 groups inside one another.
+    /// The text spells no pattern with at most [`GROUP_LIMIT`] groups inside one another.
     NotConforming = 1,
     /// Memory ran out.
     NoMemory = 2,
 }
 
-/// The pattern that a text spells (RFC 9485, section 3), with at most 64 groups inside one another.
-/// `NotConforming` says that it spells none so. The time taken is linear in the text's length.
+/// The pattern that a text spells (RFC 9485, section 3), with at most [`GROUP_LIMIT`] groups inside
+/// one another. `NotConforming` says that it spells none so. The time taken is linear in the text's
+/// length.
 pub fn read_pattern(alloc: Global, text: &str) -> Result<Pattern, PatternFault>
-    ensures found { IfOk result (λ p. SpellsPattern 64 (tree p) (chars text.now)) }
-    ensures only { IfErr result (λ e. e ≡ PatternFault.NotConforming → SpellsNone 64 (chars text.now)) }
+    ensures found { IfOk result (λ p. SpellsPattern group_limit (tree p) (chars text.now)) }
+    ensures only { IfErr result (λ e. e ≡ PatternFault.NotConforming → SpellsNone group_limit (chars text.now)) }
 {
     let mut reader = Reader::new(alloc, text);
-    match pattern(&mut reader, 64) {
+    match pattern(&mut reader, GROUP_LIMIT) {
         Ok(pattern) => Ok(pattern),
         Err(Stop::Memory) => Err(PatternFault::NoMemory),
         Err(Stop::Syntax(_)) => Err(PatternFault::NotConforming),

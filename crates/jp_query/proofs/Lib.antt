@@ -5,7 +5,9 @@ pub mod AgreeingValues
 pub mod Escapes
 pub mod FilterRows
 pub mod Follows
+pub mod HasItems
 pub mod HexKinds
+pub mod ItemSpans
 pub mod Lifts
 pub mod Moves
 pub mod NoItems
@@ -13,6 +15,7 @@ pub mod Numerals
 pub mod OneRefusal
 pub mod Places
 pub mod Refused
+pub mod RisingSpans
 pub mod Rounds
 pub mod Rows
 pub mod Rules
@@ -24,7 +27,6 @@ pub mod SoundExpressions
 pub mod SoundLevels
 pub mod SoundLiterals
 pub mod SoundOperands
-pub mod Spanned
 pub mod SpeltExpressions
 pub mod SpeltInts
 pub mod SpeltLiterals
@@ -37,3 +39,4 @@ pub mod SpeltSlices
 pub mod Trees
 pub mod Unique
 pub mod Whole
+pub mod Written

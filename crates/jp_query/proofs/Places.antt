@@ -5,7 +5,7 @@ use Rattle.jp_reading.specs.Texts.{Text, Spans, bytes}
 use Rattle.jp_reading.specs.Outcome.{State, Outcome, took, stuck, deep, past}
 use Rattle.jp_reading.proofs.Between.{Stops, Passes}
 use Rattle.jp_reading.proofs.Again.{start}
-use Rattle.jp_query.specs.Front.{IsFront, IsNoFront, IsSyntaxAt, IsTooDeepAt}
+use Rattle.jp_query.specs.ViablePrefix.{IsViablePrefix, IsNoViablePrefix, EndsViablePrefix, IsSyntaxAt, IsTooDeepAt}
 use Rattle.jp_query.specs.Reading.{query_at}
 use Rattle.jp_query.proofs.Agreeing.{all, Agrees, same, ended, longer}
 use Rattle.jp_query.proofs.AgreeingRules.{local-query}
@@ -52,7 +52,7 @@ apart c u t (deep q) (deep r) w (same e) (ended g k) stops takes =
 
 -- through the character at which reading a query stops no text goes on to one
 pub no-further : (n : ℕ) (before behind : Text) (mark : ℕ) → StopsAt (mark ∷ behind) (query_at n (start (before ++ mark ∷ behind)))
-    → IsNoFront n (before ++ mark ∷ [])
+    → IsNoViablePrefix n (before ++ mark ∷ [])
 no-further n before behind mark stops spelled =
     let through = before ++ mark ∷ [] in
     let alike = (local-query n).agrees in
@@ -64,8 +64,8 @@ no-further n before behind mark stops spelled =
 -- ---- places
 
 -- what stands before a stop begins a text that spells a query
-front-of : (n : ℕ) (text : Text) (r : State) (h : Stops (whole n) (start text) r) → IsFront n h.front.read
-front-of n text r h =
+prefix-of : (n : ℕ) (text : Text) (r : State) (h : Stops (whole n) (start text) r) → IsViablePrefix n h.front.read
+prefix-of n text r h =
     (h.front.more, h.value, h.front.spans, spells-of n h.value h.front.spans (h.front.read ++ h.front.more) h.front.is)
 
 place-of : (n : ℕ) (text : Text) (r : State) (h : Stops (whole n) (start text) r) → bytes h.front.read ≡ r.at
@@ -79,23 +79,23 @@ syntax-parts n text at [] found e h =
     let all_read : h.front.read ≡ text = sym (h.front.rest ∙ append-nil h.front.read) in
     inl (record {
       place_is = subst (λ (t : Text). bytes t ≡ at) all_read (place-of n text r h);
-      front = subst (IsFront n) all_read (front-of n text r h);
+      is_viable = subst (IsViablePrefix n) all_read (prefix-of n text r h);
       nothing = unread-spells_nothing n text r e;
     })
 syntax-parts n text at (mark ∷ behind) found e h =
     let r : State = record { at = at; rest = mark ∷ behind; found = found } in
     let before = h.front.read in
     let stops = λ (k : ℕ) (f : query_at k (start text) ≡ stuck r). no-further k before behind mark (rw (sym h.front.rest, f) refl) in
-    inr (record {
+    let end : EndsViablePrefix n text at = record {
       before = before;
       mark = mark;
-      behind = behind;
+      after = behind;
       parts = h.front.rest;
       place_is = place-of n text r h;
-      front = front-of n text r h;
-      no_front = stops n e;
-      none_deeper = stops (suc n) (stuck-deeper n (start text) r e);
-    })
+      is_viable = prefix-of n text r h;
+      is_not_viable = stops n e;
+    } in
+    inr (record { end = end; none_deeper = stops (suc n) (stuck-deeper n (start text) r e) })
 
 -- where reading is stuck
 pub stuck-place : (n : ℕ) (text : Text) (r : State) → query_at n (start text) ≡ stuck r → IsSyntaxAt n text r.at
@@ -115,16 +115,16 @@ deep-parts n text at (mark ∷ behind) found e h g =
     let same_text : through.read ≡ before ++ mark ∷ [] =
     append_cancel_right through.read (before ++ mark ∷ []) behind
     (sym through.rest ∙ h.front.rest ∙ sym (append_assoc before (mark ∷ []) behind)) in
-    record {
+    let end : EndsViablePrefix n text at = record {
       before = before;
       mark = mark;
-      behind = behind;
+      after = behind;
       parts = h.front.rest;
       place_is = place-of n text r h;
-      front = front-of n text r h;
-      no_front = no-further n before behind mark (rw (sym h.front.rest, e) refl);
-      deeper = subst (IsFront (suc n)) same_text (front-of (suc n) text (past r) g.stops);
-    }
+      is_viable = prefix-of n text r h;
+      is_not_viable = no-further n before behind mark (rw (sym h.front.rest, e) refl);
+    } in
+    record { end = end; deeper = subst (IsViablePrefix (suc n)) same_text (prefix-of (suc n) text (past r) g.stops) }
 
 -- where a level is missing, and with one level more the character there goes on
 pub deep-place : (n : ℕ) (text : Text) (r : State) → query_at n (start text) ≡ deep r → IsTooDeepAt n text r.at

@@ -10,7 +10,7 @@ use Rattle.jp_query.specs.declared.refusal.RefusalKind.TheVariants.{Syntax, TooD
 use Rattle.jp_query.specs.Tree.{QueryTree}
 use Rattle.jp_query.specs.Reading.{query_at}
 use Rattle.jp_query.specs.Spelled.{SpellsNothing}
-use Rattle.jp_query.specs.Front.{IsSyntaxAt, IsTooDeepAt}
+use Rattle.jp_query.specs.ViablePrefix.{IsSyntaxAt, IsTooDeepAt}
 use Rattle.jp_query.specs.Stops.{refusal_of}
 use Rattle.jp_query.proofs.Unique.{unread-spells_nothing, deep-spells_nothing}
 use Rattle.jp_query.proofs.Places.{stuck-place, deep-place}

@@ -1,15 +1,14 @@
 -- The items of a query's tree, in the order in which they begin in a text.
-use Rattle.std.specs.Prelude.{◌≡◌, pos, Option, List, [], ◌∷◌, ◌++◌, Some, None}
+use Rattle.std.specs.Prelude.{Option, List, [], ◌∷◌, ◌++◌, Some, None}
 use Rattle.jp_query.specs.declared.tree.Numeral.{Numeral}
-use Rattle.jp_query.specs.declared.tree.Numeral.TheVariants.{Whole}
-use Rattle.jp_reading.specs.Texts.{Spans}
 use Rattle.jp_query.specs.Tree.{SelectorTree, name, wildcard, index, slice, filter, SelectorTrees, no_selectors, selector_then, SegmentTree, segment, SegmentTrees, no_segments, segment_then, QueryTree, query, ExprTree, any_of, all_of, negation, comparison, exists, ExprTrees, no_exprs, expr_then, OperandTree, literal, node_value, LiteralTree}
 
--- what an item is there for: an index (RFC 9535 section 2.3.3), a part of a slice (section 2.3.4), a side of a comparison
--- or a test (section 2.3.5)
+-- what an item is there for: an index (RFC 9535 section 2.3.3), a bound or the step of a slice
+-- (section 2.3.4), a side of a comparison or a test (section 2.3.5)
 pub data Use : Type 0 where
   as_index : Use
-  as_slice_part : Use
+  as_bound : Use
+  as_step : Use
   as_side : Use
   as_test : Use
 
@@ -22,7 +21,7 @@ pub data QueryItem : Type 0 where
 -- a bound of a slice, if it is there
 abbrev pub bound_items : Option Numeral → List QueryItem
 bound_items None = []
-bound_items (Some i) = int i as_slice_part ∷ []
+bound_items (Some i) = int i as_bound ∷ []
 
 -- an inner query comes before what is in it, all else from left to right
 abbrev mutual
@@ -31,7 +30,7 @@ abbrev mutual
   selector_items (name cs) = []
   selector_items wildcard = []
   selector_items (index i) = int i as_index ∷ []
-  selector_items (slice parts) = bound_items parts.start ++ bound_items parts.end ++ int parts.step as_slice_part ∷ []
+  selector_items (slice parts) = bound_items parts.start ++ bound_items parts.end ++ int parts.step as_step ∷ []
   selector_items (filter e) = expr_items e
 
   pub selectors_items : SelectorTrees → List QueryItem
@@ -63,10 +62,3 @@ abbrev mutual
   pub operand_items : OperandTree → List QueryItem
   operand_items (literal l) = constant l as_side ∷ []
   operand_items (node_value q) = inner q as_side ∷ items_of q
-
--- each item has a span, but for an omitted step, which is 1; and there are no others
-abbrev pub EachSpanned : List QueryItem → Spans → Type 0
-EachSpanned [] [] = Unit {0}
-EachSpanned (x ∷ xs) (Some span ∷ s) = EachSpanned xs s
-EachSpanned (int i as_slice_part ∷ xs) (None ∷ s) = (i ≡ Whole (pos 1)) × EachSpanned xs s
-EachSpanned _ _ = ⊥

@@ -3,8 +3,10 @@ use Rattle.std.specs.Prelude.{◌≡◌, ◌⊎◌, ℕ}
 use Rattle.jp_reading.specs.Texts.{Text, Spans}
 use Rattle.jp_query.specs.Tree.{QueryTree}
 use Rattle.jp_query.specs.Grammar.{Spells}
+use Rattle.jp_query.specs.Items.{items_of}
+use Rattle.jp_query.specs.ItemSpans.{AreSpansOf}
 use Rattle.jp_query.specs.Spelled.{SpellsNothing}
-use Rattle.jp_query.specs.Front.{IsSyntaxAt, IsTooDeepAt}
+use Rattle.jp_query.specs.ViablePrefix.{IsSyntaxAt, IsTooDeepAt}
 use Rattle.jp_query.specs.declared.refusal.RefusalKind.{RefusalKind}
 use Rattle.jp_query.specs.declared.refusal.RefusalKind.TheVariants.{Syntax, TooDeep}
 
@@ -12,16 +14,26 @@ use Rattle.jp_query.specs.declared.refusal.RefusalKind.TheVariants.{Syntax, TooD
 abbrev pub OneReading : Type 0
 OneReading = (n m : ℕ) (q u : QueryTree) (s t : Spans) (text : Text) → Spells n q s text → Spells m u t text → (q ≡ u) × (s ≡ t)
 
--- parsing refuses the text with that kind, at that place
-abbrev pub IsRefusalAt : ℕ → Text → RefusalKind → ℕ → Type 0
-IsRefusalAt n text kind place = ((kind ≡ Syntax) × IsSyntaxAt n text place) ⊎ ((kind ≡ TooDeep) × IsTooDeepAt n text place)
+-- the spans of a text that spells a tree are those of its items, whatever the levels
+abbrev pub SpansOfItems : Type 0
+SpansOfItems =
+    (n : ℕ) (q : QueryTree) (s : Spans) (text : Text) → Spells n q s text
+    → AreSpansOf text (items_of q) s
+
+-- the parser refuses the text with that kind, at that place
+abbrev pub IsParseRefusal : ℕ → Text → RefusalKind → ℕ → Type 0
+IsParseRefusal n text kind place =
+    ((kind ≡ Syntax) × IsSyntaxAt n text place) ⊎ ((kind ≡ TooDeep) × IsTooDeepAt n text place)
 
 -- a text spells a tree, or is refused, with one kind and at one place; and not both
 pub record IsRefusedOnce (n : ℕ) (text : Text) : Type 0 where
-  pub answered : ((q : QueryTree) × (s : Spans) × Spells n q s text) ⊎ ((kind : RefusalKind) × (place : ℕ) × IsRefusalAt n text kind place)
-  pub once : (kind other : RefusalKind) (place elsewhere : ℕ) → IsRefusalAt n text kind place → IsRefusalAt n text other elsewhere
+  pub answered : ((q : QueryTree) × (s : Spans) × Spells n q s text)
+      ⊎ ((kind : RefusalKind) × (place : ℕ) × IsParseRefusal n text kind place)
+  pub once : (kind other : RefusalKind) (place elsewhere : ℕ) → IsParseRefusal n text kind place
+      → IsParseRefusal n text other elsewhere
       → (kind ≡ other) × (place ≡ elsewhere)
-  pub only : (kind : RefusalKind) (place : ℕ) → IsRefusalAt n text kind place → SpellsNothing n text
+  pub only : (kind : RefusalKind) (place : ℕ) → IsParseRefusal n text kind place
+      → SpellsNothing n text
 
 -- whatever the text, and the levels
 abbrev pub OneRefusal : Type 0

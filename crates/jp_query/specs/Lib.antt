@@ -1,9 +1,10 @@
-pub mod Front
 pub mod Grammar
 pub mod HexDigits
 pub mod Ints
+pub mod ItemSpans
 pub mod Items
 pub mod Laws
+pub mod Levels
 pub mod Literals
 pub mod Names
 pub mod Parsed
@@ -15,3 +16,4 @@ pub mod Spelled
 pub mod Stops
 pub mod Strings
 pub mod Tree
+pub mod ViablePrefix

@@ -1,10 +1,16 @@
 //! Laws of the grammar, each the contract of a function that does nothing.
 
-ghost use Rattle.jp_query.specs.Laws.{OneReading, OneRefusal};
+ghost use Rattle.jp_query.specs.Laws.{OneReading, OneRefusal, SpansOfItems};
 
 /// No text spells two trees, or one tree with two lists of spans, whatever the levels.
 pub fn one_reading()
     ensures { OneReading }
+{}
+
+/// The spans of a text that spells a tree are those of its items: within each is the text of that
+/// item, only an omitted step has none, and they start one after the other, whatever the levels.
+pub fn spans_of_items()
+    ensures { SpansOfItems }
 {}
 
 /// Each text spells a tree, or is refused with one kind and at one place, and not both, whatever the levels.

@@ -30,6 +30,6 @@ mod tests;
 mod tree;
 
 pub use jp_reading::Span;
-pub use parsed::{Parsed, parse};
+pub use parsed::{LEVEL_LIMIT, Parsed, parse};
 pub use refusal::{Refusal, RefusalKind};
 pub use tree::{Expr, Literal, Numeral, Op, Operand, Query, Segment, Selector, Slice, Subject};

@@ -3,10 +3,11 @@
 ghost use Rattle.std.specs.Prelude.{◌≡◌, ◌⊎◌, IfOk, IfErr};
 ghost use Rattle.std.specs.Str.{chars};
 ghost use Rattle.jp_query.specs.Tree.{query_of};
-ghost use Rattle.jp_query.specs.Items.{items_of, EachSpanned};
+ghost use Rattle.jp_query.specs.ItemSpans.{IsSpelledWithSpans};
 ghost use Rattle.jp_query.specs.Grammar.{Spells};
 ghost use Rattle.jp_query.specs.Spelled.{IsSpelled, SpellsNothing};
-ghost use Rattle.jp_query.specs.Front.{IsSyntaxAt, IsTooDeepAt};
+ghost use Rattle.jp_query.specs.Levels.{level_limit};
+ghost use Rattle.jp_query.specs.ViablePrefix.{IsSyntaxAt, IsTooDeepAt};
 
 use crate::refusal::{Refusal, RefusalKind};
 use crate::segments::query;
@@ -14,6 +15,9 @@ use crate::tree::Query;
 use jp_reading::{Reader, Span};
 use std::alloc::Global;
 use std::marker::Model;
+
+/// How many filters and parentheses may be inside one another at most.
+pub const LEVEL_LIMIT: u32 = 64;
 
 /// A query and the spans of its items, as some text spells them.
 #[derive(Debug, Drop)]
@@ -38,22 +42,23 @@ impl Model for Parsed {
     ghost invariant = { IsSpelledInside };
 }
 
-/// Reads the text of a query (RFC 9535 section 2.1), in which at most 64 filters and parentheses stand inside one another.
+/// Reads the text of a query (RFC 9535 section 2.1), in which at most `LEVEL_LIMIT` filters and parentheses are inside one
+/// another.
 ///
 /// A text that spells no query is refused at the first byte with whose character it can go on to no query, or at its end: as
-/// `TooDeep` where one level more would let that character stand, which is then the mark `?` or `(` of the 65th level, else as
+/// `TooDeep` where one level more would let that character stand, which is then the mark `?` or `(` of the level too many, else as
 /// `Syntax`. `NoMemory`, at place 0, says nothing of the text.
 pub fn parse(alloc: Global, text: &str) -> Result<Parsed, Refusal>
-    ensures found { IfOk result (λ p. Spells 64 (query_of p.query) p.spans (chars text.now)) }
-    ensures only { IfErr result (λ r. (r.kind ≡ RefusalKind.NoMemory) ⊎ SpellsNothing 64 (chars text.now)) }
-    ensures syntax { IfErr result (λ r. r.kind ≡ RefusalKind.Syntax → IsSyntaxAt 64 (chars text.now) r.place) }
-    ensures deep { IfErr result (λ r. r.kind ≡ RefusalKind.TooDeep → IsTooDeepAt 64 (chars text.now) r.place) }
+    ensures found { IfOk result (λ p. Spells level_limit (query_of p.query) p.spans (chars text.now)) }
+    ensures only { IfErr result (λ r. (r.kind ≡ RefusalKind.NoMemory) ⊎ SpellsNothing level_limit (chars text.now)) }
+    ensures syntax { IfErr result (λ r. r.kind ≡ RefusalKind.Syntax → IsSyntaxAt level_limit (chars text.now) r.place) }
+    ensures deep { IfErr result (λ r. r.kind ≡ RefusalKind.TooDeep → IsTooDeepAt level_limit (chars text.now) r.place) }
     ensures kinds { IfErr
         result
         (λ r. (r.kind ≡ RefusalKind.Syntax) ⊎ (r.kind ≡ RefusalKind.TooDeep) ⊎ ((r.kind ≡ RefusalKind.NoMemory) × (r.place ≡ 0))) }
 {
     let mut reader = Reader::new(alloc, text);
-    match query(&mut reader, 64) {
+    match query(&mut reader, LEVEL_LIMIT) {
         Ok(query) => Ok(Parsed {
             query,
             spans: reader.into_spans(),
@@ -66,7 +71,7 @@ impl Parsed {
     /// The tree of the query.
     pub fn query(&self) -> &Query
         ensures same { result.now ≡ self.now.query }
-        ensures spelled { IsSpelled 64 (query_of self.now.query) self.now.spans }
+        ensures spelled { IsSpelled level_limit (query_of self.now.query) self.now.spans }
     {
         &self.query
     }
@@ -74,7 +79,7 @@ impl Parsed {
     /// Where each item of the query begins and ends in the text, in the items' order.
     pub fn spans(&self) -> &[Option<Span>]
         ensures same { result.now ≡ self.now.spans }
-        ensures each { EachSpanned (items_of (query_of self.now.query)) result.now }
+        ensures each { IsSpelledWithSpans level_limit (query_of self.now.query) result.now }
     {
         &self.spans
     }
@@ -82,7 +87,7 @@ impl Parsed {
     /// The tree of the query, which is handed over.
     pub fn into_query(self) -> Query
         ensures same { result ≡ self.query }
-        ensures spelled { IsSpelled 64 (query_of self.query) self.spans }
+        ensures spelled { IsSpelled level_limit (query_of self.query) self.spans }
     {
         self.query
     }

@@ -18,7 +18,7 @@ pub struct Refusal {
 pub enum RefusalKind {
     /// The text is no query: at the first place where it begins none, or at its end.
     Syntax,
-    /// Filters and parentheses stand more than 64 deep inside one another.
+    /// More filters and parentheses are inside one another than `LEVEL_LIMIT`.
     TooDeep,
     /// A literal with a fraction or an exponent.
     NotWhole,

@@ -6,5 +6,6 @@ use Rattle.jp_check.proofs.walk.first_fault.Goals as goal
 
 pub returns : goal.returns
 returns c =
-    found (items_of (query_of c.args.parsed.now.query)) c.args.parsed.now.spans c.first.result (rw c.spans.ensures.same at c.spans.ensures.each)
+    let spelled = rw c.spans.ensures.same at c.spans.ensures.each in
+    found spelled.0 (items_of (query_of c.args.parsed.now.query)) c.args.parsed.now.spans c.first.result spelled.2.each
     (rw (c.first.ensures, c.query-2.ensures, c.new-walk.ensures, c.spans.ensures.same, c.query.ensures.same) refl)

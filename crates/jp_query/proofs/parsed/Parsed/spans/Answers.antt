@@ -1,8 +1,11 @@
+use Rattle.jp_query.specs.Levels.{level_limit}
 use Rattle.jp_query.specs.Tree.{query_of}
-use Rattle.jp_query.proofs.Spanned.{each-spanned}
+use Rattle.jp_query.proofs.ItemSpans.{spans-of_items}
 use Rattle.jp_query.proofs.parsed.Parsed.spans.Goals as goal
 
 pub returns-clause-each : goal.returns-clause-each
 returns-clause-each c =
+    let text = c.self.invariant.0 in
+    let spelled = c.self.invariant.1 in
     rw (c.deref.ensures.value, ← c.self.view_is)
-    (each-spanned 64 (query_of c.self.inside.query) c.self.inside.spans.items c.self.invariant.0 c.self.invariant.1)
+    (text, spelled, spans-of_items level_limit (query_of c.self.inside.query) c.self.inside.spans.items text spelled)

@@ -1,0 +1,59 @@
+-- A fault is at the text of its item.
+use Rattle.std.proofs.Common.{◌≡◌, ◌⊎◌, inl, inr, List, [], ◌∷◌, Some, ap, subst, arith}
+use Rattle.std.specs.List.{Contains, zip}
+use Rattle.std.proofs.lemmas.List.Elements.{Contains-append_left, Contains-append_right, Contains-append_cases, Contains-push, Contains-push_cases}
+use Rattle.jp_reading.specs.Texts.{Text, Spans}
+use Rattle.jp_reading.specs.declared.span.Span.{Span}
+use Rattle.jp_query.specs.Items.{QueryItem, items_of}
+use Rattle.jp_query.specs.ItemSpans.{IsSpanOf, IsPlaceOf, EachSpanned}
+use Rattle.jp_query.specs.Laws.{SpansOfItems}
+use Rattle.jp_query.specs.Levels.{level_limit}
+use Rattle.jp_check.specs.Laws.{FaultAtItsItem}
+
+-- a pair is the first one, or one of the others
+pair-cases : {A B : Type 0} (a x : A) (b y : B) (rest : List (A × B))
+    → Contains ((a, b) ∷ rest) (x, y) → ((a ≡ x) × (b ≡ y)) ⊎ Contains rest (x, y)
+pair-cases a x b y rest h =
+    elim (Contains-append_cases ((a, b) ∷ []) rest (x, y) h) as
+    (λ _. ((a ≡ x) × (b ≡ y)) ⊎ Contains rest (x, y)) [
+      | inl first ↦
+          elim (Contains-push_cases [] (a, b) (x, y) first) as
+          (λ _. ((a ≡ x) × (b ≡ y)) ⊎ Contains rest (x, y)) [
+            | inl none ↦ absurd (omega (arith, none.1))
+            | inr e ↦ inl (ap (λ p. p.0) e, ap (λ p. p.1) e)
+          ]
+      | inr later ↦ inr later
+    ]
+
+-- an item that has a span is one of the items, and has its text there
+spanned-item : (text : Text) (items : List QueryItem) (spans : Spans) (item : QueryItem)
+    (span : Span) → EachSpanned text items spans
+    → Contains (zip items spans) (item, Some span) → Contains items item × IsSpanOf text item span
+spanned-item text [] spans item span each h = absurd (omega (arith, h.1))
+spanned-item text (x ∷ xs) [] item span each h = absurd each
+spanned-item text (x ∷ xs) (place ∷ spans) item span each h =
+    elim (pair-cases x item place (Some span) (zip xs spans) h) as
+    (λ _. Contains (x ∷ xs) item × IsSpanOf text item span) [
+      | inl same ↦
+          let is : IsPlaceOf text x (Some span) = subst (IsPlaceOf text x) same.1 each.0 in
+          let first = Contains-append_left (x ∷ []) xs x (Contains-push [] x) in
+          (subst (Contains (x ∷ xs)) same.0 first, subst (λ y. IsSpanOf text y span) same.0 is)
+      | inr later ↦
+          let there = spanned-item text xs spans item span each.1 later in
+          (Contains-append_right (x ∷ []) xs item there.0, there.1)
+    ]
+
+pub fault-at_its_item : SpansOfItems → FaultAtItsItem
+fault-at_its_item law text fault faulty =
+    let is = faulty.first.is in
+    let spans = law level_limit faulty.tree faulty.spans text faulty.spelled in
+    let own =
+    spanned-item text (items_of faulty.tree) faulty.spans is.item is.span spans.each is.among in
+    record {
+      item = is.item;
+      span = is.span;
+      among = own.0;
+      kind = is.kind;
+      own = own.1;
+      place = is.place;
+    }

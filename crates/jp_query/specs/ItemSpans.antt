@@ -1,0 +1,62 @@
+-- Where the items of a query are in its text.
+use Rattle.std.specs.Prelude.{◌≡◌, ℕ, ◌+◌, ◌<◌, pos, List, [], ◌∷◌, ◌++◌, Option, Some, None}
+use Rattle.jp_query.specs.declared.tree.Numeral.TheVariants.{Whole}
+use Rattle.jp_reading.specs.Texts.{Text, Spans, bytes}
+use Rattle.jp_reading.specs.declared.span.Span.{Span}
+use Rattle.jp_query.specs.Grammar.{InnerQuery, Inside, Spells}
+use Rattle.jp_query.specs.Ints.{Int}
+use Rattle.jp_query.specs.Items.{QueryItem, as_step, int, constant, inner, items_of}
+use Rattle.jp_query.specs.Literals.{Literal}
+use Rattle.jp_query.specs.Tree.{QueryTree}
+
+-- a text that starts at byte o spells the item: a number (RFC 9535 section 2.3.3.1), a literal, or
+-- a query inside another, with its `$` or `@` (section 2.3.5.1)
+abbrev pub SpellsItem : QueryItem → ℕ → Text → Type 0
+SpellsItem (int n _) o t = Int n [] o t
+SpellsItem (constant l _) o t = Literal l [] o t
+SpellsItem (inner q _) o t = (n : ℕ) × (s : Spans) × InnerQuery (Inside n) q s o t
+
+-- the item has this span in the text: the text within the span spells the item, and the span starts
+-- after as many bytes as there are before that text
+pub record IsSpanOf (text : Text) (item : QueryItem) (span : Span) : Type 0 where
+  pub before : Text
+  pub own : Text
+  pub after : Text
+  pub parts : text ≡ before ++ own ++ after
+  pub start : span.start ≡ bytes before
+  pub end : span.end ≡ span.start + bytes own
+  pub spells : SpellsItem item span.start own
+
+-- only an omitted step, which is 1, has no span (section 2.3.4.1)
+abbrev pub IsPlaceOf : Text → QueryItem → Option Span → Type 0
+IsPlaceOf text item (Some span) = IsSpanOf text item span
+IsPlaceOf text item None = item ≡ int (Whole (pos 1)) as_step
+
+-- each item in turn has its span, and there are no others
+abbrev pub EachSpanned : Text → List QueryItem → Spans → Type 0
+EachSpanned text [] [] = Unit {0}
+EachSpanned text (item ∷ items) (span ∷ spans) =
+    IsPlaceOf text item span × EachSpanned text items spans
+EachSpanned text _ _ = ⊥
+
+-- each span starts after byte o
+abbrev pub StartAfter : ℕ → Spans → Type 0
+StartAfter o [] = Unit {0}
+StartAfter o (None ∷ spans) = StartAfter o spans
+StartAfter o (Some span ∷ spans) = (o < span.start) × StartAfter o spans
+
+-- the spans start one after the other
+abbrev pub Rise : Spans → Type 0
+Rise [] = Unit {0}
+Rise (None ∷ spans) = Rise spans
+Rise (Some span ∷ spans) = StartAfter span.start spans × Rise spans
+
+-- these are the spans of the items in the text
+pub record AreSpansOf (text : Text) (items : List QueryItem) (spans : Spans) : Type 0 where
+  pub each : EachSpanned text items spans
+  pub rise : Rise spans
+
+-- some text spells the tree within n levels, and these are the spans of its items there
+abbrev pub IsSpelledWithSpans : ℕ → QueryTree → Spans → Type 0
+IsSpelledWithSpans n q spans =
+    (text : Text) × Spells n q spans text × AreSpansOf text (items_of q) spans

@@ -1,0 +1,6 @@
+-- How deep filters and parentheses may be inside one another.
+use Rattle.std.specs.Prelude.{ℕ}
+
+-- the greatest number of levels in a query that is read
+abbrev pub level_limit : ℕ
+level_limit = 64
