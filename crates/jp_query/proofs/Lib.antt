@@ -27,6 +27,7 @@ pub mod SoundExpressions
 pub mod SoundLevels
 pub mod SoundLiterals
 pub mod SoundOperands
+pub mod SpanRows
 pub mod SpeltExpressions
 pub mod SpeltInts
 pub mod SpeltLiterals
