@@ -8,3 +8,4 @@ pub mod Codes
 pub mod Grammar
 pub mod Reading
 pub mod Spelled
+pub mod Fault

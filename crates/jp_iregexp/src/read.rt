@@ -7,18 +7,10 @@ ghost use Rattle.jp_iregexp.specs.Grammar.{SpellsPattern};
 ghost use Rattle.jp_iregexp.specs.Spelled.{SpellsNone};
 
 use crate::branches::pattern;
+use crate::fault::PatternFault;
 use crate::pattern::Pattern;
 use jp_reading::{Reader, Stop};
 use std::alloc::Global;
-
-/// Why a text is not read as a pattern.
-#[derive(Clone, Copy, Debug, PartialEq, Eq)]
-pub enum PatternFault {
-    /// The text spells no pattern with at most 64 groups inside one another.
-    NotConforming = 1,
-    /// Memory ran out.
-    NoMemory = 2,
-}
 
 /// The pattern that a text spells (RFC 9485, section 3), with at most 64 groups inside one another.
 /// `NotConforming` says that it spells none so. The time taken is linear in the text's length.
