@@ -37,10 +37,9 @@ impl Spare {
         Ok(copy)
     }
 
-    /// Takes a set that is no longer in use.
-    pub fn give_back(&mut self, places: Places) -> Result<(), AllocError> {
-        self.sets.push(places)?;
-        Ok(())
+    /// Takes a set that is no longer in use. Where there is no room to keep it, it is dropped.
+    pub fn give_back(&mut self, places: Places) {
+        let _ = self.sets.push(places);
     }
 }
 
