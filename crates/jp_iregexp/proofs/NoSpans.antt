@@ -7,13 +7,13 @@ use Rattle.jp_iregexp.specs.declared.class.ClassItem.{ClassItem}
 use Rattle.jp_iregexp.specs.Characters.{Character, itself, escaped}
 use Rattle.jp_iregexp.specs.Tree.{Tree}
 use Rattle.jp_iregexp.specs.Grammar as grammar
-use Rattle.jp_iregexp.specs.Grammar.{Escape, Hyphen, Element, First, Last, Items, Class, Number, Most, Quantifier, Atom, Piece, Branch, Branches, Inside}
+use Rattle.jp_iregexp.specs.Grammar.{ClassEscape, Hyphen, Element, First, Last, Items, Class, Number, Most, Quantifier, Atom, Piece, Branch, Branches, Inside}
 
 bare-character : (plain : ℕ → Bool) (c : ℕ) → Bare (Character plain c)
 bare-character plain c s o t (itself h) = h.none
 bare-character plain c s o t (escaped e is h) = bare-joined _ (One _ e) (bare-word _) (bare-one _ e) s o t h
 
-bare-escape : (x : ClassItem) → Bare (Escape x)
+bare-escape : (x : ClassItem) → Bare (ClassEscape x)
 bare-escape x s o t (grammar.within k e h) = bare-joined _ _ (bare-word _) (bare-joined _ _ (bare-word _) (bare-word _)) s o t h
 bare-escape x s o t (grammar.outside k e h) = bare-joined _ _ (bare-word _) (bare-joined _ _ (bare-word _) (bare-word _)) s o t h
 

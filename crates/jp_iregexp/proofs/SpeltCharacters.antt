@@ -13,7 +13,7 @@ use Rattle.jp_iregexp.specs.declared.class.ClassItem.TheVariants as item
 use Rattle.jp_iregexp.specs.Characters.{Character, itself, escaped, is_plain, is_escaped, meant}
 use Rattle.jp_iregexp.specs.Codes.{letters, pair, code_of}
 use Rattle.jp_iregexp.specs.Grammar as grammar
-use Rattle.jp_iregexp.specs.Grammar.{Escape, Hyphen, Element, First, Last, Items, NotAtCaret, Class, Number, Most, Quantifier, one, dot, Atom, Piece, Branch, Branches, Inside, SpellsPattern}
+use Rattle.jp_iregexp.specs.Grammar.{ClassEscape, Hyphen, Element, First, Last, Items, NotAtCaret, Class, Number, Most, Quantifier, one, dot, Atom, Piece, Branch, Branches, Inside, SpellsPattern}
 use Rattle.jp_iregexp.specs.Reading.{escaped_at, character_at, is_category_sign, code_at, category_at, begins_element}
 use Rattle.jp_iregexp.proofs.CodeLemmas.{lettered, AreLetters}
 
@@ -120,8 +120,8 @@ escape-of c k p q h sign =
           ∙ again-category c k m q (reads-then (word (c ∷ codes "{")) (word (letters k) ⌢ word (codes "}")) m parts.middle q front.two parts.two) sign;
     }
 
-pub again-escape : (x : ClassItem) (p q : State) → Reads (Escape x) p q → Escaped x p q
+pub again-escape : (x : ClassItem) (p q : State) → Reads (ClassEscape x) p q → Escaped x p q
 again-escape x p q h = elim h.is [
-  | grammar.within k e g ↦ subst (λ y. Escaped y p q) (sym e) (escape-of 112 k p q (reads-is (Escape x) (word (codes "\\p{") ⌢ word (letters k) ⌢ word (codes "}")) p q h g) refl)
-  | grammar.outside k e g ↦ subst (λ y. Escaped y p q) (sym e) (escape-of 80 k p q (reads-is (Escape x) (word (codes "\\P{") ⌢ word (letters k) ⌢ word (codes "}")) p q h g) refl)
+  | grammar.within k e g ↦ subst (λ y. Escaped y p q) (sym e) (escape-of 112 k p q (reads-is (ClassEscape x) (word (codes "\\p{") ⌢ word (letters k) ⌢ word (codes "}")) p q h g) refl)
+  | grammar.outside k e g ↦ subst (λ y. Escaped y p q) (sym e) (escape-of 80 k p q (reads-is (ClassEscape x) (word (codes "\\P{") ⌢ word (letters k) ⌢ word (codes "}")) p q h g) refl)
 ]

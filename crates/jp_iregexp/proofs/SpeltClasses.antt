@@ -14,7 +14,7 @@ use Rattle.jp_iregexp.specs.declared.class.ClassItem.TheVariants as item
 use Rattle.jp_iregexp.specs.Characters.{Character, itself, escaped, is_plain, is_escaped}
 use Rattle.jp_iregexp.specs.Tree.{Tree, class}
 use Rattle.jp_iregexp.specs.Grammar as grammar
-use Rattle.jp_iregexp.specs.Grammar.{Escape, Hyphen, Element, First, Last, Items, NotAtCaret, Class, Number, Most, Quantifier, one, dot, Atom, Piece, Branch, Branches, Inside, SpellsPattern}
+use Rattle.jp_iregexp.specs.Grammar.{ClassEscape, Hyphen, Element, First, Last, Items, NotAtCaret, Class, Number, Most, Quantifier, one, dot, Atom, Piece, Branch, Branches, Inside, SpellsPattern}
 use Rattle.jp_iregexp.specs.Reading.{is_category_sign, is_at_category, range_at, element_at, begins_element, elements_at, hyphen_at, first_at, last_at, items_at, negation_at, class_at}
 use Rattle.jp_iregexp.proofs.Moves.{moves-element}
 use Rattle.jp_iregexp.proofs.SpeltCharacters.{plain-element, plain-no-backslash, escaped-no-sign, again-character, again-escape, Escaped}
@@ -110,7 +110,7 @@ again-element x p q h after = elim h.is [
   | grammar.range c d e order g ↦
       (let parts = split (Character is_plain c) (word (codes "-") ⌢ Character is_plain d) p q (reads-is (Element x) (Character is_plain c ⌢ word (codes "-") ⌢ Character is_plain d) p q h g) in
       element-character c x p parts.middle q parts.one (range-to c d parts.middle q order parts.two ∙ ap (λ y. took y q) (sym e)))
-  | grammar.class_escape g ↦ element-escape x p q (again-escape x p q (reads-is (Element x) (Escape x) p q h g))
+  | grammar.class_escape g ↦ element-escape x p q (again-escape x p q (reads-is (Element x) (ClassEscape x) p q h g))
 ]
 
 begins-element : (x : ClassItem) (p q : State) → Reads (Element x) p q → Begins p
@@ -120,7 +120,7 @@ begins-element x p q h = elim h.is [
       (let parts = split (Character is_plain c) (word (codes "-") ⌢ Character is_plain d) p q (reads-is (Element x) (Character is_plain c ⌢ word (codes "-") ⌢ Character is_plain d) p q h g) in
       begins-character c p parts.middle parts.one)
   | grammar.class_escape g ↦
-      (let escape = again-escape x p q (reads-is (Element x) (Escape x) p q h g) in
+      (let escape = again-escape x p q (reads-is (Element x) (ClassEscape x) p q h g) in
       record { first = 92; at = head-is 92 p escape.at; is = refl })
 ]
 

@@ -15,7 +15,7 @@ use Rattle.jp_iregexp.specs.declared.class.ClassItem.{ClassItem}
 use Rattle.jp_iregexp.specs.Characters.{Character, itself, escaped, is_normal, is_escaped, meant}
 use Rattle.jp_iregexp.specs.Tree.{Tree, class, repeat, branches}
 use Rattle.jp_iregexp.specs.Grammar as grammar
-use Rattle.jp_iregexp.specs.Grammar.{Escape, Hyphen, Element, First, Last, Items, NotAtCaret, Class, Number, Most, Quantifier, one, dot, Atom, Piece, Branch, Branches, Inside, SpellsPattern}
+use Rattle.jp_iregexp.specs.Grammar.{ClassEscape, Hyphen, Element, First, Last, Items, NotAtCaret, Class, Number, Most, Quantifier, one, dot, Atom, Piece, Branch, Branches, Inside, SpellsPattern}
 use Rattle.jp_iregexp.specs.Reading.{is_category_sign, escape_at, group_at, atom_at, piece_at, branch_at, next_branch_at, branches_at, inside_at, pattern_at, begins_piece, begins_quantifier}
 use Rattle.jp_iregexp.proofs.Moves.{moves-piece, moves-next_branch, keeps-inside}
 use Rattle.jp_iregexp.proofs.SpeltCharacters.{escaped-no-sign, again-escaped, again-escape, Escaped}
@@ -176,7 +176,7 @@ module _ (Group : Tree → Form) (inside : State → Outcome Tree)
   again-atom x p q h = elim h.is [
     | grammar.character c e g ↦ subst (λ y. AtomRead y p q) (sym e) (character-read c (reads-is (Atom Group x) (Character is_normal c) p q h g))
     | grammar.anything e g ↦ subst (λ y. AtomRead y p q) (sym e) (atom-dot p q (reads-is (Atom Group x) (word (codes ".")) p q h g))
-    | grammar.category i e g ↦ subst (λ y. AtomRead y p q) (sym e) (atom-category i p q (again-escape i p q (reads-is (Atom Group x) (Escape i) p q h g)))
+    | grammar.category i e g ↦ subst (λ y. AtomRead y p q) (sym e) (atom-category i p q (again-escape i p q (reads-is (Atom Group x) (ClassEscape i) p q h g)))
     | grammar.brackets g ↦ (let read = reads-is (Atom Group x) (Class x) p q h g in atom-class x p q (class-first x p q read) read)
     | grammar.group g ↦ atom-group x p q (reads-is (Atom Group x) (word (codes "(") ⌢ Group x ⌢ word (codes ")")) p q h g)
   ]

@@ -15,7 +15,7 @@ use Rattle.jp_iregexp.specs.declared.class.ClassItem.TheVariants as item
 use Rattle.jp_iregexp.specs.Characters.{Character, itself, escaped, is_plain, is_escaped, meant}
 use Rattle.jp_iregexp.specs.Codes.{letters, pair, code_of}
 use Rattle.jp_iregexp.specs.Grammar as grammar
-use Rattle.jp_iregexp.specs.Grammar.{Escape, Hyphen, Element, First, Last, Items, NotAtCaret, Class, Number, Most, Quantifier, one, dot, Atom, Piece, Branch, Branches, Inside, SpellsPattern}
+use Rattle.jp_iregexp.specs.Grammar.{ClassEscape, Hyphen, Element, First, Last, Items, NotAtCaret, Class, Number, Most, Quantifier, one, dot, Atom, Piece, Branch, Branches, Inside, SpellsPattern}
 use Rattle.jp_iregexp.specs.Reading.{there, escaped_at, character_at, is_category_sign, second_at, code_at, category_at}
 use Rattle.jp_iregexp.proofs.CodeLemmas.{code_of-letters}
 
@@ -69,13 +69,13 @@ fits-code p =
 sign-is : (c : ℕ) → is_category_sign c ≡ true → is 80 c ≡ false → c ≡ 112
 sign-is c h e = grind (arith, nat_tests)
 
-pub fits-category : (p q : State) → Reads (word (codes "\\")) p q → Fits Escape p (category_at q)
+pub fits-category : (p q : State) → Reads (word (codes "\\")) p q → Fits ClassEscape p (category_at q)
 unfolding category_at
 fits-category p q behind =
-    fits-then (One is_category_sign) Escape p q (take_if is_category_sign q) _ (fits-take_if is_category_sign q)
-    (λ c q1 sign. fits-then (λ x. word (codes "{")) Escape p q1 (expect 123 q1) _ (fits-expect 123 q1)
-    (λ x q2 brace. fits-then (λ k. word (letters k)) Escape p q2 (code_at q2) _ (fits-code q2)
-    (λ k q3 code. fits-then (λ x. word (codes "}")) Escape p q3 (expect 125 q3) _ (fits-expect 125 q3)
+    fits-then (One is_category_sign) ClassEscape p q (take_if is_category_sign q) _ (fits-take_if is_category_sign q)
+    (λ c q1 sign. fits-then (λ x. word (codes "{")) ClassEscape p q1 (expect 123 q1) _ (fits-expect 123 q1)
+    (λ x q2 brace. fits-then (λ k. word (letters k)) ClassEscape p q2 (code_at q2) _ (fits-code q2)
+    (λ k q3 code. fits-then (λ x. word (codes "}")) ClassEscape p q3 (expect 125 q3) _ (fits-expect 125 q3)
     (λ y q4 last. escape c k p q1 q2 q3 q4 (sign_of c p q q1 behind sign).0 (sign_of c p q q1 behind sign).1 brace code last))))
   where
     sign_of : (c : ℕ) (p q q1 : State) → Reads (word (codes "\\")) p q → Reads (One is_category_sign c) q q1 → (is_category_sign c ≡ true) × Reads (word (92 ∷ c ∷ [])) p q1
@@ -83,14 +83,14 @@ fits-category p q behind =
         (g.is.passes, reads-words (92 ∷ []) (c ∷ []) p q q1 h (reads-as (One is_category_sign c) (word (c ∷ [])) q q1 (λ s o t k. record { none = k.none; is = k.is }) g))
 
     escape : (c : ℕ) (k : Category) (p q1 q2 q3 q4 : State) → is_category_sign c ≡ true → Reads (word (92 ∷ c ∷ [])) p q1 → Reads (word (codes "{")) q1 q2
-        → Reads (word (letters k)) q2 q3 → Reads (word (codes "}")) q3 q4 → Reads (Escape (item.Category k (is 80 c))) p q4
+        → Reads (word (letters k)) q2 q3 → Reads (word (codes "}")) q3 q4 → Reads (ClassEscape (item.Category k (is 80 c))) p q4
     escape c k p q1 q2 q3 q4 passes sign brace code last =
         elim (cases_Bool (is 80 c)) [
-          | inl h ↦ rw h (reads-as (word (codes "\\P{") ⌢ word (letters k) ⌢ word (codes "}")) (Escape (item.Category k true)) p q4 (λ s o t g. grammar.outside k refl g)
+          | inl h ↦ rw h (reads-as (word (codes "\\P{") ⌢ word (letters k) ⌢ word (codes "}")) (ClassEscape (item.Category k true)) p q4 (λ s o t g. grammar.outside k refl g)
               (reads-then (word (codes "\\P{")) (word (letters k) ⌢ word (codes "}")) p q2 q4
               (reads-words (codes "\\P") (codes "{") p q1 q2 (subst (λ d. Reads (word (92 ∷ d ∷ [])) p q1) (eqb-true c 80 h) sign) brace)
               (reads-then (word (letters k)) (word (codes "}")) q2 q3 q4 code last)))
-          | inr h ↦ rw h (reads-as (word (codes "\\p{") ⌢ word (letters k) ⌢ word (codes "}")) (Escape (item.Category k false)) p q4 (λ s o t g. grammar.within k refl g)
+          | inr h ↦ rw h (reads-as (word (codes "\\p{") ⌢ word (letters k) ⌢ word (codes "}")) (ClassEscape (item.Category k false)) p q4 (λ s o t g. grammar.within k refl g)
               (reads-then (word (codes "\\p{")) (word (letters k) ⌢ word (codes "}")) p q2 q4
               (reads-words (codes "\\p") (codes "{") p q1 q2 (subst (λ d. Reads (word (92 ∷ d ∷ [])) p q1) (sign-is c passes h) sign) brace)
               (reads-then (word (letters k)) (word (codes "}")) q2 q3 q4 code last)))

@@ -14,7 +14,7 @@ use Rattle.jp_iregexp.specs.declared.class.ClassItem.TheVariants as item
 use Rattle.jp_iregexp.specs.Characters.{Character, is_plain}
 use Rattle.jp_iregexp.specs.Tree.{class}
 use Rattle.jp_iregexp.specs.Grammar as grammar
-use Rattle.jp_iregexp.specs.Grammar.{Escape, Hyphen, Element, First, Last, Items, NotAtCaret, Class, Number, Most, Quantifier, one, dot, Atom, Piece, Branch, Branches, Inside, SpellsPattern}
+use Rattle.jp_iregexp.specs.Grammar.{ClassEscape, Hyphen, Element, First, Last, Items, NotAtCaret, Class, Number, Most, Quantifier, one, dot, Atom, Piece, Branch, Branches, Inside, SpellsPattern}
 use Rattle.jp_iregexp.specs.Reading.{character_at, is_category_sign, category_at, is_at_category, range_at, element_at, begins_element, elements_at, hyphen_at, first_at, last_at, items_at, class_at}
 use Rattle.jp_iregexp.proofs.TakenCharacters.{both, fits-character, fits-category}
 
@@ -35,7 +35,7 @@ fits-element : (p : State) → Fits Element p (element_at p)
 unfolding element_at
 fits-element p =
     fits-if Element (is_at_category p) p (category_at (past p)) (character_at p >>= λ c q. range_at c q)
-    (λ h. fits-as Escape Element p (category_at (past p)) (λ x s o t g. grammar.class_escape g)
+    (λ h. fits-as ClassEscape Element p (category_at (past p)) (λ x s o t g. grammar.class_escape g)
     (fits-category p (past p) (reads-next 92 p (both (is_at 92 p) (passes is_category_sign (head (past p))) h).0)))
     (λ h. fits-then (Character is_plain) Element p p (character_at p) (λ c q. range_at c q) (fits-character p) (λ c q one. fits-range c p q one))
 

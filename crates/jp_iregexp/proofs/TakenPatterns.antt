@@ -10,7 +10,7 @@ use Rattle.jp_reading.proofs.Fits.{reads-next, Fits, fits-then, fits-if, fits-by
 use Rattle.jp_iregexp.specs.Characters.{Character, itself, is_normal}
 use Rattle.jp_iregexp.specs.Tree.{Tree, class, repeat, branches, pieces}
 use Rattle.jp_iregexp.specs.Grammar as grammar
-use Rattle.jp_iregexp.specs.Grammar.{Escape, Hyphen, Element, First, Last, Items, NotAtCaret, Class, Number, Most, Quantifier, one, dot, Atom, Piece, Branch, Branches, Inside, SpellsPattern}
+use Rattle.jp_iregexp.specs.Grammar.{ClassEscape, Hyphen, Element, First, Last, Items, NotAtCaret, Class, Number, Most, Quantifier, one, dot, Atom, Piece, Branch, Branches, Inside, SpellsPattern}
 use Rattle.jp_iregexp.specs.Reading.{escaped_at, is_category_sign, category_at, class_at, quantifier_at, escape_at, group_at, atom_at, piece_at, pieces_at, branch_at, next_branch_at, branches_at, inside_at, pattern_at, begins_piece, begins_quantifier}
 use Rattle.jp_iregexp.proofs.TakenCharacters.{fits-escaped, fits-category}
 use Rattle.jp_iregexp.proofs.TakenClasses.{fits-class}
@@ -21,8 +21,8 @@ module _ (Group : Tree → Form) (inside : State → Outcome Tree) (fits : (p : 
   unfolding escape_at
   fits-escape p q behind =
       fits-if (Atom Group) (passes is_category_sign (head q)) p _ _
-      (λ h. fits-by (λ i. class false (i ∷ [])) Escape (Atom Group) p p (category_at q) (fits-category p q behind)
-      (λ i r g. reads-as (Escape i) (Atom Group (class false (i ∷ []))) p r (λ s o t k. grammar.category i refl k) g))
+      (λ h. fits-by (λ i. class false (i ∷ [])) ClassEscape (Atom Group) p p (category_at q) (fits-category p q behind)
+      (λ i r g. reads-as (ClassEscape i) (Atom Group (class false (i ∷ []))) p r (λ s o t k. grammar.category i refl k) g))
       (λ h. fits-by one (Character is_normal) (Atom Group) p p (escaped_at q) (fits-escaped is_normal p q behind)
       (λ c r g. reads-as (Character is_normal c) (Atom Group (one c)) p r (λ s o t k. grammar.character c refl k) g))
 

@@ -12,7 +12,7 @@ use Rattle.jp_reading.proofs.Digits.{capped-is_min}
 use Rattle.jp_reading.proofs.Fits.{reads-next, Fits, fits-then, fits-if, fits-by, reads-nothing, fits-expect, fits-digits}
 use Rattle.jp_iregexp.specs.declared.quantifiers.Count.{Count}
 use Rattle.jp_iregexp.specs.Grammar as grammar
-use Rattle.jp_iregexp.specs.Grammar.{Escape, Hyphen, Element, First, Last, Items, NotAtCaret, Class, Number, Most, Quantifier, one, dot, Atom, Piece, Branch, Branches, Inside, SpellsPattern}
+use Rattle.jp_iregexp.specs.Grammar.{ClassEscape, Hyphen, Element, First, Last, Items, NotAtCaret, Class, Number, Most, Quantifier, one, dot, Atom, Piece, Branch, Branches, Inside, SpellsPattern}
 use Rattle.jp_iregexp.specs.Reading.{number_at, most_at, braces_at, quantifier_at}
 
 -- a number as it is read, capped

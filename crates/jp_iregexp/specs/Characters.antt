@@ -1,8 +1,8 @@
--- The characters of patterns, alone and behind `\`.
+-- The characters of patterns, alone and after `\`.
 use Rattle.std.specs.Prelude.{◌≡◌, ℕ, Bool, ◌==◌, not, if◌then◌else◌, codes}
 use Rattle.std.specs.List.{list_any}
 use Rattle.jp_reading.specs.Texts.{Text, Spans}
-use Rattle.jp_reading.specs.Forms.{word, One, ◌⌢◌}
+use Rattle.jp_reading.specs.Forms.{Form, word, One, ◌⌢◌}
 
 -- whether a character is one of a text's
 abbrev pub is_among : Text → ℕ → Bool
@@ -16,7 +16,7 @@ is_normal c = not (is_among (codes "()*+.?[\\]{|}") c)
 unfoldable pub is_plain : ℕ → Bool
 is_plain c = not (is_among (codes "-[\\]") c)
 
--- a character that may stand behind `\` (RFC 9485 section 3, SingleCharEsc)
+-- a character that may stand after `\` (RFC 9485 section 3, SingleCharEsc)
 unfoldable pub is_escaped : ℕ → Bool
 is_escaped e = is_among (codes "()*+-.?[\\]^nrt{|}") e
 
@@ -24,7 +24,11 @@ is_escaped e = is_among (codes "()*+-.?[\\]^nrt{|}") e
 unfoldable pub meant : ℕ → ℕ
 meant e = if e == 110 then 10 else (if e == 114 then 13 else (if e == 116 then 9 else e))
 
--- the character c, by itself where it is plain or behind `\`
+-- SingleCharEsc: `\` and the character e after it, which stand for what `meant` says (RFC 9485 section 3)
+abbrev pub SingleEscape : ℕ → Form
+SingleEscape e = word (codes "\\") ⌢ One is_escaped e
+
+-- the character c, by itself where it is plain or by its escape
 pub data Character (plain : ℕ → Bool) (c : ℕ) (s : Spans) (o : ℕ) (t : Text) : Type 0 where
   itself : One plain c s o t → Character plain c s o t
-  escaped : (e : ℕ) → c ≡ meant e → (word (codes "\\") ⌢ One is_escaped e) s o t → Character plain c s o t
+  escaped : (e : ℕ) → c ≡ meant e → SingleEscape e s o t → Character plain c s o t

@@ -11,10 +11,10 @@ use Rattle.jp_iregexp.specs.Characters.{Character, is_normal, is_plain}
 use Rattle.jp_iregexp.specs.Codes.{letters}
 use Rattle.jp_iregexp.specs.Tree.{Tree, class, repeat, branches, pieces}
 
--- charClassEsc: the characters of a category, or all others
-pub data Escape (x : ClassItem) (s : Spans) (o : ℕ) (t : Text) : Type 0 where
-  within : (code : Category) → x ≡ item.Category code false → (word (codes "\\p{") ⌢ word (letters code) ⌢ word (codes "}")) s o t → Escape x s o t
-  outside : (code : Category) → x ≡ item.Category code true → (word (codes "\\P{") ⌢ word (letters code) ⌢ word (codes "}")) s o t → Escape x s o t
+-- charClassEsc: catEsc, the characters of a category, or complEsc, all others
+pub data ClassEscape (x : ClassItem) (s : Spans) (o : ℕ) (t : Text) : Type 0 where
+  within : (code : Category) → x ≡ item.Category code false → (word (codes "\\p{") ⌢ word (letters code) ⌢ word (codes "}")) s o t → ClassEscape x s o t
+  outside : (code : Category) → x ≡ item.Category code true → (word (codes "\\P{") ⌢ word (letters code) ⌢ word (codes "}")) s o t → ClassEscape x s o t
 
 -- a `-` that stands for itself
 pub record Hyphen (x : ClassItem) (s : Spans) (o : ℕ) (t : Text) : Type 0 where
@@ -25,7 +25,7 @@ pub record Hyphen (x : ClassItem) (s : Spans) (o : ℕ) (t : Text) : Type 0 wher
 pub data Element (x : ClassItem) (s : Spans) (o : ℕ) (t : Text) : Type 0 where
   single : (c : ℕ) → x ≡ item.Range c c → Character is_plain c s o t → Element x s o t
   range : (first last : ℕ) → x ≡ item.Range first last → first ≤ last → (Character is_plain first ⌢ word (codes "-") ⌢ Character is_plain last) s o t → Element x s o t
-  class_escape : Escape x s o t → Element x s o t
+  class_escape : ClassEscape x s o t → Element x s o t
 
 -- the first item of a class: a `-` may stand there
 pub data First (x : ClassItem) (s : Spans) (o : ℕ) (t : Text) : Type 0 where
@@ -88,7 +88,7 @@ module _ (Group : Tree → Form) where
   pub data Atom (x : Tree) (s : Spans) (o : ℕ) (t : Text) : Type 0 where
     character : (c : ℕ) → x ≡ one c → Character is_normal c s o t → Atom x s o t
     anything : x ≡ dot → word (codes ".") s o t → Atom x s o t
-    category : (i : ClassItem) → x ≡ class false (i ∷ []) → Escape i s o t → Atom x s o t
+    category : (i : ClassItem) → x ≡ class false (i ∷ []) → ClassEscape i s o t → Atom x s o t
     brackets : Class x s o t → Atom x s o t
     group : (word (codes "(") ⌢ Group x ⌢ word (codes ")")) s o t → Atom x s o t
 

@@ -3,8 +3,8 @@ use Rattle.std.specs.Prelude.{◌≡◌, ℕ, zero, suc, ◌≤◌, true, ⊤, L
 use Rattle.jp_iregexp.specs.Class.{class_holds}
 use Rattle.jp_iregexp.specs.Tree.{Tree, class, nothing, either, empty, sequence, repeat}
 
--- a word of two parts, the front in one language and the back in another
-pub record Joined (First Second : List ℕ → Type 0) (word : List ℕ) : Type 0 where
+-- the concatenation of two languages: a word of two parts, the first in the one and the second in the other
+pub record Concatenation (First Second : List ℕ → Type 0) (word : List ℕ) : Type 0 where
   pub front : List ℕ
   pub back : List ℕ
   pub is : word ≡ front ++ back
@@ -14,7 +14,7 @@ pub record Joined (First Second : List ℕ → Type 0) (word : List ℕ) : Type 
 -- k words of a language one after another
 abbrev pub Power : (List ℕ → Type 0) → ℕ → List ℕ → Type 0
 Power L zero word = word ≡ []
-Power L (suc k) word = Joined L (Power L k) word
+Power L (suc k) word = Concatenation L (Power L k) word
 
 -- a count is not above the most that a repeat allows; without a most there is no upper end
 abbrev pub IsAtMost : Option ℕ → ℕ → Type 0
@@ -29,5 +29,5 @@ Language (class negated items) word = (c : ℕ) × (class_holds negated items c 
 Language nothing word = ⊥
 Language (either a b) word = Language a word ⊎ Language b word
 Language empty word = word ≡ []
-Language (sequence a b) word = Joined (Language a) (Language b) word
+Language (sequence a b) word = Concatenation (Language a) (Language b) word
 Language (repeat a least most) word = (k : ℕ) × (least ≤ k) × IsAtMost most k × Power (Language a) k word

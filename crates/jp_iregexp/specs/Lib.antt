@@ -9,3 +9,4 @@ pub mod Grammar
 pub mod Groups
 pub mod Reading
 pub mod Spelled
+pub mod Fault

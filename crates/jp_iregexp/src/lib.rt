@@ -17,6 +17,7 @@ mod branches;
 mod category;
 mod characters;
 mod class;
+mod fault;
 pub mod laws;
 mod pattern;
 mod quantifiers;
@@ -24,8 +25,9 @@ mod read;
 
 pub use category::Category;
 pub use class::{CharClass, ClassItem};
+pub use fault::PatternFault;
 pub use pattern::Pattern;
-pub use read::{GROUP_LIMIT, PatternFault, read_pattern};
+pub use read::{GROUP_LIMIT, read_pattern};
 
 #[cfg(test)]
 mod tests;

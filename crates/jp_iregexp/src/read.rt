@@ -8,21 +8,13 @@ ghost use Rattle.jp_iregexp.specs.Groups.{group_limit};
 ghost use Rattle.jp_iregexp.specs.Spelled.{SpellsNone};
 
 use crate::branches::pattern;
+use crate::fault::PatternFault;
 use crate::pattern::Pattern;
 use jp_reading::{Reader, Stop};
 use std::alloc::Global;
 
 /// How many groups may be inside one another at most.
 pub const GROUP_LIMIT: u32 = 64;
-
-/// Why a text is not read as a pattern.
-#[derive(Clone, Copy, Debug, PartialEq, Eq)]
-pub enum PatternFault {
-    /// The text spells no pattern with at most [`GROUP_LIMIT`] groups inside one another.
-    NotConforming = 1,
-    /// Memory ran out.
-    NoMemory = 2,
-}
 
 /// The pattern that a text spells (RFC 9485, section 3), with at most [`GROUP_LIMIT`] groups inside
 /// one another. `NotConforming` says that it spells none so. The time taken is linear in the text's

@@ -1,6 +1,6 @@
 -- Rounds of a repeat that only the new places begin.
 use Rattle.std.proofs.Common.{◌≡◌, ◌↔◌, ◌⊎◌, inl, inr, ℕ, zero, suc, ◌+◌, ◌<◌, ◌≤◌, Bool, true, false, List, [], ◌∷◌, Option, Some, None, length, get_or, refl, sym, ◌∙◌, subst, arith}
-use Rattle.jp_iregexp.specs.Language.{Joined, Power, IsAtMost}
+use Rattle.jp_iregexp.specs.Language.{Concatenation, Power, IsAtMost}
 use Rattle.jp_match.specs.Counts.{Times, IsMostAfter}
 use Rattle.jp_match.specs.Place.{Marked, Reached, IsImage}
 use Rattle.jp_match.proofs.Reaching.{halfway, onward, reached_as, reached_from, reached_still, still_reached}
@@ -66,7 +66,7 @@ by_one_more L text now stepped next left fewer place h step within r =
     let cut = whole.holds in
     let (k, few, words) = cut.second in
     let count : 1 + k ≡ suc k = omega arith in
-    reached_as (Joined L (Times L fewer)) (Times L left) text now place whole
+    reached_as (Concatenation L (Times L fewer)) (Times L left) text now place whole
     (suc k, subst (IsAtMost left) count ((at_most_after left 1 fewer k h).0 few), record { front = cut.front; back = cut.back; is = cut.is; first = cut.first; second = words })
 
 -- from the new places by some words: none, or one and then others from where it leads

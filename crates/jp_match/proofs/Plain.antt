@@ -4,7 +4,7 @@ use Rattle.jp_iregexp.specs.declared.class.ClassItem.{ClassItem}
 use Rattle.jp_iregexp.specs.Class.{class_holds}
 use Rattle.jp_iregexp.specs.Tree as tree
 use Rattle.jp_iregexp.specs.Tree.{Tree}
-use Rattle.jp_iregexp.specs.Language.{Joined, Power}
+use Rattle.jp_iregexp.specs.Language.{Concatenation, Power}
 
 -- a pattern whose only repeat is one or more
 pub data Plain : Type 0 where
@@ -21,7 +21,7 @@ Words (class negated items) word = (c : ℕ) × (class_holds negated items c ≡
 Words nothing word = ⊥
 Words (either a b) word = Words a word ⊎ Words b word
 Words empty word = word ≡ []
-Words (sequence a b) word = Joined (Words a) (Words b) word
+Words (sequence a b) word = Concatenation (Words a) (Words b) word
 Words (plus a) word = (k : ℕ) × Power (Words a) (suc k) word
 
 -- at least so many copies

@@ -1,7 +1,7 @@
 -- What sets of places reach by words of a language.
 use Rattle.std.proofs.Common.{◌≡◌, ◌↔◌, ◌⊎◌, inl, inr, ℕ, suc, Bool, List, [], ◌++◌, length, refl, sym, ap, ◌∙◌, subst, arith}
 use Rattle.std.proofs.lemmas.List.{length-append, append_assoc}
-use Rattle.jp_iregexp.specs.Language.{Joined}
+use Rattle.jp_iregexp.specs.Language.{Concatenation}
 use Rattle.jp_match.specs.Place.{Marked, Reached, IsImage}
 use Rattle.jp_match.proofs.Cuts.{cut_apart, cut_at, marked_below}
 
@@ -59,7 +59,7 @@ pub record Halfway (L M : List ℕ → Type 0) (text : List ℕ) (from : List Bo
   pub first : Reached L text from middle
   pub second : (places : List Bool) → Marked places middle → Reached M text places place
 
-pub halfway : (L M : List ℕ → Type 0) (text : List ℕ) (from : List Bool) (place : ℕ) → Reached (Joined L M) text from place → Halfway L M text from place
+pub halfway : (L M : List ℕ → Type 0) (text : List ℕ) (from : List Bool) (place : ℕ) → Reached (Concatenation L M) text from place → Halfway L M text from place
 halfway L M text from place r =
     let cut = r.holds in
     let first : Reached L text from (length (r.before ++ cut.front)) = record {
@@ -86,7 +86,7 @@ halfway L M text from place r =
     }
 
 -- a word leads on from where another has led
-pub onward : (L M : List ℕ → Type 0) (text : List ℕ) (from through : List Bool) (place : ℕ) → (second : Reached M text through place) → Reached L text from (length second.before) → Reached (Joined L M) text from place
+pub onward : (L M : List ℕ → Type 0) (text : List ℕ) (from through : List Bool) (place : ℕ) → (second : Reached M text through place) → Reached L text from (length second.before) → Reached (Concatenation L M) text from place
 onward L M text from through place second first =
     let same = cut_apart (first.before ++ first.word) first.after second.before (second.word ++ second.after) (append_assoc first.before first.word first.after ∙ sym first.is ∙ second.is) (length-append first.before first.word ∙ first.ends) in
     record {
@@ -100,7 +100,7 @@ onward L M text from through place second first =
     }
 
 -- the image of words of two parts is the image of an image
-pub image_joined : (L M : List ℕ → Type 0) (text : List ℕ) (a b c : List Bool) → IsImage L text a b → IsImage M text b c → IsImage (Joined L M) text a c
+pub image_joined : (L M : List ℕ → Type 0) (text : List ℕ) (a b c : List Bool) → IsImage L text a b → IsImage M text b c → IsImage (Concatenation L M) text a c
 image_joined L M text a b c ab bc = record {
   same_length = bc.same_length ∙ ab.same_length;
   reached = λ place. (
@@ -141,7 +141,7 @@ pub record Completes (whole rest : List ℕ → Type 0) (text : List ℕ) (first
 pub completes_first : (L : List ℕ → Type 0) (text : List ℕ) (first : List Bool) → Completes L L text first first
 completes_first L text first = record { ends = λ to image. image }
 
-pub completes_more : (whole L M : List ℕ → Type 0) (text : List ℕ) (first now next : List Bool) → Completes whole (Joined L M) text first now → IsImage L text now next → Completes whole M text first next
+pub completes_more : (whole L M : List ℕ → Type 0) (text : List ℕ) (first now next : List Bool) → Completes whole (Concatenation L M) text first now → IsImage L text now next → Completes whole M text first next
 completes_more whole L M text first now next so_far step = record { ends = λ to image. so_far.ends to (image_joined L M text now next to step image) }
 
 pub completes_all : (whole : List ℕ → Type 0) (text : List ℕ) (first now : List Bool) → length now ≡ suc (length text) → Completes whole (λ w. w ≡ []) text first now → IsImage whole text first now

@@ -1,14 +1,14 @@
 -- What repeats reach.
 use Rattle.std.proofs.Common.{◌≡◌, ◌↔◌, ◌⊎◌, inl, inr, ℕ, zero, suc, ◌+◌, ◌-◌, ◌≤◌, Bool, List, [], ◌++◌, Option, Some, None, length, refl, sym, ap, ◌∙◌, subst, arith}
 use Rattle.std.proofs.lemmas.List.{append_assoc}
-use Rattle.jp_iregexp.specs.Language.{Joined, Power, IsAtMost, Language}
+use Rattle.jp_iregexp.specs.Language.{Concatenation, Power, IsAtMost, Language}
 use Rattle.jp_iregexp.specs.Tree.{Tree, repeat}
 use Rattle.jp_match.specs.Counts.{Times, IsMostAfter}
 use Rattle.jp_match.specs.Place.{Marked, IsImage}
 use Rattle.jp_match.proofs.Reaching.{Completes, completes_more, image_by, image_none, image_joined, image_still}
 
 -- so many words are first some of them and then the others
-pub power_split : (L : List ℕ → Type 0) (m n s : ℕ) (w : List ℕ) → s ≡ m + n → Power L s w → Joined (Power L m) (Power L n) w
+pub power_split : (L : List ℕ → Type 0) (m n s : ℕ) (w : List ℕ) → s ≡ m + n → Power L s w → Concatenation (Power L m) (Power L n) w
 power_split L zero n s w e h = record { front = []; back = w; is = refl; first = refl; second = subst (λ k. Power L k w) (omega (arith, e)) h }
 power_split L (suc m) n zero w e h = absurd (omega (arith, e))
 power_split L (suc m) n (suc s) w e h =
@@ -21,7 +21,7 @@ power_split L (suc m) n (suc s) w e h =
       second = rest.second;
     }
 
-pub power_join : (L : List ℕ → Type 0) (m n s : ℕ) (w : List ℕ) → s ≡ m + n → Joined (Power L m) (Power L n) w → Power L s w
+pub power_join : (L : List ℕ → Type 0) (m n s : ℕ) (w : List ℕ) → s ≡ m + n → Concatenation (Power L m) (Power L n) w → Power L s w
 power_join L zero n s w e h =
     let whole : h.back ≡ w = sym (h.is ∙ ap (λ x. x ++ h.back) h.first) in
     let count : n ≡ s = omega (arith, e) in
@@ -64,7 +64,7 @@ at_most_below (Some most) k m below within = omega arith
 pub image_repeat : (a : Tree) (least : ℕ) (most after : Option ℕ) (text : List ℕ) (x y z : List Bool) → IsMostAfter most least (Some after) →
     IsImage (Power (Language a) least) text x y → IsImage (Times (Language a) after) text y z → IsImage (Language (repeat a least most)) text x z
 image_repeat a least most after text x y z h first second =
-    image_by (Joined (Power (Language a) least) (Times (Language a) after)) (Language (repeat a least most)) text x z
+    image_by (Concatenation (Power (Language a) least) (Times (Language a) after)) (Language (repeat a least most)) text x z
     (λ w. (
       λ j.
           let (k, within, more) = j.second in (

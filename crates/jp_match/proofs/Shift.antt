@@ -1,12 +1,14 @@
 -- A step over one character.
-use Rattle.std.proofs.Common.{◌≡◌, ℕ, zero, suc, ◌+◌, ◌≤◌, ◌<◌, Bool, true, false, ◌&&◌, List, [], ◌∷◌, ◌++◌, length, get_or, set, take, drop, ◌≢◌, inl, inr, get_or-set_other, get_or-set_same, refl, sym, ap, ◌∙◌, subst, arith}
+use Rattle.std.proofs.Common.{◌≡◌, ℕ, zero, suc, ◌+◌, ◌≤◌, ◌<◌, Bool, true, false, ◌&&◌, ◌-◌, ◌^◌, min, add-one, List, [], ◌∷◌, ◌++◌, length, count_by, get_or, set, take, drop, ◌≢◌, inl, inr, get_or-set_other, get_or-set_same, refl, sym, ap, ◌∙◌, subst, arith}
 use Rattle.std.proofs.lemmas.List.{length-append, length-take, take-append-drop, drop_more}
 use Rattle.std.proofs.Math.Seq.{get_or-append_seam}
 use Rattle.std.proofs.lemmas.Bool.{cases_lt}
+use Rattle.std.proofs.lemmas.List.Sums.{count_by_more_no, count_by_more_yes}
 use Rattle.jp_iregexp.specs.declared.class.ClassItem.{ClassItem}
 use Rattle.jp_iregexp.specs.Class.{class_holds}
 use Rattle.jp_iregexp.specs.Tree.{class}
 use Rattle.jp_iregexp.specs.Language.{Language}
+use Rattle.jp_match.specs.ClassTests.{count_after}
 use Rattle.jp_match.specs.Place.{Marked, Reached, IsImage}
 use Rattle.jp_match.proofs.Cuts.{marked_below}
 
@@ -87,3 +89,21 @@ image_shift negated items text from to long same marks = record {
         subst (Marked to) at (marks (suc (length r.before)) (omega arith) ∙ shifts),
   );
 }
+
+-- the count of tests once those of the places below i are made
+abbrev pub counted_to : List Bool → ℕ → ℕ → ℕ
+counted_to from made i = count_after (count_by (λ marked. marked) (take i from)) made
+
+-- a place of the set adds a test
+pub counted_more : (from : List Bool) (i made now next : ℕ) → i < length from → get_or from i false ≡ true →
+    now ≡ counted_to from made i → next ≡ min (now + 1) (2 ^ 64 - 1) → next ≡ counted_to from made (i + 1)
+counted_more from i made now next below marked so_far step =
+    step ∙ ap (λ n. min (n + 1) (2 ^ 64 - 1)) so_far
+    ∙ ap (λ n. count_after n made)
+    (sym (add-one (count_by (λ m. m) (take i from))) ∙ sym (count_by_more_yes (λ m. m) from i false below marked))
+
+-- a place that is not in the set adds none
+pub counted_same : (from : List Bool) (i made now : ℕ) → i < length from → get_or from i false ≡ false →
+    now ≡ counted_to from made i → now ≡ counted_to from made (i + 1)
+counted_same from i made now below unmarked so_far =
+    so_far ∙ ap (λ n. count_after n made) (sym (count_by_more_no (λ m. m) from i false below unmarked))

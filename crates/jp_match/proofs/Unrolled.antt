@@ -2,11 +2,11 @@
 use Rattle.std.proofs.Common.{◌↔◌, inl, inr, ℕ, zero, suc, ◌≤◌, List, Some, None, arith}
 use Rattle.jp_iregexp.specs.Tree as tree
 use Rattle.jp_iregexp.specs.Tree.{Tree}
-use Rattle.jp_iregexp.specs.Language.{Joined, Power, Language}
+use Rattle.jp_iregexp.specs.Language.{Concatenation, Power, Language}
 use Rattle.jp_match.proofs.Plain.{Plain, Words, at_least, between, counted, unrolled}
 
 -- words of languages with the same words, joined
-joined_as : (L L' M M' : List ℕ → Type 0) → ((w : List ℕ) → L w → L' w) → ((w : List ℕ) → M w → M' w) → (w : List ℕ) → Joined L M w → Joined L' M' w
+joined_as : (L L' M M' : List ℕ → Type 0) → ((w : List ℕ) → L w → L' w) → ((w : List ℕ) → M w → M' w) → (w : List ℕ) → Concatenation L M w → Concatenation L' M' w
 joined_as L L' M M' first second w j = record { front = j.front; back = j.back; is = j.is; first = first j.front j.first; second = second j.back j.second }
 
 power_as : (L L' : List ℕ → Type 0) → ((w : List ℕ) → L w → L' w) → (k : ℕ) (w : List ℕ) → Power L k w → Power L' k w

@@ -1,3 +1,4 @@
+pub mod ClassTests
 pub mod Counts
 pub mod Part
 pub mod Place

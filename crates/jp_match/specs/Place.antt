@@ -1,5 +1,5 @@
 -- Sets of places in a text: a mark for the place before each character and for the place at the end.
-use Rattle.std.specs.Prelude.{◌≡◌, ◌↔◌, ℕ, ◌+◌, Bool, IsTrue, false, List, ◌++◌, length, get_or}
+use Rattle.std.specs.Prelude.{◌≡◌, ◌↔◌, ℕ, ◌+◌, Bool, IsTrue, false, List, ◌++◌, length, take, count_by, get_or}
 
 -- the place is in the set
 abbrev pub Marked : List Bool → ℕ → Type 0
@@ -19,3 +19,7 @@ pub record Reached (L : List ℕ → Type 0) (text : List ℕ) (from : List Bool
 pub record IsImage (L : List ℕ → Type 0) (text : List ℕ) (from to : List Bool) : Type 0 where
   pub same_length : length to ≡ length from
   pub reached : (place : ℕ) → Marked to place ↔ Reached L text from place
+
+-- how many places of a set a character follows: all but the text's end
+abbrev pub followed_count : List ℕ → List Bool → ℕ
+followed_count text places = count_by (λ marked. marked) (take (length text) places)

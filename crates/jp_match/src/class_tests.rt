@@ -1,7 +1,8 @@
 //! The count of class tests.
 
-ghost use Rattle.std.specs.Prelude.{◌≡◌, ◌+◌, ◌-◌, ◌^◌, ◌≤◌, min};
+ghost use Rattle.std.specs.Prelude.{◌≡◌, ◌≤◌};
 ghost use Rattle.jp_iregexp.specs.Class.{class_holds};
+ghost use Rattle.jp_match.specs.ClassTests.{count_after};
 
 use jp_iregexp::CharClass;
 use std::marker::Model;
@@ -38,7 +39,7 @@ impl Tests {
     /// Whether the class holds the character. Every class test of every matcher goes through here.
     pub(crate) fn holds(&mut self, class: &CharClass, c: char) -> bool
         ensures answer { result ≡ class_holds class.now.negated class.now.items.items c }
-        ensures counted { self.new ≡ min (self.old + 1) (2 ^ 64 - 1) }
+        ensures counted { self.new ≡ count_after 1 self.old }
         ensures kept { self.old ≤ self.new }
     {
         let Tests { made } = self;

@@ -16,9 +16,10 @@ use jp_iregexp::Pattern;
 use std::alloc::{AllocError, Global};
 use std::mem;
 
-/// The plain matcher. It goes down the pattern once and keeps sets of places in the text, a mark for each
-/// place. A repeat goes on only while its set changes, so it ends after about as many rounds as the text has
-/// characters, however large its counts; each round walks the text once for each class.
+/// The plain matcher. It goes down the pattern and keeps sets of places in the text, a mark for each place.
+/// A repeat goes on only while its set changes, so it ends after about as many rounds as the text has
+/// characters, however large its counts. Each round is a new walk of what it repeats, so the time is that
+/// number of rounds to the power of how deep repeats stand inside one another: exponential in their nesting.
 #[derive(Clone, Copy, Debug, Default)]
 pub struct Images;
 
@@ -108,8 +109,8 @@ fn either_image(
         unite(&mut reached, places);
     }
     mem::swap(places, &mut reached);
-    spare.give_back(from)?;
-    spare.give_back(reached)?;
+    spare.give_back(from);
+    spare.give_back(reached);
     Ok(())
 }
 
@@ -189,7 +190,8 @@ fn exactly_image(
         }
         assign(&mut before, places)?;
     }
-    spare.give_back(before)
+    spare.give_back(before);
+    Ok(())
 }
 
 /// The same for at most so many words of the pattern. Only the places that are new go on.
@@ -219,5 +221,6 @@ fn at_most_image(
         remove(places, &reached);
     }
     mem::swap(places, &mut reached);
-    spare.give_back(reached)
+    spare.give_back(reached);
+    Ok(())
 }

@@ -3,7 +3,8 @@
 ghost use Rattle.std.specs.Prelude.{◌≡◌, ◌↔◌, ◌⊎◌, ℕ, suc, ◌≤◌, IsTrue, IfOk, OnOk, length};
 ghost use Rattle.jp_iregexp.specs.Tree.{class as class_tree};
 ghost use Rattle.jp_iregexp.specs.Language.{Language};
-ghost use Rattle.jp_match.specs.Place.{Marked, IsImage};
+ghost use Rattle.jp_match.specs.ClassTests.{count_after};
+ghost use Rattle.jp_match.specs.Place.{Marked, IsImage, followed_count};
 
 use crate::class_tests::Tests;
 use jp_iregexp::CharClass;
@@ -37,10 +38,9 @@ impl Spare {
         Ok(copy)
     }
 
-    /// Takes a set that is no longer in use.
-    pub fn give_back(&mut self, places: Places) -> Result<(), AllocError> {
-        self.sets.push(places)?;
-        Ok(())
+    /// Takes a set that is no longer in use. Where there is no room to keep it, it is dropped.
+    pub fn give_back(&mut self, places: Places) {
+        let _ = self.sets.push(places);
     }
 }
 
@@ -122,11 +122,14 @@ pub fn remove(places: &mut Places, other: &[bool])
     }
 }
 
-/// Moves each place past the character that follows it, where the class holds that character.
+/// Moves each place past the character that follows it, where the class holds that character. That
+/// makes a class test for each place of the set that a character follows.
 pub fn shift(class: &CharClass, text: &[char], places: &mut Places, tests: &mut Tests)
     requires { length places.old.items ≡ suc (length text.now) }
-    ensures image { IsImage (Language (class_tree class.now.negated class.now.items.items)) text.now places.old.items places.new.items }
-    ensures counted { tests.old ≤ tests.new }
+    ensures image { IsImage (Language (class_tree class.now.negated class.now.items.items))
+        text.now places.old.items places.new.items }
+    ensures counted { tests.new ≡ count_after (followed_count text.now places.old.items) tests.old }
+    ensures kept { tests.old ≤ tests.new }
 {
     let mut arrives = false;
     for (i, c) in text.iter().enumerate() {

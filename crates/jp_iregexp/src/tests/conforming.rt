@@ -75,8 +75,8 @@ fn refuses_what_does_not(rt: HostRuntime) {
         let fault = read_pattern(rt.alloc(), text).err();
         assert_eq!(rt; fault, Some(PatternFault::NotConforming), "{text}");
     }
-    assert_eq!(rt; PatternFault::NotConforming as u8, 1);
-    assert_eq!(rt; PatternFault::NoMemory as u8, 2);
+    assert_eq!(rt; PatternFault::NotConforming.number(), 1);
+    assert_eq!(rt; PatternFault::NoMemory.number(), 2);
 }
 
 #[test]

@@ -1,4 +1,4 @@
-use Rattle.std.proofs.Common.{◌≡◌, ℕ, ◌+◌, ◌-◌, ◌<◌, suc, List, [], ◌∷◌, drop, map, get_or, length, inl, inr, refl, sym, ap, ◌∙◌, subst, arith, Result, Ok, Err, OnOk}
+use Rattle.std.proofs.Common.{◌≡◌, ℕ, ◌+◌, ◌-◌, ◌<◌, suc, List, [], ◌∷◌, drop, map, get_or, length, inl, inr, refl, sym, ap, ◌∙◌, subst, arith}
 use Rattle.std.proofs.lemmas.List.{drop_more}
 use Rattle.std.proofs.lemmas.Result.{on_ok_weaker}
 use Rattle.jp_iregexp.specs.declared.pattern.Pattern.{Pattern}
@@ -19,10 +19,6 @@ drop_all : (xs : List Pattern) → drop (length xs) xs ≡ []
 drop_all [] = refl
 drop_all (x ∷ xs) = drop_all xs
 
-on_ok : {T E P : Type 0} (r : Result T E) → P → OnOk r P
-on_ok (Ok x) p = p
-on_ok (Err e) p = tt
-
 pub at_most_image-loop-left-smaller : goal.at_most_image-loop-left-smaller
 at_most_image-loop-left-smaller t c =
     let any = rw c.deref-in-loop-left.ensures.value at (c.is_any.ensures.0 c.loop-left-test.true) in
@@ -41,7 +37,7 @@ at_most_image-loop-left-preserved t c =
 
 pub at_most_image-returns-clause-image : goal.at_most_image-returns-clause-image
 at_most_image-returns-clause-image t c =
-    on_ok c.give_back.result (elim c.loop-left-test.branch [
+    (elim c.loop-left-test.branch [
       | at_most_image-else-loop-left-test w ↦
           let any = rw c.deref-in-loop-left.ensures.value at c.is_any.ensures.1 in
           rw (c.swap.ensures.x_after, w.reached-is) (grows_all _ _ _ _ _ _ _ c.requires c.loop-left.invariant.grows (λ place m. let is = any (place, m) in let not = w.loop-left-test.false in cc))
@@ -76,7 +72,7 @@ exactly_image-loop-preserved t c =
 pub exactly_image-returns-clause-image : goal.exactly_image-returns-clause-image
 exactly_image-returns-clause-image t c =
     let L = Language (tree c.args.inner.now) in
-    on_ok c.give_back.result (elim c.loop-test.branch [
+    (elim c.loop-test.branch [
       | exactly_image-else-loop-test w ↦
           let none : c.args.count - c.loop.counter ≡ 0 = omega arith in
           rw w.places-is (completes_all _ _ _ _ c.loop.invariant.long (subst (λ n. Completes (Power L c.args.count) (Power L n) c.args.text.now c.args.places.now.items c.loop.places.items) none c.loop.invariant.completes))

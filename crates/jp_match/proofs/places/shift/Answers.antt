@@ -2,7 +2,7 @@ use Rattle.std.proofs.Common.{◌≢◌, ◌<◌, length, arith, add-one, below_
 use Rattle.std.proofs.lemmas.Grind.{common_steps}
 use Rattle.jp_match.proofs.places.shift.Goals as goal
 use Rattle.jp_match.proofs.places.shift.Goals.{then-leaves, else-leaves}
-use Rattle.jp_match.proofs.Shift.{last_entered, image_shift}
+use Rattle.jp_match.proofs.Shift.{counted_more, counted_same, last_entered, image_shift}
 
 pub loop-i-preserved : goal.loop-i-preserved
 loop-i-preserved c = record {
@@ -12,7 +12,15 @@ loop-i-preserved c = record {
       (λ k h. let ne : k ≢ c.loop-i.i = omega arith in rw get_or-set_other (c.loop-i.invariant.done k h))
       (let lt : c.loop-i.i < length c.loop-i.places.items = omega arith in rw get_or-set_same c.loop-i.invariant.carried);
   left = λ k h. let ne : k ≢ c.loop-i.i = omega arith in rw get_or-set_other (c.loop-i.invariant.left k (omega arith));
-  counted = elim c.if-leaves.branch [ then-leaves w ↦ omega arith | else-leaves w ↦ omega arith ];
+  counted = elim c.if-leaves.branch [
+    | then-leaves w ↦
+        rw w.tests-is (counted_more c.args.places.now.items c.loop-i.i c.args.tests.now c.loop-i.tests _ (omega arith) (grind (arith, common_steps, c.loop-i.invariant.left c.loop-i.i))
+        c.loop-i.invariant.counted w.holds-arrives.ensures.counted)
+    | else-leaves w ↦
+        rw w.tests-is (counted_same c.args.places.now.items c.loop-i.i c.args.tests.now c.loop-i.tests (omega arith) (grind (arith, common_steps, c.loop-i.invariant.left c.loop-i.i))
+        c.loop-i.invariant.counted)
+  ];
+  kept = elim c.if-leaves.branch [ then-leaves w ↦ omega arith | else-leaves w ↦ omega arith ];
 }
 
 pub returns-clause-image : goal.returns-clause-image

@@ -1,6 +1,6 @@
 use Rattle.std.proofs.Common.{◌≡◌, ◌<◌, ◌≤◌, ℕ, false, length, get_or}
 use Rattle.jp_iregexp.specs.Class.{class_holds}
-use Rattle.jp_match.proofs.Shift.{shifted}
+use Rattle.jp_match.proofs.Shift.{counted_to, shifted}
 use Rattle.jp_match.proofs.places.shift.Given as goal
 
 abbrev pub invariant-loop-i : goal.invariant-loop-i
@@ -11,5 +11,6 @@ invariant-loop-i l =
       carried : l.arrives ≡ enters l.i;
       done : (k : ℕ) → k < l.i → get_or l.places.items k false ≡ enters k;
       left : (k : ℕ) → l.i ≤ k → get_or l.places.items k false ≡ get_or l.fn.places.items k false;
-      counted : l.fn.tests ≤ l.tests;
+      counted : l.tests ≡ counted_to l.fn.places.items l.fn.tests l.i;
+      kept : l.fn.tests ≤ l.tests;
     }
