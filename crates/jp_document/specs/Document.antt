@@ -104,6 +104,7 @@ pub data Defect : Type 0 where
   not_whole : List ℕ → Defect
   list_too_long : Defect
 
+-- the bytes are no document, by that defect
 abbrev pub HasDefect : List ℕ → Defect → Type 0
 HasDefect bytes not_json = (d : Data) → Reads bytes d → ⊥
 HasDefect bytes (not_whole path) = HasFraction bytes path

@@ -7,8 +7,8 @@
 //! ```
 //!
 //! The contract for the crates above: `evaluate` gives the document's own nodes at the locations of the query's
-//! nodelist, by `specs/Nodelist.antt`, in order and with repeats. The law in `laws` says that the normalized path of a
-//! node, read as a query, selects that node alone.
+//! nodelist, by `specs/Nodelist.antt`, in order and with repeats. By `laws` the normalized path of a node of a document,
+//! read as a query, selects that node alone, a query selects nodes of the document alone, and a singular one at most one.
 #![tactic(auto)]
 
 mod evaluation;
