@@ -7,7 +7,7 @@ use Rattle.std.specs.List.{flat_map}
 use Rattle.jp_document.specs.Node.{Located}
 use Rattle.jp_command.specs.Lines.{line_of, lines_of}
 use Rattle.jp_document.specs.ChildNodes.{shown}
-use Rattle.jp_command.specs.Streams.{AppendsFront}
+use Rattle.jp_command.specs.Output.{AppendsPrefix}
 use Rattle.jp_command.specs.declared.lines.Form.{Form}
 use Rattle.jp_command.proofs.StreamLemmas.{Appends-twice}
 
@@ -20,25 +20,31 @@ text_of_nodes-cut form nodes i =
     ap (text_of_nodes form) (sym (take-append-drop i nodes)) ∙ ap (flat_map (line_of form)) (map-append shown (take i nodes) (drop i nodes))
     ∙ flat_map-append (line_of form) (map shown (take i nodes)) (map shown (drop i nodes))
 
--- whole lines are a front
-pub front-lines : (form : Form) (nodes : List Located) (i : ℕ) (a b : Option (List ℕ))
-    → Appends a b (lines_of form (map shown (take i nodes))) → AppendsFront a b (lines_of form (map shown nodes))
-front-lines form nodes i a b written =
-    (text_of_nodes form (take i nodes), text_of_nodes form (drop i nodes), text_of_nodes-cut form nodes i, written)
+-- whole lines are a prefix
+pub prefix-lines : (form : Form) (nodes : List Located) (i : ℕ) (a b : Option (List ℕ))
+    → Appends a b (lines_of form (map shown (take i nodes))) → AppendsPrefix a b (lines_of form (map shown nodes))
+prefix-lines form nodes i a b written =
+    record {
+      prefix = text_of_nodes form (take i nodes);
+      rest = text_of_nodes form (drop i nodes);
+      is = text_of_nodes-cut form nodes i;
+      written = written;
+    }
 
--- whole lines and a front of the next are a front
-pub front-in_line : (form : Form) (nodes : List Located) (i : ℕ) (node : Located) (a b c : Option (List ℕ)) (line : List ℕ)
+-- whole lines and a prefix of the next are a prefix
+pub prefix-in_line : (form : Form) (nodes : List Located) (i : ℕ) (node : Located) (a b c : Option (List ℕ)) (line : List ℕ)
     → i < length nodes → node ≡ slice_index_or nodes i node → line ≡ line_of form (shown node)
-    → Appends a b (lines_of form (map shown (take i nodes))) → AppendsFront b c line → AppendsFront a c (lines_of form (map shown nodes))
-front-in_line form nodes i node a b c line within at is written part =
+    → Appends a b (lines_of form (map shown (take i nodes))) → AppendsPrefix b c line → AppendsPrefix a c (lines_of form (map shown nodes))
+prefix-in_line form nodes i node a b c line within at is written part =
     let before : List ℕ = text_of_nodes form (take i nodes) in
     let after : List ℕ = text_of_nodes form (drop (suc i) nodes) in
     let next : text_of_nodes form (drop i nodes) ≡ line ++ after =
     ap (text_of_nodes form) (drop-cons nodes i node within)
-    ∙ ap (λ n. line_of form (shown n) ++ after) (sym at) ∙ ap (λ t. t ++ after) (sym is) in (
-      before ++ part.0,
-      part.1 ++ after,
-      text_of_nodes-cut form nodes i ∙ ap (λ t. before ++ t) (next ∙ ap (λ t. t ++ after) part.2 ∙ append_assoc part.0 part.1 after)
-          ∙ sym (append_assoc before part.0 (part.1 ++ after)),
-      Appends-twice a b c before part.0 written part.3,
-    )
+    ∙ ap (λ n. line_of form (shown n) ++ after) (sym at) ∙ ap (λ t. t ++ after) (sym is) in record {
+      prefix = before ++ part.prefix;
+      rest = part.rest ++ after;
+      is = text_of_nodes-cut form nodes i
+          ∙ ap (λ t. before ++ t) (next ∙ ap (λ t. t ++ after) part.is ∙ append_assoc part.prefix part.rest after)
+          ∙ sym (append_assoc before part.prefix (part.rest ++ after));
+      written = Appends-twice a b c before part.prefix written part.written;
+    }

@@ -1,8 +1,11 @@
 -- What is read or written in two steps.
-use Rattle.std.proofs.Common.{◌≡◌, ℕ, ◌-◌, List, [], ◌++◌, length, take, drop, Option, Some, None, Result, Ok, Err, OnErr, OnOk, sym, ◌∙◌, ap, append_assoc, refl}
+use Rattle.std.proofs.Common.{◌≡◌, ℕ, ◌-◌, List, [], ◌++◌, length, take, drop, Option, Some, None, Result, Ok, Err, OnErr, OnOk, IfErr, subst, sym, ◌∙◌, ap, append_assoc, refl}
 use Rattle.std.proofs.lemmas.List.{append-nil, take-append-drop, take_rest}
 use Rattle.std.specs.Io.KnownBytes.{Appends, Consumes, Keeps}
-use Rattle.jp_command.specs.Streams.{AppendsFront}
+use Rattle.std.specs.Prelude.{IsErrAnd}
+use Rattle.jp_command.specs.Output.{AppendsPrefix}
+use Rattle.jp_command.specs.declared.fault.Fault.{Fault}
+use Rattle.jp_command.specs.declared.fault.Fault.TheVariants.{NoMemory}
 
 pub Appends-nothing : (a : Option (List ℕ)) → Appends a a []
 Appends-nothing None = tt
@@ -36,11 +39,11 @@ Consumes-twice (Some xs) (Some ys) (Some zs) x y first second =
     first ∙ ap (λ t. x ++ t) second ∙ sym (append_assoc x y zs)
 
 -- one write more: what is written and the rest are still the whole
-pub front-step : (a b c : Option (List ℕ)) (text rest : List ℕ) (n : ℕ)
-    → ((front : List ℕ) × (text ≡ front ++ rest) × Appends a b front)
+pub prefix-step : (a b c : Option (List ℕ)) (text rest : List ℕ) (n : ℕ)
+    → ((prefix : List ℕ) × (text ≡ prefix ++ rest) × Appends a b prefix)
     → Appends b c (take n rest)
-    → (front : List ℕ) × (text ≡ front ++ take (length rest - n) (drop n rest)) × Appends a c front
-front-step a b c text rest n before written =
+    → (prefix : List ℕ) × (text ≡ prefix ++ take (length rest - n) (drop n rest)) × Appends a c prefix
+prefix-step a b c text rest n before written =
     let joined : (before.0 ++ take n rest) ++ drop n rest ≡ before.0 ++ rest =
     append_assoc before.0 (take n rest) (drop n rest) ∙ ap (λ t. before.0 ++ t) (take-append-drop n rest) in (
       before.0 ++ take n rest,
@@ -48,12 +51,27 @@ front-step a b c text rest n before written =
       Appends-twice a b c before.0 (take n rest) before.2 written,
     )
 
-pub OnErr-from : {T E P : Type 0} (r : Result T E) → P → OnErr r P
-OnErr-from (Ok x) p = tt
-OnErr-from (Err e) p = p
+-- what is written before a write that fails is a prefix
+pub prefix-kept : (a b c : Option (List ℕ)) (text rest : List ℕ)
+    → ((prefix : List ℕ) × (text ≡ prefix ++ rest) × Appends a b prefix) → Keeps b c → AppendsPrefix a c text
+prefix-kept a b c text rest before kept = record {
+  prefix = before.0;
+  rest = rest;
+  is = before.1;
+  written = Appends-keeps a b c before.0 before.2 kept;
+}
 
--- all of a text, or a front of it, is a front of it
-pub front-either : {T E : Type 0} (a b : Option (List ℕ)) (text : List ℕ) (r : Result T E)
-    → OnOk r (Appends a b text) → OnErr r (AppendsFront a b text) → AppendsFront a b text
-front-either a b text (Ok x) whole front = (text, [], sym (append-nil text), whole)
-front-either a b text (Err e) whole front = front
+-- a whole text is a prefix of it
+pub prefix-whole : (a b : Option (List ℕ)) (text : List ℕ) → Appends a b text → AppendsPrefix a b text
+prefix-whole a b text written = record { prefix = text; rest = []; is = sym (append-nil text); written = written }
+
+-- all of a text, or a prefix of it, is a prefix of it
+pub prefix-either : {T E : Type 0} (a b : Option (List ℕ)) (text : List ℕ) (r : Result T E)
+    → OnOk r (Appends a b text) → OnErr r (AppendsPrefix a b text) → AppendsPrefix a b text
+prefix-either a b text (Ok x) whole prefix = prefix-whole a b text whole
+prefix-either a b text (Err e) whole prefix = prefix
+
+-- what holds of want of memory holds of an answer that is it
+pub IfErr-memory : {T : Type 0} (P : Fault → Type 0) (r : Result T Fault) → IsErrAnd r (λ fault. fault ≡ NoMemory) → P NoMemory → IfErr r P
+IfErr-memory P (Ok x) memory holds = tt
+IfErr-memory P (Err fault) memory holds = subst P (sym memory) holds

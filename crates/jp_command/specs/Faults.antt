@@ -5,11 +5,7 @@ use Rattle.jp_query.specs.declared.refusal.Refusal.{Refusal}
 use Rattle.jp_query.specs.declared.refusal.RefusalKind.{RefusalKind}
 use Rattle.jp_query.specs.declared.refusal.RefusalKind.TheVariants as kind
 use Rattle.jp_command.specs.declared.fault.Fault.{Fault}
-use Rattle.jp_command.specs.declared.fault.Fault.TheVariants.{Query, Document, DocumentTooLarge, NoMemory, Read, Write}
-use Rattle.jp_command.specs.declared.input.InputFault.{InputFault}
-use Rattle.jp_command.specs.declared.input.InputFault.TheVariants as input
-use Rattle.jp_command.specs.declared.lines.LineFault.{LineFault}
-use Rattle.jp_command.specs.declared.lines.LineFault.TheVariants as lines
+use Rattle.jp_command.specs.declared.fault.Fault.TheVariants.{Query, Document, NoMemory}
 
 abbrev pub fault_of_kind : RefusalKind → Refusal → Fault
 fault_of_kind kind.NoMemory r = NoMemory
@@ -21,12 +17,3 @@ fault_of_refusal r = fault_of_kind r.kind r
 abbrev pub fault_of_document : DocumentFault → Fault
 fault_of_document document.NoMemory = NoMemory
 fault_of_document f = Document f
-
-abbrev pub fault_of_input : InputFault → Fault
-fault_of_input input.TooLarge = DocumentTooLarge
-fault_of_input input.Read = Read
-fault_of_input input.NoMemory = NoMemory
-
-abbrev pub fault_of_lines : LineFault → Fault
-fault_of_lines lines.NoMemory = NoMemory
-fault_of_lines lines.Write = Write

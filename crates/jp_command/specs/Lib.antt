@@ -1,5 +1,7 @@
+pub mod Limits
 pub mod Carried
-pub mod Streams
+pub mod Input
+pub mod Output
 pub mod CommandLine
 pub mod Lines
 pub mod Faults

@@ -1,6 +1,6 @@
 //! A run of a query over an input.
 
-ghost use Rattle.std.specs.Prelude.{◌≡◌, ◌≤◌, ◌⊎◌, IfErr, IfOk, length};
+ghost use Rattle.std.specs.Prelude.{◌≡◌, ◌⊎◌, IfErr, IfOk};
 ghost use Rattle.jp_query.specs.Tree.{query_of};
 ghost use Rattle.jp_query.specs.declared.refusal.RefusalKind.TheVariants.{NoMemory};
 ghost use Rattle.jp_command.specs.Run.{IsAsked, RefusesQuery, RunsEval};
@@ -8,6 +8,7 @@ ghost use Rattle.jp_command.specs.Run.{IsAsked, RefusesQuery, RunsEval};
 use crate::device::{Output, Source};
 use crate::fault::Fault;
 use crate::input::read_all;
+use crate::limits::QUERY_LIMIT;
 use crate::lines::{Form, write_lines};
 use jp_check::{Checked, read_query};
 use jp_document::Document;
@@ -15,17 +16,15 @@ use jp_evaluate::evaluate;
 use jp_query::{Refusal, RefusalKind};
 use std::alloc::Global;
 
-/// The most bytes that a query may have.
-const QUERY_LIMIT: usize = 1_048_576;
-
 /// Writes a line for each node that `query` selects in the document that `input` gives, in the
 /// nodelist's order (RFC 9535 section 2.1.2).
 ///
 /// The query is read first, and where it is refused the input stays unread; then the input is read
 /// to its end; then the document is read; and only then is anything written. `Query` says that the
-/// query has more than 1,048,576 bytes (`TextTooLong`) or is refused, `Document` that what was read
-/// is no document, `DocumentTooLarge` that more than 16,777,216 bytes came, `Read` and `Write` that
-/// the input or the output failed. After `Write` and `NoMemory` a front of the output is written.
+/// query has more than `QUERY_LIMIT` bytes (`TextTooLong`) or is refused, `Document` that what was
+/// read is no document, `DocumentTooLarge` that more than `DOCUMENT_LIMIT` bytes came, `Read` and
+/// `Write` that the input or the output failed: a call that fails is not tried again. After `Write`
+/// and `NoMemory` a prefix of the output is written.
 pub fn run_eval<R: Source, W: Output>(
     alloc: Global,
     query: &str,
@@ -36,12 +35,13 @@ pub fn run_eval<R: Source, W: Output>(
     ensures { RunsEval R.remaining R.has_failed W.contents W.has_failed
         form query.now input.old input.new output.old output.new result }
 {
-    let _document = eval_keeping(alloc, query, form, input, output)?;
+    eval_document(alloc, query, form, input, output)?;
     Ok(())
 }
 
-/// Runs as `run_eval` and hands over the document, so that the caller says whether it is freed.
-pub(crate) fn eval_keeping<R: Source, W: Output>(
+/// Does what [`run_eval`] does, and hands over the document that was read, so that the caller decides
+/// whether it is freed.
+pub(crate) fn eval_document<R: Source, W: Output>(
     alloc: Global,
     query: &str,
     form: Form,
@@ -51,7 +51,7 @@ pub(crate) fn eval_keeping<R: Source, W: Output>(
     ensures { RunsEval R.remaining R.has_failed W.contents W.has_failed
         form query.now input.old input.new output.old output.new result }
 {
-    let query = asked_query(alloc, query)?;
+    let query = read_within_limit(alloc, query)?;
     let bytes = read_all(alloc, input)?;
     let document = Document::read(alloc, &bytes)?;
     drop(bytes);
@@ -62,7 +62,7 @@ pub(crate) fn eval_keeping<R: Source, W: Output>(
 }
 
 /// Reads a query that is not too long.
-fn asked_query(alloc: Global, text: &str) -> Result<Checked, Refusal>
+fn read_within_limit(alloc: Global, text: &str) -> Result<Checked, Refusal>
     ensures asked { IfOk result (λ query. IsAsked text.now (query_of query)) }
     ensures refused { IfErr result
         (λ refusal. (refusal.kind ≡ NoMemory) ⊎ RefusesQuery text.now refusal) }

@@ -2,10 +2,8 @@
 
 ghost use Rattle.std.specs.Prelude.{◌≡◌};
 ghost use Rattle.jp_command.specs.declared.fault.Fault.TheVariants.{NoMemory};
-ghost use Rattle.jp_command.specs.Faults.{fault_of_document, fault_of_input, fault_of_lines, fault_of_refusal};
+ghost use Rattle.jp_command.specs.Faults.{fault_of_document, fault_of_refusal};
 
-use crate::input::InputFault;
-use crate::lines::LineFault;
 use jp_document::DocumentFault;
 use jp_query::{Refusal, RefusalKind};
 use std::alloc::AllocError;
@@ -20,16 +18,16 @@ pub enum Fault {
     /// The input is no document; nothing was written.
     #[error("the document is refused: {0:?}")]
     Document(DocumentFault),
-    /// The input has more than 16,777,216 bytes; nothing was written.
+    /// The input has more than `DOCUMENT_LIMIT` bytes; nothing was written.
     #[error("the document is refused: it is too large")]
     DocumentTooLarge,
-    /// The memory did not suffice; what was written is a front of the output.
+    /// The memory did not suffice; what was written is a prefix of the output.
     #[error("want of memory")]
     NoMemory,
     /// A read failed; nothing was written.
     #[error("a read failed")]
     Read,
-    /// A write failed; what was written is a front of the output.
+    /// A write failed; what was written is a prefix of the output.
     #[error("a write failed")]
     Write,
 }
@@ -53,18 +51,6 @@ impl From<Refusal> for Fault {
     }
 }
 
-impl From<InputFault> for Fault {
-    ghost from_gives = { λ fault given. given ≡ fault_of_input fault };
-
-    fn from(fault: InputFault) -> Fault {
-        match fault {
-            InputFault::TooLarge => Fault::DocumentTooLarge,
-            InputFault::Read => Fault::Read,
-            InputFault::NoMemory => Fault::NoMemory,
-        }
-    }
-}
-
 impl From<DocumentFault> for Fault {
     ghost from_gives = { λ fault given. given ≡ fault_of_document fault };
 
@@ -72,17 +58,6 @@ impl From<DocumentFault> for Fault {
         match fault {
             DocumentFault::NoMemory => Fault::NoMemory,
             fault => Fault::Document(fault),
-        }
-    }
-}
-
-impl From<LineFault> for Fault {
-    ghost from_gives = { λ fault given. given ≡ fault_of_lines fault };
-
-    fn from(fault: LineFault) -> Fault {
-        match fault {
-            LineFault::NoMemory => Fault::NoMemory,
-            LineFault::Write => Fault::Write,
         }
     }
 }

@@ -15,6 +15,7 @@ mod device;
 mod eval;
 mod fault;
 mod input;
+mod limits;
 mod line;
 mod lines;
 mod output;
@@ -23,6 +24,7 @@ mod words;
 pub use device::{Device, Failed, Output, Source};
 pub use eval::run_eval;
 pub use fault::Fault;
+pub use limits::{DOCUMENT_LIMIT, QUERY_LIMIT};
 pub use line::run_line;
 pub use lines::Form;
 

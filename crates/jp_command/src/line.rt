@@ -4,13 +4,11 @@ ghost use Rattle.std.specs.Prelude.{◌≡◌, ◌≢◌, IfOk, map, string_byte
 ghost use Rattle.std.specs.Cow.{cow_str_bytes};
 ghost use Rattle.clap.specs.Words.{kind_of};
 ghost use Rattle.jp_command.specs.Line.{RunsLine, RunsTask, document_fault_name, fault_line, status_of};
-ghost use Rattle.jp_command.specs.Run.{RunsEval};
-ghost use Rattle.jp_command.specs.Streams.{AppendsFront};
+ghost use Rattle.jp_command.specs.Output.{AppendsPrefix, AppendsSome};
 
 use crate::device::{Output, Source};
-use crate::eval::eval_keeping;
+use crate::eval::eval_document;
 use crate::fault::Fault;
-use crate::lines::Form;
 use crate::output::write_all;
 use crate::words::{Task, read_words};
 use clap::Error;
@@ -23,8 +21,8 @@ use std::mem;
 /// Does what `words` ask for, of which the first is the program's name, and answers the status:
 /// 0 where it is done, 1 where the query is refused, 2 where the words are not ones that the command
 /// line takes, 3 where the document is refused, 4 for want of memory, 5 where the input or the output
-/// failed. Every status but 0 has its line in `faults`, if it can be written there. The output is
-/// flushed once, after a run that is done.
+/// failed. Every status but 0 has its line in `faults`, if it can be written there; with status 2 that
+/// is clap's own text. The output is flushed once, after a run that is done.
 pub fn run_line<R: Source, W: Output, E: Output>(
     alloc: Global,
     words: Vec<String>,
@@ -37,15 +35,32 @@ pub fn run_line<R: Source, W: Output, E: Output>(
         faults.old faults.new result }
 {
     match read_words(alloc, &words) {
-        Ok(Some((task, query))) => match run_task(alloc, task, query, input, output) {
+        Ok((task, query)) => match run_and_flush(alloc, task, query, input, output) {
             Ok(()) => 0,
             Err(fault) => {
                 report(alloc, &fault, faults);
                 status(&fault)
             }
         },
-        Ok(None) => 2,
         Err(error) => refuse_words(alloc, &error, faults),
+    }
+}
+
+/// Runs a task, and flushes the output once that is done.
+fn run_and_flush<R: Source, W: Output>(
+    alloc: Global,
+    task: Task,
+    query: &str,
+    input: &mut R,
+    output: &mut W,
+) -> Result<(), Fault>
+    ensures { RunsTask R.remaining R.has_failed W.contents W.has_failed
+        task query.now input.old input.new output.old output.new result }
+{
+    run_task(alloc, task, query, input, output)?;
+    match output.flush() {
+        Ok(()) => Ok(()),
+        Err(_) => Err(Fault::Write),
     }
 }
 
@@ -61,27 +76,12 @@ fn run_task<R: Source, W: Output>(
         task query.now input.old input.new output.old output.new result }
 {
     match task {
-        Task::Eval(form) => eval_to_the_end(alloc, query, form, input, output),
-    }
-}
-
-/// Runs a query over an input, and flushes the output once that is done.
-fn eval_to_the_end<R: Source, W: Output>(
-    alloc: Global,
-    query: &str,
-    form: Form,
-    input: &mut R,
-    output: &mut W,
-) -> Result<(), Fault>
-    ensures { RunsEval R.remaining R.has_failed W.contents W.has_failed
-        form query.now input.old input.new output.old output.new result }
-{
-    let document = eval_keeping(alloc, query, form, input, output)?;
-    // The process ends next, which frees the document faster than a walk over it.
-    mem::forget(document);
-    match output.flush() {
-        Ok(()) => Ok(()),
-        Err(_) => Err(Fault::Write),
+        Task::Eval(form) => {
+            let document = eval_document(alloc, query, form, input, output)?;
+            // The process ends next, which frees the document faster than a walk over it.
+            mem::forget(document);
+            Ok(())
+        }
     }
 }
 
@@ -99,7 +99,7 @@ fn status(fault: &Fault) -> u8
 
 /// Writes the line of a fault. One that cannot be written is left out.
 fn report<E: Output>(alloc: Global, fault: &Fault, faults: &mut E)
-    ensures { AppendsFront (E.contents faults.old) (E.contents faults.new) (fault_line fault.now) }
+    ensures { AppendsPrefix (E.contents faults.old) (E.contents faults.new) (fault_line fault.now) }
 {
     if let Ok(line) = line_of(alloc, fault) {
         let _ = write_all(faults, line.as_str().as_bytes());
@@ -142,7 +142,11 @@ fn document_fault_name(fault: &DocumentFault) -> &'static str
 /// Writes the text of clap's error, and answers its status.
 fn refuse_words<E: Output>(alloc: Global, error: &Error, faults: &mut E) -> u8
     ensures memory { kind_of error.now ≡ ErrorKind.OutOfMemory → result ≡ 4 }
+    ensures memory_line { kind_of error.now ≡ ErrorKind.OutOfMemory
+        → AppendsPrefix (E.contents faults.old) (E.contents faults.new) (fault_line Fault.NoMemory) }
     ensures usage { kind_of error.now ≢ ErrorKind.OutOfMemory → result ≡ 2 }
+    ensures usage_text { kind_of error.now ≢ ErrorKind.OutOfMemory
+        → AppendsSome (E.contents faults.old) (E.contents faults.new) }
 {
     match error.kind() {
         ErrorKind::OutOfMemory => {

@@ -1,17 +1,15 @@
 //! Writing all of a text.
 
 ghost use Rattle.std.specs.Prelude.{◌≡◌, true, OnOk, OnErr};
-ghost use Rattle.std.specs.Io.KnownBytes.{Appends};
-ghost use Rattle.jp_command.specs.Streams.{AppendsFront};
+ghost use Rattle.jp_command.specs.Output.{AppendsPrefix, WritesAll};
 
 use crate::device::{Failed, Output};
 
-/// Writes all of `bytes`. Where a write fails, what was written is a front of them.
+/// Writes all of `bytes`. Where a write fails, what was written is a prefix of them.
 pub(crate) fn write_all<W: Output>(output: &mut W, bytes: &[u8]) -> Result<(), Failed>
-    ensures ok { OnOk result (Appends (W.contents output.old) (W.contents output.new) bytes.now) }
-    ensures front { OnErr result
-        (AppendsFront (W.contents output.old) (W.contents output.new) bytes.now) }
-    ensures works { OnOk result (W.has_failed output.new ≡ W.has_failed output.old) }
+    ensures ok { OnOk result (WritesAll W.contents W.has_failed output.old output.new bytes.now) }
+    ensures prefix { OnErr result
+        (AppendsPrefix (W.contents output.old) (W.contents output.new) bytes.now) }
     ensures failed { OnErr result (W.has_failed output.new ≡ true) }
 {
     let mut rest = bytes;

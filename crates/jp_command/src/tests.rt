@@ -1,6 +1,8 @@
 //! Rows of the standard and of the program, on `run_eval` and `run_line`.
 
 mod devices;
-mod filters;
+mod limits;
+mod rows;
 mod runs;
 mod statuses;
+mod table;

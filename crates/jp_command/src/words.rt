@@ -1,12 +1,13 @@
 //! Reading the words of a command line.
 
-ghost use Rattle.std.specs.Prelude.{◌≡◌, ◌⊎◌, None, IfOk, IfErr, [], false, map, option_and_then, option_map, string_bytes};
+ghost use Rattle.std.specs.Prelude.{◌≡◌, ◌⊎◌, Some, None, IfOk, IfErr, [], false, map, option_and_then, option_map, string_bytes};
 ghost use Rattle.clap.specs.Words.{IsAmong, app_of, fault_of, found_of, kind_of, rows_of, subcommand_of, subcommand_rows_of};
 ghost use Rattle.clap.specs.declared.builder.command.Command.TheViews.{out-Command};
 ghost use Rattle.clap.specs.declared.error.kind.ErrorKind.TheVariants.{OutOfMemory};
 ghost use Rattle.jp_command.specs.CommandLine.{asked, asking, jp, task_and_query, task_called, with_task};
 
 use crate::lines::Form;
+use clap::error::ErrorKind;
 use clap::{Arg, ArgMatches, Command, Error};
 use std::alloc::{AllocError, Global};
 
@@ -93,17 +94,24 @@ fn asked_in<'w>(matches: &ArgMatches<'w>) -> Option<(Task, &'w str)>
     asked_by(name, found)
 }
 
-/// What `words`, of which the first is the program's name, ask for. `None` where clap takes them
-/// and they name no task with a query.
+/// What `words`, of which the first is the program's name, ask for, or clap's error.
 pub(crate) fn read_words<'w>(
     alloc: Global,
     words: &'w [String],
-) -> Result<Option<(Task, &'w str)>, Error>
-    ensures asked { IfOk result (λ found. option_map (λ pair. (pair.0, pair.1.now)) found
-        ≡ asked (map string_bytes words.entry.now)) }
+) -> Result<(Task, &'w str), Error>
+    ensures asked { IfOk result (λ found.
+        asked (map string_bytes words.entry.now) ≡ Some (found.0, found.1.now)) }
     ensures refused { IfErr result (λ error. (kind_of error ≡ OutOfMemory)
         ⊎ (asked (map string_bytes words.entry.now) ≡ None)) }
 {
     let matches = matches_of(alloc, words)?;
-    Ok(asked_in(&matches))
+    match asked_in(&matches) {
+        Some(asked) => Ok(asked),
+        None => Err(no_task(alloc)?),
+    }
+}
+
+/// Clap's error for words that it takes and that name no task with a query.
+fn no_task(alloc: Global) -> Result<Error, AllocError> {
+    jp_command(alloc)?.error(ErrorKind::MissingSubcommand, "no subcommand has a query")
 }

@@ -1,74 +1,24 @@
 use super::devices::{Broken, Narrow};
+use super::rows::words;
 use crate::{Device, run_line};
-use std::alloc::{AllocError, Global};
 use std::test::Fail;
 
-/// A line of words, the program's name first.
-fn words(alloc: Global, line: &[&str]) -> Result<Vec<String>, AllocError> {
-    let mut words = Vec::new(alloc);
-    for word in line {
-        words.push(String::from_str(alloc, word)?)?;
-    }
-    Ok(words)
-}
-
 #[test]
-fn tells_the_status_with_its_line(rt: HostRuntime) -> Result<(), Fail> {
+fn refuses_a_document_that_is_no_utf8(rt: HostRuntime) -> Result<(), Fail> {
     let alloc = rt.alloc();
-    let bad_text: &[u8] = b"\"\xff\"";
-    let rows: [(&str, &[u8], u8, &str); 21] = [
-        ("$[1]", b"[0,1]", 0, ""),
-        ("$.a", b"[0,1]", 0, ""),
-        ("", b"1", 1, "query refused: Syntax at 0\n"),
-        ("$[01]", b"1", 1, "query refused: Syntax at 3\n"),
-        ("$[-0]", b"1", 1, "query refused: Syntax at 3\n"),
-        ("$.a ", b"1", 1, "query refused: Syntax at 4\n"),
-        ("$.a.", b"1", 1, "query refused: Syntax at 4\n"),
-        ("$. a", b"1", 1, "query refused: Syntax at 2\n"),
-        ("$['é'!]", b"1", 1, "query refused: Syntax at 6\n"),
-        (
-            "$[9007199254740992]",
-            b"1",
-            1,
-            "query refused: IndexRange at 2\n",
-        ),
-        (
-            "$[-9007199254740992]",
-            b"1",
-            1,
-            "query refused: IndexRange at 2\n",
-        ),
-        ("$[\"\\'\"]", b"1", 1, "query refused: Syntax at 4\n"),
-        ("$[\"\\uD83D\"]", b"1", 1, "query refused: Syntax at 9\n"),
-        ("$[\"\\uDC00\"]", b"1", 1, "query refused: Syntax at 6\n"),
-        (
-            "$[0:9007199254740992]",
-            b"1",
-            1,
-            "query refused: IndexRange at 4\n",
-        ),
-        ("$", b"", 3, "document refused: NotJson\n"),
-        ("$", b"[1", 3, "document refused: NotJson\n"),
-        ("$", b"1 2", 3, "document refused: NotJson\n"),
-        ("$", bad_text, 3, "document refused: NotJson\n"),
-        ("$", b"[8.95]", 3, "document refused: NotWhole\n"),
-        ("$[0]", b"[1e2]", 3, "document refused: NotWhole\n"),
-    ];
-    for (query, document, status, line) in rows {
-        let mut faults = Vec::new(alloc);
-        let mut output = Narrow::new(alloc, 99, true);
-        let ended = run_line(
-            alloc,
-            words(alloc, &["jp", "both", query])?,
-            &mut Device::new(document),
-            &mut Device::new(&mut output),
-            &mut Device::new(&mut faults),
-        );
-        assert_eq!(rt; ended, status, "{query}");
-        assert_eq!(rt; faults.as_slice(), line.as_bytes(), "{query}");
-        assert_eq!(rt; output.flush_count, u8::from(status == 0), "{query}");
-        assert!(rt; status == 0 || output.taken.is_empty(), "{query}");
-    }
+    let mut faults = Vec::new(alloc);
+    let ended = run_line(
+        alloc,
+        words(alloc, &["jp", "both", "$"])?,
+        &mut Device::new(b"\"\xff\"".as_slice()),
+        &mut Device::new(Vec::new(alloc)),
+        &mut Device::new(&mut faults),
+    );
+    assert_eq!(rt; ended, 3);
+    assert_eq!(rt;
+        faults.as_slice(),
+        b"document refused: NotJson\n".as_slice()
+    );
     Ok(())
 }
 

@@ -5,8 +5,8 @@ use Rattle.jp_command.proofs.output.write_all.Given as goal
 -- what is written and the rest are the whole
 abbrev pub invariant-loop-rest : goal.invariant-loop-rest
 invariant-loop-rest g l = record {
-  split : (front : List ℕ) × (l.fn.bytes ≡ front ++ l.rest)
-      × Appends (g.W.Output.contents l.fn.output) (g.W.Output.contents l.output) front;
+  split : (prefix : List ℕ) × (l.fn.bytes ≡ prefix ++ l.rest)
+      × Appends (g.W.Output.contents l.fn.output) (g.W.Output.contents l.output) prefix;
   works : g.W.Output.has_failed l.output ≡ g.W.Output.has_failed l.fn.output;
 }
 

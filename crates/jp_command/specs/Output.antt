@@ -1,0 +1,29 @@
+-- What is written to an output.
+use Rattle.std.specs.Prelude.{◌≡◌, ℕ, Bool, true, List, ◌++◌, Option}
+use Rattle.std.specs.Io.KnownBytes.{Appends}
+use Rattle.jp_command.specs.declared.fault.Fault.{Fault}
+use Rattle.jp_command.specs.declared.fault.Fault.TheVariants.{NoMemory, Write}
+
+-- a writer took a prefix of the text
+pub record AppendsPrefix (old new : Option (List ℕ)) (text : List ℕ) : Type 0 where
+  pub prefix : List ℕ
+  pub rest : List ℕ
+  pub is : text ≡ prefix ++ rest
+  pub written : Appends old new prefix
+
+-- a writer took some text, and keeps what it had
+abbrev pub AppendsSome : Option (List ℕ) → Option (List ℕ) → Type 0
+AppendsSome old new = (text : List ℕ) × Appends old new text
+
+-- o and p are the output before and after
+module _ {W : Type 0} (contents : W → Option (List ℕ)) (has_failed : W → Bool) where
+  -- the text was written to its end, and no write failed
+  pub record WritesAll (o p : W) (text : List ℕ) : Type 0 where
+    pub written : Appends (contents o) (contents p) text
+    pub works : has_failed p ≡ has_failed o
+
+  -- why the text was not written to its end; a prefix of it was
+  abbrev pub StopsWriting : W → W → List ℕ → Fault → Type 0
+  StopsWriting o p text NoMemory = AppendsPrefix (contents o) (contents p) text × (has_failed p ≡ has_failed o)
+  StopsWriting o p text Write = AppendsPrefix (contents o) (contents p) text × (has_failed p ≡ true)
+  StopsWriting o p text _ = ⊥
