@@ -42,12 +42,13 @@ impl Model for Parsed {
     ghost invariant = { IsSpelledInside };
 }
 
-/// Reads the text of a query (RFC 9535 section 2.1), in which at most `LEVEL_LIMIT` filters and parentheses are inside one
-/// another.
+/// Reads the text of a query (RFC 9535 section 2.1), in which at most [`LEVEL_LIMIT`] filters and
+/// parentheses are inside one another.
 ///
-/// A text that spells no query is refused at the first byte with whose character it can go on to no query, or at its end: as
-/// `TooDeep` where one level more would let that character stand, which is then the mark `?` or `(` of the level too many, else as
-/// `Syntax`. `NoMemory`, at place 0, says nothing of the text.
+/// A text that spells no query is refused at the first byte with whose character it can go on to no
+/// query, or at its end: as `TooDeep` where one level more would let that character stand, which is
+/// then the mark `?` or `(` of the level too many, else as `Syntax`. `NoMemory`, at place 0, says
+/// nothing of the text.
 pub fn parse(alloc: Global, text: &str) -> Result<Parsed, Refusal>
     ensures found { IfOk result (λ p. Spells level_limit (query_of p.query) p.spans (chars text.now)) }
     ensures only { IfErr result (λ r. (r.kind ≡ RefusalKind.NoMemory) ⊎ SpellsNothing level_limit (chars text.now)) }
