@@ -16,11 +16,14 @@ module _ {R W : Type 0} (remaining : R → Option (List ℕ)) (has_failed : R �
   -- a flush that fails leaves what was written
   pub flush-fails : (task : Task) (query : List ℕ) (i j : R) (o p q : W) → Runs task query i j o p (Ok tt)
       → Keeps (contents p) (contents q) → writes_failed q ≡ true → Runs task query i j o q (Err Write)
-  flush-fails (Eval form) query i j o p q run kept fails = (record {
-    output = run.output;
-    is = run.is;
-    written = prefix-whole _ _ _ (Appends-keeps _ _ _ _ run.writes.written kept);
-  }, fails)
+  flush-fails (Eval form) query i j o p q run kept fails = (
+    record {
+      output = run.output;
+      is = run.is;
+      written = prefix-whole _ _ _ (Appends-keeps _ _ _ _ run.writes.written kept);
+    },
+    fails,
+  )
 
   -- a flush that is done leaves what was written
   pub flush-works : (task : Task) (query : List ℕ) (i j : R) (o p q : W) → Runs task query i j o p (Ok tt)

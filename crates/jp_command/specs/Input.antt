@@ -7,7 +7,8 @@ use Rattle.jp_command.specs.declared.fault.Fault.TheVariants.{DocumentTooLarge, 
 
 -- i and j are the input before and after
 module _ {R : Type 0} (remaining : R → Option (List ℕ)) (has_failed : R → Bool) where
-  -- the input came to its end with these bytes, not more than a document may have, and no read failed
+  -- the input came to its end with these bytes, not more than a document may have, and no read
+  -- failed
   pub record ReadsAll (i j : R) (bytes : List ℕ) : Type 0 where
     pub came : Consumes (remaining i) (remaining j) bytes
     pub ended : IsAtEnd (remaining j)

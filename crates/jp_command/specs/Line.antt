@@ -54,8 +54,9 @@ module _ {R W : Type 0} (remaining : R → Option (List ℕ)) (has_failed : R �
     pub asks : asked words ≡ Some (task, query)
     pub runs : RunsTask task query i j o p answer
 
-  -- what is said with a status; u and v are what takes the fault's line, before and after. Where the words are not ones
-  -- that the command line takes, that is clap's text, of which its contract says nothing
+  -- what is said with a status; u and v are what takes the fault's line, before and after. Where the
+  -- words are not ones that the command line takes, that is clap's text, of which its contract says
+  -- nothing
   pub data RunsLine {E : Type 0} (reports : E → Option (List ℕ)) (words : List (List ℕ)) (i j : R) (o p : W) (u v : E) (status : ℕ) : Type 0 where
     done : status ≡ 0 → RunsWords words i j o p (Ok (tt {0})) → v ≡ u → RunsLine reports words i j o p u v status
     fault : (f : Fault) → status ≡ status_of f → RunsWords {X = Unit {0}} words i j o p (Err f)
@@ -63,4 +64,5 @@ module _ {R W : Type 0} (remaining : R → Option (List ℕ)) (has_failed : R �
     usage : status ≡ 2 → asked words ≡ None → j ≡ i → p ≡ o
         → AppendsSome (reports u) (reports v) → RunsLine reports words i j o p u v status
     memory : status ≡ 4 → j ≡ i → p ≡ o
-        → AppendsPrefix (reports u) (reports v) (fault_line NoMemory) → RunsLine reports words i j o p u v status
+        → AppendsPrefix (reports u) (reports v) (fault_line NoMemory)
+        → RunsLine reports words i j o p u v status

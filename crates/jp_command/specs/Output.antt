@@ -24,6 +24,7 @@ module _ {W : Type 0} (contents : W → Option (List ℕ)) (has_failed : W → B
 
   -- why the text was not written to its end; a prefix of it was
   abbrev pub StopsWriting : W → W → List ℕ → Fault → Type 0
-  StopsWriting o p text NoMemory = AppendsPrefix (contents o) (contents p) text × (has_failed p ≡ has_failed o)
+  StopsWriting o p text NoMemory =
+      AppendsPrefix (contents o) (contents p) text × (has_failed p ≡ has_failed o)
   StopsWriting o p text Write = AppendsPrefix (contents o) (contents p) text × (has_failed p ≡ true)
   StopsWriting o p text _ = ⊥

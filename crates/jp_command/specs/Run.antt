@@ -23,15 +23,18 @@ pub record IsAsked (text : List ℕ) (q : QueryTree) : Type 0 where
   pub short : length text ≤ query_limit
   pub accepted : IsAcceptedAs (chars text) q
 
--- the query is too long, or else not accepted and refused with r for what it is; want of memory is no such refusal
+-- the query is too long, or else not accepted and refused with r for what it is; running out of
+-- memory is no such refusal
 pub data RefusesQuery (text : List ℕ) (r : Refusal) : Type 0 where
   too_long : query_limit < length text → r ≡ record { kind = TextTooLong; place = 0 } → RefusesQuery text r
-  refused : length text ≤ query_limit → IsNotAccepted (chars text) → IsRefusedForItself (chars text) r → RefusesQuery text r
+  refused : length text ≤ query_limit → IsNotAccepted (chars text) → IsRefusedForItself (chars text) r
+      → RefusesQuery text r
 
 -- i and j are the input before and after a run, o and p the output
 module _ {R W : Type 0} (remaining : R → Option (List ℕ)) (has_failed : R → Bool)
     (contents : W → Option (List ℕ)) (writes_failed : W → Bool) where
-  -- the query is asked, the input was read to its end and is a document, and this is the output of the one over the other
+  -- the query is asked, the input was read to its end and is a document, and this is the output of
+  -- the one over the other
   pub record IsOutput (form : Form) (text : List ℕ) (i j : R) (output : List ℕ) : Type 0 where
     pub q : QueryTree
     pub bytes : List ℕ
@@ -70,7 +73,8 @@ module _ {R W : Type 0} (remaining : R → Option (List ℕ)) (has_failed : R �
   RunsEval form text i j o p (Err DocumentTooLarge) =
       ((q : QueryTree) × IsAsked text q) × ReadsTooMuch remaining has_failed i j × (p ≡ o)
   RunsEval form text i j o p (Err NoMemory) =
-      (has_failed j ≡ has_failed i) × (writes_failed p ≡ writes_failed o) × ((p ≡ o) ⊎ WritesPrefix form text i j o p)
+      (has_failed j ≡ has_failed i) × (writes_failed p ≡ writes_failed o)
+      × ((p ≡ o) ⊎ WritesPrefix form text i j o p)
   RunsEval form text i j o p (Err Read) =
       ((q : QueryTree) × IsAsked text q) × FailsToRead remaining has_failed i j × (p ≡ o)
   RunsEval form text i j o p (Err Write) = WritesPrefix form text i j o p × (writes_failed p ≡ true)

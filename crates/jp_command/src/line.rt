@@ -19,10 +19,10 @@ use std::borrow::CowStr;
 use std::mem;
 
 /// Does what `words` ask for, of which the first is the program's name, and answers the status:
-/// 0 where it is done, 1 where the query is refused, 2 where the words are not ones that the command
-/// line takes, 3 where the document is refused, 4 for want of memory, 5 where the input or the output
-/// failed. Every status but 0 has its line in `faults`, if it can be written there; with status 2 that
-/// is clap's own text. The output is flushed once, after a run that is done.
+/// 0 where it is done, 1 where the query is refused, 2 where the words are not ones that the
+/// command line takes, 3 where the document is refused, 4 for want of memory, 5 where the input or
+/// the output failed. Every status but 0 has its line in `faults`, if it can be written there; with
+/// status 2 that is clap's own text. The output is flushed once, after a run that is done.
 pub fn run_line<R: Source, W: Output, E: Output>(
     alloc: Global,
     words: Vec<String>,
@@ -143,7 +143,8 @@ fn document_fault_name(fault: &DocumentFault) -> &'static str
 fn refuse_words<E: Output>(alloc: Global, error: &Error, faults: &mut E) -> u8
     ensures memory { kind_of error.now ≡ ErrorKind.OutOfMemory → result ≡ 4 }
     ensures memory_line { kind_of error.now ≡ ErrorKind.OutOfMemory
-        → AppendsPrefix (E.contents faults.old) (E.contents faults.new) (fault_line Fault.NoMemory) }
+        → AppendsPrefix (E.contents faults.old) (E.contents faults.new)
+            (fault_line Fault.NoMemory) }
     ensures usage { kind_of error.now ≢ ErrorKind.OutOfMemory → result ≡ 2 }
     ensures usage_text { kind_of error.now ≢ ErrorKind.OutOfMemory
         → AppendsSome (E.contents faults.old) (E.contents faults.new) }

@@ -95,10 +95,7 @@ fn asked_in<'w>(matches: &ArgMatches<'w>) -> Option<(Task, &'w str)>
 }
 
 /// What `words`, of which the first is the program's name, ask for, or clap's error.
-pub(crate) fn read_words<'w>(
-    alloc: Global,
-    words: &'w [String],
-) -> Result<(Task, &'w str), Error>
+pub(crate) fn read_words<'w>(alloc: Global, words: &'w [String]) -> Result<(Task, &'w str), Error>
     ensures asked { IfOk result (λ found.
         asked (map string_bytes words.entry.now) ≡ Some (found.0, found.1.now)) }
     ensures refused { IfErr result (λ error. (kind_of error ≡ OutOfMemory)
