@@ -10,7 +10,6 @@ use Rattle.jp_query.specs.Slices.{Bound, no_bound, bound, Step, no_step, empty_s
 use Rattle.jp_query.specs.Grammar.{joined, Member, star, member, Selector, named, any, indexed, sliced, filtered, Bracket, Segment, bracketed, dotted, deep_bracketed, deep_dotted, Segments, InnerQuery, from_root, from_current, Side, literal_side, query_side, Parenthesis, Comparison, Basic, grouped, not_grouped, compared, tested, not_tested, Conjunction, conjunction, Expression, disjunction, Inside, Spells}
 use Rattle.jp_query.specs.Items.{Use, as_index, as_slice_part, as_side, as_test, QueryItem, int, constant, inner, bound_items, selector_items, selectors_items, segment_items, segments_items, items_of, expr_items, exprs_items, operand_items, EachSpanned}
 use Rattle.jp_reading.proofs.Bare.{Bare, bare-word, bare-joined}
-use Rattle.jp_query.proofs.SegmentRules.{comma}
 use Rattle.jp_query.proofs.NoItems.{quoted-bare, shorthand-bare, int-bare, literal-bare}
 
 -- ---- lists of items
@@ -50,6 +49,10 @@ slice-spanned y s o t h =
 member-spanned : (y : SelectorTree) (s : Spans) (o : ℕ) (t : Text) → Member y s o t → EachSpanned (selectors_items (selectors (y ∷ []))) s
 member-spanned y s o t (star e h) = rw (e, h.none) tt
 member-spanned y s o t (member cs e h) = rw (e, shorthand-bare cs s o t h) tt
+
+-- what stands between two selectors
+abbrev comma : Form
+comma = word (44 ∷ []) ⌢ Blank
 
 comma-bare : Bare comma
 comma-bare = bare-joined (word (44 ∷ [])) Blank (bare-word (44 ∷ [])) (λ r i u g. g.none)

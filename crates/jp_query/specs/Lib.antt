@@ -1,3 +1,4 @@
+pub mod Characters
 pub mod Front
 pub mod Grammar
 pub mod HexDigits
@@ -9,6 +10,7 @@ pub mod Names
 pub mod Parsed
 pub mod Reading
 pub mod Refusal
+pub mod Rules
 pub mod Singular
 pub mod Slices
 pub mod Spelled

@@ -8,9 +8,11 @@ pub mod Folds
 pub mod Joining
 pub mod Judging
 pub mod Levels
+pub mod Locality
 pub mod Loops
 pub mod Progress
 pub mod Rows
+pub mod Rules
 pub mod Runs
 pub mod Steps
 pub mod Words
