@@ -127,23 +127,6 @@ joined-only_two P Q y x s o t h =
     let ends = joined-only Q y x h.second_spans (o + bytes h.first) h.second h.two in
     (ends.0, joined-over P (Q ⌢ Only y (word []) x) Q s o t h ends.1)
 
--- a part, and a text after it
-pub then-end : {A : Type 0} (F : A → Form) (P : Form) (y : A) → Within (Then F (λ z x. P ⌢ Only z (word []) x) y) (F y ⌢ P)
-then-end F P y s o t h =
-    let ends = joined-only P h.part y h.is.second_spans (o + bytes h.is.first) h.is.second h.is.two in
-    subst (λ z. (F z ⌢ P) s o t) (sym ends.0) (joined-over (F h.part) (P ⌢ Only h.part (word []) y) P s o t h.is ends.1)
-
--- a value made of the part, and two texts after it
-pub then-made_end : {A B : Type 0} (F : A → Form) (P Q : Form) (f : A → B) (y : B)
-    → Within (Then F (λ z x. P ⌢ Q ⌢ Only (f z) (word []) x) y) (Made f (λ z. F z ⌢ P ⌢ Q) y)
-then-made_end F P Q f y s o t h =
-    let ends = joined-only_two P Q (f h.part) y h.is.second_spans (o + bytes h.is.first) h.is.second h.is.two in
-    record {
-      part = h.part;
-      same = ends.0;
-      is = joined-over (F h.part) (P ⌢ Q ⌢ Only (f h.part) (word []) y) (P ⌢ Q) s o t h.is ends.1;
-    }
-
 -- ---- a rule that ends with a value made of its first part
 
 -- a value, after a text

@@ -11,7 +11,7 @@ use Rattle.jp_reading.proofs.Chars.{past-shorter}
 use Rattle.jp_reading.proofs.Steps.{skip-way, head-is}
 use Rattle.jp_reading.proofs.Fits.{reads-nothing, reads-one, reads-word}
 use Rattle.jp_reading.proofs.Levels.{Only, Then, Made, word-has, joined-has}
-use Rattle.jp_reading.proofs.Judging.{stops-first, stops-then, stops-as, stops-made, stops-item, reads-item}
+use Rattle.jp_reading.proofs.Stopping.{stops-first, stops-then, stops-as, stops-made, stops-item, reads-item}
 use Rattle.jp_reading.proofs.Rules.Form.{Either, left, right, Inside, none_inside, text_of, form, lifts, Alive, least, has}
 
 -- what an outcome at p promises, where F says which texts a value has, and G which it has one level deeper: what was taken
