@@ -12,7 +12,8 @@ use Rattle.jp_query.specs.Tree.{ExprTree, QueryTree, query, segments, segment, s
 use Rattle.jp_query.specs.Grammar.{Spells}
 use Rattle.jp_query.specs.Items.{items_of, inner, constant, as_side}
 use Rattle.jp_query.specs.Singular.{is_singular}
-use Rattle.jp_query.specs.Reading.{query_at, segments_at, segment_at, bracket_at, entries_at, another_at, entry_at, selector_at, member_at, selection_at, shorthand_at, inner_query_at, side_at, comparison_at, test_at, parenthesis_at, negated_at, basic_at, part_at, parts_at, conjunction_at, expression_at, operator_at, with_equals_at, literal_at, number_literal_at, mantissa_at, decimals_at, exponent_at, digits_at, int_at, size_at}
+use Rattle.jp_query.specs.Rules as rule
+use Rattle.jp_query.specs.Reading.{query_at}
 use Rattle.jp_query.proofs.Whole.{read-spells}
 
 -- the query of one filter
@@ -50,7 +51,7 @@ spelled-rows : Spells 1 test (at_bytes 3 4 ∷ []) (codes "$[?@]")
     × Spells 2 negated (at_bytes 5 6 ∷ []) (codes "$[?!(@)]")
     × Spells 1 several (at_bytes 5 6 ∷ at_bytes 8 9 ∷ at_bytes 12 15 ∷ []) (codes "$[? !@||@ &&@.a ]")
     × Spells 1 compared (at_bytes 3 5 ∷ at_bytes 7 10 ∷ at_bytes 12 13 ∷ at_bytes 15 18 ∷ []) (codes "$[?-0<=@.a&&@==1.0]")
-unfolding query_at segments_at segment_at bracket_at entries_at another_at entry_at selector_at member_at selection_at shorthand_at inner_query_at side_at comparison_at test_at parenthesis_at negated_at basic_at part_at parts_at conjunction_at expression_at operator_at with_equals_at literal_at number_literal_at mantissa_at decimals_at exponent_at digits_at int_at size_at past_blanks loop is_blank is_digit
+unfolding query_at rule.query rule.segments rule.segment rule.bracket rule.entries rule.entry rule.selector rule.member rule.selection rule.shorthand rule.inner_query rule.identifier rule.side rule.comparison_with rule.test rule.closed rule.negated rule.basic rule.literal_compared rule.inside_mark rule.conjunction rule.expression rule.operator rule.literal rule.number rule.mantissa rule.decimals rule.exponent rule.power rule.digits rule.int rule.unsigned rule.size past_blanks loop is_blank is_digit
 spelled-rows = (
   read-spells 1 (codes "$[?@]") test (finish (codes "$[?@]") (at_bytes 3 4 ∷ [])) refl,
   read-spells 2 (codes "$[?!(@)]") negated (finish (codes "$[?!(@)]") (at_bytes 5 6 ∷ [])) refl,
@@ -67,7 +68,7 @@ refused-rows : (query_at 0 (start (codes "$[?@]")) ≡ deep (record { at = 2; re
     × (query_at 2 (start (codes "$[?(@)==1]")) ≡ stuck (record { at = 6; rest = codes "==1]"; found = at_bytes 4 5 ∷ [] }))
     × (query_at 1 (start (codes "$[?@==1==2]")) ≡ stuck (record { at = 7; rest = codes "==2]"; found = at_bytes 3 4 ∷ at_bytes 6 7 ∷ [] }))
     × (query_at 1 (start (codes "$[?@=1]")) ≡ stuck (record { at = 5; rest = codes "1]"; found = at_bytes 3 4 ∷ [] }))
-unfolding query_at segments_at segment_at bracket_at entries_at another_at entry_at selector_at member_at selection_at shorthand_at inner_query_at side_at comparison_at test_at parenthesis_at negated_at basic_at part_at parts_at conjunction_at expression_at operator_at with_equals_at literal_at number_literal_at mantissa_at decimals_at exponent_at digits_at int_at size_at past_blanks loop is_blank is_digit
+unfolding query_at rule.query rule.segments rule.segment rule.bracket rule.entries rule.entry rule.selector rule.member rule.selection rule.shorthand rule.inner_query rule.identifier rule.side rule.comparison_with rule.test rule.closed rule.negated rule.basic rule.literal_compared rule.inside_mark rule.conjunction rule.expression rule.operator rule.literal rule.number rule.mantissa rule.decimals rule.exponent rule.power rule.digits rule.int rule.unsigned rule.size past_blanks loop is_blank is_digit
 refused-rows = (refl, refl, refl, refl, refl, refl)
 
 compared-items : items_of compared

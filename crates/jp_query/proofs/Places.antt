@@ -7,11 +7,11 @@ use Rattle.jp_reading.proofs.Between.{Stops, Passes}
 use Rattle.jp_reading.proofs.Again.{start}
 use Rattle.jp_query.specs.ViablePrefix.{IsViablePrefix, IsNoViablePrefix, EndsViablePrefix, IsSyntaxAt, IsTooDeepAt}
 use Rattle.jp_query.specs.Reading.{query_at}
-use Rattle.jp_query.proofs.Agreeing.{all, Agrees, same, ended, longer}
-use Rattle.jp_query.proofs.AgreeingRules.{local-query}
-use Rattle.jp_query.proofs.AgreeingLevels.{stuck-deeper}
+use Rattle.jp_reading.proofs.Locality.{all, Agrees, same, ended, longer}
+use Rattle.jp_query.proofs.Locality.{local-query}
+use Rattle.jp_query.proofs.LevelsMonotone.{stuck-deeper}
 use Rattle.jp_query.proofs.Unique.{spells-read, unread-spells_nothing}
-use Rattle.jp_query.proofs.Whole.{query-judged, whole, spells-of}
+use Rattle.jp_query.proofs.Whole.{query-sound, whole, spells-of}
 
 -- ---- no further
 
@@ -100,7 +100,7 @@ syntax-parts n text at (mark ∷ behind) found e h =
 -- where reading is stuck
 pub stuck-place : (n : ℕ) (text : Text) (r : State) → query_at n (start text) ≡ stuck r → IsSyntaxAt n text r.at
 stuck-place n text r e =
-    let judged = rw e at (query-judged n (start text)) in
+    let judged = rw e at (query-sound n (start text)) in
     syntax-parts n text r.at r.rest r.found e judged.is
 
 deep-parts : (n : ℕ) (text : Text) (at : ℕ) (rest : Text) (found : Spans)
@@ -129,5 +129,5 @@ deep-parts n text at (mark ∷ behind) found e h g =
 -- where a level is missing, and with one level more the character there goes on
 pub deep-place : (n : ℕ) (text : Text) (r : State) → query_at n (start text) ≡ deep r → IsTooDeepAt n text r.at
 deep-place n text r e =
-    let judged = rw e at (query-judged n (start text)) in
+    let judged = rw e at (query-sound n (start text)) in
     deep-parts n text r.at r.rest r.found e judged.is.0 judged.is.1

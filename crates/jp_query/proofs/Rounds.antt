@@ -1,184 +1,86 @@
--- The loops over segments, over selectors, and over the parts of an expression.
-use Rattle.std.proofs.Common.{◌≡◌, ℕ, ◌<◌, ◌≤◌, true, false, List, [], ◌∷◌, ◌++◌, length, refl, ap, ◌∙◌, arith}
+-- The loops over selectors, and over the parts of an expression.
+use Rattle.std.proofs.Common.{◌≡◌, ℕ, ◌≤◌, Bool, true, false, List, [], ◌∷◌, length, refl, sym, ap, ◌∙◌, arith}
 use Rattle.jp_reading.specs.declared.reader.Stop.{Stop}
-use Rattle.jp_reading.specs.declared.reader.Stop.TheVariants.{Memory, Syntax, TooDeep}
-use Rattle.jp_reading.specs.Outcome.{State, Outcome, took, stuck, deep, ◌>>=◌, past, skip, after_blank, passes, is, is_at, expect, each}
+use Rattle.jp_reading.specs.Outcome.{State, Outcome, took, stuck, deep, ◌>>=◌, past, skip, after_blank, passes, is, is_at, expect}
 use Rattle.jp_reading.specs.Views.{Fails, with_front}
-use Rattle.jp_reading.proofs.Progress.{Progress, moved}
+use Rattle.jp_reading.specs.Rule.{here, beyond, blanks, the, some, ◌>>◌}
+use Rattle.jp_reading.specs.RuleReading.{Inner, read}
 use Rattle.jp_reading.proofs.Loops.{each-off}
-use Rattle.jp_reading.proofs.Folds.{pushes_on, pushes_end, folds_fail, fails-then}
+use Rattle.jp_reading.proofs.Folds.{fails-then}
 use Rattle.jp_reading.proofs.Steps.{take_if-takes, head-is}
-use Rattle.jp_query.specs.Tree.{SegmentTree, SelectorTree, ExprTree, ExprTrees, exprs}
+use Rattle.jp_query.specs.Tree.{SelectorTree, segment, selectors, ExprTree, ExprTrees, exprs}
+use Rattle.jp_query.specs.Characters.{comma, opening_bracket, closing_bracket}
 use Rattle.jp_query.specs.Grammar.{joined}
-use Rattle.jp_query.specs.Reading.{Inner, segment_at, segments_at, begins_segment, selector_at, entry_at, another_at, entries_at, part_at, parts_at}
-use Rattle.jp_query.proofs.Moves.{Nested, segment-progress, another-progress, part-progress}
-
--- ---- segments
-
--- a segment more
-pub segments_on : (inner : Inner) → Nested inner → (p q : State) (xs : List SegmentTree) (x : SegmentTree)
-    → passes begins_segment (after_blank p) ≡ true → segment_at inner (skip p) ≡ took x q
-    → with_front xs (segments_at inner p) ≡ with_front (xs ++ x ∷ []) (segments_at inner q)
-unfolding segments_at
-segments_on inner h p q xs x on e =
-    pushes_on (λ r. passes begins_segment (after_blank r)) (λ r. segment_at inner (skip r)) (segment-progress inner h) xs p q x on e
-
--- no segment more
-pub segments_end : (inner : Inner) (p : State) (xs : List SegmentTree) → passes begins_segment (after_blank p) ≡ false
-    → with_front xs (segments_at inner p) ≡ took xs p
-unfolding segments_at
-segments_end inner p xs off = pushes_end (λ r. passes begins_segment (after_blank r)) (λ r. segment_at inner (skip r)) xs p off
-
--- a segment that fails
-pub segments_fail : (inner : Inner) → Nested inner → (p : State) (xs : List SegmentTree) (e : Stop)
-    → passes begins_segment (after_blank p) ≡ true → Fails e (segment_at inner (skip p)) → Fails e (with_front xs (segments_at inner p))
-unfolding segments_at
-segments_fail inner h p xs e on failed =
-    folds_fail (λ r. passes begins_segment (after_blank r)) (λ r. segment_at inner (skip r)) (segment-progress inner h) (λ ys. xs ++ ys) p e on failed
-
--- a segment leaves a shorter text
-pub segments-smaller : (inner : Inner) → Nested inner → (p q : State) (x : SegmentTree) → segment_at inner (skip p) ≡ took x q
-    → length q.rest < length p.rest
-segments-smaller inner h p q x e = moved (λ r. segment_at inner (skip r)) (segment-progress inner h) p q x e
+use Rattle.jp_query.specs.Rules.{nesting, QueryRule, selector, entry, entries, bracket, joint, part, parts}
+use Rattle.jp_query.specs.Reading.{read_flat}
 
 -- ---- selectors in brackets
 
--- the first
-pub entries_first : (inner : Inner) (p q : State) (x : SelectorTree) → selector_at inner p ≡ took x q
-    → with_front (x ∷ []) (each (is_at 44) (another_at inner) (skip q)) ≡ entries_at inner p
-unfolding entries_at entry_at
+-- those after the first, each with its comma
+abbrev pub other_entries : QueryRule false here here (List SelectorTree)
+other_entries = some here (is comma) (the comma >> (blanks {m = here} >> entry))
+
+pub entries_first : (inner : Inner nesting) (p q : State) (x : SelectorTree) → read inner selector p ≡ took x q
+    → with_front (x ∷ []) (read inner other_entries (skip q)) ≡ read inner entries p
+unfolding entries entry
 entries_first inner p q x e = rw e refl
 
--- another, behind its comma
-pub another-is : (inner : Inner) (p : State) → is_at 44 p ≡ true
-    → another_at inner p ≡ selector_at inner (skip (past p)) >>= λ x q. took x (skip q)
-unfolding another_at entry_at
-another-is inner p on = ap (λ (o : Outcome ℕ). o >>= λ c q. selector_at inner (skip q) >>= λ x r. took x (skip r)) (take_if-takes (is 44) p 44 (head-is 44 p on) refl)
+-- brackets, once the first is taken
+pub bracket-opened : (inner : Inner nesting) (descendant : Bool) (p q : State) → expect opening_bracket p ≡ took opening_bracket q
+    → read inner (bracket descendant) p
+    ≡ read inner entries (skip q) >>= λ xs r. expect closing_bracket r >>= λ d w. took (segment descendant (selectors xs)) w
+unfolding bracket
+bracket-opened inner descendant p q e =
+    ap (λ (o : Outcome ℕ). o >>= λ c r. read inner entries (skip r) >>= λ xs v. expect closing_bracket v >>= λ d w. took (segment descendant (selectors xs)) w) e
 
-pub another-took : (inner : Inner) (p q : State) (x : SelectorTree) → is_at 44 p ≡ true → selector_at inner (skip (past p)) ≡ took x q
-    → another_at inner p ≡ took x (skip q)
+-- another, after its comma
+pub another-is : (inner : Inner nesting) (p : State) → is_at comma p ≡ true
+    → read inner (the comma >> (blanks {m = here} >> entry)) p ≡ read inner selector (skip (past p)) >>= λ x q. took x (skip q)
+unfolding entry
+another-is inner p on =
+    ap (λ (o : Outcome ℕ). o >>= λ c q. read inner selector (skip q) >>= λ x r. took x (skip r)) (take_if-takes (is comma) p comma (head-is comma p on) refl)
+
+pub another-took : (inner : Inner nesting) (p q : State) (x : SelectorTree) → is_at comma p ≡ true → read inner selector (skip (past p)) ≡ took x q
+    → read inner (the comma >> (blanks {m = here} >> entry)) p ≡ took x (skip q)
 another-took inner p q x on e = another-is inner p on ∙ ap (λ (o : Outcome SelectorTree). o >>= λ y r. took y (skip r)) e
 
-pub another-on : (inner : Inner) → Nested inner → (p q : State) (xs : List SelectorTree) (x : SelectorTree) → is_at 44 p ≡ true
-    → selector_at inner (skip (past p)) ≡ took x q
-    → with_front xs (each (is_at 44) (another_at inner) p) ≡ with_front (xs ++ x ∷ []) (each (is_at 44) (another_at inner) (skip q))
-another-on inner h p q xs x on e =
-    pushes_on (is_at 44) (another_at inner) (another-progress inner h) xs p (skip q) x on (another-took inner p q x on e)
-
-pub another-end : (inner : Inner) (p : State) (xs : List SelectorTree) → is_at 44 p ≡ false
-    → with_front xs (each (is_at 44) (another_at inner) p) ≡ took xs p
-another-end inner p xs off = pushes_end (is_at 44) (another_at inner) xs p off
-
-pub another-fail : (inner : Inner) → Nested inner → (p : State) (xs : List SelectorTree) (e : Stop) → is_at 44 p ≡ true
-    → Fails e (selector_at inner (skip (past p))) → Fails e (with_front xs (each (is_at 44) (another_at inner) p))
-another-fail inner h p xs e on failed =
-    folds_fail (is_at 44) (another_at inner) (another-progress inner h) (λ ys. xs ++ ys) p e on
-    (rw (another-is inner p on) (fails-then e (selector_at inner (skip (past p))) (λ x q. took x (skip q)) failed))
-
-pub another-smaller : (inner : Inner) → Nested inner → (p q : State) (x : SelectorTree) → is_at 44 p ≡ true
-    → selector_at inner (skip (past p)) ≡ took x q → length (skip q).rest < length p.rest
-another-smaller inner h p q x on e = moved (another_at inner) (another-progress inner h) p (skip q) x (another-took inner p q x on e)
+pub another-fails : (inner : Inner nesting) (p : State) (e : Stop) → is_at comma p ≡ true → Fails e (read inner selector (skip (past p)))
+    → Fails e (read inner (the comma >> (blanks {m = here} >> entry)) p)
+another-fails inner p e on failed = rw (another-is inner p on) (fails-then e (read inner selector (skip (past p))) (λ x q. took x (skip q)) failed)
 
 -- ---- parts of an expression
 
--- the parts behind the first
-abbrev pub others_at : {A : Type 0} → ℕ → (State → Outcome A) → State → Outcome (List A)
-others_at c rule p = each (λ r. passes (is c) (after_blank r)) (λ r. part_at c rule (skip r)) p
+-- a rule after one that follows another
+along : {A B C : Type 0} (o : Outcome A) (f : A → State → Outcome B) (g : B → State → Outcome C)
+    → (o >>= f) >>= g ≡ o >>= λ x q. f x q >>= g
+along (took x q) f g = refl
+along (stuck q) f g = refl
+along (deep q) f g = refl
 
-past_one : {A : Type 0} (c : ℕ) (rule : State → Outcome A) (o : Outcome ℕ) (q : State) (d : ℕ)
-    → (o >>= λ e r. took c (skip r)) ≡ took d q → (o >>= λ e r. rule (skip r)) ≡ rule q
-past_one c rule (took x r) q d e = let same : skip r ≡ q = cc in ap rule same
-past_one c rule (stuck r) q d e = cc
-past_one c rule (deep r) q d e = cc
+module _ {A : Type 0} (inner : Inner nesting) (c : ℕ) (r : QueryRule true here beyond A) where
+  -- a part comes after its mark
+  part-joint : (p : State) → read inner (part c r) p ≡ read_flat (joint c) p >>= λ d q. read inner r q
+  unfolding joint
+  part-joint p = sym (along (expect c (skip p)) _ _ ∙ ap (λ f. expect c (skip p) >>= f) (λ i d q. along (expect c q) (λ x w. took c (skip w)) (λ x w. read inner r w) i))
 
-past_two : {A : Type 0} (c : ℕ) (rule : State → Outcome A) (o : Outcome ℕ) (q : State) (d : ℕ)
-    → (o >>= λ e r. expect c r >>= λ f w. took c (skip w)) ≡ took d q → (o >>= λ e r. expect c r >>= λ f w. rule (skip w)) ≡ rule q
-past_two c rule (took x r) q d e = past_one c rule (expect c r) q d e
-past_two c rule (stuck r) q d e = cc
-past_two c rule (deep r) q d e = cc
+  pub part-is : (p q : State) (d : ℕ) → read_flat (joint c) p ≡ took d q → read inner (part c r) p ≡ read inner r q
+  part-is p q d e = part-joint p ∙ ap (λ (o : Outcome ℕ). o >>= λ x w. read inner r w) e
 
-fails_one : {A : Type 0} (c : ℕ) (rule : State → Outcome A) (o : Outcome ℕ) (e : Stop)
-    → Fails e (o >>= λ d r. took c (skip r)) → Fails e (o >>= λ d r. rule (skip r))
-fails_one c rule o Memory h = tt
-fails_one c rule (took x r) (Syntax n) h = elim h [ ]
-fails_one c rule (took x r) (TooDeep n) h = elim h [ ]
-fails_one c rule (stuck r) (Syntax n) h = h
-fails_one c rule (stuck r) (TooDeep n) h = h
-fails_one c rule (deep r) (Syntax n) h = h
-fails_one c rule (deep r) (TooDeep n) h = h
+  pub part-took : (p q w : State) (d : ℕ) (x : A) → read_flat (joint c) p ≡ took d q → read inner r q ≡ took x w → read inner (part c r) p ≡ took x w
+  part-took p q w d x e f = part-is p q d e ∙ f
 
-fails_two : {A : Type 0} (c : ℕ) (rule : State → Outcome A) (o : Outcome ℕ) (e : Stop)
-    → Fails e (o >>= λ d r. expect c r >>= λ f w. took c (skip w)) → Fails e (o >>= λ d r. expect c r >>= λ f w. rule (skip w))
-fails_two c rule (took x r) e h = fails_one c rule (expect c r) e h
-fails_two c rule (stuck r) Memory h = tt
-fails_two c rule (stuck r) (Syntax n) h = h
-fails_two c rule (stuck r) (TooDeep n) h = h
-fails_two c rule (deep r) Memory h = tt
-fails_two c rule (deep r) (Syntax n) h = h
-fails_two c rule (deep r) (TooDeep n) h = h
+  -- a mark that is not there whole, or a part that fails after it
+  pub mark-fails : (p : State) (e : Stop) → Fails e (read_flat (joint c) p) → Fails e (read inner (part c r) p)
+  mark-fails p e h = rw (part-joint p) (fails-then e (read_flat (joint c) p) (λ d q. read inner r q) h)
 
--- a part behind its mark
-pub part-is : {A : Type 0} (c : ℕ) (rule : State → Outcome A) (p q : State) (d : ℕ) → part_at c (took c) p ≡ took d q
-    → part_at c rule p ≡ rule q
-unfolding part_at
-part-is c rule p q d e = past_two c rule (expect c p) q d e
+  pub part-fails : (p q : State) (d : ℕ) (e : Stop) → read_flat (joint c) p ≡ took d q → Fails e (read inner r q) → Fails e (read inner (part c r) p)
+  part-fails p q d e f h = rw (part-is p q d f) h
 
--- a mark that is not there whole
-pub part-fails : {A : Type 0} (c : ℕ) (rule : State → Outcome A) (p : State) (e : Stop) → Fails e (part_at c (took c) p)
-    → Fails e (part_at c rule p)
-unfolding part_at
-part-fails c rule p e h = fails_two c rule (expect c p) e h
-
--- a single part
-pub parts-one : {A : Type 0} (c : ℕ) (rule : State → Outcome A) (p q : State) (x : A) → rule p ≡ took x q
-    → passes (is c) (after_blank q) ≡ false → parts_at c rule p ≡ took (x ∷ []) q
-unfolding parts_at
-parts-one {A = A} c rule p q x e off =
-    rw e (ap (λ (o : Outcome (List A)). o >>= λ xs r. took (x ∷ xs) r)
-    (each-off (λ r. passes (is c) (after_blank r)) (λ r. part_at c rule (skip r)) q off))
-
--- the first of several
-pub parts-first : {A : Type 0} (c : ℕ) (rule : State → Outcome A) (p q : State) (x : A) → rule p ≡ took x q
-    → with_front (x ∷ []) (others_at c rule q) ≡ parts_at c rule p
-unfolding parts_at
-parts-first c rule p q x e = rw e refl
-
--- a first part that fails
-pub parts-fail : {A : Type 0} (c : ℕ) (rule : State → Outcome A) (p : State) (e : Stop) → Fails e (rule p) → Fails e (parts_at c rule p)
-unfolding parts_at
-parts-fail c rule p e h = fails-then e (rule p) _ h
-
--- another part
-pub others-on : {A : Type 0} (c : ℕ) (rule : State → Outcome A) → Progress rule → (p q r : State) (xs : List A) (x : A) (d : ℕ)
-    → passes (is c) (after_blank p) ≡ true → part_at c (took c) (skip p) ≡ took d q → rule q ≡ took x r
-    → with_front xs (others_at c rule p) ≡ with_front (xs ++ x ∷ []) (others_at c rule r)
-others-on c rule h p q r xs x d on mark e =
-    pushes_on (λ w. passes (is c) (after_blank w)) (λ w. part_at c rule (skip w)) (part-progress c rule h) xs p r x on
-    (part-is c rule (skip p) q d mark ∙ e)
-
-pub others-end : {A : Type 0} (c : ℕ) (rule : State → Outcome A) (p : State) (xs : List A) → passes (is c) (after_blank p) ≡ false
-    → with_front xs (others_at c rule p) ≡ took xs p
-others-end c rule p xs off = pushes_end (λ w. passes (is c) (after_blank w)) (λ w. part_at c rule (skip w)) xs p off
-
--- another part that fails, at its mark or behind it
-pub others-fail_mark : {A : Type 0} (c : ℕ) (rule : State → Outcome A) → Progress rule → (p : State) (xs : List A) (e : Stop)
-    → passes (is c) (after_blank p) ≡ true → Fails e (part_at c (took c) (skip p)) → Fails e (with_front xs (others_at c rule p))
-others-fail_mark c rule h p xs e on failed =
-    folds_fail (λ w. passes (is c) (after_blank w)) (λ w. part_at c rule (skip w)) (part-progress c rule h) (λ ys. xs ++ ys) p e on
-    (part-fails c rule (skip p) e failed)
-
-pub others-fail : {A : Type 0} (c : ℕ) (rule : State → Outcome A) → Progress rule → (p q : State) (xs : List A) (d : ℕ) (e : Stop)
-    → passes (is c) (after_blank p) ≡ true → part_at c (took c) (skip p) ≡ took d q → Fails e (rule q)
-    → Fails e (with_front xs (others_at c rule p))
-others-fail c rule h p q xs d e on mark failed =
-    folds_fail (λ w. passes (is c) (after_blank w)) (λ w. part_at c rule (skip w)) (part-progress c rule h) (λ ys. xs ++ ys) p e on
-    (rw (part-is c rule (skip p) q d mark) failed)
-
--- another part leaves a shorter text
-pub others-smaller : {A : Type 0} (c : ℕ) (rule : State → Outcome A) → Progress rule → (p q r : State) (x : A) (d : ℕ)
-    → part_at c (took c) (skip p) ≡ took d q → rule q ≡ took x r → length r.rest < length p.rest
-others-smaller c rule h p q r x d mark e =
-    moved (λ w. part_at c rule (skip w)) (part-progress c rule h) p r x (part-is c rule (skip p) q d mark ∙ e)
+  -- a single part
+  pub parts-one : (p q : State) (x : A) → read inner r p ≡ took x q → passes (is c) (after_blank q) ≡ false → read inner (parts c r) p ≡ took (x ∷ []) q
+  parts-one p q x e off =
+      rw e (ap (λ (o : Outcome (List A)). o >>= λ xs w. took (x ∷ xs) w)
+      (each-off (λ w. passes (is c) (after_blank w)) (λ w. read inner (part c r) w) q off))
 
 -- two parts or more are several
 pub joined-several : (several : ExprTrees → ExprTree) (es : List ExprTree) → 2 ≤ length es → joined several es ≡ several (exprs es)

@@ -12,7 +12,8 @@ use Rattle.jp_query.specs.Strings.{is_plain, scalar_of, escaped, is_escapable}
 use Rattle.jp_query.specs.Ints.{whole_of, negative_of}
 use Rattle.jp_query.specs.Items.{items_of, int, as_index}
 use Rattle.jp_query.specs.Grammar.{Spells}
-use Rattle.jp_query.specs.Reading.{query_at, segments_at, segment_at, bracket_at, selector_at, int_at, size_at, quoted_at, characters_at, shorthand_at, entry_at, another_at, entries_at, member_at, selection_at, number_at, bound_at, step_at, slice_at}
+use Rattle.jp_query.specs.Rules as rule
+use Rattle.jp_query.specs.Reading.{query_at}
 use Rattle.jp_query.proofs.Whole.{read-spells}
 
 -- a letter, a letter above ASCII and `_` begin a shorthand; a digit only goes on with one
@@ -34,7 +35,7 @@ abbrev ten : QueryTree
 ten = query true (segments (segment false (selectors (index (Whole (pos 10)) ∷ [])) ∷ []))
 
 index-spells : Spells 64 ten (Some (record { start = 2; end = 4 }) ∷ []) (36 ∷ 91 ∷ 49 ∷ 48 ∷ 93 ∷ [])
-unfolding query_at segments_at segment_at bracket_at entries_at another_at entry_at selector_at number_at int_at size_at past_blanks loop is_blank is_digit
+unfolding query_at rule.query rule.segments rule.segment rule.bracket rule.entries rule.entry rule.selector rule.number_selector rule.int rule.unsigned rule.size past_blanks loop is_blank is_digit
 index-spells = read-spells 64 (36 ∷ 91 ∷ 49 ∷ 48 ∷ 93 ∷ []) ten (finish (36 ∷ 91 ∷ 49 ∷ 48 ∷ 93 ∷ []) (Some (record { start = 2; end = 4 }) ∷ [])) refl
 
 index-items : items_of ten ≡ int (Whole (pos 10)) as_index ∷ []
@@ -45,16 +46,16 @@ abbrev names : QueryTree
 names = query true (segments (segment false (selectors (name (97 ∷ []) ∷ [])) ∷ segment false (selectors (name [] ∷ [])) ∷ []))
 
 names-spell : Spells 64 names [] (36 ∷ 32 ∷ 46 ∷ 97 ∷ 91 ∷ 39 ∷ 39 ∷ 93 ∷ [])
-unfolding query_at segments_at segment_at bracket_at entries_at another_at entry_at member_at selection_at selector_at quoted_at characters_at shorthand_at past_blanks loop is_blank is_digit
+unfolding query_at rule.query rule.segments rule.segment rule.bracket rule.entries rule.entry rule.member rule.selection rule.selector rule.quoted rule.characters rule.shorthand past_blanks loop is_blank is_digit
 names-spell = read-spells 64 (36 ∷ 32 ∷ 46 ∷ 97 ∷ 91 ∷ 39 ∷ 39 ∷ 93 ∷ []) names (finish (36 ∷ 32 ∷ 46 ∷ 97 ∷ 91 ∷ 39 ∷ 39 ∷ 93 ∷ []) []) refl
 
 -- `$[01]` is stuck at byte 3, and `$.a` and a blank at its end
 zero-row : query_at 64 (start (36 ∷ 91 ∷ 48 ∷ 49 ∷ 93 ∷ [])) ≡ stuck (record { at = 3; rest = 49 ∷ 93 ∷ []; found = Some (record { start = 2; end = 3 }) ∷ [] })
-unfolding query_at segments_at segment_at bracket_at entries_at another_at entry_at selector_at number_at int_at past_blanks loop is_blank is_digit
+unfolding query_at rule.query rule.segments rule.segment rule.bracket rule.entries rule.entry rule.selector rule.number_selector rule.int rule.unsigned past_blanks loop is_blank is_digit
 zero-row = refl
 
 blank-row : query_at 64 (start (36 ∷ 46 ∷ 97 ∷ 32 ∷ [])) ≡ stuck (record { at = 4; rest = []; found = [] })
-unfolding query_at segments_at segment_at member_at selection_at shorthand_at past_blanks loop is_blank is_digit
+unfolding query_at rule.query rule.segments rule.segment rule.member rule.selection rule.shorthand past_blanks loop is_blank is_digit
 blank-row = refl
 
 -- `$[:]`: neither bound, and an omitted step, which is 1 and has no span
@@ -62,12 +63,12 @@ abbrev all : QueryTree
 all = query true (segments (segment false (selectors (slice (record { start = None; end = None; step = Whole (pos 1) }) ∷ [])) ∷ []))
 
 slice-spells : Spells 64 all (None ∷ []) (36 ∷ 91 ∷ 58 ∷ 93 ∷ [])
-unfolding query_at segments_at segment_at bracket_at entries_at another_at entry_at selector_at slice_at bound_at step_at past_blanks loop is_blank
+unfolding query_at rule.query rule.segments rule.segment rule.bracket rule.entries rule.entry rule.selector rule.slice_from rule.bound rule.step past_blanks loop is_blank
 slice-spells = read-spells 64 (36 ∷ 91 ∷ 58 ∷ 93 ∷ []) all (finish (36 ∷ 91 ∷ 58 ∷ 93 ∷ []) (None ∷ [])) refl
 
 -- `$..*`: a descendant segment of a wildcard
 descend-spells : Spells 64 (query true (segments (segment true (selectors (wildcard ∷ [])) ∷ []))) [] (36 ∷ 46 ∷ 46 ∷ 42 ∷ [])
-unfolding query_at segments_at segment_at selection_at member_at past_blanks loop is_blank
+unfolding query_at rule.query rule.segments rule.segment rule.selection rule.member past_blanks loop is_blank
 descend-spells =
     read-spells 64 (36 ∷ 46 ∷ 46 ∷ 42 ∷ []) (query true (segments (segment true (selectors (wildcard ∷ [])) ∷ [])))
     (finish (36 ∷ 46 ∷ 46 ∷ 42 ∷ []) []) refl

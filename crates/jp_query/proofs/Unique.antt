@@ -1,33 +1,41 @@
 -- Whole texts: what spells a query is read as it, so that no text spells two.
-use Rattle.std.proofs.Common.{◌≡◌, ℕ, ◌+◌, false, [], ◌∷◌, refl, sym, ap, ◌∙◌, arith}
-use Rattle.jp_reading.specs.Texts.{Text, Spans, bytes}
-use Rattle.jp_reading.specs.Forms.{◌⌢◌, word}
-use Rattle.jp_reading.specs.Outcome.{State, Outcome, took, stuck, deep, past_blanks, after_blank, passes}
-use Rattle.jp_reading.proofs.Again.{start, finish, reads-whole, split, again-expect}
+use Rattle.std.proofs.Common.{◌≡◌, ℕ, ◌+◌, [], ◌∷◌, refl, sym, ap, ◌∙◌, arith}
+use Rattle.jp_reading.specs.Texts.{Text, Spans}
+use Rattle.jp_reading.specs.Forms.{word}
+use Rattle.jp_reading.specs.Outcome.{State, Outcome, took, stuck, deep, past_blanks}
+use Rattle.jp_reading.proofs.Between.{joined-over}
+use Rattle.jp_reading.proofs.Again.{start, finish, reads-whole}
+use Rattle.jp_reading.proofs.Rules.Form.{form}
+use Rattle.jp_reading.proofs.Rules.Follow.{Meets}
+use Rattle.jp_reading.proofs.Rules.Completeness.{done}
 use Rattle.jp_query.specs.Tree.{QueryTree}
 use Rattle.jp_query.specs.Grammar.{Segments, Inside, Spells}
 use Rattle.jp_query.specs.Spelled.{SpellsNothing}
 use Rattle.jp_query.specs.Laws.{OneReading}
-use Rattle.jp_query.specs.Reading.{query_at, begins_segment, inside}
-use Rattle.jp_query.proofs.Lifts.{spells-more}
-use Rattle.jp_query.proofs.SpeltSegments.{segments-again}
-use Rattle.jp_query.proofs.SpeltExpressions.{known}
+use Rattle.jp_query.specs.Rules.{query}
+use Rattle.jp_query.specs.Reading.{query_at, inside}
+use Rattle.jp_query.proofs.Alive.{query-alive}
+use Rattle.jp_query.proofs.Apart.{closes, at_end, query-apart}
+use Rattle.jp_query.proofs.Forms.Selectors.{marked, segments-spelt}
+use Rattle.jp_query.proofs.Levels.{inside-complete, spells-more}
 
-past-end : (at : ℕ) (found : Spans) → passes begins_segment (after_blank (record { at = at; rest = []; found = found })) ≡ false
+query-spelt : (n : ℕ) (q : QueryTree) (s : Spans) (text : Text) → Spells n q s text → form (marked (Inside n)) query q s 0 text
+unfolding query
+query-spelt n q s text h =
+    joined-over (word (36 ∷ [])) (Segments (Inside n) h.parts) _ s 0 text h.is
+    (record { part = h.parts; same = h.tree; is = segments-spelt (Inside n) h.parts h.is.second_spans _ h.is.second h.is.two })
+
+ends-meet : (t : Text) (s : Spans) → Meets at_end (finish t s)
 unfolding past_blanks
-past-end at found = refl
+ends-meet t s = record { near = refl; far = refl }
 
 -- what spells a tree is read as it
 pub spells-read : (n : ℕ) (q : QueryTree) (s : Spans) (text : Text) → Spells n q s text → query_at n (start text) ≡ took q (finish text s)
 unfolding query_at
 spells-read n q s text h =
-    let S = Segments (Inside n) h.parts in
-    let parts = split (word (36 ∷ [])) S (start text) (finish text s) (reads-whole (word (36 ∷ []) ⌢ S) s text h.is) in
-    rw (
-      again-expect 36 (start text) parts.middle parts.one,
-      segments-again (Inside n) (inside n) (known n) h.parts parts.middle (finish text s) parts.two (past-end (bytes text) s) refl,
-      h.tree,
-    ) refl
+    let F = marked (Inside n) in
+    rw (done F closes (inside n) (inside-complete n) query query-alive at_end query-apart q (start text) (finish text s)
+    (reads-whole (form F query q) s text (query-spelt n q s text h)) (ends-meet text s)).reads refl
 
 -- where reading is stuck, or would need a level more, nothing spells the text
 pub unread-spells_nothing : (n : ℕ) (text : Text) (r : State) → query_at n (start text) ≡ stuck r → SpellsNothing n text

@@ -1,61 +1,83 @@
 -- Whole texts: what is read to its end spells a tree, and what is read before a stop began one.
-use Rattle.std.proofs.Common.{◌≡◌, ℕ, Bool, true, false, if◌then◌else◌, List, [], ◌∷◌, ◌++◌, length, refl, ◌==◌, arith}
+use Rattle.std.proofs.Common.{◌≡◌, ℕ, suc, Bool, true, false, if◌then◌else◌, List, [], ◌∷◌, ◌++◌, length, refl, ◌==◌, arith}
 use Rattle.std.proofs.lemmas.Bool.{eqb-true}
 use Rattle.jp_reading.specs.Texts.{Text, Spans}
 use Rattle.jp_reading.specs.Forms.{Form, ◌⌢◌, word, Each, Blank}
-use Rattle.jp_reading.specs.Outcome.{State, Outcome, took, stuck, deep, ◌>>=◌, skip, is_end, expect}
+use Rattle.jp_reading.specs.Outcome.{State, Outcome, took, stuck, deep, ◌>>=◌, skip, is_end}
+use Rattle.jp_reading.specs.RuleReading.{read}
 use Rattle.jp_reading.proofs.Steps.{skip-way}
-use Rattle.jp_reading.proofs.Between.{Reads, Stops, Judged, front-then, front-none, front-as, reads-as, joined-over}
-use Rattle.jp_reading.proofs.Levels.{Made, made_rule, word_rule}
-use Rattle.jp_reading.proofs.Joining.{each-append}
-use Rattle.jp_reading.proofs.Judging.{judged-expect, judged-made}
+use Rattle.jp_reading.proofs.Between.{Reads, Stops, Within, Has, front-then, front-none, front-as, reads-is, joined-over, has-as}
+use Rattle.jp_reading.proofs.Levels.{Made}
+use Rattle.jp_reading.proofs.Joining.{each-append, joined-assoc, after-within}
 use Rattle.jp_reading.proofs.Again.{start, whole-reads}
-use Rattle.jp_query.specs.Tree.{SegmentTree, QueryTree}
-use Rattle.jp_query.specs.Grammar.{Segments, Inside, Spells}
-use Rattle.jp_query.specs.Reading.{segments_at, inside, query_at}
-use Rattle.jp_query.proofs.Rules.{Level}
-use Rattle.jp_query.proofs.SegmentRules.{segment_rule, segments_rule}
-use Rattle.jp_query.proofs.Sound.{segments-judged}
-use Rattle.jp_query.proofs.SoundOperands.{query_of_parts}
-use Rattle.jp_query.proofs.SoundLevels.{level_at, inside-judged}
+use Rattle.jp_reading.proofs.Rules.Form.{form, least, has}
+use Rattle.jp_reading.proofs.Rules.Soundness.{IsSound, sound, sound-as}
+use Rattle.jp_query.specs.Tree.{SegmentTree, QueryTree, query, segments}
+use Rattle.jp_query.specs.Grammar.{Segment, Segments, Inside, Spells}
+use Rattle.jp_query.specs.Rules as rule
+use Rattle.jp_query.specs.Reading.{inside, query_at}
+use Rattle.jp_query.proofs.Alive.{segment-alive, query-alive}
+use Rattle.jp_query.proofs.Forms.Selectors.{marked, segment-within, segments-within}
+use Rattle.jp_query.proofs.Levels.{marked-lifts, inside-lifts, inside-sound}
+
+-- the query of these segments
+abbrev pub query_of_parts : List SegmentTree → QueryTree
+query_of_parts xs = query true (segments xs)
+
+-- a query with n levels, as it is read
+abbrev pub whole : ℕ → QueryTree → Form
+whole n q = word (36 ∷ []) ⌢ Made query_of_parts (Segments (Inside n)) q
+
+query-within : (n : ℕ) (q : QueryTree) → Within (form (marked (Inside n)) rule.query q) (whole n q)
+unfolding rule.query
+query-within n q =
+    after-within (word (36 ∷ [])) _ (Made query_of_parts (Segments (Inside n)) q)
+    (λ s o t h. record { part = h.part; same = h.same; is = segments-within (Inside n) h.part s o t h.is })
 
 -- ---- the end of the text
 
 -- where the text goes on after its segments, yet another segment could follow past the blanks
-another-segment : (L : Level) (xs : List SegmentTree) (p r : State) → Reads (Segments L.here xs) p r
-    → Stops (Made (query_of_parts true) (Segments L.here)) p (skip r)
-another-segment L xs p r h =
-    let S = segment_rule L in
-    let F = λ (x : SegmentTree). Blank ⌢ S.here x in
-    let more = xs ++ S.least ∷ [] in
-    record {
-      value = query_of_parts true more;
-      front = front-as (Each F xs ⌢ F S.least) (Made (query_of_parts true) (Segments L.here) (query_of_parts true more)) p (skip r)
-          (λ s o t g. record { part = more; same = refl; is = each-append F xs S.least s o t g })
-          (front-then (Each F xs) (F S.least) p r (skip r) h
-          (front-then Blank (S.here S.least) r (skip r) (skip r) (skip-way r) (front-none (S.here S.least) (skip r) S.has)));
-    }
-
-ends-judged : (L : Level) (p : State) (o : Outcome (List SegmentTree)) → Judged (segments_rule L) p o
-    → Judged (made_rule (query_of_parts true) (segments_rule L)) p
-    (o >>= λ xs r. if is_end r then took (query_of_parts true xs) r else stuck (skip r))
-ends-judged L p (took xs r) h = at_end (is_end r)
+another-segment : (n : ℕ) (x : QueryTree) (p r : State) → Reads (whole n x) p r → Stops (whole n) p (skip r)
+another-segment n x p r h = record {
+  value = query_of_parts (xs ++ y ∷ []);
+  front = front-as ((word (36 ∷ []) ⌢ Each F xs) ⌢ F y) (whole n (query_of_parts (xs ++ y ∷ []))) p (skip r)
+      (λ s o t g. after-within (word (36 ∷ [])) (Each F xs ⌢ F y) (Made query_of_parts (Segments (Inside n)) (query_of_parts (xs ++ y ∷ [])))
+      (λ v i u k. record { part = xs ++ y ∷ []; same = refl; is = each-append F xs y v i u k }) s o t (joined-assoc (word (36 ∷ [])) (Each F xs) (F y) s o t g))
+      (front-then (word (36 ∷ []) ⌢ Each F xs) (F y) p r (skip r)
+      (reads-is (whole n x) (word (36 ∷ []) ⌢ Each F xs) p r h (joined-over (word (36 ∷ [])) _ (Each F xs) h.spans p.at h.text h.is h.is.two.is))
+      (front-then Blank (Segment (Inside n) y) r (skip r) (skip r) (skip-way r) (front-none (Segment (Inside n) y) (skip r) some)));
+}
   where
-    at_end : (b : Bool) → Judged (made_rule (query_of_parts true) (segments_rule L)) p (if b then took (query_of_parts true xs) r else stuck (skip r))
-    at_end true = record {
-      is = reads-as (Segments L.here xs) (Made (query_of_parts true) (Segments L.here) (query_of_parts true xs)) p r
-          (λ s o t g. record { part = xs; same = refl; is = g }) h.is;
-    }
-    at_end false = record { is = another-segment L xs p r h.is }
-ends-judged L p (stuck r) h = judged-made (query_of_parts true) (segments_rule L) p (stuck r) h
-ends-judged L p (deep r) h = judged-made (query_of_parts true) (segments_rule L) p (deep r) h
+    xs : List SegmentTree
+    xs = h.is.two.part
 
-pub query-judged : (n : ℕ) (p : State) → Judged (word_rule 36 (made_rule (query_of_parts true) (segments_rule (level_at n)))) p (query_at n p)
+    y : SegmentTree
+    y = least rule.segment segment-alive
+
+    F : SegmentTree → Form
+    F z = Blank ⌢ Segment (Inside n) z
+
+    some : Has (Segment (Inside n) y)
+    some = has-as (form (marked (Inside n)) rule.segment y) (Segment (Inside n) y) (segment-within (Inside n) y) (has (marked (Inside n)) rule.segment segment-alive)
+
+ends-sound : (n : ℕ) (p : State) (o : Outcome QueryTree) → IsSound (whole n) (whole (suc n)) p o
+    → IsSound (whole n) (whole (suc n)) p (o >>= λ q r. if is_end r then took q r else stuck (skip r))
+ends-sound n p (took x r) h = at_end (is_end r)
+  where
+    at_end : (b : Bool) → IsSound (whole n) (whole (suc n)) p (if b then took x r else stuck (skip r))
+    at_end true = record { is = h.is }
+    at_end false = record { is = another-segment n x p r h.is }
+ends-sound n p (stuck r) h = h
+ends-sound n p (deep r) h = h
+
+pub query-sound : (n : ℕ) (p : State) → IsSound (whole n) (whole (suc n)) p (query_at n p)
 unfolding query_at
-query-judged n p =
-    let L = level_at n in
-    judged-expect 36 (made_rule (query_of_parts true) (segments_rule L)) p _
-    (λ c q. ends-judged L q (segments_at (inside n) q) (segments-judged L (inside n) (inside-judged n) q))
+query-sound n p =
+    let F = marked (Inside n) in
+    let G = marked (Inside (suc n)) in
+    ends-sound n p (read (inside n) rule.query p)
+    (sound-as (form F rule.query) (form G rule.query) (whole n) (whole (suc n)) p (read (inside n) rule.query p) (query-within n) (query-within (suc n))
+    (sound F G (marked-lifts (Inside n) (Inside (suc n)) (inside-lifts n)) (inside n) (inside-sound n) rule.query query-alive p))
 
 -- what is read ends with the text
 record Ends {A : Type 0} (o : Outcome A) : Type 0 where
@@ -76,23 +98,17 @@ ends-if y r false h = record { at = λ x q e. cc }
 
 query-ends : (n : ℕ) (p : State) → Ends (query_at n p)
 unfolding query_at
-query-ends n p =
-    ends-then (expect 36 p) _ (λ c q. ends-then (segments_at (inside n) q) _
-    (λ xs r. ends-if (query_of_parts true xs) r (is_end r) (no-characters r.rest)))
-
--- a query with n levels, as it is read
-abbrev pub whole : ℕ → QueryTree → Form
-whole n q = word (36 ∷ []) ⌢ Made (query_of_parts true) (Segments (Inside n)) q
+query-ends n p = ends-then (read (inside n) rule.query p) _ (λ q r. ends-if q r (is_end r) (no-characters r.rest))
 
 pub spells-of : (n : ℕ) (q : QueryTree) (s : Spans) (text : Text) → whole n q s 0 text → Spells n q s text
 spells-of n q s text h = record {
   parts = h.two.part;
   tree = h.two.same;
-  is = joined-over (word (36 ∷ [])) (Made (query_of_parts true) (Segments (Inside n)) q) (Segments (Inside n) h.two.part) s 0 text h h.two.is;
+  is = joined-over (word (36 ∷ [])) (Made query_of_parts (Segments (Inside n)) q) (Segments (Inside n) h.two.part) s 0 text h h.two.is;
 }
 
 -- what is read spells the text
 pub read-spells : (n : ℕ) (text : Text) (x : QueryTree) (q : State) → query_at n (start text) ≡ took x q → Spells n x q.found text
 read-spells n text x q e =
-    let judged = rw e at (query-judged n (start text)) in
+    let judged = rw e at (query-sound n (start text)) in
     spells-of n x q.found text (whole-reads (whole n x) text q judged.is ((query-ends n (start text)).at x q e))

@@ -1,3 +1,4 @@
+pub mod Characters
 pub mod Grammar
 pub mod HexDigits
 pub mod Ints
@@ -10,6 +11,7 @@ pub mod Names
 pub mod Parsed
 pub mod Reading
 pub mod Refusal
+pub mod Rules
 pub mod Singular
 pub mod Slices
 pub mod Spelled

@@ -1,10 +1,9 @@
 //! Logical expressions of filters, and the queries inside them (RFC 9535 section 2.3.5.1).
 
-ghost use Rattle.std.specs.Prelude.{true, false, if◌then◌else◌};
-ghost use Rattle.jp_reading.specs.Outcome.{took, skip, past, is_at, expect};
-ghost use Rattle.jp_reading.specs.Views.{Gives, by};
+ghost use Rattle.jp_reading.specs.Views.{Gives};
 ghost use Rattle.jp_query.specs.Tree.{expr_of, operand_of, query_of};
-ghost use Rattle.jp_query.specs.Reading.{inside, expression_at, conjunction_at, basic_at, negated_at, parenthesis_at, test_at, comparison_at, side_at, inner_query_at, part_at};
+ghost use Rattle.jp_query.specs.Rules as rules;
+ghost use Rattle.jp_query.specs.Reading.{inside, parenthesis_at, read_flat, read_inside};
 
 use crate::lists::append;
 use crate::literals::literal_item;
@@ -15,6 +14,7 @@ use jp_reading::{Reader, Stop};
 
 /// An expression behind the mark that opens it, one level further in than the text around.
 #[cycle(nested)]
+#[tactic(auto, unfolding(crate::specs::Rules::inside_mark))]
 pub fn inside(reader: &mut Reader, mark: char, levels: u32) -> Result<Expr, Stop>
     ensures { Gives expr_of result reader.new (inside levels mark reader.old) }
 {
@@ -28,9 +28,9 @@ pub fn inside(reader: &mut Reader, mark: char, levels: u32) -> Result<Expr, Stop
 
 /// Conjunctions with `||` between them; a single one stands for itself.
 #[cycle(nested)]
-#[tactic(auto, unfolding(crate::specs::Reading::expression_at, crate::specs::Reading::parts_at))]
+#[tactic(auto, unfolding(crate::specs::Rules::expression))]
 fn expression(reader: &mut Reader, levels: u32) -> Result<Expr, Stop>
-    ensures { Gives expr_of result reader.new (expression_at (inside levels) reader.old) }
+    ensures { Gives expr_of result reader.new (read_inside levels rules.expression reader.old) }
 {
     let first = conjunction(reader, levels)?;
     if !reader.is_before('|') {
@@ -48,9 +48,9 @@ fn expression(reader: &mut Reader, levels: u32) -> Result<Expr, Stop>
 
 /// Basic expressions with `&&` between them; a single one stands for itself.
 #[cycle(nested)]
-#[tactic(auto, unfolding(crate::specs::Reading::conjunction_at, crate::specs::Reading::parts_at))]
+#[tactic(auto, unfolding(crate::specs::Rules::conjunction))]
 fn conjunction(reader: &mut Reader, levels: u32) -> Result<Expr, Stop>
-    ensures { Gives expr_of result reader.new (conjunction_at (inside levels) reader.old) }
+    ensures { Gives expr_of result reader.new (read_inside levels rules.conjunction reader.old) }
 {
     let first = basic(reader, levels)?;
     if !reader.is_before('&') {
@@ -67,9 +67,9 @@ fn conjunction(reader: &mut Reader, levels: u32) -> Result<Expr, Stop>
 }
 
 /// The mark twice, with blanks before and after it.
-#[tactic(auto, unfolding(crate::specs::Reading::part_at))]
+#[tactic(auto, unfolding(crate::specs::Rules::joint))]
 fn joint(reader: &mut Reader, mark: char) -> Result<(), Stop>
-    ensures { Gives (λ _. mark) result reader.new (part_at mark (took mark) (skip reader.old)) }
+    ensures { Gives (λ _. mark) result reader.new (read_flat (rules.joint mark) reader.old) }
 {
     reader.skip();
     reader.expect(mark)?;
@@ -80,9 +80,9 @@ fn joint(reader: &mut Reader, mark: char) -> Result<(), Stop>
 
 /// A basic expression: a negation, an expression in parentheses, a test, or a comparison.
 #[cycle(nested)]
-#[tactic(auto, unfolding(crate::specs::Reading::basic_at))]
+#[tactic(auto, unfolding(crate::specs::Rules::basic, crate::specs::Rules::literal_compared))]
 fn basic(reader: &mut Reader, levels: u32) -> Result<Expr, Stop>
-    ensures { Gives expr_of result reader.new (basic_at (inside levels) reader.old) }
+    ensures { Gives expr_of result reader.new (read_inside levels rules.basic reader.old) }
 {
     match reader.peek() {
         Some('!') => {
@@ -106,9 +106,9 @@ fn basic(reader: &mut Reader, levels: u32) -> Result<Expr, Stop>
 
 /// What stands behind a `!`: an expression in parentheses, or a query.
 #[cycle(nested)]
-#[tactic(auto, unfolding(crate::specs::Reading::negated_at))]
+#[tactic(auto, unfolding(crate::specs::Rules::negated))]
 fn negated(reader: &mut Reader, levels: u32) -> Result<Expr, Stop>
-    ensures { Gives expr_of result reader.new (negated_at (inside levels) reader.old) }
+    ensures { Gives expr_of result reader.new (read_inside levels rules.negated reader.old) }
 {
     if reader.is_at('(') {
         return parenthesis(reader, levels);
@@ -118,9 +118,9 @@ fn negated(reader: &mut Reader, levels: u32) -> Result<Expr, Stop>
 
 /// An expression in parentheses.
 #[cycle(nested)]
-#[tactic(auto, unfolding(crate::specs::Reading::parenthesis_at))]
+#[tactic(auto, unfolding(crate::specs::Rules::closed))]
 fn parenthesis(reader: &mut Reader, levels: u32) -> Result<Expr, Stop>
-    ensures { Gives expr_of result reader.new (parenthesis_at (inside levels) reader.old) }
+    ensures { Gives expr_of result reader.new (parenthesis_at levels reader.old) }
 {
     let expr = inside(reader, '(', levels)?;
     reader.skip();
@@ -130,9 +130,9 @@ fn parenthesis(reader: &mut Reader, levels: u32) -> Result<Expr, Stop>
 
 /// A test, or a comparison whose first side is a query.
 #[cycle(nested)]
-#[tactic(auto, unfolding(crate::specs::Reading::test_at))]
+#[tactic(auto, unfolding(crate::specs::Rules::test))]
 fn test(reader: &mut Reader, levels: u32) -> Result<Expr, Stop>
-    ensures { Gives expr_of result reader.new (test_at (inside levels) reader.old) }
+    ensures { Gives expr_of result reader.new (read_inside levels rules.test reader.old) }
 {
     let query = inner_query(reader, levels)?;
     if is_before_operator(reader) {
@@ -144,9 +144,9 @@ fn test(reader: &mut Reader, levels: u32) -> Result<Expr, Stop>
 
 /// An operator and the second side of a comparison, behind the first.
 #[cycle(nested)]
-#[tactic(auto, unfolding(crate::specs::Reading::comparison_at))]
+#[tactic(auto, unfolding(crate::specs::Rules::comparison_with))]
 fn comparison(reader: &mut Reader, levels: u32, left: Operand) -> Result<Expr, Stop>
-    ensures { Gives expr_of result reader.new (comparison_at (inside levels) (operand_of left) reader.old) }
+    ensures { Gives expr_of result reader.new (read_inside levels (rules.comparison_with (operand_of left)) reader.old) }
 {
     let op = operator(reader)?;
     reader.skip();
@@ -156,9 +156,9 @@ fn comparison(reader: &mut Reader, levels: u32, left: Operand) -> Result<Expr, S
 
 /// A side of a comparison: a query or a literal.
 #[cycle(nested)]
-#[tactic(auto, unfolding(crate::specs::Reading::side_at))]
+#[tactic(auto, unfolding(crate::specs::Rules::side))]
 fn side(reader: &mut Reader, levels: u32) -> Result<Operand, Stop>
-    ensures { Gives operand_of result reader.new (side_at (inside levels) reader.old) }
+    ensures { Gives operand_of result reader.new (read_inside levels rules.side reader.old) }
 {
     if matches!(reader.peek(), Some('$' | '@')) {
         return Ok(Operand::Query(inner_query(reader, levels)?));
@@ -168,9 +168,9 @@ fn side(reader: &mut Reader, levels: u32) -> Result<Operand, Stop>
 
 /// A query inside another, which is an item.
 #[cycle(nested)]
-#[tactic(auto, unfolding(crate::specs::Reading::inner_query_at))]
+#[tactic(auto, unfolding(crate::specs::Rules::inner_query))]
 fn inner_query(reader: &mut Reader, levels: u32) -> Result<Query, Stop>
-    ensures { Gives query_of result reader.new (inner_query_at (inside levels) reader.old) }
+    ensures { Gives query_of result reader.new (read_inside levels rules.inner_query reader.old) }
 {
     let start = reader.place();
     let before = reader.items();
@@ -181,12 +181,9 @@ fn inner_query(reader: &mut Reader, levels: u32) -> Result<Query, Stop>
 }
 
 /// The identifier of a query inside another: whether it is `$`, and not `@`.
+#[tactic(auto, unfolding(crate::specs::Rules::identifier))]
 fn is_absolute(reader: &mut Reader) -> Result<bool, Stop>
-    ensures { Gives
-        (λ b. b)
-        result
-        reader.new
-        (if is_at 36 reader.old then took true (past reader.old) else by (λ _. false) (expect 64 reader.old)) }
+    ensures { Gives (λ b. b) result reader.new (read_flat rules.identifier reader.old) }
 {
     if reader.is_at('$') {
         reader.bump();

@@ -1,9 +1,12 @@
 //! Whole numbers (RFC 9535 section 2.3.3.1).
 
 ghost use Rattle.std.specs.Prelude.{◌≡◌, ◌^◌, ◌<◌, min};
-ghost use Rattle.jp_reading.specs.Outcome.{item, passes};
+ghost use Rattle.jp_reading.specs.Outcome.{passes};
+ghost use Rattle.jp_reading.specs.Rule.{item};
 ghost use Rattle.jp_reading.specs.Views.{Gives, by};
-ghost use Rattle.jp_query.specs.Reading.{int_at, size_at, begins_int};
+ghost use Rattle.jp_query.specs.Rules as rules;
+ghost use Rattle.jp_query.specs.Rules.{begins_int};
+ghost use Rattle.jp_query.specs.Reading.{read_flat};
 ghost use Rattle.jp_query.specs.Ints.{whole_of, negative_of, is_leading_digit};
 
 use crate::tree::Numeral;
@@ -11,7 +14,7 @@ use jp_reading::{Reader, Stop, natural};
 
 /// A whole number, which is an item.
 pub fn int_item(reader: &mut Reader) -> Result<Numeral, Stop>
-    ensures { Gives (λ x. x) result reader.new (item reader.old (int_at reader.old)) }
+    ensures { Gives (λ x. x) result reader.new (read_flat (item rules.int) reader.old) }
 {
     let start = reader.place();
     let before = reader.items();
@@ -28,25 +31,33 @@ pub fn begins_int(next: Option<char>) -> bool
 }
 
 /// A whole number (RFC 9535 section 2.3.3.1, int).
-#[tactic(auto, using(crate::proofs::Sizes::sizes), unfolding(crate::specs::Reading::int_at))]
+#[tactic(auto, using(crate::proofs::CappedIntegers::sizes), unfolding(crate::specs::Rules::int))]
 pub fn int(reader: &mut Reader) -> Result<Numeral, Stop>
-    ensures { Gives (λ x. x) result reader.new (int_at reader.old) }
+    ensures { Gives (λ x. x) result reader.new (read_flat rules.int reader.old) }
+{
+    if reader.is_at('-') {
+        reader.bump();
+        return Ok(negative(size(reader)?));
+    }
+    unsigned(reader)
+}
+
+/// A whole number without a sign.
+#[tactic(auto, using(crate::proofs::CappedIntegers::sizes), unfolding(crate::specs::Rules::unsigned))]
+pub fn unsigned(reader: &mut Reader) -> Result<Numeral, Stop>
+    ensures { Gives (λ x. x) result reader.new (read_flat rules.unsigned reader.old) }
 {
     if reader.is_at('0') {
         reader.bump();
         return Ok(whole(0));
     }
-    if reader.is_at('-') {
-        reader.bump();
-        return Ok(negative(size(reader)?));
-    }
     Ok(whole(size(reader)?))
 }
 
 /// The number that digits without a leading zero write, or 2^64 where it is larger.
-#[tactic(auto, unfolding(crate::specs::Reading::size_at))]
-fn size(reader: &mut Reader) -> Result<u128, Stop>
-    ensures { Gives (λ n. n) result reader.new (by (λ n. min n (2 ^ 64)) (size_at reader.old)) }
+#[tactic(auto, unfolding(crate::specs::Rules::size))]
+pub fn size(reader: &mut Reader) -> Result<u128, Stop>
+    ensures { Gives (λ n. n) result reader.new (by (λ n. min n (2 ^ 64)) (read_flat rules.size reader.old)) }
 {
     match reader.peek() {
         Some(first) if is_leading_digit(first) => natural(reader, 1 << 64),
@@ -73,7 +84,7 @@ fn whole(size: u128) -> Numeral
 }
 
 /// The number below zero of that size.
-fn negative(size: u128) -> Numeral
+pub fn negative(size: u128) -> Numeral
     ensures { result ≡ negative_of size }
 {
     if size <= 1 << 63 {

@@ -1,19 +1,20 @@
 //! Literals (RFC 9535 section 2.3.5.1, literal).
 
 ghost use Rattle.std.specs.Prelude.{true};
-ghost use Rattle.jp_reading.specs.Outcome.{item};
+ghost use Rattle.jp_reading.specs.Rule.{item};
 ghost use Rattle.jp_reading.specs.Views.{Gives};
 ghost use Rattle.jp_query.specs.Tree.{LiteralTree, literal_of};
-ghost use Rattle.jp_query.specs.Reading.{literal_at, word_at, number_literal_at, mantissa_at, decimals_at, exponent_at, digits_at};
+ghost use Rattle.jp_query.specs.Rules as rules;
+ghost use Rattle.jp_query.specs.Reading.{read_flat};
 
-use crate::ints::int;
+use crate::ints::{negative, size, unsigned};
 use crate::strings::quoted;
 use crate::tree::{Literal, Numeral};
 use jp_reading::{Reader, Stop, natural};
 
 /// A literal, which is an item.
 pub fn literal_item(reader: &mut Reader) -> Result<Literal, Stop>
-    ensures { Gives literal_of result reader.new (item reader.old (literal_at reader.old)) }
+    ensures { Gives literal_of result reader.new (read_flat (item rules.literal) reader.old) }
 {
     let start = reader.place();
     let before = reader.items();
@@ -23,9 +24,9 @@ pub fn literal_item(reader: &mut Reader) -> Result<Literal, Stop>
 }
 
 /// A literal: a string, a word, or a number.
-#[tactic(auto, unfolding(crate::specs::Reading::literal_at))]
+#[tactic(auto, unfolding(crate::specs::Rules::literal))]
 fn literal(reader: &mut Reader) -> Result<Literal, Stop>
-    ensures { Gives literal_of result reader.new (literal_at reader.old) }
+    ensures { Gives literal_of result reader.new (read_flat rules.literal reader.old) }
 {
     match reader.peek() {
         Some('"') => Ok(Literal::Text(quoted(reader, '"')?)),
@@ -48,7 +49,7 @@ fn literal(reader: &mut Reader) -> Result<Literal, Stop>
 
 /// Takes the letters one by one.
 fn word(reader: &mut Reader, letters: &[char]) -> Result<(), Stop>
-    ensures { (x : LiteralTree) → Gives (λ _. x) result reader.new (word_at x letters.now reader.old) }
+    ensures { (x : LiteralTree) → Gives (λ _. x) result reader.new (read_flat (rules.letters x letters.now) reader.old) }
 {
     'letters: for letter in letters {
         reader.expect(*letter)?;
@@ -57,9 +58,9 @@ fn word(reader: &mut Reader, letters: &[char]) -> Result<(), Stop>
 }
 
 /// A number, with a fraction and an exponent or without.
-#[tactic(auto, unfolding(crate::specs::Reading::number_literal_at))]
+#[tactic(auto, unfolding(crate::specs::Rules::number))]
 fn number(reader: &mut Reader) -> Result<Numeral, Stop>
-    ensures { Gives (λ x. x) result reader.new (number_literal_at reader.old) }
+    ensures { Gives (λ x. x) result reader.new (read_flat rules.number reader.old) }
 {
     let whole = mantissa(reader)?;
     let has_decimals = decimals(reader)?;
@@ -72,22 +73,25 @@ fn number(reader: &mut Reader) -> Result<Numeral, Stop>
 }
 
 /// A whole number, or `-0`, which is 0.
-#[tactic(auto, unfolding(crate::specs::Reading::mantissa_at))]
+#[tactic(auto, using(crate::proofs::CappedIntegers::sizes), unfolding(crate::specs::Rules::mantissa))]
 fn mantissa(reader: &mut Reader) -> Result<Numeral, Stop>
-    ensures { Gives (λ x. x) result reader.new (mantissa_at reader.old) }
+    ensures { Gives (λ x. x) result reader.new (read_flat rules.mantissa reader.old) }
 {
-    if reader.is_at('-') && reader.peek_second() == Some('0') {
-        reader.bump();
+    if !reader.is_at('-') {
+        return unsigned(reader);
+    }
+    reader.bump();
+    if reader.is_at('0') {
         reader.bump();
         return Ok(Numeral::Whole(0));
     }
-    int(reader)
+    Ok(negative(size(reader)?))
 }
 
 /// A dot and digits, if there is a dot; whether there is one.
-#[tactic(auto, unfolding(crate::specs::Reading::decimals_at))]
+#[tactic(auto, unfolding(crate::specs::Rules::decimals))]
 fn decimals(reader: &mut Reader) -> Result<bool, Stop>
-    ensures { Gives (λ there. there) result reader.new (decimals_at reader.old) }
+    ensures { Gives (λ there. there) result reader.new (read_flat rules.decimals reader.old) }
 {
     if !reader.is_at('.') {
         return Ok(false);
@@ -98,9 +102,9 @@ fn decimals(reader: &mut Reader) -> Result<bool, Stop>
 }
 
 /// An `e`, a sign or none, and digits, if there is an `e`; whether there is one.
-#[tactic(auto, unfolding(crate::specs::Reading::exponent_at))]
+#[tactic(auto, unfolding(crate::specs::Rules::exponent, crate::specs::Rules::power))]
 fn exponent(reader: &mut Reader) -> Result<bool, Stop>
-    ensures { Gives (λ there. there) result reader.new (exponent_at reader.old) }
+    ensures { Gives (λ there. there) result reader.new (read_flat rules.exponent reader.old) }
 {
     if !matches!(reader.peek(), Some('e' | 'E')) {
         return Ok(false);
@@ -115,7 +119,7 @@ fn exponent(reader: &mut Reader) -> Result<bool, Stop>
 
 /// Digits, at least one; their value does not count.
 fn digits(reader: &mut Reader) -> Result<(), Stop>
-    ensures { Gives (λ _. true) result reader.new (digits_at reader.old) }
+    ensures { Gives (λ _. true) result reader.new (read_flat rules.digits reader.old) }
 {
     natural(reader, 0)?;
     Ok(())

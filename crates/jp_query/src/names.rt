@@ -5,14 +5,15 @@ ghost use Rattle.std.specs.Str.{chars};
 ghost use Rattle.std.specs.String.{string_bytes};
 ghost use Rattle.jp_reading.specs.Views.{Gives};
 ghost use Rattle.jp_query.specs.Names.{is_name_first, is_name_char};
-ghost use Rattle.jp_query.specs.Reading.{run_at, shorthand_at};
+ghost use Rattle.jp_query.specs.Rules as rules;
+ghost use Rattle.jp_query.specs.Reading.{read_flat};
 
 use jp_reading::{Reader, Stop};
 
 /// A member's name after a dot.
-#[tactic(auto, unfolding(crate::specs::Reading::shorthand_at))]
+#[tactic(auto, unfolding(crate::specs::Rules::shorthand))]
 pub fn shorthand(reader: &mut Reader) -> Result<String, Stop>
-    ensures { Gives (λ s. chars (string_bytes s)) result reader.new (shorthand_at reader.old) }
+    ensures { Gives (λ s. chars (string_bytes s)) result reader.new (read_flat rules.shorthand reader.old) }
 {
     match reader.peek() {
         Some(first) if is_name_first(first) => run(reader),
@@ -22,7 +23,7 @@ pub fn shorthand(reader: &mut Reader) -> Result<String, Stop>
 
 /// Takes the characters that stand next, as long as they may stand in a shorthand.
 fn run(reader: &mut Reader) -> Result<String, Stop>
-    ensures { Gives (λ s. chars (string_bytes s)) result reader.new (run_at is_name_char reader.old) }
+    ensures { Gives (λ s. chars (string_bytes s)) result reader.new (read_flat (rules.run is_name_char) reader.old) }
 {
     let mut text = String::new(reader.alloc());
     'characters: while let Some(next) = reader.peek() {

@@ -1,17 +1,19 @@
 //! Operators of comparisons (RFC 9535 section 2.3.5.1, comparison-op).
 
-ghost use Rattle.std.specs.Prelude.{◌≡◌, if◌then◌else◌};
-ghost use Rattle.jp_reading.specs.Outcome.{took, past, is_at, after_blank, passes};
+ghost use Rattle.std.specs.Prelude.{◌≡◌};
+ghost use Rattle.jp_reading.specs.Outcome.{took, after_blank, passes};
 ghost use Rattle.jp_reading.specs.Views.{Gives};
-ghost use Rattle.jp_query.specs.Reading.{operator_at, with_equals_at, begins_operator};
+ghost use Rattle.jp_query.specs.Rules as rules;
+ghost use Rattle.jp_query.specs.Rules.{begins_operator};
+ghost use Rattle.jp_query.specs.Reading.{read_flat};
 
 use crate::tree::Op;
 use jp_reading::{Reader, Stop};
 
 /// An operator of a comparison.
-#[tactic(auto, unfolding(crate::specs::Reading::operator_at))]
+#[tactic(auto, unfolding(crate::specs::Rules::operator))]
 pub fn operator(reader: &mut Reader) -> Result<Op, Stop>
-    ensures { Gives (λ op. op) result reader.new (operator_at reader.old) }
+    ensures { Gives (λ op. op) result reader.new (read_flat rules.operator reader.old) }
 {
     match reader.peek() {
         Some('=') => {
@@ -42,9 +44,8 @@ pub fn is_before_operator(reader: &Reader) -> bool
 }
 
 /// The operator whose first character is taken, and whose second is `=`.
-#[tactic(auto, unfolding(crate::specs::Reading::with_equals_at))]
 fn with_equals(reader: &mut Reader, op: Op) -> Result<Op, Stop>
-    ensures { Gives (λ x. x) result reader.new (with_equals_at op reader.old) }
+    ensures { Gives (λ x. x) result reader.new (read_flat (rules.with_equals op) reader.old) }
 {
     reader.expect('=')?;
     Ok(op)
@@ -52,8 +53,8 @@ fn with_equals(reader: &mut Reader, op: Op) -> Result<Op, Stop>
 
 /// The operator whose first character is taken: the one with a `=` after it, if it stands there, or the other.
 fn alone_or_with_equals(reader: &mut Reader, alone: Op, with_equals: Op) -> Op
-    ensures { took result reader.new
-        ≡ (if is_at 61 reader.old then took with_equals (past reader.old) else took alone reader.old) }
+    ensures { read_flat (rules.alone_or_with_equals alone with_equals) reader.old
+        ≡ took result reader.new }
 {
     if reader.is_at('=') {
         reader.bump();

@@ -4,7 +4,9 @@ ghost use Rattle.std.specs.Prelude.{◌≡◌, [], ◌∷◌, map, IfOk};
 ghost use Rattle.jp_reading.specs.Outcome.{after_blank, passes};
 ghost use Rattle.jp_reading.specs.Views.{Gives};
 ghost use Rattle.jp_query.specs.Tree.{segment, selectors, selector_of, segment_of, query_of};
-ghost use Rattle.jp_query.specs.Reading.{inside, bracket_at, member_at, segment_at, segments_at, query_at, begins_segment};
+ghost use Rattle.jp_query.specs.Rules as rules;
+ghost use Rattle.jp_query.specs.Rules.{begins_segment};
+ghost use Rattle.jp_query.specs.Reading.{query_at, read_flat, read_inside};
 
 use crate::lists::append;
 use crate::names::shorthand;
@@ -14,7 +16,7 @@ use jp_reading::{Reader, Stop};
 use std::alloc::{AllocError, Global};
 
 /// A whole query: the text ends after its segments.
-#[tactic(auto, unfolding(crate::specs::Reading::query_at))]
+#[tactic(auto, unfolding(crate::specs::Reading::query_at, crate::specs::Rules::query))]
 pub fn query(reader: &mut Reader, levels: u32) -> Result<Query, Stop>
     ensures { Gives query_of result reader.new (query_at levels reader.old) }
 {
@@ -33,7 +35,7 @@ pub fn query(reader: &mut Reader, levels: u32) -> Result<Query, Stop>
 /// Segment after segment, with blank space before each; the reader stays before blank space that none follows.
 #[cycle(nested)]
 pub fn segments(reader: &mut Reader, levels: u32) -> Result<Vec<Segment>, Stop>
-    ensures { Gives (λ v. map segment_of v.items) result reader.new (segments_at (inside levels) reader.old) }
+    ensures { Gives (λ v. map segment_of v.items) result reader.new (read_inside levels rules.segments reader.old) }
 {
     let mut segments = Vec::new(reader.alloc());
     'segments: while is_before_segment(reader) {
@@ -53,9 +55,9 @@ fn is_before_segment(reader: &Reader) -> bool
 
 /// A child segment or a descendant segment (RFC 9535 section 2.5).
 #[cycle(nested)]
-#[tactic(auto, unfolding(crate::specs::Reading::segment_at, crate::specs::Reading::selection_at))]
+#[tactic(auto, unfolding(crate::specs::Rules::segment, crate::specs::Rules::selection))]
 fn segment(reader: &mut Reader, levels: u32) -> Result<Segment, Stop>
-    ensures { Gives segment_of result reader.new (segment_at (inside levels) reader.old) }
+    ensures { Gives segment_of result reader.new (read_inside levels rules.segment reader.old) }
 {
     if reader.is_at('[') {
         return bracketed(reader, levels, false);
@@ -73,9 +75,9 @@ fn segment(reader: &mut Reader, levels: u32) -> Result<Segment, Stop>
 
 /// Selectors in brackets.
 #[cycle(nested)]
-#[tactic(auto, unfolding(crate::specs::Reading::bracket_at))]
+#[tactic(auto, unfolding(crate::specs::Rules::bracket))]
 fn bracketed(reader: &mut Reader, levels: u32, descendant: bool) -> Result<Segment, Stop>
-    ensures { Gives segment_of result reader.new (bracket_at descendant (inside levels) reader.old) }
+    ensures { Gives segment_of result reader.new (read_inside levels (rules.bracket descendant) reader.old) }
 {
     reader.expect('[')?;
     reader.skip();
@@ -88,9 +90,9 @@ fn bracketed(reader: &mut Reader, levels: u32, descendant: bool) -> Result<Segme
 }
 
 /// `*` or a member's name behind a dot.
-#[tactic(auto, unfolding(crate::specs::Reading::member_at))]
+#[tactic(auto, unfolding(crate::specs::Rules::member))]
 fn member(reader: &mut Reader, descendant: bool) -> Result<Segment, Stop>
-    ensures { Gives segment_of result reader.new (member_at descendant reader.old) }
+    ensures { Gives segment_of result reader.new (read_flat (rules.member descendant) reader.old) }
 {
     if reader.is_at('*') {
         reader.bump();

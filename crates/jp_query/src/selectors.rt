@@ -3,7 +3,8 @@
 ghost use Rattle.std.specs.Prelude.{◌≡◌, map};
 ghost use Rattle.jp_reading.specs.Views.{Gives};
 ghost use Rattle.jp_query.specs.Tree.{selector_of};
-ghost use Rattle.jp_query.specs.Reading.{inside, selector_at, entries_at, number_at};
+ghost use Rattle.jp_query.specs.Rules as rules;
+ghost use Rattle.jp_query.specs.Reading.{read_flat, read_inside};
 
 use crate::expressions::inside;
 use crate::ints::int_item;
@@ -16,9 +17,9 @@ use jp_reading::{Reader, Stop};
 /// Selectors with commas between them, and blank space round each. The reader stands before the first, and then past the
 /// blanks after the last.
 #[cycle(nested)]
-#[tactic(auto, unfolding(crate::specs::Reading::entries_at, crate::specs::Reading::entry_at))]
+#[tactic(auto, unfolding(crate::specs::Rules::entries, crate::specs::Rules::entry))]
 pub fn entries(reader: &mut Reader, levels: u32) -> Result<Vec<Selector>, Stop>
-    ensures { Gives (λ v. map selector_of v.items) result reader.new (entries_at (inside levels) reader.old) }
+    ensures { Gives (λ v. map selector_of v.items) result reader.new (read_inside levels rules.entries reader.old) }
 {
     let mut selectors = Vec::new(reader.alloc());
     let first = selector(reader, levels)?;
@@ -36,9 +37,9 @@ pub fn entries(reader: &mut Reader, levels: u32) -> Result<Vec<Selector>, Stop>
 
 /// A selector.
 #[cycle(nested)]
-#[tactic(auto, unfolding(crate::specs::Reading::selector_at))]
+#[tactic(auto, unfolding(crate::specs::Rules::selector))]
 fn selector(reader: &mut Reader, levels: u32) -> Result<Selector, Stop>
-    ensures { Gives selector_of result reader.new (selector_at (inside levels) reader.old) }
+    ensures { Gives selector_of result reader.new (read_inside levels rules.selector reader.old) }
 {
     if reader.is_at('"') {
         return Ok(Selector::Name(quoted(reader, '"')?));
@@ -60,9 +61,9 @@ fn selector(reader: &mut Reader, levels: u32) -> Result<Selector, Stop>
 }
 
 /// An index, or a slice that starts with it.
-#[tactic(auto, unfolding(crate::specs::Reading::number_at))]
+#[tactic(auto, unfolding(crate::specs::Rules::number_selector))]
 fn number(reader: &mut Reader) -> Result<Selector, Stop>
-    ensures { Gives selector_of result reader.new (number_at reader.old) }
+    ensures { Gives selector_of result reader.new (read_flat rules.number_selector reader.old) }
 {
     let index = int_item(reader)?;
     if reader.is_before(':') {

@@ -2,43 +2,44 @@
 
 ghost use Rattle.std.specs.Prelude.{◌≡◌};
 ghost use Rattle.jp_reading.specs.Views.{Gives};
-ghost use Rattle.jp_query.specs.Reading.{bound_at, step_at, later_step_at, slice_at};
+ghost use Rattle.jp_query.specs.Rules as rules;
+ghost use Rattle.jp_query.specs.Reading.{read_flat};
 
 use crate::ints::{begins_int, int_item};
 use crate::tree::{Numeral, Slice};
 use jp_reading::{Reader, Stop};
 
 /// A slice with that start, from its colon on.
-#[tactic(auto, unfolding(crate::specs::Reading::slice_at))]
+#[tactic(auto, unfolding(crate::specs::Rules::slice_from))]
 pub fn slice(reader: &mut Reader, start: Option<Numeral>) -> Result<Slice, Stop>
-    ensures { Gives (λ s. s) result reader.new (slice_at start reader.old) }
+    ensures { Gives (λ s. s) result reader.new (read_flat (rules.slice_from start) reader.old) }
 {
     reader.expect(':')?;
-    reader.skip();
     let end = bound(reader)?;
     let step = step(reader)?;
     Ok(Slice { start, end, step })
 }
 
-/// A bound and the blanks after it, if one begins here.
-#[tactic(auto, unfolding(crate::specs::Reading::bound_at))]
+/// A bound, if one begins past the blanks; else the reader stays before them.
+#[tactic(auto, unfolding(crate::specs::Rules::bound))]
 fn bound(reader: &mut Reader) -> Result<Option<Numeral>, Stop>
-    ensures { Gives (λ b. b) result reader.new (bound_at reader.old) }
+    ensures { Gives (λ b. b) result reader.new (read_flat rules.bound reader.old) }
 {
-    if !begins_int(reader.peek()) {
+    if !begins_int(reader.peek_past_blank()) {
         return Ok(None);
     }
-    let bound = int_item(reader)?;
     reader.skip();
+    let bound = int_item(reader)?;
     Ok(Some(bound))
 }
 
-/// A colon and a step, or neither: an omitted step is 1.
-#[tactic(auto, unfolding(crate::specs::Reading::step_at))]
+/// A colon and a step past the blanks, or neither: an omitted step is 1.
+#[tactic(auto, unfolding(crate::specs::Rules::step))]
 fn step(reader: &mut Reader) -> Result<Numeral, Stop>
-    ensures { Gives (λ n. n) result reader.new (step_at reader.old) }
+    ensures { Gives (λ n. n) result reader.new (read_flat rules.step reader.old) }
 {
-    if reader.is_at(':') {
+    if reader.is_before(':') {
+        reader.skip();
         reader.bump();
         return later_step(reader);
     }
@@ -47,9 +48,9 @@ fn step(reader: &mut Reader) -> Result<Numeral, Stop>
 }
 
 /// A step behind its colon; the reader stays before blanks that no step follows.
-#[tactic(auto, unfolding(crate::specs::Reading::later_step_at))]
+#[tactic(auto, unfolding(crate::specs::Rules::later_step))]
 fn later_step(reader: &mut Reader) -> Result<Numeral, Stop>
-    ensures { Gives (λ n. n) result reader.new (later_step_at reader.old) }
+    ensures { Gives (λ n. n) result reader.new (read_flat rules.later_step reader.old) }
 {
     if begins_int(reader.peek_past_blank()) {
         reader.skip();

@@ -1,21 +1,23 @@
 //! Strings (RFC 9535 section 2.3.1.1, string-literal).
 
-ghost use Rattle.std.specs.Prelude.{◌≡◌, ◌<◌, ◌&&◌, true, IfOk};
+ghost use Rattle.std.specs.Prelude.{◌≡◌, ◌<◌, true, IfOk};
 ghost use Rattle.std.specs.Char.{digit_value, InScalarRange};
 ghost use Rattle.std.specs.Str.{chars};
 ghost use Rattle.std.specs.String.{string_bytes};
-ghost use Rattle.jp_reading.specs.Outcome.{head, past, passes, take_if};
-ghost use Rattle.jp_reading.specs.Views.{Gives, by};
-ghost use Rattle.jp_query.specs.Strings.{is_plain, is_escapable, escaped, is_d, is_8_to_b};
-ghost use Rattle.jp_query.specs.HexDigits.{holds_value, is_one_of, IsUnitOf};
-ghost use Rattle.jp_query.specs.Reading.{quoted_at, characters_at, character_at, escape_at, hexchar_at, surrogates_at, unit_at, begins_character};
+ghost use Rattle.jp_reading.specs.Outcome.{head, passes};
+ghost use Rattle.jp_reading.specs.Views.{Gives};
+ghost use Rattle.jp_query.specs.Strings.{is_plain, is_escapable, escaped};
+ghost use Rattle.jp_query.specs.HexDigits.{holds_value, is_one_of, IsUnitAfter, IsUnitOf};
+ghost use Rattle.jp_query.specs.Rules as rules;
+ghost use Rattle.jp_query.specs.Rules.{begins_character};
+ghost use Rattle.jp_query.specs.Reading.{read_flat};
 
 use jp_reading::{Reader, Stop};
 
 /// A string between two of the quotation mark.
-#[tactic(auto, unfolding(crate::specs::Reading::quoted_at))]
+#[tactic(auto, unfolding(crate::specs::Rules::quoted))]
 pub fn quoted(reader: &mut Reader, quote: char) -> Result<String, Stop>
-    ensures { Gives (λ s. chars (string_bytes s)) result reader.new (quoted_at quote reader.old) }
+    ensures { Gives (λ s. chars (string_bytes s)) result reader.new (read_flat (rules.quoted quote) reader.old) }
 {
     reader.expect(quote)?;
     let text = characters(reader, quote)?;
@@ -25,7 +27,7 @@ pub fn quoted(reader: &mut Reader, quote: char) -> Result<String, Stop>
 
 /// Character after character, as long as one begins.
 fn characters(reader: &mut Reader, quote: char) -> Result<String, Stop>
-    ensures { Gives (λ s. chars (string_bytes s)) result reader.new (characters_at quote reader.old) }
+    ensures { Gives (λ s. chars (string_bytes s)) result reader.new (read_flat (rules.characters quote) reader.old) }
 {
     let mut text = String::new(reader.alloc());
     'characters: while is_at_character(reader, quote) {
@@ -46,9 +48,9 @@ fn is_at_character(reader: &Reader, quote: char) -> bool
 }
 
 /// A character that stands for itself, or what an escape stands for.
-#[tactic(auto, unfolding(crate::specs::Reading::character_at))]
+#[tactic(auto, unfolding(crate::specs::Rules::string_character))]
 fn character(reader: &mut Reader, quote: char) -> Result<char, Stop>
-    ensures { Gives (λ c. c) result reader.new (character_at quote reader.old) }
+    ensures { Gives (λ c. c) result reader.new (read_flat (rules.string_character quote) reader.old) }
 {
     match reader.peek() {
         Some('\\') => {
@@ -64,9 +66,9 @@ fn character(reader: &mut Reader, quote: char) -> Result<char, Stop>
 }
 
 /// What stands behind a backslash.
-#[tactic(auto, unfolding(crate::specs::Reading::escape_at))]
+#[tactic(auto, unfolding(crate::specs::Rules::escape))]
 fn escape(reader: &mut Reader, quote: char) -> Result<char, Stop>
-    ensures { Gives (λ c. c) result reader.new (escape_at quote reader.old) }
+    ensures { Gives (λ c. c) result reader.new (read_flat (rules.escape quote) reader.old) }
 {
     match reader.peek() {
         Some('u') => {
@@ -82,45 +84,51 @@ fn escape(reader: &mut Reader, quote: char) -> Result<char, Stop>
 }
 
 /// Four hexadecimal digits that write a character, or a surrogate pair in two escapes (hexchar).
-#[tactic(auto, unfolding(crate::specs::Reading::hexchar_at))]
+#[tactic(auto, unfolding(crate::specs::Rules::hexchar))]
 fn hexchar(reader: &mut Reader) -> Result<char, Stop>
-    ensures { Gives (λ c. c) result reader.new (hexchar_at reader.old) }
+    ensures { Gives (λ c. c) result reader.new (read_flat rules.hexchar reader.old) }
 {
-    if is_at_surrogates(reader) {
-        return surrogates(reader);
+    if is_at(reader, HexDigit::NotD) {
+        return Ok(scalar(unit(reader, HexDigit::NotD, HexDigit::Any)?));
     }
-    if is_at(reader.peek(), HexDigit::D) {
-        return Ok(scalar(unit(reader, HexDigit::D, HexDigit::UpTo7)?));
+    let first = digit(reader, HexDigit::D)?;
+    if is_at(reader, HexDigit::UpTo7) {
+        return Ok(scalar(unit_after(reader, first, HexDigit::UpTo7)?));
     }
-    Ok(scalar(unit(reader, HexDigit::NotD, HexDigit::Any)?))
+    surrogates_after(reader, first)
 }
 
-/// A surrogate pair: the digits of its first half, a backslash, `u`, and the digits of its second half.
-#[tactic(auto, unfolding(crate::specs::Reading::surrogates_at))]
-fn surrogates(reader: &mut Reader) -> Result<char, Stop>
-    ensures { Gives (λ c. c) result reader.new (surrogates_at reader.old) }
+/// A surrogate pair after its first digit: the other digits of its first half, a backslash, `u`, and the digits of its
+/// second half.
+#[tactic(auto, unfolding(crate::specs::Rules::surrogates_after))]
+fn surrogates_after(reader: &mut Reader, first: u32) -> Result<char, Stop>
+    requires { first ≡ 13 }
+    ensures { Gives (λ c. c) result reader.new (read_flat (rules.surrogates_after first) reader.old) }
 {
-    let high = unit(reader, HexDigit::D, HexDigit::EightToB)?;
+    let high = unit_after(reader, first, HexDigit::EightToB)?;
     reader.expect('\\')?;
     reader.expect('u')?;
     let low = unit(reader, HexDigit::D, HexDigit::FromC)?;
     Ok(scalar(0x1_0000 + (high - 0xd800) * 0x400 + (low - 0xdc00)))
 }
 
-/// Whether the digits of the first half of a surrogate pair begin here.
-fn is_at_surrogates(reader: &Reader) -> bool
-    ensures { result ≡ (passes is_d (head reader.now) && passes is_8_to_b (head (past reader.now))) }
-{
-    is_at(reader.peek(), HexDigit::D) && is_at(reader.peek_second(), HexDigit::EightToB)
-}
-
 /// Four hexadecimal digits, of which the first two are of these kinds.
-#[tactic(auto, unfolding(crate::specs::Reading::unit_at))]
+#[tactic(auto, unfolding(crate::specs::Rules::unit))]
 fn unit(reader: &mut Reader, first: HexDigit, second: HexDigit) -> Result<u32, Stop>
-    ensures taken { Gives (λ v. v) result reader.new (unit_at (is_one_of first) (is_one_of second) reader.old) }
+    ensures taken { Gives (λ v. v) result reader.new (read_flat (rules.unit (is_one_of first) (is_one_of second)) reader.old) }
     ensures range { IfOk result (λ v. IsUnitOf first second v) }
 {
     let a = digit(reader, first)?;
+    unit_after(reader, a, second)
+}
+
+/// The last three of four hexadecimal digits, of which the second is of this kind, after a first with this value.
+#[tactic(auto, unfolding(crate::specs::Rules::unit_after))]
+fn unit_after(reader: &mut Reader, a: u32, second: HexDigit) -> Result<u32, Stop>
+    requires { a < 16 }
+    ensures taken { Gives (λ v. v) result reader.new (read_flat (rules.unit_after a (is_one_of second)) reader.old) }
+    ensures range { IfOk result (λ v. IsUnitAfter a second v) }
+{
     let b = digit(reader, second)?;
     let c = digit(reader, HexDigit::Any)?;
     let d = digit(reader, HexDigit::Any)?;
@@ -129,7 +137,7 @@ fn unit(reader: &mut Reader, first: HexDigit, second: HexDigit) -> Result<u32, S
 
 /// The value of a hexadecimal digit of that kind.
 fn digit(reader: &mut Reader, kind: HexDigit) -> Result<u32, Stop>
-    ensures taken { Gives (λ v. v) result reader.new (by digit_value (take_if (is_one_of kind) reader.old)) }
+    ensures taken { Gives (λ v. v) result reader.new (read_flat (rules.hex_digit (is_one_of kind)) reader.old) }
     ensures range { IfOk result (λ v. holds_value kind v ≡ true) }
     ensures below { IfOk result (λ v. v < 16) }
 {
@@ -142,11 +150,11 @@ fn digit(reader: &mut Reader, kind: HexDigit) -> Result<u32, Stop>
     }
 }
 
-/// Whether a character is a hexadecimal digit of that kind.
-fn is_at(next: Option<char>, kind: HexDigit) -> bool
-    ensures { result ≡ passes (is_one_of kind) next }
+/// Whether a hexadecimal digit of that kind comes next.
+fn is_at(reader: &Reader, kind: HexDigit) -> bool
+    ensures { result ≡ passes (is_one_of kind) (head reader.now) }
 {
-    match next {
+    match reader.peek() {
         Some(c) => kind.contains(c),
         None => false,
     }

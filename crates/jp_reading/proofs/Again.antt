@@ -6,7 +6,7 @@ use Rattle.jp_reading.specs.Forms.{Form, ◌⌢◌, word, One, Blank, AllPassing
 use Rattle.jp_reading.specs.Outcome.{State, Outcome, took, head, first_of, past, past_first, past_blanks, skip, passes, is, is_at, take_if, expect, each, item_since, item}
 use Rattle.jp_reading.proofs.Between.{reads-as, Between, Reads, bytes-append, between-none, state-same}
 use Rattle.jp_reading.proofs.Steps.{take_if-takes}
-use Rattle.jp_reading.proofs.Judging.{span_inserted}
+use Rattle.jp_reading.proofs.Stopping.{span_inserted}
 use Rattle.jp_reading.proofs.Progress.{Progress}
 use Rattle.jp_reading.proofs.Loops.{round, each-on, each-off}
 

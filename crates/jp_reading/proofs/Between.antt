@@ -44,24 +44,6 @@ Has P = (o : ℕ) → (s : Spans) × (t : Text) × P s o t
 abbrev pub Within : Form → Form → Type 0
 Within P Q = (s : Spans) (o : ℕ) (t : Text) → P s o t → Q s o t
 
--- a rule of a grammar: the form of the texts of each value, the same with one level more, and one value that has a text
-pub record Rule (A : Type 0) : Type 1 where
-  pub here : A → Form
-  pub deeper : A → Form
-  pub lifts : (x : A) → Within (here x) (deeper x)
-  pub least : A
-  pub has : Has (here least)
-
--- what an outcome at p promises: what was taken is a text of the rule; what was read before it stuck is a front of one;
--- and where a level is missing that is so too, and one level deeper the next character goes on
-abbrev pub Promised : {A : Type 0} → Rule A → State → Outcome A → Type 0
-Promised R p (took x q) = Reads (R.here x) p q
-Promised R p (stuck r) = Stops R.here p r
-Promised R p (deep r) = Stops R.here p r × Passes R.deeper p r
-
-pub record Judged {A : Type 0} (R : Rule A) (p : State) (o : Outcome A) : Type 0 where
-  pub is : Promised R p o
-
 -- of texts joined
 pub bytes-append : (t u : Text) → bytes (t ++ u) ≡ bytes t + bytes u
 bytes-append [] u = omega arith

@@ -6,11 +6,13 @@ pub mod Digits
 pub mod Fits
 pub mod Folds
 pub mod Joining
-pub mod Judging
 pub mod Levels
+pub mod Locality
 pub mod Loops
 pub mod Progress
 pub mod Rows
+pub mod Rules
 pub mod Runs
 pub mod Steps
+pub mod Stopping
 pub mod Words

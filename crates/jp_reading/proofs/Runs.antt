@@ -4,10 +4,8 @@ use Rattle.jp_reading.specs.Texts.{Text, Spans, bytes}
 use Rattle.jp_reading.specs.Forms.{◌⌢◌, One, AllPassing, Each}
 use Rattle.jp_reading.specs.Outcome.{State, took, head, first_of, passes, take_if, each}
 use Rattle.jp_reading.specs.Numbers.{is_digit, Digits, is_at_digit, digit_at, digits_at}
-use Rattle.jp_reading.proofs.Between.{Reads, Within, Rule, Judged, reads-as}
-use Rattle.jp_reading.proofs.Levels.{level, one_rule, each_rule}
+use Rattle.jp_reading.proofs.Between.{Reads, Within, reads-as}
 use Rattle.jp_reading.proofs.Progress.{Progress, moves-take_if, moves-then, keeps-then, keeps-each}
-use Rattle.jp_reading.proofs.Judging.{judged-as, judged-cons, judged-each, judged-take_if}
 use Rattle.jp_reading.proofs.Again.{split, again-take_if, again-each, again-round, one-first}
 use Rattle.jp_reading.proofs.Digits.{digit_at-progress}
 
@@ -45,17 +43,6 @@ run-of ok (c ∷ cs) o h = record {
 pub run-each : (ok : ℕ → Bool) (cs : Text) → Within (Run ok cs) (Each (One ok) cs)
 run-each ok cs s o t h = rw (h.none, h.is) (run-of ok cs o h.all)
 
--- a loop over characters reads runs
-abbrev pub run_rule : (ok : ℕ → Bool) → Rule Text
-run_rule ok = level (Run ok) [] (λ o. ([], [], record { none = refl; is = refl; all = tt }))
-
-pub judged-run : (ok : ℕ → Bool) (least : ℕ) → ok least ≡ true → (p : State)
-    → Judged (run_rule ok) p (each (λ q. passes ok (head q)) (take_if ok) p)
-judged-run ok least h p =
-    judged-as (each_rule (one_rule ok least h)) (run_rule ok) p (each (λ q. passes ok (head q)) (take_if ok) p)
-    (each-run ok) (each-run ok)
-    (judged-each (one_rule ok least h) (λ q. passes ok (head q)) (take_if ok) (judged-take_if ok least h) p)
-
 -- up to what does not pass
 pub again-run : (ok : ℕ → Bool) (cs : Text) (p q : State) → Reads (Run ok cs) p q → passes ok (head q) ≡ false
     → each (λ r. passes ok (head r)) (take_if ok) p ≡ took cs q
@@ -66,32 +53,6 @@ again-run ok cs p q h off =
     cs p q (reads-as (Run ok cs) (Each (One ok) cs) p q (run-each ok cs) h) off tt
 
 -- ---- digits
-
-pub zero_digit : (o : ℕ) → (s : Spans) × (t : Text) × Digits (48 ∷ []) s o t
-unfolding is_digit
-zero_digit o = ([], 48 ∷ [], record { none = refl; is = refl; digits = (refl, tt); some = omega arith })
-
-abbrev pub digits_rule : Rule Text
-digits_rule = level Digits (48 ∷ []) zero_digit
-
-zero_is_digit : is_digit 48 ≡ true
-unfolding is_digit
-zero_is_digit = refl
-
--- a digit and a run of digits
-digits-cons : (d : ℕ) (ds : Text) → Within (One is_digit d ⌢ Run is_digit ds) (Digits (d ∷ ds))
-digits-cons d ds s o t h = record {
-  none = h.spans ∙ rw (h.one.none, h.two.none) refl;
-  is = h.is ∙ rw (h.one.is, h.two.is) refl;
-  digits = (h.one.passes, h.two.all);
-  some = omega arith;
-}
-
-pub judged-digits : (p : State) → Judged digits_rule p (digits_at p)
-unfolding digits_at
-judged-digits p =
-    judged-cons (one_rule is_digit 48 zero_is_digit) (run_rule is_digit) digits_rule p (digit_at p) (each is_at_digit digit_at)
-    digits-cons digits-cons (judged-take_if is_digit 48 zero_is_digit p) (judged-run is_digit 48 zero_is_digit)
 
 pub digits_at-progress : Progress digits_at
 unfolding digits_at

@@ -1,5 +1,7 @@
 pub mod Forms
 pub mod Numbers
 pub mod Outcome
+pub mod Rule
+pub mod RuleReading
 pub mod Texts
 pub mod Views

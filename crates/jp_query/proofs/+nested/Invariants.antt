@@ -1,9 +1,12 @@
 use Rattle.std.proofs.Common.{◌≡◌, ◌+◌, ◌*◌, ◌≤◌, false, length, map}
-use Rattle.jp_reading.specs.Outcome.{after_blank, passes, is, is_at, each}
+use Rattle.jp_reading.specs.Outcome.{after_blank, passes, is}
 use Rattle.jp_reading.specs.Views.{with_front}
 use Rattle.jp_query.specs.Tree.{expr_of, selector_of, segment_of}
-use Rattle.jp_query.specs.Reading.{inside, segments_at, another_at, entries_at, basic_at, conjunction_at, parts_at}
-use Rattle.jp_query.proofs.Rounds.{others_at}
+use Rattle.jp_reading.specs.Rule.{beyond, some}
+use Rattle.jp_query.specs.Characters.{ampersand, bar}
+use Rattle.jp_query.specs.Rules.{segments, entries, part, parts, basic, conjunction}
+use Rattle.jp_query.specs.Reading.{read_inside}
+use Rattle.jp_query.proofs.Rounds.{other_entries}
 use Rattle.jp_query.proofs.+nested.Given as goal
 
 abbrev pub decreases-expressions::inside : goal.decreases-expressions::inside
@@ -53,23 +56,24 @@ decreases-expressions::expression l = l.levels * 16 + 14
 
 abbrev pub invariant-segments::segments-segments : goal.invariant-segments::segments-segments
 invariant-segments::segments-segments l =
-    with_front (map segment_of l.segments.items) (segments_at (inside l.levels) l.reader) ≡ segments_at (inside l.levels) l.initial.reader
+    with_front (map segment_of l.segments.items) (read_inside l.levels segments l.reader) ≡ read_inside l.levels segments l.initial.reader
 
 abbrev pub decreases-segments::segments-segments : goal.decreases-segments::segments-segments
 decreases-segments::segments-segments l = length l.reader.rest
 
 abbrev pub invariant-selectors::entries-entries : goal.invariant-selectors::entries-entries
 invariant-selectors::entries-entries l =
-    with_front (map selector_of l.selectors.items) (each (is_at 44) (another_at (inside l.levels)) l.reader) ≡ entries_at (inside l.levels) l.fn.reader
+    with_front (map selector_of l.selectors.items) (read_inside l.levels other_entries l.reader) ≡ read_inside l.levels entries l.fn.reader
 
 abbrev pub decreases-selectors::entries-entries : goal.decreases-selectors::entries-entries
 decreases-selectors::entries-entries l = length l.reader.rest
 
 abbrev pub invariant-expressions::conjunction-parts : goal.invariant-expressions::conjunction-parts
 invariant-expressions::conjunction-parts l = record {
-  total : with_front (map expr_of l.parts.items) (others_at 38 (basic_at (inside l.levels)) l.reader) ≡ parts_at 38 (basic_at (inside l.levels)) l.fn.reader;
+  total : with_front (map expr_of l.parts.items) (read_inside l.levels (some beyond (is ampersand) (part ampersand basic)) l.reader)
+      ≡ read_inside l.levels (parts ampersand basic) l.fn.reader;
   some : 1 ≤ length l.parts.items;
-  several : passes (is 38) (after_blank l.reader) ≡ false → 2 ≤ length l.parts.items;
+  several : passes (is ampersand) (after_blank l.reader) ≡ false → 2 ≤ length l.parts.items;
 }
 
 abbrev pub decreases-expressions::conjunction-parts : goal.decreases-expressions::conjunction-parts
@@ -77,9 +81,10 @@ decreases-expressions::conjunction-parts l = length l.reader.rest
 
 abbrev pub invariant-expressions::expression-parts : goal.invariant-expressions::expression-parts
 invariant-expressions::expression-parts l = record {
-  total : with_front (map expr_of l.parts.items) (others_at 124 (conjunction_at (inside l.levels)) l.reader) ≡ parts_at 124 (conjunction_at (inside l.levels)) l.fn.reader;
+  total : with_front (map expr_of l.parts.items) (read_inside l.levels (some beyond (is bar) (part bar conjunction)) l.reader)
+      ≡ read_inside l.levels (parts bar conjunction) l.fn.reader;
   some : 1 ≤ length l.parts.items;
-  several : passes (is 124) (after_blank l.reader) ≡ false → 2 ≤ length l.parts.items;
+  several : passes (is bar) (after_blank l.reader) ≡ false → 2 ≤ length l.parts.items;
 }
 
 abbrev pub decreases-expressions::expression-parts : goal.decreases-expressions::expression-parts

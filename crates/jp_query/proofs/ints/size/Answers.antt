@@ -1,5 +1,5 @@
 use Rattle.std.proofs.Common.{sym}
-use Rattle.jp_query.proofs.Sizes.{size-natural}
+use Rattle.jp_query.proofs.CappedIntegers.{size-natural}
 use Rattle.jp_query.proofs.ints.size.Goals as goal
 
 pub returns-in-Some : goal.returns-in-Some

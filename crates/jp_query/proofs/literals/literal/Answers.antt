@@ -2,7 +2,7 @@ use Rattle.std.proofs.Common.{◌≡◌, Some, [], ◌∷◌, rules}
 use Rattle.std.proofs.lemmas.Result.{err_from_is_err_and}
 use Rattle.jp_reading.specs.Outcome.{head}
 use Rattle.jp_query.specs.Tree.{true_literal, false_literal, null_literal}
-use Rattle.jp_query.proofs.Numerals.{literal-true, literal-false, literal-null}
+use Rattle.jp_query.proofs.WordsAndDigits.{literal-true, literal-false, literal-null}
 use Rattle.jp_query.proofs.literals.literal.Goals as goal
 
 pub returns-in_err-word-in-Some-t : goal.returns-in_err-word-in-Some-t

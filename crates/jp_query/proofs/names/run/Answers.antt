@@ -10,14 +10,15 @@ use Rattle.jp_reading.proofs.Steps.{take_if-takes}
 use Rattle.jp_reading.proofs.Progress.{moves-take_if}
 use Rattle.jp_reading.proofs.Folds.{with_front-nil, pushes_on, pushes_end}
 use Rattle.jp_query.specs.Names.{is_name_char}
-use Rattle.jp_query.specs.Reading.{run_at}
+use Rattle.jp_query.specs.Rules.{run}
+use Rattle.jp_query.specs.Reading.{read_flat}
 use Rattle.jp_query.proofs.names.run.Goals as goal
 use Rattle.jp_query.proofs.names.run.Goals.{in-Some+then-not-is_name_char, in_default}
 
 pub characters-init : goal.characters-init
 characters-init c =
-    ap (λ t. with_front t (run_at (is_name_char) c.args.reader.now)) (ap chars c.new-text.ensures.bytes ∙ chars-nil)
-    ∙ with_front-nil (run_at (is_name_char) c.args.reader.now)
+    ap (λ t. with_front t (read_flat (run is_name_char) c.args.reader.now)) (ap chars c.new-text.ensures.bytes ∙ chars-nil)
+    ∙ with_front-nil (read_flat (run is_name_char) c.args.reader.now)
 
 pub characters-preserved : goal.characters-preserved
 characters-preserved c =

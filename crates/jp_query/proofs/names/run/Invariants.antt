@@ -3,11 +3,12 @@ use Rattle.std.specs.Str.{chars}
 use Rattle.std.specs.String.{string_bytes}
 use Rattle.jp_reading.specs.Views.{with_front}
 use Rattle.jp_query.specs.Names.{is_name_char}
-use Rattle.jp_query.specs.Reading.{run_at}
+use Rattle.jp_query.specs.Rules.{run}
+use Rattle.jp_query.specs.Reading.{read_flat}
 use Rattle.jp_query.proofs.names.run.Given as goal
 
 abbrev pub invariant-characters : goal.invariant-characters
-invariant-characters l = with_front (chars (string_bytes l.text)) (run_at is_name_char l.reader) ≡ run_at is_name_char l.initial.reader
+invariant-characters l = with_front (chars (string_bytes l.text)) (read_flat (run is_name_char) l.reader) ≡ read_flat (run is_name_char) l.initial.reader
 
 abbrev pub decreases-characters : goal.decreases-characters
 decreases-characters l = length l.reader.rest

@@ -1,4 +1,4 @@
-use Rattle.std.proofs.Common.{◌≡◌, ◌++◌, ◌∷◌, [], rules, sym, ap, ◌∙◌}
+use Rattle.std.proofs.Common.{◌≡◌, ℕ, ◌++◌, ◌∷◌, [], rules, sym, ap, ◌∙◌}
 use Rattle.std.specs.Char.{IsScalar}
 use Rattle.std.specs.Str.{chars}
 use Rattle.std.specs.String.{string_bytes}
@@ -9,43 +9,50 @@ use Rattle.jp_reading.specs.Views.{with_front}
 use Rattle.jp_reading.proofs.Chars.{chars_push}
 use Rattle.jp_reading.proofs.Progress.{moved}
 use Rattle.jp_reading.proofs.Folds.{with_front-nil, pushes_on, pushes_end, folds_fail}
-use Rattle.jp_query.specs.Reading.{characters_at, character_at, begins_character}
-use Rattle.jp_query.proofs.Escapes.{character-progress}
+use Rattle.jp_query.specs.Rules.{nesting, characters, string_character, begins_character}
+use Rattle.jp_query.specs.Reading.{read_flat}
+use Rattle.jp_reading.specs.RuleReading.{nothing}
+use Rattle.jp_reading.proofs.Progress.{Progress}
+use Rattle.jp_reading.proofs.Rules.Progress.{goes}
 use Rattle.jp_query.proofs.strings.characters.Goals as goal
+
+-- each leaves a shorter text
+character-progress : (quote : ℕ) → Progress (read_flat (string_character quote))
+character-progress quote p = goes (nothing nesting) (λ o q. tt) (string_character quote) p
 
 pub characters-init : goal.characters-init
 characters-init c =
-    ap (λ t. with_front t (characters_at c.args.quote c.args.reader.now)) (ap chars c.new-text.ensures.bytes ∙ chars-nil)
-    ∙ with_front-nil (characters_at c.args.quote c.args.reader.now)
+    ap (λ t. with_front t (read_flat (characters c.args.quote) c.args.reader.now)) (ap chars c.new-text.ensures.bytes ∙ chars-nil)
+    ∙ with_front-nil (read_flat (characters c.args.quote) c.args.reader.now)
 
 pub returns-in_err-next : goal.returns-in_err-next
-unfolding characters_at
+unfolding characters
 returns-in_err-next c =
     let p = err_from_is_err_and c.from_residual.result c.from_residual.ensures.1 in
     let text = chars (string_bytes c.characters.text) in
     rw (p.1, p.2, ← c.characters.invariant)
-    (folds_fail (λ q. passes (begins_character c.args.quote) (head q)) (character_at c.args.quote) (character-progress c.args.quote) (λ ys. text ++ ys)
+    (folds_fail (λ q. passes (begins_character c.args.quote) (head q)) (read_flat (string_character c.args.quote)) (character-progress c.args.quote) (λ ys. text ++ ys)
     c.characters.reader c.in_err-next.field-0.0 (sym c.is_at_character.ensures ∙ c.characters-test.true) c.in_err-next.ensures)
 
 pub characters-smaller : goal.characters-smaller
 characters-smaller c =
-    moved (character_at c.args.quote) (character-progress c.args.quote) c.characters.reader c.character.new.reader c.in_ok-next.next c.in_ok-next.ensures
+    moved (read_flat (string_character c.args.quote)) (character-progress c.args.quote) c.characters.reader c.character.new.reader c.in_ok-next.next c.in_ok-next.ensures
 
 pub characters-preserved : goal.characters-preserved
-unfolding characters_at
+unfolding characters
 characters-preserved c =
     let text = string_bytes c.characters.text in
     let next = c.in_ok-next.next in
     let scalar : IsScalar next = search rules in
     let pushed : chars (string_bytes c.push.new.self) ≡ chars text ++ next ∷ [] =
     ap chars c.in_ok-push.ensures.bytes ∙ chars_push text next (IsUtf8-string_bytes c.characters.text) scalar in
-    let step = pushes_on (λ q. passes (begins_character c.args.quote) (head q)) (character_at c.args.quote) (character-progress c.args.quote) (chars text)
+    let step = pushes_on (λ q. passes (begins_character c.args.quote) (head q)) (read_flat (string_character c.args.quote)) (character-progress c.args.quote) (chars text)
     c.characters.reader c.character.new.reader next (sym c.is_at_character.ensures ∙ c.characters-test.true) c.in_ok-next.ensures in
     rw (pushed, ← step) c.characters.invariant
 
 pub returns : goal.returns
-unfolding characters_at
+unfolding characters
 returns c =
     sym c.characters.invariant
-    ∙ pushes_end (λ q. passes (begins_character c.args.quote) (head q)) (character_at c.args.quote) (chars (string_bytes c.characters.text)) c.characters.reader
+    ∙ pushes_end (λ q. passes (begins_character c.args.quote) (head q)) (read_flat (string_character c.args.quote)) (chars (string_bytes c.characters.text)) c.characters.reader
     (sym c.is_at_character.ensures ∙ c.characters-test.false)

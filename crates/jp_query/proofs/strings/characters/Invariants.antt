@@ -2,11 +2,12 @@ use Rattle.std.proofs.Common.{◌≡◌, length}
 use Rattle.std.specs.Str.{chars}
 use Rattle.std.specs.String.{string_bytes}
 use Rattle.jp_reading.specs.Views.{with_front}
-use Rattle.jp_query.specs.Reading.{characters_at}
+use Rattle.jp_query.specs.Rules.{characters}
+use Rattle.jp_query.specs.Reading.{read_flat}
 use Rattle.jp_query.proofs.strings.characters.Given as goal
 
 abbrev pub invariant-characters : goal.invariant-characters
-invariant-characters l = with_front (chars (string_bytes l.text)) (characters_at l.quote l.reader) ≡ characters_at l.quote l.initial.reader
+invariant-characters l = with_front (chars (string_bytes l.text)) (read_flat (characters l.quote) l.reader) ≡ read_flat (characters l.quote) l.initial.reader
 
 abbrev pub decreases-characters : goal.decreases-characters
 decreases-characters l = length l.reader.rest

@@ -9,7 +9,8 @@ use Rattle.jp_reading.proofs.Folds.{by-by}
 use Rattle.std.proofs.lemmas.Bool.Decides.{nat_tests}
 use Rattle.std.proofs.lemmas.Bool.{cases_Bool, ltb-true, ltb-false, lt-leb}
 use Rattle.jp_query.specs.Ints.{whole_of, negative_of, is_leading_digit}
-use Rattle.jp_query.specs.Reading.{size_at, run_at}
+use Rattle.jp_query.specs.Rules.{run, size}
+use Rattle.jp_query.specs.Reading.{read_flat}
 
 digit-from_leading : (c : ℕ) → is_leading_digit c ≡ true → is_digit c ≡ true
 unfolding is_digit
@@ -17,11 +18,11 @@ digit-from_leading c h = grind (arith, nat_tests)
 
 -- the size as `natural` reads it
 pub size-natural : (p : State) (c : ℕ) → head p ≡ Some c → is_leading_digit c ≡ true
-    → by (λ n. min n (2 ^ 64)) (size_at p) ≡ by (capped (2 ^ 64) 0) (digits_at p)
-unfolding size_at
+    → by (λ n. min n (2 ^ 64)) (read_flat size p) ≡ by (capped (2 ^ 64) 0) (digits_at p)
+unfolding size
 size-natural p c e h =
-    ap (λ (o : Outcome ℕ). by (λ n. min n (2 ^ 64)) (o >>= λ d q. by (λ ds. value_from 0 (d ∷ ds)) (run_at is_digit q))) (take_if-takes is_leading_digit p c e h)
-    ∙ by-by (λ n. min n (2 ^ 64)) (λ ds. value_from 0 (c ∷ ds)) (λ ds. capped (2 ^ 64) 0 (c ∷ ds)) (λ ds. sym (capped-is_min (2 ^ 64) 0 (c ∷ ds) (omega arith))) (run_at is_digit (past p))
+    ap (λ (o : Outcome ℕ). by (λ n. min n (2 ^ 64)) (o >>= λ d q. by (λ ds. value_from 0 (d ∷ ds)) (read_flat (run is_digit) q))) (take_if-takes is_leading_digit p c e h)
+    ∙ by-by (λ n. min n (2 ^ 64)) (λ ds. value_from 0 (c ∷ ds)) (λ ds. capped (2 ^ 64) 0 (c ∷ ds)) (λ ds. sym (capped-is_min (2 ^ 64) 0 (c ∷ ds) (omega arith))) (read_flat (run is_digit) (past p))
     ∙ sym (digits_at-first (capped (2 ^ 64) 0) (λ ds. capped (2 ^ 64) 0 (c ∷ ds)) p (past p) c (take_if-takes is_digit p c e (digit-from_leading c h)) (λ ds. refl))
 
 whole-min : (n : ℕ) → whole_of (min n (2 ^ 64)) ≡ whole_of n
