@@ -49,7 +49,7 @@ pub use location::{OwnedLocation, OwnedStep, Step};
 pub use lookup::child_value;
 pub use node::{Node, child_at, child_named};
 pub use nth::{child_count, nth_child, nth_value};
-pub use path::{path_text, push_path, quote};
+pub use path::{path_text, push_path, push_quote, quote};
 pub use path_fault::PathFault;
 pub use path_reader::read_path;
 pub use text::{push_value, value_text};

@@ -22,8 +22,16 @@ pub fn quote(alloc: Global, text: &str) -> Result<String, AllocError>
     ensures { IfOk result (λ s. string_bytes s ≡ quoted text.now) }
 {
     let mut quoted = String::new(alloc);
-    push_quoted(&mut quoted, text, b'\'')?;
+    push_quote(&mut quoted, text)?;
     Ok(quoted)
+}
+
+/// Appends a text between single quotes, spelled as a name in a normalized path. Where memory is
+/// wanting, a part of it may stand there.
+pub fn push_quote(out: &mut String, text: &str) -> Result<(), AllocError>
+    ensures { OnOk result (string_bytes out.new ≡ string_bytes out.old ++ quoted text.now) }
+{
+    push_quoted(out, text, b'\'')
 }
 
 /// Appends the normalized path of a location. Where memory is wanting, a part of it may stand there.

@@ -1,0 +1,26 @@
+use Rattle.std.proofs.Common.{◌≡◌, ◌∷◌, [], ◌++◌, drop, map}
+use Rattle.jp_query.specs.Tree.{expr_of, exprs, query_of, segment_of, segments, selector_of, selectors}
+use Rattle.jp_canon.specs.Canon.{canon_of, part_texts, segment_text, segments_text, selector_texts, separated}
+use Rattle.jp_canon.proofs.Parts.{texts_from}
+use Rattle.jp_canon.proofs.+nested.Given as goal
+
+-- what is written, and the segments to come, is the whole
+abbrev pub invariant-segments::write_query-loop-segment :
+    goal.invariant-segments::write_query-loop-segment
+invariant-segments::write_query-loop-segment l =
+    l.out ++ segments_text (segments (map segment_of (drop l.segment-index l.segment-items)))
+    ≡ l.fn.out ++ canon_of (query_of l.query)
+
+-- what is written, and the selectors to come, is the whole
+abbrev pub invariant-segments::write_segment-loop-i : goal.invariant-segments::write_segment-loop-i
+invariant-segments::write_segment-loop-i l =
+    l.out ++ (texts_from l.i (44 ∷ [])
+    (selector_texts (selectors (map selector_of (drop l.i l.selector-items)))) ++ 93 ∷ [])
+    ≡ l.fn.out ++ segment_text (segment_of l.segment)
+
+-- what is written, and the parts to come, is the whole
+abbrev pub invariant-expressions::write_parts-loop-i :
+    goal.invariant-expressions::write_parts-loop-i
+invariant-expressions::write_parts-loop-i l =
+    l.out ++ texts_from l.i l.mark (part_texts l.outer (exprs (map expr_of (drop l.i l.parts))))
+    ≡ l.fn.out ++ separated l.mark (part_texts l.outer (exprs (map expr_of l.parts)))

@@ -1,0 +1,54 @@
+-- Selectors between brackets, and names after dots.
+use Rattle.std.proofs.Common.{◌≡◌, ℕ, List, [], ◌∷◌, ◌++◌, map, refl, sym, ap, subst, codes}
+use Rattle.std.specs.List.{AllByRecursion}
+use Rattle.jp_reading.specs.Forms.{Blank, Form, word, ◌⌢◌}
+use Rattle.jp_reading.specs.Texts.{Spans, Text}
+use Rattle.jp_query.specs.Grammar.{Bracket, Member, Selector, any, member, named, star}
+use Rattle.jp_query.specs.Tree.{ExprTree, SelectorTree, selectors}
+use Rattle.jp_canon.specs.Canon.{selector_text, selector_texts, separated}
+use Rattle.jp_canon.proofs.Forms.{Has, after-blank, before-blank, both, has-as, has-same, has-separated, has-word}
+use Rattle.jp_canon.proofs.Names.{has-quoted}
+
+selector_texts-map : (ys : List SelectorTree) → selector_texts (selectors ys) ≡ map selector_text ys
+selector_texts-map [] = refl
+selector_texts-map (y ∷ ys) = ap (λ ts. selector_text y ∷ ts) (selector_texts-map ys)
+
+-- the mark between selectors
+abbrev pub Comma : Form
+Comma = word (44 ∷ []) ⌢ Blank
+
+-- two dots before a text
+pub two-dots : {P : Form} {t : Text} → Has P t
+    → Has (word (46 ∷ []) ⌢ word (46 ∷ []) ⌢ P) (codes ".." ++ t)
+two-dots h = both (has-word (46 ∷ [])) (both (has-word (46 ∷ [])) h)
+
+-- what stands after an opening bracket
+abbrev pub bracket_text : List SelectorTree → Text
+bracket_text ys = separated (codes ",") (selector_texts (selectors ys)) ++ codes "]"
+
+module _ (K : ExprTree → Form) where
+  -- a name or `*` after a dot, as a selector
+  pub by-member : (y : SelectorTree) (s : Spans) (o : ℕ) (t : Text) → Member y s o t
+      → Has (Selector K y) (selector_text y)
+  by-member y s o t (star is h) = subst (λ z. Has (Selector K z) (selector_text z)) (sym is)
+      (has-as (λ r p. any refl) (has-word _))
+  by-member y s o t (member cs is h) = subst (λ z. Has (Selector K z) (selector_text z)) (sym is)
+      (has-as (λ r p. named cs refl) (has-quoted cs))
+
+  abbrev pub HasSelector : SelectorTree → Type 0
+  HasSelector y = Has (Selector K y ⌢ Blank) (selector_text y)
+
+  pub bracket-of : (y : SelectorTree) (ys : List SelectorTree)
+      → AllByRecursion HasSelector (y ∷ ys)
+      → Has (Bracket K (y ∷ ys)) (codes "[" ++ bracket_text (y ∷ ys))
+  bracket-of y ys all =
+      let parts = has-separated Comma (codes ",") (λ z. Selector K z ⌢ Blank) selector_text
+      (before-blank (has-word (44 ∷ []))) y ys all in
+      both (has-word (91 ∷ []))
+      (after-blank
+      (both (has-same (ap (separated (codes ",")) (sym (selector_texts-map (y ∷ ys)))) parts)
+      (has-word (93 ∷ []))))
+
+  pub dotted-bracket : (y : SelectorTree) (s : Spans) (o : ℕ) (t : Text) → Member y s o t
+      → Has (Bracket K (y ∷ [])) (codes "[" ++ bracket_text (y ∷ []))
+  dotted-bracket y s o t h = bracket-of y [] (before-blank (by-member y s o t h), tt)

@@ -1,0 +1,120 @@
+-- Texts that have a form wherever they stand.
+use Rattle.std.proofs.Common.{◌≡◌, ℕ, ◌+◌, Bool, true, List, [], ◌∷◌, ◌++◌, map, Some, refl, subst, append-nil}
+use Rattle.std.specs.List.{AllByRecursion, flat_map}
+use Rattle.jp_reading.specs.Forms.{AllPassing, Blank, Each, Form, Item, Omitted, One, Separated, word, ◌⌢◌}
+use Rattle.jp_reading.specs.Texts.{Spans, Text, bytes}
+use Rattle.jp_canon.specs.Canon.{separated}
+
+-- the text has the form at each byte, with some spans
+pub record Has (P : Form) (t : Text) : Type 0 where
+  pub at : (o : ℕ) → (s : Spans) × P s o t
+
+pub has-word : (w : Text) → Has (word w) w
+has-word w = record { at = λ o. ([], record { none = refl; is = refl }) }
+
+pub has-one : (ok : ℕ → Bool) (c : ℕ) → ok c ≡ true → Has (One ok c) (c ∷ [])
+has-one ok c passes = record { at = λ o. ([], record { none = refl; is = refl; passes = passes }) }
+
+pub has-blank : Has Blank []
+has-blank = record { at = λ o. ([], record { none = refl; blank = tt }) }
+
+pub has-omitted : Has Omitted []
+has-omitted = record { at = λ o. (_, record { spans = refl; is = refl }) }
+
+pub both : {P Q : Form} {t u : Text} → Has P t → Has Q u → Has (P ⌢ Q) (t ++ u)
+both {t} {u} one two = record {
+  at =
+      λ o.
+      let a = one.at o in
+      let b = two.at (o + bytes t) in (
+        a.0 ++ b.0,
+        record {
+          first_spans = a.0;
+          second_spans = b.0;
+          first = t;
+          second = u;
+          spans = refl;
+          is = refl;
+          one = a.1;
+          two = b.1;
+        },
+      );
+}
+
+pub has-item : {P : Form} {t : Text} → Has P t → Has (Item P) t
+has-item {t} h = record {
+  at =
+      λ o.
+      let a = h.at o in (
+        Some (record { start = o; end = o + bytes t }) ∷ a.0,
+        record { inside = a.0; spans = refl; is = a.1 },
+      );
+}
+
+-- one form as another
+pub has-as : {P Q : Form} {t : Text} → ((s : Spans) (o : ℕ) → P s o t → Q s o t) → Has P t → Has Q t
+has-as f h = record { at = λ o. let a = h.at o in (a.0, f a.0 o a.1) }
+
+-- a text as an equal one
+pub has-same : {P : Form} {t u : Text} → t ≡ u → Has P t → Has P u
+has-same {P} e h = subst (Has P) e h
+
+-- no blanks before a text, and none after it
+pub after-blank : {P : Form} {t : Text} → Has P t → Has (Blank ⌢ P) t
+after-blank h = both has-blank h
+
+pub before-blank : {P : Form} {t : Text} → Has P t → Has (P ⌢ Blank) t
+before-blank {t} h = has-same (append-nil t) (both h has-blank)
+
+-- ---- one text after another
+
+-- what each part's form gives
+pub each-gives : {A : Type 0} (P : A → Form) (R : A → Type 0) →
+    ((x : A) (s : Spans) (o : ℕ) (t : Text) → P x s o t → R x)
+    → (xs : List A) (s : Spans) (o : ℕ) (t : Text) → Each P xs s o t → AllByRecursion R xs
+each-gives P R f [] s o t h = tt
+each-gives P R f (x ∷ xs) s o t h = (
+  f x h.first_spans o h.first h.one,
+  each-gives P R f xs h.second_spans
+      (o + bytes h.first) h.second h.two,
+)
+
+pub has-each : {A : Type 0} (Q : A → Form) (f : A → Text) (xs : List A)
+    → AllByRecursion (λ x. Has (Q x) (f x)) xs → Has (Each Q xs) (flat_map f xs)
+has-each Q f [] all = has-word []
+has-each Q f (x ∷ xs) all = both all.0 (has-each Q f xs all.1)
+
+pub has-each_passing : (ok : ℕ → Bool) (cs : Text) → AllPassing ok cs → Has (Each (One ok) cs) cs
+has-each_passing ok [] all = has-word []
+has-each_passing ok (c ∷ cs) all = both (has-one ok c all.0) (has-each_passing ok cs all.1)
+
+-- ---- with a mark between two neighbours
+
+pub separated-gives : {A : Type 0} (w : Form) (P : A → Form) (R : A → Type 0) →
+    ((x : A) (s : Spans) (o : ℕ) (t : Text) → P x s o t → R x)
+    → (xs : List A) (s : Spans) (o : ℕ) (t : Text) → Separated w P xs s o t → AllByRecursion R xs
+separated-gives w P R f [] s o t h = elim h [ ]
+separated-gives w P R f (x ∷ xs) s o t h = (
+  f x h.first_spans o h.first h.one,
+  each-gives (λ y. w ⌢ P y) R
+      (λ y r p u k. f y k.second_spans (p + bytes k.first) k.second k.two) xs h.second_spans
+      (o + bytes h.first) h.second h.two,
+)
+
+has-others : {A : Type 0} (w : Form) (mark : Text) (Q : A → Form) (f : A → Text) → Has w mark →
+    (xs : List A) → AllByRecursion (λ x. Has (Q x) (f x)) xs
+    → Has (Each (λ y. w ⌢ Q y) xs) (flat_map (λ u. mark ++ u) (map f xs))
+has-others w mark Q f between [] all = has-word []
+has-others w mark Q f between (x ∷ xs) all = both (both between all.0)
+    (has-others w mark Q f between xs all.1)
+
+pub has-separated : {A : Type 0} (w : Form) (mark : Text) (Q : A → Form) (f : A → Text)
+    → Has w mark → (x : A) (xs : List A)
+    → AllByRecursion (λ y. Has (Q y) (f y)) (x ∷ xs)
+    → Has (Separated w Q (x ∷ xs)) (separated mark (map f (x ∷ xs)))
+has-separated w mark Q f between x xs all = both all.0 (has-others w mark Q f between xs all.1)
+
+-- one part alone
+pub has-alone : {A : Type 0} (w : Form) (Q : A → Form) (x : A) (t : Text) → Has (Q x) t
+    → Has (Separated w Q (x ∷ [])) t
+has-alone w Q x t h = has-same (append-nil t) (both h (has-word []))

@@ -1,0 +1,64 @@
+-- What some text spells, its canonical text spells, within the same levels.
+use Rattle.std.proofs.Common.{◌≡◌, ℕ, zero, suc, ◌≤◌, ◌∷◌, [], refl, sym, subst, ap, arith}
+use Rattle.jp_reading.specs.Texts.{Spans, Text}
+use Rattle.jp_query.specs.Grammar.{Inside, Segments, Spells}
+use Rattle.jp_query.specs.Laws.{OneReading}
+use Rattle.jp_query.specs.Tree.{ExprTree, QueryTree, segments}
+use Rattle.jp_canon.specs.Canon.{canon_of, expr_text, segments_text}
+use Rattle.jp_canon.specs.Laws.{CanonIsAccepted, CanonSpells, CanonTellsApart}
+use Rattle.jp_canon.proofs.Forms.{Has, both, has-word}
+use Rattle.jp_canon.proofs.Grouping.{Known, Own, whole}
+use Rattle.jp_canon.proofs.Rules.{expression-text, segments-text}
+
+-- what some text spells within m levels stands in both ways within k levels, where m ≤ k: within k
+-- - 1 levels that it can
+-- stand as it is puts it one level further in
+known-by : (m k : ℕ) → m ≤ k
+    → ((j : ℕ) → m ≤ suc j → (e : ExprTree) (s : Spans) (o : ℕ) (t : Text) → Inside m e s o t
+    → Has (Own (Inside j) e) (expr_text e))
+    → (e : ExprTree) (s : Spans) (o : ℕ) (t : Text) → Inside m e s o t → Known (Inside k) e
+known-by zero k fits own e s o t h = elim h [ ]
+known-by (suc m) zero fits own e s o t h = absurd (omega arith)
+known-by (suc m) (suc k) fits own e s o t h = record {
+  own = own (suc k) (omega arith) e s o t h;
+  inside = whole (Inside k) e (expr_text e) (own k (omega arith) e s o t h);
+}
+
+own-text : (m k : ℕ) → m ≤ suc k → (e : ExprTree) (s : Spans) (o : ℕ) (t : Text) → Inside m e s o t
+    → Has (Own (Inside k) e) (expr_text e)
+own-text zero k fits e s o t h = elim h [ ]
+own-text (suc m) k fits e s o t h = expression-text (Inside m) (Inside k)
+    (known-by m k (omega arith) (own-text m)) e s o t h
+
+-- ---- whole queries
+
+pub canon-spells : CanonSpells
+canon-spells n q s text h =
+    let known = known-by n n (omega arith) (own-text n) in
+    let all : Has (Segments (Inside n) h.parts) (segments_text (segments h.parts)) = segments-text
+    (Inside n) (Inside n) known h.parts _ _ _ h.is.two in
+    let found = (both (has-word (36 ∷ [])) all).at 0 in
+    subst (λ p. (u : Spans) × Spells n p u (canon_of p)) (sym h.tree)
+    (found.0, record { parts = h.parts; tree = refl; is = found.1 })
+
+pub canon-accepted : CanonIsAccepted
+canon-accepted q accepted =
+    let reading = accepted.1 in
+    let found = canon-spells _ q reading.spans accepted.0 reading.spelled in
+    record { spans = found.0; spelled = found.1; faultless = reading.faultless }
+
+-- equal texts spell equal trees
+one-tree : OneReading → (n m : ℕ) (q u : QueryTree) (r s : Spans) (v w : Text) → Spells n q r v
+    → Spells m u s w → v ≡ w → q ≡ u
+one-tree one n m q u r s v w first second same =
+    (one n m q u r s w (subst (Spells n q r) same first) second).0
+
+pub canon-tells-apart : OneReading → CanonTellsApart
+canon-tells-apart one q u accepted other = (
+  λ same.
+      let here = canon-accepted q accepted in
+      let there = canon-accepted u other in
+      one-tree one _ _ q u here.spans there.spans (canon_of q)
+      (canon_of u) here.spelled there.spelled same,
+  ap canon_of,
+)

@@ -1,0 +1,11 @@
+pub mod Bracketed
+pub mod Forms
+pub mod Grouping
+pub mod Induction
+pub mod Literals
+pub mod Names
+pub mod Numbers
+pub mod Parts
+pub mod Rows
+pub mod Rules
+pub mod Written

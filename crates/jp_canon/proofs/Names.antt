@@ -1,0 +1,83 @@
+-- A name between quotes, as it is spelled in a normalized path, spells the name.
+use Rattle.std.proofs.Common.{◌≡◌, ℕ, ◌/◌, ◌%◌, ◌<◌, true, [], ◌∷◌, refl, sym, ◌∙◌, arith}
+use Rattle.std.proofs.lemmas.Bool.{lt-ltb}
+use Rattle.std.proofs.lemmas.Bool.Decides.{nat_tests}
+use Rattle.std.specs.Char.{digit_value}
+use Rattle.std.specs.List.{AllByRecursion}
+use Rattle.jp_reading.specs.Texts.{Text}
+use Rattle.jp_document.specs.Path.{quoted}
+use Rattle.jp_document.specs.PathReader.{is_letter, is_plain as is_bare, meant}
+use Rattle.jp_document.specs.Spelling.{hex_digit, spelling}
+use Rattle.jp_document.proofs.Spelled.{Spelled, by_itself, by_letter, by_number, spelled}
+use Rattle.jp_query.specs.Strings.{Character, Quoted, Unit as FourDigits, digits, escape, escaped, hex, in_single, is_escapable, is_hexdig, is_not_d, is_plain, not_d, plain, unit_of}
+use Rattle.jp_canon.proofs.Forms.{Has, both, has-as, has-each, has-one, has-same, has-word}
+
+-- ---- control characters, by number
+
+hex_digit-value : (n : ℕ) → n < 16 → digit_value (hex_digit n) ≡ n
+hex_digit-value n small = grind (arith, nat_tests)
+
+hex_digit-hexdig : (n : ℕ) → n < 16 → is_hexdig (hex_digit n) ≡ true
+unfolding is_hexdig
+hex_digit-hexdig n small = rw (hex_digit-value n small) (lt-ltb n 16 small)
+
+zero-not_d : is_not_d 48 ≡ true
+unfolding is_not_d
+zero-not_d = refl
+
+zero-hexdig : is_hexdig 48 ≡ true
+unfolding is_hexdig
+zero-hexdig = refl
+
+control-unit : (c : ℕ) → c < 32 → c ≡ unit_of 48 48 (hex_digit (c / 16)) (hex_digit (c % 16))
+control-unit c small =
+    let high : c / 16 < 16 = omega arith in
+    let low : c % 16 < 16 = omega arith in
+    rw (hex_digit-value (c / 16) high, hex_digit-value (c % 16) low) (omega arith)
+
+has-control : (c : ℕ) → c < 32
+    → Has (FourDigits is_not_d is_hexdig c) (48 ∷ 48 ∷ hex_digit (c / 16) ∷ hex_digit (c % 16) ∷ [])
+has-control c small =
+    has-as (λ s o. digits 48 48 (hex_digit (c / 16)) (hex_digit (c % 16)) (control-unit c small))
+    (both (has-one is_not_d 48 zero-not_d)
+    (both (has-one is_hexdig 48 zero-hexdig)
+    (both (has-one is_hexdig (hex_digit (c / 16)) (hex_digit-hexdig (c / 16) (omega arith)))
+    (has-one is_hexdig (hex_digit (c % 16)) (hex_digit-hexdig (c % 16) (omega arith))))))
+
+-- ---- characters
+
+letter-escapable : (e : ℕ) → is_letter e ≡ true → is_escapable 39 e ≡ true
+unfolding is_letter
+letter-escapable e is = grind (arith, nat_tests)
+
+letter-meant : (e : ℕ) → meant e ≡ escaped e
+unfolding meant
+letter-meant e = grind (arith, nat_tests)
+
+bare-plain : (c : ℕ) → is_bare c ≡ true → is_plain 39 c ≡ true
+unfolding is_bare
+bare-plain c is = grind (arith, nat_tests)
+
+character : (c : ℕ) (t : Text) → Spelled c t → Has (Character 39 c) t
+character c t (by_letter e is means shape) =
+    has-same (sym shape)
+    (has-as (λ s o. escape e (means ∙ letter-meant e))
+    (both (has-word (92 ∷ [])) (has-one (is_escapable 39) e (letter-escapable e is))))
+character c t (by_number small none shape) =
+    has-same (sym shape)
+    (has-as (λ s o. hex)
+    (both (has-word (92 ∷ []))
+    (both (has-word (117 ∷ [])) (has-as (λ s o. not_d) (has-control c small)))))
+character c t (by_itself is shape) = has-same (sym shape)
+    (has-as (λ s o. plain) (has-one (is_plain 39) c (bare-plain c is)))
+
+characters : (cs : Text) → AllByRecursion (λ c. Has (Character 39 c) (spelling 39 c)) cs
+characters [] = tt
+characters (c ∷ cs) = (character c (spelling 39 c) (spelled c), characters cs)
+
+-- the quoted name spells the name
+pub has-quoted : (cs : Text) → Has (Quoted cs) (quoted cs)
+has-quoted cs =
+    has-as (λ s o. in_single)
+    (both (has-word (39 ∷ []))
+    (both (has-each (Character 39) (spelling 39) cs (characters cs)) (has-word (39 ∷ []))))

@@ -1,0 +1,152 @@
+-- Numbers in decimal spell themselves.
+use Rattle.std.proofs.Common.{◌≡◌, ℕ, zero, suc, ◌+◌, ◌-◌, ◌*◌, ◌^◌, ◌<◌, ◌≤◌, ltb, leb, Bool, true, false, [], ◌∷◌, pos, negsuc, codes, refl, sym, ap, subst, ◌∙◌, inl, inr, arith, append-nil}
+use Rattle.std.specs.Fmt.{decimal}
+use Rattle.std.specs.Fmt.{digits as fmt_digits}
+use Rattle.std.specs.List.{list_all}
+use Rattle.std.proofs.lemmas.Bool.{and_parts, cases_Bool, leb-true, ltb-true}
+use Rattle.std.proofs.lemmas.Bool.Decides.{nat_tests}
+use Rattle.jp_reading.specs.Forms.{AllPassing, Form}
+use Rattle.jp_reading.specs.Numbers.{is_digit, value_from}
+use Rattle.jp_reading.specs.Texts.{Spans, Text}
+use Rattle.jp_reading.proofs.Digits.{value_from-least}
+use Rattle.jp_document.specs.Path.{index_text}
+use Rattle.jp_document.proofs.IndexTexts.{Begun, begun, other_text, value_from-index_text, zero_text}
+use Rattle.jp_document.proofs.Paths.{decimal-index_text}
+use Rattle.jp_query.specs.declared.tree.Numeral.{Numeral}
+use Rattle.jp_query.specs.declared.tree.Numeral.TheVariants.{Beyond, Fraction, Whole}
+use Rattle.jp_query.specs.Ints.{Int, is_leading_digit, negative_int, negative_of, positive_int, whole_of, zero_int}
+use Rattle.jp_query.specs.Literals.{Decimals, Digits, Exponent, Mantissa, Number, Optional, decimals, left_out, minus_zero, number, whole, written}
+use Rattle.jp_canon.specs.Canon.{numeral_text}
+use Rattle.jp_canon.proofs.Forms.{Has, both, has-as, has-each_passing, has-one, has-same, has-word}
+
+-- ---- whole numbers, by their digits
+
+leading : (d : ℕ) → is_digit d ≡ true → 48 < d → is_leading_digit d ≡ true
+unfolding is_digit
+leading d is above = grind (arith, nat_tests)
+
+has-index : (n : ℕ) (w : Text) → Begun n w → value_from 0 w ≡ n → Has (Int (whole_of n)) w
+has-index n w (zero_text is shape) value = has-same (sym shape)
+    (has-as (λ s o. zero_int (ap whole_of is)) (has-word (48 ∷ [])))
+has-index n w (other_text d ds shape is all above) value =
+    has-same (sym shape)
+    (has-as (λ s o. positive_int d ds (ap whole_of (sym value ∙ ap (value_from 0) shape)))
+    (both (has-one is_leading_digit d (leading d is above)) (has-each_passing is_digit ds all)))
+
+has-negative : (n : ℕ) (w : Text) → Begun n w → value_from 0 w ≡ n → 0 < n
+    → Has (Int (negative_of n)) (45 ∷ w)
+has-negative n w (zero_text is shape) value some = absurd (omega arith)
+has-negative n w (other_text d ds shape is all above) value some =
+    has-same (ap (λ t. 45 ∷ t) (sym shape))
+    (has-as (λ s o. negative_int d ds (ap negative_of (sym value ∙ ap (value_from 0) shape)))
+    (both (has-word (45 ∷ []))
+    (both (has-one is_leading_digit d (leading d is above))
+    (has-each_passing is_digit ds all))))
+
+pub has-decimal : (n : ℕ) → n < 2 ^ 64 → Has (Int (whole_of n)) (decimal n)
+has-decimal n fits = has-same (sym (decimal-index_text n fits))
+    (has-index n (index_text n) (begun n) (value_from-index_text n))
+
+-- ---- beyond the range
+
+beyond-digits : decimal (2 ^ 64) ≡ 49 ∷ codes "8446744073709551616"
+unfolding fmt_digits
+beyond-digits = refl
+
+all-passing : (ok : ℕ → Bool) (cs : Text) → list_all ok cs ≡ true → AllPassing ok cs
+all-passing ok [] all = tt
+all-passing ok (c ∷ cs) all = let parts = and_parts (ok c) (list_all ok cs) all in
+    (parts.0, all-passing ok cs parts.1)
+
+has-beyond : Has (Int Beyond) (decimal (2 ^ 64))
+unfolding is_digit
+has-beyond =
+    let more : Text = codes "8446744073709551616" in
+    has-same (sym beyond-digits)
+    (has-as (λ s o. positive_int 49 more refl)
+    (both (has-one is_leading_digit 49 refl)
+    (has-each_passing is_digit more (all-passing is_digit more refl))))
+
+-- ---- every int
+
+int_text : (i j : Numeral) → i ≡ j → Has (Int j) (numeral_text j) → Has (Int i) (numeral_text i)
+int_text i j is h = subst (λ k. Has (Int k) (numeral_text k)) (sym is) h
+
+has-whole_of : (n : ℕ) → Has (Int (whole_of n)) (numeral_text (whole_of n))
+has-whole_of n =
+    elim (cases_Bool (ltb n (2 ^ 64))) [
+      | inl fits ↦
+          let is : whole_of n ≡ Whole (pos n) = rw fits refl in
+          int_text (whole_of n) (Whole (pos n)) is
+          (subst (λ i. Has (Int i) (decimal n)) is (has-decimal n (ltb-true n (2 ^ 64) fits)))
+      | inr large ↦ int_text (whole_of n) Beyond (rw large refl) has-beyond
+    ]
+
+has-negative_of : (n : ℕ) → 0 < n → Has (Int (negative_of n)) (numeral_text (negative_of n))
+has-negative_of zero some = absurd (omega arith)
+has-negative_of (suc m) some =
+    elim (cases_Bool (leb (suc m) (2 ^ 63))) [
+      | inl fits ↦
+          let is : negative_of (suc m) ≡ Whole (negsuc m) = rw fits refl in
+          let small : suc m ≤ 2 ^ 63 = leb-true (suc m) (2 ^ 63) fits in
+          let text = decimal-index_text (suc m) (omega arith) in
+          int_text (negative_of (suc m)) (Whole (negsuc m)) is
+          (subst (λ i. Has (Int i) (45 ∷ decimal (suc m))) is
+          (has-same (ap (λ t. 45 ∷ t) (sym text))
+          (has-negative (suc m) (index_text (suc m)) (begun (suc m))
+          (value_from-index_text (suc m)) some)))
+      | inr large ↦ int_text (negative_of (suc m)) Beyond (rw large refl) has-beyond
+    ]
+
+value-some : (c : ℕ) (more : Text) → is_leading_digit c ≡ true → 0 < value_from 0 (c ∷ more)
+value-some c more is =
+    let above : 49 ≤ c = grind (arith, nat_tests) in
+    omega (arith, value_from-least (0 * 10 + (c - 48)) more)
+
+-- the canonical text of what some text spells as an int
+pub int : (i : Numeral) (s : Spans) (o : ℕ) (t : Text) → Int i s o t → Has (Int i) (numeral_text i)
+int i s o t (zero_int is h) = int_text i (whole_of 0) is (has-whole_of 0)
+int i s o t (positive_int c more is h) = int_text i (whole_of (value_from 0 (c ∷ more))) is
+    (has-whole_of (value_from 0 (c ∷ more)))
+int i s o t (negative_int c more is h) =
+    int_text i (negative_of (value_from 0 (c ∷ more))) is
+    (has-negative_of (value_from 0 (c ∷ more)) (value-some c more h.two.one.passes))
+
+-- ---- numbers of literals
+
+mantissa : (i : Numeral) (s : Spans) (o : ℕ) (t : Text) → Mantissa i s o t
+    → Has (Mantissa i) (numeral_text i)
+mantissa i s o t (whole h) = has-as (λ r p. whole) (int i s o t h)
+mantissa i s o t (minus_zero is h) = subst (λ j. Has (Mantissa j) (numeral_text j)) (sym is)
+    (has-as (λ r p. whole) (has-whole_of 0))
+
+no-part : (P : Form) → Has (Optional P false) []
+no-part P = has-as (λ s o. left_out refl) (has-word [])
+
+has-plain : (i : Numeral) → Has (Mantissa i) (numeral_text i) → Has (Number i) (numeral_text i)
+has-plain i h =
+    has-same (append-nil (numeral_text i))
+    (has-as (λ s o. number i false false refl)
+    (both h (both (no-part Decimals) (no-part Exponent))))
+
+has-fraction : Has (Number Fraction) (codes "0.5")
+unfolding is_digit
+has-fraction =
+    let digits : Has (Digits 53 []) (53 ∷ []) = both (has-one is_digit 53 refl) (has-word []) in
+    let zero_text : Has (Int (whole_of 0)) (48 ∷ []) = has-as (λ s o. zero_int refl)
+    (has-word (48 ∷ [])) in
+    let half : Has Decimals (46 ∷ 53 ∷ []) = has-as (λ s o. decimals 53 [])
+    (both (has-word (46 ∷ [])) digits) in
+    has-as (λ s o. number (whole_of 0) true false refl)
+    (both (has-as (λ s o. whole) zero_text)
+    (both (has-as (λ s o. written refl) half) (no-part Exponent)))
+
+pub number-text : (i : Numeral) (s : Spans) (o : ℕ) (t : Text) → Number i s o t
+    → Has (Number i) (numeral_text i)
+number-text i s o t (number j false false is h) =
+    subst (λ k. Has (Number k) (numeral_text k)) (sym is)
+    (has-plain j (mantissa j h.first_spans o h.first h.one))
+number-text i s o t (number j true has_exponent is h) = subst
+    (λ k. Has (Number k) (numeral_text k)) (sym is) has-fraction
+number-text i s o t (number j false true is h) = subst (λ k. Has (Number k) (numeral_text k))
+    (sym is) has-fraction

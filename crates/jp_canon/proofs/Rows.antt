@@ -1,0 +1,112 @@
+-- Worked rows of the definitions.
+use Rattle.std.proofs.Common.{◌≡◌, ℕ, Bool, true, false, List, [], ◌∷◌, Some, None, pos, negsuc, codes, refl}
+use Rattle.std.specs.Fmt.{digits}
+use Rattle.jp_document.specs.Spelling.{spelling}
+use Rattle.jp_query.specs.declared.tree.Numeral.TheVariants.{Whole}
+use Rattle.jp_query.specs.declared.tree.Op.TheVariants.{Equal}
+use Rattle.jp_query.specs.Tree.{ExprTree, SelectorTree, all_of, any_of, comparison, exists, exprs, filter, index, literal, name, negation, node_value, number, query, segment, segments, selectors, slice, wildcard}
+use Rattle.jp_canon.specs.Canon.{canon_of, expr_text, selector_text}
+use Rattle.jp_canon.specs.Precedence.{is_grouped}
+
+-- @.a, @.b and @.c, as tests
+abbrev test : ℕ → ExprTree
+test c = exists (query false (segments (segment false (selectors (name (c ∷ []) ∷ [])) ∷ [])))
+
+abbrev a : ExprTree
+a = test 97
+
+abbrev b : ExprTree
+b = test 98
+
+abbrev c : ExprTree
+c = test 99
+
+abbrev either : ExprTree → ExprTree → ExprTree
+either e f = any_of (exprs (e ∷ f ∷ []))
+
+abbrev each : ExprTree → ExprTree → ExprTree
+each e f = all_of (exprs (e ∷ f ∷ []))
+
+-- @==1
+abbrev relation : ExprTree
+relation = comparison (node_value (query false (segments []))) Equal
+    (literal (number (Whole (pos 1))))
+
+-- in which expressions which parts stand in parentheses: in `||`, in `&&`, and after `!`
+abbrev grouped_parts : ℕ → List Bool
+grouped_parts outer = is_grouped outer (either a b) ∷ is_grouped outer
+    (each a b) ∷ is_grouped outer relation ∷ is_grouped outer (negation a) ∷ is_grouped outer a ∷ []
+
+in_or : grouped_parts 1 ≡ true ∷ false ∷ false ∷ false ∷ false ∷ []
+in_or = refl
+
+in_and : grouped_parts 2 ≡ true ∷ true ∷ false ∷ false ∷ false ∷ []
+in_and = refl
+
+after_not : grouped_parts 4 ≡ true ∷ true ∷ true ∷ true ∷ false ∷ []
+after_not = refl
+
+-- expressions
+or_in_and : expr_text (each a (either b c)) ≡ codes "@['a']&&(@['b']||@['c'])"
+unfolding spelling
+or_in_and = refl
+
+and_in_or : expr_text (either a (each b c)) ≡ codes "@['a']||@['b']&&@['c']"
+unfolding spelling
+and_in_or = refl
+
+or_in_or : expr_text (either (either a b) c) ≡ codes "(@['a']||@['b'])||@['c']"
+unfolding spelling
+or_in_or = refl
+
+not_in_not : expr_text (negation (negation a)) ≡ codes "!(!@['a'])"
+unfolding spelling
+not_in_not = refl
+
+not_relation : expr_text (negation relation) ≡ codes "!(@==1)"
+unfolding spelling digits
+not_relation = refl
+
+-- slices
+abbrev slice_row : List ℕ → SelectorTree → Type 0
+slice_row text x = selector_text x ≡ text
+
+without_step : slice_row (codes "1:2")
+    (slice (record {
+      start = Some (Whole (pos 1));
+      end = Some (Whole (pos 2));
+      step = Whole
+          (pos 1);
+    }))
+unfolding digits
+without_step = refl
+
+with_step : slice_row (codes "::-1")
+    (slice (record { start = None; end = None; step = Whole (negsuc 0) }))
+unfolding digits
+with_step = refl
+
+without_bounds : slice_row (codes ":")
+    (slice (record { start = None; end = None; step = Whole (pos 1) }))
+without_bounds = refl
+
+-- queries
+root : canon_of (query true (segments [])) ≡ codes "$"
+root = refl
+
+several : canon_of
+    (query true (segments
+    (segment false (selectors (name (97 ∷ []) ∷ wildcard ∷ [])) ∷ segment true
+    (selectors (index (Whole (negsuc 1)) ∷ [])) ∷ []))) ≡ codes "$['a',*]..[-2]"
+unfolding spelling digits
+several = refl
+
+escaped : selector_text (name (39 ∷ 92 ∷ 31 ∷ 10 ∷ 34 ∷ 233 ∷ [])) ≡ codes "'\\'\\\\\\u001f\\n\"é'"
+unfolding spelling
+escaped = refl
+
+filtered : canon_of
+    (query true (segments (segment false (selectors (filter (negation a) ∷ [])) ∷ [])))
+    ≡ codes "$[?!@['a']]"
+unfolding spelling
+filtered = refl

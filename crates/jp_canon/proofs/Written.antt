@@ -1,0 +1,53 @@
+-- Pieces that are written after a text, as characters.
+use Rattle.std.proofs.Common.{◌≡◌, ℕ, true, List, [], ◌∷◌, ◌++◌, cond, String, Result, Ok, Err, OnOk, is_ok, string_bytes, refl, ap, ap₂, sym, ◌∙◌}
+use Rattle.std.specs.Char.{is_ascii}
+use Rattle.std.specs.List.{flat_map, list_all}
+use Rattle.std.specs.Str.{chars, encode_utf8_all}
+use Rattle.std.proofs.lemmas.Bool.{and_parts, ltb-true}
+use Rattle.std.proofs.lemmas.Str.{IsUtf8-string_bytes, chars_from_encodes, encode_ascii, encodes-append, encodes-chars}
+use Rattle.jp_document.specs.Path.{quoted}
+use Rattle.jp_document.specs.Spelling.{spelling}
+use Rattle.jp_document.proofs.Encoded.{names-encode}
+
+-- a text with more bytes has the characters of which these are the UTF-8 as well
+written : {Z : Type 0} (old new : String Z) (before bs cs : List ℕ) → chars (string_bytes old)
+    ≡ before → string_bytes new ≡ string_bytes old ++ bs
+    → encode_utf8_all cs ≡ bs → chars (string_bytes new) ≡ before ++ cs
+written old new before bs cs seen wrote is =
+    sym (chars_from_encodes (chars (string_bytes old) ++ cs) (string_bytes new)
+    (IsUtf8-string_bytes new)
+    (encodes-append (chars (string_bytes old)) cs ∙ ap₂ (λ x y. x ++ y)
+    (encodes-chars (string_bytes old) (IsUtf8-string_bytes old)) is ∙ sym wrote))
+    ∙ ap (λ x. x ++ cs) seen
+
+-- the same of a piece for which memory may be wanting
+pub pushed : {Z T E : Type 0} (old new : String Z) (before bs cs : List ℕ) (r : Result T E) → chars
+    (string_bytes old) ≡ before
+    → OnOk r (string_bytes new ≡ string_bytes old ++ bs) → encode_utf8_all cs ≡ bs
+    → OnOk r (chars (string_bytes new) ≡ before ++ cs)
+pushed old new before bs cs (Ok x) seen wrote is = written old new before bs cs seen wrote is
+pushed old new before bs cs (Err e) seen wrote is = tt
+
+pub pushed_str : {Z T E : Type 0} (old new : String Z) (before bs cs : List ℕ) (r : Result T E)
+    → chars (string_bytes old) ≡ before
+    → string_bytes new ≡ cond (is_ok r) (string_bytes old ++ bs) (string_bytes old)
+    → encode_utf8_all cs ≡ bs
+    → OnOk r (chars (string_bytes new) ≡ before ++ cs)
+pushed_str old new before bs cs (Ok x) seen wrote is = written old new before bs cs seen wrote is
+pushed_str old new before bs cs (Err e) seen wrote is = tt
+
+-- ASCII characters are their own bytes
+pub ascii-encode : (cs : List ℕ) → list_all is_ascii cs ≡ true → encode_utf8_all cs ≡ cs
+ascii-encode [] all = refl
+ascii-encode (c ∷ cs) all =
+    let parts = and_parts (is_ascii c) (list_all is_ascii cs) all in
+    ap₂ (λ x y. x ++ y) (encode_ascii c (ltb-true c 128 parts.0)) (ascii-encode cs parts.1)
+
+-- a quoted text in bytes is that of its characters
+pub quoted-encode : (cs : List ℕ) → encode_utf8_all (quoted cs) ≡ quoted (encode_utf8_all cs)
+quoted-encode cs =
+    let quote : encode_utf8_all (39 ∷ []) ≡ 39 ∷ [] = ascii-encode (39 ∷ []) refl in
+    encodes-append (39 ∷ []) (flat_map (spelling 39) cs ++ 39 ∷ [])
+    ∙ ap₂ (λ x y. x ++ y) quote
+    (encodes-append (flat_map (spelling 39) cs) (39 ∷ []) ∙ ap₂ (λ x y. x ++ y)
+    (names-encode cs) quote)

@@ -1,0 +1,21 @@
+//! The canonical text of a query.
+
+ghost use Rattle.std.specs.Prelude.{◌≡◌, string_bytes, IfOk};
+ghost use Rattle.std.specs.Str.{chars};
+ghost use Rattle.jp_query.specs.Tree.{query_of};
+ghost use Rattle.jp_canon.specs.Canon.{canon_of};
+
+use crate::segments::write_query;
+use crate::writer::Writer;
+use jp_check::Checked;
+use std::alloc::{AllocError, Global};
+
+/// The canonical text of a query: of all its spellings the one without blank space and without a
+/// choice (RFC 9535 sections 2.1 to 2.5). It takes time linear in its length.
+pub fn canon(alloc: Global, query: &Checked) -> Result<String, AllocError>
+    ensures { IfOk result (λ s. chars (string_bytes s) ≡ canon_of (query_of query.now)) }
+{
+    let mut out = Writer::new(alloc);
+    write_query(&mut out, query.query())?;
+    Ok(out.into_text())
+}

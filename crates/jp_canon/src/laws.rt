@@ -1,0 +1,19 @@
+//! Laws of canonical texts, each the contract of a function that does nothing.
+
+ghost use Rattle.jp_canon.specs.Laws.{CanonIsAccepted, CanonSpells, CanonTellsApart};
+
+use jp_query::laws::one_reading;
+
+/// The canonical text of a tree spells that tree, within any number of levels within which some
+/// text spells it; that of an accepted tree is accepted as that tree (RFC 9535 section 2.1.1).
+pub fn canon_spells()
+    ensures spells { CanonSpells }
+    ensures accepted { CanonIsAccepted }
+{}
+
+/// Accepted trees have one canonical text exactly if they are equal.
+pub fn canon_tells_apart()
+    ensures { CanonTellsApart }
+{
+    one_reading();
+}

@@ -1,0 +1,77 @@
+//! A text that is written piece by piece.
+
+ghost use Rattle.std.specs.Prelude.{◌≡◌, ◌++◌, [], if◌then◌else◌, true, string_bytes, OnOk};
+ghost use Rattle.std.specs.Char.{is_ascii};
+ghost use Rattle.std.specs.Fmt.{signed_decimal};
+ghost use Rattle.std.specs.List.{list_all};
+ghost use Rattle.std.specs.Str.{chars};
+ghost use Rattle.jp_document.specs.Path.{quoted};
+
+use itoa::Buffer;
+use jp_document::push_quote;
+use std::alloc::{AllocError, Global};
+use std::marker::Model;
+
+/// A text as far as it is written. Where memory is wanting, a part of the next piece may stand
+/// there.
+#[derive(Drop)]
+pub(crate) struct Writer {
+    text: String,
+}
+
+impl Model for Writer {
+    ghost use Rattle.std.specs.Prelude.{ℕ, List, string_bytes};
+    ghost use Rattle.std.specs.Str.{chars};
+
+    ghost Value = { List ℕ };
+
+    ghost view = { λ w. chars (string_bytes w.text) };
+}
+
+impl Writer {
+    /// Nothing yet.
+    pub(crate) fn new(alloc: Global) -> Writer
+        ensures { result ≡ [] }
+    {
+        Writer {
+            text: String::new(alloc),
+        }
+    }
+
+    /// The whole text.
+    pub(crate) fn into_text(self) -> String
+        ensures { chars (string_bytes result) ≡ self }
+    {
+        self.text
+    }
+
+    /// Writes a word or a mark.
+    pub(crate) fn word(&mut self, word: &str) -> Result<(), AllocError>
+        requires { list_all is_ascii word.now ≡ true }
+        ensures { OnOk result (self.new ≡ self.old ++ word.now) }
+    {
+        self.text.push_str(word)
+    }
+
+    /// Writes a word or a mark, if it has to be there.
+    pub(crate) fn word_if(&mut self, there: bool, word: &str) -> Result<(), AllocError>
+        requires { list_all is_ascii word.now ≡ true }
+        ensures { OnOk result (self.new ≡ self.old ++ (if there then word.now else [])) }
+    {
+        if there { self.word(word) } else { Ok(()) }
+    }
+
+    /// Writes a text between single quotes, spelled as a name in a normalized path.
+    pub(crate) fn quote(&mut self, text: &str) -> Result<(), AllocError>
+        ensures { OnOk result (self.new ≡ self.old ++ quoted (chars text.now)) }
+    {
+        push_quote(&mut self.text, text)
+    }
+
+    /// Writes a whole number in decimal.
+    pub(crate) fn whole(&mut self, number: i128) -> Result<(), AllocError>
+        ensures { OnOk result (self.new ≡ self.old ++ signed_decimal number) }
+    {
+        self.text.push_str(Buffer::new().format(number))
+    }
+}
