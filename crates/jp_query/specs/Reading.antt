@@ -7,7 +7,8 @@ use Rattle.jp_query.specs.Tree.{QueryTree, ExprTree}
 use Rattle.jp_query.specs.Characters.{opening_parenthesis}
 use Rattle.jp_query.specs.Rules.{nesting, QueryRule, closed, inside_mark, query}
 
--- how an expression inside n levels is read. With no level left, one more would be needed at the mark.
+-- how an expression inside n levels is read. With no level left, one more would be needed at the
+-- mark.
 abbrev pub inside : ℕ → Inner nesting
 inside zero mark p = deep p
 inside (suc n) mark p = read (inside n) (inside_mark mark) p
@@ -17,13 +18,15 @@ abbrev pub read_flat : {u : Bool} {a b : Mark} {A : Type 0} → QueryRule u a b 
 read_flat r p = read (nothing nesting) r p
 
 -- what a rule reads inside n levels
-abbrev pub read_inside : {u : Bool} {a b : Mark} {A : Type 0} → ℕ → QueryRule u a b A → State → Outcome A
+abbrev pub read_inside : {u : Bool} {a b : Mark} {A : Type 0} → ℕ → QueryRule u a b A → State
+    → Outcome A
 read_inside n r p = read (inside n) r p
 
 -- paren-expr (section 2.3.5.1), without its `!`
 abbrev pub parenthesis_at : ℕ → State → Outcome ExprTree
 parenthesis_at n p = inside n opening_parenthesis p >>= λ e q. read_inside n (closed e) q
 
--- a whole query: the text ends after its segments; at what stands there else reading is stuck, past the blanks
+-- a whole query: the text ends after its segments; at what else comes there reading is stuck, past
+-- the blanks
 unfoldable pub query_at : ℕ → State → Outcome QueryTree
 query_at n p = read (inside n) query p >>= λ q r. if is_end r then took q r else stuck (skip r)

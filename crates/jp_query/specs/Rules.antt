@@ -1,5 +1,5 @@
--- The rules by which queries are read (RFC 9535 appendix A), so that the next character, or the next that is no blank, tells
--- how a text goes on.
+-- The rules by which queries are read (RFC 9535 appendix A), so that the next character, or the
+-- next that is no blank, tells how a text goes on.
 use Rattle.std.specs.Char.{digit_value}
 use Rattle.std.specs.Prelude.{◌+◌, ◌*◌, ℕ, ◌||◌, Bool, true, false, List, [], ◌∷◌, Option, Some, None, pos, codes}
 use Rattle.jp_reading.specs.Texts.{Text}
@@ -68,7 +68,9 @@ surrogates_after a = do
 
 -- hexchar: no D and three digits, a D and a digit up to 7, or a surrogate pair
 unfoldable pub hexchar : QueryRule true here here ℕ
-hexchar = look here is_not_d (unit is_not_d is_hexdig) (hex_digit is_d >>= λ a. look here is_0_to_7 (unit_after a is_0_to_7) (surrogates_after a))
+hexchar =
+    look here is_not_d (unit is_not_d is_hexdig)
+    (hex_digit is_d >>= λ a. look here is_0_to_7 (unit_after a is_0_to_7) (surrogates_after a))
 
 -- what comes after a backslash
 unfoldable pub escape : ℕ → QueryRule true here here ℕ
@@ -118,15 +120,21 @@ begins_int c = is digit_zero c || is minus c || is_leading_digit c
 
 -- a bound, if one comes
 unfoldable pub bound : QueryRule false beyond beyond (Option Numeral)
-bound = look beyond begins_int (blanks {m = beyond} >> relaxed (made Some (item int))) (value {m = beyond} None)
+bound =
+    look beyond begins_int (blanks {m = beyond} >> relaxed (made Some (item int)))
+    (value {m = beyond} None)
 
 -- a step after its colon, if one comes
 unfoldable pub later_step : QueryRule false beyond beyond Numeral
-later_step = look beyond begins_int (blanks {m = beyond} >> relaxed (item int)) (omitted {m = beyond} (Whole (pos 1)))
+later_step =
+    look beyond begins_int (blanks {m = beyond} >> relaxed (item int))
+    (omitted {m = beyond} (Whole (pos 1)))
 
 -- a colon and a step, if there is one
 unfoldable pub step : QueryRule false beyond beyond Numeral
-step = look beyond (is colon) (blanks {m = beyond} >> (the colon >> later_step)) (omitted {m = beyond} (Whole (pos 1)))
+step =
+    look beyond (is colon) (blanks {m = beyond} >> (the colon >> later_step))
+    (omitted {m = beyond} (Whole (pos 1)))
 
 -- the slice of these parts
 abbrev pub slice_of : Option Numeral → Option Numeral → Numeral → Slice
@@ -169,7 +177,9 @@ exponent = look here is_e (character is_e >>= λ e. power) (value {m = here} fal
 
 -- a whole number, or -0
 unfoldable pub mantissa : QueryRule true here here Numeral
-mantissa = upon minus (upon digit_zero (value {m = here} (whole_of 0)) (made negative_of size)) unsigned
+mantissa =
+    upon minus (upon digit_zero (value {m = here} (whole_of 0)) (made negative_of size))
+    unsigned
 
 -- number, with its fraction and its exponent
 unfoldable pub number : QueryRule true here here Numeral
@@ -213,7 +223,8 @@ begins_operator c = is equals_sign c || is exclamation_mark c || is less_sign c 
 unfoldable pub number_selector : QueryRule true here beyond SelectorTree
 number_selector = do
   i ← relaxed (item int)
-  look beyond (is colon) (blanks {m = beyond} >> made slice (slice_from (Some i))) (value {m = beyond} (index i))
+  look beyond (is colon) (blanks {m = beyond} >> made slice (slice_from (Some i)))
+      (value {m = beyond} (index i))
 
 -- selector
 unfoldable pub selector : QueryRule true here beyond SelectorTree
@@ -233,7 +244,9 @@ entry = do
 
 -- selectors with commas between them
 unfoldable pub entries : QueryRule true here here (List SelectorTree)
-entries = entry >>= λ x. made (λ xs. x ∷ xs) (some here (is comma) (the comma >> (blanks {m = here} >> entry)))
+entries =
+    entry >>= λ x. made (λ xs. x ∷ xs)
+    (some here (is comma) (the comma >> (blanks {m = here} >> entry)))
 
 -- ---- segments (section 2.5)
 
@@ -252,15 +265,19 @@ segment_of_one descendant x = segment_tree descendant (selector_trees (x ∷ [])
 
 -- wildcard-selector or member-name-shorthand
 unfoldable pub member : Bool → QueryRule true here here SegmentTree
-member descendant = made (segment_of_one descendant) (upon star (value {m = here} wildcard) (made name shorthand))
+member descendant =
+    made (segment_of_one descendant) (upon star (value {m = here} wildcard) (made name shorthand))
 
 -- what comes after two dots
 unfoldable pub selection : Bool → QueryRule true here here SegmentTree
-selection descendant = look here (is opening_bracket) (bracket descendant) (flat (member descendant))
+selection descendant =
+    look here (is opening_bracket) (bracket descendant) (flat (member descendant))
 
 -- segment
 unfoldable pub segment : QueryRule true here here SegmentTree
-segment = look here (is opening_bracket) (bracket false) (the dot >> upon dot (selection true) (flat (member false)))
+segment =
+    look here (is opening_bracket) (bracket false)
+    (the dot >> upon dot (selection true) (flat (member false)))
 
 -- whether a character begins one
 abbrev pub begins_segment : ℕ → Bool
@@ -282,7 +299,9 @@ identifier = upon dollar (value {m = here} true) (the at_sign >> value {m = here
 
 -- filter-query, which is an item
 unfoldable pub inner_query : QueryRule true here beyond QueryTree
-inner_query = item (relaxed (flat identifier) >>= λ absolute. made (λ xs. query_tree absolute (segment_trees xs)) segments)
+inner_query =
+    item (relaxed (flat identifier)
+    >>= λ absolute. made (λ xs. query_tree absolute (segment_trees xs)) segments)
 
 -- whether a character begins one
 abbrev pub begins_query : ℕ → Bool
@@ -290,7 +309,9 @@ begins_query c = is dollar c || is at_sign c
 
 -- comparable: a query, or a literal, which is an item
 unfoldable pub side : QueryRule true here beyond OperandTree
-side = look here begins_query (made node_value inner_query) (relaxed (flat (made literal_operand (item literal))))
+side =
+    look here begins_query (made node_value inner_query)
+    (relaxed (flat (made literal_operand (item literal))))
 
 -- the operator and the second side of a comparison
 unfoldable pub comparison_with : OperandTree → QueryRule true here beyond ExprTree
@@ -303,7 +324,8 @@ comparison_with left = do
 unfoldable pub test : QueryRule true here beyond ExprTree
 test = do
   q ← inner_query
-  look beyond begins_operator (blanks {m = beyond} >> comparison_with (node_value q)) (value {m = beyond} (exists q))
+  look beyond begins_operator (blanks {m = beyond} >> comparison_with (node_value q))
+      (value {m = beyond} (exists q))
 
 -- the end of paren-expr, after its expression
 unfoldable pub closed : ExprTree → QueryRule true beyond beyond ExprTree
@@ -335,7 +357,8 @@ abbrev pub part : {A : Type 0} → ℕ → QueryRule true here beyond A → Quer
 part c rule = blanks {m = beyond} >> (the c >> (the c >> (blanks {m = here} >> rule)))
 
 -- parts with the mark c twice between them
-abbrev pub parts : {A : Type 0} → ℕ → QueryRule true here beyond A → QueryRule true here beyond (List A)
+abbrev pub parts : {A : Type 0} → ℕ → QueryRule true here beyond A
+    → QueryRule true here beyond (List A)
 parts c rule = rule >>= λ x. made (λ xs. x ∷ xs) (some beyond (is c) (part c rule))
 
 -- logical-and-expr

@@ -146,7 +146,11 @@ fn test(reader: &mut Reader, levels: u32) -> Result<Expr, Stop>
 #[cycle(nested)]
 #[tactic(auto, unfolding(crate::specs::Rules::comparison_with))]
 fn comparison(reader: &mut Reader, levels: u32, left: Operand) -> Result<Expr, Stop>
-    ensures { Gives expr_of result reader.new (read_inside levels (rules.comparison_with (operand_of left)) reader.old) }
+    ensures { Gives
+        expr_of
+        result
+        reader.new
+        (read_inside levels (rules.comparison_with (operand_of left)) reader.old) }
 {
     let op = operator(reader)?;
     reader.skip();

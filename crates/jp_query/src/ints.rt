@@ -57,7 +57,11 @@ pub fn unsigned(reader: &mut Reader) -> Result<Numeral, Stop>
 /// The number that digits without a leading zero write, or 2^64 where it is larger.
 #[tactic(auto, unfolding(crate::specs::Rules::size))]
 pub fn size(reader: &mut Reader) -> Result<u128, Stop>
-    ensures { Gives (λ n. n) result reader.new (by (λ n. min n (2 ^ 64)) (read_flat rules.size reader.old)) }
+    ensures { Gives
+        (λ n. n)
+        result
+        reader.new
+        (by (λ n. min n (2 ^ 64)) (read_flat rules.size reader.old)) }
 {
     match reader.peek() {
         Some(first) if is_leading_digit(first) => natural(reader, 1 << 64),

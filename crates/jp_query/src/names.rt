@@ -13,7 +13,11 @@ use jp_reading::{Reader, Stop};
 /// A member's name after a dot.
 #[tactic(auto, unfolding(crate::specs::Rules::shorthand))]
 pub fn shorthand(reader: &mut Reader) -> Result<String, Stop>
-    ensures { Gives (λ s. chars (string_bytes s)) result reader.new (read_flat rules.shorthand reader.old) }
+    ensures { Gives
+        (λ s. chars (string_bytes s))
+        result
+        reader.new
+        (read_flat rules.shorthand reader.old) }
 {
     match reader.peek() {
         Some(first) if is_name_first(first) => run(reader),
@@ -23,7 +27,11 @@ pub fn shorthand(reader: &mut Reader) -> Result<String, Stop>
 
 /// Takes the characters that stand next, as long as they may stand in a shorthand.
 fn run(reader: &mut Reader) -> Result<String, Stop>
-    ensures { Gives (λ s. chars (string_bytes s)) result reader.new (read_flat (rules.run is_name_char) reader.old) }
+    ensures { Gives
+        (λ s. chars (string_bytes s))
+        result
+        reader.new
+        (read_flat (rules.run is_name_char) reader.old) }
 {
     let mut text = String::new(reader.alloc());
     'characters: while let Some(next) = reader.peek() {

@@ -35,7 +35,11 @@ pub fn query(reader: &mut Reader, levels: u32) -> Result<Query, Stop>
 /// Segment after segment, with blank space before each; the reader stays before blank space that none follows.
 #[cycle(nested)]
 pub fn segments(reader: &mut Reader, levels: u32) -> Result<Vec<Segment>, Stop>
-    ensures { Gives (λ v. map segment_of v.items) result reader.new (read_inside levels rules.segments reader.old) }
+    ensures { Gives
+        (λ v. map segment_of v.items)
+        result
+        reader.new
+        (read_inside levels rules.segments reader.old) }
 {
     let mut segments = Vec::new(reader.alloc());
     'segments: while is_before_segment(reader) {
@@ -77,7 +81,11 @@ fn segment(reader: &mut Reader, levels: u32) -> Result<Segment, Stop>
 #[cycle(nested)]
 #[tactic(auto, unfolding(crate::specs::Rules::bracket))]
 fn bracketed(reader: &mut Reader, levels: u32, descendant: bool) -> Result<Segment, Stop>
-    ensures { Gives segment_of result reader.new (read_inside levels (rules.bracket descendant) reader.old) }
+    ensures { Gives
+        segment_of
+        result
+        reader.new
+        (read_inside levels (rules.bracket descendant) reader.old) }
 {
     reader.expect('[')?;
     reader.skip();

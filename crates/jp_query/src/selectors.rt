@@ -19,7 +19,11 @@ use jp_reading::{Reader, Stop};
 #[cycle(nested)]
 #[tactic(auto, unfolding(crate::specs::Rules::entries, crate::specs::Rules::entry))]
 pub fn entries(reader: &mut Reader, levels: u32) -> Result<Vec<Selector>, Stop>
-    ensures { Gives (λ v. map selector_of v.items) result reader.new (read_inside levels rules.entries reader.old) }
+    ensures { Gives
+        (λ v. map selector_of v.items)
+        result
+        reader.new
+        (read_inside levels rules.entries reader.old) }
 {
     let mut selectors = Vec::new(reader.alloc());
     let first = selector(reader, levels)?;

@@ -17,7 +17,11 @@ use jp_reading::{Reader, Stop};
 /// A string between two of the quotation mark.
 #[tactic(auto, unfolding(crate::specs::Rules::quoted))]
 pub fn quoted(reader: &mut Reader, quote: char) -> Result<String, Stop>
-    ensures { Gives (λ s. chars (string_bytes s)) result reader.new (read_flat (rules.quoted quote) reader.old) }
+    ensures { Gives
+        (λ s. chars (string_bytes s))
+        result
+        reader.new
+        (read_flat (rules.quoted quote) reader.old) }
 {
     reader.expect(quote)?;
     let text = characters(reader, quote)?;
@@ -27,7 +31,11 @@ pub fn quoted(reader: &mut Reader, quote: char) -> Result<String, Stop>
 
 /// Character after character, as long as one begins.
 fn characters(reader: &mut Reader, quote: char) -> Result<String, Stop>
-    ensures { Gives (λ s. chars (string_bytes s)) result reader.new (read_flat (rules.characters quote) reader.old) }
+    ensures { Gives
+        (λ s. chars (string_bytes s))
+        result
+        reader.new
+        (read_flat (rules.characters quote) reader.old) }
 {
     let mut text = String::new(reader.alloc());
     'characters: while is_at_character(reader, quote) {
@@ -50,7 +58,11 @@ fn is_at_character(reader: &Reader, quote: char) -> bool
 /// A character that stands for itself, or what an escape stands for.
 #[tactic(auto, unfolding(crate::specs::Rules::string_character))]
 fn character(reader: &mut Reader, quote: char) -> Result<char, Stop>
-    ensures { Gives (λ c. c) result reader.new (read_flat (rules.string_character quote) reader.old) }
+    ensures { Gives
+        (λ c. c)
+        result
+        reader.new
+        (read_flat (rules.string_character quote) reader.old) }
 {
     match reader.peek() {
         Some('\\') => {
@@ -98,12 +110,16 @@ fn hexchar(reader: &mut Reader) -> Result<char, Stop>
     surrogates_after(reader, first)
 }
 
-/// A surrogate pair after its first digit: the other digits of its first half, a backslash, `u`, and the digits of its
-/// second half.
+/// A surrogate pair after its first digit: the other digits of its first half, a backslash, `u`,
+/// and the digits of its second half.
 #[tactic(auto, unfolding(crate::specs::Rules::surrogates_after))]
 fn surrogates_after(reader: &mut Reader, first: u32) -> Result<char, Stop>
     requires { first ≡ 13 }
-    ensures { Gives (λ c. c) result reader.new (read_flat (rules.surrogates_after first) reader.old) }
+    ensures { Gives
+        (λ c. c)
+        result
+        reader.new
+        (read_flat (rules.surrogates_after first) reader.old) }
 {
     let high = unit_after(reader, first, HexDigit::EightToB)?;
     reader.expect('\\')?;
@@ -115,18 +131,27 @@ fn surrogates_after(reader: &mut Reader, first: u32) -> Result<char, Stop>
 /// Four hexadecimal digits, of which the first two are of these kinds.
 #[tactic(auto, unfolding(crate::specs::Rules::unit))]
 fn unit(reader: &mut Reader, first: HexDigit, second: HexDigit) -> Result<u32, Stop>
-    ensures taken { Gives (λ v. v) result reader.new (read_flat (rules.unit (is_one_of first) (is_one_of second)) reader.old) }
+    ensures taken { Gives
+        (λ v. v)
+        result
+        reader.new
+        (read_flat (rules.unit (is_one_of first) (is_one_of second)) reader.old) }
     ensures range { IfOk result (λ v. IsUnitOf first second v) }
 {
     let a = digit(reader, first)?;
     unit_after(reader, a, second)
 }
 
-/// The last three of four hexadecimal digits, of which the second is of this kind, after a first with this value.
+/// The last three of four hexadecimal digits, of which the second is of this kind, after a first
+/// with this value.
 #[tactic(auto, unfolding(crate::specs::Rules::unit_after))]
 fn unit_after(reader: &mut Reader, a: u32, second: HexDigit) -> Result<u32, Stop>
     requires { a < 16 }
-    ensures taken { Gives (λ v. v) result reader.new (read_flat (rules.unit_after a (is_one_of second)) reader.old) }
+    ensures taken { Gives
+        (λ v. v)
+        result
+        reader.new
+        (read_flat (rules.unit_after a (is_one_of second)) reader.old) }
     ensures range { IfOk result (λ v. IsUnitAfter a second v) }
 {
     let b = digit(reader, second)?;
@@ -137,7 +162,11 @@ fn unit_after(reader: &mut Reader, a: u32, second: HexDigit) -> Result<u32, Stop
 
 /// The value of a hexadecimal digit of that kind.
 fn digit(reader: &mut Reader, kind: HexDigit) -> Result<u32, Stop>
-    ensures taken { Gives (λ v. v) result reader.new (read_flat (rules.hex_digit (is_one_of kind)) reader.old) }
+    ensures taken { Gives
+        (λ v. v)
+        result
+        reader.new
+        (read_flat (rules.hex_digit (is_one_of kind)) reader.old) }
     ensures range { IfOk result (λ v. holds_value kind v ≡ true) }
     ensures below { IfOk result (λ v. v < 16) }
 {
