@@ -144,7 +144,7 @@ fn refuse_words<E: Output>(alloc: Global, error: &Error, faults: &mut E) -> u8
     ensures memory { kind_of error.now ≡ ErrorKind.OutOfMemory → result ≡ 4 }
     ensures memory_line { kind_of error.now ≡ ErrorKind.OutOfMemory
         → AppendsPrefix (E.contents faults.old) (E.contents faults.new)
-            (fault_line Fault.NoMemory) }
+        (fault_line Fault.NoMemory) }
     ensures usage { kind_of error.now ≢ ErrorKind.OutOfMemory → result ≡ 2 }
     ensures usage_text { kind_of error.now ≢ ErrorKind.OutOfMemory
         → AppendsSome (E.contents faults.old) (E.contents faults.new) }

@@ -149,9 +149,6 @@ abbrev after_basic : Follow
 after_basic = either_of (blanked (beginning (is ampersand))) after_conjunction
 
 -- what follows the first side of a comparison, or a test
-abbrev after_side : Follow
-after_side = either_of (blanked (beginning begins_operator)) after_basic
-
 identifier-apart : (K : Follow) → Apart {N = nesting} shut rule.identifier identifier-alive K
 unfolding rule.identifier
 identifier-apart K = (λ c h. grind (arith, nat_tests), tt, (tt, tt))

@@ -2,7 +2,6 @@ pub mod Alive
 pub mod Apart
 pub mod ApartFlat
 pub mod CappedIntegers
-pub mod FilterRows
 pub mod Forms
 pub mod HasItems
 pub mod HexKinds

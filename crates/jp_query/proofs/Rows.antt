@@ -1,20 +1,23 @@
--- Worked rows: what the definitions say of small texts.
-use Rattle.std.proofs.Common.{◌≡◌, true, false, [], ◌∷◌, Some, refl, None}
-use Rattle.std.specs.Prelude.{pos, negsuc}
-use Rattle.jp_query.specs.declared.tree.Numeral.TheVariants.{Whole, Beyond}
+-- Worked rows: what the definitions say of small texts and filters.
+use Rattle.std.proofs.Common.{◌≡◌, true, false, [], ◌∷◌, Some, refl, None, ℕ, Option}
+use Rattle.std.specs.Prelude.{pos, negsuc, codes}
+use Rattle.jp_query.specs.declared.tree.Numeral.TheVariants.{Whole, Beyond, Fraction}
 use Rattle.jp_reading.specs.Texts.{is_blank}
-use Rattle.jp_reading.specs.Outcome.{past_blanks, loop, stuck}
+use Rattle.jp_reading.specs.Outcome.{past_blanks, loop, stuck, deep}
 use Rattle.jp_reading.specs.Numbers.{is_digit}
 use Rattle.jp_reading.proofs.Again.{start, finish}
-use Rattle.jp_query.specs.Tree.{QueryTree, query, segments, segment, selectors, name, index, wildcard, slice}
+use Rattle.jp_query.specs.Tree.{QueryTree, query, segments, segment, selectors, name, index, wildcard, slice, ExprTree, filter, exprs, any_of, all_of, negation, comparison, exists, literal, node_value, number}
 use Rattle.jp_query.specs.Names.{is_name_first, is_name_char}
 use Rattle.jp_query.specs.Strings.{is_plain, scalar_of, escaped, is_escapable}
 use Rattle.jp_query.specs.Ints.{whole_of, negative_of}
-use Rattle.jp_query.specs.Items.{items_of, int, as_index}
+use Rattle.jp_query.specs.Items.{items_of, int, as_index, inner, constant, as_side}
 use Rattle.jp_query.specs.Grammar.{Spells}
 use Rattle.jp_query.specs.Rules as rule
 use Rattle.jp_query.specs.Reading.{query_at}
 use Rattle.jp_query.proofs.Whole.{read-spells}
+use Rattle.jp_query.specs.declared.tree.Op.TheVariants.{Equal, LessEqual}
+use Rattle.jp_reading.specs.declared.span.Span.{Span}
+use Rattle.jp_query.specs.Singular.{is_singular}
 
 -- a letter, a letter above ASCII and `_` begin a shorthand; a digit only goes on with one
 shorthand-rows : (is_name_first 97 ≡ true) × (is_name_first 233 ≡ true) × (is_name_first 95 ≡ true) × (is_name_first 48 ≡ false) × (is_name_char 48 ≡ true)
@@ -76,3 +79,68 @@ descend-spells =
 -- the pair D83D, DE00 is U+1F600; `\b` is U+0008, and `\/` a slash
 escape-rows : (scalar_of 55357 56832 ≡ 128512) × (escaped 98 ≡ 8) × (escaped 47 ≡ 47) × (is_escapable 34 39 ≡ false) × (is_escapable 39 39 ≡ true)
 escape-rows = (refl, refl, refl, refl, refl)
+
+-- ---- filters
+
+-- the query of one filter
+abbrev filtered_by : ExprTree → QueryTree
+filtered_by e = query true (segments (segment false (selectors (filter e ∷ [])) ∷ []))
+
+-- the current node
+abbrev here : QueryTree
+here = query false (segments [])
+
+-- `@.a`
+abbrev member_a : QueryTree
+member_a = query false (segments (segment false (selectors (name (97 ∷ []) ∷ [])) ∷ []))
+
+-- a span
+abbrev at_bytes : ℕ → ℕ → Option Span
+at_bytes from to = Some (record { start = from; end = to })
+
+-- `$[?@]`, `$[?!(@)]`; `!` belongs to one part alone, and `&&` binds more tightly than `||`; `-0` is 0, and 1.0 a fraction
+abbrev test : QueryTree
+test = filtered_by (exists here)
+
+abbrev negated : QueryTree
+negated = filtered_by (negation (exists here))
+
+abbrev several : QueryTree
+several = filtered_by (any_of (exprs (negation (exists here) ∷ all_of (exprs (exists here ∷ exists member_a ∷ [])) ∷ [])))
+
+abbrev compared : QueryTree
+compared = filtered_by (all_of (exprs (comparison (literal (number (Whole (pos 0)))) LessEqual (node_value member_a)
+    ∷ comparison (node_value here) Equal (literal (number Fraction)) ∷ [])))
+
+-- a filter takes a level, and a parenthesis another one; each side and each test is an item
+spelled-rows : Spells 1 test (at_bytes 3 4 ∷ []) (codes "$[?@]")
+    × Spells 2 negated (at_bytes 5 6 ∷ []) (codes "$[?!(@)]")
+    × Spells 1 several (at_bytes 5 6 ∷ at_bytes 8 9 ∷ at_bytes 12 15 ∷ []) (codes "$[? !@||@ &&@.a ]")
+    × Spells 1 compared (at_bytes 3 5 ∷ at_bytes 7 10 ∷ at_bytes 12 13 ∷ at_bytes 15 18 ∷ []) (codes "$[?-0<=@.a&&@==1.0]")
+unfolding query_at rule.query rule.segments rule.segment rule.bracket rule.entries rule.entry rule.selector rule.member rule.selection rule.shorthand rule.inner_query rule.identifier rule.side rule.comparison_with rule.test rule.closed rule.negated rule.basic rule.literal_compared rule.inside_mark rule.conjunction rule.expression rule.operator rule.literal rule.number rule.mantissa rule.decimals rule.exponent rule.power rule.digits rule.int rule.unsigned rule.size past_blanks loop is_blank is_digit
+spelled-rows = (
+  read-spells 1 (codes "$[?@]") test (finish (codes "$[?@]") (at_bytes 3 4 ∷ [])) refl,
+  read-spells 2 (codes "$[?!(@)]") negated (finish (codes "$[?!(@)]") (at_bytes 5 6 ∷ [])) refl,
+  read-spells 1 (codes "$[? !@||@ &&@.a ]") several (finish (codes "$[? !@||@ &&@.a ]") (at_bytes 5 6 ∷ at_bytes 8 9 ∷ at_bytes 12 15 ∷ [])) refl,
+  read-spells 1 (codes "$[?-0<=@.a&&@==1.0]") compared
+      (finish (codes "$[?-0<=@.a&&@==1.0]") (at_bytes 3 5 ∷ at_bytes 7 10 ∷ at_bytes 12 13 ∷ at_bytes 15 18 ∷ [])) refl,
+)
+
+-- with no level left, `?` and `(` are too deep; a literal is no test, parentheses are no side, a comparison has two
+-- sides, and no operator is `=`
+refused-rows : (query_at 0 (start (codes "$[?@]")) ≡ deep (record { at = 2; rest = codes "?@]"; found = [] }))
+    × (query_at 1 (start (codes "$[?!(@)]")) ≡ deep (record { at = 4; rest = codes "(@)]"; found = [] }))
+    × (query_at 1 (start (codes "$[?1]")) ≡ stuck (record { at = 4; rest = codes "]"; found = at_bytes 3 4 ∷ [] }))
+    × (query_at 2 (start (codes "$[?(@)==1]")) ≡ stuck (record { at = 6; rest = codes "==1]"; found = at_bytes 4 5 ∷ [] }))
+    × (query_at 1 (start (codes "$[?@==1==2]")) ≡ stuck (record { at = 7; rest = codes "==2]"; found = at_bytes 3 4 ∷ at_bytes 6 7 ∷ [] }))
+    × (query_at 1 (start (codes "$[?@=1]")) ≡ stuck (record { at = 5; rest = codes "1]"; found = at_bytes 3 4 ∷ [] }))
+unfolding query_at rule.query rule.segments rule.segment rule.bracket rule.entries rule.entry rule.selector rule.member rule.selection rule.shorthand rule.inner_query rule.identifier rule.side rule.comparison_with rule.test rule.closed rule.negated rule.basic rule.literal_compared rule.inside_mark rule.conjunction rule.expression rule.operator rule.literal rule.number rule.mantissa rule.decimals rule.exponent rule.power rule.digits rule.int rule.unsigned rule.size past_blanks loop is_blank is_digit
+refused-rows = (refl, refl, refl, refl, refl, refl)
+
+compared-items : items_of compared
+    ≡ constant (number (Whole (pos 0))) as_side ∷ inner member_a as_side ∷ inner here as_side ∷ constant (number Fraction) as_side ∷ []
+compared-items = refl
+
+-- `@.a` is singular, and `$[?@]` is not
+singular-rows : (is_singular member_a ≡ true) × (is_singular test ≡ false)
+singular-rows = (refl, refl)

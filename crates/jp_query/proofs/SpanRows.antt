@@ -1,5 +1,5 @@
--- The definitions of spans at work on `$[0:9]`.
-use Rattle.std.proofs.Common.{◌≡◌, ◌+◌, ℕ, pos, true, [], ◌∷◌, ◌++◌, Some, None, arith, refl, sym, ap, ◌∙◌, subst}
+-- What the definitions of spans refuse: the bounds of `$[0:9]` the other way around, and a bound without a span.
+use Rattle.std.proofs.Common.{◌≡◌, ◌+◌, ℕ, pos, true, [], ◌∷◌, ◌++◌, Some, None, arith, sym, ap, ◌∙◌, subst}
 use Rattle.std.proofs.lemmas.Bool.{false≢true}
 use Rattle.std.proofs.lemmas.Str.{len_utf8_bounds}
 use Rattle.std.specs.Prelude.{codes}
@@ -7,7 +7,7 @@ use Rattle.jp_query.specs.declared.tree.Numeral.TheVariants.{Whole}
 use Rattle.jp_reading.specs.Texts.{Text, Spans, bytes}
 use Rattle.jp_query.specs.Ints.{Int, is_leading_digit, zero_int, positive_int, negative_int}
 use Rattle.jp_query.specs.Items.{QueryItem, as_bound, as_step, int}
-use Rattle.jp_query.specs.ItemSpans.{IsSpanOf, AreSpansOf}
+use Rattle.jp_query.specs.ItemSpans.{AreSpansOf}
 
 -- of 0, 9, and the omitted step
 spans : Spans
@@ -21,53 +21,6 @@ nine_item = int (Whole (pos 9)) as_bound
 
 step_item : QueryItem
 step_item = int (Whole (pos 1)) as_step
-
-zero-spelled : Int (Whole (pos 0)) [] 2 (codes "0")
-zero-spelled = zero_int refl (record { none = refl; is = refl })
-
-nine-spelled : Int (Whole (pos 9)) [] 4 (codes "9")
-nine-spelled =
-    positive_int 57 [] refl (record {
-      first_spans = [];
-      second_spans = [];
-      first = codes "9";
-      second = [];
-      spans = refl;
-      is = refl;
-      one = record { none = refl; is = refl; passes = refl };
-      two = record { none = refl; is = refl };
-    })
-
-zero-span : IsSpanOf (codes "$[0:9]") zero_item (record { start = 2; end = 3 })
-unfolding zero_item
-zero-span = record {
-  before = codes "$[";
-  own = codes "0";
-  after = codes ":9]";
-  parts = refl;
-  start = refl;
-  end = refl;
-  spells = zero-spelled;
-}
-
-nine-span : IsSpanOf (codes "$[0:9]") nine_item (record { start = 4; end = 5 })
-unfolding nine_item
-nine-span = record {
-  before = codes "$[0:";
-  own = codes "9";
-  after = codes "]";
-  parts = refl;
-  start = refl;
-  end = refl;
-  spells = nine-spelled;
-}
-
-row-in_order : AreSpansOf (codes "$[0:9]") (zero_item ∷ nine_item ∷ step_item ∷ []) spans
-unfolding spans step_item
-row-in_order = record {
-  each = (zero-span, (nine-span, (refl, tt)));
-  rise = ((omega arith, tt), (tt, tt));
-}
 
 -- no text that begins with 0 spells 9
 not-nine : (o : ℕ) (t : Text) → Int (Whole (pos 9)) [] o (48 ∷ t) → ⊥
