@@ -165,13 +165,13 @@ after_basic-number : EndsNumber after_basic
 unfolding is_blank is_digit
 after_basic-number = record { digit = λ c h. grind (arith, nat_tests); dot = λ c h. grind (arith, nat_tests); e = λ c h. grind (arith, nat_tests) }
 
-side-apart : Apart {N = nesting} closes rule.side side-alive after_basic
+side-apart : (K : Follow) → EndsSegments K → EndsNumber K → Apart {N = nesting} closes rule.side side-alive K
 unfolding rule.side rule.inner_query rule.identifier rule.literal rule.quoted rule.number rule.mantissa rule.unsigned rule.size
-side-apart = (
+side-apart K segments number = (
   record { end = refl; next = λ c h. grind (arith, nat_tests) },
   λ c h. grind (arith, nat_tests),
-  inner_query-apart after_basic after_basic-segments,
-  literal-apart shut after_basic after_basic-number,
+  inner_query-apart K segments,
+  literal-apart shut K number,
 )
 
 comparison-apart : (first : OperandTree) → Apart {N = nesting} closes (rule.comparison_with first) (comparison-alive first) after_basic
@@ -179,7 +179,7 @@ unfolding rule.comparison_with rule.side rule.inner_query rule.identifier rule.l
 comparison-apart first = (
   operator-apart shut _ (λ c h. grind (arith, nat_tests)),
   λ op. under-same,
-  λ op. (λ c h. grind (arith, nat_tests), side-apart),
+  λ op. (λ c h. grind (arith, nat_tests), side-apart after_basic after_basic-segments after_basic-number),
 )
 
 test-apart : Apart {N = nesting} closes rule.test test-alive after_basic

@@ -1,4 +1,5 @@
--- Rules of a grammar as data (RFC 5234 section 3): out of what a rule is put together, and how far each part looks.
+-- Rules of a grammar as data (RFC 5234 section 3): out of what a rule is put together, and how far
+-- each part looks.
 use Rattle.std.specs.Prelude.{ℕ, Bool, true, false, ◌||◌, ◌&&◌, List}
 
 -- how far a text was looked at: its next character, or its next that is no blank
@@ -6,37 +7,43 @@ pub data Mark : Type 0 where
   here : Mark
   beyond : Mark
 
--- what rules may nest: the openings of a level, the characters that each begins with, and the values one level further in
+-- what rules may nest: the openings of a level, the characters that each begins with, and the
+-- values one level further in
 pub record Nesting : Type 1 where
   pub Opening : Type 0
   pub opens : Opening → ℕ → Bool
   pub Inner : Opening → Type 0
 
--- what a text has before a rule: a character, or any number of blanks. The flag: whether it takes a character.
+-- what a text has before a rule: a character, or any number of blanks. The flag: whether it takes
+-- a character.
 pub data Step : Mark → Bool → Type 0 where
   the : ℕ → Step here true
   blanks : {m : Mark} → Step m false
 
--- a rule for values of a type: whether it takes a character at least, and up to where the text is looked at as it begins
--- and as it ends
+-- a rule for values of a type: whether it takes a character at least, and up to where the text is
+-- looked at as it begins and as it ends
 pub data Rule (N : Nesting) : Bool → Mark → Mark → Type 0 → Type 1 where
   -- no text, for that value
   value : {m : Mark} {A : Type 0} → A → Rule N false m m A
   -- a character that passes the test
   character : (ℕ → Bool) → Rule N true here here ℕ
   -- a step, and then the rule
-  after : {t u : Bool} {m n b : Mark} {A : Type 0} → Step m t → Rule N u n b A → Rule N (t || u) m b A
+  after : {t u : Bool} {m n b : Mark} {A : Type 0} → Step m t → Rule N u n b A
+      → Rule N (t || u) m b A
   -- one rule, and then one that goes on from its value
-  seq : {u v : Bool} {a b c : Mark} {A B : Type 0} → Rule N u a b A → (A → Rule N v b c B) → Rule N (u || v) a c B
+  seq : {u v : Bool} {a b c : Mark} {A B : Type 0} → Rule N u a b A → (A → Rule N v b c B)
+      → Rule N (u || v) a c B
   -- the values made by a function
   made : {u : Bool} {a b : Mark} {A B : Type 0} → (A → B) → Rule N u a b A → Rule N u a b B
   -- the first rule where the character at the mark passes, else the second
-  look : {u v : Bool} {b : Mark} {A : Type 0} (m : Mark) → (ℕ → Bool) → Rule N u m b A → Rule N v m b A → Rule N (u && v) m b A
+  look : {u v : Bool} {b : Mark} {A : Type 0} (m : Mark) → (ℕ → Bool) → Rule N u m b A
+      → Rule N v m b A → Rule N (u && v) m b A
   -- the first rule after the character c, or else the second
-  upon : {u v : Bool} {n b : Mark} {A : Type 0} → ℕ → Rule N u n b A → Rule N v here b A → Rule N v here b A
-  -- what stands one level further in after the opening, and then the first rule, or else the second
-  nested : {u v : Bool} {b : Mark} {A : Type 0} (o : N.Opening) → (N.Inner o → Rule N u beyond b A) → Rule N v here b A
+  upon : {u v : Bool} {n b : Mark} {A : Type 0} → ℕ → Rule N u n b A → Rule N v here b A
       → Rule N v here b A
+  -- what stands one level further in after the opening, and then the first rule, or else the second
+  nested : {u v : Bool} {b : Mark} {A : Type 0} (o : N.Opening) → (N.Inner o → Rule N u beyond b A)
+      → Rule N v here b A → Rule N v here b A
   -- an item, which has a span
   item : {u : Bool} {a b : Mark} {A : Type 0} → Rule N u a b A → Rule N u a b A
   -- an item that the text omits
@@ -49,10 +56,11 @@ pub data Rule (N : Nesting) : Bool → Mark → Mark → Type 0 → Type 1 where
   flat : {u : Bool} {a b : Mark} {A : Type 0} → Rule N u a b A → Rule N u a b A
 
 infixl 10 ◌>>=◌
-abbrev pub ◌>>=◌ : {N : Nesting} {u v : Bool} {a b c : Mark} {A B : Type 0} → Rule N u a b A → (A → Rule N v b c B)
-    → Rule N (u || v) a c B
+abbrev pub ◌>>=◌ : {N : Nesting} {u v : Bool} {a b c : Mark} {A B : Type 0} → Rule N u a b A
+    → (A → Rule N v b c B) → Rule N (u || v) a c B
 r >>= k = seq r k
 
 infixl 10 ◌>>◌
-abbrev pub ◌>>◌ : {N : Nesting} {t u : Bool} {m n b : Mark} {A : Type 0} → Step m t → Rule N u n b A → Rule N (t || u) m b A
+abbrev pub ◌>>◌ : {N : Nesting} {t u : Bool} {m n b : Mark} {A : Type 0} → Step m t → Rule N u n b A
+    → Rule N (t || u) m b A
 s >> r = after s r

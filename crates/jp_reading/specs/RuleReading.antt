@@ -18,12 +18,14 @@ next here p = head p
 next beyond p = after_blank p
 
 -- a step, and then what goes on
-abbrev pub stepped : {m : Mark} {t : Bool} {A : Type 0} → Step m t → (State → Outcome A) → State → Outcome A
+abbrev pub stepped : {m : Mark} {t : Bool} {A : Type 0} → Step m t → (State → Outcome A) → State
+    → Outcome A
 stepped (the c) k p = expect c p >>= λ d q. k q
 stepped blanks k p = k (skip p)
 
 -- what a rule reads
-abbrev pub read : {N : Nesting} {u : Bool} {a b : Mark} {A : Type 0} → Inner N → Rule N u a b A → State → Outcome A
+abbrev pub read : {N : Nesting} {u : Bool} {a b : Mark} {A : Type 0} → Inner N → Rule N u a b A
+    → State → Outcome A
 read inner (value x) p = took x p
 read inner (character ok) p = take_if ok p
 read inner (after s r) p = stepped s (λ q. read inner r q) p
@@ -31,7 +33,9 @@ read inner (seq r k) p = read inner r p >>= λ x q. read inner (k x) q
 read inner (made f r) p = by f (read inner r p)
 read inner (look m ok r s) p = if passes ok (next m p) then read inner r p else read inner s p
 read inner (upon c r s) p = if is_at c p then read inner r (past p) else read inner s p
-read {N} inner (nested o k s) p = if passes (N.opens o) (head p) then inner o p >>= (λ x q. read inner (k x) q) else read inner s p
+read {N} inner (nested o k s) p =
+    if passes (N.opens o) (head p) then inner o p >>= (λ x q. read inner (k x) q)
+    else read inner s p
 read inner (item r) p = as_item p (read inner r p)
 read inner (omitted x) p = took x (omit p)
 read inner (some m ok r) p = each (λ q. passes ok (next m q)) (λ q. read inner r q) p
