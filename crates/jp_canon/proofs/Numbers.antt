@@ -15,7 +15,7 @@ use Rattle.jp_document.proofs.Paths.{decimal-index_text}
 use Rattle.jp_query.specs.declared.tree.Numeral.{Numeral}
 use Rattle.jp_query.specs.declared.tree.Numeral.TheVariants.{Beyond, Fraction, Whole}
 use Rattle.jp_query.specs.Ints.{Int, is_leading_digit, negative_int, negative_of, positive_int, whole_of, zero_int}
-use Rattle.jp_query.specs.Literals.{Decimals, Digits, Exponent, Mantissa, Number, Optional, decimals, left_out, minus_zero, number, whole, written}
+use Rattle.jp_query.specs.Literals.{Decimals, DigitSequence, Exponent, Mantissa, Number, Optional, decimals, left_out, minus_zero, number, whole, written}
 use Rattle.jp_canon.specs.Canon.{numeral_text}
 use Rattle.jp_canon.proofs.Forms.{Has, both, has-as, has-each_passing, has-one, has-same, has-word}
 
@@ -132,7 +132,7 @@ has-plain i h =
 has-fraction : Has (Number Fraction) (codes "0.5")
 unfolding is_digit
 has-fraction =
-    let digits : Has (Digits 53 []) (53 ∷ []) = both (has-one is_digit 53 refl) (has-word []) in
+    let digits : Has (DigitSequence 53 []) (53 ∷ []) = both (has-one is_digit 53 refl) (has-word []) in
     let zero_text : Has (Int (whole_of 0)) (48 ∷ []) = has-as (λ s o. zero_int refl)
     (has-word (48 ∷ [])) in
     let half : Has Decimals (46 ∷ 53 ∷ []) = has-as (λ s o. decimals 53 [])

@@ -8,7 +8,7 @@ use Rattle.std.proofs.lemmas.Option.{same_Some}
 use Rattle.std.proofs.lemmas.Str.{IsUtf8-from_is_utf8, is_utf8-from_IsUtf8}
 use Rattle.serde_json.specs.Data.{Data}
 use Rattle.serde_json.specs.Read.{read}
-use Rattle.jp_document.specs.Document.{Defect, HasDefect, HasFraction, IsDocument, IsFirstFraction, Reads, list_too_long, not_json, not_whole, value_of_data}
+use Rattle.jp_document.specs.Document.{Defect, HasDefect, HasFraction, IsDocument, IsFirstFraction, IsReading, list_too_long, not_json, not_whole, value_of_data}
 use Rattle.jp_document.specs.Laws.{DocumentOrDefect}
 use Rattle.jp_document.specs.Location.{Key, Location, key_cmp, location_cmp}
 use Rattle.jp_document.specs.Path.{path_of}
@@ -20,7 +20,7 @@ use Rattle.jp_document.proofs.ReadValues.{first_of, fits-allowed, value_allowed}
 
 -- ---- one of them
 
-same_reading : (bytes : List ℕ) (d e : Data) → Reads bytes d → Reads bytes e → d ≡ e
+same_reading : (bytes : List ℕ) (d e : Data) → IsReading bytes d → IsReading bytes e → d ≡ e
 same_reading bytes d e one two = same_Some d e (sym one.reading ∙ two.reading)
 
 exact_by : (k j : Key) (l m : Location) (o : Ordering) → key_cmp k j ≡ o → (location_cmp l m ≡ Equal → l ≡ m) → ordering_then o (location_cmp l m) ≡ Equal → k ∷ l ≡ j ∷ m
@@ -46,7 +46,7 @@ one_first d l m one two =
     let order = lists_total key_cmp_total in
     location_exact l m (neither_less (location_cmp l m) (location_cmp m l) (order.antisymm l m) (two.least l one.there) (one.least m two.there))
 
-fraction_or_value : (bytes path : List ℕ) (d : Data) (v : Value) → HasFraction bytes path → Reads bytes d → value_of_data d ≡ Some v → ⊥
+fraction_or_value : (bytes path : List ℕ) (d : Data) (v : Value) → HasFraction bytes path → IsReading bytes d → value_of_data d ≡ Some v → ⊥
 fraction_or_value bytes path d v x reads is =
     let same = same_reading bytes d x.reading reads x.reads in
     no_fraction x.reading v x.location x.first.there.0 (ap value_of_data (sym same) ∙ is) x.first.there.1
@@ -67,18 +67,18 @@ one_defect bytes list_too_long not_json one two = absurd (two one.reading one.re
 one_defect bytes list_too_long (not_whole path) one two = absurd (fraction_or_value bytes path one.reading one.value two one.reads one.holds)
 one_defect bytes list_too_long list_too_long one two = refl
 
-same_value : (bytes : List ℕ) (d e : Data) (v w : Value) → Reads bytes d → Reads bytes e → value_of_data d ≡ Some v → value_of_data e ≡ Some w → v ≡ w
+same_value : (bytes : List ℕ) (d e : Data) (v w : Value) → IsReading bytes d → IsReading bytes e → value_of_data d ≡ Some v → value_of_data e ≡ Some w → v ≡ w
 same_value bytes d e v w one two here there = same_Some v w (sym here ∙ ap value_of_data (same_reading bytes d e one two) ∙ there)
 
 -- ---- some of them
 
-answer_by : (bytes : List ℕ) (d : Data) (v : Value) (short : Bool) → Reads bytes d → value_of_data d ≡ Some v → everywhere list_fits v ≡ short
+answer_by : (bytes : List ℕ) (d : Data) (v : Value) (short : Bool) → IsReading bytes d → value_of_data d ≡ Some v → everywhere list_fits v ≡ short
     → ((w : Value) × IsDocument bytes w) ⊎ ((x : Defect) × HasDefect bytes x)
 answer_by bytes d v true reads is lists =
     inl (v, record { reading = d; reads = reads; holds = is; valid = value_allowed d v (reading_fits bytes d reads) is lists })
 answer_by bytes d v false reads is lists = inr (list_too_long, record { reading = d; value = v; reads = reads; holds = is; too_long = lists })
 
-answer_of : (bytes : List ℕ) (d : Data) (o : Option Value) → Reads bytes d → value_of_data d ≡ o → ((w : Value) × IsDocument bytes w) ⊎ ((x : Defect) × HasDefect bytes x)
+answer_of : (bytes : List ℕ) (d : Data) (o : Option Value) → IsReading bytes d → value_of_data d ≡ o → ((w : Value) × IsDocument bytes w) ⊎ ((x : Defect) × HasDefect bytes x)
 answer_of bytes d None reads is =
     let l = first_of d (reading_fits bytes d reads) is in
     inr (not_whole (path_of l.0), record { reading = d; reads = reads; location = l.0; first = l.1; spelled = refl })

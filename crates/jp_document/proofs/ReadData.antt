@@ -13,7 +13,7 @@ use Rattle.json.specs.Json.{Json}
 use Rattle.serde_json.specs.Data as parsed
 use Rattle.serde_json.specs.Data.{Data, Num, float, negative, put, unsigned}
 use Rattle.serde_json.specs.Read.{float_of, is_integer, number_from, number_of, of_items, of_json, of_members}
-use Rattle.jp_document.specs.Document.{Reads}
+use Rattle.jp_document.specs.Document.{IsReading}
 use Rattle.jp_document.specs.Value.{fits_64_bits, names_fit}
 use Rattle.jp_document.proofs.Names.{and-left, and-right, bytes_cmp}
 use Rattle.jp_document.proofs.ParsedTexts.{items_texts, json_texts, members_texts, some_is_none, text_of_texts}
@@ -150,7 +150,7 @@ from_then None k b is = absurd (cc)
 from_then (Some a) k b is = (a, refl, is)
 
 -- the reading of bytes fits
-pub reading_fits : (bytes : List ℕ) (d : Data) → Reads bytes d → data_fits d ≡ true
+pub reading_fits : (bytes : List ℕ) (d : Data) → IsReading bytes d → data_fits d ≡ true
 reading_fits bytes d reads =
     let j = from_then _ of_json d reads.reading in
     (json_fits j.0 (text_of_texts bytes j.0 reads.utf8 j.1)).each d j.2

@@ -18,7 +18,7 @@ abbrev pub document_of : Document → Value
 document_of d = value_of d.json
 
 -- the bytes are UTF-8, and `serde_json` reads d from them
-pub record Reads (bytes : List ℕ) (d : Data) : Type 0 where
+pub record IsReading (bytes : List ℕ) (d : Data) : Type 0 where
   pub utf8 : IsUtf8 bytes
   pub reading : read bytes ≡ Some d
 
@@ -45,7 +45,7 @@ abbrev mutual
 -- the bytes are a document, whose value is v
 pub record IsDocument (bytes : List ℕ) (v : Value) : Type 0 where
   pub reading : Data
-  pub reads : Reads bytes reading
+  pub reads : IsReading bytes reading
   pub holds : value_of_data reading ≡ Some v
   pub valid : IsDocumentValue v
 
@@ -82,7 +82,7 @@ pub record IsFirstFraction (d : Data) (l : Location) : Type 0 where
 -- the bytes have a reading, and the path is that of the first number in it that is no whole one
 pub record HasFraction (bytes path : List ℕ) : Type 0 where
   pub reading : Data
-  pub reads : Reads bytes reading
+  pub reads : IsReading bytes reading
   pub location : Location
   pub first : IsFirstFraction reading location
   pub spelled : path ≡ path_of location
@@ -91,7 +91,7 @@ pub record HasFraction (bytes path : List ℕ) : Type 0 where
 pub record HasLongList (bytes : List ℕ) : Type 0 where
   pub reading : Data
   pub value : Value
-  pub reads : Reads bytes reading
+  pub reads : IsReading bytes reading
   pub holds : value_of_data reading ≡ Some value
   pub too_long : everywhere list_fits value ≡ false
 
@@ -106,7 +106,7 @@ pub data Defect : Type 0 where
 
 -- the bytes are no document, by that defect
 abbrev pub HasDefect : List ℕ → Defect → Type 0
-HasDefect bytes not_json = (d : Data) → Reads bytes d → ⊥
+HasDefect bytes not_json = (d : Data) → IsReading bytes d → ⊥
 HasDefect bytes (not_whole path) = HasFraction bytes path
 HasDefect bytes list_too_long = HasLongList bytes
 

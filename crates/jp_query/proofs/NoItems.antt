@@ -9,7 +9,7 @@ use Rattle.jp_query.specs.Tree.{LiteralTree}
 use Rattle.jp_query.specs.Names.{is_name_first, is_name_char, Shorthand, shorthand}
 use Rattle.jp_query.specs.Strings.{is_escapable, is_hexdig, is_d, is_not_d, is_0_to_7, is_8_to_b, is_c_to_f, Unit, digits, Hexchar, not_d, below_surrogates, surrogates, Character, plain, escape, hex, Between, Quoted, in_double, in_single}
 use Rattle.jp_query.specs.Ints.{is_leading_digit, Unsigned, Int, zero_int, positive_int, negative_int}
-use Rattle.jp_query.specs.Literals.{Optional, left_out, written, Digits, Decimals, decimals, is_e, is_sign, Exponent, unsigned, signed, Mantissa, whole, minus_zero, Number, number, Literal, of_number, of_text, of_true, of_false, of_null}
+use Rattle.jp_query.specs.Literals.{Optional, left_out, written, DigitSequence, Decimals, decimals, is_e, is_sign, Exponent, unsigned, signed, Mantissa, whole, minus_zero, Number, number, Literal, of_number, of_text, of_true, of_false, of_null}
 
 unit-bare : (first second : ℕ → Bool) (v : ℕ) → Bare (Unit first second v)
 unit-bare first second v s o t (digits a b c d e h) =
@@ -56,7 +56,7 @@ int-bare x s o t (negative_int c more e h) = bare-joined (word (45 ∷ [])) (Uns
 
 -- ---- literals
 
-digits-bare : (c : ℕ) (more : Text) → Bare (Digits c more)
+digits-bare : (c : ℕ) (more : Text) → Bare (DigitSequence c more)
 digits-bare c more = bare-joined (One is_digit c) (Each (One is_digit) more) (bare-one is_digit c) (bare-each (One is_digit) (bare-one is_digit) more)
 
 optional-bare : (P : Form) (b : Bool) → Bare P → Bare (Optional P b)
@@ -64,13 +64,13 @@ optional-bare P b f s o t (left_out e h) = h.none
 optional-bare P b f s o t (written e h) = f s o t h
 
 decimals-bare : Bare Decimals
-decimals-bare s o t (decimals c more h) = bare-joined (word (46 ∷ [])) (Digits c more) (bare-word (46 ∷ [])) (digits-bare c more) s o t h
+decimals-bare s o t (decimals c more h) = bare-joined (word (46 ∷ [])) (DigitSequence c more) (bare-word (46 ∷ [])) (digits-bare c more) s o t h
 
 exponent-bare : Bare Exponent
-exponent-bare s o t (unsigned e c more h) = bare-joined (One is_e e) (Digits c more) (bare-one is_e e) (digits-bare c more) s o t h
+exponent-bare s o t (unsigned e c more h) = bare-joined (One is_e e) (DigitSequence c more) (bare-one is_e e) (digits-bare c more) s o t h
 exponent-bare s o t (signed e sign c more h) =
-    bare-joined (One is_e e) (One is_sign sign ⌢ Digits c more) (bare-one is_e e)
-    (bare-joined (One is_sign sign) (Digits c more) (bare-one is_sign sign) (digits-bare c more)) s o t h
+    bare-joined (One is_e e) (One is_sign sign ⌢ DigitSequence c more) (bare-one is_e e)
+    (bare-joined (One is_sign sign) (DigitSequence c more) (bare-one is_sign sign) (digits-bare c more)) s o t h
 
 mantissa-bare : (x : Numeral) → Bare (Mantissa x)
 mantissa-bare x s o t (whole h) = int-bare x s o t h

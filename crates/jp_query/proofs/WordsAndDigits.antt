@@ -4,7 +4,7 @@ use Rattle.std.specs.Prelude.{codes}
 use Rattle.jp_reading.specs.Texts.{Text}
 use Rattle.jp_reading.specs.declared.reader.Stop.{Stop}
 use Rattle.jp_reading.specs.Outcome.{State, Outcome, took, stuck, deep, ◌>>=◌, head, take_if, expect}
-use Rattle.jp_reading.specs.Numbers.{is_digit, capped, digits_at as natural_at}
+use Rattle.jp_reading.specs.Numbers.{is_digit, capped, digits_at}
 use Rattle.jp_reading.specs.Views.{by, Fails}
 use Rattle.jp_reading.proofs.Folds.{fails-then}
 use Rattle.jp_query.specs.Tree.{true_literal, false_literal, null_literal}
@@ -12,8 +12,8 @@ use Rattle.jp_query.specs.Rules.{run, letters, digits, literal}
 use Rattle.jp_query.specs.Reading.{read_flat}
 
 -- the digits as `natural` reads them
-pub digits-natural : (p : State) → read_flat digits p ≡ by (λ (n : ℕ). true) (by (capped 0 0) (natural_at p))
-unfolding digits natural_at
+pub digits-natural : (p : State) → read_flat digits p ≡ by (λ (n : ℕ). true) (by (capped 0 0) (digits_at p))
+unfolding digits digits_at
 digits-natural p = same (take_if is_digit p)
   where
     rest : (d : ℕ) (o : Outcome Text) → by (λ (ds : Text). true) o ≡ by (λ (n : ℕ). true) (by (capped 0 0) (o >>= λ ds r. took (d ∷ ds) r))
@@ -27,8 +27,8 @@ digits-natural p = same (take_if is_digit p)
     same (stuck q) = refl
     same (deep q) = refl
 
-pub digits-fail : (p : State) (e : Stop) → Fails e (by (capped 0 0) (natural_at p)) → Fails e (read_flat digits p)
-digits-fail p e h = rw (digits-natural p) (fails-then e (by (capped 0 0) (natural_at p)) (λ n q. took true q) h)
+pub digits-fail : (p : State) (e : Stop) → Fails e (by (capped 0 0) (digits_at p)) → Fails e (read_flat digits p)
+digits-fail p e h = rw (digits-natural p) (fails-then e (by (capped 0 0) (digits_at p)) (λ n q. took true q) h)
 
 -- a letter that is taken, one that is not there, and none more
 pub letters-on : {A : Type 0} (x : A) (c : ℕ) (v w : Text) (p q : State) (d : ℕ) → v ≡ c ∷ w → expect c p ≡ took d q

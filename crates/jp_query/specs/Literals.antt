@@ -17,12 +17,12 @@ pub data Optional (P : Form) (there : Bool) (s : Spans) (o : ℕ) (t : Text) : T
   written : there ≡ true → P s o t → Optional P there s o t
 
 -- 1*DIGIT: the digit c and more
-abbrev pub Digits : ℕ → Text → Form
-Digits c more = One is_digit c ⌢ Each (One is_digit) more
+abbrev pub DigitSequence : ℕ → Text → Form
+DigitSequence c more = One is_digit c ⌢ Each (One is_digit) more
 
 -- frac: a dot and digits
 pub data Decimals (s : Spans) (o : ℕ) (t : Text) : Type 0 where
-  decimals : (c : ℕ) (more : Text) → (word (46 ∷ []) ⌢ Digits c more) s o t → Decimals s o t
+  decimals : (c : ℕ) (more : Text) → (word (46 ∷ []) ⌢ DigitSequence c more) s o t → Decimals s o t
 
 -- an `e` of either case; a sign
 abbrev pub is_e : ℕ → Bool
@@ -33,8 +33,8 @@ is_sign c = (c == 43) || (c == 45)
 
 -- exp: an `e`, a sign or none, and digits
 pub data Exponent (s : Spans) (o : ℕ) (t : Text) : Type 0 where
-  unsigned : (e c : ℕ) (more : Text) → (One is_e e ⌢ Digits c more) s o t → Exponent s o t
-  signed : (e sign c : ℕ) (more : Text) → (One is_e e ⌢ One is_sign sign ⌢ Digits c more) s o t → Exponent s o t
+  unsigned : (e c : ℕ) (more : Text) → (One is_e e ⌢ DigitSequence c more) s o t → Exponent s o t
+  signed : (e sign c : ℕ) (more : Text) → (One is_e e ⌢ One is_sign sign ⌢ DigitSequence c more) s o t → Exponent s o t
 
 -- int / "-0": zero may have a sign here, and is 0 then too
 pub data Mantissa (x : Numeral) (s : Spans) (o : ℕ) (t : Text) : Type 0 where

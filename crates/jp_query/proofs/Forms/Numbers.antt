@@ -14,7 +14,7 @@ use Rattle.jp_query.specs.declared.tree.Op.TheVariants.{Equal, Unequal, Less, Le
 use Rattle.jp_query.specs.Tree.{LiteralTree, true_literal, false_literal, null_literal}
 use Rattle.jp_query.specs.Strings.{in_double, in_single}
 use Rattle.jp_query.specs.Ints.{is_leading_digit, whole_of, negative_of, Unsigned, Int, zero_int, positive_int, negative_int}
-use Rattle.jp_query.specs.Literals.{Optional, left_out, written, Digits, Decimals, decimals, is_e, is_sign, Exponent, unsigned, signed, Mantissa, whole, minus_zero, Number, number, Literal, of_number, of_text, of_true, of_false, of_null, spelling}
+use Rattle.jp_query.specs.Literals.{Optional, left_out, written, DigitSequence, Decimals, decimals, is_e, is_sign, Exponent, unsigned, signed, Mantissa, whole, minus_zero, Number, number, Literal, of_number, of_text, of_true, of_false, of_null, spelling}
 use Rattle.jp_query.specs.Rules.{nesting}
 use Rattle.jp_query.specs.Rules as rule
 use Rattle.jp_query.proofs.Forms.Strings.{quoted-within, quoted-spelt}
@@ -102,13 +102,13 @@ module _ (F : Inside nesting) where
 
   -- digits whose value does not count
   data SomeDigits (there : Bool) (s : Spans) (o : ℕ) (t : Text) : Type 0 where
-    some_digits : (c : ℕ) (more : Text) → there ≡ true → Digits c more s o t → SomeDigits there s o t
+    some_digits : (c : ℕ) (more : Text) → there ≡ true → DigitSequence c more s o t → SomeDigits there s o t
 
   digits-within : (there : Bool) → Within (form F rule.digits there) (SomeDigits there)
   unfolding rule.digits
   digits-within there s o t h = some_digits h.part h.is.two.part h.is.two.same (joined-over (One is_digit h.part) _ (Each (One is_digit) h.is.two.part) s o t h.is h.is.two.is)
 
-  digits-spelt : (c : ℕ) (more : Text) (there : Bool) → there ≡ true → Within (Digits c more) (form F rule.digits there)
+  digits-spelt : (c : ℕ) (more : Text) (there : Bool) → there ≡ true → Within (DigitSequence c more) (form F rule.digits there)
   unfolding rule.digits
   digits-spelt c more there e s o t h = record {
     part = c;
@@ -121,13 +121,13 @@ module _ (F : Inside nesting) where
   decimals-within there s o t (left h) = with_digits (digits-within there h.second_spans (o + bytes h.first) h.second h.two)
     where
       with_digits : SomeDigits there h.second_spans (o + bytes h.first) h.second → Optional Decimals there s o t
-      with_digits (some_digits c more e g) = written e (decimals c more (joined-over (word (46 ∷ [])) _ (Digits c more) s o t h g))
+      with_digits (some_digits c more e g) = written e (decimals c more (joined-over (word (46 ∷ [])) _ (DigitSequence c more) s o t h g))
 
   decimals-spelt : (there : Bool) → Within (Optional Decimals there) (form F rule.decimals there)
   unfolding rule.decimals
   decimals-spelt there s o t (left_out e h) = right (record { same = e; is = h })
   decimals-spelt there s o t (written e (decimals c more h)) =
-      left (joined-over (word (46 ∷ [])) (Digits c more) _ s o t h (digits-spelt c more there e h.second_spans _ h.second h.two))
+      left (joined-over (word (46 ∷ [])) (DigitSequence c more) _ s o t h (digits-spelt c more there e h.second_spans _ h.second h.two))
 
   power-within : (e : ℕ) (there : Bool) → Within (One is_e e ⌢ form F rule.power there) (Optional Exponent there)
   unfolding rule.power
@@ -136,11 +136,11 @@ module _ (F : Inside nesting) where
       with_sign : (g : Then (One is_sign) (λ sign. form F rule.digits) there h.second_spans (o + bytes h.first) h.second)
           → SomeDigits there g.is.second_spans (o + bytes h.first + bytes g.is.first) g.is.second → Optional Exponent there s o t
       with_sign g (some_digits c more same d) =
-          written same (signed e g.part c more (joined-over (One is_e e) _ (One is_sign g.part ⌢ Digits c more) s o t h
-          (joined-over (One is_sign g.part) _ (Digits c more) h.second_spans _ h.second g.is d)))
+          written same (signed e g.part c more (joined-over (One is_e e) _ (One is_sign g.part ⌢ DigitSequence c more) s o t h
+          (joined-over (One is_sign g.part) _ (DigitSequence c more) h.second_spans _ h.second g.is d)))
 
       without : SomeDigits there h.second_spans (o + bytes h.first) h.second → Optional Exponent there s o t
-      without (some_digits c more same d) = written same (unsigned e c more (joined-over (One is_e e) _ (Digits c more) s o t h d))
+      without (some_digits c more same d) = written same (unsigned e c more (joined-over (One is_e e) _ (DigitSequence c more) s o t h d))
 
       ways : Either (Then (One is_sign) (λ sign. form F rule.digits) there) (form F rule.digits there) h.second_spans (o + bytes h.first) h.second
           → Optional Exponent there s o t
@@ -157,13 +157,13 @@ module _ (F : Inside nesting) where
   exponent-spelt there s o t (left_out e h) = right (record { same = e; is = h })
   exponent-spelt there s o t (written same (unsigned e c more h)) = left (record {
     part = e;
-    is = joined-over (One is_e e) (Digits c more) _ s o t h (right (digits-spelt c more there same h.second_spans _ h.second h.two));
+    is = joined-over (One is_e e) (DigitSequence c more) _ s o t h (right (digits-spelt c more there same h.second_spans _ h.second h.two));
   })
   exponent-spelt there s o t (written same (signed e sign c more h)) = left (record {
     part = e;
-    is = joined-over (One is_e e) (One is_sign sign ⌢ Digits c more) _ s o t h (left (record {
+    is = joined-over (One is_e e) (One is_sign sign ⌢ DigitSequence c more) _ s o t h (left (record {
       part = sign;
-      is = joined-over (One is_sign sign) (Digits c more) _ h.second_spans _ h.second h.two
+      is = joined-over (One is_sign sign) (DigitSequence c more) _ h.second_spans _ h.second h.two
           (digits-spelt c more there same h.two.second_spans _ h.two.second h.two.two);
     }));
   })

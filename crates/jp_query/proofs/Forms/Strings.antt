@@ -8,7 +8,7 @@ use Rattle.jp_reading.proofs.Levels.{Then, Made, joined-lifts, each-lifts}
 use Rattle.jp_reading.proofs.Joining.{joined-both, joined-assoc, joined-back, after-within, ends-within, ends-spelt}
 use Rattle.jp_reading.proofs.Rules.Form.{Either, left, right, Inside, form}
 use Rattle.jp_query.specs.Names.{is_name_first, is_name_char, Shorthand, shorthand}
-use Rattle.jp_query.specs.Strings.{is_escapable, escaped, is_hexdig, is_d, is_not_d, is_0_to_7, is_8_to_b, is_c_to_f, scalar_of, Unit as Digits, digits, Hexchar, not_d, below_surrogates, surrogates, Character, plain, escape, hex, Between}
+use Rattle.jp_query.specs.Strings.{is_escapable, escaped, is_hexdig, is_d, is_not_d, is_0_to_7, is_8_to_b, is_c_to_f, scalar_of, Unit as HexUnit, digits, Hexchar, not_d, below_surrogates, surrogates, Character, plain, escape, hex, Between}
 use Rattle.jp_query.specs.Rules.{nesting}
 use Rattle.jp_query.specs.Rules as rule
 
@@ -66,23 +66,23 @@ module _ (F : Inside nesting) where
 
   -- a first digit, and those after it
   first-within : (first second : ℕ → Bool) (v : ℕ)
-      → Within (Then (Made digit_value (One first)) (λ a. After a second) v) (Digits first second v)
+      → Within (Then (Made digit_value (One first)) (λ a. After a second) v) (HexUnit first second v)
   first-within first second v s o t h = with_last h.is.two
     where
-      with_last : After h.part second v h.is.second_spans (o + bytes h.is.first) h.is.second → Digits first second v s o t
+      with_last : After h.part second v h.is.second_spans (o + bytes h.is.first) h.is.second → HexUnit first second v s o t
       with_last (after b c d e g) =
           digits h.is.one.part b c d (e ∙ rw h.is.one.same refl)
           (joined-both _ (One first h.is.one.part) _ (One second b ⌢ One is_hexdig c ⌢ One is_hexdig d) s o t h.is h.is.one.is g)
 
   first-spelt : (first second : ℕ → Bool) (v : ℕ)
-      → Within (Digits first second v) (Then (Made digit_value (One first)) (λ a. After a second) v)
+      → Within (HexUnit first second v) (Then (Made digit_value (One first)) (λ a. After a second) v)
   first-spelt first second v s o t (digits a b c d e h) = record {
     part = digit_value a;
     is = joined-both (One first a) (Made digit_value (One first) (digit_value a)) (One second b ⌢ One is_hexdig c ⌢ One is_hexdig d)
         (After (digit_value a) second v) s o t h (digit-spelt first a h.first_spans o h.first h.one) (after b c d e h.two);
   }
 
-  unit-within : (first second : ℕ → Bool) (v : ℕ) → Within (form F (rule.unit first second) v) (Digits first second v)
+  unit-within : (first second : ℕ → Bool) (v : ℕ) → Within (form F (rule.unit first second) v) (HexUnit first second v)
   unfolding rule.unit
   unit-within first second v s o t h =
       first-within first second v s o t (record {
@@ -91,7 +91,7 @@ module _ (F : Inside nesting) where
             (unit_after-within h.part second v) s o t h.is;
       })
 
-  unit-spelt : (first second : ℕ → Bool) (v : ℕ) → Within (Digits first second v) (form F (rule.unit first second) v)
+  unit-spelt : (first second : ℕ → Bool) (v : ℕ) → Within (HexUnit first second v) (form F (rule.unit first second) v)
   unfolding rule.unit
   unit-spelt first second v s o t h =
       let g = first-spelt first second v s o t h in
@@ -105,25 +105,25 @@ module _ (F : Inside nesting) where
 
   -- what comes after the first half of a pair
   abbrev low_half : ℕ → ℕ → Form
-  low_half high c = word (92 ∷ []) ⌢ word (117 ∷ []) ⌢ Made (scalar_of high) (Digits is_d is_c_to_f) c
+  low_half high c = word (92 ∷ []) ⌢ word (117 ∷ []) ⌢ Made (scalar_of high) (HexUnit is_d is_c_to_f) c
 
   low-within : (high c : ℕ) → Within (word (92 ∷ []) ⌢ word (117 ∷ []) ⌢ Made (scalar_of high) (λ low. form F (rule.unit is_d is_c_to_f) low) c) (low_half high c)
   low-within high c =
-      after-within (word (92 ∷ [])) _ (word (117 ∷ []) ⌢ Made (scalar_of high) (Digits is_d is_c_to_f) c)
-      (after-within (word (117 ∷ [])) (Made (scalar_of high) (λ low. form F (rule.unit is_d is_c_to_f) low) c) (Made (scalar_of high) (Digits is_d is_c_to_f) c)
+      after-within (word (92 ∷ [])) _ (word (117 ∷ []) ⌢ Made (scalar_of high) (HexUnit is_d is_c_to_f) c)
+      (after-within (word (117 ∷ [])) (Made (scalar_of high) (λ low. form F (rule.unit is_d is_c_to_f) low) c) (Made (scalar_of high) (HexUnit is_d is_c_to_f) c)
       (λ s o t h. record { part = h.part; same = h.same; is = unit-within is_d is_c_to_f h.part s o t h.is }))
 
   low-spelt : (high c : ℕ) → Within (low_half high c) (word (92 ∷ []) ⌢ word (117 ∷ []) ⌢ Made (scalar_of high) (λ low. form F (rule.unit is_d is_c_to_f) low) c)
   low-spelt high c =
-      after-within (word (92 ∷ [])) (word (117 ∷ []) ⌢ Made (scalar_of high) (Digits is_d is_c_to_f) c) _
-      (after-within (word (117 ∷ [])) (Made (scalar_of high) (Digits is_d is_c_to_f) c) (Made (scalar_of high) (λ low. form F (rule.unit is_d is_c_to_f) low) c)
+      after-within (word (92 ∷ [])) (word (117 ∷ []) ⌢ Made (scalar_of high) (HexUnit is_d is_c_to_f) c) _
+      (after-within (word (117 ∷ [])) (Made (scalar_of high) (HexUnit is_d is_c_to_f) c) (Made (scalar_of high) (λ low. form F (rule.unit is_d is_c_to_f) low) c)
       (λ s o t h. record { part = h.part; same = h.same; is = unit-spelt is_d is_c_to_f h.part s o t h.is }))
 
   pair-within : (c : ℕ) → Within (Then (Made digit_value (One is_d)) (λ a. form F (rule.surrogates_after a)) c) (Hexchar c)
   unfolding rule.surrogates_after
   pair-within c s o t h =
       let high = h.is.two.part in
-      let Half = Digits is_d is_8_to_b high in
+      let Half = HexUnit is_d is_8_to_b high in
       let all = joined-back (Made digit_value (One is_d) h.part) (After h.part is_8_to_b high) (low_half high c) s o t
       (after-within (Made digit_value (One is_d) h.part) _ (After h.part is_8_to_b high ⌢ low_half high c)
       (joined-lifts (form F (rule.unit_after h.part is_8_to_b) high) (After h.part is_8_to_b high) _ (low_half high c)
@@ -131,23 +131,23 @@ module _ (F : Inside nesting) where
       s o t (joined-over (Made digit_value (One is_d) h.part) _ _ s o t h.is h.is.two.is)) in
       let low = all.two.two.two in
       surrogates high low.part low.same
-      (joined-both (Made digit_value (One is_d) h.part ⌢ After h.part is_8_to_b high) Half (low_half high c) (word (92 ∷ []) ⌢ word (117 ∷ []) ⌢ Digits is_d is_c_to_f low.part)
+      (joined-both (Made digit_value (One is_d) h.part ⌢ After h.part is_8_to_b high) Half (low_half high c) (word (92 ∷ []) ⌢ word (117 ∷ []) ⌢ HexUnit is_d is_c_to_f low.part)
       s o t all (first-within is_d is_8_to_b high all.first_spans o all.first (record { part = h.part; is = all.one }))
-      (joined-over (word (92 ∷ [])) _ (word (117 ∷ []) ⌢ Digits is_d is_c_to_f low.part) all.second_spans _ all.second all.two
-      (joined-over (word (117 ∷ [])) _ (Digits is_d is_c_to_f low.part) all.two.second_spans _ all.two.second all.two.two low.is)))
+      (joined-over (word (92 ∷ [])) _ (word (117 ∷ []) ⌢ HexUnit is_d is_c_to_f low.part) all.second_spans _ all.second all.two
+      (joined-over (word (117 ∷ [])) _ (HexUnit is_d is_c_to_f low.part) all.two.second_spans _ all.two.second all.two.two low.is)))
 
   pair-spelt : (c high low : ℕ) → c ≡ scalar_of high low
-      → Within (Digits is_d is_8_to_b high ⌢ word (92 ∷ []) ⌢ word (117 ∷ []) ⌢ Digits is_d is_c_to_f low)
+      → Within (HexUnit is_d is_8_to_b high ⌢ word (92 ∷ []) ⌢ word (117 ∷ []) ⌢ HexUnit is_d is_c_to_f low)
       (Then (Made digit_value (One is_d)) (λ a. form F (rule.surrogates_after a)) c)
   unfolding rule.surrogates_after
   pair-spelt c high low e s o t h =
       let first = first-spelt is_d is_8_to_b high h.first_spans o h.first h.one in
       let A = Made digit_value (One is_d) first.part in
-      let low_made = after-within (word (92 ∷ [])) (word (117 ∷ []) ⌢ Digits is_d is_c_to_f low) (word (117 ∷ []) ⌢ Made (scalar_of high) (Digits is_d is_c_to_f) c)
-      (after-within (word (117 ∷ [])) (Digits is_d is_c_to_f low) (Made (scalar_of high) (Digits is_d is_c_to_f) c) (λ r i u g. record { part = low; same = e; is = g }))
+      let low_made = after-within (word (92 ∷ [])) (word (117 ∷ []) ⌢ HexUnit is_d is_c_to_f low) (word (117 ∷ []) ⌢ Made (scalar_of high) (HexUnit is_d is_c_to_f) c)
+      (after-within (word (117 ∷ [])) (HexUnit is_d is_c_to_f low) (Made (scalar_of high) (HexUnit is_d is_c_to_f) c) (λ r i u g. record { part = low; same = e; is = g }))
       h.second_spans _ h.second h.two in
       let all = joined-assoc A (After first.part is_8_to_b high) (low_half high c) s o t
-      (joined-both (Digits is_d is_8_to_b high) (A ⌢ After first.part is_8_to_b high) _ (low_half high c) s o t h first.is low_made) in
+      (joined-both (HexUnit is_d is_8_to_b high) (A ⌢ After first.part is_8_to_b high) _ (low_half high c) s o t h first.is low_made) in
       record {
         part = first.part;
         is = joined-over A (After first.part is_8_to_b high ⌢ low_half high c) (form F (rule.surrogates_after first.part) c) s o t all (record {
