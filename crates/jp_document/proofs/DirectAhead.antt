@@ -8,7 +8,7 @@ use Rattle.json.specs.Json.{after_end_array, read_key, members, value}
 use Rattle.serde_json.specs.Data as parsed
 use Rattle.serde_json.specs.Read.{of_members, converted}
 use Rattle.std.specs.Prelude.{IsUtf8}
-use Rattle.jp_document.specs.Direct.{ReadsItems, ReadsMembers, ReadsText, ReadsValue}
+use Rattle.jp_document.specs.Private.Direct.{ReadsItems, ReadsMembers, ReadsText, ReadsValue}
 use Rattle.jp_document.specs.Document.{IsDocument}
 use Rattle.jp_document.specs.Value.{Value, IsDocumentValue, everywhere, everywhere_in_items, everywhere_in_members, is_allowed, items_of, members_of, names_of, names_rise, value_of}
 use Rattle.jp_document.specs.declared.value.Json.{Json}

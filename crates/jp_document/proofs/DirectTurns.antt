@@ -10,7 +10,7 @@ use Rattle.serde_json.specs.Data as parsed
 use Rattle.fast_float.specs.Text.{minus, scan}
 use Rattle.serde_json.specs.Data.{Data, put, unsigned, negative}
 use Rattle.serde_json.specs.Read.{of_json, of_items, of_members, converted, number_of, number_from, max_depth}
-use Rattle.jp_document.specs.Direct.{IsWholeText, ReadsItems, ReadsMembers, ReadsText, ReadsValue}
+use Rattle.jp_document.specs.Private.Direct.{IsWholeText, ReadsItems, ReadsMembers, ReadsText, ReadsValue}
 use Rattle.jp_document.specs.Document.{items_of_data}
 use Rattle.jp_document.specs.Value.{Value, null, boolean, whole, text, list, object, Items, no_items, item, Members}
 

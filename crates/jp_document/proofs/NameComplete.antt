@@ -10,7 +10,7 @@ use Rattle.jp_reading.specs.Outcome.{State, past, is, is_at, take_if, expect, ea
 use Rattle.jp_reading.specs.Views.{by}
 use Rattle.jp_reading.proofs.Again.{again-round}
 use Rattle.jp_reading.proofs.Loops.{each-on, each-off}
-use Rattle.jp_document.specs.PathReader.{is_plain, is_letter, meant, has_letter, is_hex_digit, hex_value, hex_number, is_bit, control_at, escaped_at, character_at, is_inside, characters_at, name_at}
+use Rattle.jp_document.specs.Private.PathReader.{is_plain, is_letter, meant, has_letter, is_hex_digit, hex_value, hex_number, is_bit, control_at, escaped_at, character_at, is_inside, characters_at, name_at}
 use Rattle.jp_document.specs.Spelling.{spelling, hex_digit}
 use Rattle.jp_document.proofs.Encoded.{high-plain, high-bytes, hex_digit-low, letter-low, peel}
 use Rattle.jp_document.proofs.Goes.{ahead, Goes, goes-then, goes-by, Next, next-of, next-ascii, is_at-next, not_at-next, goes-take_if, goes-expect, goes-on, goes-off}

@@ -13,7 +13,7 @@ use Rattle.jp_reading.proofs.Between.{Reads, Within, reads-then, reads-as}
 use Rattle.jp_reading.proofs.Fits.{Fits, fits-then, fits-if, fits-by, fits-as, reads-word, fits-take_if, fits-expect, fits-each}
 use Rattle.jp_reading.proofs.Steps.{head-is}
 use Rattle.jp_reading.proofs.Words.{words-join, reads-words}
-use Rattle.jp_document.specs.PathReader.{is_plain, is_letter, meant, has_letter, is_hex_digit, hex_value, hex_number, is_bit, control_at, escaped_at, character_at, is_inside, characters_at, name_at}
+use Rattle.jp_document.specs.Private.PathReader.{is_plain, is_letter, meant, has_letter, is_hex_digit, hex_value, hex_number, is_bit, control_at, escaped_at, character_at, is_inside, characters_at, name_at}
 use Rattle.jp_document.specs.Spelling.{spelling, control, hex_digit}
 use Rattle.jp_document.proofs.Encoded.{Ascii, encode-ascii, names-encode}
 use Rattle.jp_document.proofs.Spelled.{by_letter, by_number, by_itself, spelling_is}

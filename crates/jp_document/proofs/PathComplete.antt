@@ -16,7 +16,7 @@ use Rattle.jp_reading.proofs.Loops.{each-on, each-off}
 use Rattle.jp_reading.proofs.Runs.{again-digits}
 use Rattle.jp_document.specs.Location.{Key, named, nth, Location}
 use Rattle.jp_document.specs.Path.{index_text, step_text, path_of}
-use Rattle.jp_document.specs.PathReader.{name_at, index_at, key_at, step_at, steps_at, path_at}
+use Rattle.jp_document.specs.Private.PathReader.{name_at, index_at, key_at, step_at, steps_at, path_at}
 use Rattle.jp_document.specs.Spelling.{spelling}
 use Rattle.jp_document.proofs.Encoded.{front-ascii, digits-ascii}
 use Rattle.jp_document.proofs.Goes.{ahead, Goes, goes-then, goes-by, next-ascii, is_at-next, not_at-next, goes-expect, goes-on, goes-off}

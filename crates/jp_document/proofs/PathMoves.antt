@@ -8,7 +8,7 @@ use Rattle.jp_reading.specs.Numbers.{digits_at, capped}
 use Rattle.jp_reading.proofs.Progress.{Moves, Keeps, Progress, keeps-from_moves, keeps-then, keeps-after, keeps-if, keeps-by, keeps-each, keeps-take_if, past-keeps, moves-then, moves-if, moves-take_if}
 use Rattle.jp_reading.proofs.Runs.{digits_at-progress}
 use Rattle.jp_document.specs.Location.{named, nth}
-use Rattle.jp_document.specs.PathReader.{is_plain, is_letter, meant, has_letter, is_hex_digit, is_bit, hex_number, control_at, escaped_at, character_at, is_inside, characters_at, name_at, index_at, key_at, step_at}
+use Rattle.jp_document.specs.Private.PathReader.{is_plain, is_letter, meant, has_letter, is_hex_digit, is_bit, hex_number, control_at, escaped_at, character_at, is_inside, characters_at, name_at, index_at, key_at, step_at}
 
 -- past the next character, and on
 moves-past : {A : Type 0} (c : ℕ) (p : State) (o : Outcome A) → is_at c p ≡ true → Keeps (past p) o → Moves p o

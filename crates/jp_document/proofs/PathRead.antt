@@ -10,8 +10,8 @@ use Rattle.jp_reading.specs.declared.reader.Stop.TheVariants.{Memory, Syntax, To
 use Rattle.jp_reading.proofs.Again.{start}
 use Rattle.jp_document.specs.Location.{Location}
 use Rattle.jp_document.specs.Path.{path_of}
-use Rattle.jp_document.specs.PathFault.{is_large, IsPathFaultOf}
-use Rattle.jp_document.specs.PathReader.{path_at, fault_of}
+use Rattle.jp_document.specs.PathFault.{is_large, IsPathFaultOf, fault_of}
+use Rattle.jp_document.specs.Private.PathReader.{path_at}
 use Rattle.jp_document.proofs.LargeIndexes.{any_large-capped, all_small-capped}
 use Rattle.jp_document.proofs.PathComplete.{path-complete}
 use Rattle.jp_document.proofs.PathSound.{path-sound}

@@ -15,7 +15,7 @@ use Rattle.jp_reading.proofs.Fits.{Fits, fits-then, fits-if, fits-by, reads-word
 use Rattle.jp_reading.proofs.Steps.{head-is}
 use Rattle.jp_document.specs.Location.{Key, named, nth, Location}
 use Rattle.jp_document.specs.Path.{index_text, step_text, path_of}
-use Rattle.jp_document.specs.PathReader.{name_at, index_at, key_at, step_at, steps_at, path_at}
+use Rattle.jp_document.specs.Private.PathReader.{name_at, index_at, key_at, step_at, steps_at, path_at}
 use Rattle.jp_document.specs.Spelling.{spelling}
 use Rattle.jp_document.proofs.Encoded.{encode-ascii, digits-ascii}
 use Rattle.jp_document.proofs.NameSound.{Written, fits-name}

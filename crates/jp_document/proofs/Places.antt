@@ -9,9 +9,9 @@ use Rattle.std.proofs.Math.Seq.{drop-cons}
 use Rattle.std.proofs.lemmas.Cmp.{nat_list_cmp_total}
 use Rattle.serde_json.specs.Data as parsed
 use Rattle.serde_json.specs.Data.{Data, put}
-use Rattle.jp_document.specs.Direct.{IsPlace}
+use Rattle.jp_document.specs.Private.Direct.{IsPlace}
 use Rattle.jp_document.specs.Document.{value_of_data, members_of_data}
-use Rattle.jp_document.specs.Growing.{entry_seen}
+use Rattle.jp_document.specs.Private.Growing.{entry_seen}
 use Rattle.jp_document.specs.declared.value.Json.{Json}
 use Rattle.jp_document.specs.declared.value.Member.{Member}
 use Rattle.jp_document.specs.Value.{value_of, member_of, Value, members_of, member, names_of, names_rise, everywhere, everywhere_in_members}

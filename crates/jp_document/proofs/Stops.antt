@@ -4,7 +4,7 @@ use Rattle.std.proofs.lemmas.List.{map-append, reverse-append}
 use Rattle.serde_json.specs.Data.{Data}
 use Rattle.jp_document.specs.Document.{IsFirstFraction}
 use Rattle.jp_document.specs.Location.{Location, owned_key}
-use Rattle.jp_document.specs.Stop.{StopsAt, IsStopWithin}
+use Rattle.jp_document.specs.Private.Stop.{StopsAt, IsStopWithin}
 use Rattle.jp_document.specs.declared.location.OwnedStep.{OwnedStep}
 use Rattle.jp_document.specs.declared.stop.Stop.{Stop}
 use Rattle.jp_document.specs.declared.stop.Stop.TheVariants.{Fraction, NoMemory}

@@ -1,15 +1,12 @@
 pub mod ChildNodes
-pub mod Direct
 pub mod Document
 pub mod Faults
-pub mod Growing
 pub mod Laws
 pub mod Location
 pub mod Node
 pub mod Path
 pub mod PathFault
-pub mod PathReader
+pub mod Private
 pub mod Spelling
-pub mod Stop
 pub mod Text
 pub mod Value

@@ -1,6 +1,8 @@
 -- Why a text is the path of no location, or of one whose indexes are too large (RFC 9535 sections 2.1 and 2.7).
 use Rattle.std.specs.Prelude.{◌≡◌, ℕ, nat_lt, Bool, true, false, List}
 use Rattle.std.specs.List.{list_any}
+use Rattle.jp_reading.specs.declared.reader.Stop.{Stop}
+use Rattle.jp_reading.specs.declared.reader.Stop.TheVariants as stop
 use Rattle.jp_document.specs.declared.path_fault.PathFault.{PathFault}
 use Rattle.jp_document.specs.declared.path_fault.PathFault.TheVariants.{NotNormalized, IndexRange, NoMemory}
 use Rattle.jp_document.specs.Location.{Key, named, nth, Location}
@@ -17,3 +19,9 @@ abbrev pub IsPathFaultOf : List ℕ → PathFault → Type 0
 IsPathFaultOf text NotNormalized = (l : Location) → text ≡ path_of l → ⊥
 IsPathFaultOf text IndexRange = (l : Location) × (text ≡ path_of l) × (list_any is_large l ≡ true)
 IsPathFaultOf text NoMemory = Unit {0}
+
+-- the fault of a text at which reading stops
+abbrev pub fault_of : Stop → PathFault
+fault_of stop.Memory = NoMemory
+fault_of (stop.Syntax place) = NotNormalized
+fault_of (stop.TooDeep place) = NotNormalized

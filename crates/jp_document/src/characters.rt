@@ -2,7 +2,7 @@
 ghost use Rattle.std.specs.Prelude.{◌≡◌, ◌<◌, true};
 ghost use Rattle.jp_reading.specs.Outcome.{take_if};
 ghost use Rattle.jp_reading.specs.Views.{Gives};
-ghost use Rattle.jp_document.specs.PathReader.{is_one_of, is_plain, is_letter, meant, has_letter, is_hex_digit, hex_value, hex_number, is_bit};
+ghost use Rattle.jp_document.specs.Private.PathReader.{is_one_of, is_plain, is_letter, meant, has_letter, is_hex_digit, hex_value, hex_number, is_bit};
 
 use jp_reading::{Reader, Stop};
 
@@ -46,7 +46,7 @@ pub(crate) fn take(reader: &mut Reader, characters: Characters) -> Result<char, 
 }
 
 /// What a letter behind `\` stands for.
-#[tactic(auto, unfolding(crate::specs::PathReader::meant))]
+#[tactic(auto, unfolding(crate::specs::Private::PathReader::meant))]
 pub(crate) fn meant(letter: char) -> char
     ensures { result ≡ meant letter }
 {
@@ -61,7 +61,7 @@ pub(crate) fn meant(letter: char) -> char
 }
 
 /// Whether a character below U+0020 has a letter, so that its number never stands for it.
-#[tactic(auto, unfolding(crate::specs::PathReader::has_letter))]
+#[tactic(auto, unfolding(crate::specs::Private::PathReader::has_letter))]
 pub(crate) fn has_letter(character: u8) -> bool
     ensures { result ≡ has_letter character }
 {
@@ -69,7 +69,7 @@ pub(crate) fn has_letter(character: u8) -> bool
 }
 
 /// What two hex digits write, of which the first is `0` or `1`.
-#[tactic(auto, unfolding(crate::specs::PathReader::is_bit, crate::specs::PathReader::is_hex_digit, crate::specs::PathReader::hex_value))]
+#[tactic(auto, unfolding(crate::specs::Private::PathReader::is_bit, crate::specs::Private::PathReader::is_hex_digit, crate::specs::Private::PathReader::hex_value))]
 pub(crate) fn hex_number(high: char, low: char) -> u8
     requires high { is_bit high ≡ true }
     requires low { is_hex_digit low ≡ true }
@@ -78,7 +78,7 @@ pub(crate) fn hex_number(high: char, low: char) -> u8
     (high as u8 - b'0') * 16 + hex_value(low)
 }
 
-#[tactic(auto, unfolding(crate::specs::PathReader::is_hex_digit, crate::specs::PathReader::hex_value))]
+#[tactic(auto, unfolding(crate::specs::Private::PathReader::is_hex_digit, crate::specs::Private::PathReader::hex_value))]
 fn hex_value(digit: char) -> u8
     requires { is_hex_digit digit ≡ true }
     ensures value { result ≡ hex_value digit }
@@ -91,28 +91,28 @@ fn hex_value(digit: char) -> u8
     }
 }
 
-#[tactic(auto, unfolding(crate::specs::PathReader::is_plain))]
+#[tactic(auto, unfolding(crate::specs::Private::PathReader::is_plain))]
 fn is_plain(c: char) -> bool
     ensures { result ≡ is_plain c }
 {
     !(c < ' ' || c == '\'' || c == '\\')
 }
 
-#[tactic(auto, unfolding(crate::specs::PathReader::is_letter))]
+#[tactic(auto, unfolding(crate::specs::Private::PathReader::is_letter))]
 fn is_letter(c: char) -> bool
     ensures { result ≡ is_letter c }
 {
     matches!(c, 'b' | 't' | 'n' | 'f' | 'r' | '\'' | '\\')
 }
 
-#[tactic(auto, unfolding(crate::specs::PathReader::is_bit))]
+#[tactic(auto, unfolding(crate::specs::Private::PathReader::is_bit))]
 fn is_bit(c: char) -> bool
     ensures { result ≡ is_bit c }
 {
     c == '0' || c == '1'
 }
 
-#[tactic(auto, unfolding(crate::specs::PathReader::is_hex_digit))]
+#[tactic(auto, unfolding(crate::specs::Private::PathReader::is_hex_digit))]
 fn is_hex_digit(c: char) -> bool
     ensures { result ≡ is_hex_digit c }
 {

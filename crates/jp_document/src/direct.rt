@@ -2,7 +2,7 @@
 ghost use Rattle.std.specs.Prelude.{◌≡◌, ◌<◌, ◌==◌, true, false, Some, IfSome, IsTrue, OnSome, length, map, slice_index};
 ghost use Rattle.serde_json.specs.Data.{unsigned, negative};
 ghost use Rattle.serde_json.specs.Read.{number_from};
-ghost use Rattle.jp_document.specs.Direct.{IsWholeText, ReadsItems, ReadsMembers, ReadsText, ReadsValue};
+ghost use Rattle.jp_document.specs.Private.Direct.{IsWholeText, ReadsItems, ReadsMembers, ReadsText, ReadsValue};
 ghost use Rattle.jp_document.specs.Document.{IsDocument};
 ghost use Rattle.jp_document.specs.Value.{IsDocumentValue, everywhere_in_items, everywhere_in_members, is_allowed, fits_64_bits, items_of, list, list_fits, member_of, members_of, names_fit, names_of, value_of};
 

@@ -1,8 +1,8 @@
 //! The members of an object while it is read.
 ghost use Rattle.std.specs.Prelude.{◌≡◌, [], true, IfSome, map, string_bytes};
 ghost use Rattle.std.specs.BTreeMap.{insert_entry};
-ghost use Rattle.jp_document.specs.Direct.{IsPlace};
-ghost use Rattle.jp_document.specs.Growing.{names_cmp, seen, entry_seen};
+ghost use Rattle.jp_document.specs.Private.Direct.{IsPlace};
+ghost use Rattle.jp_document.specs.Private.Growing.{names_cmp, seen, entry_seen};
 ghost use Rattle.jp_document.specs.Value.{member_of, members_of, names_of, names_rise, value_of};
 
 use crate::lookup::name_order;

@@ -1,13 +1,13 @@
 //! Reading the names of normalized paths (RFC 9535 section 2.7).
 ghost use Rattle.std.specs.Prelude.{string_bytes};
 ghost use Rattle.jp_reading.specs.Views.{Gives};
-ghost use Rattle.jp_document.specs.PathReader.{control_at, escaped_at, character_at, characters_at, name_at};
+ghost use Rattle.jp_document.specs.Private.PathReader.{control_at, escaped_at, character_at, characters_at, name_at};
 
 use crate::characters::{Characters, has_letter, hex_number, meant, take};
 use jp_reading::{Reader, Stop};
 
 /// Takes a name between single quotes.
-#[tactic(auto, unfolding(crate::specs::PathReader::name_at))]
+#[tactic(auto, unfolding(crate::specs::Private::PathReader::name_at))]
 pub(crate) fn name(reader: &mut Reader) -> Result<String, Stop>
     ensures { Gives (λ s. string_bytes s) result reader.new (name_at reader.old) }
 {
@@ -30,7 +30,7 @@ fn characters(reader: &mut Reader) -> Result<String, Stop>
 }
 
 /// Takes a character of a name, which stands for itself or behind `\`.
-#[tactic(auto, unfolding(crate::specs::PathReader::character_at))]
+#[tactic(auto, unfolding(crate::specs::Private::PathReader::character_at))]
 fn character(reader: &mut Reader) -> Result<char, Stop>
     ensures { Gives (λ c. c) result reader.new (character_at reader.old) }
 {
@@ -43,7 +43,7 @@ fn character(reader: &mut Reader) -> Result<char, Stop>
 }
 
 /// Takes what stands behind `\`: a letter, or `u` and a number.
-#[tactic(auto, unfolding(crate::specs::PathReader::escaped_at))]
+#[tactic(auto, unfolding(crate::specs::Private::PathReader::escaped_at))]
 fn escaped(reader: &mut Reader) -> Result<char, Stop>
     ensures { Gives (λ c. c) result reader.new (escaped_at reader.old) }
 {
@@ -57,7 +57,7 @@ fn escaped(reader: &mut Reader) -> Result<char, Stop>
 }
 
 /// Takes the number of a character below U+0020 that has no letter: `00` and two lower case hex digits.
-#[tactic(auto, unfolding(crate::specs::PathReader::control_at))]
+#[tactic(auto, unfolding(crate::specs::Private::PathReader::control_at))]
 fn control(reader: &mut Reader) -> Result<char, Stop>
     ensures { Gives (λ c. c) result reader.new (control_at reader.old) }
 {

@@ -15,7 +15,7 @@ pub enum PathFault {
 }
 
 impl From<Stop> for PathFault {
-    ghost use Rattle.jp_document.specs.PathReader.{fault_of};
+    ghost use Rattle.jp_document.specs.PathFault.{fault_of};
 
     ghost from_gives = { λ stop fault. fault ≡ fault_of stop };
 

@@ -2,7 +2,7 @@
 ghost use Rattle.std.specs.Prelude.{◌≡◌, ◌&&◌, map, Some, true, IfOk, IfErr};
 ghost use Rattle.serde_json.specs.View.{view, number_view, items_view, members_view};
 ghost use Rattle.jp_document.specs.Document.{IsDocument, IsDocumentFault, value_of_data, items_of_data, members_of_data};
-ghost use Rattle.jp_document.specs.Stop.{StopsAt};
+ghost use Rattle.jp_document.specs.Private.Stop.{StopsAt};
 ghost use Rattle.serde_json.specs.Data.{number as number_data, array, object};
 ghost use Rattle.jp_document.specs.Value.{IsDocumentValue, value_of, list, items_of, members_of, member_of, names_fit, names_of, everywhere, everywhere_in_items, everywhere_in_members, list_fits, is_allowed};
 

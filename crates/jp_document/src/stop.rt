@@ -24,7 +24,7 @@ impl From<AllocError> for Stop {
 }
 
 impl Stop {
-    ghost use Rattle.jp_document.specs.Stop.{IsStopWithin, IsFaultAt};
+    ghost use Rattle.jp_document.specs.Private.Stop.{IsStopWithin, IsFaultAt};
 
     /// The stop seen one step further out.
     pub(crate) fn within(self, step: OwnedStep) -> Stop

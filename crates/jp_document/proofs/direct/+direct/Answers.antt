@@ -6,8 +6,8 @@ use Rattle.json.specs.Token.{Token}
 use Rattle.json.specs.Json.{after_end_array, read_key}
 use Rattle.json.specs.Reads.{token_of}
 use Rattle.json.proofs.Grammar.{read_key-shorter}
-use Rattle.jp_document.specs.Direct.{ReadsValue}
-use Rattle.jp_document.specs.Growing.{seen}
+use Rattle.jp_document.specs.Private.Direct.{ReadsValue}
+use Rattle.jp_document.specs.Private.Growing.{seen}
 use Rattle.jp_document.proofs.Names.{bytes_cmp}
 use Rattle.jp_document.specs.Value.{null, boolean, whole, text, value_of}
 use Rattle.jp_document.specs.declared.value.Json.{Null, Bool, Whole, Text, the_lemmas}

@@ -1,7 +1,7 @@
 use Rattle.std.proofs.Common.{◌≡◌, ℕ, true, ◌*◌, ◌+◌, ◌++◌, ◌≤◌, List, length, map}
 use Rattle.json.specs.Token.{Token}
-use Rattle.jp_document.specs.Direct.{ReadsItems}
-use Rattle.jp_document.specs.Growing.{seen}
+use Rattle.jp_document.specs.Private.Direct.{ReadsItems}
+use Rattle.jp_document.specs.Private.Growing.{seen}
 use Rattle.jp_document.specs.Value.{Value, everywhere_in_items, is_allowed, items_of, value_of}
 use Rattle.jp_document.proofs.DirectAhead.{MembersAhead}
 use Rattle.jp_document.proofs.direct.+direct.Given as goal

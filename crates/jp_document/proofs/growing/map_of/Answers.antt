@@ -2,7 +2,7 @@ use Rattle.std.proofs.Common.{◌≡◌, [], ◌∷◌, ◌++◌, map, length, s
 use Rattle.std.specs.BTreeMap.{insert_entry}
 use Rattle.std.specs.Map.{keys_of}
 use Rattle.std.specs.Vec.Iter.{into_iter_items}
-use Rattle.jp_document.specs.Growing.{entry_seen}
+use Rattle.jp_document.specs.Private.Growing.{entry_seen}
 use Rattle.jp_document.specs.Value.{member_of, value_of, names_rise}
 use Rattle.jp_document.proofs.Names.{names_of-members_of}
 use Rattle.jp_document.proofs.Places.{insert_last, seen-insert_entry}

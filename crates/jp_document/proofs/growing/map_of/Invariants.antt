@@ -1,6 +1,6 @@
 use Rattle.std.proofs.Common.{◌≡◌, ◌++◌, length, map}
 use Rattle.std.specs.Vec.Iter.{into_iter_items, into_iter_len}
-use Rattle.jp_document.specs.Growing.{entry_seen}
+use Rattle.jp_document.specs.Private.Growing.{entry_seen}
 use Rattle.jp_document.specs.Value.{member_of}
 use Rattle.jp_document.proofs.growing.map_of.Given as goal
 

@@ -1,5 +1,5 @@
 use Rattle.std.proofs.Common.{◌≡◌, ◌++◌, map}
-use Rattle.jp_document.specs.Growing.{entry_seen}
+use Rattle.jp_document.specs.Private.Growing.{entry_seen}
 use Rattle.jp_document.specs.Value.{member_of}
 use Rattle.jp_document.proofs.growing.members_of_map.Given as goal
 

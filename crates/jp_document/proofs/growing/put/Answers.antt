@@ -1,6 +1,6 @@
 use Rattle.std.proofs.Common.{◌≡◌, map, string_cmp, ap, ◌∙◌, rules}
 use Rattle.std.specs.BTreeMap.{insert_entry}
-use Rattle.jp_document.specs.Growing.{entry_seen}
+use Rattle.jp_document.specs.Private.Growing.{entry_seen}
 use Rattle.jp_document.proofs.Places.{seen-insert_entry}
 use Rattle.jp_document.proofs.growing.put.Goals as goal
 

@@ -5,7 +5,7 @@ use Rattle.std.specs.Str.{encode_utf8_all}
 use Rattle.jp_reading.specs.Outcome.{took}
 use Rattle.jp_reading.proofs.Folds.{folds_on, folds_end, folds_fail}
 use Rattle.jp_reading.proofs.Progress.{moved}
-use Rattle.jp_document.specs.PathReader.{characters_at, is_inside, character_at}
+use Rattle.jp_document.specs.Private.PathReader.{characters_at, is_inside, character_at}
 use Rattle.jp_document.proofs.PathMoves.{character_at-progress}
 use Rattle.jp_document.proofs.name_reader.characters.Goals as goal
 

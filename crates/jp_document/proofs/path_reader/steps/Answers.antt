@@ -5,7 +5,7 @@ use Rattle.jp_reading.specs.Outcome.{took, is_at}
 use Rattle.jp_reading.proofs.Folds.{folds_on, folds_end, folds_fail}
 use Rattle.jp_reading.proofs.Progress.{moved}
 use Rattle.jp_document.specs.Location.{owned_key}
-use Rattle.jp_document.specs.PathReader.{step_at}
+use Rattle.jp_document.specs.Private.PathReader.{step_at}
 use Rattle.jp_document.proofs.PathMoves.{step_at-progress}
 use Rattle.jp_document.proofs.path_reader.steps.Goals as goal
 

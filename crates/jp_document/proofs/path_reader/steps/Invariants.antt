@@ -1,7 +1,7 @@
 use Rattle.std.proofs.Common.{◌≡◌, length, map}
 use Rattle.jp_reading.specs.Views.{with_front}
 use Rattle.jp_document.specs.Location.{owned_key}
-use Rattle.jp_document.specs.PathReader.{steps_at}
+use Rattle.jp_document.specs.Private.PathReader.{steps_at}
 use Rattle.jp_document.proofs.path_reader.steps.Given as goal
 
 abbrev pub invariant-steps : goal.invariant-steps

@@ -1,7 +1,7 @@
 use Rattle.std.proofs.Common.{◌≡◌, map, reverse, sym, ap, ◌∙◌, subst, rules}
 use Rattle.jp_document.specs.Location.{owned_key}
 use Rattle.jp_document.specs.Path.{path_of}
-use Rattle.jp_document.specs.Stop.{IsFaultAt}
+use Rattle.jp_document.specs.Private.Stop.{IsFaultAt}
 use Rattle.jp_document.specs.declared.fault.DocumentFault.TheVariants.{NotWhole}
 use Rattle.jp_document.proofs.Stops.{map-reverse}
 use Rattle.jp_document.proofs.stop.Stop.fault.Goals as goal

@@ -5,10 +5,6 @@ use Rattle.std.specs.Str.{encode_utf8_all}
 use Rattle.jp_reading.specs.Outcome.{State, Outcome, took, stuck, ◌>>=◌, past, is_at, is_end, take_if, expect, each}
 use Rattle.jp_reading.specs.Numbers.{digits_at, capped}
 use Rattle.jp_reading.specs.Views.{by}
-use Rattle.jp_reading.specs.declared.reader.Stop.{Stop}
-use Rattle.jp_reading.specs.declared.reader.Stop.TheVariants as stop
-use Rattle.jp_document.specs.declared.path_fault.PathFault.{PathFault}
-use Rattle.jp_document.specs.declared.path_fault.PathFault.TheVariants as fault
 use Rattle.jp_document.specs.declared.characters.Characters.{Characters}
 use Rattle.jp_document.specs.declared.characters.Characters.TheVariants as characters
 use Rattle.jp_document.specs.Location.{Key, named, nth, Location}
@@ -106,9 +102,3 @@ steps_at = each (is_at 91) step_at
 -- a whole path: the text ends behind it
 unfoldable pub path_at : State → Outcome Location
 path_at p = expect 36 p >>= λ _ q. steps_at q >>= λ l q. if is_end q then took l q else stuck q
-
--- the fault for which reading stops
-abbrev pub fault_of : Stop → PathFault
-fault_of stop.Memory = fault.NoMemory
-fault_of (stop.Syntax place) = fault.NotNormalized
-fault_of (stop.TooDeep place) = fault.NotNormalized

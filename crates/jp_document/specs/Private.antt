@@ -1,0 +1,5 @@
+-- Shapes of the code, which private clauses alone cite.
+pub mod Direct
+pub mod Growing
+pub mod PathReader
+pub mod Stop
