@@ -1,5 +1,5 @@
 -- Slices (RFC 9535 section 2.3.4.1).
-use Rattle.std.specs.Prelude.{◌≡◌, ℕ, pos, Option, Some, None, [], ◌∷◌, codes}
+use Rattle.std.specs.Prelude.{◌≡◌, ℕ, pos, Option, Some, None, [], codes}
 use Rattle.jp_query.specs.declared.tree.Numeral.{Numeral}
 use Rattle.jp_query.specs.declared.tree.Numeral.TheVariants.{Whole}
 use Rattle.jp_query.specs.declared.tree.Slice.{Slice}
