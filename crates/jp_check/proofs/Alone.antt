@@ -19,7 +19,7 @@ use Rattle.jp_check.specs.First.{IsItemFault, IsNoLater, IsFirstFault}
 use Rattle.jp_check.specs.Laws.{OneAnswer}
 use Rattle.jp_check.specs.Refused.{IsFaulty, RefusalSays, IsRefused, IsRefusedForItself}
 use Rattle.jp_check.proofs.Least.{NoFault, of-cons, of-item, of-none, found}
-use Rattle.jp_check.specs.Walk.{steps}
+use Rattle.jp_check.specs.Private.Walk.{steps}
 use Rattle.jp_query.proofs.ItemSpans.{spans-of_items}
 
 -- ---- kinds have numbers of their own

@@ -11,7 +11,7 @@ use Rattle.jp_query.specs.Items.{QueryItem, as_step, int}
 use Rattle.jp_query.specs.ItemSpans.{EachSpanned}
 use Rattle.jp_check.specs.Faults.{HasFault}
 use Rattle.jp_check.specs.First.{IsItemFault, IsNoLater, IsFirstFault}
-use Rattle.jp_check.specs.Walk.{Progress, fault_of, is_before, earlier, past_item, steps}
+use Rattle.jp_check.specs.Private.Walk.{Progress, fault_of, is_before, earlier, past_item, steps}
 use Rattle.std.proofs.lemmas.Bool.Decides.{nat_tests}
 use Rattle.jp_check.proofs.OwnFault.{IsOwn, int-fault, own-fault}
 

@@ -10,7 +10,7 @@ use Rattle.jp_query.specs.Singular.{is_singular}
 use Rattle.jp_query.specs.Tree.{QueryTree, LiteralTree, number, text, true_literal, false_literal, null_literal}
 use Rattle.jp_check.specs.Faults.{HasFault}
 use Rattle.jp_check.specs.Ranges.{is_in_index_range}
-use Rattle.jp_check.specs.Walk.{fault_of, fault_of_literal}
+use Rattle.jp_check.specs.Private.Walk.{fault_of, fault_of_literal}
 
 -- the item has none, or this kind and none with a smaller number
 abbrev pub IsOwn : QueryItem → Option RefusalKind → Type 0

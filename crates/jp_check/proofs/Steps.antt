@@ -9,7 +9,7 @@ use Rattle.jp_query.specs.declared.tree.Segment.{Segment}
 use Rattle.jp_query.specs.declared.tree.Selector.{Selector}
 use Rattle.jp_query.specs.Items.{QueryItem, expr_items, exprs_items, operand_items, segment_items, segments_items, selector_items, selectors_items}
 use Rattle.jp_query.specs.Tree.{expr_of, exprs, operand_of, segment_of, segments, selector_of, selectors}
-use Rattle.jp_check.specs.Walk.{Progress, fault_of, past_item, steps}
+use Rattle.jp_check.specs.Private.Walk.{Progress, fault_of, past_item, steps}
 use Rattle.jp_check.proofs.Trees.{expr_of-Compare}
 
 -- items one after another

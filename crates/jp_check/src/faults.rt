@@ -2,7 +2,7 @@
 
 ghost use Rattle.std.specs.Prelude.{◌≡◌};
 ghost use Rattle.jp_query.specs.Tree.{literal_of, query_of};
-ghost use Rattle.jp_check.specs.Walk.{fault_of_int, fault_of_literal, fault_of_side};
+ghost use Rattle.jp_check.specs.Private.Walk.{fault_of_int, fault_of_literal, fault_of_side};
 
 use crate::ranges::is_in_index_range;
 use crate::singular::is_singular;

@@ -6,7 +6,7 @@ ghost use Rattle.jp_query.specs.Refusal.{number_of};
 ghost use Rattle.jp_query.specs.Tree.{expr_of, exprs, operand_of, query_of, segment_of, selector_of, slice as slice_tree};
 ghost use Rattle.jp_check.specs.Faults.{IsFaultless};
 ghost use Rattle.jp_check.specs.First.{IsFirstFault};
-ghost use Rattle.jp_check.specs.Walk.{earlier, fault_of_int, is_before, past_item, steps};
+ghost use Rattle.jp_check.specs.Private.Walk.{earlier, fault_of_int, is_before, past_item, steps};
 
 use crate::faults::{fault_of_int, fault_of_literal, fault_of_side};
 use jp_query::{
@@ -36,7 +36,7 @@ struct Walk<'s> {
 }
 
 impl<'s> Model for Walk<'s> {
-    ghost use Rattle.jp_check.specs.Walk.{Progress};
+    ghost use Rattle.jp_check.specs.Private.Walk.{Progress};
 
     ghost Value = { Progress };
 

@@ -5,7 +5,7 @@ use Rattle.jp_reading.proofs.Rules.Form.{Alive}
 use Rattle.jp_query.specs.declared.tree.Numeral.{Numeral}
 use Rattle.jp_query.specs.Strings.{is_plain, is_hexdig, is_d, is_not_d, is_0_to_7, is_8_to_b, is_c_to_f}
 use Rattle.jp_query.specs.Tree.{OperandTree, literal, node_value, ExprTree}
-use Rattle.jp_query.specs.Rules as rule
+use Rattle.jp_query.specs.Private.Rules as rule
 
 -- the test passes some character
 abbrev pub Passed : (ℕ → Bool) → Type 0

@@ -8,8 +8,8 @@ use Rattle.jp_reading.proofs.Rules.Follow.{Follow, any, beginning, either_of, bl
 use Rattle.jp_query.specs.Names.{is_name_char}
 use Rattle.jp_query.specs.Tree.{OperandTree, literal, node_value, ExprTree}
 use Rattle.jp_query.specs.Characters.{comma, closing_bracket, closing_parenthesis, question_mark, opening_parenthesis, ampersand, bar}
-use Rattle.jp_query.specs.Rules.{nesting, begins_int, begins_operator, begins_segment, begins_query, part}
-use Rattle.jp_query.specs.Rules as rule
+use Rattle.jp_query.specs.Private.Rules.{nesting, begins_int, begins_operator, begins_segment, begins_query, part}
+use Rattle.jp_query.specs.Private.Rules as rule
 use Rattle.jp_query.proofs.Alive.{selector-alive, entry-alive, entries-alive, bracket-alive, member-alive, selection-alive, segment-alive, segments-alive, query-alive, identifier-alive, inner_query-alive, side-alive, comparison-alive, test-alive, closed-alive, negated-alive, literal_compared-alive, basic-alive, conjunction-alive, expression-alive, inside_mark-alive}
 use Rattle.jp_query.proofs.ApartFlat.{EndsNumber, EndsSlice, either-excludes, shorthand-apart, quoted-apart, literal-apart, operator-apart, slice-apart, number_selector-apart}
 

@@ -9,8 +9,8 @@ use Rattle.jp_query.specs.declared.tree.Numeral.{Numeral}
 use Rattle.jp_query.specs.Names.{is_name_char}
 use Rattle.jp_query.specs.Strings.{is_plain, is_hexdig, is_d, is_not_d, is_0_to_7, is_8_to_b, is_c_to_f}
 use Rattle.jp_query.specs.Literals.{is_e}
-use Rattle.jp_query.specs.Rules.{nesting, begins_character, begins_int, begins_operator, begins_segment, begins_query}
-use Rattle.jp_query.specs.Rules as rule
+use Rattle.jp_query.specs.Private.Rules.{nesting, begins_character, begins_int, begins_operator, begins_segment, begins_query}
+use Rattle.jp_query.specs.Private.Rules as rule
 use Rattle.jp_query.proofs.Alive.{Passed, shorthand-alive, hexdig-passed, d-passed, not_d-passed, low-passed, high-passed, from_c-passed, digit-passed, unit_after-alive, unit-alive, surrogates-alive, hexchar-alive, escape-alive, character-alive, characters-alive, quoted-alive, size-alive, unsigned-alive, int-alive, mantissa-alive, digits-alive, decimals-alive, power-alive, exponent-alive, number-alive, literal-alive, operator-alive, bound-alive, later_step-alive, step-alive, slice-alive, number_selector-alive}
 
 -- what follows a number goes on with none of its parts

@@ -9,8 +9,8 @@ use Rattle.jp_reading.proofs.Folds.{by-by}
 use Rattle.std.proofs.lemmas.Bool.Decides.{nat_tests}
 use Rattle.std.proofs.lemmas.Bool.{cases_Bool, ltb-true, ltb-false, lt-leb}
 use Rattle.jp_query.specs.Ints.{whole_of, negative_of, is_leading_digit}
-use Rattle.jp_query.specs.Rules.{run, size}
-use Rattle.jp_query.specs.Reading.{read_flat}
+use Rattle.jp_query.specs.Private.Rules.{run, size}
+use Rattle.jp_query.specs.Private.Reading.{read_flat}
 
 digit-from_leading : (c : ℕ) → is_leading_digit c ≡ true → is_digit c ≡ true
 unfolding is_digit

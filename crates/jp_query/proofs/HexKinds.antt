@@ -6,7 +6,7 @@ use Rattle.std.specs.Char.{digit_value}
 use Rattle.jp_query.specs.declared.strings.HexDigit.{HexDigit}
 use Rattle.jp_query.specs.declared.strings.HexDigit.TheVariants.{Any, NotD, D, UpTo7, EightToB, FromC}
 use Rattle.jp_query.specs.Strings.{is_hexdig, is_not_d, is_d, is_0_to_7, is_8_to_b, is_c_to_f}
-use Rattle.jp_query.specs.HexDigits.{is_one_of, holds_value, IsUnitAfter, IsUnitOf}
+use Rattle.jp_query.specs.Private.HexDigits.{is_one_of, holds_value, IsUnitAfter, IsUnitOf}
 
 -- a character is of the kind that its value is of
 pub is_one_of-value : (k : HexDigit) (c : ℕ) → is_one_of k c ≡ holds_value k (digit_value c)

@@ -16,8 +16,8 @@ use Rattle.jp_reading.proofs.Rules.Soundness.{InnerIsSound, none_left, some_left
 use Rattle.jp_reading.proofs.Rules.Completeness.{InnerIsComplete, done}
 use Rattle.jp_query.specs.Tree.{ExprTree, QueryTree}
 use Rattle.jp_query.specs.Grammar.{Expression, Inside, Segments, Spells}
-use Rattle.jp_query.specs.Rules.{nesting, inside_mark, expression, segments}
-use Rattle.jp_query.specs.Reading.{inside, read_inside}
+use Rattle.jp_query.specs.Private.Rules.{nesting, inside_mark, expression, segments}
+use Rattle.jp_query.specs.Private.Reading.{inside, read_inside}
 use Rattle.jp_query.proofs.Alive.{expression-alive, inside_mark-alive}
 use Rattle.jp_query.proofs.Apart.{closes, inside_mark-apart}
 use Rattle.jp_query.proofs.Forms.Selectors.{marked, segments-within, segments-spelt}

@@ -3,8 +3,8 @@ use Rattle.std.proofs.Common.{◌≡◌, ℕ, zero, suc, refl, ◌∙◌}
 use Rattle.jp_reading.specs.Outcome.{State, stuck}
 use Rattle.jp_reading.specs.RuleReading.{read}
 use Rattle.jp_reading.proofs.Rules.LevelsMonotone.{Stays, stays, needs_more, stays-then, stays-rule}
-use Rattle.jp_query.specs.Rules.{inside_mark, query}
-use Rattle.jp_query.specs.Reading.{inside, query_at}
+use Rattle.jp_query.specs.Private.Rules.{inside_mark, query}
+use Rattle.jp_query.specs.Private.Reading.{inside, query_at}
 
 stays-inside : (n mark : ℕ) (p : State) → Stays (inside n mark p) (inside (suc n) mark p)
 stays-inside zero mark p = needs_more p refl

@@ -7,8 +7,8 @@ use Rattle.jp_reading.specs.RuleReading.{read}
 use Rattle.jp_reading.proofs.Chars.{skip-shorter}
 use Rattle.jp_reading.proofs.Locality.{all, unblanked, Ends, Agrees, ended, Local, local-then, local-deep, local-stuck, local-skip, unblanked-skip}
 use Rattle.jp_reading.proofs.Rules.Locality.{local-rule}
-use Rattle.jp_query.specs.Rules.{inside_mark, query}
-use Rattle.jp_query.specs.Reading.{inside, query_at}
+use Rattle.jp_query.specs.Private.Rules.{inside_mark, query}
+use Rattle.jp_query.specs.Private.Reading.{inside, query_at}
 use Rattle.jp_query.proofs.Levels.{inside-progress}
 
 local-inside : (n mark : ℕ) → Local all unblanked (inside n mark)

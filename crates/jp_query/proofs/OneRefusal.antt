@@ -11,7 +11,7 @@ use Rattle.jp_query.specs.Grammar.{Spells}
 use Rattle.jp_query.specs.Spelled.{SpellsNothing}
 use Rattle.jp_query.specs.ViablePrefix.{IsViablePrefix, IsNoViablePrefix, EndsViablePrefix, IsSyntaxAt, IsTooDeepAt}
 use Rattle.jp_query.specs.Laws.{IsParseRefusal, OneRefusal}
-use Rattle.jp_query.specs.Reading.{query_at}
+use Rattle.jp_query.specs.Private.Reading.{query_at}
 use Rattle.jp_query.proofs.Whole.{read-spells}
 use Rattle.jp_query.proofs.Places.{stuck-place, deep-place}
 

@@ -6,7 +6,7 @@ use Rattle.jp_reading.specs.Outcome.{State, Outcome, took, stuck, deep, past}
 use Rattle.jp_reading.proofs.Between.{Stops, Passes}
 use Rattle.jp_reading.proofs.Again.{start}
 use Rattle.jp_query.specs.ViablePrefix.{IsViablePrefix, IsNoViablePrefix, EndsViablePrefix, IsSyntaxAt, IsTooDeepAt}
-use Rattle.jp_query.specs.Reading.{query_at}
+use Rattle.jp_query.specs.Private.Reading.{query_at}
 use Rattle.jp_reading.proofs.Locality.{all, Agrees, same, ended, longer}
 use Rattle.jp_query.proofs.Locality.{local-query}
 use Rattle.jp_query.proofs.LevelsMonotone.{stuck-deeper}

@@ -8,10 +8,10 @@ use Rattle.jp_reading.specs.Views.{Fails}
 use Rattle.jp_reading.proofs.Again.{start}
 use Rattle.jp_query.specs.declared.refusal.RefusalKind.TheVariants.{Syntax, TooDeep, NoMemory}
 use Rattle.jp_query.specs.Tree.{QueryTree}
-use Rattle.jp_query.specs.Reading.{query_at}
+use Rattle.jp_query.specs.Private.Reading.{query_at}
 use Rattle.jp_query.specs.Spelled.{SpellsNothing}
 use Rattle.jp_query.specs.ViablePrefix.{IsSyntaxAt, IsTooDeepAt}
-use Rattle.jp_query.specs.Stops.{refusal_of}
+use Rattle.jp_query.specs.Private.Stops.{refusal_of}
 use Rattle.jp_query.proofs.Unique.{unread-spells_nothing, deep-spells_nothing}
 use Rattle.jp_query.proofs.Places.{stuck-place, deep-place}
 

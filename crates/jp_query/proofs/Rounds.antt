@@ -11,8 +11,8 @@ use Rattle.jp_reading.proofs.Steps.{take_if-takes, head-is}
 use Rattle.jp_query.specs.Tree.{SelectorTree, segment, selectors, ExprTree, ExprTrees, exprs}
 use Rattle.jp_query.specs.Characters.{comma, opening_bracket, closing_bracket}
 use Rattle.jp_query.specs.Grammar.{joined}
-use Rattle.jp_query.specs.Rules.{nesting, QueryRule, selector, entry, entries, bracket, joint, part, parts}
-use Rattle.jp_query.specs.Reading.{read_flat}
+use Rattle.jp_query.specs.Private.Rules.{nesting, QueryRule, selector, entry, entries, bracket, joint, part, parts}
+use Rattle.jp_query.specs.Private.Reading.{read_flat}
 
 -- ---- selectors in brackets
 

@@ -12,8 +12,8 @@ use Rattle.jp_query.specs.Strings.{is_plain, scalar_of, escaped, is_escapable}
 use Rattle.jp_query.specs.Ints.{whole_of, negative_of}
 use Rattle.jp_query.specs.Items.{items_of, int, as_index, inner, constant, as_side}
 use Rattle.jp_query.specs.Grammar.{Spells}
-use Rattle.jp_query.specs.Rules as rule
-use Rattle.jp_query.specs.Reading.{query_at}
+use Rattle.jp_query.specs.Private.Rules as rule
+use Rattle.jp_query.specs.Private.Reading.{query_at}
 use Rattle.jp_query.proofs.Whole.{read-spells}
 use Rattle.jp_query.specs.declared.tree.Op.TheVariants.{Equal, LessEqual}
 use Rattle.jp_reading.specs.declared.span.Span.{Span}

@@ -6,8 +6,8 @@ use Rattle.jp_reading.proofs.Steps.{take_if-takes}
 use Rattle.jp_reading.proofs.Progress.{moves-take_if}
 use Rattle.jp_reading.proofs.Loops.{each-on, round}
 use Rattle.jp_query.specs.Names.{is_name_first, is_name_char}
-use Rattle.jp_query.specs.Rules.{run, shorthand}
-use Rattle.jp_query.specs.Reading.{read_flat}
+use Rattle.jp_query.specs.Private.Rules.{run, shorthand}
+use Rattle.jp_query.specs.Private.Reading.{read_flat}
 
 -- a shorthand is a run that begins with its first character
 pub shorthand-run : (p : State) (c : ℕ) → head p ≡ Some c → is_name_first c ≡ true → read_flat shorthand p ≡ read_flat (run is_name_char) p

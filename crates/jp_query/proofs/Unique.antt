@@ -12,8 +12,8 @@ use Rattle.jp_query.specs.Tree.{QueryTree}
 use Rattle.jp_query.specs.Grammar.{Segments, Inside, Spells}
 use Rattle.jp_query.specs.Spelled.{SpellsNothing}
 use Rattle.jp_query.specs.Laws.{OneReading}
-use Rattle.jp_query.specs.Rules.{query}
-use Rattle.jp_query.specs.Reading.{query_at, inside}
+use Rattle.jp_query.specs.Private.Rules.{query}
+use Rattle.jp_query.specs.Private.Reading.{query_at, inside}
 use Rattle.jp_query.proofs.Alive.{query-alive}
 use Rattle.jp_query.proofs.Apart.{closes, at_end, query-apart}
 use Rattle.jp_query.proofs.Forms.Selectors.{marked, segments-spelt}

@@ -14,8 +14,8 @@ use Rattle.jp_reading.proofs.Rules.Form.{form, least, has}
 use Rattle.jp_reading.proofs.Rules.Soundness.{IsSound, sound, sound-as}
 use Rattle.jp_query.specs.Tree.{SegmentTree, QueryTree, query, segments}
 use Rattle.jp_query.specs.Grammar.{Segment, Segments, Inside, Spells}
-use Rattle.jp_query.specs.Rules as rule
-use Rattle.jp_query.specs.Reading.{inside, query_at}
+use Rattle.jp_query.specs.Private.Rules as rule
+use Rattle.jp_query.specs.Private.Reading.{inside, query_at}
 use Rattle.jp_query.proofs.Alive.{segment-alive, query-alive}
 use Rattle.jp_query.proofs.Forms.Selectors.{marked, segment-within, segments-within}
 use Rattle.jp_query.proofs.Levels.{marked-lifts, inside-lifts, inside-sound}

@@ -8,8 +8,8 @@ use Rattle.jp_reading.specs.Numbers.{is_digit, capped, digits_at}
 use Rattle.jp_reading.specs.Views.{by, Fails}
 use Rattle.jp_reading.proofs.Folds.{fails-then}
 use Rattle.jp_query.specs.Tree.{true_literal, false_literal, null_literal}
-use Rattle.jp_query.specs.Rules.{run, letters, digits, literal}
-use Rattle.jp_query.specs.Reading.{read_flat}
+use Rattle.jp_query.specs.Private.Rules.{run, letters, digits, literal}
+use Rattle.jp_query.specs.Private.Reading.{read_flat}
 
 -- the digits as `natural` reads them
 pub digits-natural : (p : State) → read_flat digits p ≡ by (λ (n : ℕ). true) (by (capped 0 0) (digits_at p))

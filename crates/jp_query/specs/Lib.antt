@@ -1,6 +1,5 @@
 pub mod Characters
 pub mod Grammar
-pub mod HexDigits
 pub mod Ints
 pub mod ItemSpans
 pub mod Items
@@ -8,14 +7,11 @@ pub mod Laws
 pub mod Levels
 pub mod Literals
 pub mod Names
-pub mod Parsed
-pub mod Reading
+pub mod Private
 pub mod Refusal
-pub mod Rules
 pub mod Singular
 pub mod Slices
 pub mod Spelled
-pub mod Stops
 pub mod Strings
 pub mod Tree
 pub mod ViablePrefix

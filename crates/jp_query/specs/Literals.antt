@@ -1,5 +1,5 @@
 -- Literals, and the operators of comparisons (RFC 9535 section 2.3.5.1).
-use Rattle.std.specs.Prelude.{◌≡◌, ℕ, Bool, true, false, ◌||◌, ◌==◌, if◌then◌else◌, [], ◌∷◌}
+use Rattle.std.specs.Prelude.{◌≡◌, ℕ, Bool, true, false, ◌||◌, ◌==◌, if◌then◌else◌, [], codes}
 use Rattle.jp_query.specs.declared.tree.Numeral.{Numeral}
 use Rattle.jp_query.specs.declared.tree.Numeral.TheVariants.{Fraction}
 use Rattle.jp_query.specs.declared.tree.Op.{Op}
@@ -10,6 +10,7 @@ use Rattle.jp_reading.specs.Numbers.{is_digit}
 use Rattle.jp_query.specs.Tree.{LiteralTree, number as number_literal, text, true_literal, false_literal, null_literal}
 use Rattle.jp_query.specs.Ints.{Int, whole_of}
 use Rattle.jp_query.specs.Strings.{Quoted}
+use Rattle.jp_query.specs.Characters.{plus, minus, letter_e, capital_e}
 
 -- a text of the form, or no text (RFC 5234 section 3.8)
 pub data Optional (P : Form) (there : Bool) (s : Spans) (o : ℕ) (t : Text) : Type 0 where
@@ -22,14 +23,14 @@ DigitSequence c more = One is_digit c ⌢ Each (One is_digit) more
 
 -- frac: a dot and digits
 pub data Decimals (s : Spans) (o : ℕ) (t : Text) : Type 0 where
-  decimals : (c : ℕ) (more : Text) → (word (46 ∷ []) ⌢ DigitSequence c more) s o t → Decimals s o t
+  decimals : (c : ℕ) (more : Text) → (word (codes ".") ⌢ DigitSequence c more) s o t → Decimals s o t
 
 -- an `e` of either case; a sign
 abbrev pub is_e : ℕ → Bool
-is_e c = (c == 101) || (c == 69)
+is_e c = (c == letter_e) || (c == capital_e)
 
 abbrev pub is_sign : ℕ → Bool
-is_sign c = (c == 43) || (c == 45)
+is_sign c = (c == plus) || (c == minus)
 
 -- exp: an `e`, a sign or none, and digits
 pub data Exponent (s : Spans) (o : ℕ) (t : Text) : Type 0 where
@@ -39,7 +40,7 @@ pub data Exponent (s : Spans) (o : ℕ) (t : Text) : Type 0 where
 -- int / "-0": zero may have a sign here, and is 0 then too
 pub data Mantissa (x : Numeral) (s : Spans) (o : ℕ) (t : Text) : Type 0 where
   whole : Int x s o t → Mantissa x s o t
-  minus_zero : x ≡ whole_of 0 → word (45 ∷ 48 ∷ []) s o t → Mantissa x s o t
+  minus_zero : x ≡ whole_of 0 → word (codes "-0") s o t → Mantissa x s o t
 
 -- what a number is held as: one with a fraction or an exponent as such, whatever its value
 abbrev pub numeral : Numeral → Bool → Bool → Numeral
@@ -54,15 +55,15 @@ pub data Number (x : Numeral) (s : Spans) (o : ℕ) (t : Text) : Type 0 where
 pub data Literal (x : LiteralTree) (s : Spans) (o : ℕ) (t : Text) : Type 0 where
   of_number : (n : Numeral) → x ≡ number_literal n → Number n s o t → Literal x s o t
   of_text : (cs : Text) → x ≡ text cs → Quoted cs s o t → Literal x s o t
-  of_true : x ≡ true_literal → word (116 ∷ 114 ∷ 117 ∷ 101 ∷ []) s o t → Literal x s o t
-  of_false : x ≡ false_literal → word (102 ∷ 97 ∷ 108 ∷ 115 ∷ 101 ∷ []) s o t → Literal x s o t
-  of_null : x ≡ null_literal → word (110 ∷ 117 ∷ 108 ∷ 108 ∷ []) s o t → Literal x s o t
+  of_true : x ≡ true_literal → word (codes "true") s o t → Literal x s o t
+  of_false : x ≡ false_literal → word (codes "false") s o t → Literal x s o t
+  of_null : x ≡ null_literal → word (codes "null") s o t → Literal x s o t
 
 -- comparison-op: ==, !=, <, <=, >, >=
 abbrev pub spelling : Op → Text
-spelling Equal = 61 ∷ 61 ∷ []
-spelling Unequal = 33 ∷ 61 ∷ []
-spelling Less = 60 ∷ []
-spelling LessEqual = 60 ∷ 61 ∷ []
-spelling Greater = 62 ∷ []
-spelling GreaterEqual = 62 ∷ 61 ∷ []
+spelling Equal = codes "=="
+spelling Unequal = codes "!="
+spelling Less = codes "<"
+spelling LessEqual = codes "<="
+spelling Greater = codes ">"
+spelling GreaterEqual = codes ">="

@@ -3,10 +3,13 @@ use Rattle.std.specs.Prelude.{◌≡◌, ℕ, Bool, ◌&&◌, ◌||◌, nat_le, 
 use Rattle.jp_reading.specs.Texts.{Text, Spans}
 use Rattle.jp_reading.specs.Forms.{One, ◌⌢◌, Each}
 use Rattle.jp_reading.specs.Numbers.{is_digit}
+use Rattle.jp_query.specs.Characters.{capital_a, capital_z, low_line, letter_a, letter_z}
 
 -- name-first (section 2.5.1.1): a letter, `_`, or any scalar value from U+0080 up
 abbrev pub is_name_first : ℕ → Bool
-is_name_first c = (nat_le 65 c && nat_le c 90) || (nat_le 97 c && nat_le c 122) || (c == 95) || nat_le 128 c
+is_name_first c =
+    (nat_le capital_a c && nat_le c capital_z) || (nat_le letter_a c && nat_le c letter_z)
+    || (c == low_line) || nat_le 128 c
 
 -- name-char (section 2.5.1.1): name-first or a digit
 abbrev pub is_name_char : ℕ → Bool

@@ -1,5 +1,5 @@
 -- Slices (RFC 9535 section 2.3.4.1).
-use Rattle.std.specs.Prelude.{◌≡◌, ℕ, pos, Option, Some, None, [], ◌∷◌}
+use Rattle.std.specs.Prelude.{◌≡◌, ℕ, pos, Option, Some, None, [], codes}
 use Rattle.jp_query.specs.declared.tree.Numeral.{Numeral}
 use Rattle.jp_query.specs.declared.tree.Numeral.TheVariants.{Whole}
 use Rattle.jp_query.specs.declared.tree.Slice.{Slice}
@@ -15,9 +15,9 @@ pub data Bound (x : Option Numeral) (s : Spans) (o : ℕ) (t : Text) : Type 0 wh
 -- ":" [S step], or nothing: an omitted step is 1
 pub data Step (x : Numeral) (s : Spans) (o : ℕ) (t : Text) : Type 0 where
   no_step : x ≡ Whole (pos 1) → Omitted s o t → Step x s o t
-  empty_step : x ≡ Whole (pos 1) → (word (58 ∷ []) ⌢ Omitted) s o t → Step x s o t
-  given_step : (word (58 ∷ []) ⌢ Blank ⌢ Item (Int x)) s o t → Step x s o t
+  empty_step : x ≡ Whole (pos 1) → (word (codes ":") ⌢ Omitted) s o t → Step x s o t
+  given_step : (word (codes ":") ⌢ Blank ⌢ Item (Int x)) s o t → Step x s o t
 
 -- slice-selector: [start S] ":" S [end S] [":" [S step]]
 abbrev pub Sliced : Slice → Form
-Sliced x = Bound x.start ⌢ word (58 ∷ []) ⌢ Blank ⌢ Bound x.end ⌢ Step x.step
+Sliced x = Bound x.start ⌢ word (codes ":") ⌢ Blank ⌢ Bound x.end ⌢ Step x.step

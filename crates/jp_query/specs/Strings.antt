@@ -1,23 +1,31 @@
 -- Strings (RFC 9535 section 2.3.1.1, string-literal).
-use Rattle.std.specs.Prelude.{◌≡◌, ℕ, ◌+◌, ◌-◌, ◌*◌, Bool, not, ◌&&◌, ◌||◌, nat_le, nat_lt, ◌==◌, if◌then◌else◌, [], ◌∷◌}
+use Rattle.std.specs.Prelude.{◌≡◌, ℕ, ◌+◌, ◌-◌, ◌*◌, Bool, not, ◌&&◌, ◌||◌, nat_le, nat_lt, ◌==◌, if◌then◌else◌, [], ◌∷◌, codes}
 use Rattle.std.specs.Char.{digit_value}
 use Rattle.jp_reading.specs.Texts.{Text, Spans}
 use Rattle.jp_reading.specs.Forms.{Form, word, One, ◌⌢◌, Each}
+use Rattle.jp_query.specs.Characters.{space, double_quote, single_quote, backslash, slash, letter_b, letter_f, letter_n, letter_r, letter_t}
 
 -- a character that stands for itself: from U+0020 up, and neither the quotation mark round it nor a
 -- backslash (unescaped, and the other quotation mark)
 abbrev pub is_plain : ℕ → ℕ → Bool
-is_plain quote c = nat_le 32 c && not (c == quote) && not (c == 92)
+is_plain quote c = nat_le space c && not (c == quote) && not (c == backslash)
 
 -- what may follow a backslash, but for `u`: b, f, n, r, t, a slash, a backslash (escapable), or the
 -- quotation mark round it
 abbrev pub is_escapable : ℕ → ℕ → Bool
-is_escapable quote c = (c == 98) || (c == 102) || (c == 110) || (c == 114) || (c == 116) || (c == 47) || (c == 92) || (c == quote)
+is_escapable quote c =
+    (c == letter_b) || (c == letter_f) || (c == letter_n) || (c == letter_r) || (c == letter_t)
+    || (c == slash) || (c == backslash) || (c == quote)
 
 -- what it then stands for: U+0008, U+000C, U+000A, U+000D, U+0009, or itself
 abbrev pub escaped : ℕ → ℕ
 escaped c =
-    if c == 98 then 8 else (if c == 102 then 12 else (if c == 110 then 10 else (if c == 114 then 13 else (if c == 116 then 9 else c))))
+    if c == letter_b then 8
+    else if c == letter_f then 12
+    else if c == letter_n then 10
+    else if c == letter_r then 13
+    else if c == letter_t then 9
+    else c
 
 -- HEXDIG, in either case; and one that is D, none, 0 to 7, 8 to B, and C to F
 unfoldable pub is_hexdig : ℕ → Bool
@@ -54,13 +62,13 @@ pub data Unit (first second : ℕ → Bool) (v : ℕ) (s : Spans) (o : ℕ) (t :
 pub data Hexchar (c : ℕ) (s : Spans) (o : ℕ) (t : Text) : Type 0 where
   not_d : Unit is_not_d is_hexdig c s o t → Hexchar c s o t
   below_surrogates : Unit is_d is_0_to_7 c s o t → Hexchar c s o t
-  surrogates : (high low : ℕ) → c ≡ scalar_of high low → (Unit is_d is_8_to_b high ⌢ word (92 ∷ []) ⌢ word (117 ∷ []) ⌢ Unit is_d is_c_to_f low) s o t → Hexchar c s o t
+  surrogates : (high low : ℕ) → c ≡ scalar_of high low → (Unit is_d is_8_to_b high ⌢ word (codes "\\") ⌢ word (codes "u") ⌢ Unit is_d is_c_to_f low) s o t → Hexchar c s o t
 
 -- double-quoted and single-quoted: a character between two of the quotation mark, and its text
 pub data Character (quote c : ℕ) (s : Spans) (o : ℕ) (t : Text) : Type 0 where
   plain : One (is_plain quote) c s o t → Character quote c s o t
-  escape : (letter : ℕ) → c ≡ escaped letter → (word (92 ∷ []) ⌢ One (is_escapable quote) letter) s o t → Character quote c s o t
-  hex : (word (92 ∷ []) ⌢ word (117 ∷ []) ⌢ Hexchar c) s o t → Character quote c s o t
+  escape : (letter : ℕ) → c ≡ escaped letter → (word (codes "\\") ⌢ One (is_escapable quote) letter) s o t → Character quote c s o t
+  hex : (word (codes "\\") ⌢ word (codes "u") ⌢ Hexchar c) s o t → Character quote c s o t
 
 -- the characters cs between two of the quotation mark
 abbrev pub Between : ℕ → Text → Form
@@ -68,5 +76,5 @@ Between quote cs = word (quote ∷ []) ⌢ Each (Character quote) cs ⌢ word (q
 
 -- string-literal: double quotation marks, or single ones
 pub data Quoted (cs : Text) (s : Spans) (o : ℕ) (t : Text) : Type 0 where
-  in_double : Between 34 cs s o t → Quoted cs s o t
-  in_single : Between 39 cs s o t → Quoted cs s o t
+  in_double : Between double_quote cs s o t → Quoted cs s o t
+  in_single : Between single_quote cs s o t → Quoted cs s o t

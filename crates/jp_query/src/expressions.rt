@@ -2,8 +2,8 @@
 
 ghost use Rattle.jp_reading.specs.Views.{Gives};
 ghost use Rattle.jp_query.specs.Tree.{expr_of, operand_of, query_of};
-ghost use Rattle.jp_query.specs.Rules as rules;
-ghost use Rattle.jp_query.specs.Reading.{inside, parenthesis_at, read_flat, read_inside};
+ghost use Rattle.jp_query.specs.Private.Rules as rules;
+ghost use Rattle.jp_query.specs.Private.Reading.{inside, parenthesis_at, read_flat, read_inside};
 
 use crate::lists::append;
 use crate::literals::literal_item;
@@ -14,7 +14,7 @@ use jp_reading::{Reader, Stop};
 
 /// An expression behind the mark that opens it, one level further in than the text around.
 #[cycle(nested)]
-#[tactic(auto, unfolding(crate::specs::Rules::inside_mark))]
+#[tactic(auto, unfolding(crate::specs::Private::Rules::inside_mark))]
 pub fn inside(reader: &mut Reader, mark: char, levels: u32) -> Result<Expr, Stop>
     ensures { Gives expr_of result reader.new (inside levels mark reader.old) }
 {
@@ -28,7 +28,7 @@ pub fn inside(reader: &mut Reader, mark: char, levels: u32) -> Result<Expr, Stop
 
 /// Conjunctions with `||` between them; a single one stands for itself.
 #[cycle(nested)]
-#[tactic(auto, unfolding(crate::specs::Rules::expression))]
+#[tactic(auto, unfolding(crate::specs::Private::Rules::expression))]
 fn expression(reader: &mut Reader, levels: u32) -> Result<Expr, Stop>
     ensures { Gives expr_of result reader.new (read_inside levels rules.expression reader.old) }
 {
@@ -48,7 +48,7 @@ fn expression(reader: &mut Reader, levels: u32) -> Result<Expr, Stop>
 
 /// Basic expressions with `&&` between them; a single one stands for itself.
 #[cycle(nested)]
-#[tactic(auto, unfolding(crate::specs::Rules::conjunction))]
+#[tactic(auto, unfolding(crate::specs::Private::Rules::conjunction))]
 fn conjunction(reader: &mut Reader, levels: u32) -> Result<Expr, Stop>
     ensures { Gives expr_of result reader.new (read_inside levels rules.conjunction reader.old) }
 {
@@ -67,7 +67,7 @@ fn conjunction(reader: &mut Reader, levels: u32) -> Result<Expr, Stop>
 }
 
 /// The mark twice, with blanks before and after it.
-#[tactic(auto, unfolding(crate::specs::Rules::joint))]
+#[tactic(auto, unfolding(crate::specs::Private::Rules::joint))]
 fn joint(reader: &mut Reader, mark: char) -> Result<(), Stop>
     ensures { Gives (λ _. mark) result reader.new (read_flat (rules.joint mark) reader.old) }
 {
@@ -80,7 +80,7 @@ fn joint(reader: &mut Reader, mark: char) -> Result<(), Stop>
 
 /// A basic expression: a negation, an expression in parentheses, a test, or a comparison.
 #[cycle(nested)]
-#[tactic(auto, unfolding(crate::specs::Rules::basic, crate::specs::Rules::literal_compared))]
+#[tactic(auto, unfolding(crate::specs::Private::Rules::basic, crate::specs::Private::Rules::literal_compared))]
 fn basic(reader: &mut Reader, levels: u32) -> Result<Expr, Stop>
     ensures { Gives expr_of result reader.new (read_inside levels rules.basic reader.old) }
 {
@@ -106,7 +106,7 @@ fn basic(reader: &mut Reader, levels: u32) -> Result<Expr, Stop>
 
 /// What stands behind a `!`: an expression in parentheses, or a query.
 #[cycle(nested)]
-#[tactic(auto, unfolding(crate::specs::Rules::negated))]
+#[tactic(auto, unfolding(crate::specs::Private::Rules::negated))]
 fn negated(reader: &mut Reader, levels: u32) -> Result<Expr, Stop>
     ensures { Gives expr_of result reader.new (read_inside levels rules.negated reader.old) }
 {
@@ -118,7 +118,7 @@ fn negated(reader: &mut Reader, levels: u32) -> Result<Expr, Stop>
 
 /// An expression in parentheses.
 #[cycle(nested)]
-#[tactic(auto, unfolding(crate::specs::Rules::closed))]
+#[tactic(auto, unfolding(crate::specs::Private::Rules::closed))]
 fn parenthesis(reader: &mut Reader, levels: u32) -> Result<Expr, Stop>
     ensures { Gives expr_of result reader.new (parenthesis_at levels reader.old) }
 {
@@ -130,7 +130,7 @@ fn parenthesis(reader: &mut Reader, levels: u32) -> Result<Expr, Stop>
 
 /// A test, or a comparison whose first side is a query.
 #[cycle(nested)]
-#[tactic(auto, unfolding(crate::specs::Rules::test))]
+#[tactic(auto, unfolding(crate::specs::Private::Rules::test))]
 fn test(reader: &mut Reader, levels: u32) -> Result<Expr, Stop>
     ensures { Gives expr_of result reader.new (read_inside levels rules.test reader.old) }
 {
@@ -144,7 +144,7 @@ fn test(reader: &mut Reader, levels: u32) -> Result<Expr, Stop>
 
 /// An operator and the second side of a comparison, behind the first.
 #[cycle(nested)]
-#[tactic(auto, unfolding(crate::specs::Rules::comparison_with))]
+#[tactic(auto, unfolding(crate::specs::Private::Rules::comparison_with))]
 fn comparison(reader: &mut Reader, levels: u32, left: Operand) -> Result<Expr, Stop>
     ensures { Gives
         expr_of
@@ -160,7 +160,7 @@ fn comparison(reader: &mut Reader, levels: u32, left: Operand) -> Result<Expr, S
 
 /// A side of a comparison: a query or a literal.
 #[cycle(nested)]
-#[tactic(auto, unfolding(crate::specs::Rules::side))]
+#[tactic(auto, unfolding(crate::specs::Private::Rules::side))]
 fn side(reader: &mut Reader, levels: u32) -> Result<Operand, Stop>
     ensures { Gives operand_of result reader.new (read_inside levels rules.side reader.old) }
 {
@@ -172,7 +172,7 @@ fn side(reader: &mut Reader, levels: u32) -> Result<Operand, Stop>
 
 /// A query inside another, which is an item.
 #[cycle(nested)]
-#[tactic(auto, unfolding(crate::specs::Rules::inner_query))]
+#[tactic(auto, unfolding(crate::specs::Private::Rules::inner_query))]
 fn inner_query(reader: &mut Reader, levels: u32) -> Result<Query, Stop>
     ensures { Gives query_of result reader.new (read_inside levels rules.inner_query reader.old) }
 {
@@ -185,7 +185,7 @@ fn inner_query(reader: &mut Reader, levels: u32) -> Result<Query, Stop>
 }
 
 /// The identifier of a query inside another: whether it is `$`, and not `@`.
-#[tactic(auto, unfolding(crate::specs::Rules::identifier))]
+#[tactic(auto, unfolding(crate::specs::Private::Rules::identifier))]
 fn is_absolute(reader: &mut Reader) -> Result<bool, Stop>
     ensures { Gives (λ b. b) result reader.new (read_flat rules.identifier reader.old) }
 {

@@ -4,9 +4,9 @@ ghost use Rattle.std.specs.Prelude.{◌≡◌, ◌^◌, ◌<◌, min};
 ghost use Rattle.jp_reading.specs.Outcome.{passes};
 ghost use Rattle.jp_reading.specs.Rule.{item};
 ghost use Rattle.jp_reading.specs.Views.{Gives, by};
-ghost use Rattle.jp_query.specs.Rules as rules;
-ghost use Rattle.jp_query.specs.Rules.{begins_int};
-ghost use Rattle.jp_query.specs.Reading.{read_flat};
+ghost use Rattle.jp_query.specs.Private.Rules as rules;
+ghost use Rattle.jp_query.specs.Private.Rules.{begins_int};
+ghost use Rattle.jp_query.specs.Private.Reading.{read_flat};
 ghost use Rattle.jp_query.specs.Ints.{whole_of, negative_of, is_leading_digit};
 
 use crate::tree::Numeral;
@@ -31,7 +31,7 @@ pub fn begins_int(next: Option<char>) -> bool
 }
 
 /// A whole number (RFC 9535 section 2.3.3.1, int).
-#[tactic(auto, using(crate::proofs::CappedIntegers::sizes), unfolding(crate::specs::Rules::int))]
+#[tactic(auto, using(crate::proofs::CappedIntegers::sizes), unfolding(crate::specs::Private::Rules::int))]
 pub fn int(reader: &mut Reader) -> Result<Numeral, Stop>
     ensures { Gives (λ x. x) result reader.new (read_flat rules.int reader.old) }
 {
@@ -43,7 +43,7 @@ pub fn int(reader: &mut Reader) -> Result<Numeral, Stop>
 }
 
 /// A whole number without a sign.
-#[tactic(auto, using(crate::proofs::CappedIntegers::sizes), unfolding(crate::specs::Rules::unsigned))]
+#[tactic(auto, using(crate::proofs::CappedIntegers::sizes), unfolding(crate::specs::Private::Rules::unsigned))]
 pub fn unsigned(reader: &mut Reader) -> Result<Numeral, Stop>
     ensures { Gives (λ x. x) result reader.new (read_flat rules.unsigned reader.old) }
 {
@@ -55,7 +55,7 @@ pub fn unsigned(reader: &mut Reader) -> Result<Numeral, Stop>
 }
 
 /// The number that digits without a leading zero write, or 2^64 where it is larger.
-#[tactic(auto, unfolding(crate::specs::Rules::size))]
+#[tactic(auto, unfolding(crate::specs::Private::Rules::size))]
 pub fn size(reader: &mut Reader) -> Result<u128, Stop>
     ensures { Gives
         (λ n. n)

@@ -4,8 +4,8 @@ ghost use Rattle.std.specs.Prelude.{true};
 ghost use Rattle.jp_reading.specs.Rule.{item};
 ghost use Rattle.jp_reading.specs.Views.{Gives};
 ghost use Rattle.jp_query.specs.Tree.{LiteralTree, literal_of};
-ghost use Rattle.jp_query.specs.Rules as rules;
-ghost use Rattle.jp_query.specs.Reading.{read_flat};
+ghost use Rattle.jp_query.specs.Private.Rules as rules;
+ghost use Rattle.jp_query.specs.Private.Reading.{read_flat};
 
 use crate::ints::{negative, size, unsigned};
 use crate::strings::quoted;
@@ -24,7 +24,7 @@ pub fn literal_item(reader: &mut Reader) -> Result<Literal, Stop>
 }
 
 /// A literal: a string, a word, or a number.
-#[tactic(auto, unfolding(crate::specs::Rules::literal))]
+#[tactic(auto, unfolding(crate::specs::Private::Rules::literal))]
 fn literal(reader: &mut Reader) -> Result<Literal, Stop>
     ensures { Gives literal_of result reader.new (read_flat rules.literal reader.old) }
 {
@@ -58,7 +58,7 @@ fn word(reader: &mut Reader, letters: &[char]) -> Result<(), Stop>
 }
 
 /// A number, with a fraction and an exponent or without.
-#[tactic(auto, unfolding(crate::specs::Rules::number))]
+#[tactic(auto, unfolding(crate::specs::Private::Rules::number))]
 fn number(reader: &mut Reader) -> Result<Numeral, Stop>
     ensures { Gives (λ x. x) result reader.new (read_flat rules.number reader.old) }
 {
@@ -73,7 +73,7 @@ fn number(reader: &mut Reader) -> Result<Numeral, Stop>
 }
 
 /// A whole number, or `-0`, which is 0.
-#[tactic(auto, using(crate::proofs::CappedIntegers::sizes), unfolding(crate::specs::Rules::mantissa))]
+#[tactic(auto, using(crate::proofs::CappedIntegers::sizes), unfolding(crate::specs::Private::Rules::mantissa))]
 fn mantissa(reader: &mut Reader) -> Result<Numeral, Stop>
     ensures { Gives (λ x. x) result reader.new (read_flat rules.mantissa reader.old) }
 {
@@ -89,7 +89,7 @@ fn mantissa(reader: &mut Reader) -> Result<Numeral, Stop>
 }
 
 /// A dot and digits, if there is a dot; whether there is one.
-#[tactic(auto, unfolding(crate::specs::Rules::decimals))]
+#[tactic(auto, unfolding(crate::specs::Private::Rules::decimals))]
 fn decimals(reader: &mut Reader) -> Result<bool, Stop>
     ensures { Gives (λ there. there) result reader.new (read_flat rules.decimals reader.old) }
 {
@@ -102,7 +102,7 @@ fn decimals(reader: &mut Reader) -> Result<bool, Stop>
 }
 
 /// An `e`, a sign or none, and digits, if there is an `e`; whether there is one.
-#[tactic(auto, unfolding(crate::specs::Rules::exponent, crate::specs::Rules::power))]
+#[tactic(auto, unfolding(crate::specs::Private::Rules::exponent, crate::specs::Private::Rules::power))]
 fn exponent(reader: &mut Reader) -> Result<bool, Stop>
     ensures { Gives (λ there. there) result reader.new (read_flat rules.exponent reader.old) }
 {

@@ -5,13 +5,13 @@ ghost use Rattle.std.specs.Str.{chars};
 ghost use Rattle.std.specs.String.{string_bytes};
 ghost use Rattle.jp_reading.specs.Views.{Gives};
 ghost use Rattle.jp_query.specs.Names.{is_name_first, is_name_char};
-ghost use Rattle.jp_query.specs.Rules as rules;
-ghost use Rattle.jp_query.specs.Reading.{read_flat};
+ghost use Rattle.jp_query.specs.Private.Rules as rules;
+ghost use Rattle.jp_query.specs.Private.Reading.{read_flat};
 
 use jp_reading::{Reader, Stop};
 
 /// A member's name after a dot.
-#[tactic(auto, unfolding(crate::specs::Rules::shorthand))]
+#[tactic(auto, unfolding(crate::specs::Private::Rules::shorthand))]
 pub fn shorthand(reader: &mut Reader) -> Result<String, Stop>
     ensures { Gives
         (λ s. chars (string_bytes s))

@@ -3,15 +3,15 @@
 ghost use Rattle.std.specs.Prelude.{◌≡◌};
 ghost use Rattle.jp_reading.specs.Outcome.{took, after_blank, passes};
 ghost use Rattle.jp_reading.specs.Views.{Gives};
-ghost use Rattle.jp_query.specs.Rules as rules;
-ghost use Rattle.jp_query.specs.Rules.{begins_operator};
-ghost use Rattle.jp_query.specs.Reading.{read_flat};
+ghost use Rattle.jp_query.specs.Private.Rules as rules;
+ghost use Rattle.jp_query.specs.Private.Rules.{begins_operator};
+ghost use Rattle.jp_query.specs.Private.Reading.{read_flat};
 
 use crate::tree::Op;
 use jp_reading::{Reader, Stop};
 
 /// An operator of a comparison.
-#[tactic(auto, unfolding(crate::specs::Rules::operator))]
+#[tactic(auto, unfolding(crate::specs::Private::Rules::operator))]
 pub fn operator(reader: &mut Reader) -> Result<Op, Stop>
     ensures { Gives (λ op. op) result reader.new (read_flat rules.operator reader.old) }
 {

@@ -35,7 +35,7 @@ impl Model for Parsed {
 
     ghost coded = { Prim.hlevel (codes, q.the_row.coded) };
 
-    ghost use Rattle.jp_query.specs.Parsed.{spanned, IsSpelledInside};
+    ghost use Rattle.jp_query.specs.Private.Parsed.{spanned, IsSpelledInside};
 
     ghost view = { spanned };
 

@@ -42,7 +42,7 @@ pub enum RefusalKind {
 
 impl From<Stop> for Refusal {
     ghost use Rattle.std.specs.Prelude.{◌≡◌};
-    ghost use Rattle.jp_query.specs.Stops.{refusal_of};
+    ghost use Rattle.jp_query.specs.Private.Stops.{refusal_of};
 
     ghost from_gives = { λ stop r. r ≡ refusal_of stop };
 

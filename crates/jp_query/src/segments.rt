@@ -4,9 +4,9 @@ ghost use Rattle.std.specs.Prelude.{◌≡◌, [], ◌∷◌, map, IfOk};
 ghost use Rattle.jp_reading.specs.Outcome.{after_blank, passes};
 ghost use Rattle.jp_reading.specs.Views.{Gives};
 ghost use Rattle.jp_query.specs.Tree.{segment, selectors, selector_of, segment_of, query_of};
-ghost use Rattle.jp_query.specs.Rules as rules;
-ghost use Rattle.jp_query.specs.Rules.{begins_segment};
-ghost use Rattle.jp_query.specs.Reading.{query_at, read_flat, read_inside};
+ghost use Rattle.jp_query.specs.Private.Rules as rules;
+ghost use Rattle.jp_query.specs.Private.Rules.{begins_segment};
+ghost use Rattle.jp_query.specs.Private.Reading.{query_at, read_flat, read_inside};
 
 use crate::lists::append;
 use crate::names::shorthand;
@@ -16,7 +16,7 @@ use jp_reading::{Reader, Stop};
 use std::alloc::{AllocError, Global};
 
 /// A whole query: the text ends after its segments.
-#[tactic(auto, unfolding(crate::specs::Reading::query_at, crate::specs::Rules::query))]
+#[tactic(auto, unfolding(crate::specs::Private::Reading::query_at, crate::specs::Private::Rules::query))]
 pub fn query(reader: &mut Reader, levels: u32) -> Result<Query, Stop>
     ensures { Gives query_of result reader.new (query_at levels reader.old) }
 {
@@ -59,7 +59,7 @@ fn is_before_segment(reader: &Reader) -> bool
 
 /// A child segment or a descendant segment (RFC 9535 section 2.5).
 #[cycle(nested)]
-#[tactic(auto, unfolding(crate::specs::Rules::segment, crate::specs::Rules::selection))]
+#[tactic(auto, unfolding(crate::specs::Private::Rules::segment, crate::specs::Private::Rules::selection))]
 fn segment(reader: &mut Reader, levels: u32) -> Result<Segment, Stop>
     ensures { Gives segment_of result reader.new (read_inside levels rules.segment reader.old) }
 {
@@ -79,7 +79,7 @@ fn segment(reader: &mut Reader, levels: u32) -> Result<Segment, Stop>
 
 /// Selectors in brackets.
 #[cycle(nested)]
-#[tactic(auto, unfolding(crate::specs::Rules::bracket))]
+#[tactic(auto, unfolding(crate::specs::Private::Rules::bracket))]
 fn bracketed(reader: &mut Reader, levels: u32, descendant: bool) -> Result<Segment, Stop>
     ensures { Gives
         segment_of
@@ -98,7 +98,7 @@ fn bracketed(reader: &mut Reader, levels: u32, descendant: bool) -> Result<Segme
 }
 
 /// `*` or a member's name behind a dot.
-#[tactic(auto, unfolding(crate::specs::Rules::member))]
+#[tactic(auto, unfolding(crate::specs::Private::Rules::member))]
 fn member(reader: &mut Reader, descendant: bool) -> Result<Segment, Stop>
     ensures { Gives segment_of result reader.new (read_flat (rules.member descendant) reader.old) }
 {

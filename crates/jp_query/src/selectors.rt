@@ -3,8 +3,8 @@
 ghost use Rattle.std.specs.Prelude.{◌≡◌, map};
 ghost use Rattle.jp_reading.specs.Views.{Gives};
 ghost use Rattle.jp_query.specs.Tree.{selector_of};
-ghost use Rattle.jp_query.specs.Rules as rules;
-ghost use Rattle.jp_query.specs.Reading.{read_flat, read_inside};
+ghost use Rattle.jp_query.specs.Private.Rules as rules;
+ghost use Rattle.jp_query.specs.Private.Reading.{read_flat, read_inside};
 
 use crate::expressions::inside;
 use crate::ints::int_item;
@@ -17,7 +17,7 @@ use jp_reading::{Reader, Stop};
 /// Selectors with commas between them, and blank space round each. The reader stands before the first, and then past the
 /// blanks after the last.
 #[cycle(nested)]
-#[tactic(auto, unfolding(crate::specs::Rules::entries, crate::specs::Rules::entry))]
+#[tactic(auto, unfolding(crate::specs::Private::Rules::entries, crate::specs::Private::Rules::entry))]
 pub fn entries(reader: &mut Reader, levels: u32) -> Result<Vec<Selector>, Stop>
     ensures { Gives
         (λ v. map selector_of v.items)
@@ -41,7 +41,7 @@ pub fn entries(reader: &mut Reader, levels: u32) -> Result<Vec<Selector>, Stop>
 
 /// A selector.
 #[cycle(nested)]
-#[tactic(auto, unfolding(crate::specs::Rules::selector))]
+#[tactic(auto, unfolding(crate::specs::Private::Rules::selector))]
 fn selector(reader: &mut Reader, levels: u32) -> Result<Selector, Stop>
     ensures { Gives selector_of result reader.new (read_inside levels rules.selector reader.old) }
 {
@@ -65,7 +65,7 @@ fn selector(reader: &mut Reader, levels: u32) -> Result<Selector, Stop>
 }
 
 /// An index, or a slice that starts with it.
-#[tactic(auto, unfolding(crate::specs::Rules::number_selector))]
+#[tactic(auto, unfolding(crate::specs::Private::Rules::number_selector))]
 fn number(reader: &mut Reader) -> Result<Selector, Stop>
     ensures { Gives selector_of result reader.new (read_flat rules.number_selector reader.old) }
 {

@@ -2,15 +2,15 @@
 
 ghost use Rattle.std.specs.Prelude.{◌≡◌};
 ghost use Rattle.jp_reading.specs.Views.{Gives};
-ghost use Rattle.jp_query.specs.Rules as rules;
-ghost use Rattle.jp_query.specs.Reading.{read_flat};
+ghost use Rattle.jp_query.specs.Private.Rules as rules;
+ghost use Rattle.jp_query.specs.Private.Reading.{read_flat};
 
 use crate::ints::{begins_int, int_item};
 use crate::tree::{Numeral, Slice};
 use jp_reading::{Reader, Stop};
 
 /// A slice with that start, from its colon on.
-#[tactic(auto, unfolding(crate::specs::Rules::slice_from))]
+#[tactic(auto, unfolding(crate::specs::Private::Rules::slice_from))]
 pub fn slice(reader: &mut Reader, start: Option<Numeral>) -> Result<Slice, Stop>
     ensures { Gives (λ s. s) result reader.new (read_flat (rules.slice_from start) reader.old) }
 {
@@ -21,7 +21,7 @@ pub fn slice(reader: &mut Reader, start: Option<Numeral>) -> Result<Slice, Stop>
 }
 
 /// A bound, if one begins past the blanks; else the reader stays before them.
-#[tactic(auto, unfolding(crate::specs::Rules::bound))]
+#[tactic(auto, unfolding(crate::specs::Private::Rules::bound))]
 fn bound(reader: &mut Reader) -> Result<Option<Numeral>, Stop>
     ensures { Gives (λ b. b) result reader.new (read_flat rules.bound reader.old) }
 {
@@ -34,7 +34,7 @@ fn bound(reader: &mut Reader) -> Result<Option<Numeral>, Stop>
 }
 
 /// A colon and a step past the blanks, or neither: an omitted step is 1.
-#[tactic(auto, unfolding(crate::specs::Rules::step))]
+#[tactic(auto, unfolding(crate::specs::Private::Rules::step))]
 fn step(reader: &mut Reader) -> Result<Numeral, Stop>
     ensures { Gives (λ n. n) result reader.new (read_flat rules.step reader.old) }
 {
@@ -48,7 +48,7 @@ fn step(reader: &mut Reader) -> Result<Numeral, Stop>
 }
 
 /// A step behind its colon; the reader stays before blanks that no step follows.
-#[tactic(auto, unfolding(crate::specs::Rules::later_step))]
+#[tactic(auto, unfolding(crate::specs::Private::Rules::later_step))]
 fn later_step(reader: &mut Reader) -> Result<Numeral, Stop>
     ensures { Gives (λ n. n) result reader.new (read_flat rules.later_step reader.old) }
 {

@@ -7,15 +7,15 @@ ghost use Rattle.std.specs.String.{string_bytes};
 ghost use Rattle.jp_reading.specs.Outcome.{head, passes};
 ghost use Rattle.jp_reading.specs.Views.{Gives};
 ghost use Rattle.jp_query.specs.Strings.{is_plain, is_escapable, escaped};
-ghost use Rattle.jp_query.specs.HexDigits.{holds_value, is_one_of, IsUnitAfter, IsUnitOf};
-ghost use Rattle.jp_query.specs.Rules as rules;
-ghost use Rattle.jp_query.specs.Rules.{begins_character};
-ghost use Rattle.jp_query.specs.Reading.{read_flat};
+ghost use Rattle.jp_query.specs.Private.HexDigits.{holds_value, is_one_of, IsUnitAfter, IsUnitOf};
+ghost use Rattle.jp_query.specs.Private.Rules as rules;
+ghost use Rattle.jp_query.specs.Private.Rules.{begins_character};
+ghost use Rattle.jp_query.specs.Private.Reading.{read_flat};
 
 use jp_reading::{Reader, Stop};
 
 /// A string between two of the quotation mark.
-#[tactic(auto, unfolding(crate::specs::Rules::quoted))]
+#[tactic(auto, unfolding(crate::specs::Private::Rules::quoted))]
 pub fn quoted(reader: &mut Reader, quote: char) -> Result<String, Stop>
     ensures { Gives
         (λ s. chars (string_bytes s))
@@ -56,7 +56,7 @@ fn is_at_character(reader: &Reader, quote: char) -> bool
 }
 
 /// A character that stands for itself, or what an escape stands for.
-#[tactic(auto, unfolding(crate::specs::Rules::string_character))]
+#[tactic(auto, unfolding(crate::specs::Private::Rules::string_character))]
 fn character(reader: &mut Reader, quote: char) -> Result<char, Stop>
     ensures { Gives
         (λ c. c)
@@ -78,7 +78,7 @@ fn character(reader: &mut Reader, quote: char) -> Result<char, Stop>
 }
 
 /// What stands behind a backslash.
-#[tactic(auto, unfolding(crate::specs::Rules::escape))]
+#[tactic(auto, unfolding(crate::specs::Private::Rules::escape))]
 fn escape(reader: &mut Reader, quote: char) -> Result<char, Stop>
     ensures { Gives (λ c. c) result reader.new (read_flat (rules.escape quote) reader.old) }
 {
@@ -96,7 +96,7 @@ fn escape(reader: &mut Reader, quote: char) -> Result<char, Stop>
 }
 
 /// Four hexadecimal digits that write a character, or a surrogate pair in two escapes (hexchar).
-#[tactic(auto, unfolding(crate::specs::Rules::hexchar))]
+#[tactic(auto, unfolding(crate::specs::Private::Rules::hexchar))]
 fn hexchar(reader: &mut Reader) -> Result<char, Stop>
     ensures { Gives (λ c. c) result reader.new (read_flat rules.hexchar reader.old) }
 {
@@ -112,7 +112,7 @@ fn hexchar(reader: &mut Reader) -> Result<char, Stop>
 
 /// A surrogate pair after its first digit: the other digits of its first half, a backslash, `u`,
 /// and the digits of its second half.
-#[tactic(auto, unfolding(crate::specs::Rules::surrogates_after))]
+#[tactic(auto, unfolding(crate::specs::Private::Rules::surrogates_after))]
 fn surrogates_after(reader: &mut Reader, first: u32) -> Result<char, Stop>
     requires { first ≡ 13 }
     ensures { Gives
@@ -129,7 +129,7 @@ fn surrogates_after(reader: &mut Reader, first: u32) -> Result<char, Stop>
 }
 
 /// Four hexadecimal digits, of which the first two are of these kinds.
-#[tactic(auto, unfolding(crate::specs::Rules::unit))]
+#[tactic(auto, unfolding(crate::specs::Private::Rules::unit))]
 fn unit(reader: &mut Reader, first: HexDigit, second: HexDigit) -> Result<u32, Stop>
     ensures taken { Gives
         (λ v. v)
@@ -144,7 +144,7 @@ fn unit(reader: &mut Reader, first: HexDigit, second: HexDigit) -> Result<u32, S
 
 /// The last three of four hexadecimal digits, of which the second is of this kind, after a first
 /// with this value.
-#[tactic(auto, unfolding(crate::specs::Rules::unit_after))]
+#[tactic(auto, unfolding(crate::specs::Private::Rules::unit_after))]
 fn unit_after(reader: &mut Reader, a: u32, second: HexDigit) -> Result<u32, Stop>
     requires { a < 16 }
     ensures taken { Gives

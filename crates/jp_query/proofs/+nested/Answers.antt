@@ -9,8 +9,8 @@ use Rattle.jp_reading.proofs.Rules.Rounds as loops
 use Rattle.jp_query.specs.Tree.{SegmentTree, SelectorTree, expr_of, selector_of, segment_of, any_of, all_of}
 use Rattle.jp_query.specs.Characters.{ampersand, bar, comma, closing_bracket}
 use Rattle.jp_query.specs.Grammar.{joined}
-use Rattle.jp_query.specs.Rules.{QueryRule, entries, segment, segments, begins_segment, selector, entry, basic, conjunction, expression, part, parts}
-use Rattle.jp_query.specs.Reading.{inside, read_inside}
+use Rattle.jp_query.specs.Private.Rules.{QueryRule, entries, segment, segments, begins_segment, selector, entry, basic, conjunction, expression, part, parts}
+use Rattle.jp_query.specs.Private.Reading.{inside, read_inside}
 use Rattle.jp_query.proofs.Levels.{inside-progress, inside-entered}
 use Rattle.jp_query.proofs.Trees.{tree_any_of, tree_all_of, tree_segment}
 use Rattle.jp_query.proofs.Rounds as rounds

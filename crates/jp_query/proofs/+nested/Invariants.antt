@@ -4,8 +4,8 @@ use Rattle.jp_reading.specs.Views.{with_front}
 use Rattle.jp_query.specs.Tree.{expr_of, selector_of, segment_of}
 use Rattle.jp_reading.specs.Rule.{beyond, some}
 use Rattle.jp_query.specs.Characters.{ampersand, bar}
-use Rattle.jp_query.specs.Rules.{segments, entries, part, parts, basic, conjunction}
-use Rattle.jp_query.specs.Reading.{read_inside}
+use Rattle.jp_query.specs.Private.Rules.{segments, entries, part, parts, basic, conjunction}
+use Rattle.jp_query.specs.Private.Reading.{read_inside}
 use Rattle.jp_query.proofs.Rounds.{other_entries}
 use Rattle.jp_query.proofs.+nested.Given as goal
 

@@ -11,8 +11,8 @@ use Rattle.jp_query.specs.declared.tree.Op.{Op}
 use Rattle.jp_query.specs.Tree.{QueryTree, ExprTree, negation, comparison, exists, OperandTree, literal, node_value, LiteralTree}
 use Rattle.jp_query.specs.Literals.{Literal, spelling}
 use Rattle.jp_query.specs.Grammar.{InnerQuery, Side, literal_side, query_side, Parenthesis, Basic, grouped, not_grouped, compared, tested, not_tested, Conjunction, conjunction, Expression, disjunction}
-use Rattle.jp_query.specs.Rules.{nesting, QueryRule, part, parts}
-use Rattle.jp_query.specs.Rules as rule
+use Rattle.jp_query.specs.Private.Rules.{nesting, QueryRule, part, parts}
+use Rattle.jp_query.specs.Private.Rules as rule
 use Rattle.jp_query.proofs.Forms.Numbers.{literal-within, literal-spelt, operator-within, operator-spelt}
 use Rattle.jp_query.proofs.Forms.Selectors.{marked, inner_query-within, inner_query-spelt}
 

@@ -15,8 +15,8 @@ use Rattle.jp_query.specs.Tree.{LiteralTree, true_literal, false_literal, null_l
 use Rattle.jp_query.specs.Strings.{in_double, in_single}
 use Rattle.jp_query.specs.Ints.{is_leading_digit, whole_of, negative_of, Unsigned, Int, zero_int, positive_int, negative_int}
 use Rattle.jp_query.specs.Literals.{Optional, left_out, written, DigitSequence, Decimals, decimals, is_e, is_sign, Exponent, unsigned, signed, Mantissa, whole, minus_zero, Number, number, Literal, of_number, of_text, of_true, of_false, of_null, spelling}
-use Rattle.jp_query.specs.Rules.{nesting}
-use Rattle.jp_query.specs.Rules as rule
+use Rattle.jp_query.specs.Private.Rules.{nesting}
+use Rattle.jp_query.specs.Private.Rules as rule
 use Rattle.jp_query.proofs.Forms.Strings.{quoted-within, quoted-spelt}
 
 module _ (F : Inside nesting) where

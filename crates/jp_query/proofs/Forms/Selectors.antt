@@ -13,8 +13,8 @@ use Rattle.jp_query.specs.Ints.{Int}
 use Rattle.jp_query.specs.Strings.{in_double, in_single}
 use Rattle.jp_query.specs.Slices.{Bound, no_bound, bound, Sliced}
 use Rattle.jp_query.specs.Grammar.{Member, star, member, Selector, named, any, indexed, sliced, filtered, Bracket, Segment, bracketed, dotted, deep_bracketed, deep_dotted, Segments, InnerQuery, from_root, from_current}
-use Rattle.jp_query.specs.Rules.{nesting, segment_of_one}
-use Rattle.jp_query.specs.Rules as rule
+use Rattle.jp_query.specs.Private.Rules.{nesting, segment_of_one}
+use Rattle.jp_query.specs.Private.Rules as rule
 use Rattle.jp_query.proofs.Forms.Strings.{shorthand-within, shorthand-spelt, quoted-within, quoted-spelt}
 use Rattle.jp_query.proofs.Forms.Slices.{int_item-within, int_item-spelt, from_colon, slice-within, slice-spelt}
 

@@ -9,8 +9,8 @@ use Rattle.jp_reading.proofs.Joining.{joined-both, joined-assoc, joined-back, af
 use Rattle.jp_reading.proofs.Rules.Form.{Either, left, right, Inside, form}
 use Rattle.jp_query.specs.Names.{is_name_first, is_name_char, Shorthand, shorthand}
 use Rattle.jp_query.specs.Strings.{is_escapable, escaped, is_hexdig, is_d, is_not_d, is_0_to_7, is_8_to_b, is_c_to_f, scalar_of, Unit as HexUnit, digits, Hexchar, not_d, below_surrogates, surrogates, Character, plain, escape, hex, Between}
-use Rattle.jp_query.specs.Rules.{nesting}
-use Rattle.jp_query.specs.Rules as rule
+use Rattle.jp_query.specs.Private.Rules.{nesting}
+use Rattle.jp_query.specs.Private.Rules as rule
 
 -- the rules that nest nothing take the same texts, whatever is nested elsewhere
 module _ (F : Inside nesting) where

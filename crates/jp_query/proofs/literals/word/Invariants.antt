@@ -1,7 +1,7 @@
 use Rattle.std.proofs.Common.{◌≡◌, drop}
 use Rattle.jp_query.specs.Tree.{LiteralTree}
-use Rattle.jp_query.specs.Rules.{letters}
-use Rattle.jp_query.specs.Reading.{read_flat}
+use Rattle.jp_query.specs.Private.Rules.{letters}
+use Rattle.jp_query.specs.Private.Reading.{read_flat}
 use Rattle.jp_query.proofs.literals.word.Given as goal
 
 abbrev pub invariant-letters : goal.invariant-letters

@@ -10,8 +10,8 @@ use Rattle.jp_reading.proofs.Steps.{take_if-takes}
 use Rattle.jp_reading.proofs.Progress.{moves-take_if}
 use Rattle.jp_reading.proofs.Folds.{with_front-nil, pushes_on, pushes_end}
 use Rattle.jp_query.specs.Names.{is_name_char}
-use Rattle.jp_query.specs.Rules.{run}
-use Rattle.jp_query.specs.Reading.{read_flat}
+use Rattle.jp_query.specs.Private.Rules.{run}
+use Rattle.jp_query.specs.Private.Reading.{read_flat}
 use Rattle.jp_query.proofs.names.run.Goals as goal
 use Rattle.jp_query.proofs.names.run.Goals.{in-Some+then-not-is_name_char, in_default}
 

@@ -3,8 +3,8 @@ use Rattle.std.specs.Str.{chars}
 use Rattle.std.specs.String.{string_bytes}
 use Rattle.jp_reading.specs.Views.{with_front}
 use Rattle.jp_query.specs.Names.{is_name_char}
-use Rattle.jp_query.specs.Rules.{run}
-use Rattle.jp_query.specs.Reading.{read_flat}
+use Rattle.jp_query.specs.Private.Rules.{run}
+use Rattle.jp_query.specs.Private.Reading.{read_flat}
 use Rattle.jp_query.proofs.names.run.Given as goal
 
 abbrev pub invariant-characters : goal.invariant-characters

@@ -3,7 +3,7 @@ use Rattle.std.specs.Str.{chars}
 use Rattle.jp_query.specs.Levels.{level_limit}
 use Rattle.jp_query.specs.Tree.{query_of}
 use Rattle.jp_query.specs.Grammar.{Spells}
-use Rattle.jp_query.specs.Reading.{query_at}
+use Rattle.jp_query.specs.Private.Reading.{query_at}
 use Rattle.jp_query.proofs.Whole.{read-spells}
 use Rattle.jp_query.proofs.Refused.{refused-only, refused-kinds, refused-syntax, refused-deep}
 use Rattle.jp_query.proofs.parsed.parse.Goals as goal

@@ -9,8 +9,8 @@ use Rattle.jp_reading.specs.Views.{with_front}
 use Rattle.jp_reading.proofs.Chars.{chars_push}
 use Rattle.jp_reading.proofs.Progress.{moved}
 use Rattle.jp_reading.proofs.Folds.{with_front-nil, pushes_on, pushes_end, folds_fail}
-use Rattle.jp_query.specs.Rules.{nesting, characters, string_character, begins_character}
-use Rattle.jp_query.specs.Reading.{read_flat}
+use Rattle.jp_query.specs.Private.Rules.{nesting, characters, string_character, begins_character}
+use Rattle.jp_query.specs.Private.Reading.{read_flat}
 use Rattle.jp_reading.specs.RuleReading.{nothing}
 use Rattle.jp_reading.proofs.Progress.{Progress}
 use Rattle.jp_reading.proofs.Rules.Progress.{goes}

@@ -2,8 +2,8 @@ use Rattle.std.proofs.Common.{◌≡◌, length}
 use Rattle.std.specs.Str.{chars}
 use Rattle.std.specs.String.{string_bytes}
 use Rattle.jp_reading.specs.Views.{with_front}
-use Rattle.jp_query.specs.Rules.{characters}
-use Rattle.jp_query.specs.Reading.{read_flat}
+use Rattle.jp_query.specs.Private.Rules.{characters}
+use Rattle.jp_query.specs.Private.Reading.{read_flat}
 use Rattle.jp_query.proofs.strings.characters.Given as goal
 
 abbrev pub invariant-characters : goal.invariant-characters

@@ -1,5 +1,5 @@
 use Rattle.std.proofs.Common.{sym, ap, ◌∙◌}
-use Rattle.jp_query.specs.HexDigits.{holds_value}
+use Rattle.jp_query.specs.Private.HexDigits.{holds_value}
 use Rattle.jp_query.proofs.HexKinds.{is_one_of-value, is_one_of-below}
 use Rattle.jp_query.proofs.strings.digit.Goals as goal
 

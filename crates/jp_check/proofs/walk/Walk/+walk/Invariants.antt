@@ -1,7 +1,7 @@
 use Rattle.std.proofs.Common.{◌≡◌, drop, map}
 use Rattle.jp_query.specs.Items.{exprs_items, items_of, segment_items, segments_items, selectors_items}
 use Rattle.jp_query.specs.Tree.{expr_of, exprs, query_of, segment_of, segments, selector_of, selectors}
-use Rattle.jp_check.specs.Walk.{steps}
+use Rattle.jp_check.specs.Private.Walk.{steps}
 use Rattle.jp_check.proofs.walk.Walk.+walk.Given as goal
 
 -- the items of the segments still to come lead to where those of all lead

@@ -1,6 +1,6 @@
 use Rattle.std.proofs.Common.{◌≤◌, sym, ap, ◌∙◌, arith}
 use Rattle.std.specs.Char.{digit_value}
-use Rattle.jp_query.specs.HexDigits.{holds_value}
+use Rattle.jp_query.specs.Private.HexDigits.{holds_value}
 use Rattle.jp_query.proofs.HexKinds.{is_one_of-value, holds_value-above}
 use Rattle.jp_query.proofs.strings.HexDigit.contains.Goals as goal
 

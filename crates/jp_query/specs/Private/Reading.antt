@@ -5,7 +5,7 @@ use Rattle.jp_reading.specs.Rule.{Mark}
 use Rattle.jp_reading.specs.RuleReading.{Inner, nothing, read}
 use Rattle.jp_query.specs.Tree.{QueryTree, ExprTree}
 use Rattle.jp_query.specs.Characters.{opening_parenthesis}
-use Rattle.jp_query.specs.Rules.{nesting, QueryRule, closed, inside_mark, query}
+use Rattle.jp_query.specs.Private.Rules.{nesting, QueryRule, closed, inside_mark, query}
 
 -- how an expression inside n levels is read. With no level left, one more would be needed at the
 -- mark.

@@ -1,0 +1,5 @@
+pub mod HexDigits
+pub mod Parsed
+pub mod Reading
+pub mod Rules
+pub mod Stops
