@@ -2,4 +2,4 @@ pub mod StreamLemmas
 pub mod CommandLineLemmas
 pub mod Rows
 pub mod LineLemmas
-pub mod RunLemmas
+pub mod Flushes

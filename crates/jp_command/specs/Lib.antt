@@ -6,4 +6,5 @@ pub mod CommandLine
 pub mod Lines
 pub mod Faults
 pub mod Run
+pub mod Canon
 pub mod Line

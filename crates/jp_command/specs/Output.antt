@@ -22,6 +22,18 @@ module _ {W : Type 0} (contents : W → Option (List ℕ)) (has_failed : W → B
     pub written : Appends (contents o) (contents p) text
     pub works : has_failed p ≡ has_failed o
 
+  -- an output that is such a one was written, and nothing else
+  pub record WritesOutput (IsOutput : List ℕ → Type 0) (o p : W) : Type 0 where
+    pub output : List ℕ
+    pub is : IsOutput output
+    pub writes : WritesAll o p output
+
+  -- a prefix of an output that is such a one was written
+  pub record WritesPrefix (IsOutput : List ℕ → Type 0) (o p : W) : Type 0 where
+    pub output : List ℕ
+    pub is : IsOutput output
+    pub written : AppendsPrefix (contents o) (contents p) output
+
   -- why the text was not written to its end; a prefix of it was
   abbrev pub StopsWriting : W → W → List ℕ → Fault → Type 0
   StopsWriting o p text NoMemory =

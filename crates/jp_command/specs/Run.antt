@@ -13,7 +13,7 @@ use Rattle.jp_query.specs.declared.refusal.RefusalKind.TheVariants.{TextTooLong}
 use Rattle.jp_command.specs.Input.{FailsToRead, ReadsAll, ReadsTooMuch}
 use Rattle.jp_command.specs.Limits.{query_limit}
 use Rattle.jp_command.specs.Lines.{output_of}
-use Rattle.jp_command.specs.Output.{AppendsPrefix, WritesAll}
+use Rattle.jp_command.specs.Output.{WritesOutput, WritesPrefix}
 use Rattle.jp_command.specs.declared.fault.Fault.{Fault}
 use Rattle.jp_command.specs.declared.fault.Fault.TheVariants.{Query, Document, DocumentTooLarge, NoMemory, Read, Write}
 use Rattle.jp_command.specs.declared.lines.Form.{Form}
@@ -44,18 +44,6 @@ module _ {R W : Type 0} (remaining : R → Option (List ℕ)) (has_failed : R �
     pub document : IsDocument bytes d
     pub is : output ≡ output_of form q d
 
-  -- the output was written, and nothing else
-  pub record WritesOutput (form : Form) (text : List ℕ) (i j : R) (o p : W) : Type 0 where
-    pub output : List ℕ
-    pub is : IsOutput form text i j output
-    pub writes : WritesAll contents writes_failed o p output
-
-  -- a prefix of the output was written
-  pub record WritesPrefix (form : Form) (text : List ℕ) (i j : R) (o p : W) : Type 0 where
-    pub output : List ℕ
-    pub is : IsOutput form text i j output
-    pub written : AppendsPrefix (contents o) (contents p) output
-
   -- the query is asked, and what was read is no document, with the fault f; want of memory is none
   pub record RefusesDocument (text : List ℕ) (i j : R) (f : DocumentFault) : Type 0 where
     pub q : QueryTree
@@ -67,14 +55,15 @@ module _ {R W : Type 0} (remaining : R → Option (List ℕ)) (has_failed : R �
 
   -- what a run says with its answer
   abbrev pub RunsEval : {X : Type 0} → Form → List ℕ → R → R → W → W → Result X Fault → Type 0
-  RunsEval form text i j o p (Ok x) = WritesOutput form text i j o p
+  RunsEval form text i j o p (Ok x) = WritesOutput contents writes_failed (IsOutput form text i j) o p
   RunsEval form text i j o p (Err (Query r)) = RefusesQuery text r × (j ≡ i) × (p ≡ o)
   RunsEval form text i j o p (Err (Document f)) = RefusesDocument text i j f × (p ≡ o)
   RunsEval form text i j o p (Err DocumentTooLarge) =
       ((q : QueryTree) × IsAsked text q) × ReadsTooMuch remaining has_failed i j × (p ≡ o)
   RunsEval form text i j o p (Err NoMemory) =
       (has_failed j ≡ has_failed i) × (writes_failed p ≡ writes_failed o)
-      × ((p ≡ o) ⊎ WritesPrefix form text i j o p)
+      × ((p ≡ o) ⊎ WritesPrefix contents writes_failed (IsOutput form text i j) o p)
   RunsEval form text i j o p (Err Read) =
       ((q : QueryTree) × IsAsked text q) × FailsToRead remaining has_failed i j × (p ≡ o)
-  RunsEval form text i j o p (Err Write) = WritesPrefix form text i j o p × (writes_failed p ≡ true)
+  RunsEval form text i j o p (Err Write) =
+      WritesPrefix contents writes_failed (IsOutput form text i j) o p × (writes_failed p ≡ true)

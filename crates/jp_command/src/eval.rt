@@ -62,7 +62,7 @@ pub(crate) fn eval_document<R: Source, W: Output>(
 }
 
 /// Reads a query that is not too long.
-fn read_within_limit(alloc: Global, text: &str) -> Result<Checked, Refusal>
+pub(crate) fn read_within_limit(alloc: Global, text: &str) -> Result<Checked, Refusal>
     ensures asked { IfOk result (λ query. IsAsked text.now (query_of query)) }
     ensures refused { IfErr result
         (λ refusal. (refusal.kind ≡ NoMemory) ⊎ RefusesQuery text.now refusal) }

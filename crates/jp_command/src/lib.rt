@@ -7,10 +7,12 @@
 //! ```
 //!
 //! `run_eval` runs one query over one input; `specs/Run.antt` has what it says with each answer.
+//! `run_canon` writes the canonical text of a query (`specs/Canon.antt`).
 //! `run_line` is the whole program over its words; `specs/Line.antt` has what it says with each
 //! status.
 #![tactic(auto)]
 
+mod canon;
 mod device;
 mod eval;
 mod fault;
@@ -21,6 +23,7 @@ mod lines;
 mod output;
 mod words;
 
+pub use canon::run_canon;
 pub use device::{Device, Failed, Output, Source};
 pub use eval::run_eval;
 pub use fault::Fault;

@@ -6,6 +6,7 @@ ghost use Rattle.clap.specs.Words.{kind_of};
 ghost use Rattle.jp_command.specs.Line.{RunsLine, RunsTask, document_fault_name, fault_line, status_of};
 ghost use Rattle.jp_command.specs.Output.{AppendsPrefix, AppendsSome};
 
+use crate::canon::run_canon;
 use crate::device::{Output, Source};
 use crate::eval::eval_document;
 use crate::fault::Fault;
@@ -76,6 +77,7 @@ fn run_task<R: Source, W: Output>(
         task query.now input.old input.new output.old output.new result }
 {
     match task {
+        Task::Canon => run_canon(alloc, query, output),
         Task::Eval(form) => {
             let document = eval_document(alloc, query, form, input, output)?;
             // The process ends next, which frees the document faster than a walk over it.

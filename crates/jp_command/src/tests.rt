@@ -1,5 +1,6 @@
-//! Rows of the standard and of the program, on `run_eval` and `run_line`.
+//! Rows of the standard and of the program, on `run_eval`, `run_canon` and `run_line`.
 
+mod canonical;
 mod devices;
 mod limits;
 mod rows;

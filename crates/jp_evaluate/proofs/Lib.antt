@@ -2,9 +2,7 @@ pub mod Rows
 pub mod Segments
 pub mod Visits
 pub mod PathTrees
-pub mod SpelledNames
-pub mod PathSpells
-pub mod PathBytes
+pub mod CanonicalPaths
 pub mod LocationLaws
 pub mod Trees
 pub mod Leads

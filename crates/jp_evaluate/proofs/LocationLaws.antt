@@ -22,7 +22,7 @@ use Rattle.jp_query.specs.declared.refusal.RefusalKind.TheVariants as kind
 use Rattle.jp_query.specs.declared.tree.Numeral.{Numeral}
 use Rattle.jp_query.specs.declared.tree.Numeral.TheVariants.{Whole}
 use Rattle.jp_evaluate.specs.Laws.{PathSelectsItsNode}
-use Rattle.jp_evaluate.proofs.PathBytes.{path-is_query}
+use Rattle.jp_evaluate.proofs.CanonicalPaths.{path-spells}
 use Rattle.jp_evaluate.proofs.PathTrees.{HasTextNames, IndexesFit, path_tree, step_segment}
 use Rattle.jp_evaluate.specs.Nodelist.{result, segment_result}
 use Rattle.jp_select.specs.Selectors.{one_step}
@@ -156,7 +156,7 @@ pub path_selects_its_node : PathSelectsItsNode
 path_selects_its_node d l document there =
     let w = some_value (value_at d l) there in
     let texts = names_are_texts d w.0 l document w.1 in
-    let spelled = path-is_query level_limit l texts (steps_fit d w.0 l document w.1) in (
+    let spelled = path-spells level_limit l texts (steps_fit d w.0 l document w.1) in (
       path_tree l,
       record { spans = spelled.0; spelled = spelled.1; faultless = steps_faultless d w.0 l document w.1 },
       walks d d w.0 [] l refl w.1 texts,

@@ -2,13 +2,16 @@
 use Rattle.std.proofs.Common.{◌<◌, ◌^◌, IsUtf8, pos, true, false, [], ◌∷◌, map}
 use Rattle.std.specs.Str.{chars}
 use Rattle.jp_document.specs.Location.{Key, Location, named, nth}
-use Rattle.jp_query.specs.Tree.{QueryTree, SegmentTree, index, name, query, segment, segments, selectors}
+use Rattle.jp_query.specs.Tree.{QueryTree, SegmentTree, SelectorTree, index, name, query, segment, segments, selectors}
 use Rattle.jp_query.specs.declared.tree.Numeral.TheVariants.{Whole}
 
--- a step as a child segment with one selector
+-- a step as a selector, and as a child segment with that one
+abbrev pub step_selector : Key → SelectorTree
+step_selector (named s) = name (chars s)
+step_selector (nth i) = index (Whole (pos i))
+
 abbrev pub step_segment : Key → SegmentTree
-step_segment (named s) = segment false (selectors (name (chars s) ∷ []))
-step_segment (nth i) = segment false (selectors (index (Whole (pos i)) ∷ []))
+step_segment k = segment false (selectors (step_selector k ∷ []))
 
 abbrev pub path_tree : Location → QueryTree
 path_tree l = query true (segments (map step_segment l))

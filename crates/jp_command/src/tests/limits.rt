@@ -1,6 +1,6 @@
 use super::devices::Blanks;
 use super::runs::written;
-use crate::{Device, Fault, Form, run_eval};
+use crate::{Device, Fault, Form, run_canon, run_eval};
 use jp_check::read_query;
 use jp_query::{Refusal, RefusalKind};
 use std::test::Fail;
@@ -12,11 +12,13 @@ fn looks_at_the_length_of_a_query_first(rt: HostRuntime) -> Result<(), Fail> {
     for _ in 0..524_288 {
         query.push_str(".a")?;
     }
-    let refused = Fault::Query(Refusal {
+    let refused = Some(Fault::Query(Refusal {
         kind: RefusalKind::TextTooLong,
         place: 0,
-    });
-    assert!(rt; written(alloc, query.as_str(), "1") == Err(refused));
+    }));
+    assert!(rt; written(alloc, query.as_str(), "1").err() == refused);
+    let canonical = run_canon(alloc, query.as_str(), &mut Device::new(Vec::new(alloc)));
+    assert!(rt; canonical.err() == refused);
     Ok(())
 }
 

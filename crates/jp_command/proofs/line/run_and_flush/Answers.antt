@@ -1,4 +1,4 @@
-use Rattle.jp_command.proofs.RunLemmas.{flush-fails, flush-works}
+use Rattle.jp_command.proofs.Flushes.{flush-fails, flush-works}
 use Rattle.jp_command.proofs.line.run_and_flush.Goals as goal
 
 pub returns-in-Ok : goal.returns-in-Ok

@@ -1,0 +1,54 @@
+-- The flush after a run: it leaves what was written.
+use Rattle.std.proofs.Common.{◌≡◌, ℕ, List, Option, Bool, true, Result, Ok, Err, ◌∙◌}
+use Rattle.std.specs.Io.KnownBytes.{Keeps}
+use Rattle.jp_command.specs.Line.{RunsTask}
+use Rattle.jp_command.specs.Output.{WritesOutput, WritesPrefix}
+use Rattle.jp_command.specs.declared.fault.Fault.{Fault}
+use Rattle.jp_command.specs.declared.fault.Fault.TheVariants.{Write}
+use Rattle.jp_command.specs.declared.words.Task.{Task}
+use Rattle.jp_command.specs.declared.words.Task.TheVariants.{Canon, Eval}
+use Rattle.jp_command.proofs.StreamLemmas.{Appends-keeps, prefix-whole}
+
+module _ {W : Type 0} (contents : W → Option (List ℕ)) (has_failed : W → Bool) (IsOutput : List ℕ → Type 0) where
+  prefix-kept : (o p q : W) → WritesOutput contents has_failed IsOutput o p
+      → Keeps (contents p) (contents q) → WritesPrefix contents has_failed IsOutput o q
+  prefix-kept o p q all kept = record {
+    output = all.output;
+    is = all.is;
+    written = prefix-whole _ _ _ (Appends-keeps _ _ _ _ all.writes.written kept);
+  }
+
+  output-kept : (o p q : W) → WritesOutput contents has_failed IsOutput o p
+      → Keeps (contents p) (contents q) → has_failed q ≡ has_failed p
+      → WritesOutput contents has_failed IsOutput o q
+  output-kept o p q all kept works = record {
+    output = all.output;
+    is = all.is;
+    writes = record {
+      written = Appends-keeps _ _ _ _ all.writes.written kept;
+      works = works ∙ all.writes.works;
+    };
+  }
+
+module _ {R W : Type 0} (remaining : R → Option (List ℕ)) (has_failed : R → Bool)
+    (contents : W → Option (List ℕ)) (writes_failed : W → Bool) where
+  abbrev Runs : Task → List ℕ → R → R → W → W → Result (Unit {0}) Fault → Type 0
+  Runs = RunsTask remaining has_failed contents writes_failed
+
+  -- after one that fails a prefix is written
+  pub flush-fails : (task : Task) (query : List ℕ) (i j : R) (o p q : W)
+      → Runs task query i j o p (Ok tt) → Keeps (contents p) (contents q)
+      → writes_failed q ≡ true → Runs task query i j o q (Err Write)
+  flush-fails Canon query i j o p q run kept fails =
+      (run.0, (prefix-kept contents writes_failed _ o p q run.1 kept, fails))
+  flush-fails (Eval form) query i j o p q run kept fails =
+      (prefix-kept contents writes_failed _ o p q run kept, fails)
+
+  -- after one that is done the output is written
+  pub flush-works : (task : Task) (query : List ℕ) (i j : R) (o p q : W)
+      → Runs task query i j o p (Ok tt) → Keeps (contents p) (contents q)
+      → writes_failed q ≡ writes_failed p → Runs task query i j o q (Ok tt)
+  flush-works Canon query i j o p q run kept works =
+      (run.0, output-kept contents writes_failed _ o p q run.1 kept works)
+  flush-works (Eval form) query i j o p q run kept works =
+      output-kept contents writes_failed _ o p q run kept works

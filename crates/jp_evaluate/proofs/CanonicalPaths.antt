@@ -1,0 +1,145 @@
+-- The normalized path of a location is the canonical text of its tree, and spells it.
+use Rattle.std.proofs.Common.{◌≡◌, ℕ, ◌<◌, ◌^◌, ◌&&◌, true, List, [], ◌∷◌, ◌++◌, map, pos, codes, IsUtf8, inl, inr, refl, ap, ap₂, subst, sym, ◌∙◌, append-nil, arith}
+use Rattle.std.proofs.lemmas.Bool.{and_parts, cases_lt, lt-ltb}
+use Rattle.std.proofs.lemmas.Str.{chars-encodes, encodes-append, encodes-chars, scalars-chars}
+use Rattle.std.specs.Fmt.{decimal}
+use Rattle.std.specs.List.{flat_map}
+use Rattle.std.specs.Str.{chars, encode_utf8_all}
+use lib.Utf8.{low_scalar, scalar, scalars}
+use Rattle.jp_reading.specs.Forms.{Form}
+use Rattle.jp_reading.specs.Texts.{Spans, Text}
+use Rattle.jp_document.specs.Location.{Key, Location, named, nth}
+use Rattle.jp_document.specs.Path.{index_text, path_of, quoted, step_text}
+use Rattle.jp_document.specs.Spelling.{spelling}
+use Rattle.jp_document.proofs.Encoded.{Ascii, digits-ascii, encode-ascii, high-plain, spelling-low}
+use Rattle.jp_document.proofs.IndexTexts.{digits-index_text}
+use Rattle.jp_document.proofs.Paths.{decimal-index_text}
+use Rattle.jp_document.proofs.Spelled.{by_itself, spelling_is}
+use Rattle.jp_query.specs.Grammar.{Inside, Segment, Segments, Selector, Spells, bracketed, indexed, named as by_name}
+use Rattle.jp_query.specs.Ints.{Int}
+use Rattle.jp_query.specs.Tree.{ExprTree, segments}
+use Rattle.jp_query.specs.declared.tree.Numeral.TheVariants.{Whole}
+use Rattle.jp_canon.specs.Canon.{canon_of, segment_text, segments_text, selector_text}
+use Rattle.jp_canon.proofs.Bracketed.{bracket-of}
+use Rattle.jp_canon.proofs.Forms.{Has, after-blank, before-blank, both, has-as, has-item, has-word}
+use Rattle.jp_canon.proofs.Names.{has-quoted}
+use Rattle.jp_canon.proofs.Numbers.{has-decimal}
+use Rattle.jp_canon.proofs.Written.{quoted-encode}
+use Rattle.jp_evaluate.proofs.PathTrees.{HasTextNames, IndexFits, IndexesFit, path_tree, step_segment, step_selector}
+
+-- ---- the canonical text spells the tree
+
+has-index : (i : ℕ) → i < 2 ^ 64 → Has (Int (Whole (pos i))) (decimal i)
+has-index i fits = subst (λ n. Has (Int n) (decimal i)) (rw (lt-ltb i (2 ^ 64) fits) refl)
+    (has-decimal i fits)
+
+module _ (K : ExprTree → Form) where
+  has-selector : (k : Key) → IndexFits k
+      → Has (Selector K (step_selector k)) (selector_text (step_selector k))
+  has-selector (named s) fits = has-as (λ r p. by_name (chars s) refl) (has-quoted (chars s))
+  has-selector (nth i) fits = has-as (λ r p. indexed (Whole (pos i)) refl)
+      (has-item (has-index i fits))
+
+  has-segment : (k : Key) → IndexFits k
+      → Has (Segment K (step_segment k)) (segment_text (step_segment k))
+  has-segment k fits = has-as (λ r p. bracketed (step_selector k ∷ []) refl)
+      (bracket-of K (step_selector k) [] (before-blank (has-selector k fits), tt))
+
+  has-segments : (l : Location) → IndexesFit l
+      → Has (Segments K (map step_segment l)) (segments_text (segments (map step_segment l)))
+  has-segments [] fits = has-word []
+  has-segments (k ∷ l) fits = both (after-blank (has-segment k fits.0)) (has-segments l fits.1)
+
+canon-spells : (n : ℕ) (l : Location) → IndexesFit l
+    → (s : Spans) × Spells n (path_tree l) s (canon_of (path_tree l))
+canon-spells n l fits =
+    let found = (both (has-word (36 ∷ [])) (has-segments (Inside n) l fits)).at 0 in
+    (found.0, record { parts = map step_segment l; tree = refl; is = found.1 })
+
+-- ---- and it is the path
+
+-- characters and their UTF-8
+abbrev Encoded : Text → List ℕ → Type 0
+Encoded cs bs = (scalars cs ≡ true) × (encode_utf8_all cs ≡ bs)
+
+scalars-append : (cs ds : Text) → scalars cs ≡ true → scalars ds ≡ true → scalars (cs ++ ds) ≡ true
+scalars-append [] ds one two = two
+scalars-append (c ∷ cs) ds one two =
+    let parts = and_parts (scalar c) (scalars cs) one in
+    rw parts.0 (scalars-append cs ds parts.1 two)
+
+scalars-ascii : (cs : Text) → Ascii cs → scalars cs ≡ true
+scalars-ascii [] all = refl
+scalars-ascii (c ∷ cs) all =
+    let low = all.0 in rw (low_scalar c (omega arith)) (scalars-ascii cs all.1)
+
+encoded-append : (cs ds : Text) (xs ys : List ℕ) → Encoded cs xs → Encoded ds ys
+    → Encoded (cs ++ ds) (xs ++ ys)
+encoded-append cs ds xs ys one two =
+    (scalars-append cs ds one.0 two.0, encodes-append cs ds ∙ ap₂ (λ x y. x ++ y) one.1 two.1)
+
+encoded-ascii : (cs : Text) → Ascii cs → Encoded cs cs
+encoded-ascii cs all = (scalars-ascii cs all, encode-ascii cs all)
+
+encoded-mark : (c : ℕ) → c < 128 → Encoded (c ∷ []) (c ∷ [])
+encoded-mark c low = encoded-ascii (c ∷ []) (low, tt)
+
+scalars-spelling : (c : ℕ) → scalar c ≡ true → scalars (spelling 39 c) ≡ true
+scalars-spelling c is = elim (cases_lt c 128) [
+  | inl low ↦ scalars-ascii (spelling 39 c) (spelling-low c low)
+  | inr high ↦
+      ap scalars (spelling_is c (c ∷ []) (by_itself (high-plain c high) refl))
+      ∙ ap (λ b. b && true) is
+]
+
+scalars-spellings : (cs : Text) → scalars cs ≡ true → scalars (flat_map (spelling 39) cs) ≡ true
+scalars-spellings [] all = refl
+scalars-spellings (c ∷ cs) all =
+    let parts = and_parts (scalar c) (scalars cs) all in
+    scalars-append (spelling 39 c) (flat_map (spelling 39) cs) (scalars-spelling c parts.0)
+    (scalars-spellings cs parts.1)
+
+encoded-name : (s : List ℕ) → IsUtf8 s → Encoded (quoted (chars s)) (quoted s)
+encoded-name s utf8 = (
+  scalars-append (flat_map (spelling 39) (chars s)) (39 ∷ [])
+      (scalars-spellings (chars s) (scalars-chars s utf8)) refl,
+  quoted-encode (chars s) ∙ ap quoted (encodes-chars s utf8),
+)
+
+encoded-index : (i : ℕ) → i < 2 ^ 64 → Encoded (decimal i) (index_text i)
+encoded-index i fits = subst (λ t. Encoded t (index_text i)) (sym (decimal-index_text i fits))
+    (encoded-ascii (index_text i) (digits-ascii (index_text i) (digits-index_text i)))
+
+-- a bracket around one selector
+encoded-bracket : (t : Text) (bs : List ℕ) → Encoded t bs
+    → Encoded (codes "[" ++ ((t ++ []) ++ codes "]")) (91 ∷ (bs ++ 93 ∷ []))
+encoded-bracket t bs is =
+    subst (λ x. Encoded (91 ∷ (x ++ 93 ∷ [])) (91 ∷ (bs ++ 93 ∷ []))) (sym (append-nil t))
+    (encoded-append (91 ∷ []) (t ++ 93 ∷ []) (91 ∷ []) (bs ++ 93 ∷ [])
+    (encoded-mark 91 (omega arith))
+    (encoded-append t (93 ∷ []) bs (93 ∷ []) is (encoded-mark 93 (omega arith))))
+
+encoded-steps : (l : Location) → HasTextNames l → IndexesFit l
+    → Encoded (segments_text (segments (map step_segment l))) (flat_map step_text l)
+encoded-steps [] texts fit = (refl, refl)
+encoded-steps (named s ∷ l) texts fit =
+    encoded-append (segment_text (step_segment (named s))) _ (step_text (named s)) _
+    (encoded-bracket (quoted (chars s)) (quoted s) (encoded-name s texts.0))
+    (encoded-steps l texts.1 fit.1)
+encoded-steps (nth i ∷ l) texts fit =
+    encoded-append (segment_text (step_segment (nth i))) _ (step_text (nth i)) _
+    (encoded-bracket (decimal i) (index_text i) (encoded-index i fit.0))
+    (encoded-steps l texts fit.1)
+
+path-canonical : (l : Location) → HasTextNames l → IndexesFit l
+    → chars (path_of l) ≡ canon_of (path_tree l)
+path-canonical l texts fit =
+    let all = encoded-append (36 ∷ []) _ (36 ∷ []) (flat_map step_text l)
+    (encoded-mark 36 (omega arith)) (encoded-steps l texts fit) in
+    ap chars (sym all.1) ∙ chars-encodes (canon_of (path_tree l)) all.0
+
+-- so the path spells the tree
+pub path-spells : (n : ℕ) (l : Location) → HasTextNames l → IndexesFit l
+    → (s : Spans) × Spells n (path_tree l) s (chars (path_of l))
+path-spells n l texts fit =
+    let found = canon-spells n l fit in (found.0, rw (path-canonical l texts fit) found.1)
