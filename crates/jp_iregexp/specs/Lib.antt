@@ -1,6 +1,7 @@
 pub mod Category
 pub mod Class
 pub mod Language
+pub mod Positions
 pub mod Laws
 pub mod Tree
 pub mod Characters

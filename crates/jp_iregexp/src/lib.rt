@@ -8,7 +8,8 @@
 //!
 //! The contract for the crates above: `read_pattern` answers a pattern exactly for the texts that spell one
 //! by the grammar of `specs/Grammar.antt` within the limit of groups, and no text spells two.
-//! `CharClass::holds` is `class_holds` of `specs/Class.antt`, by the general categories of `unicode`. `Language` of
+//! `CharClass::holds` is `class_holds` of `specs/Class.antt`, by the general categories of
+//! `unicode`. `positions` is `positions_of` of `specs/Positions.antt`, at most 4,097. `Language` of
 //! `specs/Language.antt` says which words a pattern stands for.
 #![tactic(auto)]
 
@@ -20,6 +21,7 @@ mod class;
 mod fault;
 pub mod laws;
 mod pattern;
+mod position_count;
 mod quantifiers;
 mod read;
 
@@ -27,6 +29,7 @@ pub use category::Category;
 pub use class::{CharClass, ClassItem};
 pub use fault::PatternFault;
 pub use pattern::Pattern;
+pub use position_count::positions;
 pub use read::{GROUP_LIMIT, read_pattern};
 
 #[cfg(test)]

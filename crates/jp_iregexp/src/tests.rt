@@ -6,6 +6,7 @@ use std::test::Fail;
 mod categories;
 mod conforming;
 mod hostile;
+mod position_counts;
 mod trees;
 
 /// A text that is so many times the part.
