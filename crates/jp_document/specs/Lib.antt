@@ -1,6 +1,7 @@
 pub mod ChildNodes
 pub mod Direct
 pub mod Document
+pub mod DocumentValue
 pub mod Faults
 pub mod Growing
 pub mod Laws
