@@ -1,5 +1,6 @@
 pub mod ChildNodes
 pub mod Document
+pub mod DocumentValue
 pub mod Faults
 pub mod Laws
 pub mod Location

@@ -3,6 +3,7 @@ ghost use Rattle.std.specs.Prelude.{◌≡◌, [], map, option_map, IfOk, IfErr}
 ghost use Rattle.jp_document.specs.Value.{IsDocumentValue, value_of};
 
 use crate::direct::direct_value;
+use crate::document_value::DocumentValue;
 use crate::fault::DocumentFault;
 use crate::location::{OwnedLocation, Step};
 use crate::lookup::child_value;
@@ -21,6 +22,7 @@ pub struct Document {
 
 impl Document {
     ghost use Rattle.jp_document.specs.Document.{document_of, IsDocument, IsDocumentFault};
+    ghost use Rattle.jp_document.specs.DocumentValue.{lent_value};
     ghost use Rattle.jp_document.specs.Location.{key_of, value_at};
     ghost use Rattle.jp_document.specs.Node.{told, StandsIn};
 
@@ -45,6 +47,13 @@ impl Document {
         ensures sound { IsDocumentValue (document_of self.now) }
     {
         &self.json
+    }
+
+    /// The document's value, to go on from.
+    pub fn value(&self) -> DocumentValue<'_>
+        ensures { lent_value result ≡ document_of self.now }
+    {
+        DocumentValue::of(self.json())
     }
 
     /// The root, whose location is empty. It takes no memory: the allocator is for the nodes below it.

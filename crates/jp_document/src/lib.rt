@@ -21,6 +21,7 @@ mod direct;
 #[cfg(test)]
 mod direct_tests;
 mod document;
+mod document_value;
 mod fault;
 mod growing;
 pub mod laws;
@@ -44,6 +45,7 @@ mod value;
 
 pub use child_nodes::children;
 pub use document::Document;
+pub use document_value::DocumentValue;
 pub use fault::DocumentFault;
 pub use location::{OwnedLocation, OwnedStep, Step};
 pub use lookup::child_value;

@@ -4,6 +4,7 @@ ghost use Rattle.jp_document.specs.Location.{named, nth};
 ghost use Rattle.jp_document.specs.Node.{told, told_child, StandsIn, IsNodeAt};
 ghost use Rattle.jp_document.specs.Value.{Value, IsDocumentValue, value_of};
 
+use crate::document_value::DocumentValue;
 use crate::location::Step;
 use crate::lookup::{item_at, member_named};
 use crate::value::Json;
@@ -35,7 +36,19 @@ impl<'d> Model for Node<'d> {
 }
 
 impl<'d> Node<'d> {
+    ghost use Rattle.jp_document.specs.DocumentValue.{lent_value};
     ghost use Rattle.jp_document.specs.Location.{key_of};
+
+    /// The node of these steps, where this value stands.
+    pub fn of(location: Vec<Step<'d>>, value: DocumentValue<'d>) -> Node<'d>
+        ensures location { result.location ≡ map key_of location.entry.items }
+        ensures value { value_of result.value ≡ lent_value value.entry }
+    {
+        Node {
+            location,
+            value: value.json(),
+        }
+    }
 
     /// The steps from the root to this node.
     pub fn location(&self) -> &[Step<'d>]
@@ -50,6 +63,13 @@ impl<'d> Node<'d> {
         ensures sound { IsDocumentValue (value_of self.now.value) }
     {
         self.value
+    }
+
+    /// The value that stands there, to go on from.
+    pub fn document_value(&self) -> DocumentValue<'d>
+        ensures { lent_value result ≡ value_of self.now.value }
+    {
+        DocumentValue::of(self.value)
     }
 
     /// The same node.

@@ -48,7 +48,7 @@ pub fn nth_value(json: &Json, position: usize) -> Option<&Json>
 }
 
 /// The value at this position one step inside, with its step.
-fn entry_at(json: &Json, position: usize) -> Option<(Step<'_>, &Json)>
+pub(crate) fn entry_at(json: &Json, position: usize) -> Option<(Step<'_>, &Json)>
     ensures entry { option_map entry_of result ≡ slice_get (held (value_of json.now)) position }
     ensures more { OnSome result (position < usize.MAX) }
 {
