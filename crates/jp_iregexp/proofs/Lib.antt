@@ -1,8 +1,10 @@
 mod ClassRows
+mod MembershipRows
 mod PatternRows
 pub mod CodeLemmas
 pub mod Deeper
 pub mod Languages
+pub mod Membership
 pub mod Moves
 pub mod NoSpans
 pub mod SpeltCharacters

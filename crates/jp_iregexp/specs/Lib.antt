@@ -2,6 +2,8 @@ pub mod Category
 pub mod Class
 pub mod Language
 pub mod Laws
+pub mod Membership
+pub mod Part
 pub mod Tree
 pub mod Characters
 pub mod Codes
