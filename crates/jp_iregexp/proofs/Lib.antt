@@ -1,5 +1,6 @@
 mod ClassRows
 mod MembershipRows
+mod PatternOfRows
 mod PatternRows
 pub mod CodeLemmas
 pub mod Deeper
@@ -7,6 +8,7 @@ pub mod Languages
 pub mod Membership
 pub mod Moves
 pub mod NoSpans
+pub mod PatternOf
 pub mod SpeltCharacters
 pub mod SpeltClasses
 pub mod SpeltPatterns

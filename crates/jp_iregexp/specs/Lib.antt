@@ -4,6 +4,7 @@ pub mod Language
 pub mod Laws
 pub mod Membership
 pub mod Part
+pub mod PatternOf
 pub mod Tree
 pub mod Characters
 pub mod Codes

@@ -1,10 +1,18 @@
 //! Laws of the tests of membership.
 
 ghost use Rattle.jp_iregexp.specs.Membership.{WordsAreTested, PartsAreTested};
+ghost use Rattle.jp_iregexp.specs.PatternOf.{SpeltIsFound, OthersHaveNone};
 
 /// `is_word` tells exactly the words of a pattern (RFC 9485, section 4), and `has_word` exactly the
 /// texts of which some part is one (RFC 9535, section 2.4.7).
 pub fn tested_words()
     ensures words { WordsAreTested }
     ensures parts { PartsAreTested }
+{}
+
+/// `pattern_of` answers exactly the pattern that a text spells within the limit of groups, and none
+/// where the text spells none so (RFC 9485, section 3).
+pub fn pattern_found()
+    ensures spelt { SpeltIsFound }
+    ensures none { OthersHaveNone }
 {}
