@@ -2,6 +2,7 @@ pub mod Category
 pub mod Class
 pub mod Language
 pub mod Laws
+pub mod Matches
 pub mod Membership
 pub mod Part
 pub mod PatternOf

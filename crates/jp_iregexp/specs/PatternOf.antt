@@ -14,7 +14,7 @@ taken (took x p) = Some x
 taken (stuck p) = None
 taken (deep p) = None
 
--- the pattern that a text spells within the limit of groups, if it spells one (RFC 9485, section 3):
+-- the pattern that a text spells within the limit of groups, if it does (RFC 9485, section 3), as
 -- what the reader of patterns takes; `SpeltIsFound` and `OthersHaveNone` pin it by the grammar
 unfoldable pub pattern_of : Text → Option Tree
 pattern_of text = taken (pattern_at group_limit (record { at = 0; rest = text; found = [] }))
