@@ -3,6 +3,10 @@ pub mod Class
 pub mod Language
 pub mod Positions
 pub mod Laws
+pub mod Matches
+pub mod Membership
+pub mod Part
+pub mod PatternOf
 pub mod Tree
 pub mod Characters
 pub mod Codes

@@ -3,6 +3,10 @@
 ghost use Rattle.jp_iregexp.specs.Spelled.{OnePattern};
 ghost use Rattle.jp_iregexp.specs.Laws.{BranchesUnite, SequencesCut, RepeatsCut};
 
+mod membership;
+
+pub use membership::{pattern_found, tested_matches, tested_words};
+
 /// What the words of a pattern are (RFC 9485, section 4): of an `Either` those of each branch, of a
 /// `Sequence` those cut into a word of each piece, of a `Repeat` those cut into as many words of the inner
 /// pattern as it allows.

@@ -1,0 +1,23 @@
+-- The patterns of texts, at worked values.
+use Rattle.std.proofs.Common.{◌≡◌, true, [], ◌∷◌, Some, None, refl}
+use Rattle.std.specs.Prelude.{codes}
+use Rattle.jp_reading.specs.Outcome.{loop}
+use Rattle.jp_iregexp.specs.declared.class.ClassItem.TheVariants.{Range}
+use Rattle.jp_iregexp.specs.Characters.{is_plain}
+use Rattle.jp_iregexp.specs.PatternOf.{pattern_of}
+use Rattle.jp_iregexp.specs.Reading.{pattern_at, branches_at, branch_at, piece_at, atom_at}
+use Rattle.jp_iregexp.specs.Reading.{class_at, items_at, element_at, range_at, character_at}
+use Rattle.jp_iregexp.specs.Tree.{class, branches, pieces}
+
+-- `[^-a]` is the class of all but `-` and `a`
+row : pattern_of (codes "[^-a]") ≡
+    Some (branches (pieces (class true (Range 45 45 ∷ Range 97 97 ∷ []) ∷ []) ∷ []))
+unfolding pattern_of pattern_at branches_at branch_at piece_at atom_at class_at items_at
+    element_at range_at character_at loop is_plain
+row = refl
+
+-- `[^]` is none
+row2 : pattern_of (codes "[^]") ≡ None
+unfolding pattern_of pattern_at branches_at branch_at piece_at atom_at class_at items_at
+    element_at range_at character_at loop is_plain
+row2 = refl
