@@ -1,10 +1,11 @@
 -- Rounds of a repeat that only the new places begin.
 use Rattle.std.proofs.Common.{◌≡◌, ◌↔◌, ◌⊎◌, inl, inr, ℕ, zero, suc, ◌+◌, ◌<◌, ◌≤◌, Bool, true, false, List, [], ◌∷◌, Option, Some, None, length, get_or, refl, sym, ◌∙◌, subst, arith}
 use Rattle.jp_iregexp.specs.Language.{Concatenation, Power, IsAtMost}
+use Rattle.jp_iregexp.proofs.Membership.{at_most_below}
 use Rattle.jp_match.specs.Counts.{Times, IsMostAfter}
 use Rattle.jp_match.specs.Place.{Marked, Reached, IsImage}
 use Rattle.jp_match.proofs.Reaching.{halfway, onward, reached_as, reached_from, reached_still, still_reached}
-use Rattle.jp_match.proofs.Repeats.{at_most_after, not_at_most, at_most_zero, at_most_below}
+use Rattle.jp_match.proofs.Repeats.{at_most_after, not_at_most, at_most_zero}
 
 true_or_not : (b : Bool) → (b ≡ true) ⊎ (b ≡ true → ⊥)
 true_or_not true = inl refl

@@ -56,10 +56,6 @@ pub at_most_zero : (most : Option ℕ) → IsAtMost most 0
 at_most_zero None = tt
 at_most_zero (Some most) = omega arith
 
-pub at_most_below : (most : Option ℕ) (k m : ℕ) → m ≤ k → IsAtMost most k → IsAtMost most m
-at_most_below None k m below within = tt
-at_most_below (Some most) k m below within = omega arith
-
 -- a repeat takes the least words and then not more than the most after those
 pub image_repeat : (a : Tree) (least : ℕ) (most after : Option ℕ) (text : List ℕ) (x y z : List Bool) → IsMostAfter most least (Some after) →
     IsImage (Power (Language a) least) text x y → IsImage (Times (Language a) after) text y z → IsImage (Language (repeat a least most)) text x z
