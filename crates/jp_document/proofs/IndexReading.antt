@@ -16,20 +16,24 @@ leading-digit c off = grind (arith, nat_tests)
 first-digit : (p : State) → is_at 48 p ≡ false → take_if is_leading_digit p ≡ take_if is_digit p
 first-digit p off = taken (head p) off
   where
-    taken : (o : Option ℕ) → passes (is 48) o ≡ false → take_passing is_leading_digit p o ≡ take_passing is_digit p o
+    taken : (o : Option ℕ) → passes (is 48) o ≡ false
+        → take_passing is_leading_digit p o ≡ take_passing is_digit p o
     taken None h = refl
     taken (Some c) h = rw (leading-digit c h) refl
 
 -- the index as `natural` reads it
-pub index-natural : (p : State) → is_at 48 p ≡ false → read_rule index p ≡ by (capped 9007199254740992 0) (digits_at p)
+pub index-natural : (p : State) → is_at 48 p ≡ false
+    → read_rule index p ≡ by (capped 9007199254740992 0) (digits_at p)
 unfolding index size digits_at
 index-natural p off = rw (off, first-digit p off) (along (digit_at p))
   where
     along : (o : Outcome ℕ)
         → (o >>= λ d q. by (λ ds. capped 9007199254740992 0 (d ∷ ds)) (each is_at_digit digit_at q))
-        ≡ by (capped 9007199254740992 0) (o >>= λ d q. each is_at_digit digit_at q >>= λ ds r. took (d ∷ ds) r)
+        ≡ by (capped 9007199254740992 0)
+        (o >>= λ d q. each is_at_digit digit_at q >>= λ ds r. took (d ∷ ds) r)
     along (took d q) =
-        sym (by-by (capped 9007199254740992 0) (λ (ds : Text). d ∷ ds) (λ ds. capped 9007199254740992 0 (d ∷ ds)) (λ ds. refl)
+        sym (by-by (capped 9007199254740992 0) (λ (ds : Text). d ∷ ds)
+        (λ ds. capped 9007199254740992 0 (d ∷ ds)) (λ ds. refl)
         (each is_at_digit digit_at q))
     along (stuck q) = refl
     along (deep q) = refl

@@ -2,6 +2,7 @@ pub mod Alive
 pub mod ChildLaws
 pub mod ChildValues
 pub mod Completeness
+pub mod Conversion
 pub mod Defects
 pub mod DirectAhead
 pub mod DirectTurns
@@ -25,10 +26,9 @@ pub mod Rows
 pub mod Soundness
 pub mod Spelled
 pub mod Spellings
-pub mod Stops
 pub mod StringContents
 pub mod TextNames
 pub mod Texts
 pub mod TokenTexts
+pub mod ValueFaults
 pub mod Values
-pub mod Wholes

@@ -1,4 +1,4 @@
-//! The characters of the names in normalized paths, and how they are spelled (RFC 9535 section 2.7).
+//! The characters of the names in normalized paths (RFC 9535 section 2.7).
 ghost use Rattle.std.specs.Prelude.{◌≡◌, ◌<◌, true};
 ghost use Rattle.jp_reading.specs.Outcome.{take_if};
 ghost use Rattle.jp_reading.specs.Views.{Gives};
@@ -61,7 +61,7 @@ pub(crate) fn meant(letter: char) -> char
 }
 
 /// What a hexadecimal digit writes.
-#[tactic(auto, unfolding(crate::specs::Private::PathRules::is_hex_digit, crate::specs::Private::PathRules::hex_value))]
+#[tactic(auto, unfolding(crate::specs::Private::PathRules::is_hex_digit, crate::specs::Private::PathRules::hex_value,))]
 pub(crate) fn hex_value(digit: char) -> u8
     requires { is_hex_digit digit ≡ true }
     ensures value { result ≡ hex_value digit }

@@ -22,7 +22,11 @@ pub(crate) fn name(reader: &mut Reader) -> Result<String, Stop>
 
 /// Takes the characters of a name, up to the quote that ends it.
 fn characters(reader: &mut Reader) -> Result<String, Stop>
-    ensures { Gives (λ s. string_bytes s) result reader.new (read_rule rules.name_characters reader.old) }
+    ensures { Gives
+        (λ s. string_bytes s)
+        result
+        reader.new
+        (read_rule rules.name_characters reader.old) }
 {
     let mut name = String::new(reader.alloc());
     'characters: while is_inside(reader) {
@@ -69,7 +73,8 @@ fn escaped(reader: &mut Reader) -> Result<char, Stop>
     }
 }
 
-/// Takes the number of a character below U+0020 that has no letter: `00` and two lower case hexadecimal digits.
+/// Takes the number of a character below U+0020 that has no letter: `00` and two lower case
+/// hexadecimal digits.
 #[tactic(auto, unfolding(crate::specs::Private::PathRules::hexchar))]
 fn hexchar(reader: &mut Reader) -> Result<char, Stop>
     ensures { Gives (λ c. c) result reader.new (read_rule rules.hexchar reader.old) }

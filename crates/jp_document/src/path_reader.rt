@@ -14,9 +14,10 @@ use crate::path_fault::PathFault;
 use jp_reading::{Reader, Stop, natural};
 use std::alloc::{AllocError, Global};
 
-/// The location whose normalized path the text is. Refused are: a text that is the path of no list of steps
-/// (`NotNormalized`), so each other spelling of a step, as `["a"]` or `[01]`, and each text that goes on after
-/// its path; a path with an index above (2^53)-1 (`IndexRange`).
+/// The location whose normalized path the text is (RFC 9535 section 2.7). Refused are: a text that
+/// is the path of no list of steps (`NotNormalized`), so each other spelling of a step, as `["a"]` or
+/// `[01]`, and each text that goes on after its path; a path with an index above (2^53)-1
+/// (`IndexRange`).
 pub fn read_path(alloc: Global, text: &str) -> Result<OwnedLocation, PathFault>
     ensures path { IfOk result (λ l. text.now ≡ path_of l) }
     ensures small { IfOk result (λ l. list_any is_large l ≡ false) }
@@ -48,8 +49,8 @@ fn is_large(step: &OwnedStep) -> bool
 /// The largest index of a location: (2^53)-1.
 const LARGEST_INDEX: u64 = 9_007_199_254_740_991;
 
-/// Takes a whole path: the text ends behind it. An index above (2^53)-1 is read as 2^53.
-#[tactic(auto, unfolding(crate::specs::Private::PathReading::path_at, crate::specs::Private::PathRules::path))]
+/// Takes a whole path: the text ends after it. An index above (2^53)-1 is read as 2^53.
+#[tactic(auto, unfolding(crate::specs::Private::PathReading::path_at, crate::specs::Private::PathRules::path,))]
 fn path(reader: &mut Reader) -> Result<Vec<OwnedStep>, Stop>
     ensures { Gives (λ v. map owned_key v.items) result reader.new (path_at reader.old) }
 {
@@ -63,7 +64,11 @@ fn path(reader: &mut Reader) -> Result<Vec<OwnedStep>, Stop>
 
 /// Takes step after step, as long as another begins.
 fn steps(reader: &mut Reader) -> Result<Vec<OwnedStep>, Stop>
-    ensures { Gives (λ v. map owned_key v.items) result reader.new (read_rule rules.steps reader.old) }
+    ensures { Gives
+        (λ v. map owned_key v.items)
+        result
+        reader.new
+        (read_rule rules.steps reader.old) }
 {
     let mut steps = Vec::new(reader.alloc());
     'steps: while reader.is_at('[') {

@@ -37,19 +37,22 @@ both {t} {u} one two = record {
 }
 
 -- one form as another
-pub has-as : {P Q : Form} {t : Text} → ((s : Spans) (o : ℕ) → P s o t → Q s o t) → HasForm P t → HasForm Q t
+pub has-as : {P Q : Form} {t : Text} → ((s : Spans) (o : ℕ) → P s o t → Q s o t) → HasForm P t
+    → HasForm Q t
 has-as f h = record { at = λ o. let a = h.at o in (a.0, f a.0 o a.1) }
 
 -- a text as an equal one
 pub has-same : {P : Form} {t u : Text} → t ≡ u → HasForm P t → HasForm P u
 has-same {P} e h = subst (HasForm P) e h
 
-pub has-all : {A : Type 0} (Q : A → Form) (f : A → Text) → ((x : A) → HasForm (Q x) (f x)) → (xs : List A)
+pub has-all : {A : Type 0} (Q : A → Form) (f : A → Text) → ((x : A) → HasForm (Q x) (f x))
+    → (xs : List A)
     → HasForm (Each Q xs) (flat_map f xs)
 has-all Q f has [] = has-word []
 has-all Q f has (x ∷ xs) = both (has x) (has-all Q f has xs)
 
-pub has-each_passing : (ok : ℕ → Bool) (cs : Text) → AllPassing ok cs → HasForm (Each (One ok) cs) cs
+pub has-each_passing : (ok : ℕ → Bool) (cs : Text) → AllPassing ok cs
+    → HasForm (Each (One ok) cs) cs
 has-each_passing ok [] all = has-word []
 has-each_passing ok (c ∷ cs) all = both (has-one ok c all.0) (has-each_passing ok cs all.1)
 

@@ -16,9 +16,18 @@ is_none (Some c) = false
 abbrev pub at_end : Follow
 at_end = record { near = is_none; far = anything }
 
-character-apart : (K : Follow) → Apart {N = nesting} (λ o. any) rule.name_character character-alive K
+character-apart : (K : Follow)
+    → Apart {N = nesting} (λ o. any) rule.name_character character-alive K
 unfolding rule.name_character rule.escape rule.hexchar rule.is_letter rule.is_plain rule.is_low_digit rule.is_hex_digit
-character-apart K = (λ c h. grind (arith, nat_tests), (λ c h. grind (arith, nat_tests), (tt, (tt, (λ c h. grind (arith, nat_tests), tt, (tt, tt)))), tt), tt)
+character-apart K = (
+  λ c h. grind (arith, nat_tests),
+  (
+    λ c h. grind (arith, nat_tests),
+    (tt, (tt, (λ c h. grind (arith, nat_tests), tt, (tt, tt)))),
+    tt,
+  ),
+  tt,
+)
 
 name-apart : (K : Follow) → Apart {N = nesting} (λ o. any) rule.name name-alive K
 unfolding rule.name rule.name_characters rule.name_character rule.is_plain
@@ -38,7 +47,8 @@ name-apart K = (
   ),
 )
 
-index-apart : (K : Follow) → Excludes K.near is_digit → Apart {N = nesting} (λ o. any) rule.index index-alive K
+index-apart : (K : Follow) → Excludes K.near is_digit
+    → Apart {N = nesting} (λ o. any) rule.index index-alive K
 unfolding rule.index rule.size is_digit
 index-apart K off = (
   λ c h. grind (arith, nat_tests),
@@ -51,7 +61,13 @@ unfolding rule.step rule.key rule.name rule.index rule.size is_digit
 step-apart K = (
   tt,
   (
-    (implies-same, λ c h. grind (arith, nat_tests), name-apart (beginning (is 93)), index-apart (beginning (is 93)) (λ c h. grind (arith, nat_tests))),
+    (
+      implies-same,
+      λ c h. grind (arith, nat_tests),
+      name-apart (beginning (is 93)),
+      index-apart
+          (beginning (is 93)) (λ c h. grind (arith, nat_tests)),
+    ),
     λ k. under-same,
     λ k. (tt, tt),
   ),
@@ -59,4 +75,10 @@ step-apart K = (
 
 pub path-apart : Apart {N = nesting} (λ o. any) rule.path path-alive at_end
 unfolding rule.path rule.steps rule.step
-path-apart = (tt, (record { again = under-left at_end; on = implies-same; off = λ c h. cc }, step-apart (either_of (begins rule.step step-alive any) at_end)))
+path-apart = (
+  tt,
+  (
+    record { again = under-left at_end; on = implies-same; off = λ c h. cc },
+    step-apart (either_of (begins rule.step step-alive any) at_end),
+  ),
+)

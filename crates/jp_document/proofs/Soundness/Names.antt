@@ -33,15 +33,18 @@ enclosed a b P w low below inside s o t h =
     record {
       is =
           ap encode_utf8_all h.is ∙ encodes-append h.first h.second
-          ∙ ap (λ x. x ++ encode_utf8_all h.second) (ap encode_utf8_all h.one.is ∙ encode-ascii (a ∷ []) (low, tt))
+          ∙ ap (λ x. x ++ encode_utf8_all h.second)
+          (ap encode_utf8_all h.one.is ∙ encode-ascii (a ∷ []) (low, tt))
           ∙ ap (λ x. a ∷ x) (ap encode_utf8_all h.two.is ∙ encodes-append h.two.first h.two.second
-          ∙ ap (λ x. encode_utf8_all h.two.first ++ x) (ap encode_utf8_all h.two.two.is ∙ encode-ascii (b ∷ []) (below, tt))
+          ∙ ap (λ x. encode_utf8_all h.two.first ++ x)
+          (ap encode_utf8_all h.two.two.is ∙ encode-ascii (b ∷ []) (below, tt))
           ∙ ap (λ x. x ++ b ∷ []) middle);
     }
 
 -- the value of what is enclosed
 pub enclosed-is : {A : Type 0} (F : A → Form) (a b : ℕ) (x : A)
-    → Within (word (a ∷ []) ⌢ Then F (λ z y. word (b ∷ []) ⌢ Only z (word []) y) x) (word (a ∷ []) ⌢ F x ⌢ word (b ∷ []))
+    → Within (word (a ∷ []) ⌢ Then F (λ z y. word (b ∷ []) ⌢ Only z (word []) y) x)
+    (word (a ∷ []) ⌢ F x ⌢ word (b ∷ []))
 enclosed-is F a b x =
     after-within (word (a ∷ [])) _ (F x ⌢ word (b ∷ []))
     (λ s o t h. (let end = ends-within F (word (b ∷ [])) (λ z. z) x s o t h in
@@ -55,7 +58,8 @@ record Numbered (c : ℕ) (s : Spans) (o : ℕ) (t : Text) : Type 0 where
   none : has_letter c ≡ false
   is : 92 ∷ 117 ∷ t ≡ control c
 
-low-number : (d : ℕ) → is_low_digit d ≡ true → (hex_value d < 16) × (has_letter (hex_value d) ≡ false) × (hex_digit (hex_value d) ≡ d)
+low-number : (d : ℕ) → is_low_digit d ≡ true
+    → (hex_value d < 16) × (has_letter (hex_value d) ≡ false) × (hex_digit (hex_value d) ≡ d)
 unfolding is_low_digit hex_value has_letter
 low-number d h =
     elim (cases_Bool (nat_lt d 97)) [
@@ -75,7 +79,8 @@ high-no_letter : (n : ℕ) → 16 ≤ n → has_letter n ≡ false
 unfolding has_letter
 high-no_letter n h = grind (arith, nat_tests)
 
-control-is : (c a b : ℕ) → hex_digit (c / 16) ≡ a → hex_digit (c % 16) ≡ b → 92 ∷ 117 ∷ 48 ∷ 48 ∷ a ∷ b ∷ [] ≡ control c
+control-is : (c a b : ℕ) → hex_digit (c / 16) ≡ a → hex_digit (c % 16) ≡ b
+    → 92 ∷ 117 ∷ 48 ∷ 48 ∷ a ∷ b ∷ [] ≡ control c
 control-is c a b high low = rw (sym high, sym low) refl
 
 hexchar-within : (c : ℕ) → Within (form_of rule.hexchar c) (Numbered c)
@@ -85,7 +90,8 @@ hexchar-within c s o t h = way _ h.two.two
     text : (u : Text) → h.two.second ≡ u → t ≡ 48 ∷ 48 ∷ u
     text u e = rw (h.is, h.one.is, h.two.is, h.two.one.is, e) refl
 
-    way : (i : ℕ) → Either (word (48 ∷ []) ⌢ Made hex_value (One is_low_digit) c) (word (49 ∷ []) ⌢ Made (λ d. 16 + hex_value d) (One is_hex_digit) c)
+    way : (i : ℕ) → Either (word (48 ∷ []) ⌢ Made hex_value (One is_low_digit) c)
+        (word (49 ∷ []) ⌢ Made (λ d. 16 + hex_value d) (One is_hex_digit) c)
         h.two.second_spans i h.two.second → Numbered c s o t
     way i (left g) =
         let d = g.two.part in
@@ -118,9 +124,13 @@ escape-within : (c : ℕ) → Within (form_of rule.escape c) (Escaped c)
 unfolding rule.escape
 escape-within c s o t (left h) =
     let number = hexchar-within c h.second_spans _ h.second h.two in
-    record { is = rw (h.is, h.one.is) number.is ∙ sym (spelling_is c (control c) (by_number number.low number.none refl)) }
+    record {
+      is = rw (h.is, h.one.is) number.is
+          ∙ sym (spelling_is c (control c) (by_number number.low number.none refl));
+    }
 escape-within c s o t (right h) = record {
-  is = rw h.is.is (sym (spelling_is c (92 ∷ h.part ∷ []) (by_letter h.part h.is.passes h.same refl)));
+  is = rw h.is.is (sym (spelling_is c (92 ∷ h.part ∷ [])
+      (by_letter h.part h.is.passes h.same refl)));
 }
 
 -- a character, as it is spelled
@@ -132,24 +142,30 @@ unfolding rule.name_character
 character-within c s o t (left h) =
     let escaped = escape-within c h.second_spans _ h.second h.two in
     record { is = rw (h.is, h.one.is) escaped.is }
-character-within c s o t (right h) = record { is = h.is ∙ sym (spelling_is c (c ∷ []) (by_itself h.passes refl)) }
+character-within c s o t (right h) =
+    record { is = h.is ∙ sym (spelling_is c (c ∷ []) (by_itself h.passes refl)) }
 
 -- ---- names
 
-characters-spelled : (cs : List ℕ) (s : Spans) (o : ℕ) (t : Text) → Each (λ c. form_of rule.name_character c) cs s o t → t ≡ flat_map (spelling 39) cs
+characters-spelled : (cs : List ℕ) (s : Spans) (o : ℕ) (t : Text)
+    → Each (λ c. form_of rule.name_character c) cs s o t → t ≡ flat_map (spelling 39) cs
 characters-spelled [] s o t h = h.is
 characters-spelled (c ∷ cs) s o t h =
     h.is ∙ ap (λ x. x ++ h.second) (character-within c h.first_spans o h.first h.one).is
     ∙ ap (λ x. spelling 39 c ++ x) (characters-spelled cs h.second_spans _ h.second h.two)
 
-characters-within : (n : List ℕ) → Within (form_of rule.name_characters n) (Written (flat_map (spelling 39) n))
+characters-within : (n : List ℕ)
+    → Within (form_of rule.name_characters n) (Written (flat_map (spelling 39) n))
 unfolding rule.name_characters
 characters-within n s o t h = record {
-  is = ap encode_utf8_all (characters-spelled h.part s o t h.is) ∙ names-encode h.part ∙ ap (flat_map (spelling 39)) (sym h.same);
+  is = ap encode_utf8_all (characters-spelled h.part s o t h.is) ∙ names-encode h.part
+      ∙ ap (flat_map (spelling 39)) (sym h.same);
 }
 
-pub name-within : (n : List ℕ) → Within (form_of rule.name n) (Written (39 ∷ (flat_map (spelling 39) n ++ 39 ∷ [])))
+pub name-within : (n : List ℕ)
+    → Within (form_of rule.name n) (Written (39 ∷ (flat_map (spelling 39) n ++ 39 ∷ [])))
 unfolding rule.name
 name-within n s o t h =
-    enclosed 39 39 (form_of rule.name_characters n) (flat_map (spelling 39) n) (omega arith) (omega arith) (characters-within n) s o t
+    enclosed 39 39 (form_of rule.name_characters n) (flat_map (spelling 39) n) (omega arith)
+    (omega arith) (characters-within n) s o t
     (enclosed-is (form_of rule.name_characters) 39 39 n s o t h)

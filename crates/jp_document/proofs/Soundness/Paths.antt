@@ -74,21 +74,29 @@ key-within : (k : Key) → Within (word (91 ∷ []) ⌢ form_of rule.key k ⌢ w
 unfolding rule.key
 key-within k s o t h = way _ h.two.one
   where
-    bracketed : (w : List ℕ) → encode_utf8_all h.two.first ≡ w → encode_utf8_all t ≡ 91 ∷ (w ++ 93 ∷ [])
+    bracketed : (w : List ℕ) → encode_utf8_all h.two.first ≡ w
+        → encode_utf8_all t ≡ 91 ∷ (w ++ 93 ∷ [])
     bracketed w e =
-        (enclosed 91 93 (λ s o u. u ≡ h.two.first) w (omega arith) (omega arith) (λ s o u same. record { is = ap encode_utf8_all same ∙ e }) s o t
+        (enclosed 91 93 (λ s o u. u ≡ h.two.first) w (omega arith) (omega arith)
+        (λ s o u same. record { is = ap encode_utf8_all same ∙ e }) s o t
         (joined-both (word (91 ∷ [])) (word (91 ∷ [])) _ _ s o t h h.one
-        (joined-both (form_of rule.key k) (λ s o u. u ≡ h.two.first) (word (93 ∷ [])) (word (93 ∷ [])) h.second_spans _ h.second h.two refl h.two.two))).is
+        (joined-both (form_of rule.key k) (λ s o u. u ≡ h.two.first) (word (93 ∷ []))
+        (word (93 ∷ [])) h.second_spans _ h.second h.two refl h.two.two))).is
 
     way : (i : ℕ) → form_of rule.key k h.two.first_spans i h.two.first → Stepped k s o t
     way i (left g) = record {
       key = k;
       read = ap capped_key g.same ∙ sym g.same;
-      is = bracketed _ (name-within g.part h.two.first_spans _ h.two.first g.is).is ∙ ap step_text (sym g.same);
+      is = bracketed _ (name-within g.part h.two.first_spans _ h.two.first g.is).is
+          ∙ ap step_text (sym g.same);
     }
     way i (right g) =
         let i = index-within g.part h.two.first_spans _ h.two.first g.is in
-        record { key = nth i.index; read = ap nth i.read ∙ sym g.same; is = bracketed (index_text i.index) i.is }
+        record {
+          key = nth i.index;
+          read = ap nth i.read ∙ sym g.same;
+          is = bracketed (index_text i.index) i.is;
+        }
 
 step-within : (k : Key) → Within (form_of rule.step k) (Stepped k)
 unfolding rule.step
@@ -102,7 +110,8 @@ record Located (l : Location) (w : List ℕ) : Type 0 where
   read : map capped_key location ≡ l
   is : w ≡ flat_map step_text location
 
-located : (l : Location) (s : Spans) (o : ℕ) (t : Text) → Each (λ k. form_of rule.step k) l s o t → Located l (encode_utf8_all t)
+located : (l : Location) (s : Spans) (o : ℕ) (t : Text) → Each (λ k. form_of rule.step k) l s o t
+    → Located l (encode_utf8_all t)
 located [] s o t h = record { location = []; read = refl; is = ap encode_utf8_all h.is }
 located (k ∷ l) s o t h =
     let one = step-within k h.first_spans o h.first h.one in
@@ -110,7 +119,8 @@ located (k ∷ l) s o t h =
     record {
       location = one.key ∷ rest.location;
       read = ap (λ j. j ∷ map capped_key rest.location) one.read ∙ ap (λ m. k ∷ m) rest.read;
-      is = ap encode_utf8_all h.is ∙ encodes-append h.first h.second ∙ ap (λ x. x ++ encode_utf8_all h.second) one.is
+      is = ap encode_utf8_all h.is ∙ encodes-append h.first h.second
+          ∙ ap (λ x. x ++ encode_utf8_all h.second) one.is
           ∙ ap (λ x. step_text one.key ++ x) rest.is;
     }
 
@@ -119,12 +129,18 @@ no_rest [] h = refl
 no_rest (c ∷ t) h = absurd (let none = eqb-true (length (c ∷ t)) 0 h in omega arith)
 
 -- what is taken ends with the text
-ended : (p : State) (o : Outcome Location) → IsSound (form_of rule.path) (form_of rule.path) p o → (l : Location) (q : State)
-    → (o >>= λ m r. cond (is_end r) (took m r) (stuck r)) ≡ took l q → Reads (form_of rule.path l) p q × (q.rest ≡ [])
+ended : (p : State) (o : Outcome Location) → IsSound (form_of rule.path) (form_of rule.path) p o
+    → (l : Location) (q : State)
+    → (o >>= λ m r. cond (is_end r) (took m r) (stuck r)) ≡ took l q
+    → Reads (form_of rule.path l) p q × (q.rest ≡ [])
 ended p (took m r) h l q e = way (is_end r) refl e
   where
-    way : (b : Bool) → is_end r ≡ b → cond b (took m r) (stuck r) ≡ took l q → Reads (form_of rule.path l) p q × (q.rest ≡ [])
-    way true end same = (let is : m ≡ l = cc in let at : r ≡ q = cc in rw (← is, ← at) (h.is, no_rest r.rest end))
+    way : (b : Bool) → is_end r ≡ b → cond b (took m r) (stuck r) ≡ took l q
+        → Reads (form_of rule.path l) p q × (q.rest ≡ [])
+    way true end same =
+        let is : m ≡ l = cc in
+        let at : r ≡ q = cc in
+        rw (← is, ← at) (h.is, no_rest r.rest end)
     way false end same = cc
 ended p (stuck r) h l q e = cc
 ended p (deep r) h l q e = cc
@@ -133,12 +149,15 @@ pub path-sound : (t : Text) (q : State) (l : Location) → path_at (start t) ≡
     → (m : Location) × (map capped_key m ≡ l) × (encode_utf8_all t ≡ path_of m)
 unfolding path_at rule.path rule.steps
 path-sound t q l e =
-    let judged = sound (none_inside nesting) (none_inside nesting) (λ o x s n u g. g) (nothing nesting) (λ o p on. shut refl) rule.path path-alive (start t) in
+    let judged = sound (none_inside nesting) (none_inside nesting) (λ o x s n u g. g)
+    (nothing nesting) (λ o p on. shut refl) rule.path path-alive (start t) in
     let read = ended (start t) (read_rule rule.path (start t)) judged l q e in
     let h = whole-reads (form_of rule.path l) t q read.0 read.1 in
     let steps = located l h.second_spans _ h.second h.two in (
       steps.location,
       steps.read,
       ap encode_utf8_all h.is ∙ encodes-append h.first h.second
-          ∙ ap (λ x. x ++ encode_utf8_all h.second) (ap encode_utf8_all h.one.is ∙ encode-ascii (36 ∷ []) (omega arith, tt)) ∙ ap (λ x. 36 ∷ x) steps.is,
+          ∙ ap (λ x. x ++ encode_utf8_all h.second)
+          (ap encode_utf8_all h.one.is ∙ encode-ascii (36 ∷ []) (omega arith, tt))
+          ∙ ap (λ x. 36 ∷ x) steps.is,
     )

@@ -85,10 +85,10 @@ Implies-push f g xs x before here h = all_push g xs x (before (all_first f xs x 
 
 -- ---- items
 
-pub record ItemsSoFar (all rest : List Reading) (wholes : List Json) : Type 0 where
-  pub value : (ws : List Value) → items_of_data (items_view rest) ≡ Some (items_of ws) → items_of_data (items_view all) ≡ Some (items_of (map value_of wholes ++ ws))
-  pub sound : Implies (everywhere list_fits) (everywhere is_allowed) (map value_of wholes)
-  pub first : (l : Location) → IsFirstIn (data_items_from (length wholes) (items_view rest)) l → IsFirstIn (data_items_from 0 (items_view all)) l
+pub record ItemsSoFar (all rest : List Reading) (found : List Json) : Type 0 where
+  pub value : (ws : List Value) → items_of_data (items_view rest) ≡ Some (items_of ws) → items_of_data (items_view all) ≡ Some (items_of (map value_of found ++ ws))
+  pub sound : Implies (everywhere list_fits) (everywhere is_allowed) (map value_of found)
+  pub first : (l : Location) → IsFirstIn (data_items_from (length found) (items_view rest)) l → IsFirstIn (data_items_from 0 (items_view all)) l
 
 pub items_begin : (all : List Reading) → ItemsSoFar all all []
 items_begin all = record { value = λ ws is. is; sound = λ _. refl; first = λ l is. is }
@@ -96,31 +96,31 @@ items_begin all = record { value = λ ws is. is; sound = λ _. refl; first = λ 
 items_of_data-item : (d : Data) (v : Value) (ds : parsed.Items) (ws : List Value) → value_of_data d ≡ Some v → items_of_data ds ≡ Some (items_of ws) → items_of_data (parsed.item d ds) ≡ Some (items_of (v ∷ ws))
 items_of_data-item d v ds ws here later = ap (option_and_then (λ w. option_map (item w) (items_of_data ds))) here ∙ ap (option_map (item v)) later
 
-pub items_more : (all rest : List Reading) (wholes : List Json) (x : Reading) (j : Json) → value_of_data (view x) ≡ Some (value_of j) → (everywhere list_fits (value_of j) ≡ true → everywhere is_allowed (value_of j) ≡ true)
-    → ItemsSoFar all (x ∷ rest) wholes → ItemsSoFar all rest (wholes ++ j ∷ [])
-items_more all rest wholes x j here sound so = record {
+pub items_more : (all rest : List Reading) (found : List Json) (x : Reading) (j : Json) → value_of_data (view x) ≡ Some (value_of j) → (everywhere list_fits (value_of j) ≡ true → everywhere is_allowed (value_of j) ≡ true)
+    → ItemsSoFar all (x ∷ rest) found → ItemsSoFar all rest (found ++ j ∷ [])
+items_more all rest found x j here sound so = record {
   value = λ ws is. so.value (value_of j ∷ ws) (items_of_data-item (view x) (value_of j) (items_view rest) ws here is)
-      ∙ ap (λ vs. Some (items_of vs)) (sym (ap (λ vs. vs ++ ws) (map-append value_of wholes (j ∷ [])) ∙ append_assoc (map value_of wholes) (value_of j ∷ []) ws));
-  sound = subst (Implies (everywhere list_fits) (everywhere is_allowed)) (sym (map-append value_of wholes (j ∷ []))) (Implies-push _ _ (map value_of wholes) (value_of j) so.sound sound);
-  first = λ l is. so.first l (skipped (nth (length wholes)) (view x) (value_of j) _ l here (IsAbove-items (length wholes) (items_view rest)) (subst (λ n. IsFirstIn (data_items_from n (items_view rest)) l) (length_push wholes j ∙ add-one (length wholes)) is));
+      ∙ ap (λ vs. Some (items_of vs)) (sym (ap (λ vs. vs ++ ws) (map-append value_of found (j ∷ [])) ∙ append_assoc (map value_of found) (value_of j ∷ []) ws));
+  sound = subst (Implies (everywhere list_fits) (everywhere is_allowed)) (sym (map-append value_of found (j ∷ []))) (Implies-push _ _ (map value_of found) (value_of j) so.sound sound);
+  first = λ l is. so.first l (skipped (nth (length found)) (view x) (value_of j) _ l here (IsAbove-items (length found) (items_view rest)) (subst (λ n. IsFirstIn (data_items_from n (items_view rest)) l) (length_push found j ∙ add-one (length found)) is));
 }
 
-pub items_stop : (all rest : List Reading) (wholes : List Json) (x : Reading) (l : Location) → IsFirstFraction (view x) l → ItemsSoFar all (x ∷ rest) wholes → IsFirstFraction (parsed.array (items_view all)) (nth (length wholes) ∷ l)
-items_stop all rest wholes x l first so =
-    IsFirstFraction-held (parsed.array (items_view all)) (nth (length wholes) ∷ l) (λ y is. cc)
-    (so.first (nth (length wholes) ∷ l) (hit (nth (length wholes)) (view x) _ l (IsAbove-items (length wholes) (items_view rest)) first))
+pub items_stop : (all rest : List Reading) (found : List Json) (x : Reading) (l : Location) → IsFirstFraction (view x) l → ItemsSoFar all (x ∷ rest) found → IsFirstFraction (parsed.array (items_view all)) (nth (length found) ∷ l)
+items_stop all rest found x l first so =
+    IsFirstFraction-held (parsed.array (items_view all)) (nth (length found) ∷ l) (λ y is. cc)
+    (so.first (nth (length found) ∷ l) (hit (nth (length found)) (view x) _ l (IsAbove-items (length found) (items_view rest)) first))
 
-pub items_end : (all : List Reading) (wholes : List Json) → ItemsSoFar all [] wholes → items_of_data (items_view all) ≡ Some (items_of (map value_of wholes))
-items_end all wholes so = so.value [] refl ∙ ap (λ vs. Some (items_of vs)) (append-nil (map value_of wholes))
+pub items_end : (all : List Reading) (found : List Json) → ItemsSoFar all [] found → items_of_data (items_view all) ≡ Some (items_of (map value_of found))
+items_end all found so = so.value [] refl ∙ ap (λ vs. Some (items_of vs)) (append-nil (map value_of found))
 
 pub items_sound : (vs : List Value) → Implies (everywhere list_fits) (everywhere is_allowed) vs → everywhere_in_items list_fits (items_of vs) ≡ true → everywhere_in_items is_allowed (items_of vs) ≡ true
 items_sound vs sound fits = all-items is_allowed vs ∙ sound (sym (all-items list_fits vs) ∙ fits)
 
 -- ---- members
 
-pub record MembersSoFar (all rest : List Entry) (wholes : List Member) : Type 0 where
-  pub value : (ws : List (List ℕ × Value)) → members_of_data (members_view rest) ≡ Some (members_of ws) → members_of_data (members_view all) ≡ Some (members_of (map member_of wholes ++ ws))
-  pub sound : Implies (λ m. everywhere list_fits m.1) (λ m. everywhere is_allowed m.1) (map member_of wholes)
+pub record MembersSoFar (all rest : List Entry) (found : List Member) : Type 0 where
+  pub value : (ws : List (List ℕ × Value)) → members_of_data (members_view rest) ≡ Some (members_of ws) → members_of_data (members_view all) ≡ Some (members_of (map member_of found ++ ws))
+  pub sound : Implies (λ m. everywhere list_fits m.1) (λ m. everywhere is_allowed m.1) (map member_of found)
   pub first : (l : Location) → IsFirstIn (data_members (members_view rest)) l → IsFirstIn (data_members (members_view all)) l
   pub sorted : IsStrictlySortedBy string_cmp (keys_of rest)
 
@@ -131,27 +131,27 @@ members_of_data-member : (n : List ℕ) (d : Data) (v : Value) (ms : parsed.Memb
     → members_of_data (parsed.member n d ms) ≡ Some (members_of ((n, v) ∷ ws))
 members_of_data-member n d v ms ws here later = ap (option_and_then (λ w. option_map (member n w) (members_of_data ms))) here ∙ ap (option_map (member n v)) later
 
-pub members_more : (all rest : List Entry) (wholes : List Member) (e : Entry) (m : Member) (v : Value) → member_of m ≡ (string_bytes e.0, v) → value_of_data (view e.1) ≡ Some v
-    → (everywhere list_fits v ≡ true → everywhere is_allowed v ≡ true) → MembersSoFar all (e ∷ rest) wholes → MembersSoFar all rest (wholes ++ m ∷ [])
-members_more all rest wholes e m v is here sound so =
+pub members_more : (all rest : List Entry) (found : List Member) (e : Entry) (m : Member) (v : Value) → member_of m ≡ (string_bytes e.0, v) → value_of_data (view e.1) ≡ Some v
+    → (everywhere list_fits v ≡ true → everywhere is_allowed v ≡ true) → MembersSoFar all (e ∷ rest) found → MembersSoFar all rest (found ++ m ∷ [])
+members_more all rest found e m v is here sound so =
     let p : List ℕ × Value = (string_bytes e.0, v) in
-    let pushed : map member_of (wholes ++ m ∷ []) ≡ map member_of wholes ++ p ∷ [] = map-append member_of wholes (m ∷ []) ∙ ap (λ q. map member_of wholes ++ q ∷ []) is in
+    let pushed : map member_of (found ++ m ∷ []) ≡ map member_of found ++ p ∷ [] = map-append member_of found (m ∷ []) ∙ ap (λ q. map member_of found ++ q ∷ []) is in
     record {
       value = λ ws later. so.value (p ∷ ws) (members_of_data-member (string_bytes e.0) (view e.1) v (members_view rest) ws here later)
-          ∙ ap (λ ps. Some (members_of ps)) (sym (ap (λ ps. ps ++ ws) pushed ∙ append_assoc (map member_of wholes) (p ∷ []) ws));
-      sound = subst (Implies (λ m. everywhere list_fits m.1) (λ m. everywhere is_allowed m.1)) (sym pushed) (Implies-push _ _ (map member_of wholes) p so.sound sound);
+          ∙ ap (λ ps. Some (members_of ps)) (sym (ap (λ ps. ps ++ ws) pushed ∙ append_assoc (map member_of found) (p ∷ []) ws));
+      sound = subst (Implies (λ m. everywhere list_fits m.1) (λ m. everywhere is_allowed m.1)) (sym pushed) (Implies-push _ _ (map member_of found) p so.sound sound);
       first = λ l later. so.first l (skipped (named (string_bytes e.0)) (view e.1) v _ l here (IsAbove-members e.0 rest (sorted_head string_cmp e.0 (keys_of rest) so.sorted)) later);
       sorted = sorted_tail string_cmp e.0 (keys_of rest) so.sorted;
     }
 
-pub members_stop : (all rest : List Entry) (wholes : List Member) (e : Entry) (l : Location) → IsFirstFraction (view e.1) l → MembersSoFar all (e ∷ rest) wholes
+pub members_stop : (all rest : List Entry) (found : List Member) (e : Entry) (l : Location) → IsFirstFraction (view e.1) l → MembersSoFar all (e ∷ rest) found
     → IsFirstFraction (parsed.object (members_view all)) (named (string_bytes e.0) ∷ l)
-members_stop all rest wholes e l first so =
+members_stop all rest found e l first so =
     IsFirstFraction-held (parsed.object (members_view all)) (named (string_bytes e.0) ∷ l) (λ y is. cc)
     (so.first (named (string_bytes e.0) ∷ l) (hit (named (string_bytes e.0)) (view e.1) _ l (IsAbove-members e.0 rest (sorted_head string_cmp e.0 (keys_of rest) so.sorted)) first))
 
-pub members_end : (all : List Entry) (wholes : List Member) → MembersSoFar all [] wholes → members_of_data (members_view all) ≡ Some (members_of (map member_of wholes))
-members_end all wholes so = so.value [] refl ∙ ap (λ ps. Some (members_of ps)) (append-nil (map member_of wholes))
+pub members_end : (all : List Entry) (found : List Member) → MembersSoFar all [] found → members_of_data (members_view all) ≡ Some (members_of (map member_of found))
+members_end all found so = so.value [] refl ∙ ap (λ ps. Some (members_of ps)) (append-nil (map member_of found))
 
 pub members_sound : (ms : List (List ℕ × Value)) → Implies (λ m. everywhere list_fits m.1) (λ m. everywhere is_allowed m.1) ms → everywhere_in_members list_fits (members_of ms) ≡ true → everywhere_in_members is_allowed (members_of ms) ≡ true
 members_sound ms sound fits = all-members is_allowed ms ∙ sound (sym (all-members list_fits ms) ∙ fits)

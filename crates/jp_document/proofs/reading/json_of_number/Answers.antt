@@ -4,9 +4,9 @@ use Rattle.serde_json.specs.View.{number_view}
 use Rattle.jp_document.specs.Document.{IsFirstFraction}
 use Rattle.jp_document.specs.Location.{owned_key}
 use Rattle.jp_document.proofs.Fractions.{IsFirstFraction-neither}
-use Rattle.jp_document.proofs.reading.whole_number.Goals as goal
+use Rattle.jp_document.proofs.reading.json_of_number.Goals as goal
 
-pub returns-in_default-as_i64-clause-stop : goal.returns-in_default-as_i64-clause-stop
-returns-in_default-as_i64-clause-stop c =
+pub returns-in_default-as_i64-clause-fault : goal.returns-in_default-as_i64-clause-fault
+returns-in_default-as_i64-clause-fault c =
     subst (IsFirstFraction (number (number_view c.args.number))) (sym (ap (λ steps. reverse (map owned_key steps)) c.new.ensures.items))
     (IsFirstFraction-neither (number_view c.args.number) c.in_default.ensures c.in_default-as_i64.ensures)

@@ -2,7 +2,7 @@
 ghost use Rattle.std.specs.Prelude.{◌≡◌, [], true, IfSome, map, string_bytes};
 ghost use Rattle.std.specs.BTreeMap.{insert_entry};
 ghost use Rattle.jp_document.specs.Private.Direct.{IsPlace};
-ghost use Rattle.jp_document.specs.Private.Growing.{names_cmp, seen, entry_seen};
+ghost use Rattle.jp_document.specs.Private.MemberList.{names_cmp, entries_of, map_entry};
 ghost use Rattle.jp_document.specs.Value.{member_of, members_of, names_of, names_rise, value_of};
 
 use crate::lookup::name_order;
@@ -16,48 +16,49 @@ const MAX_MOVED: usize = 64;
 
 /// Members whose names rise: in a vector while each new one goes near the end, then in a map.
 #[derive(Drop)]
-pub(crate) enum Growing {
-    Near(Vec<Member>),
-    Far(BTreeMap<String, Json>),
+pub(crate) enum MemberList {
+    Vector(Vec<Member>),
+    Map(BTreeMap<String, Json>),
 }
 
-impl Growing {
-    pub(crate) fn new(alloc: Global) -> Growing
-        ensures { seen result ≡ [] }
+impl MemberList {
+    pub(crate) fn new(alloc: Global) -> MemberList
+        ensures { entries_of result ≡ [] }
     {
-        Growing::Near(Vec::new(alloc))
+        MemberList::Vector(Vec::new(alloc))
     }
 
     /// The members with this one more, which takes the place of an earlier one of its name.
-    pub(crate) fn with(self, alloc: Global, name: String, value: Json) -> Option<Growing>
-        requires { names_rise (names_of (members_of (seen self))) ≡ true }
-        ensures { IfSome result
-            (λ more. seen more ≡ insert_entry names_cmp (seen self) (string_bytes name) (value_of value)) }
+    pub(crate) fn insert(self, alloc: Global, name: String, value: Json) -> Option<MemberList>
+        requires { names_rise (names_of (members_of (entries_of self))) ≡ true }
+        ensures { IfSome result (λ more. entries_of more
+            ≡ insert_entry names_cmp (entries_of self) (string_bytes name) (value_of value)) }
     {
         match self {
-            Growing::Near(members) => match place_of(&members, name.as_str()) {
-                Some(place) => inserted(members, place, name, value),
-                None => put(map_of(alloc, members)?, name, value),
+            MemberList::Vector(members) => match place_of(&members, name.as_str()) {
+                Some(place) => insert_at(members, place, name, value),
+                None => insert_in_map(into_map(alloc, members)?, name, value),
             },
-            Growing::Far(members) => put(members, name, value),
+            MemberList::Map(members) => insert_in_map(members, name, value),
         }
     }
 
     /// The members, in the order of their names.
     pub(crate) fn members(self, alloc: Global) -> Option<Vec<Member>>
-        ensures { IfSome result (λ v. map member_of v.items ≡ seen self) }
+        ensures { IfSome result (λ v. map member_of v.items ≡ entries_of self) }
     {
         match self {
-            Growing::Near(mut members) => {
+            MemberList::Vector(mut members) => {
                 members.shrink_to_fit();
                 Some(members)
             }
-            Growing::Far(members) => members_of_map(alloc, members),
+            MemberList::Map(members) => from_map(alloc, members),
         }
     }
 }
 
-/// Where a member of this name goes. None where the name is there, or the place is far from the end.
+/// Where a member of this name goes. None where the name is there, or the place is far from the
+/// end.
 fn place_of(members: &[Member], name: &str) -> Option<usize>
     requires { names_rise (names_of (members_of (map member_of members.now))) ≡ true }
     ensures { IfSome result (IsPlace (map member_of members.now) name.now) }
@@ -73,28 +74,28 @@ fn place_of(members: &[Member], name: &str) -> Option<usize>
     if place == 0 { Some(0) } else { None }
 }
 
-fn inserted(members: Vec<Member>, place: usize, name: String, value: Json) -> Option<Growing>
+fn insert_at(members: Vec<Member>, place: usize, name: String, value: Json) -> Option<MemberList>
     requires { IsPlace (map member_of members.items) (string_bytes name) place }
-    ensures { IfSome result (λ more. seen more
+    ensures { IfSome result (λ more. entries_of more
         ≡ insert_entry names_cmp (map member_of members.items) (string_bytes name) (value_of value)) }
 {
     let mut members = members;
     members.insert(place, Member { name, value }).ok()?;
-    Some(Growing::Near(members))
+    Some(MemberList::Vector(members))
 }
 
-fn put(members: BTreeMap<String, Json>, name: String, value: Json) -> Option<Growing>
-    ensures { IfSome result (λ more. seen more
-        ≡ insert_entry names_cmp (map entry_seen members.entries) (string_bytes name) (value_of value)) }
+fn insert_in_map(members: BTreeMap<String, Json>, name: String, value: Json) -> Option<MemberList>
+    ensures { IfSome result (λ more. entries_of more
+        ≡ insert_entry names_cmp (map map_entry members.entries) (string_bytes name) (value_of value)) }
 {
     let mut members = members;
     drop(members.insert(name, value).ok()?);
-    Some(Growing::Far(members))
+    Some(MemberList::Map(members))
 }
 
-fn map_of(alloc: Global, members: Vec<Member>) -> Option<BTreeMap<String, Json>>
+fn into_map(alloc: Global, members: Vec<Member>) -> Option<BTreeMap<String, Json>>
     requires { names_rise (names_of (members_of (map member_of members.items))) ≡ true }
-    ensures { IfSome result (λ m. map entry_seen m.entries ≡ map member_of members.items) }
+    ensures { IfSome result (λ m. map map_entry m.entries ≡ map member_of members.items) }
 {
     let mut found = BTreeMap::new(alloc);
     for member in members {
@@ -103,8 +104,8 @@ fn map_of(alloc: Global, members: Vec<Member>) -> Option<BTreeMap<String, Json>>
     Some(found)
 }
 
-fn members_of_map(alloc: Global, members: BTreeMap<String, Json>) -> Option<Vec<Member>>
-    ensures { IfSome result (λ v. map member_of v.items ≡ map entry_seen members.entries) }
+fn from_map(alloc: Global, members: BTreeMap<String, Json>) -> Option<Vec<Member>>
+    ensures { IfSome result (λ v. map member_of v.items ≡ map map_entry members.entries) }
 {
     let mut found = Vec::with_capacity(alloc, members.len()).ok()?;
     for (name, value) in members {

@@ -3,7 +3,7 @@ use Rattle.std.proofs.lemmas.List.{get_or-map, length-map}
 use Rattle.jp_document.specs.Value.{member_of}
 use Rattle.jp_document.proofs.Names.{bytes_cmp}
 use Rattle.jp_document.proofs.Places.{place_found, place_down}
-use Rattle.jp_document.proofs.growing.place_of.Goals as goal
+use Rattle.jp_document.proofs.member_list.place_of.Goals as goal
 
 pub returns-in-Less : goal.returns-in-Less
 returns-in-Less c =

@@ -1,10 +1,10 @@
 use Rattle.std.proofs.Common.{◌≡◌, map, reverse, sym, ap, ◌∙◌, subst, rules}
 use Rattle.jp_document.specs.Location.{owned_key}
 use Rattle.jp_document.specs.Path.{path_of}
-use Rattle.jp_document.specs.Private.Stop.{IsFaultAt}
+use Rattle.jp_document.specs.Private.ValueFault.{IsFaultAt}
 use Rattle.jp_document.specs.declared.fault.DocumentFault.TheVariants.{NotWhole}
-use Rattle.jp_document.proofs.Stops.{map-reverse}
-use Rattle.jp_document.proofs.stop.Stop.fault.Goals as goal
+use Rattle.jp_document.proofs.ValueFaults.{map-reverse}
+use Rattle.jp_document.proofs.value_fault.ValueFault.document_fault.Goals as goal
 
 pub returns-in-Ok : goal.returns-in-Ok
 returns-in-Ok c =
