@@ -15,7 +15,7 @@ use Rattle.jp_document.specs.declared.value.Json.{Json}
 use Rattle.jp_document.proofs.DirectTurns.{items_turn, items_over, member_turn, members_over}
 use Rattle.jp_document.proofs.Places.{Entry, pair, data_of, members_of_data-entries, put_entry, pairs-put_entry, data_of-put_entry, rise_insert, sound_insert}
 use Rattle.jp_document.proofs.Names.{bytes_cmp}
-use Rattle.jp_document.proofs.Wholes.{all-items, all_push}
+use Rattle.jp_document.proofs.Conversion.{all-items, all_push}
 
 -- ---- items
 

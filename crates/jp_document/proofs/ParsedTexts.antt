@@ -9,7 +9,7 @@ use Rattle.json.specs.Token.{Token}
 use Rattle.serde_json.specs.Read.{max_depth}
 use Rattle.jp_document.proofs.Names.{and-left, and-right}
 use Rattle.jp_document.proofs.TokenTexts.{are_texts, tokens_are_texts}
-use Rattle.jp_document.proofs.Wholes.{both}
+use Rattle.jp_document.proofs.Conversion.{both}
 
 -- every string and name in a value is a text
 abbrev mutual

@@ -11,12 +11,12 @@ use Rattle.serde_json.specs.Data as parsed
 use Rattle.serde_json.specs.Data.{Data, put}
 use Rattle.jp_document.specs.Private.Direct.{IsPlace}
 use Rattle.jp_document.specs.Document.{value_of_data, members_of_data}
-use Rattle.jp_document.specs.Private.Growing.{entry_seen}
+use Rattle.jp_document.specs.Private.MemberList.{map_entry}
 use Rattle.jp_document.specs.declared.value.Json.{Json}
 use Rattle.jp_document.specs.declared.value.Member.{Member}
 use Rattle.jp_document.specs.Value.{value_of, member_of, Value, members_of, member, names_of, names_rise, everywhere, everywhere_in_members}
 use Rattle.jp_document.proofs.Names.{bytes_cmp, and-left, and-right, is_less, names_of-members_of}
-use Rattle.jp_document.proofs.Wholes.{both, all-members}
+use Rattle.jp_document.proofs.Conversion.{both, all-members}
 
 abbrev Pair : Type 0
 Pair = List ℕ × Value
@@ -156,9 +156,9 @@ pairs-put_entry x (e ∷ es) = through (map pair) (bytes_cmp x.name e.name) _ _ 
 
 -- ---- a map of members
 
-pub seen-insert_entry : (es : List (String Global × Json)) (k : String Global) (v : Json) → map entry_seen (insert_entry string_cmp es k v) ≡ insert_entry bytes_cmp (map entry_seen es) (string_bytes k) (value_of v)
-seen-insert_entry [] k v = refl
-seen-insert_entry (e ∷ es) k v = through (map entry_seen) (string_cmp k e.0) _ _ _ ∙ rw (seen-insert_entry es k v)
+pub entries_of-insert_entry : (es : List (String Global × Json)) (k : String Global) (v : Json) → map map_entry (insert_entry string_cmp es k v) ≡ insert_entry bytes_cmp (map map_entry es) (string_bytes k) (value_of v)
+entries_of-insert_entry [] k v = refl
+entries_of-insert_entry (e ∷ es) k v = through (map map_entry) (string_cmp k e.0) _ _ _ ∙ rw (entries_of-insert_entry es k v)
 
 pub seen_insert : (ms : List Member) (i : ℕ) (m : Member) → map member_of (insert ms i m) ≡ insert (map member_of ms) i (member_of m)
 seen_insert [] zero m = refl

@@ -18,7 +18,7 @@ use Rattle.jp_document.specs.Value.{fits_64_bits, names_fit}
 use Rattle.jp_document.proofs.Names.{and-left, and-right, bytes_cmp}
 use Rattle.jp_document.proofs.ParsedTexts.{items_texts, json_texts, members_texts, some_is_none, text_of_texts}
 use Rattle.jp_document.proofs.Places.{all_insert, keys_by, keys_rise, through}
-use Rattle.jp_document.proofs.Wholes.{both}
+use Rattle.jp_document.proofs.Conversion.{both}
 
 -- ---- what may be read
 

@@ -14,7 +14,7 @@ use Rattle.jp_document.specs.Value.{Items, Members, Value, everywhere, everywher
 use Rattle.jp_document.proofs.Fractions.{Entries, IsAbove, IsFirstFraction-held, IsFirstFraction-number, IsFirstIn, from_both, hit, skipped}
 use Rattle.jp_document.proofs.Names.{and-left, and-right, bytes_cmp, is_less}
 use Rattle.jp_document.proofs.ReadData.{data_fits, entries, items_fit, members_fit}
-use Rattle.jp_document.proofs.Wholes.{IsAbove-items, above_by, both, both_is}
+use Rattle.jp_document.proofs.Conversion.{IsAbove-items, above_by, both, both_is}
 
 -- ---- a reading with whole numbers alone has a document's value, where its lists fit
 

@@ -10,7 +10,7 @@ use Rattle.jp_document.specs.declared.value.Json.{Text, the_lemmas}
 use Rattle.jp_document.specs.declared.value.Member.{Member}
 use Rattle.jp_document.proofs.Names.{and-left, and-right, bytes_cmp, child-list_named}
 use Rattle.jp_document.proofs.Values.{member_of_is}
-use Rattle.jp_document.proofs.Wholes.{both}
+use Rattle.jp_document.proofs.Conversion.{both}
 
 -- a `String` is a text
 pub is_text : (s : String Global) → is_utf8 (string_bytes s) ≡ true

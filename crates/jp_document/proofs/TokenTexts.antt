@@ -11,7 +11,7 @@ use Rattle.json.specs.Token.{Token}
 use Rattle.json.specs.Word.{after_number, ends_word, literal, number_before, word}
 use Rattle.jp_document.proofs.Names.{and-left, and-right}
 use Rattle.jp_document.proofs.StringContents.{content-IsUtf8, text_after, text_moved}
-use Rattle.jp_document.proofs.Wholes.{both}
+use Rattle.jp_document.proofs.Conversion.{both}
 
 -- what a token holds between quotes is a text
 abbrev pub token_is_text : Token → Bool

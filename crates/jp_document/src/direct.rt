@@ -6,7 +6,7 @@ ghost use Rattle.jp_document.specs.Private.Direct.{IsWholeText, ReadsItems, Read
 ghost use Rattle.jp_document.specs.Document.{IsDocument};
 ghost use Rattle.jp_document.specs.Value.{IsDocumentValue, everywhere_in_items, everywhere_in_members, is_allowed, fits_64_bits, items_of, list, list_fits, member_of, members_of, names_fit, names_of, value_of};
 
-use crate::growing::Growing;
+use crate::member_list::MemberList;
 use crate::reading::is_short;
 use crate::value::{Json, Member};
 use fast_float::Numeral;
@@ -49,7 +49,7 @@ fn value(alloc: Global, reader: &mut Reader<'_>, depth: usize) -> Option<Json>
     match token {
         Token::Null => Some(Json::Null),
         Token::Bool(truth) => Some(Json::Bool(truth)),
-        Token::Number(text) => Some(Json::Whole(whole(text)?)),
+        Token::Number(text) => Some(Json::Whole(integer_of(text)?)),
         Token::String(text) => Some(Json::Text(String::from_str(alloc, text).ok()?)),
         Token::BeginArray => {
             if depth == 0 {
@@ -94,18 +94,18 @@ fn members(alloc: Global, reader: &mut Reader<'_>, depth: usize) -> Option<Vec<M
         (λ v. names_fit (names_of (members_of (map member_of v.items))) ≡ true) }
     ensures shorter { OnSome result (length reader.new < length reader.old) }
 {
-    let mut found = Growing::new(alloc);
+    let mut found = MemberList::new(alloc);
     'members: while let Some(name) = reader.next_key().ok()? {
         let name = String::from_str(alloc, name).ok()?;
         let value = value(alloc, reader, depth)?;
-        found = found.with(alloc, name, value)?;
+        found = found.insert(alloc, name, value)?;
     }
     let all = found.members(alloc)?;
     Some(all)
 }
 
 /// The whole number of 64 bits that these characters of JSON write.
-fn whole(text: &str) -> Option<i128>
+fn integer_of(text: &str) -> Option<i128>
     ensures value { IfSome result (IsWholeText text.now) }
     ensures range { IfSome result (λ n. fits_64_bits n ≡ true) }
 {

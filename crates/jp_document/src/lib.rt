@@ -23,10 +23,10 @@ mod direct_tests;
 mod document;
 mod document_value;
 mod fault;
-mod growing;
 pub mod laws;
 mod location;
 mod lookup;
+mod member_list;
 mod name_reader;
 mod node;
 mod nth;
@@ -37,11 +37,11 @@ mod path_reader;
 mod path_tests;
 mod reading;
 mod spelling;
-mod stop;
 #[cfg(test)]
 mod tests;
 mod text;
 mod value;
+mod value_fault;
 
 pub use child_nodes::children;
 pub use document::Document;

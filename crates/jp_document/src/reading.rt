@@ -2,14 +2,14 @@
 ghost use Rattle.std.specs.Prelude.{◌≡◌, ◌&&◌, map, Some, true, IfOk, IfErr};
 ghost use Rattle.serde_json.specs.View.{view, number_view, items_view, members_view};
 ghost use Rattle.jp_document.specs.Document.{IsDocument, IsDocumentFault, value_of_data, items_of_data, members_of_data};
-ghost use Rattle.jp_document.specs.Private.Stop.{StopsAt};
+ghost use Rattle.jp_document.specs.Private.ValueFault.{IsValueFaultOf};
 ghost use Rattle.serde_json.specs.Data.{number as number_data, array, object};
 ghost use Rattle.jp_document.specs.Value.{IsDocumentValue, value_of, list, items_of, members_of, member_of, names_fit, names_of, everywhere, everywhere_in_items, everywhere_in_members, list_fits, is_allowed};
 
 use crate::fault::DocumentFault;
 use crate::location::OwnedStep;
-use crate::stop::Stop;
 use crate::value::{Json, Member};
+use crate::value_fault::ValueFault;
 use serde_json::{Map, Number, Value};
 use std::alloc::{AllocError, Global};
 
@@ -28,9 +28,9 @@ pub(crate) fn parsed_value(alloc: Global, bytes: &[u8]) -> Result<Json, Document
         Err(_) => return Err(DocumentFault::NotJson),
     };
     let mut fits = true;
-    let json = match whole(alloc, parsed, &mut fits) {
+    let json = match json_of(alloc, parsed, &mut fits) {
         Ok(json) => json,
-        Err(stop) => return Err(stop.fault(alloc)),
+        Err(fault) => return Err(fault.document_fault(alloc)),
     };
     if fits {
         Ok(json)
@@ -41,71 +41,71 @@ pub(crate) fn parsed_value(alloc: Global, bytes: &[u8]) -> Result<Json, Document
 
 /// The value of a reading. The texts move over, and members come in the order of their names. `fits` is cleared
 /// where some list has more than (2^53)-1 items.
-#[cycle(whole)]
-fn whole(alloc: Global, value: Value, fits: &mut bool) -> Result<Json, Stop>
+#[cycle(json_of)]
+fn json_of(alloc: Global, value: Value, fits: &mut bool) -> Result<Json, ValueFault>
     ensures value { IfOk result (λ j. value_of_data (view value) ≡ Some (value_of j)) }
     ensures sound { IfOk result (λ j. everywhere list_fits (value_of j) ≡ true
         → everywhere is_allowed (value_of j) ≡ true) }
     ensures fits { IfOk result (λ j. fits.new ≡ (everywhere list_fits (value_of j) && fits.old)) }
-    ensures stop { IfErr result (StopsAt (view value)) }
+    ensures fault { IfErr result (IsValueFaultOf (view value)) }
 {
     match value {
         Value::Null => Ok(Json::Null),
         Value::Bool(b) => Ok(Json::Bool(b)),
-        Value::Number(number) => whole_number(alloc, number),
+        Value::Number(number) => json_of_number(alloc, number),
         Value::String(text) => Ok(Json::Text(text)),
         Value::Array(items) => {
-            let list = whole_items(alloc, items, fits)?;
+            let list = json_items(alloc, items, fits)?;
             if !is_short(&list) {
                 *fits = false;
             }
             Ok(Json::List(list))
         }
-        Value::Object(members) => Ok(Json::Members(whole_members(alloc, members, fits)?)),
+        Value::Object(members) => Ok(Json::Members(json_members(alloc, members, fits)?)),
     }
 }
 
-fn whole_number(alloc: Global, number: Number) -> Result<Json, Stop>
+fn json_of_number(alloc: Global, number: Number) -> Result<Json, ValueFault>
     ensures value { IfOk result
         (λ j. value_of_data (number_data (number_view number)) ≡ Some (value_of j)) }
     ensures sound { IfOk result (λ j. everywhere is_allowed (value_of j) ≡ true) }
-    ensures stop { IfErr result (StopsAt (number_data (number_view number))) }
+    ensures fault { IfErr result (IsValueFaultOf (number_data (number_view number))) }
 {
     if let Some(n) = number.as_u64() {
         Ok(Json::Whole(i128::from(n)))
     } else if let Some(n) = number.as_i64() {
         Ok(Json::Whole(i128::from(n)))
     } else {
-        Err(Stop::Fraction(Vec::new(alloc)))
+        Err(ValueFault::Fraction(Vec::new(alloc)))
     }
 }
 
-#[cycle(whole)]
-fn whole_items(alloc: Global, items: Vec<Value>, fits: &mut bool) -> Result<Vec<Json>, Stop>
+#[cycle(json_of)]
+fn json_items(alloc: Global, items: Vec<Value>, fits: &mut bool) -> Result<Vec<Json>, ValueFault>
     ensures value { IfOk result
         (λ v. items_of_data (items_view items.items) ≡ Some (items_of (map value_of v.items))) }
     ensures sound { IfOk result (λ v. everywhere_in_items list_fits (items_of (map value_of v.items)) ≡ true
         → everywhere_in_items is_allowed (items_of (map value_of v.items)) ≡ true) }
     ensures fits { IfOk result (λ v. fits.new
         ≡ (everywhere_in_items list_fits (items_of (map value_of v.items)) && fits.old)) }
-    ensures stop { IfErr result (StopsAt (array (items_view items.items))) }
+    ensures fault { IfErr result (IsValueFaultOf (array (items_view items.items))) }
 {
-    let mut wholes = Vec::with_capacity(alloc, items.len())?;
+    let mut found = Vec::with_capacity(alloc, items.len())?;
     for item in items {
-        match whole(alloc, item, fits) {
-            Ok(json) => wholes.push(json).map_err(AllocError::from)?,
-            Err(stop) => return Err(stop.within(OwnedStep::Index(wholes.len() as u64))),
+        match json_of(alloc, item, fits) {
+            Ok(json) => found.push(json).map_err(AllocError::from)?,
+            Err(fault) => return Err(fault.within(OwnedStep::Index(found.len() as u64))),
         }
     }
-    Ok(wholes)
+    Ok(found)
 }
 
-#[cycle(whole)]
-fn whole_members(
+#[cycle(json_of)]
+fn json_members(
     alloc: Global,
     members: Map<String, Value>,
     fits: &mut bool,
-) -> Result<Vec<Member>, Stop>
+) -> Result<Vec<Member>, ValueFault>
     ensures value { IfOk result (λ v. members_of_data (members_view members.entries)
         ≡ Some (members_of (map member_of v.items))) }
     ensures sound { IfOk result (λ v. everywhere_in_members list_fits (members_of (map member_of v.items)) ≡ true
@@ -114,18 +114,18 @@ fn whole_members(
         (λ v. names_fit (names_of (members_of (map member_of v.items))) ≡ true) }
     ensures fits { IfOk result (λ v. fits.new
         ≡ (everywhere_in_members list_fits (members_of (map member_of v.items)) && fits.old)) }
-    ensures stop { IfErr result (StopsAt (object (members_view members.entries))) }
+    ensures fault { IfErr result (IsValueFaultOf (object (members_view members.entries))) }
 {
-    let mut wholes = Vec::with_capacity(alloc, members.len())?;
+    let mut found = Vec::with_capacity(alloc, members.len())?;
     for (name, member) in members {
-        match whole(alloc, member, fits) {
-            Ok(value) => wholes
+        match json_of(alloc, member, fits) {
+            Ok(value) => found
                 .push(Member { name, value })
                 .map_err(AllocError::from)?,
-            Err(stop) => return Err(stop.within(OwnedStep::Name(name))),
+            Err(fault) => return Err(fault.within(OwnedStep::Name(name))),
         }
     }
-    Ok(wholes)
+    Ok(found)
 }
 
 /// Whether a list has at most (2^53)-1 items.

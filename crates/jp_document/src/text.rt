@@ -29,7 +29,7 @@ pub fn push_value(out: &mut String, json: &Json) -> Result<(), AllocError>
         Json::Null => out.push_str("null"),
         Json::Bool(true) => out.push_str("true"),
         Json::Bool(false) => out.push_str("false"),
-        Json::Whole(number) => push_whole(out, *number),
+        Json::Whole(number) => push_integer(out, *number),
         Json::Text(text) => push_quoted(out, text.as_str(), b'"'),
         Json::List(items) => {
             out.push('[')?;
@@ -71,7 +71,7 @@ fn push_members(out: &mut String, members: &[Member]) -> Result<(), AllocError>
 }
 
 /// Appends a whole number in decimal; numbers of 64 bits are the quick ones to print.
-fn push_whole(out: &mut String, number: i128) -> Result<(), AllocError>
+fn push_integer(out: &mut String, number: i128) -> Result<(), AllocError>
     ensures { OnOk result (string_bytes out.new ≡ string_bytes out.old ++ signed_decimal number) }
 {
     let mut buffer = Buffer::new();

@@ -7,7 +7,7 @@ use Rattle.json.specs.Json.{after_end_array, read_key}
 use Rattle.json.specs.Reads.{token_of}
 use Rattle.json.proofs.Grammar.{read_key-shorter}
 use Rattle.jp_document.specs.Private.Direct.{ReadsValue}
-use Rattle.jp_document.specs.Private.Growing.{seen}
+use Rattle.jp_document.specs.Private.MemberList.{entries_of}
 use Rattle.jp_document.proofs.Names.{bytes_cmp}
 use Rattle.jp_document.specs.Value.{null, boolean, whole, text, value_of}
 use Rattle.jp_document.specs.declared.value.Json.{Null, Bool, Whole, Text, the_lemmas}
@@ -15,7 +15,7 @@ use Rattle.jp_document.proofs.DirectAhead.{items_more, items_end, items_sound, m
 use Rattle.jp_document.proofs.DirectTurns.{reads-null, reads-boolean, reads-text, reads-whole, reads-list, reads-object}
 use Rattle.jp_document.proofs.TextNames.{names_are_texts, text_is_allowed}
 use Rattle.jp_document.proofs.Values.{value_of-List, value_of-Members}
-use Rattle.jp_document.proofs.Wholes.{both}
+use Rattle.jp_document.proofs.Conversion.{both}
 use Rattle.jp_document.proofs.direct.+direct.Goals as goal
 
 pub value-returns-in-Null-clause-reads : goal.value-returns-in-Null-clause-reads
@@ -32,14 +32,14 @@ value-returns-in-Bool-clause-reads t c =
     let seen : value_of (Bool c.in-Bool.truth) ≡ boolean c.in-Bool.truth = search (rules, the_lemmas) in
     subst (ReadsValue c.args.depth c.args.reader.now c.next.new.self) (sym seen) (reads-boolean c.args.depth c.args.reader.now c.next.new.self _ is)
 
-pub value-returns-in_ok-whole-in-Number-clause-reads : goal.value-returns-in_ok-whole-in-Number-clause-reads
-value-returns-in_ok-whole-in-Number-clause-reads t c =
+pub value-returns-in_ok-integer_of-in-Number-clause-reads : goal.value-returns-in_ok-integer_of-in-Number-clause-reads
+value-returns-in_ok-integer_of-in-Number-clause-reads t c =
     let first : c.args.reader.now ≡ token_of c.in_ok-token.token ∷ c.next.new.self = grind arith in
     let is : c.args.reader.now ≡ Token.number c.in-Number.text.now ∷ c.next.new.self = grind (arith, first) in
-    let z = c.in_ok-whole-in-Number.field-0 in
+    let z = c.in_ok-integer_of-in-Number.field-0 in
     let same : to_z w128 (of_z w128 z) ≡ z = search rules in
     let seen : value_of (Whole z) ≡ whole z = search (rules, the_lemmas) in
-    subst (ReadsValue c.args.depth c.args.reader.now c.next.new.self) (sym (ap (λ n. value_of (Whole n)) same ∙ seen)) (reads-whole c.args.depth c.args.reader.now c.next.new.self _ _ is c.in_ok-whole-in-Number.ensures.value)
+    subst (ReadsValue c.args.depth c.args.reader.now c.next.new.self) (sym (ap (λ n. value_of (Whole n)) same ∙ seen)) (reads-whole c.args.depth c.args.reader.now c.next.new.self _ _ is c.in_ok-integer_of-in-Number.ensures.value)
 
 pub value-returns-in_ok-ok-in-String-clause-reads : goal.value-returns-in_ok-ok-in-String-clause-reads
 value-returns-in_ok-ok-in-String-clause-reads t c =
@@ -98,18 +98,18 @@ members-members-preserved t c =
     let lesser = c.in_ok-value.ensures.shorter in
     let copied : string_bytes c.in_ok-name-2.name ≡ k = search rules in
     let v = value_of c.in_ok-value.value in
-    let more : seen c.in_ok-found.found ≡ insert_entry bytes_cmp (seen l.found) k v = c.in_ok-found.ensures ∙ ap (λ b. insert_entry bytes_cmp (seen l.found) b v) copied in (
+    let more : entries_of c.in_ok-found.found ≡ insert_entry bytes_cmp (entries_of l.found) k v = c.in_ok-found.ensures ∙ ap (λ b. insert_entry bytes_cmp (entries_of l.found) b v) copied in (
       n - 1,
       omega (arith, l.invariant.1),
       omega (arith, l.invariant.2),
-      rw more (members_more c.args.depth c.args.reader.now n k l.reader s r (seen l.found) v (omega (arith, l.invariant.1)) named c.in_ok-value.ensures.reads c.in_ok-value.ensures.sound l.invariant.3),
+      rw more (members_more c.args.depth c.args.reader.now n k l.reader s r (entries_of l.found) v (omega (arith, l.invariant.1)) named c.in_ok-value.ensures.reads c.in_ok-value.ensures.sound l.invariant.3),
     )
 
 pub members-returns-clause-reads : goal.members-returns-clause-reads
 members-returns-clause-reads t c =
     let l = c.members in
     let over : read_key l.reader ≡ Some (None, c.next_key.new.self) = grind arith in
-    rw c.in_ok-all.ensures (members_end c.args.depth c.args.reader.now l.invariant.0 l.reader c.next_key.new.self (seen l.found) l.invariant.1 over l.invariant.3)
+    rw c.in_ok-all.ensures (members_end c.args.depth c.args.reader.now l.invariant.0 l.reader c.next_key.new.self (entries_of l.found) l.invariant.1 over l.invariant.3)
 
 pub members-returns-clause-names : goal.members-returns-clause-names
 members-returns-clause-names t c =

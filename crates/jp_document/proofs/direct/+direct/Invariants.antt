@@ -1,7 +1,7 @@
 use Rattle.std.proofs.Common.{◌≡◌, ℕ, true, ◌*◌, ◌+◌, ◌++◌, ◌≤◌, List, length, map}
 use Rattle.json.specs.Token.{Token}
 use Rattle.jp_document.specs.Private.Direct.{ReadsItems}
-use Rattle.jp_document.specs.Private.Growing.{seen}
+use Rattle.jp_document.specs.Private.MemberList.{entries_of}
 use Rattle.jp_document.specs.Value.{Value, everywhere_in_items, is_allowed, items_of, value_of}
 use Rattle.jp_document.proofs.DirectAhead.{MembersAhead}
 use Rattle.jp_document.proofs.direct.+direct.Given as goal
@@ -27,7 +27,7 @@ decreases-items-items l = length l.reader
 abbrev pub invariant-members-members : goal.invariant-members-members
 invariant-members-members l =
     (n : ℕ) × (length l.reader ≤ n) × (length l.reader ≤ length l.initial.reader)
-    × MembersAhead l.depth l.initial.reader n l.reader (seen l.found)
+    × MembersAhead l.depth l.initial.reader n l.reader (entries_of l.found)
 
 abbrev pub decreases-members-members : goal.decreases-members-members
 decreases-members-members l = length l.reader
