@@ -7,12 +7,13 @@ use Rattle.jp_command.specs.declared.fault.Fault.{Fault}
 use Rattle.jp_command.specs.declared.fault.Fault.TheVariants.{Write}
 use Rattle.jp_command.specs.declared.words.Task.{Task}
 use Rattle.jp_command.specs.declared.words.Task.TheVariants.{Canon, Eval}
-use Rattle.jp_command.proofs.StreamLemmas.{Appends-keeps, prefix-whole}
+use Rattle.jp_command.proofs.Streams.{Appends-keeps, prefix-whole}
 
-module _ {W : Type 0} (contents : W → Option (List ℕ)) (has_failed : W → Bool) (IsOutput : List ℕ → Type 0) where
-  prefix-kept : (o p q : W) → WritesOutput contents has_failed IsOutput o p
+module _ {W : Type 0} (contents : W → Option (List ℕ)) (has_failed : W → Bool)
+    (IsOutput : List ℕ → Type 0) where
+  output-prefix : (o p q : W) → WritesOutput contents has_failed IsOutput o p
       → Keeps (contents p) (contents q) → WritesPrefix contents has_failed IsOutput o q
-  prefix-kept o p q all kept = record {
+  output-prefix o p q all kept = record {
     output = all.output;
     is = all.is;
     written = prefix-whole _ _ _ (Appends-keeps _ _ _ _ all.writes.written kept);
@@ -40,9 +41,9 @@ module _ {R W : Type 0} (remaining : R → Option (List ℕ)) (has_failed : R �
       → Runs task query i j o p (Ok tt) → Keeps (contents p) (contents q)
       → writes_failed q ≡ true → Runs task query i j o q (Err Write)
   flush-fails Canon query i j o p q run kept fails =
-      (run.0, (prefix-kept contents writes_failed _ o p q run.1 kept, fails))
+      (run.0, (output-prefix contents writes_failed _ o p q run.1 kept, fails))
   flush-fails (Eval form) query i j o p q run kept fails =
-      (prefix-kept contents writes_failed _ o p q run kept, fails)
+      (output-prefix contents writes_failed _ o p q run kept, fails)
 
   -- after one that is done the output is written
   pub flush-works : (task : Task) (query : List ℕ) (i j : R) (o p q : W)

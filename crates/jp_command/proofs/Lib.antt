@@ -1,5 +1,5 @@
-pub mod StreamLemmas
-pub mod CommandLineLemmas
+pub mod Streams
+pub mod Matches
 pub mod Rows
 pub mod LineLemmas
 pub mod Flushes

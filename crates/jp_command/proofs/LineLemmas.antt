@@ -9,7 +9,7 @@ use Rattle.jp_command.specs.Lines.{line_of, lines_of}
 use Rattle.jp_document.specs.ChildNodes.{shown}
 use Rattle.jp_command.specs.Output.{AppendsPrefix}
 use Rattle.jp_command.specs.declared.lines.Form.{Form}
-use Rattle.jp_command.proofs.StreamLemmas.{Appends-twice}
+use Rattle.jp_command.proofs.Streams.{Appends-twice}
 
 abbrev text_of_nodes : Form → List Located → List ℕ
 text_of_nodes form nodes = lines_of form (map shown nodes)

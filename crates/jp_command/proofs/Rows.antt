@@ -1,7 +1,7 @@
 -- What some command lines ask for, and what a run writes.
 use Rattle.std.proofs.Common.{◌≡◌, [], ◌∷◌, ◌++◌, true, false, negsuc, Some, None, codes, refl}
 use Rattle.clap.proofs.OnLiterals.{clap_on_literals}
-use Rattle.jp_command.specs.CommandLine.{asked, asking, jp}
+use Rattle.jp_command.specs.CommandLine.{asked, query_app, jp}
 use Rattle.jp_command.specs.declared.lines.Form.TheVariants.{Values, Paths, Both}
 use Rattle.jp_command.specs.Lines.{output_of}
 use Rattle.jp_document.specs.Path.{index_text}
@@ -12,35 +12,35 @@ use Rattle.jp_query.specs.declared.tree.Numeral.TheVariants.{Whole}
 use Rattle.jp_command.specs.declared.words.Task.TheVariants.{Canon, Eval}
 
 both : asked (codes "jp" ∷ codes "both" ∷ codes "$" ∷ []) ≡ Some (Eval Both, codes "$")
-unfolding clap_on_literals jp asking
+unfolding clap_on_literals jp query_app
 both = refl
 
 values : asked (codes "jp" ∷ codes "eval" ∷ codes "$" ∷ []) ≡ Some (Eval Values, codes "$")
-unfolding clap_on_literals jp asking
+unfolding clap_on_literals jp query_app
 values = refl
 
 canonical : asked (codes "jp" ∷ codes "canon" ∷ codes "$" ∷ []) ≡ Some (Canon, codes "$")
-unfolding clap_on_literals jp asking
+unfolding clap_on_literals jp query_app
 canonical = refl
 
 no_query : asked (codes "jp" ∷ codes "both" ∷ []) ≡ None
-unfolding clap_on_literals jp asking
+unfolding clap_on_literals jp query_app
 no_query = refl
 
 two_queries : asked (codes "jp" ∷ codes "both" ∷ codes "$" ∷ codes "$" ∷ []) ≡ None
-unfolding clap_on_literals jp asking
+unfolding clap_on_literals jp query_app
 two_queries = refl
 
 no_subcommand : asked (codes "jp" ∷ []) ≡ None
-unfolding clap_on_literals jp asking
+unfolding clap_on_literals jp query_app
 no_subcommand = refl
 
 unknown_subcommand : asked (codes "jp" ∷ codes "value" ∷ codes "$" ∷ []) ≡ None
-unfolding clap_on_literals jp asking
+unfolding clap_on_literals jp query_app
 unknown_subcommand = refl
 
 help : asked (codes "jp" ∷ codes "help" ∷ []) ≡ None
-unfolding clap_on_literals jp asking
+unfolding clap_on_literals jp query_app
 help = refl
 
 -- `$[-2]` on `["a","b"]`, in each form
@@ -48,7 +48,8 @@ abbrev two : Value
 two = list (item (text (codes "a")) (item (text (codes "b")) no_items))
 
 abbrev last_but_one : QueryTree
-last_but_one = query true (segments (segment false (selectors (index (Whole (negsuc 1)) ∷ [])) ∷ []))
+last_but_one = query true
+    (segments (segment false (selectors (index (Whole (negsuc 1)) ∷ [])) ∷ []))
 
 values_of : output_of Values last_but_one two ≡ 34 ∷ 97 ∷ 34 ∷ 10 ∷ []
 unfolding spelling

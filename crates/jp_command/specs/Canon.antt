@@ -24,5 +24,6 @@ module _ {W : Type 0} (contents : W → Option (List ℕ)) (has_failed : W → B
   RunsCanon text o p (Ok x) = WritesOutput contents has_failed (IsCanonLine text) o p
   RunsCanon text o p (Err (Query r)) = RefusesQuery text r × (p ≡ o)
   RunsCanon text o p (Err NoMemory) = p ≡ o
-  RunsCanon text o p (Err Write) = WritesPrefix contents has_failed (IsCanonLine text) o p × (has_failed p ≡ true)
+  RunsCanon text o p (Err Write) =
+      WritesPrefix contents has_failed (IsCanonLine text) o p × (has_failed p ≡ true)
   RunsCanon text o p (Err _) = ⊥

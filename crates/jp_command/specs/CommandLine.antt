@@ -9,12 +9,12 @@ use Rattle.jp_command.specs.declared.words.Task.{Task}
 use Rattle.jp_command.specs.declared.words.Task.TheVariants.{Canon, Eval}
 
 -- a subcommand with exactly one positional, the query, which has to be there
-unfoldable pub asking : Text → App
-asking name = with_rule (new_app name) (record (new_rule (codes "QUERY")) { required = true })
+unfoldable pub query_app : Text → App
+query_app name = with_rule (new_app name) (record (new_rule (codes "QUERY")) { required = true })
 
 -- the command with one such subcommand more
 abbrev pub with_task : App → Text → App
-with_task app name = with_subcommand app (asking name).top
+with_task app name = with_subcommand app (query_app name).top
 
 -- `jp` with its subcommands, one of which has to be there
 unfoldable pub jp : App
@@ -38,5 +38,5 @@ task_and_query entered = option_and_then
 
 -- what the words ask for, the program's name among them: nothing where clap finds a fault in them
 abbrev pub asked : List Text → Option (Task × Text)
-asked words = if is_empty (fault_of jp words) then option_and_then task_and_query (subcommand_of jp words)
-    else None
+asked words = if is_empty (fault_of jp words)
+    then option_and_then task_and_query (subcommand_of jp words) else None

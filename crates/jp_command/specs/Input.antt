@@ -2,8 +2,6 @@
 use Rattle.std.specs.Prelude.{◌≡◌, ℕ, ◌+◌, ◌<◌, ◌≤◌, Bool, true, List, length, Option}
 use Rattle.std.specs.Io.KnownBytes.{Consumes, IsAtEnd}
 use Rattle.jp_command.specs.Limits.{chunk_size, document_limit}
-use Rattle.jp_command.specs.declared.fault.Fault.{Fault}
-use Rattle.jp_command.specs.declared.fault.Fault.TheVariants.{DocumentTooLarge, NoMemory, Read}
 
 -- i and j are the input before and after
 module _ {R : Type 0} (remaining : R → Option (List ℕ)) (has_failed : R → Bool) where
@@ -29,10 +27,3 @@ module _ {R : Type 0} (remaining : R → Option (List ℕ)) (has_failed : R → 
     pub came : Consumes (remaining i) (remaining j) bytes
     pub few : length bytes ≤ document_limit
     pub fails : has_failed j ≡ true
-
-  -- why the input was not read to its end
-  abbrev pub StopsReading : R → R → Fault → Type 0
-  StopsReading i j DocumentTooLarge = ReadsTooMuch i j
-  StopsReading i j Read = FailsToRead i j
-  StopsReading i j NoMemory = has_failed j ≡ has_failed i
-  StopsReading i j _ = ⊥

@@ -1,10 +1,10 @@
 pub mod Limits
-pub mod Carried
+pub mod Device
 pub mod Input
 pub mod Output
 pub mod CommandLine
 pub mod Lines
-pub mod Faults
 pub mod Run
 pub mod Canon
 pub mod Line
+pub mod Private

@@ -30,7 +30,8 @@ document_fault_name document.NoMemory = codes "NoMemory"
 
 -- what stands in the line of a fault
 abbrev pub fault_text : Fault → List ℕ
-fault_text (Query r) = codes "query refused: " ++ (name_of r.kind ++ (codes " at " ++ decimal r.place))
+fault_text (Query r) =
+    codes "query refused: " ++ (name_of r.kind ++ (codes " at " ++ decimal r.place))
 fault_text (Document f) = codes "document refused: " ++ document_fault_name f
 fault_text DocumentTooLarge = codes "document refused: DocumentTooLarge"
 fault_text NoMemory = codes "want of memory"
@@ -41,7 +42,8 @@ fault_text Write = codes "write fault"
 abbrev pub fault_line : Fault → List ℕ
 fault_line f = fault_text f ++ 10 ∷ []
 
--- what is said of a run of the program: i and j are the input before and after it, o and p the output
+-- what is said of a run of the program: i and j are the input before and after it, o and p the
+-- output
 module _ {R W : Type 0} (remaining : R → Option (List ℕ)) (has_failed : R → Bool)
     (contents : W → Option (List ℕ)) (writes_failed : W → Bool) where
   -- a task with its query ended with this answer
@@ -51,19 +53,23 @@ module _ {R W : Type 0} (remaining : R → Option (List ℕ)) (has_failed : R �
       RunsEval remaining has_failed contents writes_failed form query i j o p answer
 
   -- the task that the words ask for ended with this answer
-  pub record RunsWords {X : Type 0} (words : List (List ℕ)) (i j : R) (o p : W) (answer : Result X Fault) : Type 0 where
+  pub record RunsWords {X : Type 0} (words : List (List ℕ)) (i j : R) (o p : W)
+      (answer : Result X Fault) : Type 0 where
     pub task : Task
     pub query : List ℕ
     pub asks : asked words ≡ Some (task, query)
     pub runs : RunsTask task query i j o p answer
 
-  -- what is said with a status; u and v are what takes the fault's line, before and after. Where the
-  -- words are not ones that the command line takes, that is clap's text, of which its contract says
-  -- nothing
-  pub data RunsLine {E : Type 0} (reports : E → Option (List ℕ)) (words : List (List ℕ)) (i j : R) (o p : W) (u v : E) (status : ℕ) : Type 0 where
-    done : status ≡ 0 → RunsWords words i j o p (Ok (tt {0})) → v ≡ u → RunsLine reports words i j o p u v status
+  -- what is said with a status; u and v are what takes the fault's line, before and after. Where
+  -- the words are not ones that the command line takes, that is clap's text, of which its contract
+  -- says nothing
+  pub data RunsLine {E : Type 0} (reports : E → Option (List ℕ)) (words : List (List ℕ))
+      (i j : R) (o p : W) (u v : E) (status : ℕ) : Type 0 where
+    done : status ≡ 0 → RunsWords words i j o p (Ok (tt {0})) → v ≡ u
+        → RunsLine reports words i j o p u v status
     fault : (f : Fault) → status ≡ status_of f → RunsWords {X = Unit {0}} words i j o p (Err f)
-        → AppendsPrefix (reports u) (reports v) (fault_line f) → RunsLine reports words i j o p u v status
+        → AppendsPrefix (reports u) (reports v) (fault_line f)
+        → RunsLine reports words i j o p u v status
     usage : status ≡ 2 → asked words ≡ None → j ≡ i → p ≡ o
         → AppendsSome (reports u) (reports v) → RunsLine reports words i j o p u v status
     memory : status ≡ 4 → j ≡ i → p ≡ o

@@ -26,9 +26,10 @@ pub record IsAsked (text : List ℕ) (q : QueryTree) : Type 0 where
 -- the query is too long, or else not accepted and refused with r for what it is; running out of
 -- memory is no such refusal
 pub data RefusesQuery (text : List ℕ) (r : Refusal) : Type 0 where
-  too_long : query_limit < length text → r ≡ record { kind = TextTooLong; place = 0 } → RefusesQuery text r
-  refused : length text ≤ query_limit → IsNotAccepted (chars text) → IsRefusedForItself (chars text) r
+  too_long : query_limit < length text → r ≡ record { kind = TextTooLong; place = 0 }
       → RefusesQuery text r
+  refused : length text ≤ query_limit → IsNotAccepted (chars text)
+      → IsRefusedForItself (chars text) r → RefusesQuery text r
 
 -- i and j are the input before and after a run, o and p the output
 module _ {R W : Type 0} (remaining : R → Option (List ℕ)) (has_failed : R → Bool)
@@ -44,7 +45,8 @@ module _ {R W : Type 0} (remaining : R → Option (List ℕ)) (has_failed : R �
     pub document : IsDocument bytes d
     pub is : output ≡ output_of form q d
 
-  -- the query is asked, and what was read is no document, with the fault f; want of memory is none
+  -- the query is asked, and what was read is no document, with the fault f, which is not that
+  -- memory ran out
   pub record RefusesDocument (text : List ℕ) (i j : R) (f : DocumentFault) : Type 0 where
     pub q : QueryTree
     pub bytes : List ℕ
@@ -55,7 +57,8 @@ module _ {R W : Type 0} (remaining : R → Option (List ℕ)) (has_failed : R �
 
   -- what a run says with its answer
   abbrev pub RunsEval : {X : Type 0} → Form → List ℕ → R → R → W → W → Result X Fault → Type 0
-  RunsEval form text i j o p (Ok x) = WritesOutput contents writes_failed (IsOutput form text i j) o p
+  RunsEval form text i j o p (Ok x) =
+      WritesOutput contents writes_failed (IsOutput form text i j) o p
   RunsEval form text i j o p (Err (Query r)) = RefusesQuery text r × (j ≡ i) × (p ≡ o)
   RunsEval form text i j o p (Err (Document f)) = RefusesDocument text i j f × (p ≡ o)
   RunsEval form text i j o p (Err DocumentTooLarge) =

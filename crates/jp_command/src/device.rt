@@ -2,7 +2,7 @@
 
 ghost use Rattle.std.specs.Prelude.{◌≡◌, ℕ, ◌<◌, ◌≤◌, Bool, List, Option, true, false, IfOk, IsErr, OnOk, OnErr, length};
 ghost use Rattle.std.specs.Io.KnownBytes.{ReadConsumes, WriteAppends, Keeps};
-ghost use Rattle.jp_command.specs.Carried.{carried, carrier_failed};
+ghost use Rattle.jp_command.specs.Device.{carried, carrier_failed};
 
 use std::io::{Read, Write};
 
@@ -18,7 +18,7 @@ pub trait Source {
     // Whether a call failed.
     ghost has_failed: { Self → Bool };
 
-    /// Reads some bytes into the front of `buffer` and answers how many; 0 only at the end of the
+    /// Reads some bytes to the start of `buffer` and answers how many; 0 only at the end of the
     /// bytes or for a buffer without room.
     fn read(&mut self, buffer: &mut [u8]) -> Result<usize, Failed>
         ensures bound { IfOk result (λ count. count ≤ length buffer.new) }
@@ -39,7 +39,7 @@ pub trait Output {
     // Whether a call failed.
     ghost has_failed: { Self → Bool };
 
-    /// Writes some bytes from the front of `bytes` and answers how many, at least one if there
+    /// Writes some bytes from the start of `bytes` and answers how many, at least one if there
     /// are any.
     fn write(&mut self, bytes: &[u8]) -> Result<usize, Failed>
         ensures bound { IfOk result (λ count. count ≤ length bytes.now) }

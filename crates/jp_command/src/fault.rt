@@ -2,7 +2,7 @@
 
 ghost use Rattle.std.specs.Prelude.{◌≡◌};
 ghost use Rattle.jp_command.specs.declared.fault.Fault.TheVariants.{NoMemory};
-ghost use Rattle.jp_command.specs.Faults.{fault_of_document, fault_of_refusal};
+ghost use Rattle.jp_command.specs.Private.Faults.{fault_of_document, fault_of_refusal};
 
 use jp_document::DocumentFault;
 use jp_query::{Refusal, RefusalKind};
@@ -22,7 +22,7 @@ pub enum Fault {
     #[error("the document is refused: it is too large")]
     DocumentTooLarge,
     /// The memory did not suffice; what was written is a prefix of the output.
-    #[error("want of memory")]
+    #[error("the memory did not suffice")]
     NoMemory,
     /// A read failed; nothing was written.
     #[error("a read failed")]

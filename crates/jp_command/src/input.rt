@@ -1,8 +1,9 @@
 //! Reading an input to its end.
 
 ghost use Rattle.std.specs.Prelude.{◌≡◌, IfOk, IfErr, vec_len};
-ghost use Rattle.jp_command.specs.Input.{ReadsAll, StopsReading};
+ghost use Rattle.jp_command.specs.Input.{ReadsAll};
 ghost use Rattle.jp_command.specs.Limits.{chunk_size};
+ghost use Rattle.jp_command.specs.Private.Stops.{StopsReading};
 
 use crate::device::Source;
 use crate::fault::Fault;

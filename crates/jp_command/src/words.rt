@@ -4,7 +4,7 @@ ghost use Rattle.std.specs.Prelude.{◌≡◌, ◌⊎◌, Some, None, IfOk, IfEr
 ghost use Rattle.clap.specs.Words.{IsAmong, app_of, fault_of, found_of, kind_of, rows_of, subcommand_of, subcommand_rows_of};
 ghost use Rattle.clap.specs.declared.builder.command.Command.TheViews.{out-Command};
 ghost use Rattle.clap.specs.declared.error.kind.ErrorKind.TheVariants.{OutOfMemory};
-ghost use Rattle.jp_command.specs.CommandLine.{asked, asking, jp, task_and_query, task_called, with_task};
+ghost use Rattle.jp_command.specs.CommandLine.{asked, jp, query_app, task_and_query, task_called, with_task};
 
 use crate::lines::Form;
 use clap::error::ErrorKind;
@@ -34,9 +34,9 @@ fn task_named(name: &str) -> Option<Task>
 }
 
 /// A subcommand with a query.
-#[tactic(auto, unfolding(crate::specs::CommandLine::asking))]
-fn asking_command<'w>(alloc: Global, name: &'w str) -> Result<Command<'w>, AllocError>
-    ensures shape { IfOk result (λ command. app_of command ≡ asking name.entry.now) }
+#[tactic(auto, unfolding(crate::specs::CommandLine::query_app))]
+fn query_command<'w>(alloc: Global, name: &'w str) -> Result<Command<'w>, AllocError>
+    ensures shape { IfOk result (λ command. app_of command ≡ query_app name.entry.now) }
     ensures local { IfOk result (λ command. (out-Command command).has_globals ≡ false) }
 {
     let query = Arg::new(alloc, "QUERY").required(true);
@@ -52,7 +52,7 @@ fn with_task<'w>(
     ensures { IfOk result (λ more.
         app_of more ≡ with_task (app_of command.entry) name.entry.now) }
 {
-    command.subcommand(asking_command(alloc, name)?)
+    command.subcommand(query_command(alloc, name)?)
 }
 
 /// The whole command line.
@@ -79,8 +79,8 @@ fn matches_of<'w>(alloc: Global, words: &'w [String]) -> Result<ArgMatches<'w>, 
     command.try_get_matches_from(words)
 }
 
-/// What the subcommand `name` with the matches `found` asks for.
-fn asked_by<'w>(name: &str, found: &ArgMatches<'w>) -> Option<(Task, &'w str)>
+/// The task and the query of the subcommand `name` with the matches `found`.
+fn task_and_query<'w>(name: &str, found: &ArgMatches<'w>) -> Option<(Task, &'w str)>
     ensures { option_map (λ pair. (pair.0, pair.1.now)) result
         ≡ task_and_query (name.now, rows_of (found_of found.now)) }
 {
@@ -89,13 +89,13 @@ fn asked_by<'w>(name: &str, found: &ArgMatches<'w>) -> Option<(Task, &'w str)>
     Some((task, query))
 }
 
-/// What the subcommand in `matches` asks for.
-fn asked_in<'w>(matches: &ArgMatches<'w>) -> Option<(Task, &'w str)>
+/// The task and the query of the subcommand in `matches`.
+fn subcommand_task<'w>(matches: &ArgMatches<'w>) -> Option<(Task, &'w str)>
     ensures { option_map (λ pair. (pair.0, pair.1.now)) result
         ≡ option_and_then task_and_query (subcommand_rows_of matches.now) }
 {
     let (name, found) = matches.subcommand()?;
-    asked_by(name, found)
+    task_and_query(name, found)
 }
 
 /// What `words`, of which the first is the program's name, ask for, or clap's error.
@@ -106,7 +106,7 @@ pub(crate) fn read_words<'w>(alloc: Global, words: &'w [String]) -> Result<(Task
         ⊎ (asked (map string_bytes words.entry.now) ≡ None)) }
 {
     let matches = matches_of(alloc, words)?;
-    match asked_in(&matches) {
+    match subcommand_task(&matches) {
         Some(asked) => Ok(asked),
         None => Err(no_task(alloc)?),
     }

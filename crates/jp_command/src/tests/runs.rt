@@ -22,7 +22,7 @@ pub fn written(alloc: Global, query: &str, document: &str) -> Result<Vec<u8>, Fa
 fn names_the_first_number_that_is_not_whole(rt: HostRuntime) -> Result<(), Fail> {
     let rows = [
         (
-            "{\"store\":{\"bicycle\":{\"color\":\"red\",\"price\":399},\"book\":[{\"title\":\"A\",\"price\":8.95}]}}",
+            r#"{"store":{"bicycle":{"color":"red","price":399},"book":[{"title":"A","price":8.95}]}}"#,
             "$['store']['book'][0]['price']",
         ),
         ("{\"b\":1.5,\"a\":[0,2.5]}", "$['a'][1]"),

@@ -4,5 +4,10 @@ use Rattle.jp_command.proofs.line.run_line.Goals as goal
 
 pub returns-in-Ok : goal.returns-in-Ok
 returns-in-Ok g c = fault c.in-Err-run_and_flush.fault c.status.ensures
-    (record { task = c.in-Ok.task; query = c.in-Ok.query.now; asks = search rules; runs = c.in-Err-run_and_flush.ensures })
+    (record {
+      task = c.in-Ok.task;
+      query = c.in-Ok.query.now;
+      asks = search rules;
+      runs = c.in-Err-run_and_flush.ensures;
+    })
     c.report.ensures

@@ -3,7 +3,7 @@ use Rattle.jp_command.specs.Lines.{line_of, lines_of}
 use Rattle.jp_command.specs.Output.{StopsWriting}
 use Rattle.jp_document.specs.ChildNodes.{shown}
 use Rattle.jp_command.proofs.LineLemmas.{prefix-lines, prefix-in_line}
-use Rattle.jp_command.proofs.StreamLemmas.{IfErr-memory}
+use Rattle.jp_command.proofs.Streams.{IfErr-memory}
 use Rattle.jp_command.proofs.lines.write_lines.Goals as goal
 
 pub returns-in_err-push_line-clause-stopped : goal.returns-in_err-push_line-clause-stopped

@@ -42,10 +42,12 @@ Consumes-twice (Some xs) (Some ys) (Some zs) x y first second =
 pub prefix-step : (a b c : Option (List ℕ)) (text rest : List ℕ) (n : ℕ)
     → ((prefix : List ℕ) × (text ≡ prefix ++ rest) × Appends a b prefix)
     → Appends b c (take n rest)
-    → (prefix : List ℕ) × (text ≡ prefix ++ take (length rest - n) (drop n rest)) × Appends a c prefix
+    → (prefix : List ℕ) × (text ≡ prefix ++ take (length rest - n) (drop n rest))
+    × Appends a c prefix
 prefix-step a b c text rest n before written =
     let joined : (before.0 ++ take n rest) ++ drop n rest ≡ before.0 ++ rest =
-    append_assoc before.0 (take n rest) (drop n rest) ∙ ap (λ t. before.0 ++ t) (take-append-drop n rest) in (
+    append_assoc before.0 (take n rest) (drop n rest)
+    ∙ ap (λ t. before.0 ++ t) (take-append-drop n rest) in (
       before.0 ++ take n rest,
       rw take_rest (before.1 ∙ sym joined),
       Appends-twice a b c before.0 (take n rest) before.2 written,
@@ -62,8 +64,14 @@ prefix-kept a b c text rest before kept = record {
 }
 
 -- a whole text is a prefix of it
-pub prefix-whole : (a b : Option (List ℕ)) (text : List ℕ) → Appends a b text → AppendsPrefix a b text
-prefix-whole a b text written = record { prefix = text; rest = []; is = sym (append-nil text); written = written }
+pub prefix-whole : (a b : Option (List ℕ)) (text : List ℕ) → Appends a b text
+    → AppendsPrefix a b text
+prefix-whole a b text written = record {
+  prefix = text;
+  rest = [];
+  is = sym (append-nil text);
+  written = written;
+}
 
 -- all of a text, or a prefix of it, is a prefix of it
 pub prefix-either : {T E : Type 0} (a b : Option (List ℕ)) (text : List ℕ) (r : Result T E)
@@ -71,7 +79,8 @@ pub prefix-either : {T E : Type 0} (a b : Option (List ℕ)) (text : List ℕ) (
 prefix-either a b text (Ok x) whole prefix = prefix-whole a b text whole
 prefix-either a b text (Err e) whole prefix = prefix
 
--- what holds of want of memory holds of an answer that is it
-pub IfErr-memory : {T : Type 0} (P : Fault → Type 0) (r : Result T Fault) → IsErrAnd r (λ fault. fault ≡ NoMemory) → P NoMemory → IfErr r P
+-- what holds where memory ran out holds of an answer that says so
+pub IfErr-memory : {T : Type 0} (P : Fault → Type 0) (r : Result T Fault)
+    → IsErrAnd r (λ fault. fault ≡ NoMemory) → P NoMemory → IfErr r P
 IfErr-memory P (Ok x) memory holds = tt
 IfErr-memory P (Err fault) memory holds = subst P (sym memory) holds

@@ -1,4 +1,4 @@
--- Which fault of a run a fault of its parts is. Want of memory is the same in each.
+-- Which fault of a run a fault of its parts is. Running out of memory is the same in each.
 use Rattle.jp_document.specs.declared.fault.DocumentFault.{DocumentFault}
 use Rattle.jp_document.specs.declared.fault.DocumentFault.TheVariants as document
 use Rattle.jp_query.specs.declared.refusal.Refusal.{Refusal}

@@ -1,0 +1,13 @@
+-- Why an input was not read to its end.
+use Rattle.std.specs.Prelude.{◌≡◌, ℕ, Bool, List, Option}
+use Rattle.jp_command.specs.Input.{FailsToRead, ReadsTooMuch}
+use Rattle.jp_command.specs.declared.fault.Fault.{Fault}
+use Rattle.jp_command.specs.declared.fault.Fault.TheVariants.{DocumentTooLarge, NoMemory, Read}
+
+-- i and j are the input before and after
+module _ {R : Type 0} (remaining : R → Option (List ℕ)) (has_failed : R → Bool) where
+  abbrev pub StopsReading : R → R → Fault → Type 0
+  StopsReading i j DocumentTooLarge = ReadsTooMuch remaining has_failed i j
+  StopsReading i j Read = FailsToRead remaining has_failed i j
+  StopsReading i j NoMemory = has_failed j ≡ has_failed i
+  StopsReading i j _ = ⊥
