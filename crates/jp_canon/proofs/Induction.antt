@@ -10,9 +10,8 @@ use Rattle.jp_canon.proofs.Forms.{Has, both, has-word}
 use Rattle.jp_canon.proofs.Grouping.{Known, Own, whole}
 use Rattle.jp_canon.proofs.Rules.{expression-text, segments-text}
 
--- what some text spells within m levels stands in both ways within k levels, where m ≤ k: within k
--- - 1 levels that it can
--- stand as it is puts it one level further in
+-- what some text spells within m levels has both forms within k levels, where m ≤ k: what can stand
+-- as it is within k - 1 levels can stand one level further in
 known-by : (m k : ℕ) → m ≤ k
     → ((j : ℕ) → m ≤ suc j → (e : ExprTree) (s : Spans) (o : ℕ) (t : Text) → Inside m e s o t
     → Has (Own (Inside j) e) (expr_text e))
