@@ -1,5 +1,5 @@
 -- What some text spells, its canonical text spells, within the same levels.
-use Rattle.std.proofs.Common.{◌≡◌, ℕ, zero, suc, ◌≤◌, ◌∷◌, [], refl, sym, subst, ap, arith}
+use Rattle.std.proofs.Common.{◌≡◌, ℕ, zero, suc, ◌≤◌, refl, sym, subst, ap, arith, codes}
 use Rattle.jp_reading.specs.Texts.{Spans, Text}
 use Rattle.jp_query.specs.Grammar.{Inside, Segments, Spells}
 use Rattle.jp_query.specs.Laws.{OneReading}
@@ -36,7 +36,7 @@ canon-spells n q s text h =
     let known = known-by n n (omega arith) (own-text n) in
     let all : Has (Segments (Inside n) h.parts) (segments_text (segments h.parts)) = segments-text
     (Inside n) (Inside n) known h.parts _ _ _ h.is.two in
-    let found = (both (has-word (36 ∷ [])) all).at 0 in
+    let found = (both (has-word (codes "$")) all).at 0 in
     subst (λ p. (u : Spans) × Spells n p u (canon_of p)) (sym h.tree)
     (found.0, record { parts = h.parts; tree = refl; is = found.1 })
 
