@@ -15,12 +15,12 @@ selector_texts-map (y ∷ ys) = ap (λ ts. selector_text y ∷ ts) (selector_tex
 
 -- the mark between selectors
 abbrev pub Comma : Form
-Comma = word (44 ∷ []) ⌢ Blank
+Comma = word (codes ",") ⌢ Blank
 
 -- two dots before a text
 pub two-dots : {P : Form} {t : Text} → Has P t
-    → Has (word (46 ∷ []) ⌢ word (46 ∷ []) ⌢ P) (codes ".." ++ t)
-two-dots h = both (has-word (46 ∷ [])) (both (has-word (46 ∷ [])) h)
+    → Has (word (codes ".") ⌢ word (codes ".") ⌢ P) (codes ".." ++ t)
+two-dots h = both (has-word (codes ".")) (both (has-word (codes ".")) h)
 
 -- what stands after an opening bracket
 abbrev pub bracket_text : List SelectorTree → Text
@@ -43,11 +43,11 @@ module _ (K : ExprTree → Form) where
       → Has (Bracket K (y ∷ ys)) (codes "[" ++ bracket_text (y ∷ ys))
   bracket-of y ys all =
       let parts = has-separated Comma (codes ",") (λ z. Selector K z ⌢ Blank) selector_text
-      (before-blank (has-word (44 ∷ []))) y ys all in
-      both (has-word (91 ∷ []))
+      (before-blank (has-word (codes ","))) y ys all in
+      both (has-word (codes "["))
       (after-blank
       (both (has-same (ap (separated (codes ",")) (sym (selector_texts-map (y ∷ ys)))) parts)
-      (has-word (93 ∷ []))))
+      (has-word (codes "]"))))
 
   pub dotted-bracket : (y : SelectorTree) (s : Spans) (o : ℕ) (t : Text) → Member y s o t
       → Has (Bracket K (y ∷ [])) (codes "[" ++ bracket_text (y ∷ []))

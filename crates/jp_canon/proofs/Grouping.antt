@@ -38,10 +38,10 @@ pub record Known (K : ExprTree → Form) (e : ExprTree) : Type 0 where
 
 -- the marks between parts
 abbrev pub And : Form
-And = Blank ⌢ word (38 ∷ 38 ∷ []) ⌢ Blank
+And = Blank ⌢ word (codes "&&") ⌢ Blank
 
 abbrev pub Or : Form
-Or = Blank ⌢ word (124 ∷ 124 ∷ []) ⌢ Blank
+Or = Blank ⌢ word (codes "||") ⌢ Blank
 
 module _ (K : ExprTree → Form) where
   single : (e : ExprTree) (t : Text) → Has (Basic K e) t → Has (Conjunction K e) t
@@ -61,8 +61,8 @@ module _ (K : ExprTree → Form) where
 
   parenthesis : (e : ExprTree) (t : Text) → Has (K e) t
       → Has (Parenthesis K e) (codes "(" ++ (t ++ codes ")"))
-  parenthesis e t h = both (has-word (40 ∷ []))
-      (after-blank (both h (after-blank (has-word (41 ∷ [])))))
+  parenthesis e t h = both (has-word (codes "("))
+      (after-blank (both h (after-blank (has-word (codes ")")))))
 
   grouped-part : (e : ExprTree) → Has (K e) (expr_text e)
       → Has (Basic K e) (codes "(" ++ (expr_text e ++ codes ")"))
@@ -88,11 +88,11 @@ module _ (K : ExprTree → Form) where
   negated : (e : ExprTree) → Has (K e) (expr_text e)
       → Has (Basic K (negation e)) (codes "!" ++ (codes "(" ++ (expr_text e ++ codes ")")))
   negated e h = has-as (λ s o. not_grouped e refl)
-      (both (has-word (33 ∷ [])) (after-blank (parenthesis e (expr_text e) h)))
+      (both (has-word (codes "!")) (after-blank (parenthesis e (expr_text e) h)))
 
   pub negated-query : (q : QueryTree) → Has (InnerQuery K q) (canon_of q)
       → Has (Basic K (negation (exists q))) (codes "!" ++ canon_of q)
-  negated-query q h = has-as (λ s o. not_tested q refl) (both (has-word (33 ∷ [])) (after-blank h))
+  negated-query q h = has-as (λ s o. not_tested q refl) (both (has-word (codes "!")) (after-blank h))
 
   pub not-part : (e : ExprTree) → Known K e → Has (Basic K (negation e)) (expr_text (negation e))
   not-part (any_of es) h = negated (any_of es) h.inside

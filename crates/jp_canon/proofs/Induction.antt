@@ -1,5 +1,5 @@
 -- What some text spells, its canonical text spells, within the same levels.
-use Rattle.std.proofs.Common.{◌≡◌, ℕ, zero, suc, ◌≤◌, ◌∷◌, [], refl, sym, subst, ap, arith}
+use Rattle.std.proofs.Common.{◌≡◌, ℕ, zero, suc, ◌≤◌, refl, sym, subst, ap, arith, codes}
 use Rattle.jp_reading.specs.Texts.{Spans, Text}
 use Rattle.jp_query.specs.Grammar.{Inside, Segments, Spells}
 use Rattle.jp_query.specs.Laws.{OneReading}
@@ -10,9 +10,8 @@ use Rattle.jp_canon.proofs.Forms.{Has, both, has-word}
 use Rattle.jp_canon.proofs.Grouping.{Known, Own, whole}
 use Rattle.jp_canon.proofs.Rules.{expression-text, segments-text}
 
--- what some text spells within m levels stands in both ways within k levels, where m ≤ k: within k
--- - 1 levels that it can
--- stand as it is puts it one level further in
+-- what some text spells within m levels has both forms within k levels, where m ≤ k: what can stand
+-- as it is within k - 1 levels can stand one level further in
 known-by : (m k : ℕ) → m ≤ k
     → ((j : ℕ) → m ≤ suc j → (e : ExprTree) (s : Spans) (o : ℕ) (t : Text) → Inside m e s o t
     → Has (Own (Inside j) e) (expr_text e))
@@ -37,7 +36,7 @@ canon-spells n q s text h =
     let known = known-by n n (omega arith) (own-text n) in
     let all : Has (Segments (Inside n) h.parts) (segments_text (segments h.parts)) = segments-text
     (Inside n) (Inside n) known h.parts _ _ _ h.is.two in
-    let found = (both (has-word (36 ∷ [])) all).at 0 in
+    let found = (both (has-word (codes "$")) all).at 0 in
     subst (λ p. (u : Spans) × Spells n p u (canon_of p)) (sym h.tree)
     (found.0, record { parts = h.parts; tree = refl; is = found.1 })
 

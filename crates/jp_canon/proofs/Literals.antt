@@ -1,5 +1,5 @@
 -- The canonical texts of slices and literals spell them.
-use Rattle.std.proofs.Common.{◌≡◌, ℕ, ◌+◌, Bool, true, false, cond, [], ◌∷◌, Option, pos, negsuc, refl, sym, ap, subst}
+use Rattle.std.proofs.Common.{◌≡◌, ℕ, ◌+◌, Bool, true, false, cond, [], ◌++◌, Option, pos, negsuc, refl, sym, ap, subst, codes}
 use Rattle.std.proofs.lemmas.Bool.{eqb-true}
 use Rattle.jp_reading.specs.Texts.{Spans, Text, bytes}
 use Rattle.jp_query.specs.declared.tree.Numeral.{Numeral}
@@ -34,10 +34,10 @@ no-step : Has (Step (Whole (pos 1))) []
 no-step = has-as (λ s o. no_step refl) has-omitted
 
 given : (i : Numeral) (b : Bool) → is_one i ≡ b → Has (Int i) (numeral_text i)
-    → Has (Step i) (cond b [] (58 ∷ numeral_text i))
+    → Has (Step i) (cond b [] (codes ":" ++ numeral_text i))
 given i true is h = subst (λ j. Has (Step j) []) (sym (is_one-is i is)) no-step
 given i false is h = has-as (λ s o. given_step)
-    (both (has-word (58 ∷ [])) (after-blank (has-item h)))
+    (both (has-word (codes ":")) (after-blank (has-item h)))
 
 has-step : (i : Numeral) (s : Spans) (o : ℕ) (t : Text) → Step i s o t → Has (Step i) (step_text i)
 has-step i s o t (no_step is h) = subst (λ j. Has (Step j) (step_text j)) (sym is) no-step
@@ -50,7 +50,7 @@ pub sliced-text : (x : Slice) (s : Spans) (o : ℕ) (t : Text) → Sliced x s o 
     → Has (Sliced x) (slice_text x)
 sliced-text x s o t h =
     both (has-bound x.start _ _ _ h.one)
-    (both (has-word (58 ∷ []))
+    (both (has-word (codes ":"))
     (after-blank
     (both (has-bound x.end _ _ _ h.two.two.two.one) (has-step x.step _ _ _ h.two.two.two.two))))
 

@@ -1,5 +1,5 @@
 -- A name between quotes, as it is spelled in a normalized path, spells the name.
-use Rattle.std.proofs.Common.{◌≡◌, ℕ, ◌/◌, ◌%◌, ◌<◌, true, [], ◌∷◌, refl, sym, ◌∙◌, arith}
+use Rattle.std.proofs.Common.{◌≡◌, ℕ, ◌/◌, ◌%◌, ◌<◌, true, [], ◌∷◌, refl, sym, ◌∙◌, arith, codes}
 use Rattle.std.proofs.lemmas.Bool.{lt-ltb}
 use Rattle.std.proofs.lemmas.Bool.Decides.{nat_tests}
 use Rattle.std.specs.Char.{digit_value}
@@ -62,12 +62,12 @@ character : (c : ℕ) (t : Text) → Spelled c t → Has (Character 39 c) t
 character c t (by_letter e is means shape) =
     has-same (sym shape)
     (has-as (λ s o. escape e (means ∙ letter-meant e))
-    (both (has-word (92 ∷ [])) (has-one (is_escapable 39) e (letter-escapable e is))))
+    (both (has-word (codes "\\")) (has-one (is_escapable 39) e (letter-escapable e is))))
 character c t (by_number small none shape) =
     has-same (sym shape)
     (has-as (λ s o. hex)
-    (both (has-word (92 ∷ []))
-    (both (has-word (117 ∷ [])) (has-as (λ s o. not_d) (has-control c small)))))
+    (both (has-word (codes "\\"))
+    (both (has-word (codes "u")) (has-as (λ s o. not_d) (has-control c small)))))
 character c t (by_itself is shape) = has-same (sym shape)
     (has-as (λ s o. plain) (has-one (is_plain 39) c (bare-plain c is)))
 
@@ -79,5 +79,5 @@ characters (c ∷ cs) = (character c (spelling 39 c) (spelled c), characters cs)
 pub has-quoted : (cs : Text) → Has (Quoted cs) (quoted cs)
 has-quoted cs =
     has-as (λ s o. in_single)
-    (both (has-word (39 ∷ []))
-    (both (has-each (Character 39) (spelling 39) cs (characters cs)) (has-word (39 ∷ []))))
+    (both (has-word (codes "'"))
+    (both (has-each (Character 39) (spelling 39) cs (characters cs)) (has-word (codes "'"))))

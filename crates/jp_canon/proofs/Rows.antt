@@ -96,7 +96,7 @@ root = refl
 
 several : canon_of
     (query true (segments
-    (segment false (selectors (name (97 ∷ []) ∷ wildcard ∷ [])) ∷ segment true
+    (segment false (selectors (name (codes "a") ∷ wildcard ∷ [])) ∷ segment true
     (selectors (index (Whole (negsuc 1)) ∷ [])) ∷ []))) ≡ codes "$['a',*]..[-2]"
 unfolding spelling digits
 several = refl

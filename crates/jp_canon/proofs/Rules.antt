@@ -35,7 +35,7 @@ module _ (I K : ExprTree → Form)
   selector x s o t (filtered e is h) =
       subst (λ y. Has (Selector K y) (selector_text y)) (sym is)
       (has-as (λ r p. filtered e refl)
-      (both (has-word (63 ∷ [])) (after-blank (known e _ _ _ h.two.two).inside)))
+      (both (has-word (codes "?")) (after-blank (known e _ _ _ h.two.two).inside)))
 
   -- ---- segments
 
@@ -76,11 +76,11 @@ module _ (I K : ExprTree → Form)
   inner q s o t (from_root xs is h) =
       subst (λ p. Has (InnerQuery K p) (canon_of p)) (sym is)
       (has-as (λ r p. from_root xs refl)
-      (has-item (both (has-word (36 ∷ [])) (segments-text xs _ _ _ h.is.two))))
+      (has-item (both (has-word (codes "$")) (segments-text xs _ _ _ h.is.two))))
   inner q s o t (from_current xs is h) =
       subst (λ p. Has (InnerQuery K p) (canon_of p)) (sym is)
       (has-as (λ r p. from_current xs refl)
-      (has-item (both (has-word (64 ∷ [])) (segments-text xs _ _ _ h.is.two))))
+      (has-item (both (has-word (codes "@")) (segments-text xs _ _ _ h.is.two))))
 
   side : (x : OperandTree) (s : Spans) (o : ℕ) (t : Text) → Side I x s o t
       → Has (Side K x) (operand_text x)
@@ -137,7 +137,7 @@ module _ (I K : ExprTree → Form)
         has-as (λ s o. conjunction (e ∷ f ∷ es) refl)
         (has-same (ap (separated (codes "&&")) (sym (part_texts-map and_precedence (e ∷ f ∷ es))))
         (has-separated And (codes "&&") (Basic K) (part_text and_precedence)
-        (after-blank (before-blank (has-word (38 ∷ 38 ∷ [])))) e (f ∷ es) all));
+        (after-blank (before-blank (has-word (codes "&&")))) e (f ∷ es) all));
     inside = λ no. absurd (cc);
   }
 
@@ -164,7 +164,7 @@ module _ (I K : ExprTree → Form)
       has-as (λ s o. disjunction (e ∷ f ∷ es) refl)
       (has-same (ap (separated (codes "||")) (sym (part_texts-map or_precedence (e ∷ f ∷ es))))
       (has-separated Or (codes "||") (Conjunction K) (part_text or_precedence)
-      (after-blank (before-blank (has-word (124 ∷ 124 ∷ [])))) e (f ∷ es) all))
+      (after-blank (before-blank (has-word (codes "||")))) e (f ∷ es) all))
 
   or-parts : (es : List ExprTree) (s : Spans) (o : ℕ) (t : Text)
       → Separated Or (Conjunction I) es s o t

@@ -1,5 +1,5 @@
 -- Pieces that are written after a text, as characters.
-use Rattle.std.proofs.Common.{◌≡◌, ℕ, true, List, [], ◌∷◌, ◌++◌, cond, String, Result, Ok, Err, OnOk, is_ok, string_bytes, refl, ap, ap₂, sym, ◌∙◌}
+use Rattle.std.proofs.Common.{◌≡◌, ℕ, true, List, [], ◌∷◌, ◌++◌, cond, String, Result, Ok, Err, OnOk, is_ok, string_bytes, refl, ap, ap₂, sym, ◌∙◌, codes}
 use Rattle.std.specs.Char.{is_ascii}
 use Rattle.std.specs.List.{flat_map, list_all}
 use Rattle.std.specs.Str.{chars, encode_utf8_all}
@@ -46,8 +46,8 @@ ascii-encode (c ∷ cs) all =
 -- a quoted text in bytes is that of its characters
 pub quoted-encode : (cs : List ℕ) → encode_utf8_all (quoted cs) ≡ quoted (encode_utf8_all cs)
 quoted-encode cs =
-    let quote : encode_utf8_all (39 ∷ []) ≡ 39 ∷ [] = ascii-encode (39 ∷ []) refl in
-    encodes-append (39 ∷ []) (flat_map (spelling 39) cs ++ 39 ∷ [])
+    let quote : encode_utf8_all (codes "'") ≡ codes "'" = ascii-encode (codes "'") refl in
+    encodes-append (codes "'") (flat_map (spelling 39) cs ++ codes "'")
     ∙ ap₂ (λ x y. x ++ y) quote
-    (encodes-append (flat_map (spelling 39) cs) (39 ∷ []) ∙ ap₂ (λ x y. x ++ y)
+    (encodes-append (flat_map (spelling 39) cs) (codes "'") ∙ ap₂ (λ x y. x ++ y)
     (names-encode cs) quote)

@@ -51,14 +51,14 @@ abbrev last_but_one : QueryTree
 last_but_one = query true
     (segments (segment false (selectors (index (Whole (negsuc 1)) ∷ [])) ∷ []))
 
-values_of : output_of Values last_but_one two ≡ 34 ∷ 97 ∷ 34 ∷ 10 ∷ []
+values_of : output_of Values last_but_one two ≡ codes "\"a\"\n"
 unfolding spelling
 values_of = refl
 
-paths_of : output_of Paths last_but_one two ≡ codes "$[0]" ++ 10 ∷ []
+paths_of : output_of Paths last_but_one two ≡ codes "$[0]\n"
 unfolding index_text
 paths_of = refl
 
-both_of : output_of Both last_but_one two ≡ codes "$[0]" ++ 9 ∷ 34 ∷ 97 ∷ 34 ∷ 10 ∷ []
+both_of : output_of Both last_but_one two ≡ codes "$[0]" ++ 9 ∷ codes "\"a\"\n"
 unfolding index_text spelling
 both_of = refl

@@ -1,15 +1,11 @@
 -- What is read or written in two steps.
-use Rattle.std.proofs.Common.{◌≡◌, ℕ, ◌-◌, List, [], ◌++◌, length, take, drop, Option, Some, None, Result, Ok, Err, OnErr, OnOk, IfErr, subst, sym, ◌∙◌, ap, append_assoc, refl}
+use Rattle.std.proofs.Common.{◌≡◌, ℕ, ◌-◌, List, [], ◌++◌, length, take, drop, Option, Some, None, Result, Ok, Err, OnErr, OnOk, IfErr, subst, sym, ◌∙◌, ap, append_assoc}
 use Rattle.std.proofs.lemmas.List.{append-nil, take-append-drop, take_rest}
-use Rattle.std.specs.Io.KnownBytes.{Appends, Consumes, Keeps}
+use Rattle.std.specs.Io.KnownBytes.{Appends, Keeps}
 use Rattle.std.specs.Prelude.{IsErrAnd}
 use Rattle.jp_command.specs.Output.{AppendsPrefix}
 use Rattle.jp_command.specs.declared.fault.Fault.{Fault}
 use Rattle.jp_command.specs.declared.fault.Fault.TheVariants.{NoMemory}
-
-pub Appends-nothing : (a : Option (List ℕ)) → Appends a a []
-Appends-nothing None = tt
-Appends-nothing (Some xs) = sym (append-nil xs)
 
 pub Appends-twice : (a b c : Option (List ℕ)) (x y : List ℕ)
     → Appends a b x → Appends b c y → Appends a c (x ++ y)
@@ -26,18 +22,6 @@ Appends-keeps (Some xs) None c x first second = absurd first
 Appends-keeps (Some xs) (Some ys) None x first second = absurd second
 Appends-keeps (Some xs) (Some ys) (Some zs) x first second = second ∙ first
 
-pub Consumes-nothing : (a : Option (List ℕ)) → Consumes a a []
-Consumes-nothing None = tt
-Consumes-nothing (Some xs) = refl
-
-pub Consumes-twice : (a b c : Option (List ℕ)) (x y : List ℕ)
-    → Consumes a b x → Consumes b c y → Consumes a c (x ++ y)
-Consumes-twice None b c x y first second = tt
-Consumes-twice (Some xs) None c x y first second = absurd first
-Consumes-twice (Some xs) (Some ys) None x y first second = absurd second
-Consumes-twice (Some xs) (Some ys) (Some zs) x y first second =
-    first ∙ ap (λ t. x ++ t) second ∙ sym (append_assoc x y zs)
-
 -- one write more: what is written and the rest are still the whole
 pub prefix-step : (a b c : Option (List ℕ)) (text rest : List ℕ) (n : ℕ)
     → ((prefix : List ℕ) × (text ≡ prefix ++ rest) × Appends a b prefix)
@@ -52,16 +36,6 @@ prefix-step a b c text rest n before written =
       rw take_rest (before.1 ∙ sym joined),
       Appends-twice a b c before.0 (take n rest) before.2 written,
     )
-
--- what is written before a write that fails is a prefix
-pub prefix-kept : (a b c : Option (List ℕ)) (text rest : List ℕ)
-    → ((prefix : List ℕ) × (text ≡ prefix ++ rest) × Appends a b prefix) → Keeps b c → AppendsPrefix a c text
-prefix-kept a b c text rest before kept = record {
-  prefix = before.0;
-  rest = rest;
-  is = before.1;
-  written = Appends-keeps a b c before.0 before.2 kept;
-}
 
 -- a whole text is a prefix of it
 pub prefix-whole : (a b : Option (List ℕ)) (text : List ℕ) → Appends a b text

@@ -1,5 +1,5 @@
 -- What a run that writes a canonical text says with its answer.
-use Rattle.std.specs.Prelude.{◌≡◌, ℕ, Bool, true, List, [], ◌∷◌, ◌++◌, Option, Result, Ok, Err}
+use Rattle.std.specs.Prelude.{◌≡◌, ℕ, Bool, true, List, ◌++◌, Option, Result, Ok, Err, codes}
 use Rattle.std.specs.Str.{encode_utf8_all}
 use Rattle.jp_canon.specs.Canon.{canon_of}
 use Rattle.jp_query.specs.Tree.{QueryTree}
@@ -10,7 +10,7 @@ use Rattle.jp_command.specs.declared.fault.Fault.TheVariants.{Query, NoMemory, W
 
 -- the canonical text of a query in UTF-8, which a newline ends
 abbrev pub canon_line : QueryTree → List ℕ
-canon_line q = encode_utf8_all (canon_of q) ++ 10 ∷ []
+canon_line q = encode_utf8_all (canon_of q) ++ codes "\n"
 
 -- the query is asked, and this is its line
 pub record IsCanonLine (text line : List ℕ) : Type 0 where

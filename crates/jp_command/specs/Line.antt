@@ -1,5 +1,5 @@
 -- What the program says with its status.
-use Rattle.std.specs.Prelude.{◌≡◌, ℕ, Bool, List, ◌∷◌, [], ◌++◌, Option, Some, None, Result, Ok, Err, codes}
+use Rattle.std.specs.Prelude.{◌≡◌, ℕ, Bool, List, ◌++◌, Option, Some, None, Result, Ok, Err, codes}
 use Rattle.std.specs.Fmt.{decimal}
 use Rattle.jp_document.specs.declared.fault.DocumentFault.{DocumentFault}
 use Rattle.jp_document.specs.declared.fault.DocumentFault.TheVariants as document
@@ -40,7 +40,7 @@ fault_text Write = codes "write fault"
 
 -- the line of a fault, which a newline ends
 abbrev pub fault_line : Fault → List ℕ
-fault_line f = fault_text f ++ 10 ∷ []
+fault_line f = fault_text f ++ codes "\n"
 
 -- what is said of a run of the program: i and j are the input before and after it, o and p the
 -- output

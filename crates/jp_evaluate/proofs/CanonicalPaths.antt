@@ -53,7 +53,7 @@ module _ (K : ExprTree → Form) where
 canon-spells : (n : ℕ) (l : Location) → IndexesFit l
     → (s : Spans) × Spells n (path_tree l) s (canon_of (path_tree l))
 canon-spells n l fits =
-    let found = (both (has-word (36 ∷ [])) (has-segments (Inside n) l fits)).at 0 in
+    let found = (both (has-word (codes "$")) (has-segments (Inside n) l fits)).at 0 in
     (found.0, record { parts = map step_segment l; tree = refl; is = found.1 })
 
 -- ---- and it is the path
@@ -101,7 +101,7 @@ scalars-spellings (c ∷ cs) all =
 
 encoded-name : (s : List ℕ) → IsUtf8 s → Encoded (quoted (chars s)) (quoted s)
 encoded-name s utf8 = (
-  scalars-append (flat_map (spelling 39) (chars s)) (39 ∷ [])
+  scalars-append (flat_map (spelling 39) (chars s)) (codes "'")
       (scalars-spellings (chars s) (scalars-chars s utf8)) refl,
   quoted-encode (chars s) ∙ ap quoted (encodes-chars s utf8),
 )
@@ -112,12 +112,13 @@ encoded-index i fits = subst (λ t. Encoded t (index_text i)) (sym (decimal-inde
 
 -- a bracket around one selector
 encoded-bracket : (t : Text) (bs : List ℕ) → Encoded t bs
-    → Encoded (codes "[" ++ ((t ++ []) ++ codes "]")) (91 ∷ (bs ++ 93 ∷ []))
+    → Encoded (codes "[" ++ ((t ++ []) ++ codes "]")) (codes "[" ++ (bs ++ codes "]"))
 encoded-bracket t bs is =
-    subst (λ x. Encoded (91 ∷ (x ++ 93 ∷ [])) (91 ∷ (bs ++ 93 ∷ []))) (sym (append-nil t))
-    (encoded-append (91 ∷ []) (t ++ 93 ∷ []) (91 ∷ []) (bs ++ 93 ∷ [])
+    subst (λ x. Encoded (codes "[" ++ (x ++ codes "]")) (codes "[" ++ (bs ++ codes "]")))
+    (sym (append-nil t))
+    (encoded-append (codes "[") (t ++ codes "]") (codes "[") (bs ++ codes "]")
     (encoded-mark 91 (omega arith))
-    (encoded-append t (93 ∷ []) bs (93 ∷ []) is (encoded-mark 93 (omega arith))))
+    (encoded-append t (codes "]") bs (codes "]") is (encoded-mark 93 (omega arith))))
 
 encoded-steps : (l : Location) → HasTextNames l → IndexesFit l
     → Encoded (segments_text (segments (map step_segment l))) (flat_map step_text l)
@@ -134,7 +135,7 @@ encoded-steps (nth i ∷ l) texts fit =
 path-canonical : (l : Location) → HasTextNames l → IndexesFit l
     → chars (path_of l) ≡ canon_of (path_tree l)
 path-canonical l texts fit =
-    let all = encoded-append (36 ∷ []) _ (36 ∷ []) (flat_map step_text l)
+    let all = encoded-append (codes "$") _ (codes "$") (flat_map step_text l)
     (encoded-mark 36 (omega arith)) (encoded-steps l texts fit) in
     ap chars (sym all.1) ∙ chars-encodes (canon_of (path_tree l)) all.0
 

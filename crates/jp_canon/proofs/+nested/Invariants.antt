@@ -1,4 +1,4 @@
-use Rattle.std.proofs.Common.{◌≡◌, ◌∷◌, [], ◌++◌, drop, map}
+use Rattle.std.proofs.Common.{◌≡◌, ◌++◌, drop, map, codes}
 use Rattle.jp_query.specs.Tree.{expr_of, exprs, query_of, segment_of, segments, selector_of, selectors}
 use Rattle.jp_canon.specs.Canon.{canon_of, part_texts, segment_text, segments_text, selector_texts, separated}
 use Rattle.jp_canon.proofs.Parts.{texts_from}
@@ -14,8 +14,8 @@ invariant-segments::write_query-loop-segment l =
 -- what is written, and the selectors to come, is the whole
 abbrev pub invariant-segments::write_segment-loop-i : goal.invariant-segments::write_segment-loop-i
 invariant-segments::write_segment-loop-i l =
-    l.out ++ (texts_from l.i (44 ∷ [])
-    (selector_texts (selectors (map selector_of (drop l.i l.selector-items)))) ++ 93 ∷ [])
+    l.out ++ (texts_from l.i (codes ",")
+    (selector_texts (selectors (map selector_of (drop l.i l.selector-items)))) ++ codes "]")
     ≡ l.fn.out ++ segment_text (segment_of l.segment)
 
 -- what is written, and the parts to come, is the whole
