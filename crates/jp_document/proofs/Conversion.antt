@@ -90,9 +90,6 @@ pub record ItemsSoFar (all rest : List Reading) (found : List Json) : Type 0 whe
   pub sound : Implies (everywhere list_fits) (everywhere is_allowed) (map value_of found)
   pub first : (l : Location) → IsFirstIn (data_items_from (length found) (items_view rest)) l → IsFirstIn (data_items_from 0 (items_view all)) l
 
-pub items_begin : (all : List Reading) → ItemsSoFar all all []
-items_begin all = record { value = λ ws is. is; sound = λ _. refl; first = λ l is. is }
-
 items_of_data-item : (d : Data) (v : Value) (ds : parsed.Items) (ws : List Value) → value_of_data d ≡ Some v → items_of_data ds ≡ Some (items_of ws) → items_of_data (parsed.item d ds) ≡ Some (items_of (v ∷ ws))
 items_of_data-item d v ds ws here later = ap (option_and_then (λ w. option_map (item w) (items_of_data ds))) here ∙ ap (option_map (item v)) later
 

@@ -1,5 +1,6 @@
 -- Which lists fit, as one flag for all of a value says it.
 use Rattle.std.proofs.Common.{◌≡◌, ℕ, suc, Bool, true, false, ◌&&◌, List, [], ◌∷◌, ◌++◌, length, map, refl, sym, ap, ◌∙◌, nat_le}
+use Rattle.std.proofs.Math.Bool.{and_assoc, and-false, and-true}
 use Rattle.std.proofs.lemmas.List.{length-map, map-append}
 use Rattle.jp_document.specs.Value.{Value, list, items_of, item_count, members_of, everywhere, everywhere_in_items, everywhere_in_members, list_fits, value_of, member_of}
 use Rattle.jp_document.specs.declared.value.Json.{Json}
@@ -12,18 +13,6 @@ item_count-items_of (v ∷ vs) = ap suc (item_count-items_of vs)
 pub list_fits-length : (xs : List Json) → nat_le (length xs) 9007199254740991 ≡ list_fits (list (items_of (map value_of xs)))
 list_fits-length xs = ap (λ n. nat_le n 9007199254740991) (sym (item_count-items_of (map value_of xs) ∙ length-map xs value_of))
 
-and-true : (a : Bool) → (a && true) ≡ a
-and-true true = refl
-and-true false = refl
-
-pub and-assoc : (a b c : Bool) → ((a && b) && c) ≡ (a && (b && c))
-and-assoc true b c = refl
-and-assoc false b c = refl
-
-and-false : (a : Bool) → (a && false) ≡ false
-and-false true = refl
-and-false false = refl
-
 -- one more part, beside those before it
 and-more : (here before old : Bool) → (here && (before && old)) ≡ ((before && here) && old)
 and-more here true old = refl
@@ -31,11 +20,11 @@ and-more here false old = and-false here
 
 items_fit-push : (vs : List Value) (v : Value) → everywhere_in_items list_fits (items_of (vs ++ v ∷ [])) ≡ (everywhere_in_items list_fits (items_of vs) && everywhere list_fits v)
 items_fit-push [] v = and-true (everywhere list_fits v)
-items_fit-push (w ∷ vs) v = ap (λ b. everywhere list_fits w && b) (items_fit-push vs v) ∙ sym (and-assoc (everywhere list_fits w) _ _)
+items_fit-push (w ∷ vs) v = ap (λ b. everywhere list_fits w && b) (items_fit-push vs v) ∙ sym (and_assoc (everywhere list_fits w) _ _)
 
 members_fit-push : (ms : List (List ℕ × Value)) (m : List ℕ × Value) → everywhere_in_members list_fits (members_of (ms ++ m ∷ [])) ≡ (everywhere_in_members list_fits (members_of ms) && everywhere list_fits m.1)
 members_fit-push [] m = and-true (everywhere list_fits m.1)
-members_fit-push (n ∷ ms) m = ap (λ b. everywhere list_fits n.1 && b) (members_fit-push ms m) ∙ sym (and-assoc (everywhere list_fits n.1) _ _)
+members_fit-push (n ∷ ms) m = ap (λ b. everywhere list_fits n.1 && b) (members_fit-push ms m) ∙ sym (and_assoc (everywhere list_fits n.1) _ _)
 
 -- the flag after one more item, and after one more member
 pub items_fit_more : (done more : List Json) (j : Json) (now after old : Bool) → more ≡ done ++ j ∷ [] → now ≡ (everywhere_in_items list_fits (items_of (map value_of done)) && old) → after ≡ (everywhere list_fits (value_of j) && now)

@@ -16,9 +16,6 @@ use Rattle.jp_document.proofs.Spelled.{Spelled, by_letter, by_number, by_itself,
 abbrev Same : {A : Type 0} → A → A → List ℕ → List ℕ → Type 0
 Same a b x y = (a ≡ b) × (x ≡ y)
 
-first_same : (v w x y : List ℕ) (a b : ℕ) → v ≡ a ∷ x → w ≡ b ∷ y → v ≡ w → a ≡ b
-first_same v w x y a b is as_well e = cc
-
 hex-same : (m n : ℕ) → m < 16 → n < 16 → hex_digit m ≡ hex_digit n → m ≡ n
 hex-same m n a b e = sym (hex_digit_is m a).1 ∙ ap hex_value e ∙ (hex_digit_is n b).1
 

@@ -22,10 +22,6 @@ mapped : {A B : Type 0} (f : A → B) (o : Option A) (b : B) → option_map f o 
 mapped f None b is = absurd (cc)
 mapped f (Some a) b is = (a, refl, same_Some (f a) b is)
 
--- the value that a part of a reading holds is allowed, where its lists fit
-abbrev Allowed : Data → Type 0
-Allowed d = (v : Value) → value_of_data d ≡ Some v → everywhere list_fits v ≡ true → everywhere is_allowed v ≡ true
-
 read_names : (ms : parsed.Members) (vs : Members) → members_of_data ms ≡ Some vs → names_of vs ≡ keys_of (entries ms)
 read_names parsed.no_members vs is = ap names_of (sym (same_Some no_members vs is))
 read_names (parsed.member n d ms) vs is =

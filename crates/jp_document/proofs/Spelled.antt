@@ -1,6 +1,6 @@
 -- How a character of a name is spelled: by a letter after `\`, by its number, or by itself.
-use Rattle.std.proofs.Common.{◌≡◌, ℕ, ◌<◌, ◌==◌, eqb, nat_lt, Bool, true, false, ◌||◌, not, List, [], ◌∷◌, inl, inr, refl, sym, ap, ◌∙◌, arith}
-use Rattle.std.proofs.lemmas.Bool.{cases_Bool, eqb-true, or_parts}
+use Rattle.std.proofs.Common.{◌≡◌, ℕ, ◌<◌, ◌==◌, eqb, nat_lt, Bool, true, false, ◌||◌, List, [], ◌∷◌, inl, inr, refl, sym, ap, ◌∙◌, arith}
+use Rattle.std.proofs.lemmas.Bool.{cases_Bool, eqb-true, not-true, or_parts}
 use Rattle.std.proofs.lemmas.Bool.Decides.{nat_tests}
 use Rattle.jp_document.specs.Spelling.{spelling, control, hex_digit}
 use Rattle.jp_document.specs.Private.PathRules.{is_plain, is_letter, meant, is_low_digit, is_hex_digit, hex_value}
@@ -13,10 +13,6 @@ pub data Spelled (c : ℕ) (w : List ℕ) : Type 0 where
   by_letter : (e : ℕ) → is_letter e ≡ true → c ≡ meant e → w ≡ 92 ∷ e ∷ [] → Spelled c w
   by_number : c < 32 → has_letter c ≡ false → w ≡ control c → Spelled c w
   by_itself : is_plain c ≡ true → w ≡ c ∷ [] → Spelled c w
-
-not-true : (b : Bool) → not b ≡ true → b ≡ false
-not-true true h = cc
-not-true false h = refl
 
 -- each character is spelled in one of the three ways
 pub spelled : (c : ℕ) → Spelled c (spelling 39 c)

@@ -3,7 +3,7 @@ use Rattle.std.proofs.Common.{◌≡◌, ℕ, ◌+◌, Bool, true, false, List, 
 use Rattle.std.specs.Char.{len_utf8}
 use Rattle.jp_reading.specs.Texts.{Text, Spans, bytes, is_blank}
 use Rattle.jp_reading.specs.Forms.{Form, ◌⌢◌, word, One, Blank, AllPassing, Each, Separated, Item}
-use Rattle.jp_reading.specs.Outcome.{State, Outcome, took, head, first_of, past, past_first, past_blanks, skip, passes, is, is_at, take_if, expect, each, item_since, item}
+use Rattle.jp_reading.specs.Outcome.{State, Outcome, took, head, first_of, past, past_first, past_blanks, skip, passes, is, is_at, take_if, expect, each, item_since}
 use Rattle.jp_reading.proofs.Between.{reads-as, Between, Reads, bytes-append, between-none, state-same}
 use Rattle.jp_reading.proofs.Steps.{take_if-takes}
 use Rattle.jp_reading.proofs.Stopping.{span_inserted}
@@ -153,12 +153,6 @@ inside P p q h = record {
       (record { start = p.at; end = p.at + bytes h.text }) refl (ap (λ (e : ℕ). record { start = p.at; end = e }) h.way.at)
       ∙ ap (λ s. p.found ++ s) (sym h.is.spans) ∙ sym h.way.found);
 }
-
-pub again-item : {A : Type 0} (P : Form) (x : A) (p q : State) (o : Outcome A) → Reads (Item P) p q
-    → ((m : State) → Reads P p m → m.rest ≡ q.rest → o ≡ took x m) → item p o ≡ took x q
-again-item P x p q o h read =
-    let i = inside P p q h in
-    ap (item p) (read i.middle i.reads i.rest) ∙ ap (took x) i.spanned
 
 -- where another text of the loop stands a round begins, and what stands there may follow a text before it
 abbrev pub Starts : {A : Type 0} → (A → Form) → (Text → Type 0) → (State → Bool) → Type 0

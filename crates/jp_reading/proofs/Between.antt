@@ -2,7 +2,7 @@
 use Rattle.std.proofs.Common.{◌≡◌, ℕ, ◌+◌, ◌<◌, [], ◌∷◌, ◌++◌, length, refl, sym, ap, ◌∙◌, subst, append_assoc, append-nil, arith}
 use Rattle.jp_reading.specs.Texts.{Text, Spans, bytes}
 use Rattle.jp_reading.specs.Forms.{Form, ◌⌢◌}
-use Rattle.jp_reading.specs.Outcome.{State, Outcome, took, stuck, deep, past}
+use Rattle.jp_reading.specs.Outcome.{State, past}
 
 -- q is p past the text t, whose items have the spans s
 pub record Between (p : State) (s : Spans) (t : Text) (q : State) : Type 0 where
@@ -161,16 +161,21 @@ front-none P p has =
     let text = has p.at in
     record { read = []; more = text.1; spans = text.0; rest = refl; at = omega arith; is = text.2 }
 
--- the same first part before another form
-pub joined-over : (P Q R : Form) (s : Spans) (o : ℕ) (t : Text) (h : (P ⌢ Q) s o t)
-    → R h.second_spans (o + bytes h.first) h.second → (P ⌢ R) s o t
-joined-over P Q R s o t h two = record {
+-- two parts of other forms
+pub joined-both : (P P' Q Q' : Form) (s : Spans) (o : ℕ) (t : Text) (h : (P ⌢ Q) s o t) → P' h.first_spans o h.first
+    → Q' h.second_spans (o + bytes h.first) h.second → (P' ⌢ Q') s o t
+joined-both P P' Q Q' s o t h one two = record {
   first_spans = h.first_spans;
   second_spans = h.second_spans;
   first = h.first;
   second = h.second;
   spans = h.spans;
   is = h.is;
-  one = h.one;
+  one = one;
   two = two;
 }
+
+-- the same first part before another form
+pub joined-over : (P Q R : Form) (s : Spans) (o : ℕ) (t : Text) (h : (P ⌢ Q) s o t)
+    → R h.second_spans (o + bytes h.first) h.second → (P ⌢ R) s o t
+joined-over P Q R s o t h two = joined-both P P Q R s o t h h.one two

@@ -1,13 +1,15 @@
 -- What a rule took has the form of its value, where nothing is asked of a rule that fails.
 use Rattle.std.proofs.Common.{◌≡◌, ℕ, zero, suc, Bool, true, false, cond, [], ◌∷◌, ◌++◌, length, Option, Some, None, inl, inr, refl, subst, arith}
 use Rattle.std.proofs.lemmas.Bool.{cases_Bool, eqb-true}
-use Rattle.jp_reading.specs.Texts.{Text, Spans}
-use Rattle.jp_reading.specs.Forms.{Form, ◌⌢◌, word, One, AllPassing, Each}
+use Rattle.jp_reading.specs.Texts.{Text}
+use Rattle.jp_reading.specs.Forms.{Form, ◌⌢◌, word, One, Each}
 use Rattle.jp_reading.specs.Numbers.{Digits, is_digit, is_at_digit, digit_at, digits_at}
 use Rattle.jp_reading.specs.Outcome.{State, Outcome, took, stuck, deep, ◌>>=◌, head, past, is, is_at, take_passing, take_if, expect, loop, each}
 use Rattle.jp_reading.specs.Views.{by}
 use Rattle.jp_reading.proofs.Between.{Reads, Within, between-same, reads-then, reads-as}
+use Rattle.jp_reading.proofs.Runs.{each-run}
 use Rattle.jp_reading.proofs.Steps.{past-way, head-is}
+use Rattle.jp_reading.proofs.Words.{words-join}
 
 -- what was taken from p on has the form of its value
 abbrev pub Fits : {A : Type 0} → (A → Form) → State → Outcome A → Type 0
@@ -82,15 +84,6 @@ pub fits-each : {A : Type 0} (F : A → Form) (begins : State → Bool) (rule : 
     → ((q : State) → Fits F q (rule q)) → (p : State) → Fits (Each F) p (each begins rule p)
 fits-each F begins rule h p = fits-loop F (suc (length p.rest)) begins rule h p
 
-each-digits : (ds : Text) (s : Spans) (o : ℕ) (t : Text) → Each (One is_digit) ds s o t
-    → (s ≡ []) × (t ≡ ds) × AllPassing is_digit ds
-each-digits [] s o t h = (h.none, h.is, tt)
-each-digits (d ∷ ds) s o t h =
-    let more = each-digits ds h.second_spans _ h.second h.two in
-    let none = h.one.none in
-    let is = h.one.is in
-    (rw (h.spans, none, more.0) refl, rw (h.is, is, more.1) refl, (h.one.passes, more.2))
-
 -- digits
 pub fits-digits : (p : State) → Fits Digits p (digits_at p)
 unfolding digits_at
@@ -99,15 +92,14 @@ fits-digits p =
     (λ d q one. fits-by (λ ds. d ∷ ds) (Each (One is_digit)) Digits p q (each is_at_digit digit_at q)
     (fits-each (One is_digit) is_at_digit digit_at (fits-take_if is_digit) q)
     (λ ds r more. reads-as (One is_digit d ⌢ Each (One is_digit) ds) (Digits (d ∷ ds)) p r
-    (λ s o t h. (let all = each-digits (d ∷ ds) s o t h in
-    record { none = all.0; is = all.1; digits = all.2; some = omega arith }))
+    (λ s o t h. (let run = each-run is_digit (d ∷ ds) s o t h in
+    record { none = run.none; is = run.is; digits = run.all; some = omega arith }))
     (reads-then (One is_digit d) (Each (One is_digit) ds) p q r one more)))
 
 -- two words, one after the other, are one
 pub reads-words : (v w : Text) (p q r : State) → Reads (word v) p q → Reads (word w) q r → Reads (word (v ++ w)) p r
 reads-words v w p q r h g =
-    reads-as (word v ⌢ word w) (word (v ++ w)) p r
-    (λ s o t k. record { none = rw (k.spans, k.one.none, k.two.none) refl; is = rw (k.is, k.one.is, k.two.is) refl })
+    reads-as (word v ⌢ word w) (word (v ++ w)) p r (words-join v w)
     (reads-then (word v) (word w) p q r h g)
 
 -- the character c, where it stands next

@@ -42,11 +42,6 @@ pub folds_fail : {A B : Type 0} (begins : State → Bool) (rule : State → Outc
 folds_fail begins rule h f p e on failed =
     rw (each-on begins rule h p on) (fails-then e (round (rule p) (each begins rule)) _ (fails-then e (rule p) _ failed))
 
--- a list that grows at its end
-pub with_front-on : {A : Type 0} (xs : List A) (x : A) (o : Outcome (List A))
-    → with_front xs (o >>= λ ys r. took (x ∷ ys) r) ≡ with_front (xs ++ x ∷ []) o
-with_front-on xs x o = by-round (λ ys. xs ++ ys) (λ ys. (xs ++ x ∷ []) ++ ys) x o (λ ys. sym (append_assoc xs (x ∷ []) ys))
-
 -- nothing in front changes nothing
 pub with_front-nil : {A : Type 0} (o : Outcome (List A)) → with_front [] o ≡ o
 with_front-nil (took xs q) = refl

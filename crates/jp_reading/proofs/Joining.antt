@@ -3,6 +3,7 @@ use Rattle.std.proofs.Common.{◌≡◌, ℕ, ◌+◌, List, [], ◌∷◌, ◌+
 use Rattle.jp_reading.specs.Texts.{Text, Spans, bytes}
 use Rattle.jp_reading.specs.Forms.{Form, ◌⌢◌, word, Each, Separated}
 use Rattle.jp_reading.proofs.Between.{Within, bytes-append, joined-over}
+pub use Rattle.jp_reading.proofs.Between.{joined-both}
 use Rattle.jp_reading.proofs.Levels.{Only, Then, Made, joined-lifts, each-lifts}
 
 pub joined-assoc : (P Q R : Form) → Within ((P ⌢ Q) ⌢ R) (P ⌢ Q ⌢ R)
@@ -47,20 +48,6 @@ joined-back P Q R s o t h = record {
     two = h.two.one;
   };
   two = subst (λ (k : ℕ). R h.two.second_spans k h.two.second) (let e = bytes-append h.first h.two.first in omega arith) h.two.two;
-}
-
--- two parts of other forms
-pub joined-both : (P P' Q Q' : Form) (s : Spans) (o : ℕ) (t : Text) (h : (P ⌢ Q) s o t) → P' h.first_spans o h.first
-    → Q' h.second_spans (o + bytes h.first) h.second → (P' ⌢ Q') s o t
-joined-both P P' Q Q' s o t h one two = record {
-  first_spans = h.first_spans;
-  second_spans = h.second_spans;
-  first = h.first;
-  second = h.second;
-  spans = h.spans;
-  is = h.is;
-  one = one;
-  two = two;
 }
 
 -- one part of another form

@@ -1,8 +1,8 @@
 -- Forms that say what value a text has; that parts of wider forms make a wider form; and texts of each, joined.
-use Rattle.std.proofs.Common.{◌≡◌, ℕ, ◌+◌, Bool, true, List, [], ◌∷◌, ◌++◌, Some, refl}
+use Rattle.std.proofs.Common.{◌≡◌, ℕ, ◌+◌, List, [], ◌∷◌, ◌++◌, Some, refl}
 use Rattle.jp_reading.specs.Texts.{Text, Spans, bytes}
-use Rattle.jp_reading.specs.Forms.{Form, ◌⌢◌, word, One, Blank, Each, Separated, Item}
-use Rattle.jp_reading.proofs.Between.{Has, Within}
+use Rattle.jp_reading.specs.Forms.{Form, ◌⌢◌, word, Blank, Each, Separated, Item}
+use Rattle.jp_reading.proofs.Between.{Has, Within, joined-both}
 
 -- the value y alone, with texts of the form
 pub record Only {A : Type 0} (y : A) (P : Form) (x : A) (s : Spans) (o : ℕ) (t : Text) : Type 0 where
@@ -22,16 +22,8 @@ pub record Made {A B : Type 0} (f : A → B) (F : A → Form) (y : B) (s : Spans
 
 -- both parts one level deeper
 pub joined-lifts : (P P' Q Q' : Form) → Within P P' → Within Q Q' → Within (P ⌢ Q) (P' ⌢ Q')
-joined-lifts P P' Q Q' f g s o t h = record {
-  first_spans = h.first_spans;
-  second_spans = h.second_spans;
-  first = h.first;
-  second = h.second;
-  spans = h.spans;
-  is = h.is;
-  one = f h.first_spans o h.first h.one;
-  two = g h.second_spans (o + bytes h.first) h.second h.two;
-}
+joined-lifts P P' Q Q' f g s o t h =
+    joined-both P P' Q Q' s o t h (f h.first_spans o h.first h.one) (g h.second_spans (o + bytes h.first) h.second h.two)
 
 -- a text of each, joined
 pub joined-has : (P Q : Form) → Has P → Has Q → Has (P ⌢ Q)

@@ -104,13 +104,6 @@ local-stuck a = record { ends = λ m p e. e; agrees = λ u p. same refl }
 pub local-deep : {A : Type 0} (a : Text → ℕ) → Local {A = A} all a deep
 local-deep a = record { ends = λ m p e. e; agrees = λ u p. same refl }
 
--- the same rule in other words
-pub local-as : {A : Type 0} (a b : Text → ℕ) (rule other : State → Outcome A) → ((p : State) → other p ≡ rule p) → Local a b rule → Local a b other
-local-as a b rule other e h = record {
-  ends = λ m p f. rw (e p) (h.ends m p f);
-  agrees = λ u p. rw (e p, e (longer u p)) (h.agrees u p);
-}
-
 -- ---- characters and blanks
 
 ends-if : {A : Type 0} (b : Text → ℕ) (m : ℕ) (on : Bool) (o v : Outcome A) → Ends b m o → Ends b m v → Ends b m (if on then o else v)

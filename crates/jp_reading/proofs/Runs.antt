@@ -5,9 +5,8 @@ use Rattle.jp_reading.specs.Forms.{◌⌢◌, One, AllPassing, Each}
 use Rattle.jp_reading.specs.Outcome.{State, took, head, first_of, passes, take_if, each}
 use Rattle.jp_reading.specs.Numbers.{is_digit, Digits, is_at_digit, digit_at, digits_at}
 use Rattle.jp_reading.proofs.Between.{Reads, Within, reads-as}
-use Rattle.jp_reading.proofs.Progress.{Progress, moves-take_if, moves-then, keeps-then, keeps-each}
+use Rattle.jp_reading.proofs.Progress.{moves-take_if}
 use Rattle.jp_reading.proofs.Again.{split, again-take_if, again-each, again-round, one-first}
-use Rattle.jp_reading.proofs.Digits.{digit_at-progress}
 
 -- a run of characters that pass
 pub record Run (ok : ℕ → Bool) (cs : Text) (s : Spans) (o : ℕ) (t : Text) : Type 0 where
@@ -53,12 +52,6 @@ again-run ok cs p q h off =
     cs p q (reads-as (Run ok cs) (Each (One ok) cs) p q (run-each ok cs) h) off tt
 
 -- ---- digits
-
-pub digits_at-progress : Progress digits_at
-unfolding digits_at
-digits_at-progress p =
-    moves-then p (digit_at p) _ (digit_at-progress p)
-    (λ d q. keeps-then q (each is_at_digit digit_at q) _ (keeps-each is_at_digit digit_at digit_at-progress q) (λ ds r. omega arith))
 
 -- where digits stand the next character is one
 pub digits-first : (ds : Text) (p q : State) → Reads (Digits ds) p q → is_at_digit p ≡ true

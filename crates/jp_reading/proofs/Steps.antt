@@ -5,7 +5,7 @@ use Rattle.std.specs.Char.{len_utf8}
 use Rattle.jp_reading.specs.Texts.{Text, Spans, is_blank}
 use Rattle.jp_reading.specs.Forms.{Blank}
 use Rattle.jp_reading.proofs.Between.{Between, Reads, between-same, between-then}
-use Rattle.jp_reading.specs.Outcome.{State, took, stuck, head, first_of, past, past_first, past_blanks, skip, passes, is, is_at, take_passing, take_if}
+use Rattle.jp_reading.specs.Outcome.{State, took, head, first_of, past, past_first, past_blanks, skip, passes, is, is_at, take_passing, take_if}
 
 take_passing-takes : (ok : ℕ → Bool) (p : State) (o : Option ℕ) (c : ℕ) → o ≡ Some c → ok c ≡ true
     → take_passing ok p o ≡ took c (past p)
@@ -14,14 +14,6 @@ take_passing-takes ok p o c e h = rw (e, h) refl
 -- a character that passes is taken
 pub take_if-takes : (ok : ℕ → Bool) (p : State) (c : ℕ) → head p ≡ Some c → ok c ≡ true → take_if ok p ≡ took c (past p)
 take_if-takes ok p c e h = take_passing-takes ok p (head p) c e h
-
-take_passing-stops : (ok : ℕ → Bool) (p : State) (o : Option ℕ) → passes ok o ≡ false → take_passing ok p o ≡ stuck p
-take_passing-stops ok p None h = refl
-take_passing-stops ok p (Some c) h = rw h refl
-
--- where none passes the rule is stuck
-pub take_if-stops : (ok : ℕ → Bool) (p : State) → passes ok (head p) ≡ false → take_if ok p ≡ stuck p
-take_if-stops ok p h = take_passing-stops ok p (head p) h
 
 -- the character that a test found
 pub head-is : (c : ℕ) (p : State) → is_at c p ≡ true → head p ≡ Some c
@@ -41,12 +33,6 @@ is-other ok c d passing failing =
 
 pub is_at-other : (ok : ℕ → Bool) (c d : ℕ) (p : State) → head p ≡ Some c → ok c ≡ true → ok d ≡ false → is_at d p ≡ false
 is_at-other ok c d p e passing failing = ap (passes (is d)) e ∙ is-other ok c d passing failing
-
--- the next character passes one test at most of two that exclude each other
-pub passes-apart : (ok other : ℕ → Bool) (o : Option ℕ) → ((c : ℕ) → ok c ≡ true → other c ≡ false)
-    → passes ok o ≡ true → passes other o ≡ false
-passes-apart ok other None w h = refl
-passes-apart ok other (Some c) w h = w c h
 
 past_first-way : (at : ℕ) (found : Spans) (t : Text) (c : ℕ) → first_of t ≡ Some c
     → Between (record { at = at; rest = t; found = found }) [] (c ∷ []) (past_first at found t)

@@ -2,6 +2,7 @@
 use Rattle.std.proofs.Common.{◌≡◌, ℕ, min, eqb, Bool, true, false, cond, List, [], ◌∷◌, ◌++◌, length, map, refl, sym, ap, ◌∙◌, arith}
 use Rattle.std.proofs.lemmas.Bool.{eqb-true}
 use Rattle.std.proofs.lemmas.Bool.Decides.{nat_tests}
+use Rattle.std.proofs.lemmas.List.{nil_from_length}
 use Rattle.std.proofs.lemmas.Str.{encodes-append}
 use Rattle.std.specs.List.{flat_map}
 use Rattle.std.specs.Str.{encode_utf8_all}
@@ -124,10 +125,6 @@ located (k ∷ l) s o t h =
           ∙ ap (λ x. step_text one.key ++ x) rest.is;
     }
 
-no_rest : (t : Text) → eqb (length t) 0 ≡ true → t ≡ []
-no_rest [] h = refl
-no_rest (c ∷ t) h = absurd (let none = eqb-true (length (c ∷ t)) 0 h in omega arith)
-
 -- what is taken ends with the text
 ended : (p : State) (o : Outcome Location) → IsSound (form_of rule.path) (form_of rule.path) p o
     → (l : Location) (q : State)
@@ -140,7 +137,7 @@ ended p (took m r) h l q e = way (is_end r) refl e
     way true end same =
         let is : m ≡ l = cc in
         let at : r ≡ q = cc in
-        rw (← is, ← at) (h.is, no_rest r.rest end)
+        rw (← is, ← at) (h.is, nil_from_length r.rest (eqb-true (length r.rest) 0 end))
     way false end same = cc
 ended p (stuck r) h l q e = cc
 ended p (deep r) h l q e = cc

@@ -11,10 +11,6 @@ pub data Either (P Q : Form) (s : Spans) (o : ℕ) (t : Text) : Type 0 where
   left : P s o t → Either P Q s o t
   right : Q s o t → Either P Q s o t
 
-pub either-within : (P Q R : Form) → Within P R → Within Q R → Within (Either P Q) R
-either-within P Q R f g s o t (left h) = f s o t h
-either-within P Q R f g s o t (right h) = g s o t h
-
 either-lifts : (P P' Q Q' : Form) → Within P P' → Within Q Q' → Within (Either P Q) (Either P' Q')
 either-lifts P P' Q Q' f g s o t (left h) = left (f s o t h)
 either-lifts P P' Q Q' f g s o t (right h) = right (g s o t h)
