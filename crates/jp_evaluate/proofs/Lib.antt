@@ -1,6 +1,4 @@
 pub mod Rows
-pub mod Segments
-pub mod Visits
 pub mod PathTrees
 pub mod SpelledNames
 pub mod PathSpells
@@ -10,8 +8,6 @@ pub mod Trees
 pub mod Leads
 pub mod Along
 pub mod Sizes
-pub mod Children
-pub mod Starts
-pub mod Selections
-pub mod Kept
+pub mod Choices
+pub mod Turns
 pub mod NodelistNodes
