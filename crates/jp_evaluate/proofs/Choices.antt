@@ -29,7 +29,7 @@ choice_next v ts i k t e at entry =
     ∙ ap (λ n. choice_of t e ∷ choices_from v (t ∷ drop (suc i) ts) n) next
     ∙ ap (λ us. choice_of t e ∷ choices_from v us (k + 1)) (sym rest)
 
-drop_none : {X : Type 0} (xs : List X) → drop 0 xs ≡ xs
+pub drop_none : {X : Type 0} (xs : List X) → drop 0 xs ≡ xs
 drop_none [] = refl
 drop_none (x ∷ xs) = refl
 

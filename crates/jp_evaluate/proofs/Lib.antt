@@ -5,9 +5,11 @@ pub mod PathSpells
 pub mod PathBytes
 pub mod LocationLaws
 pub mod Trees
-pub mod Leads
 pub mod Along
 pub mod Sizes
 pub mod Choices
+pub mod Reaching
+pub mod Advances
+pub mod Located
 pub mod Turns
 pub mod NodelistNodes

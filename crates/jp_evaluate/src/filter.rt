@@ -63,9 +63,16 @@ pub(crate) fn holds<'d>(
             operand_value(left, root, current),
             operand_value(right, root, current),
         )),
-        Expr::Test(subject) => match subject {
-            Subject::Query(query) => selects_some(alloc, query, root, current),
-        },
+        Expr::Test(subject) => selects_some(alloc, query_of(subject), root, current),
+    }
+}
+
+/// The query that a test asks for nodes.
+fn query_of(subject: &Subject) -> &Query
+    ensures { Subject.Query result.now ≡ subject.now }
+{
+    match subject {
+        Subject::Query(query) => query,
     }
 }
 

@@ -76,6 +76,7 @@ impl<'d> Walk<'d> {
             (λ o. pending segments.now self.old
             ≡ choice_at (reached_at [] (walk_frames self.new)) (offered segments.now o)
             ∷ pending segments.now self.new) }
+        ensures begun { self.new.first ≡ None }
         ensures smaller { IfSome result (λ o. IfSome o.test (λ e. expr_size (expr_of e.now)
             < segments_size (segment_trees (map segment_of segments.now)))) }
     {

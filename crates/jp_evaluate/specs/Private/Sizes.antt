@@ -29,7 +29,7 @@ abbrev mutual
   expr_size (all_of es) = suc (exprs_size es)
   expr_size (negation e) = suc (expr_size e)
   expr_size (comparison left op right) = 1
-  expr_size (exists q) = query_size q
+  expr_size (exists q) = suc (query_size q)
 
   pub exprs_size : ExprTrees → ℕ
   exprs_size no_exprs = 0
