@@ -11,5 +11,6 @@ pub mod Choices
 pub mod Reaching
 pub mod Advances
 pub mod Located
+pub mod Begun
 pub mod Turns
 pub mod NodelistNodes

@@ -5,6 +5,7 @@ use Rattle.std.proofs.lemmas.List.{append-nil, map-append}
 use Rattle.std.proofs.lemmas.Grind.{flat_map-append}
 use Rattle.std.proofs.lemmas.List.Elements.{All-append, All-cons, All-filter, All-head, All-map, All-nil, All-tail, All-weaker}
 use Rattle.jp_document.proofs.ChildValues.{value_at-step}
+use Rattle.jp_document.specs.ChildNodes.{standing}
 use Rattle.jp_document.specs.Location.{Key, Location, held, value_at}
 use Rattle.jp_document.specs.Node.{told_entry}
 use Rattle.jp_document.specs.Value.{IsDocumentValue, Value}
@@ -17,6 +18,7 @@ use Rattle.jp_select.specs.Selectors.{chosen}
 use Rattle.jp_select.specs.Subtree.{beyond, nodes_in, subtree}
 use Rattle.jp_evaluate.specs.Nodelist.{all_hold, any_holds, has_node, holds, nodelist_at, operand_value, result, segment_result, selected, selection, start_of, visited}
 use Rattle.jp_evaluate.specs.Private.Reached.{Reached, all_true, any_true, begins, further, is_reached, leads, reaches, segment_reaches, side, taken, takes, truth, visits}
+use Rattle.jp_evaluate.specs.Rest.{as_shown}
 use Rattle.jp_evaluate.proofs.Along.{StandsAt, along}
 use Rattle.jp_evaluate.proofs.Reaching.{flat_map-flat_map}
 
@@ -92,12 +94,12 @@ flat_map-at d c g f (n ∷ ns) each all =
     ap₂ (λ xs ys. xs ++ ys) (each n (All-head (Stood d c) n ns all)) (flat_map-at d c g f ns each (All-tail (Stood d c) n ns all))
     ∙ sym (map-append (at c) (f n) (flat_map f ns))
 
+singles : (ms : List Reached) → flat_map (λ n. n ∷ []) ms ≡ ms
+singles [] = refl
+singles (m ∷ ms) = ap (λ t. m ∷ t) (singles ms)
+
 visited_at : (b : Bool) (d : Value) (c : Location) (ns : List Reached) → All (Stood d c) ns → visited b d (map (at c) ns) ≡ map (at c) (flat_map (visits b) ns)
 visited_at false d c ns all = ap (map (at c)) (sym (singles ns))
-  where
-    singles : (ms : List Reached) → flat_map (visits false) ms ≡ ms
-    singles [] = refl
-    singles (m ∷ ms) = ap (λ t. m ∷ t) (singles ms)
 visited_at true d c ns all = flat_map-at d c (subtree d) (visits true) ns (λ n there. rw there (inside_at c n (nodes_in n.1))) all
 
 -- ---- singular queries
@@ -117,6 +119,25 @@ plain_selection s d c n plain takes_all there =
     chosen-candidates s d n.1 (at c n) plain there ∙ entries_at c n (candidates s n.1)
     ∙ ap (λ es. map (at c) (map (told_entry n.0) es)) (sym (those_of-all (takes s d) (candidates s n.1) takes_all))
 
+reaches_stood : (all : SegmentTrees) (d : Value) (n : Reached) → IsDocumentValue d → Stood d [] n → All (Stood d []) (reaches all d n)
+reaches_stood no_segments d n document there = All-cons (Stood d []) n [] there (All-nil (Stood d []))
+reaches_stood (segment_then (segment b ss) rest) d n document there =
+    All-flat_map (Stood d []) (Stood d []) (reaches rest d) (segment_reaches (segment b ss) d n) (λ m is. reaches_stood rest d m document is)
+    (All-flat_map (Stood d []) (Stood d []) (taken ss d) (visits b n) (λ m is. taken_stood ss d [] m document is) (visits_stood b d [] n document there))
+
+shown_at : (d : Value) (ns : List Reached) → All (Stood d []) ns → map as_shown ns ≡ map (standing d) (map (at []) ns)
+shown_at d [] all = refl
+shown_at d (n ∷ ns) all =
+    ap₂ (λ o t. (n.0, o) ∷ t) (sym (All-head (Stood d []) n ns all)) (shown_at d ns (All-tail (Stood d []) n ns all))
+
+-- from one value
+one_from : (all : SegmentTrees) (d : Value) (c : Location) (n : Reached) → result all d (at c n ∷ []) ≡ map (at c) (reaches all d n ++ [])
+    → map (at c) (reaches all d n) ≡ result all d (at c n ∷ [])
+one_from all d c n is = ap (map (at c)) (sym (append-nil (reaches all d n))) ∙ sym is
+
+one_stood : (d : Value) (c : Location) (n : Reached) → Stood d c n → All (Stood d c) (n ∷ [])
+one_stood d c n there = All-cons (Stood d c) n [] there (All-nil (Stood d c))
+
 -- ---- what a query reaches is its nodelist
 
 mutual
@@ -126,10 +147,12 @@ mutual
   truth-holds (negation e) d v c stands = ap not (truth-holds e d v c stands)
   truth-holds (comparison left op right) d v c stands = ap₂ (compared op) (side_value left d v c stands) (side_value right d v c stands)
   truth-holds (exists (query true all)) d v c stands =
-      reached_node [] (reaches all d ([], d)) ∙ ap has_node (one_result all d [] ([], d) stands.document refl)
+      reached_node [] (reaches all d ([], d)) ∙ ap has_node (one_from all d [] ([], d) (result-at all d [] (([], d) ∷ []) stands.document (one_stood d [] ([], d) refl)))
   truth-holds (exists (query false all)) d v c stands =
       reached_node c (reaches all d ([], v))
-      ∙ ap has_node (one_result all d c ([], v) stands.document (ap (value_at d) (append-nil c) ∙ stands.there) ∙ ap (λ l. result all d (l ∷ [])) (append-nil c))
+      ∙ ap has_node (one_from all d c ([], v)
+      (result-at all d c (([], v) ∷ []) stands.document (one_stood d c ([], v) (ap (value_at d) (append-nil c) ∙ stands.there)))
+      ∙ ap (λ l. result all d (l ∷ [])) (append-nil c))
 
   any-holds : (es : ExprTrees) (d v : Value) (c : Location) → StandsAt d v c → any_true es d v ≡ any_holds es d c
   any-holds no_exprs d v c stands = refl
@@ -172,12 +195,9 @@ mutual
       ∙ ap (λ ms. map (at c) (flat_map (reaches rest d) ms)) (flat_map-flat_map (taken ss d) (visits b) ns)
       ∙ ap (map (at c)) (flat_map-flat_map (reaches rest d) (segment_reaches (segment b ss) d) ns)
 
-  one_result : (all : SegmentTrees) (d : Value) (c : Location) (n : Reached) → IsDocumentValue d → Stood d c n
-      → map (at c) (reaches all d n) ≡ result all d (at c n ∷ [])
-  one_result all d c n document there =
-      ap (map (at c)) (sym (append-nil (reaches all d n)))
-      ∙ sym (result-at all d c (n ∷ []) document (All-cons (Stood d c) n [] there (All-nil (Stood d c))))
-
-  singles : (ms : List Reached) → flat_map (λ n. n ∷ []) ms ≡ ms
-  singles [] = refl
-  singles (m ∷ ms) = ap (λ t. m ∷ t) (singles ms)
+-- from the root
+pub nodelist-at : (all : SegmentTrees) (d : Value) → IsDocumentValue d
+    → map as_shown (reaches all d ([], d)) ≡ map (standing d) (result all d ([] ∷ []))
+nodelist-at all d document =
+    shown_at d (reaches all d ([], d)) (reaches_stood all d ([], d) document refl)
+    ∙ ap (map (standing d)) (one_from all d [] ([], d) (result-at all d [] (([], d) ∷ []) document (one_stood d [] ([], d) refl)))

@@ -236,7 +236,8 @@ impl<'q> Turn<'q> {
     {
         match self.selector? {
             Selector::Filter(expr) => Some(expr),
-            Selector::Name(_) | Selector::Wildcard | Selector::Index(_) | Selector::Slice(_) => None,
+            Selector::Name(_) | Selector::Wildcard | Selector::Index(_) | Selector::Slice(_) =>
+                None,
         }
     }
 }

@@ -1,0 +1,11 @@
+use Rattle.std.proofs.Common.{◌++◌, map, sym, ap, ◌∙◌}
+use Rattle.std.proofs.lemmas.List.{append-nil}
+use Rattle.jp_document.specs.ChildNodes.{shown}
+use Rattle.jp_evaluate.proofs.evaluation.evaluate.Goals as goal
+
+pub returns : goal.returns
+returns c =
+    let steps = rw c.in-None.is at c.next.ensures.steps in
+    let end = steps.1 c.loop-next.invariant.working in
+    let done = map shown c.loop-next.selected.items in
+    sym (append-nil done) ∙ ap (λ t. done ++ t) (sym end.0) ∙ c.loop-next.invariant.all
