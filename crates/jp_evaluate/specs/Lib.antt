@@ -1,3 +1,4 @@
 pub mod Laws
 pub mod Nodelist
-pub mod Search
+pub mod Private
+pub mod Rest

@@ -1,14 +1,34 @@
-//! The evaluation of a query, segment by segment.
-ghost use Rattle.std.specs.Prelude.{IfOk};
-ghost use Rattle.jp_document.specs.ChildNodes.{AreNodes};
+//! The evaluation of a query, node by node.
+ghost use Rattle.std.specs.Prelude.{◌≡◌, IfOk, false, map};
+ghost use Rattle.jp_document.specs.ChildNodes.{AreNodes, standing};
 ghost use Rattle.jp_document.specs.Document.{document_of};
 ghost use Rattle.jp_query.specs.Tree.{query_of};
 ghost use Rattle.jp_evaluate.specs.Nodelist.{nodelist};
+ghost use Rattle.jp_evaluate.specs.Rest.{rest_of};
 
-use crate::segment::selected_by;
+use crate::each::Nodes;
+use crate::walk::Walk;
 use jp_check::Checked;
 use jp_document::{Document, Node};
 use std::alloc::{AllocError, Global};
+
+/// The nodes that a query selects in a document (RFC 9535 section 2.1.2), to be taken one by one in the nodelist's
+/// order; a node that is selected twice is given twice. It takes no memory before the first is asked for, and then
+/// what it holds follows the depth of the document and the query. The nodes borrow from the document.
+pub fn nodes<'d, 'q>(alloc: Global, document: &'d Document, query: &'q Checked) -> Nodes<'d, 'q>
+    ensures working { result.failed ≡ false }
+    ensures nodes { rest_of result ≡ map (standing (document_of document.now))
+        (nodelist (query_of query.now) (document_of document.now)) }
+{
+    let root = document.value();
+    Nodes {
+        alloc,
+        root,
+        segments: &query.query().segments,
+        walk: Walk::from(alloc, root),
+        failed: false,
+    }
+}
 
 /// The nodes that a query selects in a document (RFC 9535 section 2.1.2), in the nodelist's order; a node that is
 /// selected twice stands there twice. They borrow from the document and copy nothing of it.
@@ -20,11 +40,9 @@ pub fn evaluate<'d>(
     ensures { IfOk result (λ nodes. AreNodes (document_of document.now) nodes.items
         (nodelist (query_of query.now) (document_of document.now))) }
 {
-    let query = query.query();
-    let mut nodes = Vec::new(alloc);
-    nodes.push(document.root(alloc))?;
-    for segment in &query.segments {
-        nodes = selected_by(alloc, segment, document.json(), &nodes)?;
+    let mut selected = Vec::new(alloc);
+    for next in nodes(alloc, document, query) {
+        selected.push(next?)?;
     }
-    Ok(nodes)
+    Ok(selected)
 }

@@ -11,13 +11,15 @@
 //! read as a query, selects that node alone, a query selects nodes of the document alone, and a singular one at most one.
 #![tactic(auto)]
 
+mod each;
 mod evaluation;
 mod filter;
 pub mod laws;
 mod operand;
-mod segment;
 mod singular;
 #[cfg(test)]
 mod tests;
+mod walk;
 
-pub use evaluation::evaluate;
+pub use each::Nodes;
+pub use evaluation::{evaluate, nodes};

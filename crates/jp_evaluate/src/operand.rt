@@ -1,13 +1,13 @@
 //! The sides of comparisons (RFC 9535 section 2.3.5.2.2).
 ghost use Rattle.std.specs.Prelude.{◌≡◌};
-ghost use Rattle.jp_document.specs.Value.{value_of};
+ghost use Rattle.jp_document.specs.DocumentValue.{lent_value};
 ghost use Rattle.jp_query.specs.Tree.{literal_of, operand_of};
 ghost use Rattle.jp_select.specs.Comparable.{comparable_of};
-ghost use Rattle.jp_evaluate.specs.Nodelist.{literal_value, operand_value};
-ghost use Rattle.jp_evaluate.specs.Search.{Wherever};
+ghost use Rattle.jp_evaluate.specs.Nodelist.{literal_value};
+ghost use Rattle.jp_evaluate.specs.Private.Reached.{side};
 
 use crate::singular::node_value;
-use jp_document::Json;
+use jp_document::DocumentValue;
 use jp_query::{Literal, Numeral, Operand};
 use jp_select::Comparable;
 
@@ -15,15 +15,18 @@ use jp_select::Comparable;
 /// no memory, and copies nothing.
 pub(crate) fn operand_value<'a>(
     operand: &'a Operand,
-    root: &'a Json,
-    current: &'a Json,
+    root: DocumentValue<'a>,
+    current: DocumentValue<'a>,
 ) -> Comparable<'a>
-    ensures { Wherever (value_of root.now) (value_of current.now) (λ c.
-        comparable_of result ≡ operand_value (operand_of operand.now) (value_of root.now) c) }
+    ensures { comparable_of result
+        ≡ side (operand_of operand.now) (lent_value root.entry) (lent_value current.entry) }
 {
     match operand {
         Operand::Literal(literal) => literal_value(literal),
-        Operand::Query(query) => Comparable::of(node_value(query, root, current)),
+        Operand::Query(query) => match node_value(query, root, current) {
+            Some(value) => Comparable::of(Some(value.json())),
+            None => Comparable::Nothing,
+        },
     }
 }
 

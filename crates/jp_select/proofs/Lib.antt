@@ -1,10 +1,14 @@
+pub mod Choices
+pub mod Chosen
 pub mod EqualValues
 pub mod Locations
 pub mod Rising
 pub mod Rows
 pub mod Sameness
+pub mod Selecting
 pub mod Selections
 pub mod SliceLaws
+pub mod SliceItems
 pub mod Slices
 pub mod TextOrder
 pub mod Walks

@@ -1,7 +1,7 @@
 -- How a walk goes on: by frames, child by child.
 use Rattle.std.proofs.Common.{◌≡◌, ℕ, zero, suc, ◌+◌, List, [], ◌∷◌, ◌++◌, length, map, drop, Option, Some, None, refl, sym, ap, ap₂, ◌∙◌, append_assoc, arith}
 use Rattle.std.specs.List.{flat_map, slice_get}
-use Rattle.std.specs.Option.{option_map, IfNone}
+use Rattle.std.specs.Option.{option_map}
 use Rattle.std.proofs.lemmas.List.{append-nil, map-append}
 use Rattle.std.proofs.lemmas.Option.{same_Some}
 use Rattle.jp_document.specs.ChildNodes.{shown}
@@ -9,7 +9,7 @@ use Rattle.jp_document.specs.Location.{Key, named, nth, Location, items_from, me
 use Rattle.jp_document.specs.Node.{Located, told, told_entry, told_children}
 use Rattle.jp_document.specs.Value.{Value, null, boolean, whole, text, list, object, Items, no_items, item, Members, no_members, member, value_of}
 use Rattle.jp_select.specs.Subtree.{after, nodes_in, nodes_in_items, nodes_in_members}
-use Rattle.jp_select.specs.Walk.{Place, place_beyond, places_in, places_from, given_by, begun_by, Yields}
+use Rattle.jp_select.specs.Walk.{Place, place_beyond, places_in, places_from, given_by, begun_by}
 use Rattle.jp_select.specs.declared.descent.Frame.{Frame}
 
 -- ---- a value and its children
@@ -45,12 +45,12 @@ places-node n = places-children n.location (value_of n.value)
 
 -- ---- frames
 
-drop_at : {X : Type 0} (xs : List X) (i : ℕ) (x : X) → slice_get xs i ≡ Some x → drop i xs ≡ x ∷ drop (suc i) xs
+pub drop_at : {X : Type 0} (xs : List X) (i : ℕ) (x : X) → slice_get xs i ≡ Some x → drop i xs ≡ x ∷ drop (suc i) xs
 drop_at [] i x is = cc
 drop_at (y ∷ ys) zero x is = ap (λ z. z ∷ ys) (same_Some y x is)
 drop_at (y ∷ ys) (suc i) x is = drop_at ys i x is
 
-drop_past : {X : Type 0} (xs : List X) (i : ℕ) → slice_get xs i ≡ None → drop i xs ≡ []
+pub drop_past : {X : Type 0} (xs : List X) (i : ℕ) → slice_get xs i ≡ None → drop i xs ≡ []
 drop_past [] zero is = refl
 drop_past [] (suc i) is = refl
 drop_past (y ∷ ys) zero is = cc
@@ -116,6 +116,5 @@ frame_ends f frames popped fr o pop none held =
     ap (λ t. begun_by f ++ t) (sym (ap given_by pop ∙ given-push popped fr ∙ ap (λ t. t ++ given_by popped) (places-end fr.node fr.next at)))
 
 -- at the end all has been given
-pub all_given : (done all rest new : List Place) (o : Option Located) → done ++ rest ≡ all → o ≡ None → Yields rest o new → IfNone o (new ≡ []) → done ≡ all
-all_given done all rest new None is none gives end = sym (append-nil done) ∙ ap (λ t. done ++ t) (sym (gives ∙ end)) ∙ is
-all_given done all rest new (Some n) is none gives end = absurd (cc)
+pub all_given : (done all rest : List Place) → done ++ rest ≡ all → rest ≡ [] → done ≡ all
+all_given done all rest is end = sym (append-nil done) ∙ ap (λ t. done ++ t) (sym end) ∙ is

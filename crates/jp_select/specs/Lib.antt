@@ -1,3 +1,4 @@
+pub mod Candidates
 pub mod Subtree
 pub mod Comparable
 pub mod Comparison

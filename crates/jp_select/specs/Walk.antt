@@ -1,6 +1,7 @@
 -- What a walk over a node and its descendants still has to give.
-use Rattle.std.specs.Prelude.{◌≡◌, ℕ, List, [], ◌∷◌, ◌++◌, Option, Some, map, drop, option_to_list}
+use Rattle.std.specs.Prelude.{◌≡◌, ℕ, List, [], ◌∷◌, ◌++◌, true, false, Option, Some, None, Result, Ok, Err, map, drop, option_to_list}
 use Rattle.std.specs.List.{flat_map}
+use Rattle.std.specs.declared.alloc.AllocError.{AllocError}
 use Rattle.jp_document.specs.ChildNodes.{shown}
 use Rattle.jp_document.specs.Location.{Location}
 use Rattle.jp_document.specs.Node.{Located, told, told_children}
@@ -41,3 +42,11 @@ rest_of w = begun_by w.first ++ given_by w.frames.items
 -- a step from one rest to the next gives a node, or none
 abbrev pub Yields : List Place → Option Located → List Place → Type 0
 Yields before o rest = (before ≡ map shown (option_to_list o) ++ rest)
+
+-- what one call of `next` does: a node is the first of those left, an error ends the walk for good, and where it gives
+-- none without a fault there were none left
+abbrev pub GivesNext : Descent → Option (Result Located AllocError) → Descent → Type 0
+GivesNext v (Some (Ok n)) w =
+    (v.failed ≡ false) × (w.failed ≡ false) × (rest_of v ≡ shown n ∷ rest_of w)
+GivesNext v (Some (Err e)) w = (v.failed ≡ false) × (w.failed ≡ true)
+GivesNext v None w = (w.failed ≡ v.failed) × (v.failed ≡ false → (rest_of v ≡ []) × (rest_of w ≡ []))

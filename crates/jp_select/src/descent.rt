@@ -1,10 +1,11 @@
 //! The walk over a node and its descendants in document order (RFC 9535 section 2.5.2.2).
-ghost use Rattle.std.specs.Prelude.{◌≡◌, [], ◌++◌, map, IfOk, IfNone, OnOk};
+ghost use Rattle.std.specs.Prelude.{◌≡◌, ◌+◌, [], ◌++◌, false, length, map, if◌then◌else◌, IfOk, IfNone, OnOk};
+ghost use Rattle.std.specs.Iterator.{at_most};
 ghost use Rattle.jp_document.specs.ChildNodes.{AreNodes, standing};
 ghost use Rattle.jp_document.specs.Node.{told, StandsIn};
 ghost use Rattle.jp_document.specs.Value.{Value};
 ghost use Rattle.jp_select.specs.Subtree.{subtree};
-ghost use Rattle.jp_select.specs.Walk.{places_in, places_from, given_by, rest_of, Yields};
+ghost use Rattle.jp_select.specs.Walk.{places_in, places_from, given_by, rest_of, GivesNext, Yields};
 
 use jp_document::{Node, child_count, nth_child};
 use std::alloc::{AllocError, Global};
@@ -16,9 +17,8 @@ pub fn descend<'d>(alloc: Global, node: Node<'d>) -> Result<Vec<Node<'d>>, Alloc
         → IfOk result (λ nodes. AreNodes d nodes.items (subtree d node.entry.location)) }
 {
     let mut nodes = Vec::new(alloc);
-    let mut descent = descend_each(alloc, node);
-    while let Some(next) = descent.advance()? {
-        nodes.push(next)?;
+    for next in descend_each(alloc, node) {
+        nodes.push(next?)?;
     }
     Ok(nodes)
 }
@@ -26,6 +26,7 @@ pub fn descend<'d>(alloc: Global, node: Node<'d>) -> Result<Vec<Node<'d>>, Alloc
 /// A walk over a node and its descendants in document order, to be taken node by node. It takes no memory
 /// before the first node is asked for, and its own memory follows the depth of the walk.
 pub fn descend_each<'d>(alloc: Global, node: Node<'d>) -> Descent<'d>
+    ensures working { result.failed ≡ false }
     ensures values { rest_of result ≡ places_in (told node.entry) }
     ensures nodes { (d : Value) → StandsIn d node.entry
         → rest_of result ≡ map (standing d) (subtree d node.entry.location) }
@@ -34,6 +35,7 @@ pub fn descend_each<'d>(alloc: Global, node: Node<'d>) -> Descent<'d>
         alloc,
         first: Some(node),
         frames: Vec::new(alloc),
+        failed: false,
     }
 }
 
@@ -51,13 +53,22 @@ pub struct Descent<'d> {
     alloc: Global,
     first: Option<Node<'d>>,
     frames: Vec<Frame<'d>>,
+    failed: bool,
 }
 
 impl<'d> Descent<'d> {
+    /// Whether a node could not be given for want of memory. No more are given then.
+    pub fn failed(&self) -> bool
+        ensures { result ≡ self.now.failed }
+    {
+        self.failed
+    }
+
     /// The next node, None at the end. After an error nothing is said of what is left.
-    pub fn advance(&mut self) -> Result<Option<Node<'d>>, AllocError>
+    fn advance(&mut self) -> Result<Option<Node<'d>>, AllocError>
         ensures gives { IfOk result (λ o. Yields (rest_of self.old) o (rest_of self.new)) }
         ensures end { IfOk result (λ o. IfNone o (rest_of self.new ≡ [])) }
+        ensures failed { self.new.failed ≡ self.old.failed }
     {
         if let Some(node) = self.first.take() {
             self.enter(&node)?;
@@ -77,6 +88,7 @@ impl<'d> Descent<'d> {
     /// Puts the children of a node before all that was still to be given.
     fn enter(&mut self, node: &Node<'d>) -> Result<(), AllocError>
         ensures first { self.new.first ≡ self.old.first }
+        ensures failed { self.new.failed ≡ self.old.failed }
         ensures frames { OnOk result (given_by self.new.frames.items
             ≡ places_from node.now 0 ++ given_by self.old.frames.items) }
     {
@@ -85,5 +97,26 @@ impl<'d> Descent<'d> {
             self.frames.push(Frame { node, next: 0 })?;
         }
         Ok(())
+    }
+}
+
+impl<'d> Iterator for Descent<'d> {
+    type Item = Result<Node<'d>, AllocError>;
+
+    ghost next_gives = { GivesNext };
+
+    ghost remaining = { λ descent. at_most (if descent.failed then 0 else length (rest_of descent) + 1) };
+
+    fn next(&mut self) -> Option<Result<Node<'d>, AllocError>> {
+        if self.failed {
+            return None;
+        }
+        match self.advance() {
+            Ok(next) => Some(Ok(next?)),
+            Err(error) => {
+                self.failed = true;
+                Some(Err(error))
+            }
+        }
     }
 }

@@ -15,6 +15,7 @@
 //! or Nothing, and takes no memory.
 #![tactic(auto)]
 
+mod candidates;
 mod comparable;
 mod comparison;
 #[cfg(test)]
@@ -26,7 +27,8 @@ mod slice;
 #[cfg(test)]
 mod tests;
 
+pub use candidates::{candidate, single};
 pub use comparable::Comparable;
 pub use comparison::{compare, equal, less};
 pub use descent::{Descent, descend, descend_each};
-pub use selector::{item_of, select_plain, slice_items};
+pub use selector::select_plain;

@@ -1,71 +1,70 @@
 //! Array slices (RFC 9535 section 2.3.4.2): which items of a list they select.
-ghost use Rattle.std.specs.Prelude.{◌≡◌, ◌-◌, ◌<◌, ◌≤◌, ◌^◌, pos, negsuc, ◌+ℤ◌, ◌-ℤ◌, ◌≤ℤ◌, IfOk};
+ghost use Rattle.std.specs.Prelude.{◌≡◌, ◌-◌, ◌<◌, ◌≤◌, pos, negsuc, ◌+ℤ◌, ◌-ℤ◌, ◌≤ℤ◌, OnSome, slice_get};
+ghost use Rattle.jp_select.specs.Selectors.{bound_of, indexes_chosen, whole_of};
 ghost use Rattle.jp_select.specs.Slice.{normalized, held_within, slice_of};
 
-use std::alloc::{AllocError, Global};
+use jp_query::{Numeral, Slice};
 
-/// The indexes of the items that a slice of a list of this length selects, in its order. An omitted bound
-/// is None.
-pub(crate) fn slice_indexes(
-    alloc: Global,
-    length: u64,
-    start: Option<i128>,
-    end: Option<i128>,
-    step: i128,
-) -> Result<Vec<u64>, AllocError>
-    ensures { IfOk result (λ indexes. indexes.items ≡ slice_of length start end step) }
+/// The index of the item at this position, from 0, among those that a slice of a list of this length
+/// selects, in its order; None where there are no more. A number that is not whole, or beyond 64
+/// bits, selects nothing.
+pub(crate) fn slice_index(length: u64, slice: Slice, position: u64) -> Option<u64>
+    ensures index { result ≡ slice_get (indexes_chosen slice length) position }
+    ensures more { OnSome result (position < length) }
 {
+    let (start, end, step) = (bound(slice.start)?, bound(slice.end)?, whole(slice.step)?);
     if step > 0 {
-        rising(alloc, length, start, end, step.unsigned_abs())
+        rising(length, start, end, step.unsigned_abs(), position)
     } else if step < 0 {
-        falling(alloc, length, start, end, step.unsigned_abs())
+        falling(length, start, end, step.unsigned_abs(), position)
     } else {
-        Ok(Vec::new(alloc))
+        None
     }
 }
 
 /// What a slice with a positive step selects: from the lower bound up, below the upper one.
 fn rising(
-    alloc: Global,
     length: u64,
     start: Option<i128>,
     end: Option<i128>,
     step: u128,
-) -> Result<Vec<u64>, AllocError>
-    requires positive { 0 < step }
-    requires size { step ≤ 2 ^ 127 }
-    ensures { IfOk result (λ indexes. indexes.items ≡ slice_of length start end (pos step)) }
+    position: u64,
+) -> Option<u64>
+    requires { 0 < step }
+    ensures index { result ≡ slice_get (slice_of length start end (pos step)) position }
+    ensures more { OnSome result (position < length) }
 {
-    let mut indexes = Vec::new(alloc);
-    let mut index = from_zero(length, start.unwrap_or(0));
+    let lower = from_zero(length, start.unwrap_or(0));
     let upper = from_zero(length, end.unwrap_or(length as i128));
-    while index < upper {
-        indexes.push(index as u64)?;
-        index += step;
+    let index = lower.saturating_add(step.saturating_mul(position as u128));
+    if index < upper {
+        Some(index as u64)
+    } else {
+        None
     }
-    Ok(indexes)
 }
 
 /// What a slice with a negative step selects: from the upper bound down, above the lower one. Both are held
 /// one higher here, so that they are no less than 0.
 fn falling(
-    alloc: Global,
     length: u64,
     start: Option<i128>,
     end: Option<i128>,
     size: u128,
-) -> Result<Vec<u64>, AllocError>
-    requires positive { 0 < size }
-    ensures { IfOk result (λ indexes. indexes.items ≡ slice_of length start end (negsuc (size - 1))) }
+    position: u64,
+) -> Option<u64>
+    requires { 0 < size }
+    ensures index { result ≡ slice_get (slice_of length start end (negsuc (size - 1))) position }
+    ensures more { OnSome result (position < length) }
 {
-    let mut indexes = Vec::new(alloc);
-    let mut above = one_higher(length, start.unwrap_or(length as i128 - 1));
+    let upper = one_higher(length, start.unwrap_or(length as i128 - 1));
     let lower = one_higher(length, end.unwrap_or(-(length as i128) - 1));
-    while lower < above {
-        indexes.push((above - 1) as u64)?;
-        above = above.saturating_sub(size);
+    let above = upper.saturating_sub(size.saturating_mul(position as u128));
+    if lower < above {
+        Some((above - 1) as u64)
+    } else {
+        None
     }
-    Ok(indexes)
 }
 
 /// A bound of a slice whose step is positive, held within 0 and the length.
@@ -101,5 +100,25 @@ fn normalized(length: u64, number: i128) -> i128
         length as i128 + number
     } else {
         number
+    }
+}
+
+/// A bound of a slice, None where it is a number that is not whole or out of range.
+fn bound(number: Option<Numeral>) -> Option<Option<i128>>
+    ensures { result ≡ bound_of number }
+{
+    match number {
+        None => Some(None),
+        Some(number) => Some(Some(whole(number)?)),
+    }
+}
+
+/// The whole number that a numeral is, None of one that is not whole or out of range.
+pub(crate) fn whole(number: Numeral) -> Option<i128>
+    ensures { result ≡ whole_of number }
+{
+    match number {
+        Numeral::Whole(number) => Some(number),
+        Numeral::Beyond | Numeral::Fraction => None,
     }
 }

@@ -39,8 +39,8 @@ fn descendants(rt: HostRuntime) -> Result<(), Fail> {
     let alloc = rt.alloc();
     let document = Document::read(alloc, NESTED)?;
     let mut walk = descend_each(alloc, document.root(alloc));
-    let root = walk.advance()?.ok_or("no node")?;
-    let first = walk.advance()?.ok_or("no node")?;
+    let root = walk.next().ok_or("no node")??;
+    let first = walk.next().ok_or("no node")??;
     assert_eq!(rt; path_text(alloc, root.location())?.as_str(), "$");
     assert_eq!(rt; path_text(alloc, first.location())?.as_str(), "$['a']");
     let nodes = descend(alloc, document.root(alloc))?;

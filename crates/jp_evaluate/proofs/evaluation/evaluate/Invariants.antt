@@ -1,14 +1,15 @@
-use Rattle.std.proofs.Common.{◌≡◌, drop, map}
-use Rattle.jp_document.specs.ChildNodes.{AreNodes}
+use Rattle.std.proofs.Common.{◌≡◌, ◌++◌, false, map}
+use Rattle.jp_document.specs.ChildNodes.{shown, standing}
 use Rattle.jp_document.specs.Document.{document_of}
-use Rattle.jp_query.specs.Tree.{query_of, segment_of, segments}
-use Rattle.jp_evaluate.specs.Nodelist.{location_of, nodelist, result}
+use Rattle.jp_query.specs.Tree.{query_of}
+use Rattle.jp_evaluate.specs.Nodelist.{nodelist}
+use Rattle.jp_evaluate.specs.Rest.{rest_of}
 use Rattle.jp_evaluate.proofs.evaluation.evaluate.Given as goal
 
--- the nodes are the document's own, and the rest of the segments make the nodelist of them
-abbrev pub invariant-loop-segment : goal.invariant-loop-segment
-invariant-loop-segment l = record {
-  own : AreNodes (document_of l.document) l.nodes.items (map location_of l.nodes.items);
-  whole : result (segments (map segment_of (drop l.segment-index l.segment-items))) (document_of l.document) (map location_of l.nodes.items)
-      ≡ nodelist (query_of l.query) (document_of l.document);
+-- the nodes so far and those to come are the nodelist
+abbrev pub invariant-loop-next : goal.invariant-loop-next
+invariant-loop-next l = record {
+  working : l.next-iterator.failed ≡ false;
+  all : map shown l.selected.items ++ rest_of l.next-iterator
+      ≡ map (standing (document_of l.document)) (nodelist (query_of l.query) (document_of l.document));
 }

@@ -8,6 +8,8 @@ use Rattle.jp_select.proofs.descent.descend.Goals as goal
 
 pub returns : goal.returns
 returns c = λ d stands.
-    all_given (map shown c.loop-descent.nodes.items) _ (rest_of c.loop-descent.descent) (rest_of c.advance.new.self) c.in_ok-next.field-0
-    c.loop-descent.invariant c.in_default.is c.in_ok-next.ensures.gives c.in_ok-next.ensures.end
-    ∙ sym (subtree-places d (value_of c.args.node.value) c.args.node.location stands.document stands.there)
+    let n = c.args.node in
+    let steps = rw c.in-None.is at c.next.ensures.steps in
+    let end = steps.1 c.loop-next.invariant.working in
+    all_given (map shown c.loop-next.nodes.items) _ (rest_of c.loop-next.next-iterator) c.loop-next.invariant.all end.0
+    ∙ sym (subtree-places d (value_of n.value) n.location stands.document stands.there)

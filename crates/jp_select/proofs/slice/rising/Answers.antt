@@ -1,44 +1,60 @@
-use Rattle.std.proofs.Common.{◌≡◌, ◌+◌, [], ◌∷◌, ◌++◌, pos, unwrap_or, append_assoc, sym, ap, ◌∙◌, arith, rules, to_z, of_z}
-use Rattle.std.specs.List.{filter}
+use Rattle.std.proofs.Common.{◌≡◌, ◌+◌, ◌*◌, ◌<◌, ◌≤◌, ◌^◌, ℤ, pos, Some, unwrap_or, sym, ap, ◌∙◌, arith, rules, to_z, of_z}
 use Rattle.std.specs.Int.{w128}
+use Rattle.std.specs.List.{slice_get}
 use Rattle.std.proofs.lemmas.Int.{ints, to_z-of_z}
-use Rattle.std.proofs.lemmas.List.{append-nil}
-use Rattle.jp_select.specs.Slice.{held_within, indexes, is_rising, normalized, rising_upper}
-use Rattle.jp_select.proofs.Slices.{rising-next, rising-end, rising-starts}
+use Rattle.jp_select.specs.Slice.{held_within, normalized, rising_lower, rising_upper}
+use Rattle.jp_select.proofs.Slices.{rising-starts}
+use Rattle.jp_select.proofs.SliceItems.{position_within, rising-at, rising-past, sum_past, sum_within}
 use Rattle.jp_select.proofs.slice.rising.Goals as goal
 
-pub loop-index-preserved : goal.loop-index-preserved
-loop-index-preserved c =
-    let done = c.loop-index.indexes.items in
-    let i = c.loop-index.index in
-    let upper = c.from_zero-upper.result in
-    let rest = filter (is_rising (pos (i + c.args.step)) (pos upper) c.args.step) (indexes c.args.length) in
-    record {
-      within = c.loop-index.invariant.within;
-      all =
-          ap (λ t. t ++ rest) c.in_ok-push.ensures.items ∙ append_assoc done (i ∷ []) rest
-          ∙ ap (λ t. done ++ t) (sym (rising-next i upper c.args.step c.args.length c.loop-index-test.true c.loop-index.invariant.within c.requires.positive))
-          ∙ c.loop-index.invariant.all;
-    }
-
-pub loop-index-init : goal.loop-index-init
-loop-index-init c =
-    let end : to_z w128 (of_z w128 c.unwrap_or-2.result) ≡ unwrap_or c.args.end (pos c.args.length) =
+pub returns-then-index-upper-clause-index : goal.returns-then-index-upper-clause-index
+returns-then-index-upper-clause-index c =
+    let n = c.args.length in
+    let p = c.args.position in
+    let s = c.args.step in
+    let i = c.from_zero-lower.result in
+    let u = c.from_zero-upper.result in
+    let end : to_z w128 (of_z w128 c.unwrap_or-2.result) ≡ unwrap_or c.args.end (pos n) =
     to_z-of_z w128 c.unwrap_or-2.result (search rules) ∙ c.unwrap_or-2.ensures ∙ ap (unwrap_or c.args.end) (omega (arith, ints)) in
-    let start : to_z w128 (of_z w128 c.unwrap_or.result) ≡ unwrap_or c.args.start (pos 0) = to_z-of_z w128 c.unwrap_or.result (search rules) ∙ c.unwrap_or.ensures in
-    let upper : pos c.from_zero-upper.result ≡ rising_upper c.args.length c.args.end =
-    c.from_zero-upper.ensures.bound ∙ ap (λ z. held_within (pos 0) (pos c.args.length) (normalized c.args.length z)) end in
-    let lower = c.from_zero-index.ensures.bound ∙ ap (λ z. held_within (pos 0) (pos c.args.length) (normalized c.args.length z)) start in
-    record {
-      within = c.from_zero-upper.ensures.within;
-      all =
-          ap (λ t. t ++ filter (is_rising (pos c.from_zero-index.result) (pos c.from_zero-upper.result) c.args.step) (indexes c.args.length)) c.new-indexes.ensures.items
-          ∙ rising-starts c.args.length c.args.start c.args.end c.args.step c.from_zero-index.result c.from_zero-upper.result c.requires.positive lower upper;
-    }
+    let start : to_z w128 (of_z w128 c.unwrap_or.result) ≡ unwrap_or c.args.start (pos 0) =
+    to_z-of_z w128 c.unwrap_or.result (search rules) ∙ c.unwrap_or.ensures in
+    let bound = λ (z : ℤ). held_within (pos 0) (pos n) (normalized n z) in
+    let upper : pos u ≡ rising_upper n c.args.end = c.from_zero-upper.ensures.bound ∙ ap bound end in
+    let lower : pos i ≡ rising_lower n c.args.start = c.from_zero-lower.ensures.bound ∙ ap bound start in
+    let small : u < 2 ^ 64 = omega arith in
+    let at : c.saturating_add-index.result ≡ i + s * p =
+    sum_within i u (s * p) c.saturating_mul.result c.saturating_add-index.result small c.saturating_mul.ensures c.saturating_add-index.ensures c.if-index-upper.true in
+    ap Some at ∙ sym (rising-at p i u s n (omega arith) c.from_zero-upper.ensures.within c.requires)
+    ∙ ap (λ is. slice_get is p) (rising-starts n c.args.start c.args.end s i u c.requires lower upper)
 
-pub returns : goal.returns
-returns c =
-    let done = c.loop-index.indexes.items in
-    sym (append-nil done)
-    ∙ ap (λ t. done ++ t) (sym (rising-end c.loop-index.index c.from_zero-upper.result c.args.step c.args.length c.loop-index-test.false))
-    ∙ c.loop-index.invariant.all
+pub returns-then-index-upper-clause-more : goal.returns-then-index-upper-clause-more
+returns-then-index-upper-clause-more c =
+    let p = c.args.position in
+    let s = c.args.step in
+    let i = c.from_zero-lower.result in
+    let u = c.from_zero-upper.result in
+    let small : u < 2 ^ 64 = omega arith in
+    let at : c.saturating_add-index.result ≡ i + s * p =
+    sum_within i u (s * p) c.saturating_mul.result c.saturating_add-index.result small c.saturating_mul.ensures c.saturating_add-index.ensures c.if-index-upper.true in
+    let more = position_within s p c.requires in
+    omega arith
+
+pub returns-else-index-upper-clause-index : goal.returns-else-index-upper-clause-index
+returns-else-index-upper-clause-index c =
+    let n = c.args.length in
+    let p = c.args.position in
+    let s = c.args.step in
+    let i = c.from_zero-lower.result in
+    let u = c.from_zero-upper.result in
+    let end : to_z w128 (of_z w128 c.unwrap_or-2.result) ≡ unwrap_or c.args.end (pos n) =
+    to_z-of_z w128 c.unwrap_or-2.result (search rules) ∙ c.unwrap_or-2.ensures ∙ ap (unwrap_or c.args.end) (omega (arith, ints)) in
+    let start : to_z w128 (of_z w128 c.unwrap_or.result) ≡ unwrap_or c.args.start (pos 0) =
+    to_z-of_z w128 c.unwrap_or.result (search rules) ∙ c.unwrap_or.ensures in
+    let bound = λ (z : ℤ). held_within (pos 0) (pos n) (normalized n z) in
+    let upper : pos u ≡ rising_upper n c.args.end = c.from_zero-upper.ensures.bound ∙ ap bound end in
+    let lower : pos i ≡ rising_lower n c.args.start = c.from_zero-lower.ensures.bound ∙ ap bound start in
+    let small : u < 2 ^ 64 = omega arith in
+    let past : u ≤ i + s * p =
+    sum_past i u (s * p) c.saturating_mul.result c.saturating_add-index.result small c.saturating_mul.ensures c.saturating_add-index.ensures c.if-index-upper.false in
+    sym (rising-past p i u s n past c.from_zero-upper.ensures.within c.requires)
+    ∙ ap (λ is. slice_get is p) (rising-starts n c.args.start c.args.end s i u c.requires lower upper)

@@ -21,4 +21,5 @@ loop-frame-preserved c = record {
   rest =
       frame_ends c.loop-frame.self.first c.loop-frame.self.frames.items c.pop.new.self.items c.in-Some-pop.frame c.in_ok-child.field-0 c.in-Some-pop.ensures.items c.in_default-2.is c.in_ok-child.ensures.held
       ∙ c.loop-frame.invariant.rest;
+  same = c.loop-frame.invariant.same;
 }

@@ -1,0 +1,100 @@
+-- The steps of a walk.
+use Rattle.std.proofs.Common.{◌≡◌, ℕ, zero, suc, ◌+◌, ◌<◌, ◌≤◌, Bool, true, false, if◌then◌else◌, List, [], ◌∷◌, ◌++◌, None, drop, length, map, slice_index_or, option_to_list, refl, ap, ap₂, sym, ◌∙◌, arith}
+use Rattle.std.specs.List.{flat_map, sum_by}
+use Rattle.std.proofs.lemmas.Grind.{flat_map-append}
+use Rattle.std.proofs.lemmas.List.Sums.{sum_by-append, sum_by-cons}
+use Rattle.jp_document.specs.DocumentValue.{lent_value}
+use Rattle.jp_document.specs.Location.{Location}
+use Rattle.jp_document.specs.Value.{Value}
+use Rattle.jp_query.specs.Tree.{no_segments, segment_of, segment_then}
+use Rattle.jp_query.specs.declared.tree.Segment.{Segment}
+use Rattle.jp_evaluate.specs.Private.Reached.{Reached, reaches}
+use Rattle.jp_evaluate.specs.Private.Walk.{Choice, choice_at, choice_reaches, choice_weight, choices_from, entered, frame_choices, frames_pending, offered, passes, pending, reached_at, reached_place, segments_left, start_choice, steps_of, turns, walk_frames, walk_reaches, walk_weight}
+use Rattle.jp_evaluate.specs.declared.walk.Offer.{Offer}
+use Rattle.jp_evaluate.specs.declared.walk.Place.{Place}
+use Rattle.jp_evaluate.specs.declared.walk.Walk.{Walk}
+use Rattle.jp_evaluate.proofs.Choices.{drop_none, pending-push}
+use Rattle.jp_evaluate.proofs.Reaching.{choice-weighs, enters, enters_less}
+use Rattle.jp_evaluate.proofs.Turns.{segments_left-end, segments_left-next}
+
+-- the offer o of the walk that was w leaves the walk v
+abbrev pub Offers : List Segment → Walk → Offer → Walk → Type 0
+Offers all w o v = pending all w ≡ choice_at (reached_at [] (walk_frames v)) (offered all o) ∷ pending all v
+
+-- ---- a choice that does not pass
+
+pub passed_over : (all : List Segment) (d : Value) (w v : Walk) (o : Offer) → Offers all w o v → passes (offered all o).test d (offered all o).value ≡ false
+    → walk_reaches all d v ≡ walk_reaches all d w
+passed_over all d w v o gives fails =
+    sym (ap (flat_map (choice_reaches d)) gives
+    ∙ ap (λ b. (if b then reaches (offered all o).left d (reached_at [] (walk_frames v) ++ (offered all o).step, (offered all o).value) else []) ++ walk_reaches all d v) fails)
+
+pub offer_less : (all : List Segment) (w v : Walk) (o : Offer) → Offers all w o v → walk_weight all v < walk_weight all w
+offer_less all w v o gives =
+    let c = choice_at (reached_at [] (walk_frames v)) (offered all o) in
+    let sum = ap (sum_by choice_weight) gives ∙ sum_by-cons choice_weight c (pending all v) in
+    let some = choice-weighs c in
+    omega arith
+
+-- ---- a choice with no segment left
+
+pub arrives : (all : List Segment) (d : Value) (w v : Walk) (o : Offer) → Offers all w o v → passes (offered all o).test d (offered all o).value ≡ true
+    → length all ≤ o.place.done → walk_reaches all d w ≡ reached_place v o.place ∷ walk_reaches all d v
+arrives all d w v o gives passed done =
+    ap (flat_map (choice_reaches d)) gives
+    ∙ ap (λ b. (if b then reaches (offered all o).left d (reached_place v o.place) else []) ++ walk_reaches all d v) passed
+    ∙ ap (λ left. reaches left d (reached_place v o.place) ++ walk_reaches all d v) (segments_left-end all o.place.done done)
+
+-- ---- a choice to go on from
+
+entered_pending : (all : List Segment) (v u : Walk) (p : Place) → v.first ≡ None → u.first ≡ v.first → walk_frames u ≡ walk_frames v ++ entered p ∷ []
+    → pending all u ≡ map (choice_at (reached_at [] (walk_frames v) ++ steps_of p.step)) (choices_from (lent_value p.value) (turns (segments_left all p.done)) 0) ++ pending all v
+entered_pending all v u p begun same frames =
+    let fs = walk_frames v in
+    ap₂ (λ o gs. map (choice_at (reached_at [] gs)) (map (start_choice all) (option_to_list o)) ++ frames_pending all [] gs) (same ∙ begun) frames
+    ∙ pending-push all [] fs (entered p)
+    ∙ ap (λ ts. map (choice_at (reached_at [] fs ++ steps_of p.step)) (choices_from (lent_value p.value) ts 0) ++ frames_pending all [] fs) (drop_none (turns (segments_left all p.done)))
+    ∙ ap (λ t. map (choice_at (reached_at [] fs ++ steps_of p.step)) (choices_from (lent_value p.value) (turns (segments_left all p.done)) 0) ++ t)
+    (ap (λ o. map (choice_at (reached_at [] fs)) (map (start_choice all) (option_to_list o)) ++ frames_pending all [] fs) (sym begun))
+
+-- the segment that is next
+abbrev pub IsThere : List Segment → ℕ → Type 0
+IsThere all i = (s : Segment) × (segments_left all i ≡ segment_then (segment_of s) (segments_left all (i + 1)))
+
+pub there : (all : List Segment) (i : ℕ) → i < length all → IsThere all i
+there [] i within = absurd (omega arith)
+there (x ∷ xs) i within = (slice_index_or (x ∷ xs) i x, segments_left-next (x ∷ xs) i (slice_index_or (x ∷ xs) i x) within (again (x ∷ xs) i x within))
+  where
+    again : (ys : List Segment) (j : ℕ) (y : Segment) → j < length ys → slice_index_or ys j y ≡ slice_index_or ys j (slice_index_or ys j y)
+    again [] j y h = absurd (omega arith)
+    again (z ∷ ys) zero y h = refl
+    again (z ∷ ys) (suc j) y h = again ys j y (omega arith)
+
+pub goes_on : (all : List Segment) (d : Value) (w v u : Walk) (o : Offer) → Offers all w o v → v.first ≡ None → passes (offered all o).test d (offered all o).value ≡ true
+    → o.place.done < length all → u.first ≡ v.first → walk_frames u ≡ walk_frames v ++ entered o.place ∷ []
+    → walk_reaches all d u ≡ walk_reaches all d w
+goes_on all d w v u o gives begun passed more same frames =
+    let p = o.place in
+    let l = reached_at [] (walk_frames v) ++ steps_of p.step in
+    let left = segments_left all p.done in
+    let next = there all p.done more in
+    let choices = map (choice_at l) (choices_from (lent_value p.value) (turns left) 0) in
+    ap (flat_map (choice_reaches d)) (entered_pending all v u p begun same frames)
+    ∙ flat_map-append (choice_reaches d) choices (pending all v)
+    ∙ ap (λ t. t ++ walk_reaches all d v) (sym (enters (segment_of next.0) (segments_left all (p.done + 1)) left d (lent_value p.value) l next.1))
+    ∙ sym (ap (flat_map (choice_reaches d)) gives ∙ ap (λ b. (if b then reaches left d (l, lent_value p.value) else []) ++ walk_reaches all d v) passed)
+
+pub goes_on_less : (all : List Segment) (w v u : Walk) (o : Offer) → Offers all w o v → v.first ≡ None
+    → o.place.done < length all → u.first ≡ v.first → walk_frames u ≡ walk_frames v ++ entered o.place ∷ []
+    → walk_weight all u < walk_weight all w
+goes_on_less all w v u o gives begun more same frames =
+    let p = o.place in
+    let l = reached_at [] (walk_frames v) ++ steps_of p.step in
+    let left = segments_left all p.done in
+    let next = there all p.done more in
+    let choices = map (choice_at l) (choices_from (lent_value p.value) (turns left) 0) in
+    let c = choice_at (reached_at [] (walk_frames v)) (offered all o) in
+    let after = ap (sum_by choice_weight) (entered_pending all v u p begun same frames) ∙ sum_by-append choice_weight choices (pending all v) in
+    let before = ap (sum_by choice_weight) gives ∙ sum_by-cons choice_weight c (pending all v) in
+    let less = enters_less (segment_of next.0) (segments_left all (p.done + 1)) left (lent_value p.value) l next.1 in
+    omega arith

@@ -1,0 +1,47 @@
+use Rattle.std.proofs.Common.{◌≡◌, ◌<◌, ◌+◌, [], ◌∷◌, drop, Some, None, length, option_map, ap, sym, ◌∙◌, arith}
+use Rattle.std.specs.List.{slice_get}
+use Rattle.std.proofs.lemmas.Option.{slice_get_within}
+use Rattle.jp_document.specs.DocumentValue.{lent_entry, lent_value}
+use Rattle.jp_select.specs.Candidates.{candidates}
+use Rattle.jp_evaluate.specs.Private.Walk.{Choice, choices_from, segments_left, turn_of, turn_selector, turns}
+use Rattle.jp_evaluate.proofs.Choices.{choice_next, turn_next, turns_end}
+use Rattle.jp_evaluate.proofs.walk.frame_offer.Goals as goal
+
+pub loop-turn-preserved : goal.loop-turn-preserved
+loop-turn-preserved c =
+    let f = c.loop-turn.frame in
+    let all = c.args.segments.now in
+    let v = lent_value f.place.value in
+    let t = turn_of all c.in-Some.turn in
+    record {
+      place = c.loop-turn.invariant.place;
+      same = turn_next v (turns (segments_left all f.place.done)) f.turn f.next t (sym c.in-Some.ensures.gives) (sym c.in_default-choice.ensures.entry)
+          ∙ c.loop-turn.invariant.same;
+    }
+
+pub loop-turn-smaller : goal.loop-turn-smaller
+loop-turn-smaller c =
+    let f = c.loop-turn.frame in
+    let all = c.args.segments.now in
+    let within : f.turn < length (turns (segments_left all f.place.done)) =
+    slice_get_within (turns (segments_left all f.place.done)) f.turn (turn_of all c.in-Some.turn) (sym c.in-Some.ensures.gives) in
+    omega arith
+
+pub returns-in-Some-choice-clause-gives : goal.returns-in-Some-choice-clause-gives
+returns-in-Some-choice-clause-gives c =
+    let f = c.loop-turn.frame in
+    let all = c.args.segments.now in
+    let v = lent_value f.place.value in
+    let t = turn_of all c.in-Some.turn in
+    let e = lent_entry (c.in-Some-choice.step, c.in-Some-choice.value) in
+    let ts = turns (segments_left all f.place.done) in
+    sym c.loop-turn.invariant.same
+    ∙ choice_next v ts f.turn f.next t e (sym c.in-Some.ensures.gives) (sym c.in-Some-choice.ensures.entry)
+    ∙ ap (λ x. (let o : Choice = record { test = x; left = t.1; step = e.0 ∷ []; value = e.1 } in o) ∷ choices_from v (drop f.turn ts) (f.next + 1)) (sym c.test.ensures.test)
+
+pub returns-clause-gives : goal.returns-clause-gives
+returns-clause-gives c =
+    let f = c.loop-turn.frame in
+    let all = c.args.segments.now in
+    sym c.loop-turn.invariant.same
+    ∙ turns_end (lent_value f.place.value) (turns (segments_left all f.place.done)) f.turn f.next (sym c.in_default.ensures.gives)

@@ -1,0 +1,4 @@
+pub mod Reached
+pub mod Singular
+pub mod Sizes
+pub mod Walk

@@ -1,0 +1,66 @@
+//! The nodes of a nodelist, to be taken one by one.
+ghost use Rattle.std.specs.Prelude.{◌≡◌, ◌+◌, ◌++◌, IfNone, IfOk, [], if◌then◌else◌, length, map, option_to_list};
+ghost use Rattle.std.specs.Iterator.{at_most};
+ghost use Rattle.jp_document.specs.ChildNodes.{shown};
+ghost use Rattle.jp_evaluate.specs.Rest.{GivesNext, rest_of};
+
+use crate::filter::advance;
+use crate::walk::Walk;
+use jp_document::{DocumentValue, Node};
+use jp_query::Segment;
+use std::alloc::{AllocError, Global};
+
+/// The nodes that a query selects, one after another. What came so far is a prefix of the nodelist.
+#[derive(Drop)]
+pub struct Nodes<'d, 'q> {
+    pub(crate) alloc: Global,
+    pub(crate) root: DocumentValue<'d>,
+    pub(crate) segments: &'q [Segment],
+    pub(crate) walk: Walk<'d>,
+    pub(crate) failed: bool,
+}
+
+impl<'d, 'q> Nodes<'d, 'q> {
+    /// Whether a node could not be given for want of memory. No more are given then.
+    pub fn failed(&self) -> bool
+        ensures { result ≡ self.now.failed }
+    {
+        self.failed
+    }
+
+    /// The next node, None at the end.
+    fn take(&mut self) -> Result<Option<Node<'d>>, AllocError>
+        ensures gives { IfOk result (λ o. rest_of self.old
+            ≡ map shown (option_to_list o) ++ rest_of self.new) }
+        ensures end { IfOk result (λ o. IfNone o (rest_of self.new ≡ [])) }
+        ensures failed { self.new.failed ≡ self.old.failed }
+    {
+        match advance(self.alloc, self.segments, self.root, &mut self.walk)? {
+            Some(place) => Ok(Some(self.walk.node_at(self.alloc, place)?)),
+            None => Ok(None),
+        }
+    }
+}
+
+impl<'d, 'q> Iterator for Nodes<'d, 'q> {
+    type Item = Result<Node<'d>, AllocError>;
+
+    ghost next_gives = { GivesNext };
+
+    ghost remaining = { λ nodes. at_most (if nodes.failed then 0 else length (rest_of nodes) + 1) };
+
+    /// The next node, or an error where there is no memory for it, after which there are no more; None at the end of the
+    /// nodelist.
+    fn next(&mut self) -> Option<Result<Node<'d>, AllocError>> {
+        if self.failed {
+            return None;
+        }
+        match self.take() {
+            Ok(next) => Some(Ok(next?)),
+            Err(error) => {
+                self.failed = true;
+                Some(Err(error))
+            }
+        }
+    }
+}

@@ -1,0 +1,243 @@
+//! The walk of a query through a document, from choice to choice (RFC 9535 section 2.1.2). It keeps a frame for each
+//! value on the way from where it begins to where it stands, and no list of nodes.
+ghost use Rattle.std.specs.Prelude.{◌≡◌, ◌<◌, ◌++◌, ◌∷◌, [], IfNone, IfOk, IfSome, MatchOption, OnOk, OnSome, map, option_map, slice_get};
+ghost use Rattle.jp_document.specs.DocumentValue.{lent_entry, lent_value};
+ghost use Rattle.jp_document.specs.Location.{key_of};
+ghost use Rattle.jp_document.specs.Value.{value_of};
+ghost use Rattle.jp_query.specs.Tree.{expr_of, segment_of, segments as segment_trees, selector_of};
+ghost use Rattle.jp_select.specs.Candidates.{candidates};
+ghost use Rattle.jp_evaluate.specs.Private.Sizes.{expr_size, segments_size, selector_size};
+ghost use Rattle.jp_evaluate.specs.Private.Walk.{choice_at, entered, frame_choices, offered, pending, reached_at, segments_left, steps_of, test_of, turn_of, turn_selector, turns, walk_frames};
+
+use jp_document::{DocumentValue, Node, Step};
+use jp_query::{Expr, Segment, Selector};
+use jp_select::candidate;
+use std::alloc::{AllocError, Global};
+
+/// A value that segments led to.
+#[derive(Clone, Copy)]
+pub(crate) struct Place<'d> {
+    /// How many segments are behind it.
+    pub(crate) done: usize,
+    /// The step to it from the frame before it, None where the walk begins.
+    step: Option<Step<'d>>,
+    pub(crate) value: DocumentValue<'d>,
+}
+
+/// A place at which a segment chooses: by which turn, and the position of the next of its choices.
+#[derive(Clone, Copy)]
+struct Frame<'d> {
+    place: Place<'d>,
+    turn: usize,
+    next: usize,
+}
+
+/// A place to go on from, where the test is passed.
+#[derive(Clone, Copy)]
+pub(crate) struct Offer<'q, 'd> {
+    pub(crate) place: Place<'d>,
+    pub(crate) test: Option<&'q Expr>,
+}
+
+/// What a segment chooses by: one of its selectors, or, in a descendant segment, all children, at which it is
+/// applied again.
+#[derive(Clone, Copy)]
+struct Turn<'q> {
+    selector: Option<&'q Selector>,
+    done: usize,
+}
+
+/// A walk under way: the value that it begins with, while that has not been offered, and the frames from there on. The last
+/// frame stands apart, so that a walk of one frame takes no memory.
+#[derive(Drop)]
+pub(crate) struct Walk<'d> {
+    first: Option<DocumentValue<'d>>,
+    top: Option<Frame<'d>>,
+    below: Vec<Frame<'d>>,
+}
+
+impl<'d> Walk<'d> {
+    /// A walk that begins with this value.
+    pub(crate) fn from(alloc: Global, value: DocumentValue<'d>) -> Walk<'d>
+        ensures first { result.first ≡ Some value.entry }
+        ensures frames { walk_frames result ≡ [] }
+    {
+        Walk {
+            first: Some(value),
+            top: None,
+            below: Vec::new(alloc),
+        }
+    }
+
+    /// The next choice, None at the end.
+    pub(crate) fn next_offer<'q>(&mut self, segments: &'q [Segment]) -> Option<Offer<'q, 'd>>
+        ensures gives { MatchOption result
+            ((pending segments.now self.old ≡ []) × (pending segments.now self.new ≡ []))
+            (λ o. pending segments.now self.old
+            ≡ choice_at (reached_at [] (walk_frames self.new)) (offered segments.now o)
+            ∷ pending segments.now self.new) }
+        ensures begun { self.new.first ≡ None }
+        ensures smaller { IfSome result (λ o. IfSome o.test (λ e. expr_size (expr_of e.now)
+            < segments_size (segment_trees (map segment_of segments.now)))) }
+    {
+        if let Some(value) = self.first.take() {
+            return Some(Offer {
+                place: Place {
+                    done: 0,
+                    step: None,
+                    value,
+                },
+                test: None,
+            });
+        }
+        while let Some(mut frame) = self.last_frame() {
+            if let Some(offer) = frame_offer(segments, &mut frame) {
+                self.top = Some(frame);
+                return Some(offer);
+            }
+            self.top = None;
+        }
+        None
+    }
+
+    /// The last frame, None where there is none.
+    fn last_frame(&mut self) -> Option<Frame<'d>>
+        ensures first { self.new.first ≡ self.old.first }
+        ensures frames { walk_frames self.new ≡ walk_frames self.old }
+        ensures last { self.new.top ≡ result }
+        ensures none { IfNone result (walk_frames self.new ≡ []) }
+    {
+        if self.top.is_none() {
+            self.top = self.below.pop();
+        }
+        self.top
+    }
+
+    /// Goes on from a place.
+    pub(crate) fn enter(&mut self, place: Place<'d>) -> Result<(), AllocError>
+        ensures first { self.new.first ≡ self.old.first }
+        ensures frames { OnOk result
+            (walk_frames self.new ≡ walk_frames self.old ++ entered place.entry ∷ []) }
+    {
+        let frame = Frame {
+            place,
+            turn: 0,
+            next: 0,
+        };
+        if let Some(frame) = self.top.replace(frame) {
+            self.below.push(frame)?;
+        }
+        Ok(())
+    }
+
+    /// The node at a place that the last frame led to.
+    pub(crate) fn node_at(&self, alloc: Global, place: Place<'d>) -> Result<Node<'d>, AllocError>
+        ensures location { IfOk result (λ n. n.location
+            ≡ reached_at [] (walk_frames self.now) ++ steps_of place.entry.step) }
+        ensures value { IfOk result (λ n. value_of n.value ≡ lent_value place.entry.value) }
+    {
+        let mut location = Vec::with_capacity(alloc, self.below.len() + 2)?;
+        for frame in &self.below {
+            push_step(&mut location, frame.place.step)?;
+        }
+        if let Some(frame) = self.top {
+            push_step(&mut location, frame.place.step)?;
+        }
+        push_step(&mut location, place.step)?;
+        Ok(Node::of(location, place.value))
+    }
+}
+
+fn push_step<'d>(location: &mut Vec<Step<'d>>, step: Option<Step<'d>>) -> Result<(), AllocError>
+    ensures { OnOk result
+        (map key_of location.new.items ≡ map key_of location.old.items ++ steps_of step.entry) }
+{
+    if let Some(step) = step {
+        location.push(step)?;
+    }
+    Ok(())
+}
+
+/// The next choice of a frame, None where it has no more.
+fn frame_offer<'q, 'd>(segments: &'q [Segment], frame: &mut Frame<'d>) -> Option<Offer<'q, 'd>>
+    ensures place { frame.new.place ≡ frame.old.place }
+    ensures gives { MatchOption result (frame_choices segments.now frame.old ≡ [])
+        (λ o. frame_choices segments.now frame.old
+        ≡ offered segments.now o ∷ frame_choices segments.now frame.new) }
+    ensures smaller { IfSome result (λ o. IfSome o.test (λ e. expr_size (expr_of e.now)
+        < segments_size (segment_trees (map segment_of segments.now)))) }
+{
+    while let Some(turn) = turn_at(segments, frame.place.done, frame.turn) {
+        if let Some((step, value)) = turn.choice(frame.place.value, frame.next) {
+            frame.next += 1;
+            return Some(Offer {
+                place: Place {
+                    done: turn.done,
+                    step: Some(step),
+                    value,
+                },
+                test: turn.test(),
+            });
+        }
+        frame.turn += 1;
+        frame.next = 0;
+    }
+    None
+}
+
+/// The turn of this number, from 0, of the segment after `done` others, None where there are no more.
+fn turn_at<'q>(segments: &'q [Segment], done: usize, number: usize) -> Option<Turn<'q>>
+    ensures gives { option_map (turn_of segments.now) result
+        ≡ slice_get (turns (segments_left segments.now done)) number }
+    ensures smaller { IfSome result (λ t. IfSome t.selector (λ s. selector_size (selector_of s.now)
+        < segments_size (segment_trees (map segment_of segments.now)))) }
+    ensures more { OnSome result (number < usize.MAX) }
+{
+    let segment = segments.get(done)?;
+    match segment.selectors.get(number) {
+        Some(selector) => Some(Turn {
+            selector: Some(selector),
+            done: done + 1,
+        }),
+        None => {
+            if segment.descendant && number == segment.selectors.len() {
+                return Some(Turn {
+                    selector: None,
+                    done,
+                });
+            }
+            None
+        }
+    }
+}
+
+impl<'q> Turn<'q> {
+    /// The value at this position among those that it chooses from.
+    fn choice<'d>(
+        self,
+        value: DocumentValue<'d>,
+        position: usize,
+    ) -> Option<(Step<'d>, DocumentValue<'d>)>
+        ensures entry { option_map lent_entry result
+            ≡ slice_get (candidates (turn_selector self.entry) (lent_value value.entry)) position }
+        ensures more { OnSome result (position < usize.MAX) }
+    {
+        match self.selector {
+            Some(selector) => candidate(selector, value, position),
+            None => value.child(position),
+        }
+    }
+
+    /// What is asked of its choices.
+    fn test(self) -> Option<&'q Expr>
+        ensures test { option_map (λ e. expr_of e.now) result ≡ test_of (turn_selector self.entry) }
+        ensures smaller { IfSome result (λ e. IfSome self.entry.selector (λ s.
+            expr_size (expr_of e.now) < selector_size (selector_of s.now))) }
+    {
+        match self.selector? {
+            Selector::Filter(expr) => Some(expr),
+            Selector::Name(_) | Selector::Wildcard | Selector::Index(_) | Selector::Slice(_) =>
+                None,
+        }
+    }
+}

@@ -1,0 +1,94 @@
+-- Slices, item by item: the index at a position, from the bounds and the step.
+use Rattle.std.proofs.Common.{◌≡◌, ℕ, zero, suc, ◌+◌, ◌-◌, ◌*◌, ◌^◌, ◌<◌, ◌≤◌, min, ℤ, pos, negsuc, Option, List, [], ◌∷◌, Some, None, reverse, ap, sym, subst, ◌∙◌, inl, inr, arith}
+use Rattle.std.specs.List.{All, filter, range_with_len, slice_get}
+use Rattle.std.proofs.lemmas.List.Elements.{All-cons, All-filter, All-append, All-head, All-nil, All-tail}
+use Rattle.std.proofs.lemmas.Bool.{cases_lt}
+use Rattle.std.proofs.lemmas.List.{reverse-append}
+use Rattle.jp_select.specs.Slice.{indexes, is_rising, slice_of}
+use Rattle.jp_select.proofs.Slices.{falls_between, falling-end, falling-next, rising-end, rising-next}
+
+-- ---- upwards
+
+pub rising-at : (p i u s n : ℕ) → i + s * p < u → u ≤ n → 0 < s
+    → slice_get (filter (is_rising (pos i) (pos u) s) (indexes n)) p ≡ Some (i + s * p)
+rising-at zero i u s n within fits positive =
+    ap (λ is. slice_get is 0) (rising-next i u s n (omega arith) fits positive) ∙ ap Some (omega arith)
+rising-at (suc p) i u s n within fits positive =
+    let same : i + s + s * p ≡ i + s * suc p = omega arith in
+    let less : i < u = omega arith in
+    ap (λ is. slice_get is (suc p)) (rising-next i u s n less fits positive)
+    ∙ rising-at p (i + s) u s n (omega arith) fits positive ∙ ap Some same
+
+pub rising-past : (p i u s n : ℕ) → u ≤ i + s * p → u ≤ n → 0 < s
+    → slice_get (filter (is_rising (pos i) (pos u) s) (indexes n)) p ≡ None
+rising-past zero i u s n past fits positive = ap (λ is. slice_get is 0) (rising-end i u s n (omega arith))
+rising-past (suc p) i u s n past fits positive = elim (cases_lt i u) [
+  | inl less ↦
+      let same : i + s + s * p ≡ i + s * suc p = omega arith in
+      ap (λ is. slice_get is (suc p)) (rising-next i u s n less fits positive)
+      ∙ rising-past p (i + s) u s n (omega arith) fits positive
+  | inr none ↦ ap (λ is. slice_get is (suc p)) (rising-end i u s n none)
+]
+
+-- ---- downwards
+
+pub falling-at : (p l a s n : ℕ) → l < a - s * p → a ≤ n → 0 < s
+    → slice_get (reverse (filter (falls_between l a s) (indexes n))) p ≡ Some (a - s * p - 1)
+falling-at zero l a s n within fits positive =
+    ap (λ is. slice_get is 0) (falling-next l a s n (omega arith) fits positive) ∙ ap Some (omega arith)
+falling-at (suc p) l a s n within fits positive =
+    let same : a - s - s * p ≡ a - s * suc p = omega arith in
+    ap (λ is. slice_get is (suc p)) (falling-next l a s n (omega arith) fits positive)
+    ∙ falling-at p l (a - s) s n (omega arith) (omega arith) positive ∙ ap (λ k. Some (k - 1)) same
+
+pub falling-past : (p l a s n : ℕ) → a - s * p ≤ l → a ≤ n → 0 < s
+    → slice_get (reverse (filter (falls_between l a s) (indexes n))) p ≡ None
+falling-past zero l a s n past fits positive = ap (λ is. slice_get is 0) (falling-end l a s n (omega arith))
+falling-past (suc p) l a s n past fits positive = elim (cases_lt l a) [
+  | inl less ↦
+      let same : a - s - s * p ≡ a - s * suc p = omega arith in
+      ap (λ is. slice_get is (suc p)) (falling-next l a s n less fits positive)
+      ∙ falling-past p l (a - s) s n (omega arith) (omega arith) positive
+  | inr none ↦ ap (λ is. slice_get is (suc p)) (falling-end l a s n none)
+]
+
+-- ---- each index is within the list
+
+within_of : (n a m : ℕ) → a + m ≤ n → All (λ i. i < n) (range_with_len a m)
+within_of n a zero fits = All-nil (λ i. i < n)
+within_of n a (suc m) fits =
+    All-cons (λ i. i < n) a (range_with_len (a + 1) m) (omega arith) (within_of n (a + 1) m (omega arith))
+
+indexes_within : (n : ℕ) → All (λ i. i < n) (indexes n)
+indexes_within n = within_of n 0 n (omega arith)
+
+All-reverse : {X : Type 0} (P : X → Type 0) (xs : List X) → All P xs → All P (reverse xs)
+All-reverse P [] all = All-nil P
+All-reverse P (x ∷ xs) all =
+    subst (All P) (sym (reverse-append (x ∷ []) xs))
+    (All-append P (reverse xs) (x ∷ []) (All-reverse P xs (All-tail P x xs all)) (All-cons P x [] (All-head P x xs all) (All-nil P)))
+
+pub slice_within : (n : ℕ) (start end : Option ℤ) (step : ℤ) → All (λ i. i < n) (slice_of n start end step)
+slice_within n start end (pos zero) = All-nil (λ i. i < n)
+slice_within n start end (pos (suc k)) = All-filter _ (λ i. i < n) (indexes n) (indexes_within n)
+slice_within n start end (negsuc k) =
+    All-reverse (λ i. i < n) _ (All-filter _ (λ i. i < n) (indexes n) (indexes_within n))
+
+-- ---- numbers that are held below 2^128
+
+-- a sum held below 2^128 that is below a small number is the sum
+pub sum_within : (i u m product index : ℕ) → u < 2 ^ 64 → product ≡ min m (2 ^ 128 - 1) → index ≡ min (i + product) (2 ^ 128 - 1)
+    → index < u → index ≡ i + m
+sum_within i u m product index small held sum less = omega arith
+
+pub sum_past : (i u m product index : ℕ) → u < 2 ^ 64 → product ≡ min m (2 ^ 128 - 1) → index ≡ min (i + product) (2 ^ 128 - 1)
+    → u ≤ index → u ≤ i + m
+sum_past i u m product index small held sum past = omega arith
+
+-- a difference with a product held below 2^128 is the difference
+pub difference_held : (a m product above : ℕ) → a < 2 ^ 64 → product ≡ min m (2 ^ 128 - 1) → above ≡ a - product → above ≡ a - m
+difference_held a m product above small held is = omega arith
+
+-- a position is no more than the product with a step
+pub position_within : (s p : ℕ) → 0 < s → p ≤ s * p
+position_within s p positive = grind arith

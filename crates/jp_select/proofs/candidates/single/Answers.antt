@@ -1,0 +1,12 @@
+use Rattle.std.proofs.Common.{sym, ap, ◌∙◌}
+use Rattle.jp_document.specs.DocumentValue.{lent_value}
+use Rattle.jp_query.specs.Tree.{selector_of}
+use Rattle.jp_select.specs.Candidates.{single}
+use Rattle.jp_select.proofs.Choices.{single-name}
+use Rattle.jp_select.proofs.candidates.single.Goals as goal
+
+pub returns-in-Name : goal.returns-in-Name
+returns-in-Name c =
+    let v = lent_value c.args.value in
+    c.member.ensures
+    ∙ sym (ap (λ s. single (selector_of s) v) c.in-Name.is ∙ single-name v c.in-Name.name c.as_str.result.now c.as_str.utf8 c.as_str.ensures.value)
