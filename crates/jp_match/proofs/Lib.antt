@@ -1,8 +1,14 @@
 pub mod Cuts
-pub mod Ends
+pub mod EmptyWords
+pub mod EndParts
 pub mod Growing
-pub mod Plain
+pub mod Items
+pub mod Prefixes
 pub mod Reaching
 pub mod Repeats
+pub mod Scanning
 pub mod Shift
+pub mod StepParts
+pub mod Turns
 pub mod Unrolled
+pub mod WholeAndPart

@@ -3,7 +3,7 @@ use Rattle.std.proofs.Common.{◌↔◌, inl, inr, ℕ, zero, suc, ◌≤◌, Li
 use Rattle.jp_iregexp.specs.Tree as tree
 use Rattle.jp_iregexp.specs.Tree.{Tree}
 use Rattle.jp_iregexp.specs.Language.{Concatenation, Power, Language}
-use Rattle.jp_match.proofs.Plain.{Plain, Words, at_least, between, counted, unrolled}
+use Rattle.jp_match.specs.Private.Plain.{Plain, Words, at_least, between, counted, unrolled}
 
 -- words of languages with the same words, joined
 joined_as : (L L' M M' : List ℕ → Type 0) → ((w : List ℕ) → L w → L' w) → ((w : List ℕ) → M w → M' w) → (w : List ℕ) → Concatenation L M w → Concatenation L' M' w

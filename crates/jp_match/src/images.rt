@@ -1,14 +1,14 @@
 //! The plain matcher: for each part of a pattern, the places that its words reach.
 
-ghost use Rattle.std.specs.Prelude.{◌≡◌, ◌≤◌, suc, IfOk, OnOk, length, map};
+ghost use Rattle.std.specs.Prelude.{◌≡◌, ◌↔◌, ◌≤◌, suc, IfOk, IsTrue, OnOk, length, map};
 ghost use Rattle.std.specs.Str.{chars};
 ghost use Rattle.jp_iregexp.specs.Tree.{tree, pieces, branches, repeat};
 ghost use Rattle.jp_iregexp.specs.Language.{Language, Power};
 ghost use Rattle.jp_match.specs.Counts.{IsMostAfter, Times};
+ghost use Rattle.jp_match.specs.Part.{HasPart};
 ghost use Rattle.jp_match.specs.Place.{IsImage};
 
 use crate::class_tests::Tests;
-use crate::matching::Matching;
 use crate::places::{
     Places, Spare, assign, clear, every, is_any, is_settled, only_first, remove, shift, unite,
 };
@@ -23,27 +23,36 @@ use std::mem;
 #[derive(Clone, Copy, Debug, Default)]
 pub struct Images;
 
-impl Matching for Images {
-    fn whole(
+impl Images {
+    /// Whether the text is in the language of the pattern (RFC 9485, section 4; RFC 9535, section 2.4.6).
+    pub fn whole(
         &self,
         alloc: Global,
         pattern: &Pattern,
         text: &str,
         tests: &mut Tests,
-    ) -> Result<bool, AllocError> {
+    ) -> Result<bool, AllocError>
+        ensures exact { IfOk result (λ answer. IsTrue answer ↔ Language (tree pattern.now) (chars text.now)) }
+        ensures kept { tests.old ≤ tests.new }
+    {
         let text = characters(alloc, text)?;
         let mut places = only_first(alloc, &text)?;
         image(pattern, &text, &mut places, &mut Spare::new(alloc), tests)?;
         Ok(places[text.len()])
     }
 
-    fn part(
+    /// Whether some part of the text is in the language of the pattern, the empty parts included (RFC 9535,
+    /// section 2.4.7).
+    pub fn part(
         &self,
         alloc: Global,
         pattern: &Pattern,
         text: &str,
         tests: &mut Tests,
-    ) -> Result<bool, AllocError> {
+    ) -> Result<bool, AllocError>
+        ensures exact { IfOk result (λ answer. IsTrue answer ↔ HasPart (Language (tree pattern.now)) (chars text.now)) }
+        ensures kept { tests.old ≤ tests.new }
+    {
         let text = characters(alloc, text)?;
         let mut places = every(alloc, &text)?;
         image(pattern, &text, &mut places, &mut Spare::new(alloc), tests)?;

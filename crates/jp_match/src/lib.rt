@@ -12,13 +12,21 @@
 #![tactic(auto)]
 
 mod class_tests;
+mod empty_word;
+mod ending;
 mod images;
+mod marking;
+mod marks;
 mod matching;
 mod places;
+mod scan;
+mod stepping;
 
 pub use class_tests::Tests;
 pub use images::Images;
+pub use marks::Marks;
 pub use matching::Matching;
+pub use scan::Scan;
 
 #[cfg(test)]
 mod tests;

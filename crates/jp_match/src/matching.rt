@@ -1,9 +1,10 @@
 //! What a matcher answers.
 
-ghost use Rattle.std.specs.Prelude.{◌↔◌, ◌≤◌, IfOk, IsTrue};
+ghost use Rattle.std.specs.Prelude.{◌↔◌, ◌+◌, ◌*◌, ◌≤◌, IfOk, IsTrue, length};
 ghost use Rattle.std.specs.Str.{chars};
 ghost use Rattle.jp_iregexp.specs.Tree.{tree};
 ghost use Rattle.jp_iregexp.specs.Language.{Language};
+ghost use Rattle.jp_iregexp.specs.Positions.{positions_of};
 ghost use Rattle.jp_match.specs.Part.{HasPart};
 
 use crate::class_tests::Tests;
@@ -21,7 +22,8 @@ pub trait Matching {
         tests: &mut Tests,
     ) -> Result<bool, AllocError>
         ensures exact { IfOk result (λ answer. IsTrue answer ↔ Language (tree pattern.now) (chars text.now)) }
-        ensures counted { tests.old ≤ tests.new };
+        ensures bound { positions_of (tree pattern.now) ≤ 4096 → tests.new ≤ tests.old + positions_of (tree pattern.now) * length (chars text.now) }
+        ensures kept { tests.old ≤ tests.new };
 
     /// Whether some part of the text is in the language of the pattern, the empty parts included (RFC 9535,
     /// section 2.4.7).
@@ -33,5 +35,6 @@ pub trait Matching {
         tests: &mut Tests,
     ) -> Result<bool, AllocError>
         ensures exact { IfOk result (λ answer. IsTrue answer ↔ HasPart (Language (tree pattern.now)) (chars text.now)) }
-        ensures counted { tests.old ≤ tests.new };
+        ensures bound { positions_of (tree pattern.now) ≤ 4096 → tests.new ≤ tests.old + positions_of (tree pattern.now) * length (chars text.now) }
+        ensures kept { tests.old ≤ tests.new };
 }

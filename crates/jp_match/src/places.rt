@@ -44,6 +44,14 @@ impl Spare {
     }
 }
 
+/// None of so many places.
+pub fn none(alloc: Global, count: usize) -> Result<Places, AllocError>
+    ensures same_length { IfOk result (λ places. length places.items ≡ count) }
+    ensures none { IfOk result (λ places. (place : ℕ) → Marked places.items place → ⊥) }
+{
+    vec![in alloc; false; count]
+}
+
 /// The first place of the text alone.
 pub fn only_first(alloc: Global, text: &[char]) -> Result<Places, AllocError>
     ensures same_length { IfOk result (λ places. length places.items ≡ suc (length text.now)) }

@@ -1,6 +1,7 @@
 use super::*;
 use jp_iregexp::{Pattern, read_pattern};
 use std::alloc::{AllocError, Global};
+use std::process::Abort;
 use std::test::Fail;
 
 // A pattern, a text, whether the whole text is in its language, and whether some part of it is.
@@ -50,7 +51,7 @@ fn answers<M: Matching>(
 fn answers_each_row(rt: HostRuntime) -> Result<(), Fail> {
     for (pattern, text, whole, part) in ROWS {
         let read = read_pattern(rt.alloc(), pattern)?;
-        let answer = answers(&Images, rt.alloc(), &read, text)?;
+        let answer = answers(&Marks, rt.alloc(), &read, text)?;
         assert_eq!(rt; answer, (whole, part), "{pattern} {text}");
     }
     Ok(())
@@ -59,14 +60,14 @@ fn answers_each_row(rt: HostRuntime) -> Result<(), Fail> {
 #[test]
 fn answers_patterns_that_no_text_spells(rt: HostRuntime) -> Result<(), Fail> {
     let nothing = Pattern::Either(vec![in rt.alloc()]?);
-    assert_eq!(rt; answers(&Images, rt.alloc(), &nothing, "")?, (false, false));
+    assert_eq!(rt; answers(&Marks, rt.alloc(), &nothing, "")?, (false, false));
     let inner = Box::new(rt.alloc(), Pattern::Sequence(vec![in rt.alloc()]?))?;
     let repeat = Pattern::Repeat {
         inner,
         least: 3,
         most: Some(2),
     };
-    assert_eq!(rt; answers(&Images, rt.alloc(), &repeat, "")?, (false, false));
+    assert_eq!(rt; answers(&Marks, rt.alloc(), &repeat, "")?, (false, false));
     Ok(())
 }
 
@@ -83,7 +84,7 @@ fn answers_on_ten_thousand_characters(rt: HostRuntime) -> Result<(), Fail> {
         ("éé", false, false),
     ] {
         let read = read_pattern(rt.alloc(), pattern)?;
-        let answer = answers(&Images, rt.alloc(), &read, text.as_str())?;
+        let answer = answers(&Marks, rt.alloc(), &read, text.as_str())?;
         assert_eq!(rt; answer, (whole, part), "{pattern}");
     }
     Ok(())
@@ -94,9 +95,101 @@ fn counts_class_tests(rt: HostRuntime) -> Result<(), Fail> {
     let mut tests = Tests::new();
     assert_eq!(rt; tests.count(), 0);
     let pattern = read_pattern(rt.alloc(), "a")?;
-    assert!(rt; !Images.whole(rt.alloc(), &pattern, "ba", &mut tests)?);
+    assert!(rt; !Marks.whole(rt.alloc(), &pattern, "ba", &mut tests)?);
     assert_eq!(rt; tests.count(), 1);
-    assert!(rt; Images.part(rt.alloc(), &pattern, "ba", &mut tests)?);
+    assert!(rt; Marks.part(rt.alloc(), &pattern, "ba", &mut tests)?);
     assert_eq!(rt; tests.count(), 3);
+    Ok(())
+}
+
+/// The text, so many times.
+fn repeated(alloc: Global, text: &str, times: usize) -> Result<String, AllocError> {
+    let mut all = String::new(alloc);
+    for _ in 0..times {
+        all.push_str(text)?;
+    }
+    Ok(all)
+}
+
+fn assert_within<M: Matching>(
+    rt: &impl Abort,
+    alloc: Global,
+    matcher: &M,
+    (pattern, text): (&str, &str),
+    (whole, part): (bool, bool),
+    most: u64,
+) -> Result<(), Fail> {
+    let read = read_pattern(alloc, pattern)?;
+    let mut tests = Tests::new();
+    let answer = matcher.whole(alloc, &read, text, &mut tests)?;
+    assert_eq!(rt; answer, whole, "{pattern}");
+    assert!(rt; tests.count() <= most, "{pattern}");
+    tests = Tests::new();
+    let answer = matcher.part(alloc, &read, text, &mut tests)?;
+    assert_eq!(rt; answer, part, "{pattern}");
+    assert!(rt; tests.count() <= most, "{pattern}");
+    Ok(())
+}
+
+#[test]
+fn tests_each_position_at_most_once_a_character(rt: HostRuntime) -> Result<(), Fail> {
+    let mut many = repeated(rt.alloc(), "a", 10_000)?;
+    many.push_str("b")?;
+    let long = repeated(rt.alloc(), "a", 4_096)?;
+    let longer = repeated(rt.alloc(), "a", 4_097)?;
+    for (pattern, text, whole, part, most) in [
+        ("((a*)*)*", many.as_str(), false, true, 10_001),
+        ("(a?){2,5}", "aaa", true, true, 15),
+        ("a{0}", "a", false, true, 0),
+        ("(){3}b", "b", true, true, 1),
+        ("a{4096}", long.as_str(), true, true, 16_777_216),
+        ("a{4097}", longer.as_str(), true, true, u64::MAX),
+        ("(a{2,}b?){2}", "aabaa", true, true, 30),
+        ("(a{2,}b?){2}", "aaba", false, false, 24),
+    ] {
+        assert_within(&rt, rt.alloc(), &Marks, (pattern, text), (whole, part), most)?;
+    }
+    Ok(())
+}
+
+/// What a scan accepts at first and after each character.
+fn assert_accepts(
+    rt: &impl Abort,
+    alloc: Global,
+    (pattern, anywhere): (&str, bool),
+    text: &str,
+    first: bool,
+    accepted: &[bool],
+) -> Result<(), Fail> {
+    let read = read_pattern(alloc, pattern)?;
+    let mut scan = Scan::new(alloc, &read, anywhere)?.expect(rt, "a scan");
+    let mut tests = Tests::new();
+    assert_eq!(rt; scan.accepts(), first, "{pattern}");
+    for (c, accepts) in text.chars().zip(accepted) {
+        scan.step(c, &mut tests);
+        assert_eq!(rt; scan.accepts(), *accepts, "{pattern} after {c}");
+    }
+    Ok(())
+}
+
+#[test]
+fn scans_a_character_at_a_time(rt: HostRuntime) -> Result<(), Fail> {
+    assert_accepts(&rt, rt.alloc(), ("ab*", false), "abc", false, &[true, true, false])?;
+    assert_accepts(&rt, rt.alloc(), ("ab?", true), "cabb", false, &[false, true, true, false])?;
+    let many = read_pattern(rt.alloc(), "a{4097}")?;
+    assert!(rt; Scan::new(rt.alloc(), &many, false)?.is_none());
+    Ok(())
+}
+
+#[test]
+fn keeps_no_text(rt: HostRuntime) -> Result<(), Fail> {
+    let pattern = read_pattern(rt.alloc(), "(ab)*")?;
+    let mut scan = Scan::new(rt.alloc(), &pattern, false)?.expect(&rt, "a scan");
+    let mut tests = Tests::new();
+    for _ in 0..100_000 {
+        scan.step('a', &mut tests);
+        scan.step('b', &mut tests);
+    }
+    assert!(rt; scan.accepts());
     Ok(())
 }

@@ -1,23 +1,15 @@
 use Rattle.std.proofs.Common.{◌≡◌, ℕ, ◌+◌, ◌-◌, ◌<◌, suc, List, [], ◌∷◌, drop, map, get_or, length, inl, inr, refl, sym, ap, ◌∙◌, subst, arith}
-use Rattle.std.proofs.lemmas.List.{drop_more}
 use Rattle.std.proofs.lemmas.Result.{on_ok_weaker}
 use Rattle.jp_iregexp.specs.declared.pattern.Pattern.{Pattern}
 use Rattle.jp_iregexp.specs.Tree.{tree, branches, pieces}
 use Rattle.jp_iregexp.specs.Language.{Language, Power}
 use Rattle.jp_iregexp.proofs.Trees.{tree_class, tree_either, tree_sequence, tree_repeat}
+use Rattle.jp_match.proofs.Items.{drop_item, drop_all}
 use Rattle.jp_match.proofs.Reaching.{Completes, Covers, completes_more, completes_all, covers_more}
 use Rattle.jp_match.proofs.Repeats.{image_repeat, settled_ends}
 use Rattle.jp_match.proofs.Growing.{grows_more, grows_all, grows_last, absent_falls}
 use Rattle.jp_match.proofs.images.+images.Goals as goal
 use Rattle.jp_match.proofs.images.+images.Goals.{at_most_image-else-loop-left-test, at_most_image-then-loop-left-test+in_default, exactly_image-else-loop-test, exactly_image-then-loop-test+in_ok-image+then-is_settled}
-
--- the item of a turn comes before what is left
-drop_item : (xs : List Pattern) (i : ℕ) (x : Pattern) → i < length xs → x ≡ get_or xs i x → drop i xs ≡ x ∷ drop (i + 1) xs
-drop_item xs i x below is = drop_more xs i x below ∙ ap (λ y. y ∷ drop (i + 1) xs) (sym is)
-
-drop_all : (xs : List Pattern) → drop (length xs) xs ≡ []
-drop_all [] = refl
-drop_all (x ∷ xs) = drop_all xs
 
 pub at_most_image-loop-left-smaller : goal.at_most_image-loop-left-smaller
 at_most_image-loop-left-smaller t c =

@@ -4,8 +4,8 @@ use Rattle.std.specs.Str.{chars}
 use Rattle.jp_iregexp.specs.Tree.{tree}
 use Rattle.jp_iregexp.specs.Language.{Language}
 use Rattle.jp_match.specs.Place.{Marked, IsImage}
-use Rattle.jp_match.proofs.Ends.{whole_reached}
-use Rattle.jp_match.proofs.images.ImagesMatching.whole.Goals as goal
+use Rattle.jp_match.proofs.WholeAndPart.{whole_reached}
+use Rattle.jp_match.proofs.images.Images.whole.Goals as goal
 
 pub returns-clause-exact : goal.returns-clause-exact
 returns-clause-exact c =

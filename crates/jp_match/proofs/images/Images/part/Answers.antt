@@ -3,8 +3,8 @@ use Rattle.std.specs.Str.{chars}
 use Rattle.jp_iregexp.specs.Tree.{tree}
 use Rattle.jp_iregexp.specs.Language.{Language}
 use Rattle.jp_match.specs.Place.{IsImage}
-use Rattle.jp_match.proofs.Ends.{part_reached}
-use Rattle.jp_match.proofs.images.ImagesMatching.part.Goals as goal
+use Rattle.jp_match.proofs.WholeAndPart.{part_reached}
+use Rattle.jp_match.proofs.images.Images.part.Goals as goal
 
 pub returns-clause-exact : goal.returns-clause-exact
 returns-clause-exact c =

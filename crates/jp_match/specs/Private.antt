@@ -1,0 +1,3 @@
+pub mod EmptyWord
+pub mod Marks
+pub mod Plain

@@ -1,0 +1,77 @@
+//! The matcher of positions: a scan stepped once over the text.
+
+ghost use Rattle.std.specs.Prelude.{◌≡◌, ◌↔◌, ◌+◌, ◌*◌, ◌≤◌, ℕ, IsTrue, length, take};
+ghost use Rattle.std.specs.Str.{chars};
+ghost use Rattle.jp_iregexp.specs.Positions.{positions_of};
+ghost use Rattle.jp_match.specs.Scan.{Left, tree_of};
+
+use crate::class_tests::Tests;
+use crate::images::Images;
+use crate::matching::Matching;
+use crate::scan::Scan;
+use jp_iregexp::Pattern;
+use std::alloc::{AllocError, Global};
+
+/// The matcher of positions. It steps one [`Scan`] over the text, so a pattern of at most 4,096
+/// positions takes at most one class test for each of them and each character. It hands patterns of
+/// more positions to [`Images`].
+#[derive(Clone, Copy, Debug, Default)]
+pub struct Marks;
+
+impl Matching for Marks {
+    fn whole(
+        &self,
+        alloc: Global,
+        pattern: &Pattern,
+        text: &str,
+        tests: &mut Tests,
+    ) -> Result<bool, AllocError> {
+        match Scan::new(alloc, pattern, false)? {
+            Some(mut scan) => Ok(accepts_whole(&mut scan, text, tests)),
+            None => Images.whole(alloc, pattern, text, tests),
+        }
+    }
+
+    fn part(
+        &self,
+        alloc: Global,
+        pattern: &Pattern,
+        text: &str,
+        tests: &mut Tests,
+    ) -> Result<bool, AllocError> {
+        match Scan::new(alloc, pattern, true)? {
+            Some(mut scan) => Ok(accepts_prefix(&mut scan, text, tests)),
+            None => Images.part(alloc, pattern, text, tests),
+        }
+    }
+}
+
+/// Whether the scan accepts once it has taken the text. It ends early where no word is left.
+fn accepts_whole(scan: &mut Scan<'_>, text: &str, tests: &mut Tests) -> bool
+    ensures accepted { IsTrue result ↔ Left scan.old (chars text.now) }
+    ensures counted { tests.new ≤ tests.old + positions_of (tree_of scan.old) * length (chars text.now) }
+    ensures kept { tests.old ≤ tests.new }
+{
+    for c in text.chars() {
+        if scan.is_spent() {
+            return false;
+        }
+        scan.step(c, tests);
+    }
+    scan.accepts()
+}
+
+/// Whether the scan accepts once it has taken some prefix of the text. It ends at the first one.
+fn accepts_prefix(scan: &mut Scan<'_>, text: &str, tests: &mut Tests) -> bool
+    ensures accepted { IsTrue result
+        ↔ ((count : ℕ) × (count ≤ length (chars text.now)) × Left scan.old (take count (chars text.now))) }
+    ensures counted { tests.new ≤ tests.old + positions_of (tree_of scan.old) * length (chars text.now) }
+    ensures kept { tests.old ≤ tests.new }
+{
+    for c in text.chars() {
+        if scan.advance(c, tests) {
+            return true;
+        }
+    }
+    scan.accepts()
+}

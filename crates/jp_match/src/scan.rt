@@ -1,0 +1,86 @@
+//! A scan, which takes a text one character at a time.
+
+ghost use Rattle.std.specs.Prelude.{◌≡◌, ◌↔◌, ℕ, ◌+◌, ◌≤◌, IfOk, IsTrue, List, [], ◌∷◌};
+ghost use Rattle.jp_iregexp.specs.Tree.{tree};
+ghost use Rattle.jp_iregexp.specs.Positions.{positions_of};
+ghost use Rattle.jp_match.specs.Scan.{Begins, Left, tree_of};
+
+use crate::class_tests::Tests;
+use crate::marking::Marking;
+use crate::places::none;
+use jp_iregexp::{Pattern, positions};
+use std::alloc::{AllocError, Global};
+
+/// The most positions of a pattern that there is a scan for.
+const MOST_POSITIONS: u64 = 4_096;
+
+/// A matcher that has taken some characters of a text. It keeps none of them: what it knows is a mark
+/// for each position of the pattern, and one for the start. So it never goes back, and a step takes no
+/// memory.
+#[derive(Drop)]
+pub struct Scan<'p> {
+    marking: Marking<'p>,
+    anywhere: bool,
+    at_start: bool,
+}
+
+impl<'p> Scan<'p> {
+    /// A scan that has taken no character; None exactly where the pattern has more than 4,096 positions.
+    /// It accepts the words of the pattern's language, and with `anywhere` the texts that end in one.
+    pub fn new(
+        alloc: Global,
+        pattern: &'p Pattern,
+        anywhere: bool,
+    ) -> Result<Option<Scan<'p>>, AllocError>
+        ensures { IfOk result (Begins (tree pattern.now) anywhere) }
+    {
+        let count = positions(pattern);
+        if count > MOST_POSITIONS {
+            return Ok(None);
+        }
+        let marks = none(alloc, count as usize)?;
+        Ok(Some(Scan {
+            marking: Marking { pattern, marks },
+            anywhere,
+            at_start: true,
+        }))
+    }
+
+    /// Takes one character. That makes at most one class test for each position of the pattern.
+    pub fn step(&mut self, c: char, tests: &mut Tests)
+        ensures left { (word : List ℕ) → Left self.new word ↔ Left self.old (c ∷ word) }
+        ensures same { tree_of self.new ≡ tree_of self.old }
+        ensures counted { tests.new ≤ tests.old + positions_of (tree_of self.old) }
+        ensures kept { tests.old ≤ tests.new }
+    {
+        self.advance(c, tests);
+    }
+
+    /// Takes one character, and answers whether those before it were accepted.
+    pub(crate) fn advance(&mut self, c: char, tests: &mut Tests) -> bool
+        ensures accepted { IsTrue result ↔ Left self.old [] }
+        ensures left { (word : List ℕ) → Left self.new word ↔ Left self.old (c ∷ word) }
+        ensures same { tree_of self.new ≡ tree_of self.old }
+        ensures counted { tests.new ≤ tests.old + positions_of (tree_of self.old) }
+        ensures kept { tests.old ≤ tests.new }
+    {
+        let ended = self.marking.step(self.at_start, c, tests);
+        self.at_start &= self.anywhere;
+        ended
+    }
+
+    /// Whether the characters taken so far are in the language of the pattern, or with `anywhere`
+    /// whether some suffix of them is, the empty one included.
+    pub fn accepts(&self) -> bool
+        ensures { IsTrue result ↔ Left self.now [] }
+    {
+        self.marking.ends(self.at_start)
+    }
+
+    /// Whether no further character leads to a word.
+    pub(crate) fn is_spent(&self) -> bool
+        ensures { IsTrue result → (word : List ℕ) → Left self.now word → ⊥ }
+    {
+        !self.at_start && !self.marking.has_mark()
+    }
+}
