@@ -35,6 +35,8 @@ standing d l = (l, value_at d l)
 abbrev pub AreNodes : Value → List Located → List Location → Type 0
 AreNodes d ns ls = map shown ns ≡ map (standing d) ls
 
--- the children of each node of a document are exactly its nodes one step longer, rising in document order
+-- the children of each node of a document are exactly its nodes one step longer, rising in document
+-- order
 abbrev pub ChildrenAreExact : Type 0
-ChildrenAreExact = (d : Value) (l : Location) → IsDocumentValue d → IsListOf (IsChild d l) (children_of d l)
+ChildrenAreExact =
+    (d : Value) (l : Location) → IsDocumentValue d → IsListOf (IsChild d l) (children_of d l)

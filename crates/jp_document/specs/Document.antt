@@ -36,11 +36,13 @@ abbrev mutual
 
   pub items_of_data : parsed.Items → Option Items
   items_of_data parsed.no_items = Some no_items
-  items_of_data (parsed.item d ds) = option_and_then (λ v. option_map (item v) (items_of_data ds)) (value_of_data d)
+  items_of_data (parsed.item d ds) =
+      option_and_then (λ v. option_map (item v) (items_of_data ds)) (value_of_data d)
 
   pub members_of_data : parsed.Members → Option Members
   members_of_data parsed.no_members = Some no_members
-  members_of_data (parsed.member n d ms) = option_and_then (λ v. option_map (member n v) (members_of_data ms)) (value_of_data d)
+  members_of_data (parsed.member n d ms) =
+      option_and_then (λ v. option_map (member n v) (members_of_data ms)) (value_of_data d)
 
 -- the bytes are a document, whose value is v
 pub record IsDocument (bytes : List ℕ) (v : Value) : Type 0 where
@@ -97,8 +99,8 @@ pub record HasLongList (bytes : List ℕ) : Type 0 where
 
 -- ---- what is wrong with bytes
 
--- What is wrong with bytes that are no document: no reading, a first number that is no whole one, at this path, or a list that
--- is too long.
+-- What is wrong with bytes that are no document: no reading, a first number that is no whole one,
+-- at this path, or a list that is too long.
 pub data Defect : Type 0 where
   not_json : Defect
   not_whole : List ℕ → Defect
@@ -110,7 +112,7 @@ HasDefect bytes not_json = (d : Data) → IsReading bytes d → ⊥
 HasDefect bytes (not_whole path) = HasFraction bytes path
 HasDefect bytes list_too_long = HasLongList bytes
 
--- why the bytes are no document; want of memory says nothing of them
+-- why the bytes are no document; running out of memory says nothing of them
 abbrev pub IsDocumentFault : List ℕ → DocumentFault → Type 0
 IsDocumentFault bytes NotJson = HasDefect bytes not_json
 IsDocumentFault bytes (NotWhole path) = HasDefect bytes (not_whole (string_bytes path))

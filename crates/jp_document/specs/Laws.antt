@@ -12,9 +12,11 @@ PathsDiffer = (l m : Location) → (path_of l ≡ path_of m) ↔ (l ≡ m)
 
 -- two nodes of a document have one path exactly if they are the same node
 abbrev pub NodesDiffer : Type 0
-NodesDiffer = (d : Value) (n m : Located) → StandsIn d n → StandsIn d m → (path_of n.location ≡ path_of m.location) ↔ (told n ≡ told m)
+NodesDiffer = (d : Value) (n m : Located) → StandsIn d n → StandsIn d m
+    → (path_of n.location ≡ path_of m.location) ↔ (told n ≡ told m)
 
--- bytes are a document, and the document of one value, or have a defect, and one alone; and not both
+-- bytes are a document, and the document of one value, or have a defect, and one alone; and not
+-- both
 pub record IsDocumentOrDefect (bytes : List ℕ) : Type 0 where
   pub answered : ((v : Value) × IsDocument bytes v) ⊎ ((x : Defect) × HasDefect bytes x)
   pub one_value : (v w : Value) → IsDocument bytes v → IsDocument bytes w → v ≡ w

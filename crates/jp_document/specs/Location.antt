@@ -35,7 +35,8 @@ key_cmp (named s) (nth j) = Less
 key_cmp (nth i) (named t) = Greater
 key_cmp (nth i) (nth j) = nat_cmp i j
 
--- document order: a location is before each longer one that begins with it; else the first differing step decides
+-- document order: a location is before each longer one that begins with it; else the first
+-- differing step decides
 abbrev pub location_cmp : Location → Location → Ordering
 location_cmp = slice_cmp key_cmp
 

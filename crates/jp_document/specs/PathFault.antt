@@ -1,4 +1,5 @@
--- Why a text is the path of no location, or of one whose indexes are too large (RFC 9535 sections 2.1 and 2.7).
+-- Why a text is the path of no location, or of one whose indexes are too large (RFC 9535 sections
+-- 2.1 and 2.7).
 use Rattle.std.specs.Prelude.{◌≡◌, ℕ, nat_lt, Bool, true, false, List}
 use Rattle.std.specs.List.{list_any}
 use Rattle.jp_reading.specs.declared.reader.Stop.{Stop}
@@ -13,8 +14,8 @@ abbrev pub is_large : Key → Bool
 is_large (named s) = false
 is_large (nth i) = nat_lt 9007199254740991 i
 
--- `NotNormalized`: the text is the path of no list of steps. `IndexRange`: it is the path of one with an index above
--- (2^53)-1. Want of memory says nothing.
+-- `NotNormalized`: the text is the path of no list of steps. `IndexRange`: it is the path of one
+-- with an index above (2^53)-1. Running out of memory says nothing.
 abbrev pub IsPathFaultOf : List ℕ → PathFault → Type 0
 IsPathFaultOf text NotNormalized = (l : Location) → text ≡ path_of l → ⊥
 IsPathFaultOf text IndexRange = (l : Location) × (text ≡ path_of l) × (list_any is_large l ≡ true)

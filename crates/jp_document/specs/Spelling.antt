@@ -1,5 +1,6 @@
--- How texts are spelled between quotes: the quote is `'` (39) in normalized paths (RFC 9535 section 2.7) and `"` (34) in
--- JSON (RFC 8259 section 7). Each character with a spelling of its own is one byte, so a text is spelled byte by byte.
+-- How texts are spelled between quotes: the quote is `'` (39) in normalized paths (RFC 9535 section
+-- 2.7) and `"` (34) in JSON (RFC 8259 section 7). Each character with a spelling of its own is one
+-- byte, so a text is spelled byte by byte.
 use Rattle.std.specs.Prelude.{ℕ, ◌+◌, ◌/◌, ◌%◌, ◌==◌, ◌||◌, nat_lt, if◌then◌else◌, List, [], ◌∷◌, ◌++◌}
 use Rattle.std.specs.List.{flat_map}
 
@@ -11,7 +12,8 @@ hex_digit n = if nat_lt n 10 then 48 + n else 87 + n
 abbrev pub control : ℕ → List ℕ
 control c = 92 ∷ 117 ∷ 48 ∷ 48 ∷ hex_digit (c / 16) ∷ hex_digit (c % 16) ∷ []
 
--- `\b`, `\t`, `\n`, `\f`, `\r`; the quote and `\` after a `\`; other characters below U+0020 by their number; all others plain
+-- `\b`, `\t`, `\n`, `\f`, `\r`; the quote and `\` after a `\`; other characters below U+0020 by
+-- their number; all others plain
 unfoldable pub spelling : ℕ → ℕ → List ℕ
 spelling quote c =
     if c == 8 then 92 ∷ 98 ∷ []

@@ -8,7 +8,8 @@ use Rattle.jp_document.specs.declared.value.Json.{Json, fold-Json}
 use Rattle.jp_document.specs.declared.value.Member.{Member, fold-Member}
 use Rattle.jp_document.specs.declared.value.Json.TheOpen.{Json-F, Member-F}
 
--- A value: null, a truth value, a whole number, the UTF-8 bytes of a text, a list of values, or named values.
+-- A value: null, a truth value, a whole number, the UTF-8 bytes of a text, a list of values, or
+-- named values.
 mutual
   pub data Value : Type 0 where
     null : Value
@@ -73,7 +74,8 @@ list_fits _ = true
 abbrev pub names_fit : List (List ℕ) → Bool
 names_fit ns = names_rise ns && list_all is_utf8 ns
 
--- what a document asks of each value in it: whole numbers of 64 bits, texts in UTF-8, lists that fit, names that fit
+-- what a document asks of each value in it: whole numbers of 64 bits, texts in UTF-8, lists that
+-- fit, names that fit
 abbrev pub is_allowed : Value → Bool
 is_allowed null = true
 is_allowed (boolean b) = true

@@ -8,8 +8,8 @@ use crate::node::Node;
 use crate::nth::{child_count, nth_child};
 use std::alloc::{AllocError, Global};
 
-/// The children of a node in document order: a list's items, an object's members by the bytes of their
-/// names, none of other values.
+/// The children of a node in document order: a list's items, an object's members by the bytes of
+/// their names, none of other values.
 pub fn children<'d>(alloc: Global, node: &Node<'d>) -> Result<Vec<Node<'d>>, AllocError>
     ensures held { IfOk result (λ ns. map told ns.items ≡ told_children node.now) }
     ensures nodes { (d : Value) → StandsIn d node.now

@@ -1,4 +1,5 @@
-//! Values straight from the tokens of a text, as `serde_json` reads them. What is no document is left to it.
+//! Values straight from the tokens of a text, as `serde_json` reads them. What is no document is
+//! left to it.
 ghost use Rattle.std.specs.Prelude.{◌≡◌, ◌<◌, ◌==◌, true, false, Some, IfSome, IsTrue, OnSome, length, map, slice_index};
 ghost use Rattle.serde_json.specs.Data.{unsigned, negative};
 ghost use Rattle.serde_json.specs.Read.{number_from};
@@ -71,7 +72,8 @@ fn value(alloc: Global, reader: &mut Reader<'_>, depth: usize) -> Option<Json>
 fn items(alloc: Global, reader: &mut Reader<'_>, depth: usize) -> Option<Vec<Json>>
     ensures reads { IfSome result (λ v. ReadsItems depth (length reader.old) reader.old reader.new
         (items_of (map value_of v.items))) }
-    ensures sound { IfSome result (λ v. everywhere_in_items is_allowed (items_of (map value_of v.items)) ≡ true) }
+    ensures sound { IfSome result
+        (λ v. everywhere_in_items is_allowed (items_of (map value_of v.items)) ≡ true) }
     ensures short { IfSome result (λ v. list_fits (list (items_of (map value_of v.items))) ≡ true) }
     ensures shorter { OnSome result (length reader.new < length reader.old) }
 {

@@ -12,8 +12,8 @@ use crate::reading::parsed_value;
 use crate::value::Json;
 use std::alloc::Global;
 
-/// A JSON document: whole numbers from -(2^63) to (2^64)-1, texts in UTF-8, member names that are texts and
-/// strictly rise by their bytes, lists of at most (2^53)-1 items.
+/// A JSON document: whole numbers from -(2^63) to (2^64)-1, texts in UTF-8, member names that are
+/// texts and strictly rise by their bytes, lists of at most (2^53)-1 items.
 #[derive(Drop)]
 pub struct Document {
     json: Json,
@@ -26,10 +26,10 @@ impl Document {
     ghost use Rattle.jp_document.specs.Location.{key_of, value_at};
     ghost use Rattle.jp_document.specs.Node.{told, StandsIn};
 
-    /// The document that these bytes are. Refused are: bytes that `serde_json` reads no value from, bytes that
-    /// are no UTF-8 and deeper nesting than 127 levels among them (`NotJson`); a number that is not a whole
-    /// one of 64 bits (`NotWhole`, with the path of the first in document order); where there is none, a
-    /// list of more than (2^53)-1 items (`ListTooLong`).
+    /// The document that these bytes are. Refused are: bytes that `serde_json` reads no value from,
+    /// bytes that are no UTF-8 and deeper nesting than 127 levels among them (`NotJson`); a number
+    /// that is not a whole one of 64 bits (`NotWhole`, with the path of the first in document
+    /// order); where there is none, a list of more than (2^53)-1 items (`ListTooLong`).
     pub fn read(alloc: Global, bytes: &[u8]) -> Result<Document, DocumentFault>
         ensures ok { IfOk result (λ d. IsDocument bytes.now (document_of d)) }
         ensures fault { IfErr result (IsDocumentFault bytes.now) }

@@ -9,8 +9,8 @@ use std::alloc::AllocError;
 pub enum DocumentFault {
     /// They hold no JSON value, or more than one, or are no UTF-8, or nest deeper than 127 levels.
     NotJson,
-    /// Some number is not a whole one of 64 bits. It holds the normalized path of the first such number,
-    /// in document order.
+    /// Some number is not a whole one of 64 bits. It holds the normalized path of the first such
+    /// number, in document order.
     NotWhole(String),
     /// Every number is whole, and some list has more than (2^53)-1 items.
     ListTooLong,

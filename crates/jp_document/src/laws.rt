@@ -8,14 +8,15 @@ pub fn children_are_exact()
     ensures { ChildrenAreExact }
 {}
 
-/// Two lists of steps have one normalized path exactly if they are equal, and two nodes of a document exactly if
-/// they are the same node (RFC 9535 section 2.7).
+/// Two lists of steps have one normalized path exactly if they are equal, and two nodes of a
+/// document exactly if they are the same node (RFC 9535 section 2.7).
 pub fn paths_differ()
     ensures locations { PathsDiffer }
     ensures nodes { NodesDiffer }
 {}
 
-/// Bytes are a document, and the document of one value, or have a defect, and one alone; and not both.
+/// Bytes are a document, and the document of one value, or have a defect, and one alone; and not
+/// both.
 pub fn document_or_defect()
     ensures { DocumentOrDefect }
 {}

@@ -1,8 +1,8 @@
 //! JSON documents whose numbers are whole, their nodes, and normalized paths (RFC 9535).
 //!
-//! `Document::read` takes a document from bytes, `Document::root`, `child_named` and `child_at` walk its
-//! nodes, `path_text` and `value_text` print one. `read_path` reads a path again, and `Document::find` finds
-//! the value at its location:
+//! `Document::read` takes a document from bytes, `Document::root`, `child_named` and `child_at`
+//! walk its nodes, `path_text` and `value_text` print one. `read_path` reads a path again, and
+//! `Document::find` finds the value at its location:
 //!
 //! ```text
 //! let document = Document::read(alloc, b"{\"a\":[1,2]}")?;
@@ -10,16 +10,15 @@
 //! let two = document.find(&read_path(alloc, "$['a'][1]")?);   // 2
 //! ```
 //!
-//! For the layer above: `read` accepts exactly the documents and names the first number that is no whole
-//! one; each node stands in its document, with the document's own value; paths and texts are exact, and
-//! `read_path` accepts exactly the normalized paths, of which no two locations have the same.
+//! For the layer above: `read` accepts exactly the documents and names the first number that is no
+//! whole one; each node stands in its document, with the document's own value; paths and texts are
+//! exact, and `read_path` accepts exactly the normalized paths, of which no two locations have the
+//! same.
 #![tactic(auto)]
 
 mod characters;
 mod child_nodes;
 mod direct;
-#[cfg(test)]
-mod direct_tests;
 mod document;
 mod document_value;
 mod fault;
@@ -33,8 +32,6 @@ mod nth;
 mod path;
 mod path_fault;
 mod path_reader;
-#[cfg(test)]
-mod path_tests;
 mod reading;
 mod spelling;
 #[cfg(test)]

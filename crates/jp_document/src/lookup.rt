@@ -10,13 +10,15 @@ use crate::location::Step;
 use crate::value::{Json, Member};
 use std::cmp::Ordering;
 
-/// The value one step inside, None where there is none: the member of that name of an object (RFC 9535
-/// section 2.3.1), the item at that index of a list (section 2.3.3). The names of the object's members have to
-/// rise, as those of every document do; of another object it answers a member of that name, or None.
+/// The value one step inside, None where there is none: the member of that name of an object (RFC
+/// 9535 section 2.3.1), the item at that index of a list (section 2.3.3). The names of the object's
+/// members have to rise, as those of every document do; of another object it answers a member of
+/// that name, or None.
 pub fn child_value<'d>(json: &'d Json, step: Step) -> Option<&'d Json>
     ensures child { IsDocumentValue (value_of json.now) → option_map (λ j. value_of j.now) result
         ≡ child (value_of json.now) (key_of step.entry) }
-    ensures held { IfSome result (λ j. Contains (held (value_of json.now)) (key_of step.entry, value_of j.now)) }
+    ensures held { IfSome result
+        (λ j. Contains (held (value_of json.now)) (key_of step.entry, value_of j.now)) }
 {
     match step {
         Step::Name(name) => Some(&member_named(json, name)?.value),
@@ -28,7 +30,8 @@ pub fn child_value<'d>(json: &'d Json, step: Step) -> Option<&'d Json>
 pub(crate) fn member_named<'d>(json: &'d Json, name: &str) -> Option<&'d Member>
     ensures found { IsDocumentValue (value_of json.now) → option_map (λ m. member_of m.now) result
         ≡ option_map (λ v. (name.now, v)) (child (value_of json.now) (named name.now)) }
-    ensures held { IfSome result (λ m. Contains (held (value_of json.now)) (named name.now, (member_of m.now).1)) }
+    ensures held { IfSome result
+        (λ m. Contains (held (value_of json.now)) (named name.now, (member_of m.now).1)) }
 {
     let members = members(json);
     match members.binary_search_by(|member| name_order(member, name)) {

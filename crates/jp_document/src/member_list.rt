@@ -76,8 +76,8 @@ fn place_of(members: &[Member], name: &str) -> Option<usize>
 
 fn insert_at(members: Vec<Member>, place: usize, name: String, value: Json) -> Option<MemberList>
     requires { IsPlace (map member_of members.items) (string_bytes name) place }
-    ensures { IfSome result (λ more. entries_of more
-        ≡ insert_entry names_cmp (map member_of members.items) (string_bytes name) (value_of value)) }
+    ensures { IfSome result (λ more. entries_of more ≡ insert_entry
+        names_cmp (map member_of members.items) (string_bytes name) (value_of value)) }
 {
     let mut members = members;
     members.insert(place, Member { name, value }).ok()?;
@@ -85,8 +85,8 @@ fn insert_at(members: Vec<Member>, place: usize, name: String, value: Json) -> O
 }
 
 fn insert_in_map(members: BTreeMap<String, Json>, name: String, value: Json) -> Option<MemberList>
-    ensures { IfSome result (λ more. entries_of more
-        ≡ insert_entry names_cmp (map map_entry members.entries) (string_bytes name) (value_of value)) }
+    ensures { IfSome result (λ more. entries_of more ≡ insert_entry
+        names_cmp (map map_entry members.entries) (string_bytes name) (value_of value)) }
 {
     let mut members = members;
     drop(members.insert(name, value).ok()?);

@@ -15,8 +15,8 @@ use jp_reading::{Reader, Stop, natural};
 use std::alloc::{AllocError, Global};
 
 /// The location whose normalized path the text is (RFC 9535 section 2.7). Refused are: a text that
-/// is the path of no list of steps (`NotNormalized`), so each other spelling of a step, as `["a"]` or
-/// `[01]`, and each text that goes on after its path; a path with an index above (2^53)-1
+/// is the path of no list of steps (`NotNormalized`), so each other spelling of a step, as `["a"]`
+/// or `[01]`, and each text that goes on after its path; a path with an index above (2^53)-1
 /// (`IndexRange`).
 pub fn read_path(alloc: Global, text: &str) -> Result<OwnedLocation, PathFault>
     ensures path { IfOk result (λ l. text.now ≡ path_of l) }

@@ -39,8 +39,8 @@ pub(crate) fn parsed_value(alloc: Global, bytes: &[u8]) -> Result<Json, Document
     }
 }
 
-/// The value of a reading. The texts move over, and members come in the order of their names. `fits` is cleared
-/// where some list has more than (2^53)-1 items.
+/// The value of a reading. The texts move over, and members come in the order of their names.
+/// `fits` is cleared where some list has more than (2^53)-1 items.
 #[cycle(json_of)]
 fn json_of(alloc: Global, value: Value, fits: &mut bool) -> Result<Json, ValueFault>
     ensures value { IfOk result (λ j. value_of_data (view value) ≡ Some (value_of j)) }
@@ -84,7 +84,8 @@ fn json_of_number(alloc: Global, number: Number) -> Result<Json, ValueFault>
 fn json_items(alloc: Global, items: Vec<Value>, fits: &mut bool) -> Result<Vec<Json>, ValueFault>
     ensures value { IfOk result
         (λ v. items_of_data (items_view items.items) ≡ Some (items_of (map value_of v.items))) }
-    ensures sound { IfOk result (λ v. everywhere_in_items list_fits (items_of (map value_of v.items)) ≡ true
+    ensures sound { IfOk result
+        (λ v. everywhere_in_items list_fits (items_of (map value_of v.items)) ≡ true
         → everywhere_in_items is_allowed (items_of (map value_of v.items)) ≡ true) }
     ensures fits { IfOk result (λ v. fits.new
         ≡ (everywhere_in_items list_fits (items_of (map value_of v.items)) && fits.old)) }
@@ -108,7 +109,8 @@ fn json_members(
 ) -> Result<Vec<Member>, ValueFault>
     ensures value { IfOk result (λ v. members_of_data (members_view members.entries)
         ≡ Some (members_of (map member_of v.items))) }
-    ensures sound { IfOk result (λ v. everywhere_in_members list_fits (members_of (map member_of v.items)) ≡ true
+    ensures sound { IfOk result
+        (λ v. everywhere_in_members list_fits (members_of (map member_of v.items)) ≡ true
         → everywhere_in_members is_allowed (members_of (map member_of v.items)) ≡ true) }
     ensures names { IfOk result
         (λ v. names_fit (names_of (members_of (map member_of v.items))) ≡ true) }

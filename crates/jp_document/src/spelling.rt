@@ -5,11 +5,12 @@ ghost use Rattle.jp_document.specs.Spelling.{spelling, quoted_in, hex_digit, con
 
 use std::alloc::AllocError;
 
-/// Appends the text between two of these quotes, each character as it is spelled there. What needs no
-/// spelling of its own is copied in whole runs.
+/// Appends the text between two of these quotes, each character as it is spelled there. What needs
+/// no spelling of its own is copied in whole runs.
 pub(crate) fn push_quoted(out: &mut String, text: &str, quote: u8) -> Result<(), AllocError>
     requires { quote < 128 }
-    ensures { OnOk result (string_bytes out.new ≡ string_bytes out.old ++ quoted_in quote text.now) }
+    ensures { OnOk result
+        (string_bytes out.new ≡ string_bytes out.old ++ quoted_in quote text.now) }
 {
     out.push(char::from(quote))?;
     push_spelled(out, text, quote)?;

@@ -19,7 +19,7 @@ pub fn value_text(alloc: Global, json: &Json) -> Result<String, AllocError>
     Ok(text)
 }
 
-/// Appends the compact text of a value. Where memory is wanting, a part of it may stand there.
+/// Appends the compact text of a value. Where memory runs out, a part of it may stand there.
 #[cycle(text)]
 pub fn push_value(out: &mut String, json: &Json) -> Result<(), AllocError>
     ensures { OnOk result
@@ -47,7 +47,8 @@ pub fn push_value(out: &mut String, json: &Json) -> Result<(), AllocError>
 #[cycle(text)]
 fn push_items(out: &mut String, items: &[Json]) -> Result<(), AllocError>
     ensures { OnOk result (string_bytes out.new
-        ≡ string_bytes out.old ++ join_with_byte 44 (item_texts (items_of (map value_of items.now)))) }
+        ≡ string_bytes out.old
+        ++ join_with_byte 44 (item_texts (items_of (map value_of items.now)))) }
 {
     for (i, item) in items.iter().enumerate() {
         push_comma(out, i)?;

@@ -2,7 +2,8 @@
 use Rattle.std.specs.Prelude.{◌≡◌, ℕ, ◌+◌, Bool, true, List, [], ◌∷◌, ◌++◌, Some, None}
 use Rattle.jp_reading.specs.Texts.{Text, Spans, bytes, is_blank}
 
--- a form says of the spans of the items in a text, the byte where the text begins, and the text, that they belong together
+-- a form says of the spans of the items in a text, the byte where the text begins, and the text,
+-- that they belong together
 abbrev pub Form : Type 1
 Form = Spans → ℕ → Text → Type 0
 

@@ -8,7 +8,7 @@ use Rattle.jp_reading.specs.Outcome.{State, Outcome, took, ◌>>=◌, head, pass
 unfoldable pub is_digit : ℕ → Bool
 is_digit c = nat_le 48 c && nat_le c 57
 
--- the number that the digits write, behind what the digits before them write
+-- the number that the digits write, after what the digits before them write
 abbrev pub value_from : ℕ → Text → ℕ
 value_from n [] = n
 value_from n (d ∷ ds) = value_from (n * 10 + (d - 48)) ds

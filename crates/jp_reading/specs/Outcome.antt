@@ -9,7 +9,8 @@ pub record State : Type 0 where
   pub rest : Text
   pub found : Spans
 
--- a rule reads a value and goes on from a state, or is stuck at one, or would need a level more there
+-- a rule reads a value and goes on from a state, or is stuck at one, or would need a level more
+-- there
 pub data Outcome (A : Type 0) : Type 0 where
   took : A → State → Outcome A
   stuck : State → Outcome A
@@ -44,7 +45,8 @@ past p = past_first p.at p.found p.rest
 unfoldable pub past_blanks : ℕ → Spans → Text → State
 past_blanks at found [] = record { at = at; rest = []; found = found }
 past_blanks at found (c ∷ t) =
-    if is_blank c then past_blanks (at + len_utf8 c) found t else record { at = at; rest = c ∷ t; found = found }
+    if is_blank c then past_blanks (at + len_utf8 c) found t
+    else record { at = at; rest = c ∷ t; found = found }
 
 -- past the blanks that stand next (RFC 9535 section 2.1.1, S)
 abbrev pub skip : State → State
@@ -85,19 +87,26 @@ abbrev pub expect : ℕ → State → Outcome ℕ
 expect c p = take_if (is c) p
 
 -- item after item for at most n rounds, as long as another begins
-unfoldable pub loop : {A : Type 0} → ℕ → (State → Bool) → (State → Outcome A) → State → Outcome (List A)
+unfoldable pub loop : {A : Type 0} → ℕ → (State → Bool) → (State → Outcome A) → State
+    → Outcome (List A)
 loop zero begins item p = took [] p
 loop (suc n) begins item p =
-    if begins p then item p >>= (λ x q. loop n begins item q >>= λ xs r. took (x ∷ xs) r) else took [] p
+    if begins p then item p >>= (λ x q. loop n begins item q >>= λ xs r. took (x ∷ xs) r)
+    else took [] p
 
 -- item after item, as long as another begins, where each takes a character at least
 abbrev pub each : {A : Type 0} → (State → Bool) → (State → Outcome A) → State → Outcome (List A)
 each begins item p = loop (suc (length p.rest)) begins item p
 
--- an item began at byte `start`, when there were so many spans, and ends here: its span goes before those inside it
+-- an item began at byte `start`, when there were so many spans, and ends here: its span goes before
+-- those inside it
 abbrev pub item_since : ℕ → ℕ → State → State
 item_since start before p =
-    record { at = p.at; rest = p.rest; found = insert p.found before (Some (record { start = start; end = p.at })) }
+    record {
+      at = p.at;
+      rest = p.rest;
+      found = insert p.found before (Some (record { start = start; end = p.at }));
+    }
 
 -- an item: what the rule reads from the state p, with its span
 abbrev pub item : {A : Type 0} → State → Outcome A → Outcome A

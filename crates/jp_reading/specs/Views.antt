@@ -16,13 +16,15 @@ IsDeepAt n (took x p) = ⊥
 IsDeepAt n (stuck p) = ⊥
 IsDeepAt n (deep p) = n ≡ p.at
 
--- the function stops for the reason and at the byte for which the rule does; want of memory says nothing
+-- the function stops for the reason and at the byte for which the rule does; running out of memory
+-- says nothing
 abbrev pub Fails : {A : Type 0} → Stop → Outcome A → Type 0
 Fails Memory o = Unit {0}
 Fails (Syntax n) o = IsStuckAt n o
 Fails (TooDeep n) o = IsDeepAt n o
 
--- the function answers what the rule took, seen through the view, with its reader where the rule goes on; or it fails as the rule does
+-- the function answers what the rule took, seen through the view, with its reader where the rule
+-- goes on; or it fails as the rule does
 abbrev pub Gives : {A B : Type 0} → (A → B) → Result A Stop → State → Outcome B → Type 0
 Gives view (Ok x) p o = o ≡ took (view x) p
 Gives view (Err e) p o = Fails e o
@@ -31,6 +33,6 @@ Gives view (Err e) p o = Fails e o
 abbrev pub by : {A B : Type 0} → (A → B) → Outcome A → Outcome B
 by f o = o >>= λ x p. took (f x) p
 
--- the rule's list behind another
+-- the rule's list after another
 abbrev pub with_front : {A : Type 0} → List A → Outcome (List A) → Outcome (List A)
 with_front xs o = by (λ ys. xs ++ ys) o

@@ -1,5 +1,6 @@
-//! Reading texts by a grammar: a `Reader` goes over a text character by character, knows the byte where it stands,
-//! and keeps the spans of the items that it has passed. Functions over it take a rule's text each:
+//! Reading texts by a grammar: a `Reader` goes over a text character by character, knows the byte
+//! where it stands, and keeps the spans of the items that it has passed. Functions over it take a
+//! rule's text each:
 //!
 //! ```text
 //! let mut reader = Reader::new(alloc, "[7]");
@@ -8,8 +9,9 @@
 //! reader.expect(']')?;
 //! ```
 //!
-//! The contract for a crate above: its rules are functions from `State` to `Outcome` in its own `specs/`, each reading
-//! function answers `Gives`, and `proofs/` here has what turns such rules into the texts that a grammar's forms speak of.
+//! The contract for a crate above: its rules are functions from `State` to `Outcome` in its own
+//! `specs/`, each reading function answers `Gives`, and `proofs/` here has what turns such rules
+//! into the texts that a grammar's forms speak of.
 #![tactic(auto)]
 
 mod numbers;

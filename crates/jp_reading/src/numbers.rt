@@ -17,11 +17,13 @@ pub fn is_at_digit(reader: &Reader) -> bool
     }
 }
 
-/// Takes a digit and answers its value. Where there is none the answer is `Syntax` at that byte, and the reader stays.
+/// Takes a digit and answers its value. Where there is none the answer is `Syntax` at that byte,
+/// and the reader stays.
 pub fn digit(reader: &mut Reader) -> Result<u8, Stop>
     ensures taken { Gives (λ value. 48 + value) result reader.new (digit_at reader.old) }
     ensures value { IfOk result (λ value. value ≤ 9) }
-    ensures refused { IfErr result (λ stop. (stop ≡ Stop.Syntax reader.old.at) × (reader.new ≡ reader.old)) }
+    ensures refused { IfErr result
+        (λ stop. (stop ≡ Stop.Syntax reader.old.at) × (reader.new ≡ reader.old)) }
 {
     match reader.peek() {
         Some(next) if is_digit(next) => {
@@ -32,11 +34,17 @@ pub fn digit(reader: &mut Reader) -> Result<u8, Stop>
     }
 }
 
-/// Takes a digit and all digits after it, and answers the number that they write in base ten, or `cap` where it is larger.
-/// Where there is no digit the answer is `Syntax` at that byte, and the reader stays.
+/// Takes a digit and all digits after it, and answers the number that they write in base ten, or
+/// `cap` where it is larger. Where there is no digit the answer is `Syntax` at that byte, and the
+/// reader stays.
 pub fn natural(reader: &mut Reader, cap: u128) -> Result<u128, Stop>
-    ensures taken { Gives (λ number. number) result reader.new (by (capped cap 0) (digits_at reader.old)) }
-    ensures refused { IfErr result (λ stop. (stop ≡ Stop.Syntax reader.old.at) × (reader.new ≡ reader.old)) }
+    ensures taken { Gives
+        (λ number. number)
+        result
+        reader.new
+        (by (capped cap 0) (digits_at reader.old)) }
+    ensures refused { IfErr result
+        (λ stop. (stop ≡ Stop.Syntax reader.old.at) × (reader.new ≡ reader.old)) }
 {
     let mut number = u128::from(digit(reader)?).min(cap);
     'digits: while is_at_digit(reader) {

@@ -1,4 +1,4 @@
-//! The reader: a text, where reading stands in it, and the spans of the items behind.
+//! The reader: a text, where reading stands in it, and the spans of the items before it.
 
 ghost use Rattle.std.specs.Prelude.{◌≡◌, ◌∷◌, [], ◌+◌, length, MatchOption, IfSome, IfErr, OnOk, OnErr};
 ghost use Rattle.std.specs.Char.{len_utf8};
@@ -38,7 +38,8 @@ pub fn split_first(text: &str) -> Option<(char, &str)>
     ensures parts { MatchOption
         result
         (chars text.now ≡ [])
-        (λ x. (chars text.now ≡ x.0 ∷ chars x.1.now) × (length text.now ≡ len_utf8 x.0 + length x.1.now)) }
+        (λ x. (chars text.now ≡ x.0 ∷ chars x.1.now)
+        × (length text.now ≡ len_utf8 x.0 + length x.1.now)) }
     ensures text { IfSome result (λ x. IsUtf8 x.1.now) }
 {
     let mut characters = text.chars();
@@ -145,10 +146,12 @@ impl<'t> Reader<'t> {
         self.peek() == Some(wanted)
     }
 
-    /// Takes the next character. It has to be `wanted`: else the answer is `Syntax` at its byte, and the reader stays.
+    /// Takes the next character. It has to be `wanted`: else the answer is `Syntax` at its byte,
+    /// and the reader stays.
     pub fn expect(&mut self, wanted: char) -> Result<(), Stop>
         ensures taken { Gives (λ _. wanted) result self.new (expect wanted self.old) }
-        ensures refused { IfErr result (λ stop. (stop ≡ Stop.Syntax self.old.at) × (self.new ≡ self.old)) }
+        ensures refused { IfErr result
+            (λ stop. (stop ≡ Stop.Syntax self.old.at) × (self.new ≡ self.old)) }
     {
         if !self.is_at(wanted) {
             return Err(Stop::Syntax(self.place));
@@ -178,8 +181,8 @@ impl<'t> Reader<'t> {
         self.spans.len()
     }
 
-    /// Ends an item here that began at the byte `start`, when the reader had passed `before` items: its span goes in
-    /// before the spans of the items inside it.
+    /// Ends an item here that began at the byte `start`, when the reader had passed `before` items:
+    /// its span goes in before the spans of the items inside it.
     pub fn add_item(&mut self, start: usize, before: usize) -> Result<(), AllocError>
         ensures added { OnOk result (self.new ≡ item_since start before self.old) }
         ensures refused { OnErr result (self.new ≡ self.old) }

@@ -33,7 +33,8 @@ pub record ReadsItems (depth turns : ℕ) (ts rest : List Token) (vs : Items) : 
 pub record ReadsMembers (depth turns : ℕ) (ts rest : List Token) (ms : Members) : Type 0 where
   pub reading : parsed.Members
   pub read :
-      converted (λ js. of_members js parsed.no_members) (tokens.members (tokens.value depth) turns ts) ≡ Some (reading, rest)
+      converted (λ js. of_members js parsed.no_members)
+      (tokens.members (tokens.value depth) turns ts) ≡ Some (reading, rest)
   pub holds : members_of_data reading ≡ Some ms
 
 -- the characters write the whole number z

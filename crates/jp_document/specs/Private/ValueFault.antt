@@ -17,7 +17,7 @@ IsFaultWithin (Fraction steps) step (Fraction more) = more.items ≡ steps.items
 IsFaultWithin ValueFault.NoMemory step (Fraction more) = ⊥
 IsFaultWithin fault step ValueFault.NoMemory = Unit {0}
 
--- the path of a fraction with these steps, turned round; running out of memory says nothing
+-- the path of a fraction with these steps, reversed; running out of memory says nothing
 abbrev pub IsFaultAt : ValueFault → DocumentFault → Type 0
 IsFaultAt (Fraction steps) (NotWhole path) =
     string_bytes path ≡ path_of (reverse (map owned_key steps.items))
@@ -26,7 +26,7 @@ IsFaultAt (Fraction steps) NotJson = ⊥
 IsFaultAt (Fraction steps) ListTooLong = ⊥
 IsFaultAt ValueFault.NoMemory fault = fault ≡ NoMemory
 
--- the steps are those of the first fraction, turned round
+-- the steps are those of the first fraction, reversed
 abbrev pub IsValueFaultOf : Data → ValueFault → Type 0
 IsValueFaultOf d (Fraction steps) = IsFirstFraction d (reverse (map owned_key steps.items))
 IsValueFaultOf d ValueFault.NoMemory = Unit {0}

@@ -11,7 +11,10 @@ fn paths(rt: HostRuntime) -> Result<(), Fail> {
     );
     let location = read_path(alloc, "$['a'][0]")?;
     assert!(rt;
-        matches!(location.steps(), [OwnedStep::Name(name), OwnedStep::Index(0)] if name.as_str() == "a")
+        matches!(
+        location.steps(),
+        [OwnedStep::Name(name), OwnedStep::Index(0)] if name.as_str() == "a"
+    )
     );
     let empty = read_path(alloc, "$['']")?;
     assert!(rt; matches!(empty.steps(), [OwnedStep::Name(name)] if name.as_str() == ""));
