@@ -25,32 +25,33 @@ use Rattle.jp_canon.proofs.Forms.{Has, after-blank, before-blank, both, has-as, 
 use Rattle.jp_canon.proofs.Names.{has-quoted}
 use Rattle.jp_canon.proofs.Numbers.{has-decimal}
 use Rattle.jp_canon.proofs.Written.{quoted-encode}
-use Rattle.jp_evaluate.proofs.PathTrees.{HasTextNames, IndexFits, IndexesFit, path_tree, step_segment, step_selector}
+use Rattle.jp_evaluate.proofs.PathTrees.{StepFits, StepsFit, path_tree, step_segment, step_selector}
 
 -- ---- the canonical text spells the tree
 
-has-index : (i : ℕ) → i < 2 ^ 64 → Has (Int (Whole (pos i))) (decimal i)
-has-index i fits = subst (λ n. Has (Int n) (decimal i)) (rw (lt-ltb i (2 ^ 64) fits) refl)
-    (has-decimal i fits)
+has-index : (i : ℕ) → i < 2 ^ 53 → Has (Int (Whole (pos i))) (decimal i)
+has-index i small =
+    let fits : i < 2 ^ 64 = omega arith in
+    subst (λ n. Has (Int n) (decimal i)) (rw (lt-ltb i (2 ^ 64) fits) refl) (has-decimal i fits)
 
 module _ (K : ExprTree → Form) where
-  has-selector : (k : Key) → IndexFits k
+  has-selector : (k : Key) → StepFits k
       → Has (Selector K (step_selector k)) (selector_text (step_selector k))
   has-selector (named s) fits = has-as (λ r p. by_name (chars s) refl) (has-quoted (chars s))
   has-selector (nth i) fits = has-as (λ r p. indexed (Whole (pos i)) refl)
       (has-item (has-index i fits))
 
-  has-segment : (k : Key) → IndexFits k
+  has-segment : (k : Key) → StepFits k
       → Has (Segment K (step_segment k)) (segment_text (step_segment k))
   has-segment k fits = has-as (λ r p. bracketed (step_selector k ∷ []) refl)
       (bracket-of K (step_selector k) [] (before-blank (has-selector k fits), tt))
 
-  has-segments : (l : Location) → IndexesFit l
+  has-segments : (l : Location) → StepsFit l
       → Has (Segments K (map step_segment l)) (segments_text (segments (map step_segment l)))
   has-segments [] fits = has-word []
   has-segments (k ∷ l) fits = both (after-blank (has-segment k fits.0)) (has-segments l fits.1)
 
-canon-spells : (n : ℕ) (l : Location) → IndexesFit l
+canon-spells : (n : ℕ) (l : Location) → StepsFit l
     → (s : Spans) × Spells n (path_tree l) s (canon_of (path_tree l))
 canon-spells n l fits =
     let found = (both (has-word (codes "$")) (has-segments (Inside n) l fits)).at 0 in
@@ -106,8 +107,9 @@ encoded-name s utf8 = (
   quoted-encode (chars s) ∙ ap quoted (encodes-chars s utf8),
 )
 
-encoded-index : (i : ℕ) → i < 2 ^ 64 → Encoded (decimal i) (index_text i)
-encoded-index i fits = subst (λ t. Encoded t (index_text i)) (sym (decimal-index_text i fits))
+encoded-index : (i : ℕ) → i < 2 ^ 53 → Encoded (decimal i) (index_text i)
+encoded-index i small =
+    subst (λ t. Encoded t (index_text i)) (sym (decimal-index_text i (omega arith)))
     (encoded-ascii (index_text i) (digits-ascii (index_text i) (digits-index_text i)))
 
 -- a bracket around one selector
@@ -120,27 +122,27 @@ encoded-bracket t bs is =
     (encoded-mark 91 (omega arith))
     (encoded-append t (codes "]") bs (codes "]") is (encoded-mark 93 (omega arith))))
 
-encoded-steps : (l : Location) → HasTextNames l → IndexesFit l
+encoded-steps : (l : Location) → StepsFit l
     → Encoded (segments_text (segments (map step_segment l))) (flat_map step_text l)
-encoded-steps [] texts fit = (refl, refl)
-encoded-steps (named s ∷ l) texts fit =
+encoded-steps [] fit = (refl, refl)
+encoded-steps (named s ∷ l) fit =
     encoded-append (segment_text (step_segment (named s))) _ (step_text (named s)) _
-    (encoded-bracket (quoted (chars s)) (quoted s) (encoded-name s texts.0))
-    (encoded-steps l texts.1 fit.1)
-encoded-steps (nth i ∷ l) texts fit =
+    (encoded-bracket (quoted (chars s)) (quoted s) (encoded-name s fit.0))
+    (encoded-steps l fit.1)
+encoded-steps (nth i ∷ l) fit =
     encoded-append (segment_text (step_segment (nth i))) _ (step_text (nth i)) _
     (encoded-bracket (decimal i) (index_text i) (encoded-index i fit.0))
-    (encoded-steps l texts fit.1)
+    (encoded-steps l fit.1)
 
-path-canonical : (l : Location) → HasTextNames l → IndexesFit l
+path-canonical : (l : Location) → StepsFit l
     → chars (path_of l) ≡ canon_of (path_tree l)
-path-canonical l texts fit =
+path-canonical l fit =
     let all = encoded-append (codes "$") _ (codes "$") (flat_map step_text l)
-    (encoded-mark 36 (omega arith)) (encoded-steps l texts fit) in
+    (encoded-mark 36 (omega arith)) (encoded-steps l fit) in
     ap chars (sym all.1) ∙ chars-encodes (canon_of (path_tree l)) all.0
 
 -- so the path spells the tree
-pub path-spells : (n : ℕ) (l : Location) → HasTextNames l → IndexesFit l
+pub path-spells : (n : ℕ) (l : Location) → StepsFit l
     → (s : Spans) × Spells n (path_tree l) s (chars (path_of l))
-path-spells n l texts fit =
-    let found = canon-spells n l fit in (found.0, rw (path-canonical l texts fit) found.1)
+path-spells n l fit =
+    let found = canon-spells n l fit in (found.0, rw (path-canonical l fit) found.1)

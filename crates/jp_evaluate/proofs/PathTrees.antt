@@ -16,17 +16,11 @@ step_segment k = segment false (selectors (step_selector k ∷ []))
 abbrev pub path_tree : Location → QueryTree
 path_tree l = query true (segments (map step_segment l))
 
--- an index in a location fits 64 bits
-abbrev pub IndexFits : Key → Type 0
-IndexFits (named s) = Unit {0}
-IndexFits (nth i) = i < 2 ^ 64
+-- the name of a step is a text, its index in range
+abbrev pub StepFits : Key → Type 0
+StepFits (named s) = IsUtf8 s
+StepFits (nth i) = i < 2 ^ 53
 
-abbrev pub IndexesFit : Location → Type 0
-IndexesFit [] = Unit {0}
-IndexesFit (k ∷ l) = IndexFits k × IndexesFit l
-
--- the names in a location are texts
-abbrev pub HasTextNames : Location → Type 0
-HasTextNames [] = Unit {0}
-HasTextNames (named s ∷ l) = IsUtf8 s × HasTextNames l
-HasTextNames (nth i ∷ l) = HasTextNames l
+abbrev pub StepsFit : Location → Type 0
+StepsFit [] = Unit {0}
+StepsFit (k ∷ l) = StepFits k × StepsFit l
