@@ -48,7 +48,7 @@ pub(crate) fn write_lines<W: Output>(
     nodes: Nodes,
     output: &mut W,
 ) -> Result<(), Fault>
-    requires { nodes.entry.failed ≡ false }
+    requires { nodes.failed ≡ false }
     ensures ok { OnOk result (WritesAll W.contents W.has_failed output.old output.new
         (lines_of form (rest_of nodes.entry))) }
     ensures stopped { IfErr result (StopsWriting W.contents W.has_failed output.old output.new
