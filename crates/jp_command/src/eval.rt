@@ -12,7 +12,7 @@ use crate::limits::QUERY_LIMIT;
 use crate::lines::{Form, write_lines};
 use jp_check::{Checked, read_query};
 use jp_document::Document;
-use jp_evaluate::evaluate;
+use jp_evaluate::nodes;
 use jp_query::{Refusal, RefusalKind};
 use std::alloc::Global;
 
@@ -20,11 +20,12 @@ use std::alloc::Global;
 /// nodelist's order (RFC 9535 section 2.1.2).
 ///
 /// The query is read first, and where it is refused the input stays unread; then the input is read
-/// to its end; then the document is read; and only then is anything written. `Query` says that the
-/// query has more than `QUERY_LIMIT` bytes (`TextTooLong`) or is refused, `Document` that what was
-/// read is no document, `DocumentTooLarge` that more than `DOCUMENT_LIMIT` bytes came, `Read` and
-/// `Write` that the input or the output failed: a call that fails is not tried again. After `Write`
-/// and `NoMemory` a prefix of the output is written.
+/// to its end; then the document is read; and only then is anything written, each node's line before
+/// the next node is looked for. `Query` says that the query has more than `QUERY_LIMIT` bytes
+/// (`TextTooLong`) or is refused, `Document` that what was read is no document, `DocumentTooLarge`
+/// that more than `DOCUMENT_LIMIT` bytes came, `Read` and `Write` that the input or the output
+/// failed: a call that fails is not tried again. After `Write` and `NoMemory` a prefix of the output
+/// is written.
 pub fn run_eval<R: Source, W: Output>(
     alloc: Global,
     query: &str,
@@ -55,9 +56,7 @@ pub(crate) fn eval_document<R: Source, W: Output>(
     let bytes = read_all(alloc, input)?;
     let document = Document::read(alloc, &bytes)?;
     drop(bytes);
-    let nodes = evaluate(alloc, &document, &query)?;
-    write_lines(alloc, form, &nodes, output)?;
-    drop(nodes);
+    write_lines(alloc, form, nodes(alloc, &document, &query), output)?;
     Ok(document)
 }
 

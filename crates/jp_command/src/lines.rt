@@ -1,14 +1,16 @@
 //! Writing a line for each node.
 
-ghost use Rattle.std.specs.Prelude.{◌≡◌, ◌++◌, IfErr, OnOk, map, string_bytes};
+ghost use Rattle.std.specs.Prelude.{◌≡◌, ◌++◌, IfErr, OnOk, false, string_bytes};
 ghost use Rattle.jp_command.specs.Lines.{line_of, lines_of};
 ghost use Rattle.jp_command.specs.Output.{StopsWriting, WritesAll};
 ghost use Rattle.jp_document.specs.ChildNodes.{shown};
+ghost use Rattle.jp_evaluate.specs.Rest.{rest_of};
 
 use crate::device::Output;
 use crate::fault::Fault;
 use crate::output::write_all;
 use jp_document::{Node, push_path, push_value};
+use jp_evaluate::Nodes;
 use std::alloc::{AllocError, Global};
 
 /// What is written of each node.
@@ -39,22 +41,24 @@ fn push_line(form: Form, node: &Node, line: &mut String) -> Result<(), AllocErro
     line.push('\n')
 }
 
-/// Writes the lines of `nodes`, one after another. After a fault a prefix of them is written.
+/// Writes the line of each node before it asks for the next. After a fault a prefix of the lines is written.
 pub(crate) fn write_lines<W: Output>(
     alloc: Global,
     form: Form,
-    nodes: &[Node],
+    nodes: Nodes,
     output: &mut W,
 ) -> Result<(), Fault>
+    requires { nodes.failed ≡ false }
     ensures ok { OnOk result (WritesAll W.contents W.has_failed output.old output.new
-        (lines_of form (map shown nodes.now))) }
+        (lines_of form (rest_of nodes.entry))) }
     ensures stopped { IfErr result (StopsWriting W.contents W.has_failed output.old output.new
-        (lines_of form (map shown nodes.now))) }
+        (lines_of form (rest_of nodes.entry))) }
 {
     let mut line = String::new(alloc);
-    for node in nodes {
+    for next in nodes {
+        let node = next?;
         line.clear();
-        push_line(form, node, &mut line)?;
+        push_line(form, &node, &mut line)?;
         let Ok(()) = write_all(output, line.as_bytes()) else {
             return Err(Fault::Write);
         };

@@ -1,15 +1,14 @@
 -- The steps of a walk.
-use Rattle.std.proofs.Common.{◌≡◌, ℕ, zero, suc, ◌+◌, ◌<◌, ◌≤◌, Bool, true, false, if◌then◌else◌, List, [], ◌∷◌, ◌++◌, None, drop, length, map, slice_index_or, option_to_list, refl, ap, ap₂, sym, ◌∙◌, arith}
+use Rattle.std.proofs.Common.{◌≡◌, ℕ, zero, suc, ◌+◌, ◌<◌, ◌≤◌, true, false, if◌then◌else◌, List, [], ◌∷◌, ◌++◌, None, length, map, slice_index_or, option_to_list, refl, ap, ap₂, sym, ◌∙◌, arith}
 use Rattle.std.specs.List.{flat_map, sum_by}
 use Rattle.std.proofs.lemmas.Grind.{flat_map-append}
 use Rattle.std.proofs.lemmas.List.Sums.{sum_by-append, sum_by-cons}
 use Rattle.jp_document.specs.DocumentValue.{lent_value}
-use Rattle.jp_document.specs.Location.{Location}
 use Rattle.jp_document.specs.Value.{Value}
-use Rattle.jp_query.specs.Tree.{no_segments, segment_of, segment_then}
+use Rattle.jp_query.specs.Tree.{segment_of, segment_then}
 use Rattle.jp_query.specs.declared.tree.Segment.{Segment}
-use Rattle.jp_evaluate.specs.Private.Reached.{Reached, reaches}
-use Rattle.jp_evaluate.specs.Private.Walk.{Choice, choice_at, choice_reaches, choice_weight, choices_from, entered, frame_choices, frames_pending, offered, passes, pending, reached_at, reached_place, segments_left, start_choice, steps_of, turns, walk_frames, walk_reaches, walk_weight}
+use Rattle.jp_evaluate.specs.Private.Reached.{reaches}
+use Rattle.jp_evaluate.specs.Private.Walk.{choice_at, choice_reaches, choice_weight, choices_from, entered, frames_pending, offered, passes, pending, reached_at, reached_place, segments_left, start_choice, steps_of, turns, walk_frames, walk_reaches, walk_weight}
 use Rattle.jp_evaluate.specs.declared.walk.Offer.{Offer}
 use Rattle.jp_evaluate.specs.declared.walk.Place.{Place}
 use Rattle.jp_evaluate.specs.declared.walk.Walk.{Walk}

@@ -9,7 +9,7 @@ use Rattle.jp_document.proofs.ChildValues.{value_at-step}
 use Rattle.jp_document.specs.Location.{Key, Location, value_at}
 use Rattle.jp_document.specs.Value.{IsDocumentValue, Value}
 use Rattle.jp_query.specs.Singular.{are_single}
-use Rattle.jp_query.specs.Tree.{SegmentTree, SegmentTrees, SelectorTree, filter, index, name, no_segments, no_selectors, segment, segment_of, segment_then, segments, selector_of, selector_then, selectors, slice, wildcard}
+use Rattle.jp_query.specs.Tree.{SegmentTrees, SelectorTree, filter, index, name, no_segments, no_selectors, segment, segment_of, segment_then, segments, selector_of, selector_then, selectors, slice, wildcard}
 use Rattle.jp_query.specs.declared.tree.Segment.{Segment, out-Segment}
 use Rattle.jp_query.specs.declared.tree.Selector.{Selector}
 use Rattle.jp_select.proofs.Chosen.{IsPlain, StandsBelow, candidates_stand, chosen-candidates, entry_location}

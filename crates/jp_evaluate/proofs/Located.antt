@@ -1,9 +1,8 @@
 -- What queries reach by values is what the standard has by locations.
-use Rattle.std.proofs.Common.{◌≡◌, Bool, true, false, not, ◌&&◌, ◌||◌, if◌then◌else◌, List, [], ◌∷◌, ◌++◌, Option, Some, map, refl, ap, ap₂, sym, ◌∙◌, subst, append_assoc}
+use Rattle.std.proofs.Common.{◌≡◌, Bool, true, false, not, ◌&&◌, ◌||◌, if◌then◌else◌, List, [], ◌∷◌, ◌++◌, Some, map, refl, ap, ap₂, sym, ◌∙◌, append_assoc}
 use Rattle.std.specs.List.{All, filter as those_of, flat_map}
 use Rattle.std.proofs.lemmas.List.{append-nil, map-append}
-use Rattle.std.proofs.lemmas.Grind.{flat_map-append}
-use Rattle.std.proofs.lemmas.List.Elements.{All-append, All-cons, All-filter, All-head, All-map, All-nil, All-tail, All-weaker}
+use Rattle.std.proofs.lemmas.List.Elements.{All-append, All-cons, All-filter, All-head, All-nil, All-tail}
 use Rattle.jp_document.proofs.ChildValues.{value_at-step}
 use Rattle.jp_document.specs.ChildNodes.{standing}
 use Rattle.jp_document.specs.Location.{Key, Location, held, value_at}
@@ -16,8 +15,8 @@ use Rattle.jp_select.specs.Candidates.{candidates}
 use Rattle.jp_select.specs.Comparison.{compared}
 use Rattle.jp_select.specs.Selectors.{chosen}
 use Rattle.jp_select.specs.Subtree.{beyond, nodes_in, subtree}
-use Rattle.jp_evaluate.specs.Nodelist.{all_hold, any_holds, has_node, holds, nodelist_at, operand_value, result, segment_result, selected, selection, start_of, visited}
-use Rattle.jp_evaluate.specs.Private.Reached.{Reached, all_true, any_true, begins, further, is_reached, leads, reaches, segment_reaches, side, taken, takes, truth, visits}
+use Rattle.jp_evaluate.specs.Nodelist.{all_hold, any_holds, has_node, holds, operand_value, result, selected, selection, visited}
+use Rattle.jp_evaluate.specs.Private.Reached.{Reached, all_true, any_true, further, is_reached, reaches, segment_reaches, side, taken, takes, truth, visits}
 use Rattle.jp_evaluate.specs.Rest.{as_shown}
 use Rattle.jp_evaluate.proofs.Along.{StandsAt, along}
 use Rattle.jp_evaluate.proofs.Reaching.{flat_map-flat_map}

@@ -1,5 +1,5 @@
 -- Each location of a nodelist is that of a node, and a singular query has at most one.
-use Rattle.std.proofs.Common.{◌≡◌, ◌≤◌, ℕ, Bool, true, false, if◌then◌else◌, List, [], ◌∷◌, ◌++◌, length, Option, Some, None, IsSome, is_some, Contains, refl, ap, sym, ◌∙◌, subst, arith}
+use Rattle.std.proofs.Common.{◌≡◌, ◌≤◌, ℕ, Bool, true, false, if◌then◌else◌, List, [], ◌∷◌, ◌++◌, length, Option, Some, None, IsSome, is_some, Contains, refl, sym, ◌∙◌, subst, arith}
 use Rattle.std.specs.List.{All, flat_map}
 use Rattle.std.specs.Option.{option_map_or}
 use Rattle.std.specs.Str.{encode_utf8_all}
@@ -11,10 +11,10 @@ use Rattle.jp_document.specs.ChildNodes.{IsChild, IsListOf, children_of}
 use Rattle.jp_document.specs.Location.{Key, Location, named, value_at}
 use Rattle.jp_document.specs.Value.{IsDocumentValue, Value}
 use Rattle.jp_query.specs.Singular.{are_single, is_single, is_single_segment}
-use Rattle.jp_query.specs.Tree.{QueryTree, SegmentTree, SegmentTrees, SelectorTree, SelectorTrees, filter, index, name, no_segments, no_selectors, query, segment, segment_then, selector_then, slice, wildcard}
+use Rattle.jp_query.specs.Tree.{SegmentTree, SegmentTrees, SelectorTree, SelectorTrees, filter, index, name, no_segments, no_selectors, query, segment, segment_then, selector_then, slice, wildcard}
 use Rattle.jp_query.specs.declared.tree.Numeral.TheVariants.{Beyond, Fraction, Whole}
 use Rattle.jp_select.proofs.Rising.{subtree_law}
-use Rattle.jp_select.specs.Selectors.{chosen, indexes_chosen, item_at, item_step, length_at, one_step}
+use Rattle.jp_select.specs.Selectors.{indexes_chosen, item_step, length_at, one_step}
 use Rattle.jp_select.specs.Subtree.{IsInSubtree, subtree}
 use Rattle.jp_evaluate.specs.Laws.{SelectsNodesAlone, SingularSelectsOne}
 use Rattle.jp_evaluate.specs.Nodelist.{holds, result, segment_result, selected, selection, start_of, visited}

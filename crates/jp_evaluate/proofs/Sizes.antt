@@ -1,5 +1,5 @@
 -- The parts of queries are smaller.
-use Rattle.std.proofs.Common.{◌≡◌, ℕ, zero, suc, ◌+◌, ◌<◌, ◌≤◌, List, [], ◌∷◌, length, map, slice_index_or, ap, arith}
+use Rattle.std.proofs.Common.{◌≡◌, ℕ, zero, suc, ◌<◌, ◌≤◌, List, [], ◌∷◌, length, map, slice_index_or, ap, arith}
 use Rattle.jp_query.specs.Tree.{expr_of, exprs, segment_of, segments, selector_of, selectors}
 use Rattle.jp_query.specs.declared.tree.Expr.{Expr}
 use Rattle.jp_query.specs.declared.tree.Segment.{Segment}

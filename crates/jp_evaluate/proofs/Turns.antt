@@ -1,8 +1,8 @@
 -- The turns by which a segment chooses.
-use Rattle.std.proofs.Common.{◌≡◌, ◌≢◌, ℕ, zero, suc, ◌+◌, ◌-◌, ◌<◌, ◌≤◌, Bool, true, false, List, [], ◌∷◌, ◌++◌, Option, Some, None, drop, drop-cons, length, map, slice_index_or, if◌then◌else◌, refl, ap, ap₂, sym, ◌∙◌, arith}
+use Rattle.std.proofs.Common.{◌≡◌, ◌≢◌, ℕ, zero, suc, ◌+◌, ◌-◌, ◌<◌, ◌≤◌, Bool, true, false, List, [], ◌∷◌, ◌++◌, Some, None, drop, drop-cons, length, map, slice_index_or, refl, ap, ap₂, sym, ◌∙◌, arith}
 use Rattle.std.specs.List.{slice_get}
 use Rattle.std.proofs.lemmas.Option.{same_Some}
-use Rattle.jp_query.specs.Tree.{SegmentTree, SegmentTrees, SelectorTree, segment, segment_of, segment_then, segments, selector_of, selectors, wildcard}
+use Rattle.jp_query.specs.Tree.{SegmentTrees, SelectorTree, segment, segment_of, segment_then, segments, selector_of, selectors, wildcard}
 use Rattle.jp_query.specs.declared.tree.Segment.{Segment, out-Segment}
 use Rattle.jp_query.specs.declared.tree.Selector.{Selector}
 use Rattle.jp_evaluate.specs.Private.Sizes.{segment_size, segments_size, selector_size}

@@ -57,3 +57,18 @@ fn tells_failures_of_its_devices(rt: HostRuntime) {
     assert!(rt; run == Err(Fault::Write));
     assert_eq!(rt; narrow.taken.as_slice(), b"$[0][1]\t8".as_slice());
 }
+
+#[test]
+fn writes_nothing_where_the_first_write_fails(rt: HostRuntime) {
+    let alloc = rt.alloc();
+    let mut closed = Narrow::new(alloc, 0, true);
+    let run = run_eval(
+        alloc,
+        "$[?@.x]",
+        Form::Both,
+        &mut Device::new(b"[{\"x\":1},{\"x\":2}]".as_slice()),
+        &mut Device::new(&mut closed),
+    );
+    assert!(rt; run == Err(Fault::Write));
+    assert!(rt; closed.taken.is_empty());
+}

@@ -1,6 +1,5 @@
 -- What a walk still has to offer, frame by frame.
 use Rattle.std.specs.Prelude.{ℕ, suc, ◌+◌, List, [], ◌∷◌, ◌++◌, if◌then◌else◌, Bool, true, false, Option, Some, None, drop, map, option_map, option_to_list, sum_by}
-use Rattle.std.specs.Borrow.{Bor}
 use Rattle.std.specs.List.{flat_map}
 use Rattle.std.specs.Option.{option_map_or}
 use Rattle.jp_document.specs.DocumentValue.{lent_value}

@@ -1,11 +1,13 @@
-use Rattle.std.proofs.Common.{map, take}
+use Rattle.std.proofs.Common.{◌≡◌, ◌++◌, List, ℕ, false}
+use Rattle.std.specs.Io.KnownBytes.{Appends}
+use Rattle.jp_evaluate.specs.Rest.{rest_of}
 use Rattle.jp_command.specs.Lines.{lines_of}
-use Rattle.jp_command.specs.Output.{WritesAll}
-use Rattle.jp_document.specs.ChildNodes.{shown}
+use Rattle.jp_command.proofs.LineLemmas.{WritesUpTo}
 use Rattle.jp_command.proofs.lines.write_lines.Given as goal
 
--- the lines so far are written
-abbrev pub invariant-loop-node : goal.invariant-loop-node
-invariant-loop-node g l =
-    WritesAll g.W.Output.contents g.W.Output.has_failed l.fn.output l.output
-    (lines_of l.form (map shown (take l.node-index l.nodes)))
+-- the lines of the nodes so far are written, and those to come are left
+abbrev pub invariant-loop-next : goal.invariant-loop-next
+invariant-loop-next g l = record {
+  working : l.next-iterator.failed ≡ false;
+  written : WritesUpTo g.W.Output.contents g.W.Output.has_failed l.fn.output l.output (lines_of l.form (rest_of l.fn.nodes)) (lines_of l.form (rest_of l.next-iterator));
+}

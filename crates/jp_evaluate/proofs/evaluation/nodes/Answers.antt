@@ -1,4 +1,4 @@
-use Rattle.std.proofs.Common.{◌≡◌, map, sym, ap, ◌∙◌}
+use Rattle.std.proofs.Common.{map, sym, ap, ◌∙◌}
 use Rattle.jp_document.specs.Document.{document_of}
 use Rattle.jp_query.specs.declared.tree.Query.{Query, out-Query}
 use Rattle.jp_evaluate.specs.Private.Walk.{walk_reaches}

@@ -1,14 +1,11 @@
-use Rattle.std.proofs.Common.{◌≡◌, ◌<◌, ℕ, Option, Bor, map, option_map, ap, sym, subst, ◌∙◌, arith}
+use Rattle.std.proofs.Common.{◌≡◌, ◌<◌, ℕ, Option, Bor, option_map, ap, sym, subst, ◌∙◌}
 use Rattle.jp_document.specs.DocumentValue.{lent_value}
 use Rattle.jp_query.specs.declared.tree.Expr.{Expr}
-use Rattle.jp_query.specs.declared.tree.Expr.TheVariants.{Test}
-use Rattle.jp_query.specs.Tree.{expr_of, exprs, query_of}
-use Rattle.jp_evaluate.specs.Private.Reached.{truth}
-use Rattle.jp_evaluate.specs.Private.Sizes.{expr_size, exprs_size, query_size}
+use Rattle.jp_query.specs.Tree.{expr_of}
+use Rattle.jp_evaluate.specs.Private.Sizes.{expr_size}
 use Rattle.jp_evaluate.specs.Private.Walk.{offered, passes}
-use Rattle.jp_evaluate.proofs.Advances.{arrives, goes_on, goes_on_less, offer_less, passed_over}
+use Rattle.jp_evaluate.proofs.Advances.{goes_on, goes_on_less, offer_less, passed_over}
 use Rattle.jp_evaluate.proofs.Sizes.{part_size}
-use Rattle.jp_evaluate.proofs.Trees.{expr_of-Test}
 use Rattle.jp_evaluate.proofs.filter.+filter.Goals as goal
 use Rattle.jp_evaluate.proofs.filter.+filter.Goals.{advance-in-Some-test+in_ok-passes-in-Some-test, advance-in-None}
 

@@ -1,6 +1,6 @@
-use Rattle.std.proofs.Common.{◌≡◌, ◌++◌, [], ◌∷◌, ℕ, Global, Vec, List, Some, None, length, map, take, option_to_list, ap, ap₂, sym, ◌∙◌, arith}
+use Rattle.std.proofs.Common.{◌≡◌, ◌++◌, [], ◌∷◌, Global, Vec, map, take, option_to_list, ap, sym, ◌∙◌}
 use Rattle.std.proofs.lemmas.List.{append-nil, take_all, take_more}
-use Rattle.jp_document.specs.Location.{Location, key_of}
+use Rattle.jp_document.specs.Location.{key_of}
 use Rattle.jp_document.specs.declared.location.Step.{Step}
 use Rattle.jp_evaluate.specs.Private.Walk.{reached_at, steps_of, walk_frames}
 use Rattle.jp_evaluate.proofs.Choices.{reached-push}
