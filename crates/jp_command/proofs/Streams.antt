@@ -1,11 +1,8 @@
 -- What is read or written in two steps.
-use Rattle.std.proofs.Common.{◌≡◌, ℕ, ◌-◌, List, [], ◌++◌, length, take, drop, Option, Some, None, Result, Ok, Err, OnErr, OnOk, IfErr, subst, sym, ◌∙◌, ap, append_assoc}
+use Rattle.std.proofs.Common.{◌≡◌, ℕ, ◌-◌, List, [], ◌++◌, length, take, drop, Option, Some, None, Result, Ok, Err, OnErr, OnOk, sym, ◌∙◌, ap, append_assoc}
 use Rattle.std.proofs.lemmas.List.{append-nil, take-append-drop, take_rest}
 use Rattle.std.specs.Io.KnownBytes.{Appends, Keeps}
-use Rattle.std.specs.Prelude.{IsErrAnd}
 use Rattle.jp_command.specs.Output.{AppendsPrefix}
-use Rattle.jp_command.specs.declared.fault.Fault.{Fault}
-use Rattle.jp_command.specs.declared.fault.Fault.TheVariants.{NoMemory}
 
 pub Appends-nothing : (a : Option (List ℕ)) → Appends a a []
 Appends-nothing None = tt
@@ -56,9 +53,3 @@ pub prefix-either : {T E : Type 0} (a b : Option (List ℕ)) (text : List ℕ) (
     → OnOk r (Appends a b text) → OnErr r (AppendsPrefix a b text) → AppendsPrefix a b text
 prefix-either a b text (Ok x) whole prefix = prefix-whole a b text whole
 prefix-either a b text (Err e) whole prefix = prefix
-
--- what holds where memory ran out holds of an answer that says so
-pub IfErr-memory : {T : Type 0} (P : Fault → Type 0) (r : Result T Fault)
-    → IsErrAnd r (λ fault. fault ≡ NoMemory) → P NoMemory → IfErr r P
-IfErr-memory P (Ok x) memory holds = tt
-IfErr-memory P (Err fault) memory holds = subst P (sym memory) holds
