@@ -1,5 +1,4 @@
-use Rattle.std.proofs.Common.{◌≡◌, ◌++◌, List, ℕ, false}
-use Rattle.std.specs.Io.KnownBytes.{Appends}
+use Rattle.std.proofs.Common.{◌≡◌, false}
 use Rattle.jp_evaluate.specs.Rest.{rest_of}
 use Rattle.jp_command.specs.Lines.{lines_of}
 use Rattle.jp_command.proofs.LineLemmas.{WritesUpTo}
