@@ -1,4 +1,4 @@
--- What is read or written in two steps.
+-- What is written in two steps.
 use Rattle.std.proofs.Common.{◌≡◌, ℕ, ◌-◌, List, [], ◌++◌, length, take, drop, Option, Some, None, Result, Ok, Err, OnErr, OnOk, IfErr, subst, sym, ◌∙◌, ap, append_assoc}
 use Rattle.std.proofs.lemmas.List.{append-nil, take-append-drop, take_rest}
 use Rattle.std.specs.Io.KnownBytes.{Appends, Keeps}
@@ -6,6 +6,10 @@ use Rattle.std.specs.Prelude.{IsErrAnd}
 use Rattle.jp_command.specs.Output.{AppendsPrefix}
 use Rattle.jp_command.specs.declared.fault.Fault.{Fault}
 use Rattle.jp_command.specs.declared.fault.Fault.TheVariants.{NoMemory}
+
+pub Appends-nothing : (a : Option (List ℕ)) → Appends a a []
+Appends-nothing None = tt
+Appends-nothing (Some xs) = sym (append-nil xs)
 
 pub Appends-twice : (a b c : Option (List ℕ)) (x y : List ℕ)
     → Appends a b x → Appends b c y → Appends a c (x ++ y)
