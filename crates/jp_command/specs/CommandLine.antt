@@ -8,7 +8,7 @@ use Rattle.jp_command.specs.declared.lines.Form.TheVariants.{Values, Paths, Both
 use Rattle.jp_command.specs.declared.words.Task.{Task}
 use Rattle.jp_command.specs.declared.words.Task.TheVariants.{Canon, Eval}
 
--- a subcommand with exactly one positional, the query, which has to be there
+-- a subcommand with exactly one positional, the query, which is required
 unfoldable pub query_app : Text → App
 query_app name = with_rule (new_app name) (record (new_rule (codes "QUERY")) { required = true })
 
@@ -16,7 +16,7 @@ query_app name = with_rule (new_app name) (record (new_rule (codes "QUERY")) { r
 abbrev pub with_task : App → Text → App
 with_task app name = with_subcommand app (query_app name).top
 
--- `jp` with its subcommands, one of which has to be there
+-- `jp` with its subcommands, one of which is required
 unfoldable pub jp : App
 jp = on_top (λ top. record top { subcommand_required = true })
     (with_task (with_task (with_task (with_task (new_app (codes "jp"))

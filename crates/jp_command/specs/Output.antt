@@ -22,13 +22,13 @@ module _ {W : Type 0} (contents : W → Option (List ℕ)) (has_failed : W → B
     pub written : Appends (contents o) (contents p) text
     pub works : has_failed p ≡ has_failed o
 
-  -- an output that is such a one was written, and nothing else
+  -- an output with this property was written, and nothing else
   pub record WritesOutput (IsOutput : List ℕ → Type 0) (o p : W) : Type 0 where
     pub output : List ℕ
     pub is : IsOutput output
     pub writes : WritesAll o p output
 
-  -- a prefix of an output that is such a one was written
+  -- a prefix of an output with this property was written
   pub record WritesPrefix (IsOutput : List ℕ → Type 0) (o p : W) : Type 0 where
     pub output : List ℕ
     pub is : IsOutput output

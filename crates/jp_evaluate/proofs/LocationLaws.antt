@@ -1,10 +1,10 @@
 -- The location of a node as a query.
-use Rattle.std.proofs.Common.{true, pos, ◌≡◌, ℕ, suc, ◌<◌, ◌≤◌, ◌-◌, ◌^◌, List, [], ◌∷◌, ◌++◌, map, length, Option, Some, None, IsSome, inl, inr, refl, ap, sym, ◌∙◌, append_assoc, arith, option_and_then, lt-ltb}
-use Rattle.std.specs.List.{All, slice_get}
-use Rattle.std.proofs.lemmas.Bool.{cases_lt, leb-true}
+use Rattle.std.proofs.Common.{true, pos, ◌≡◌, ℕ, suc, ◌<◌, ◌≤◌, ◌-◌, ◌^◌, List, [], ◌∷◌, ◌++◌, map, length, Option, Some, None, IsSome, refl, ap, sym, ◌∙◌, append_assoc, arith, option_and_then, lt-ltb}
+use Rattle.std.specs.List.{All}
+use Rattle.std.proofs.lemmas.Bool.{leb-true}
 use Rattle.std.proofs.lemmas.List.{append-nil}
 use Rattle.std.proofs.lemmas.List.Elements.{All-cons, All-nil}
-use Rattle.std.proofs.lemmas.Option.{slice_get_past}
+use Rattle.std.proofs.lemmas.Option.{option_and_then_some, slice_get_within}
 use Rattle.jp_document.proofs.ChildValues.{IsDocumentValue-child, value_at-step}
 use Rattle.jp_document.proofs.Items.{child-nth}
 use Rattle.jp_document.proofs.Names.{and-left, child-object_nth}
@@ -35,28 +35,22 @@ item_count-items : (xs : List Value) → item_count (items_of xs) ≡ length xs
 item_count-items [] = refl
 item_count-items (x ∷ xs) = ap suc (item_count-items xs)
 
--- an index at which something stands is below the count
-within_get : (xs : List Value) (i : ℕ) (u : Value) → slice_get xs i ≡ Some u → i < length xs
-within_get xs i u there = elim (cases_lt i (length xs)) [
-  | inl below ↦ below
-  | inr past ↦ absurd (let none : slice_get xs i ≡ None = slice_get_past xs i past in cc)
-]
-
+-- an index at which there is an item is below the count
 within_items : (vs : Items) (i : ℕ) (u : Value) → child (list vs) (nth i) ≡ Some u
     → i < item_count vs
 within_items vs i u there =
     let xs : List Value = (as_items vs).0 in
     let same : vs ≡ items_of xs = (as_items vs).1 in
-    let got = within_get xs i u
+    let got = slice_get_within xs i u
     (sym (child-nth i xs) ∙ ap (λ w. child (list w) (nth i)) (sym same) ∙ there) in
     let count : item_count vs ≡ length xs = ap item_count same ∙ item_count-items xs in
     omega arith
 
 -- what stands one step below has its own step there
 inside : (o : Option Value) (w : Value) (m : Location)
-    → option_and_then (λ u. value_at u m) o ≡ Some w → (u : Value) × (o ≡ Some u) × (value_at u m ≡ Some w)
-inside None w m e = absurd (cc)
-inside (Some u) w m e = (u, refl, e)
+    → option_and_then (λ u. value_at u m) o ≡ Some w
+    → (u : Value) × (o ≡ Some u) × (value_at u m ≡ Some w)
+inside o w m e = option_and_then_some (λ u. value_at u m) o w e (λ u at end. (u, at, end))
 
 present : (d u : Value) (l : Location) (k : Key) → value_at d (l ++ k ∷ []) ≡ Some u
     → one_step d l k ≡ (l ++ k ∷ []) ∷ []
