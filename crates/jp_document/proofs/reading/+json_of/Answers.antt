@@ -8,7 +8,7 @@ use Rattle.jp_document.specs.Location.{nth}
 use Rattle.jp_document.specs.Value.{value_of, member_of, members_of}
 use Rattle.jp_document.specs.declared.value.Member.{Member}
 use Rattle.jp_document.specs.declared.location.OwnedStep.TheVariants.{Name, Index}
-use Rattle.jp_document.proofs.Fits.{items_fit_more, members_fit_more}
+use Rattle.jp_document.proofs.ListsFit.{items_fit_more, members_fit_more}
 use Rattle.jp_document.proofs.ValueFaults.{value_fault-within}
 use Rattle.jp_document.proofs.Values.{member_of_is}
 use Rattle.jp_document.proofs.TextNames.{names_are_texts, text_is_allowed}
