@@ -1,5 +1,5 @@
 -- A reading turned into a value, part by part.
-use Rattle.std.proofs.Common.{◌≡◌, ℕ, suc, ◌<◌, Bool, true, false, ◌&&◌, List, [], ◌∷◌, ◌++◌, length, map, Option, Some, String, Global, Ordering, Less, Equal, Greater, is_eq, is_lt, string_bytes, string_cmp, cond, refl, sym, ap, subst, ◌∙◌, arith, append_assoc, append-nil, add-one}
+use Rattle.std.proofs.Common.{◌≡◌, ℕ, suc, ◌<◌, Bool, true, false, ◌&&◌, List, [], ◌∷◌, ◌++◌, length, map, Option, Some, String, Global, Ordering, Less, Equal, Greater, is_eq, string_bytes, string_cmp, cond, refl, sym, ap, subst, ◌∙◌, arith, append_assoc, append-nil, add-one}
 use Rattle.std.specs.BTreeMap.{is_at}
 use Rattle.std.specs.Cmp.{nat_cmp_is}
 use Rattle.std.specs.List.{AllByRecursion, list_all}
@@ -17,11 +17,11 @@ use Rattle.serde_json.specs.View.{view, items_view, members_view}
 use Rattle.serde_json.specs.declared.value.Value.{Value as Reading}
 use Rattle.jp_document.specs.Document.{value_of_data, items_of_data, members_of_data, data_items_from, data_members, IsFirstFraction}
 use Rattle.jp_document.specs.Location.{Key, named, nth, key_cmp, Location}
-use Rattle.jp_document.specs.Value.{Value, item, items_of, Members, member, members_of, names_of, names_rise, everywhere, everywhere_in_items, everywhere_in_members, list_fits, is_allowed, value_of, member_of}
+use Rattle.jp_document.specs.Value.{Value, item, items_of, member, members_of, everywhere, everywhere_in_items, everywhere_in_members, value_of, member_of}
 use Rattle.jp_document.specs.declared.value.Json.{Json}
 use Rattle.jp_document.specs.declared.value.Member.{Member}
-use Rattle.jp_document.proofs.Fractions.{IsFirstIn, IsAbove, from_both, key_exact, skipped, hit, IsFirstFraction-held}
-use Rattle.jp_document.proofs.Names.{bytes_cmp, and-left, and-right}
+use Rattle.jp_document.proofs.Fractions.{IsFirstIn, IsAbove, key_exact, skipped, hit, IsFirstFraction-held}
+use Rattle.jp_document.proofs.Names.{and-left, and-right}
 
 -- ---- what stands later is above
 
@@ -64,41 +64,24 @@ pub both : (a b : Bool) → a ≡ true → b ≡ true → (a && b) ≡ true
 both true b h k = k
 both false b h k = cc
 
-all_first : {X : Type 0} (t : X → Bool) (xs : List X) (x : X) → list_all t (xs ++ x ∷ []) ≡ true → list_all t xs ≡ true
-all_first t [] x h = refl
-all_first t (y ∷ xs) x h = both _ _ (and-left _ _ h) (all_first t xs x (and-right _ _ h))
-
-all_last : {X : Type 0} (t : X → Bool) (xs : List X) (x : X) → list_all t (xs ++ x ∷ []) ≡ true → t x ≡ true
-all_last t [] x h = and-left _ _ h
-all_last t (y ∷ xs) x h = all_last t xs x (and-right _ _ h)
-
 pub all_push : {X : Type 0} (t : X → Bool) (xs : List X) (x : X) → list_all t xs ≡ true → t x ≡ true → list_all t (xs ++ x ∷ []) ≡ true
 all_push t [] x h k = both _ _ k refl
 all_push t (y ∷ xs) x h k = both _ _ (and-left _ _ h) (all_push t xs x (and-right _ _ h) k)
-
--- where every part passes the one test, every part passes the other
-abbrev pub Implies : {X : Type 0} → (X → Bool) → (X → Bool) → List X → Type 0
-Implies f g xs = list_all f xs ≡ true → list_all g xs ≡ true
-
-Implies-push : {X : Type 0} (f g : X → Bool) (xs : List X) (x : X) → Implies f g xs → (f x ≡ true → g x ≡ true) → Implies f g (xs ++ x ∷ [])
-Implies-push f g xs x before here h = all_push g xs x (before (all_first f xs x h)) (here (all_last f xs x h))
 
 -- ---- items
 
 pub record ItemsSoFar (all rest : List Reading) (found : List Json) : Type 0 where
   pub value : (ws : List Value) → items_of_data (items_view rest) ≡ Some (items_of ws) → items_of_data (items_view all) ≡ Some (items_of (map value_of found ++ ws))
-  pub sound : Implies (everywhere list_fits) (everywhere is_allowed) (map value_of found)
   pub first : (l : Location) → IsFirstIn (data_items_from (length found) (items_view rest)) l → IsFirstIn (data_items_from 0 (items_view all)) l
 
 items_of_data-item : (d : Data) (v : Value) (ds : parsed.Items) (ws : List Value) → value_of_data d ≡ Some v → items_of_data ds ≡ Some (items_of ws) → items_of_data (parsed.item d ds) ≡ Some (items_of (v ∷ ws))
 items_of_data-item d v ds ws here later = ap (option_and_then (λ w. option_map (item w) (items_of_data ds))) here ∙ ap (option_map (item v)) later
 
-pub items_more : (all rest : List Reading) (found : List Json) (x : Reading) (j : Json) → value_of_data (view x) ≡ Some (value_of j) → (everywhere list_fits (value_of j) ≡ true → everywhere is_allowed (value_of j) ≡ true)
+pub items_more : (all rest : List Reading) (found : List Json) (x : Reading) (j : Json) → value_of_data (view x) ≡ Some (value_of j)
     → ItemsSoFar all (x ∷ rest) found → ItemsSoFar all rest (found ++ j ∷ [])
-items_more all rest found x j here sound so = record {
+items_more all rest found x j here so = record {
   value = λ ws is. so.value (value_of j ∷ ws) (items_of_data-item (view x) (value_of j) (items_view rest) ws here is)
       ∙ ap (λ vs. Some (items_of vs)) (sym (ap (λ vs. vs ++ ws) (map-append value_of found (j ∷ [])) ∙ append_assoc (map value_of found) (value_of j ∷ []) ws));
-  sound = subst (Implies (everywhere list_fits) (everywhere is_allowed)) (sym (map-append value_of found (j ∷ []))) (Implies-push _ _ (map value_of found) (value_of j) so.sound sound);
   first = λ l is. so.first l (skipped (nth (length found)) (view x) (value_of j) _ l here (IsAbove-items (length found) (items_view rest)) (subst (λ n. IsFirstIn (data_items_from n (items_view rest)) l) (length_push found j ∙ add-one (length found)) is));
 }
 
@@ -110,33 +93,28 @@ items_stop all rest found x l first so =
 pub items_end : (all : List Reading) (found : List Json) → ItemsSoFar all [] found → items_of_data (items_view all) ≡ Some (items_of (map value_of found))
 items_end all found so = so.value [] refl ∙ ap (λ vs. Some (items_of vs)) (append-nil (map value_of found))
 
-pub items_sound : (vs : List Value) → Implies (everywhere list_fits) (everywhere is_allowed) vs → everywhere_in_items list_fits (items_of vs) ≡ true → everywhere_in_items is_allowed (items_of vs) ≡ true
-items_sound vs sound fits = all-items is_allowed vs ∙ sound (sym (all-items list_fits vs) ∙ fits)
-
 -- ---- members
 
 pub record MembersSoFar (all rest : List Entry) (found : List Member) : Type 0 where
   pub value : (ws : List (List ℕ × Value)) → members_of_data (members_view rest) ≡ Some (members_of ws) → members_of_data (members_view all) ≡ Some (members_of (map member_of found ++ ws))
-  pub sound : Implies (λ m. everywhere list_fits m.1) (λ m. everywhere is_allowed m.1) (map member_of found)
   pub first : (l : Location) → IsFirstIn (data_members (members_view rest)) l → IsFirstIn (data_members (members_view all)) l
   pub sorted : IsStrictlySortedBy string_cmp (keys_of rest)
 
 pub members_begin : (all : List Entry) → IsStrictlySortedBy string_cmp (keys_of all) → MembersSoFar all all []
-members_begin all sorted = record { value = λ ws is. is; sound = λ _. refl; first = λ l is. is; sorted = sorted }
+members_begin all sorted = record { value = λ ws is. is; first = λ l is. is; sorted = sorted }
 
 members_of_data-member : (n : List ℕ) (d : Data) (v : Value) (ms : parsed.Members) (ws : List (List ℕ × Value)) → value_of_data d ≡ Some v → members_of_data ms ≡ Some (members_of ws)
     → members_of_data (parsed.member n d ms) ≡ Some (members_of ((n, v) ∷ ws))
 members_of_data-member n d v ms ws here later = ap (option_and_then (λ w. option_map (member n w) (members_of_data ms))) here ∙ ap (option_map (member n v)) later
 
 pub members_more : (all rest : List Entry) (found : List Member) (e : Entry) (m : Member) (v : Value) → member_of m ≡ (string_bytes e.0, v) → value_of_data (view e.1) ≡ Some v
-    → (everywhere list_fits v ≡ true → everywhere is_allowed v ≡ true) → MembersSoFar all (e ∷ rest) found → MembersSoFar all rest (found ++ m ∷ [])
-members_more all rest found e m v is here sound so =
+    → MembersSoFar all (e ∷ rest) found → MembersSoFar all rest (found ++ m ∷ [])
+members_more all rest found e m v is here so =
     let p : List ℕ × Value = (string_bytes e.0, v) in
     let pushed : map member_of (found ++ m ∷ []) ≡ map member_of found ++ p ∷ [] = map-append member_of found (m ∷ []) ∙ ap (λ q. map member_of found ++ q ∷ []) is in
     record {
       value = λ ws later. so.value (p ∷ ws) (members_of_data-member (string_bytes e.0) (view e.1) v (members_view rest) ws here later)
           ∙ ap (λ ps. Some (members_of ps)) (sym (ap (λ ps. ps ++ ws) pushed ∙ append_assoc (map member_of found) (p ∷ []) ws));
-      sound = subst (Implies (λ m. everywhere list_fits m.1) (λ m. everywhere is_allowed m.1)) (sym pushed) (Implies-push _ _ (map member_of found) p so.sound sound);
       first = λ l later. so.first l (skipped (named (string_bytes e.0)) (view e.1) v _ l here (IsAbove-members e.0 rest (sorted_head string_cmp e.0 (keys_of rest) so.sorted)) later);
       sorted = sorted_tail string_cmp e.0 (keys_of rest) so.sorted;
     }
@@ -150,28 +128,7 @@ members_stop all rest found e l first so =
 pub members_end : (all : List Entry) (found : List Member) → MembersSoFar all [] found → members_of_data (members_view all) ≡ Some (members_of (map member_of found))
 members_end all found so = so.value [] refl ∙ ap (λ ps. Some (members_of ps)) (append-nil (map member_of found))
 
-pub members_sound : (ms : List (List ℕ × Value)) → Implies (λ m. everywhere list_fits m.1) (λ m. everywhere is_allowed m.1) ms → everywhere_in_members list_fits (members_of ms) ≡ true → everywhere_in_members is_allowed (members_of ms) ≡ true
-members_sound ms sound fits = all-members is_allowed ms ∙ sound (sym (all-members list_fits ms) ∙ fits)
-
--- ---- the names of the members
+-- ---- two parts of a reading
 
 pub both_is : {A B C : Type 0} (f : A → B → C) (o : Option A) (p : Option B) (c : C) (a : A) (b : B) → option_and_then (λ a. option_map (f a) p) o ≡ Some c → o ≡ Some a → p ≡ Some b → c ≡ f a b
 both_is f o p c a b is here later = same_Some _ _ (sym is ∙ ap (option_and_then (λ a. option_map (f a) p)) here ∙ ap (option_map (f a)) later)
-
-names_of_data : (es : List Entry) (ws : Members) → members_of_data (members_view es) ≡ Some ws → names_of ws ≡ map string_bytes (keys_of es)
-names_of_data [] ws is = ap names_of (sym (same_Some _ _ is))
-names_of_data (e ∷ es) ws is =
-    let parts = from_both (member (string_bytes e.0)) (value_of_data (view e.1)) (members_of_data (members_view es)) ws is in
-    ap names_of (both_is (member (string_bytes e.0)) _ _ ws parts.0.0 parts.1.0 is parts.0.1 parts.1.1) ∙ ap (λ ns. string_bytes e.0 ∷ ns) (names_of_data es parts.1.0 parts.1.1)
-
-all_less : (k : String Global) (ks : List (String Global)) → AllByRecursion (λ y. string_cmp k y ≡ Less) ks → list_all (λ m. is_lt (bytes_cmp (string_bytes k) m)) (map string_bytes ks) ≡ true
-all_less k [] h = refl
-all_less k (y ∷ ks) h = both _ _ (ap is_lt h.0) (all_less k ks h.1)
-
-rise_from_sorted : (ks : List (String Global)) → IsStrictlySortedBy string_cmp ks → names_rise (map string_bytes ks) ≡ true
-rise_from_sorted [] sorted = refl
-rise_from_sorted (k ∷ ks) sorted = both _ _ (all_less k ks (sorted_head string_cmp k ks sorted)) (rise_from_sorted ks (sorted_tail string_cmp k ks sorted))
-
--- the names of an object that was read rise
-pub names_rise-read : (es : List Entry) (ws : Members) → IsStrictlySortedBy string_cmp (keys_of es) → members_of_data (members_view es) ≡ Some ws → names_rise (names_of ws) ≡ true
-names_rise-read es ws sorted is = ap names_rise (names_of_data es ws is) ∙ rise_from_sorted (keys_of es) sorted

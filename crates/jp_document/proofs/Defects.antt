@@ -72,10 +72,20 @@ same_value bytes d e v w one two here there = same_Some v w (sym here ∙ ap val
 
 -- ---- some of them
 
+-- a reading with whole numbers alone and short lists is a document
+pub document_by : (bytes : List ℕ) (d : Data) (v : Value) → IsReading bytes d → value_of_data d ≡ Some v
+    → everywhere list_fits v ≡ true → IsDocument bytes v
+document_by bytes d v reads is short = record {
+  reading = d;
+  reads = reads;
+  holds = is;
+  valid = value_allowed d v (reading_fits bytes d reads) is short;
+}
+
 answer_by : (bytes : List ℕ) (d : Data) (v : Value) (short : Bool) → IsReading bytes d → value_of_data d ≡ Some v → everywhere list_fits v ≡ short
     → ((w : Value) × IsDocument bytes w) ⊎ ((x : Defect) × HasDefect bytes x)
 answer_by bytes d v true reads is lists =
-    inl (v, record { reading = d; reads = reads; holds = is; valid = value_allowed d v (reading_fits bytes d reads) is lists })
+    inl (v, document_by bytes d v reads is lists)
 answer_by bytes d v false reads is lists = inr (list_too_long, record { reading = d; value = v; reads = reads; holds = is; too_long = lists })
 
 answer_of : (bytes : List ℕ) (d : Data) (o : Option Value) → IsReading bytes d → value_of_data d ≡ o → ((w : Value) × IsDocument bytes w) ⊎ ((x : Defect) × HasDefect bytes x)

@@ -1,9 +1,12 @@
--- The texts of indexes: digits that write the index, without a leading zero.
-use Rattle.std.proofs.Common.{◌≡◌, ℕ, ◌+◌, ◌*◌, ◌-◌, ◌/◌, ◌%◌, ◌<◌, ◌≤◌, eqb, true, false, List, [], ◌∷◌, ◌++◌, get_or, map, inl, inr, refl, sym, ap, ◌∙◌, append_assoc, append-nil, arith}
+-- The texts of indexes: digits that write the index, without a leading zero, as `itoa` prints them.
+use Rattle.std.proofs.Common.{◌≡◌, ℕ, ◌+◌, ◌*◌, ◌-◌, ◌/◌, ◌%◌, ◌<◌, ◌≤◌, eqb, true, false, List, [], ◌∷◌, ◌++◌, get_or, map, inl, inr, refl, sym, ap, ◌∙◌, append_assoc, append-nil, arith, zero, suc, ◌^◌, cond}
 use Rattle.std.proofs.lemmas.Bool.{cases_Bool, eqb-true}
 use Rattle.std.proofs.lemmas.Bool.Decides.{nat_tests}
 use Rattle.std.proofs.lemmas.Int.Digits.{number_digits_of, all_below_base_digits_of, first_digits_of, digits_of_step}
 use Rattle.std.specs.Int.Digits.{digits_of, number_from_digits_after, AllBelowBase}
+use Rattle.std.proofs.Math.Dec.{eqb-suc-zero}
+use Rattle.std.proofs.lemmas.Fmt.{decimal_digit, decimal-digits_of}
+use Rattle.std.specs.Fmt.{decimal}
 use Rattle.jp_reading.specs.Forms.{AllPassing}
 use Rattle.jp_reading.specs.Numbers.{is_digit, value_from}
 use Rattle.jp_reading.proofs.Digits.{value_from-least}
@@ -106,3 +109,17 @@ index_text-value d ds h other =
     let least = value_from-least (d - 48) ds in
     let other_than : eqb (value_from (d - 48) ds) 0 ≡ false = grind (arith, nat_tests) in
     rw (value, other_than) (ap (map digit_text) (digits_of-value (d - 48) ds above h.1 ∙ ap (λ t. t ++ map digit_of ds) (one_digit (d - 48) above small.1)) ∙ texts (d ∷ ds) h)
+
+-- ---- as `itoa` prints them
+
+index_text-above : (n : ℕ) → eqb n 0 ≡ false → index_text n ≡ map (λ d. 48 + d) (digits_of 10 n)
+unfolding index_text
+index_text-above n above = ap (λ b. cond b (48 ∷ []) (map (λ d. 48 + d) (digits_of 10 n))) above
+
+pub index_text-zero : 48 ∷ [] ≡ index_text 0
+unfolding index_text
+index_text-zero = refl
+
+pub decimal-index_text : (n : ℕ) → n < 2 ^ 64 → decimal n ≡ index_text n
+decimal-index_text zero fits = decimal_digit 0 (omega arith) ∙ index_text-zero
+decimal-index_text (suc n) fits = decimal-digits_of (suc n) (omega arith) fits ∙ sym (index_text-above (suc n) (eqb-suc-zero n))

@@ -44,8 +44,6 @@ pub(crate) fn parsed_value(alloc: Global, bytes: &[u8]) -> Result<Json, Document
 #[cycle(json_of)]
 fn json_of(alloc: Global, value: Value, fits: &mut bool) -> Result<Json, ValueFault>
     ensures value { IfOk result (λ j. value_of_data (view value) ≡ Some (value_of j)) }
-    ensures sound { IfOk result (λ j. everywhere list_fits (value_of j) ≡ true
-        → everywhere is_allowed (value_of j) ≡ true) }
     ensures fits { IfOk result (λ j. fits.new ≡ (everywhere list_fits (value_of j) && fits.old)) }
     ensures fault { IfErr result (IsValueFaultOf (view value)) }
 {
@@ -68,7 +66,6 @@ fn json_of(alloc: Global, value: Value, fits: &mut bool) -> Result<Json, ValueFa
 fn json_of_number(alloc: Global, number: Number) -> Result<Json, ValueFault>
     ensures value { IfOk result
         (λ j. value_of_data (number_data (number_view number)) ≡ Some (value_of j)) }
-    ensures sound { IfOk result (λ j. everywhere is_allowed (value_of j) ≡ true) }
     ensures fault { IfErr result (IsValueFaultOf (number_data (number_view number))) }
 {
     if let Some(n) = number.as_u64() {
@@ -84,9 +81,6 @@ fn json_of_number(alloc: Global, number: Number) -> Result<Json, ValueFault>
 fn json_items(alloc: Global, items: Vec<Value>, fits: &mut bool) -> Result<Vec<Json>, ValueFault>
     ensures value { IfOk result
         (λ v. items_of_data (items_view items.items) ≡ Some (items_of (map value_of v.items))) }
-    ensures sound { IfOk result
-        (λ v. everywhere_in_items list_fits (items_of (map value_of v.items)) ≡ true
-        → everywhere_in_items is_allowed (items_of (map value_of v.items)) ≡ true) }
     ensures fits { IfOk result (λ v. fits.new
         ≡ (everywhere_in_items list_fits (items_of (map value_of v.items)) && fits.old)) }
     ensures fault { IfErr result (IsValueFaultOf (array (items_view items.items))) }
@@ -109,11 +103,6 @@ fn json_members(
 ) -> Result<Vec<Member>, ValueFault>
     ensures value { IfOk result (λ v. members_of_data (members_view members.entries)
         ≡ Some (members_of (map member_of v.items))) }
-    ensures sound { IfOk result
-        (λ v. everywhere_in_members list_fits (members_of (map member_of v.items)) ≡ true
-        → everywhere_in_members is_allowed (members_of (map member_of v.items)) ≡ true) }
-    ensures names { IfOk result
-        (λ v. names_fit (names_of (members_of (map member_of v.items))) ≡ true) }
     ensures fits { IfOk result (λ v. fits.new
         ≡ (everywhere_in_members list_fits (members_of (map member_of v.items)) && fits.old)) }
     ensures fault { IfErr result (IsValueFaultOf (object (members_view members.entries))) }

@@ -25,9 +25,8 @@ use Rattle.jp_document.specs.Private.PathRules.{nesting, is_leading_digit}
 use Rattle.jp_document.specs.Private.PathRules as rule
 use Rattle.jp_document.proofs.Alive.{path-alive}
 use Rattle.jp_document.proofs.Encoded.{encode-ascii, digits-ascii}
-use Rattle.jp_document.proofs.IndexTexts.{index_text-value}
+use Rattle.jp_document.proofs.IndexTexts.{index_text-value, index_text-zero}
 use Rattle.jp_document.proofs.LargeIndexes.{capped_key}
-use Rattle.jp_document.proofs.Paths.{index_text-zero}
 use Rattle.jp_document.proofs.Soundness.Names.{form_of, enclosed, enclosed-is, name-within}
 
 -- ---- steps

@@ -1,18 +1,17 @@
-use Rattle.std.proofs.Common.{◌≡◌, [], ◌∷◌, ◌++◌, length, map, sym, ap, ◌∙◌, subst, arith, rules}
+use Rattle.std.proofs.Common.{◌≡◌, [], ◌∷◌, ◌++◌, length, sym, ap, ◌∙◌, subst, arith, rules}
 use Rattle.std.proofs.lemmas.List.{nil_from_length}
 use Rattle.std.specs.Vec.Iter.{into_iter_items}
 use Rattle.serde_json.specs.Data as parsed
 use Rattle.serde_json.specs.View.{view, items_view, members_view}
 use Rattle.jp_document.specs.Document.{IsFirstFraction}
 use Rattle.jp_document.specs.Location.{nth}
-use Rattle.jp_document.specs.Value.{value_of, member_of, members_of}
+use Rattle.jp_document.specs.Value.{value_of}
 use Rattle.jp_document.specs.declared.value.Member.{Member}
 use Rattle.jp_document.specs.declared.location.OwnedStep.TheVariants.{Name, Index}
-use Rattle.jp_document.proofs.Fits.{items_fit_more, members_fit_more}
+use Rattle.jp_document.proofs.ListsFit.{items_fit_more, members_fit_more}
 use Rattle.jp_document.proofs.ValueFaults.{value_fault-within}
 use Rattle.jp_document.proofs.Values.{member_of_is}
-use Rattle.jp_document.proofs.TextNames.{names_are_texts, text_is_allowed}
-use Rattle.jp_document.proofs.Conversion.{both, ItemsSoFar, items_more, items_stop, items_end, items_sound, MembersSoFar, members_more, members_stop, members_end, members_sound, names_rise-read}
+use Rattle.jp_document.proofs.Conversion.{ItemsSoFar, items_more, items_stop, items_end, MembersSoFar, members_more, members_stop, members_end}
 use Rattle.jp_document.proofs.reading.+json_of.Goals as goal
 
 pub json_items-loop-item-preserved : goal.json_items-loop-item-preserved
@@ -25,7 +24,7 @@ json_items-loop-item-preserved t c =
     let so = subst (λ r. ItemsSoFar all r done) steps.0 c.loop-item.invariant.0 in
     let long = c.loop-item.invariant.1 ∙ ap length steps.0 in
     let short = steps.1 in (
-      subst (ItemsSoFar all rest) (sym pushed) (items_more all rest done c.in-Some.item c.in-Ok.json c.in-Ok.ensures.value c.in-Ok.ensures.sound so),
+      subst (ItemsSoFar all rest) (sym pushed) (items_more all rest done c.in-Some.item c.in-Ok.json c.in-Ok.ensures.value so),
       omega arith,
       items_fit_more done _ c.in-Ok.json c.loop-item.fits _ _ pushed c.loop-item.invariant.2 c.in-Ok.ensures.fits,
     )
@@ -45,9 +44,6 @@ json_items-returns-clause-value t c =
     let none : into_iter_items c.loop-item.item-iterator ≡ [] = nil_from_length _ (sym c.loop-item.invariant.1 ∙ c.in-None.ensures.steps.0) in
     items_end c.args.items.items c.loop-item.found.items (subst (λ r. ItemsSoFar c.args.items.items r c.loop-item.found.items) none c.loop-item.invariant.0)
 
-pub json_items-returns-clause-sound : goal.json_items-returns-clause-sound
-json_items-returns-clause-sound t c = items_sound (map value_of c.loop-item.found.items) c.loop-item.invariant.0.sound
-
 pub json_members-loop-name-preserved : goal.json_members-loop-name-preserved
 json_members-loop-name-preserved t c =
     let all = c.args.members.entries in
@@ -57,7 +53,7 @@ json_members-loop-name-preserved t c =
     let step : c.loop-name.name-iterator ≡ (c.in-Some.name, c.in-Some.member) ∷ rest = search rules in
     let pushed : c.push.new.self.items ≡ done ++ m ∷ [] = search rules in
     let so = subst (λ r. MembersSoFar all r done) step c.loop-name.invariant.0 in (
-      subst (MembersSoFar all rest) (sym pushed) (members_more all rest done (c.in-Some.name, c.in-Some.member) m (value_of c.in-Ok.value) (member_of_is m) c.in-Ok.ensures.value c.in-Ok.ensures.sound so),
+      subst (MembersSoFar all rest) (sym pushed) (members_more all rest done (c.in-Some.name, c.in-Some.member) m (value_of c.in-Ok.value) (member_of_is m) c.in-Ok.ensures.value so),
       members_fit_more done _ m (value_of c.in-Ok.value) c.loop-name.fits _ _ pushed (ap (λ p. p.1) (member_of_is m)) c.loop-name.invariant.1 c.in-Ok.ensures.fits,
     )
 
@@ -75,15 +71,3 @@ pub json_members-returns-clause-value : goal.json_members-returns-clause-value
 json_members-returns-clause-value t c =
     let none : c.loop-name.name-iterator ≡ [] = search rules in
     members_end c.args.members.entries c.loop-name.found.items (subst (λ r. MembersSoFar c.args.members.entries r c.loop-name.found.items) none c.loop-name.invariant.0)
-
-pub json_members-returns-clause-sound : goal.json_members-returns-clause-sound
-json_members-returns-clause-sound t c = members_sound (map member_of c.loop-name.found.items) c.loop-name.invariant.0.sound
-
-pub json_members-returns-clause-names : goal.json_members-returns-clause-names
-json_members-returns-clause-names t c =
-    let none : c.loop-name.name-iterator ≡ [] = search rules in
-    let value = members_end c.args.members.entries c.loop-name.found.items (subst (λ r. MembersSoFar c.args.members.entries r c.loop-name.found.items) none c.loop-name.invariant.0) in
-    both _ _ (names_rise-read c.args.members.entries (members_of (map member_of c.loop-name.found.items)) c.len.ensures.ordered value) (names_are_texts c.loop-name.found.items)
-
-pub json_of-returns-in-String-clause-sound : goal.json_of-returns-in-String-clause-sound
-json_of-returns-in-String-clause-sound t c = λ fits. text_is_allowed c.in-String.text
