@@ -1,8 +1,8 @@
 //! JSON documents whose numbers are whole, their nodes, and normalized paths (RFC 9535).
 //!
-//! `Document::read` takes a document from bytes, `Document::root`, `child_named` and `child_at`
-//! walk its nodes, `path_text` and `value_text` print one. `read_path` reads a path again, and
-//! `Document::find` finds the value at its location:
+//! `Document::read` takes a document from bytes, `Document::root`, `child_named` and `child_at` walk
+//! its nodes, `Document::value` its values without locations, `path_text` and `value_text` print
+//! one. `read_path` reads a path again, and `Document::find` finds the value at its location:
 //!
 //! ```text
 //! let document = Document::read(alloc, b"{\"a\":[1,2]}")?;
@@ -45,9 +45,8 @@ pub use document::Document;
 pub use document_value::DocumentValue;
 pub use fault::DocumentFault;
 pub use location::{OwnedLocation, OwnedStep, Step};
-pub use lookup::child_value;
 pub use node::{Node, child_at, child_named};
-pub use nth::{child_count, nth_child, nth_value};
+pub use nth::{child_count, nth_child};
 pub use path::{path_text, push_path, push_quote, quote};
 pub use path_fault::PathFault;
 pub use path_reader::read_path;

@@ -14,7 +14,7 @@ use std::cmp::Ordering;
 /// 9535 section 2.3.1), the item at that index of a list (section 2.3.3). The names of the object's
 /// members have to rise, as those of every document do; of another object it answers a member of
 /// that name, or None.
-pub fn child_value<'d>(json: &'d Json, step: Step) -> Option<&'d Json>
+pub(crate) fn child_value<'d>(json: &'d Json, step: Step) -> Option<&'d Json>
     ensures child { IsDocumentValue (value_of json.now) → option_map (λ j. value_of j.now) result
         ≡ child (value_of json.now) (key_of step.entry) }
     ensures held { IfSome result

@@ -36,17 +36,6 @@ pub fn nth_child<'d>(
     }
 }
 
-/// The value of the child at this position, from 0, None where there are no more: a list's items, an object's members
-/// in their order.
-pub fn nth_value(json: &Json, position: usize) -> Option<&Json>
-    ensures held { option_map (λ j. value_of j.now) result
-        ≡ option_map (λ e. e.1) (slice_get (held (value_of json.now)) position) }
-    ensures more { OnSome result (position < usize.MAX) }
-{
-    let (_, value) = entry_at(json, position)?;
-    Some(value)
-}
-
 /// The value at this position one step inside, with its step.
 pub(crate) fn entry_at(json: &Json, position: usize) -> Option<(Step<'_>, &Json)>
     ensures entry { option_map entry_of result ≡ slice_get (held (value_of json.now)) position }

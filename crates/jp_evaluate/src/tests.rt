@@ -1,5 +1,5 @@
 //! Nodelists by rows.
-use crate::evaluate;
+use crate::{evaluate, nodes};
 use jp_check::read_query;
 use jp_document::{Document, path_text};
 use std::alloc::Global;
@@ -84,6 +84,25 @@ fn filters(rt: HostRuntime) -> Result<(), Fail> {
             paths
         );
     }
+    Ok(())
+}
+
+#[test]
+fn nodes_one_at_a_time(rt: HostRuntime) -> Result<(), Fail> {
+    let alloc = rt.alloc();
+    let document = Document::read(alloc, NESTED)?;
+    let query = read_query(alloc, "$..*").ok().ok_or("refused")?;
+    let mut some = nodes(alloc, &document, &query);
+    for path in ["$['a']", "$['o']", "$['a'][0]"] {
+        let node = some.next().ok_or("no node")??;
+        assert_eq!(rt; path_text(alloc, node.location())?.as_str(), path);
+    }
+    drop(some);
+    assert_eq!(rt; nodelist(alloc, NESTED, "$.o.k")?.as_str(), " $['o']['k']");
+    let document = Document::read(alloc, b"[{}]")?;
+    let query = read_query(alloc, "$[?@.x]").ok().ok_or("refused")?;
+    let mut none = nodes(alloc, &document, &query);
+    assert!(rt; none.next().is_none() && none.next().is_none() && !none.failed());
     Ok(())
 }
 

@@ -80,12 +80,12 @@ impl<'d> Walk<'d> {
         ensures smaller { IfSome result (λ o. IfSome o.test (λ e. expr_size (expr_of e.now)
             < segments_size (segment_trees (map segment_of segments.now)))) }
     {
-        if let Some(value) = self.first.take() {
+        if let Some(start) = self.first.take() {
             return Some(Offer {
                 place: Place {
                     done: 0,
                     step: None,
-                    value,
+                    value: start,
                 },
                 test: None,
             });
