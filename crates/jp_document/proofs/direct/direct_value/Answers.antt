@@ -8,4 +8,7 @@ pub returns-clause-document : goal.returns-clause-document
 returns-clause-document c =
     let j = c.in_ok-json.json in
     let both : (c.in_ok-text.text.now ≡ c.args.bytes.now) × IsUtf8 c.args.bytes.now = search rules in
-    document_from_text c.args.bytes.now (value_of j) both.1 (subst (λ s. ReadsText s (value_of j)) both.0 c.in_ok-json.ensures.reads) c.in_ok-json.ensures.sound
+    document_from_text c.args.bytes.now (value_of j) both.1 (subst (λ s. ReadsText s (value_of j)) both.0 c.in_ok-json.ensures.reads) c.in_ok-json.ensures.short
+
+pub returns-clause-sound : goal.returns-clause-sound
+returns-clause-sound c = (returns-clause-document c).valid
