@@ -5,7 +5,7 @@ ghost use Rattle.serde_json.specs.Data.{unsigned, negative};
 ghost use Rattle.serde_json.specs.Read.{number_from};
 ghost use Rattle.jp_document.specs.Private.Direct.{IsWholeText, ReadsItems, ReadsMembers, ReadsText, ReadsValue};
 ghost use Rattle.jp_document.specs.Document.{IsDocument};
-ghost use Rattle.jp_document.specs.Value.{IsDocumentValue, everywhere, everywhere_in_items, everywhere_in_members, items_of, list, list_fits, member_of, members_of, value_of};
+ghost use Rattle.jp_document.specs.Value.{everywhere, everywhere_in_items, everywhere_in_members, items_of, list, list_fits, member_of, members_of, value_of};
 
 use crate::member_list::MemberList;
 use crate::reading::is_short;
@@ -19,8 +19,7 @@ const MAX_DEPTH: usize = 127;
 
 /// The value of bytes that are a document. None says nothing of the bytes.
 pub(crate) fn direct_value(alloc: Global, bytes: &[u8]) -> Option<Json>
-    ensures document { IfSome result (λ j. IsDocument bytes.now (value_of j)) }
-    ensures sound { IfSome result (λ j. IsDocumentValue (value_of j)) }
+    ensures { IfSome result (λ j. IsDocument bytes.now (value_of j)) }
 {
     let text = simdutf8::compat::from_utf8(bytes).ok()?;
     let json = text_value(alloc, text)?;
