@@ -10,12 +10,13 @@ use Rattle.serde_json.specs.Read.{of_members, converted}
 use Rattle.std.specs.Prelude.{IsUtf8}
 use Rattle.jp_document.specs.Private.Direct.{ReadsItems, ReadsMembers, ReadsText, ReadsValue}
 use Rattle.jp_document.specs.Document.{IsDocument}
-use Rattle.jp_document.specs.Value.{Value, IsDocumentValue, everywhere, everywhere_in_items, everywhere_in_members, is_allowed, items_of, members_of, names_of, names_rise, value_of}
+use Rattle.jp_document.specs.Value.{Value, everywhere, everywhere_in_items, everywhere_in_members, list_fits, items_of, members_of, names_of, names_rise, value_of}
 use Rattle.jp_document.specs.declared.value.Json.{Json}
 use Rattle.jp_document.proofs.DirectTurns.{items_turn, items_over, member_turn, members_over}
 use Rattle.jp_document.proofs.Places.{Entry, pair, data_of, members_of_data-entries, put_entry, pairs-put_entry, data_of-put_entry, rise_insert, sound_insert}
 use Rattle.jp_document.proofs.Names.{bytes_cmp}
 use Rattle.jp_document.proofs.Conversion.{all-items, all_push}
+use Rattle.jp_document.proofs.Defects.{document_by}
 
 -- ---- items
 
@@ -35,10 +36,10 @@ pub items_end : (depth : ℕ) (initial : List Token) (n : ℕ) (ts r : List Toke
 items_end depth initial n ts r found enough over ahead =
     subst (λ ws. ReadsItems depth (length initial) initial r (items_of ws)) (append-nil (map value_of found)) (ahead [] r (items_over depth n ts r enough over))
 
-pub items_sound : (found : List Json) (j : Json) → everywhere_in_items is_allowed (items_of (map value_of found)) ≡ true → IsDocumentValue (value_of j) → everywhere_in_items is_allowed (items_of (map value_of (found ++ j ∷ []))) ≡ true
-items_sound found j before here =
-    all-items is_allowed (map value_of (found ++ j ∷ []))
-    ∙ subst (λ vs. list_all (everywhere is_allowed) vs ≡ true) (sym (map-append value_of found (j ∷ []))) (all_push (everywhere is_allowed) (map value_of found) (value_of j) (sym (all-items is_allowed (map value_of found)) ∙ before) here)
+pub items_short : (found : List Json) (j : Json) → everywhere_in_items list_fits (items_of (map value_of found)) ≡ true → everywhere list_fits (value_of j) ≡ true → everywhere_in_items list_fits (items_of (map value_of (found ++ j ∷ []))) ≡ true
+items_short found j before here =
+    all-items list_fits (map value_of (found ++ j ∷ []))
+    ∙ subst (λ vs. list_all (everywhere list_fits) vs ≡ true) (sym (map-append value_of found (j ∷ []))) (all_push (everywhere list_fits) (map value_of found) (value_of j) (sym (all-items list_fits (map value_of found)) ∙ before) here)
 
 -- ---- members
 
@@ -48,14 +49,14 @@ pub record MembersAhead (depth : ℕ) (initial : List Token) (n : ℕ) (ts : Lis
   pub seen : found ≡ map pair entries
   pub ahead : converted (λ js. of_members js parsed.no_members) (members (value depth) (length initial) initial) ≡ converted (λ js. of_members js (data_of entries)) (members (value depth) n ts)
   pub rise : names_rise (names_of (members_of found)) ≡ true
-  pub sound : everywhere_in_members is_allowed (members_of found) ≡ true
+  pub short : everywhere_in_members list_fits (members_of found) ≡ true
 
 pub members_begin : (depth : ℕ) (ts : List Token) → MembersAhead depth ts (length ts) ts []
-members_begin depth ts = record { entries = []; seen = refl; ahead = refl; rise = refl; sound = refl }
+members_begin depth ts = record { entries = []; seen = refl; ahead = refl; rise = refl; short = refl }
 
-pub members_more : (depth : ℕ) (initial : List Token) (n : ℕ) (k : List ℕ) (ts s r : List Token) (found : List (List ℕ × Value)) (v : Value) → 0 < n → read_key ts ≡ Some (Some k, s) → ReadsValue depth s r v → IsDocumentValue v
+pub members_more : (depth : ℕ) (initial : List Token) (n : ℕ) (k : List ℕ) (ts s r : List Token) (found : List (List ℕ × Value)) (v : Value) → 0 < n → read_key ts ≡ Some (Some k, s) → ReadsValue depth s r v → everywhere list_fits v ≡ true
     → MembersAhead depth initial n ts found → MembersAhead depth initial (n - 1) r (insert_entry bytes_cmp found k v)
-members_more depth initial n k ts s r found v some key x sound so =
+members_more depth initial n k ts s r found v some key x short so =
     let e : Entry = record { name = k; reading = x.reading; value = v; holds = x.holds } in
     record {
       entries = put_entry e so.entries;
@@ -63,7 +64,7 @@ members_more depth initial n k ts s r found v some key x sound so =
       ahead = so.ahead ∙ member_turn depth n (data_of so.entries) k ts s r v x some key
           ∙ ap (λ old. converted (λ js. of_members js old) (members (value depth) (n - 1) r)) (sym (data_of-put_entry e so.entries));
       rise = rise_insert found k v so.rise;
-      sound = sound_insert is_allowed found k v so.sound sound;
+      short = sound_insert list_fits found k v so.short short;
     }
 
 pub members_end : (depth : ℕ) (initial : List Token) (n : ℕ) (ts r : List Token) (found : List (List ℕ × Value)) → length ts ≤ n → read_key ts ≡ Some (None, r) → MembersAhead depth initial n ts found
@@ -76,10 +77,6 @@ members_end depth initial n ts r found enough over so = record {
 
 -- ---- documents
 
-pub document_from_text : (bytes : List ℕ) (v : Value) → IsUtf8 bytes → ReadsText bytes v → IsDocumentValue v → IsDocument bytes v
-document_from_text bytes v utf8 x sound = record {
-  reading = x.reading;
-  reads = record { utf8 = utf8; reading = x.read };
-  holds = x.holds;
-  valid = sound;
-}
+pub document_from_text : (bytes : List ℕ) (v : Value) → IsUtf8 bytes → ReadsText bytes v → everywhere list_fits v ≡ true → IsDocument bytes v
+document_from_text bytes v utf8 x short =
+    document_by bytes x.reading v (record { utf8 = utf8; reading = x.read }) x.holds short

@@ -1,30 +1,12 @@
 -- The names and the texts of a document are the UTF-8 of scalar values.
-use Rattle.std.proofs.Common.{◌≡◌, true, List, [], ◌∷◌, ℕ, map, Option, Some, Ordering, Equal, Global, String, IsUtf8, is_eq, rules, string_bytes, cond, refl, sym, ap, subst, ◌∙◌}
+use Rattle.std.proofs.Common.{◌≡◌, true, List, ℕ, Option, Some, Ordering, Equal, IsUtf8, is_eq, cond, refl, ap, ◌∙◌}
 use Rattle.std.specs.List.{list_all}
 use Rattle.std.specs.Str.{is_utf8}
 use Rattle.std.proofs.lemmas.Map.Lookups.{exact_bytes}
-use Rattle.std.proofs.lemmas.Str.{IsUtf8-from_is_utf8, IsUtf8-string_bytes, is_utf8-from_IsUtf8}
+use Rattle.std.proofs.lemmas.Str.{IsUtf8-from_is_utf8}
 use Rattle.jp_document.specs.Location.{child, named}
-use Rattle.jp_document.specs.Value.{IsDocumentValue, Members, Value, boolean, list, member, member_of, members_of, names_of, no_members, null, object, text, value_of, whole}
-use Rattle.jp_document.specs.declared.value.Json.{Text, the_lemmas}
-use Rattle.jp_document.specs.declared.value.Member.{Member}
+use Rattle.jp_document.specs.Value.{IsDocumentValue, Members, Value, boolean, list, member, names_of, no_members, null, object, text, whole}
 use Rattle.jp_document.proofs.Names.{and-left, and-right, bytes_cmp, child-list_named}
-use Rattle.jp_document.proofs.Values.{member_of_is}
-use Rattle.jp_document.proofs.Conversion.{both}
-
--- a `String` is a text
-pub is_text : (s : String Global) → is_utf8 (string_bytes s) ≡ true
-is_text s = is_utf8-from_IsUtf8 (string_bytes s) (IsUtf8-string_bytes s)
-
-pub text_is_allowed : (s : String Global) → IsDocumentValue (value_of (Text s))
-text_is_allowed s = let seen : value_of (Text s) ≡ text (string_bytes s) = search (rules, the_lemmas) in subst IsDocumentValue (sym seen) (is_text s)
-
--- so the names of members are texts
-pub names_are_texts : (ms : List Member) → list_all is_utf8 (names_of (members_of (map member_of ms))) ≡ true
-names_are_texts [] = refl
-names_are_texts (m ∷ ms) = both _ _ (ap (λ p. is_utf8 p.0) (member_of_is m) ∙ is_text m.name) (names_are_texts ms)
-
--- ---- the name by which a child is found
 
 found_text : (o : Ordering) (s n : List ℕ) (v w : Value) (rest : Option Value) → bytes_cmp s n ≡ o → cond (is_eq o) (Some v) rest ≡ Some w
     → is_utf8 n ≡ true → (rest ≡ Some w → is_utf8 s ≡ true) → is_utf8 s ≡ true

@@ -5,7 +5,7 @@ ghost use Rattle.serde_json.specs.Data.{unsigned, negative};
 ghost use Rattle.serde_json.specs.Read.{number_from};
 ghost use Rattle.jp_document.specs.Private.Direct.{IsWholeText, ReadsItems, ReadsMembers, ReadsText, ReadsValue};
 ghost use Rattle.jp_document.specs.Document.{IsDocument};
-ghost use Rattle.jp_document.specs.Value.{IsDocumentValue, everywhere_in_items, everywhere_in_members, is_allowed, fits_64_bits, items_of, list, list_fits, member_of, members_of, names_fit, names_of, value_of};
+ghost use Rattle.jp_document.specs.Value.{everywhere, everywhere_in_items, everywhere_in_members, items_of, list, list_fits, member_of, members_of, value_of};
 
 use crate::member_list::MemberList;
 use crate::reading::is_short;
@@ -19,8 +19,7 @@ const MAX_DEPTH: usize = 127;
 
 /// The value of bytes that are a document. None says nothing of the bytes.
 pub(crate) fn direct_value(alloc: Global, bytes: &[u8]) -> Option<Json>
-    ensures document { IfSome result (λ j. IsDocument bytes.now (value_of j)) }
-    ensures sound { IfSome result (λ j. IsDocumentValue (value_of j)) }
+    ensures { IfSome result (λ j. IsDocument bytes.now (value_of j)) }
 {
     let text = simdutf8::compat::from_utf8(bytes).ok()?;
     let json = text_value(alloc, text)?;
@@ -29,7 +28,7 @@ pub(crate) fn direct_value(alloc: Global, bytes: &[u8]) -> Option<Json>
 
 fn text_value(alloc: Global, text: &str) -> Option<Json>
     ensures reads { IfSome result (λ j. ReadsText text.now (value_of j)) }
-    ensures sound { IfSome result (λ j. IsDocumentValue (value_of j)) }
+    ensures short { IfSome result (λ j. everywhere list_fits (value_of j) ≡ true) }
 {
     let mut scratch = Scratch::new(alloc);
     let mut reader = Reader::new(text, &mut scratch).ok()?;
@@ -43,7 +42,7 @@ fn text_value(alloc: Global, text: &str) -> Option<Json>
 #[cycle(direct)]
 fn value(alloc: Global, reader: &mut Reader<'_>, depth: usize) -> Option<Json>
     ensures reads { IfSome result (λ j. ReadsValue depth reader.old reader.new (value_of j)) }
-    ensures sound { IfSome result (λ j. IsDocumentValue (value_of j)) }
+    ensures short { IfSome result (λ j. everywhere list_fits (value_of j) ≡ true) }
     ensures shorter { OnSome result (length reader.new < length reader.old) }
 {
     let token = reader.next()?;
@@ -72,8 +71,8 @@ fn value(alloc: Global, reader: &mut Reader<'_>, depth: usize) -> Option<Json>
 fn items(alloc: Global, reader: &mut Reader<'_>, depth: usize) -> Option<Vec<Json>>
     ensures reads { IfSome result (λ v. ReadsItems depth (length reader.old) reader.old reader.new
         (items_of (map value_of v.items))) }
-    ensures sound { IfSome result
-        (λ v. everywhere_in_items is_allowed (items_of (map value_of v.items)) ≡ true) }
+    ensures items { IfSome result
+        (λ v. everywhere_in_items list_fits (items_of (map value_of v.items)) ≡ true) }
     ensures short { IfSome result (λ v. list_fits (list (items_of (map value_of v.items))) ≡ true) }
     ensures shorter { OnSome result (length reader.new < length reader.old) }
 {
@@ -90,10 +89,8 @@ fn items(alloc: Global, reader: &mut Reader<'_>, depth: usize) -> Option<Vec<Jso
 fn members(alloc: Global, reader: &mut Reader<'_>, depth: usize) -> Option<Vec<Member>>
     ensures reads { IfSome result (λ v. ReadsMembers depth (length reader.old) reader.old reader.new
         (members_of (map member_of v.items))) }
-    ensures sound { IfSome result
-        (λ v. everywhere_in_members is_allowed (members_of (map member_of v.items)) ≡ true) }
-    ensures names { IfSome result
-        (λ v. names_fit (names_of (members_of (map member_of v.items))) ≡ true) }
+    ensures short { IfSome result
+        (λ v. everywhere_in_members list_fits (members_of (map member_of v.items)) ≡ true) }
     ensures shorter { OnSome result (length reader.new < length reader.old) }
 {
     let mut found = MemberList::new(alloc);
@@ -108,8 +105,7 @@ fn members(alloc: Global, reader: &mut Reader<'_>, depth: usize) -> Option<Vec<M
 
 /// The whole number of 64 bits that these characters of JSON write.
 fn integer_of(text: &str) -> Option<i128>
-    ensures value { IfSome result (IsWholeText text.now) }
-    ensures range { IfSome result (λ n. fits_64_bits n ≡ true) }
+    ensures { IfSome result (IsWholeText text.now) }
 {
     let bytes = text.as_bytes();
     if has_minus(bytes) {

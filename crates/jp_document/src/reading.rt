@@ -4,7 +4,7 @@ ghost use Rattle.serde_json.specs.View.{view, number_view, items_view, members_v
 ghost use Rattle.jp_document.specs.Document.{IsDocument, IsDocumentFault, value_of_data, items_of_data, members_of_data};
 ghost use Rattle.jp_document.specs.Private.ValueFault.{IsValueFaultOf};
 ghost use Rattle.serde_json.specs.Data.{number as number_data, array, object};
-ghost use Rattle.jp_document.specs.Value.{IsDocumentValue, value_of, list, items_of, members_of, member_of, names_fit, names_of, everywhere, everywhere_in_items, everywhere_in_members, list_fits, is_allowed};
+ghost use Rattle.jp_document.specs.Value.{value_of, list, items_of, members_of, member_of, everywhere, everywhere_in_items, everywhere_in_members, list_fits};
 
 use crate::fault::DocumentFault;
 use crate::location::OwnedStep;
@@ -19,7 +19,6 @@ const MAX_ITEMS: usize = 9_007_199_254_740_991;
 /// The value that `serde_json` parses from bytes that are a document, else what is wrong with them.
 pub(crate) fn parsed_value(alloc: Global, bytes: &[u8]) -> Result<Json, DocumentFault>
     ensures ok { IfOk result (λ j. IsDocument bytes.now (value_of j)) }
-    ensures sound { IfOk result (λ j. IsDocumentValue (value_of j)) }
     ensures fault { IfErr result (IsDocumentFault bytes.now) }
 {
     let parsed = match Value::from_slice(alloc, bytes) {

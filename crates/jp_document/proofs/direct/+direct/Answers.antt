@@ -11,11 +11,9 @@ use Rattle.jp_document.specs.Private.MemberList.{entries_of}
 use Rattle.jp_document.proofs.Names.{bytes_cmp}
 use Rattle.jp_document.specs.Value.{null, boolean, whole, text, value_of}
 use Rattle.jp_document.specs.declared.value.Json.{Null, Bool, Whole, Text, the_lemmas}
-use Rattle.jp_document.proofs.DirectAhead.{items_more, items_end, items_sound, members_more, members_end}
+use Rattle.jp_document.proofs.DirectAhead.{items_more, items_end, items_short, members_more, members_end}
 use Rattle.jp_document.proofs.DirectTurns.{reads-null, reads-boolean, reads-text, reads-whole, reads-list, reads-object}
-use Rattle.jp_document.proofs.TextNames.{names_are_texts, text_is_allowed}
 use Rattle.jp_document.proofs.Values.{value_of-List, value_of-Members}
-use Rattle.jp_document.proofs.Conversion.{both}
 use Rattle.jp_document.proofs.direct.+direct.Goals as goal
 
 pub value-returns-in-Null-clause-reads : goal.value-returns-in-Null-clause-reads
@@ -39,7 +37,7 @@ value-returns-in_ok-integer_of-in-Number-clause-reads t c =
     let z = c.in_ok-integer_of-in-Number.field-0 in
     let same : to_z w128 (of_z w128 z) ≡ z = search rules in
     let seen : value_of (Whole z) ≡ whole z = search (rules, the_lemmas) in
-    subst (ReadsValue c.args.depth c.args.reader.now c.next.new.self) (sym (ap (λ n. value_of (Whole n)) same ∙ seen)) (reads-whole c.args.depth c.args.reader.now c.next.new.self _ _ is c.in_ok-integer_of-in-Number.ensures.value)
+    subst (ReadsValue c.args.depth c.args.reader.now c.next.new.self) (sym (ap (λ n. value_of (Whole n)) same ∙ seen)) (reads-whole c.args.depth c.args.reader.now c.next.new.self _ _ is c.in_ok-integer_of-in-Number.ensures)
 
 pub value-returns-in_ok-ok-in-String-clause-reads : goal.value-returns-in_ok-ok-in-String-clause-reads
 value-returns-in_ok-ok-in-String-clause-reads t c =
@@ -78,7 +76,7 @@ items-items-preserved t c =
       omega (arith, l.invariant.1),
       omega (arith, l.invariant.2),
       rw pushed (items_more c.args.depth c.args.reader.now n l.reader r l.found.items j (omega (arith, l.invariant.1)) going.0 read l.invariant.3),
-      rw pushed (items_sound l.found.items j l.invariant.4 done.sound),
+      rw pushed (items_short l.found.items j l.invariant.4 done.short),
     )
 
 pub items-returns-then-is_short-clause-reads : goal.items-returns-then-is_short-clause-reads
@@ -102,7 +100,7 @@ members-members-preserved t c =
       n - 1,
       omega (arith, l.invariant.1),
       omega (arith, l.invariant.2),
-      rw more (members_more c.args.depth c.args.reader.now n k l.reader s r (entries_of l.found) v (omega (arith, l.invariant.1)) named c.in_ok-value.ensures.reads c.in_ok-value.ensures.sound l.invariant.3),
+      rw more (members_more c.args.depth c.args.reader.now n k l.reader s r (entries_of l.found) v (omega (arith, l.invariant.1)) named c.in_ok-value.ensures.reads c.in_ok-value.ensures.short l.invariant.3),
     )
 
 pub members-returns-clause-reads : goal.members-returns-clause-reads
@@ -110,11 +108,3 @@ members-returns-clause-reads t c =
     let l = c.members in
     let over : read_key l.reader ≡ Some (None, c.next_key.new.self) = grind arith in
     rw c.in_ok-all.ensures (members_end c.args.depth c.args.reader.now l.invariant.0 l.reader c.next_key.new.self (entries_of l.found) l.invariant.1 over l.invariant.3)
-
-pub members-returns-clause-names : goal.members-returns-clause-names
-members-returns-clause-names t c =
-    let rise = c.members.invariant.3.rise in
-    both _ _ (rw c.in_ok-all.ensures rise) (names_are_texts c.in_ok-all.all.items)
-
-pub value-returns-in_ok-ok-in-String-clause-sound : goal.value-returns-in_ok-ok-in-String-clause-sound
-value-returns-in_ok-ok-in-String-clause-sound t c = text_is_allowed c.in_ok-ok-in-String.field-0

@@ -2,7 +2,7 @@ use Rattle.std.proofs.Common.{◌≡◌, ℕ, true, ◌*◌, ◌+◌, ◌++◌, 
 use Rattle.json.specs.Token.{Token}
 use Rattle.jp_document.specs.Private.Direct.{ReadsItems}
 use Rattle.jp_document.specs.Private.MemberList.{entries_of}
-use Rattle.jp_document.specs.Value.{Value, everywhere_in_items, is_allowed, items_of, value_of}
+use Rattle.jp_document.specs.Value.{Value, everywhere_in_items, list_fits, items_of, value_of}
 use Rattle.jp_document.proofs.DirectAhead.{MembersAhead}
 use Rattle.jp_document.proofs.direct.+direct.Given as goal
 
@@ -19,7 +19,7 @@ abbrev pub invariant-items-items : goal.invariant-items-items
 invariant-items-items l =
     (n : ℕ) × (length l.reader ≤ n) × (length l.reader ≤ length l.initial.reader)
     × ((vs : List Value) (r : List Token) → ReadsItems l.depth n l.reader r (items_of vs) → ReadsItems l.depth (length l.initial.reader) l.initial.reader r (items_of (map value_of l.found.items ++ vs)))
-    × (everywhere_in_items is_allowed (items_of (map value_of l.found.items)) ≡ true)
+    × (everywhere_in_items list_fits (items_of (map value_of l.found.items)) ≡ true)
 
 abbrev pub decreases-items-items : goal.decreases-items-items
 decreases-items-items l = length l.reader

@@ -4,13 +4,13 @@ use Rattle.serde_json.specs.Read.{number_from}
 use Rattle.jp_document.proofs.DirectTurns.{from_zero_text, below_zero_text}
 use Rattle.jp_document.proofs.direct.integer_of.Goals as goal
 
-pub returns-in_ok-below_zero-clause-value : goal.returns-in_ok-below_zero-clause-value
-returns-in_ok-below_zero-clause-value c =
+pub returns-in_ok-below_zero : goal.returns-in_ok-below_zero
+returns-in_ok-below_zero c =
     let s = c.as_bytes-bytes.result.now in
     let parts : c.scan.result ≡ scan (drop 1 s) = c.scan.ensures.parts ∙ ap scan (take_all _ (drop 1 s) (omega (arith, length-drop 1 s))) in
     rw (← c.as_bytes-bytes.ensures.value) (below_zero_text s c.in_ok-below_zero.field-0 _ (sym c.if-has_minus.ensures.value) (ap (number_from true) (sym parts) ∙ c.in_ok-below_zero.ensures) (search rules))
 
-pub returns-in_ok-from_zero-clause-value : goal.returns-in_ok-from_zero-clause-value
-returns-in_ok-from_zero-clause-value c =
+pub returns-in_ok-from_zero : goal.returns-in_ok-from_zero
+returns-in_ok-from_zero c =
     let s = c.as_bytes-bytes.result.now in
     rw (← c.as_bytes-bytes.ensures.value) (from_zero_text s c.in_ok-from_zero.field-0 _ (sym c.if-has_minus.ensures.value) (ap (number_from false) (sym c.scan-else-has_minus.ensures.parts) ∙ c.in_ok-from_zero.ensures) (search rules))

@@ -11,6 +11,3 @@ returns-then-fits-clause-ok c =
     let reads : IsReading c.args.bytes.now (view c.in-Ok.parsed) = search rules in
     let short : everywhere list_fits (value_of c.in-Ok-json_of.json) ≡ true = and-left _ true (sym c.in-Ok-json_of.ensures.fits ∙ c.if-fits.true) in
     document_by c.args.bytes.now (view c.in-Ok.parsed) (value_of c.in-Ok-json_of.json) reads c.in-Ok-json_of.ensures.value short
-
-pub returns-then-fits-clause-sound : goal.returns-then-fits-clause-sound
-returns-then-fits-clause-sound c = (returns-then-fits-clause-ok c).valid
