@@ -18,7 +18,8 @@ module _ {W : Type 0} (contents : W → Option (List ℕ)) (has_failed : W → B
   writes_none o text = record { prefix = []; is = refl; written = Appends-nothing (contents o); works = refl }
 
   -- one line more
-  pub writes_more : (o p q : W) (text rest line more : List ℕ) → WritesUpTo o p text rest → rest ≡ line ++ more → WritesAll contents has_failed p q line
+  pub writes_more : (o p q : W) (text rest line more : List ℕ) → WritesUpTo o p text rest
+      → rest ≡ line ++ more → WritesAll contents has_failed p q line
       → WritesUpTo o q text more
   writes_more o p q text rest line more before next wrote = record {
     prefix = before.prefix ++ line;
@@ -28,11 +29,13 @@ module _ {W : Type 0} (contents : W → Option (List ℕ)) (has_failed : W → B
   }
 
   -- what was written is a prefix
-  pub writes_prefix : (o p : W) (text rest : List ℕ) → WritesUpTo o p text rest → AppendsPrefix (contents o) (contents p) text
+  pub writes_prefix : (o p : W) (text rest : List ℕ) → WritesUpTo o p text rest
+      → AppendsPrefix (contents o) (contents p) text
   writes_prefix o p text rest before = record { prefix = before.prefix; rest = rest; is = before.is; written = before.written }
 
   -- so it is with a part of the next line
-  pub writes_part : (o p q : W) (text rest line more : List ℕ) → WritesUpTo o p text rest → rest ≡ line ++ more → AppendsPrefix (contents p) (contents q) line
+  pub writes_part : (o p q : W) (text rest line more : List ℕ) → WritesUpTo o p text rest
+      → rest ≡ line ++ more → AppendsPrefix (contents p) (contents q) line
       → AppendsPrefix (contents o) (contents q) text
   writes_part o p q text rest line more before next part = record {
     prefix = before.prefix ++ part.prefix;
@@ -44,7 +47,8 @@ module _ {W : Type 0} (contents : W → Option (List ℕ)) (has_failed : W → B
   }
 
   -- all was written
-  pub writes_all : (o p : W) (text rest : List ℕ) → WritesUpTo o p text rest → rest ≡ [] → WritesAll contents has_failed o p text
+  pub writes_all : (o p : W) (text rest : List ℕ) → WritesUpTo o p text rest → rest ≡ []
+      → WritesAll contents has_failed o p text
   writes_all o p text rest before none = record {
     written = rw (before.is ∙ ap (λ t. before.prefix ++ t) none ∙ append-nil before.prefix) before.written;
     works = before.works;

@@ -41,7 +41,8 @@ fn push_line(form: Form, node: &Node, line: &mut String) -> Result<(), AllocErro
     line.push('\n')
 }
 
-/// Writes the line of each node before it asks for the next. After a fault a prefix of the lines is written.
+/// Writes the line of each node before it asks for the next. After a fault a prefix of the lines is
+/// written.
 pub(crate) fn write_lines<W: Output>(
     alloc: Global,
     form: Form,

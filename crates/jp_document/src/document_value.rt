@@ -7,7 +7,8 @@ use crate::lookup::member_named;
 use crate::nth::entry_at;
 use crate::value::Json;
 
-/// A value of a document: the document's own, or one that stands inside it. It copies nothing of it.
+/// A value of a document: the document's own, or one that stands inside it. It copies nothing of
+/// it.
 #[derive(Clone, Copy)]
 pub struct DocumentValue<'d> {
     json: &'d Json,

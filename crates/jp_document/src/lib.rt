@@ -1,6 +1,7 @@
 //! JSON documents whose numbers are whole, their nodes, and normalized paths (RFC 9535).
 //!
-//! `Document::read` takes a document from bytes, `Document::root`, `child_named` and `child_at` walk
+//! `Document::read` takes a document from bytes, `Document::root`, `child_named` and `child_at`
+//! walk
 //! its nodes, `Document::value` its values without locations, `path_text` and `value_text` print
 //! one. `read_path` reads a path again, and `Document::find` finds the value at its location:
 //!

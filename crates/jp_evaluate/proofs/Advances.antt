@@ -22,13 +22,15 @@ Offers all w o v = pending all w ≡ choice_at (reached_at [] (walk_frames v)) (
 
 -- ---- a choice that does not pass
 
-pub passed_over : (all : List Segment) (d : Value) (w v : Walk) (o : Offer) → Offers all w o v → passes (offered all o).test d (offered all o).value ≡ false
+pub passed_over : (all : List Segment) (d : Value) (w v : Walk) (o : Offer) → Offers all w o v
+    → passes (offered all o).test d (offered all o).value ≡ false
     → walk_reaches all d v ≡ walk_reaches all d w
 passed_over all d w v o gives fails =
     sym (ap (flat_map (choice_reaches d)) gives
     ∙ ap (λ b. (if b then reaches (offered all o).left d (reached_at [] (walk_frames v) ++ (offered all o).step, (offered all o).value) else []) ++ walk_reaches all d v) fails)
 
-pub offer_less : (all : List Segment) (w v : Walk) (o : Offer) → Offers all w o v → walk_weight all v < walk_weight all w
+pub offer_less : (all : List Segment) (w v : Walk) (o : Offer) → Offers all w o v
+    → walk_weight all v < walk_weight all w
 offer_less all w v o gives =
     let c = choice_at (reached_at [] (walk_frames v)) (offered all o) in
     let sum = ap (sum_by choice_weight) gives ∙ sum_by-cons choice_weight c (pending all v) in
@@ -37,8 +39,10 @@ offer_less all w v o gives =
 
 -- ---- a choice with no segment left
 
-pub arrives : (all : List Segment) (d : Value) (w v : Walk) (o : Offer) → Offers all w o v → passes (offered all o).test d (offered all o).value ≡ true
-    → length all ≤ o.place.done → walk_reaches all d w ≡ reached_place v o.place ∷ walk_reaches all d v
+pub arrives : (all : List Segment) (d : Value) (w v : Walk) (o : Offer) → Offers all w o v
+    → passes (offered all o).test d (offered all o).value ≡ true
+    → length all ≤ o.place.done
+    → walk_reaches all d w ≡ reached_place v o.place ∷ walk_reaches all d v
 arrives all d w v o gives passed done =
     ap (flat_map (choice_reaches d)) gives
     ∙ ap (λ b. (if b then reaches (offered all o).left d (reached_place v o.place) else []) ++ walk_reaches all d v) passed
@@ -46,7 +50,8 @@ arrives all d w v o gives passed done =
 
 -- ---- a choice to go on from
 
-entered_pending : (all : List Segment) (v u : Walk) (p : Place) → v.first ≡ None → u.first ≡ v.first → walk_frames u ≡ walk_frames v ++ entered p ∷ []
+entered_pending : (all : List Segment) (v u : Walk) (p : Place) → v.first ≡ None
+    → u.first ≡ v.first → walk_frames u ≡ walk_frames v ++ entered p ∷ []
     → pending all u ≡ map (choice_at (reached_at [] (walk_frames v) ++ steps_of p.step)) (choices_from (lent_value p.value) (turns (segments_left all p.done)) 0) ++ pending all v
 entered_pending all v u p begun same frames =
     let fs = walk_frames v in
@@ -64,13 +69,16 @@ pub there : (all : List Segment) (i : ℕ) → i < length all → IsThere all i
 there [] i within = absurd (omega arith)
 there (x ∷ xs) i within = (slice_index_or (x ∷ xs) i x, segments_left-next (x ∷ xs) i (slice_index_or (x ∷ xs) i x) within (again (x ∷ xs) i x within))
   where
-    again : (ys : List Segment) (j : ℕ) (y : Segment) → j < length ys → slice_index_or ys j y ≡ slice_index_or ys j (slice_index_or ys j y)
+    again : (ys : List Segment) (j : ℕ) (y : Segment) → j < length ys
+        → slice_index_or ys j y ≡ slice_index_or ys j (slice_index_or ys j y)
     again [] j y h = absurd (omega arith)
     again (z ∷ ys) zero y h = refl
     again (z ∷ ys) (suc j) y h = again ys j y (omega arith)
 
-pub goes_on : (all : List Segment) (d : Value) (w v u : Walk) (o : Offer) → Offers all w o v → v.first ≡ None → passes (offered all o).test d (offered all o).value ≡ true
-    → o.place.done < length all → u.first ≡ v.first → walk_frames u ≡ walk_frames v ++ entered o.place ∷ []
+pub goes_on : (all : List Segment) (d : Value) (w v u : Walk) (o : Offer) → Offers all w o v
+    → v.first ≡ None → passes (offered all o).test d (offered all o).value ≡ true
+    → o.place.done < length all → u.first ≡ v.first
+    → walk_frames u ≡ walk_frames v ++ entered o.place ∷ []
     → walk_reaches all d u ≡ walk_reaches all d w
 goes_on all d w v u o gives begun passed more same frames =
     let p = o.place in
@@ -83,8 +91,10 @@ goes_on all d w v u o gives begun passed more same frames =
     ∙ ap (λ t. t ++ walk_reaches all d v) (sym (enters (segment_of next.0) (segments_left all (p.done + 1)) left d (lent_value p.value) l next.1))
     ∙ sym (ap (flat_map (choice_reaches d)) gives ∙ ap (λ b. (if b then reaches left d (l, lent_value p.value) else []) ++ walk_reaches all d v) passed)
 
-pub goes_on_less : (all : List Segment) (w v u : Walk) (o : Offer) → Offers all w o v → v.first ≡ None
-    → o.place.done < length all → u.first ≡ v.first → walk_frames u ≡ walk_frames v ++ entered o.place ∷ []
+pub goes_on_less : (all : List Segment) (w v u : Walk) (o : Offer) → Offers all w o v
+    → v.first ≡ None
+    → o.place.done < length all → u.first ≡ v.first
+    → walk_frames u ≡ walk_frames v ++ entered o.place ∷ []
     → walk_weight all u < walk_weight all w
 goes_on_less all w v u o gives begun more same frames =
     let p = o.place in
@@ -93,7 +103,8 @@ goes_on_less all w v u o gives begun more same frames =
     let next = there all p.done more in
     let choices = map (choice_at l) (choices_from (lent_value p.value) (turns left) 0) in
     let c = choice_at (reached_at [] (walk_frames v)) (offered all o) in
-    let after = ap (sum_by choice_weight) (entered_pending all v u p begun same frames) ∙ sum_by-append choice_weight choices (pending all v) in
+    let after = ap (sum_by choice_weight) (entered_pending all v u p begun same frames)
+    ∙ sum_by-append choice_weight choices (pending all v) in
     let before = ap (sum_by choice_weight) gives ∙ sum_by-cons choice_weight c (pending all v) in
     let less = enters_less (segment_of next.0) (segments_left all (p.done + 1)) left (lent_value p.value) l next.1 in
     omega arith

@@ -62,7 +62,8 @@ abbrev pub of_segments : List Segment → SegmentTrees
 of_segments xs = segments (map segment_of xs)
 
 -- one segment more
-pub along-next : (items : List Segment) (i : ℕ) (s : Segment) (v : Value) (o : Option Value) → i < length items → s ≡ slice_index_or items i s
+pub along-next : (items : List Segment) (i : ℕ) (s : Segment) (v : Value) (o : Option Value)
+    → i < length items → s ≡ slice_index_or items i s
     → o ≡ single_value (segment_of s) v
     → option_and_then (values_along (of_segments (drop (i + 1) items))) o ≡ values_along (of_segments (drop i items)) v
 along-next items i s v o within at is =
@@ -92,16 +93,19 @@ result-none (segment_then (segment false ss) rest) d = result-none rest d
 result-none (segment_then (segment true ss) rest) d = result-none rest d
 
 -- at the one value that a selector chose, or at none
-along_entry : (rest : SegmentTrees) (d v : Value) (l : Location) (o : Option (Key × Value)) → StandsAt d v l → All (StandsBelow v) (option_to_list o)
+along_entry : (rest : SegmentTrees) (d v : Value) (l : Location) (o : Option (Key × Value))
+    → StandsAt d v l → All (StandsBelow v) (option_to_list o)
     → ((k : Key) (w : Value) → StandsAt d w (l ++ k ∷ []) → values_along rest w ≡ singular_value rest d (l ++ k ∷ []))
     → option_and_then (values_along rest) (option_map (λ e. e.1) o)
     ≡ (if are_single rest then value_of_node d (result rest d ((map (entry_location l) (option_to_list o) ++ []) ++ [])) else None)
 along_entry rest d v l None at all each =
-    none_if (are_single rest) ∙ ap (λ ls. if are_single rest then value_of_node d ls else None) (sym (result-none rest d))
+    none_if (are_single rest)
+    ∙ ap (λ ls. if are_single rest then value_of_node d ls else None) (sym (result-none rest d))
 along_entry rest d v l (Some e) at all each =
     each e.0 e.1 (record { document = at.document; there = value_at-step d v l e.0 at.there ∙ All-head (StandsBelow v) e [] all })
 
-along_chosen : (x : SelectorTree) (rest : SegmentTrees) (d v : Value) (l : Location) → IsPlain x → candidates x v ≡ option_to_list (single_entry x v) → StandsAt d v l
+along_chosen : (x : SelectorTree) (rest : SegmentTrees) (d v : Value) (l : Location) → IsPlain x
+    → candidates x v ≡ option_to_list (single_entry x v) → StandsAt d v l
     → ((k : Key) (w : Value) → StandsAt d w (l ++ k ∷ []) → values_along rest w ≡ singular_value rest d (l ++ k ∷ []))
     → option_and_then (values_along rest) (chosen_value x v)
     ≡ (if are_single rest then value_of_node d (result rest d ((chosen d x l ++ []) ++ [])) else None)

@@ -19,20 +19,24 @@ use Rattle.jp_evaluate.proofs.Located.{nodelist-at}
 use Rattle.jp_evaluate.proofs.Trees.{query_of-is}
 
 -- a walk that begins with v reaches what the segments do
-pub begun_reaches : (all : List Segment) (d : Value) (w : Walk) (v : DocumentValue) → w.first ≡ Some v → walk_frames w ≡ []
+pub begun_reaches : (all : List Segment) (d : Value) (w : Walk) (v : DocumentValue)
+    → w.first ≡ Some v → walk_frames w ≡ []
     → walk_reaches all d w ≡ reaches (segments (map segment_of all)) d ([], lent_value v)
 begun_reaches all d w v first frames =
     ap (flat_map (choice_reaches d)) (ap₂ (λ o fs. map (choice_at (reached_at [] fs)) (map (start_choice all) (option_to_list o)) ++ frames_pending all [] fs) first frames)
     ∙ append-nil (choice_reaches d (choice_at [] (start_choice all v)))
     ∙ ap (λ xs. reaches (segments (map segment_of xs)) d ([], lent_value v)) (drop_none all)
 
-from_root : (absolute : Bool) (all : SegmentTrees) (d : Value) → nodelist_at (query absolute all) d [] ≡ result all d ([] ∷ [])
+from_root : (absolute : Bool) (all : SegmentTrees) (d : Value)
+    → nodelist_at (query absolute all) d [] ≡ result all d ([] ∷ [])
 from_root true all d = refl
 from_root false all d = refl
 
 -- from the root it reaches the nodelist
-pub begun_nodelist : (q : Query) (all : List Segment) (d : Value) (w : Walk) (v : DocumentValue) → (out-Query q).segments.items ≡ all → lent_value v ≡ d → IsDocumentValue d
-    → w.first ≡ Some v → walk_frames w ≡ [] → map as_shown (walk_reaches all d w) ≡ map (standing d) (nodelist (query_of q) d)
+pub begun_nodelist : (q : Query) (all : List Segment) (d : Value) (w : Walk) (v : DocumentValue)
+    → (out-Query q).segments.items ≡ all → lent_value v ≡ d → IsDocumentValue d
+    → w.first ≡ Some v → walk_frames w ≡ []
+    → map as_shown (walk_reaches all d w) ≡ map (standing d) (nodelist (query_of q) d)
 begun_nodelist q all d w v are is document first frames =
     ap (map as_shown) (begun_reaches all d w v first frames ∙ ap₂ (λ xs u. reaches (segments (map segment_of xs)) d ([], u)) (sym are) is)
     ∙ nodelist-at (segments (map segment_of (out-Query q).segments.items)) d document

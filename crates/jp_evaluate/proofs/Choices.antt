@@ -33,11 +33,13 @@ pub drop_none : {X : Type 0} (xs : List X) → drop 0 xs ≡ xs
 drop_none [] = refl
 drop_none (x ∷ xs) = refl
 
-pub choices_all : (v : Value) (ts : List (SelectorTree × SegmentTrees)) → choices_from v ts 0 ≡ flat_map (turn_choices v) ts
+pub choices_all : (v : Value) (ts : List (SelectorTree × SegmentTrees))
+    → choices_from v ts 0 ≡ flat_map (turn_choices v) ts
 choices_all v [] = refl
 choices_all v (t ∷ ts) = ap (λ cs. cs ++ flat_map (turn_choices v) ts) (drop_none (turn_choices v t))
 
-none_of : (t : SelectorTree × SegmentTrees) (o : Option (Key × Value)) → o ≡ None → option_map (choice_of t) o ≡ None
+none_of : (t : SelectorTree × SegmentTrees) (o : Option (Key × Value)) → o ≡ None
+    → option_map (choice_of t) o ≡ None
 none_of t None is = refl
 none_of t (Some e) is = absurd (cc)
 
@@ -54,12 +56,14 @@ turn_next v ts i k t at past =
     ∙ ap (λ us. choices_from v us k) (sym (drop_at ts i t at))
 
 -- after the last turn there is no choice
-pub turns_end : (v : Value) (ts : List (SelectorTree × SegmentTrees)) (i k : ℕ) → slice_get ts i ≡ None → choices_from v (drop i ts) k ≡ []
+pub turns_end : (v : Value) (ts : List (SelectorTree × SegmentTrees)) (i k : ℕ)
+    → slice_get ts i ≡ None → choices_from v (drop i ts) k ≡ []
 turns_end v ts i k past = ap (λ us. choices_from v us k) (drop_past ts i past)
 
 -- ---- frames
 
-pub reached-push : (l : Location) (fs : List Frame) (f : Frame) → reached_at l (fs ++ f ∷ []) ≡ reached_at l fs ++ steps_of f.place.step
+pub reached-push : (l : Location) (fs : List Frame) (f : Frame)
+    → reached_at l (fs ++ f ∷ []) ≡ reached_at l fs ++ steps_of f.place.step
 reached-push l [] f = refl
 reached-push l (g ∷ fs) f = reached-push (l ++ steps_of g.place.step) fs f
 
@@ -79,13 +83,15 @@ pending-push all l (g ∷ fs) f =
 -- ---- walks
 
 -- a walk whose first value was offered, by its frames
-pub frames_alone : (all : List Segment) (w v : Walk) → w.first ≡ None → v.first ≡ None → walk_frames w ≡ walk_frames v → pending all w ≡ pending all v
+pub frames_alone : (all : List Segment) (w v : Walk) → w.first ≡ None → v.first ≡ None
+    → walk_frames w ≡ walk_frames v → pending all w ≡ pending all v
 frames_alone all w v first begun same =
     ap₂ (λ o fs. map (choice_at (reached_at [] fs)) (map (start_choice all) (option_to_list o)) ++ frames_pending all [] fs) (first ∙ sym begun) same
 
 -- the last frame's next choice
 pub frame_next : (all : List Segment) (before : List (Location × Choice)) (w v : Walk) (f g : Frame) (c : Choice) → w.first ≡ None → v.first ≡ None
-    → pending all w ≡ before → w.top ≡ Some f → v.top ≡ Some g → v.below ≡ w.below → g.place ≡ f.place → frame_choices all f ≡ c ∷ frame_choices all g
+    → pending all w ≡ before → w.top ≡ Some f → v.top ≡ Some g → v.below ≡ w.below
+    → g.place ≡ f.place → frame_choices all f ≡ c ∷ frame_choices all g
     → before ≡ choice_at (reached_at [] (walk_frames v)) c ∷ pending all v
 frame_next all before w v f g c first begun rest top new below place choices =
     let b = w.below.items in
@@ -96,7 +102,8 @@ frame_next all before w v f g c first begun rest top new below place choices =
     ap₂ (λ o fs. map (choice_at (reached_at [] fs)) (map (start_choice all) (option_to_list o)) ++ frames_pending all [] fs) begun
     (ap₂ (λ (x : Vec Frame Global) t. x.items ++ option_to_list t) below new) in
     let at : reached_at [] (walk_frames v) ≡ m =
-    ap (reached_at []) (ap₂ (λ (x : Vec Frame Global) t. x.items ++ option_to_list t) below new) ∙ reached-push [] b g ∙ ap (λ (p : Place). reached_at [] b ++ steps_of p.step) place in
+    ap (reached_at []) (ap₂ (λ (x : Vec Frame Global) t. x.items ++ option_to_list t) below new)
+    ∙ reached-push [] b g ∙ ap (λ (p : Place). reached_at [] b ++ steps_of p.step) place in
     sym rest ∙ was ∙ pending-push all [] b f
     ∙ ap (λ cs. map (choice_at m) cs ++ frames_pending all [] b) choices
     ∙ ap₂ (λ l t. choice_at l c ∷ t) (sym at)
@@ -105,7 +112,8 @@ frame_next all before w v f g c first begun rest top new below place choices =
 
 -- a frame without more choices is left
 pub frame_left : (all : List Segment) (before : List (Location × Choice)) (w v : Walk) (f : Frame) → w.first ≡ None → v.first ≡ None
-    → pending all w ≡ before → w.top ≡ Some f → v.top ≡ None → v.below ≡ w.below → frame_choices all f ≡ []
+    → pending all w ≡ before → w.top ≡ Some f → v.top ≡ None → v.below ≡ w.below
+    → frame_choices all f ≡ []
     → pending all v ≡ before
 frame_left all before w v f first begun rest top new below choices =
     let b = w.below.items in

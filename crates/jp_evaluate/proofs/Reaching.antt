@@ -17,41 +17,51 @@ use Rattle.jp_evaluate.proofs.Choices.{choices_all}
 
 -- ---- lists of lists
 
-pub flat_map-flat_map : {X Y Z : Type 0} (f : Y → List Z) (g : X → List Y) (xs : List X) → flat_map f (flat_map g xs) ≡ flat_map (λ x. flat_map f (g x)) xs
+pub flat_map-flat_map : {X Y Z : Type 0} (f : Y → List Z) (g : X → List Y) (xs : List X)
+    → flat_map f (flat_map g xs) ≡ flat_map (λ x. flat_map f (g x)) xs
 flat_map-flat_map f g [] = refl
-flat_map-flat_map f g (x ∷ xs) = flat_map-append f (g x) (flat_map g xs) ∙ ap (λ ys. flat_map f (g x) ++ ys) (flat_map-flat_map f g xs)
+flat_map-flat_map f g (x ∷ xs) = flat_map-append f (g x) (flat_map g xs)
+    ∙ ap (λ ys. flat_map f (g x) ++ ys) (flat_map-flat_map f g xs)
 
-map-flat_map : {X Y Z : Type 0} (f : Y → Z) (g : X → List Y) (xs : List X) → map f (flat_map g xs) ≡ flat_map (λ x. map f (g x)) xs
+map-flat_map : {X Y Z : Type 0} (f : Y → Z) (g : X → List Y) (xs : List X)
+    → map f (flat_map g xs) ≡ flat_map (λ x. map f (g x)) xs
 map-flat_map f g [] = refl
-map-flat_map f g (x ∷ xs) = map-append f (g x) (flat_map g xs) ∙ ap (λ ys. map f (g x) ++ ys) (map-flat_map f g xs)
+map-flat_map f g (x ∷ xs) = map-append f (g x) (flat_map g xs)
+    ∙ ap (λ ys. map f (g x) ++ ys) (map-flat_map f g xs)
 
 -- ---- a value and all in it
 
-further-after : (n : Reached) (e : Key × Value) (es : List (Location × Value)) → map (further n) (map (after e.0) es) ≡ map (further (told_entry n.0 e)) es
+further-after : (n : Reached) (e : Key × Value) (es : List (Location × Value))
+    → map (further n) (map (after e.0) es) ≡ map (further (told_entry n.0 e)) es
 further-after n e [] = refl
 further-after n e (x ∷ es) = ap₂ (λ l ms. (l, x.1) ∷ ms) (sym (append_assoc n.0 (e.0 ∷ []) x.0)) (further-after n e es)
 
-inside-each : (n : Reached) (es : List (Key × Value)) → map (further n) (flat_map inner es) ≡ flat_map (visits true) (map (told_entry n.0) es)
+inside-each : (n : Reached) (es : List (Key × Value))
+    → map (further n) (flat_map inner es) ≡ flat_map (visits true) (map (told_entry n.0) es)
 inside-each n [] = refl
 inside-each n (e ∷ es) =
-    map-append (further n) (inner e) (flat_map inner es) ∙ ap₂ (λ xs ys. xs ++ ys) (further-after n e (nodes_in e.1)) (inside-each n es)
+    map-append (further n) (inner e) (flat_map inner es)
+    ∙ ap₂ (λ xs ys. xs ++ ys) (further-after n e (nodes_in e.1)) (inside-each n es)
 
 -- a value is visited before what is in its children
-pub visits-children : (n : Reached) → visits true n ≡ n ∷ flat_map (visits true) (map (told_entry n.0) (held n.1))
+pub visits-children : (n : Reached)
+    → visits true n ≡ n ∷ flat_map (visits true) (map (told_entry n.0) (held n.1))
 visits-children n =
     ap (map (further n)) (nodes_in-held n.1)
     ∙ ap₂ (λ l ms. (l, n.1) ∷ ms) (append-nil n.0) (inside-each n (held n.1))
 
 -- ---- what choices reach
 
-takes-passes : (s : SelectorTree) (d : Value) (e : Key × Value) → takes s d e ≡ passes (test_of s) d e.1
+takes-passes : (s : SelectorTree) (d : Value) (e : Key × Value)
+    → takes s d e ≡ passes (test_of s) d e.1
 takes-passes (name cs) d e = refl
 takes-passes wildcard d e = refl
 takes-passes (index i) d e = refl
 takes-passes (slice s) d e = refl
 takes-passes (filter x) d e = refl
 
-taken_if : {X Y : Type 0} (b : Bool) (f : X → List Y) (x : X) (xs : List X) (rest : List Y) → flat_map f xs ≡ rest
+taken_if : {X Y : Type 0} (b : Bool) (f : X → List Y) (x : X) (xs : List X) (rest : List Y)
+    → flat_map f xs ≡ rest
     → flat_map f (if b then x ∷ xs else xs) ≡ (if b then f x else []) ++ rest
 taken_if true f x xs rest is = ap (λ t. f x ++ t) is
 taken_if false f x xs rest is = is
@@ -85,7 +95,8 @@ children_reach : (all : SegmentTrees) (d : Value) (l : Location) (es : List (Key
 children_reach all d l [] = refl
 children_reach all d l (e ∷ es) = ap (λ t. reaches all d (told_entry l e) ++ t) (children_reach all d l es)
 
-all_reach : (all : SegmentTrees) (d : Value) (n : Reached) → (s : SegmentTree) (rest : SegmentTrees) → all ≡ segment_then s rest
+all_reach : (all : SegmentTrees) (d : Value) (n : Reached)
+    → (s : SegmentTree) (rest : SegmentTrees) → all ≡ segment_then s rest
     → reaches all d n ≡ flat_map (choice_reaches d) (map (choice_at n.0) (flat_map (turn_choices n.1) (turns all)))
 all_reach no_segments d n s rest is = absurd (cc)
 all_reach (segment_then (segment false ss) rest) d n s more is =
@@ -109,10 +120,12 @@ all_reach (segment_then (segment true ss) rest) d n s more is =
     ∙ flat_map-append (choice_reaches d) (map (choice_at n.0) here) (map (choice_at n.0) below))
 
 -- going on from a value reaches what its choices do
-pub enters : (s : SegmentTree) (rest all : SegmentTrees) (d v : Value) (l : Location) → all ≡ segment_then s rest
+pub enters : (s : SegmentTree) (rest all : SegmentTrees) (d v : Value) (l : Location)
+    → all ≡ segment_then s rest
     → reaches all d (l, v) ≡ flat_map (choice_reaches d) (map (choice_at l) (choices_from v (turns all) 0))
 enters s rest all d v l is =
-    all_reach all d (l, v) s rest is ∙ ap (λ cs. flat_map (choice_reaches d) (map (choice_at l) cs)) (sym (choices_all v (turns all)))
+    all_reach all d (l, v) s rest is
+    ∙ ap (λ cs. flat_map (choice_reaches d) (map (choice_at l) cs)) (sym (choices_all v (turns all)))
 
 -- ---- how many choices there are
 
@@ -135,13 +148,16 @@ selectors_weigh l v (selector_then s ss) rest =
     ∙ ap₂ (λ m n. m + n) (candidates_weight l s rest (candidates s v)) (selectors_weigh l v ss rest)
 
 -- the weight of what is in values
-inner_weight : (f : Value → ℕ) (k : Key) (ns : List (Location × Value)) → sum_by (λ n. f n.1) (map (after k) ns) ≡ sum_by (λ n. f n.1) ns
+inner_weight : (f : Value → ℕ) (k : Key) (ns : List (Location × Value))
+    → sum_by (λ n. f n.1) (map (after k) ns) ≡ sum_by (λ n. f n.1) ns
 inner_weight f k [] = refl
 inner_weight f k (n ∷ ns) =
-    sum_by-cons (λ (m : Location × Value). f m.1) (after k n) (map (after k) ns) ∙ ap (λ m. f n.1 + m) (inner_weight f k ns)
+    sum_by-cons (λ (m : Location × Value). f m.1) (after k n) (map (after k) ns)
+    ∙ ap (λ m. f n.1 + m) (inner_weight f k ns)
     ∙ sym (sum_by-cons (λ (m : Location × Value). f m.1) n ns)
 
-inners_weight : (f : Value → ℕ) (es : List (Key × Value)) → sum_by (λ n. f n.1) (flat_map inner es) ≡ sum_by (λ e. sum_by (λ n. f n.1) (nodes_in e.1)) es
+inners_weight : (f : Value → ℕ) (es : List (Key × Value))
+    → sum_by (λ n. f n.1) (flat_map inner es) ≡ sum_by (λ e. sum_by (λ n. f n.1) (nodes_in e.1)) es
 inners_weight f [] = refl
 inners_weight f (e ∷ es) =
     sum_by-append (λ (m : Location × Value). f m.1) (inner e) (flat_map inner es)
@@ -172,10 +188,12 @@ all_weigh l v (segment_then (segment true ss) rest) s more is =
     suc_first m n = omega arith
 
 -- going on from a value leaves fewer choices than it has itself
-pub enters_less : (s : SegmentTree) (rest all : SegmentTrees) (v : Value) (l : Location) → all ≡ segment_then s rest
+pub enters_less : (s : SegmentTree) (rest all : SegmentTrees) (v : Value) (l : Location)
+    → all ≡ segment_then s rest
     → weight all v ≡ suc (sum_by choice_weight (map (choice_at l) (choices_from v (turns all) 0)))
 enters_less s rest all v l is =
-    all_weigh l v all s rest is ∙ ap (λ cs. suc (sum_by choice_weight (map (choice_at l) cs))) (sym (choices_all v (turns all)))
+    all_weigh l v all s rest is
+    ∙ ap (λ cs. suc (sum_by choice_weight (map (choice_at l) cs))) (sym (choices_all v (turns all)))
 
 some_weight : (all : SegmentTrees) (v : Value) → 0 < weight all v
 some_weight no_segments v = omega arith

@@ -18,7 +18,8 @@ selector_part [] i x within at = absurd (omega arith)
 selector_part (y ∷ xs) zero x within at = let same = ap (λ z. selector_size (selector_of z)) at in omega (arith, same)
 selector_part (y ∷ xs) (suc i) x within at = let more = selector_part xs i x (omega arith) at in omega (arith, more)
 
-pub segment_part : (xs : List Segment) (i : ℕ) (x : Segment) → i < length xs → x ≡ slice_index_or xs i x
+pub segment_part : (xs : List Segment) (i : ℕ) (x : Segment) → i < length xs
+    → x ≡ slice_index_or xs i x
     → segment_size (segment_of x) ≤ segments_size (segments (map segment_of xs))
 segment_part [] i x within at = absurd (omega arith)
 segment_part (y ∷ xs) zero x within at = let same = ap (λ z. segment_size (segment_of z)) at in omega (arith, same)

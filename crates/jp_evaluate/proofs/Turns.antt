@@ -12,7 +12,8 @@ use Rattle.jp_evaluate.proofs.Trees.{segment_of-is}
 
 -- ---- segments
 
-pub segments_left-next : (all : List Segment) (i : ℕ) (s : Segment) → i < length all → s ≡ slice_index_or all i s
+pub segments_left-next : (all : List Segment) (i : ℕ) (s : Segment) → i < length all
+    → s ≡ slice_index_or all i s
     → segments_left all i ≡ segment_then (segment_of s) (segments_left all (i + 1))
 segments_left-next all i s within at =
     let next : suc i ≡ i + 1 = omega arith in
@@ -25,11 +26,13 @@ drop-past [] (suc i) past = refl
 drop-past (x ∷ xs) zero past = absurd (omega arith)
 drop-past (x ∷ xs) (suc i) past = drop-past xs i (omega arith)
 
-pub segments_left-end : (all : List Segment) (i : ℕ) → length all ≤ i → segments_left all i ≡ segments []
+pub segments_left-end : (all : List Segment) (i : ℕ) → length all ≤ i
+    → segments_left all i ≡ segments []
 segments_left-end all i past = ap (λ xs. segments (map segment_of xs)) (drop-past all i past)
 
 -- the segment after i others, and those after it
-pub left_there : (all : List Segment) (i : ℕ) (s : Segment) (xs : List Selector) → i < length all → s ≡ slice_index_or all i s → (out-Segment s).selectors.items ≡ xs
+pub left_there : (all : List Segment) (i : ℕ) (s : Segment) (xs : List Selector) → i < length all
+    → s ≡ slice_index_or all i s → (out-Segment s).selectors.items ≡ xs
     → segments_left all i ≡ segment_then (segment (out-Segment s).descendant (selectors (map selector_of xs))) (segments_left all (i + 1))
 left_there all i s xs within at are =
     segments_left-next all i s within at
@@ -55,27 +58,33 @@ pub selector_turn : (b : Bool) (xs : List SelectorTree) (rest : SegmentTrees) (n
     → slice_get (turns (segment_then (segment b (selectors xs)) rest)) n ≡ Some (x, rest)
 selector_turn b xs rest n x at = turn_first xs rest _ n x at
 
-pub children_turn : (b : Bool) (xs : List SelectorTree) (rest : SegmentTrees) (n : ℕ) → b ≡ true → n ≡ length xs
+pub children_turn : (b : Bool) (xs : List SelectorTree) (rest : SegmentTrees) (n : ℕ) → b ≡ true
+    → n ≡ length xs
     → slice_get (turns (segment_then (segment b (selectors xs)) rest)) n ≡ Some (wildcard, segment_then (segment b (selectors xs)) rest)
 children_turn true xs rest n is at =
     let none : n - length xs ≡ 0 = omega arith in
-    turn_later xs rest _ n (omega arith) ∙ ap (slice_get ((wildcard, segment_then (segment true (selectors xs)) rest) ∷ [])) none
+    turn_later xs rest _ n (omega arith)
+    ∙ ap (slice_get ((wildcard, segment_then (segment true (selectors xs)) rest) ∷ [])) none
 children_turn false xs rest n is at = absurd (cc)
 
-pub no_turn : (b : Bool) (xs : List SelectorTree) (rest : SegmentTrees) (n : ℕ) → length xs ≤ n → (b ≡ true → n ≢ length xs)
+pub no_turn : (b : Bool) (xs : List SelectorTree) (rest : SegmentTrees) (n : ℕ) → length xs ≤ n
+    → (b ≡ true → n ≢ length xs)
     → slice_get (turns (segment_then (segment b (selectors xs)) rest)) n ≡ None
 no_turn false xs rest n past not = turn_later xs rest _ n past
 no_turn true xs rest n past not =
     let apart : n ≢ length xs = not refl in
     let more : n - length xs ≡ suc (n - length xs - 1) = omega arith in
-    turn_later xs rest _ n past ∙ ap (slice_get ((wildcard, segment_then (segment true (selectors xs)) rest) ∷ [])) more
+    turn_later xs rest _ n past
+    ∙ ap (slice_get ((wildcard, segment_then (segment true (selectors xs)) rest) ∷ [])) more
 
 -- a selector is smaller than the segments that have it
 pub selector_smaller : (all : List Segment) (i n : ℕ) (s : Segment) (xs : List Selector) (x : Selector) → i < length all → s ≡ slice_index_or all i s → (out-Segment s).selectors.items ≡ xs
-    → n < length xs → x ≡ slice_index_or xs n x → selector_size (selector_of x) < segments_size (segments (map segment_of all))
+    → n < length xs → x ≡ slice_index_or xs n x
+    → selector_size (selector_of x) < segments_size (segments (map segment_of all))
 selector_smaller all i n s xs x within at are inside is =
     let part = selector_part xs n x inside is in
-    let tree = segment_of-is s ∙ ap (λ ys. segment (out-Segment s).descendant (selectors (map selector_of ys))) are in
+    let tree = segment_of-is s
+    ∙ ap (λ ys. segment (out-Segment s).descendant (selectors (map selector_of ys))) are in
     let whole = segment_part all i s within at in
     let size = ap segment_size tree in
     omega arith

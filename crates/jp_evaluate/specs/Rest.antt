@@ -18,7 +18,8 @@ as_shown n = (n.0, Some n.1)
 abbrev pub rest_of : Nodes → List (Location × Option Value)
 rest_of v = map as_shown (walk_reaches v.segments.now (lent_value v.root) v.walk)
 
--- what one call of `next` does: a node is the first of those left, an error ends the nodes for good, and where it gives
+-- what one call of `next` does: a node is the first of those left, an error ends the nodes for
+-- good, and where it gives
 -- none without a fault there were none left
 abbrev pub GivesNext : Nodes → Option (Result Located AllocError) → Nodes → Type 0
 GivesNext v (Some (Ok n)) w =

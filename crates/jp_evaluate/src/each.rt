@@ -49,7 +49,8 @@ impl<'d, 'q> Iterator for Nodes<'d, 'q> {
 
     ghost remaining = { λ nodes. at_most (if nodes.failed then 0 else length (rest_of nodes) + 1) };
 
-    /// The next node, or an error where there is no memory for it, after which there are no more; None at the end of the
+    /// The next node, or an error where there is no memory for it, after which there are no more;
+    /// None at the end of the
     /// nodelist.
     fn next(&mut self) -> Option<Result<Node<'d>, AllocError>> {
         if self.failed {

@@ -1,4 +1,5 @@
-//! The truth of the expressions of filters (RFC 9535 section 2.3.5.2), and the walk that asks for it.
+//! The truth of the expressions of filters (RFC 9535 section 2.3.5.2), and the walk that asks for
+//! it.
 ghost use Rattle.std.specs.Prelude.{◌≡◌, ◌∷◌, [], IfOk, MatchOption, map};
 ghost use Rattle.jp_document.specs.DocumentValue.{lent_value};
 ghost use Rattle.jp_query.specs.Tree.{expr_of, exprs, query_of};

@@ -1,4 +1,5 @@
-//! The walk of a query through a document, from choice to choice (RFC 9535 section 2.1.2). It keeps a frame for each
+//! The walk of a query through a document, from choice to choice (RFC 9535 section 2.1.2). It keeps
+//! a frame for each
 //! value on the way from where it begins to where it stands, and no list of nodes.
 ghost use Rattle.std.specs.Prelude.{◌≡◌, ◌<◌, ◌++◌, ◌∷◌, [], IfNone, IfOk, IfSome, MatchOption, OnOk, OnSome, map, option_map, slice_get};
 ghost use Rattle.jp_document.specs.DocumentValue.{lent_entry, lent_value};
@@ -39,7 +40,8 @@ pub(crate) struct Offer<'q, 'd> {
     pub(crate) test: Option<&'q Expr>,
 }
 
-/// What a segment chooses by: one of its selectors, or, in a descendant segment, all children, at which it is
+/// What a segment chooses by: one of its selectors, or, in a descendant segment, all children, at
+/// which it is
 /// applied again.
 #[derive(Clone, Copy)]
 struct Turn<'q> {
@@ -47,7 +49,8 @@ struct Turn<'q> {
     done: usize,
 }
 
-/// A walk under way: the value that it begins with, while that has not been offered, and the frames from there on. The last
+/// A walk under way: the value that it begins with, while that has not been offered, and the frames
+/// from there on. The last
 /// frame stands apart, so that a walk of one frame takes no memory.
 #[derive(Drop)]
 pub(crate) struct Walk<'d> {
@@ -185,7 +188,8 @@ fn frame_offer<'q, 'd>(segments: &'q [Segment], frame: &mut Frame<'d>) -> Option
     None
 }
 
-/// The turn of this number, from 0, of the segment after `done` others, None where there are no more.
+/// The turn of this number, from 0, of the segment after `done` others, None where there are no
+/// more.
 fn turn_at<'q>(segments: &'q [Segment], done: usize, number: usize) -> Option<Turn<'q>>
     ensures gives { option_map (turn_of segments.now) result
         ≡ slice_get (turns (segments_left segments.now done)) number }

@@ -18,7 +18,8 @@ use Rattle.jp_select.proofs.SliceItems.{slice_within}
 -- ---- names
 
 -- the member of a name is that of the name's bytes
-pub single-name : (v : Value) (s : String Global) (bytes : List ℕ) → IsUtf8 bytes → bytes ≡ string_bytes s
+pub single-name : (v : Value) (s : String Global) (bytes : List ℕ) → IsUtf8 bytes
+    → bytes ≡ string_bytes s
     → single (selector_of (Name s)) v ≡ option_map (at_step (named bytes)) (child v (named bytes))
 single-name v s bytes utf8 same =
     let tree : selector_of (Name s) ≡ name (chars (string_bytes s)) = search (rules, the_lemmas) in
@@ -41,12 +42,14 @@ length-held (text s) n is = absurd (cc)
 length-held (list vs) n is = count-held 0 vs ∙ same_Some _ _ is
 length-held (object ms) n is = absurd (cc)
 
-entry-first : (v : Value) (i : ℕ) (more : List (Key × Value)) (o : Option (Key × Value)) → slice_get (held v) i ≡ o → i < length (held v)
+entry-first : (v : Value) (i : ℕ) (more : List (Key × Value)) (o : Option (Key × Value))
+    → slice_get (held v) i ≡ o → i < length (held v)
     → slice_get (option_to_list o ++ more) 0 ≡ o
 entry-first v i more None at within = let there = slice_get-get_or (held v) i (nth 0, v) within in absurd (cc)
 entry-first v i more (Some e) at within = refl
 
-entry-later : (v : Value) (i p : ℕ) (more : List (Key × Value)) (o : Option (Key × Value)) → slice_get (held v) i ≡ o → i < length (held v)
+entry-later : (v : Value) (i p : ℕ) (more : List (Key × Value)) (o : Option (Key × Value))
+    → slice_get (held v) i ≡ o → i < length (held v)
     → slice_get (option_to_list o ++ more) (suc p) ≡ slice_get more p
 entry-later v i p more None at within = let there = slice_get-get_or (held v) i (nth 0, v) within in absurd (cc)
 entry-later v i p more (Some e) at within = refl
@@ -61,7 +64,8 @@ entries-at v (i ∷ is) (suc p) all =
     entry-later v i p (flat_map (item_entry v) is) (slice_get (held v) i) refl (All-head (λ j. j < length (held v)) i is all)
     ∙ entries-at v is p (All-tail (λ j. j < length (held v)) i is all)
 
-chosen-within : (n : ℕ) (start end : Option (Option ℤ)) (step : Option ℤ) → All (λ i. i < n) (indexes_of n start end step)
+chosen-within : (n : ℕ) (start end : Option (Option ℤ)) (step : Option ℤ)
+    → All (λ i. i < n) (indexes_of n start end step)
 chosen-within n None end step = All-nil (λ i. i < n)
 chosen-within n (Some a) None step = All-nil (λ i. i < n)
 chosen-within n (Some a) (Some b) None = All-nil (λ i. i < n)

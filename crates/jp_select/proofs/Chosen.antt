@@ -27,35 +27,42 @@ entry_location l e = l ++ e.0 ∷ []
 abbrev pub StandsBelow : Value → Key × Value → Type 0
 StandsBelow v e = child v e.0 ≡ Some e.1
 
-All-each : {X : Type 0} (P : X → Type 0) (xs : List X) → ((i : ℕ) (x : X) → slice_get xs i ≡ Some x → P x) → All P xs
+All-each : {X : Type 0} (P : X → Type 0) (xs : List X)
+    → ((i : ℕ) (x : X) → slice_get xs i ≡ Some x → P x) → All P xs
 All-each P [] each = All-nil P
 All-each P (x ∷ xs) each = All-cons P x xs (each 0 x refl) (All-each P xs (λ i y is. each (suc i) y is))
 
 held_stand : (v : Value) → IsDocumentValue v → All (StandsBelow v) (held v)
 held_stand v document = All-each (StandsBelow v) (held v) (λ i e is. child-held v i e.0 e.1 document is)
 
-entry_stands : (v : Value) (i : ℕ) (o : Option (Key × Value)) → IsDocumentValue v → slice_get (held v) i ≡ o → All (StandsBelow v) (option_to_list o)
+entry_stands : (v : Value) (i : ℕ) (o : Option (Key × Value)) → IsDocumentValue v
+    → slice_get (held v) i ≡ o → All (StandsBelow v) (option_to_list o)
 entry_stands v i None document is = All-nil (StandsBelow v)
 entry_stands v i (Some e) document is = All-cons (StandsBelow v) e [] (child-held v i e.0 e.1 document is) (All-nil (StandsBelow v))
 
-item_stands : (v : Value) (o : Option ℕ) → IsDocumentValue v → All (StandsBelow v) (option_to_list (option_and_then (slice_get (held v)) o))
+item_stands : (v : Value) (o : Option ℕ) → IsDocumentValue v
+    → All (StandsBelow v) (option_to_list (option_and_then (slice_get (held v)) o))
 item_stands v None document = All-nil (StandsBelow v)
 item_stands v (Some i) document = entry_stands v i (slice_get (held v) i) document refl
 
-items_stand : (v : Value) (is : List ℕ) → IsDocumentValue v → All (StandsBelow v) (flat_map (item_entry v) is)
+items_stand : (v : Value) (is : List ℕ) → IsDocumentValue v
+    → All (StandsBelow v) (flat_map (item_entry v) is)
 items_stand v [] document = All-nil (StandsBelow v)
 items_stand v (i ∷ is) document =
     All-append (StandsBelow v) (item_entry v i) (flat_map (item_entry v) is) (entry_stands v i (slice_get (held v) i) document refl) (items_stand v is document)
 
-slice_stands : (v : Value) (indexes : ℕ → List ℕ) (o : Option ℕ) → IsDocumentValue v → All (StandsBelow v) (option_map_or (λ n. flat_map (item_entry v) (indexes n)) o [])
+slice_stands : (v : Value) (indexes : ℕ → List ℕ) (o : Option ℕ) → IsDocumentValue v
+    → All (StandsBelow v) (option_map_or (λ n. flat_map (item_entry v) (indexes n)) o [])
 slice_stands v indexes None document = All-nil (StandsBelow v)
 slice_stands v indexes (Some n) document = items_stand v (indexes n) document
 
-member_stands : (v : Value) (k : Key) (o : Option Value) → child v k ≡ o → All (StandsBelow v) (option_to_list (option_map (at_step k) o))
+member_stands : (v : Value) (k : Key) (o : Option Value) → child v k ≡ o
+    → All (StandsBelow v) (option_to_list (option_map (at_step k) o))
 member_stands v k None is = All-nil (StandsBelow v)
 member_stands v k (Some w) is = All-cons (StandsBelow v) (k, w) [] is (All-nil (StandsBelow v))
 
-pub candidates_stand : (s : SelectorTree) (v : Value) → IsDocumentValue v → All (StandsBelow v) (candidates s v)
+pub candidates_stand : (s : SelectorTree) (v : Value) → IsDocumentValue v
+    → All (StandsBelow v) (candidates s v)
 candidates_stand (name cs) v document = member_stands v (named (encode_utf8_all cs)) (child v (named (encode_utf8_all cs))) refl
 candidates_stand wildcard v document = held_stand v document
 candidates_stand (index (Whole i)) v document = item_stands v (option_and_then (λ n. item_at n i) (list_length v)) document
@@ -83,7 +90,8 @@ nth-from n k (suc i) (item v vs) at =
     nth-from n (suc k) i vs (omega arith)
     ∙ ap (λ o. option_map (at_step (nth n)) (cond (is_eq o) (Some v) (lookup (is_at (key_cmp (nth n))) (items_from (suc k) vs)))) (nat_cmp_is n k Greater (omega arith))
 
-item_chosen-at : (d v : Value) (l : Location) (n i : ℕ) → value_at d l ≡ Some v → list_length v ≡ Some n
+item_chosen-at : (d v : Value) (l : Location) (n i : ℕ) → value_at d l ≡ Some v
+    → list_length v ≡ Some n
     → item_step d l i ≡ map (entry_location l) (item_entry v i)
 item_chosen-at d (list vs) l n i at long =
     step_chosen d l (nth i) (child (list vs) (nth i)) (value_at-step d (list vs) l (nth i) at)
@@ -94,30 +102,35 @@ item_chosen-at d (whole z) l n i at long = absurd (cc)
 item_chosen-at d (text s) l n i at long = absurd (cc)
 item_chosen-at d (object ms) l n i at long = absurd (cc)
 
-index_chosen-at : (d v : Value) (l : Location) (n : ℕ) (o : Option ℕ) → value_at d l ≡ Some v → list_length v ≡ Some n
+index_chosen-at : (d v : Value) (l : Location) (n : ℕ) (o : Option ℕ) → value_at d l ≡ Some v
+    → list_length v ≡ Some n
     → option_map_or (item_step d l) o [] ≡ map (entry_location l) (option_to_list (option_and_then (slice_get (held v)) o))
 index_chosen-at d v l n None at long = refl
 index_chosen-at d v l n (Some i) at long = item_chosen-at d v l n i at long
 
-index_chosen : (d v : Value) (l : Location) (pick : ℕ → Option ℕ) (o : Option ℕ) → value_at d l ≡ Some v → list_length v ≡ o
+index_chosen : (d v : Value) (l : Location) (pick : ℕ → Option ℕ) (o : Option ℕ)
+    → value_at d l ≡ Some v → list_length v ≡ o
     → option_map_or (item_step d l) (option_and_then pick o) [] ≡ map (entry_location l) (option_to_list (option_and_then (slice_get (held v)) (option_and_then pick o)))
 index_chosen d v l pick None at long = refl
 index_chosen d v l pick (Some n) at long = index_chosen-at d v l n (pick n) at long
 
-items_chosen-at : (d v : Value) (l : Location) (n : ℕ) (is : List ℕ) → value_at d l ≡ Some v → list_length v ≡ Some n
+items_chosen-at : (d v : Value) (l : Location) (n : ℕ) (is : List ℕ) → value_at d l ≡ Some v
+    → list_length v ≡ Some n
     → flat_map (item_step d l) is ≡ map (entry_location l) (flat_map (item_entry v) is)
 items_chosen-at d v l n [] at long = refl
 items_chosen-at d v l n (i ∷ is) at long =
     ap₂ (λ x y. x ++ y) (item_chosen-at d v l n i at long) (items_chosen-at d v l n is at long)
     ∙ sym (map-append (entry_location l) (item_entry v i) (flat_map (item_entry v) is))
 
-slice_chosen : (d v : Value) (l : Location) (indexes : ℕ → List ℕ) (o : Option ℕ) → value_at d l ≡ Some v → list_length v ≡ o
+slice_chosen : (d v : Value) (l : Location) (indexes : ℕ → List ℕ) (o : Option ℕ)
+    → value_at d l ≡ Some v → list_length v ≡ o
     → option_map_or (λ n. flat_map (item_step d l) (indexes n)) o [] ≡ map (entry_location l) (option_map_or (λ n. flat_map (item_entry v) (indexes n)) o [])
 slice_chosen d v l indexes None at long = refl
 slice_chosen d v l indexes (Some n) at long = items_chosen-at d v l n (indexes n) at long
 
 -- the children
-pub children_chosen : (d v : Value) (l : Location) → value_at d l ≡ Some v → children_of d l ≡ map (entry_location l) (held v)
+pub children_chosen : (d v : Value) (l : Location) → value_at d l ≡ Some v
+    → children_of d l ≡ map (entry_location l) (held v)
 children_chosen d v l at = rw at refl
 
 -- a filter is no plain selector
@@ -128,7 +141,8 @@ IsPlain (index i) = Unit {0}
 IsPlain (slice s) = Unit {0}
 IsPlain (filter e) = ⊥
 
-pub chosen-candidates : (s : SelectorTree) (d v : Value) (l : Location) → IsPlain s → value_at d l ≡ Some v
+pub chosen-candidates : (s : SelectorTree) (d v : Value) (l : Location) → IsPlain s
+    → value_at d l ≡ Some v
     → chosen d s l ≡ map (entry_location l) (candidates s v)
 chosen-candidates (name cs) d v l plain at =
     let k = named (encode_utf8_all cs) in

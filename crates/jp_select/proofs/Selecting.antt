@@ -22,7 +22,8 @@ use Rattle.jp_select.specs.Selectors.{chosen}
 -- one node more
 pub next_chosen : (l : Location) (cs : List (Key × Value)) (all : List (Location × Value)) (nodes new : List Located) (n : Located) (e : Key × Value) (i : ℕ)
     → i ≡ length nodes → slice_get cs i ≡ Some e → told n ≡ told_entry l e → new ≡ nodes ++ n ∷ []
-    → map told nodes ++ map (told_entry l) (drop (length nodes) cs) ≡ all → map told new ++ map (told_entry l) (drop (length new) cs) ≡ all
+    → map told nodes ++ map (told_entry l) (drop (length nodes) cs) ≡ all
+    → map told new ++ map (told_entry l) (drop (length new) cs) ≡ all
 next_chosen l cs all nodes new n e i at entry is more before =
     let f = told_entry l in
     let longer : length new ≡ suc i = ap length more ∙ length_push nodes n ∙ omega arith in
@@ -35,8 +36,10 @@ next_chosen l cs all nodes new n e i at entry is more before =
     ∙ ap (λ k. map told nodes ++ map f (drop k cs)) at
     ∙ before
 
-pub all_chosen : (l : Location) (cs : List (Key × Value)) (nodes : List Located) (i : ℕ) → i ≡ length nodes → slice_get cs i ≡ None
-    → map told nodes ++ map (told_entry l) (drop (length nodes) cs) ≡ map (told_entry l) cs → map told nodes ≡ map (told_entry l) cs
+pub all_chosen : (l : Location) (cs : List (Key × Value)) (nodes : List Located) (i : ℕ)
+    → i ≡ length nodes → slice_get cs i ≡ None
+    → map told nodes ++ map (told_entry l) (drop (length nodes) cs) ≡ map (told_entry l) cs
+    → map told nodes ≡ map (told_entry l) cs
 all_chosen l cs nodes i at past before =
     sym (append-nil (map told nodes))
     ∙ ap (λ es. map told nodes ++ map (told_entry l) es) (sym (drop_past cs i past) ∙ ap (λ k. drop k cs) at)
@@ -50,16 +53,20 @@ shown-told : (ns : List Located) → map shown ns ≡ map as_shown (map told ns)
 shown-told [] = refl
 shown-told (n ∷ ns) = ap (λ t. shown n ∷ t) (shown-told ns)
 
-standing-entries : (d v : Value) (l : Location) (es : List (Key × Value)) → value_at d l ≡ Some v → All (StandsBelow v) es
+standing-entries : (d v : Value) (l : Location) (es : List (Key × Value)) → value_at d l ≡ Some v
+    → All (StandsBelow v) es
     → map as_shown (map (told_entry l) es) ≡ map (standing d) (map (entry_location l) es)
 standing-entries d v l [] at all = refl
 standing-entries d v l (e ∷ es) at all =
-    let here : value_at d (l ++ e.0 ∷ []) ≡ Some e.1 = value_at-step d v l e.0 at ∙ All-head (StandsBelow v) e es all in
+    let here : value_at d (l ++ e.0 ∷ []) ≡ Some e.1 = value_at-step d v l e.0 at
+    ∙ All-head (StandsBelow v) e es all in
     ap₂ (λ o t. (l ++ e.0 ∷ [], o) ∷ t) (sym here) (standing-entries d v l es at (All-tail (StandsBelow v) e es all))
 
 -- the nodes are the document's own, at what the selector selects
-pub chosen_nodes : (s : SelectorTree) (d : Value) (n : Located) (ns : List Located) → IsPlain s → StandsIn d n
-    → map told ns ≡ map (told_entry n.location) (candidates s (value_of n.value)) → AreNodes d ns (chosen d s n.location)
+pub chosen_nodes : (s : SelectorTree) (d : Value) (n : Located) (ns : List Located) → IsPlain s
+    → StandsIn d n
+    → map told ns ≡ map (told_entry n.location) (candidates s (value_of n.value))
+    → AreNodes d ns (chosen d s n.location)
 chosen_nodes s d n ns plain stands is =
     let v = value_of n.value in
     let document = IsDocumentValue-at d v n.location stands.document stands.there in

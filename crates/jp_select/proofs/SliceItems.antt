@@ -12,7 +12,8 @@ use Rattle.jp_select.proofs.Slices.{falls_between, falling-end, falling-next, ri
 pub rising-at : (p i u s n : ℕ) → i + s * p < u → u ≤ n → 0 < s
     → slice_get (filter (is_rising (pos i) (pos u) s) (indexes n)) p ≡ Some (i + s * p)
 rising-at zero i u s n within fits positive =
-    ap (λ is. slice_get is 0) (rising-next i u s n (omega arith) fits positive) ∙ ap Some (omega arith)
+    ap (λ is. slice_get is 0) (rising-next i u s n (omega arith) fits positive)
+    ∙ ap Some (omega arith)
 rising-at (suc p) i u s n within fits positive =
     let same : i + s + s * p ≡ i + s * suc p = omega arith in
     let less : i < u = omega arith in
@@ -35,7 +36,8 @@ rising-past (suc p) i u s n past fits positive = elim (cases_lt i u) [
 pub falling-at : (p l a s n : ℕ) → l < a - s * p → a ≤ n → 0 < s
     → slice_get (reverse (filter (falls_between l a s) (indexes n))) p ≡ Some (a - s * p - 1)
 falling-at zero l a s n within fits positive =
-    ap (λ is. slice_get is 0) (falling-next l a s n (omega arith) fits positive) ∙ ap Some (omega arith)
+    ap (λ is. slice_get is 0) (falling-next l a s n (omega arith) fits positive)
+    ∙ ap Some (omega arith)
 falling-at (suc p) l a s n within fits positive =
     let same : a - s - s * p ≡ a - s * suc p = omega arith in
     ap (λ is. slice_get is (suc p)) (falling-next l a s n (omega arith) fits positive)
@@ -68,7 +70,8 @@ All-reverse P (x ∷ xs) all =
     subst (All P) (sym (reverse-append (x ∷ []) xs))
     (All-append P (reverse xs) (x ∷ []) (All-reverse P xs (All-tail P x xs all)) (All-cons P x [] (All-head P x xs all) (All-nil P)))
 
-pub slice_within : (n : ℕ) (start end : Option ℤ) (step : ℤ) → All (λ i. i < n) (slice_of n start end step)
+pub slice_within : (n : ℕ) (start end : Option ℤ) (step : ℤ)
+    → All (λ i. i < n) (slice_of n start end step)
 slice_within n start end (pos zero) = All-nil (λ i. i < n)
 slice_within n start end (pos (suc k)) = All-filter _ (λ i. i < n) (indexes n) (indexes_within n)
 slice_within n start end (negsuc k) =
@@ -77,16 +80,19 @@ slice_within n start end (negsuc k) =
 -- ---- numbers that are held below 2^128
 
 -- a sum held below 2^128 that is below a small number is the sum
-pub sum_within : (i u m product index : ℕ) → u < 2 ^ 64 → product ≡ min m (2 ^ 128 - 1) → index ≡ min (i + product) (2 ^ 128 - 1)
+pub sum_within : (i u m product index : ℕ) → u < 2 ^ 64 → product ≡ min m (2 ^ 128 - 1)
+    → index ≡ min (i + product) (2 ^ 128 - 1)
     → index < u → index ≡ i + m
 sum_within i u m product index small held sum less = omega arith
 
-pub sum_past : (i u m product index : ℕ) → u < 2 ^ 64 → product ≡ min m (2 ^ 128 - 1) → index ≡ min (i + product) (2 ^ 128 - 1)
+pub sum_past : (i u m product index : ℕ) → u < 2 ^ 64 → product ≡ min m (2 ^ 128 - 1)
+    → index ≡ min (i + product) (2 ^ 128 - 1)
     → u ≤ index → u ≤ i + m
 sum_past i u m product index small held sum past = omega arith
 
 -- a difference with a product held below 2^128 is the difference
-pub difference_held : (a m product above : ℕ) → a < 2 ^ 64 → product ≡ min m (2 ^ 128 - 1) → above ≡ a - product → above ≡ a - m
+pub difference_held : (a m product above : ℕ) → a < 2 ^ 64 → product ≡ min m (2 ^ 128 - 1)
+    → above ≡ a - product → above ≡ a - m
 difference_held a m product above small held is = omega arith
 
 -- a position is no more than the product with a step

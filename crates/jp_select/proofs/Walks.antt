@@ -45,7 +45,8 @@ places-node n = places-children n.location (value_of n.value)
 
 -- ---- frames
 
-pub drop_at : {X : Type 0} (xs : List X) (i : ℕ) (x : X) → slice_get xs i ≡ Some x → drop i xs ≡ x ∷ drop (suc i) xs
+pub drop_at : {X : Type 0} (xs : List X) (i : ℕ) (x : X) → slice_get xs i ≡ Some x
+    → drop i xs ≡ x ∷ drop (suc i) xs
 drop_at [] i x is = cc
 drop_at (y ∷ ys) zero x is = ap (λ z. z ∷ ys) (same_Some y x is)
 drop_at (y ∷ ys) (suc i) x is = drop_at ys i x is

@@ -24,8 +24,10 @@ single _ v = None
 abbrev pub item_entry : Value → ℕ → List (Key × Value)
 item_entry v i = option_to_list (slice_get (held v) i)
 
--- what a selector chooses from at v, in its order: a name that member, an index that item, a slice its items, a
--- wildcard and a filter all children, of which a filter takes those for which its expression is true
+-- what a selector chooses from at v, in its order: a name that member, an index that item, a slice
+-- its items, a
+-- wildcard and a filter all children, of which a filter takes those for which its expression is
+-- true
 abbrev pub candidates : SelectorTree → Value → List (Key × Value)
 candidates (name cs) v = option_to_list (single (name cs) v)
 candidates wildcard v = held v

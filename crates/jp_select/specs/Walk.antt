@@ -43,7 +43,8 @@ rest_of w = begun_by w.first ++ given_by w.frames.items
 abbrev pub Yields : List Place → Option Located → List Place → Type 0
 Yields before o rest = (before ≡ map shown (option_to_list o) ++ rest)
 
--- what one call of `next` does: a node is the first of those left, an error ends the walk for good, and where it gives
+-- what one call of `next` does: a node is the first of those left, an error ends the walk for good,
+-- and where it gives
 -- none without a fault there were none left
 abbrev pub GivesNext : Descent → Option (Result Located AllocError) → Descent → Type 0
 GivesNext v (Some (Ok n)) w =

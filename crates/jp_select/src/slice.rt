@@ -5,7 +5,8 @@ ghost use Rattle.jp_select.specs.Slice.{normalized, held_within, slice_of};
 
 use jp_query::{Numeral, Slice};
 
-/// The index of the item at this position, from 0, among those that a slice of a list of this length
+/// The index of the item at this position, from 0, among those that a slice of a list of this
+/// length
 /// selects, in its order; None where there are no more. A number that is not whole, or beyond 64
 /// bits, selects nothing.
 pub(crate) fn slice_index(length: u64, slice: Slice, position: u64) -> Option<u64>

@@ -1,4 +1,5 @@
--- What queries reach, by values alone: the values stand where their steps lead, and none is looked up by its location.
+-- What queries reach, by values alone: the values stand where their steps lead, and none is looked
+-- up by its location.
 use Rattle.std.specs.Prelude.{Bool, true, false, not, ◌&&◌, ◌||◌, List, [], ◌∷◌, ◌++◌, filter as those_of, map, Option}
 use Rattle.std.specs.List.{flat_map}
 use Rattle.jp_document.specs.Location.{Key, Location}

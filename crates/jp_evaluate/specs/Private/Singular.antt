@@ -4,11 +4,13 @@ use Rattle.jp_document.specs.Value.{Value}
 use Rattle.jp_query.specs.Tree.{SegmentTree, SegmentTrees, SelectorTree, no_segments, no_selectors, segment, segment_then, selector_then}
 use Rattle.jp_select.specs.Candidates.{single}
 
--- the value that a name or an index selects at v, if it is there; other selectors, those of no singular query, have none
+-- the value that a name or an index selects at v, if it is there; other selectors, those of no
+-- singular query, have none
 abbrev pub chosen_value : SelectorTree → Value → Option Value
 chosen_value s v = option_map (λ e. e.1) (single s v)
 
--- the value that a child segment with one such selector alone selects at v; other segments have none
+-- the value that a child segment with one such selector alone selects at v; other segments have
+-- none
 abbrev pub single_value : SegmentTree → Value → Option Value
 single_value (segment false (selector_then s no_selectors)) v = chosen_value s v
 single_value _ v = None

@@ -18,7 +18,8 @@ use Rattle.jp_evaluate.specs.declared.walk.Place.{Place}
 use Rattle.jp_evaluate.specs.declared.walk.Turn.{Turn}
 use Rattle.jp_evaluate.specs.declared.walk.Walk.{Walk}
 
--- a value to go on from: the test that it has to pass, the segments that are left, the step to it, and the value
+-- a value to go on from: the test that it has to pass, the segments that are left, the step to it,
+-- and the value
 pub record Choice : Type 0 where
   pub test : Option ExprTree
   pub left : SegmentTrees
@@ -39,7 +40,8 @@ abbrev pub selector_turns : SegmentTrees → SelectorTrees → List (SelectorTre
 selector_turns rest no_selectors = []
 selector_turns rest (selector_then s ss) = (s, rest) ∷ selector_turns rest ss
 
--- what a first segment has to choose by: each selector, and where it is a descendant segment, the children, at which the
+-- what a first segment has to choose by: each selector, and where it is a descendant segment, the
+-- children, at which the
 -- same segments are left
 abbrev pub turns : SegmentTrees → List (SelectorTree × SegmentTrees)
 turns no_segments = []

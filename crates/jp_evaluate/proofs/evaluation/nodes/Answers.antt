@@ -9,7 +9,8 @@ use Rattle.jp_evaluate.proofs.evaluation.nodes.Goals as goal
 pub returns-clause-nodes : goal.returns-clause-nodes
 returns-clause-nodes c =
     let all = c.deref.result.now in
-    let are = ap (λ (q : Query). (out-Query q).segments.items) (sym c.query.ensures.same) ∙ sym c.deref.ensures.value in
+    let are = ap (λ (q : Query). (out-Query q).segments.items) (sym c.query.ensures.same)
+    ∙ sym c.deref.ensures.value in
     ap (λ d. map as_shown (walk_reaches all d c.from.result)) c.value-root.ensures
     ∙ begun_nodelist c.args.query.now all (document_of c.args.document.now) c.from.result c.value-root.result are c.value-root.ensures c.args.document.now.sound
     c.from.ensures.first c.from.ensures.frames

@@ -34,7 +34,8 @@ advance-loop-offer-preserved t c =
     let asked = λ (x : Option (Bor Expr)). passes (option_map (λ e. expr_of e.now) x) d v in
     let found : passes (offered all o).test d v ≡ c.match-offer.passes =
     elim c.match-offer.branch [
-      | advance-in-Some-test+in_ok-passes-in-Some-test w ↦ ap asked w.in-Some-test.is ∙ sym w.in_ok-passes-in-Some-test.ensures ∙ sym w.passes-is
+      | advance-in-Some-test+in_ok-passes-in-Some-test w ↦ ap asked w.in-Some-test.is
+          ∙ sym w.in_ok-passes-in-Some-test.ensures ∙ sym w.passes-is
       | advance-in-None w ↦ ap asked w.in-None.is ∙ sym w.passes-is
     ] in
     passed_over all d c.loop-offer.walk c.next_offer.new.self o c.in-Some.ensures.gives (found ∙ c.if-passes.false) ∙ c.loop-offer.invariant
@@ -59,8 +60,10 @@ advance-loop-offer-preserved-in-Continue-branch-2 t c =
     let asked = λ (x : Option (Bor Expr)). passes (option_map (λ e. expr_of e.now) x) d v in
     let found : passes (offered all o).test d v ≡ c.match-offer.passes =
     elim c.match-offer.branch [
-      | advance-in-Some-test+in_ok-passes-in-Some-test w ↦ ap asked w.in-Some-test.is ∙ sym w.in_ok-passes-in-Some-test.ensures ∙ sym w.passes-is
+      | advance-in-Some-test+in_ok-passes-in-Some-test w ↦ ap asked w.in-Some-test.is
+          ∙ sym w.in_ok-passes-in-Some-test.ensures ∙ sym w.passes-is
       | advance-in-None w ↦ ap asked w.in-None.is ∙ sym w.passes-is
     ] in
     goes_on all d c.loop-offer.walk c.next_offer.new.self c.enter.new.self o c.in-Some.ensures.gives c.in-Some.ensures.begun (found ∙ c.if-passes.true)
-    c.if-offer-segments.false c.enter.ensures.first c.in_ok-enter.ensures.frames ∙ c.loop-offer.invariant
+    c.if-offer-segments.false c.enter.ensures.first c.in_ok-enter.ensures.frames
+    ∙ c.loop-offer.invariant

@@ -31,7 +31,8 @@ returns-then-number-len-clause-gives c =
     let all = c.args.segments.now in
     let there = left_there all c.args.done s xs c.in_ok-segment.ensures.lookup.3.0 c.in_ok-segment.ensures.lookup.1 (sym c.deref.ensures.value) in
     let many : c.args.number ≡ length (map selector_of xs) =
-    c.if-number-len.true ∙ c.len.ensures ∙ s.selectors.ok.0 ∙ ap length (sym c.deref.ensures.value) ∙ sym (length-map xs selector_of) in
+    c.if-number-len.true ∙ c.len.ensures ∙ s.selectors.ok.0
+    ∙ ap length (sym c.deref.ensures.value) ∙ sym (length-map xs selector_of) in
     sym (ap (λ left. slice_get (turns left) c.args.number) there
     ∙ children_turn (out-Segment s).descendant (map selector_of xs) (segments_left all (c.args.done + 1)) c.args.number c.if-segment.true many
     ∙ ap (λ left. Some (wildcard, left)) (sym there))

@@ -5,4 +5,5 @@ use Rattle.jp_select.proofs.Selections.{list_length-of}
 use Rattle.jp_select.proofs.candidates.list_length.Goals as goal
 
 pub returns-in-List : goal.returns-in-List
-returns-in-List c = ap Some c.len.ensures ∙ sym (ap (λ j. list_length (value_of j)) c.in-List.is ∙ list_length-of c.in-List.items)
+returns-in-List c = ap Some c.len.ensures
+    ∙ sym (ap (λ j. list_length (value_of j)) c.in-List.is ∙ list_length-of c.in-List.items)

@@ -15,16 +15,21 @@ returns-then-lower-above-clause-index c =
     let a = c.one_higher-upper.result in
     let l = c.one_higher-lower.result in
     let start : to_z w128 (of_z w128 c.unwrap_or.result) ≡ unwrap_or c.args.start (pos n -ℤ pos 1) =
-    to_z-of_z w128 c.unwrap_or.result (search rules) ∙ c.unwrap_or.ensures ∙ ap (unwrap_or c.args.start) (omega (arith, ints)) in
+    to_z-of_z w128 c.unwrap_or.result (search rules) ∙ c.unwrap_or.ensures
+    ∙ ap (unwrap_or c.args.start) (omega (arith, ints)) in
     let end : to_z w128 (of_z w128 c.unwrap_or-2.result) ≡ unwrap_or c.args.end (negsuc n) =
-    to_z-of_z w128 c.unwrap_or-2.result (search rules) ∙ c.unwrap_or-2.ensures ∙ ap (unwrap_or c.args.end) (omega (arith, ints)) in
+    to_z-of_z w128 c.unwrap_or-2.result (search rules) ∙ c.unwrap_or-2.ensures
+    ∙ ap (unwrap_or c.args.end) (omega (arith, ints)) in
     let bound = λ (z : ℤ). held_within (negsuc 0) (pos n -ℤ pos 1) (normalized n z) +ℤ pos 1 in
-    let upper : pos a ≡ falling_upper n c.args.start +ℤ pos 1 = c.one_higher-upper.ensures.bound ∙ ap bound start in
-    let lower : pos l ≡ falling_lower n c.args.end +ℤ pos 1 = c.one_higher-lower.ensures.bound ∙ ap bound end in
+    let upper : pos a ≡ falling_upper n c.args.start +ℤ pos 1 = c.one_higher-upper.ensures.bound
+    ∙ ap bound start in
+    let lower : pos l ≡ falling_lower n c.args.end +ℤ pos 1 = c.one_higher-lower.ensures.bound
+    ∙ ap bound end in
     let small : a < 2 ^ 64 = omega arith in
     let at : c.saturating_sub-above.result ≡ a - s * p =
     difference_held a (s * p) c.saturating_mul.result c.saturating_sub-above.result small c.saturating_mul.ensures c.saturating_sub-above.ensures in
-    ap (λ k. Some (k - 1)) at ∙ sym (falling-at p l a s n (omega arith) c.one_higher-upper.ensures.within c.requires)
+    ap (λ k. Some (k - 1)) at
+    ∙ sym (falling-at p l a s n (omega arith) c.one_higher-upper.ensures.within c.requires)
     ∙ ap (λ is. slice_get is p) (falling-starts n c.args.start c.args.end s l a c.requires lower upper)
 
 pub returns-then-lower-above-clause-more : goal.returns-then-lower-above-clause-more
@@ -46,12 +51,16 @@ returns-else-lower-above-clause-index c =
     let a = c.one_higher-upper.result in
     let l = c.one_higher-lower.result in
     let start : to_z w128 (of_z w128 c.unwrap_or.result) ≡ unwrap_or c.args.start (pos n -ℤ pos 1) =
-    to_z-of_z w128 c.unwrap_or.result (search rules) ∙ c.unwrap_or.ensures ∙ ap (unwrap_or c.args.start) (omega (arith, ints)) in
+    to_z-of_z w128 c.unwrap_or.result (search rules) ∙ c.unwrap_or.ensures
+    ∙ ap (unwrap_or c.args.start) (omega (arith, ints)) in
     let end : to_z w128 (of_z w128 c.unwrap_or-2.result) ≡ unwrap_or c.args.end (negsuc n) =
-    to_z-of_z w128 c.unwrap_or-2.result (search rules) ∙ c.unwrap_or-2.ensures ∙ ap (unwrap_or c.args.end) (omega (arith, ints)) in
+    to_z-of_z w128 c.unwrap_or-2.result (search rules) ∙ c.unwrap_or-2.ensures
+    ∙ ap (unwrap_or c.args.end) (omega (arith, ints)) in
     let bound = λ (z : ℤ). held_within (negsuc 0) (pos n -ℤ pos 1) (normalized n z) +ℤ pos 1 in
-    let upper : pos a ≡ falling_upper n c.args.start +ℤ pos 1 = c.one_higher-upper.ensures.bound ∙ ap bound start in
-    let lower : pos l ≡ falling_lower n c.args.end +ℤ pos 1 = c.one_higher-lower.ensures.bound ∙ ap bound end in
+    let upper : pos a ≡ falling_upper n c.args.start +ℤ pos 1 = c.one_higher-upper.ensures.bound
+    ∙ ap bound start in
+    let lower : pos l ≡ falling_lower n c.args.end +ℤ pos 1 = c.one_higher-lower.ensures.bound
+    ∙ ap bound end in
     let small : a < 2 ^ 64 = omega arith in
     let at : c.saturating_sub-above.result ≡ a - s * p =
     difference_held a (s * p) c.saturating_mul.result c.saturating_sub-above.result small c.saturating_mul.ensures c.saturating_sub-above.ensures in

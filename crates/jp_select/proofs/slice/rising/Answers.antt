@@ -15,12 +15,15 @@ returns-then-index-upper-clause-index c =
     let i = c.from_zero-lower.result in
     let u = c.from_zero-upper.result in
     let end : to_z w128 (of_z w128 c.unwrap_or-2.result) ≡ unwrap_or c.args.end (pos n) =
-    to_z-of_z w128 c.unwrap_or-2.result (search rules) ∙ c.unwrap_or-2.ensures ∙ ap (unwrap_or c.args.end) (omega (arith, ints)) in
+    to_z-of_z w128 c.unwrap_or-2.result (search rules) ∙ c.unwrap_or-2.ensures
+    ∙ ap (unwrap_or c.args.end) (omega (arith, ints)) in
     let start : to_z w128 (of_z w128 c.unwrap_or.result) ≡ unwrap_or c.args.start (pos 0) =
     to_z-of_z w128 c.unwrap_or.result (search rules) ∙ c.unwrap_or.ensures in
     let bound = λ (z : ℤ). held_within (pos 0) (pos n) (normalized n z) in
-    let upper : pos u ≡ rising_upper n c.args.end = c.from_zero-upper.ensures.bound ∙ ap bound end in
-    let lower : pos i ≡ rising_lower n c.args.start = c.from_zero-lower.ensures.bound ∙ ap bound start in
+    let upper : pos u ≡ rising_upper n c.args.end = c.from_zero-upper.ensures.bound
+    ∙ ap bound end in
+    let lower : pos i ≡ rising_lower n c.args.start = c.from_zero-lower.ensures.bound
+    ∙ ap bound start in
     let small : u < 2 ^ 64 = omega arith in
     let at : c.saturating_add-index.result ≡ i + s * p =
     sum_within i u (s * p) c.saturating_mul.result c.saturating_add-index.result small c.saturating_mul.ensures c.saturating_add-index.ensures c.if-index-upper.true in
@@ -47,12 +50,15 @@ returns-else-index-upper-clause-index c =
     let i = c.from_zero-lower.result in
     let u = c.from_zero-upper.result in
     let end : to_z w128 (of_z w128 c.unwrap_or-2.result) ≡ unwrap_or c.args.end (pos n) =
-    to_z-of_z w128 c.unwrap_or-2.result (search rules) ∙ c.unwrap_or-2.ensures ∙ ap (unwrap_or c.args.end) (omega (arith, ints)) in
+    to_z-of_z w128 c.unwrap_or-2.result (search rules) ∙ c.unwrap_or-2.ensures
+    ∙ ap (unwrap_or c.args.end) (omega (arith, ints)) in
     let start : to_z w128 (of_z w128 c.unwrap_or.result) ≡ unwrap_or c.args.start (pos 0) =
     to_z-of_z w128 c.unwrap_or.result (search rules) ∙ c.unwrap_or.ensures in
     let bound = λ (z : ℤ). held_within (pos 0) (pos n) (normalized n z) in
-    let upper : pos u ≡ rising_upper n c.args.end = c.from_zero-upper.ensures.bound ∙ ap bound end in
-    let lower : pos i ≡ rising_lower n c.args.start = c.from_zero-lower.ensures.bound ∙ ap bound start in
+    let upper : pos u ≡ rising_upper n c.args.end = c.from_zero-upper.ensures.bound
+    ∙ ap bound end in
+    let lower : pos i ≡ rising_lower n c.args.start = c.from_zero-lower.ensures.bound
+    ∙ ap bound start in
     let small : u < 2 ^ 64 = omega arith in
     let past : u ≤ i + s * p =
     sum_past i u (s * p) c.saturating_mul.result c.saturating_add-index.result small c.saturating_mul.ensures c.saturating_add-index.ensures c.if-index-upper.false in

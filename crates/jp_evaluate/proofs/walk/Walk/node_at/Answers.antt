@@ -22,7 +22,8 @@ returns-clause-location c =
     let w = c.args.self.now in
     let fs = c.deref-frame-items.result.now in
     let below : map key_of c.loop-frame.location.items ≡ reached_at [] w.below.items =
-    c.loop-frame.invariant ∙ ap (reached_at []) (take_all c.loop-frame.frame-index fs c.loop-frame-test.false ∙ c.deref-frame-items.ensures.value) in
+    c.loop-frame.invariant
+    ∙ ap (reached_at []) (take_all c.loop-frame.frame-index fs c.loop-frame-test.false ∙ c.deref-frame-items.ensures.value) in
     let frames : map key_of c.match-self.location.items ≡ reached_at [] (walk_frames w) =
     elim c.match-self.branch [
       | in-Some+in_ok-push_step-2 b ↦
@@ -38,4 +39,5 @@ returns-clause-location c =
           ∙ ap (reached_at []) (sym (append-nil w.below.items))
           ∙ ap (λ o. reached_at [] (w.below.items ++ option_to_list o)) (sym b.in_default.is)
     ] in
-    c.of.ensures.location ∙ c.in_ok-push_step-3.ensures ∙ ap (λ l. l ++ steps_of c.args.place.step) frames
+    c.of.ensures.location ∙ c.in_ok-push_step-3.ensures
+    ∙ ap (λ l. l ++ steps_of c.args.place.step) frames
