@@ -1,5 +1,5 @@
 -- The patterns of a list, one after another.
-use Rattle.std.proofs.Common.{◌≡◌, ℕ, ◌+◌, ◌<◌, List, [], ◌∷◌, get_or, length, drop, refl, sym, ap, ◌∙◌}
+use Rattle.std.proofs.Common.{◌≡◌, ℕ, ◌+◌, ◌<◌, ◌≤◌, List, [], ◌∷◌, get_or, length, drop, refl, sym, ap, ◌∙◌, arith}
 use Rattle.std.proofs.lemmas.List.{drop_more}
 use Rattle.jp_iregexp.specs.declared.pattern.Pattern.{Pattern}
 
@@ -10,3 +10,8 @@ drop_item xs i x below is = drop_more xs i x below ∙ ap (λ y. y ∷ drop (i +
 pub drop_all : (xs : List Pattern) → drop (length xs) xs ≡ []
 drop_all [] = refl
 drop_all (x ∷ xs) = drop_all xs
+
+pub only_item : (xs : List Pattern) (x : Pattern) → 1 ≤ length xs → length xs < 2 → x ≡ get_or xs 0 x → xs ≡ x ∷ []
+only_item [] x some few is = absurd (omega arith)
+only_item (y ∷ []) x some few is = ap (λ z. z ∷ []) (sym is)
+only_item (y ∷ z ∷ xs) x some few is = absurd (omega arith)

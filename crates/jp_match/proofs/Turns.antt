@@ -383,3 +383,23 @@ unfolding at_least
 ends_star a entered p row h =
     subst (Ends (either empty (plus a)) entered row) (or_comm entered p)
     (ends_either empty (plus a) entered row entered p (ends_empty entered []) (ends_plus a entered row p h))
+
+-- the only part takes all the marks
+pub steps_only_branch : (a : Tree) (c : ℕ) (entered p : Bool) (before after : List Bool) → length before ≡ positions_of a → length after ≡ length before →
+    Steps (unrolled a) c entered before after p → Steps (unrolled (branches (a ∷ []))) c entered before after p
+unfolding unrolled
+steps_only_branch a c entered p before after sized long step =
+    let all = take_all (size (unrolled a)) before (omega (arith, size_unrolled a)) in
+    let here : Steps (unrolled a) c entered (take (size (unrolled a)) before) after p = rw all step in
+    subst (λ q. Steps (either (unrolled a) nothing) c entered before after q) (or_false p)
+    (subst (λ r. Steps (either (unrolled a) nothing) c entered before r (p || false)) (append-nil after)
+    (step_either (unrolled a) nothing c entered before after [] p false (omega (arith, size_unrolled a)) here (step_nothing c entered (drop (size (unrolled a)) before) [])))
+
+pub steps_only_piece : (a : Tree) (c : ℕ) (entered p : Bool) (before after : List Bool) → length before ≡ positions_of a → length after ≡ length before →
+    Steps (unrolled a) c entered before after p → Steps (unrolled (pieces (a ∷ []))) c entered before after p
+unfolding unrolled
+steps_only_piece a c entered p before after sized long step =
+    let all = take_all (size (unrolled a)) before (omega (arith, size_unrolled a)) in
+    let here : Steps (unrolled a) c entered (take (size (unrolled a)) before) after p = rw all step in
+    subst (λ r. Steps (sequence (unrolled a) empty) c entered before r p) (append-nil after)
+    (step_sequence (unrolled a) empty c entered before after [] p p (omega (arith, size_unrolled a)) here (step_empty c p (drop (size (unrolled a)) before) []))

@@ -68,6 +68,9 @@ fn step_either(
     ensures counted { tests.new ≤ tests.old + length row.old }
     ensures kept { tests.old ≤ tests.new }
 {
+    if let [only] = parts {
+        return step(only, row, entered, c, tests);
+    }
     let mut ended = false;
     let mut at = 0;
     for branch in parts {
@@ -93,6 +96,9 @@ fn step_sequence(
     ensures counted { tests.new ≤ tests.old + length row.old }
     ensures kept { tests.old ≤ tests.new }
 {
+    if let [only] = parts {
+        return step(only, row, entered, c, tests);
+    }
     let mut through = entered;
     let mut at = 0;
     for piece in parts {
@@ -155,8 +161,9 @@ fn step_between(
     let mut at = 0;
     for copies in 0..most {
         ended |= (least <= copies) & through;
-        through = step(inner, &mut row[at..at + size], through, c, tests);
-        at += size;
+        let next = at + size;
+        through = step(inner, &mut row[at..next], through, c, tests);
+        at = next;
     }
     ended | ((least <= most) & through)
 }

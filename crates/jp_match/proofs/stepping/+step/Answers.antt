@@ -12,9 +12,9 @@ use Rattle.jp_iregexp.proofs.Trees.{tree_class, tree_either, tree_sequence, tree
 use Rattle.jp_match.specs.Private.Plain.{unrolled, counted, between, at_least}
 use Rattle.jp_match.specs.Private.Marks.{Steps}
 use Rattle.jp_match.proofs.EmptyWords.{step_empty_row, by_entered, not_entered}
-use Rattle.jp_match.proofs.Items.{drop_item, drop_all}
+use Rattle.jp_match.proofs.Items.{drop_item, drop_all, only_item}
 use Rattle.jp_match.proofs.StepParts.{step_class, step_nowhere, step_plus}
-use Rattle.jp_match.proofs.Turns.{StepsSoFar, part_is, put_long, turned, size_unrolled, steps_next_piece, steps_next_branch, steps_end_pieces, steps_end_branches, steps_copy, steps_copies_end, steps_at_least, steps_at_least_end, steps_star}
+use Rattle.jp_match.proofs.Turns.{StepsSoFar, part_is, put_long, turned, size_unrolled, steps_next_piece, steps_next_branch, steps_end_pieces, steps_end_branches, steps_copy, steps_copies_end, steps_at_least, steps_at_least_end, steps_star, steps_only_branch, steps_only_piece}
 use Rattle.jp_match.proofs.stepping.+step.Goals as goal
 
 pub step-returns-then-not-is_any-clause-step : goal.step-returns-then-not-is_any-clause-step
@@ -175,3 +175,15 @@ step_at_least-returns-clause-step t c =
 
 pub step_plus-returns-clause-step : goal.step_plus-returns-clause-step
 step_plus-returns-clause-step t c = step_plus _ _ _ _ _ _ _ c.ends-again.ensures c.step.ensures.step
+
+pub step_either-returns-in-len1-clause-step : goal.step_either-returns-in-len1-clause-step
+step_either-returns-in-len1-clause-step t c =
+    let only = only_item c.args.parts.now c.only-item.result c.in-len1.len_at_least c.in-len1.len_below c.only-item.is in
+    let sized = rw only at c.requires.sized in
+    rw only (steps_only_branch (tree c.only-item.result) _ _ _ _ _ (omega (arith, sized)) c.step.auto.row c.step.ensures.step)
+
+pub step_sequence-returns-in-len1-clause-step : goal.step_sequence-returns-in-len1-clause-step
+step_sequence-returns-in-len1-clause-step t c =
+    let only = only_item c.args.parts.now c.only-item.result c.in-len1.len_at_least c.in-len1.len_below c.only-item.is in
+    let sized = rw only at c.requires.sized in
+    rw only (steps_only_piece (tree c.only-item.result) _ _ _ _ _ (omega (arith, sized)) c.step.auto.row c.step.ensures.step)
