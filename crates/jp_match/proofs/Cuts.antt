@@ -1,10 +1,11 @@
 -- Cuts of a text, and the places of a set.
 use Rattle.std.proofs.Common.{◌≡◌, ℕ, zero, suc, ◌<◌, ◌≤◌, Bool, List, [], ◌∷◌, ◌++◌, length, take, drop, refl, sym, arith}
 use Rattle.std.proofs.lemmas.List.{length-take, take-append-drop}
-use Rattle.jp_match.specs.Place.{Marked}
+use Rattle.jp_match.specs.Private.Place.{Marked}
 
 -- two ways to cut a text at one length give the same parts
-pub cut_apart : (xs ys xs' ys' : List ℕ) → xs ++ ys ≡ xs' ++ ys' → length xs ≡ length xs' → (xs ≡ xs') × (ys ≡ ys')
+pub cut_apart : (xs ys xs' ys' : List ℕ) → xs ++ ys ≡ xs' ++ ys' → length xs ≡ length xs' →
+    (xs ≡ xs') × (ys ≡ ys')
 cut_apart [] ys [] ys' e h = (refl, e)
 cut_apart [] ys (x ∷ xs') ys' e h = absurd (omega arith)
 cut_apart (x ∷ xs) ys [] ys' e h = absurd (omega arith)

@@ -30,7 +30,8 @@ powers_nil : (L : List ℕ → Type 0) (k : ℕ) → L [] → Power L k []
 powers_nil L zero h = refl
 powers_nil L (suc k) h = nil_joined L (Power L k) h (powers_nil L k h)
 
-none_or_first : (L : List ℕ → Type 0) (least k : ℕ) → least ≤ k → Power L k [] → (b : Bool) → (L [] → IsTrue b) → IsTrue (nat_le least 0) ⊎ IsTrue b
+none_or_first : (L : List ℕ → Type 0) (least k : ℕ) → least ≤ k → Power L k [] → (b : Bool) →
+    (L [] → IsTrue b) → IsTrue (nat_le least 0) ⊎ IsTrue b
 none_or_first L least zero enough words b is = inl (le-leb least 0 enough)
 none_or_first L least (suc k) enough words b is = inr (is (joined_nil L (Power L k) words).0)
 
@@ -38,33 +39,41 @@ pub empty_is : (t : Tree) → IsTrue (has_empty t) ↔ Language t []
 empty_is (tree.class negated items) = (λ h. absurd (cc), λ h. absurd (let e = h.2 in cc))
 empty_is tree.nothing = (λ h. absurd (cc), λ h. absurd h)
 empty_is (tree.either a b) = (
-  λ h. elim ((or_is (has_empty a) (has_empty b)).0 h) [ inl x ↦ inl ((empty_is a).0 x) | inr y ↦ inr ((empty_is b).0 y) ],
-  λ h. (or_is (has_empty a) (has_empty b)).1 (elim h [ inl x ↦ inl ((empty_is a).1 x) | inr y ↦ inr ((empty_is b).1 y) ]),
+  λ h. elim ((or_is (has_empty a) (has_empty b)).0 h) [ inl x ↦ inl ((empty_is a).0 x) | inr y ↦
+      inr ((empty_is b).0 y) ],
+  λ h. (or_is (has_empty a) (has_empty b)).1 (elim h [ inl x ↦ inl ((empty_is a).1 x) | inr y ↦ inr
+      ((empty_is b).1 y) ]),
 )
 empty_is tree.empty = (λ h. refl, λ h. refl)
 empty_is (tree.sequence a b) = (
-  λ h. let p = (and_is (has_empty a) (has_empty b)).0 h in nil_joined (Language a) (Language b) ((empty_is a).0 p.0) ((empty_is b).0 p.1),
-  λ h. let p = joined_nil (Language a) (Language b) h in (and_is (has_empty a) (has_empty b)).1 ((empty_is a).1 p.0, (empty_is b).1 p.1),
+  λ h. let p = (and_is (has_empty a) (has_empty b)).0 h in
+      nil_joined (Language a) (Language b) ((empty_is a).0 p.0) ((empty_is b).0 p.1),
+  λ h. let p = joined_nil (Language a) (Language b) h in
+      (and_is (has_empty a) (has_empty b)).1 ((empty_is a).1 p.0, (empty_is b).1 p.1),
 )
 empty_is (tree.repeat a least most) = (
   λ h.
       let p = (and_is (is_within least most) (nat_le least 0 || has_empty a)).0 h in
       let within = (within_is least most).0 p.0 in
       elim ((or_is (nat_le least 0) (has_empty a)).0 p.1) [
-        | inl z ↦ let none : 0 ≡ least = (let e = leb-true least 0 z in omega arith) in (least, omega arith, within, subst (λ k. Power (Language a) k []) none refl)
+        | inl z ↦ let none : 0 ≡ least = (let e = leb-true least 0 z in omega arith) in
+            (least, omega arith, within, subst (λ k. Power (Language a) k []) none refl)
         | inr e ↦ (least, omega arith, within, powers_nil (Language a) least ((empty_is a).0 e))
       ],
   λ h.
       let (k, enough, within, words) = h in
       (and_is (is_within least most) (nat_le least 0 || has_empty a)).1
-      ((within_is least most).1 (at_most_within least k most enough within), (or_is (nat_le least 0) (has_empty a)).1 (none_or_first (Language a) least k enough words (has_empty a) (empty_is a).1)),
+      ((within_is least most).1 (at_most_within least k most enough within),
+          (or_is (nat_le least 0) (has_empty a)).1 (none_or_first (Language a) least k enough words
+          (has_empty a) (empty_is a).1)),
 )
 
 no_marks : (row : List Bool) → length row ≡ 0 → row ≡ []
 no_marks [] h = refl
 no_marks (x ∷ row) h = absurd (omega (arith, h))
 
-pub step_empty_row : (t : Tree) (c : ℕ) (entered p : Bool) (row : List Bool) → length row ≡ positions_of t → length row ≡ 0 →
+pub step_empty_row : (t : Tree) (c : ℕ) (entered p : Bool) (row : List Bool) →
+    length row ≡ positions_of t → length row ≡ 0 →
     IsTrue p ↔ (IsTrue entered × IsTrue (has_empty t)) → Steps (unrolled t) c entered row row p
 step_empty_row t c entered p row sized none is =
     let sizes : size (unrolled t) ≡ 0 = size_unrolled t ∙ sym sized ∙ none in
@@ -75,8 +84,10 @@ step_empty_row t c entered p row sized none is =
     rw (no_marks row none) step
 
 -- the pattern is entered and has the empty word, or it is not entered
-pub by_entered : (t : Tree) (entered p : Bool) → entered ≡ true → p ≡ has_empty t → IsTrue p ↔ (IsTrue entered × IsTrue (has_empty t))
+pub by_entered : (t : Tree) (entered p : Bool) → entered ≡ true → p ≡ has_empty t →
+    IsTrue p ↔ (IsTrue entered × IsTrue (has_empty t))
 by_entered t entered p e is = (λ h. (e, sym is ∙ h), λ h. is ∙ h.1)
 
-pub not_entered : (t : Tree) (entered : Bool) → entered ≡ false → IsTrue entered ↔ (IsTrue entered × IsTrue (has_empty t))
+pub not_entered : (t : Tree) (entered : Bool) → entered ≡ false →
+    IsTrue entered ↔ (IsTrue entered × IsTrue (has_empty t))
 not_entered t entered e = (λ h. absurd (cc), λ h. h.0)

@@ -15,24 +15,30 @@ joined_nil L M j = parts j.front j.back j.is j.first j.second where
   parts (x ∷ front) back is first second = absurd (cc)
 
 pub nil_joined : (L M : List ℕ → Type 0) → L [] → M [] → Concatenation L M []
-nil_joined L M first second = record { front = []; back = []; is = refl; first = first; second = second }
+nil_joined L M first second = record { front = []; back = []; is = refl; first = first; second =
+    second }
 
 pub or_is : (a b : Bool) → IsTrue (a || b) ↔ (IsTrue a ⊎ IsTrue b)
 or_is true b = (λ h. inl refl, λ h. refl)
 or_is false b = (λ h. inr h, λ h. elim h [ inl x ↦ absurd (cc) | inr y ↦ y ])
 
-pub ends_class : (negated : Bool) (items : List ClassItem) (entered : Bool) (marks : List Bool) → Ends (class negated items) entered marks (get_or marks 0 false)
+pub ends_class : (negated : Bool) (items : List ClassItem) (entered : Bool) (marks : List Bool) →
+    Ends (class negated items) entered marks (get_or marks 0 false)
 ends_class negated items entered marks = record {
   is = (λ h. inl (h, refl), λ h. elim h [ inl x ↦ x.0 | inr y ↦ absurd (let e = y.1.2 in cc) ]);
 }
 
 pub ends_empty : (entered : Bool) (marks : List Bool) → Ends empty entered marks entered
-ends_empty entered marks = record { is = (λ h. inr (h, refl), λ h. elim h [ inl x ↦ absurd x | inr y ↦ y.0 ]) }
+ends_empty entered marks = record { is = (λ h. inr (h, refl),
+    λ h. elim h [ inl x ↦ absurd x | inr y ↦ y.0 ]) }
 
 pub ends_nothing : (entered : Bool) (marks : List Bool) → Ends nothing entered marks false
-ends_nothing entered marks = record { is = (λ h. absurd (cc), λ h. elim h [ inl x ↦ absurd x | inr y ↦ absurd y.1 ]) }
+ends_nothing entered marks = record { is = (λ h. absurd (cc),
+    λ h. elim h [ inl x ↦ absurd x | inr y ↦ absurd y.1 ]) }
 
-pub ends_either : (a b : Plain) (entered : Bool) (marks : List Bool) (x y : Bool) → Ends a entered (take (size a) marks) x → Ends b entered (drop (size a) marks) y → Ends (either a b) entered marks (x || y)
+pub ends_either : (a b : Plain) (entered : Bool) (marks : List Bool) (x y : Bool) →
+    Ends a entered (take (size a) marks) x → Ends b entered (drop (size a) marks) y →
+    Ends (either a b) entered marks (x || y)
 ends_either a b entered marks x y ha hb = record {
   is = (
     λ h. elim ((or_is x y).0 h) [
@@ -41,12 +47,15 @@ ends_either a b entered marks x y ha hb = record {
     ],
     λ h. (or_is x y).1 (elim h [
       | inl r ↦ elim r [ inl ra ↦ inl (ha.is.1 (inl ra)) | inr rb ↦ inr (hb.is.1 (inl rb)) ]
-      | inr w ↦ elim w.1 [ inl wa ↦ inl (ha.is.1 (inr (w.0, wa))) | inr wb ↦ inr (hb.is.1 (inr (w.0, wb))) ]
+      | inr w ↦ elim w.1 [ inl wa ↦ inl (ha.is.1 (inr (w.0,
+          wa))) | inr wb ↦ inr (hb.is.1 (inr (w.0, wb))) ]
     ]),
   );
 }
 
-pub ends_sequence : (a b : Plain) (entered : Bool) (marks : List Bool) (x y : Bool) → Ends a entered (take (size a) marks) x → Ends b x (drop (size a) marks) y → Ends (sequence a b) entered marks y
+pub ends_sequence : (a b : Plain) (entered : Bool) (marks : List Bool) (x y : Bool) →
+    Ends a entered (take (size a) marks) x → Ends b x (drop (size a) marks) y →
+    Ends (sequence a b) entered marks y
 ends_sequence a b entered marks x y ha hb = record {
   is = (
     λ h. elim (hb.is.0 h) [
@@ -58,7 +67,8 @@ ends_sequence a b entered marks x y ha hb = record {
     ],
     λ h. hb.is.1 (elim h [
       | inl r ↦ elim r [
-        | inl j ↦ let p = joined_nil (Rest a (take (size a) marks)) (Words b) j in inr (ha.is.1 (inl p.0), p.1)
+        | inl j ↦ let p = joined_nil (Rest a (take (size a) marks)) (Words b) j in
+            inr (ha.is.1 (inl p.0), p.1)
         | inr rb ↦ inl rb
       ]
       | inr w ↦ let p = joined_nil (Words a) (Words b) w.1 in inr (ha.is.1 (inr (w.0, p.0)), p.1)
@@ -66,7 +76,8 @@ ends_sequence a b entered marks x y ha hb = record {
   );
 }
 
-pub ends_plus : (a : Plain) (entered : Bool) (marks : List Bool) (x : Bool) → Ends a entered marks x → Ends (plus a) entered marks x
+pub ends_plus : (a : Plain) (entered : Bool) (marks : List Bool) (x : Bool) →
+    Ends a entered marks x → Ends (plus a) entered marks x
 ends_plus a entered marks x h = record {
   is = (
     λ t. elim (h.is.0 t) [

@@ -3,13 +3,15 @@ use Rattle.std.proofs.Common.{◌≡◌, ◌↔◌, ◌⊎◌, inl, inr, ℕ, ze
 use Rattle.std.proofs.lemmas.List.{append_assoc}
 use Rattle.jp_iregexp.specs.Language.{Concatenation, Power, IsAtMost, Language}
 use Rattle.jp_iregexp.specs.Tree.{Tree, repeat}
-use Rattle.jp_match.specs.Counts.{Times, IsMostAfter}
-use Rattle.jp_match.specs.Place.{Marked, IsImage}
+use Rattle.jp_match.specs.Private.Counts.{Times, IsMostAfter}
+use Rattle.jp_match.specs.Private.Place.{Marked, IsImage}
 use Rattle.jp_match.proofs.Reaching.{Completes, completes_more, image_by, image_none, image_joined, image_still}
 
 -- so many words are first some of them and then the others
-pub power_split : (L : List ℕ → Type 0) (m n s : ℕ) (w : List ℕ) → s ≡ m + n → Power L s w → Concatenation (Power L m) (Power L n) w
-power_split L zero n s w e h = record { front = []; back = w; is = refl; first = refl; second = subst (λ k. Power L k w) (omega (arith, e)) h }
+pub power_split : (L : List ℕ → Type 0) (m n s : ℕ) (w : List ℕ) → s ≡ m + n → Power L s w →
+    Concatenation (Power L m) (Power L n) w
+power_split L zero n s w e h = record { front = []; back = w; is = refl; first = refl; second =
+    subst (λ k. Power L k w) (omega (arith, e)) h }
 power_split L (suc m) n zero w e h = absurd (omega (arith, e))
 power_split L (suc m) n (suc s) w e h =
     let rest = power_split L m n s h.back (omega (arith, e)) h.second in
@@ -17,11 +19,13 @@ power_split L (suc m) n (suc s) w e h =
       front = h.front ++ rest.front;
       back = rest.back;
       is = h.is ∙ ap (λ w. h.front ++ w) rest.is ∙ sym (append_assoc h.front rest.front rest.back);
-      first = record { front = h.front; back = rest.front; is = refl; first = h.first; second = rest.first };
+      first = record { front = h.front; back = rest.front; is = refl; first = h.first; second =
+          rest.first };
       second = rest.second;
     }
 
-pub power_join : (L : List ℕ → Type 0) (m n s : ℕ) (w : List ℕ) → s ≡ m + n → Concatenation (Power L m) (Power L n) w → Power L s w
+pub power_join : (L : List ℕ → Type 0) (m n s : ℕ) (w : List ℕ) → s ≡ m + n →
+    Concatenation (Power L m) (Power L n) w → Power L s w
 power_join L zero n s w e h =
     let whole : h.back ≡ w = sym (h.is ∙ ap (λ x. x ++ h.back) h.first) in
     let count : n ≡ s = omega (arith, e) in
@@ -32,23 +36,29 @@ power_join L (suc m) n (suc s) w e h = record {
   back = h.first.back ++ h.back;
   is = h.is ∙ ap (λ x. x ++ h.back) h.first.is ∙ append_assoc h.first.front h.first.back h.back;
   first = h.first.first;
-  second = power_join L m n s (h.first.back ++ h.back) (omega (arith, e)) (record { front = h.first.back; back = h.back; is = refl; first = h.first.second; second = h.second });
+  second = power_join L m n s (h.first.back ++ h.back) (omega (arith,
+      e)) (record { front = h.first.back; back = h.back; is = refl; first = h.first.second; second
+      = h.second });
 }
 
 -- a set that one word more leaves as it is stays so
-pub image_settled : (L : List ℕ → Type 0) (text : List ℕ) (a : List Bool) → length a ≡ suc (length text) → IsImage L text a a → (k : ℕ) → IsImage (Power L k) text a a
+pub image_settled : (L : List ℕ → Type 0) (text : List ℕ) (a : List Bool) →
+    length a ≡ suc (length text) → IsImage L text a a → (k : ℕ) → IsImage (Power L k) text a a
 image_settled L text a long same zero = image_still text a long
-image_settled L text a long same (suc k) = image_joined L (Power L k) text a a a same (image_settled L text a long same k)
+image_settled L text a long same (suc k) = image_joined L (Power L k) text a a a same
+    (image_settled L text a long same k)
 
 -- so many words may be taken exactly if, once some are taken, the others may follow
-pub at_most_after : (most : Option ℕ) (taken : ℕ) (after : Option ℕ) (k : ℕ) → IsMostAfter most taken (Some after) → IsAtMost after k ↔ IsAtMost most (taken + k)
+pub at_most_after : (most : Option ℕ) (taken : ℕ) (after : Option ℕ) (k : ℕ) →
+    IsMostAfter most taken (Some after) → IsAtMost after k ↔ IsAtMost most (taken + k)
 at_most_after None taken None k h = (λ _. tt, λ _. tt)
 at_most_after None taken (Some more) k h = absurd (cc)
 at_most_after (Some most) taken None k h = absurd h
 at_most_after (Some most) taken (Some more) k h = (λ w. omega arith, λ w. omega arith)
 
 -- where so many may not be taken, more may not be either
-pub not_at_most : (most : Option ℕ) (taken k : ℕ) → IsMostAfter most taken None → taken ≤ k → IsAtMost most k → ⊥
+pub not_at_most : (most : Option ℕ) (taken k : ℕ) → IsMostAfter most taken None → taken ≤ k →
+    IsAtMost most k → ⊥
 not_at_most None taken k h least within = absurd (cc)
 not_at_most (Some most) taken k h least within = omega arith
 
@@ -57,17 +67,21 @@ at_most_zero None = tt
 at_most_zero (Some most) = omega arith
 
 -- a repeat takes the least words and then not more than the most after those
-pub image_repeat : (a : Tree) (least : ℕ) (most after : Option ℕ) (text : List ℕ) (x y z : List Bool) → IsMostAfter most least (Some after) →
-    IsImage (Power (Language a) least) text x y → IsImage (Times (Language a) after) text y z → IsImage (Language (repeat a least most)) text x z
+pub image_repeat : (a : Tree) (least : ℕ) (most after : Option ℕ) (text : List ℕ) (x y z : List
+    Bool) → IsMostAfter most least (Some after) →
+    IsImage (Power (Language a) least) text x y → IsImage (Times (Language a) after) text y z →
+        IsImage (Language (repeat a least most)) text x z
 image_repeat a least most after text x y z h first second =
-    image_by (Concatenation (Power (Language a) least) (Times (Language a) after)) (Language (repeat a least most)) text x z
+    image_by (Concatenation (Power (Language a) least) (Times (Language a) after)) (Language
+        (repeat a least most)) text x z
     (λ w. (
       λ j.
           let (k, within, more) = j.second in (
             least + k,
             omega arith,
             (at_most_after most least after k h).0 within,
-            power_join (Language a) least k (least + k) w refl (record { front = j.front; back = j.back; is = j.is; first = j.first; second = more }),
+            power_join (Language a) least k (least + k) w refl (record { front = j.front; back =
+                j.back; is = j.is; first = j.first; second = more }),
           ),
       λ r.
           let (s, enough, within, all) = r in
@@ -78,29 +92,40 @@ image_repeat a least most after text x y z h first second =
             back = j.back;
             is = j.is;
             first = j.first;
-            second = (s - least, (at_most_after most least after (s - least) h).1 (subst (IsAtMost most) more within), j.second);
+            second = (s - least, (at_most_after most least after (s - least) h).1 (subst (IsAtMost
+                most) more within), j.second);
           },
     ))
     (image_joined (Power (Language a) least) (Times (Language a) after) text x y z first second)
 
 -- a repeat whose counts exclude each other has no word
-pub image_no_repeat : (a : Tree) (least : ℕ) (most : Option ℕ) (text : List ℕ) (x z : List Bool) → IsMostAfter most least None → length z ≡ length x → ((place : ℕ) → Marked z place → ⊥) → IsImage (Language (repeat a least most)) text x z
+pub image_no_repeat : (a : Tree) (least : ℕ) (most : Option ℕ) (text : List ℕ) (x z : List Bool) →
+    IsMostAfter most least None → length z ≡ length x → ((place : ℕ) → Marked z place → ⊥) →
+    IsImage (Language (repeat a least most)) text x z
 image_no_repeat a least most text x z h long none =
-    image_none (Language (repeat a least most)) text x z long none (λ w r. not_at_most most least r.0 h r.1 r.2)
+    image_none (Language (repeat a least most)) text x z long none (λ w r. not_at_most most least
+        r.0 h r.1 r.2)
 
 -- a set without places leads nowhere
-image_of_none : (L : List ℕ → Type 0) (text : List ℕ) (a : List Bool) → ((place : ℕ) → Marked a place → ⊥) → IsImage L text a a
+image_of_none : (L : List ℕ → Type 0) (text : List ℕ) (a : List Bool) → ((place : ℕ) →
+    Marked a place → ⊥) → IsImage L text a a
 image_of_none L text a none = record {
   same_length = refl;
-  reached = λ place. (λ marked. absurd (none place marked), λ r. absurd (none (length r.before) r.begins));
+  reached = λ place. (λ marked. absurd (none place marked),
+      λ r. absurd (none (length r.before) r.begins));
 }
 
 -- once no place is left, or a word more leaves the set as it is, all further words do
-pub settled_ends : (L whole : List ℕ → Type 0) (text : List ℕ) (first now next : List Bool) (k n : ℕ) → length now ≡ suc (length text) → ((place : ℕ) → Marked next place → ⊥) ⊎ (next ≡ now) → k ≡ suc n → IsImage L text now next →
+pub settled_ends : (L whole : List ℕ →
+    Type 0) (text : List ℕ) (first now next : List Bool) (k n : ℕ) →
+    length now ≡ suc (length text) → ((place : ℕ) → Marked next place → ⊥) ⊎ (next ≡ now) →
+    k ≡ suc n → IsImage L text now next →
     Completes whole (Power L k) text first now → IsImage whole text first next
 settled_ends L whole text first now next k n long (inl none) more step so_far =
-    let further = completes_more whole L (Power L n) text first now next (subst (λ k. Completes whole (Power L k) text first now) more so_far) step in
+    let further = completes_more whole L (Power L n) text first now next (subst (λ k. Completes
+        whole (Power L k) text first now) more so_far) step in
     further.ends next (image_of_none (Power L n) text next none)
 settled_ends L whole text first now next k n long (inr same) more step so_far =
     subst (λ places. IsImage whole text first places) (sym same)
-    (so_far.ends now (image_settled L text now long (subst (λ places. IsImage L text now places) same step) k))
+    (so_far.ends now (image_settled L text now long (subst (λ places. IsImage L text now places)
+        same step) k))

@@ -2,20 +2,23 @@
 use Rattle.std.proofs.Common.{◌≡◌, ◌↔◌, ℕ, ◌+◌, ◌≤◌, Bool, List, [], ◌∷◌, ◌++◌, length, refl, sym, ap, ◌∙◌, subst, arith}
 use Rattle.std.proofs.lemmas.List.{length-append, append-nil}
 use Rattle.jp_match.specs.Part.{HasPart}
-use Rattle.jp_match.specs.Place.{Marked, IsImage}
+use Rattle.jp_match.specs.Private.Place.{Marked, IsImage}
 
 no_length : (xs : List ℕ) → length xs ≡ 0 → xs ≡ []
 no_length [] h = refl
 no_length (x ∷ xs) h = absurd (omega (arith, h))
 
 -- from the first place alone, the last is reached exactly by the whole text
-pub whole_reached : (L : List ℕ → Type 0) (text : List ℕ) (from to : List Bool) → ((place : ℕ) → Marked from place ↔ (place ≡ 0)) → IsImage L text from to → Marked to (length text) ↔ L text
+pub whole_reached : (L : List ℕ → Type 0) (text : List ℕ) (from to : List Bool) → ((place : ℕ) →
+    Marked from place ↔ (place ≡ 0)) → IsImage L text from to → Marked to (length text) ↔ L text
 whole_reached L text from to first image = (
   λ marked.
       let r = (image.reached (length text)).0 marked in
       let front : r.before ≡ [] = no_length r.before ((first (length r.before)).0 r.begins) in
-      let none : r.after ≡ [] = no_length r.after (omega (arith, r.ends, ap length r.is, length-append r.before (r.word ++ r.after), length-append r.word r.after)) in
-      let is : r.word ≡ text = sym (r.is ∙ ap (λ w. w ++ (r.word ++ r.after)) front ∙ ap (λ w. r.word ++ w) none ∙ append-nil r.word) in
+      let none : r.after ≡ [] = no_length r.after (omega (arith, r.ends, ap length r.is,
+          length-append r.before (r.word ++ r.after), length-append r.word r.after)) in
+      let is : r.word ≡ text = sym (r.is ∙ ap (λ w. w ++ (r.word ++ r.after)) front ∙
+          ap (λ w. r.word ++ w) none ∙ append-nil r.word) in
       subst L is r.holds,
   λ holds. (image.reached (length text)).1 (record {
     before = [];
@@ -29,7 +32,9 @@ whole_reached L text from to first image = (
 )
 
 -- from every place, a place is reached exactly if some part of the text is a word
-pub part_reached : (L : List ℕ → Type 0) (text : List ℕ) (from to : List Bool) → ((place : ℕ) → Marked from place ↔ (place ≤ length text)) → IsImage L text from to → ((place : ℕ) × Marked to place) ↔ HasPart L text
+pub part_reached : (L : List ℕ → Type 0) (text : List ℕ) (from to : List Bool) → ((place : ℕ) →
+    Marked from place ↔ (place ≤ length text)) → IsImage L text from to →
+    ((place : ℕ) × Marked to place) ↔ HasPart L text
 part_reached L text from to every image = (
   λ any.
       let r = (image.reached any.0).0 any.1 in
@@ -42,7 +47,8 @@ part_reached L text from to every image = (
           word = h.part;
           after = h.after;
           is = h.is;
-          begins = (every (length h.before)).1 (omega (arith, ap length h.is, length-append h.before (h.part ++ h.after)));
+          begins = (every (length h.before)).1 (omega (arith, ap length h.is,
+              length-append h.before (h.part ++ h.after)));
           holds = h.holds;
           ends = refl;
         }),

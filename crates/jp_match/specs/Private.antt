@@ -1,3 +1,6 @@
+pub mod ClassTests
+pub mod Counts
 pub mod EmptyWord
 pub mod Marks
+pub mod Place
 pub mod Plain

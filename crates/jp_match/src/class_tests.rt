@@ -2,7 +2,7 @@
 
 ghost use Rattle.std.specs.Prelude.{◌≡◌, ◌≤◌};
 ghost use Rattle.jp_iregexp.specs.Class.{class_holds};
-ghost use Rattle.jp_match.specs.ClassTests.{count_after};
+ghost use Rattle.jp_match.specs.Private.ClassTests.{count_after};
 
 use jp_iregexp::CharClass;
 use std::marker::Model;

@@ -10,7 +10,8 @@ use crate::empty_word::repeats_empty_word;
 use crate::places::is_any;
 use jp_iregexp::{Pattern, positions};
 
-/// Whether the end of a pattern is reached: by a mark, or by the empty word where the pattern is entered.
+/// Whether the end of a pattern is reached: by a mark, or by the empty word where the pattern is
+/// entered.
 #[cycle(ends)]
 pub fn ends(pattern: &Pattern, row: &[bool], entered: bool) -> bool
     requires sized { length row.now ≡ positions_of (tree pattern.now) }

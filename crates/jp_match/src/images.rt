@@ -4,9 +4,9 @@ ghost use Rattle.std.specs.Prelude.{◌≡◌, ◌↔◌, ◌≤◌, suc, IfOk, 
 ghost use Rattle.std.specs.Str.{chars};
 ghost use Rattle.jp_iregexp.specs.Tree.{tree, pieces, branches, repeat};
 ghost use Rattle.jp_iregexp.specs.Language.{Language, Power};
-ghost use Rattle.jp_match.specs.Counts.{IsMostAfter, Times};
+ghost use Rattle.jp_match.specs.Private.Counts.{IsMostAfter, Times};
 ghost use Rattle.jp_match.specs.Part.{HasPart};
-ghost use Rattle.jp_match.specs.Place.{IsImage};
+ghost use Rattle.jp_match.specs.Private.Place.{IsImage};
 
 use crate::class_tests::Tests;
 use crate::places::{
@@ -32,7 +32,8 @@ impl Images {
         text: &str,
         tests: &mut Tests,
     ) -> Result<bool, AllocError>
-        ensures exact { IfOk result (λ answer. IsTrue answer ↔ Language (tree pattern.now) (chars text.now)) }
+        ensures exact { IfOk result (λ answer. IsTrue answer ↔ Language (tree pattern.now) (chars
+            text.now)) }
         ensures kept { tests.old ≤ tests.new }
     {
         let text = characters(alloc, text)?;
@@ -50,7 +51,8 @@ impl Images {
         text: &str,
         tests: &mut Tests,
     ) -> Result<bool, AllocError>
-        ensures exact { IfOk result (λ answer. IsTrue answer ↔ HasPart (Language (tree pattern.now)) (chars text.now)) }
+        ensures exact { IfOk result (λ answer. IsTrue answer ↔ HasPart (Language (tree
+            pattern.now)) (chars text.now)) }
         ensures kept { tests.old ≤ tests.new }
     {
         let text = characters(alloc, text)?;
@@ -77,7 +79,8 @@ fn image(
     tests: &mut Tests,
 ) -> Result<(), AllocError>
     requires { length places.old.items ≡ suc (length text.now) }
-    ensures image { OnOk result (IsImage (Language (tree pattern.now)) text.now places.old.items places.new.items) }
+    ensures image { OnOk result (IsImage (Language (tree pattern.now)) text.now places.old.items
+        places.new.items) }
     ensures counted { tests.old ≤ tests.new }
 {
     match pattern {
@@ -103,7 +106,8 @@ fn either_image(
     tests: &mut Tests,
 ) -> Result<(), AllocError>
     requires { length places.old.items ≡ suc (length text.now) }
-    ensures image { OnOk result (IsImage (Language (branches (map tree parts.now))) text.now places.old.items places.new.items) }
+    ensures image { OnOk result (IsImage (Language (branches (map tree parts.now))) text.now
+        places.old.items places.new.items) }
     ensures counted { tests.old ≤ tests.new }
 {
     if let [only] = parts {
@@ -133,7 +137,8 @@ fn sequence_image(
     tests: &mut Tests,
 ) -> Result<(), AllocError>
     requires { length places.old.items ≡ suc (length text.now) }
-    ensures image { OnOk result (IsImage (Language (pieces (map tree parts.now))) text.now places.old.items places.new.items) }
+    ensures image { OnOk result (IsImage (Language (pieces (map tree parts.now))) text.now
+        places.old.items places.new.items) }
     ensures counted { tests.old ≤ tests.new }
 {
     for piece in parts {
@@ -154,7 +159,8 @@ fn repeat_image(
     tests: &mut Tests,
 ) -> Result<(), AllocError>
     requires { length places.old.items ≡ suc (length text.now) }
-    ensures image { OnOk result (IsImage (Language (repeat (tree inner.now) least most)) text.now places.old.items places.new.items) }
+    ensures image { OnOk result (IsImage (Language (repeat (tree inner.now) least most)) text.now
+        places.old.items places.new.items) }
     ensures counted { tests.old ≤ tests.new }
 {
     let Some(more) = most_after(most, least) else {
@@ -188,7 +194,8 @@ fn exactly_image(
     tests: &mut Tests,
 ) -> Result<(), AllocError>
     requires { length places.old.items ≡ suc (length text.now) }
-    ensures image { OnOk result (IsImage (Power (Language (tree inner.now)) count) text.now places.old.items places.new.items) }
+    ensures image { OnOk result (IsImage (Power (Language (tree inner.now)) count) text.now
+        places.old.items places.new.items) }
     ensures counted { tests.old ≤ tests.new }
 {
     let mut before = spare.copy_of(places)?;
@@ -214,7 +221,8 @@ fn at_most_image(
     tests: &mut Tests,
 ) -> Result<(), AllocError>
     requires { length places.old.items ≡ suc (length text.now) }
-    ensures image { OnOk result (IsImage (Times (Language (tree inner.now)) most) text.now places.old.items places.new.items) }
+    ensures image { OnOk result (IsImage (Times (Language (tree inner.now)) most) text.now
+        places.old.items places.new.items) }
     ensures counted { tests.old ≤ tests.new }
 {
     let mut reached = spare.copy_of(places)?;

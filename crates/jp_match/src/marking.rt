@@ -25,7 +25,8 @@ impl<'p> Marking<'p> {
     /// Moves the marks over the character, and answers whether the end was reached before.
     pub(crate) fn step(&mut self, entered: bool, c: char, tests: &mut Tests) -> bool
         ensures same { self.new.pattern.now ≡ self.old.pattern.now }
-        ensures step { Steps (unrolled (tree self.old.pattern.now)) c entered self.old.marks.items self.new.marks.items result }
+        ensures step { Steps (unrolled (tree self.old.pattern.now)) c entered self.old.marks.items
+            self.new.marks.items result }
         ensures counted { tests.new ≤ tests.old + positions_of (tree self.old.pattern.now) }
         ensures kept { tests.old ≤ tests.new }
     {
@@ -41,7 +42,8 @@ impl<'p> Marking<'p> {
 
     /// Whether there is a mark.
     pub(crate) fn has_mark(&self) -> bool
-        ensures { IsTrue result ↔ ((position : ℕ) × IsTrue (get_or self.now.marks.items position false)) }
+        ensures { IsTrue result ↔ ((position : ℕ) × IsTrue (get_or self.now.marks.items position
+            false)) }
     {
         is_any(&self.marks)
     }

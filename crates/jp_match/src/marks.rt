@@ -49,7 +49,8 @@ impl Matching for Marks {
 /// Whether the scan accepts once it has taken the text. It ends early where no word is left.
 fn accepts_whole(scan: &mut Scan<'_>, text: &str, tests: &mut Tests) -> bool
     ensures accepted { IsTrue result ↔ Left scan.old (chars text.now) }
-    ensures counted { tests.new ≤ tests.old + positions_of (tree_of scan.old) * length (chars text.now) }
+    ensures counted { tests.new ≤ tests.old + positions_of (tree_of scan.old) * length (chars
+        text.now) }
     ensures kept { tests.old ≤ tests.new }
 {
     for c in text.chars() {
@@ -65,7 +66,8 @@ fn accepts_whole(scan: &mut Scan<'_>, text: &str, tests: &mut Tests) -> bool
 fn accepts_prefix(scan: &mut Scan<'_>, text: &str, tests: &mut Tests) -> bool
     ensures accepted { IsTrue result
         ↔ ((count : ℕ) × (count ≤ length (chars text.now)) × Left scan.old (take count (chars text.now))) }
-    ensures counted { tests.new ≤ tests.old + positions_of (tree_of scan.old) * length (chars text.now) }
+    ensures counted { tests.new ≤ tests.old + positions_of (tree_of scan.old) * length (chars
+        text.now) }
     ensures kept { tests.old ≤ tests.new }
 {
     for c in text.chars() {

@@ -21,8 +21,10 @@ pub trait Matching {
         text: &str,
         tests: &mut Tests,
     ) -> Result<bool, AllocError>
-        ensures exact { IfOk result (λ answer. IsTrue answer ↔ Language (tree pattern.now) (chars text.now)) }
-        ensures bound { positions_of (tree pattern.now) ≤ 4096 → tests.new ≤ tests.old + positions_of (tree pattern.now) * length (chars text.now) }
+        ensures exact { IfOk result (λ answer. IsTrue answer ↔ Language (tree pattern.now) (chars
+            text.now)) }
+        ensures bound { positions_of (tree pattern.now) ≤ 4096 →
+            tests.new ≤ tests.old + positions_of (tree pattern.now) * length (chars text.now) }
         ensures kept { tests.old ≤ tests.new };
 
     /// Whether some part of the text is in the language of the pattern, the empty parts included (RFC 9535,
@@ -34,7 +36,9 @@ pub trait Matching {
         text: &str,
         tests: &mut Tests,
     ) -> Result<bool, AllocError>
-        ensures exact { IfOk result (λ answer. IsTrue answer ↔ HasPart (Language (tree pattern.now)) (chars text.now)) }
-        ensures bound { positions_of (tree pattern.now) ≤ 4096 → tests.new ≤ tests.old + positions_of (tree pattern.now) * length (chars text.now) }
+        ensures exact { IfOk result (λ answer. IsTrue answer ↔ HasPart (Language (tree
+            pattern.now)) (chars text.now)) }
+        ensures bound { positions_of (tree pattern.now) ≤ 4096 →
+            tests.new ≤ tests.old + positions_of (tree pattern.now) * length (chars text.now) }
         ensures kept { tests.old ≤ tests.new };
 }

@@ -3,8 +3,8 @@
 ghost use Rattle.std.specs.Prelude.{◌≡◌, ◌↔◌, ◌⊎◌, ℕ, suc, ◌≤◌, IsTrue, IfOk, OnOk, length};
 ghost use Rattle.jp_iregexp.specs.Tree.{class as class_tree};
 ghost use Rattle.jp_iregexp.specs.Language.{Language};
-ghost use Rattle.jp_match.specs.ClassTests.{count_after};
-ghost use Rattle.jp_match.specs.Place.{Marked, IsImage, followed_count};
+ghost use Rattle.jp_match.specs.Private.ClassTests.{count_after};
+ghost use Rattle.jp_match.specs.Private.Place.{Marked, IsImage, followed_count};
 
 use crate::class_tests::Tests;
 use jp_iregexp::CharClass;
@@ -65,7 +65,8 @@ pub fn only_first(alloc: Global, text: &[char]) -> Result<Places, AllocError>
 /// Every place of the text.
 pub fn every(alloc: Global, text: &[char]) -> Result<Places, AllocError>
     ensures same_length { IfOk result (λ places. length places.items ≡ suc (length text.now)) }
-    ensures every { IfOk result (λ places. (place : ℕ) → Marked places.items place ↔ (place ≤ length text.now)) }
+    ensures every { IfOk result (λ places. (place : ℕ) →
+        Marked places.items place ↔ (place ≤ length text.now)) }
 {
     vec![in alloc; true; text.len() + 1]
 }
@@ -96,7 +97,8 @@ pub fn is_any(places: &[bool]) -> bool
 /// Whether the steps that led from one set to the next lead no further: there is no place left, or the places
 /// are those of before.
 pub fn is_settled(places: &[bool], before: &[bool]) -> bool
-    ensures { IsTrue result ↔ (((place : ℕ) → Marked places.now place → ⊥) ⊎ (places.now ≡ before.now)) }
+    ensures { IsTrue result ↔ (((place : ℕ) → Marked places.now place →
+        ⊥) ⊎ (places.now ≡ before.now)) }
 {
     !is_any(places) || is_same(places, before)
 }
@@ -112,7 +114,8 @@ fn is_same(places: &[bool], other: &[bool]) -> bool
 pub fn unite(places: &mut Places, other: &[bool])
     requires { length places.old.items ≡ length other.now }
     ensures same_length { length places.new.items ≡ length places.old.items }
-    ensures both { (place : ℕ) → Marked places.new.items place ↔ (Marked places.old.items place ⊎ Marked other.now place) }
+    ensures both { (place : ℕ) → Marked places.new.items place ↔ (Marked places.old.items place ⊎
+        Marked other.now place) }
 {
     for (i, also) in other.iter().enumerate() {
         places[i] = places[i] || *also;
@@ -123,7 +126,8 @@ pub fn unite(places: &mut Places, other: &[bool])
 pub fn remove(places: &mut Places, other: &[bool])
     requires { length places.old.items ≡ length other.now }
     ensures same_length { length places.new.items ≡ length places.old.items }
-    ensures rest { (place : ℕ) → Marked places.new.items place ↔ (Marked places.old.items place × (Marked other.now place → ⊥)) }
+    ensures rest { (place : ℕ) → Marked places.new.items place ↔ (Marked places.old.items place ×
+        (Marked other.now place → ⊥)) }
 {
     for (i, taken) in other.iter().enumerate() {
         places[i] = places[i] && !*taken;

@@ -44,7 +44,8 @@ pub fn step(
 /// The same for a class: its one position.
 fn step_class(class: &CharClass, row: &mut [bool], entered: bool, c: char, tests: &mut Tests) -> bool
     requires sized { length row.old ≡ 1 }
-    ensures step { Steps (plain_class class.now.negated class.now.items.items) c entered row.old row.new result }
+    ensures step { Steps (plain_class class.now.negated class.now.items.items) c entered row.old
+        row.new result }
     ensures counted { tests.new ≤ tests.old + 1 }
     ensures kept { tests.old ≤ tests.new }
 {
@@ -64,10 +65,14 @@ fn step_either(
 ) -> bool
     requires sized { length row.old ≡ positions_of (branches (map tree parts.now)) }
     requires few { length row.old ≤ 4096 }
-    ensures step { Steps (unrolled (branches (map tree parts.now))) c entered row.old row.new result }
+    ensures step { Steps (unrolled (branches (map tree parts.now))) c entered row.old row.new
+        result }
     ensures counted { tests.new ≤ tests.old + length row.old }
     ensures kept { tests.old ≤ tests.new }
 {
+    if let [only] = parts {
+        return step(only, row, entered, c, tests);
+    }
     let mut ended = false;
     let mut at = 0;
     for branch in parts {
@@ -93,6 +98,9 @@ fn step_sequence(
     ensures counted { tests.new ≤ tests.old + length row.old }
     ensures kept { tests.old ≤ tests.new }
 {
+    if let [only] = parts {
+        return step(only, row, entered, c, tests);
+    }
     let mut through = entered;
     let mut at = 0;
     for piece in parts {
@@ -116,7 +124,8 @@ fn step_repeat(
 ) -> bool
     requires sized { length row.old ≡ positions_of (repeat (tree inner.now) least most) }
     requires few { length row.old ≤ 4096 }
-    ensures step { Steps (unrolled (repeat (tree inner.now) least most)) c entered row.old row.new result }
+    ensures step { Steps (unrolled (repeat (tree inner.now) least most)) c entered row.old row.new
+        result }
     ensures counted { tests.new ≤ tests.old + length row.old }
     ensures kept { tests.old ≤ tests.new }
 {
@@ -145,7 +154,8 @@ fn step_between(
     requires sized { length row.old ≡ most * positions_of (tree inner.now) }
     requires some { 0 < most }
     requires few { length row.old ≤ 4096 }
-    ensures step { Steps (between (unrolled (tree inner.now)) least most) c entered row.old row.new result }
+    ensures step { Steps (between (unrolled (tree inner.now)) least most) c entered row.old row.new
+        result }
     ensures counted { tests.new ≤ tests.old + length row.old }
     ensures kept { tests.old ≤ tests.new }
 {
@@ -155,8 +165,9 @@ fn step_between(
     let mut at = 0;
     for copies in 0..most {
         ended |= (least <= copies) & through;
-        through = step(inner, &mut row[at..at + size], through, c, tests);
-        at += size;
+        let next = at + size;
+        through = step(inner, &mut row[at..next], through, c, tests);
+        at = next;
     }
     ended | ((least <= most) & through)
 }
@@ -174,7 +185,8 @@ fn step_at_least(
     requires sized { length row.old ≡ least * positions_of (tree inner.now) }
     requires some { 0 < least }
     requires few { length row.old ≤ 4096 }
-    ensures step { Steps (at_least (unrolled (tree inner.now)) least) c entered row.old row.new result }
+    ensures step { Steps (at_least (unrolled (tree inner.now)) least) c entered row.old row.new
+        result }
     ensures counted { tests.new ≤ tests.old + length row.old }
     ensures kept { tests.old ≤ tests.new }
 {

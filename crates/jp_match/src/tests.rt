@@ -193,3 +193,59 @@ fn keeps_no_text(rt: HostRuntime) -> Result<(), Fail> {
     assert!(rt; scan.accepts());
     Ok(())
 }
+
+/// A number below the end, from a sequence that the seed begins.
+fn below(seed: &mut u64, end: u64) -> u64 {
+    *seed = seed
+        .wrapping_mul(6_364_136_223_846_793_005)
+        .wrapping_add(1_442_695_040_888_963_407);
+    if end == 0 { 0 } else { (*seed >> 33) % end }
+}
+
+const ATOMS: [&str; 6] = ["a", "b", "[ab]", ".", "()", "[^a]"];
+const QUANTIFIERS: [&str; 8] = ["", "*", "+", "?", "{2}", "{0}", "{1,3}", "{2,}"];
+
+fn one_of<'a>(seed: &mut u64, texts: &'a [&'a str]) -> &'a str {
+    let index = below(seed, texts.len() as u64) as usize;
+    texts.get(index).copied().unwrap_or("")
+}
+
+/// A pattern of some atoms, grouped and repeated.
+fn made_pattern(alloc: Global, seed: &mut u64) -> Result<String, AllocError> {
+    let mut pattern = String::new(alloc);
+    for _ in 0..below(seed, 6) + 1 {
+        let atom = one_of(seed, &ATOMS);
+        let quantifier = one_of(seed, &QUANTIFIERS);
+        pattern = match below(seed, 4) {
+            0 => format!(in alloc; "({pattern}|{atom}){quantifier}")?,
+            1 => format!(in alloc; "({pattern}){quantifier}{atom}")?,
+            2 => format!(in alloc; "{atom}{quantifier}{pattern}")?,
+            _ => format!(in alloc; "{pattern}|{atom}{quantifier}")?,
+        };
+    }
+    Ok(pattern)
+}
+
+fn made_text(alloc: Global, seed: &mut u64) -> Result<String, AllocError> {
+    let mut text = String::new(alloc);
+    for _ in 0..below(seed, 8) {
+        text.push_str(one_of(seed, &["a", "b", "c"]))?;
+    }
+    Ok(text)
+}
+
+#[test]
+fn both_matchers_agree(rt: HostRuntime) -> Result<(), Fail> {
+    let mut seed = 1;
+    for _ in 0..3_000 {
+        let text = made_pattern(rt.alloc(), &mut seed)?;
+        let pattern = read_pattern(rt.alloc(), text.as_str())?;
+        let word = made_text(rt.alloc(), &mut seed)?;
+        let mut tests = Tests::new();
+        let whole = Images.whole(rt.alloc(), &pattern, word.as_str(), &mut tests)?;
+        let part = Images.part(rt.alloc(), &pattern, word.as_str(), &mut tests)?;
+        let answer = answers(&Marks, rt.alloc(), &pattern, word.as_str())?;
+        assert_eq!(rt; answer, (whole, part), "{text} {word}");
+    }
+    Ok(())
+}

@@ -32,6 +32,8 @@ pub record Ends (a : Plain) (entered : Bool) (marks : List Bool) (ended : Bool) 
   pub is : IsTrue ended ↔ (Rest a marks [] ⊎ (IsTrue entered × Words a []))
 
 -- a step over the character c
-pub record Steps (a : Plain) (c : ℕ) (entered : Bool) (before after : List Bool) (ended : Bool) : Type 0 where
-  pub left : (word : List ℕ) → Rest a after word ↔ (Rest a before (c ∷ word) ⊎ (IsTrue entered × Words a (c ∷ word)))
+pub record Steps (a : Plain) (c : ℕ) (entered : Bool) (before after : List Bool) (ended : Bool) :
+    Type 0 where
+  pub left : (word : List ℕ) → Rest a after word ↔ (Rest a before (c ∷ word) ⊎ (IsTrue entered ×
+      Words a (c ∷ word)))
   pub ends : Ends a entered before ended

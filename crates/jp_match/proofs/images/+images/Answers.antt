@@ -16,14 +16,18 @@ at_most_image-loop-left-smaller t c =
     let any = rw c.deref-in-loop-left.ensures.value at (c.is_any.ensures.0 c.loop-left-test.true) in
     let both = rw c.deref-in-loop-left-2.ensures.value at c.unite.ensures.both in
     let grows = c.loop-left.invariant.grows in
-    absent_falls c.loop-left.reached.items c.unite.new.places.items (sym c.unite.ensures.same_length) (λ k m. (both k).1 (inl m)) any.0 ((both any.0).1 (inr any.1)) (grows.apart any.0 any.1)
+    absent_falls c.loop-left.reached.items c.unite.new.places.items (sym
+        c.unite.ensures.same_length) (λ k m. (both k).1 (inl m)) any.0 ((both any.0).1 (inr any.1))
+        (grows.apart any.0 any.1)
 
 pub at_most_image-loop-left-preserved : goal.at_most_image-loop-left-preserved
 at_most_image-loop-left-preserved t c =
     let both = rw c.deref-in-loop-left-2.ensures.value at c.unite.ensures.both in
     let rest = rw c.deref-in-loop-left-3.ensures.value at c.remove.ensures.rest in
     record {
-      grows = grows_more _ _ _ _ _ _ _ _ _ _ _ c.loop-left.invariant.grows c.in-Some.ensures c.unite.ensures.same_length both c.in_ok-image.ensures.image c.remove.ensures.same_length rest;
+      grows = grows_more _ _ _ _ _ _ _ _ _ _ _ c.loop-left.invariant.grows c.in-Some.ensures
+          c.unite.ensures.same_length both c.in_ok-image.ensures.image c.remove.ensures.same_length
+          rest;
       counted = omega arith;
     }
 
@@ -32,32 +36,43 @@ at_most_image-returns-clause-image t c =
     (elim c.loop-left-test.branch [
       | at_most_image-else-loop-left-test w ↦
           let any = rw c.deref-in-loop-left.ensures.value at c.is_any.ensures.1 in
-          rw (c.swap.ensures.x_after, w.reached-is) (grows_all _ _ _ _ _ _ _ c.requires c.loop-left.invariant.grows (λ place m. let is = any (place, m) in let not = w.loop-left-test.false in cc))
+          rw (c.swap.ensures.x_after, w.reached-is) (grows_all _ _ _ _ _ _ _ c.requires
+              c.loop-left.invariant.grows (λ place m. let is = any (place, m) in
+              let not = w.loop-left-test.false in cc))
       | at_most_image-then-loop-left-test+in_default w ↦
           let both = rw w.deref-in-loop-left-2.ensures.value at w.unite.ensures.both in
-          rw (c.swap.ensures.x_after, w.reached-is) (grows_last _ _ _ _ _ _ _ _ c.requires c.loop-left.invariant.grows w.in_default.ensures w.unite.ensures.same_length both)
+          rw (c.swap.ensures.x_after, w.reached-is) (grows_last _ _ _ _ _ _ _ _ c.requires
+              c.loop-left.invariant.grows w.in_default.ensures w.unite.ensures.same_length both)
     ])
 
 pub either_image-loop-branch-preserved : goal.either_image-loop-branch-preserved
 either_image-loop-branch-preserved t c =
-    let item = drop_item c.args.parts.now c.loop-branch.branch-index c.branch-item.result c.loop-branch-test.true c.branch-item.is in
+    let item = drop_item c.args.parts.now c.loop-branch.branch-index c.branch-item.result
+        c.loop-branch-test.true c.branch-item.is in
     let both = rw c.deref-in-loop-branch-2.ensures.value at c.unite.ensures.both in
-    let start : c.assign.new.places.items ≡ c.args.places.now.items = c.in_ok-assign.ensures ∙ c.deref-in-loop-branch.ensures.value ∙ c.loop-branch.invariant.from in
+    let start : c.assign.new.places.items ≡ c.args.places.now.items = c.in_ok-assign.ensures ∙
+        c.deref-in-loop-branch.ensures.value ∙ c.loop-branch.invariant.from in
     record {
       from = c.loop-branch.invariant.from;
       long = c.unite.ensures.same_length ∙ c.loop-branch.invariant.long;
-      covers = covers_more _ _ _ _ _ _ _ _ (subst (λ ps. Covers (Language (branches (map tree c.args.parts.now))) (Language (branches (map tree ps))) c.args.text.now c.args.places.now.items c.loop-branch.reached.items) item c.loop-branch.invariant.covers) (rw start at c.in_ok-image.ensures.image) both;
+      covers = covers_more _ _ _ _ _ _ _ _ (subst (λ ps. Covers (Language (branches (map tree
+          c.args.parts.now))) (Language (branches (map tree ps))) c.args.text.now
+          c.args.places.now.items c.loop-branch.reached.items) item c.loop-branch.invariant.covers)
+          (rw start at c.in_ok-image.ensures.image) both;
       counted = omega arith;
     }
 
 pub exactly_image-loop-preserved : goal.exactly_image-loop-preserved
 exactly_image-loop-preserved t c =
     let L = Language (tree c.args.inner.now) in
-    let fewer : c.args.count - c.loop.counter ≡ suc (c.args.count - (c.loop.counter + 1)) = omega arith in
+    let fewer : c.args.count - c.loop.counter ≡ suc (c.args.count - (c.loop.counter + 1)) = omega
+        arith in
     record {
       before = c.in_ok-assign.ensures ∙ c.deref-in-loop-3.ensures.value;
       long = c.in_ok-image.ensures.image.same_length ∙ c.loop.invariant.long;
-      completes = completes_more _ _ _ _ _ _ _ (subst (λ n. Completes (Power L c.args.count) (Power L n) c.args.text.now c.args.places.now.items c.loop.places.items) fewer c.loop.invariant.completes) c.in_ok-image.ensures.image;
+      completes = completes_more _ _ _ _ _ _ _ (subst (λ n. Completes (Power L c.args.count) (Power
+          L n) c.args.text.now c.args.places.now.items c.loop.places.items) fewer
+          c.loop.invariant.completes) c.in_ok-image.ensures.image;
       counted = omega arith;
     }
 
@@ -67,18 +82,25 @@ exactly_image-returns-clause-image t c =
     (elim c.loop-test.branch [
       | exactly_image-else-loop-test w ↦
           let none : c.args.count - c.loop.counter ≡ 0 = omega arith in
-          rw w.places-is (completes_all _ _ _ _ c.loop.invariant.long (subst (λ n. Completes (Power L c.args.count) (Power L n) c.args.text.now c.args.places.now.items c.loop.places.items) none c.loop.invariant.completes))
+          rw w.places-is (completes_all _ _ _ _ c.loop.invariant.long (subst (λ n. Completes (Power
+              L c.args.count) (Power L n) c.args.text.now c.args.places.now.items
+              c.loop.places.items) none c.loop.invariant.completes))
       | exactly_image-then-loop-test+in_ok-image+then-is_settled w ↦
-          let end = rw (w.deref-in-loop.ensures.value, w.deref-in-loop-2.ensures.value, c.loop.invariant.before) at (w.is_settled.ensures.0 w.if-is_settled.true) in
-          let more : c.args.count - c.loop.counter ≡ suc (c.args.count - (c.loop.counter + 1)) = omega arith in
-          rw w.places-is (settled_ends _ _ _ _ _ _ _ _ c.loop.invariant.long end more w.in_ok-image.ensures.image c.loop.invariant.completes)
+          let end = rw (w.deref-in-loop.ensures.value, w.deref-in-loop-2.ensures.value,
+              c.loop.invariant.before) at (w.is_settled.ensures.0 w.if-is_settled.true) in
+          let more : c.args.count - c.loop.counter ≡ suc (c.args.count - (c.loop.counter + 1)) =
+              omega arith in
+          rw w.places-is (settled_ends _ _ _ _ _ _ _ _ c.loop.invariant.long end more
+              w.in_ok-image.ensures.image c.loop.invariant.completes)
     ])
 
 pub image-returns-in-Either-clause-image : goal.image-returns-in-Either-clause-image
-image-returns-in-Either-clause-image t c = rw (c.in-Either.is, tree_either, ← c.deref.ensures.value) c.either_image.ensures.image
+image-returns-in-Either-clause-image t c = rw (c.in-Either.is, tree_either,
+    ← c.deref.ensures.value) c.either_image.ensures.image
 
 pub image-returns-in-Sequence-clause-image : goal.image-returns-in-Sequence-clause-image
-image-returns-in-Sequence-clause-image t c = rw (c.in-Sequence.is, tree_sequence, ← c.deref-in-Sequence.ensures.value) c.sequence_image.ensures.image
+image-returns-in-Sequence-clause-image t c = rw (c.in-Sequence.is, tree_sequence,
+    ← c.deref-in-Sequence.ensures.value) c.sequence_image.ensures.image
 
 pub image-returns-in-Repeat-clause-image : goal.image-returns-in-Repeat-clause-image
 image-returns-in-Repeat-clause-image t c =
@@ -90,14 +112,19 @@ image-returns-in-Class-clause-image t c = rw (c.in-Class.is, tree_class) c.shift
 
 pub repeat_image-returns-clause-image : goal.repeat_image-returns-clause-image
 repeat_image-returns-clause-image t c =
-    on_ok_weaker c.at_most_image.result (image_repeat _ _ _ _ _ _ _ _ c.in-Some.ensures c.in_ok-exactly_image.ensures.image) c.at_most_image.ensures.image
+    on_ok_weaker c.at_most_image.result (image_repeat _ _ _ _ _ _ _ _ c.in-Some.ensures
+        c.in_ok-exactly_image.ensures.image) c.at_most_image.ensures.image
 
 pub sequence_image-loop-piece-preserved : goal.sequence_image-loop-piece-preserved
 sequence_image-loop-piece-preserved t c =
-    let item = drop_item c.args.parts.now c.loop-piece.piece-index c.piece-item.result c.loop-piece-test.true c.piece-item.is in
+    let item = drop_item c.args.parts.now c.loop-piece.piece-index c.piece-item.result
+        c.loop-piece-test.true c.piece-item.is in
     record {
       long = c.in_ok-image.ensures.image.same_length ∙ c.loop-piece.invariant.long;
-      completes = completes_more _ _ _ _ _ _ _ (subst (λ ps. Completes (Language (pieces (map tree c.args.parts.now))) (Language (pieces (map tree ps))) c.args.text.now c.args.places.now.items c.loop-piece.places.items) item c.loop-piece.invariant.completes) c.in_ok-image.ensures.image;
+      completes = completes_more _ _ _ _ _ _ _ (subst (λ ps. Completes (Language (pieces (map tree
+          c.args.parts.now))) (Language (pieces (map tree ps))) c.args.text.now
+          c.args.places.now.items c.loop-piece.places.items) item c.loop-piece.invariant.completes)
+          c.in_ok-image.ensures.image;
       counted = omega arith;
     }
 
@@ -105,4 +132,6 @@ pub sequence_image-returns-clause-image : goal.sequence_image-returns-clause-ima
 sequence_image-returns-clause-image t c =
     let end : c.loop-piece.piece-index ≡ length c.args.parts.now = omega arith in
     let none = ap (λ n. drop n c.args.parts.now) end ∙ drop_all c.args.parts.now in
-    completes_all _ _ _ _ c.loop-piece.invariant.long (subst (λ ps. Completes (Language (pieces (map tree c.args.parts.now))) (Language (pieces (map tree ps))) c.args.text.now c.args.places.now.items c.loop-piece.places.items) none c.loop-piece.invariant.completes)
+    completes_all _ _ _ _ c.loop-piece.invariant.long (subst (λ ps. Completes (Language (pieces
+        (map tree c.args.parts.now))) (Language (pieces (map tree ps))) c.args.text.now
+        c.args.places.now.items c.loop-piece.places.items) none c.loop-piece.invariant.completes)

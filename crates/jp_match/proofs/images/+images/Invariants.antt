@@ -7,7 +7,8 @@ use Rattle.jp_match.proofs.images.+images.Given as goal
 
 abbrev pub invariant-at_most_image-loop-left : goal.invariant-at_most_image-loop-left
 invariant-at_most_image-loop-left l = record {
-  grows : Grows (Language (tree l.inner)) l.text l.fn.places.items l.fn.most l.left l.reached.items l.places.items;
+  grows : Grows (Language (tree l.inner)) l.text l.fn.places.items l.fn.most l.left l.reached.items
+      l.places.items;
   counted : l.fn.tests ≤ l.tests;
 }
 
@@ -18,7 +19,8 @@ abbrev pub invariant-either_image-loop-branch : goal.invariant-either_image-loop
 invariant-either_image-loop-branch l = record {
   from : l.from.items ≡ l.fn.places.items;
   long : length l.reached.items ≡ suc (length l.text);
-  covers : Covers (Language (branches (map tree l.parts))) (Language (branches (map tree (drop l.branch-index l.parts)))) l.text l.fn.places.items l.reached.items;
+  covers : Covers (Language (branches (map tree l.parts))) (Language (branches (map tree (drop
+      l.branch-index l.parts)))) l.text l.fn.places.items l.reached.items;
   counted : l.fn.tests ≤ l.tests;
 }
 
@@ -26,13 +28,15 @@ abbrev pub invariant-exactly_image-loop : goal.invariant-exactly_image-loop
 invariant-exactly_image-loop l = record {
   before : l.before.items ≡ l.places.items;
   long : length l.places.items ≡ suc (length l.text);
-  completes : Completes (Power (Language (tree l.inner)) l.count) (Power (Language (tree l.inner)) (l.count - l.counter)) l.text l.fn.places.items l.places.items;
+  completes : Completes (Power (Language (tree l.inner)) l.count) (Power (Language (tree l.inner))
+      (l.count - l.counter)) l.text l.fn.places.items l.places.items;
   counted : l.fn.tests ≤ l.tests;
 }
 
 abbrev pub invariant-sequence_image-loop-piece : goal.invariant-sequence_image-loop-piece
 invariant-sequence_image-loop-piece l = record {
   long : length l.places.items ≡ suc (length l.text);
-  completes : Completes (Language (pieces (map tree l.parts))) (Language (pieces (map tree (drop l.piece-index l.parts)))) l.text l.fn.places.items l.places.items;
+  completes : Completes (Language (pieces (map tree l.parts))) (Language (pieces (map tree (drop
+      l.piece-index l.parts)))) l.text l.fn.places.items l.places.items;
   counted : l.fn.tests ≤ l.tests;
 }

@@ -4,6 +4,7 @@ use Rattle.jp_match.proofs.places.remove.Given as goal
 abbrev pub invariant-loop-i : goal.invariant-loop-i
 invariant-loop-i l = record {
   same_length : length l.places.items ≡ length l.fn.places.items;
-  done : (k : ℕ) → k < l.i → get_or l.places.items k false ≡ (get_or l.fn.places.items k false && not (get_or l.other k false));
+  done : (k : ℕ) → k < l.i → get_or l.places.items k false ≡ (get_or l.fn.places.items k false &&
+      not (get_or l.other k false));
   left : (k : ℕ) → l.i ≤ k → get_or l.places.items k false ≡ get_or l.fn.places.items k false;
 }

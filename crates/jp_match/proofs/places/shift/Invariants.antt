@@ -5,7 +5,8 @@ use Rattle.jp_match.proofs.places.shift.Given as goal
 
 abbrev pub invariant-loop-i : goal.invariant-loop-i
 invariant-loop-i l =
-    let enters = shifted (class_holds l.class.negated l.class.items.items) l.text l.fn.places.items in
+    let enters = shifted (class_holds l.class.negated l.class.items.items) l.text l.fn.places.items
+        in
     record {
       same_length : length l.places.items ≡ length l.fn.places.items;
       carried : l.arrives ≡ enters l.i;

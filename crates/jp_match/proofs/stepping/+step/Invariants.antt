@@ -9,7 +9,8 @@ abbrev pub invariant-step_either-loop-branch : goal.invariant-step_either-loop-b
 invariant-step_either-loop-branch l = record {
   long : length l.row ≡ length l.fn.row;
   sized : l.at + positions_of (branches (map tree (drop l.branch-index l.parts))) ≡ length l.row;
-  so_far : StepsSoFar (unrolled (branches (map tree l.parts))) (unrolled (branches (map tree (drop l.branch-index l.parts)))) l.c l.entered l.entered l.ended l.fn.row l.row l.at;
+  so_far : StepsSoFar (unrolled (branches (map tree l.parts))) (unrolled (branches (map tree (drop
+      l.branch-index l.parts)))) l.c l.entered l.entered l.ended l.fn.row l.row l.at;
   counted : l.tests ≤ l.fn.tests + l.at;
   kept : l.fn.tests ≤ l.tests;
 }
@@ -18,7 +19,8 @@ abbrev pub invariant-step_sequence-loop-piece : goal.invariant-step_sequence-loo
 invariant-step_sequence-loop-piece l = record {
   long : length l.row ≡ length l.fn.row;
   sized : l.at + positions_of (pieces (map tree (drop l.piece-index l.parts))) ≡ length l.row;
-  so_far : StepsSoFar (unrolled (pieces (map tree l.parts))) (unrolled (pieces (map tree (drop l.piece-index l.parts)))) l.c l.entered l.through false l.fn.row l.row l.at;
+  so_far : StepsSoFar (unrolled (pieces (map tree l.parts))) (unrolled (pieces (map tree (drop
+      l.piece-index l.parts)))) l.c l.entered l.through false l.fn.row l.row l.at;
   counted : l.tests ≤ l.fn.tests + l.at;
   kept : l.fn.tests ≤ l.tests;
 }
@@ -28,7 +30,9 @@ invariant-step_between-loop-copies l = record {
   long : length l.row ≡ length l.fn.row;
   size : l.size ≡ positions_of (tree l.inner);
   sized : l.at + (l.most - l.copies) * positions_of (tree l.inner) ≡ length l.row;
-  so_far : StepsSoFar (between (unrolled (tree l.inner)) l.least l.most) (between (unrolled (tree l.inner)) (l.least - l.copies) (l.most - l.copies)) l.c l.entered l.through l.ended l.fn.row l.row l.at;
+  so_far : StepsSoFar (between (unrolled (tree l.inner)) l.least l.most) (between (unrolled (tree
+      l.inner)) (l.least - l.copies) (l.most - l.copies)) l.c l.entered l.through l.ended l.fn.row
+      l.row l.at;
   counted : l.tests ≤ l.fn.tests + l.at;
   kept : l.fn.tests ≤ l.tests;
 }
@@ -38,7 +42,8 @@ invariant-step_at_least-loop l = record {
   long : length l.row ≡ length l.fn.row;
   size : l.size ≡ positions_of (tree l.inner);
   sized : l.at + suc (l.least - l.counter) * positions_of (tree l.inner) ≡ length l.row;
-  so_far : StepsSoFar (at_least (unrolled (tree l.inner)) l.least) (at_least (unrolled (tree l.inner)) (suc (l.least - l.counter))) l.c l.entered l.through false l.fn.row l.row l.at;
+  so_far : StepsSoFar (at_least (unrolled (tree l.inner)) l.least) (at_least (unrolled (tree
+      l.inner)) (suc (l.least - l.counter))) l.c l.entered l.through false l.fn.row l.row l.at;
   counted : l.tests ≤ l.fn.tests + l.at;
   kept : l.fn.tests ≤ l.tests;
 }

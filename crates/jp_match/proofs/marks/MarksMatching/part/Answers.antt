@@ -9,6 +9,8 @@ pub returns-in-Some-clause-exact : goal.returns-in-Some-clause-exact
 returns-in-Some-clause-exact c =
     let begins = rw c.in-Some.is at c.in_ok-scan.ensures in
     let part = part_is (Language (tree c.args.pattern.now)) (chars c.args.text.now) in (
-      λ e. let (count, within, left) = c.accepts_prefix.ensures.accepted.0 e in part.0 (count, within, (begins.1.left _).0 left),
-      λ h. let (count, within, suffix) = part.1 h in c.accepts_prefix.ensures.accepted.1 (count, within, (begins.1.left _).1 suffix),
+      λ e. let (count, within, left) = c.accepts_prefix.ensures.accepted.0 e in
+          part.0 (count, within, (begins.1.left _).0 left),
+      λ h. let (count, within, suffix) = part.1 h in
+          c.accepts_prefix.ensures.accepted.1 (count, within, (begins.1.left _).1 suffix),
     )

@@ -6,7 +6,8 @@ abbrev pub Marked : List Bool → ℕ → Type 0
 Marked places place = IsTrue (get_or places place false)
 
 -- the place is reached from a place of the set by a word of the language, one that stands in the text
-pub record Reached (L : List ℕ → Type 0) (text : List ℕ) (from : List Bool) (place : ℕ) : Type 0 where
+pub record Reached (L : List ℕ → Type 0) (text : List ℕ) (from : List Bool) (place : ℕ) : Type 0
+    where
   pub before : List ℕ
   pub word : List ℕ
   pub after : List ℕ
