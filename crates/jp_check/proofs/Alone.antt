@@ -84,7 +84,7 @@ not-faulty one text q r a b =
     let same = one level_limit level_limit q b.tree a.spans b.spans text a.spelled b.spelled in
     no_fault (items_of q) a.spans r a.faultless (rw (same.0, same.1) b.first.is)
 
--- why a text is refused: want of memory, that it is no query, or a fault
+-- why a text is refused: out of memory, that it is no query, or a fault
 data Why (text : Text) (r : Refusal) : Type 0 where
   memory : r.kind ≡ NoMemory → Why text r
   no_query : IsParseRefusal level_limit text r.kind r.place → Why text r
