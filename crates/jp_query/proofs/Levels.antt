@@ -1,5 +1,6 @@
 -- Expressions inside a number of levels.
 use Rattle.std.proofs.Common.{◌≡◌, ℕ, zero, suc, ◌+◌, ◌-◌, [], ◌∷◌, refl, ap, arith}
+use Rattle.std.specs.Prelude.{codes}
 use Rattle.jp_reading.specs.Texts.{Text, Spans}
 use Rattle.jp_reading.specs.Forms.{Form, ◌⌢◌, word, Blank}
 use Rattle.jp_reading.specs.Outcome.{State, Outcome, took, ◌>>=◌, past, skip, expect}
@@ -77,7 +78,7 @@ spells-lifts n q s text h =
     record {
       parts = h.parts;
       tree = h.tree;
-      is = after-within (word (36 ∷ [])) (Segments I h.parts) (Segments J h.parts)
+      is = after-within (word (codes "$")) (Segments I h.parts) (Segments J h.parts)
           (λ v o t g. segments-within J h.parts v o t
           (lifts (marked I) (marked J)
           (marked-lifts I J (inside-lifts n)) segments h.parts v o t

@@ -43,11 +43,11 @@ abbrev ten : QueryTree
 ten = query true (segments (segment false (selectors (index (Whole (pos 10)) ∷ [])) ∷ []))
 
 index-spells : Spells 64 ten (Some (record { start = 2; end = 4 }) ∷ [])
-    (36 ∷ 91 ∷ 49 ∷ 48 ∷ 93 ∷ [])
+    (codes "$[10]")
 unfolding query_at rule.query rule.segments rule.segment rule.bracket rule.entries rule.entry rule.selector rule.number_selector rule.int rule.unsigned rule.size past_blanks loop is_blank is_digit
 index-spells =
-    read-spells 64 (36 ∷ 91 ∷ 49 ∷ 48 ∷ 93 ∷ []) ten
-    (finish (36 ∷ 91 ∷ 49 ∷ 48 ∷ 93 ∷ []) (Some (record { start = 2; end = 4 }) ∷ [])) refl
+    read-spells 64 (codes "$[10]") ten
+    (finish (codes "$[10]") (Some (record { start = 2; end = 4 }) ∷ [])) refl
 
 index-items : items_of ten ≡ int (Whole (pos 10)) as_index ∷ []
 index-items = refl
@@ -57,22 +57,22 @@ abbrev names : QueryTree
 names =
     query true
     (segments
-    (segment false (selectors (name (97 ∷ []) ∷ [])) ∷ segment false
+    (segment false (selectors (name (codes "a") ∷ [])) ∷ segment false
     (selectors (name [] ∷ [])) ∷ []))
 
-names-spell : Spells 64 names [] (36 ∷ 32 ∷ 46 ∷ 97 ∷ 91 ∷ 39 ∷ 39 ∷ 93 ∷ [])
+names-spell : Spells 64 names [] (codes "$ .a['']")
 unfolding query_at rule.query rule.segments rule.segment rule.bracket rule.entries rule.entry rule.member rule.selection rule.selector rule.quoted rule.characters rule.shorthand past_blanks loop is_blank is_digit
 names-spell =
-    read-spells 64 (36 ∷ 32 ∷ 46 ∷ 97 ∷ 91 ∷ 39 ∷ 39 ∷ 93 ∷ []) names
-    (finish (36 ∷ 32 ∷ 46 ∷ 97 ∷ 91 ∷ 39 ∷ 39 ∷ 93 ∷ []) []) refl
+    read-spells 64 (codes "$ .a['']") names
+    (finish (codes "$ .a['']") []) refl
 
 -- `$[01]` is stuck at byte 3, and `$.a` and a blank at its end
-zero-row : query_at 64 (start (36 ∷ 91 ∷ 48 ∷ 49 ∷ 93 ∷ [])) ≡ stuck
-    (record { at = 3; rest = 49 ∷ 93 ∷ []; found = Some (record { start = 2; end = 3 }) ∷ [] })
+zero-row : query_at 64 (start (codes "$[01]")) ≡ stuck
+    (record { at = 3; rest = codes "1]"; found = Some (record { start = 2; end = 3 }) ∷ [] })
 unfolding query_at rule.query rule.segments rule.segment rule.bracket rule.entries rule.entry rule.selector rule.number_selector rule.int rule.unsigned past_blanks loop is_blank is_digit
 zero-row = refl
 
-blank-row : query_at 64 (start (36 ∷ 46 ∷ 97 ∷ 32 ∷ [])) ≡ stuck
+blank-row : query_at 64 (start (codes "$.a ")) ≡ stuck
     (record { at = 4; rest = []; found = [] })
 unfolding query_at rule.query rule.segments rule.segment rule.member rule.selection rule.shorthand past_blanks loop is_blank is_digit
 blank-row = refl
@@ -86,20 +86,20 @@ all =
     (selectors
     (slice (record { start = None; end = None; step = Whole (pos 1) }) ∷ [])) ∷ []))
 
-slice-spells : Spells 64 all (None ∷ []) (36 ∷ 91 ∷ 58 ∷ 93 ∷ [])
+slice-spells : Spells 64 all (None ∷ []) (codes "$[:]")
 unfolding query_at rule.query rule.segments rule.segment rule.bracket rule.entries rule.entry rule.selector rule.slice_from rule.bound rule.step past_blanks loop is_blank
 slice-spells =
-    read-spells 64 (36 ∷ 91 ∷ 58 ∷ 93 ∷ []) all (finish (36 ∷ 91 ∷ 58 ∷ 93 ∷ []) (None ∷ [])) refl
+    read-spells 64 (codes "$[:]") all (finish (codes "$[:]") (None ∷ [])) refl
 
 -- `$..*`: a descendant segment of a wildcard
 descend-spells : Spells 64
     (query true (segments (segment true (selectors (wildcard ∷ [])) ∷ []))) []
-    (36 ∷ 46 ∷ 46 ∷ 42 ∷ [])
+    (codes "$..*")
 unfolding query_at rule.query rule.segments rule.segment rule.selection rule.member past_blanks loop is_blank
 descend-spells =
-    read-spells 64 (36 ∷ 46 ∷ 46 ∷ 42 ∷ [])
+    read-spells 64 (codes "$..*")
     (query true (segments (segment true (selectors (wildcard ∷ [])) ∷ [])))
-    (finish (36 ∷ 46 ∷ 46 ∷ 42 ∷ []) []) refl
+    (finish (codes "$..*") []) refl
 
 -- the pair D83D, DE00 is U+1F600; `\b` is U+0008, and `\/` a slash
 escape-rows : (scalar_of 55357 56832 ≡ 128512) × (escaped 98 ≡ 8) × (escaped 47 ≡ 47)
@@ -118,7 +118,7 @@ here = query false (segments [])
 
 -- `@.a`
 abbrev member_a : QueryTree
-member_a = query false (segments (segment false (selectors (name (97 ∷ []) ∷ [])) ∷ []))
+member_a = query false (segments (segment false (selectors (name (codes "a") ∷ [])) ∷ []))
 
 -- a span
 abbrev at_bytes : ℕ → ℕ → Option Span

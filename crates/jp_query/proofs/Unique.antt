@@ -1,5 +1,6 @@
 -- Whole texts: what spells a query is read as it, so that no text spells two.
-use Rattle.std.proofs.Common.{◌≡◌, ℕ, ◌+◌, [], ◌∷◌, refl, sym, ap, ◌∙◌, arith}
+use Rattle.std.proofs.Common.{◌≡◌, ℕ, ◌+◌, refl, sym, ap, ◌∙◌, arith}
+use Rattle.std.specs.Prelude.{codes}
 use Rattle.jp_reading.specs.Texts.{Text, Spans}
 use Rattle.jp_reading.specs.Forms.{word}
 use Rattle.jp_reading.specs.Outcome.{State, Outcome, took, stuck, deep, past_blanks}
@@ -23,7 +24,7 @@ query-spelt : (n : ℕ) (q : QueryTree) (s : Spans) (text : Text) → Spells n q
     → form (marked (Inside n)) query q s 0 text
 unfolding query
 query-spelt n q s text h =
-    joined-over (word (36 ∷ [])) (Segments (Inside n) h.parts) _ s 0 text h.is
+    joined-over (word (codes "$")) (Segments (Inside n) h.parts) _ s 0 text h.is
     (record {
       part = h.parts;
       same = h.tree;

@@ -1,5 +1,6 @@
 -- Whole texts: what is read to its end spells a tree, and what is read before a stop began one.
 use Rattle.std.proofs.Common.{◌≡◌, ℕ, suc, Bool, true, false, if◌then◌else◌, List, [], ◌∷◌, ◌++◌, length, refl, ◌==◌, arith}
+use Rattle.std.specs.Prelude.{codes}
 use Rattle.std.proofs.lemmas.Bool.{eqb-true}
 use Rattle.jp_reading.specs.Texts.{Text, Spans}
 use Rattle.jp_reading.specs.Forms.{Form, ◌⌢◌, word, Each, Blank}
@@ -26,12 +27,12 @@ query_of_parts xs = query true (segments xs)
 
 -- a query with n levels, as it is read
 abbrev pub whole : ℕ → QueryTree → Form
-whole n q = word (36 ∷ []) ⌢ Made query_of_parts (Segments (Inside n)) q
+whole n q = word (codes "$") ⌢ Made query_of_parts (Segments (Inside n)) q
 
 query-within : (n : ℕ) (q : QueryTree) → Within (form (marked (Inside n)) rule.query q) (whole n q)
 unfolding rule.query
 query-within n q =
-    after-within (word (36 ∷ [])) _ (Made query_of_parts (Segments (Inside n)) q)
+    after-within (word (codes "$")) _ (Made query_of_parts (Segments (Inside n)) q)
     (λ s o t h. record {
       part = h.part;
       same = h.same;
@@ -47,9 +48,9 @@ another-segment : (n : ℕ) (x : QueryTree) (p r : State) → Reads (whole n x) 
 another-segment n x p r h = record {
   value = query_of_parts (xs ++ y ∷ []);
   front =
-      front-as ((word (36 ∷ []) ⌢ Each F xs) ⌢ F y) (whole n (query_of_parts (xs ++ y ∷ []))) p
+      front-as ((word (codes "$") ⌢ Each F xs) ⌢ F y) (whole n (query_of_parts (xs ++ y ∷ []))) p
       (skip r)
-      (λ s o t g. after-within (word (36 ∷ [])) (Each F xs ⌢ F y)
+      (λ s o t g. after-within (word (codes "$")) (Each F xs ⌢ F y)
       (Made query_of_parts (Segments (Inside n)) (query_of_parts (xs ++ y ∷ [])))
       (λ v i u k. record {
         part = xs
@@ -59,10 +60,10 @@ another-segment n x p r h = record {
         is =
             each-append F xs y v i u k;
       }) s o t
-      (joined-assoc (word (36 ∷ [])) (Each F xs) (F y) s o t g))
-      (front-then (word (36 ∷ []) ⌢ Each F xs) (F y) p r (skip r)
-      (reads-is (whole n x) (word (36 ∷ []) ⌢ Each F xs) p r h
-      (joined-over (word (36 ∷ [])) _ (Each F xs) h.spans p.at h.text h.is h.is.two.is))
+      (joined-assoc (word (codes "$")) (Each F xs) (F y) s o t g))
+      (front-then (word (codes "$") ⌢ Each F xs) (F y) p r (skip r)
+      (reads-is (whole n x) (word (codes "$") ⌢ Each F xs) p r h
+      (joined-over (word (codes "$")) _ (Each F xs) h.spans p.at h.text h.is h.is.two.is))
       (front-then Blank (Segment (Inside n) y) r (skip r) (skip r) (skip-way r)
       (front-none (Segment (Inside n) y) (skip r) some)));
 }
@@ -135,7 +136,7 @@ spells-of n q s text h = record {
   parts = h.two.part;
   tree = h.two.same;
   is =
-      joined-over (word (36 ∷ [])) (Made query_of_parts (Segments (Inside n)) q)
+      joined-over (word (codes "$")) (Made query_of_parts (Segments (Inside n)) q)
       (Segments (Inside n) h.two.part) s 0 text h h.two.is;
 }
 

@@ -1,5 +1,6 @@
 -- The rules of logical expressions take exactly the texts that the grammar says.
 use Rattle.std.proofs.Common.{◌≡◌, ℕ, ◌+◌, [], ◌∷◌, refl, ap, ◌∙◌}
+use Rattle.std.specs.Prelude.{codes}
 use Rattle.jp_reading.specs.Texts.{Text, Spans, bytes}
 use Rattle.jp_reading.specs.Forms.{Form, ◌⌢◌, word, Blank, Item}
 use Rattle.jp_reading.proofs.Between.{Within, joined-over}
@@ -171,14 +172,14 @@ module _ (I : ExprTree → Form) where
       (Parenthesis I e)
   unfolding rule.closed
   parenthesis-within e s o t h =
-      let end = joined-only_two Blank (word (41 ∷ [])) h.part e h.is.second_spans
+      let end = joined-only_two Blank (word (codes ")")) h.part e h.is.second_spans
       (o + bytes h.is.first) h.is.second h.is.two in
       rw end.0
-      (after-within (word (40 ∷ [])) ((Blank ⌢ I h.part) ⌢ Blank ⌢ word (41 ∷ []))
-      (Blank ⌢ I h.part ⌢ Blank ⌢ word (41 ∷ []))
-      (joined-assoc Blank (I h.part) (Blank ⌢ word (41 ∷ []))) s o t
-      (joined-assoc (word (40 ∷ [])) (Blank ⌢ I h.part) (Blank ⌢ word (41 ∷ [])) s o t
-      (joined-over (marked I 40 h.part) _ (Blank ⌢ word (41 ∷ [])) s o t h.is end.1)))
+      (after-within (word (codes "(")) ((Blank ⌢ I h.part) ⌢ Blank ⌢ word (codes ")"))
+      (Blank ⌢ I h.part ⌢ Blank ⌢ word (codes ")"))
+      (joined-assoc Blank (I h.part) (Blank ⌢ word (codes ")"))) s o t
+      (joined-assoc (word (codes "(")) (Blank ⌢ I h.part) (Blank ⌢ word (codes ")")) s o t
+      (joined-over (marked I 40 h.part) _ (Blank ⌢ word (codes ")")) s o t h.is end.1)))
 
   parenthesis-spelt : (e : ExprTree)
       → Within (Parenthesis I e)
@@ -187,18 +188,18 @@ module _ (I : ExprTree → Form) where
   parenthesis-spelt e s o t h = record {
     part = e;
     is =
-        after-within (marked I 40 e) (Blank ⌢ word (41 ∷ []))
-        (Blank ⌢ word (41 ∷ []) ⌢ Only e (word []) e)
-        (after-within Blank (word (41 ∷ [])) (word (41 ∷ []) ⌢ Only e (word []) e)
-        (only-after (word (41 ∷ [])) e)) s o t
-        (joined-back (word (40 ∷ [])) (Blank ⌢ I e) (Blank ⌢ word (41 ∷ [])) s o t
-        (after-within (word (40 ∷ [])) (Blank ⌢ I e ⌢ Blank ⌢ word (41 ∷ []))
-        ((Blank ⌢ I e) ⌢ Blank ⌢ word (41 ∷ []))
-        (joined-back Blank (I e) (Blank ⌢ word (41 ∷ []))) s o t h));
+        after-within (marked I 40 e) (Blank ⌢ word (codes ")"))
+        (Blank ⌢ word (codes ")") ⌢ Only e (word []) e)
+        (after-within Blank (word (codes ")")) (word (codes ")") ⌢ Only e (word []) e)
+        (only-after (word (codes ")")) e)) s o t
+        (joined-back (word (codes "(")) (Blank ⌢ I e) (Blank ⌢ word (codes ")")) s o t
+        (after-within (word (codes "(")) (Blank ⌢ I e ⌢ Blank ⌢ word (codes ")"))
+        ((Blank ⌢ I e) ⌢ Blank ⌢ word (codes ")"))
+        (joined-back Blank (I e) (Blank ⌢ word (codes ")"))) s o t h));
   }
 
   negation-within : (e : ExprTree)
-      → Within (word (33 ∷ []) ⌢ Blank ⌢ Made negation (λ x. form (marked I) rule.negated x) e)
+      → Within (word (codes "!") ⌢ Blank ⌢ Made negation (λ x. form (marked I) rule.negated x) e)
       (Basic I e)
   unfolding rule.negated
   negation-within e s o t h = ways h.two.two.is
@@ -207,9 +208,9 @@ module _ (I : ExprTree → Form) where
       x = h.two.two.part
 
       over : (P : Form) → P h.two.second_spans (o + bytes h.first + bytes h.two.first) h.two.second
-          → (word (33 ∷ []) ⌢ Blank ⌢ P) s o t
+          → (word (codes "!") ⌢ Blank ⌢ P) s o t
       over P g =
-          joined-over (word (33 ∷ [])) _ (Blank ⌢ P) s o t h
+          joined-over (word (codes "!")) _ (Blank ⌢ P) s o t h
           (joined-over Blank _ P h.second_spans _ h.second h.two g)
 
       ways : Either (Then (λ y. marked I 40 y) (λ y. form (marked I) (rule.closed y)) x)
@@ -232,10 +233,10 @@ module _ (I : ExprTree → Form) where
 
   negated-spelt : (e x : ExprTree) (P : Form) → e ≡ negation x
       → Within P (form (marked I) rule.negated x)
-      → Within (word (33 ∷ []) ⌢ Blank ⌢ P) (form (marked I) rule.basic e)
+      → Within (word (codes "!") ⌢ Blank ⌢ P) (form (marked I) rule.basic e)
   unfolding rule.basic
   negated-spelt e x P same w s o t h =
-      left (after-within (word (33 ∷ [])) (Blank ⌢ P)
+      left (after-within (word (codes "!")) (Blank ⌢ P)
       (Blank ⌢ Made negation (λ y. form (marked I) rule.negated y) e)
       (after-within Blank P (Made negation (λ y. form (marked I) rule.negated y) e)
       (λ r i u g. record { part = x; same = same; is = w r i u g })) s o t h)

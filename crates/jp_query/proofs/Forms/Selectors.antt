@@ -1,5 +1,6 @@
 -- The rules of selectors, segments and queries take exactly the texts that the grammar says.
 use Rattle.std.proofs.Common.{◌≡◌, ℕ, ◌+◌, Bool, true, false, List, [], ◌∷◌, Some, None, refl, ap, ◌∙◌}
+use Rattle.std.specs.Prelude.{codes}
 use Rattle.jp_reading.specs.Texts.{Text, Spans, bytes}
 use Rattle.jp_reading.specs.Forms.{Form, ◌⌢◌, word, Blank, Separated, Item}
 use Rattle.jp_reading.proofs.Between.{Within, joined-over}
@@ -60,14 +61,14 @@ module _ (I : ExprTree → Form) where
   selector-within x s o t (right (left h)) =
       named h.part h.same (in_single (quoted-within none 39 h.part s o t h.is))
   selector-within x s o t (right (right (left h))) =
-      let end = joined-only (word (42 ∷ [])) wildcard x s o t h in any end.0 end.1
+      let end = joined-only (word (codes "*")) wildcard x s o t h in any end.0 end.1
   selector-within x s o t (right (right (right (left h)))) =
       let w = slice-within none None h.part s o t h.is in
       sliced h.part h.same
       (before-within (word []) (Bound h.part.start) (from_colon h.part)
       (λ v i u k. no_bound w.same k) s o t (nothing-before (from_colon h.part) s o t w.is))
   selector-within x s o t (right (right (right (right (left h))))) =
-      let M = word (63 ∷ []) ⌢ Blank ⌢ I h.part in
+      let M = word (codes "?") ⌢ Blank ⌢ I h.part in
       let end = joined-only M (filter h.part) x s o t h.is in filtered h.part end.0 end.1
   selector-within x s o t (right (right (right (right (right h))))) = number-within x s o t h
 
@@ -141,7 +142,7 @@ module _ (I : ExprTree → Form) where
       ways (any e g) =
           over (form (marked I) rule.selector x)
           (rw e (right
-          (right (left (only-after (word (42 ∷ [])) wildcard h.first_spans o h.first g)))))
+          (right (left (only-after (word (codes "*")) wildcard h.first_spans o h.first g)))))
       ways (indexed i e g) =
           let w = word-behind (Item (Int i)) h.first_spans o h.first g in
           over (form (marked I) rule.selector x) (right (right (right (right (right (record {
@@ -154,7 +155,7 @@ module _ (I : ExprTree → Form) where
           }))))))
       ways (sliced y e g) = rw e (sliced-spelt y s o t (over (Sliced y) g))
       ways (filtered e same g) =
-          let w = only-after (word (63 ∷ []) ⌢ Blank ⌢ I e) (filter e) h.first_spans o h.first g in
+          let w = only-after (word (codes "?") ⌢ Blank ⌢ I e) (filter e) h.first_spans o h.first g in
           over (form (marked I) rule.selector x)
           (rw same (right (right (right (right (left (record { part = e; is = w })))))))
 
@@ -175,7 +176,7 @@ module _ (I : ExprTree → Form) where
       (selector-spelt x s o t h)
 
   abbrev comma : Form
-  comma = word (44 ∷ []) ⌢ Blank
+  comma = word (codes ",") ⌢ Blank
 
   abbrev Entry : SelectorTree → Form
   Entry x = Selector I x ⌢ Blank
@@ -185,9 +186,9 @@ module _ (I : ExprTree → Form) where
   unfolding rule.entries
   entries-within =
       separated-within comma (λ x. form (marked I) rule.entry x) Entry
-      (λ x. word (44 ∷ []) ⌢ Blank ⌢ form (marked I) rule.entry x) entry-within
-      (λ x s o t h. joined-back (word (44 ∷ [])) Blank (Entry x) s o t
-      (after-within (word (44 ∷ [])) (Blank ⌢ form (marked I) rule.entry x) (Blank ⌢ Entry x)
+      (λ x. word (codes ",") ⌢ Blank ⌢ form (marked I) rule.entry x) entry-within
+      (λ x s o t h. joined-back (word (codes ",")) Blank (Entry x) s o t
+      (after-within (word (codes ",")) (Blank ⌢ form (marked I) rule.entry x) (Blank ⌢ Entry x)
       (after-within Blank (form (marked I) rule.entry x) (Entry x) (entry-within x)) s o t h))
 
   entries-spelt : (xs : List SelectorTree)
@@ -195,11 +196,11 @@ module _ (I : ExprTree → Form) where
   unfolding rule.entries
   entries-spelt =
       separated-spelt comma (λ x. form (marked I) rule.entry x) Entry
-      (λ x. word (44 ∷ []) ⌢ Blank ⌢ form (marked I) rule.entry x) entry-spelt
-      (λ x s o t h. after-within (word (44 ∷ [])) (Blank ⌢ Entry x)
+      (λ x. word (codes ",") ⌢ Blank ⌢ form (marked I) rule.entry x) entry-spelt
+      (λ x s o t h. after-within (word (codes ",")) (Blank ⌢ Entry x)
       (Blank ⌢ form (marked I) rule.entry x)
       (after-within Blank (Entry x) (form (marked I) rule.entry x) (entry-spelt x)) s o t
-      (joined-assoc (word (44 ∷ [])) Blank (Entry x) s o t h))
+      (joined-assoc (word (codes ",")) Blank (Entry x) s o t h))
 
   -- the segment of the selectors in brackets
   abbrev of_all : Bool → List SelectorTree → SegmentTree
@@ -209,18 +210,18 @@ module _ (I : ExprTree → Form) where
       → Within (form (marked I) (rule.bracket d) x) (Made (of_all d) (Bracket I) x)
   unfolding rule.bracket
   bracket-within d x s o t h =
-      let g = ends-within (λ xs. form (marked I) rule.entries xs) (word (93 ∷ []))
+      let g = ends-within (λ xs. form (marked I) rule.entries xs) (word (codes "]"))
       (of_all d) x h.two.second_spans _ h.two.second h.two.two in
       record {
         part = g.part;
         same = g.same;
         is =
-            joined-over (word (91 ∷ [])) _
-            (Blank ⌢ Separated comma Entry g.part ⌢ word (93 ∷ [])) s o t h
+            joined-over (word (codes "[")) _
+            (Blank ⌢ Separated comma Entry g.part ⌢ word (codes "]")) s o t h
             (joined-over Blank _
-            (Separated comma Entry g.part ⌢ word (93 ∷ [])) h.second_spans _ h.second h.two
+            (Separated comma Entry g.part ⌢ word (codes "]")) h.second_spans _ h.second h.two
             (before-within (form (marked I) rule.entries g.part) (Separated comma Entry g.part)
-            (word (93 ∷ [])) (entries-within g.part)
+            (word (codes "]")) (entries-within g.part)
             h.two.second_spans _ h.two.second g.is));
       }
 
@@ -228,11 +229,11 @@ module _ (I : ExprTree → Form) where
       → Within (Bracket I xs) (form (marked I) (rule.bracket d) (of_all d xs))
   unfolding rule.bracket
   bracket-spelt d xs =
-      after-within (word (91 ∷ [])) (Blank ⌢ Separated comma Entry xs ⌢ word (93 ∷ [])) _
-      (after-within Blank (Separated comma Entry xs ⌢ word (93 ∷ [])) _
-      (λ s o t h. ends-spelt (λ ys. form (marked I) rule.entries ys) (word (93 ∷ []))
+      after-within (word (codes "[")) (Blank ⌢ Separated comma Entry xs ⌢ word (codes "]")) _
+      (after-within Blank (Separated comma Entry xs ⌢ word (codes "]")) _
+      (λ s o t h. ends-spelt (λ ys. form (marked I) rule.entries ys) (word (codes "]"))
       (of_all d) xs s o t
-      (before-within (Separated comma Entry xs) (form (marked I) rule.entries xs) (word (93 ∷ []))
+      (before-within (Separated comma Entry xs) (form (marked I) rule.entries xs) (word (codes "]"))
       (entries-spelt xs) s o t h)))
 
   -- ---- segments
@@ -242,10 +243,10 @@ module _ (I : ExprTree → Form) where
   unfolding rule.member
   member-within d x s o t h = record { part = h.part; same = h.same; is = ways h.is }
     where
-      ways : Either (word (42 ∷ []) ⌢ Only wildcard (word []) h.part)
+      ways : Either (word (codes "*") ⌢ Only wildcard (word []) h.part)
           (Made name (λ cs. form none rule.shorthand cs) h.part) s o t → Member h.part s o t
       ways (left g) =
-          let end = joined-only (word (42 ∷ [])) wildcard h.part s o t g in star end.0 end.1
+          let end = joined-only (word (codes "*")) wildcard h.part s o t g in star end.0 end.1
       ways (right g) = member g.part g.same (shorthand-within none g.part s o t g.is)
 
   member-spelt : (d : Bool) (y : SelectorTree)
@@ -256,7 +257,7 @@ module _ (I : ExprTree → Form) where
         part = y;
         same = refl;
         is = rw e
-            (left (only-after (word (42 ∷ [])) wildcard s o t h));
+            (left (only-after (word (codes "*")) wildcard s o t h));
       }
   member-spelt d y s o t (member cs e h) =
       record {
@@ -272,11 +273,11 @@ module _ (I : ExprTree → Form) where
       let g = bracket-within false x s o t h in bracketed g.part g.same g.is
   segment-within x s o t (right h) = ways h.two
     where
-      over : (P : Form) → P h.second_spans (o + bytes h.first) h.second → (word (46 ∷ []) ⌢ P) s o t
-      over P g = joined-over (word (46 ∷ [])) _ P s o t h g
+      over : (P : Form) → P h.second_spans (o + bytes h.first) h.second → (word (codes ".") ⌢ P) s o t
+      over P g = joined-over (word (codes ".")) _ P s o t h g
 
       deep : (g :
-          (word (46 ∷ []) ⌢ Either (form (marked I) (rule.bracket true) x)
+          (word (codes ".") ⌢ Either (form (marked I) (rule.bracket true) x)
           (form none (rule.member true) x)) h.second_spans (o + bytes h.first) h.second)
           → Either (form (marked I) (rule.bracket true) x)
           (form none (rule.member true) x) g.second_spans
@@ -285,17 +286,17 @@ module _ (I : ExprTree → Form) where
       deep g (left k) =
           let w = bracket-within true x g.second_spans _ g.second k in
           deep_bracketed w.part w.same
-          (over (word (46 ∷ []) ⌢ Bracket I w.part)
-          (joined-over (word (46 ∷ [])) _
+          (over (word (codes ".") ⌢ Bracket I w.part)
+          (joined-over (word (codes ".")) _
           (Bracket I w.part) h.second_spans _ h.second g w.is))
       deep g (right k) =
           let w = member-within true x g.second_spans _ g.second k in
           deep_dotted w.part w.same
-          (over (word (46 ∷ []) ⌢ Member w.part)
-          (joined-over (word (46 ∷ [])) _ (Member w.part) h.second_spans _ h.second g w.is))
+          (over (word (codes ".") ⌢ Member w.part)
+          (joined-over (word (codes ".")) _ (Member w.part) h.second_spans _ h.second g w.is))
 
       ways : Either
-          (word (46 ∷ []) ⌢ Either (form (marked I) (rule.bracket true) x)
+          (word (codes ".") ⌢ Either (form (marked I) (rule.bracket true) x)
           (form none (rule.member true) x)) (form none (rule.member false) x)
           h.second_spans (o + bytes h.first) h.second → Segment I x s o t
       ways (left g) = deep g g.two
@@ -308,15 +309,15 @@ module _ (I : ExprTree → Form) where
   segment-spelt x s o t (bracketed ys e h) = rw e (left (bracket-spelt false ys s o t h))
   segment-spelt x s o t (dotted y e h) =
       rw e (right
-      (joined-over (word (46 ∷ [])) (Member y) _ s o t h
+      (joined-over (word (codes ".")) (Member y) _ s o t h
       (right (member-spelt false y h.second_spans _ h.second h.two))))
   segment-spelt x s o t (deep_bracketed ys e h) =
-      rw e (right (joined-over (word (46 ∷ [])) (word (46 ∷ []) ⌢ Bracket I ys) _ s o t h
-      (left (after-within (word (46 ∷ [])) (Bracket I ys) _
+      rw e (right (joined-over (word (codes ".")) (word (codes ".") ⌢ Bracket I ys) _ s o t h
+      (left (after-within (word (codes ".")) (Bracket I ys) _
       (λ r i u g. left (bracket-spelt true ys r i u g)) h.second_spans _ h.second h.two))))
   segment-spelt x s o t (deep_dotted y e h) =
-      rw e (right (joined-over (word (46 ∷ [])) (word (46 ∷ []) ⌢ Member y) _ s o t h
-      (left (after-within (word (46 ∷ [])) (Member y) _
+      rw e (right (joined-over (word (codes ".")) (word (codes ".") ⌢ Member y) _ s o t h
+      (left (after-within (word (codes ".")) (Member y) _
       (λ r i u g. right (member-spelt true y r i u g)) h.second_spans _ h.second h.two))))
 
   pub segments-within : (xs : List SegmentTree)
@@ -355,17 +356,17 @@ module _ (I : ExprTree → Form) where
           (joined-both _ (word (mark ∷ [])) _ (Segments I parts) h.inside o t h.is.is g
           (segments-within parts h.is.is.second_spans _ h.is.is.second h.is.is.two.is))
 
-      ways : Either (word (36 ∷ []) ⌢ Only true (word []) h.is.part)
-          (word (64 ∷ []) ⌢ Only false (word []) h.is.part) h.is.is.first_spans o h.is.is.first
+      ways : Either (word (codes "$") ⌢ Only true (word []) h.is.part)
+          (word (codes "@") ⌢ Only false (word []) h.is.part) h.is.is.first_spans o h.is.is.first
           → InnerQuery I q s o t
       ways (left g) =
           let end = joined-only
-          (word (36 ∷ [])) true h.is.part h.is.is.first_spans o h.is.is.first g in
+          (word (codes "$")) true h.is.part h.is.is.first_spans o h.is.is.first g in
           from_root parts (h.is.is.two.same ∙ ap (λ b. query b (segments parts)) end.0)
           (over 36 end.1)
       ways (right g) =
           let end = joined-only
-          (word (64 ∷ [])) false h.is.part h.is.is.first_spans o h.is.is.first g in
+          (word (codes "@")) false h.is.part h.is.is.first_spans o h.is.is.first g in
           from_current parts (h.is.is.two.same ∙ ap (λ b. query b (segments parts)) end.0)
           (over 64 end.1)
 
@@ -387,8 +388,8 @@ module _ (I : ExprTree → Form) where
       → Within (InnerQuery I q) (form (marked I) rule.inner_query q)
   unfolding rule.identifier
   inner_query-spelt q s o t (from_root xs e h) =
-      rooted-spelt true xs q (word (36 ∷ [])) e
-      (λ r i u g. left (only-after (word (36 ∷ [])) true r i u g)) s o t h
+      rooted-spelt true xs q (word (codes "$")) e
+      (λ r i u g. left (only-after (word (codes "$")) true r i u g)) s o t h
   inner_query-spelt q s o t (from_current xs e h) =
-      rooted-spelt false xs q (word (64 ∷ [])) e
-      (λ r i u g. right (only-after (word (64 ∷ [])) false r i u g)) s o t h
+      rooted-spelt false xs q (word (codes "@")) e
+      (λ r i u g. right (only-after (word (codes "@")) false r i u g)) s o t h

@@ -1,5 +1,6 @@
 -- The rules of slices take exactly the texts that the grammar says, with the blanks after them.
 use Rattle.std.proofs.Common.{◌≡◌, ℕ, ◌+◌, Bool, [], ◌∷◌, ◌++◌, Option, Some, None, refl, ap, ◌∙◌}
+use Rattle.std.specs.Prelude.{codes}
 use Rattle.std.specs.Prelude.{pos}
 use Rattle.jp_reading.specs.Texts.{Text, bytes, is_blank}
 use Rattle.jp_reading.specs.Forms.{Form, ◌⌢◌, word, Blank, Item, Omitted, AllPassing}
@@ -46,7 +47,7 @@ blank-before P s o t h =
 
 -- a slice from its first colon on
 abbrev pub from_colon : Slice → Form
-from_colon y = word (58 ∷ []) ⌢ Blank ⌢ Bound y.end ⌢ Step y.step
+from_colon y = word (codes ":") ⌢ Blank ⌢ Bound y.end ⌢ Step y.step
 
 module _ (F : Inside nesting) where
   pub int_item-within : (x : Numeral) → Within (Item (form F rule.int x)) (Item (Int x))
@@ -57,7 +58,7 @@ module _ (F : Inside nesting) where
 
   -- ---- steps
 
-  later_step-within : (x : Numeral) → Within (word (58 ∷ []) ⌢ form F rule.later_step x) (Step x)
+  later_step-within : (x : Numeral) → Within (word (codes ":") ⌢ form F rule.later_step x) (Step x)
   unfolding rule.later_step
   later_step-within x s o t h = ways h.two
     where
@@ -65,28 +66,28 @@ module _ (F : Inside nesting) where
           (Only (Whole (pos 1)) Omitted x) h.second_spans (o + bytes h.first) h.second
           → Step x s o t
       ways (left g) =
-          given_step (joined-over (word (58 ∷ [])) _ (Blank ⌢ Item (Int x)) s o t h
+          given_step (joined-over (word (codes ":")) _ (Blank ⌢ Item (Int x)) s o t h
           (after-within Blank (Item (form F rule.int x)) (Item (Int x))
           (int_item-within x) h.second_spans _ h.second g))
-      ways (right g) = empty_step g.same (joined-over (word (58 ∷ [])) _ Omitted s o t h g.is)
+      ways (right g) = empty_step g.same (joined-over (word (codes ":")) _ Omitted s o t h g.is)
 
   step-within : (x : Numeral) → Within (form F rule.step x) (Blank ⌢ Step x)
   unfolding rule.step
   step-within x s o t (left h) =
-      after-within Blank (word (58 ∷ []) ⌢ form F rule.later_step x) (Step x)
+      after-within Blank (word (codes ":") ⌢ form F rule.later_step x) (Step x)
       (later_step-within x) s o t h
   step-within x s o t (right h) = blank-before (Step x) s o t (no_step h.same h.is)
 
   -- a colon, and what comes after it, may have blanks before it
   colon-spelt : (x : Numeral) (P : Form) → Within P (form F rule.later_step x)
-      → Within (Blank ⌢ (word (58 ∷ []) ⌢ P) ⌢ Blank) (form F rule.step x ⌢ Blank)
+      → Within (Blank ⌢ (word (codes ":") ⌢ P) ⌢ Blank) (form F rule.step x ⌢ Blank)
   unfolding rule.step
   colon-spelt x P w s o t h =
-      before-within (Blank ⌢ word (58 ∷ []) ⌢ P) (form F rule.step x) Blank
+      before-within (Blank ⌢ word (codes ":") ⌢ P) (form F rule.step x) Blank
       (λ r i u g. left
-      (after-within Blank (word (58 ∷ []) ⌢ P) (word (58 ∷ []) ⌢ form F rule.later_step x)
-      (after-within (word (58 ∷ [])) P (form F rule.later_step x) w) r i u g))
-      s o t (joined-back Blank (word (58 ∷ []) ⌢ P) Blank s o t h)
+      (after-within Blank (word (codes ":") ⌢ P) (word (codes ":") ⌢ form F rule.later_step x)
+      (after-within (word (codes ":")) P (form F rule.later_step x) w) r i u g))
+      s o t (joined-back Blank (word (codes ":") ⌢ P) Blank s o t h)
 
   step-spelt : (x : Numeral) → Within (Blank ⌢ Step x ⌢ Blank) (form F rule.step x ⌢ Blank)
   unfolding rule.step rule.later_step colon-spelt
@@ -106,13 +107,13 @@ module _ (F : Inside nesting) where
           (blank-omitted s o t (over Omitted g))
       ways (empty_step e g) =
           colon-spelt x Omitted (λ r i u w. right (record { same = e; is = w })) s o t
-          (over (word (58 ∷ []) ⌢ Omitted) g)
+          (over (word (codes ":") ⌢ Omitted) g)
       ways (given_step g) =
           colon-spelt x (Blank ⌢ Item (Int x))
           (λ r i u w. left
           (after-within Blank (Item (Int x)) (Item (form F rule.int x))
           (int_item-spelt x) r i u w)) s o t
-          (over (word (58 ∷ []) ⌢ Blank ⌢ Item (Int x)) g)
+          (over (word (codes ":") ⌢ Blank ⌢ Item (Int x)) g)
 
   -- ---- what comes after the first colon
 
@@ -186,7 +187,7 @@ module _ (F : Inside nesting) where
       let last = h.two.is.two in
       rw last.same (record {
         same = refl;
-        is = joined-over (word (58 ∷ [])) _ (Blank ⌢ Bound h.two.part ⌢ Step last.part) s o t h
+        is = joined-over (word (codes ":")) _ (Blank ⌢ Bound h.two.part ⌢ Step last.part) s o t h
             (bounds-within h.two.part last.part h.second_spans _ h.second
             (joined-over (form F rule.bound h.two.part) _
             (form F rule.step last.part) h.second_spans _ h.second h.two.is last.is));
@@ -196,7 +197,7 @@ module _ (F : Inside nesting) where
       → Within (from_colon y ⌢ Blank) (form F (rule.slice_from start) y ⌢ Blank)
   unfolding rule.slice_from
   slice-spelt start y e s o t h =
-      let W = word (58 ∷ []) in
+      let W = word (codes ":") in
       let B = form F rule.bound y.end in
       let S = form F rule.step y.step in
       before-within (W ⌢ B ⌢ S) (form F (rule.slice_from start) y) Blank
