@@ -26,9 +26,17 @@ use Rattle.jp_query.proofs.ItemSpans.{spans-of_items}
 
 kind_of : ℕ → RefusalKind
 kind_of n =
-    if n == 1 then Syntax else (if n == 2 then TooDeep else (if n == 3 then NotWhole else (if n == 4 then NumberRange else (if n == 5 then IndexRange
-    else (if n == 6 then UnknownFunction else (if n == 7 then ArgumentCount else (if n == 8 then NotSingular else (if n == 9 then IllTyped
-    else (if n == 10 then NoMemory else TextTooLong)))))))))
+    if n == 1 then Syntax
+    else if n == 2 then TooDeep
+    else if n == 3 then NotWhole
+    else if n == 4 then NumberRange
+    else if n == 5 then IndexRange
+    else if n == 6 then UnknownFunction
+    else if n == 7 then ArgumentCount
+    else if n == 8 then NotSingular
+    else if n == 9 then IllTyped
+    else if n == 10 then NoMemory
+    else TextTooLong
 
 kind_of-number : (k : RefusalKind) → kind_of (number_of k) ≡ k
 unfolding kind_of
@@ -50,20 +58,24 @@ number_of-injective k j e = sym (kind_of-number k) ∙ ap kind_of e ∙ kind_of-
 -- ---- one first fault
 
 same-refusal : (r f : Refusal) → r.kind ≡ f.kind → r.place ≡ f.place → r ≡ f
-same-refusal r f k p = ap (λ kind. record r { kind = kind }) k ∙ ap (λ place. record f { place = place }) p
+same-refusal r f k p =
+    ap (λ kind. record r { kind = kind }) k ∙ ap (λ place. record f { place = place }) p
 
 no_later-both : (r f : Refusal) → IsNoLater r f → IsNoLater f r → r ≡ f
 no_later-both r f (inl a) (inl b) = absurd (omega arith)
 no_later-both r f (inl a) (inr b) = absurd (omega arith)
 no_later-both r f (inr a) (inl b) = absurd (omega arith)
-no_later-both r f (inr a) (inr b) = same-refusal r f (number_of-injective r.kind f.kind (omega arith)) a.0
+no_later-both r f (inr a) (inr b) =
+    same-refusal r f (number_of-injective r.kind f.kind (omega arith)) a.0
 
-first-alone : (items : List QueryItem) (spans : Spans) (r f : Refusal) → IsFirstFault items spans r → IsFirstFault items spans f → r ≡ f
+first-alone : (items : List QueryItem) (spans : Spans) (r f : Refusal) → IsFirstFault items spans r
+    → IsFirstFault items spans f → r ≡ f
 first-alone items spans r f h g = no_later-both r f (h.first f g.is) (g.first r h.is)
 
 -- ---- no fault without faults
 
-no_fault : (items : List QueryItem) (spans : Spans) (f : Refusal) → All NoFault items → IsItemFault items spans f → ⊥
+no_fault : (items : List QueryItem) (spans : Spans) (f : Refusal) → All NoFault items
+    → IsItemFault items spans f → ⊥
 no_fault [] spans f all h = of-none [] spans f refl h
 no_fault (x ∷ xs) [] f all h = of-none (x ∷ xs) [] f refl h
 no_fault (x ∷ xs) (span ∷ spans) f all h =
@@ -79,18 +91,20 @@ faults-same one text r f a b =
     let same = one level_limit level_limit a.tree b.tree a.spans b.spans text a.spelled b.spelled in
     first-alone (items_of a.tree) a.spans r f a.first (rw (same.0, same.1) b.first)
 
-not-faulty : OneReading → (text : Text) (q : QueryTree) (r : Refusal) → IsAcceptedAs text q → IsFaulty text r → ⊥
+not-faulty : OneReading → (text : Text) (q : QueryTree) (r : Refusal) → IsAcceptedAs text q
+    → IsFaulty text r → ⊥
 not-faulty one text q r a b =
     let same = one level_limit level_limit q b.tree a.spans b.spans text a.spelled b.spelled in
     no_fault (items_of q) a.spans r a.faultless (rw (same.0, same.1) b.first.is)
 
--- why a text is refused: want of memory, that it is no query, or a fault
+-- why a text is refused: out of memory, that it is no query, or a fault
 data Why (text : Text) (r : Refusal) : Type 0 where
   memory : r.kind ≡ NoMemory → Why text r
   no_query : IsParseRefusal level_limit text r.kind r.place → Why text r
   faulty : IsFaulty text r → Why text r
 
-why : (text : Text) (kind : RefusalKind) (place : ℕ) → RefusalSays text kind place → Why text (record { kind = kind; place = place })
+why : (text : Text) (kind : RefusalKind) (place : ℕ) → RefusalSays text kind place
+    → Why text (record { kind = kind; place = place })
 why text NoMemory place h = memory refl
 why text Syntax place h = no_query (inl (refl, h))
 why text TooDeep place h = no_query (inr (refl, h))
@@ -98,31 +112,40 @@ why text TextTooLong place h = absurd h
 why text kind place h = faulty h
 
 -- a text that the parser refuses spells nothing
-unspelled : OneRefusal → (text : Text) (r : Refusal) → IsParseRefusal level_limit text r.kind r.place → SpellsNothing level_limit text
+unspelled : OneRefusal → (text : Text) (r : Refusal)
+    → IsParseRefusal level_limit text r.kind r.place → SpellsNothing level_limit text
 unspelled once text r at = (once level_limit text).only r.kind r.place at
 
-not-refused : OneReading → OneRefusal → (text : Text) (q : QueryTree) (r : Refusal) → IsAcceptedAs text q → Why text r → ¬ (r.kind ≡ NoMemory) → ⊥
+not-refused : OneReading → OneRefusal → (text : Text) (q : QueryTree) (r : Refusal)
+    → IsAcceptedAs text q → Why text r → ¬ (r.kind ≡ NoMemory) → ⊥
 not-refused one once text q r a (memory e) told = told e
 not-refused one once text q r a (no_query at) told = unspelled once text r at q a.spans a.spelled
 not-refused one once text q r a (faulty h) told = not-faulty one text q r a h
 
-refusals-same : OneReading → OneRefusal → (text : Text) (r f : Refusal) → Why text r → Why text f → ¬ (r.kind ≡ NoMemory) → ¬ (f.kind ≡ NoMemory) → r ≡ f
+refusals-same : OneReading → OneRefusal → (text : Text) (r f : Refusal) → Why text r → Why text f
+    → ¬ (r.kind ≡ NoMemory) → ¬ (f.kind ≡ NoMemory) → r ≡ f
 refusals-same one once text r f (memory e) h told too = absurd (told e)
 refusals-same one once text r f (no_query at) (memory e) told too = absurd (too e)
 refusals-same one once text r f (faulty g) (memory e) told too = absurd (too e)
 refusals-same one once text r f (no_query at) (no_query elsewhere) told too =
-    let same = (once level_limit text).once r.kind f.kind r.place f.place at elsewhere in same-refusal r f same.0 same.1
-refusals-same one once text r f (no_query at) (faulty h) told too = absurd (unspelled once text r at h.tree h.spans h.spelled)
-refusals-same one once text r f (faulty h) (no_query at) told too = absurd (unspelled once text f at h.tree h.spans h.spelled)
+    let same =
+    (once level_limit text).once r.kind f.kind r.place f.place at elsewhere in same-refusal r f same.0 same.1
+refusals-same one once text r f (no_query at) (faulty h) told too =
+    absurd (unspelled once text r at h.tree h.spans h.spelled)
+refusals-same one once text r f (faulty h) (no_query at) told too =
+    absurd (unspelled once text f at h.tree h.spans h.spelled)
 refusals-same one once text r f (faulty h) (faulty g) told too = faults-same one text r f h g
 
 -- what is refused is not accepted
-refused-only : OneReading → OneRefusal → (text : Text) (r : Refusal) → Why text r → (r.kind ≡ NoMemory) ⊎ IsNotAccepted text
+refused-only : OneReading → OneRefusal → (text : Text) (r : Refusal) → Why text r
+    → (r.kind ≡ NoMemory) ⊎ IsNotAccepted text
 refused-only one once text r (memory e) = inl e
-refused-only one once text r (no_query at) = inr (λ q a. unspelled once text r at q a.spans a.spelled)
+refused-only one once text r (no_query at) =
+    inr (λ q a. unspelled once text r at q a.spans a.spelled)
 refused-only one once text r (faulty h) = inr (λ q a. not-faulty one text q r a h)
 
-pub refused-result : {T : Type 0} → OneReading → OneRefusal → (text : Text) (result : Result T Refusal) → IfErr result (IsRefused text)
+pub refused-result : {T : Type 0} → OneReading → OneRefusal
+    → (text : Text) (result : Result T Refusal) → IfErr result (IsRefused text)
     → IfErr result (λ r. (r.kind ≡ NoMemory) ⊎ IsNotAccepted text)
 refused-result one once text (Ok x) h = tt
 refused-result one once text (Err r) h = refused-only one once text r (why text r.kind r.place h)
@@ -157,24 +180,28 @@ no_too_long (constant l role) h = h
 no_too_long (inner q as_side) h = h
 no_too_long (inner q role) h = h
 
-faulty-refused : (text : Text) (kind : RefusalKind) (place : ℕ) → IsFaulty text (record { kind = kind; place = place }) → RefusalSays text kind place
+faulty-refused : (text : Text) (kind : RefusalKind) (place : ℕ)
+    → IsFaulty text (record { kind = kind; place = place }) → RefusalSays text kind place
 faulty-refused text Syntax place h = absurd (no_syntax h.first.is.item h.first.is.kind)
 faulty-refused text TooDeep place h = absurd (no_too_deep h.first.is.item h.first.is.kind)
 faulty-refused text NoMemory place h = absurd (no_memory h.first.is.item h.first.is.kind)
 faulty-refused text TextTooLong place h = absurd (no_too_long h.first.is.item h.first.is.kind)
 faulty-refused text kind place h = h
 
-refused-for_itself : (text : Text) (kind : RefusalKind) (place : ℕ) → IsFaulty text (record { kind = kind; place = place })
+refused-for_itself : (text : Text) (kind : RefusalKind) (place : ℕ)
+    → IsFaulty text (record { kind = kind; place = place })
     → IsRefusedForItself text (record { kind = kind; place = place })
 refused-for_itself text kind place h = (
   faulty-refused text kind place h,
   λ e. no_memory h.first.is.item (subst (HasFault h.first.is.item) e h.first.is.kind),
 )
 
-pub first-refused : {T : Type 0} (text : Text) (q : QueryTree) (spans : Spans) (result : Result T Refusal) → Spells level_limit q spans text
+pub first-refused : {T : Type 0} (text : Text) (q : QueryTree) (spans : Spans)
+    (result : Result T Refusal) → Spells level_limit q spans text
     → IfErr result (IsFirstFault (items_of q) spans) → IfErr result (IsRefused text)
 first-refused text q spans (Ok x) h e = tt
-first-refused text q spans (Err r) h e = faulty-refused text r.kind r.place (record { tree = q; spans = spans; spelled = h; first = e })
+first-refused text q spans (Err r) h e =
+    faulty-refused text r.kind r.place (record { tree = q; spans = spans; spelled = h; first = e })
 
 -- ---- each text has one answer
 
@@ -183,33 +210,47 @@ spelled-answered : (text : Text) (q : QueryTree) (spans : Spans) → Spells leve
     → ((u : QueryTree) × IsAcceptedAs text u) ⊎ ((r : Refusal) × IsRefusedForItself text r)
 spelled-answered text q spans h =
     let first = (steps (items_of q) (record { spans = spans; first = None })).first in
-    told first (found text (items_of q) spans first (spans-of_items level_limit q spans text h).each refl)
+    told first
+    (found text (items_of q) spans first (spans-of_items level_limit q spans text h).each refl)
   where
-    told : (o : Option Refusal) → MatchOption o (All NoFault (items_of q)) (IsFirstFault (items_of q) spans)
+    told : (o : Option Refusal)
+        → MatchOption o (All NoFault (items_of q)) (IsFirstFault (items_of q) spans)
         → ((u : QueryTree) × IsAcceptedAs text u) ⊎ ((r : Refusal) × IsRefusedForItself text r)
     told None all = inl (q, record { spans = spans; spelled = h; faultless = all })
-    told (Some r) e = inr (r, refused-for_itself text r.kind r.place (record { tree = q; spans = spans; spelled = h; first = e }))
+    told (Some r) e =
+        inr (
+          r,
+          refused-for_itself text r.kind r.place
+              (record { tree = q; spans = spans; spelled = h; first = e }),
+        )
 
 -- what spells none is refused as the parser refuses it
-unspelled-refused : (text : Text) (kind : RefusalKind) (place : ℕ) → IsParseRefusal level_limit text kind place
+unspelled-refused : (text : Text) (kind : RefusalKind) (place : ℕ)
+    → IsParseRefusal level_limit text kind place
     → IsRefusedForItself text (record { kind = kind; place = place })
 unspelled-refused text kind place (inl (e, at)) = rw e (at, λ memory. cc)
 unspelled-refused text kind place (inr (e, at)) = rw e (at, λ memory. cc)
 
-answered : OneRefusal → (text : Text) → ((q : QueryTree) × IsAcceptedAs text q) ⊎ ((r : Refusal) × IsRefusedForItself text r)
+answered : OneRefusal → (text : Text)
+    → ((q : QueryTree) × IsAcceptedAs text q) ⊎ ((r : Refusal) × IsRefusedForItself text r)
 answered once text = told ((once level_limit text).answered)
   where
-    told : ((q : QueryTree) × (s : Spans) × Spells level_limit q s text) ⊎ ((kind : RefusalKind) × (place : ℕ) × IsParseRefusal level_limit text kind place)
+    told : ((q : QueryTree) × (s : Spans) × Spells level_limit q s text) ⊎
+        ((kind : RefusalKind) × (place : ℕ) × IsParseRefusal level_limit text kind place)
         → ((q : QueryTree) × IsAcceptedAs text q) ⊎ ((r : Refusal) × IsRefusedForItself text r)
     told (inl (q, s, h)) = spelled-answered text q s h
-    told (inr (kind, place, at)) = inr (record { kind = kind; place = place }, unspelled-refused text kind place at)
+    told (inr (kind, place, at)) =
+        inr (record { kind = kind; place = place }, unspelled-refused text kind place at)
 
 pub one-answer : OneReading → OneRefusal → (text : Text) → OneAnswer text
 one-answer one once text = record {
   answered = answered once text;
-  one_tree = λ q u a b. (one level_limit level_limit q u a.spans b.spans text a.spelled b.spelled).0;
+  one_tree =
+      λ q u a b. (one level_limit level_limit q u a.spans b.spans text a.spelled b.spelled).0;
   one_fault = faults-same one text;
-  one_refusal = λ r f a b. refusals-same one once text r f (why text r.kind r.place a.0) (why text f.kind f.place b.0) a.1 b.1;
+  one_refusal =
+      λ r f a b. refusals-same one once text r f (why text r.kind r.place a.0)
+      (why text f.kind f.place b.0) a.1 b.1;
   not_faulty = not-faulty one text;
   not_both = λ q r a b. not-refused one once text q r a (why text r.kind r.place b.0) b.1;
 }

@@ -40,29 +40,46 @@ IsLeast P None = (f : Refusal) → P f → ⊥
 IsLeast P (Some r) = P r × ((f : Refusal) → P f → IsNoLater r f)
 
 -- the same faults have the same first one
-least-same : (P Q : Refusal → Type 0) (o : Option Refusal) → ((f : Refusal) → P f → Q f) → ((f : Refusal) → Q f → P f) → IsLeast P o → IsLeast Q o
+least-same : (P Q : Refusal → Type 0) (o : Option Refusal) → ((f : Refusal) → P f → Q f)
+    → ((f : Refusal) → Q f → P f) → IsLeast P o → IsLeast Q o
 least-same P Q None there back h = λ f q. h f (back f q)
 least-same P Q (Some r) there back h = (there r h.0, λ f q. h.1 f (back f q))
 
 -- one more fault
-least-earlier : (P Q : Refusal → Type 0) (o : Option Refusal) (r : Refusal) → IsLeast P o → IsLeast Q (Some r)
+least-earlier : (P Q : Refusal → Type 0) (o : Option Refusal) (r : Refusal) → IsLeast P o
+    → IsLeast Q (Some r)
     → IsLeast (λ f. P f ⊎ Q f) (earlier o r)
-least-earlier P Q None r h g = (inr g.0, λ f e. elim e as (λ _. IsNoLater r f) [ inl p ↦ absurd (h f p) | inr q ↦ g.1 f q ])
+least-earlier P Q None r h g =
+    (inr g.0, λ f e. elim e as (λ _. IsNoLater r f) [ inl p ↦ absurd (h f p) | inr q ↦ g.1 f q ])
 least-earlier P Q (Some first) r h g = chosen (is_before r first) refl
   where
-    chosen : (b : Bool) → is_before r first ≡ b → IsLeast (λ f. P f ⊎ Q f) (cond b (Some r) (Some first))
+    chosen : (b : Bool) → is_before r first ≡ b
+        → IsLeast (λ f. P f ⊎ Q f) (cond b (Some r) (Some first))
     chosen true e = (
       inr g.0,
-      λ f one. elim one as (λ _. IsNoLater r f) [ inl p ↦ no_later-trans r first f (before-no_later r first e) (h.1 f p) | inr q ↦ g.1 f q ],
+      λ f one. elim one as
+          (λ _. IsNoLater r f) [
+            | inl p ↦ no_later-trans r first f (before-no_later r first e)
+                (h.1 f p)
+            | inr q ↦ g.1 f q
+          ],
     )
     chosen false e = (
       inl h.0,
-      λ f one. elim one as (λ _. IsNoLater first f) [ inl p ↦ h.1 f p | inr q ↦ no_later-trans first r f (not_before-no_later r first e) (g.1 f q) ],
+      λ f one. elim one as
+          (λ _. IsNoLater first f) [
+            | inl p ↦ h.1 f p
+            | inr q ↦ no_later-trans first r f
+                (not_before-no_later r first e) (g.1 f q)
+          ],
     )
 
 -- no more faults
-least-alone : (P Q : Refusal → Type 0) (o : Option Refusal) → ((f : Refusal) → Q f → ⊥) → IsLeast P o → IsLeast (λ f. P f ⊎ Q f) o
-least-alone P Q o none = least-same P (λ f. P f ⊎ Q f) o (λ f p. inl p) (λ f one. elim one as (λ _. P f) [ inl p ↦ p | inr q ↦ absurd (none f q) ])
+least-alone : (P Q : Refusal → Type 0) (o : Option Refusal) → ((f : Refusal) → Q f → ⊥)
+    → IsLeast P o → IsLeast (λ f. P f ⊎ Q f) o
+least-alone P Q o none =
+    least-same P (λ f. P f ⊎ Q f) o (λ f p. inl p)
+    (λ f one. elim one as (λ _. P f) [ inl p ↦ p | inr q ↦ absurd (none f q) ])
 
 -- ---- the faults of items with their spans
 
@@ -71,20 +88,28 @@ abbrev pub OfItem : QueryItem → Option Span → Refusal → Type 0
 OfItem x span = IsItemFault (x ∷ []) (span ∷ [])
 
 -- a fault of one item is its own
-pub of-item : (x : QueryItem) (span : Option Span) (f : Refusal) (h : OfItem x span f) → (x ≡ h.item) × (span ≡ Some h.span)
-of-item x span f h = elim (Contains-push_cases [] (x, span) (h.item, Some h.span) h.among) as (λ _. (x ≡ h.item) × (span ≡ Some h.span))
+pub of-item : (x : QueryItem) (span : Option Span) (f : Refusal) (h : OfItem x span f)
+    → (x ≡ h.item) × (span ≡ Some h.span)
+of-item x span f h =
+    elim (Contains-push_cases [] (x, span) (h.item, Some h.span) h.among) as
+    (λ _. (x ≡ h.item) × (span ≡ Some h.span))
     [ inl a ↦ absurd (omega (arith, a.1)) | inr e ↦ (ap (λ p. p.0) e, ap (λ p. p.1) e) ]
 
 -- of the first item or of the others
-pub of-cons : (x : QueryItem) (xs : List QueryItem) (span : Option Span) (spans : Spans) (f : Refusal)
+pub of-cons : (x : QueryItem) (xs : List QueryItem) (span : Option Span) (spans : Spans)
+    (f : Refusal)
     → IsItemFault (x ∷ xs) (span ∷ spans) f → OfItem x span f ⊎ IsItemFault xs spans f
 of-cons x xs span spans f h =
-    elim (Contains-append_cases ((x, span) ∷ []) (zip xs spans) (h.item, Some h.span) h.among) as (λ _. OfItem x span f ⊎ IsItemFault xs spans f) [
-      | inl a ↦ inl (record { item = h.item; span = h.span; among = a; kind = h.kind; place = h.place })
-      | inr a ↦ inr (record { item = h.item; span = h.span; among = a; kind = h.kind; place = h.place })
+    elim (Contains-append_cases ((x, span) ∷ []) (zip xs spans) (h.item, Some h.span) h.among) as
+    (λ _. OfItem x span f ⊎ IsItemFault xs spans f) [
+      | inl a ↦ inl
+          (record { item = h.item; span = h.span; among = a; kind = h.kind; place = h.place })
+      | inr a ↦ inr
+          (record { item = h.item; span = h.span; among = a; kind = h.kind; place = h.place })
     ]
 
-of-head : (x : QueryItem) (xs : List QueryItem) (span : Option Span) (spans : Spans) (f : Refusal) → OfItem x span f → IsItemFault (x ∷ xs) (span ∷ spans) f
+of-head : (x : QueryItem) (xs : List QueryItem) (span : Option Span) (spans : Spans) (f : Refusal)
+    → OfItem x span f → IsItemFault (x ∷ xs) (span ∷ spans) f
 of-head x xs span spans f h = record {
   item = h.item;
   span = h.span;
@@ -93,7 +118,8 @@ of-head x xs span spans f h = record {
   place = h.place;
 }
 
-of-tail : (x : QueryItem) (xs : List QueryItem) (span : Option Span) (spans : Spans) (f : Refusal) → IsItemFault xs spans f → IsItemFault (x ∷ xs) (span ∷ spans) f
+of-tail : (x : QueryItem) (xs : List QueryItem) (span : Option Span) (spans : Spans) (f : Refusal)
+    → IsItemFault xs spans f → IsItemFault (x ∷ xs) (span ∷ spans) f
 of-tail x xs span spans f h = record {
   item = h.item;
   span = h.span;
@@ -103,49 +129,74 @@ of-tail x xs span spans f h = record {
 }
 
 -- without items or without spans there is none
-pub of-none : (items : List QueryItem) (spans : Spans) (f : Refusal) → zip items spans ≡ [] → IsItemFault items spans f → ⊥
+pub of-none : (items : List QueryItem) (spans : Spans) (f : Refusal) → zip items spans ≡ []
+    → IsItemFault items spans f → ⊥
 of-none items spans f e h = absurd (omega (arith, ap length e, h.among.1))
 
 -- ---- the walk
 
 -- past one item
-past-least : (P : Refusal → Type 0) (x : QueryItem) (o : Option RefusalKind) (span : Option Span) (rest : Spans) (first : Option Refusal)
-    → IsOwn x o → IsLeast P first → IsLeast (λ f. P f ⊎ OfItem x span f) (past_item o (span ∷ rest) first).first
+past-least : (P : Refusal → Type 0) (x : QueryItem) (o : Option RefusalKind) (span : Option Span)
+    (rest : Spans) (first : Option Refusal)
+    → IsOwn x o → IsLeast P first
+    → IsLeast (λ f. P f ⊎ OfItem x span f) (past_item o (span ∷ rest) first).first
 past-least P x None span rest first own h =
     least-alone P (OfItem x span) first (λ f q. own f.kind (rw (of-item x span f q).0 q.kind)) h
 past-least P x (Some kind) None rest first own h =
     least-alone P (OfItem x None) first (λ f q. let e = of-item x None f q in cc (e.1)) h
 past-least P x (Some kind) (Some span) rest first own h =
     least-earlier P (OfItem x (Some span)) first (record { kind = kind; place = span.start }) h (
-      record { item = x; span = span; among = Contains-push [] (x, Some span); kind = own.0; place = refl },
+      record {
+        item = x;
+        span = span;
+        among = Contains-push []
+            (x, Some span);
+        kind = own.0;
+        place = refl;
+      },
       λ f q.
           let its = of-item x (Some span) f q in
           let same : span ≡ q.span = cc (its.1) in
           inr (rw same (sym q.place), own.1 f.kind (rw its.0 q.kind)),
     )
 
-past-spans : (o : Option RefusalKind) (span : Option Span) (rest : Spans) (first : Option Refusal) → (past_item o (span ∷ rest) first).spans ≡ rest
+past-spans : (o : Option RefusalKind) (span : Option Span) (rest : Spans) (first : Option Refusal)
+    → (past_item o (span ∷ rest) first).spans ≡ rest
 past-spans None span rest first = refl
 past-spans (Some kind) None rest first = refl
 past-spans (Some kind) (Some span) rest first = refl
 
 -- the faults so far, of one item and of the others are those so far and of the items
-least-cons : (P : Refusal → Type 0) (x : QueryItem) (xs : List QueryItem) (span : Option Span) (spans : Spans) (o : Option Refusal)
-    → IsLeast (λ f. (P f ⊎ OfItem x span f) ⊎ IsItemFault xs spans f) o → IsLeast (λ f. P f ⊎ IsItemFault (x ∷ xs) (span ∷ spans) f) o
-least-cons P x xs span spans o = least-same (λ f. (P f ⊎ OfItem x span f) ⊎ IsItemFault xs spans f) (λ f. P f ⊎ IsItemFault (x ∷ xs) (span ∷ spans) f) o there back
+least-cons : (P : Refusal → Type 0) (x : QueryItem) (xs : List QueryItem) (span : Option Span)
+    (spans : Spans) (o : Option Refusal)
+    → IsLeast (λ f. (P f ⊎ OfItem x span f) ⊎ IsItemFault xs spans f) o
+    → IsLeast (λ f. P f ⊎ IsItemFault (x ∷ xs) (span ∷ spans) f) o
+least-cons P x xs span spans o =
+    least-same (λ f. (P f ⊎ OfItem x span f) ⊎ IsItemFault xs spans f)
+    (λ f. P f ⊎ IsItemFault (x ∷ xs) (span ∷ spans) f) o there back
   where
-    there : (f : Refusal) → (P f ⊎ OfItem x span f) ⊎ IsItemFault xs spans f → P f ⊎ IsItemFault (x ∷ xs) (span ∷ spans) f
+    there : (f : Refusal) → (P f ⊎ OfItem x span f) ⊎ IsItemFault xs spans f
+        → P f ⊎ IsItemFault (x ∷ xs) (span ∷ spans) f
     there f (inl (inl p)) = inl p
     there f (inl (inr q)) = inr (of-head x xs span spans f q)
     there f (inr q) = inr (of-tail x xs span spans f q)
 
-    back : (f : Refusal) → P f ⊎ IsItemFault (x ∷ xs) (span ∷ spans) f → (P f ⊎ OfItem x span f) ⊎ IsItemFault xs spans f
+    back : (f : Refusal) → P f ⊎ IsItemFault (x ∷ xs) (span ∷ spans) f
+        → (P f ⊎ OfItem x span f) ⊎ IsItemFault xs spans f
     back f (inl p) = inl (inl p)
-    back f (inr q) = elim (of-cons x xs span spans f q) as (λ _. (P f ⊎ OfItem x span f) ⊎ IsItemFault xs spans f) [ inl a ↦ inl (inr a) | inr a ↦ inr a ]
+    back f (inr q) =
+        elim (of-cons x xs span spans f q) as
+        (λ _. (P f ⊎ OfItem x span f) ⊎ IsItemFault xs spans f) [
+          | inl a ↦ inl
+              (inr a)
+          | inr a ↦ inr a
+        ]
 
 -- where spans are missing, the items have no faults
-least-unspanned : (P : Refusal → Type 0) (x : QueryItem) (xs : List QueryItem) (o : Option Refusal) → IsLeast (λ f. P f ⊎ IsItemFault xs [] f) o → IsLeast (λ f. P f ⊎ IsItemFault (x ∷ xs) [] f) o
-least-unspanned P x xs o = least-same (λ f. P f ⊎ IsItemFault xs [] f) (λ f. P f ⊎ IsItemFault (x ∷ xs) [] f) o there back
+least-unspanned : (P : Refusal → Type 0) (x : QueryItem) (xs : List QueryItem) (o : Option Refusal)
+    → IsLeast (λ f. P f ⊎ IsItemFault xs [] f) o → IsLeast (λ f. P f ⊎ IsItemFault (x ∷ xs) [] f) o
+least-unspanned P x xs o =
+    least-same (λ f. P f ⊎ IsItemFault xs [] f) (λ f. P f ⊎ IsItemFault (x ∷ xs) [] f) o there back
   where
     unspanned : Spans
     unspanned = []
@@ -162,15 +213,21 @@ least-unspanned P x xs o = least-same (λ f. P f ⊎ IsItemFault xs [] f) (λ f.
     back f (inl p) = inl p
     back f (inr q) = absurd (of-none (x ∷ xs) [] f refl q)
 
-steps-least : (P : Refusal → Type 0) (items : List QueryItem) (spans : Spans) (first : Option Refusal)
-    → IsLeast P first → IsLeast (λ f. P f ⊎ IsItemFault items spans f) (steps items (record { spans = spans; first = first })).first
-steps-least P [] spans first h = least-alone P (IsItemFault [] spans) first (λ f. of-none [] spans f refl) h
+steps-least : (P : Refusal → Type 0) (items : List QueryItem) (spans : Spans)
+    (first : Option Refusal)
+    → IsLeast P first
+    → IsLeast (λ f. P f ⊎ IsItemFault items spans f)
+    (steps items (record { spans = spans; first = first })).first
+steps-least P [] spans first h =
+    least-alone P (IsItemFault [] spans) first (λ f. of-none [] spans f refl) h
 steps-least P (x ∷ xs) [] first h = least-unspanned P x xs _ (steps-least P xs [] first h)
 steps-least P (x ∷ xs) (span ∷ spans) first h =
     let next : Progress = past_item (fault_of x) (span ∷ spans) first in
-    let later = steps-least (λ f. P f ⊎ OfItem x span f) xs next.spans next.first (past-least P x (fault_of x) span spans first (own-fault x) h) in
+    let later = steps-least (λ f. P f ⊎ OfItem x span f) xs next.spans next.first
+    (past-least P x (fault_of x) span spans first (own-fault x) h) in
     least-cons P x xs span spans (steps xs next).first
-    (subst (λ (s : Spans). IsLeast (λ f. (P f ⊎ OfItem x span f) ⊎ IsItemFault xs s f) (steps xs next).first) (past-spans (fault_of x) span spans first) later)
+    (subst (λ (s : Spans). IsLeast (λ f. (P f ⊎ OfItem x span f) ⊎ IsItemFault xs s f)
+    (steps xs next).first) (past-spans (fault_of x) span spans first) later)
 
 -- ---- from the start
 
@@ -185,30 +242,50 @@ omitted_faultless x e kind h =
     cc (is.1)
 
 -- no item of a query has a fault where none of those with a span has
-faultless : (text : Text) (items : List QueryItem) (spans : Spans) → EachSpanned text items spans → ((f : Refusal) → IsItemFault items spans f → ⊥)
+faultless : (text : Text) (items : List QueryItem) (spans : Spans) → EachSpanned text items spans
+    → ((f : Refusal) → IsItemFault items spans f → ⊥)
     → All NoFault items
 faultless text [] spans each none = All-nil _
 faultless text (x ∷ xs) [] each none = absurd each
 faultless text (x ∷ xs) (None ∷ spans) each none =
-    All-cons NoFault x xs (omitted_faultless x each.0) (faultless text xs spans each.1 (λ f h. none f (of-tail x xs None spans f h)))
+    All-cons NoFault x xs (omitted_faultless x each.0)
+    (faultless text xs spans each.1 (λ f h. none f (of-tail x xs None spans f h)))
 faultless text (x ∷ xs) (Some span ∷ spans) each none =
     All-cons NoFault x xs
-    (λ kind h. none (record { kind = kind; place = span.start }) (record { item = x; span = span; among = Contains-append_left ((x, Some span) ∷ []) (zip xs spans) (x, Some span) (Contains-push [] (x, Some span)); kind = h; place = refl }))
+    (λ kind h. none (record { kind = kind; place = span.start })
+    (record {
+      item = x;
+      span = span;
+      among = Contains-append_left ((x, Some span) ∷ [])
+          (zip xs spans) (x, Some span) (Contains-push [] (x, Some span));
+      kind =
+          h;
+      place = refl;
+    }))
     (faultless text xs spans each.1 (λ f h. none f (of-tail x xs (Some span) spans f h)))
 
 -- what the walk finds from the start
-least-found : (items : List QueryItem) (spans : Spans) (o : Option Refusal) → o ≡ (steps items (record { spans = spans; first = None })).first
+least-found : (items : List QueryItem) (spans : Spans) (o : Option Refusal)
+    → o ≡ (steps items (record { spans = spans; first = None })).first
     → IsLeast (λ f. ⊥ ⊎ IsItemFault items spans f) o
 least-found items spans o e = rw e (steps-least (λ f. ⊥) items spans None (λ f h. h))
 
-pub found-fault : (items : List QueryItem) (spans : Spans) (r : Refusal) → Some r ≡ (steps items (record { spans = spans; first = None })).first
+pub found-fault : (items : List QueryItem) (spans : Spans) (r : Refusal)
+    → Some r ≡ (steps items (record { spans = spans; first = None })).first
     → IsFirstFault items spans r
 found-fault items spans r e =
     let h = least-found items spans (Some r) e in
-    record { is = elim h.0 as (λ _. IsItemFault items spans r) [ inl p ↦ absurd p | inr q ↦ q ]; first = λ f q. h.1 f (inr q) }
+    record {
+      is = elim h.0 as
+          (λ _. IsItemFault items spans r) [ inl p ↦ absurd p | inr q ↦ q ];
+      first =
+          λ f q. h.1 f (inr q);
+    }
 
-pub found : (text : Text) (items : List QueryItem) (spans : Spans) (o : Option Refusal) → EachSpanned text items spans
+pub found : (text : Text) (items : List QueryItem) (spans : Spans) (o : Option Refusal)
+    → EachSpanned text items spans
     → o ≡ (steps items (record { spans = spans; first = None })).first
     → MatchOption o (All NoFault items) (IsFirstFault items spans)
-found text items spans None each e = let h = least-found items spans None e in faultless text items spans each (λ f q. h f (inr q))
+found text items spans None each e =
+    let h = least-found items spans None e in faultless text items spans each (λ f q. h f (inr q))
 found text items spans (Some r) each e = found-fault items spans r e

@@ -15,19 +15,23 @@ use Rattle.jp_check.specs.Private.Walk.{fault_of, fault_of_literal}
 -- the item has none, or this kind and none with a smaller number
 abbrev pub IsOwn : QueryItem → Option RefusalKind → Type 0
 IsOwn x None = (kind : RefusalKind) → HasFault x kind → ⊥
-IsOwn x (Some kind) = HasFault x kind × ((other : RefusalKind) → HasFault x other → number_of kind ≤ number_of other)
+IsOwn x (Some kind) =
+    HasFault x kind × ((other : RefusalKind) → HasFault x other → number_of kind ≤ number_of other)
 
 -- an int has no fault but its range
-pub int-fault : (n : Numeral) (role : Use) (kind : RefusalKind) → HasFault (int n role) kind → (kind ≡ IndexRange) × (is_in_index_range n ≡ false)
+pub int-fault : (n : Numeral) (role : Use) (kind : RefusalKind) → HasFault (int n role) kind
+    → (kind ≡ IndexRange) × (is_in_index_range n ≡ false)
 int-fault n role IndexRange h = (refl, h)
 int-fault n role _ h = absurd h
 
-own-int : (n : Numeral) (role : Use) (b : Bool) → is_in_index_range n ≡ b → IsOwn (int n role) (cond b None (Some IndexRange))
+own-int : (n : Numeral) (role : Use) (b : Bool) → is_in_index_range n ≡ b
+    → IsOwn (int n role) (cond b None (Some IndexRange))
 own-int n role true e = λ kind h. let is = int-fault n role kind h in cc (is.1)
 own-int n role false e = (e, λ other h. rw (int-fault n role other h).0 (omega arith))
 
 -- a literal that is no such number has none
-no_fault_in : (l : LiteralTree) (role : Use) → (l ≡ number Fraction → ⊥) → (l ≡ number Beyond → ⊥) → (kind : RefusalKind) → HasFault (constant l role) kind → ⊥
+no_fault_in : (l : LiteralTree) (role : Use) → (l ≡ number Fraction → ⊥) → (l ≡ number Beyond → ⊥)
+    → (kind : RefusalKind) → HasFault (constant l role) kind → ⊥
 no_fault_in l role whole within NotWhole h = whole h
 no_fault_in l role whole within NumberRange h = within h
 no_fault_in l role whole within _ h = absurd h
@@ -36,13 +40,15 @@ no_fault_in l role whole within _ h = absurd h
 own-literal : (l : LiteralTree) (role : Use) → IsOwn (constant l role) (fault_of_literal l)
 own-literal (number Fraction) role = (refl, least-kind)
   where
-    least-kind : (other : RefusalKind) → HasFault (constant (number Fraction) role) other → number_of NotWhole ≤ number_of other
+    least-kind : (other : RefusalKind) → HasFault (constant (number Fraction) role) other
+        → number_of NotWhole ≤ number_of other
     least-kind NotWhole h = omega arith
     least-kind NumberRange h = omega arith
     least-kind _ h = absurd h
 own-literal (number Beyond) role = (refl, least-kind)
   where
-    least-kind : (other : RefusalKind) → HasFault (constant (number Beyond) role) other → number_of NumberRange ≤ number_of other
+    least-kind : (other : RefusalKind) → HasFault (constant (number Beyond) role) other
+        → number_of NumberRange ≤ number_of other
     least-kind NotWhole h = cc
     least-kind NumberRange h = omega arith
     least-kind _ h = absurd h
@@ -53,11 +59,13 @@ own-literal false_literal role = no_fault_in false_literal role (λ e. cc) (λ e
 own-literal null_literal role = no_fault_in null_literal role (λ e. cc) (λ e. cc)
 
 -- a side has none but that it is not singular
-side-fault : (q : QueryTree) (kind : RefusalKind) → HasFault (inner q as_side) kind → (kind ≡ NotSingular) × (is_singular q ≡ false)
+side-fault : (q : QueryTree) (kind : RefusalKind) → HasFault (inner q as_side) kind
+    → (kind ≡ NotSingular) × (is_singular q ≡ false)
 side-fault q NotSingular h = (refl, h)
 side-fault q _ h = absurd h
 
-own-side : (q : QueryTree) (b : Bool) → is_singular q ≡ b → IsOwn (inner q as_side) (cond b None (Some NotSingular))
+own-side : (q : QueryTree) (b : Bool) → is_singular q ≡ b
+    → IsOwn (inner q as_side) (cond b None (Some NotSingular))
 own-side q true e = λ kind h. let is = side-fault q kind h in cc (is.1)
 own-side q false e = (e, λ other h. rw (side-fault q other h).0 (omega arith))
 

@@ -34,20 +34,25 @@ row-zero h = cc
 
 -- ---- the order of faults: by place, then by number
 
-row-place : IsNoLater (record { kind = IndexRange; place = 2 }) (record { kind = NotWhole; place = 3 })
+row-place : IsNoLater (record { kind = IndexRange; place = 2 })
+    (record { kind = NotWhole; place = 3 })
 row-place = inl (omega arith)
 
-row-number : IsNoLater (record { kind = NotWhole; place = 3 }) (record { kind = IndexRange; place = 3 })
+row-number : IsNoLater (record { kind = NotWhole; place = 3 })
+    (record { kind = IndexRange; place = 3 })
 row-number = inr (refl, omega arith)
 
-row-later : IsNoLater (record { kind = NotWhole; place = 3 }) (record { kind = IndexRange; place = 2 }) → ⊥
+row-later : IsNoLater (record { kind = NotWhole; place = 3 })
+    (record { kind = IndexRange; place = 2 }) → ⊥
 row-later (inl h) = absurd (omega arith)
 row-later (inr h) = absurd (omega (arith, h.0))
 
 -- ---- `$[0][9007199254740992]`: its one fault stands at 5
 
-row-fault : IsItemFault (int (Whole (pos 0)) as_index ∷ int (Whole (pos 9007199254740992)) as_index ∷ [])
-    (Some (record { start = 2; end = 3 }) ∷ Some (record { start = 5; end = 21 }) ∷ []) (record { kind = IndexRange; place = 5 })
+row-fault : IsItemFault
+    (int (Whole (pos 0)) as_index ∷ int (Whole (pos 9007199254740992)) as_index ∷ [])
+    (Some (record { start = 2; end = 3 }) ∷ Some (record { start = 5; end = 21 }) ∷ [])
+    (record { kind = IndexRange; place = 5 })
 row-fault = record {
   item = int (Whole (pos 9007199254740992)) as_index;
   span = record { start = 5; end = 21 };
@@ -68,7 +73,8 @@ row-beyond-literal : HasFault (constant (number Beyond) as_side) NumberRange
 row-beyond-literal = refl
 
 -- 18446744073709551615 may be a literal, and is no index
-row-greatest-literal : HasFault (constant (number (Whole (pos 18446744073709551615))) as_side) NumberRange → ⊥
+row-greatest-literal : HasFault
+    (constant (number (Whole (pos 18446744073709551615))) as_side) NumberRange → ⊥
 row-greatest-literal h = cc
 
 row-greatest-index : HasFault (int (Whole (pos 18446744073709551615)) as_index) IndexRange
@@ -99,12 +105,15 @@ row-test : HasFault (inner (at_current (wildcard ∷ [])) as_test) NotSingular �
 row-test h = h
 
 -- `@[0,1]`
-row-several : HasFault (inner (at_current (index (Whole (pos 0)) ∷ index (Whole (pos 1)) ∷ [])) as_side) NotSingular
+row-several : HasFault
+    (inner (at_current (index (Whole (pos 0)) ∷ index (Whole (pos 1)) ∷ [])) as_side) NotSingular
 unfolding at_current
 row-several = refl
 
 -- `@..a`
-row-descendant : HasFault (inner (query false (segments (segment true (selectors (name (97 ∷ []) ∷ [])) ∷ []))) as_side) NotSingular
+row-descendant : HasFault
+    (inner (query false
+    (segments (segment true (selectors (name (97 ∷ []) ∷ [])) ∷ []))) as_side) NotSingular
 row-descendant = refl
 
 -- ---- first faults of filters
@@ -114,8 +123,13 @@ filtered : ExprTree → QueryTree
 filtered e = query true (segments (segment false (selectors (filter e ∷ [])) ∷ []))
 
 -- `$[?@.*==1.0]`: of two faults the query's stands first, at 3
-row-query-first : IsFirstFault (items_of (filtered (comparison (node_value (at_current (wildcard ∷ []))) Equal (literal (number Fraction)))))
-    (Some (record { start = 3; end = 6 }) ∷ Some (record { start = 8; end = 11 }) ∷ []) (record { kind = NotSingular; place = 3 })
+row-query-first : IsFirstFault
+    (items_of
+    (filtered
+    (comparison (node_value (at_current (wildcard ∷ []))) Equal
+    (literal (number Fraction)))))
+    (Some (record { start = 3; end = 6 }) ∷ Some (record { start = 8; end = 11 }) ∷ [])
+    (record { kind = NotSingular; place = 3 })
 unfolding at_current filtered
 row-query-first = found-fault _ _ (record { kind = NotSingular; place = 3 }) refl
 
@@ -125,7 +139,8 @@ row-literal-first : IsFirstFault
     comparison (node_value (at_current (name (97 ∷ []) ∷ []))) Equal (literal (number Fraction))
     ∷ comparison (node_value (at_current (wildcard ∷ []))) Equal (literal (number (Whole (pos 2))))
     ∷ [])))))
-    (Some (record { start = 3; end = 6 }) ∷ Some (record { start = 8; end = 11 }) ∷ Some (record { start = 13; end = 16 }) ∷ Some (record { start = 18; end = 19 }) ∷ [])
+    (Some (record { start = 3; end = 6 }) ∷ Some (record { start = 8; end = 11 }) ∷ Some
+    (record { start = 13; end = 16 }) ∷ Some (record { start = 18; end = 19 }) ∷ [])
     (record { kind = NotWhole; place = 8 })
 unfolding at_current filtered
 row-literal-first = found-fault _ _ (record { kind = NotWhole; place = 8 }) refl

@@ -9,9 +9,9 @@ use Rattle.jp_query.specs.Singular.{is_singular}
 use Rattle.jp_query.specs.Tree.{QueryTree, number}
 use Rattle.jp_check.specs.Ranges.{is_in_index_range}
 
--- the item has a fault of that kind: a literal is a number with a fraction or an exponent, or a whole number outside
--- -(2^63) to (2^64)-1; an index or a part of a slice is out of range (section 2.1); a query that is a side of a
--- comparison is not singular (section 2.3.5.1)
+-- the item has a fault of that kind: a literal is a number with a fraction or an exponent, or a
+-- whole number outside -(2^63) to (2^64)-1; an index or a part of a slice is out of range (section
+-- 2.1); a query that is a side of a comparison is not singular (section 2.3.5.1)
 abbrev pub HasFault : QueryItem → RefusalKind → Type 0
 HasFault (constant l _) NotWhole = l ≡ number Fraction
 HasFault (constant l _) NumberRange = l ≡ number Beyond

@@ -1,4 +1,5 @@
--- The first fault of a query: the one with the least place, and of several there the one with the least number.
+-- The first fault of a query: the one with the least place, and of several there the one with the
+-- least number.
 use Rattle.std.specs.Prelude.{◌≡◌, ◌⊎◌, ◌<◌, ◌≤◌, List, Some}
 use Rattle.std.specs.List.{Contains, zip}
 use Rattle.jp_reading.specs.Texts.{Spans}
@@ -19,7 +20,8 @@ pub record IsItemFault (items : List QueryItem) (spans : Spans) (fault : Refusal
 -- the one stands at a smaller place, or at the same place with a number that is no greater
 abbrev pub IsNoLater : Refusal → Refusal → Type 0
 IsNoLater one other =
-    (one.place < other.place) ⊎ ((one.place ≡ other.place) × (number_of one.kind ≤ number_of other.kind))
+    (one.place < other.place)
+    ⊎ ((one.place ≡ other.place) × (number_of one.kind ≤ number_of other.kind))
 
 -- the fault of one of the items, and none is before it
 pub record IsFirstFault (items : List QueryItem) (spans : Spans) (fault : Refusal) : Type 0 where

@@ -11,9 +11,11 @@ use Rattle.jp_check.specs.Accepted.{IsAcceptedAs}
 use Rattle.jp_check.specs.Faults.{HasFault}
 use Rattle.jp_check.specs.Refused.{IsFaulty, IsRefusedForItself}
 
--- a text is accepted as one tree, or is refused for what it is in one way, with its first fault or as no query; and not both
+-- a text is accepted as one tree, or is refused for what it is in one way, with its first fault or
+-- as no query; and not both
 pub record OneAnswer (text : Text) : Type 0 where
-  pub answered : ((q : QueryTree) × IsAcceptedAs text q) ⊎ ((r : Refusal) × IsRefusedForItself text r)
+  pub answered : ((q : QueryTree) × IsAcceptedAs text q)
+      ⊎ ((r : Refusal) × IsRefusedForItself text r)
   pub one_tree : (q u : QueryTree) → IsAcceptedAs text q → IsAcceptedAs text u → q ≡ u
   pub one_fault : (r f : Refusal) → IsFaulty text r → IsFaulty text f → r ≡ f
   pub one_refusal : (r f : Refusal) → IsRefusedForItself text r → IsRefusedForItself text f → r ≡ f

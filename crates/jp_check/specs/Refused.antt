@@ -18,7 +18,7 @@ pub record IsFaulty (text : Text) (fault : Refusal) : Type 0 where
   pub spelled : Spells level_limit tree spans text
   pub first : IsFirstFault (items_of tree) spans fault
 
--- what a refusal of that kind, at that place, says of the text; want of memory says nothing of it
+-- what a refusal of that kind, at that place, says of the text; out of memory says nothing of it
 abbrev pub RefusalSays : Text → RefusalKind → ℕ → Type 0
 RefusalSays text NoMemory place = place ≡ 0
 RefusalSays text Syntax place = IsSyntaxAt level_limit text place
@@ -30,6 +30,6 @@ RefusalSays text kind place = IsFaulty text (record { kind = kind; place = place
 abbrev pub IsRefused : Text → Refusal → Type 0
 IsRefused text refusal = RefusalSays text refusal.kind refusal.place
 
--- the text is refused for what it is, and not for want of memory
+-- the text is refused for what it is, and not for running out of memory
 abbrev pub IsRefusedForItself : Text → Refusal → Type 0
 IsRefusedForItself text refusal = IsRefused text refusal × ¬ (refusal.kind ≡ NoMemory)

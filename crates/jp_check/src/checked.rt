@@ -47,10 +47,11 @@ impl Checked {
 
 /// Checks the numbers and the types of a query (RFC 9535 sections 2.1, 2.3.5.1 and 2.4.3).
 ///
-/// The refusal is its first fault: the one with the least place, and of several there the one with the least number.
-/// A literal with a fraction or an exponent is `NotWhole`, a whole one outside -(2^63) to (2^64)-1 is `NumberRange`, at
-/// the literal; an index or a part of a slice outside -(2^53)+1 to (2^53)-1 is `IndexRange`, at that number; a query that
-/// is a side of a comparison and not singular is `NotSingular`, at the query. It takes no memory.
+/// The refusal is its first fault: the one with the least place, and of several there the one with
+/// the least number. A literal with a fraction or an exponent is `NotWhole`, a whole one outside
+/// -(2^63) to (2^64)-1 is `NumberRange`, at the literal; an index or a part of a slice outside
+/// -(2^53)+1 to (2^53)-1 is `IndexRange`, at that number; a query that is a side of a comparison
+/// and not singular is `NotSingular`, at the query. It takes no memory.
 pub fn check(parsed: Parsed) -> Result<Checked, Refusal>
     ensures same { IfOk result (λ query. query ≡ parsed.query) }
     ensures faultless { IfOk result (λ query. IsFaultless (query_of query)) }
@@ -66,12 +67,14 @@ pub fn check(parsed: Parsed) -> Result<Checked, Refusal>
 
 /// Reads a query: parses the text, then checks what it spells.
 ///
-/// It is refused as `parse` refuses it (`Syntax`, `TooDeep`, or `NoMemory` at place 0, which says nothing of the text), or
-/// else as `check` does, with its first fault.
+/// It is refused as `parse` refuses it (`Syntax`, `TooDeep`, or `NoMemory` at place 0, which says
+/// nothing of the text), or else as `check` does, with its first fault.
 pub fn read_query(alloc: Global, text: &str) -> Result<Checked, Refusal>
     ensures accepted { IfOk result (λ query. IsAcceptedAs (chars text.now) (query_of query)) }
     ensures refused { IfErr result (IsRefused (chars text.now)) }
-    ensures only { IfErr result (λ r. (r.kind ≡ RefusalKind.NoMemory) ⊎ IsNotAccepted (chars text.now)) }
+    ensures only { IfErr
+        result
+        (λ r. (r.kind ≡ RefusalKind.NoMemory) ⊎ IsNotAccepted (chars text.now)) }
 {
     let parsed = parse(alloc, text)?;
     check(parsed)

@@ -8,7 +8,8 @@ use crate::ranges::is_in_index_range;
 use crate::singular::is_singular;
 use jp_query::{Literal, Numeral, Query, RefusalKind};
 
-/// The fault of an index or a part of a slice, if it is outside -(2^53)+1 to (2^53)-1 (RFC 9535 section 2.1).
+/// The fault of an index or a part of a slice, if it is outside -(2^53)+1 to (2^53)-1 (RFC 9535
+/// section 2.1).
 pub fn fault_of_int(number: Numeral) -> Option<RefusalKind>
     ensures { result ≡ fault_of_int number }
 {
@@ -19,7 +20,8 @@ pub fn fault_of_int(number: Numeral) -> Option<RefusalKind>
     }
 }
 
-/// The fault of a literal, if it is a number with a fraction or an exponent, or a whole one outside -(2^63) to (2^64)-1.
+/// The fault of a literal, if it is a number with a fraction or an exponent, or a whole one outside
+/// -(2^63) to (2^64)-1.
 pub fn fault_of_literal(literal: &Literal) -> Option<RefusalKind>
     ensures { result ≡ fault_of_literal (literal_of literal.now) }
 {

@@ -5,8 +5,8 @@ ghost use Rattle.jp_check.specs.Laws.{FaultAtItsItem, OneAnswer};
 
 use jp_query::laws::{one_reading, one_refusal, spans_of_items};
 
-/// Each text is accepted as one tree, or is refused in one way, with its first fault or as no query, at one place; and not
-/// both, want of memory aside.
+/// Each text is accepted as one tree, or is refused in one way, with its first fault or as no
+/// query, at one place; and not both, running out of memory aside.
 pub fn one_answer()
     ensures { (text : Text) → OneAnswer text }
 {
@@ -14,8 +14,8 @@ pub fn one_answer()
     one_refusal();
 }
 
-/// A fault is that of one of the query's items, and its place is the byte where the text of that item
-/// starts.
+/// A fault is that of one of the query's items, and its place is the byte where the text of that
+/// item starts.
 pub fn fault_at_its_item()
     ensures { FaultAtItsItem }
 {

@@ -1,9 +1,11 @@
 //! The walk over the items of a query, with their spans.
 
 ghost use Rattle.std.specs.Prelude.{◌≡◌, map, MatchOption, Option, None};
-ghost use Rattle.jp_query.specs.Items.{bound_items, expr_items, exprs_items, items_of, operand_items, segment_items, selector_items};
+ghost use Rattle.jp_query.specs.Items.{bound_items, expr_items, exprs_items, items_of};
+ghost use Rattle.jp_query.specs.Items.{operand_items, segment_items, selector_items};
 ghost use Rattle.jp_query.specs.Refusal.{number_of};
-ghost use Rattle.jp_query.specs.Tree.{expr_of, exprs, operand_of, query_of, segment_of, selector_of, slice as slice_tree};
+ghost use Rattle.jp_query.specs.Tree.{expr_of, exprs, operand_of, query_of, segment_of};
+ghost use Rattle.jp_query.specs.Tree.{selector_of, slice as slice_tree};
 ghost use Rattle.jp_check.specs.Faults.{IsFaultless};
 ghost use Rattle.jp_check.specs.First.{IsFirstFault};
 ghost use Rattle.jp_check.specs.Private.Walk.{earlier, fault_of_int, is_before, past_item, steps};
@@ -131,7 +133,10 @@ impl<'s> Walk<'s> {
     /// Goes through an inner query, which has that fault or none, and then through the items in it.
     #[cycle(walk)]
     fn inner(&mut self, query: &Query, fault: Option<RefusalKind>)
-        ensures { self.new ≡ steps (items_of (query_of query.now)) (past_item fault self.old.spans self.old.first) }
+        ensures { self.new
+            ≡ steps
+            (items_of (query_of query.now))
+            (past_item fault self.old.spans self.old.first) }
     {
         self.pass(fault);
         self.query(query);
@@ -191,7 +196,8 @@ impl<'s> Walk<'s> {
     }
 }
 
-/// Whether the one fault stands before the other: at a smaller place, or at the same place with a smaller number.
+/// Whether the one fault stands before the other: at a smaller place, or at the same place with a
+/// smaller number.
 fn is_before(one: Refusal, other: Refusal) -> bool
     ensures { result ≡ is_before one other }
 {

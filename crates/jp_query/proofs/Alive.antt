@@ -43,28 +43,35 @@ pub digit-passed : Passed is_digit
 unfolding is_digit
 digit-passed = (48, refl)
 
-abbrev pub unit_after-alive : (a : ℕ) (second : ℕ → Bool) → Passed second → Alive (rule.unit_after a second)
+abbrev pub unit_after-alive : (a : ℕ) (second : ℕ → Bool) → Passed second
+    → Alive (rule.unit_after a second)
 unfolding rule.unit_after
 unit_after-alive a second w = (w, λ b. (hexdig-passed, λ c. hexdig-passed))
 
-abbrev pub unit-alive : (first second : ℕ → Bool) → Passed first → Passed second → Alive (rule.unit first second)
+abbrev pub unit-alive : (first second : ℕ → Bool) → Passed first → Passed second
+    → Alive (rule.unit first second)
 unfolding rule.unit
 unit-alive first second v w = (v, λ a. unit_after-alive a second w)
 
 abbrev pub surrogates-alive : (a : ℕ) → Alive (rule.surrogates_after a)
 unfolding rule.surrogates_after
-surrogates-alive a = (unit_after-alive a is_8_to_b high-passed, λ high. unit-alive is_d is_c_to_f d-passed from_c-passed)
+surrogates-alive a =
+    (unit_after-alive a is_8_to_b high-passed, λ high. unit-alive is_d is_c_to_f d-passed from_c-passed)
 
 abbrev pub hexchar-alive : Alive rule.hexchar
 unfolding rule.hexchar
-hexchar-alive = (unit-alive is_not_d is_hexdig not_d-passed hexdig-passed, (d-passed, λ a. (unit_after-alive a is_0_to_7 low-passed, surrogates-alive a)))
+hexchar-alive = (
+  unit-alive is_not_d is_hexdig not_d-passed hexdig-passed,
+  (d-passed, λ a. (unit_after-alive a is_0_to_7 low-passed, surrogates-alive a)),
+)
 
 abbrev pub escape-alive : (quote : ℕ) → Alive (rule.escape quote)
 unfolding rule.escape
 escape-alive quote = (hexchar-alive, (98, refl))
 
 -- where `a` stands for itself between the quotation marks
-abbrev pub character-alive : (quote : ℕ) → is_plain quote 97 ≡ true → Alive (rule.string_character quote)
+abbrev pub character-alive : (quote : ℕ) → is_plain quote 97 ≡ true
+    → Alive (rule.string_character quote)
 unfolding rule.string_character
 character-alive quote plain = (escape-alive quote, (97, plain))
 
@@ -146,7 +153,10 @@ number_selector-alive = (int-alive, λ i. (slice-alive (Some i), tt))
 
 abbrev pub selector-alive : Alive rule.selector
 unfolding rule.selector
-selector-alive = (quoted-alive 34 refl, (quoted-alive 39 refl, (tt, (slice-alive None, (λ e. tt, number_selector-alive)))))
+selector-alive = (
+  quoted-alive 34 refl,
+  (quoted-alive 39 refl, (tt, (slice-alive None, (λ e. tt, number_selector-alive)))),
+)
 
 abbrev pub entry-alive : Alive rule.entry
 unfolding rule.entry

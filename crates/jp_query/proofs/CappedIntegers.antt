@@ -21,21 +21,30 @@ pub size-natural : (p : State) (c : ℕ) → head p ≡ Some c → is_leading_di
     → by (λ n. min n (2 ^ 64)) (read_flat size p) ≡ by (capped (2 ^ 64) 0) (digits_at p)
 unfolding size
 size-natural p c e h =
-    ap (λ (o : Outcome ℕ). by (λ n. min n (2 ^ 64)) (o >>= λ d q. by (λ ds. value_from 0 (d ∷ ds)) (read_flat (run is_digit) q))) (take_if-takes is_leading_digit p c e h)
-    ∙ by-by (λ n. min n (2 ^ 64)) (λ ds. value_from 0 (c ∷ ds)) (λ ds. capped (2 ^ 64) 0 (c ∷ ds)) (λ ds. sym (capped-is_min (2 ^ 64) 0 (c ∷ ds) (omega arith))) (read_flat (run is_digit) (past p))
-    ∙ sym (digits_at-first (capped (2 ^ 64) 0) (λ ds. capped (2 ^ 64) 0 (c ∷ ds)) p (past p) c (take_if-takes is_digit p c e (digit-from_leading c h)) (λ ds. refl))
+    ap (λ (o : Outcome ℕ). by (λ n. min n (2 ^ 64))
+    (o >>= λ d q. by (λ ds. value_from 0 (d ∷ ds)) (read_flat (run is_digit) q)))
+    (take_if-takes is_leading_digit p c e h)
+    ∙ by-by (λ n. min n (2 ^ 64)) (λ ds. value_from 0 (c ∷ ds)) (λ ds. capped (2 ^ 64) 0 (c ∷ ds))
+    (λ ds. sym (capped-is_min (2 ^ 64) 0 (c ∷ ds) (omega arith)))
+    (read_flat (run is_digit) (past p))
+    ∙ sym (digits_at-first (capped (2 ^ 64) 0) (λ ds. capped (2 ^ 64) 0 (c ∷ ds)) p (past p) c
+    (take_if-takes is_digit p c e (digit-from_leading c h)) (λ ds. refl))
 
 whole-min : (n : ℕ) → whole_of (min n (2 ^ 64)) ≡ whole_of n
 whole-min n =
     elim (cases_Bool (nat_lt n (2 ^ 64))) [
-      | inl below ↦ let h = ltb-true n (2 ^ 64) below in let e : min n (2 ^ 64) ≡ n = omega arith in ap whole_of e
-      | inr above ↦ let h = ltb-false n (2 ^ 64) above in let e : min n (2 ^ 64) ≡ 2 ^ 64 = omega arith in ap whole_of e ∙ rw above refl
+      | inl below ↦ let h =
+          ltb-true n (2 ^ 64) below in let e : min n (2 ^ 64) ≡ n = omega arith in ap whole_of e
+      | inr above ↦ let h =
+          ltb-false n (2 ^ 64) above in let e : min n
+          (2 ^ 64) ≡ 2 ^ 64 = omega arith in ap whole_of e ∙ rw above refl
     ]
 
 negative-min : (n : ℕ) → negative_of (min n (2 ^ 64)) ≡ negative_of n
 negative-min n =
     elim (cases_Bool (nat_lt n (2 ^ 64))) [
-      | inl below ↦ let h = ltb-true n (2 ^ 64) below in let e : min n (2 ^ 64) ≡ n = omega arith in ap negative_of e
+      | inl below ↦ let h =
+          ltb-true n (2 ^ 64) below in let e : min n (2 ^ 64) ≡ n = omega arith in ap negative_of e
       | inr above ↦
           let h = ltb-false n (2 ^ 64) above in
           let e : min n (2 ^ 64) ≡ 2 ^ 64 = omega arith in

@@ -51,7 +51,8 @@ unit-after l a b c d small g h i =
 unit-of : (k l : HexDigit) (a v : ℕ) → holds_value k a ≡ true → IsUnitAfter a l v → IsUnitOf k l v
 unit-of k l a v f h = record { fits = h.fits; one = rw h.one f; two = h.two }
 
-pub unit-result : {E : Type 0} (k l : HexDigit) (a : ℕ) (r : Result ℕ E) → holds_value k a ≡ true → IfOk r (λ v. IsUnitAfter a l v)
+pub unit-result : {E : Type 0} (k l : HexDigit) (a : ℕ) (r : Result ℕ E) → holds_value k a ≡ true
+    → IfOk r (λ v. IsUnitAfter a l v)
     → IfOk r (λ v. IsUnitOf k l v)
 unit-result k l a (Ok v) f h = unit-of k l a v f h
 unit-result k l a (Err e) f h = tt

@@ -1,5 +1,6 @@
 -- Each item of a query has its own text at its span.
 use Rattle.std.proofs.Common.{◌≡◌, ℕ, ◌+◌, ◌<◌, ◌≤◌, zero, suc, pos, List, [], ◌∷◌, ◌++◌, Option, refl, sym, ap, ◌∙◌, subst, arith, append-nil, append_assoc}
+use Rattle.std.specs.Prelude.{codes}
 use Rattle.jp_query.specs.declared.tree.Numeral.{Numeral}
 use Rattle.jp_query.specs.declared.tree.Numeral.TheVariants.{Whole}
 use Rattle.jp_query.specs.declared.tree.Slice.{Slice}
@@ -49,10 +50,10 @@ step-has_items : (x : Numeral) → HasItems (Step x) (int x as_step ∷ [])
 step-has_items x text s o t (no_step e h) p = rw e (omitted-has_items text s o t h p)
 step-has_items x text s o t (empty_step e h) p =
     rw e
-    (after-bare (word (58 ∷ [])) Omitted (int (Whole (pos 1)) as_step ∷ [])
-    (bare-word (58 ∷ [])) omitted-has_items text s o t h p)
+    (after-bare (word (codes ":")) Omitted (int (Whole (pos 1)) as_step ∷ [])
+    (bare-word (codes ":")) omitted-has_items text s o t h p)
 step-has_items x text s o t (given_step h) p =
-    after-bare (word (58 ∷ [])) (Blank ⌢ Item (Int x)) (int x as_step ∷ []) (bare-word (58 ∷ []))
+    after-bare (word (codes ":")) (Blank ⌢ Item (Int x)) (int x as_step ∷ []) (bare-word (codes ":"))
     (after-bare Blank (Item (Int x)) (int x as_step ∷ []) blank-bare
     (int-has_items x as_step)) text s o t h p
 
@@ -63,9 +64,9 @@ slice-has_items y =
     let last = int y.step as_step ∷ [] in
     let rest = Bound y.end ⌢ Step y.step in
     subst (HasItems (Sliced y)) (sym (append_assoc first second last))
-    (joined-has_items (Bound y.start) (word (58 ∷ []) ⌢ Blank ⌢ rest) first (second ++ last)
+    (joined-has_items (Bound y.start) (word (codes ":") ⌢ Blank ⌢ rest) first (second ++ last)
     (bound-has_items y.start)
-    (after-bare (word (58 ∷ [])) (Blank ⌢ rest) (second ++ last) (bare-word (58 ∷ []))
+    (after-bare (word (codes ":")) (Blank ⌢ rest) (second ++ last) (bare-word (codes ":"))
     (after-bare Blank rest (second ++ last) blank-bare
     (joined-has_items (Bound y.end) (Step y.step) second last (bound-has_items y.end)
     (step-has_items y.step)))))
@@ -76,18 +77,18 @@ member-bare y s o t (member cs e h) = shorthand-bare cs s o t h
 
 member-has_items : (y : SelectorTree) → HasItems (Member y) (selector_items y)
 member-has_items y text s o t (star e h) p =
-    rw e (bare-has_items (word (42 ∷ [])) (bare-word (42 ∷ [])) text s o t h p)
+    rw e (bare-has_items (word (codes "*")) (bare-word (codes "*")) text s o t h p)
 member-has_items y text s o t (member cs e h) p =
     rw e (bare-has_items (Member y) (member-bare y) text s o t (member cs e h) p)
 
 -- ---- the rules over expressions n levels deep
 
 comma : Form
-comma = word (44 ∷ []) ⌢ Blank
+comma = word (codes ",") ⌢ Blank
 
 comma-bare : Bare comma
 unfolding comma
-comma-bare = bare-joined (word (44 ∷ [])) Blank (bare-word (44 ∷ [])) blank-bare
+comma-bare = bare-joined (word (codes ",")) Blank (bare-word (codes ",")) blank-bare
 
 -- what is between two parts of an expression
 doubled : ℕ → Form
@@ -112,12 +113,12 @@ module _ (n : ℕ) (inside-has_items : (e : ExprTree) → HasItems (Inside n e) 
   selector-has_items x text s o t (named cs e h) p =
       rw e (bare-has_items (Quoted cs) (quoted-bare cs) text s o t h p)
   selector-has_items x text s o t (any e h) p =
-      rw e (bare-has_items (word (42 ∷ [])) (bare-word (42 ∷ [])) text s o t h p)
+      rw e (bare-has_items (word (codes "*")) (bare-word (codes "*")) text s o t h p)
   selector-has_items x text s o t (indexed i e h) p = rw e (int-has_items i as_index text s o t h p)
   selector-has_items x text s o t (sliced y e h) p = rw e (slice-has_items y text s o t h p)
   selector-has_items x text s o t (filtered e same h) p =
       rw same
-      (after-bare (word (63 ∷ [])) (Blank ⌢ Inside n e) (expr_items e) (bare-word (63 ∷ []))
+      (after-bare (word (codes "?")) (Blank ⌢ Inside n e) (expr_items e) (bare-word (codes "?"))
       (after-bare Blank (Inside n e) (expr_items e) blank-bare (inside-has_items e)) text s o t h p)
 
   bracket-has_items : (xs : List SelectorTree)
@@ -127,21 +128,21 @@ module _ (n : ℕ) (inside-has_items : (e : ExprTree) → HasItems (Inside n e) 
       let entry : SelectorTree → Form = λ x. Selector (Inside n) x ⌢ Blank in
       let entries = Separated comma entry xs in
       let items = selectors_items (selectors xs) in
-      after-bare (word (91 ∷ [])) (Blank ⌢ entries ⌢ word (93 ∷ [])) items (bare-word (91 ∷ []))
-      (after-bare Blank (entries ⌢ word (93 ∷ [])) items blank-bare
-      (before-bare entries (word (93 ∷ [])) items
+      after-bare (word (codes "[")) (Blank ⌢ entries ⌢ word (codes "]")) items (bare-word (codes "["))
+      (after-bare Blank (entries ⌢ word (codes "]")) items blank-bare
+      (before-bare entries (word (codes "]")) items
       (separated-has_items selector_items (λ ys. selectors_items (selectors ys)) refl
       (λ y ys. refl) comma entry comma-bare
       (λ x. before-bare (Selector (Inside n) x) Blank (selector_items x)
       (selector-has_items x) blank-bare) xs)
-      (bare-word (93 ∷ []))))
+      (bare-word (codes "]"))))
 
   member-segment : (y : SelectorTree) → HasItems (Member y) (selectors_items (selectors (y ∷ [])))
   member-segment y =
       subst (HasItems (Member y)) (sym (append-nil (selector_items y))) (member-has_items y)
 
-  after-dot : (P : Form) (xs : List QueryItem) → HasItems P xs → HasItems (word (46 ∷ []) ⌢ P) xs
-  after-dot P xs f = after-bare (word (46 ∷ [])) P xs (bare-word (46 ∷ [])) f
+  after-dot : (P : Form) (xs : List QueryItem) → HasItems P xs → HasItems (word (codes ".") ⌢ P) xs
+  after-dot P xs f = after-bare (word (codes ".")) P xs (bare-word (codes ".")) f
 
   segment-has_items : (x : SegmentTree) → HasItems (Segment (Inside n) x) (segment_items x)
   segment-has_items x text s o t (bracketed ys e h) p = rw e (bracket-has_items ys text s o t h p)
@@ -152,12 +153,12 @@ module _ (n : ℕ) (inside-has_items : (e : ExprTree) → HasItems (Inside n e) 
   segment-has_items x text s o t (deep_bracketed ys e h) p =
       let items = selectors_items (selectors ys) in
       rw e
-      (after-dot (word (46 ∷ []) ⌢ Bracket (Inside n) ys) items
+      (after-dot (word (codes ".") ⌢ Bracket (Inside n) ys) items
       (after-dot (Bracket (Inside n) ys) items (bracket-has_items ys)) text s o t h p)
   segment-has_items x text s o t (deep_dotted y e h) p =
       let items = selectors_items (selectors (y ∷ [])) in
       rw e
-      (after-dot (word (46 ∷ []) ⌢ Member y) items
+      (after-dot (word (codes ".") ⌢ Member y) items
       (after-dot (Member y) items (member-segment y)) text s o t h p)
 
   segments-has_items : (xs : List SegmentTree)
@@ -208,11 +209,11 @@ module _ (n : ℕ) (inside-has_items : (e : ExprTree) → HasItems (Inside n e) 
   parenthesis-has_items : (e : ExprTree) → HasItems (Parenthesis (Inside n) e) (expr_items e)
   parenthesis-has_items e =
       let items = expr_items e in
-      let close = Blank ⌢ word (41 ∷ []) in
-      after-bare (word (40 ∷ [])) (Blank ⌢ Inside n e ⌢ close) items (bare-word (40 ∷ []))
+      let close = Blank ⌢ word (codes ")") in
+      after-bare (word (codes "(")) (Blank ⌢ Inside n e ⌢ close) items (bare-word (codes "("))
       (after-bare Blank (Inside n e ⌢ close) items blank-bare
       (before-bare (Inside n e) close items (inside-has_items e)
-      (bare-joined Blank (word (41 ∷ [])) blank-bare (bare-word (41 ∷ [])))))
+      (bare-joined Blank (word (codes ")")) blank-bare (bare-word (codes ")")))))
 
   comparison-has_items : (left right : OperandTree) (op : Op)
       → HasItems (Comparison (Inside n) left op right) (expr_items (comparison left op right))
@@ -227,9 +228,9 @@ module _ (n : ℕ) (inside-has_items : (e : ExprTree) → HasItems (Inside n e) 
       (after-bare Blank two items blank-bare (side-has_items right))))
 
   after-not : (P : Form) (xs : List QueryItem) → HasItems P xs
-      → HasItems (word (33 ∷ []) ⌢ Blank ⌢ P) xs
+      → HasItems (word (codes "!") ⌢ Blank ⌢ P) xs
   after-not P xs f =
-      after-bare (word (33 ∷ [])) (Blank ⌢ P) xs (bare-word (33 ∷ []))
+      after-bare (word (codes "!")) (Blank ⌢ P) xs (bare-word (codes "!"))
       (after-bare Blank P xs blank-bare f)
 
   basic-has_items : (e : ExprTree) → HasItems (Basic (Inside n) e) (expr_items e)
@@ -276,7 +277,7 @@ pub spans-of_items : SpansOfItems
 spans-of_items n q s text h =
     let items = segments_items (segments h.parts) in
     let placed =
-    after-bare (word (36 ∷ [])) (Segments (Inside n) h.parts) items (bare-word (36 ∷ []))
+    after-bare (word (codes "$")) (Segments (Inside n) h.parts) items (bare-word (codes "$"))
     (segments-has_items n (levels-have_items n) h.parts)
     text s 0 text h.is (whole-part text) in
     rw h.tree (record { each = placed.each; rise = placed.rise })

@@ -8,12 +8,14 @@ use Rattle.jp_query.specs.Private.Reading.{inside, query_at}
 
 stays-inside : (n mark : ℕ) (p : State) → Stays (inside n mark p) (inside (suc n) mark p)
 stays-inside zero mark p = needs_more p refl
-stays-inside (suc n) mark p = stays-rule (inside n) (inside (suc n)) (stays-inside n) (inside_mark mark) p
+stays-inside (suc n) mark p =
+    stays-rule (inside n) (inside (suc n)) (stays-inside n) (inside_mark mark) p
 
 stays-query : (n : ℕ) (p : State) → Stays (query_at n p) (query_at (suc n) p)
 unfolding query_at
 stays-query n p =
-    stays-then (read (inside n) query p) (read (inside (suc n)) query p) _ _ (stays-rule (inside n) (inside (suc n)) (stays-inside n) query p)
+    stays-then (read (inside n) query p) (read (inside (suc n)) query p) _ _
+    (stays-rule (inside n) (inside (suc n)) (stays-inside n) query p)
     (λ q r. stays refl)
 
 -- where reading is stuck, it is stuck there with one level more too

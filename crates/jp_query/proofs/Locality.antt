@@ -1,4 +1,5 @@
--- Reading a query looks at its text from its beginning on, and what comes after the text that it looks at changes nothing.
+-- Reading a query looks at its text from its beginning on, and what comes after the text that it
+-- looks at changes nothing.
 use Rattle.std.proofs.Common.{◌≡◌, ℕ, zero, suc, ◌≤◌, false, if◌then◌else◌, [], ◌∷◌, ◌++◌, ◌==◌, length, inl, inr, arith}
 use Rattle.std.proofs.lemmas.Bool.{cases_Bool, eqb-true}
 use Rattle.jp_reading.specs.Texts.{Text, Spans}
@@ -13,7 +14,8 @@ use Rattle.jp_query.proofs.Levels.{inside-progress}
 
 local-inside : (n mark : ℕ) → Local all unblanked (inside n mark)
 local-inside zero mark = local-deep unblanked
-local-inside (suc n) mark = local-rule (inside n) (inside-progress n) (local-inside n) (inside_mark mark)
+local-inside (suc n) mark =
+    local-rule (inside n) (inside-progress n) (local-inside n) (inside_mark mark)
 
 -- where a query's segments end the text ends too, or there is a stop past the blanks
 at_text_end : {A : Type 0} → A → State → Outcome A
@@ -33,20 +35,27 @@ local-text_end {A} x = record {
   agrees = λ u p. alike u p.at p.found p.rest;
 }
   where
-    comes : (m at : ℕ) (found : Spans) (t : Text) → unblanked t ≤ m → Ends all m (at_text_end x (record { at = at; rest = t; found = found }))
+    comes : (m at : ℕ) (found : Spans) (t : Text) → unblanked t ≤ m
+        → Ends all m (at_text_end x (record { at = at; rest = t; found = found }))
     comes m at found [] e = omega arith
     comes m at found (c ∷ t) e =
-        rw (goes_on c t) (let f = unblanked-skip (record { at = at; rest = c ∷ t; found = found }) in omega arith)
+        rw (goes_on c t)
+        (let f = unblanked-skip
+        (record { at = at; rest = c ∷ t; found = found }) in omega arith)
 
     alike : (u : Text) (at : ℕ) (found : Spans) (t : Text)
-        → Agrees all u (at_text_end x (record { at = at; rest = t; found = found })) (at_text_end x (record { at = at; rest = t ++ u; found = found }))
+        → Agrees all u (at_text_end x (record { at = at; rest = t; found = found }))
+        (at_text_end x (record { at = at; rest = t ++ u; found = found }))
     alike u at found [] =
-        ended (omega arith) (comes (length u) at found u (skip-shorter (record { at = 0; rest = u; found = [] })))
+        ended (omega arith)
+        (comes (length u) at found u (skip-shorter (record { at = 0; rest = u; found = [] })))
     alike u at found (c ∷ t) =
         rw (goes_on c t, goes_on c (t ++ u))
-        ((local-skip {A = A} all stuck (local-stuck all)).agrees u (record { at = at; rest = c ∷ t; found = found }))
+        ((local-skip {A = A} all stuck (local-stuck all)).agrees u
+        (record { at = at; rest = c ∷ t; found = found }))
 
 pub local-query : (n : ℕ) → Local all all (query_at n)
 unfolding query_at at_text_end
 local-query n =
-    local-then all unblanked all (read (inside n) query) _ (local-rule (inside n) (inside-progress n) (local-inside n) query) (λ q. local-text_end q)
+    local-then all unblanked all (read (inside n) query) _
+    (local-rule (inside n) (inside-progress n) (local-inside n) query) (λ q. local-text_end q)

@@ -18,21 +18,27 @@ use Rattle.jp_query.proofs.Places.{stuck-place, deep-place}
 -- ---- viable prefixes of one text
 
 -- what begins a viable prefix is one
-viable-less : (n : ℕ) (prefix more : Text) → IsViablePrefix n (prefix ++ more) → IsViablePrefix n prefix
+viable-less : (n : ℕ) (prefix more : Text) → IsViablePrefix n (prefix ++ more)
+    → IsViablePrefix n prefix
 viable-less n prefix more h =
     (more ++ h.0, h.1, h.2, subst (Spells n h.1 h.2) (append_assoc prefix more h.0) h.3)
 
 -- a text that spells a tree is a viable prefix, and so is what begins it
-spelled-viable : (n : ℕ) (text prefix more : Text) (q : QueryTree) (s : Spans) → text ≡ prefix ++ more → Spells n q s text → IsViablePrefix n prefix
+spelled-viable : (n : ℕ) (text prefix more : Text) (q : QueryTree) (s : Spans)
+    → text ≡ prefix ++ more → Spells n q s text → IsViablePrefix n prefix
 spelled-viable n text prefix more q s e h = (more, q, s, subst (Spells n q s) e h)
 
--- two prefixes of one text are the same, or one goes on with the character that comes after the other
+-- two prefixes of one text are the same, or one goes on with the character that comes after the
+-- other
 data Meet (prefix other rest left : Text) : Type 0 where
   together : prefix ≡ other → Meet prefix other rest left
-  further : (c : ℕ) (t u : Text) → rest ≡ c ∷ t → other ≡ (prefix ++ c ∷ []) ++ u → Meet prefix other rest left
-  less : (c : ℕ) (t u : Text) → left ≡ c ∷ t → prefix ≡ (other ++ c ∷ []) ++ u → Meet prefix other rest left
+  further : (c : ℕ) (t u : Text) → rest ≡ c ∷ t → other ≡ (prefix ++ c ∷ []) ++ u
+      → Meet prefix other rest left
+  less : (c : ℕ) (t u : Text) → left ≡ c ∷ t → prefix ≡ (other ++ c ∷ []) ++ u
+      → Meet prefix other rest left
 
-meet : (prefix other rest left : Text) → prefix ++ rest ≡ other ++ left → Meet prefix other rest left
+meet : (prefix other rest left : Text) → prefix ++ rest ≡ other ++ left
+    → Meet prefix other rest left
 meet [] [] rest left e = together refl
 meet [] (c ∷ other) rest left e = further c (other ++ left) other e refl
 meet (c ∷ prefix) [] rest left e = less c (prefix ++ rest) prefix (sym e) refl
@@ -52,18 +58,27 @@ record Point (n : ℕ) (text : Text) (place : ℕ) : Type 0 where
   parts : text ≡ before ++ rest
   place_is : bytes before ≡ place
   is_viable : IsViablePrefix n before
-  no_further : (mark : ℕ) (after : Text) → rest ≡ mark ∷ after → IsNoViablePrefix n (before ++ mark ∷ [])
+  no_further : (mark : ℕ) (after : Text) → rest ≡ mark ∷ after
+      → IsNoViablePrefix n (before ++ mark ∷ [])
 
-one-prefix : (n : ℕ) (text : Text) (place other : ℕ) (h : Point n text place) (g : Point n text other) → h.before ≡ g.before
-one-prefix n text place other h g = meets (meet h.before g.before h.rest g.rest (sym h.parts ∙ g.parts))
+one-prefix : (n : ℕ) (text : Text) (place other : ℕ) (h : Point n text place)
+    (g : Point n text other) → h.before ≡ g.before
+one-prefix n text place other h g =
+    meets (meet h.before g.before h.rest g.rest (sym h.parts ∙ g.parts))
   where
     meets : Meet h.before g.before h.rest g.rest → h.before ≡ g.before
     meets (together e) = e
-    meets (further c t u e f) = absurd (h.no_further c t e (viable-less n (h.before ++ c ∷ []) u (subst (IsViablePrefix n) f g.is_viable)))
-    meets (less c t u e f) = absurd (g.no_further c t e (viable-less n (g.before ++ c ∷ []) u (subst (IsViablePrefix n) f h.is_viable)))
+    meets (further c t u e f) =
+        absurd (h.no_further c t e
+        (viable-less n (h.before ++ c ∷ []) u (subst (IsViablePrefix n) f g.is_viable)))
+    meets (less c t u e f) =
+        absurd (g.no_further c t e
+        (viable-less n (g.before ++ c ∷ []) u (subst (IsViablePrefix n) f h.is_viable)))
 
-one-point : (n : ℕ) (text : Text) (place other : ℕ) → Point n text place → Point n text other → place ≡ other
-one-point n text place other h g = sym h.place_is ∙ ap bytes (one-prefix n text place other h g) ∙ g.place_is
+one-point : (n : ℕ) (text : Text) (place other : ℕ) → Point n text place → Point n text other
+    → place ≡ other
+one-point n text place other h g =
+    sym h.place_is ∙ ap bytes (one-prefix n text place other h g) ∙ g.place_is
 
 -- at a character, and at the end
 mark-point : (n : ℕ) (text : Text) (place : ℕ) → EndsViablePrefix n text place → Point n text place
@@ -73,7 +88,10 @@ mark-point n text place h = record {
   parts = h.parts;
   place_is = h.place_is;
   is_viable = h.is_viable;
-  no_further = λ c t e. (let same : h.mark ≡ c = cc in subst (λ d. IsNoViablePrefix n (h.before ++ d ∷ [])) same h.is_not_viable);
+  no_further =
+      λ c t e.
+      (let same : h.mark ≡ c = cc in subst
+      (λ d. IsNoViablePrefix n (h.before ++ d ∷ [])) same h.is_not_viable);
 }
 
 syntax-point : (n : ℕ) (text : Text) (place : ℕ) → IsSyntaxAt n text place → Point n text place
@@ -90,49 +108,74 @@ syntax-point n text place (inr h) = mark-point n text place h.end
 deep-point : (n : ℕ) (text : Text) (place : ℕ) → IsTooDeepAt n text place → Point n text place
 deep-point n text place h = mark-point n text place h.end
 
--- through a mark that begins a level too many the text goes on one level deeper, through any other it does not
-not-both : (n : ℕ) (text : Text) (place other : ℕ) → IsSyntaxAt n text place → IsTooDeepAt n text other → ⊥
+-- through a mark that begins a level too many the text goes on one level deeper, through any other
+-- it does not
+not-both : (n : ℕ) (text : Text) (place other : ℕ) → IsSyntaxAt n text place
+    → IsTooDeepAt n text other → ⊥
 unfolding syntax-point mark-point deep-point
 not-both n text place other (inl h) g =
     let end = g.end in
     end.is_not_viable
     (viable-less n (end.before ++ end.mark ∷ []) end.after
-    (subst (IsViablePrefix n) (end.parts ∙ sym (append_assoc end.before (end.mark ∷ []) end.after)) h.is_viable))
+    (subst (IsViablePrefix n)
+    (end.parts ∙ sym (append_assoc end.before (end.mark ∷ []) end.after)) h.is_viable))
 not-both n text place other (inr h) g =
-    let before = one-prefix n text place other (syntax-point n text place (inr h)) (deep-point n text other g) in
+    let before = one-prefix n text place other (syntax-point n text place (inr h))
+    (deep-point n text other g) in
     let one = h.end in
     let two = g.end in
     let left : one.mark ∷ one.after ≡ two.mark ∷ two.after =
-    append_cancel_left two.before (one.mark ∷ one.after) (two.mark ∷ two.after) (ap (λ t. t ++ one.mark ∷ one.after) (sym before) ∙ sym one.parts ∙ two.parts) in
+    append_cancel_left two.before (one.mark ∷ one.after) (two.mark ∷ two.after)
+    (ap (λ t. t ++ one.mark ∷ one.after) (sym before) ∙ sym one.parts ∙ two.parts) in
     let mark : one.mark ≡ two.mark = cc in
     h.none_deeper (rw (before, mark) g.deeper)
 
 -- ---- the law
 
-once : (n : ℕ) (text : Text) (kind other : RefusalKind) (place elsewhere : ℕ) → IsParseRefusal n text kind place → IsParseRefusal n text other elsewhere
+once : (n : ℕ) (text : Text) (kind other : RefusalKind) (place elsewhere : ℕ)
+    → IsParseRefusal n text kind place → IsParseRefusal n text other elsewhere
     → (kind ≡ other) × (place ≡ elsewhere)
-once n text kind other place elsewhere (inl h) (inl g) =
-    (h.0 ∙ sym g.0, one-point n text place elsewhere (syntax-point n text place h.1) (syntax-point n text elsewhere g.1))
-once n text kind other place elsewhere (inr h) (inr g) =
-    (h.0 ∙ sym g.0, one-point n text place elsewhere (deep-point n text place h.1) (deep-point n text elsewhere g.1))
-once n text kind other place elsewhere (inl h) (inr g) = absurd (not-both n text place elsewhere h.1 g.1)
-once n text kind other place elsewhere (inr h) (inl g) = absurd (not-both n text elsewhere place g.1 h.1)
+once n text kind other place elsewhere (inl h) (inl g) = (
+  h.0 ∙ sym g.0,
+  one-point n text place elsewhere (syntax-point n text place h.1)
+      (syntax-point n text elsewhere g.1),
+)
+once n text kind other place elsewhere (inr h) (inr g) = (
+  h.0 ∙ sym g.0,
+  one-point n text place elsewhere (deep-point n text place h.1)
+      (deep-point n text elsewhere g.1),
+)
+once n text kind other place elsewhere (inl h) (inr g) =
+    absurd (not-both n text place elsewhere h.1 g.1)
+once n text kind other place elsewhere (inr h) (inl g) =
+    absurd (not-both n text elsewhere place g.1 h.1)
 
-nothing-spelled : (n : ℕ) (text : Text) (place : ℕ) → EndsViablePrefix n text place → SpellsNothing n text
+nothing-spelled : (n : ℕ) (text : Text) (place : ℕ) → EndsViablePrefix n text place
+    → SpellsNothing n text
 nothing-spelled n text place end q s h =
     let through = end.before ++ end.mark ∷ [] in
-    end.is_not_viable (spelled-viable n text through end.after q s (end.parts ∙ sym (append_assoc end.before (end.mark ∷ []) end.after)) h)
+    end.is_not_viable
+    (spelled-viable n text through end.after q s
+    (end.parts ∙ sym (append_assoc end.before (end.mark ∷ []) end.after)) h)
 
-only : (n : ℕ) (text : Text) (kind : RefusalKind) (place : ℕ) → IsParseRefusal n text kind place → SpellsNothing n text
+only : (n : ℕ) (text : Text) (kind : RefusalKind) (place : ℕ) → IsParseRefusal n text kind place
+    → SpellsNothing n text
 only n text kind place (inl (e, inl h)) = h.nothing
 only n text kind place (inl (e, inr h)) = nothing-spelled n text place h.end
 only n text kind place (inr (e, h)) = nothing-spelled n text place h.end
 
 answered : (n : ℕ) (text : Text) (o : Outcome QueryTree) → query_at n (start text) ≡ o
-    → ((q : QueryTree) × (s : Spans) × Spells n q s text) ⊎ ((kind : RefusalKind) × (place : ℕ) × IsParseRefusal n text kind place)
+    → ((q : QueryTree) × (s : Spans) × Spells n q s text) ⊎
+    ((kind : RefusalKind) × (place : ℕ) × IsParseRefusal n text kind place)
 answered n text (took q r) e = inl (q, r.found, read-spells n text q r e)
 answered n text (stuck r) e = inr (Syntax, r.at, inl (refl, stuck-place n text r e))
 answered n text (deep r) e = inr (TooDeep, r.at, inr (refl, deep-place n text r e))
 
 pub one-refusal : OneRefusal
-one-refusal n text = record { answered = answered n text (query_at n (start text)) refl; once = once n text; only = only n text }
+one-refusal n text =
+    record {
+      answered = answered n text
+          (query_at n (start text)) refl;
+      once = once n text;
+      only = only n text;
+    }

@@ -20,64 +20,90 @@ use Rattle.jp_reading.specs.declared.span.Span.{Span}
 use Rattle.jp_query.specs.Singular.{is_singular}
 
 -- a letter, a letter above ASCII and `_` begin a shorthand; a digit only goes on with one
-shorthand-rows : (is_name_first 97 ≡ true) × (is_name_first 233 ≡ true) × (is_name_first 95 ≡ true) × (is_name_first 48 ≡ false) × (is_name_char 48 ≡ true)
+shorthand-rows : (is_name_first 97 ≡ true) × (is_name_first 233 ≡ true) × (is_name_first 95 ≡ true)
+    × (is_name_first 48 ≡ false) × (is_name_char 48 ≡ true)
 unfolding is_digit
 shorthand-rows = (refl, refl, refl, refl, refl)
 
--- between single quotation marks a double one stands for itself, a single one, a backslash and U+001F do not
-plain-rows : (is_plain 39 34 ≡ true) × (is_plain 39 39 ≡ false) × (is_plain 39 92 ≡ false) × (is_plain 39 31 ≡ false) × (is_plain 39 127 ≡ true)
+-- between single quotation marks a double one stands for itself, a single one, a backslash and
+-- U+001F do not
+plain-rows : (is_plain 39 34 ≡ true) × (is_plain 39 39 ≡ false) × (is_plain 39 92 ≡ false)
+    × (is_plain 39 31 ≡ false) × (is_plain 39 127 ≡ true)
 plain-rows = (refl, refl, refl, refl, refl)
 
 -- the ends of the range
-range-rows : (whole_of 18446744073709551615 ≡ Whole (pos 18446744073709551615)) × (whole_of 18446744073709551616 ≡ Beyond)
-    × (negative_of 9223372036854775808 ≡ Whole (negsuc 9223372036854775807)) × (negative_of 9223372036854775809 ≡ Beyond)
+range-rows : (whole_of 18446744073709551615 ≡ Whole (pos 18446744073709551615))
+    × (whole_of 18446744073709551616 ≡ Beyond)
+    × (negative_of 9223372036854775808 ≡ Whole (negsuc 9223372036854775807))
+    × (negative_of 9223372036854775809 ≡ Beyond)
 range-rows = (refl, refl, refl, refl)
 
 -- `$[10]`: one index, from byte 2 up to byte 4
 abbrev ten : QueryTree
 ten = query true (segments (segment false (selectors (index (Whole (pos 10)) ∷ [])) ∷ []))
 
-index-spells : Spells 64 ten (Some (record { start = 2; end = 4 }) ∷ []) (36 ∷ 91 ∷ 49 ∷ 48 ∷ 93 ∷ [])
+index-spells : Spells 64 ten (Some (record { start = 2; end = 4 }) ∷ [])
+    (codes "$[10]")
 unfolding query_at rule.query rule.segments rule.segment rule.bracket rule.entries rule.entry rule.selector rule.number_selector rule.int rule.unsigned rule.size past_blanks loop is_blank is_digit
-index-spells = read-spells 64 (36 ∷ 91 ∷ 49 ∷ 48 ∷ 93 ∷ []) ten (finish (36 ∷ 91 ∷ 49 ∷ 48 ∷ 93 ∷ []) (Some (record { start = 2; end = 4 }) ∷ [])) refl
+index-spells =
+    read-spells 64 (codes "$[10]") ten
+    (finish (codes "$[10]") (Some (record { start = 2; end = 4 }) ∷ [])) refl
 
 index-items : items_of ten ≡ int (Whole (pos 10)) as_index ∷ []
 index-items = refl
 
 -- `$ .a['']`: two names, no item
 abbrev names : QueryTree
-names = query true (segments (segment false (selectors (name (97 ∷ []) ∷ [])) ∷ segment false (selectors (name [] ∷ [])) ∷ []))
+names =
+    query true
+    (segments
+    (segment false (selectors (name (codes "a") ∷ [])) ∷ segment false
+    (selectors (name [] ∷ [])) ∷ []))
 
-names-spell : Spells 64 names [] (36 ∷ 32 ∷ 46 ∷ 97 ∷ 91 ∷ 39 ∷ 39 ∷ 93 ∷ [])
+names-spell : Spells 64 names [] (codes "$ .a['']")
 unfolding query_at rule.query rule.segments rule.segment rule.bracket rule.entries rule.entry rule.member rule.selection rule.selector rule.quoted rule.characters rule.shorthand past_blanks loop is_blank is_digit
-names-spell = read-spells 64 (36 ∷ 32 ∷ 46 ∷ 97 ∷ 91 ∷ 39 ∷ 39 ∷ 93 ∷ []) names (finish (36 ∷ 32 ∷ 46 ∷ 97 ∷ 91 ∷ 39 ∷ 39 ∷ 93 ∷ []) []) refl
+names-spell =
+    read-spells 64 (codes "$ .a['']") names
+    (finish (codes "$ .a['']") []) refl
 
 -- `$[01]` is stuck at byte 3, and `$.a` and a blank at its end
-zero-row : query_at 64 (start (36 ∷ 91 ∷ 48 ∷ 49 ∷ 93 ∷ [])) ≡ stuck (record { at = 3; rest = 49 ∷ 93 ∷ []; found = Some (record { start = 2; end = 3 }) ∷ [] })
+zero-row : query_at 64 (start (codes "$[01]")) ≡ stuck
+    (record { at = 3; rest = codes "1]"; found = Some (record { start = 2; end = 3 }) ∷ [] })
 unfolding query_at rule.query rule.segments rule.segment rule.bracket rule.entries rule.entry rule.selector rule.number_selector rule.int rule.unsigned past_blanks loop is_blank is_digit
 zero-row = refl
 
-blank-row : query_at 64 (start (36 ∷ 46 ∷ 97 ∷ 32 ∷ [])) ≡ stuck (record { at = 4; rest = []; found = [] })
+blank-row : query_at 64 (start (codes "$.a ")) ≡ stuck
+    (record { at = 4; rest = []; found = [] })
 unfolding query_at rule.query rule.segments rule.segment rule.member rule.selection rule.shorthand past_blanks loop is_blank is_digit
 blank-row = refl
 
 -- `$[:]`: neither bound, and an omitted step, which is 1 and has no span
 abbrev all : QueryTree
-all = query true (segments (segment false (selectors (slice (record { start = None; end = None; step = Whole (pos 1) }) ∷ [])) ∷ []))
+all =
+    query true
+    (segments
+    (segment false
+    (selectors
+    (slice (record { start = None; end = None; step = Whole (pos 1) }) ∷ [])) ∷ []))
 
-slice-spells : Spells 64 all (None ∷ []) (36 ∷ 91 ∷ 58 ∷ 93 ∷ [])
+slice-spells : Spells 64 all (None ∷ []) (codes "$[:]")
 unfolding query_at rule.query rule.segments rule.segment rule.bracket rule.entries rule.entry rule.selector rule.slice_from rule.bound rule.step past_blanks loop is_blank
-slice-spells = read-spells 64 (36 ∷ 91 ∷ 58 ∷ 93 ∷ []) all (finish (36 ∷ 91 ∷ 58 ∷ 93 ∷ []) (None ∷ [])) refl
+slice-spells =
+    read-spells 64 (codes "$[:]") all (finish (codes "$[:]") (None ∷ [])) refl
 
 -- `$..*`: a descendant segment of a wildcard
-descend-spells : Spells 64 (query true (segments (segment true (selectors (wildcard ∷ [])) ∷ []))) [] (36 ∷ 46 ∷ 46 ∷ 42 ∷ [])
+descend-spells : Spells 64
+    (query true (segments (segment true (selectors (wildcard ∷ [])) ∷ []))) []
+    (codes "$..*")
 unfolding query_at rule.query rule.segments rule.segment rule.selection rule.member past_blanks loop is_blank
 descend-spells =
-    read-spells 64 (36 ∷ 46 ∷ 46 ∷ 42 ∷ []) (query true (segments (segment true (selectors (wildcard ∷ [])) ∷ [])))
-    (finish (36 ∷ 46 ∷ 46 ∷ 42 ∷ []) []) refl
+    read-spells 64 (codes "$..*")
+    (query true (segments (segment true (selectors (wildcard ∷ [])) ∷ [])))
+    (finish (codes "$..*") []) refl
 
 -- the pair D83D, DE00 is U+1F600; `\b` is U+0008, and `\/` a slash
-escape-rows : (scalar_of 55357 56832 ≡ 128512) × (escaped 98 ≡ 8) × (escaped 47 ≡ 47) × (is_escapable 34 39 ≡ false) × (is_escapable 39 39 ≡ true)
+escape-rows : (scalar_of 55357 56832 ≡ 128512) × (escaped 98 ≡ 8) × (escaped 47 ≡ 47)
+    × (is_escapable 34 39 ≡ false) × (is_escapable 39 39 ≡ true)
 escape-rows = (refl, refl, refl, refl, refl)
 
 -- ---- filters
@@ -92,13 +118,14 @@ here = query false (segments [])
 
 -- `@.a`
 abbrev member_a : QueryTree
-member_a = query false (segments (segment false (selectors (name (97 ∷ []) ∷ [])) ∷ []))
+member_a = query false (segments (segment false (selectors (name (codes "a") ∷ [])) ∷ []))
 
 -- a span
 abbrev at_bytes : ℕ → ℕ → Option Span
 at_bytes from to = Some (record { start = from; end = to })
 
--- `$[?@]`, `$[?!(@)]`; `!` belongs to one part alone, and `&&` binds more tightly than `||`; `-0` is 0, and 1.0 a fraction
+-- `$[?@]`, `$[?!(@)]`; `!` belongs to one part alone, and `&&` binds more tightly than `||`; `-0`
+-- is 0, and 1.0 a fraction
 abbrev test : QueryTree
 test = filtered_by (exists here)
 
@@ -106,39 +133,57 @@ abbrev negated : QueryTree
 negated = filtered_by (negation (exists here))
 
 abbrev several : QueryTree
-several = filtered_by (any_of (exprs (negation (exists here) ∷ all_of (exprs (exists here ∷ exists member_a ∷ [])) ∷ [])))
+several =
+    filtered_by
+    (any_of (exprs
+    (negation (exists here) ∷ all_of (exprs (exists here ∷ exists member_a ∷ [])) ∷ [])))
 
 abbrev compared : QueryTree
-compared = filtered_by (all_of (exprs (comparison (literal (number (Whole (pos 0)))) LessEqual (node_value member_a)
+compared =
+    filtered_by
+    (all_of (exprs
+    (comparison (literal (number (Whole (pos 0)))) LessEqual (node_value member_a)
     ∷ comparison (node_value here) Equal (literal (number Fraction)) ∷ [])))
 
 -- a filter takes a level, and a parenthesis another one; each side and each test is an item
 spelled-rows : Spells 1 test (at_bytes 3 4 ∷ []) (codes "$[?@]")
     × Spells 2 negated (at_bytes 5 6 ∷ []) (codes "$[?!(@)]")
-    × Spells 1 several (at_bytes 5 6 ∷ at_bytes 8 9 ∷ at_bytes 12 15 ∷ []) (codes "$[? !@||@ &&@.a ]")
-    × Spells 1 compared (at_bytes 3 5 ∷ at_bytes 7 10 ∷ at_bytes 12 13 ∷ at_bytes 15 18 ∷ []) (codes "$[?-0<=@.a&&@==1.0]")
+    × Spells 1 several (at_bytes 5 6 ∷ at_bytes 8 9 ∷ at_bytes 12 15 ∷ [])
+    (codes "$[? !@||@ &&@.a ]")
+    × Spells 1 compared (at_bytes 3 5 ∷ at_bytes 7 10 ∷ at_bytes 12 13 ∷ at_bytes 15 18 ∷ [])
+    (codes "$[?-0<=@.a&&@==1.0]")
 unfolding query_at rule.query rule.segments rule.segment rule.bracket rule.entries rule.entry rule.selector rule.member rule.selection rule.shorthand rule.inner_query rule.identifier rule.side rule.comparison_with rule.test rule.closed rule.negated rule.basic rule.literal_compared rule.inside_mark rule.conjunction rule.expression rule.operator rule.literal rule.number rule.mantissa rule.decimals rule.exponent rule.power rule.digits rule.int rule.unsigned rule.size past_blanks loop is_blank is_digit
 spelled-rows = (
   read-spells 1 (codes "$[?@]") test (finish (codes "$[?@]") (at_bytes 3 4 ∷ [])) refl,
   read-spells 2 (codes "$[?!(@)]") negated (finish (codes "$[?!(@)]") (at_bytes 5 6 ∷ [])) refl,
-  read-spells 1 (codes "$[? !@||@ &&@.a ]") several (finish (codes "$[? !@||@ &&@.a ]") (at_bytes 5 6 ∷ at_bytes 8 9 ∷ at_bytes 12 15 ∷ [])) refl,
+  read-spells 1 (codes "$[? !@||@ &&@.a ]") several
+      (finish (codes "$[? !@||@ &&@.a ]") (at_bytes 5 6 ∷ at_bytes 8 9 ∷ at_bytes 12 15 ∷ [])) refl,
   read-spells 1 (codes "$[?-0<=@.a&&@==1.0]") compared
-      (finish (codes "$[?-0<=@.a&&@==1.0]") (at_bytes 3 5 ∷ at_bytes 7 10 ∷ at_bytes 12 13 ∷ at_bytes 15 18 ∷ [])) refl,
+      (finish (codes "$[?-0<=@.a&&@==1.0]")
+      (at_bytes 3 5 ∷ at_bytes 7 10 ∷ at_bytes 12 13 ∷ at_bytes 15 18 ∷ [])) refl,
 )
 
--- with no level left, `?` and `(` are too deep; a literal is no test, parentheses are no side, a comparison has two
--- sides, and no operator is `=`
-refused-rows : (query_at 0 (start (codes "$[?@]")) ≡ deep (record { at = 2; rest = codes "?@]"; found = [] }))
-    × (query_at 1 (start (codes "$[?!(@)]")) ≡ deep (record { at = 4; rest = codes "(@)]"; found = [] }))
-    × (query_at 1 (start (codes "$[?1]")) ≡ stuck (record { at = 4; rest = codes "]"; found = at_bytes 3 4 ∷ [] }))
-    × (query_at 2 (start (codes "$[?(@)==1]")) ≡ stuck (record { at = 6; rest = codes "==1]"; found = at_bytes 4 5 ∷ [] }))
-    × (query_at 1 (start (codes "$[?@==1==2]")) ≡ stuck (record { at = 7; rest = codes "==2]"; found = at_bytes 3 4 ∷ at_bytes 6 7 ∷ [] }))
-    × (query_at 1 (start (codes "$[?@=1]")) ≡ stuck (record { at = 5; rest = codes "1]"; found = at_bytes 3 4 ∷ [] }))
+-- with no level left, `?` and `(` are too deep; a literal is no test, parentheses are no side, a
+-- comparison has two sides, and no operator is `=`
+refused-rows :
+    (query_at 0 (start (codes "$[?@]")) ≡ deep (record { at = 2; rest = codes "?@]"; found = [] }))
+    × (query_at 1 (start (codes "$[?!(@)]")) ≡ deep
+    (record { at = 4; rest = codes "(@)]"; found = [] }))
+    × (query_at 1 (start (codes "$[?1]")) ≡ stuck
+    (record { at = 4; rest = codes "]"; found = at_bytes 3 4 ∷ [] }))
+    × (query_at 2 (start (codes "$[?(@)==1]")) ≡ stuck
+    (record { at = 6; rest = codes "==1]"; found = at_bytes 4 5 ∷ [] }))
+    × (query_at 1 (start (codes "$[?@==1==2]")) ≡ stuck
+    (record { at = 7; rest = codes "==2]"; found = at_bytes 3 4 ∷ at_bytes 6 7 ∷ [] }))
+    × (query_at 1 (start (codes "$[?@=1]")) ≡ stuck
+    (record { at = 5; rest = codes "1]"; found = at_bytes 3 4 ∷ [] }))
 unfolding query_at rule.query rule.segments rule.segment rule.bracket rule.entries rule.entry rule.selector rule.member rule.selection rule.shorthand rule.inner_query rule.identifier rule.side rule.comparison_with rule.test rule.closed rule.negated rule.basic rule.literal_compared rule.inside_mark rule.conjunction rule.expression rule.operator rule.literal rule.number rule.mantissa rule.decimals rule.exponent rule.power rule.digits rule.int rule.unsigned rule.size past_blanks loop is_blank is_digit
 refused-rows = (refl, refl, refl, refl, refl, refl)
 
 compared-items : items_of compared
-    ≡ constant (number (Whole (pos 0))) as_side ∷ inner member_a as_side ∷ inner here as_side ∷ constant (number Fraction) as_side ∷ []
+    ≡ constant
+    (number (Whole (pos 0))) as_side ∷ inner member_a as_side ∷ inner here as_side ∷ constant
+    (number Fraction) as_side ∷ []
 compared-items = refl
 
 -- `@.a` is singular, and `$[?@]` is not

@@ -10,10 +10,14 @@ use Rattle.jp_query.specs.Private.Rules.{run, shorthand}
 use Rattle.jp_query.specs.Private.Reading.{read_flat}
 
 -- a shorthand is a run that begins with its first character
-pub shorthand-run : (p : State) (c : ℕ) → head p ≡ Some c → is_name_first c ≡ true → read_flat shorthand p ≡ read_flat (run is_name_char) p
+pub shorthand-run : (p : State) (c : ℕ) → head p ≡ Some c → is_name_first c ≡ true
+    → read_flat shorthand p ≡ read_flat (run is_name_char) p
 unfolding shorthand
 shorthand-run p c e h =
     let char : is_name_char c ≡ true = rw h refl in
-    ap (λ (o : Outcome ℕ). o >>= λ d q. by (λ cs. d ∷ cs) (read_flat (run is_name_char) q)) (take_if-takes is_name_first p c e h)
-    ∙ sym (each-on (λ q. passes is_name_char (head q)) (take_if is_name_char) (moves-take_if is_name_char) p (rw e char)
-    ∙ ap (λ (o : Outcome ℕ). round o (λ q. read_flat (run is_name_char) q)) (take_if-takes is_name_char p c e char))
+    ap (λ (o : Outcome ℕ). o >>= λ d q. by (λ cs. d ∷ cs) (read_flat (run is_name_char) q))
+    (take_if-takes is_name_first p c e h)
+    ∙ sym (each-on (λ q. passes is_name_char (head q)) (take_if is_name_char)
+    (moves-take_if is_name_char) p (rw e char)
+    ∙ ap (λ (o : Outcome ℕ). round o (λ q. read_flat (run is_name_char) q))
+    (take_if-takes is_name_char p c e char))

@@ -1,4 +1,5 @@
--- What the definitions of spans refuse: the bounds of `$[0:9]` the other way around, and a bound without a span.
+-- What the definitions of spans refuse: the bounds of `$[0:9]` the other way around, and a bound
+-- without a span.
 use Rattle.std.proofs.Common.{◌≡◌, ◌+◌, ℕ, pos, true, [], ◌∷◌, ◌++◌, Some, None, arith, sym, ap, ◌∙◌, subst}
 use Rattle.std.proofs.lemmas.Bool.{false≢true}
 use Rattle.std.proofs.lemmas.Str.{len_utf8_bounds}
@@ -62,6 +63,7 @@ row-swapped h =
     after-two it.before it.own it.after it.parts it.start it.end it.spells
 
 -- without a span is no bound, though it be 1
-row-bound : AreSpansOf (codes "$[1:]") (int (Whole (pos 1)) as_bound ∷ step_item ∷ []) (None ∷ None ∷ [])
+row-bound : AreSpansOf (codes "$[1:]") (int (Whole (pos 1)) as_bound ∷ step_item ∷ [])
+    (None ∷ None ∷ [])
     → ⊥
 row-bound h = let same = h.each.0 in cc

@@ -1,5 +1,6 @@
 -- Whole texts: what spells a query is read as it, so that no text spells two.
-use Rattle.std.proofs.Common.{◌≡◌, ℕ, ◌+◌, [], ◌∷◌, refl, sym, ap, ◌∙◌, arith}
+use Rattle.std.proofs.Common.{◌≡◌, ℕ, ◌+◌, refl, sym, ap, ◌∙◌, arith}
+use Rattle.std.specs.Prelude.{codes}
 use Rattle.jp_reading.specs.Texts.{Text, Spans}
 use Rattle.jp_reading.specs.Forms.{word}
 use Rattle.jp_reading.specs.Outcome.{State, Outcome, took, stuck, deep, past_blanks}
@@ -19,29 +20,39 @@ use Rattle.jp_query.proofs.Apart.{closes, at_end, query-apart}
 use Rattle.jp_query.proofs.Forms.Selectors.{marked, segments-spelt}
 use Rattle.jp_query.proofs.Levels.{inside-complete, spells-more}
 
-query-spelt : (n : ℕ) (q : QueryTree) (s : Spans) (text : Text) → Spells n q s text → form (marked (Inside n)) query q s 0 text
+query-spelt : (n : ℕ) (q : QueryTree) (s : Spans) (text : Text) → Spells n q s text
+    → form (marked (Inside n)) query q s 0 text
 unfolding query
 query-spelt n q s text h =
-    joined-over (word (36 ∷ [])) (Segments (Inside n) h.parts) _ s 0 text h.is
-    (record { part = h.parts; same = h.tree; is = segments-spelt (Inside n) h.parts h.is.second_spans _ h.is.second h.is.two })
+    joined-over (word (codes "$")) (Segments (Inside n) h.parts) _ s 0 text h.is
+    (record {
+      part = h.parts;
+      same = h.tree;
+      is = segments-spelt
+          (Inside n) h.parts h.is.second_spans _ h.is.second h.is.two;
+    })
 
 ends-meet : (t : Text) (s : Spans) → Meets at_end (finish t s)
 unfolding past_blanks
 ends-meet t s = record { near = refl; far = refl }
 
 -- what spells a tree is read as it
-pub spells-read : (n : ℕ) (q : QueryTree) (s : Spans) (text : Text) → Spells n q s text → query_at n (start text) ≡ took q (finish text s)
+pub spells-read : (n : ℕ) (q : QueryTree) (s : Spans) (text : Text) → Spells n q s text
+    → query_at n (start text) ≡ took q (finish text s)
 unfolding query_at
 spells-read n q s text h =
     let F = marked (Inside n) in
-    rw (done F closes (inside n) (inside-complete n) query query-alive at_end query-apart q (start text) (finish text s)
+    rw (done F closes (inside n) (inside-complete n) query query-alive at_end query-apart q
+    (start text) (finish text s)
     (reads-whole (form F query q) s text (query-spelt n q s text h)) (ends-meet text s)).reads refl
 
 -- where reading is stuck, or would need a level more, nothing spells the text
-pub unread-spells_nothing : (n : ℕ) (text : Text) (r : State) → query_at n (start text) ≡ stuck r → SpellsNothing n text
+pub unread-spells_nothing : (n : ℕ) (text : Text) (r : State) → query_at n (start text) ≡ stuck r
+    → SpellsNothing n text
 unread-spells_nothing n text r e q s h = let read = spells-read n q s text h in cc
 
-pub deep-spells_nothing : (n : ℕ) (text : Text) (r : State) → query_at n (start text) ≡ deep r → SpellsNothing n text
+pub deep-spells_nothing : (n : ℕ) (text : Text) (r : State) → query_at n (start text) ≡ deep r
+    → SpellsNothing n text
 deep-spells_nothing n text r e q s h = let read = spells-read n q s text h in cc
 
 -- no text spells two trees, or one tree with two lists of spans

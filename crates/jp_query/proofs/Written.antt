@@ -1,5 +1,6 @@
 -- Forms each of whose texts takes a byte at least.
 use Rattle.std.proofs.Common.{Bool, ℕ, ◌<◌, [], ◌∷◌, ap, ◌∙◌, arith}
+use Rattle.std.specs.Prelude.{codes}
 use Rattle.std.proofs.lemmas.Str.{len_utf8_bounds}
 use Rattle.jp_query.specs.declared.tree.Numeral.{Numeral}
 use Rattle.jp_reading.specs.Texts.{Text, Spans, bytes}
@@ -39,11 +40,11 @@ pub int-written : (n : Numeral) → Written (Int n)
 int-written n s o t (zero_int e h) = word-written 48 [] s o t h
 int-written n s o t (positive_int c more e h) = unsigned-written c more s o t h
 int-written n s o t (negative_int c more e h) =
-    joined-written (word (45 ∷ [])) (Unsigned c more) (word-written 45 []) s o t h
+    joined-written (word (codes "-")) (Unsigned c more) (word-written 45 []) s o t h
 
 pub mantissa-written : (n : Numeral) → Written (Mantissa n)
 mantissa-written n s o t (whole h) = int-written n s o t h
-mantissa-written n s o t (minus_zero e h) = word-written 45 (48 ∷ []) s o t h
+mantissa-written n s o t (minus_zero e h) = word-written 45 (codes "0") s o t h
 
 pub number-written : (n : Numeral) → Written (Number n)
 number-written n s o t (number y d e same h) =
@@ -62,6 +63,6 @@ quoted-written cs s o t (in_single h) = between-written 39 cs s o t h
 pub literal-written : (l : LiteralTree) → Written (Literal l)
 literal-written l s o t (of_number n e h) = number-written n s o t h
 literal-written l s o t (of_text cs e h) = quoted-written cs s o t h
-literal-written l s o t (of_true e h) = word-written 116 (114 ∷ 117 ∷ 101 ∷ []) s o t h
-literal-written l s o t (of_false e h) = word-written 102 (97 ∷ 108 ∷ 115 ∷ 101 ∷ []) s o t h
-literal-written l s o t (of_null e h) = word-written 110 (117 ∷ 108 ∷ 108 ∷ []) s o t h
+literal-written l s o t (of_true e h) = word-written 116 (codes "rue") s o t h
+literal-written l s o t (of_false e h) = word-written 102 (codes "alse") s o t h
+literal-written l s o t (of_null e h) = word-written 110 (codes "ull") s o t h

@@ -13,7 +13,7 @@ use Rattle.jp_query.specs.Ints.{Int}
 use Rattle.jp_query.specs.Slices.{Sliced}
 use Rattle.jp_query.specs.Literals.{Literal, spelling}
 
--- wildcard-selector or member-name-shorthand (section 2.5.1.1), behind a dot or two
+-- wildcard-selector or member-name-shorthand (section 2.5.1.1), after a dot or two
 pub data Member (y : SelectorTree) (s : Spans) (o : ℕ) (t : Text) : Type 0 where
   star : y ≡ wildcard → word (codes "*") s o t → Member y s o t
   member : (cs : Text) → y ≡ name cs → Shorthand cs s o t → Member y s o t
@@ -25,26 +25,33 @@ joined several es = several (exprs es)
 
 -- the rules, where Inner is the form of an expression one level further in
 module _ (Inner : ExprTree → Form) where
-  -- selector (section 2.3): a name between quotation marks, `*`, an index, which is an item, a slice, or `?` and an
-  -- expression (section 2.3.5.1)
+  -- selector (section 2.3): a name between quotation marks, `*`, an index, which is an item, a
+  -- slice, or `?` and an expression (section 2.3.5.1)
   pub data Selector (x : SelectorTree) (s : Spans) (o : ℕ) (t : Text) : Type 0 where
     named : (cs : Text) → x ≡ name cs → Quoted cs s o t → Selector x s o t
     any : x ≡ wildcard → word (codes "*") s o t → Selector x s o t
     indexed : (i : Numeral) → x ≡ index i → Item (Int i) s o t → Selector x s o t
     sliced : (y : Slice) → x ≡ slice y → Sliced y s o t → Selector x s o t
-    filtered : (e : ExprTree) → x ≡ filter e → (word (codes "?") ⌢ Blank ⌢ Inner e) s o t → Selector x s o t
+    filtered : (e : ExprTree) → x ≡ filter e → (word (codes "?") ⌢ Blank ⌢ Inner e) s o t
+        → Selector x s o t
 
-  -- bracketed-selection (section 2.5.1.1): selectors between brackets, with commas between them; blank
-  -- space may stand round each
+  -- bracketed-selection (section 2.5.1.1): selectors between brackets, with commas between them;
+  -- blank space may stand around each
   abbrev pub Bracket : List SelectorTree → Form
-  Bracket ys = word (codes "[") ⌢ Blank ⌢ Separated (word (codes ",") ⌢ Blank) (λ y. Selector y ⌢ Blank) ys ⌢ word (codes "]")
+  Bracket ys =
+      word (codes "[") ⌢ Blank ⌢ Separated (word (codes ",") ⌢ Blank) (λ y. Selector y ⌢ Blank) ys
+      ⌢ word (codes "]")
 
   -- child-segment (section 2.5.1.1), and descendant-segment (section 2.5.2.1) with its two dots
   pub data Segment (x : SegmentTree) (s : Spans) (o : ℕ) (t : Text) : Type 0 where
-    bracketed : (ys : List SelectorTree) → x ≡ segment false (selectors ys) → Bracket ys s o t → Segment x s o t
-    dotted : (y : SelectorTree) → x ≡ segment false (selectors (y ∷ [])) → (word (codes ".") ⌢ Member y) s o t → Segment x s o t
-    deep_bracketed : (ys : List SelectorTree) → x ≡ segment true (selectors ys) → (word (codes ".") ⌢ word (codes ".") ⌢ Bracket ys) s o t → Segment x s o t
-    deep_dotted : (y : SelectorTree) → x ≡ segment true (selectors (y ∷ [])) → (word (codes ".") ⌢ word (codes ".") ⌢ Member y) s o t → Segment x s o t
+    bracketed : (ys : List SelectorTree) → x ≡ segment false (selectors ys) → Bracket ys s o t
+        → Segment x s o t
+    dotted : (y : SelectorTree) → x ≡ segment false (selectors (y ∷ []))
+        → (word (codes ".") ⌢ Member y) s o t → Segment x s o t
+    deep_bracketed : (ys : List SelectorTree) → x ≡ segment true (selectors ys)
+        → (word (codes ".") ⌢ word (codes ".") ⌢ Bracket ys) s o t → Segment x s o t
+    deep_dotted : (y : SelectorTree) → x ≡ segment true (selectors (y ∷ []))
+        → (word (codes ".") ⌢ word (codes ".") ⌢ Member y) s o t → Segment x s o t
 
   -- segments (section 2.1.1): blank space may stand before each
   abbrev pub Segments : List SegmentTree → Form
@@ -52,10 +59,13 @@ module _ (Inner : ExprTree → Form) where
 
   -- filter-query (section 2.3.5.1), an item: from the root, or from the current node
   pub data InnerQuery (q : QueryTree) (s : Spans) (o : ℕ) (t : Text) : Type 0 where
-    from_root : (xs : List SegmentTree) → q ≡ query true (segments xs) → Item (word (codes "$") ⌢ Segments xs) s o t → InnerQuery q s o t
-    from_current : (xs : List SegmentTree) → q ≡ query false (segments xs) → Item (word (codes "@") ⌢ Segments xs) s o t → InnerQuery q s o t
+    from_root : (xs : List SegmentTree) → q ≡ query true (segments xs)
+        → Item (word (codes "$") ⌢ Segments xs) s o t → InnerQuery q s o t
+    from_current : (xs : List SegmentTree) → q ≡ query false (segments xs)
+        → Item (word (codes "@") ⌢ Segments xs) s o t → InnerQuery q s o t
 
-  -- comparable (section 2.3.5.1): a literal, which is an item, or a query. That it is singular is no rule of spelling here.
+  -- comparable (section 2.3.5.1): a literal, which is an item, or a query. That it is singular is
+  -- no rule of spelling here.
   pub data Side (x : OperandTree) (s : Spans) (o : ℕ) (t : Text) : Type 0 where
     literal_side : (l : LiteralTree) → x ≡ literal l → Item (Literal l) s o t → Side x s o t
     query_side : (q : QueryTree) → x ≡ node_value q → InnerQuery q s o t → Side x s o t
@@ -68,13 +78,17 @@ module _ (Inner : ExprTree → Form) where
   abbrev pub Comparison : OperandTree → Op → OperandTree → Form
   Comparison left op right = Side left ⌢ Blank ⌢ word (spelling op) ⌢ Blank ⌢ Side right
 
-  -- basic-expr (section 2.3.5.1): an expression in parentheses, a comparison, or a test; only the first and the last may have a `!`
+  -- basic-expr (section 2.3.5.1): an expression in parentheses, a comparison, or a test; only the
+  -- first and the last may have a `!`
   pub data Basic (e : ExprTree) (s : Spans) (o : ℕ) (t : Text) : Type 0 where
     grouped : Parenthesis e s o t → Basic e s o t
-    not_grouped : (inner : ExprTree) → e ≡ negation inner → (word (codes "!") ⌢ Blank ⌢ Parenthesis inner) s o t → Basic e s o t
-    compared : (left right : OperandTree) (op : Op) → e ≡ comparison left op right → Comparison left op right s o t → Basic e s o t
+    not_grouped : (inner : ExprTree) → e ≡ negation inner
+        → (word (codes "!") ⌢ Blank ⌢ Parenthesis inner) s o t → Basic e s o t
+    compared : (left right : OperandTree) (op : Op) → e ≡ comparison left op right
+        → Comparison left op right s o t → Basic e s o t
     tested : (q : QueryTree) → e ≡ exists q → InnerQuery q s o t → Basic e s o t
-    not_tested : (q : QueryTree) → e ≡ negation (exists q) → (word (codes "!") ⌢ Blank ⌢ InnerQuery q) s o t → Basic e s o t
+    not_tested : (q : QueryTree) → e ≡ negation (exists q)
+        → (word (codes "!") ⌢ Blank ⌢ InnerQuery q) s o t → Basic e s o t
 
   -- logical-and-expr (section 2.3.5.1): basic expressions with `&&` between them
   pub data Conjunction (e : ExprTree) (s : Spans) (o : ℕ) (t : Text) : Type 0 where

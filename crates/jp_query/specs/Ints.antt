@@ -26,5 +26,7 @@ Unsigned c more = One is_leading_digit c ⌢ Each (One is_digit) more
 -- int (section 2.3.3.1): a zero, or digits without a leading zero and a `-` before them or none
 pub data Int (x : Numeral) (s : Spans) (o : ℕ) (t : Text) : Type 0 where
   zero_int : x ≡ whole_of 0 → word (codes "0") s o t → Int x s o t
-  positive_int : (c : ℕ) (more : Text) → x ≡ whole_of (value_from 0 (c ∷ more)) → Unsigned c more s o t → Int x s o t
-  negative_int : (c : ℕ) (more : Text) → x ≡ negative_of (value_from 0 (c ∷ more)) → (word (codes "-") ⌢ Unsigned c more) s o t → Int x s o t
+  positive_int : (c : ℕ) (more : Text) → x ≡ whole_of (value_from 0 (c ∷ more))
+      → Unsigned c more s o t → Int x s o t
+  negative_int : (c : ℕ) (more : Text) → x ≡ negative_of (value_from 0 (c ∷ more))
+      → (word (codes "-") ⌢ Unsigned c more) s o t → Int x s o t

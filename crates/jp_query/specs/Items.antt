@@ -30,7 +30,8 @@ abbrev mutual
   selector_items (name cs) = []
   selector_items wildcard = []
   selector_items (index i) = int i as_index ∷ []
-  selector_items (slice parts) = bound_items parts.start ++ bound_items parts.end ++ int parts.step as_step ∷ []
+  selector_items (slice parts) =
+      bound_items parts.start ++ bound_items parts.end ++ int parts.step as_step ∷ []
   selector_items (filter e) = expr_items e
 
   pub selectors_items : SelectorTrees → List QueryItem

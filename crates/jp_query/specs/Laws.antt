@@ -12,7 +12,9 @@ use Rattle.jp_query.specs.declared.refusal.RefusalKind.TheVariants.{Syntax, TooD
 
 -- no text spells two trees, or one tree with two lists of spans, whatever the levels
 abbrev pub OneReading : Type 0
-OneReading = (n m : ℕ) (q u : QueryTree) (s t : Spans) (text : Text) → Spells n q s text → Spells m u t text → (q ≡ u) × (s ≡ t)
+OneReading =
+    (n m : ℕ) (q u : QueryTree) (s t : Spans) (text : Text) → Spells n q s text → Spells m u t text
+    → (q ≡ u) × (s ≡ t)
 
 -- the spans of a text that spells a tree are those of its items, whatever the levels
 abbrev pub SpansOfItems : Type 0

@@ -17,4 +17,5 @@ is_name_char c = is_name_first c || is_digit c
 
 -- member-name-shorthand (section 2.5.1.1): name-first, then any name-chars
 pub data Shorthand (cs : Text) (s : Spans) (o : ℕ) (t : Text) : Type 0 where
-  shorthand : (c : ℕ) (more : Text) → cs ≡ c ∷ more → (One is_name_first c ⌢ Each (One is_name_char) more) s o t → Shorthand cs s o t
+  shorthand : (c : ℕ) (more : Text) → cs ≡ c ∷ more
+      → (One is_name_first c ⌢ Each (One is_name_char) more) s o t → Shorthand cs s o t

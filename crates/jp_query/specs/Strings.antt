@@ -5,13 +5,13 @@ use Rattle.jp_reading.specs.Texts.{Text, Spans}
 use Rattle.jp_reading.specs.Forms.{Form, word, One, ◌⌢◌, Each}
 use Rattle.jp_query.specs.Characters.{space, double_quote, single_quote, backslash, slash, letter_b, letter_f, letter_n, letter_r, letter_t}
 
--- a character that stands for itself: from U+0020 up, and neither the quotation mark round it nor a
--- backslash (unescaped, and the other quotation mark)
+-- a character that stands for itself: from U+0020 up, and neither the quotation mark around it nor
+-- a backslash (unescaped, and the other quotation mark)
 abbrev pub is_plain : ℕ → ℕ → Bool
 is_plain quote c = nat_le space c && not (c == quote) && not (c == backslash)
 
 -- what may follow a backslash, but for `u`: b, f, n, r, t, a slash, a backslash (escapable), or the
--- quotation mark round it
+-- quotation mark around it
 abbrev pub is_escapable : ℕ → ℕ → Bool
 is_escapable quote c =
     (c == letter_b) || (c == letter_f) || (c == letter_n) || (c == letter_r) || (c == letter_t)
@@ -56,18 +56,23 @@ scalar_of high low = 65536 + (high - 55296) * 1024 + (low - 56320)
 
 -- four hexadecimal digits that write v, of which the first two pass these tests
 pub data Unit (first second : ℕ → Bool) (v : ℕ) (s : Spans) (o : ℕ) (t : Text) : Type 0 where
-  digits : (a b c d : ℕ) → v ≡ unit_of a b c d → (One first a ⌢ One second b ⌢ One is_hexdig c ⌢ One is_hexdig d) s o t → Unit first second v s o t
+  digits : (a b c d : ℕ) → v ≡ unit_of a b c d
+      → (One first a ⌢ One second b ⌢ One is_hexdig c ⌢ One is_hexdig d) s o t
+      → Unit first second v s o t
 
 -- hexchar: non-surrogate, or high-surrogate "\u" low-surrogate
 pub data Hexchar (c : ℕ) (s : Spans) (o : ℕ) (t : Text) : Type 0 where
   not_d : Unit is_not_d is_hexdig c s o t → Hexchar c s o t
   below_surrogates : Unit is_d is_0_to_7 c s o t → Hexchar c s o t
-  surrogates : (high low : ℕ) → c ≡ scalar_of high low → (Unit is_d is_8_to_b high ⌢ word (codes "\\") ⌢ word (codes "u") ⌢ Unit is_d is_c_to_f low) s o t → Hexchar c s o t
+  surrogates : (high low : ℕ) → c ≡ scalar_of high low
+      → (Unit is_d is_8_to_b high ⌢ word (codes "\\") ⌢ word (codes "u")
+      ⌢ Unit is_d is_c_to_f low) s o t → Hexchar c s o t
 
 -- double-quoted and single-quoted: a character between two of the quotation mark, and its text
 pub data Character (quote c : ℕ) (s : Spans) (o : ℕ) (t : Text) : Type 0 where
   plain : One (is_plain quote) c s o t → Character quote c s o t
-  escape : (letter : ℕ) → c ≡ escaped letter → (word (codes "\\") ⌢ One (is_escapable quote) letter) s o t → Character quote c s o t
+  escape : (letter : ℕ) → c ≡ escaped letter
+      → (word (codes "\\") ⌢ One (is_escapable quote) letter) s o t → Character quote c s o t
   hex : (word (codes "\\") ⌢ word (codes "u") ⌢ Hexchar c) s o t → Character quote c s o t
 
 -- the characters cs between two of the quotation mark

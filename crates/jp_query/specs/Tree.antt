@@ -24,7 +24,8 @@ pub data LiteralTree : Type 0 where
   null_literal : LiteralTree
 
 mutual
-  -- a selector (section 2.3): a member's name as scalar values, all children, an index, a slice, or a filter
+  -- a selector (section 2.3): a member's name as scalar values, all children, an index, a slice, or
+  -- a filter
   pub data SelectorTree : Type 0 where
     name : List ℕ → SelectorTree
     wildcard : SelectorTree
@@ -50,7 +51,8 @@ mutual
   pub data QueryTree : Type 0 where
     query : Bool → SegmentTrees → QueryTree
 
-  -- a logical expression (section 2.3.5.1): `||`, `&&` and `!` of others, a comparison, or whether a query selects a node
+  -- a logical expression (section 2.3.5.1): `||`, `&&` and `!` of others, a comparison, or whether
+  -- a query selects a node
   pub data ExprTree : Type 0 where
     any_of : ExprTrees → ExprTree
     all_of : ExprTrees → ExprTree
@@ -94,49 +96,65 @@ literal_of written.False = false_literal
 literal_of written.Null = null_literal
 
 -- one layer, with the tree of each part in its place
-abbrev pub expr_step : Expr-F ExprTree OperandTree SelectorTree ExprTree QueryTree SegmentTree → ExprTree
+abbrev pub expr_step : Expr-F ExprTree OperandTree SelectorTree ExprTree QueryTree SegmentTree
+    → ExprTree
 expr_step (Expr-F.AnyOf es) = any_of (exprs es.items)
 expr_step (Expr-F.AllOf es) = all_of (exprs es.items)
 expr_step (Expr-F.Not e) = negation e.value
 expr_step (Expr-F.Compare left op right) = comparison left op right
 expr_step (Expr-F.Test e) = e
 
-abbrev pub operand_step : Operand-F ExprTree OperandTree SelectorTree ExprTree QueryTree SegmentTree → OperandTree
+abbrev pub operand_step : Operand-F ExprTree OperandTree SelectorTree ExprTree QueryTree SegmentTree
+    → OperandTree
 operand_step (Operand-F.Literal l) = literal (literal_of l)
 operand_step (Operand-F.Operand::Query q) = node_value q
 
-abbrev pub selector_step : Selector-F ExprTree OperandTree SelectorTree ExprTree QueryTree SegmentTree → SelectorTree
+abbrev pub selector_step : Selector-F ExprTree OperandTree SelectorTree ExprTree QueryTree SegmentTree
+    → SelectorTree
 selector_step (Selector-F.Name s) = name (chars (string_bytes s))
 selector_step Selector-F.Wildcard = wildcard
 selector_step (Selector-F.Index n) = index n
 selector_step (Selector-F.Slice s) = slice s
 selector_step (Selector-F.Filter e) = filter e
 
-abbrev pub subject_step : Subject-F ExprTree OperandTree SelectorTree ExprTree QueryTree SegmentTree → ExprTree
+abbrev pub subject_step : Subject-F ExprTree OperandTree SelectorTree ExprTree QueryTree SegmentTree
+    → ExprTree
 subject_step (Subject-F.Subject::Query q) = exists q
 
-abbrev pub query_step : Query-F ExprTree OperandTree SelectorTree ExprTree QueryTree SegmentTree → QueryTree
+abbrev pub query_step : Query-F ExprTree OperandTree SelectorTree ExprTree QueryTree SegmentTree
+    → QueryTree
 query_step q = query q.absolute (segments q.segments.items)
 
-abbrev pub segment_step : Segment-F ExprTree OperandTree SelectorTree ExprTree QueryTree SegmentTree → SegmentTree
+abbrev pub segment_step : Segment-F ExprTree OperandTree SelectorTree ExprTree QueryTree SegmentTree
+    → SegmentTree
 segment_step s = segment s.descendant (selectors s.selectors.items)
 
 -- the tree of an expression
 abbrev pub expr_of : Expr → ExprTree
-expr_of = fold-Expr ExprTree OperandTree SelectorTree ExprTree QueryTree SegmentTree expr_step operand_step selector_step subject_step query_step segment_step
+expr_of =
+    fold-Expr ExprTree OperandTree SelectorTree ExprTree QueryTree SegmentTree
+    expr_step operand_step selector_step subject_step query_step segment_step
 
 -- the tree of a side of a comparison
 abbrev pub operand_of : Operand → OperandTree
-operand_of = fold-Operand ExprTree OperandTree SelectorTree ExprTree QueryTree SegmentTree expr_step operand_step selector_step subject_step query_step segment_step
+operand_of =
+    fold-Operand ExprTree OperandTree SelectorTree ExprTree QueryTree SegmentTree
+    expr_step operand_step selector_step subject_step query_step segment_step
 
 -- the tree of a selector
 abbrev pub selector_of : Selector → SelectorTree
-selector_of = fold-Selector ExprTree OperandTree SelectorTree ExprTree QueryTree SegmentTree expr_step operand_step selector_step subject_step query_step segment_step
+selector_of =
+    fold-Selector ExprTree OperandTree SelectorTree ExprTree QueryTree SegmentTree
+    expr_step operand_step selector_step subject_step query_step segment_step
 
 -- the tree of a segment
 abbrev pub segment_of : Segment → SegmentTree
-segment_of = fold-Segment ExprTree OperandTree SelectorTree ExprTree QueryTree SegmentTree expr_step operand_step selector_step subject_step query_step segment_step
+segment_of =
+    fold-Segment ExprTree OperandTree SelectorTree ExprTree QueryTree SegmentTree
+    expr_step operand_step selector_step subject_step query_step segment_step
 
 -- the tree of a query
 abbrev pub query_of : Query → QueryTree
-query_of = fold-Query ExprTree OperandTree SelectorTree ExprTree QueryTree SegmentTree expr_step operand_step selector_step subject_step query_step segment_step
+query_of =
+    fold-Query ExprTree OperandTree SelectorTree ExprTree QueryTree SegmentTree
+    expr_step operand_step selector_step subject_step query_step segment_step

@@ -12,7 +12,7 @@ use crate::segments::segments;
 use crate::tree::{Expr, Operand, Query, Subject};
 use jp_reading::{Reader, Stop};
 
-/// An expression behind the mark that opens it, one level further in than the text around.
+/// An expression after the mark that opens it, one level further in than the text around.
 #[cycle(nested)]
 #[tactic(auto, unfolding(crate::specs::Private::Rules::inside_mark))]
 pub fn inside(reader: &mut Reader, mark: char, levels: u32) -> Result<Expr, Stop>
@@ -104,7 +104,7 @@ fn basic(reader: &mut Reader, levels: u32) -> Result<Expr, Stop>
     }
 }
 
-/// What stands behind a `!`: an expression in parentheses, or a query.
+/// What stands after a `!`: an expression in parentheses, or a query.
 #[cycle(nested)]
 #[tactic(auto, unfolding(crate::specs::Private::Rules::negated))]
 fn negated(reader: &mut Reader, levels: u32) -> Result<Expr, Stop>
@@ -142,7 +142,7 @@ fn test(reader: &mut Reader, levels: u32) -> Result<Expr, Stop>
     Ok(Expr::Test(Subject::Query(query)))
 }
 
-/// An operator and the second side of a comparison, behind the first.
+/// An operator and the second side of a comparison, after the first.
 #[cycle(nested)]
 #[tactic(auto, unfolding(crate::specs::Private::Rules::comparison_with))]
 fn comparison(reader: &mut Reader, levels: u32, left: Operand) -> Result<Expr, Stop>

@@ -172,7 +172,7 @@ fn filters_are_refused_at_their_places(rt: HostRuntime) -> Result<(), Fail> {
     Ok(())
 }
 
-/// The text with `open` and `close` so many times round it, between `front` and `back`.
+/// The text with `open` and `close` so many times around it, between `front` and `back`.
 fn nested(
     alloc: Global,
     front: &str,

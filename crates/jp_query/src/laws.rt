@@ -13,7 +13,8 @@ pub fn spans_of_items()
     ensures { SpansOfItems }
 {}
 
-/// Each text spells a tree, or is refused with one kind and at one place, and not both, whatever the levels.
+/// Each text spells a tree, or is refused with one kind and at one place, and not both, whatever
+/// the levels.
 pub fn one_refusal()
     ensures { OneRefusal }
 {}

@@ -6,8 +6,9 @@
 //! parsed.spans();    // the index stands from byte 16 up to 17
 //! ```
 //!
-//! The contract for the crates above: `parse` answers a query exactly for the texts that spell one by the grammar of
-//! `specs/Grammar.antt`, with its tree and the spans of its items; and no text spells two.
+//! The contract for the crates above: `parse` answers a query exactly for the texts that spell one
+//! by the grammar of `specs/Grammar.antt`, with its tree and the spans of its items; and no text
+//! spells two.
 #![tactic(auto)]
 
 mod expressions;

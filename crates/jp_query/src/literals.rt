@@ -49,7 +49,8 @@ fn literal(reader: &mut Reader) -> Result<Literal, Stop>
 
 /// Takes the letters one by one.
 fn word(reader: &mut Reader, letters: &[char]) -> Result<(), Stop>
-    ensures { (x : LiteralTree) → Gives (λ _. x) result reader.new (read_flat (rules.letters x letters.now) reader.old) }
+    ensures { (x : LiteralTree)
+        → Gives (λ _. x) result reader.new (read_flat (rules.letters x letters.now) reader.old) }
 {
     'letters: for letter in letters {
         reader.expect(*letter)?;

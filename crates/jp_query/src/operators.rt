@@ -51,7 +51,8 @@ fn with_equals(reader: &mut Reader, op: Op) -> Result<Op, Stop>
     Ok(op)
 }
 
-/// The operator whose first character is taken: the one with a `=` after it, if it stands there, or the other.
+/// The operator whose first character is taken: the one with a `=` after it, if it stands there, or
+/// the other.
 fn alone_or_with_equals(reader: &mut Reader, alone: Op, with_equals: Op) -> Op
     ensures { read_flat (rules.alone_or_with_equals alone with_equals) reader.old
         ≡ took result reader.new }

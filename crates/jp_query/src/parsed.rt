@@ -50,13 +50,23 @@ impl Model for Parsed {
 /// then the mark `?` or `(` of the level too many, else as `Syntax`. `NoMemory`, at place 0, says
 /// nothing of the text.
 pub fn parse(alloc: Global, text: &str) -> Result<Parsed, Refusal>
-    ensures found { IfOk result (λ p. Spells level_limit (query_of p.query) p.spans (chars text.now)) }
-    ensures only { IfErr result (λ r. (r.kind ≡ RefusalKind.NoMemory) ⊎ SpellsNothing level_limit (chars text.now)) }
-    ensures syntax { IfErr result (λ r. r.kind ≡ RefusalKind.Syntax → IsSyntaxAt level_limit (chars text.now) r.place) }
-    ensures deep { IfErr result (λ r. r.kind ≡ RefusalKind.TooDeep → IsTooDeepAt level_limit (chars text.now) r.place) }
+    ensures found { IfOk
+        result
+        (λ p. Spells level_limit (query_of p.query) p.spans (chars text.now)) }
+    ensures only { IfErr
+        result
+        (λ r. (r.kind ≡ RefusalKind.NoMemory) ⊎ SpellsNothing level_limit (chars text.now)) }
+    ensures syntax { IfErr
+        result
+        (λ r. r.kind ≡ RefusalKind.Syntax → IsSyntaxAt level_limit (chars text.now) r.place) }
+    ensures deep { IfErr
+        result
+        (λ r. r.kind ≡ RefusalKind.TooDeep → IsTooDeepAt level_limit (chars text.now) r.place) }
     ensures kinds { IfErr
         result
-        (λ r. (r.kind ≡ RefusalKind.Syntax) ⊎ (r.kind ≡ RefusalKind.TooDeep) ⊎ ((r.kind ≡ RefusalKind.NoMemory) × (r.place ≡ 0))) }
+        (λ r. (r.kind ≡ RefusalKind.Syntax)
+        ⊎ (r.kind ≡ RefusalKind.TooDeep)
+        ⊎ ((r.kind ≡ RefusalKind.NoMemory) × (r.place ≡ 0))) }
 {
     let mut reader = Reader::new(alloc, text);
     match query(&mut reader, LEVEL_LIMIT) {

@@ -32,7 +32,8 @@ pub fn query(reader: &mut Reader, levels: u32) -> Result<Query, Stop>
     })
 }
 
-/// Segment after segment, with blank space before each; the reader stays before blank space that none follows.
+/// Segment after segment, with blank space before each; the reader stays before blank space that
+/// none follows.
 #[cycle(nested)]
 pub fn segments(reader: &mut Reader, levels: u32) -> Result<Vec<Segment>, Stop>
     ensures { Gives
@@ -97,7 +98,7 @@ fn bracketed(reader: &mut Reader, levels: u32, descendant: bool) -> Result<Segme
     })
 }
 
-/// `*` or a member's name behind a dot.
+/// `*` or a member's name after a dot.
 #[tactic(auto, unfolding(crate::specs::Private::Rules::member))]
 fn member(reader: &mut Reader, descendant: bool) -> Result<Segment, Stop>
     ensures { Gives segment_of result reader.new (read_flat (rules.member descendant) reader.old) }
@@ -112,7 +113,9 @@ fn member(reader: &mut Reader, descendant: bool) -> Result<Segment, Stop>
 
 /// The segment of one selector.
 fn alone(alloc: Global, descendant: bool, selector: Selector) -> Result<Segment, AllocError>
-    ensures { IfOk result (λ s. segment_of s ≡ segment descendant (selectors (selector_of selector ∷ []))) }
+    ensures { IfOk
+        result
+        (λ s. segment_of s ≡ segment descendant (selectors (selector_of selector ∷ []))) }
 {
     let mut selectors = Vec::new(alloc);
     append(&mut selectors, selector)?;

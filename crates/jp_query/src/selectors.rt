@@ -14,8 +14,8 @@ use crate::strings::quoted;
 use crate::tree::Selector;
 use jp_reading::{Reader, Stop};
 
-/// Selectors with commas between them, and blank space round each. The reader stands before the first, and then past the
-/// blanks after the last.
+/// Selectors with commas between them, and blank space around each. The reader stands before the
+/// first, and then past the blanks after the last.
 #[cycle(nested)]
 #[tactic(auto, unfolding(crate::specs::Private::Rules::entries, crate::specs::Private::Rules::entry))]
 pub fn entries(reader: &mut Reader, levels: u32) -> Result<Vec<Selector>, Stop>

@@ -47,7 +47,7 @@ fn step(reader: &mut Reader) -> Result<Numeral, Stop>
     Ok(Numeral::Whole(1))
 }
 
-/// A step behind its colon; the reader stays before blanks that no step follows.
+/// A step after its colon; the reader stays before blanks that no step follows.
 #[tactic(auto, unfolding(crate::specs::Private::Rules::later_step))]
 fn later_step(reader: &mut Reader) -> Result<Numeral, Stop>
     ensures { Gives (λ n. n) result reader.new (read_flat rules.later_step reader.old) }

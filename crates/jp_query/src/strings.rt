@@ -77,7 +77,7 @@ fn character(reader: &mut Reader, quote: char) -> Result<char, Stop>
     }
 }
 
-/// What stands behind a backslash.
+/// What stands after a backslash.
 #[tactic(auto, unfolding(crate::specs::Private::Rules::escape))]
 fn escape(reader: &mut Reader, quote: char) -> Result<char, Stop>
     ensures { Gives (λ c. c) result reader.new (read_flat (rules.escape quote) reader.old) }
@@ -247,14 +247,15 @@ fn is_plain(quote: char, c: char) -> bool
     c >= ' ' && c != quote && c != '\\'
 }
 
-/// Whether a character may follow a backslash between two of the quotation mark, but for `u` (escapable).
+/// Whether a character may follow a backslash between two of the quotation mark, but for `u`
+/// (escapable).
 fn is_escapable(quote: char, c: char) -> bool
     ensures { result ≡ is_escapable quote c }
 {
     c == quote || matches!(c, 'b' | 'f' | 'n' | 'r' | 't' | '/' | '\\')
 }
 
-/// What such a character stands for behind a backslash.
+/// What such a character stands for after a backslash.
 fn escaped(letter: char) -> char
     ensures { result ≡ escaped letter }
 {

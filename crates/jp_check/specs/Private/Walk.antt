@@ -12,7 +12,8 @@ use Rattle.jp_query.specs.declared.tree.Numeral.{Numeral}
 use Rattle.jp_query.specs.declared.tree.Numeral.TheVariants.{Beyond, Fraction}
 use Rattle.jp_check.specs.Ranges.{is_in_index_range}
 
--- how far the walk is: the spans of the items that are still to come, and the first fault of those that were
+-- how far the walk is: the spans of the items that are still to come, and the first fault of those
+-- that were
 pub record Progress : Type 0 where
   pub spans : Spans
   pub first : Option Refusal
@@ -40,7 +41,9 @@ fault_of (inner q _) = None
 
 -- whether the one fault stands before the other
 abbrev pub is_before : Refusal → Refusal → Bool
-is_before one other = nat_lt one.place other.place || (one.place == other.place && nat_lt (number_of one.kind) (number_of other.kind))
+is_before one other =
+    nat_lt one.place other.place
+    || (one.place == other.place && nat_lt (number_of one.kind) (number_of other.kind))
 
 -- the first of the faults that there are
 abbrev pub earlier : Option Refusal → Refusal → Option Refusal
@@ -50,7 +53,8 @@ earlier (Some first) fault = if is_before fault first then Some fault else Some 
 -- past an item with that fault or none, whose span comes next
 abbrev pub past_item : Option RefusalKind → Spans → Option Refusal → Progress
 past_item fault [] first = record { spans = []; first = first }
-past_item (Some kind) (Some span ∷ rest) first = record { spans = rest; first = earlier first (record { kind = kind; place = span.start }) }
+past_item (Some kind) (Some span ∷ rest) first =
+    record { spans = rest; first = earlier first (record { kind = kind; place = span.start }) }
 past_item _ (_ ∷ rest) first = record { spans = rest; first = first }
 
 -- past these items

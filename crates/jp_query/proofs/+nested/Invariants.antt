@@ -56,21 +56,24 @@ decreases-expressions::expression l = l.levels * 16 + 14
 
 abbrev pub invariant-segments::segments-segments : goal.invariant-segments::segments-segments
 invariant-segments::segments-segments l =
-    with_front (map segment_of l.segments.items) (read_inside l.levels segments l.reader) ≡ read_inside l.levels segments l.initial.reader
+    with_front (map segment_of l.segments.items)
+    (read_inside l.levels segments l.reader) ≡ read_inside l.levels segments l.initial.reader
 
 abbrev pub decreases-segments::segments-segments : goal.decreases-segments::segments-segments
 decreases-segments::segments-segments l = length l.reader.rest
 
 abbrev pub invariant-selectors::entries-entries : goal.invariant-selectors::entries-entries
 invariant-selectors::entries-entries l =
-    with_front (map selector_of l.selectors.items) (read_inside l.levels other_entries l.reader) ≡ read_inside l.levels entries l.fn.reader
+    with_front (map selector_of l.selectors.items)
+    (read_inside l.levels other_entries l.reader) ≡ read_inside l.levels entries l.fn.reader
 
 abbrev pub decreases-selectors::entries-entries : goal.decreases-selectors::entries-entries
 decreases-selectors::entries-entries l = length l.reader.rest
 
 abbrev pub invariant-expressions::conjunction-parts : goal.invariant-expressions::conjunction-parts
 invariant-expressions::conjunction-parts l = record {
-  total : with_front (map expr_of l.parts.items) (read_inside l.levels (some beyond (is ampersand) (part ampersand basic)) l.reader)
+  total : with_front (map expr_of l.parts.items)
+      (read_inside l.levels (some beyond (is ampersand) (part ampersand basic)) l.reader)
       ≡ read_inside l.levels (parts ampersand basic) l.fn.reader;
   some : 1 ≤ length l.parts.items;
   several : passes (is ampersand) (after_blank l.reader) ≡ false → 2 ≤ length l.parts.items;
@@ -81,7 +84,8 @@ decreases-expressions::conjunction-parts l = length l.reader.rest
 
 abbrev pub invariant-expressions::expression-parts : goal.invariant-expressions::expression-parts
 invariant-expressions::expression-parts l = record {
-  total : with_front (map expr_of l.parts.items) (read_inside l.levels (some beyond (is bar) (part bar conjunction)) l.reader)
+  total : with_front (map expr_of l.parts.items)
+      (read_inside l.levels (some beyond (is bar) (part bar conjunction)) l.reader)
       ≡ read_inside l.levels (parts bar conjunction) l.fn.reader;
   some : 1 ≤ length l.parts.items;
   several : passes (is bar) (after_blank l.reader) ≡ false → 2 ≤ length l.parts.items;

@@ -22,7 +22,8 @@ holds_value UpTo7 v = nat_lt v 8
 holds_value EightToB v = nat_le 8 v && nat_lt v 12
 holds_value FromC v = nat_le 12 v && nat_lt v 16
 
--- four hexadecimal digits write it, of which the first has the value a and the second is of this kind
+-- four hexadecimal digits write it, of which the first has the value a and the second is of this
+-- kind
 pub record IsUnitAfter (a : ℕ) (second : HexDigit) (v : ℕ) : Type 0 where
   pub fits : v < 65536
   pub one : v / 4096 ≡ a

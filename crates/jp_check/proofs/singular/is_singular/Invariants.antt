@@ -5,4 +5,6 @@ use Rattle.jp_check.proofs.singular.is_singular.Given as goal
 
 -- the query is singular exactly if the segments still to come are
 abbrev pub invariant-loop-segment : goal.invariant-loop-segment
-invariant-loop-segment l = is_singular (query_of l.query) ≡ are_single (segments (map segment_of (drop l.segment-index l.segment-items)))
+invariant-loop-segment l =
+    is_singular (query_of l.query) ≡ are_single
+    (segments (map segment_of (drop l.segment-index l.segment-items)))

@@ -7,7 +7,9 @@ use Rattle.jp_query.proofs.literals.digits.Goals as goal
 pub returns-in_err-natural : goal.returns-in_err-natural
 returns-in_err-natural c =
     let p = err_from_is_err_and c.from_residual.result c.from_residual.ensures.1 in
-    rw (p.1, p.2) (digits-fail c.args.reader.now c.in_err-natural.field-0.0 c.in_err-natural.ensures.taken)
+    rw (p.1, p.2)
+    (digits-fail c.args.reader.now c.in_err-natural.field-0.0 c.in_err-natural.ensures.taken)
 
 pub returns : goal.returns
-returns c = digits-natural c.args.reader.now ∙ ap (by (λ (n : ℕ). true)) c.in_ok-natural.ensures.taken
+returns c =
+    digits-natural c.args.reader.now ∙ ap (by (λ (n : ℕ). true)) c.in_ok-natural.ensures.taken

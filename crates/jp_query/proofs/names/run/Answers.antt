@@ -17,7 +17,8 @@ use Rattle.jp_query.proofs.names.run.Goals.{in-Some+then-not-is_name_char, in_de
 
 pub characters-init : goal.characters-init
 characters-init c =
-    ap (λ t. with_front t (read_flat (run is_name_char) c.args.reader.now)) (ap chars c.new-text.ensures.bytes ∙ chars-nil)
+    ap (λ t. with_front t (read_flat (run is_name_char) c.args.reader.now))
+    (ap chars c.new-text.ensures.bytes ∙ chars-nil)
     ∙ with_front-nil (read_flat (run is_name_char) c.args.reader.now)
 
 pub characters-preserved : goal.characters-preserved
@@ -28,18 +29,24 @@ characters-preserved c =
     let next = c.in-Some.next in
     let scalar : IsScalar next = search rules in
     let pushed : chars (string_bytes c.push.new.self) ≡ chars text ++ next ∷ [] =
-    ap chars c.in_ok-push.ensures.bytes ∙ chars_push text next (IsUtf8-string_bytes c.characters.text) scalar in
+    ap chars c.in_ok-push.ensures.bytes
+    ∙ chars_push text next (IsUtf8-string_bytes c.characters.text) scalar in
     let first : head p ≡ Some next = sym c.in-Some.ensures in
     let among : ok next ≡ true = search rules in
-    let step = pushes_on (λ q. passes ok (head q)) (take_if ok) (moves-take_if ok) (chars text) p _ next (rw first among) (take_if-takes ok p next first among) in
+    let step = pushes_on (λ q. passes ok (head q)) (take_if ok) (moves-take_if ok)
+    (chars text) p _ next (rw first among) (take_if-takes ok p next first among) in
     rw (pushed, c.bump.ensures.past, ← step) c.characters.invariant
 
 pub returns : goal.returns
 returns c =
     let ok : ℕ → Bool = is_name_char in
     let p = c.characters.reader in
-    let done = λ (off : passes ok (head p) ≡ false). sym c.characters.invariant ∙ pushes_end (λ q. passes ok (head q)) (take_if ok) (chars (string_bytes c.characters.text)) p off in
+    let done = λ (off : passes ok (head p) ≡ false). sym c.characters.invariant
+    ∙ pushes_end (λ q. passes ok (head q)) (take_if ok)
+    (chars (string_bytes c.characters.text)) p off in
     elim c.match-peek.branch [
-      | in-Some+then-not-is_name_char w ↦ done (let first : head p ≡ Some w.in-Some.next = sym w.in-Some.ensures in rw first (sym w.if-not-is_name_char.ensures))
+      | in-Some+then-not-is_name_char w ↦ done
+          (let first : head p ≡ Some w.in-Some.next = sym w.in-Some.ensures in rw first
+          (sym w.if-not-is_name_char.ensures))
       | in_default w ↦ done (let first : head p ≡ None = sym w.in_default.ensures in rw first refl)
     ]

@@ -22,7 +22,8 @@ character-progress quote p = goes (nothing nesting) (λ o q. tt) (string_charact
 
 pub characters-init : goal.characters-init
 characters-init c =
-    ap (λ t. with_front t (read_flat (characters c.args.quote) c.args.reader.now)) (ap chars c.new-text.ensures.bytes ∙ chars-nil)
+    ap (λ t. with_front t (read_flat (characters c.args.quote) c.args.reader.now))
+    (ap chars c.new-text.ensures.bytes ∙ chars-nil)
     ∙ with_front-nil (read_flat (characters c.args.quote) c.args.reader.now)
 
 pub returns-in_err-next : goal.returns-in_err-next
@@ -31,12 +32,16 @@ returns-in_err-next c =
     let p = err_from_is_err_and c.from_residual.result c.from_residual.ensures.1 in
     let text = chars (string_bytes c.characters.text) in
     rw (p.1, p.2, ← c.characters.invariant)
-    (folds_fail (λ q. passes (begins_character c.args.quote) (head q)) (read_flat (string_character c.args.quote)) (character-progress c.args.quote) (λ ys. text ++ ys)
-    c.characters.reader c.in_err-next.field-0.0 (sym c.is_at_character.ensures ∙ c.characters-test.true) c.in_err-next.ensures)
+    (folds_fail (λ q. passes (begins_character c.args.quote) (head q))
+    (read_flat (string_character c.args.quote)) (character-progress c.args.quote)
+    (λ ys. text ++ ys)
+    c.characters.reader c.in_err-next.field-0.0
+    (sym c.is_at_character.ensures ∙ c.characters-test.true) c.in_err-next.ensures)
 
 pub characters-smaller : goal.characters-smaller
 characters-smaller c =
-    moved (read_flat (string_character c.args.quote)) (character-progress c.args.quote) c.characters.reader c.character.new.reader c.in_ok-next.next c.in_ok-next.ensures
+    moved (read_flat (string_character c.args.quote))
+    (character-progress c.args.quote) c.characters.reader c.character.new.reader c.in_ok-next.next c.in_ok-next.ensures
 
 pub characters-preserved : goal.characters-preserved
 unfolding characters
@@ -45,14 +50,19 @@ characters-preserved c =
     let next = c.in_ok-next.next in
     let scalar : IsScalar next = search rules in
     let pushed : chars (string_bytes c.push.new.self) ≡ chars text ++ next ∷ [] =
-    ap chars c.in_ok-push.ensures.bytes ∙ chars_push text next (IsUtf8-string_bytes c.characters.text) scalar in
-    let step = pushes_on (λ q. passes (begins_character c.args.quote) (head q)) (read_flat (string_character c.args.quote)) (character-progress c.args.quote) (chars text)
-    c.characters.reader c.character.new.reader next (sym c.is_at_character.ensures ∙ c.characters-test.true) c.in_ok-next.ensures in
+    ap chars c.in_ok-push.ensures.bytes
+    ∙ chars_push text next (IsUtf8-string_bytes c.characters.text) scalar in
+    let step = pushes_on (λ q. passes (begins_character c.args.quote) (head q))
+    (read_flat (string_character c.args.quote)) (character-progress c.args.quote) (chars text)
+    c.characters.reader c.character.new.reader next
+    (sym c.is_at_character.ensures ∙ c.characters-test.true) c.in_ok-next.ensures in
     rw (pushed, ← step) c.characters.invariant
 
 pub returns : goal.returns
 unfolding characters
 returns c =
     sym c.characters.invariant
-    ∙ pushes_end (λ q. passes (begins_character c.args.quote) (head q)) (read_flat (string_character c.args.quote)) (chars (string_bytes c.characters.text)) c.characters.reader
+    ∙ pushes_end (λ q. passes (begins_character c.args.quote) (head q))
+    (read_flat (string_character c.args.quote))
+    (chars (string_bytes c.characters.text)) c.characters.reader
     (sym c.is_at_character.ensures ∙ c.characters-test.false)

@@ -7,7 +7,9 @@ use Rattle.jp_query.specs.Private.Reading.{read_flat}
 use Rattle.jp_query.proofs.strings.characters.Given as goal
 
 abbrev pub invariant-characters : goal.invariant-characters
-invariant-characters l = with_front (chars (string_bytes l.text)) (read_flat (characters l.quote) l.reader) ≡ read_flat (characters l.quote) l.initial.reader
+invariant-characters l =
+    with_front (chars (string_bytes l.text)) (read_flat (characters l.quote) l.reader) ≡ read_flat
+    (characters l.quote) l.initial.reader
 
 abbrev pub decreases-characters : goal.decreases-characters
 decreases-characters l = length l.reader.rest

@@ -8,7 +8,9 @@ value_of-requires c = is_one_of-below c.args.kind c.in-Some.next (sym c.if-conta
 
 pub returns-in-Some-clause-range : goal.returns-in-Some-clause-range
 returns-in-Some-clause-range c =
-    ap (holds_value c.args.kind) c.value_of.ensures ∙ sym (is_one_of-value c.args.kind c.in-Some.next) ∙ sym c.if-contains.ensures
+    ap (holds_value c.args.kind) c.value_of.ensures
+    ∙ sym (is_one_of-value c.args.kind c.in-Some.next) ∙ sym c.if-contains.ensures
 
 pub returns-in-Some-clause-below : goal.returns-in-Some-clause-below
-returns-in-Some-clause-below c = rw c.value_of.ensures (is_one_of-below c.args.kind c.in-Some.next (sym c.if-contains.ensures))
+returns-in-Some-clause-below c =
+    rw c.value_of.ensures (is_one_of-below c.args.kind c.in-Some.next (sym c.if-contains.ensures))

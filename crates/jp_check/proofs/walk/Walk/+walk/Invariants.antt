@@ -7,12 +7,14 @@ use Rattle.jp_check.proofs.walk.Walk.+walk.Given as goal
 -- the items of the segments still to come lead to where those of all lead
 abbrev pub invariant-query-loop-segment : goal.invariant-query-loop-segment
 invariant-query-loop-segment l = steps (items_of (query_of l.query)) l.initial.self
-    ≡ steps (segments_items (segments (map segment_of (drop l.segment-index l.segment-items)))) l.self
+    ≡ steps (segments_items
+    (segments (map segment_of (drop l.segment-index l.segment-items)))) l.self
 
 -- the items of the selectors still to come lead to where those of all lead
 abbrev pub invariant-segment-loop-selector : goal.invariant-segment-loop-selector
 invariant-segment-loop-selector l = steps (segment_items (segment_of l.segment)) l.initial.self
-    ≡ steps (selectors_items (selectors (map selector_of (drop l.selector-index l.selector-items)))) l.self
+    ≡ steps (selectors_items
+    (selectors (map selector_of (drop l.selector-index l.selector-items)))) l.self
 
 -- the items of the parts still to come lead to where those of all lead
 abbrev pub invariant-parts-loop-part : goal.invariant-parts-loop-part

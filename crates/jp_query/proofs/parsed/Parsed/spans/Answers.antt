@@ -7,5 +7,9 @@ pub returns-clause-each : goal.returns-clause-each
 returns-clause-each c =
     let text = c.self.invariant.0 in
     let spelled = c.self.invariant.1 in
-    rw (c.deref.ensures.value, ← c.self.view_is)
-    (text, spelled, spans-of_items level_limit (query_of c.self.inside.query) c.self.inside.spans.items text spelled)
+    rw (c.deref.ensures.value, ← c.self.view_is) (
+      text,
+      spelled,
+      spans-of_items level_limit
+          (query_of c.self.inside.query) c.self.inside.spans.items text spelled,
+    )
