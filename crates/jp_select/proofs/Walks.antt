@@ -1,5 +1,5 @@
 -- How a walk goes on: by frames, child by child.
-use Rattle.std.proofs.Common.{◌≡◌, ℕ, zero, suc, ◌+◌, List, [], ◌∷◌, ◌++◌, length, map, drop, Option, Some, None, refl, sym, ap, ap₂, ◌∙◌, append_assoc, arith}
+use Rattle.std.proofs.Common.{◌≡◌, ℕ, zero, suc, ◌+◌, List, [], ◌∷◌, ◌++◌, map, drop, Option, Some, None, refl, sym, ap, ap₂, ◌∙◌, append_assoc, arith}
 use Rattle.std.specs.List.{flat_map, slice_get}
 use Rattle.std.specs.Option.{option_map}
 use Rattle.std.proofs.lemmas.List.{append-nil, map-append}
@@ -65,13 +65,6 @@ places-next n m i j is next =
 
 pub places-end : (n : Located) (i : ℕ) → option_map told None ≡ slice_get (told_children n) i → places_from n i ≡ []
 places-end n i is = ap (flat_map places_in) (drop_past (told_children n) i (sym is))
-
-pub places-none : (n : Located) → length (told_children n) ≡ 0 → places_from n 0 ≡ []
-places-none n none = ap (flat_map places_in) (empty (told_children n) none)
-  where
-    empty : {X : Type 0} (xs : List X) → length xs ≡ 0 → drop 0 xs ≡ []
-    empty [] h = refl
-    empty (x ∷ xs) h = absurd (omega arith)
 
 -- the last frame gives first
 pub given-push : (fs : List Frame) (f : Frame) → given_by (fs ++ f ∷ []) ≡ places_from f.node f.next ++ given_by fs

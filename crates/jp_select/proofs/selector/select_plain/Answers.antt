@@ -1,5 +1,7 @@
-use Rattle.std.proofs.Common.{◌≡◌, Some, None, ap, ap₂, sym, ◌∙◌}
+use Rattle.std.proofs.Common.{◌≡◌, ◌+◌, ◌<◌, arith, length, Some, None, ap, ap₂, sym, ◌∙◌}
 use Rattle.std.specs.List.{slice_get}
+use Rattle.std.proofs.lemmas.List.{length_push}
+use Rattle.std.proofs.lemmas.Option.{slice_get_within}
 use Rattle.jp_document.specs.DocumentValue.{lent_entry}
 use Rattle.jp_document.specs.Node.{told, told_entry}
 use Rattle.jp_document.specs.Value.{value_of}
@@ -22,6 +24,22 @@ loop-step-preserved c =
     ap₂ (λ l v. (l, v)) c.in_ok-below.ensures.location c.in_ok-below.ensures.value in
     next_chosen n.location (candidates s (value_of n.value)) _ nodes c.push.new.self.items c.in_ok-below.field-0 e i
     (c.len.ensures ∙ c.loop-step.nodes.ok.0) entry is c.in_ok-push.ensures.items c.loop-step.invariant
+
+pub loop-step-smaller : goal.loop-step-smaller
+loop-step-smaller c =
+    let n = c.args.node.now in
+    let i = c.len.result in
+    let nodes = c.loop-step.nodes.items in
+    let cs = candidates (selector_of c.args.selector.now) (value_of n.value) in
+    let e = lent_entry (c.in-Some.step, c.in-Some.value) in
+    let entry : slice_get cs i ≡ Some e =
+    ap (λ v. slice_get (candidates (selector_of c.args.selector.now) v) i) (sym c.document_value.ensures)
+        ∙ sym c.in-Some.ensures.entry in
+    let within : i < length cs = slice_get_within cs i e entry in
+    let at : i ≡ length nodes = c.len.ensures ∙ c.loop-step.nodes.ok.0 in
+    let longer : length c.push.new.self.items ≡ length nodes + 1 =
+    ap length c.in_ok-push.ensures.items ∙ length_push nodes c.in_ok-below.field-0 in
+    omega arith
 
 pub returns : goal.returns
 returns c = λ d stands.
