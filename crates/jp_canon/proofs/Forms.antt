@@ -5,41 +5,13 @@ use Rattle.jp_reading.specs.Forms.{AllPassing, Blank, Each, Form, Item, Omitted,
 use Rattle.jp_reading.specs.Texts.{Spans, Text, bytes}
 use Rattle.jp_canon.specs.Canon.{separated}
 
--- the text has the form at each byte, with some spans
-pub record Has (P : Form) (t : Text) : Type 0 where
-  pub at : (o : ℕ) → (s : Spans) × P s o t
-
-pub has-word : (w : Text) → Has (word w) w
-has-word w = record { at = λ o. ([], record { none = refl; is = refl }) }
-
-pub has-one : (ok : ℕ → Bool) (c : ℕ) → ok c ≡ true → Has (One ok c) (c ∷ [])
-has-one ok c passes = record { at = λ o. ([], record { none = refl; is = refl; passes = passes }) }
+pub use Rattle.jp_reading.proofs.HasForm.{HasForm as Has, has-word, has-one, both, has-as, has-same, has-each_passing}
 
 pub has-blank : Has Blank []
 has-blank = record { at = λ o. ([], record { none = refl; blank = tt }) }
 
 pub has-omitted : Has Omitted []
 has-omitted = record { at = λ o. (_, record { spans = refl; is = refl }) }
-
-pub both : {P Q : Form} {t u : Text} → Has P t → Has Q u → Has (P ⌢ Q) (t ++ u)
-both {t} {u} one two = record {
-  at =
-      λ o.
-      let a = one.at o in
-      let b = two.at (o + bytes t) in (
-        a.0 ++ b.0,
-        record {
-          first_spans = a.0;
-          second_spans = b.0;
-          first = t;
-          second = u;
-          spans = refl;
-          is = refl;
-          one = a.1;
-          two = b.1;
-        },
-      );
-}
 
 pub has-item : {P : Form} {t : Text} → Has P t → Has (Item P) t
 has-item {t} h = record {
@@ -50,14 +22,6 @@ has-item {t} h = record {
         record { inside = a.0; spans = refl; is = a.1 },
       );
 }
-
--- one form as another
-pub has-as : {P Q : Form} {t : Text} → ((s : Spans) (o : ℕ) → P s o t → Q s o t) → Has P t → Has Q t
-has-as f h = record { at = λ o. let a = h.at o in (a.0, f a.0 o a.1) }
-
--- a text as an equal one
-pub has-same : {P : Form} {t u : Text} → t ≡ u → Has P t → Has P u
-has-same {P} e h = subst (Has P) e h
 
 -- no blanks before a text, and none after it
 pub after-blank : {P : Form} {t : Text} → Has P t → Has (Blank ⌢ P) t
@@ -83,10 +47,6 @@ pub has-each : {A : Type 0} (Q : A → Form) (f : A → Text) (xs : List A)
     → AllByRecursion (λ x. Has (Q x) (f x)) xs → Has (Each Q xs) (flat_map f xs)
 has-each Q f [] all = has-word []
 has-each Q f (x ∷ xs) all = both all.0 (has-each Q f xs all.1)
-
-pub has-each_passing : (ok : ℕ → Bool) (cs : Text) → AllPassing ok cs → Has (Each (One ok) cs) cs
-has-each_passing ok [] all = has-word []
-has-each_passing ok (c ∷ cs) all = both (has-one ok c all.0) (has-each_passing ok cs all.1)
 
 -- ---- with a mark between two neighbours
 

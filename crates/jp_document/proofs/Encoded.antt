@@ -9,7 +9,7 @@ use Rattle.std.specs.List.{flat_map}
 use Rattle.std.specs.Str.{encode_utf8_all}
 use Rattle.jp_reading.specs.Forms.{AllPassing}
 use Rattle.jp_reading.specs.Numbers.{is_digit}
-use Rattle.jp_document.specs.Private.PathReader.{is_plain, is_letter}
+use Rattle.jp_document.specs.Private.PathRules.{is_plain, is_letter}
 use Rattle.jp_document.specs.Spelling.{spelling, hex_digit}
 use Rattle.jp_document.proofs.Spelled.{Spelled, by_letter, by_number, by_itself, spelled, spelling_is}
 

@@ -11,10 +11,10 @@ use Rattle.jp_reading.proofs.Again.{start}
 use Rattle.jp_document.specs.Location.{Location}
 use Rattle.jp_document.specs.Path.{path_of}
 use Rattle.jp_document.specs.PathFault.{is_large, IsPathFaultOf, fault_of}
-use Rattle.jp_document.specs.Private.PathReader.{path_at}
+use Rattle.jp_document.specs.Private.PathReading.{path_at}
 use Rattle.jp_document.proofs.LargeIndexes.{any_large-capped, all_small-capped}
-use Rattle.jp_document.proofs.PathComplete.{path-complete}
-use Rattle.jp_document.proofs.PathSound.{path-sound}
+use Rattle.jp_document.proofs.Completeness.Paths.{path-complete}
+use Rattle.jp_document.proofs.Soundness.Paths.{path-sound}
 
 -- a rule that takes a value does not stop
 no_stop : (e : Stop) (o : Outcome Location) (l : Location) (q : State) → o ≡ took l q → Fails e o → e ≡ Memory
@@ -26,11 +26,11 @@ no_stop (TooDeep n) o l q is h = elim (subst (Fails (TooDeep n)) is h) [ ]
 pub refused : (text : List ℕ) (e : Stop) → IsUtf8 text → Fails e (path_at (start (chars text))) → IsPathFaultOf text (fault_of e)
 refused text Memory utf8 h = tt
 refused text (Syntax n) utf8 h = λ l is.
-    let read = path-complete l (start (chars text)) (encodes-chars text utf8 ∙ is) in
+    let read = path-complete (chars text) l (encodes-chars text utf8 ∙ is) in
     let same = no_stop (Syntax n) (path_at (start (chars text))) _ read.0 read.1 h in
     cc
 refused text (TooDeep n) utf8 h = λ l is.
-    let read = path-complete l (start (chars text)) (encodes-chars text utf8 ∙ is) in
+    let read = path-complete (chars text) l (encodes-chars text utf8 ∙ is) in
     let same = no_stop (TooDeep n) (path_at (start (chars text))) _ read.0 read.1 h in
     cc
 
@@ -38,13 +38,13 @@ refused text (TooDeep n) utf8 h = λ l is.
 pub too_large : (text : List ℕ) (l : Location) (q : State) → IsUtf8 text → path_at (start (chars text)) ≡ took l q → list_any is_large l ≡ true
     → (m : Location) × (text ≡ path_of m) × (list_any is_large m ≡ true)
 too_large text l q utf8 is large =
-    let read = path-sound (start (chars text)) q l is in
+    let read = path-sound (chars text) q l is in
     (read.0, sym (encodes-chars text utf8) ∙ read.2, sym (any_large-capped read.0) ∙ ap (list_any is_large) read.1 ∙ large)
 
 -- the path of these very steps was read
 pub path_read : (text : List ℕ) (l : Location) (q : State) → IsUtf8 text → path_at (start (chars text)) ≡ took l q → list_any is_large l ≡ false
     → text ≡ path_of l
 path_read text l q utf8 is small =
-    let read = path-sound (start (chars text)) q l is in
+    let read = path-sound (chars text) q l is in
     let same = all_small-capped read.0 (sym (any_large-capped read.0) ∙ ap (list_any is_large) read.1 ∙ small) in
     sym (encodes-chars text utf8) ∙ read.2 ∙ ap path_of (sym same ∙ read.1)

@@ -7,7 +7,7 @@ use Rattle.jp_document.specs.Laws.{PathsDiffer, NodesDiffer}
 use Rattle.jp_document.specs.Location.{Key, named, nth, Location, value_at}
 use Rattle.jp_document.specs.Value.{Value, value_of}
 use Rattle.jp_document.specs.Path.{index_text, step_text, path_of}
-use Rattle.jp_document.specs.Private.PathReader.{is_plain, is_letter, meant, hex_value}
+use Rattle.jp_document.specs.Private.PathRules.{is_plain, is_letter, meant, hex_value}
 use Rattle.jp_document.specs.Spelling.{spelling, control, hex_digit}
 use Rattle.jp_document.proofs.IndexTexts.{value_from-index_text, digits-index_text, Begun, zero_text, other_text, begun}
 use Rattle.jp_document.proofs.Spelled.{Spelled, by_letter, by_number, by_itself, spelled, hex_digit_is}

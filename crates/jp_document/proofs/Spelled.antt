@@ -1,9 +1,13 @@
--- How a character of a name is spelled: by a letter behind `\`, by its number, or by itself.
-use Rattle.std.proofs.Common.{◌≡◌, ℕ, ◌<◌, eqb, nat_lt, Bool, true, false, ◌||◌, not, List, [], ◌∷◌, inl, inr, refl, sym, ap, ◌∙◌, arith}
+-- How a character of a name is spelled: by a letter after `\`, by its number, or by itself.
+use Rattle.std.proofs.Common.{◌≡◌, ℕ, ◌<◌, ◌==◌, eqb, nat_lt, Bool, true, false, ◌||◌, not, List, [], ◌∷◌, inl, inr, refl, sym, ap, ◌∙◌, arith}
 use Rattle.std.proofs.lemmas.Bool.{cases_Bool, eqb-true, or_parts}
 use Rattle.std.proofs.lemmas.Bool.Decides.{nat_tests}
 use Rattle.jp_document.specs.Spelling.{spelling, control, hex_digit}
-use Rattle.jp_document.specs.Private.PathReader.{is_plain, is_letter, meant, has_letter, is_hex_digit, hex_value}
+use Rattle.jp_document.specs.Private.PathRules.{is_plain, is_letter, meant, is_low_digit, is_hex_digit, hex_value}
+
+-- whether a character below U+0020 has a letter
+unfoldable pub has_letter : ℕ → Bool
+has_letter c = c == 8 || c == 9 || c == 10 || c == 12 || c == 13
 
 pub data Spelled (c : ℕ) (w : List ℕ) : Type 0 where
   by_letter : (e : ℕ) → is_letter e ≡ true → c ≡ meant e → w ≡ 92 ∷ e ∷ [] → Spelled c w
@@ -101,7 +105,11 @@ spelling_is c w (by_letter e l m is) = ap (spelling 39) m ∙ letter e l ∙ sym
 spelling_is c w (by_number low none is) = numbered c low none ∙ sym is
 spelling_is c w (by_itself plain is) = itself c plain ∙ sym is
 
--- ---- hex digits
+-- ---- hexadecimal digits
+
+pub low-hex : (d : ℕ) → is_low_digit d ≡ true → is_hex_digit d ≡ true
+unfolding is_low_digit is_hex_digit
+low-hex d h = grind (arith, nat_tests)
 
 pub hex_digit_is : (n : ℕ) → n < 16 → (is_hex_digit (hex_digit n) ≡ true) × (hex_value (hex_digit n) ≡ n)
 unfolding is_hex_digit hex_value

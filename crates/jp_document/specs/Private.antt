@@ -1,5 +1,6 @@
 -- Shapes of the code, which private clauses alone cite.
 pub mod Direct
 pub mod Growing
-pub mod PathReader
+pub mod PathReading
+pub mod PathRules
 pub mod Stop

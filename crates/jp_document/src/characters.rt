@@ -2,7 +2,7 @@
 ghost use Rattle.std.specs.Prelude.{◌≡◌, ◌<◌, true};
 ghost use Rattle.jp_reading.specs.Outcome.{take_if};
 ghost use Rattle.jp_reading.specs.Views.{Gives};
-ghost use Rattle.jp_document.specs.Private.PathReader.{is_one_of, is_plain, is_letter, meant, has_letter, is_hex_digit, hex_value, hex_number, is_bit};
+ghost use Rattle.jp_document.specs.Private.PathRules.{is_one_of, is_plain, is_letter, meant, is_low_digit, is_hex_digit, hex_value};
 
 use jp_reading::{Reader, Stop};
 
@@ -11,11 +11,11 @@ use jp_reading::{Reader, Stop};
 pub(crate) enum Characters {
     /// Those that stand for themselves.
     Plain,
-    /// Those that stand for a character behind `\`.
+    /// Those that stand for a character after `\`.
     Letter,
-    /// `0` and `1`.
-    Bit,
-    /// The lower case hex digits.
+    /// The hexadecimal digits of the numbers below 16 whose characters have no letter.
+    LowDigit,
+    /// The lower case hexadecimal digits.
     HexDigit,
 }
 
@@ -26,7 +26,7 @@ impl Characters {
         match self {
             Characters::Plain => is_plain(c),
             Characters::Letter => is_letter(c),
-            Characters::Bit => is_bit(c),
+            Characters::LowDigit => is_low_digit(c),
             Characters::HexDigit => is_hex_digit(c),
         }
     }
@@ -45,8 +45,8 @@ pub(crate) fn take(reader: &mut Reader, characters: Characters) -> Result<char, 
     }
 }
 
-/// What a letter behind `\` stands for.
-#[tactic(auto, unfolding(crate::specs::Private::PathReader::meant))]
+/// What a letter after `\` stands for.
+#[tactic(auto, unfolding(crate::specs::Private::PathRules::meant))]
 pub(crate) fn meant(letter: char) -> char
     ensures { result ≡ meant letter }
 {
@@ -60,26 +60,9 @@ pub(crate) fn meant(letter: char) -> char
     }
 }
 
-/// Whether a character below U+0020 has a letter, so that its number never stands for it.
-#[tactic(auto, unfolding(crate::specs::Private::PathReader::has_letter))]
-pub(crate) fn has_letter(character: u8) -> bool
-    ensures { result ≡ has_letter character }
-{
-    matches!(character, 0x08 | b'\t' | b'\n' | 0x0c | b'\r')
-}
-
-/// What two hex digits write, of which the first is `0` or `1`.
-#[tactic(auto, unfolding(crate::specs::Private::PathReader::is_bit, crate::specs::Private::PathReader::is_hex_digit, crate::specs::Private::PathReader::hex_value))]
-pub(crate) fn hex_number(high: char, low: char) -> u8
-    requires high { is_bit high ≡ true }
-    requires low { is_hex_digit low ≡ true }
-    ensures { result ≡ hex_number high low }
-{
-    (high as u8 - b'0') * 16 + hex_value(low)
-}
-
-#[tactic(auto, unfolding(crate::specs::Private::PathReader::is_hex_digit, crate::specs::Private::PathReader::hex_value))]
-fn hex_value(digit: char) -> u8
+/// What a hexadecimal digit writes.
+#[tactic(auto, unfolding(crate::specs::Private::PathRules::is_hex_digit, crate::specs::Private::PathRules::hex_value))]
+pub(crate) fn hex_value(digit: char) -> u8
     requires { is_hex_digit digit ≡ true }
     ensures value { result ≡ hex_value digit }
     ensures small { result < 16 }
@@ -91,28 +74,28 @@ fn hex_value(digit: char) -> u8
     }
 }
 
-#[tactic(auto, unfolding(crate::specs::Private::PathReader::is_plain))]
+#[tactic(auto, unfolding(crate::specs::Private::PathRules::is_plain))]
 fn is_plain(c: char) -> bool
     ensures { result ≡ is_plain c }
 {
     !(c < ' ' || c == '\'' || c == '\\')
 }
 
-#[tactic(auto, unfolding(crate::specs::Private::PathReader::is_letter))]
+#[tactic(auto, unfolding(crate::specs::Private::PathRules::is_letter))]
 fn is_letter(c: char) -> bool
     ensures { result ≡ is_letter c }
 {
     matches!(c, 'b' | 't' | 'n' | 'f' | 'r' | '\'' | '\\')
 }
 
-#[tactic(auto, unfolding(crate::specs::Private::PathReader::is_bit))]
-fn is_bit(c: char) -> bool
-    ensures { result ≡ is_bit c }
+#[tactic(auto, unfolding(crate::specs::Private::PathRules::is_low_digit))]
+fn is_low_digit(c: char) -> bool
+    ensures { result ≡ is_low_digit c }
 {
-    c == '0' || c == '1'
+    matches!(c, '0'..='7' | 'b' | 'e' | 'f')
 }
 
-#[tactic(auto, unfolding(crate::specs::Private::PathReader::is_hex_digit))]
+#[tactic(auto, unfolding(crate::specs::Private::PathRules::is_hex_digit))]
 fn is_hex_digit(c: char) -> bool
     ensures { result ≡ is_hex_digit c }
 {

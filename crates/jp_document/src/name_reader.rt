@@ -1,15 +1,18 @@
 //! Reading the names of normalized paths (RFC 9535 section 2.7).
-ghost use Rattle.std.specs.Prelude.{string_bytes};
+ghost use Rattle.std.specs.Prelude.{◌≡◌, string_bytes};
 ghost use Rattle.jp_reading.specs.Views.{Gives};
-ghost use Rattle.jp_document.specs.Private.PathReader.{control_at, escaped_at, character_at, characters_at, name_at};
+ghost use Rattle.jp_reading.specs.Outcome.{head, passes};
+ghost use Rattle.jp_document.specs.Private.PathRules as rules;
+ghost use Rattle.jp_document.specs.Private.PathReading.{read_rule};
+ghost use Rattle.jp_document.specs.Private.PathRules.{is_inside};
 
-use crate::characters::{Characters, has_letter, hex_number, meant, take};
+use crate::characters::{Characters, hex_value, meant, take};
 use jp_reading::{Reader, Stop};
 
 /// Takes a name between single quotes.
-#[tactic(auto, unfolding(crate::specs::Private::PathReader::name_at))]
+#[tactic(auto, unfolding(crate::specs::Private::PathRules::name))]
 pub(crate) fn name(reader: &mut Reader) -> Result<String, Stop>
-    ensures { Gives (λ s. string_bytes s) result reader.new (name_at reader.old) }
+    ensures { Gives (λ s. string_bytes s) result reader.new (read_rule rules.name reader.old) }
 {
     reader.expect('\'')?;
     let name = characters(reader)?;
@@ -19,20 +22,30 @@ pub(crate) fn name(reader: &mut Reader) -> Result<String, Stop>
 
 /// Takes the characters of a name, up to the quote that ends it.
 fn characters(reader: &mut Reader) -> Result<String, Stop>
-    ensures { Gives (λ s. string_bytes s) result reader.new (characters_at reader.old) }
+    ensures { Gives (λ s. string_bytes s) result reader.new (read_rule rules.name_characters reader.old) }
 {
     let mut name = String::new(reader.alloc());
-    'characters: while !reader.is_at('\'') {
+    'characters: while is_inside(reader) {
         let next = character(reader)?;
         name.push(next)?;
     }
     Ok(name)
 }
 
-/// Takes a character of a name, which stands for itself or behind `\`.
-#[tactic(auto, unfolding(crate::specs::Private::PathReader::character_at))]
+/// Whether the name goes on here.
+fn is_inside(reader: &Reader) -> bool
+    ensures { result ≡ passes is_inside (head reader.now) }
+{
+    match reader.peek() {
+        Some(next) => next != '\'',
+        None => false,
+    }
+}
+
+/// Takes a character of a name, which stands for itself or after `\`.
+#[tactic(auto, unfolding(crate::specs::Private::PathRules::name_character))]
 fn character(reader: &mut Reader) -> Result<char, Stop>
-    ensures { Gives (λ c. c) result reader.new (character_at reader.old) }
+    ensures { Gives (λ c. c) result reader.new (read_rule rules.name_character reader.old) }
 {
     if reader.is_at('\\') {
         reader.bump();
@@ -42,32 +55,33 @@ fn character(reader: &mut Reader) -> Result<char, Stop>
     }
 }
 
-/// Takes what stands behind `\`: a letter, or `u` and a number.
-#[tactic(auto, unfolding(crate::specs::Private::PathReader::escaped_at))]
+/// Takes what stands after `\`: a letter, or `u` and a number.
+#[tactic(auto, unfolding(crate::specs::Private::PathRules::escape))]
 fn escaped(reader: &mut Reader) -> Result<char, Stop>
-    ensures { Gives (λ c. c) result reader.new (escaped_at reader.old) }
+    ensures { Gives (λ c. c) result reader.new (read_rule rules.escape reader.old) }
 {
     if reader.is_at('u') {
         reader.bump();
-        control(reader)
+        hexchar(reader)
     } else {
         let letter = take(reader, Characters::Letter)?;
         Ok(meant(letter))
     }
 }
 
-/// Takes the number of a character below U+0020 that has no letter: `00` and two lower case hex digits.
-#[tactic(auto, unfolding(crate::specs::Private::PathReader::control_at))]
-fn control(reader: &mut Reader) -> Result<char, Stop>
-    ensures { Gives (λ c. c) result reader.new (control_at reader.old) }
+/// Takes the number of a character below U+0020 that has no letter: `00` and two lower case hexadecimal digits.
+#[tactic(auto, unfolding(crate::specs::Private::PathRules::hexchar))]
+fn hexchar(reader: &mut Reader) -> Result<char, Stop>
+    ensures { Gives (λ c. c) result reader.new (read_rule rules.hexchar reader.old) }
 {
     reader.expect('0')?;
     reader.expect('0')?;
-    let high = take(reader, Characters::Bit)?;
-    let low = take(reader, Characters::HexDigit)?;
-    let number = hex_number(high, low);
-    if has_letter(number) {
-        return Err(Stop::Syntax(reader.place()));
+    if reader.is_at('0') {
+        reader.bump();
+        let low = take(reader, Characters::LowDigit)?;
+        return Ok(char::from(hex_value(low)));
     }
-    Ok(char::from(number))
+    reader.expect('1')?;
+    let low = take(reader, Characters::HexDigit)?;
+    Ok(char::from(16 + hex_value(low)))
 }

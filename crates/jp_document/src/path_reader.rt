@@ -5,7 +5,8 @@ ghost use Rattle.jp_reading.specs.Views.{Gives};
 ghost use Rattle.jp_document.specs.Location.{owned_key};
 ghost use Rattle.jp_document.specs.Path.{path_of};
 ghost use Rattle.jp_document.specs.PathFault.{is_large, IsPathFaultOf};
-ghost use Rattle.jp_document.specs.Private.PathReader.{index_at, key_at, step_at, steps_at, path_at};
+ghost use Rattle.jp_document.specs.Private.PathRules as rules;
+ghost use Rattle.jp_document.specs.Private.PathReading.{read_rule, path_at};
 
 use crate::location::{OwnedLocation, OwnedStep};
 use crate::name_reader::name;
@@ -48,7 +49,7 @@ fn is_large(step: &OwnedStep) -> bool
 const LARGEST_INDEX: u64 = 9_007_199_254_740_991;
 
 /// Takes a whole path: the text ends behind it. An index above (2^53)-1 is read as 2^53.
-#[tactic(auto, unfolding(crate::specs::Private::PathReader::path_at))]
+#[tactic(auto, unfolding(crate::specs::Private::PathReading::path_at, crate::specs::Private::PathRules::path))]
 fn path(reader: &mut Reader) -> Result<Vec<OwnedStep>, Stop>
     ensures { Gives (λ v. map owned_key v.items) result reader.new (path_at reader.old) }
 {
@@ -62,7 +63,7 @@ fn path(reader: &mut Reader) -> Result<Vec<OwnedStep>, Stop>
 
 /// Takes step after step, as long as another begins.
 fn steps(reader: &mut Reader) -> Result<Vec<OwnedStep>, Stop>
-    ensures { Gives (λ v. map owned_key v.items) result reader.new (steps_at reader.old) }
+    ensures { Gives (λ v. map owned_key v.items) result reader.new (read_rule rules.steps reader.old) }
 {
     let mut steps = Vec::new(reader.alloc());
     'steps: while reader.is_at('[') {
@@ -73,9 +74,9 @@ fn steps(reader: &mut Reader) -> Result<Vec<OwnedStep>, Stop>
 }
 
 /// Takes a step between brackets.
-#[tactic(auto, unfolding(crate::specs::Private::PathReader::step_at))]
+#[tactic(auto, unfolding(crate::specs::Private::PathRules::step))]
 fn step(reader: &mut Reader) -> Result<OwnedStep, Stop>
-    ensures { Gives owned_key result reader.new (step_at reader.old) }
+    ensures { Gives owned_key result reader.new (read_rule rules.step reader.old) }
 {
     reader.expect('[')?;
     let key = key(reader)?;
@@ -84,9 +85,9 @@ fn step(reader: &mut Reader) -> Result<OwnedStep, Stop>
 }
 
 /// Takes a name or an index.
-#[tactic(auto, unfolding(crate::specs::Private::PathReader::key_at))]
+#[tactic(auto, unfolding(crate::specs::Private::PathRules::key))]
 fn key(reader: &mut Reader) -> Result<OwnedStep, Stop>
-    ensures { Gives owned_key result reader.new (key_at reader.old) }
+    ensures { Gives owned_key result reader.new (read_rule rules.key reader.old) }
 {
     if reader.is_at('\'') {
         let name = name(reader)?;
@@ -98,9 +99,9 @@ fn key(reader: &mut Reader) -> Result<OwnedStep, Stop>
 }
 
 /// Takes an index without a leading zero, and answers 2^53 where it is larger.
-#[tactic(auto, unfolding(crate::specs::Private::PathReader::index_at))]
+#[tactic(auto, unfolding(crate::specs::Private::PathRules::index))]
 fn index(reader: &mut Reader) -> Result<u64, Stop>
-    ensures { Gives (λ n. n) result reader.new (index_at reader.old) }
+    ensures { Gives (λ n. n) result reader.new (read_rule rules.index reader.old) }
 {
     if reader.is_at('0') {
         reader.bump();

@@ -5,6 +5,7 @@ pub mod Chars
 pub mod Digits
 pub mod Fits
 pub mod Folds
+pub mod HasForm
 pub mod Joining
 pub mod Levels
 pub mod Locality

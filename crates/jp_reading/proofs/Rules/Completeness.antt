@@ -118,7 +118,7 @@ done-each F m ok first I K rule moves apart one (x ∷ xs) p q h follow =
 
 -- ---- rules
 
-no_inner : (N : Nesting) → InnerIsComplete N (none_inside N) (λ o. any) (nothing N)
+pub no_inner : (N : Nesting) → InnerIsComplete N (none_inside N) (λ o. any) (nothing N)
 no_inner N = record {
   progress = λ o p. tt;
   again = λ o x p q h follow. absurd h.is;

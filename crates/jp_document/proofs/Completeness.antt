@@ -1,0 +1,4 @@
+-- Each path is taken by the rules of paths.
+pub mod Apart
+pub mod Names
+pub mod Paths

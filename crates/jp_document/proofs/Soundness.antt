@@ -1,0 +1,3 @@
+-- What the rules of paths take is a path.
+pub mod Names
+pub mod Paths

@@ -1,0 +1,155 @@
+-- What the rule of names takes is a name's spelling between quotes.
+use Rattle.std.proofs.Common.{◌≡◌, ℕ, ◌+◌, ◌/◌, ◌%◌, ◌<◌, nat_lt, Bool, false, true, List, [], ◌∷◌, ◌++◌, inl, inr, refl, sym, ap, subst, ◌∙◌, ◌≤◌, arith}
+use Rattle.std.proofs.lemmas.Bool.{cases_Bool}
+use Rattle.std.proofs.lemmas.Bool.Decides.{nat_tests}
+use Rattle.std.proofs.lemmas.Str.{encodes-append}
+use Rattle.std.specs.List.{flat_map}
+use Rattle.std.specs.Str.{encode_utf8_all}
+use Rattle.jp_reading.specs.Texts.{Text, Spans}
+use Rattle.jp_reading.specs.Forms.{Form, ◌⌢◌, word, One, Each}
+use Rattle.jp_reading.proofs.Between.{Within}
+use Rattle.jp_reading.proofs.Joining.{after-within, ends-within}
+use Rattle.jp_reading.proofs.Levels.{Only, Then, Made}
+use Rattle.jp_reading.proofs.Rules.Form.{Either, left, right, none_inside, form}
+use Rattle.jp_document.specs.Private.PathRules.{nesting, PathRule, is_letter, meant, is_low_digit, is_hex_digit, hex_value}
+use Rattle.jp_document.specs.Private.PathRules as rule
+use Rattle.jp_document.specs.Spelling.{spelling, control, hex_digit}
+use Rattle.jp_document.proofs.Encoded.{encode-ascii, names-encode}
+use Rattle.jp_document.proofs.Spelled.{has_letter, by_letter, by_number, by_itself, spelling_is}
+
+-- the form of a rule of paths
+abbrev pub form_of : {u : Bool} {A : Type 0} → PathRule u A → A → Form
+form_of r x = form (none_inside nesting) r x
+
+-- the text is w in UTF-8
+pub record Written (w : List ℕ) (s : Spans) (o : ℕ) (t : Text) : Type 0 where
+  pub is : encode_utf8_all t ≡ w
+
+-- between two characters
+pub enclosed : (a b : ℕ) (P : Form) (w : List ℕ) → a < 128 → b < 128 → Within P (Written w)
+    → Within (word (a ∷ []) ⌢ P ⌢ word (b ∷ [])) (Written (a ∷ (w ++ b ∷ [])))
+enclosed a b P w low below inside s o t h =
+    let middle = (inside h.two.first_spans _ h.two.first h.two.one).is in
+    record {
+      is =
+          ap encode_utf8_all h.is ∙ encodes-append h.first h.second
+          ∙ ap (λ x. x ++ encode_utf8_all h.second) (ap encode_utf8_all h.one.is ∙ encode-ascii (a ∷ []) (low, tt))
+          ∙ ap (λ x. a ∷ x) (ap encode_utf8_all h.two.is ∙ encodes-append h.two.first h.two.second
+          ∙ ap (λ x. encode_utf8_all h.two.first ++ x) (ap encode_utf8_all h.two.two.is ∙ encode-ascii (b ∷ []) (below, tt))
+          ∙ ap (λ x. x ++ b ∷ []) middle);
+    }
+
+-- the value of what is enclosed
+pub enclosed-is : {A : Type 0} (F : A → Form) (a b : ℕ) (x : A)
+    → Within (word (a ∷ []) ⌢ Then F (λ z y. word (b ∷ []) ⌢ Only z (word []) y) x) (word (a ∷ []) ⌢ F x ⌢ word (b ∷ []))
+enclosed-is F a b x =
+    after-within (word (a ∷ [])) _ (F x ⌢ word (b ∷ []))
+    (λ s o t h. (let end = ends-within F (word (b ∷ [])) (λ z. z) x s o t h in
+    subst (λ z. (F z ⌢ word (b ∷ [])) s o t) (sym end.same) end.is))
+
+-- ---- characters of names
+
+-- the number of a character that has no letter
+record Numbered (c : ℕ) (s : Spans) (o : ℕ) (t : Text) : Type 0 where
+  low : c < 32
+  none : has_letter c ≡ false
+  is : 92 ∷ 117 ∷ t ≡ control c
+
+low-number : (d : ℕ) → is_low_digit d ≡ true → (hex_value d < 16) × (has_letter (hex_value d) ≡ false) × (hex_digit (hex_value d) ≡ d)
+unfolding is_low_digit hex_value has_letter
+low-number d h =
+    elim (cases_Bool (nat_lt d 97)) [
+      | inl e ↦ rw e (grind (arith, nat_tests), grind (arith, nat_tests), grind (arith, nat_tests))
+      | inr e ↦ rw e (grind (arith, nat_tests), grind (arith, nat_tests), grind (arith, nat_tests))
+    ]
+
+hex-number : (d : ℕ) → is_hex_digit d ≡ true → (hex_value d < 16) × (hex_digit (hex_value d) ≡ d)
+unfolding is_hex_digit hex_value
+hex-number d h =
+    elim (cases_Bool (nat_lt d 97)) [
+      | inl e ↦ rw e (grind (arith, nat_tests), grind (arith, nat_tests))
+      | inr e ↦ rw e (grind (arith, nat_tests), grind (arith, nat_tests))
+    ]
+
+high-no_letter : (n : ℕ) → 16 ≤ n → has_letter n ≡ false
+unfolding has_letter
+high-no_letter n h = grind (arith, nat_tests)
+
+control-is : (c a b : ℕ) → hex_digit (c / 16) ≡ a → hex_digit (c % 16) ≡ b → 92 ∷ 117 ∷ 48 ∷ 48 ∷ a ∷ b ∷ [] ≡ control c
+control-is c a b high low = rw (sym high, sym low) refl
+
+hexchar-within : (c : ℕ) → Within (form_of rule.hexchar c) (Numbered c)
+unfolding rule.hexchar
+hexchar-within c s o t h = way _ h.two.two
+  where
+    text : (u : Text) → h.two.second ≡ u → t ≡ 48 ∷ 48 ∷ u
+    text u e = rw (h.is, h.one.is, h.two.is, h.two.one.is, e) refl
+
+    way : (i : ℕ) → Either (word (48 ∷ []) ⌢ Made hex_value (One is_low_digit) c) (word (49 ∷ []) ⌢ Made (λ d. 16 + hex_value d) (One is_hex_digit) c)
+        h.two.second_spans i h.two.second → Numbered c s o t
+    way i (left g) =
+        let d = g.two.part in
+        let number = low-number d g.two.is.passes in
+        let high : c / 16 ≡ 0 = (let e = g.two.same in omega arith) in
+        let low : c % 16 ≡ hex_value d = (let e = g.two.same in omega arith) in
+        record {
+          low = let e = g.two.same in omega arith;
+          none = ap has_letter g.two.same ∙ number.1;
+          is = ap (λ x. 92 ∷ 117 ∷ x) (text (48 ∷ d ∷ []) (rw (g.is, g.one.is, g.two.is.is) refl))
+              ∙ control-is c 48 d (ap hex_digit high) (ap hex_digit low ∙ number.2);
+        }
+    way i (right g) =
+        let d = g.two.part in
+        let number = hex-number d g.two.is.passes in
+        let high : c / 16 ≡ 1 = (let e = g.two.same in omega arith) in
+        let low : c % 16 ≡ hex_value d = (let e = g.two.same in omega arith) in
+        record {
+          low = let e = g.two.same in omega arith;
+          none = high-no_letter c (let e = g.two.same in omega arith);
+          is = ap (λ x. 92 ∷ 117 ∷ x) (text (49 ∷ d ∷ []) (rw (g.is, g.one.is, g.two.is.is) refl))
+              ∙ control-is c 49 d (ap hex_digit high) (ap hex_digit low ∙ number.1);
+        }
+
+-- what comes after a backslash, as it is spelled
+record Escaped (c : ℕ) (s : Spans) (o : ℕ) (t : Text) : Type 0 where
+  is : 92 ∷ t ≡ spelling 39 c
+
+escape-within : (c : ℕ) → Within (form_of rule.escape c) (Escaped c)
+unfolding rule.escape
+escape-within c s o t (left h) =
+    let number = hexchar-within c h.second_spans _ h.second h.two in
+    record { is = rw (h.is, h.one.is) number.is ∙ sym (spelling_is c (control c) (by_number number.low number.none refl)) }
+escape-within c s o t (right h) = record {
+  is = rw h.is.is (sym (spelling_is c (92 ∷ h.part ∷ []) (by_letter h.part h.is.passes h.same refl)));
+}
+
+-- a character, as it is spelled
+record Spells (c : ℕ) (s : Spans) (o : ℕ) (t : Text) : Type 0 where
+  is : t ≡ spelling 39 c
+
+character-within : (c : ℕ) → Within (form_of rule.name_character c) (Spells c)
+unfolding rule.name_character
+character-within c s o t (left h) =
+    let escaped = escape-within c h.second_spans _ h.second h.two in
+    record { is = rw (h.is, h.one.is) escaped.is }
+character-within c s o t (right h) = record { is = h.is ∙ sym (spelling_is c (c ∷ []) (by_itself h.passes refl)) }
+
+-- ---- names
+
+characters-spelled : (cs : List ℕ) (s : Spans) (o : ℕ) (t : Text) → Each (λ c. form_of rule.name_character c) cs s o t → t ≡ flat_map (spelling 39) cs
+characters-spelled [] s o t h = h.is
+characters-spelled (c ∷ cs) s o t h =
+    h.is ∙ ap (λ x. x ++ h.second) (character-within c h.first_spans o h.first h.one).is
+    ∙ ap (λ x. spelling 39 c ++ x) (characters-spelled cs h.second_spans _ h.second h.two)
+
+characters-within : (n : List ℕ) → Within (form_of rule.name_characters n) (Written (flat_map (spelling 39) n))
+unfolding rule.name_characters
+characters-within n s o t h = record {
+  is = ap encode_utf8_all (characters-spelled h.part s o t h.is) ∙ names-encode h.part ∙ ap (flat_map (spelling 39)) (sym h.same);
+}
+
+pub name-within : (n : List ℕ) → Within (form_of rule.name n) (Written (39 ∷ (flat_map (spelling 39) n ++ 39 ∷ [])))
+unfolding rule.name
+name-within n s o t h =
+    enclosed 39 39 (form_of rule.name_characters n) (flat_map (spelling 39) n) (omega arith) (omega arith) (characters-within n) s o t
+    (enclosed-is (form_of rule.name_characters) 39 39 n s o t h)
