@@ -18,7 +18,7 @@ found-passes test (y ∷ ys) x h =
       | inr e ↦ let later : find test ys ≡ Some x = rw e at h in found-passes test ys x later
     ]
 
-both : (a b : Bool) → a && b ≡ true → (a ≡ true) × (b ≡ true)
+pub both : (a b : Bool) → a && b ≡ true → (a ≡ true) × (b ≡ true)
 both true true h = (refl, refl)
 both true false h = cc
 both false b h = cc

@@ -14,7 +14,7 @@ use Rattle.jp_iregexp.specs.Membership.{is_repeat, is_word, has_word}
 use Rattle.jp_iregexp.specs.Membership.{WordsAreTested, PartsAreTested}
 use Rattle.jp_iregexp.specs.Part.{HasPart}
 use Rattle.jp_iregexp.specs.Tree.{Tree, class, nothing, either, empty, sequence, repeat}
-use Rattle.jp_iregexp.proofs.TakenCharacters.{both}
+use Rattle.jp_iregexp.proofs.CodeLemmas.{both}
 
 -- ---- a number of a run that passes
 

@@ -16,7 +16,8 @@ use Rattle.jp_iregexp.specs.Tree.{class}
 use Rattle.jp_iregexp.specs.Grammar as grammar
 use Rattle.jp_iregexp.specs.Grammar.{ClassEscape, Hyphen, Element, First, Last, Items, NotAtCaret, Class, Number, Most, Quantifier, one, dot, Atom, Piece, Branch, Branches, Inside, SpellsPattern}
 use Rattle.jp_iregexp.specs.Reading.{character_at, is_category_sign, category_at, is_at_category, range_at, element_at, begins_element, elements_at, hyphen_at, first_at, last_at, items_at, class_at}
-use Rattle.jp_iregexp.proofs.TakenCharacters.{both, fits-character, fits-category}
+use Rattle.jp_iregexp.proofs.CodeLemmas.{both}
+use Rattle.jp_iregexp.proofs.TakenCharacters.{fits-character, fits-category}
 
 fits-range : (c : ℕ) (p q : State) → Reads (Character is_plain c) p q → Fits Element p (range_at c q)
 unfolding range_at
