@@ -20,13 +20,11 @@ use std::alloc::Global;
 /// nodelist's order (RFC 9535 section 2.1.2).
 ///
 /// The query is read first, and where it is refused the input stays unread; then the input is read
-/// to its end; then the document is read; and only then is anything written, each node's line
-/// before
+/// to its end; then the document is read; and only then is anything written, each node's line before
 /// the next node is looked for. `Query` says that the query has more than `QUERY_LIMIT` bytes
 /// (`TextTooLong`) or is refused, `Document` that what was read is no document, `DocumentTooLarge`
 /// that more than `DOCUMENT_LIMIT` bytes came, `Read` and `Write` that the input or the output
-/// failed: a call that fails is not tried again. After `Write` and `NoMemory` a prefix of the
-/// output
+/// failed: a call that fails is not tried again. After `Write` and `NoMemory` a prefix of the output
 /// is written.
 pub fn run_eval<R: Source, W: Output>(
     alloc: Global,
