@@ -39,10 +39,16 @@ pub empty_is : (t : Tree) → IsTrue (has_empty t) ↔ Language t []
 empty_is (tree.class negated items) = (λ h. absurd (cc), λ h. absurd (let e = h.2 in cc))
 empty_is tree.nothing = (λ h. absurd (cc), λ h. absurd h)
 empty_is (tree.either a b) = (
-  λ h. elim ((or_is (has_empty a) (has_empty b)).0 h) [ inl x ↦ inl ((empty_is a).0 x) | inr y ↦
-      inr ((empty_is b).0 y) ],
-  λ h. (or_is (has_empty a) (has_empty b)).1 (elim h [ inl x ↦ inl ((empty_is a).1 x) | inr y ↦ inr
-      ((empty_is b).1 y) ]),
+  λ h. elim ((or_is (has_empty a) (has_empty b)).0 h) [
+    | inl x ↦ inl ((empty_is a).0 x)
+    | inr y ↦
+        inr ((empty_is b).0 y)
+  ],
+  λ h. (or_is (has_empty a) (has_empty b)).1 (elim h [
+    | inl x ↦ inl ((empty_is a).1 x)
+    | inr y ↦ inr
+        ((empty_is b).1 y)
+  ]),
 )
 empty_is tree.empty = (λ h. refl, λ h. refl)
 empty_is (tree.sequence a b) = (
@@ -62,10 +68,11 @@ empty_is (tree.repeat a least most) = (
       ],
   λ h.
       let (k, enough, within, words) = h in
-      (and_is (is_within least most) (nat_le least 0 || has_empty a)).1
-      ((within_is least most).1 (at_most_within least k most enough within),
-          (or_is (nat_le least 0) (has_empty a)).1 (none_or_first (Language a) least k enough words
-          (has_empty a) (empty_is a).1)),
+      (and_is (is_within least most) (nat_le least 0 || has_empty a)).1 (
+        (within_is least most).1 (at_most_within least k most enough within),
+        (or_is (nat_le least 0) (has_empty a)).1 (none_or_first (Language a) least k enough words
+            (has_empty a) (empty_is a).1),
+      ),
 )
 
 no_marks : (row : List Bool) → length row ≡ 0 → row ≡ []

@@ -15,8 +15,14 @@ joined_nil L M j = parts j.front j.back j.is j.first j.second where
   parts (x ∷ front) back is first second = absurd (cc)
 
 pub nil_joined : (L M : List ℕ → Type 0) → L [] → M [] → Concatenation L M []
-nil_joined L M first second = record { front = []; back = []; is = refl; first = first; second =
-    second }
+nil_joined L M first second = record {
+  front = [];
+  back = [];
+  is = refl;
+  first = first;
+  second =
+      second;
+}
 
 pub or_is : (a b : Bool) → IsTrue (a || b) ↔ (IsTrue a ⊎ IsTrue b)
 or_is true b = (λ h. inl refl, λ h. refl)
@@ -29,12 +35,20 @@ ends_class negated items entered marks = record {
 }
 
 pub ends_empty : (entered : Bool) (marks : List Bool) → Ends empty entered marks entered
-ends_empty entered marks = record { is = (λ h. inr (h, refl),
-    λ h. elim h [ inl x ↦ absurd x | inr y ↦ y.0 ]) }
+ends_empty entered marks = record {
+  is = (
+    λ h. inr (h, refl),
+    λ h. elim h [ inl x ↦ absurd x | inr y ↦ y.0 ],
+  );
+}
 
 pub ends_nothing : (entered : Bool) (marks : List Bool) → Ends nothing entered marks false
-ends_nothing entered marks = record { is = (λ h. absurd (cc),
-    λ h. elim h [ inl x ↦ absurd x | inr y ↦ absurd y.1 ]) }
+ends_nothing entered marks = record {
+  is = (
+    λ h. absurd (cc),
+    λ h. elim h [ inl x ↦ absurd x | inr y ↦ absurd y.1 ],
+  );
+}
 
 pub ends_either : (a b : Plain) (entered : Bool) (marks : List Bool) (x y : Bool) →
     Ends a entered (take (size a) marks) x → Ends b entered (drop (size a) marks) y →
@@ -47,8 +61,13 @@ ends_either a b entered marks x y ha hb = record {
     ],
     λ h. (or_is x y).1 (elim h [
       | inl r ↦ elim r [ inl ra ↦ inl (ha.is.1 (inl ra)) | inr rb ↦ inr (hb.is.1 (inl rb)) ]
-      | inr w ↦ elim w.1 [ inl wa ↦ inl (ha.is.1 (inr (w.0,
-          wa))) | inr wb ↦ inr (hb.is.1 (inr (w.0, wb))) ]
+      | inr w ↦ elim w.1 [
+        | inl wa ↦ inl (ha.is.1 (inr (
+          w.0,
+          wa,
+        )))
+        | inr wb ↦ inr (hb.is.1 (inr (w.0, wb)))
+      ]
     ]),
   );
 }

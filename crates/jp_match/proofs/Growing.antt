@@ -39,15 +39,15 @@ grows_first L text first most reached first_long reached_long none = record {
 
 -- by any number of words: to what is reached, or on from a new place by not more words
 pub record LeadsOn (L : List ℕ → Type 0) (text : List ℕ) (now : List Bool) (k place : ℕ) : Type 0
-    where
-  pub words : ℕ
-  pub fewer : words ≤ k
-  pub way : Reached (Power L words) text now place
+  where
+    pub words : ℕ
+    pub fewer : words ≤ k
+    pub way : Reached (Power L words) text now place
 
 pub leads_on : (L : List ℕ → Type 0) (text : List ℕ) (reached now : List Bool) → ((place : ℕ) →
     Reached L text reached place → Marked reached place ⊎ Marked now place) →
     (k place : ℕ) → Reached (Power L k) text reached place →
-        Marked reached place ⊎ LeadsOn L text now k place
+    Marked reached place ⊎ LeadsOn L text now k place
 leads_on L text reached now closed zero place r = inl (still_reached text reached place r)
 leads_on L text reached now closed (suc k) place r =
     let way = halfway L (Power L k) text reached place r in
@@ -70,17 +70,24 @@ by_no_word L text now most place long marked =
 by_one_more : (L : List ℕ → Type 0) (text : List ℕ) (now stepped next : List Bool) (left fewer :
     Option ℕ) (place : ℕ) → IsMostAfter left 1 (Some fewer) → IsImage L text now stepped →
     ((place : ℕ) → Marked next place → Marked stepped place) →
-        Reached (Times L fewer) text next place → Reached (Times L left) text now place
+    Reached (Times L fewer) text next place → Reached (Times L left) text now place
 by_one_more L text now stepped next left fewer place h step within r =
     let first = (step.reached (length r.before)).0 (within (length r.before) r.begins) in
     let whole = onward L (Times L fewer) text now next place r first in
     let cut = whole.holds in
     let (k, few, words) = cut.second in
     let count : 1 + k ≡ suc k = omega arith in
-    reached_as (Concatenation L (Times L fewer)) (Times L left) text now place whole
-    (suc k, subst (IsAtMost left) count ((at_most_after left 1 fewer k h).0 few),
-        record { front = cut.front; back = cut.back; is = cut.is; first = cut.first; second = words
-        })
+    reached_as (Concatenation L (Times L fewer)) (Times L left) text now place whole (
+      suc k,
+      subst (IsAtMost left) count ((at_most_after left 1 fewer k h).0 few),
+      record {
+        front = cut.front;
+        back = cut.back;
+        is = cut.is;
+        first = cut.first;
+        second = words;
+      },
+    )
 
 -- from the new places by some words: none, or one and then others from where it leads
 from_now : (L : List ℕ → Type 0) (text : List ℕ) (now united stepped next : List Bool) (left fewer
@@ -89,7 +96,7 @@ from_now : (L : List ℕ → Type 0) (text : List ℕ) (now united stepped next 
     ((place : ℕ) → Marked stepped place → (Marked united place → ⊥) → Marked next place) →
     ((place : ℕ) → Reached L text united place → Marked united place ⊎ Marked next place) →
     (k place : ℕ) → IsAtMost left k → Reached (Power L k) text now place →
-        Marked united place ⊎ Reached (Times L fewer) text next place
+    Marked united place ⊎ Reached (Times L fewer) text next place
 from_now L text now united stepped next left fewer h kept step fresh closed zero place within r =
     inl (kept place (still_reached text now place r))
 from_now L text now united stepped next left fewer h kept step fresh closed (suc k) place within r =
@@ -119,22 +126,25 @@ pub grows_more : (L : List ℕ → Type 0) (text : List ℕ) (first : List Bool)
     Option ℕ) (reached now united stepped next : List Bool) →
     Grows L text first most left reached now → IsMostAfter left 1 (Some fewer) →
     length united ≡ length reached → ((place : ℕ) →
-        Marked united place ↔ (Marked reached place ⊎ Marked now place)) →
+    Marked united place ↔ (Marked reached place ⊎ Marked now place)) →
     IsImage L text now stepped →
     length next ≡ length stepped → ((place : ℕ) →
-        Marked next place ↔ (Marked stepped place × (Marked united place → ⊥))) →
+    Marked next place ↔ (Marked stepped place × (Marked united place → ⊥))) →
     Grows L text first most fewer united next
 grows_more L text first most left fewer reached now united stepped next so_far h united_long both
     step next_long rest =
     let closed : (place : ℕ) → Reached L text united place →
-        Marked united place ⊎ Marked next place =
+    Marked united place ⊎ Marked next place =
     λ place r. elim (marked_or_not united place) [
       | inl marked ↦ inl marked
       | inr fresh ↦ elim ((both (length r.before)).0 r.begins) [
         | inl old ↦ inl ((both place).1 (so_far.closed place (reached_from L text united reached
             place r old)))
-        | inr new ↦ inr ((rest place).1 ((step.reached place).1 (reached_from L text united now
-            place r new), fresh))
+        | inr new ↦ inr ((rest place).1 (
+          (step.reached place).1 (reached_from L text united now
+              place r new),
+          fresh,
+        ))
       ]
     ]
     in
@@ -154,8 +164,10 @@ grows_more L text first most left fewer reached now united stepped next so_far h
         λ r. elim ((so_far.each place).1 r) [
           | inl old ↦ inl ((both place).1 (inl old))
           | inr on ↦ from_now L text now united stepped next left fewer h (λ p m. (both p).1 (inr
-              m)) step (λ p m not. (rest p).1 (m,
-              not)) closed on.holds.0 place on.holds.1 (reached_as (Times L left) (Power L
+              m)) step (λ p m not. (rest p).1 (
+                m,
+                not,
+              )) closed on.holds.0 place on.holds.1 (reached_as (Times L left) (Power L
               on.holds.0) text now place on on.holds.2)
         ],
       );
@@ -166,22 +178,25 @@ grows_more L text first most left fewer reached now united stepped next so_far h
 pub grows_all : (L : List ℕ → Type 0) (text : List ℕ) (first : List Bool) (most left : Option ℕ)
     (reached now : List Bool) → length first ≡ suc (length text) →
     Grows L text first most left reached now → ((place : ℕ) → Marked now place → ⊥) →
-        IsImage (Times L most) text first reached
+    IsImage (Times L most) text first reached
 grows_all L text first most left reached now long so_far none = record {
   same_length = so_far.reached_length ∙ sym long;
   reached = λ place. (
     λ marked. (so_far.each place).0 (inl marked),
-    λ r. elim ((so_far.each place).1 r) [ inl marked ↦ marked | inr on ↦ absurd (none (length
-        on.before) on.begins) ],
+    λ r. elim ((so_far.each place).1 r) [
+      | inl marked ↦ marked
+      | inr on ↦ absurd (none (length
+          on.before) on.begins)
+    ],
   );
 }
 
 pub grows_last : (L : List ℕ → Type 0) (text : List ℕ) (first : List Bool) (most left : Option ℕ)
     (reached now united : List Bool) → length first ≡ suc (length text) →
     Grows L text first most left reached now → IsMostAfter left 1 None →
-        length united ≡ length reached →
+    length united ≡ length reached →
     ((place : ℕ) → Marked united place ↔ (Marked reached place ⊎ Marked now place)) →
-        IsImage (Times L most) text first united
+    IsImage (Times L most) text first united
 grows_last L text first most left reached now united long so_far h united_long both = record {
   same_length = united_long ∙ so_far.reached_length ∙ sym long;
   reached = λ place. (

@@ -12,7 +12,7 @@ pub taken_more : (text taken : List ℕ) (x : ℕ) → taken ≡ take (length ta
 taken_more text taken x is below item =
     let more = take_more text (length taken) x below in
     ap (λ ys. ys ++ x ∷ []) is ∙ ap (λ y. take (length taken) text ++ y ∷ []) item ∙ sym more ∙
-        ap (λ n. take n text) (sym (length_push taken x))
+    ap (λ n. take n text) (sym (length_push taken x))
 
 pub taken_all : (text taken : List ℕ) → taken ≡ take (length taken) text →
     length taken ≡ length text → taken ≡ text
@@ -61,7 +61,7 @@ part_is L text = (
   λ h.
       let count = length (h.before ++ h.part) in
       let is : text ≡ (h.before ++ h.part) ++ h.after = h.is ∙
-          sym (append_assoc h.before h.part h.after) in (
+      sym (append_assoc h.before h.part h.after) in (
         length (h.before ++ h.part),
         omega (arith, ap length is, length-append (h.before ++ h.part) h.after),
         record {

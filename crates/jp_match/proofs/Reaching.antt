@@ -89,8 +89,13 @@ halfway L M text from place r =
         is = first.is ∙ sym (append_assoc r.before cut.front (cut.back ++ r.after));
         begins = marked;
         holds = cut.second;
-        ends = omega (arith, length-append r.before cut.front, length-append cut.front cut.back,
-            ap length cut.is, r.ends);
+        ends = omega (
+          arith,
+          length-append r.before cut.front,
+          length-append cut.front cut.back,
+          ap length cut.is,
+          r.ends,
+        );
       };
     }
 
@@ -100,8 +105,8 @@ pub onward : (L M : List ℕ → Type 0) (text : List ℕ) (from through : List 
     Reached (Concatenation L M) text from place
 onward L M text from through place second first =
     let same = cut_apart (first.before ++ first.word) first.after second.before (second.word ++
-        second.after) (append_assoc first.before first.word first.after ∙ sym first.is ∙
-        second.is) (length-append first.before first.word ∙ first.ends) in
+    second.after) (append_assoc first.before first.word first.after ∙ sym first.is ∙
+    second.is) (length-append first.before first.word ∙ first.ends) in
     record {
       before = first.before;
       word = first.word ++ second.word;
@@ -109,8 +114,13 @@ onward L M text from through place second first =
       is = first.is ∙ ap (λ w. first.before ++ w) (ap (λ w. first.word ++ w) same.1 ∙
           sym (append_assoc first.word second.word second.after));
       begins = first.begins;
-      holds = record { front = first.word; back = second.word; is = refl; first = first.holds;
-          second = second.holds };
+      holds = record {
+        front = first.word;
+        back = second.word;
+        is = refl;
+        first = first.holds;
+        second = second.holds;
+      };
       ends = omega (arith, length-append first.word second.word, first.ends, second.ends);
     }
 
@@ -132,8 +142,14 @@ image_joined L M text a b c ab bc = record {
 -- the image by the empty word is the set
 pub image_still : (text : List ℕ) (a : List Bool) → length a ≡ suc (length text) →
     IsImage (λ w. w ≡ []) text a a
-image_still text a long = record { same_length = refl; reached = λ place. (reached_still text a
-    place long, still_reached text a place) }
+image_still text a long = record {
+  same_length = refl;
+  reached = λ place. (
+    reached_still text a
+        place long,
+    still_reached text a place,
+  );
+}
 
 -- two languages of the same words have the same image
 pub image_by : (L M : List ℕ → Type 0) (text : List ℕ) (a b : List Bool) → ((w : List ℕ) →
@@ -166,8 +182,10 @@ completes_first L text first = record { ends = λ to image. image }
 pub completes_more : (whole L M : List ℕ → Type 0) (text : List ℕ) (first now next : List Bool) →
     Completes whole (Concatenation L M) text first now → IsImage L text now next →
     Completes whole M text first next
-completes_more whole L M text first now next so_far step = record { ends = λ to image. so_far.ends
-    to (image_joined L M text now next to step image) }
+completes_more whole L M text first now next so_far step = record {
+  ends = λ to image. so_far.ends
+      to (image_joined L M text now next to step image);
+}
 
 pub completes_all : (whole : List ℕ → Type 0) (text : List ℕ) (first now : List Bool) →
     length now ≡ suc (length text) → Completes whole (λ w. w ≡ []) text first now →
@@ -219,7 +237,10 @@ covers_all whole rest text from reached long never so_far = record {
   same_length = long;
   reached = λ place. (
     λ marked. (so_far.each place).0 (inl marked),
-    λ r. elim ((so_far.each place).1 r) [ inl marked ↦ marked | inr r ↦ absurd (never r.word
-        r.holds) ],
+    λ r. elim ((so_far.each place).1 r) [
+      | inl marked ↦ marked
+      | inr r ↦ absurd (never r.word
+          r.holds)
+    ],
   );
 }

@@ -10,8 +10,14 @@ use Rattle.jp_match.proofs.Reaching.{Completes, completes_more, image_by, image_
 -- so many words are first some of them and then the others
 pub power_split : (L : List ℕ → Type 0) (m n s : ℕ) (w : List ℕ) → s ≡ m + n → Power L s w →
     Concatenation (Power L m) (Power L n) w
-power_split L zero n s w e h = record { front = []; back = w; is = refl; first = refl; second =
-    subst (λ k. Power L k w) (omega (arith, e)) h }
+power_split L zero n s w e h = record {
+  front = [];
+  back = w;
+  is = refl;
+  first = refl;
+  second =
+      subst (λ k. Power L k w) (omega (arith, e)) h;
+}
 power_split L (suc m) n zero w e h = absurd (omega (arith, e))
 power_split L (suc m) n (suc s) w e h =
     let rest = power_split L m n s h.back (omega (arith, e)) h.second in
@@ -19,8 +25,14 @@ power_split L (suc m) n (suc s) w e h =
       front = h.front ++ rest.front;
       back = rest.back;
       is = h.is ∙ ap (λ w. h.front ++ w) rest.is ∙ sym (append_assoc h.front rest.front rest.back);
-      first = record { front = h.front; back = rest.front; is = refl; first = h.first; second =
-          rest.first };
+      first = record {
+        front = h.front;
+        back = rest.front;
+        is = refl;
+        first = h.first;
+        second =
+            rest.first;
+      };
       second = rest.second;
     }
 
@@ -36,9 +48,17 @@ power_join L (suc m) n (suc s) w e h = record {
   back = h.first.back ++ h.back;
   is = h.is ∙ ap (λ x. x ++ h.back) h.first.is ∙ append_assoc h.first.front h.first.back h.back;
   first = h.first.first;
-  second = power_join L m n s (h.first.back ++ h.back) (omega (arith,
-      e)) (record { front = h.first.back; back = h.back; is = refl; first = h.first.second; second
-      = h.second });
+  second = power_join L m n s (h.first.back ++ h.back) (omega (
+    arith,
+    e,
+  )) (record {
+    front = h.first.back;
+    back = h.back;
+    is = refl;
+    first = h.first.second;
+    second
+        = h.second;
+  });
 }
 
 -- a set that one word more leaves as it is stays so
@@ -70,18 +90,24 @@ at_most_zero (Some most) = omega arith
 pub image_repeat : (a : Tree) (least : ℕ) (most after : Option ℕ) (text : List ℕ) (x y z : List
     Bool) → IsMostAfter most least (Some after) →
     IsImage (Power (Language a) least) text x y → IsImage (Times (Language a) after) text y z →
-        IsImage (Language (repeat a least most)) text x z
+    IsImage (Language (repeat a least most)) text x z
 image_repeat a least most after text x y z h first second =
     image_by (Concatenation (Power (Language a) least) (Times (Language a) after)) (Language
-        (repeat a least most)) text x z
+    (repeat a least most)) text x z
     (λ w. (
       λ j.
           let (k, within, more) = j.second in (
             least + k,
             omega arith,
             (at_most_after most least after k h).0 within,
-            power_join (Language a) least k (least + k) w refl (record { front = j.front; back =
-                j.back; is = j.is; first = j.first; second = more }),
+            power_join (Language a) least k (least + k) w refl (record {
+              front = j.front;
+              back =
+                  j.back;
+              is = j.is;
+              first = j.first;
+              second = more;
+            }),
           ),
       λ r.
           let (s, enough, within, all) = r in
@@ -92,8 +118,12 @@ image_repeat a least most after text x y z h first second =
             back = j.back;
             is = j.is;
             first = j.first;
-            second = (s - least, (at_most_after most least after (s - least) h).1 (subst (IsAtMost
-                most) more within), j.second);
+            second = (
+              s - least,
+              (at_most_after most least after (s - least) h).1 (subst (IsAtMost
+                  most) more within),
+              j.second,
+            );
           },
     ))
     (image_joined (Power (Language a) least) (Times (Language a) after) text x y z first second)
@@ -104,15 +134,17 @@ pub image_no_repeat : (a : Tree) (least : ℕ) (most : Option ℕ) (text : List 
     IsImage (Language (repeat a least most)) text x z
 image_no_repeat a least most text x z h long none =
     image_none (Language (repeat a least most)) text x z long none (λ w r. not_at_most most least
-        r.0 h r.1 r.2)
+    r.0 h r.1 r.2)
 
 -- a set without places leads nowhere
 image_of_none : (L : List ℕ → Type 0) (text : List ℕ) (a : List Bool) → ((place : ℕ) →
     Marked a place → ⊥) → IsImage L text a a
 image_of_none L text a none = record {
   same_length = refl;
-  reached = λ place. (λ marked. absurd (none place marked),
-      λ r. absurd (none (length r.before) r.begins));
+  reached = λ place. (
+    λ marked. absurd (none place marked),
+    λ r. absurd (none (length r.before) r.begins),
+  );
 }
 
 -- once no place is left, or a word more leaves the set as it is, all further words do
@@ -123,9 +155,9 @@ pub settled_ends : (L whole : List ℕ →
     Completes whole (Power L k) text first now → IsImage whole text first next
 settled_ends L whole text first now next k n long (inl none) more step so_far =
     let further = completes_more whole L (Power L n) text first now next (subst (λ k. Completes
-        whole (Power L k) text first now) more so_far) step in
+    whole (Power L k) text first now) more so_far) step in
     further.ends next (image_of_none (Power L n) text next none)
 settled_ends L whole text first now next k n long (inr same) more step so_far =
     subst (λ places. IsImage whole text first places) (sym same)
     (so_far.ends now (image_settled L text now long (subst (λ places. IsImage L text now places)
-        same step) k))
+    same step) k))

@@ -22,8 +22,13 @@ whole_suffix : (L : List ℕ → Type 0) (w : List ℕ) → L w → HasSuffix L 
 whole_suffix L w h = record { before = []; suffix = w; is = refl; holds = h }
 
 later_suffix : (L : List ℕ → Type 0) (c : ℕ) (w : List ℕ) → HasSuffix L w → HasSuffix L (c ∷ w)
-later_suffix L c w h = record { before = c ∷ h.before; suffix = h.suffix; is = ap (λ v. c ∷ v)
-    h.is; holds = h.holds }
+later_suffix L c w h = record {
+  before = c ∷ h.before;
+  suffix = h.suffix;
+  is = ap (λ v. c ∷ v)
+      h.is;
+  holds = h.holds;
+}
 
 nil_suffix : (L : List ℕ → Type 0) → HasSuffix L [] → L []
 nil_suffix L h = parts h.before h.suffix h.is h.holds where
@@ -34,23 +39,38 @@ nil_suffix L h = parts h.before h.suffix h.is h.holds where
 pub left_step : (t : Tree) (anywhere start : Bool) (c : ℕ) (before after : List Bool) (ended :
     Bool) → Steps (unrolled t) c start before after ended → (w : List ℕ) →
     (Rest (unrolled t) after w ⊎ (IsTrue (start && anywhere) × Sought t anywhere w)) ↔ (Rest
-        (unrolled t) before (c ∷ w) ⊎ (IsTrue start × Sought t anywhere (c ∷ w)))
+    (unrolled t) before (c ∷ w) ⊎ (IsTrue start × Sought t anywhere (c ∷ w)))
 left_step t false start c before after ended h w = (
   λ e. elim e [
-    | inl r ↦ elim ((h.left w).0 r) [ inl s ↦ inl s | inr s ↦ inr (s.0,
-        (unrolled-words t (c ∷ w)).0 s.1) ]
+    | inl r ↦ elim ((h.left w).0 r) [
+      | inl s ↦ inl s
+      | inr s ↦ inr (
+        s.0,
+        (unrolled-words t (c ∷ w)).0 s.1,
+      )
+    ]
     | inr s ↦ absurd (never start s.0)
   ],
-  λ e. inl ((h.left w).1 (elim e [ inl r ↦ inl r | inr s ↦ inr (s.0,
-      (unrolled-words t (c ∷ w)).1 s.1) ])),
+  λ e. inl ((h.left w).1 (elim e [
+    | inl r ↦ inl r
+    | inr s ↦ inr (
+      s.0,
+      (unrolled-words t (c ∷ w)).1 s.1,
+    )
+  ])),
 ) where
   never : (b : Bool) → IsTrue (b && false) → ⊥
   never true e = cc
   never false e = cc
 left_step t true true c before after ended h w = (
   λ e. elim e [
-    | inl r ↦ elim ((h.left w).0 r) [ inl s ↦ inl s | inr s ↦ inr (refl,
-        whole_suffix (Language t) (c ∷ w) ((unrolled-words t (c ∷ w)).0 s.1)) ]
+    | inl r ↦ elim ((h.left w).0 r) [
+      | inl s ↦ inl s
+      | inr s ↦ inr (
+        refl,
+        whole_suffix (Language t) (c ∷ w) ((unrolled-words t (c ∷ w)).0 s.1),
+      )
+    ]
     | inr s ↦ inr (refl, later_suffix (Language t) c w s.1)
   ],
   λ e. elim e [
@@ -77,14 +97,30 @@ pub left_ends : (t : Tree) (anywhere start : Bool) (row : List Bool) (ended : Bo
     Ends (unrolled t) start row ended →
     IsTrue ended ↔ (Rest (unrolled t) row [] ⊎ (IsTrue start × Sought t anywhere []))
 left_ends t anywhere start row ended h = (
-  λ e. elim (h.is.0 e) [ inl r ↦ inl r | inr s ↦ inr (s.0,
-      (sought_nil t anywhere).1 ((unrolled-words t []).0 s.1)) ],
-  λ e. h.is.1 (elim e [ inl r ↦ inl r | inr s ↦ inr (s.0,
-      (unrolled-words t []).1 ((sought_nil t anywhere).0 s.1)) ]),
+  λ e. elim (h.is.0 e) [
+    | inl r ↦ inl r
+    | inr s ↦ inr (
+      s.0,
+      (sought_nil t anywhere).1 ((unrolled-words t []).0 s.1),
+    )
+  ],
+  λ e. h.is.1 (elim e [
+    | inl r ↦ inl r
+    | inr s ↦ inr (
+      s.0,
+      (unrolled-words t []).1 ((sought_nil t anywhere).0 s.1),
+    )
+  ]),
 )
 
 pub left_first : (t : Tree) (anywhere : Bool) (row : List Bool) → ((k : ℕ) →
     IsTrue (get_or row k false) → ⊥) → (w : List ℕ) →
     (Rest (unrolled t) row w ⊎ (IsTrue true × Sought t anywhere w)) ↔ Sought t anywhere w
-left_first t anywhere row none w = (λ e. elim e [ inl r ↦ absurd (rest_none (unrolled t) row w none
-    r) | inr s ↦ s.1 ], λ e. inr (refl, e))
+left_first t anywhere row none w = (
+  λ e. elim e [
+    | inl r ↦ absurd (rest_none (unrolled t) row w none
+        r)
+    | inr s ↦ s.1
+  ],
+  λ e. inr (refl, e),
+)

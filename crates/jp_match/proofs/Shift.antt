@@ -40,7 +40,7 @@ cut_round text place h = record {
 to_reached : (negated : Bool) (items : List ClassItem) (text : List ℕ) (from : List Bool) →
     length from ≡ suc (length text) → (place : ℕ) → place ≤ length text →
     shifted (class_holds negated items) text from place ≡ true →
-        Reached (Language (class negated items)) text from place
+    Reached (Language (class negated items)) text from place
 to_reached negated items text from long zero within h = absurd (cc)
 to_reached negated items text from long (suc k) within h =
     let both = and_parts (get_or from k false) (class_holds negated items (get_or text k 0)) h in
@@ -58,33 +58,33 @@ to_reached negated items text from long (suc k) within h =
 of_reached : (negated : Bool) (items : List ClassItem) (text : List ℕ) (from : List Bool) (before
     word after : List ℕ) (c : ℕ) →
     text ≡ before ++ (word ++ after) → Marked from (length before) →
-        class_holds negated items c ≡ true → word ≡ c ∷ [] →
+    class_holds negated items c ≡ true → word ≡ c ∷ [] →
     (length before < length text) × (shifted (class_holds negated items) text from (suc (length
-        before)) ≡ true)
+    before)) ≡ true)
 of_reached negated items text from before word after c is begins holds one =
     let whole : text ≡ before ++ c ∷ after = is ∙ ap (λ w. before ++ (w ++ after)) one in
     let here : get_or text (length before) 0 ≡ c = ap (λ t. get_or t (length before) 0) whole ∙
-        get_or-append_seam before c after 0 in
+    get_or-append_seam before c after 0 in
     (omega (arith, ap length whole, length-append before (c ∷ after)), rw (begins, here) holds)
 
 -- the last place is written once all others are
 pub last_entered : (enters : ℕ → Bool) (places : List Bool) (i last : ℕ) (arrives : Bool) →
     ((k : ℕ) → k < i → get_or places k false ≡ enters k) → arrives ≡ enters i → i ≡ last →
-        last < length places →
+    last < length places →
     (k : ℕ) → k ≤ last → get_or (set places last arrives) k false ≡ enters k
 last_entered enters places i last arrives done carried at inside k within = elim (cases_lt k last) [
   | inl below ↦ let ne : k ≢ last = omega arith in rw get_or-set_other (done k (omega arith))
   | inr above ↦
       let same : last ≡ k = omega arith in
       subst (λ j. get_or (set places last arrives) j false ≡ enters j) same (rw get_or-set_same
-          (carried ∙ ap enters at))
+      (carried ∙ ap enters at))
 ]
 
 -- the words of a class lead over the characters that it holds
 pub image_shift : (negated : Bool) (items : List ClassItem) (text : List ℕ) (from to : List Bool) →
     length from ≡ suc (length text) → length to ≡ length from →
     ((k : ℕ) → k ≤ length text → get_or to k false ≡ shifted (class_holds negated items) text from
-        k) →
+    k) →
     IsImage (Language (class negated items)) text from to
 image_shift negated items text from to long same marks = record {
   same_length = same;
@@ -95,7 +95,7 @@ image_shift negated items text from to long same marks = record {
     λ r.
         let (c, holds, one) = r.holds in
         let (inside, shifts) = of_reached negated items text from r.before r.word r.after c r.is
-            r.begins holds one in
+        r.begins holds one in
         let at : suc (length r.before) ≡ place = omega (arith, r.ends, ap length one) in
         subst (Marked to) at (marks (suc (length r.before)) (omega arith) ∙ shifts),
   );
@@ -109,12 +109,12 @@ counted_to from made i = count_after (count_by (λ marked. marked) (take i from)
 pub counted_more : (from : List Bool) (i made now next : ℕ) → i < length from →
     get_or from i false ≡ true →
     now ≡ counted_to from made i → next ≡ min (now + 1) (2 ^ 64 - 1) →
-        next ≡ counted_to from made (i + 1)
+    next ≡ counted_to from made (i + 1)
 counted_more from i made now next below marked so_far step =
     step ∙ ap (λ n. min (n + 1) (2 ^ 64 - 1)) so_far
     ∙ ap (λ n. count_after n made)
     (sym (add-one (count_by (λ m. m) (take i from))) ∙
-        sym (count_by_more_yes (λ m. m) from i false below marked))
+    sym (count_by_more_yes (λ m. m) from i false below marked))
 
 -- a place that is not in the set adds none
 pub counted_same : (from : List Bool) (i made now : ℕ) → i < length from →
@@ -122,4 +122,4 @@ pub counted_same : (from : List Bool) (i made now : ℕ) → i < length from →
     now ≡ counted_to from made i → now ≡ counted_to from made (i + 1)
 counted_same from i made now below unmarked so_far =
     so_far ∙ ap (λ n. count_after n made) (sym (count_by_more_no (λ m. m) from i false below
-        unmarked))
+    unmarked))

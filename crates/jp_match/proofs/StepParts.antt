@@ -20,17 +20,34 @@ joined_cons L M c w j = parts j.front j.back j.is j.first j.second where
   parts (x ∷ front) back is first second =
       let head : c ≡ x = cc in
       let tail : w ≡ front ++ back = cc in
-      inr (record { front = front; back = back; is = tail; first = subst (λ d. L (d ∷ front)) (sym
-          head) first; second = second })
+      inr (record {
+        front = front;
+        back = back;
+        is = tail;
+        first = subst (λ d. L (d ∷ front)) (sym
+            head) first;
+        second = second;
+      })
 
 pub cons_joined : (L M : List ℕ → Type 0) (c : ℕ) (w : List ℕ) →
     Concatenation (λ v. L (c ∷ v)) M w → Concatenation L M (c ∷ w)
-cons_joined L M c w j = record { front = c ∷ j.front; back = j.back; is = ap (λ v. c ∷ v) j.is;
-    first = j.first; second = j.second }
+cons_joined L M c w j = record {
+  front = c ∷ j.front;
+  back = j.back;
+  is = ap (λ v. c ∷ v) j.is;
+  first = j.first;
+  second = j.second;
+}
 
 pub nil_before : (L M : List ℕ → Type 0) (w : List ℕ) → L [] → M w → Concatenation L M w
-nil_before L M w first second = record { front = []; back = w; is = refl; first = first; second =
-    second }
+nil_before L M w first second = record {
+  front = [];
+  back = w;
+  is = refl;
+  first = first;
+  second =
+      second;
+}
 
 -- words that together begin with a character: the first that is not empty begins with it
 pub power_cons : (L : List ℕ → Type 0) (k c : ℕ) (w : List ℕ) → Power L k (c ∷ w) →
@@ -38,8 +55,16 @@ pub power_cons : (L : List ℕ → Type 0) (k c : ℕ) (w : List ℕ) → Power 
 power_cons L zero c w h = absurd (cc)
 power_cons L (suc k) c w h = elim (joined_cons L (Power L k) c w h) [
   | inl none ↦ power_cons L k c w none.1
-  | inr j ↦ record { front = j.front; back = j.back; is = j.is; first = j.first; second = (k,
-      j.second) }
+  | inr j ↦ record {
+    front = j.front;
+    back = j.back;
+    is = j.is;
+    first = j.first;
+    second = (
+      k,
+      j.second,
+    );
+  }
 ]
 
 pub step_class : (negated : Bool) (items : List ClassItem) (c : ℕ) (entered : Bool) (before after :
@@ -55,9 +80,11 @@ step_class negated items c entered before after is = record {
       | inr y ↦
           let (d, holds, one) = y.1 in
           let same : d ≡ c = cc in
-          let none : word ≡ [] = cc in
-          (is ∙ joint entered (class_holds negated items c) y.0 (subst (λ x. class_holds negated
-              items x ≡ true) same holds), none)
+          let none : word ≡ [] = cc in (
+            is ∙ joint entered (class_holds negated items c) y.0 (subst (λ x. class_holds negated
+                items x ≡ true) same holds),
+            none,
+          )
     ],
   );
   ends = ends_class negated items entered before;
@@ -65,14 +92,21 @@ step_class negated items c entered before after is = record {
   both : (a b : Bool) → (a && b) ≡ true → (a ≡ true) × (b ≡ true)
   both true b h = (refl, h)
   both false b h = absurd (cc)
+
   joint : (a b : Bool) → a ≡ true → b ≡ true → (a && b) ≡ true
   joint a b x y = cc
 
 pub step_empty : (c : ℕ) (entered : Bool) (before after : List Bool) →
     Steps empty c entered before after entered
 step_empty c entered before after = record {
-  left = λ word. (λ h. absurd h, λ h. elim h [ inl x ↦ absurd x | inr y ↦ absurd (let e = y.1 in
-      cc) ]);
+  left = λ word. (
+    λ h. absurd h,
+    λ h. elim h [
+      | inl x ↦ absurd x
+      | inr y ↦ absurd (let e = y.1 in
+          cc)
+    ],
+  );
   ends = ends_empty entered before;
 }
 
@@ -98,10 +132,16 @@ pub step_either : (a b : Plain) (c : ℕ) (entered : Bool) (before x y : List Bo
 step_either a b c entered before x y p q long ha hb = let at = beside a x y long in record {
   left = λ word. (
     λ h. elim h [
-      | inl r ↦ elim ((ha.left word).0 (rw at.first at r)) [ inl s ↦ inl (inl s) | inr w ↦ inr
-          (w.0, inl w.1) ]
-      | inr r ↦ elim ((hb.left word).0 (rw at.second at r)) [ inl s ↦ inl (inr s) | inr w ↦ inr
-          (w.0, inr w.1) ]
+      | inl r ↦ elim ((ha.left word).0 (rw at.first at r)) [
+        | inl s ↦ inl (inl s)
+        | inr w ↦ inr
+            (w.0, inl w.1)
+      ]
+      | inr r ↦ elim ((hb.left word).0 (rw at.second at r)) [
+        | inl s ↦ inl (inr s)
+        | inr w ↦ inr
+            (w.0, inr w.1)
+      ]
     ],
     λ h. elim h [
       | inl r ↦ elim r [
@@ -126,9 +166,23 @@ step_sequence a b c entered before x y p q long ha hb = let at = beside a x y lo
     λ h. elim h [
       | inl j ↦ elim ((ha.left j.front).0 (rw at.first at j.first)) [
         | inl s ↦ inl (inl (cons_joined (Rest a (take (size a) before)) (Words b) c word (record {
-            front = j.front; back = j.back; is = j.is; first = s; second = j.second })))
-        | inr w ↦ inr (w.0, cons_joined (Words a) (Words b) c word (record { front = j.front; back
-            = j.back; is = j.is; first = w.1; second = j.second }))
+          front = j.front;
+          back = j.back;
+          is = j.is;
+          first = s;
+          second = j.second;
+        })))
+        | inr w ↦ inr (
+          w.0,
+          cons_joined (Words a) (Words b) c word (record {
+            front = j.front;
+            back
+                = j.back;
+            is = j.is;
+            first = w.1;
+            second = j.second;
+          }),
+        )
       ]
       | inr r ↦ elim ((hb.left word).0 (rw at.second at r)) [
         | inl s ↦ inl (inr s)
@@ -143,15 +197,27 @@ step_sequence a b c entered before x y p q long ha hb = let at = beside a x y lo
       | inl r ↦ elim r [
         | inl j ↦ elim (joined_cons (Rest a (take (size a) before)) (Words b) c word j) [
           | inl n ↦ inr (rw at.second ((hb.left word).1 (inr (ha.ends.is.1 (inl n.0), n.1))))
-          | inr k ↦ inl (record { front = k.front; back = k.back; is = k.is; first = rw at.first
-              ((ha.left k.front).1 (inl k.first)); second = k.second })
+          | inr k ↦ inl (record {
+            front = k.front;
+            back = k.back;
+            is = k.is;
+            first = rw at.first
+                ((ha.left k.front).1 (inl k.first));
+            second = k.second;
+          })
         ]
         | inr s ↦ inr (rw at.second ((hb.left word).1 (inl s)))
       ]
       | inr w ↦ elim (joined_cons (Words a) (Words b) c word w.1) [
         | inl n ↦ inr (rw at.second ((hb.left word).1 (inr (ha.ends.is.1 (inr (w.0, n.0)), n.1))))
-        | inr k ↦ inl (record { front = k.front; back = k.back; is = k.is; first = rw at.first
-            ((ha.left k.front).1 (inr (w.0, k.first))); second = k.second })
+        | inr k ↦ inl (record {
+          front = k.front;
+          back = k.back;
+          is = k.is;
+          first = rw at.first
+              ((ha.left k.front).1 (inr (w.0, k.first)));
+          second = k.second;
+        })
       ]
     ],
   );
@@ -165,23 +231,41 @@ pub step_plus : (a : Plain) (c : ℕ) (entered again : Bool) (before after : Lis
 step_plus a c entered again before after p probe ha = record {
   left = λ word. (
     λ j. elim ((ha.left j.front).0 j.first) [
-      | inl s ↦ inl (cons_joined (Rest a before) (Star (Words a)) c word (record { front = j.front;
-          back = j.back; is = j.is; first = s; second = j.second }))
+      | inl s ↦ inl (cons_joined (Rest a before) (Star (Words a)) c word (record {
+        front = j.front;
+        back = j.back;
+        is = j.is;
+        first = s;
+        second = j.second;
+      }))
       | inr w ↦
           let (k, more) = j.second in
-          let words = cons_joined (Words a) (Power (Words a) k) c word (record { front = j.front;
-              back = j.back; is = j.is; first = w.1; second = more }) in
+          let words = cons_joined (Words a) (Power (Words a) k) c word (record {
+            front = j.front;
+            back = j.back;
+            is = j.is;
+            first = w.1;
+            second = more;
+          }) in
           elim ((or_is entered again).0 w.0) [
             | inl e ↦ inr (e, (k, words))
-            | inr e ↦ inl (nil_before (Rest a before) (Star (Words a)) (c ∷ word) (ended e) (suc k,
-                words))
+            | inr e ↦ inl (nil_before (Rest a before) (Star (Words a)) (c ∷ word) (ended e) (
+              suc k,
+              words,
+            ))
           ]
     ],
     λ h. elim h [
       | inl j ↦ elim (joined_cons (Rest a before) (Star (Words a)) c word j) [
         | inl n ↦ round word ((or_is entered again).1 (inr (probe.is.1 (inl n.0)))) n.1.0 n.1.1
-        | inr k ↦ record { front = k.front; back = k.back; is = k.is; first = (ha.left k.front).1
-            (inl k.first); second = k.second }
+        | inr k ↦ record {
+          front = k.front;
+          back = k.back;
+          is = k.is;
+          first = (ha.left k.front).1
+              (inl k.first);
+          second = k.second;
+        }
       ]
       | inr w ↦ round word ((or_is entered again).1 (inl w.0)) (suc w.1.0) w.1.1
     ],
@@ -190,22 +274,42 @@ step_plus a c entered again before after p probe ha = record {
 } where
   ended : IsTrue again → Rest a before []
   ended e = elim (probe.is.0 e) [ inl r ↦ r | inr w ↦ absurd (let f = w.0 in cc) ]
+
   round : (word : List ℕ) → IsTrue (entered || again) → (k : ℕ) → Power (Words a) k (c ∷ word) →
       Rest (plus a) after word
   round word e k words =
       let j = power_cons (Words a) k c word words in
-      record { front = j.front; back = j.back; is = j.is; first = (ha.left j.front).1 (inr (e,
-          j.first)); second = j.second }
+      record {
+        front = j.front;
+        back = j.back;
+        is = j.is;
+        first = (ha.left j.front).1 (inr (
+          e,
+          j.first,
+        ));
+        second = j.second;
+      }
+
   plus_ends : Ends (plus a) entered before p
   plus_ends = ends_plus a entered before p (record {
     is = (
       λ t. elim (ha.ends.is.0 t) [
         | inl r ↦ inl r
-        | inr w ↦ elim ((or_is entered again).0 w.0) [ inl e ↦ inr (e,
-            w.1) | inr e ↦ inl (ended e) ]
+        | inr w ↦ elim ((or_is entered again).0 w.0) [
+          | inl e ↦ inr (
+            e,
+            w.1,
+          )
+          | inr e ↦ inl (ended e)
+        ]
       ],
-      λ t. ha.ends.is.1 (elim t [ inl r ↦ inl r | inr w ↦ inr ((or_is entered again).1 (inl w.0),
-          w.1) ]),
+      λ t. ha.ends.is.1 (elim t [
+        | inl r ↦ inl r
+        | inr w ↦ inr (
+          (or_is entered again).1 (inl w.0),
+          w.1,
+        )
+      ]),
     );
   })
 
@@ -242,12 +346,21 @@ pub step_nowhere : (a : Plain) (c : ℕ) (marks : List Bool) → ((k : ℕ) →
 step_nowhere a c marks none = record {
   left = λ word. (
     λ h. absurd (rest_none a marks word none h),
-    λ h. elim h [ inl r ↦ absurd (rest_none a marks (c ∷ word) none r) | inr w ↦ absurd (let e =
-        w.0 in cc) ],
+    λ h. elim h [
+      | inl r ↦ absurd (rest_none a marks (c ∷ word) none r)
+      | inr w ↦ absurd (let e =
+          w.0 in cc)
+    ],
   );
   ends = record {
-    is = (λ h. absurd (cc), λ h. elim h [ inl r ↦ absurd (rest_none a marks [] none r) | inr w ↦
-        absurd (let e = w.0 in cc) ]);
+    is = (
+      λ h. absurd (cc),
+      λ h. elim h [
+        | inl r ↦ absurd (rest_none a marks [] none r)
+        | inr w ↦
+            absurd (let e = w.0 in cc)
+      ],
+    );
   };
 }
 
@@ -269,7 +382,7 @@ only_nil (either a b) none w (inr h) = only_nil b (no_sum (size a) (size b) none
 only_nil empty none w h = h
 only_nil (sequence a b) none w h =
     h.is ∙ ap (λ v. v ++ h.back) (only_nil a (no_sum (size a) (size b) none).0 h.front h.first) ∙
-        only_nil b (no_sum (size a) (size b) none).1 h.back h.second
+    only_nil b (no_sum (size a) (size b) none).1 h.back h.second
 only_nil (plus a) none w h = power_of_nil (Words a) (only_nil a none) (suc h.0) w h.1
 
 -- without positions a step takes nothing, and the end is reached by the empty word alone
@@ -288,6 +401,12 @@ step_without a c entered p none is = record {
   ends_without : (a : Plain) (entered : Bool) (p : Bool) →
       IsTrue p ↔ (IsTrue entered × Words a []) → Ends a entered [] p
   ends_without a entered p is = record {
-    is = (λ h. inr (is.0 h), λ h. elim h [ inl r ↦ absurd (rest_none a [] [] (λ k m. absurd (cc))
-        r) | inr w ↦ is.1 w ]);
+    is = (
+      λ h. inr (is.0 h),
+      λ h. elim h [
+        | inl r ↦ absurd (rest_none a [] [] (λ k m. absurd (cc))
+            r)
+        | inr w ↦ is.1 w
+      ],
+    );
   }

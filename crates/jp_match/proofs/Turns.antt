@@ -29,7 +29,7 @@ size_at_least a (suc (suc n)) =
     let all : max (suc (suc n)) 1 ≡ suc (suc n) = omega arith in
     let more : size a + suc n * size a ≡ suc (suc n) * size a = omega arith in
     ap (λ m. size a + m) (size_at_least a (suc n) ∙ ap (λ m. m * size a) fewer) ∙ more ∙
-        ap (λ m. m * size a) (sym all)
+    ap (λ m. m * size a) (sym all)
 
 -- a pattern that is written out has as many positions as the pattern
 pub size_unrolled : (t : Tree) → size (unrolled t) ≡ positions_of t
@@ -78,9 +78,14 @@ written row part next at n within long is = record {
 pub put_long : (row part : List Bool) (at n : ℕ) → at + n ≤ length row → length part ≡ n →
     length (put_mid at n row part) ≡ length row
 put_long row part at n within long =
-    omega (arith, length-append (take at row) (part ++ drop n (drop at row)),
-        length-append part (drop n (drop at row)), length-take at row, length-drop n (drop at row),
-        length-drop at row)
+    omega (
+      arith,
+      length-append (take at row) (part ++ drop n (drop at row)),
+      length-append part (drop n (drop at row)),
+      length-take at row,
+      length-drop n (drop at row),
+      length-drop at row,
+    )
 
 -- the same after a call on that part, whose marks are as many as before
 pub record Turned (row part next : List Bool) (at n : ℕ) : Type 0 where
@@ -94,10 +99,15 @@ pub turned : (row part : List Bool) (at n : ℕ) → at + n ≤ length row →
     Turned row part (put_mid at (at + n - at) row part) at n
 turned row part at n within kept =
     let count : at + n - at ≡ n = omega arith in
-    let long : length part ≡ n = omega (arith, kept, ap length (part_is row at n),
-        length-take n (drop at row), length-drop at row) in
+    let long : length part ≡ n = omega (
+      arith,
+      kept,
+      ap length (part_is row at n),
+      length-take n (drop at row),
+      length-drop at row,
+    ) in
     let same : put_mid at (at + n - at) row part ≡ put_mid at n row part = ap (λ k. put_mid at k
-        row part) count in
+    row part) count in
     let w = written row part (put_mid at n row part) at n within long refl in
     subst (λ next. Turned row part next at n) (sym same) (record {
       long = long;
@@ -120,33 +130,33 @@ pub steps_sequence : (whole a b : Plain) (c : ℕ) (begin entered ended through 
     part next : List Bool) (at n : ℕ) →
     size a ≡ n → length part ≡ n → Written row part next at n →
     StepsSoFar whole (sequence a b) c begin entered ended first row at →
-        Steps a c entered (take n (drop at row)) part through →
+    Steps a c entered (take n (drop at row)) part through →
     StepsSoFar whole b c begin through ended first next (at + n)
 steps_sequence whole a b c begin entered ended through first row part next at n sized long w so_far
     step = record {
-  completes = λ tail p h.
-      let here : Steps a c entered (take (size a) (drop at row)) part through = rw sized step in
-      let rest : Steps b c through (drop (size a) (drop at row)) tail p = rw (sized, ← w.rest) h in
-      let both = so_far.completes (part ++ tail) p (step_sequence a b c entered (drop at row) part
+      completes = λ tail p h.
+          let here : Steps a c entered (take (size a) (drop at row)) part through = rw sized step in
+          let rest : Steps b c through (drop (size a) (drop at row)) tail p = rw (sized, ← w.rest) h in
+          let both = so_far.completes (part ++ tail) p (step_sequence a b c entered (drop at row) part
           tail through p (long ∙ sym sized) here rest) in
-      rw (w.done, append_assoc) both;
-}
+          rw (w.done, append_assoc) both;
+    }
 
 pub steps_either : (whole a b : Plain) (c : ℕ) (begin entered ended through : Bool) (first row part
     next : List Bool) (at n : ℕ) →
     size a ≡ n → length part ≡ n → Written row part next at n →
     StepsSoFar whole (either a b) c begin entered ended first row at →
-        Steps a c entered (take n (drop at row)) part through →
+    Steps a c entered (take n (drop at row)) part through →
     StepsSoFar whole b c begin entered (ended || through) first next (at + n)
 steps_either whole a b c begin entered ended through first row part next at n sized long w so_far
     step = record {
-  completes = λ tail p h.
-      let here : Steps a c entered (take (size a) (drop at row)) part through = rw sized step in
-      let rest : Steps b c entered (drop (size a) (drop at row)) tail p = rw (sized, ← w.rest) h in
-      let both = so_far.completes (part ++ tail) (through || p) (step_either a b c entered (drop at
+      completes = λ tail p h.
+          let here : Steps a c entered (take (size a) (drop at row)) part through = rw sized step in
+          let rest : Steps b c entered (drop (size a) (drop at row)) tail p = rw (sized, ← w.rest) h in
+          let both = so_far.completes (part ++ tail) (through || p) (step_either a b c entered (drop at
           row) part tail through p (long ∙ sym sized) here rest) in
-      rw (w.done, append_assoc, or_assoc) both;
-}
+          rw (w.done, append_assoc, or_assoc) both;
+    }
 
 -- a counted repeat may end here once there are enough copies, and else goes on
 pub steps_between : (whole a : Plain) (c : ℕ) (begin entered ended enough : Bool) (least most : ℕ)
@@ -154,13 +164,13 @@ pub steps_between : (whole a : Plain) (c : ℕ) (begin entered ended enough : Bo
     IsTrue enough ↔ (least ≡ 0) →
     StepsSoFar whole (between a least (suc most)) c begin entered ended first row at →
     StepsSoFar whole (sequence a (between a (least - 1) most)) c begin entered (ended || (enough &&
-        entered)) first row at
+    entered)) first row at
 unfolding between
 steps_between whole a c begin entered ended true zero most first row at is so_far = record {
   completes = λ tail p h.
       rw or_assoc (so_far.completes tail (entered || p) (step_either empty (sequence a (between a
-          zero most)) c entered (drop at row) [] tail entered p refl (step_empty c entered [] [])
-          h));
+      zero most)) c entered (drop at row) [] tail entered p refl (step_empty c entered [] [])
+      h));
 }
 steps_between whole a c begin entered ended false zero most first row at is so_far = absurd (let e
     = is.1 refl in cc)
@@ -180,74 +190,74 @@ pub steps_between_end : (whole a : Plain) (c : ℕ) (begin entered ended enough 
 unfolding between
 steps_between_end whole a c begin entered ended true zero first row at is all so_far =
     subst (λ r. Steps whole c begin first r (ended || entered)) (append-nil (take at row) ∙
-        take_all at row all) (so_far.completes [] entered (step_empty c entered (drop at row) []))
+    take_all at row all) (so_far.completes [] entered (step_empty c entered (drop at row) []))
 steps_between_end whole a c begin entered ended false zero first row at is all so_far = absurd (let
     e = is.1 refl in cc)
 steps_between_end whole a c begin entered ended true (suc least) first row at is all so_far =
     absurd (let e = is.0 refl in omega arith)
 steps_between_end whole a c begin entered ended false (suc least) first row at is all so_far =
     subst (λ r. Steps whole c begin first r (ended || false)) (append-nil (take at row) ∙
-        take_all at row all) (so_far.completes [] false (step_nothing c entered (drop at row) []))
+    take_all at row all) (so_far.completes [] false (step_nothing c entered (drop at row) []))
 
 pub steps_end_empty : (whole : Plain) (c : ℕ) (begin entered : Bool) (first row : List Bool) (at :
     ℕ) → length row ≤ at →
     StepsSoFar whole empty c begin entered false first row at →
-        Steps whole c begin first row entered
+    Steps whole c begin first row entered
 steps_end_empty whole c begin entered first row at all so_far =
     subst (λ r. Steps whole c begin first r entered) (append-nil (take at row) ∙
-        take_all at row all) (so_far.completes [] entered (step_empty c entered (drop at row) []))
+    take_all at row all) (so_far.completes [] entered (step_empty c entered (drop at row) []))
 
 pub steps_end_nothing : (whole : Plain) (c : ℕ) (begin entered ended : Bool) (first row : List
     Bool) (at : ℕ) → length row ≤ at →
     StepsSoFar whole nothing c begin entered ended first row at →
-        Steps whole c begin first row ended
+    Steps whole c begin first row ended
 steps_end_nothing whole c begin entered ended first row at all so_far =
     subst (λ p. Steps whole c begin first row p) (or_false ended) (subst (λ r. Steps whole c begin
-        first r (ended || false)) (append-nil (take at row) ∙
-        take_all at row all) (so_far.completes [] false (step_nothing c entered (drop at row) [])))
+    first r (ended || false)) (append-nil (take at row) ∙
+    take_all at row all) (so_far.completes [] false (step_nothing c entered (drop at row) [])))
 
 -- the last part takes all the marks that are left
 pub steps_last : (whole a : Plain) (c : ℕ) (begin entered p : Bool) (first row part next : List
     Bool) (at n : ℕ) → at + n ≡ length row → length part ≡ n → length next ≡ length row →
     next ≡ put_mid at n row part →
     StepsSoFar whole a c begin entered false first row at →
-        Steps a c entered (take n (drop at row)) part p → Steps whole c begin first next p
+    Steps a c entered (take n (drop at row)) part p → Steps whole c begin first next p
 steps_last whole a c begin entered p first row part next at n all long same is so_far step =
     let w = written row part next at n (omega arith) long is in
     let all_left = take_all n (drop at row) (omega (arith, length-drop at row)) in
     let here : Steps a c entered (drop at row) part p = rw all_left at step in
     subst (λ r. Steps whole c begin first r p) (sym w.done ∙
-        take_all (at + n) next (omega arith)) (so_far.completes part p here)
+    take_all (at + n) next (omega arith)) (so_far.completes part p here)
 
 pub steps_next_piece : (whole : Plain) (a : Tree) (others : List Tree) (c : ℕ) (begin entered
     through : Bool) (first row part next : List Bool) (at n : ℕ) →
     n ≡ positions_of a → length part ≡ n → Written row part next at n →
     StepsSoFar whole (unrolled (pieces (a ∷ others))) c begin entered false first row at →
-        Steps (unrolled a) c entered (take n (drop at row)) part through →
+    Steps (unrolled a) c entered (take n (drop at row)) part through →
     StepsSoFar whole (unrolled (pieces others)) c begin through false first next (at + n)
 unfolding unrolled
 steps_next_piece whole a others c begin entered through first row part next at n sized long w
     so_far step =
     steps_sequence whole (unrolled a) (unrolled (pieces others)) c begin entered false through
-        first row part next at n (size_unrolled a ∙ sym sized) long w so_far step
+    first row part next at n (size_unrolled a ∙ sym sized) long w so_far step
 
 pub steps_next_branch : (whole : Plain) (a : Tree) (others : List Tree) (c : ℕ) (begin entered
     ended through : Bool) (first row part next : List Bool) (at n : ℕ) →
     n ≡ positions_of a → length part ≡ n → Written row part next at n →
     StepsSoFar whole (unrolled (branches (a ∷ others))) c begin entered ended first row at →
-        Steps (unrolled a) c entered (take n (drop at row)) part through →
+    Steps (unrolled a) c entered (take n (drop at row)) part through →
     StepsSoFar whole (unrolled (branches others)) c begin entered (ended || through) first next (at
-        + n)
+    + n)
 unfolding unrolled
 steps_next_branch whole a others c begin entered ended through first row part next at n sized long
     w so_far step =
     steps_either whole (unrolled a) (unrolled (branches others)) c begin entered ended through
-        first row part next at n (size_unrolled a ∙ sym sized) long w so_far step
+    first row part next at n (size_unrolled a ∙ sym sized) long w so_far step
 
 pub steps_end_pieces : (whole : Plain) (c : ℕ) (begin entered : Bool) (first row : List Bool) (at :
     ℕ) → length row ≤ at →
     StepsSoFar whole (unrolled (pieces [])) c begin entered false first row at →
-        Steps whole c begin first row entered
+    Steps whole c begin first row entered
 unfolding unrolled
 steps_end_pieces whole c begin entered first row at all so_far = steps_end_empty whole c begin
     entered first row at all so_far
@@ -255,7 +265,7 @@ steps_end_pieces whole c begin entered first row at all so_far = steps_end_empty
 pub steps_end_branches : (whole : Plain) (c : ℕ) (begin entered ended : Bool) (first row : List
     Bool) (at : ℕ) → length row ≤ at →
     StepsSoFar whole (unrolled (branches [])) c begin entered ended first row at →
-        Steps whole c begin first row ended
+    Steps whole c begin first row ended
 unfolding unrolled
 steps_end_branches whole c begin entered ended first row at all so_far = steps_end_nothing whole c
     begin entered ended first row at all so_far
@@ -264,71 +274,73 @@ steps_end_branches whole c begin entered ended first row at all so_far = steps_e
 pub steps_copy : (whole a : Plain) (c : ℕ) (begin entered ended through enough : Bool) (least most
     done : ℕ) (first row part next : List Bool) (at n : ℕ) →
     done < most → IsTrue enough ↔ (least ≤ done) → size a ≡ n → length part ≡ n →
-        Written row part next at n →
+    Written row part next at n →
     StepsSoFar whole (between a (least - done) (most - done)) c begin entered ended first row at →
-        Steps a c entered (take n (drop at row)) part through →
+    Steps a c entered (take n (drop at row)) part through →
     StepsSoFar whole (between a (least - (done + 1)) (most - (done + 1))) c begin through (ended ||
-        (enough && entered)) first next (at + n)
+    (enough && entered)) first next (at + n)
 steps_copy whole a c begin entered ended through enough least most done first row part next at n
     more is sized long w so_far step =
     let left : most - done ≡ suc (most - (done + 1)) = omega arith in
     let fewer : least - done - 1 ≡ least - (done + 1) = omega arith in
     let here = steps_between whole a c begin entered ended enough (least - done) (most - (done +
-        1)) first row at
-      (λ t. let within = is.0 t in omega arith,
-          λ z. is.1 (omega arith)) (subst (λ m. StepsSoFar whole (between a (least - done) m) c
-          begin entered ended first row at) left so_far) in
+    1)) first row at (
+      λ t. let within = is.0 t in omega arith,
+      λ z. is.1 (omega arith),
+    ) (subst (λ m. StepsSoFar whole (between a (least - done) m) c
+    begin entered ended first row at) left so_far) in
     steps_sequence whole a (between a (least - (done + 1)) (most - (done + 1))) c begin entered
-        (ended || (enough && entered)) through first row part next at n sized long w
+    (ended || (enough && entered)) through first row part next at n sized long w
     (subst (λ l. StepsSoFar whole (sequence a (between a l (most - (done + 1)))) c begin entered
-        (ended || (enough && entered)) first row at) fewer here) step
+    (ended || (enough && entered)) first row at) fewer here) step
 
 pub steps_copies_end : (whole a : Plain) (c : ℕ) (begin entered ended enough : Bool) (least most
     done : ℕ) (first row : List Bool) (at : ℕ) →
     most ≤ done → done ≤ most → IsTrue enough ↔ (least ≤ most) → length row ≤ at →
     StepsSoFar whole (between a (least - done) (most - done)) c begin entered ended first row at →
-        Steps whole c begin first row (ended || (enough && entered))
+    Steps whole c begin first row (ended || (enough && entered))
 steps_copies_end whole a c begin entered ended enough least most done first row at all within is
     end so_far =
     let none : most - done ≡ 0 = omega arith in
-    steps_between_end whole a c begin entered ended enough (least - done) first row at
-    (λ t. let few = is.0 t in omega arith,
-        λ z. is.1 (omega arith)) end (subst (λ m. StepsSoFar whole (between a (least - done) m) c
-        begin entered ended first row at) none so_far)
+    steps_between_end whole a c begin entered ended enough (least - done) first row at (
+      λ t. let few = is.0 t in omega arith,
+      λ z. is.1 (omega arith),
+    ) end (subst (λ m. StepsSoFar whole (between a (least - done) m) c
+    begin entered ended first row at) none so_far)
 
 -- one copy more of a repeat without a most, and others after it
 steps_at_least_here : (whole a : Plain) (c : ℕ) (begin entered through : Bool) (k : ℕ) (first row
     part next : List Bool) (at n : ℕ) →
     size a ≡ n → length part ≡ n → Written row part next at n →
     StepsSoFar whole (at_least a (suc (suc k))) c begin entered false first row at →
-        Steps a c entered (take n (drop at row)) part through →
+    Steps a c entered (take n (drop at row)) part through →
     StepsSoFar whole (at_least a (suc k)) c begin through false first next (at + n)
 unfolding at_least
 steps_at_least_here whole a c begin entered through k first row part next at n sized long w so_far
     step =
     steps_sequence whole a (at_least a (suc k)) c begin entered false through first row part next
-        at n sized long w so_far step
+    at n sized long w so_far step
 
 pub steps_at_least : (whole a : Plain) (c : ℕ) (begin entered through : Bool) (least done : ℕ)
     (first row part next : List Bool) (at n : ℕ) →
     done < least → size a ≡ n → length part ≡ n → Written row part next at n →
     StepsSoFar whole (at_least a (suc (least - done))) c begin entered false first row at →
-        Steps a c entered (take n (drop at row)) part through →
+    Steps a c entered (take n (drop at row)) part through →
     StepsSoFar whole (at_least a (suc (least - (done + 1)))) c begin through false first next (at +
-        n)
+    n)
 steps_at_least whole a c begin entered through least done first row part next at n more sized long
     w so_far step =
     let left : least - done ≡ suc (least - (done + 1)) = omega arith in
     steps_at_least_here whole a c begin entered through (least - (done + 1)) first row part next at
-        n sized long w
+    n sized long w
     (subst (λ m. StepsSoFar whole (at_least a (suc m)) c begin entered false first row at) left
-        so_far) step
+    so_far) step
 
 steps_plus_last : (whole a : Plain) (c : ℕ) (begin entered p : Bool) (first row part next : List
     Bool) (at n : ℕ) → at + n ≡ length row → length part ≡ n → length next ≡ length row →
     next ≡ put_mid at n row part →
     StepsSoFar whole (at_least a 1) c begin entered false first row at →
-        Steps (plus a) c entered (take n (drop at row)) part p → Steps whole c begin first next p
+    Steps (plus a) c entered (take n (drop at row)) part p → Steps whole c begin first next p
 unfolding at_least
 steps_plus_last whole a c begin entered p first row part next at n all long same is so_far step =
     steps_last whole (plus a) c begin entered p first row part next at n all long same is so_far
@@ -337,15 +349,15 @@ steps_plus_last whole a c begin entered p first row part next at n all long same
 pub steps_at_least_end : (whole a : Plain) (c : ℕ) (begin entered p : Bool) (least done : ℕ) (first
     row part next : List Bool) (at n : ℕ) → least ≤ done →
     at + n ≡ length row → length part ≡ n → length next ≡ length row →
-        next ≡ put_mid at n row part →
+    next ≡ put_mid at n row part →
     StepsSoFar whole (at_least a (suc (least - done))) c begin entered false first row at →
-        Steps (plus a) c entered (take n (drop at row)) part p → Steps whole c begin first next p
+    Steps (plus a) c entered (take n (drop at row)) part p → Steps whole c begin first next p
 steps_at_least_end whole a c begin entered p least done first row part next at n all end long same
     is so_far step =
     let none : least - done ≡ 0 = omega arith in
     steps_plus_last whole a c begin entered p first row part next at n end long same is (subst (λ
-        m. StepsSoFar whole (at_least a (suc m)) c begin entered false first row at) none so_far)
-        step
+    m. StepsSoFar whole (at_least a (suc m)) c begin entered false first row at) none so_far)
+    step
 
 -- a repeat that may also be left out
 pub steps_star : (a : Plain) (c : ℕ) (entered p : Bool) (before after : List Bool) →
@@ -355,7 +367,7 @@ unfolding at_least
 steps_star a c entered p before after h =
     subst (Steps (either empty (plus a)) c entered before after) (or_comm entered p)
     (step_either empty (plus a) c entered before [] after entered p refl (step_empty c entered []
-        []) h)
+    []) h)
 
 -- the end is looked for among the marks before a place: whatever the rest answers completes the whole
 pub record EndsSoFar (whole todo : Plain) (begin entered ended : Bool) (row : List Bool) (at : ℕ) :
@@ -369,20 +381,22 @@ ends_first whole begin row = record { completes = λ p h. h }
 pub ends_turn : (whole a b : Plain) (begin entered ended through : Bool) (row : List Bool) (at n :
     ℕ) → size a ≡ n →
     EndsSoFar whole (sequence a b) begin entered ended row at →
-        Ends a entered (take n (drop at row)) through →
+    Ends a entered (take n (drop at row)) through →
     EndsSoFar whole b begin through ended row (at + n)
 ends_turn whole a b begin entered ended through row at n sized so_far h = record {
   completes = λ p rest.
       let here : Ends a entered (take (size a) (drop at row)) through = rw sized h in
-      let there : Ends b through (drop (size a) (drop at row)) p = rw (sized,
-          drop-drop n at row) rest in
+      let there : Ends b through (drop (size a) (drop at row)) p = rw (
+        sized,
+        drop-drop n at row,
+      ) rest in
       so_far.completes p (ends_sequence a b entered (drop at row) through p here there);
 }
 
 pub ends_next_piece : (whole : Plain) (a : Tree) (others : List Tree) (begin entered ended through
     : Bool) (row : List Bool) (at n : ℕ) → n ≡ positions_of a →
     EndsSoFar whole (unrolled (pieces (a ∷ others))) begin entered ended row at →
-        Ends (unrolled a) entered (take n (drop at row)) through →
+    Ends (unrolled a) entered (take n (drop at row)) through →
     EndsSoFar whole (unrolled (pieces others)) begin through ended row (at + n)
 unfolding unrolled
 ends_next_piece whole a others begin entered ended through row at n sized so_far h = ends_turn
@@ -392,18 +406,18 @@ ends_next_piece whole a others begin entered ended through row at n sized so_far
 pub ends_next_branch : (whole : Plain) (a : Tree) (others : List Tree) (begin entered ended through
     : Bool) (row : List Bool) (at n : ℕ) → n ≡ positions_of a →
     EndsSoFar whole (unrolled (branches (a ∷ others))) begin entered ended row at →
-        Ends (unrolled a) entered (take n (drop at row)) through →
+    Ends (unrolled a) entered (take n (drop at row)) through →
     EndsSoFar whole (unrolled (branches others)) begin entered (ended || through) row (at + n)
 unfolding unrolled
 ends_next_branch whole a others begin entered ended through row at n sized so_far h = record {
   completes = λ p rest.
       let sized : size (unrolled a) ≡ n = size_unrolled a ∙ sym sized in
       let here : Ends (unrolled a) entered (take (size (unrolled a)) (drop at row)) through = rw
-          sized h in
+      sized h in
       let there : Ends (unrolled (branches others)) entered (drop (size (unrolled a)) (drop at
-          row)) p = rw (sized, drop-drop n at row) rest in
+      row)) p = rw (sized, drop-drop n at row) rest in
       rw or_assoc (so_far.completes (through || p) (ends_either (unrolled a) (unrolled (branches
-          others)) entered (drop at row) through p here there));
+      others)) entered (drop at row) through p here there));
 }
 
 pub ends_end_pieces : (whole : Plain) (begin entered : Bool) (row : List Bool) (at : ℕ) →
@@ -417,7 +431,7 @@ pub ends_end_branches : (whole : Plain) (begin entered ended : Bool) (row : List
 unfolding unrolled
 ends_end_branches whole begin entered ended row at so_far =
     subst (Ends whole begin row) (or_false ended) (so_far.completes false (ends_nothing entered
-        (drop at row)))
+    (drop at row)))
 
 -- a counted repeat may end here once there are enough copies, and else goes on
 ends_between_here : (whole a : Plain) (begin entered ended enough : Bool) (least most : ℕ) (row :
@@ -425,12 +439,12 @@ ends_between_here : (whole a : Plain) (begin entered ended enough : Bool) (least
     IsTrue enough ↔ (least ≡ 0) →
     EndsSoFar whole (between a least (suc most)) begin entered ended row at →
     EndsSoFar whole (sequence a (between a (least - 1) most)) begin entered (ended || (enough &&
-        entered)) row at
+    entered)) row at
 unfolding between
 ends_between_here whole a begin entered ended true zero most row at is so_far = record {
   completes = λ p h.
       rw or_assoc (so_far.completes (entered || p) (ends_either empty (sequence a (between a zero
-          most)) entered (drop at row) entered p (ends_empty entered []) h));
+      most)) entered (drop at row) entered p (ends_empty entered []) h));
 }
 ends_between_here whole a begin entered ended false zero most row at is so_far = absurd (let e =
     is.1 refl in cc)
@@ -446,28 +460,29 @@ pub ends_between : (whole a : Plain) (begin entered ended through enough : Bool)
     ℕ) (row : List Bool) (at n : ℕ) →
     done < most → IsTrue enough ↔ (least ≤ done) → size a ≡ n →
     EndsSoFar whole (between a (least - done) (most - done)) begin entered ended row at →
-        Ends a entered (take n (drop at row)) through →
+    Ends a entered (take n (drop at row)) through →
     EndsSoFar whole (between a (least - (done + 1)) (most - (done + 1))) begin through (ended ||
-        (enough && entered)) row (at + n)
+    (enough && entered)) row (at + n)
 ends_between whole a begin entered ended through enough least most done row at n more is sized
     so_far h =
     let left : most - done ≡ suc (most - (done + 1)) = omega arith in
     let fewer : least - done - 1 ≡ least - (done + 1) = omega arith in
     let here = ends_between_here whole a begin entered ended enough (least - done) (most - (done +
-        1)) row at
-      (λ t. let within = is.0 t in omega arith,
-          λ z. is.1 (omega arith)) (subst (λ m. EndsSoFar whole (between a (least - done) m) begin
-          entered ended row at) left so_far) in
+    1)) row at (
+      λ t. let within = is.0 t in omega arith,
+      λ z. is.1 (omega arith),
+    ) (subst (λ m. EndsSoFar whole (between a (least - done) m) begin
+    entered ended row at) left so_far) in
     ends_turn whole a (between a (least - (done + 1)) (most - (done + 1))) begin entered (ended ||
-        (enough && entered)) through row at n sized
+    (enough && entered)) through row at n sized
     (subst (λ l. EndsSoFar whole (sequence a (between a l (most - (done + 1)))) begin entered
-        (ended || (enough && entered)) row at) fewer here) h
+    (ended || (enough && entered)) row at) fewer here) h
 
 ends_between_last : (whole a : Plain) (begin entered ended enough : Bool) (least : ℕ) (row : List
     Bool) (at : ℕ) →
     IsTrue enough ↔ (least ≡ 0) →
     EndsSoFar whole (between a least 0) begin entered ended row at →
-        Ends whole begin row (ended || (enough && entered))
+    Ends whole begin row (ended || (enough && entered))
 unfolding between
 ends_between_last whole a begin entered ended true zero row at is so_far = so_far.completes entered
     (ends_empty entered (drop at row))
@@ -482,19 +497,20 @@ pub ends_between_end : (whole a : Plain) (begin entered ended enough : Bool) (le
     (row : List Bool) (at : ℕ) →
     most ≤ done → done ≤ most → IsTrue enough ↔ (least ≤ most) →
     EndsSoFar whole (between a (least - done) (most - done)) begin entered ended row at →
-        Ends whole begin row (ended || (enough && entered))
+    Ends whole begin row (ended || (enough && entered))
 ends_between_end whole a begin entered ended enough least most done row at all within is so_far =
     let none : most - done ≡ 0 = omega arith in
-    ends_between_last whole a begin entered ended enough (least - done) row at
-    (λ t. let few = is.0 t in omega arith,
-        λ z. is.1 (omega arith)) (subst (λ m. EndsSoFar whole (between a (least - done) m) begin
-        entered ended row at) none so_far)
+    ends_between_last whole a begin entered ended enough (least - done) row at (
+      λ t. let few = is.0 t in omega arith,
+      λ z. is.1 (omega arith),
+    ) (subst (λ m. EndsSoFar whole (between a (least - done) m) begin
+    entered ended row at) none so_far)
 
 -- one copy more of a repeat without a most, and others after it
 ends_at_least_here : (whole a : Plain) (begin entered through : Bool) (k : ℕ) (row : List Bool) (at
     n : ℕ) → size a ≡ n →
     EndsSoFar whole (at_least a (suc (suc k))) begin entered false row at →
-        Ends a entered (take n (drop at row)) through →
+    Ends a entered (take n (drop at row)) through →
     EndsSoFar whole (at_least a (suc k)) begin through false row (at + n)
 unfolding at_least
 ends_at_least_here whole a begin entered through k row at n sized so_far h =
@@ -504,7 +520,7 @@ pub ends_at_least : (whole a : Plain) (begin entered through : Bool) (least done
     Bool) (at n : ℕ) →
     done < least → size a ≡ n →
     EndsSoFar whole (at_least a (suc (least - done))) begin entered false row at →
-        Ends a entered (take n (drop at row)) through →
+    Ends a entered (take n (drop at row)) through →
     EndsSoFar whole (at_least a (suc (least - (done + 1)))) begin through false row (at + n)
 ends_at_least whole a begin entered through least done row at n more sized so_far h =
     let left : least - done ≡ suc (least - (done + 1)) = omega arith in
@@ -513,7 +529,7 @@ ends_at_least whole a begin entered through least done row at n more sized so_fa
 
 ends_plus_end : (whole a : Plain) (begin entered p : Bool) (row : List Bool) (at : ℕ) →
     EndsSoFar whole (at_least a 1) begin entered false row at → Ends a entered (drop at row) p →
-        Ends whole begin row p
+    Ends whole begin row p
 unfolding at_least
 ends_plus_end whole a begin entered p row at so_far h = so_far.completes p (ends_plus a entered
     (drop at row) p h)
@@ -521,11 +537,11 @@ ends_plus_end whole a begin entered p row at so_far h = so_far.completes p (ends
 pub ends_at_least_end : (whole a : Plain) (begin entered p : Bool) (least done : ℕ) (row : List
     Bool) (at : ℕ) → least ≤ done →
     EndsSoFar whole (at_least a (suc (least - done))) begin entered false row at →
-        Ends a entered (drop at row) p → Ends whole begin row p
+    Ends a entered (drop at row) p → Ends whole begin row p
 ends_at_least_end whole a begin entered p least done row at all so_far h =
     let none : least - done ≡ 0 = omega arith in
     ends_plus_end whole a begin entered p row at (subst (λ m. EndsSoFar whole (at_least a (suc m))
-        begin entered false row at) none so_far) h
+    begin entered false row at) none so_far) h
 
 -- a repeat that may also be left out
 pub ends_star : (a : Plain) (entered p : Bool) (row : List Bool) → Ends a entered row p →
@@ -534,33 +550,37 @@ unfolding at_least
 ends_star a entered p row h =
     subst (Ends (either empty (plus a)) entered row) (or_comm entered p)
     (ends_either empty (plus a) entered row entered p (ends_empty entered []) (ends_plus a entered
-        row p h))
+    row p h))
 
 -- the only part takes all the marks
 pub steps_only_branch : (a : Tree) (c : ℕ) (entered p : Bool) (before after : List Bool) →
     length before ≡ positions_of a → length after ≡ length before →
     Steps (unrolled a) c entered before after p →
-        Steps (unrolled (branches (a ∷ []))) c entered before after p
+    Steps (unrolled (branches (a ∷ []))) c entered before after p
 unfolding unrolled
 steps_only_branch a c entered p before after sized long step =
     let all = take_all (size (unrolled a)) before (omega (arith, size_unrolled a)) in
     let here : Steps (unrolled a) c entered (take (size (unrolled a)) before) after p = rw all step
-        in
+    in
     subst (λ q. Steps (either (unrolled a) nothing) c entered before after q) (or_false p)
     (subst (λ r. Steps (either (unrolled a) nothing) c entered before r (p || false)) (append-nil
-        after)
-    (step_either (unrolled a) nothing c entered before after [] p false (omega (arith,
-        size_unrolled a)) here (step_nothing c entered (drop (size (unrolled a)) before) [])))
+    after)
+    (step_either (unrolled a) nothing c entered before after [] p false (omega (
+      arith,
+      size_unrolled a,
+    )) here (step_nothing c entered (drop (size (unrolled a)) before) [])))
 
 pub steps_only_piece : (a : Tree) (c : ℕ) (entered p : Bool) (before after : List Bool) →
     length before ≡ positions_of a → length after ≡ length before →
     Steps (unrolled a) c entered before after p →
-        Steps (unrolled (pieces (a ∷ []))) c entered before after p
+    Steps (unrolled (pieces (a ∷ []))) c entered before after p
 unfolding unrolled
 steps_only_piece a c entered p before after sized long step =
     let all = take_all (size (unrolled a)) before (omega (arith, size_unrolled a)) in
     let here : Steps (unrolled a) c entered (take (size (unrolled a)) before) after p = rw all step
-        in
+    in
     subst (λ r. Steps (sequence (unrolled a) empty) c entered before r p) (append-nil after)
-    (step_sequence (unrolled a) empty c entered before after [] p p (omega (arith,
-        size_unrolled a)) here (step_empty c p (drop (size (unrolled a)) before) []))
+    (step_sequence (unrolled a) empty c entered before after [] p p (omega (
+      arith,
+      size_unrolled a,
+    )) here (step_empty c p (drop (size (unrolled a)) before) []))

@@ -8,8 +8,14 @@ use Rattle.jp_match.specs.Private.Plain.{Plain, Words, at_least, between, counte
 -- words of languages with the same words, joined
 joined_as : (L L' M M' : List ℕ → Type 0) → ((w : List ℕ) → L w → L' w) → ((w : List ℕ) → M w →
     M' w) → (w : List ℕ) → Concatenation L M w → Concatenation L' M' w
-joined_as L L' M M' first second w j = record { front = j.front; back = j.back; is = j.is; first =
-    first j.front j.first; second = second j.back j.second }
+joined_as L L' M M' first second w j = record {
+  front = j.front;
+  back = j.back;
+  is = j.is;
+  first =
+      first j.front j.first;
+  second = second j.back j.second;
+}
 
 power_as : (L L' : List ℕ → Type 0) → ((w : List ℕ) → L w → L' w) → (k : ℕ) (w : List ℕ) →
     Power L k w → Power L' k w
@@ -24,9 +30,18 @@ at_least_to a zero w (inl none) = (0, omega arith, none)
 at_least_to a zero w (inr some) = (suc some.0, omega arith, some.1)
 at_least_to a (suc zero) w h = (suc h.0, omega arith, h.1)
 at_least_to a (suc (suc n)) w h =
-    let (k, enough, words) = at_least_to a (suc n) h.back h.second in
-    (suc k, omega (arith, enough), record { front = h.front; back = h.back; is = h.is; first =
-        h.first; second = words })
+    let (k, enough, words) = at_least_to a (suc n) h.back h.second in (
+      suc k,
+      omega (arith, enough),
+      record {
+        front = h.front;
+        back = h.back;
+        is = h.is;
+        first =
+            h.first;
+        second = words;
+      },
+    )
 
 at_least_of : (a : Plain) (least k : ℕ) (w : List ℕ) → least ≤ k → Power (Words a) k w →
     Words (at_least a least) w
@@ -37,8 +52,14 @@ at_least_of a (suc zero) zero w enough p = absurd (omega arith)
 at_least_of a (suc zero) (suc k) w enough p = (k, p)
 at_least_of a (suc (suc n)) zero w enough p = absurd (omega arith)
 at_least_of a (suc (suc n)) (suc k) w enough p =
-    record { front = p.front; back = p.back; is = p.is; first = p.first; second = at_least_of a
-        (suc n) k p.back (omega arith) p.second }
+    record {
+      front = p.front;
+      back = p.back;
+      is = p.is;
+      first = p.first;
+      second = at_least_of a
+          (suc n) k p.back (omega arith) p.second;
+    }
 
 between_to : (a : Plain) (least most : ℕ) (w : List ℕ) → Words (between a least most) w →
     (k : ℕ) × (least ≤ k) × (k ≤ most) × Power (Words a) k w
@@ -46,14 +67,20 @@ unfolding between
 between_to a zero zero w h = (0, omega arith, omega arith, h)
 between_to a zero (suc most) w (inl none) = (0, omega arith, omega arith, none)
 between_to a zero (suc most) w (inr j) =
-    let (k, enough, within, words) = between_to a zero most j.back j.second in
-    (suc k, omega arith, omega (arith, within),
-        record { front = j.front; back = j.back; is = j.is; first = j.first; second = words })
+    let (k, enough, within, words) = between_to a zero most j.back j.second in (
+      suc k,
+      omega arith,
+      omega (arith, within),
+      record { front = j.front; back = j.back; is = j.is; first = j.first; second = words },
+    )
 between_to a (suc least) zero w h = absurd h
 between_to a (suc least) (suc most) w j =
-    let (k, enough, within, words) = between_to a least most j.back j.second in
-    (suc k, omega (arith, enough), omega (arith, within),
-        record { front = j.front; back = j.back; is = j.is; first = j.first; second = words })
+    let (k, enough, within, words) = between_to a least most j.back j.second in (
+      suc k,
+      omega (arith, enough),
+      omega (arith, within),
+      record { front = j.front; back = j.back; is = j.is; first = j.first; second = words },
+    )
 
 between_of : (a : Plain) (least most k : ℕ) (w : List ℕ) → least ≤ k → k ≤ most →
     Power (Words a) k w → Words (between a least most) w
@@ -62,13 +89,25 @@ between_of a zero zero zero w enough within p = p
 between_of a zero zero (suc k) w enough within p = absurd (omega arith)
 between_of a zero (suc most) zero w enough within p = inl p
 between_of a zero (suc most) (suc k) w enough within p =
-    inr (record { front = p.front; back = p.back; is = p.is; first = p.first; second = between_of a
-        zero most k p.back (omega arith) (omega arith) p.second })
+    inr (record {
+      front = p.front;
+      back = p.back;
+      is = p.is;
+      first = p.first;
+      second = between_of a
+          zero most k p.back (omega arith) (omega arith) p.second;
+    })
 between_of a (suc least) most zero w enough within p = absurd (omega arith)
 between_of a (suc least) zero (suc k) w enough within p = absurd (omega arith)
 between_of a (suc least) (suc most) (suc k) w enough within p =
-    record { front = p.front; back = p.back; is = p.is; first = p.first; second = between_of a
-        least most k p.back (omega arith) (omega arith) p.second }
+    record {
+      front = p.front;
+      back = p.back;
+      is = p.is;
+      first = p.first;
+      second = between_of a
+          least most k p.back (omega arith) (omega arith) p.second;
+    }
 
 unrolled_to : (t : Tree) (w : List ℕ) → Words (unrolled t) w → Language t w
 unfolding unrolled counted
@@ -97,10 +136,10 @@ unrolled_of (tree.sequence a b) w j = joined_as (Language a) (Words (unrolled a)
     (Words (unrolled b)) (unrolled_of a) (unrolled_of b) w j
 unrolled_of (tree.repeat a least None) w (k, enough, within, p) =
     at_least_of (unrolled a) least k w enough (power_as (Language a) (Words (unrolled a))
-        (unrolled_of a) k w p)
+    (unrolled_of a) k w p)
 unrolled_of (tree.repeat a least (Some most)) w (k, enough, within, p) =
     between_of (unrolled a) least most k w enough within (power_as (Language a) (Words (unrolled
-        a)) (unrolled_of a) k w p)
+    a)) (unrolled_of a) k w p)
 
 -- the words of a pattern that is written out are exactly those of the pattern
 pub unrolled-words : (t : Tree) (w : List ℕ) → Words (unrolled t) w ↔ Language t w

@@ -15,10 +15,15 @@ whole_reached L text from to first image = (
   λ marked.
       let r = (image.reached (length text)).0 marked in
       let front : r.before ≡ [] = no_length r.before ((first (length r.before)).0 r.begins) in
-      let none : r.after ≡ [] = no_length r.after (omega (arith, r.ends, ap length r.is,
-          length-append r.before (r.word ++ r.after), length-append r.word r.after)) in
+      let none : r.after ≡ [] = no_length r.after (omega (
+        arith,
+        r.ends,
+        ap length r.is,
+        length-append r.before (r.word ++ r.after),
+        length-append r.word r.after,
+      )) in
       let is : r.word ≡ text = sym (r.is ∙ ap (λ w. w ++ (r.word ++ r.after)) front ∙
-          ap (λ w. r.word ++ w) none ∙ append-nil r.word) in
+      ap (λ w. r.word ++ w) none ∙ append-nil r.word) in
       subst L is r.holds,
   λ holds. (image.reached (length text)).1 (record {
     before = [];
@@ -47,8 +52,11 @@ part_reached L text from to every image = (
           word = h.part;
           after = h.after;
           is = h.is;
-          begins = (every (length h.before)).1 (omega (arith, ap length h.is,
-              length-append h.before (h.part ++ h.after)));
+          begins = (every (length h.before)).1 (omega (
+            arith,
+            ap length h.is,
+            length-append h.before (h.part ++ h.after),
+          ));
           holds = h.holds;
           ends = refl;
         }),

@@ -16,15 +16,17 @@ use jp_iregexp::Pattern;
 use std::alloc::{AllocError, Global};
 use std::mem;
 
-/// The plain matcher. It goes down the pattern and keeps sets of places in the text, a mark for each place.
-/// A repeat goes on only while its set changes, so it ends after about as many rounds as the text has
-/// characters, however large its counts. Each round is a new walk of what it repeats, so the time is that
-/// number of rounds to the power of how deep repeats stand inside one another: exponential in their nesting.
+/// The plain matcher. It goes down the pattern and keeps sets of places in the text, a mark for
+/// each place. A repeat goes on only while its set changes, so it ends after about as many rounds
+/// as the text has characters, however large its counts. Each round is a new walk of what it
+/// repeats, so the time is that number of rounds to the power of how deep repeats stand inside one
+/// another: exponential in their nesting.
 #[derive(Clone, Copy, Debug, Default)]
 pub struct Images;
 
 impl Images {
-    /// Whether the text is in the language of the pattern (RFC 9485, section 4; RFC 9535, section 2.4.6).
+    /// Whether the text is in the language of the pattern (RFC 9485, section 4; RFC 9535, section
+    /// 2.4.6).
     pub fn whole(
         &self,
         alloc: Global,
@@ -42,8 +44,8 @@ impl Images {
         Ok(places[text.len()])
     }
 
-    /// Whether some part of the text is in the language of the pattern, the empty parts included (RFC 9535,
-    /// section 2.4.7).
+    /// Whether some part of the text is in the language of the pattern, the empty parts included
+    /// (RFC 9535, section 2.4.7).
     pub fn part(
         &self,
         alloc: Global,
@@ -171,8 +173,8 @@ fn repeat_image(
     at_most_image(inner, more, text, places, spare, tests)
 }
 
-/// The most words that may still follow once some are taken, where there is a most; none where so many may not
-/// be taken.
+/// The most words that may still follow once some are taken, where there is a most; none where so
+/// many may not be taken.
 fn most_after(most: Option<u32>, taken: u32) -> Option<Option<u32>>
     ensures { IsMostAfter most taken result }
 {
@@ -182,8 +184,8 @@ fn most_after(most: Option<u32>, taken: u32) -> Option<Option<u32>>
     }
 }
 
-/// The same for exactly so many words of the pattern. Once a word more reaches the same places, so do all
-/// further ones.
+/// The same for exactly so many words of the pattern. Once a word more reaches the same places, so
+/// do all further ones.
 #[cycle(images)]
 fn exactly_image(
     inner: &Pattern,

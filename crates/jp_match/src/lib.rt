@@ -1,13 +1,15 @@
 //! Matchers: whether a text, or a part of it, is in the language of a pattern (RFC 9485).
 //!
-//! A layer above takes a matcher by the bound [`Matching`], whose two answers are language membership, and
-//! counts class tests in a [`Tests`]. [`Images`] is the plain matcher.
+//! A layer above takes a matcher by the bound [`Matching`], whose two answers are language
+//! membership, and counts class tests in a [`Tests`]. [`Marks`] is that matcher: it steps a
+//! [`Scan`] over the text, a character at a time. [`Images`] answers the same from sets of places,
+//! for patterns of more positions than a scan takes.
 //!
 //! ```text
 //! let pattern = read_pattern(alloc, "a{2,3}")?;
 //! let mut tests = Tests::new();
-//! Images.whole(alloc, &pattern, "aaaa", &mut tests)?; // false
-//! Images.part(alloc, &pattern, "aaaa", &mut tests)?; // true
+//! Marks.whole(alloc, &pattern, "aaaa", &mut tests)?; // false
+//! Marks.part(alloc, &pattern, "aaaa", &mut tests)?; // true
 //! ```
 #![tactic(auto)]
 

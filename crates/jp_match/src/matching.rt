@@ -11,9 +11,12 @@ use crate::class_tests::Tests;
 use jp_iregexp::Pattern;
 use std::alloc::{AllocError, Global};
 
-/// A matcher of patterns. Each answer is exact for every pattern; the only error is want of memory.
+/// A matcher of patterns. Each answer is exact for every pattern; the only error is that memory ran
+/// out. Where the pattern has at most 4,096 positions, a call makes at most one class test for each
+/// of them and each character, whatever its outcome.
 pub trait Matching {
-    /// Whether the text is in the language of the pattern (RFC 9485, section 4; RFC 9535, section 2.4.6).
+    /// Whether the text is in the language of the pattern (RFC 9485, section 4; RFC 9535, section
+    /// 2.4.6).
     fn whole(
         &self,
         alloc: Global,
@@ -27,8 +30,8 @@ pub trait Matching {
             tests.new ≤ tests.old + positions_of (tree pattern.now) * length (chars text.now) }
         ensures kept { tests.old ≤ tests.new };
 
-    /// Whether some part of the text is in the language of the pattern, the empty parts included (RFC 9535,
-    /// section 2.4.7).
+    /// Whether some part of the text is in the language of the pattern, the empty parts included
+    /// (RFC 9535, section 2.4.7).
     fn part(
         &self,
         alloc: Global,

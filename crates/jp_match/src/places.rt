@@ -94,8 +94,8 @@ pub fn is_any(places: &[bool]) -> bool
     places.contains(&true)
 }
 
-/// Whether the steps that led from one set to the next lead no further: there is no place left, or the places
-/// are those of before.
+/// Whether the steps that led from one set to the next lead no further: there is no place left, or
+/// the places are those of before.
 pub fn is_settled(places: &[bool], before: &[bool]) -> bool
     ensures { IsTrue result ↔ (((place : ℕ) → Marked places.now place →
         ⊥) ⊎ (places.now ≡ before.now)) }

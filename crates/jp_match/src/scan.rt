@@ -14,9 +14,9 @@ use std::alloc::{AllocError, Global};
 /// The most positions of a pattern that there is a scan for.
 const MOST_POSITIONS: u64 = 4_096;
 
-/// A matcher that has taken some characters of a text. It keeps none of them: what it knows is a mark
-/// for each position of the pattern, and one for the start. So it never goes back, and a step takes no
-/// memory.
+/// A matcher that has taken some characters of a text. It keeps none of them: what it knows is a
+/// mark for each position of the pattern, and one for the start. So it never goes back, and a step
+/// takes no memory.
 #[derive(Drop)]
 pub struct Scan<'p> {
     marking: Marking<'p>,
@@ -25,8 +25,9 @@ pub struct Scan<'p> {
 }
 
 impl<'p> Scan<'p> {
-    /// A scan that has taken no character; None exactly where the pattern has more than 4,096 positions.
-    /// It accepts the words of the pattern's language, and with `anywhere` the texts that end in one.
+    /// A scan that has taken no character; None exactly where the pattern has more than 4,096
+    /// positions. It accepts the words of the pattern's language, and with `anywhere` the texts
+    /// that end in one.
     pub fn new(
         alloc: Global,
         pattern: &'p Pattern,

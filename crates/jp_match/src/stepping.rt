@@ -15,13 +15,7 @@ use jp_iregexp::{CharClass, Pattern, positions};
 /// Moves the marks of a pattern over the character, and answers whether its end was reached before:
 /// by a mark, or by the empty word where the pattern is entered.
 #[cycle(step)]
-pub fn step(
-    pattern: &Pattern,
-    row: &mut [bool],
-    entered: bool,
-    c: char,
-    tests: &mut Tests,
-) -> bool
+pub fn step(pattern: &Pattern, row: &mut [bool], entered: bool, c: char, tests: &mut Tests) -> bool
     requires sized { length row.old ≡ positions_of (tree pattern.now) }
     requires few { length row.old ≤ 4096 }
     ensures step { Steps (unrolled (tree pattern.now)) c entered row.old row.new result }
@@ -42,7 +36,13 @@ pub fn step(
 }
 
 /// The same for a class: its one position.
-fn step_class(class: &CharClass, row: &mut [bool], entered: bool, c: char, tests: &mut Tests) -> bool
+fn step_class(
+    class: &CharClass,
+    row: &mut [bool],
+    entered: bool,
+    c: char,
+    tests: &mut Tests,
+) -> bool
     requires sized { length row.old ≡ 1 }
     ensures step { Steps (plain_class class.now.negated class.now.items.items) c entered row.old
         row.new result }
@@ -202,13 +202,7 @@ fn step_at_least(
 
 /// The same for one or more words of the pattern: where one has ended, the next may begin.
 #[cycle(step)]
-fn step_plus(
-    inner: &Pattern,
-    row: &mut [bool],
-    entered: bool,
-    c: char,
-    tests: &mut Tests,
-) -> bool
+fn step_plus(inner: &Pattern, row: &mut [bool], entered: bool, c: char, tests: &mut Tests) -> bool
     requires sized { length row.old ≡ positions_of (tree inner.now) }
     requires few { length row.old ≤ 4096 }
     ensures step { Steps (plus (unrolled (tree inner.now))) c entered row.old row.new result }

@@ -147,7 +147,14 @@ fn tests_each_position_at_most_once_a_character(rt: HostRuntime) -> Result<(), F
         ("(a{2,}b?){2}", "aabaa", true, true, 30),
         ("(a{2,}b?){2}", "aaba", false, false, 24),
     ] {
-        assert_within(&rt, rt.alloc(), &Marks, (pattern, text), (whole, part), most)?;
+        assert_within(
+            &rt,
+            rt.alloc(),
+            &Marks,
+            (pattern, text),
+            (whole, part),
+            most,
+        )?;
     }
     Ok(())
 }
@@ -174,8 +181,22 @@ fn assert_accepts(
 
 #[test]
 fn scans_a_character_at_a_time(rt: HostRuntime) -> Result<(), Fail> {
-    assert_accepts(&rt, rt.alloc(), ("ab*", false), "abc", false, &[true, true, false])?;
-    assert_accepts(&rt, rt.alloc(), ("ab?", true), "cabb", false, &[false, true, true, false])?;
+    assert_accepts(
+        &rt,
+        rt.alloc(),
+        ("ab*", false),
+        "abc",
+        false,
+        &[true, true, false],
+    )?;
+    assert_accepts(
+        &rt,
+        rt.alloc(),
+        ("ab?", true),
+        "cabb",
+        false,
+        &[false, true, true, false],
+    )?;
     let many = read_pattern(rt.alloc(), "a{4097}")?;
     assert!(rt; Scan::new(rt.alloc(), &many, false)?.is_none());
     Ok(())
@@ -203,6 +224,7 @@ fn below(seed: &mut u64, end: u64) -> u64 {
 }
 
 const ATOMS: [&str; 6] = ["a", "b", "[ab]", ".", "()", "[^a]"];
+
 const QUANTIFIERS: [&str; 8] = ["", "*", "+", "?", "{2}", "{0}", "{1,3}", "{2,}"];
 
 fn one_of<'a>(seed: &mut u64, texts: &'a [&'a str]) -> &'a str {
@@ -213,7 +235,7 @@ fn one_of<'a>(seed: &mut u64, texts: &'a [&'a str]) -> &'a str {
 /// A pattern of some atoms, grouped and repeated.
 fn made_pattern(alloc: Global, seed: &mut u64) -> Result<String, AllocError> {
     let mut pattern = String::new(alloc);
-    for _ in 0..below(seed, 6) + 1 {
+    for _ in 0..below(seed, 7) {
         let atom = one_of(seed, &ATOMS);
         let quantifier = one_of(seed, &QUANTIFIERS);
         pattern = match below(seed, 4) {

@@ -7,14 +7,14 @@ Marked places place = IsTrue (get_or places place false)
 
 -- the place is reached from a place of the set by a word of the language, one that stands in the text
 pub record Reached (L : List ℕ → Type 0) (text : List ℕ) (from : List Bool) (place : ℕ) : Type 0
-    where
-  pub before : List ℕ
-  pub word : List ℕ
-  pub after : List ℕ
-  pub is : text ≡ before ++ (word ++ after)
-  pub begins : Marked from (length before)
-  pub holds : L word
-  pub ends : length before + length word ≡ place
+  where
+    pub before : List ℕ
+    pub word : List ℕ
+    pub after : List ℕ
+    pub is : text ≡ before ++ (word ++ after)
+    pub begins : Marked from (length before)
+    pub holds : L word
+    pub ends : length before + length word ≡ place
 
 -- a set holds exactly the places that are reached from another by a word of the language
 pub record IsImage (L : List ℕ → Type 0) (text : List ℕ) (from to : List Bool) : Type 0 where

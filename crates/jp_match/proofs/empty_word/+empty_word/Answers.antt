@@ -8,8 +8,11 @@ has_empty_word-returns-in-Either t c =
 
 pub has_empty_word-returns-in-Sequence : goal.has_empty_word-returns-in-Sequence
 has_empty_word-returns-in-Sequence t c =
-    rw (c.in-Sequence.is, tree_sequence,
-        ← c.deref-in-Sequence.ensures.value) c.each_has_empty_word.ensures
+    rw (
+      c.in-Sequence.is,
+      tree_sequence,
+      ← c.deref-in-Sequence.ensures.value,
+    ) c.each_has_empty_word.ensures
 
 pub has_empty_word-returns-in-Repeat : goal.has_empty_word-returns-in-Repeat
 has_empty_word-returns-in-Repeat t c =

@@ -22,58 +22,93 @@ pub ends-returns-then-not-is_any : goal.ends-returns-then-not-is_any
 ends-returns-then-not-is_any t c =
     let e : c.args.entered ≡ false = c.if-not-entered.true in
     rw e (step_nowhere (unrolled (tree c.args.pattern.now)) 0 c.args.row.now (λ k m. let any =
-        c.is_any.ensures.1 (k, m) in let not = c.if-not-is_any.true in cc)).ends
+    c.is_any.ensures.1 (k, m) in let not = c.if-not-is_any.true in cc)).ends
 
 pub ends-ends_either-requires : goal.ends-ends_either-requires
 ends-ends_either-requires t c =
     let deep : 3 * the_size (pattern.Either c.in-Either.branches) + 0 ≡ t = subst (λ p. 3 *
-        the_size p + 0 ≡ t) c.in-Either.is c.decreases in
-    (omega (arith, deep, sized-Either c.in-Either.branches,
-        ap (most the_size) c.deref.ensures.value), (c.requires.sized ∙
-        ap (λ p. positions_of (tree p)) c.in-Either.is ∙
-        ap positions_of (tree_either c.in-Either.branches)
-    ∙ ap (λ ps. positions_of (branches (map tree ps))) (sym c.deref.ensures.value), c.requires.few))
+    the_size p + 0 ≡ t) c.in-Either.is c.decreases in (
+      omega (
+        arith,
+        deep,
+        sized-Either c.in-Either.branches,
+        ap (most the_size) c.deref.ensures.value,
+      ),
+      (
+        c.requires.sized ∙
+            ap (λ p. positions_of (tree p)) c.in-Either.is ∙
+            ap positions_of (tree_either c.in-Either.branches)
+            ∙ ap (λ ps. positions_of (branches (map tree ps))) (sym c.deref.ensures.value),
+        c.requires.few,
+      ),
+    )
 
 pub ends-ends_sequence-requires : goal.ends-ends_sequence-requires
 ends-ends_sequence-requires t c =
     let deep : 3 * the_size (pattern.Sequence c.in-Sequence.pieces) + 0 ≡ t = subst (λ p. 3 *
-        the_size p + 0 ≡ t) c.in-Sequence.is c.decreases in
-    (omega (arith, deep, sized-Sequence c.in-Sequence.pieces,
-        ap (most the_size) c.deref-in-Sequence.ensures.value), (c.requires.sized ∙
-        ap (λ p. positions_of (tree p)) c.in-Sequence.is ∙
-        ap positions_of (tree_sequence c.in-Sequence.pieces)
-    ∙ ap (λ ps. positions_of (pieces (map tree ps))) (sym c.deref-in-Sequence.ensures.value),
-        c.requires.few))
+    the_size p + 0 ≡ t) c.in-Sequence.is c.decreases in (
+      omega (
+        arith,
+        deep,
+        sized-Sequence c.in-Sequence.pieces,
+        ap (most the_size) c.deref-in-Sequence.ensures.value,
+      ),
+      (
+        c.requires.sized ∙
+            ap (λ p. positions_of (tree p)) c.in-Sequence.is ∙
+            ap positions_of (tree_sequence c.in-Sequence.pieces)
+            ∙ ap (λ ps. positions_of (pieces (map tree ps))) (sym c.deref-in-Sequence.ensures.value),
+        c.requires.few,
+      ),
+    )
 
 pub ends-ends_repeat-requires : goal.ends-ends_repeat-requires
 ends-ends_repeat-requires t c =
     let deep : 3 * the_size (pattern.Repeat c.in-Repeat.inner c.in-Repeat.least c.in-Repeat.most) +
-        0 ≡ t = subst (λ p. 3 * the_size p + 0 ≡ t) c.in-Repeat.is c.decreases in
-    (omega (arith, deep, sized-Repeat c.in-Repeat.inner c.in-Repeat.least c.in-Repeat.most,
-        ap the_size c.deref-in-Repeat.ensures), (c.requires.sized ∙
-        ap (λ p. positions_of (tree p)) c.in-Repeat.is ∙
-        ap positions_of (tree_repeat c.in-Repeat.inner c.in-Repeat.least c.in-Repeat.most)
-    ∙ ap (λ p. positions_of (repeat (tree p) c.in-Repeat.least c.in-Repeat.most)) (sym
-        c.deref-in-Repeat.ensures), c.requires.few))
+    0 ≡ t = subst (λ p. 3 * the_size p + 0 ≡ t) c.in-Repeat.is c.decreases in (
+      omega (
+        arith,
+        deep,
+        sized-Repeat c.in-Repeat.inner c.in-Repeat.least c.in-Repeat.most,
+        ap the_size c.deref-in-Repeat.ensures,
+      ),
+      (
+        c.requires.sized ∙
+            ap (λ p. positions_of (tree p)) c.in-Repeat.is ∙
+            ap positions_of (tree_repeat c.in-Repeat.inner c.in-Repeat.least c.in-Repeat.most)
+            ∙ ap (λ p. positions_of (repeat (tree p) c.in-Repeat.least c.in-Repeat.most)) (sym
+            c.deref-in-Repeat.ensures),
+        c.requires.few,
+      ),
+    )
 
 pub ends-bounds-row-0 : goal.ends-bounds-row-0
 ends-bounds-row-0 t c =
     let sized : length c.args.row.now ≡ 1 = c.requires.sized ∙
-        ap (λ p. positions_of (tree p)) c.in-Class.is ∙
-        ap positions_of (tree_class c.in-Class.field-0) in
+    ap (λ p. positions_of (tree p)) c.in-Class.is ∙
+    ap positions_of (tree_class c.in-Class.field-0) in
     omega arith
 
 pub ends-returns-in-Either : goal.ends-returns-in-Either
-ends-returns-in-Either t c = rw (c.in-Either.is, tree_either,
-    ← c.deref.ensures.value) c.ends_either.ensures
+ends-returns-in-Either t c = rw (
+  c.in-Either.is,
+  tree_either,
+  ← c.deref.ensures.value,
+) c.ends_either.ensures
 
 pub ends-returns-in-Sequence : goal.ends-returns-in-Sequence
-ends-returns-in-Sequence t c = rw (c.in-Sequence.is, tree_sequence,
-    ← c.deref-in-Sequence.ensures.value) c.ends_sequence.ensures
+ends-returns-in-Sequence t c = rw (
+  c.in-Sequence.is,
+  tree_sequence,
+  ← c.deref-in-Sequence.ensures.value,
+) c.ends_sequence.ensures
 
 pub ends-returns-in-Repeat : goal.ends-returns-in-Repeat
-ends-returns-in-Repeat t c = rw (c.in-Repeat.is, tree_repeat,
-    ← c.deref-in-Repeat.ensures) c.ends_repeat.ensures
+ends-returns-in-Repeat t c = rw (
+  c.in-Repeat.is,
+  tree_repeat,
+  ← c.deref-in-Repeat.ensures,
+) c.ends_repeat.ensures
 
 pub ends-returns-in-Class : goal.ends-returns-in-Class
 unfolding unrolled
@@ -82,10 +117,14 @@ ends-returns-in-Class t c = rw (c.in-Class.is, tree_class) (ends_class _ _ _ _)
 pub ends_either-loop-branch-preserved : goal.ends_either-loop-branch-preserved
 ends_either-loop-branch-preserved t c =
     let item = drop_item c.args.parts.now c.loop-branch.branch-index c.branch-item.result
-        c.loop-branch-test.true c.branch-item.is in
+    c.loop-branch-test.true c.branch-item.is in
     let sized = rw item at c.loop-branch.invariant.sized in
-    let size : c.positions.result ≡ positions_of (tree c.branch-item.result) = omega (arith, sized,
-        c.positions.ensures, c.requires.few) in
+    let size : c.positions.result ≡ positions_of (tree c.branch-item.result) = omega (
+      arith,
+      sized,
+      c.positions.ensures,
+      c.requires.few,
+    ) in
     let part = part_is c.args.row.now c.loop-branch.at c.positions.result in
     record {
       sized = omega (arith, sized, size);
@@ -102,10 +141,14 @@ ends_either-returns t c =
 pub ends_sequence-loop-piece-preserved : goal.ends_sequence-loop-piece-preserved
 ends_sequence-loop-piece-preserved t c =
     let item = drop_item c.args.parts.now c.loop-piece.piece-index c.piece-item.result
-        c.loop-piece-test.true c.piece-item.is in
+    c.loop-piece-test.true c.piece-item.is in
     let sized = rw item at c.loop-piece.invariant.sized in
-    let size : c.positions.result ≡ positions_of (tree c.piece-item.result) = omega (arith, sized,
-        c.positions.ensures, c.requires.few) in
+    let size : c.positions.result ≡ positions_of (tree c.piece-item.result) = omega (
+      arith,
+      sized,
+      c.positions.ensures,
+      c.requires.few,
+    ) in
     let part = part_is c.args.row.now c.loop-piece.at c.positions.result in
     record {
       sized = omega (arith, sized, size);
@@ -136,8 +179,10 @@ ends_repeat-returns-in-Some t c = rw c.in-Some.is c.ends_between.ensures
 
 pub ends_repeat-returns-in-None : goal.ends_repeat-returns-in-None
 unfolding unrolled counted
-ends_repeat-returns-in-None t c = rw (c.in-None.is,
-    c.if-least-eq0.true) (ends_star _ _ _ _ c.ends.ensures)
+ends_repeat-returns-in-None t c = rw (
+  c.in-None.is,
+  c.if-least-eq0.true,
+) (ends_star _ _ _ _ c.ends.ensures)
 
 pub ends_repeat-returns-in-None-2 : goal.ends_repeat-returns-in-None-2
 unfolding unrolled counted
@@ -147,28 +192,32 @@ pub ends_between-loop-copies-preserved : goal.ends_between-loop-copies-preserved
 ends_between-loop-copies-preserved t c =
     let p = positions_of (tree c.args.inner.now) in
     let left : c.args.most - c.loop-copies.copies ≡ suc (c.args.most - (c.loop-copies.copies + 1))
-        = omega arith in
+    = omega arith in
     let sized = rw left at c.loop-copies.invariant.sized in
     let part = part_is c.args.row.now c.loop-copies.at (length c.args.row.now / c.args.most) in
     record {
       size = c.loop-copies.invariant.size;
       sized = omega (arith, sized, c.loop-copies.invariant.size);
       so_far = ends_between _ _ _ _ _ _ _ c.args.least c.args.most c.loop-copies.copies _ _ _
-          c.loop-copies-test.true (leb-true _ _,
-          le-leb _ _) (size_unrolled (tree c.args.inner.now) ∙
+          c.loop-copies-test.true (
+            leb-true _ _,
+            le-leb _ _,
+          ) (size_unrolled (tree c.args.inner.now) ∙
           sym c.loop-copies.invariant.size) c.loop-copies.invariant.so_far (rw part at
           c.ends-through.ensures);
     }
 
 pub ends_between-returns : goal.ends_between-returns
 ends_between-returns t c = ends_between_end _ _ _ _ _ _ c.args.least c.args.most
-    c.loop-copies.copies _ _ (omega arith) (omega arith) (leb-true _ _,
-    le-leb _ _) c.loop-copies.invariant.so_far
+    c.loop-copies.copies _ _ (omega arith) (omega arith) (
+      leb-true _ _,
+      le-leb _ _,
+    ) c.loop-copies.invariant.so_far
 
 pub ends_at_least-loop-preserved : goal.ends_at_least-loop-preserved
 ends_at_least-loop-preserved t c =
     let left : c.args.least - c.loop.counter ≡ suc (c.args.least - (c.loop.counter + 1)) = omega
-        arith in
+    arith in
     let sized = rw left at c.loop.invariant.sized in
     let part = part_is c.args.row.now c.loop.at (length c.args.row.now / c.args.least) in
     record {
@@ -182,6 +231,6 @@ ends_at_least-loop-preserved t c =
 pub ends_at_least-returns : goal.ends_at_least-returns
 ends_at_least-returns t c =
     let all = take_all (length c.args.row.now - c.loop.at) (drop c.loop.at c.args.row.now) (omega
-        (arith, length-drop c.loop.at c.args.row.now)) in
+    (arith, length-drop c.loop.at c.args.row.now)) in
     ends_at_least_end _ _ _ _ _ c.args.least c.loop.counter _ _ c.loop-test.false
-        c.loop.invariant.so_far (rw all at c.ends.ensures)
+    c.loop.invariant.so_far (rw all at c.ends.ensures)

@@ -17,8 +17,8 @@ at_most_image-loop-left-smaller t c =
     let both = rw c.deref-in-loop-left-2.ensures.value at c.unite.ensures.both in
     let grows = c.loop-left.invariant.grows in
     absent_falls c.loop-left.reached.items c.unite.new.places.items (sym
-        c.unite.ensures.same_length) (λ k m. (both k).1 (inl m)) any.0 ((both any.0).1 (inr any.1))
-        (grows.apart any.0 any.1)
+    c.unite.ensures.same_length) (λ k m. (both k).1 (inl m)) any.0 ((both any.0).1 (inr any.1))
+    (grows.apart any.0 any.1)
 
 pub at_most_image-loop-left-preserved : goal.at_most_image-loop-left-preserved
 at_most_image-loop-left-preserved t c =
@@ -37,21 +37,21 @@ at_most_image-returns-clause-image t c =
       | at_most_image-else-loop-left-test w ↦
           let any = rw c.deref-in-loop-left.ensures.value at c.is_any.ensures.1 in
           rw (c.swap.ensures.x_after, w.reached-is) (grows_all _ _ _ _ _ _ _ c.requires
-              c.loop-left.invariant.grows (λ place m. let is = any (place, m) in
-              let not = w.loop-left-test.false in cc))
+          c.loop-left.invariant.grows (λ place m. let is = any (place, m) in
+          let not = w.loop-left-test.false in cc))
       | at_most_image-then-loop-left-test+in_default w ↦
           let both = rw w.deref-in-loop-left-2.ensures.value at w.unite.ensures.both in
           rw (c.swap.ensures.x_after, w.reached-is) (grows_last _ _ _ _ _ _ _ _ c.requires
-              c.loop-left.invariant.grows w.in_default.ensures w.unite.ensures.same_length both)
+          c.loop-left.invariant.grows w.in_default.ensures w.unite.ensures.same_length both)
     ])
 
 pub either_image-loop-branch-preserved : goal.either_image-loop-branch-preserved
 either_image-loop-branch-preserved t c =
     let item = drop_item c.args.parts.now c.loop-branch.branch-index c.branch-item.result
-        c.loop-branch-test.true c.branch-item.is in
+    c.loop-branch-test.true c.branch-item.is in
     let both = rw c.deref-in-loop-branch-2.ensures.value at c.unite.ensures.both in
     let start : c.assign.new.places.items ≡ c.args.places.now.items = c.in_ok-assign.ensures ∙
-        c.deref-in-loop-branch.ensures.value ∙ c.loop-branch.invariant.from in
+    c.deref-in-loop-branch.ensures.value ∙ c.loop-branch.invariant.from in
     record {
       from = c.loop-branch.invariant.from;
       long = c.unite.ensures.same_length ∙ c.loop-branch.invariant.long;
@@ -66,7 +66,7 @@ pub exactly_image-loop-preserved : goal.exactly_image-loop-preserved
 exactly_image-loop-preserved t c =
     let L = Language (tree c.args.inner.now) in
     let fewer : c.args.count - c.loop.counter ≡ suc (c.args.count - (c.loop.counter + 1)) = omega
-        arith in
+    arith in
     record {
       before = c.in_ok-assign.ensures ∙ c.deref-in-loop-3.ensures.value;
       long = c.in_ok-image.ensures.image.same_length ∙ c.loop.invariant.long;
@@ -83,24 +83,33 @@ exactly_image-returns-clause-image t c =
       | exactly_image-else-loop-test w ↦
           let none : c.args.count - c.loop.counter ≡ 0 = omega arith in
           rw w.places-is (completes_all _ _ _ _ c.loop.invariant.long (subst (λ n. Completes (Power
-              L c.args.count) (Power L n) c.args.text.now c.args.places.now.items
-              c.loop.places.items) none c.loop.invariant.completes))
+          L c.args.count) (Power L n) c.args.text.now c.args.places.now.items
+          c.loop.places.items) none c.loop.invariant.completes))
       | exactly_image-then-loop-test+in_ok-image+then-is_settled w ↦
-          let end = rw (w.deref-in-loop.ensures.value, w.deref-in-loop-2.ensures.value,
-              c.loop.invariant.before) at (w.is_settled.ensures.0 w.if-is_settled.true) in
+          let end = rw (
+            w.deref-in-loop.ensures.value,
+            w.deref-in-loop-2.ensures.value,
+            c.loop.invariant.before,
+          ) at (w.is_settled.ensures.0 w.if-is_settled.true) in
           let more : c.args.count - c.loop.counter ≡ suc (c.args.count - (c.loop.counter + 1)) =
-              omega arith in
+          omega arith in
           rw w.places-is (settled_ends _ _ _ _ _ _ _ _ c.loop.invariant.long end more
-              w.in_ok-image.ensures.image c.loop.invariant.completes)
+          w.in_ok-image.ensures.image c.loop.invariant.completes)
     ])
 
 pub image-returns-in-Either-clause-image : goal.image-returns-in-Either-clause-image
-image-returns-in-Either-clause-image t c = rw (c.in-Either.is, tree_either,
-    ← c.deref.ensures.value) c.either_image.ensures.image
+image-returns-in-Either-clause-image t c = rw (
+  c.in-Either.is,
+  tree_either,
+  ← c.deref.ensures.value,
+) c.either_image.ensures.image
 
 pub image-returns-in-Sequence-clause-image : goal.image-returns-in-Sequence-clause-image
-image-returns-in-Sequence-clause-image t c = rw (c.in-Sequence.is, tree_sequence,
-    ← c.deref-in-Sequence.ensures.value) c.sequence_image.ensures.image
+image-returns-in-Sequence-clause-image t c = rw (
+  c.in-Sequence.is,
+  tree_sequence,
+  ← c.deref-in-Sequence.ensures.value,
+) c.sequence_image.ensures.image
 
 pub image-returns-in-Repeat-clause-image : goal.image-returns-in-Repeat-clause-image
 image-returns-in-Repeat-clause-image t c =
@@ -113,12 +122,12 @@ image-returns-in-Class-clause-image t c = rw (c.in-Class.is, tree_class) c.shift
 pub repeat_image-returns-clause-image : goal.repeat_image-returns-clause-image
 repeat_image-returns-clause-image t c =
     on_ok_weaker c.at_most_image.result (image_repeat _ _ _ _ _ _ _ _ c.in-Some.ensures
-        c.in_ok-exactly_image.ensures.image) c.at_most_image.ensures.image
+    c.in_ok-exactly_image.ensures.image) c.at_most_image.ensures.image
 
 pub sequence_image-loop-piece-preserved : goal.sequence_image-loop-piece-preserved
 sequence_image-loop-piece-preserved t c =
     let item = drop_item c.args.parts.now c.loop-piece.piece-index c.piece-item.result
-        c.loop-piece-test.true c.piece-item.is in
+    c.loop-piece-test.true c.piece-item.is in
     record {
       long = c.in_ok-image.ensures.image.same_length ∙ c.loop-piece.invariant.long;
       completes = completes_more _ _ _ _ _ _ _ (subst (λ ps. Completes (Language (pieces (map tree
@@ -133,5 +142,5 @@ sequence_image-returns-clause-image t c =
     let end : c.loop-piece.piece-index ≡ length c.args.parts.now = omega arith in
     let none = ap (λ n. drop n c.args.parts.now) end ∙ drop_all c.args.parts.now in
     completes_all _ _ _ _ c.loop-piece.invariant.long (subst (λ ps. Completes (Language (pieces
-        (map tree c.args.parts.now))) (Language (pieces (map tree ps))) c.args.text.now
-        c.args.places.now.items c.loop-piece.places.items) none c.loop-piece.invariant.completes)
+    (map tree c.args.parts.now))) (Language (pieces (map tree ps))) c.args.text.now
+    c.args.places.now.items c.loop-piece.places.items) none c.loop-piece.invariant.completes)

@@ -16,25 +16,28 @@ not_false false n h = cc
 pub returns-then-advance-clause-counted : goal.returns-then-advance-clause-counted
 returns-then-advance-clause-counted c =
     let t = YieldsList-turn (YieldsList-from_chars c.args.text.now c.utf8.text cc) c.loop-c.yielded
-        _ c.loop-c.yielded_by _ _ c.in-Some.c c.in-Some.is c.next.ensures.steps in
+    _ c.loop-c.yielded_by _ _ c.in-Some.c c.in-Some.is c.next.ensures.steps in
     let step = rw c.loop-c.invariant.same at c.advance.ensures.counted in
     let all = within_all (positions_of (tree_of c.args.scan.now)) (length c.loop-c.yielded + 1)
-        (length (chars c.args.text.now)) (omega (arith, t.0)) in
+    (length (chars c.args.text.now)) (omega (arith, t.0)) in
     omega (arith, step, c.loop-c.invariant.counted, all)
 
 pub returns-then-advance-clause-accepted : goal.returns-then-advance-clause-accepted
 returns-then-advance-clause-accepted c =
     let last = left_nil _ (Left c.args.scan.now) c.loop-c.yielded c.loop-c.invariant.left in
     let here = last.0 (c.advance.ensures.accepted.0 c.if-advance.true) in (
-      λ e. (length c.loop-c.yielded, c.loop-c.invariant.within,
-          subst (Left c.args.scan.now) c.loop-c.invariant.taken here),
+      λ e. (
+        length c.loop-c.yielded,
+        c.loop-c.invariant.within,
+        subst (Left c.args.scan.now) c.loop-c.invariant.taken here,
+      ),
       λ h. cc,
     )
 
 pub loop-c-preserved : goal.loop-c-preserved
 loop-c-preserved c =
     let t = YieldsList-turn (YieldsList-from_chars c.args.text.now c.utf8.text cc) c.loop-c.yielded
-        _ c.loop-c.yielded_by _ _ c.in-Some.c c.in-Some.is c.next.ensures.steps in
+    _ c.loop-c.yielded_by _ _ c.in-Some.c c.in-Some.is c.next.ensures.steps in
     let more = length_push c.loop-c.yielded c.in-Some.c in
     let last = left_nil _ (Left c.args.scan.now) c.loop-c.yielded c.loop-c.invariant.left in
     record {
@@ -46,9 +49,9 @@ loop-c-preserved c =
         | inr here ↦
             let at : count ≡ length c.loop-c.yielded = omega (arith, more) in
             let now = subst (Left c.args.scan.now) (ap (λ n. take n (chars c.args.text.now)) at ∙
-                sym c.loop-c.invariant.taken) left in
+            sym c.loop-c.invariant.taken) left in
             not_false c.advance.result c.if-advance.false (c.advance.ensures.accepted.1 (last.1
-                now))
+            now))
       ];
       left = left_more _ _ (Left c.args.scan.now) c.loop-c.yielded c.in-Some.c
           c.loop-c.invariant.left c.advance.ensures.left;
@@ -61,15 +64,18 @@ loop-c-preserved c =
 pub returns-clause-accepted : goal.returns-clause-accepted
 returns-clause-accepted c =
     let t = YieldsList-end (YieldsList-from_chars c.args.text.now c.utf8.text cc) c.loop-c.yielded
-        _ c.loop-c.yielded_by _ _ c.in-None.is c.next.ensures.steps in
+    _ c.loop-c.yielded_by _ _ c.in-None.is c.next.ensures.steps in
     let last = left_nil _ (Left c.args.scan.now) c.loop-c.yielded c.loop-c.invariant.left in (
-      λ e. (length c.loop-c.yielded, c.loop-c.invariant.within,
-          subst (Left c.args.scan.now) c.loop-c.invariant.taken (last.0 (c.accepts.ensures.0 e))),
+      λ e. (
+        length c.loop-c.yielded,
+        c.loop-c.invariant.within,
+        subst (Left c.args.scan.now) c.loop-c.invariant.taken (last.0 (c.accepts.ensures.0 e)),
+      ),
       λ h. elim (cases_lt h.0 (length c.loop-c.yielded)) [
         | inl earlier ↦ absurd (c.loop-c.invariant.none h.0 earlier h.2)
         | inr here ↦
             let at : h.0 ≡ length c.loop-c.yielded = (let within = h.1 in omega (arith, t.1)) in
             c.accepts.ensures.1 (last.1 (subst (Left c.args.scan.now) (ap (λ n. take n (chars
-                c.args.text.now)) at ∙ sym c.loop-c.invariant.taken) h.2))
+            c.args.text.now)) at ∙ sym c.loop-c.invariant.taken) h.2))
       ],
     )

@@ -13,7 +13,7 @@ returns-then-is_spent-clause-accepted c = (
   λ e. absurd (cc),
   λ h. absurd (c.is_spent.ensures c.if-is_spent.true (drop (length c.loop-c.yielded) (chars
       c.args.text.now))
-  ((c.loop-c.invariant.left (drop (length c.loop-c.yielded) (chars c.args.text.now))).1 (subst
+      ((c.loop-c.invariant.left (drop (length c.loop-c.yielded) (chars c.args.text.now))).1 (subst
       (Left c.args.scan.now) (taken_rest (chars c.args.text.now) c.loop-c.yielded
       c.loop-c.invariant.taken) h))),
 )
@@ -21,7 +21,7 @@ returns-then-is_spent-clause-accepted c = (
 pub loop-c-preserved : goal.loop-c-preserved
 loop-c-preserved c =
     let t = YieldsList-turn (YieldsList-from_chars c.args.text.now c.utf8.text cc) c.loop-c.yielded
-        _ c.loop-c.yielded_by _ _ c.in-Some.c c.in-Some.is c.next.ensures.steps in
+    _ c.loop-c.yielded_by _ _ c.in-Some.c c.in-Some.is c.next.ensures.steps in
     let more = length_push c.loop-c.yielded c.in-Some.c in
     record {
       taken = taken_more (chars c.args.text.now) c.loop-c.yielded c.in-Some.c
@@ -38,8 +38,9 @@ loop-c-preserved c =
 pub returns-clause-accepted : goal.returns-clause-accepted
 returns-clause-accepted c =
     let t = YieldsList-end (YieldsList-from_chars c.args.text.now c.utf8.text cc) c.loop-c.yielded
-        _ c.loop-c.yielded_by _ _ c.in-None.is c.next.ensures.steps in
+    _ c.loop-c.yielded_by _ _ c.in-None.is c.next.ensures.steps in
     let all = taken_all (chars c.args.text.now) c.loop-c.yielded c.loop-c.invariant.taken t.1 in
-    let last = left_nil _ (Left c.args.scan.now) c.loop-c.yielded c.loop-c.invariant.left in
-    (λ e. subst (Left c.args.scan.now) all (last.0 (c.accepts.ensures.0 e)),
-        λ h. c.accepts.ensures.1 (last.1 (subst (Left c.args.scan.now) (sym all) h)))
+    let last = left_nil _ (Left c.args.scan.now) c.loop-c.yielded c.loop-c.invariant.left in (
+      λ e. subst (Left c.args.scan.now) all (last.0 (c.accepts.ensures.0 e)),
+      λ h. c.accepts.ensures.1 (last.1 (subst (Left c.args.scan.now) (sym all) h)),
+    )

@@ -6,7 +6,7 @@ use Rattle.jp_match.proofs.places.shift.Given as goal
 abbrev pub invariant-loop-i : goal.invariant-loop-i
 invariant-loop-i l =
     let enters = shifted (class_holds l.class.negated l.class.items.items) l.text l.fn.places.items
-        in
+    in
     record {
       same_length : length l.places.items ≡ length l.fn.places.items;
       carried : l.arrives ≡ enters l.i;

@@ -21,55 +21,92 @@ pub step-returns-then-not-is_any-clause-step : goal.step-returns-then-not-is_any
 step-returns-then-not-is_any-clause-step t c =
     let e : c.args.entered ≡ false = c.if-not-entered.true in
     rw e (step_nowhere (unrolled (tree c.args.pattern.now)) c.args.c c.args.row.now (λ k m. let any
-        = c.is_any.ensures.1 (k, m) in let not = c.if-not-is_any.true in cc))
+    = c.is_any.ensures.1 (k, m) in let not = c.if-not-is_any.true in cc))
 
 pub step-step_either-requires : goal.step-step_either-requires
 step-step_either-requires t c =
     let deep : 4 * the_size (pattern.Either c.in-Either.branches) + 0 ≡ t = subst (λ p. 4 *
-        the_size p + 0 ≡ t) c.in-Either.is c.decreases in
-    (omega (arith, deep, sized-Either c.in-Either.branches,
-        ap (most the_size) c.deref.ensures.value), (c.requires.sized ∙
-        ap (λ p. positions_of (tree p)) c.in-Either.is ∙
-        ap positions_of (tree_either c.in-Either.branches)
-    ∙ ap (λ ps. positions_of (branches (map tree ps))) (sym c.deref.ensures.value), c.requires.few))
+    the_size p + 0 ≡ t) c.in-Either.is c.decreases in (
+      omega (
+        arith,
+        deep,
+        sized-Either c.in-Either.branches,
+        ap (most the_size) c.deref.ensures.value,
+      ),
+      (
+        c.requires.sized ∙
+            ap (λ p. positions_of (tree p)) c.in-Either.is ∙
+            ap positions_of (tree_either c.in-Either.branches)
+            ∙ ap (λ ps. positions_of (branches (map tree ps))) (sym c.deref.ensures.value),
+        c.requires.few,
+      ),
+    )
 
 pub step-step_sequence-requires : goal.step-step_sequence-requires
 step-step_sequence-requires t c =
     let deep : 4 * the_size (pattern.Sequence c.in-Sequence.pieces) + 0 ≡ t = subst (λ p. 4 *
-        the_size p + 0 ≡ t) c.in-Sequence.is c.decreases in
-    (omega (arith, deep, sized-Sequence c.in-Sequence.pieces,
-        ap (most the_size) c.deref-in-Sequence.ensures.value), (c.requires.sized ∙
-        ap (λ p. positions_of (tree p)) c.in-Sequence.is ∙
-        ap positions_of (tree_sequence c.in-Sequence.pieces)
-    ∙ ap (λ ps. positions_of (pieces (map tree ps))) (sym c.deref-in-Sequence.ensures.value),
-        c.requires.few))
+    the_size p + 0 ≡ t) c.in-Sequence.is c.decreases in (
+      omega (
+        arith,
+        deep,
+        sized-Sequence c.in-Sequence.pieces,
+        ap (most the_size) c.deref-in-Sequence.ensures.value,
+      ),
+      (
+        c.requires.sized ∙
+            ap (λ p. positions_of (tree p)) c.in-Sequence.is ∙
+            ap positions_of (tree_sequence c.in-Sequence.pieces)
+            ∙ ap (λ ps. positions_of (pieces (map tree ps))) (sym c.deref-in-Sequence.ensures.value),
+        c.requires.few,
+      ),
+    )
 
 pub step-step_repeat-requires : goal.step-step_repeat-requires
 step-step_repeat-requires t c =
     let deep : 4 * the_size (pattern.Repeat c.in-Repeat.inner c.in-Repeat.least c.in-Repeat.most) +
-        0 ≡ t = subst (λ p. 4 * the_size p + 0 ≡ t) c.in-Repeat.is c.decreases in
-    (omega (arith, deep, sized-Repeat c.in-Repeat.inner c.in-Repeat.least c.in-Repeat.most,
-        ap the_size c.deref-in-Repeat.ensures), (c.requires.sized ∙
-        ap (λ p. positions_of (tree p)) c.in-Repeat.is ∙
-        ap positions_of (tree_repeat c.in-Repeat.inner c.in-Repeat.least c.in-Repeat.most)
-    ∙ ap (λ p. positions_of (repeat (tree p) c.in-Repeat.least c.in-Repeat.most)) (sym
-        c.deref-in-Repeat.ensures), c.requires.few))
+    0 ≡ t = subst (λ p. 4 * the_size p + 0 ≡ t) c.in-Repeat.is c.decreases in (
+      omega (
+        arith,
+        deep,
+        sized-Repeat c.in-Repeat.inner c.in-Repeat.least c.in-Repeat.most,
+        ap the_size c.deref-in-Repeat.ensures,
+      ),
+      (
+        c.requires.sized ∙
+            ap (λ p. positions_of (tree p)) c.in-Repeat.is ∙
+            ap positions_of (tree_repeat c.in-Repeat.inner c.in-Repeat.least c.in-Repeat.most)
+            ∙ ap (λ p. positions_of (repeat (tree p) c.in-Repeat.least c.in-Repeat.most)) (sym
+            c.deref-in-Repeat.ensures),
+        c.requires.few,
+      ),
+    )
 
 pub step-step_class-requires : goal.step-step_class-requires
-step-step_class-requires t c = record { sized = c.requires.sized ∙
-    ap (λ p. positions_of (tree p)) c.in-Class.is ∙ ap positions_of (tree_class c.in-Class.class) }
+step-step_class-requires t c = record {
+  sized = c.requires.sized ∙
+      ap (λ p. positions_of (tree p)) c.in-Class.is ∙ ap positions_of (tree_class c.in-Class.class);
+}
 
 pub step-returns-in-Either-clause-step : goal.step-returns-in-Either-clause-step
-step-returns-in-Either-clause-step t c = rw (c.in-Either.is, tree_either,
-    ← c.deref.ensures.value) c.step_either.ensures.step
+step-returns-in-Either-clause-step t c = rw (
+  c.in-Either.is,
+  tree_either,
+  ← c.deref.ensures.value,
+) c.step_either.ensures.step
 
 pub step-returns-in-Sequence-clause-step : goal.step-returns-in-Sequence-clause-step
-step-returns-in-Sequence-clause-step t c = rw (c.in-Sequence.is, tree_sequence,
-    ← c.deref-in-Sequence.ensures.value) c.step_sequence.ensures.step
+step-returns-in-Sequence-clause-step t c = rw (
+  c.in-Sequence.is,
+  tree_sequence,
+  ← c.deref-in-Sequence.ensures.value,
+) c.step_sequence.ensures.step
 
 pub step-returns-in-Repeat-clause-step : goal.step-returns-in-Repeat-clause-step
-step-returns-in-Repeat-clause-step t c = rw (c.in-Repeat.is, tree_repeat,
-    ← c.deref-in-Repeat.ensures) c.step_repeat.ensures.step
+step-returns-in-Repeat-clause-step t c = rw (
+  c.in-Repeat.is,
+  tree_repeat,
+  ← c.deref-in-Repeat.ensures,
+) c.step_repeat.ensures.step
 
 pub step-returns-in-Class-clause-step : goal.step-returns-in-Class-clause-step
 unfolding unrolled
@@ -78,29 +115,42 @@ step-returns-in-Class-clause-step t c = rw (c.in-Class.is, tree_class) c.step_cl
 pub step-returns-in-Class-clause-counted : goal.step-returns-in-Class-clause-counted
 step-returns-in-Class-clause-counted t c =
     let sized : length c.args.row.now ≡ 1 = c.requires.sized ∙
-        ap (λ p. positions_of (tree p)) c.in-Class.is ∙
-        ap positions_of (tree_class c.in-Class.class) in
+    ap (λ p. positions_of (tree p)) c.in-Class.is ∙
+    ap positions_of (tree_class c.in-Class.class) in
     omega (arith, c.step_class.ensures.counted)
 
 pub step_either-loop-branch-preserved : goal.step_either-loop-branch-preserved
 step_either-loop-branch-preserved t c =
     let item = drop_item c.args.parts.now c.loop-branch.branch-index c.branch-item.result
-        c.loop-branch-test.true c.branch-item.is in
+    c.loop-branch-test.true c.branch-item.is in
     let sized = rw item at c.loop-branch.invariant.sized in
-    let size : c.positions.result ≡ positions_of (tree c.branch-item.result) = omega (arith, sized,
-        c.positions.ensures, c.requires.few, c.loop-branch.invariant.long) in
-    let within : c.loop-branch.at + c.positions.result ≤ length c.loop-branch.row = omega (arith,
-        sized, size) in
+    let size : c.positions.result ≡ positions_of (tree c.branch-item.result) = omega (
+      arith,
+      sized,
+      c.positions.ensures,
+      c.requires.few,
+      c.loop-branch.invariant.long,
+    ) in
+    let within : c.loop-branch.at + c.positions.result ≤ length c.loop-branch.row = omega (
+      arith,
+      sized,
+      size,
+    ) in
     let part = part_is c.loop-branch.row c.loop-branch.at c.positions.result in
     let w = turned c.loop-branch.row c.step-ended.new.row c.loop-branch.at c.positions.result
-        within c.step-ended.auto.row in
+    within c.step-ended.auto.row in
     record {
       long = w.same ∙ c.loop-branch.invariant.long;
       sized = omega (arith, sized, size, w.same);
       so_far = steps_next_branch _ _ _ _ _ _ _ _ _ _ _ _ _ _ size w.long w.written (rw item at
           c.loop-branch.invariant.so_far) (rw part at c.step-ended.ensures.step);
-      counted = omega (arith, c.step-ended.ensures.counted, c.loop-branch.invariant.counted,
-          w.long, c.step-ended.auto.row);
+      counted = omega (
+        arith,
+        c.step-ended.ensures.counted,
+        c.loop-branch.invariant.counted,
+        w.long,
+        c.step-ended.auto.row,
+      );
       kept = omega (arith, c.step-ended.ensures.kept, c.loop-branch.invariant.kept);
     }
 
@@ -109,28 +159,43 @@ step_either-returns-clause-step t c =
     let end : c.loop-branch.branch-index ≡ length c.args.parts.now = omega arith in
     let none = ap (λ n. drop n c.args.parts.now) end ∙ drop_all c.args.parts.now in
     let sized = rw none at c.loop-branch.invariant.sized in
-    steps_end_branches _ _ _ _ _ _ _ _ (omega (arith,
-        sized)) (rw none at c.loop-branch.invariant.so_far)
+    steps_end_branches _ _ _ _ _ _ _ _ (omega (
+      arith,
+      sized,
+    )) (rw none at c.loop-branch.invariant.so_far)
 
 pub step_sequence-loop-piece-preserved : goal.step_sequence-loop-piece-preserved
 step_sequence-loop-piece-preserved t c =
     let item = drop_item c.args.parts.now c.loop-piece.piece-index c.piece-item.result
-        c.loop-piece-test.true c.piece-item.is in
+    c.loop-piece-test.true c.piece-item.is in
     let sized = rw item at c.loop-piece.invariant.sized in
-    let size : c.positions.result ≡ positions_of (tree c.piece-item.result) = omega (arith, sized,
-        c.positions.ensures, c.requires.few, c.loop-piece.invariant.long) in
-    let within : c.loop-piece.at + c.positions.result ≤ length c.loop-piece.row = omega (arith,
-        sized, size) in
+    let size : c.positions.result ≡ positions_of (tree c.piece-item.result) = omega (
+      arith,
+      sized,
+      c.positions.ensures,
+      c.requires.few,
+      c.loop-piece.invariant.long,
+    ) in
+    let within : c.loop-piece.at + c.positions.result ≤ length c.loop-piece.row = omega (
+      arith,
+      sized,
+      size,
+    ) in
     let part = part_is c.loop-piece.row c.loop-piece.at c.positions.result in
     let w = turned c.loop-piece.row c.step-through.new.row c.loop-piece.at c.positions.result
-        within c.step-through.auto.row in
+    within c.step-through.auto.row in
     record {
       long = w.same ∙ c.loop-piece.invariant.long;
       sized = omega (arith, sized, size, w.same);
       so_far = steps_next_piece _ _ _ _ _ _ _ _ _ _ _ _ _ size w.long w.written (rw item at
           c.loop-piece.invariant.so_far) (rw part at c.step-through.ensures.step);
-      counted = omega (arith, c.step-through.ensures.counted, c.loop-piece.invariant.counted,
-          w.long, c.step-through.auto.row);
+      counted = omega (
+        arith,
+        c.step-through.ensures.counted,
+        c.loop-piece.invariant.counted,
+        w.long,
+        c.step-through.auto.row,
+      );
       kept = omega (arith, c.step-through.ensures.kept, c.loop-piece.invariant.kept);
     }
 
@@ -145,24 +210,31 @@ pub step_between-loop-copies-preserved : goal.step_between-loop-copies-preserved
 step_between-loop-copies-preserved t c =
     let n = length c.args.row.now / c.args.most in
     let left : c.args.most - c.loop-copies.copies ≡ suc (c.args.most - (c.loop-copies.copies + 1))
-        = omega arith in
+    = omega arith in
     let sized = rw left at c.loop-copies.invariant.sized in
     let within : c.loop-copies.at + length c.args.row.now / c.args.most ≤ length c.loop-copies.row
-        = omega (arith, sized, c.loop-copies.invariant.size) in
+    = omega (arith, sized, c.loop-copies.invariant.size) in
     let part = part_is c.loop-copies.row c.loop-copies.at (length c.args.row.now / c.args.most) in
     let w = turned c.loop-copies.row c.step-through.new.row c.loop-copies.at (length c.args.row.now
-        / c.args.most) within c.step-through.auto.row in
+    / c.args.most) within c.step-through.auto.row in
     record {
       long = w.same ∙ c.loop-copies.invariant.long;
       size = c.loop-copies.invariant.size;
       sized = omega (arith, sized, c.loop-copies.invariant.size, w.same);
       so_far = steps_copy _ _ _ _ _ _ _ _ c.args.least c.args.most c.loop-copies.copies _ _ _ _ _ _
-          c.loop-copies-test.true (leb-true _ _,
-          le-leb _ _) (size_unrolled (tree c.args.inner.now) ∙
+          c.loop-copies-test.true (
+            leb-true _ _,
+            le-leb _ _,
+          ) (size_unrolled (tree c.args.inner.now) ∙
           sym c.loop-copies.invariant.size) w.long w.written c.loop-copies.invariant.so_far (rw
           part at c.step-through.ensures.step);
-      counted = omega (arith, c.step-through.ensures.counted, c.loop-copies.invariant.counted,
-          w.long, c.step-through.auto.row);
+      counted = omega (
+        arith,
+        c.step-through.ensures.counted,
+        c.loop-copies.invariant.counted,
+        w.long,
+        c.step-through.auto.row,
+      );
       kept = omega (arith, c.step-through.ensures.kept, c.loop-copies.invariant.kept);
     }
 
@@ -171,19 +243,21 @@ step_between-returns-clause-step t c =
     let none : c.args.most - c.loop-copies.copies ≡ 0 = omega arith in
     let sized = rw none at c.loop-copies.invariant.sized in
     steps_copies_end _ _ _ _ _ _ _ c.args.least c.args.most c.loop-copies.copies _ _ _ (omega
-        arith) (omega arith) (leb-true _ _, le-leb _ _) (omega (arith,
-        sized)) c.loop-copies.invariant.so_far
+    arith) (omega arith) (leb-true _ _, le-leb _ _) (omega (
+      arith,
+      sized,
+    )) c.loop-copies.invariant.so_far
 
 pub step_at_least-loop-preserved : goal.step_at_least-loop-preserved
 step_at_least-loop-preserved t c =
     let left : c.args.least - c.loop.counter ≡ suc (c.args.least - (c.loop.counter + 1)) = omega
-        arith in
+    arith in
     let sized = rw left at c.loop.invariant.sized in
     let within : c.loop.at + length c.args.row.now / c.args.least ≤ length c.loop.row = omega
-        (arith, sized, c.loop.invariant.size) in
+    (arith, sized, c.loop.invariant.size) in
     let part = part_is c.loop.row c.loop.at (length c.args.row.now / c.args.least) in
     let w = turned c.loop.row c.step-through.new.row c.loop.at (length c.args.row.now /
-        c.args.least) within c.step-through.auto.row in
+    c.args.least) within c.step-through.auto.row in
     record {
       long = w.same ∙ c.loop.invariant.long;
       size = c.loop.invariant.size;
@@ -192,8 +266,13 @@ step_at_least-loop-preserved t c =
           (size_unrolled (tree c.args.inner.now) ∙
           sym c.loop.invariant.size) w.long w.written c.loop.invariant.so_far (rw part at
           c.step-through.ensures.step);
-      counted = omega (arith, c.step-through.ensures.counted, c.loop.invariant.counted, w.long,
-          c.step-through.auto.row);
+      counted = omega (
+        arith,
+        c.step-through.ensures.counted,
+        c.loop.invariant.counted,
+        w.long,
+        c.step-through.auto.row,
+      );
       kept = omega (arith, c.step-through.ensures.kept, c.loop.invariant.kept);
     }
 
@@ -203,8 +282,10 @@ step_repeat-returns-in-Some-clause-step t c = rw c.in-Some.is c.step_between.ens
 
 pub step_repeat-returns-in-None-clause-step : goal.step_repeat-returns-in-None-clause-step
 unfolding unrolled counted
-step_repeat-returns-in-None-clause-step t c = rw (c.in-None.is,
-    c.if-least-eq0.true) (steps_star _ _ _ _ _ _ c.step_plus.ensures.step)
+step_repeat-returns-in-None-clause-step t c = rw (
+  c.in-None.is,
+  c.if-least-eq0.true,
+) (steps_star _ _ _ _ _ _ c.step_plus.ensures.step)
 
 pub step_repeat-returns-in-None-2-clause-step : goal.step_repeat-returns-in-None-2-clause-step
 unfolding unrolled counted
@@ -224,15 +305,21 @@ pub step_at_least-returns-clause-step : goal.step_at_least-returns-clause-step
 step_at_least-returns-clause-step t c =
     let none : c.args.least - c.loop.counter ≡ 0 = omega arith in
     let sized = rw none at c.loop.invariant.sized in
-    let end : c.loop.at + (length c.loop.row - c.loop.at) ≡ length c.loop.row = omega (arith,
-        sized) in
-    let long : length c.step_plus.new.row ≡ length c.loop.row - c.loop.at = omega (arith,
-        c.step_plus.auto.row, length-take (length c.loop.row - c.loop.at) (drop c.loop.at
-        c.loop.row), length-drop c.loop.at c.loop.row) in
+    let end : c.loop.at + (length c.loop.row - c.loop.at) ≡ length c.loop.row = omega (
+      arith,
+      sized,
+    ) in
+    let long : length c.step_plus.new.row ≡ length c.loop.row - c.loop.at = omega (
+      arith,
+      c.step_plus.auto.row,
+      length-take (length c.loop.row - c.loop.at) (drop c.loop.at
+          c.loop.row),
+      length-drop c.loop.at c.loop.row,
+    ) in
     steps_at_least_end _ _ _ _ _ _ c.args.least c.loop.counter _ _ _ _ _ _ c.loop-test.false end
-        long
+    long
     (put_long c.loop.row c.step_plus.new.row c.loop.at (length c.loop.row - c.loop.at) (omega
-        arith) long) refl c.loop.invariant.so_far c.step_plus.ensures.step
+    arith) long) refl c.loop.invariant.so_far c.step_plus.ensures.step
 
 pub step_plus-returns-clause-step : goal.step_plus-returns-clause-step
 step_plus-returns-clause-step t c = step_plus _ _ _ _ _ _ _ c.ends-again.ensures c.step.ensures.step
@@ -240,15 +327,19 @@ step_plus-returns-clause-step t c = step_plus _ _ _ _ _ _ _ c.ends-again.ensures
 pub step_either-returns-in-len1-clause-step : goal.step_either-returns-in-len1-clause-step
 step_either-returns-in-len1-clause-step t c =
     let only = only_item c.args.parts.now c.only-item.result c.in-len1.len_at_least
-        c.in-len1.len_below c.only-item.is in
+    c.in-len1.len_below c.only-item.is in
     let sized = rw only at c.requires.sized in
-    rw only (steps_only_branch (tree c.only-item.result) _ _ _ _ _ (omega (arith,
-        sized)) c.step.auto.row c.step.ensures.step)
+    rw only (steps_only_branch (tree c.only-item.result) _ _ _ _ _ (omega (
+      arith,
+      sized,
+    )) c.step.auto.row c.step.ensures.step)
 
 pub step_sequence-returns-in-len1-clause-step : goal.step_sequence-returns-in-len1-clause-step
 step_sequence-returns-in-len1-clause-step t c =
     let only = only_item c.args.parts.now c.only-item.result c.in-len1.len_at_least
-        c.in-len1.len_below c.only-item.is in
+    c.in-len1.len_below c.only-item.is in
     let sized = rw only at c.requires.sized in
-    rw only (steps_only_piece (tree c.only-item.result) _ _ _ _ _ (omega (arith,
-        sized)) c.step.auto.row c.step.ensures.step)
+    rw only (steps_only_piece (tree c.only-item.result) _ _ _ _ _ (omega (
+      arith,
+      sized,
+    )) c.step.auto.row c.step.ensures.step)

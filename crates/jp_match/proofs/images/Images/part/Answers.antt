@@ -12,9 +12,9 @@ returns-clause-exact c =
     let text = c.deref-2.ensures.value ∙ c.in_ok-text.ensures in
     let first = c.deref.ensures.value ∙ c.in_ok-text.ensures in
     let image : IsImage L c.deref-2.result.now c.in_ok-places.places.items c.image.new.places.items
-        = c.in_ok-image.ensures.image in
+    = c.in_ok-image.ensures.image in
     let every = rw first at c.in_ok-places.ensures.every in
     let any = rw c.deref-3.ensures.value at c.is_any.ensures in
     let part = part_reached L (chars c.args.text.now) c.in_ok-places.places.items
-        c.image.new.places.items every (rw text at image) in
+    c.image.new.places.items every (rw text at image) in
     (λ h. part.0 (any.0 h), λ h. any.1 (part.1 h))

@@ -9,5 +9,5 @@ returns-clause-accepted c = left_ends _ _ _ _ _ c.step-ended.ensures.step.ends
 pub returns-clause-left : goal.returns-clause-left
 returns-clause-left c = λ word.
     rw c.step-ended.ensures.same (left_step (tree c.args.self.now.marking.pattern.now)
-        c.args.self.now.anywhere c.args.self.now.at_start c.args.c _ _ _ c.step-ended.ensures.step
-        word)
+    c.args.self.now.anywhere c.args.self.now.at_start c.args.c _ _ _ c.step-ended.ensures.step
+    word)
