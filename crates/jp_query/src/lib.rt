@@ -12,8 +12,6 @@
 #![tactic(auto)]
 
 mod expressions;
-#[cfg(test)]
-mod filter_tests;
 mod ints;
 pub mod laws;
 mod lists;

@@ -23,8 +23,6 @@
 mod candidates;
 mod comparable;
 mod comparison;
-#[cfg(test)]
-mod comparison_tests;
 mod descent;
 pub mod laws;
 mod selector;
