@@ -10,7 +10,7 @@ use jp_query::{Literal, Numeral, Query, RefusalKind};
 
 /// The fault of an index or a part of a slice, if it is outside -(2^53)+1 to (2^53)-1 (RFC 9535
 /// section 2.1).
-pub fn fault_of_int(number: Numeral) -> Option<RefusalKind>
+pub(crate) fn fault_of_int(number: Numeral) -> Option<RefusalKind>
     ensures { result ≡ fault_of_int number }
 {
     if is_in_index_range(number) {
@@ -22,7 +22,7 @@ pub fn fault_of_int(number: Numeral) -> Option<RefusalKind>
 
 /// The fault of a literal, if it is a number with a fraction or an exponent, or a whole one outside
 /// -(2^63) to (2^64)-1.
-pub fn fault_of_literal(literal: &Literal) -> Option<RefusalKind>
+pub(crate) fn fault_of_literal(literal: &Literal) -> Option<RefusalKind>
     ensures { result ≡ fault_of_literal (literal_of literal.now) }
 {
     match literal {
@@ -34,7 +34,7 @@ pub fn fault_of_literal(literal: &Literal) -> Option<RefusalKind>
 }
 
 /// The fault of a query that is a side of a comparison, if it is not singular (section 2.3.5.1).
-pub fn fault_of_side(query: &Query) -> Option<RefusalKind>
+pub(crate) fn fault_of_side(query: &Query) -> Option<RefusalKind>
     ensures { result ≡ fault_of_side (query_of query.now) }
 {
     if is_singular(query) {

@@ -9,7 +9,7 @@ use jp_query::Numeral;
 const MAX_SIZE: i128 = 9_007_199_254_740_991;
 
 /// Whether a number may be an index or a part of a slice: a whole one from -(2^53)+1 to (2^53)-1.
-pub fn is_in_index_range(number: Numeral) -> bool
+pub(crate) fn is_in_index_range(number: Numeral) -> bool
     ensures { result ≡ is_in_index_range number }
 {
     match number {

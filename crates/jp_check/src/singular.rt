@@ -7,7 +7,7 @@ ghost use Rattle.jp_query.specs.Tree.{query_of, segment_of, selector_of};
 use jp_query::{Query, Segment, Selector};
 
 /// Whether a query selects at most one node, whatever the document: it has singular segments alone.
-pub fn is_singular(query: &Query) -> bool
+pub(crate) fn is_singular(query: &Query) -> bool
     ensures { result ≡ is_singular (query_of query.now) }
 {
     for segment in &query.segments {

@@ -18,7 +18,7 @@ use jp_query::{
 use std::marker::Model;
 
 /// The first fault of a query, if it has one.
-pub fn first_fault(parsed: &Parsed) -> Option<Refusal>
+pub(crate) fn first_fault(parsed: &Parsed) -> Option<Refusal>
     ensures { MatchOption result
         (IsFaultless (query_of parsed.now.query))
         (IsFirstFault (items_of (query_of parsed.now.query)) parsed.now.spans) }

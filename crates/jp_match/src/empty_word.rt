@@ -45,7 +45,7 @@ fn each_has_empty_word(parts: &[Pattern]) -> bool
 
 /// The same for a repeat of the pattern.
 #[cycle(empty_word)]
-pub fn repeats_empty_word(inner: &Pattern, least: u32, most: Option<u32>) -> bool
+pub(crate) fn repeats_empty_word(inner: &Pattern, least: u32, most: Option<u32>) -> bool
     ensures { result ≡ has_empty (repeat (tree inner.now) least most) }
 {
     if let Some(most) = most

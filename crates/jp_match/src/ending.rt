@@ -13,7 +13,7 @@ use jp_iregexp::{Pattern, positions};
 /// Whether the end of a pattern is reached: by a mark, or by the empty word where the pattern is
 /// entered.
 #[cycle(ends)]
-pub fn ends(pattern: &Pattern, row: &[bool], entered: bool) -> bool
+pub(crate) fn ends(pattern: &Pattern, row: &[bool], entered: bool) -> bool
     requires sized { length row.now ≡ positions_of (tree pattern.now) }
     requires few { length row.now ≤ 4096 }
     ensures { Ends (unrolled (tree pattern.now)) entered row.now result }

@@ -11,18 +11,18 @@ use jp_iregexp::CharClass;
 use std::alloc::{AllocError, Global};
 
 /// Whether a place is in the set, for the place before each character and for the one at the end.
-pub type Places = Vec<bool>;
+pub(crate) type Places = Vec<bool>;
 
 /// Sets that are not in use, to be written anew.
 #[derive(Drop)]
-pub struct Spare {
+pub(crate) struct Spare {
     alloc: Global,
     sets: Vec<Places>,
 }
 
 impl Spare {
     /// No set yet.
-    pub fn new(alloc: Global) -> Spare {
+    pub(crate) fn new(alloc: Global) -> Spare {
         Spare {
             alloc,
             sets: Vec::new(alloc),
@@ -30,7 +30,7 @@ impl Spare {
     }
 
     /// A copy of the set.
-    pub fn copy_of(&mut self, places: &[bool]) -> Result<Places, AllocError>
+    pub(crate) fn copy_of(&mut self, places: &[bool]) -> Result<Places, AllocError>
         ensures { IfOk result (λ copy. copy.items ≡ places.now) }
     {
         let mut copy = self.sets.pop().unwrap_or(Vec::new(self.alloc));
@@ -39,13 +39,13 @@ impl Spare {
     }
 
     /// Takes a set that is no longer in use. Where there is no room to keep it, it is dropped.
-    pub fn give_back(&mut self, places: Places) {
+    pub(crate) fn give_back(&mut self, places: Places) {
         let _ = self.sets.push(places);
     }
 }
 
 /// None of so many places.
-pub fn none(alloc: Global, count: usize) -> Result<Places, AllocError>
+pub(crate) fn none(alloc: Global, count: usize) -> Result<Places, AllocError>
     ensures same_length { IfOk result (λ places. length places.items ≡ count) }
     ensures none { IfOk result (λ places. (place : ℕ) → Marked places.items place → ⊥) }
 {
@@ -53,7 +53,7 @@ pub fn none(alloc: Global, count: usize) -> Result<Places, AllocError>
 }
 
 /// The first place of the text alone.
-pub fn only_first(alloc: Global, text: &[char]) -> Result<Places, AllocError>
+pub(crate) fn only_first(alloc: Global, text: &[char]) -> Result<Places, AllocError>
     ensures same_length { IfOk result (λ places. length places.items ≡ suc (length text.now)) }
     ensures first { IfOk result (λ places. (place : ℕ) → Marked places.items place ↔ (place ≡ 0)) }
 {
@@ -63,7 +63,7 @@ pub fn only_first(alloc: Global, text: &[char]) -> Result<Places, AllocError>
 }
 
 /// Every place of the text.
-pub fn every(alloc: Global, text: &[char]) -> Result<Places, AllocError>
+pub(crate) fn every(alloc: Global, text: &[char]) -> Result<Places, AllocError>
     ensures same_length { IfOk result (λ places. length places.items ≡ suc (length text.now)) }
     ensures every { IfOk result (λ places. (place : ℕ) →
         Marked places.items place ↔ (place ≤ length text.now)) }
@@ -72,7 +72,7 @@ pub fn every(alloc: Global, text: &[char]) -> Result<Places, AllocError>
 }
 
 /// Makes the set the same as the other.
-pub fn assign(places: &mut Places, other: &[bool]) -> Result<(), AllocError>
+pub(crate) fn assign(places: &mut Places, other: &[bool]) -> Result<(), AllocError>
     ensures { OnOk result (places.new.items ≡ other.now) }
 {
     places.clear();
@@ -80,7 +80,7 @@ pub fn assign(places: &mut Places, other: &[bool]) -> Result<(), AllocError>
 }
 
 /// Takes every place out of the set.
-pub fn clear(places: &mut Places)
+pub(crate) fn clear(places: &mut Places)
     ensures same_length { length places.new.items ≡ length places.old.items }
     ensures none { (place : ℕ) → Marked places.new.items place → ⊥ }
 {
@@ -88,7 +88,7 @@ pub fn clear(places: &mut Places)
 }
 
 /// Whether any place is in the set.
-pub fn is_any(places: &[bool]) -> bool
+pub(crate) fn is_any(places: &[bool]) -> bool
     ensures { IsTrue result ↔ ((place : ℕ) × Marked places.now place) }
 {
     places.contains(&true)
@@ -96,7 +96,7 @@ pub fn is_any(places: &[bool]) -> bool
 
 /// Whether the steps that led from one set to the next lead no further: there is no place left, or
 /// the places are those of before.
-pub fn is_settled(places: &[bool], before: &[bool]) -> bool
+pub(crate) fn is_settled(places: &[bool], before: &[bool]) -> bool
     ensures { IsTrue result ↔ (((place : ℕ) → Marked places.now place →
         ⊥) ⊎ (places.now ≡ before.now)) }
 {
@@ -111,7 +111,7 @@ fn is_same(places: &[bool], other: &[bool]) -> bool
 }
 
 /// Adds the places of the other set.
-pub fn unite(places: &mut Places, other: &[bool])
+pub(crate) fn unite(places: &mut Places, other: &[bool])
     requires { length places.old.items ≡ length other.now }
     ensures same_length { length places.new.items ≡ length places.old.items }
     ensures both { (place : ℕ) → Marked places.new.items place ↔ (Marked places.old.items place ⊎
@@ -123,7 +123,7 @@ pub fn unite(places: &mut Places, other: &[bool])
 }
 
 /// Takes out the places of the other set.
-pub fn remove(places: &mut Places, other: &[bool])
+pub(crate) fn remove(places: &mut Places, other: &[bool])
     requires { length places.old.items ≡ length other.now }
     ensures same_length { length places.new.items ≡ length places.old.items }
     ensures rest { (place : ℕ) → Marked places.new.items place ↔ (Marked places.old.items place ×
@@ -136,7 +136,7 @@ pub fn remove(places: &mut Places, other: &[bool])
 
 /// Moves each place past the character that follows it, where the class holds that character. That
 /// makes a class test for each place of the set that a character follows.
-pub fn shift(class: &CharClass, text: &[char], places: &mut Places, tests: &mut Tests)
+pub(crate) fn shift(class: &CharClass, text: &[char], places: &mut Places, tests: &mut Tests)
     requires { length places.old.items ≡ suc (length text.now) }
     ensures image { IsImage (Language (class_tree class.now.negated class.now.items.items))
         text.now places.old.items places.new.items }

@@ -15,7 +15,7 @@ use jp_reading::{Reader, Stop};
 /// An expression after the mark that opens it, one level further in than the text around.
 #[cycle(nested)]
 #[tactic(auto, unfolding(crate::specs::Private::Rules::inside_mark))]
-pub fn inside(reader: &mut Reader, mark: char, levels: u32) -> Result<Expr, Stop>
+pub(crate) fn inside(reader: &mut Reader, mark: char, levels: u32) -> Result<Expr, Stop>
     ensures { Gives expr_of result reader.new (inside levels mark reader.old) }
 {
     if levels == 0 {

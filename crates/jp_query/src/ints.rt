@@ -13,7 +13,7 @@ use crate::tree::Numeral;
 use jp_reading::{Reader, Stop, natural};
 
 /// A whole number, which is an item.
-pub fn int_item(reader: &mut Reader) -> Result<Numeral, Stop>
+pub(crate) fn int_item(reader: &mut Reader) -> Result<Numeral, Stop>
     ensures { Gives (λ x. x) result reader.new (read_flat (item rules.int) reader.old) }
 {
     let start = reader.place();
@@ -24,7 +24,7 @@ pub fn int_item(reader: &mut Reader) -> Result<Numeral, Stop>
 }
 
 /// Whether a character begins a whole number.
-pub fn begins_int(next: Option<char>) -> bool
+pub(crate) fn begins_int(next: Option<char>) -> bool
     ensures { result ≡ passes begins_int next }
 {
     matches!(next, Some('0' | '-' | '1'..='9'))
@@ -32,7 +32,7 @@ pub fn begins_int(next: Option<char>) -> bool
 
 /// A whole number (RFC 9535 section 2.3.3.1, int).
 #[tactic(auto, using(crate::proofs::CappedIntegers::sizes), unfolding(crate::specs::Private::Rules::int))]
-pub fn int(reader: &mut Reader) -> Result<Numeral, Stop>
+pub(crate) fn int(reader: &mut Reader) -> Result<Numeral, Stop>
     ensures { Gives (λ x. x) result reader.new (read_flat rules.int reader.old) }
 {
     if reader.is_at('-') {
@@ -44,7 +44,7 @@ pub fn int(reader: &mut Reader) -> Result<Numeral, Stop>
 
 /// A whole number without a sign.
 #[tactic(auto, using(crate::proofs::CappedIntegers::sizes), unfolding(crate::specs::Private::Rules::unsigned))]
-pub fn unsigned(reader: &mut Reader) -> Result<Numeral, Stop>
+pub(crate) fn unsigned(reader: &mut Reader) -> Result<Numeral, Stop>
     ensures { Gives (λ x. x) result reader.new (read_flat rules.unsigned reader.old) }
 {
     if reader.is_at('0') {
@@ -56,7 +56,7 @@ pub fn unsigned(reader: &mut Reader) -> Result<Numeral, Stop>
 
 /// The number that digits without a leading zero write, or 2^64 where it is larger.
 #[tactic(auto, unfolding(crate::specs::Private::Rules::size))]
-pub fn size(reader: &mut Reader) -> Result<u128, Stop>
+pub(crate) fn size(reader: &mut Reader) -> Result<u128, Stop>
     ensures { Gives
         (λ n. n)
         result
@@ -88,7 +88,7 @@ fn whole(size: u128) -> Numeral
 }
 
 /// The number below zero of that size.
-pub fn negative(size: u128) -> Numeral
+pub(crate) fn negative(size: u128) -> Numeral
     ensures { result ≡ negative_of size }
 {
     if size <= 1 << 63 {

@@ -13,7 +13,7 @@ use crate::tree::{Literal, Numeral};
 use jp_reading::{Reader, Stop, natural};
 
 /// A literal, which is an item.
-pub fn literal_item(reader: &mut Reader) -> Result<Literal, Stop>
+pub(crate) fn literal_item(reader: &mut Reader) -> Result<Literal, Stop>
     ensures { Gives literal_of result reader.new (read_flat (item rules.literal) reader.old) }
 {
     let start = reader.place();

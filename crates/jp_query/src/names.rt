@@ -12,7 +12,7 @@ use jp_reading::{Reader, Stop};
 
 /// A member's name after a dot.
 #[tactic(auto, unfolding(crate::specs::Private::Rules::shorthand))]
-pub fn shorthand(reader: &mut Reader) -> Result<String, Stop>
+pub(crate) fn shorthand(reader: &mut Reader) -> Result<String, Stop>
     ensures { Gives
         (λ s. chars (string_bytes s))
         result

@@ -12,7 +12,7 @@ use jp_reading::{Reader, Stop};
 
 /// An operator of a comparison.
 #[tactic(auto, unfolding(crate::specs::Private::Rules::operator))]
-pub fn operator(reader: &mut Reader) -> Result<Op, Stop>
+pub(crate) fn operator(reader: &mut Reader) -> Result<Op, Stop>
     ensures { Gives (λ op. op) result reader.new (read_flat rules.operator reader.old) }
 {
     match reader.peek() {
@@ -37,7 +37,7 @@ pub fn operator(reader: &mut Reader) -> Result<Op, Stop>
 }
 
 /// Whether an operator of a comparison begins past the blanks.
-pub fn is_before_operator(reader: &Reader) -> bool
+pub(crate) fn is_before_operator(reader: &Reader) -> bool
     ensures { result ≡ passes begins_operator (after_blank reader.now) }
 {
     matches!(reader.peek_past_blank(), Some('=' | '!' | '<' | '>'))

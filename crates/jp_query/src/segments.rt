@@ -17,7 +17,7 @@ use std::alloc::{AllocError, Global};
 
 /// A whole query: the text ends after its segments.
 #[tactic(auto, unfolding(crate::specs::Private::Reading::query_at, crate::specs::Private::Rules::query))]
-pub fn query(reader: &mut Reader, levels: u32) -> Result<Query, Stop>
+pub(crate) fn query(reader: &mut Reader, levels: u32) -> Result<Query, Stop>
     ensures { Gives query_of result reader.new (query_at levels reader.old) }
 {
     reader.expect('$')?;
@@ -35,7 +35,7 @@ pub fn query(reader: &mut Reader, levels: u32) -> Result<Query, Stop>
 /// Segment after segment, with blank space before each; the reader stays before blank space that
 /// none follows.
 #[cycle(nested)]
-pub fn segments(reader: &mut Reader, levels: u32) -> Result<Vec<Segment>, Stop>
+pub(crate) fn segments(reader: &mut Reader, levels: u32) -> Result<Vec<Segment>, Stop>
     ensures { Gives
         (λ v. map segment_of v.items)
         result

@@ -18,7 +18,7 @@ use jp_reading::{Reader, Stop};
 /// first, and then past the blanks after the last.
 #[cycle(nested)]
 #[tactic(auto, unfolding(crate::specs::Private::Rules::entries, crate::specs::Private::Rules::entry))]
-pub fn entries(reader: &mut Reader, levels: u32) -> Result<Vec<Selector>, Stop>
+pub(crate) fn entries(reader: &mut Reader, levels: u32) -> Result<Vec<Selector>, Stop>
     ensures { Gives
         (λ v. map selector_of v.items)
         result

@@ -11,7 +11,7 @@ use jp_reading::{Reader, Stop};
 
 /// A slice with that start, from its colon on.
 #[tactic(auto, unfolding(crate::specs::Private::Rules::slice_from))]
-pub fn slice(reader: &mut Reader, start: Option<Numeral>) -> Result<Slice, Stop>
+pub(crate) fn slice(reader: &mut Reader, start: Option<Numeral>) -> Result<Slice, Stop>
     ensures { Gives (λ s. s) result reader.new (read_flat (rules.slice_from start) reader.old) }
 {
     reader.expect(':')?;

@@ -16,7 +16,7 @@ use jp_reading::{Reader, Stop};
 
 /// A string between two of the quotation mark.
 #[tactic(auto, unfolding(crate::specs::Private::Rules::quoted))]
-pub fn quoted(reader: &mut Reader, quote: char) -> Result<String, Stop>
+pub(crate) fn quoted(reader: &mut Reader, quote: char) -> Result<String, Stop>
     ensures { Gives
         (λ s. chars (string_bytes s))
         result
