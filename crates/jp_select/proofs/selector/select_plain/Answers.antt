@@ -34,7 +34,7 @@ loop-step-smaller c =
     let e = lent_entry (c.in-Some.step, c.in-Some.value) in
     let entry : slice_get cs i ≡ Some e =
     ap (λ v. slice_get (candidates (selector_of c.args.selector.now) v) i) (sym c.document_value.ensures)
-        ∙ sym c.in-Some.ensures.entry in
+    ∙ sym c.in-Some.ensures.entry in
     let within : i < length cs = slice_get_within cs i e entry in
     let at : i ≡ length nodes = c.len.ensures ∙ c.loop-step.nodes.ok.0 in
     let longer : length c.push.new.self.items ≡ length nodes + 1 =
