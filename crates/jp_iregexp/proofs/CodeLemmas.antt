@@ -7,7 +7,8 @@ use Rattle.jp_reading.specs.Texts.{Text}
 use Rattle.jp_iregexp.specs.declared.category.Category.{Category}
 use Rattle.jp_iregexp.specs.declared.category.Category.TheVariants.{L, Ll, Lm, Lo, Lt, Lu, M, Mc, Me, Mn, N, Nd, Nl, No, P, Pc, Pd, Pe, Pf, Pi, Po, Ps, Z, Zl, Zp, Zs, S, Sc, Sk, Sm, So, C, Cc, Cf, Cn, Co}
 use Rattle.jp_iregexp.specs.declared.category.TheConstants.Category.{ALL}
-use Rattle.jp_iregexp.specs.Codes.{letters, pair, is_pair, code_of}
+use Rattle.jp_iregexp.specs.Codes.{letters}
+use Rattle.jp_iregexp.specs.Private.CodeReading.{pair, is_pair, code_of}
 
 -- what is found passes the test
 found-passes : {X : Type 0} (test : X → Bool) (xs : List X) (x : X) → find test xs ≡ Some x → test x ≡ true

@@ -8,10 +8,10 @@ use Rattle.jp_iregexp.specs.Class.{class_holds, item_holds}
 use Rattle.jp_iregexp.specs.Matches.{is_match, has_match}
 use Rattle.jp_iregexp.specs.Membership.{is_word, has_word}
 use Rattle.jp_iregexp.specs.PatternOf.{pattern_of}
-use Rattle.jp_iregexp.specs.Reading.{pattern_at, branches_at, branch_at, piece_at, atom_at}
-use Rattle.jp_iregexp.specs.Reading.{group_at, inside_at, quantifier_at, braces_at, number_at}
-use Rattle.jp_iregexp.specs.Reading.{most_at, class_at, items_at, element_at, range_at}
-use Rattle.jp_iregexp.specs.Reading.{character_at}
+use Rattle.jp_iregexp.specs.Private.Reading.{pattern_at, branches_at, branch_at, piece_at, atom_at}
+use Rattle.jp_iregexp.specs.Private.Reading.{group_at, inside_at, quantifier_at, braces_at, number_at}
+use Rattle.jp_iregexp.specs.Private.Reading.{most_at, class_at, items_at, element_at, range_at}
+use Rattle.jp_iregexp.specs.Private.Reading.{character_at}
 
 -- the empty text and `aaa` match `(a?){2,5}`, and `b` does not
 optional : (is_match (codes "") (codes "(a?){2,5}") ≡ true) ×

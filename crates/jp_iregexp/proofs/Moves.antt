@@ -6,11 +6,11 @@ use Rattle.jp_reading.specs.Numbers.{digits_at, digit_at, is_at_digit, capped}
 use Rattle.jp_reading.proofs.Chars.{past-shorter}
 use Rattle.jp_reading.proofs.Digits.{digit_at-progress}
 use Rattle.jp_reading.proofs.Progress.{Moves, Keeps, Progress, keeps-from_moves, keeps-then, moves-then, moves-after, keeps-after, moves-take_if, moves-by, keeps-each, past-keeps, moves-if, keeps-if, keeps-by, keeps-take_if}
-use Rattle.jp_iregexp.specs.Codes.{code_of}
+use Rattle.jp_iregexp.specs.Private.CodeReading.{code_of}
 use Rattle.jp_iregexp.specs.Characters.{is_plain, is_escaped, is_normal, meant}
 use Rattle.jp_iregexp.specs.Tree.{Tree}
 use Rattle.jp_iregexp.specs.Grammar.{dot}
-use Rattle.jp_iregexp.specs.Reading.{there, escaped_at, character_at, is_category_sign, second_at, code_at, category_at, is_at_category, range_at, element_at, elements_at, hyphen_at, first_at, items_at, negation_at, class_at, number_at, most_at, braces_at, quantifier_at, escape_at, group_at, atom_at, piece_at, pieces_at, branch_at, next_branch_at, branches_at, inside_at}
+use Rattle.jp_iregexp.specs.Private.Reading.{there, escaped_at, character_at, is_category_sign, second_at, code_at, category_at, is_at_category, range_at, element_at, elements_at, hyphen_at, first_at, items_at, negation_at, class_at, number_at, most_at, braces_at, quantifier_at, escape_at, group_at, atom_at, piece_at, pieces_at, branch_at, next_branch_at, branches_at, inside_at}
 
 keeps-there : {A : Type 0} (o : Option A) (p : State) → Keeps p (there o p)
 keeps-there None p = tt

@@ -8,7 +8,7 @@ use Rattle.jp_reading.proofs.Again.{start}
 use Rattle.jp_iregexp.specs.Grammar.{SpellsPattern}
 use Rattle.jp_iregexp.specs.Groups.{group_limit}
 use Rattle.jp_iregexp.specs.PatternOf.{taken, pattern_of, SpeltIsFound, OthersHaveNone}
-use Rattle.jp_iregexp.specs.Reading.{pattern_at}
+use Rattle.jp_iregexp.specs.Private.Reading.{pattern_at}
 use Rattle.jp_iregexp.specs.Spelled.{SpellsNone}
 use Rattle.jp_iregexp.specs.Tree.{Tree}
 use Rattle.jp_iregexp.proofs.Whole.{read-spelt, fails-spelt, deep-spelt, one_pattern}

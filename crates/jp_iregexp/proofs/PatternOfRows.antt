@@ -5,8 +5,8 @@ use Rattle.jp_reading.specs.Outcome.{loop}
 use Rattle.jp_iregexp.specs.declared.class.ClassItem.TheVariants.{Range}
 use Rattle.jp_iregexp.specs.Characters.{is_plain}
 use Rattle.jp_iregexp.specs.PatternOf.{pattern_of}
-use Rattle.jp_iregexp.specs.Reading.{pattern_at, branches_at, branch_at, piece_at, atom_at}
-use Rattle.jp_iregexp.specs.Reading.{class_at, items_at, element_at, range_at, character_at}
+use Rattle.jp_iregexp.specs.Private.Reading.{pattern_at, branches_at, branch_at, piece_at, atom_at}
+use Rattle.jp_iregexp.specs.Private.Reading.{class_at, items_at, element_at, range_at, character_at}
 use Rattle.jp_iregexp.specs.Tree.{class, branches, pieces}
 
 -- `[^-a]` is the class of all but `-` and `a`

@@ -7,11 +7,12 @@ use Rattle.jp_reading.proofs.Again.{finish}
 use Rattle.jp_iregexp.specs.declared.category.Category.TheVariants.{Lu}
 use Rattle.jp_iregexp.specs.declared.class.ClassItem.TheVariants as item
 use Rattle.jp_iregexp.specs.Characters.{is_normal, is_plain, is_escaped, meant}
-use Rattle.jp_iregexp.specs.Codes.{letters, code_of}
+use Rattle.jp_iregexp.specs.Codes.{letters}
+use Rattle.jp_iregexp.specs.Private.CodeReading.{code_of}
 use Rattle.jp_iregexp.specs.Tree.{class, repeat, branches, pieces}
 use Rattle.jp_iregexp.specs.Grammar.{one, dot, SpellsPattern}
 use Rattle.jp_iregexp.specs.Spelled.{SpellsNone}
-use Rattle.jp_iregexp.specs.Reading.{pattern_at, branches_at, branch_at, next_branch_at, piece_at, atom_at, group_at, inside_at, escape_at, class_at, items_at, element_at, range_at, character_at, escaped_at, category_at, code_at, quantifier_at, braces_at, most_at, number_at}
+use Rattle.jp_iregexp.specs.Private.Reading.{pattern_at, branches_at, branch_at, next_branch_at, piece_at, atom_at, group_at, inside_at, escape_at, class_at, items_at, element_at, range_at, character_at, escaped_at, category_at, code_at, quantifier_at, braces_at, most_at, number_at}
 use Rattle.jp_iregexp.proofs.Whole.{read-spelt, fails-spelt, deep-spelt}
 
 -- `a|` spells two branches, the second one empty

@@ -11,10 +11,11 @@ use Rattle.jp_iregexp.specs.declared.category.Category.{Category}
 use Rattle.jp_iregexp.specs.declared.class.ClassItem.{ClassItem}
 use Rattle.jp_iregexp.specs.declared.class.ClassItem.TheVariants as item
 use Rattle.jp_iregexp.specs.Characters.{Character, itself, escaped, is_plain, is_escaped, meant}
-use Rattle.jp_iregexp.specs.Codes.{letters, pair, code_of}
+use Rattle.jp_iregexp.specs.Codes.{letters}
+use Rattle.jp_iregexp.specs.Private.CodeReading.{pair, code_of}
 use Rattle.jp_iregexp.specs.Grammar as grammar
 use Rattle.jp_iregexp.specs.Grammar.{ClassEscape, Hyphen, Element, First, Last, Items, NotAtCaret, Class, Number, Most, Quantifier, one, dot, Atom, Piece, Branch, Branches, Inside, SpellsPattern}
-use Rattle.jp_iregexp.specs.Reading.{escaped_at, character_at, is_category_sign, code_at, category_at, begins_element}
+use Rattle.jp_iregexp.specs.Private.Reading.{escaped_at, character_at, is_category_sign, code_at, category_at, begins_element}
 use Rattle.jp_iregexp.proofs.CodeLemmas.{lettered, AreLetters}
 
 -- a character that stands for itself in a class begins an item

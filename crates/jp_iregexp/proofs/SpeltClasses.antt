@@ -15,7 +15,7 @@ use Rattle.jp_iregexp.specs.Characters.{Character, itself, escaped, is_plain, is
 use Rattle.jp_iregexp.specs.Tree.{Tree, class}
 use Rattle.jp_iregexp.specs.Grammar as grammar
 use Rattle.jp_iregexp.specs.Grammar.{ClassEscape, Hyphen, Element, First, Last, Items, NotAtCaret, Class, Number, Most, Quantifier, one, dot, Atom, Piece, Branch, Branches, Inside, SpellsPattern}
-use Rattle.jp_iregexp.specs.Reading.{is_category_sign, is_at_category, range_at, element_at, begins_element, elements_at, hyphen_at, first_at, last_at, items_at, negation_at, class_at}
+use Rattle.jp_iregexp.specs.Private.Reading.{is_category_sign, is_at_category, range_at, element_at, begins_element, elements_at, hyphen_at, first_at, last_at, items_at, negation_at, class_at}
 use Rattle.jp_iregexp.proofs.Moves.{moves-element}
 use Rattle.jp_iregexp.proofs.SpeltCharacters.{plain-element, plain-no-backslash, escaped-no-sign, again-character, again-escape, Escaped}
 

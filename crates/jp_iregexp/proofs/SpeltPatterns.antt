@@ -16,7 +16,7 @@ use Rattle.jp_iregexp.specs.Characters.{Character, itself, escaped, is_normal, i
 use Rattle.jp_iregexp.specs.Tree.{Tree, class, repeat, branches}
 use Rattle.jp_iregexp.specs.Grammar as grammar
 use Rattle.jp_iregexp.specs.Grammar.{ClassEscape, Hyphen, Element, First, Last, Items, NotAtCaret, Class, Number, Most, Quantifier, one, dot, Atom, Piece, Branch, Branches, Inside, SpellsPattern}
-use Rattle.jp_iregexp.specs.Reading.{is_category_sign, escape_at, group_at, atom_at, piece_at, branch_at, next_branch_at, branches_at, inside_at, pattern_at, begins_piece, begins_quantifier}
+use Rattle.jp_iregexp.specs.Private.Reading.{is_category_sign, escape_at, group_at, atom_at, piece_at, branch_at, next_branch_at, branches_at, inside_at, pattern_at, begins_piece, begins_quantifier}
 use Rattle.jp_iregexp.proofs.Moves.{moves-piece, moves-next_branch, keeps-inside}
 use Rattle.jp_iregexp.proofs.SpeltCharacters.{escaped-no-sign, again-escaped, again-escape, Escaped}
 use Rattle.jp_iregexp.proofs.SpeltClasses.{again-class}

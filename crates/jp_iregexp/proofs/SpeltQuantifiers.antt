@@ -12,7 +12,7 @@ use Rattle.jp_reading.proofs.Again.{split, reads-none, word-first, again-expect,
 use Rattle.jp_reading.proofs.Runs.{again-digits, digits-first}
 use Rattle.jp_iregexp.specs.Grammar as grammar
 use Rattle.jp_iregexp.specs.Grammar.{ClassEscape, Hyphen, Element, First, Last, Items, NotAtCaret, Class, Number, Most, Quantifier, one, dot, Atom, Piece, Branch, Branches, Inside, SpellsPattern}
-use Rattle.jp_iregexp.specs.Reading.{number_at, most_at, braces_at, quantifier_at, begins_quantifier}
+use Rattle.jp_iregexp.specs.Private.Reading.{number_at, most_at, braces_at, quantifier_at, begins_quantifier}
 
 digit-off : (c : ℕ) (o : Option ℕ) → passes is_digit o ≡ true → is_digit c ≡ false → passes (is c) o ≡ false
 digit-off c None h e = refl

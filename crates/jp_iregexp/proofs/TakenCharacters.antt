@@ -13,10 +13,11 @@ use Rattle.jp_reading.proofs.Fits.{reads-words, reads-next, Fits, fits-then, fit
 use Rattle.jp_iregexp.specs.declared.category.Category.{Category}
 use Rattle.jp_iregexp.specs.declared.class.ClassItem.TheVariants as item
 use Rattle.jp_iregexp.specs.Characters.{Character, itself, escaped, is_plain, is_escaped, meant}
-use Rattle.jp_iregexp.specs.Codes.{letters, pair, code_of}
+use Rattle.jp_iregexp.specs.Codes.{letters}
+use Rattle.jp_iregexp.specs.Private.CodeReading.{pair, code_of}
 use Rattle.jp_iregexp.specs.Grammar as grammar
 use Rattle.jp_iregexp.specs.Grammar.{ClassEscape, Hyphen, Element, First, Last, Items, NotAtCaret, Class, Number, Most, Quantifier, one, dot, Atom, Piece, Branch, Branches, Inside, SpellsPattern}
-use Rattle.jp_iregexp.specs.Reading.{there, escaped_at, character_at, is_category_sign, second_at, code_at, category_at}
+use Rattle.jp_iregexp.specs.Private.Reading.{there, escaped_at, character_at, is_category_sign, second_at, code_at, category_at}
 use Rattle.jp_iregexp.proofs.CodeLemmas.{code_of-letters}
 
 pub fits-escaped : (plain : ℕ → Bool) (p q : State) → Reads (word (codes "\\")) p q → Fits (Character plain) p (escaped_at q)

@@ -15,7 +15,7 @@ use Rattle.jp_iregexp.specs.Characters.{Character, is_plain}
 use Rattle.jp_iregexp.specs.Tree.{class}
 use Rattle.jp_iregexp.specs.Grammar as grammar
 use Rattle.jp_iregexp.specs.Grammar.{ClassEscape, Hyphen, Element, First, Last, Items, NotAtCaret, Class, Number, Most, Quantifier, one, dot, Atom, Piece, Branch, Branches, Inside, SpellsPattern}
-use Rattle.jp_iregexp.specs.Reading.{character_at, is_category_sign, category_at, is_at_category, range_at, element_at, begins_element, elements_at, hyphen_at, first_at, last_at, items_at, class_at}
+use Rattle.jp_iregexp.specs.Private.Reading.{character_at, is_category_sign, category_at, is_at_category, range_at, element_at, begins_element, elements_at, hyphen_at, first_at, last_at, items_at, class_at}
 use Rattle.jp_iregexp.proofs.CodeLemmas.{both}
 use Rattle.jp_iregexp.proofs.TakenCharacters.{fits-character, fits-category}
 

@@ -11,7 +11,7 @@ use Rattle.jp_iregexp.specs.Characters.{Character, itself, is_normal}
 use Rattle.jp_iregexp.specs.Tree.{Tree, class, repeat, branches, pieces}
 use Rattle.jp_iregexp.specs.Grammar as grammar
 use Rattle.jp_iregexp.specs.Grammar.{ClassEscape, Hyphen, Element, First, Last, Items, NotAtCaret, Class, Number, Most, Quantifier, one, dot, Atom, Piece, Branch, Branches, Inside, SpellsPattern}
-use Rattle.jp_iregexp.specs.Reading.{escaped_at, is_category_sign, category_at, class_at, quantifier_at, escape_at, group_at, atom_at, piece_at, pieces_at, branch_at, next_branch_at, branches_at, inside_at, pattern_at, begins_piece, begins_quantifier}
+use Rattle.jp_iregexp.specs.Private.Reading.{escaped_at, is_category_sign, category_at, class_at, quantifier_at, escape_at, group_at, atom_at, piece_at, pieces_at, branch_at, next_branch_at, branches_at, inside_at, pattern_at, begins_piece, begins_quantifier}
 use Rattle.jp_iregexp.proofs.TakenCharacters.{fits-escaped, fits-category}
 use Rattle.jp_iregexp.proofs.TakenClasses.{fits-class}
 use Rattle.jp_iregexp.proofs.TakenQuantifiers.{fits-quantifier, Counted}

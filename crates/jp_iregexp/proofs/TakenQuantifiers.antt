@@ -13,7 +13,7 @@ use Rattle.jp_reading.proofs.Fits.{reads-next, Fits, fits-then, fits-if, fits-by
 use Rattle.jp_iregexp.specs.declared.quantifiers.Count.{Count}
 use Rattle.jp_iregexp.specs.Grammar as grammar
 use Rattle.jp_iregexp.specs.Grammar.{ClassEscape, Hyphen, Element, First, Last, Items, NotAtCaret, Class, Number, Most, Quantifier, one, dot, Atom, Piece, Branch, Branches, Inside, SpellsPattern}
-use Rattle.jp_iregexp.specs.Reading.{number_at, most_at, braces_at, quantifier_at}
+use Rattle.jp_iregexp.specs.Private.Reading.{number_at, most_at, braces_at, quantifier_at}
 
 -- a number as it is read, capped
 record Capped (n : ℕ) (s : Spans) (o : ℕ) (t : Text) : Type 0 where

@@ -9,7 +9,7 @@ use Rattle.jp_reading.proofs.Again.{start, finish, reads-whole, whole-reads}
 use Rattle.jp_iregexp.specs.Tree.{Tree}
 use Rattle.jp_iregexp.specs.Grammar.{Branches, Inside, SpellsPattern}
 use Rattle.jp_iregexp.specs.Spelled.{SpellsNone, OnePattern}
-use Rattle.jp_iregexp.specs.Reading.{pattern_at}
+use Rattle.jp_iregexp.specs.Private.Reading.{pattern_at}
 use Rattle.jp_iregexp.proofs.TakenPatterns.{fits-pattern, pattern-ends}
 use Rattle.jp_iregexp.proofs.NoSpans.{no-spans}
 use Rattle.jp_iregexp.proofs.SpeltPatterns.{again-pattern}

@@ -1,9 +1,8 @@
 -- The codes of categories as texts (RFC 9485 section 3, charProp).
-use Rattle.std.specs.Prelude.{ℕ, Bool, false, ◌==◌, ◌&&◌, [], ◌∷◌, Option, Some, None, codes, find}
+use Rattle.std.specs.Prelude.{codes}
 use Rattle.jp_reading.specs.Texts.{Text}
 use Rattle.jp_iregexp.specs.declared.category.Category.{Category}
 use Rattle.jp_iregexp.specs.declared.category.Category.TheVariants.{L, Ll, Lm, Lo, Lt, Lu, M, Mc, Me, Mn, N, Nd, Nl, No, P, Pc, Pd, Pe, Pf, Pi, Po, Ps, Z, Zl, Zp, Zs, S, Sc, Sk, Sm, So, C, Cc, Cf, Cn, Co}
-use Rattle.jp_iregexp.specs.declared.category.TheConstants.Category.{ALL}
 
 -- the letters of a code
 unfoldable pub letters : Category → Text
@@ -43,18 +42,3 @@ letters Cc = codes "Cc"
 letters Cf = codes "Cf"
 letters Cn = codes "Cn"
 letters Co = codes "Co"
-
--- a letter, and a second one where there is one
-abbrev pub pair : ℕ → Option ℕ → Text
-pair a None = a ∷ []
-pair a (Some b) = a ∷ b ∷ []
-
--- whether a text has just these letters
-abbrev pub is_pair : ℕ → Option ℕ → Text → Bool
-is_pair a None (c ∷ []) = c == a
-is_pair a (Some b) (c ∷ d ∷ []) = c == a && d == b
-is_pair a b t = false
-
--- the code with these letters, if there is one
-unfoldable pub code_of : ℕ → Option ℕ → Option Category
-code_of a b = find (λ k. is_pair a b (letters k)) ALL

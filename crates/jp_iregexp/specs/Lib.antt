@@ -12,6 +12,6 @@ pub mod Characters
 pub mod Codes
 pub mod Grammar
 pub mod Groups
-pub mod Reading
+pub mod Private
 pub mod Spelled
 pub mod Fault

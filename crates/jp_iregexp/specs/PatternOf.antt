@@ -4,7 +4,7 @@ use Rattle.jp_reading.specs.Texts.{Text}
 use Rattle.jp_reading.specs.Outcome.{Outcome, took, stuck, deep}
 use Rattle.jp_iregexp.specs.Grammar.{SpellsPattern}
 use Rattle.jp_iregexp.specs.Groups.{group_limit}
-use Rattle.jp_iregexp.specs.Reading.{pattern_at}
+use Rattle.jp_iregexp.specs.Private.Reading.{pattern_at}
 use Rattle.jp_iregexp.specs.Spelled.{SpellsNone}
 use Rattle.jp_iregexp.specs.Tree.{Tree}
 

@@ -4,7 +4,7 @@ ghost use Rattle.std.specs.Prelude.{◌≡◌, IfOk};
 ghost use Rattle.jp_reading.specs.Outcome.{took};
 ghost use Rattle.jp_reading.specs.Views.{Gives, with_front};
 ghost use Rattle.jp_iregexp.specs.Tree.{class};
-ghost use Rattle.jp_iregexp.specs.Reading.{category_at, code_at, second_at, class_at, negation_at, items_at, elements_at, first_at, last_at, hyphen_at, element_at, range_at, is_at_category};
+ghost use Rattle.jp_iregexp.specs.Private.Reading.{category_at, code_at, second_at, class_at, negation_at, items_at, elements_at, first_at, last_at, hyphen_at, element_at, range_at, is_at_category};
 
 use crate::category::Category;
 use crate::characters::{Characters, character, is_at, take};
@@ -13,7 +13,7 @@ use jp_reading::{Reader, Stop};
 use std::alloc::AllocError;
 
 /// What stands behind `\` for a category or for all characters outside it (charClassEsc).
-#[tactic(auto, unfolding(crate::specs::Reading::category_at))]
+#[tactic(auto, unfolding(crate::specs::Private::Reading::category_at))]
 pub(crate) fn category(reader: &mut Reader) -> Result<ClassItem, Stop>
     ensures { Gives (λ x. x) result reader.new (category_at reader.old) }
 {
@@ -28,7 +28,7 @@ pub(crate) fn category(reader: &mut Reader) -> Result<ClassItem, Stop>
 }
 
 /// The code of a category, up to the brace behind it.
-#[tactic(auto, unfolding(crate::specs::Reading::code_at))]
+#[tactic(auto, unfolding(crate::specs::Private::Reading::code_at))]
 fn code(reader: &mut Reader) -> Result<Category, Stop>
     ensures { Gives (λ x. x) result reader.new (code_at reader.old) }
 {
@@ -51,7 +51,7 @@ fn second_letter(reader: &mut Reader) -> Result<Option<char>, Stop>
 }
 
 /// A class (charClassExpr).
-#[tactic(auto, unfolding(crate::specs::Reading::class_at))]
+#[tactic(auto, unfolding(crate::specs::Private::Reading::class_at))]
 pub(crate) fn class(reader: &mut Reader) -> Result<CharClass, Stop>
     ensures { Gives (λ c. class c.negated c.items.items) result reader.new (class_at reader.old) }
 {
@@ -74,7 +74,7 @@ fn negation(reader: &mut Reader) -> bool
 }
 
 /// The items of a class: a `-` may be the first or the last.
-#[tactic(auto, unfolding(crate::specs::Reading::items_at))]
+#[tactic(auto, unfolding(crate::specs::Private::Reading::items_at))]
 fn items(reader: &mut Reader) -> Result<Vec<ClassItem>, Stop>
     ensures { Gives (λ v. v.items) result reader.new (items_at reader.old) }
 {
@@ -126,7 +126,7 @@ fn hyphen(reader: &mut Reader) -> Result<ClassItem, Stop>
 }
 
 /// An item of a class: a character, a range or a category (CCE1, charClassEsc).
-#[tactic(auto, unfolding(crate::specs::Reading::element_at))]
+#[tactic(auto, unfolding(crate::specs::Private::Reading::element_at))]
 fn element(reader: &mut Reader) -> Result<ClassItem, Stop>
     ensures { Gives (λ x. x) result reader.new (element_at reader.old) }
 {
@@ -146,7 +146,7 @@ fn is_at_category(reader: &Reader) -> bool
 
 /// The range that begins with a character: up to the one behind a `-`, or, where the `-` ends the class
 /// or stands not there, that character alone.
-#[tactic(auto, unfolding(crate::specs::Reading::range_at))]
+#[tactic(auto, unfolding(crate::specs::Private::Reading::range_at))]
 fn range(reader: &mut Reader, first: char) -> Result<ClassItem, Stop>
     ensures { Gives (λ x. x) result reader.new (range_at first reader.old) }
 {

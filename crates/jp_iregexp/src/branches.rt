@@ -4,7 +4,7 @@ ghost use Rattle.std.specs.Prelude.{◌≡◌, [], ◌∷◌, false, IfOk};
 ghost use Rattle.jp_reading.specs.Views.{Gives};
 ghost use Rattle.jp_iregexp.specs.Tree.{tree, class};
 ghost use Rattle.jp_iregexp.specs.Grammar.{one, dot};
-ghost use Rattle.jp_iregexp.specs.Reading.{inside_at, branches_at, next_branch_at, branch_at, piece_at, atom_at, group_at, escape_at, pattern_at};
+ghost use Rattle.jp_iregexp.specs.Private.Reading.{inside_at, branches_at, next_branch_at, branch_at, piece_at, atom_at, group_at, escape_at, pattern_at};
 
 use crate::brackets::{category, class};
 use crate::characters::{Characters, escaped, is_at, take};
@@ -15,7 +15,7 @@ use jp_reading::{Reader, Stop};
 use std::alloc::{AllocError, Global};
 
 /// A whole pattern with at most so many groups inside one another: the text ends behind it.
-#[tactic(auto, unfolding(crate::specs::Reading::pattern_at))]
+#[tactic(auto, unfolding(crate::specs::Private::Reading::pattern_at))]
 pub(crate) fn pattern(reader: &mut Reader, groups: u32) -> Result<Pattern, Stop>
     ensures { Gives tree result reader.new (pattern_at groups reader.old) }
 {
@@ -28,7 +28,7 @@ pub(crate) fn pattern(reader: &mut Reader, groups: u32) -> Result<Pattern, Stop>
 
 /// Branches with `|` between them.
 #[cycle(branches)]
-#[tactic(auto, using(crate::proofs::Trees::tree_either), unfolding(crate::specs::Reading::branches_at))]
+#[tactic(auto, using(crate::proofs::Trees::tree_either), unfolding(crate::specs::Private::Reading::branches_at))]
 fn branches(reader: &mut Reader, groups: u32) -> Result<Pattern, Stop>
     ensures { Gives tree result reader.new (branches_at (inside_at groups) reader.old) }
 {
@@ -43,7 +43,7 @@ fn branches(reader: &mut Reader, groups: u32) -> Result<Pattern, Stop>
 }
 
 #[cycle(branches)]
-#[tactic(auto, unfolding(crate::specs::Reading::next_branch_at))]
+#[tactic(auto, unfolding(crate::specs::Private::Reading::next_branch_at))]
 fn next_branch(reader: &mut Reader, groups: u32) -> Result<Pattern, Stop>
     ensures { Gives tree result reader.new (next_branch_at (inside_at groups) reader.old) }
 {
@@ -53,7 +53,7 @@ fn next_branch(reader: &mut Reader, groups: u32) -> Result<Pattern, Stop>
 
 /// A branch: piece after piece, or none.
 #[cycle(branches)]
-#[tactic(auto, using(crate::proofs::Trees::tree_sequence), unfolding(crate::specs::Reading::branch_at))]
+#[tactic(auto, using(crate::proofs::Trees::tree_sequence), unfolding(crate::specs::Private::Reading::branch_at))]
 fn branch(reader: &mut Reader, groups: u32) -> Result<Pattern, Stop>
     ensures { Gives tree result reader.new (branch_at (inside_at groups) reader.old) }
 {
@@ -67,7 +67,7 @@ fn branch(reader: &mut Reader, groups: u32) -> Result<Pattern, Stop>
 
 /// A piece: an atom, with a quantifier behind it a repeat.
 #[cycle(branches)]
-#[tactic(auto, using(crate::proofs::Trees::tree_repeat), unfolding(crate::specs::Reading::piece_at))]
+#[tactic(auto, using(crate::proofs::Trees::tree_repeat), unfolding(crate::specs::Private::Reading::piece_at))]
 fn piece(reader: &mut Reader, groups: u32) -> Result<Pattern, Stop>
     ensures { Gives tree result reader.new (piece_at (inside_at groups) reader.old) }
 {
@@ -86,7 +86,7 @@ fn piece(reader: &mut Reader, groups: u32) -> Result<Pattern, Stop>
 
 /// An atom: a group, a class, a dot, a category or a character.
 #[cycle(branches)]
-#[tactic(auto, using(crate::proofs::Trees::tree_class), unfolding(crate::specs::Reading::atom_at))]
+#[tactic(auto, using(crate::proofs::Trees::tree_class), unfolding(crate::specs::Private::Reading::atom_at))]
 fn atom(reader: &mut Reader, groups: u32) -> Result<Pattern, Stop>
     ensures { Gives tree result reader.new (atom_at (inside_at groups) reader.old) }
 {
@@ -110,7 +110,7 @@ fn atom(reader: &mut Reader, groups: u32) -> Result<Pattern, Stop>
 
 /// A pattern in parentheses.
 #[cycle(branches)]
-#[tactic(auto, unfolding(crate::specs::Reading::group_at, crate::specs::Reading::inside_at))]
+#[tactic(auto, unfolding(crate::specs::Private::Reading::group_at, crate::specs::Private::Reading::inside_at))]
 fn group(reader: &mut Reader, groups: u32) -> Result<Pattern, Stop>
     ensures { Gives tree result reader.new (group_at (inside_at groups) reader.old) }
 {
@@ -124,7 +124,7 @@ fn group(reader: &mut Reader, groups: u32) -> Result<Pattern, Stop>
 }
 
 /// What stands behind `\` outside a class: a category or a character.
-#[tactic(auto, unfolding(crate::specs::Reading::escape_at))]
+#[tactic(auto, unfolding(crate::specs::Private::Reading::escape_at))]
 fn escape(reader: &mut Reader) -> Result<Pattern, Stop>
     ensures { Gives tree result reader.new (escape_at reader.old) }
 {

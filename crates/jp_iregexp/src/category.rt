@@ -2,7 +2,8 @@
 
 ghost use Rattle.std.specs.Prelude.{◌≡◌};
 ghost use Rattle.jp_iregexp.specs.Category.{in_category, stands_for};
-ghost use Rattle.jp_iregexp.specs.Codes.{code_of, is_pair, letters, pair};
+ghost use Rattle.jp_iregexp.specs.Codes.{letters};
+ghost use Rattle.jp_iregexp.specs.Private.CodeReading.{code_of, is_pair, pair};
 
 use unicode::properties::{GeneralCategory, GeneralCategoryGroup};
 
@@ -142,7 +143,7 @@ impl Category {
     }
 
     /// The code with these letters.
-    #[tactic(auto, unfolding(crate::specs::Codes::code_of))]
+    #[tactic(auto, unfolding(crate::specs::Private::CodeReading::code_of))]
     pub(crate) fn of_letters(first: char, second: Option<char>) -> Option<Category>
         ensures { result ≡ code_of first second }
     {

@@ -4,7 +4,7 @@ ghost use Rattle.std.specs.Prelude.{◌≡◌};
 ghost use Rattle.jp_reading.specs.Outcome.{passes, head, take_if};
 ghost use Rattle.jp_reading.specs.Views.{Gives};
 ghost use Rattle.jp_iregexp.specs.Characters.{is_normal, is_plain, is_escaped, meant};
-ghost use Rattle.jp_iregexp.specs.Reading.{is_one_of, escaped_at, character_at};
+ghost use Rattle.jp_iregexp.specs.Private.Reading.{is_one_of, escaped_at, character_at};
 
 use jp_reading::{Reader, Stop};
 
@@ -70,7 +70,7 @@ pub(crate) fn take(reader: &mut Reader, characters: Characters) -> Result<char, 
 }
 
 /// The character that stands behind `\`.
-#[tactic(auto, unfolding(crate::specs::Reading::escaped_at))]
+#[tactic(auto, unfolding(crate::specs::Private::Reading::escaped_at))]
 pub(crate) fn escaped(reader: &mut Reader) -> Result<char, Stop>
     ensures { Gives (λ c. c) result reader.new (escaped_at reader.old) }
 {
@@ -79,7 +79,7 @@ pub(crate) fn escaped(reader: &mut Reader) -> Result<char, Stop>
 }
 
 /// A character of a class.
-#[tactic(auto, unfolding(crate::specs::Reading::character_at))]
+#[tactic(auto, unfolding(crate::specs::Private::Reading::character_at))]
 pub(crate) fn character(reader: &mut Reader) -> Result<char, Stop>
     ensures { Gives (λ c. c) result reader.new (character_at reader.old) }
 {

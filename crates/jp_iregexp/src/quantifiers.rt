@@ -2,7 +2,7 @@
 
 ghost use Rattle.std.specs.Prelude.{◌≡◌};
 ghost use Rattle.jp_reading.specs.Views.{Gives};
-ghost use Rattle.jp_iregexp.specs.Reading.{quantifier_at, braces_at, most_at, number_at};
+ghost use Rattle.jp_iregexp.specs.Private.Reading.{quantifier_at, braces_at, most_at, number_at};
 
 use jp_reading::{Reader, Stop, natural};
 
@@ -14,7 +14,7 @@ pub(crate) struct Count {
 }
 
 /// A quantifier.
-#[tactic(auto, unfolding(crate::specs::Reading::quantifier_at))]
+#[tactic(auto, unfolding(crate::specs::Private::Reading::quantifier_at))]
 pub(crate) fn quantifier(reader: &mut Reader) -> Result<Count, Stop>
     ensures { Gives (λ x. x) result reader.new (quantifier_at reader.old) }
 {
@@ -29,7 +29,7 @@ pub(crate) fn quantifier(reader: &mut Reader) -> Result<Count, Stop>
 }
 
 /// The numbers of a quantifier, between braces.
-#[tactic(auto, unfolding(crate::specs::Reading::braces_at))]
+#[tactic(auto, unfolding(crate::specs::Private::Reading::braces_at))]
 fn braces(reader: &mut Reader) -> Result<Count, Stop>
     ensures { Gives (λ x. x) result reader.new (braces_at reader.old) }
 {
@@ -41,7 +41,7 @@ fn braces(reader: &mut Reader) -> Result<Count, Stop>
 }
 
 /// What stands behind the least number: nothing, a comma, or a comma and a number not below it.
-#[tactic(auto, unfolding(crate::specs::Reading::most_at))]
+#[tactic(auto, unfolding(crate::specs::Private::Reading::most_at))]
 fn most(reader: &mut Reader, least: u32) -> Result<Option<u32>, Stop>
     ensures { Gives (λ x. x) result reader.new (most_at least reader.old) }
 {
@@ -60,7 +60,7 @@ fn most(reader: &mut Reader, least: u32) -> Result<Option<u32>, Stop>
 }
 
 /// A number of at most 999,999,999; leading zeros are allowed (QuantExact).
-#[tactic(auto, unfolding(crate::specs::Reading::number_at))]
+#[tactic(auto, unfolding(crate::specs::Private::Reading::number_at))]
 fn number(reader: &mut Reader) -> Result<u32, Stop>
     ensures { Gives (λ n. n) result reader.new (number_at reader.old) }
 {

@@ -1,6 +1,6 @@
 use Rattle.std.proofs.Common.{◌≡◌, length}
 use Rattle.jp_reading.specs.Views.{with_front}
-use Rattle.jp_iregexp.specs.Reading.{elements_at}
+use Rattle.jp_iregexp.specs.Private.Reading.{elements_at}
 use Rattle.jp_iregexp.proofs.brackets.elements.Given as goal
 
 abbrev pub invariant-elements : goal.invariant-elements

@@ -3,7 +3,7 @@ use Rattle.std.proofs.lemmas.Result.{err_from_is_err_and}
 use Rattle.jp_reading.specs.Outcome.{took, is_at, passes, head}
 use Rattle.jp_reading.proofs.Folds.{folds_on, folds_end, folds_fail}
 use Rattle.jp_iregexp.specs.Tree.{tree, branches, pieces}
-use Rattle.jp_iregexp.specs.Reading.{begins_piece, piece_at, next_branch_at, inside_at}
+use Rattle.jp_iregexp.specs.Private.Reading.{begins_piece, piece_at, next_branch_at, inside_at}
 use Rattle.jp_iregexp.proofs.Trees.{tree_either, tree_sequence, mapped_push}
 use Rattle.jp_reading.proofs.Progress.{moved}
 use Rattle.jp_iregexp.proofs.Moves.{moves-piece, moves-next_branch, keeps-inside}

@@ -2,7 +2,7 @@ use Rattle.std.proofs.Common.{◌≡◌, ◌+◌, ◌*◌, ◌++◌, length, map
 use Rattle.jp_reading.specs.Outcome.{is_at, each}
 use Rattle.jp_reading.specs.Views.{by}
 use Rattle.jp_iregexp.specs.Tree.{tree, branches, pieces}
-use Rattle.jp_iregexp.specs.Reading.{inside_at, branches_at, next_branch_at, branch_at, pieces_at}
+use Rattle.jp_iregexp.specs.Private.Reading.{inside_at, branches_at, next_branch_at, branch_at, pieces_at}
 use Rattle.jp_iregexp.proofs.branches.+branches.Given as goal
 
 abbrev pub decreases-branches : goal.decreases-branches

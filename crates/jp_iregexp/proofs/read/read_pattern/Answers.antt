@@ -7,7 +7,7 @@ use Rattle.jp_reading.specs.Views.{Fails}
 use Rattle.jp_reading.proofs.Again.{start}
 use Rattle.jp_iregexp.specs.Groups.{group_limit}
 use Rattle.jp_iregexp.specs.Tree.{tree}
-use Rattle.jp_iregexp.specs.Reading.{pattern_at}
+use Rattle.jp_iregexp.specs.Private.Reading.{pattern_at}
 use Rattle.jp_iregexp.proofs.Whole.{read-spelt, fails-spelt, deep-spelt}
 use Rattle.jp_iregexp.proofs.read.read_pattern.Goals as goal
 

@@ -11,7 +11,7 @@ use Rattle.jp_iregexp.specs.declared.quantifiers.Count.{Count}
 use Rattle.jp_iregexp.specs.Characters.{is_normal, is_plain, is_escaped, meant}
 use Rattle.jp_iregexp.specs.declared.characters.Characters.{Characters}
 use Rattle.jp_iregexp.specs.declared.characters.Characters.TheVariants as characters
-use Rattle.jp_iregexp.specs.Codes.{code_of}
+use Rattle.jp_iregexp.specs.Private.CodeReading.{code_of}
 use Rattle.jp_iregexp.specs.Tree.{Tree, class, repeat, branches, pieces}
 use Rattle.jp_iregexp.specs.Grammar.{one, dot}
 

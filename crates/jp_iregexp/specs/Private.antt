@@ -1,0 +1,3 @@
+-- Shapes of the code, which private clauses alone cite.
+pub mod CodeReading
+pub mod Reading
