@@ -9,4 +9,5 @@ pub mod QueryLine
 pub mod Canon
 pub mod Check
 pub mod Line
+pub mod Headline
 pub mod Private

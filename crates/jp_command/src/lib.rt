@@ -19,6 +19,7 @@ mod device;
 mod eval;
 mod fault;
 mod input;
+pub mod laws;
 mod limits;
 mod line;
 mod lines;
