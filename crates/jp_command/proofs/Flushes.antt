@@ -6,7 +6,7 @@ use Rattle.jp_command.specs.Output.{WritesOutput, WritesPrefix}
 use Rattle.jp_command.specs.declared.fault.Fault.{Fault}
 use Rattle.jp_command.specs.declared.fault.Fault.TheVariants.{Write}
 use Rattle.jp_command.specs.declared.words.Task.{Task}
-use Rattle.jp_command.specs.declared.words.Task.TheVariants.{Canon, Eval}
+use Rattle.jp_command.specs.declared.words.Task.TheVariants.{Check, Canon, Eval}
 use Rattle.jp_command.proofs.Streams.{Appends-keeps, prefix-whole}
 
 module _ {W : Type 0} (contents : W → Option (List ℕ)) (has_failed : W → Bool)
@@ -40,6 +40,8 @@ module _ {R W : Type 0} (remaining : R → Option (List ℕ)) (has_failed : R �
   pub flush-fails : (task : Task) (query : List ℕ) (i j : R) (o p q : W)
       → Runs task query i j o p (Ok tt) → Keeps (contents p) (contents q)
       → writes_failed q ≡ true → Runs task query i j o q (Err Write)
+  flush-fails Check query i j o p q run kept fails =
+      (run.0, (output-prefix contents writes_failed _ o p q run.1 kept, fails))
   flush-fails Canon query i j o p q run kept fails =
       (run.0, (output-prefix contents writes_failed _ o p q run.1 kept, fails))
   flush-fails (Eval form) query i j o p q run kept fails =
@@ -49,6 +51,8 @@ module _ {R W : Type 0} (remaining : R → Option (List ℕ)) (has_failed : R �
   pub flush-works : (task : Task) (query : List ℕ) (i j : R) (o p q : W)
       → Runs task query i j o p (Ok tt) → Keeps (contents p) (contents q)
       → writes_failed q ≡ writes_failed p → Runs task query i j o q (Ok tt)
+  flush-works Check query i j o p q run kept works =
+      (run.0, output-kept contents writes_failed _ o p q run.1 kept works)
   flush-works Canon query i j o p q run kept works =
       (run.0, output-kept contents writes_failed _ o p q run.1 kept works)
   flush-works (Eval form) query i j o p q run kept works =

@@ -3,3 +3,4 @@ pub mod Matches
 pub mod Rows
 pub mod LineLemmas
 pub mod Flushes
+pub mod Headline

@@ -9,7 +9,7 @@ use Rattle.jp_document.specs.Spelling.{spelling}
 use Rattle.jp_document.specs.Value.{Value, item, list, no_items, text}
 use Rattle.jp_query.specs.Tree.{QueryTree, index, query, segment, segments, selectors}
 use Rattle.jp_query.specs.declared.tree.Numeral.TheVariants.{Whole}
-use Rattle.jp_command.specs.declared.words.Task.TheVariants.{Canon, Eval}
+use Rattle.jp_command.specs.declared.words.Task.TheVariants.{Check, Canon, Eval}
 
 both : asked (codes "jp" ∷ codes "both" ∷ codes "$" ∷ []) ≡ Some (Eval Both, codes "$")
 unfolding clap_on_literals jp query_app
@@ -22,6 +22,10 @@ values = refl
 canonical : asked (codes "jp" ∷ codes "canon" ∷ codes "$" ∷ []) ≡ Some (Canon, codes "$")
 unfolding clap_on_literals jp query_app
 canonical = refl
+
+checked : asked (codes "jp" ∷ codes "check" ∷ codes "$" ∷ []) ≡ Some (Check, codes "$")
+unfolding clap_on_literals jp query_app
+checked = refl
 
 no_query : asked (codes "jp" ∷ codes "both" ∷ []) ≡ None
 unfolding clap_on_literals jp query_app

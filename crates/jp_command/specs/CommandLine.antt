@@ -6,7 +6,7 @@ use Rattle.clap.specs.Simple.{on_top}
 use Rattle.clap.specs.Walk.{is_empty}
 use Rattle.jp_command.specs.declared.lines.Form.TheVariants.{Values, Paths, Both}
 use Rattle.jp_command.specs.declared.words.Task.{Task}
-use Rattle.jp_command.specs.declared.words.Task.TheVariants.{Canon, Eval}
+use Rattle.jp_command.specs.declared.words.Task.TheVariants.{Check, Canon, Eval}
 
 -- a subcommand with exactly one positional, the query, which is required
 unfoldable pub query_app : Text → App
@@ -19,16 +19,17 @@ with_task app name = with_subcommand app (query_app name).top
 -- `jp` with its subcommands, one of which is required
 unfoldable pub jp : App
 jp = on_top (λ top. record top { subcommand_required = true })
-    (with_task (with_task (with_task (with_task (new_app (codes "jp"))
-    (codes "canon")) (codes "eval")) (codes "paths")) (codes "both"))
+    (with_task (with_task (with_task (with_task (with_task (new_app (codes "jp"))
+    (codes "check")) (codes "canon")) (codes "eval")) (codes "paths")) (codes "both"))
 
 -- the task that a subcommand's name stands for
 abbrev pub task_called : Text → Option Task
 task_called name =
-    if bytes_eq name (codes "canon") then Some Canon
+    if bytes_eq name (codes "check") then Some Check
+    else (if bytes_eq name (codes "canon") then Some Canon
     else (if bytes_eq name (codes "eval") then Some (Eval Values)
     else (if bytes_eq name (codes "paths") then Some (Eval Paths)
-    else (if bytes_eq name (codes "both") then Some (Eval Both) else None)))
+    else (if bytes_eq name (codes "both") then Some (Eval Both) else None))))
 
 -- the task and the query of the subcommand that the words name
 abbrev pub task_and_query : Text × List Row → Option (Task × Text)

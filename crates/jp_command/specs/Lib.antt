@@ -5,6 +5,9 @@ pub mod Output
 pub mod CommandLine
 pub mod Lines
 pub mod Run
+pub mod QueryLine
 pub mod Canon
+pub mod Check
 pub mod Line
+pub mod Headline
 pub mod Private

@@ -5,13 +5,14 @@ use Rattle.jp_document.specs.declared.fault.DocumentFault.{DocumentFault}
 use Rattle.jp_document.specs.declared.fault.DocumentFault.TheVariants as document
 use Rattle.jp_query.specs.Refusal.{name_of}
 use Rattle.jp_command.specs.Canon.{RunsCanon}
+use Rattle.jp_command.specs.Check.{RunsCheck}
 use Rattle.jp_command.specs.CommandLine.{asked}
 use Rattle.jp_command.specs.Run.{RunsEval}
 use Rattle.jp_command.specs.Output.{AppendsPrefix, AppendsSome}
 use Rattle.jp_command.specs.declared.fault.Fault.{Fault}
 use Rattle.jp_command.specs.declared.fault.Fault.TheVariants.{Query, Document, DocumentTooLarge, NoMemory, Read, Write}
 use Rattle.jp_command.specs.declared.words.Task.{Task}
-use Rattle.jp_command.specs.declared.words.Task.TheVariants.{Canon, Eval}
+use Rattle.jp_command.specs.declared.words.Task.TheVariants.{Check, Canon, Eval}
 
 -- the status of a fault
 abbrev pub status_of : Fault → ℕ
@@ -48,6 +49,7 @@ module _ {R W : Type 0} (remaining : R → Option (List ℕ)) (has_failed : R �
     (contents : W → Option (List ℕ)) (writes_failed : W → Bool) where
   -- a task with its query ended with this answer
   abbrev pub RunsTask : {X : Type 0} → Task → List ℕ → R → R → W → W → Result X Fault → Type 0
+  RunsTask Check query i j o p answer = (j ≡ i) × RunsCheck contents writes_failed query o p answer
   RunsTask Canon query i j o p answer = (j ≡ i) × RunsCanon contents writes_failed query o p answer
   RunsTask (Eval form) query i j o p answer =
       RunsEval remaining has_failed contents writes_failed form query i j o p answer

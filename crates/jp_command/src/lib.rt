@@ -7,16 +7,19 @@
 //! ```
 //!
 //! `run_eval` runs one query over one input; `specs/Run.antt` has what it says with each answer.
-//! `run_canon` writes the canonical text of a query (`specs/Canon.antt`).
+//! `run_check` tells whether a query is accepted (`specs/Check.antt`), and `run_canon` writes its
+//! canonical text (`specs/Canon.antt`).
 //! `run_line` is the whole program over its words; `specs/Line.antt` has what it says with each
 //! status.
 #![tactic(auto)]
 
 mod canon;
+mod check;
 mod device;
 mod eval;
 mod fault;
 mod input;
+pub mod laws;
 mod limits;
 mod line;
 mod lines;
@@ -24,6 +27,7 @@ mod output;
 mod words;
 
 pub use canon::run_canon;
+pub use check::run_check;
 pub use device::{Device, Failed, Output, Source};
 pub use eval::run_eval;
 pub use fault::Fault;

@@ -7,6 +7,7 @@ ghost use Rattle.jp_command.specs.Line.{RunsLine, RunsTask, document_fault_name,
 ghost use Rattle.jp_command.specs.Output.{AppendsPrefix, AppendsSome};
 
 use crate::canon::run_canon;
+use crate::check::run_check;
 use crate::device::{Output, Source};
 use crate::eval::eval_document;
 use crate::fault::Fault;
@@ -78,6 +79,7 @@ fn run_task<R: Source, W: Output>(
         task query.now input.old input.new output.old output.new result }
 {
     match task {
+        Task::Check => run_check(alloc, query, output),
         Task::Canon => run_canon(alloc, query, output),
         Task::Eval(form) => {
             let document = eval_document(alloc, query, form, input, output)?;

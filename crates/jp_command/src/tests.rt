@@ -2,7 +2,10 @@
 
 mod canonical;
 mod devices;
+mod failures;
 mod limits;
+mod places;
+mod prefixes;
 mod rows;
 mod runs;
 mod statuses;

@@ -14,6 +14,8 @@ use std::alloc::{AllocError, Global};
 /// What a subcommand does with its query.
 #[derive(Debug, Clone, Copy, PartialEq, Eq)]
 pub(crate) enum Task {
+    /// `check`: writes a line if the query is accepted.
+    Check,
     /// `canon`: writes the canonical text.
     Canon,
     /// `eval`, `paths` and `both`: writes a line for each node, in this form.
@@ -25,6 +27,7 @@ fn task_named(name: &str) -> Option<Task>
     ensures { result ≡ task_called name.now }
 {
     match name {
+        "check" => Some(Task::Check),
         "canon" => Some(Task::Canon),
         "eval" => Some(Task::Eval(Form::Values)),
         "paths" => Some(Task::Eval(Form::Paths)),
@@ -60,7 +63,8 @@ fn with_task<'w>(
 fn jp_command<'w>(alloc: Global) -> Result<Command<'w>, AllocError>
     ensures { IfOk result (λ command. app_of command ≡ jp) }
 {
-    let command = with_task(alloc, Command::new(alloc, "jp"), "canon")?;
+    let command = with_task(alloc, Command::new(alloc, "jp"), "check")?;
+    let command = with_task(alloc, command, "canon")?;
     let command = with_task(alloc, command, "eval")?;
     let command = with_task(alloc, command, "paths")?;
     let command = with_task(alloc, command, "both")?;

@@ -42,6 +42,78 @@ impl Read for Blanks {
     }
 }
 
+/// Gives at most so many bytes a call; the call of this number, from 1, fails.
+#[derive(Drop)]
+pub struct Trickle<'b> {
+    pub bytes: &'b [u8],
+    pub size: usize,
+    pub failing: usize,
+    pub calls: usize,
+}
+
+impl<'b> Trickle<'b> {
+    pub fn new(bytes: &'b [u8], size: usize) -> Trickle<'b> {
+        Trickle {
+            bytes,
+            size,
+            failing: 0,
+            calls: 0,
+        }
+    }
+}
+
+impl Read for Trickle<'_> {
+    fn read(&mut self, buffer: &mut [u8]) -> Result<usize> {
+        self.calls = self.calls.saturating_add(1);
+        if self.calls == self.failing {
+            return Err(Error::from(ErrorKind::TimedOut));
+        }
+        let size = self.size.min(buffer.len());
+        self.bytes.read(&mut buffer[..size])
+    }
+}
+
+/// Takes at most so many bytes a call; the call of this number, from 1, fails or takes none.
+#[derive(Drop)]
+pub struct Drip {
+    pub taken: Vec<u8>,
+    pub size: usize,
+    pub failing: usize,
+    pub takes_none: bool,
+    pub calls: usize,
+}
+
+impl Drip {
+    pub fn new(alloc: Global, size: usize) -> Drip {
+        Drip {
+            taken: Vec::new(alloc),
+            size,
+            failing: 0,
+            takes_none: false,
+            calls: 0,
+        }
+    }
+}
+
+impl Write for Drip {
+    fn write(&mut self, bytes: &[u8]) -> Result<usize> {
+        self.calls = self.calls.saturating_add(1);
+        if self.calls == self.failing && self.takes_none {
+            return Ok(0);
+        }
+        if self.calls == self.failing {
+            return Err(Error::from(ErrorKind::BrokenPipe));
+        }
+        let count = bytes.len().min(self.size);
+        self.taken.extend_from_slice(&bytes[..count])?;
+        Ok(count)
+    }
+
+    fn flush(&mut self) -> Result<()> {
+        Ok(())
+    }
+}
+
 /// Takes so many bytes, a few at a time, and then fails; a flush may fail too.
 #[derive(Drop)]
 pub struct Narrow {

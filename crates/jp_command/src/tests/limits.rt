@@ -1,6 +1,6 @@
 use super::devices::Blanks;
 use super::runs::written;
-use crate::{Device, Fault, Form, run_canon, run_eval};
+use crate::{Device, Fault, Form, run_canon, run_check, run_eval};
 use jp_check::read_query;
 use jp_query::{Refusal, RefusalKind};
 use std::test::Fail;
@@ -9,9 +9,15 @@ use std::test::Fail;
 fn looks_at_the_length_of_a_query_first(rt: HostRuntime) -> Result<(), Fail> {
     let alloc = rt.alloc();
     let mut query = String::from_str(alloc, "$")?;
-    for _ in 0..524_288 {
-        query.push_str(".a")?;
+    for _ in 0..65_535 {
+        query.push_str("                ")?;
     }
+    query.push_str("             .a")?;
+    let mut line = Vec::new(alloc);
+    let accepted = run_check(alloc, query.as_str(), &mut Device::new(&mut line));
+    assert!(rt; accepted.is_ok());
+    assert_eq!(rt; line.as_slice(), b"accepted\n".as_slice());
+    query.push('b')?;
     let refused = Some(Fault::Query(Refusal {
         kind: RefusalKind::TextTooLong,
         place: 0,
@@ -19,6 +25,9 @@ fn looks_at_the_length_of_a_query_first(rt: HostRuntime) -> Result<(), Fail> {
     assert!(rt; written(alloc, query.as_str(), "1").err() == refused);
     let canonical = run_canon(alloc, query.as_str(), &mut Device::new(Vec::new(alloc)));
     assert!(rt; canonical.err() == refused);
+    let accepted = run_check(alloc, query.as_str(), &mut Device::new(Vec::new(alloc)));
+    assert!(rt; accepted.err() == refused);
+    assert!(rt; read_query(alloc, query.as_str()).is_ok());
     Ok(())
 }
 

@@ -1,6 +1,7 @@
 //! Running the rows of the table.
 
 use super::devices::Narrow;
+use super::prefixes;
 use crate::{Device, run_line};
 use std::alloc::{AllocError, Global};
 use std::process::Abort;
@@ -20,7 +21,8 @@ pub enum Answer {
     Document(&'static str),
 }
 
-/// Runs each row.
+/// Runs each row. Where one gives nodes, no prefix of its query is refused but at its end, and no
+/// proper prefix of its document is a document.
 pub fn gives_each(rt: &impl Abort, alloc: Global, rows: &[Row]) -> Result<(), Fail> {
     for (document, query, answer) in rows {
         let (status, lines, fault) = told(alloc, answer)?;
@@ -37,6 +39,10 @@ pub fn gives_each(rt: &impl Abort, alloc: Global, rows: &[Row]) -> Result<(), Fa
         assert_eq!(rt; output.taken.as_slice(), lines.as_bytes(), "{query}");
         assert_eq!(rt; faults.as_slice(), fault.as_bytes(), "{query}");
         assert_eq!(rt; output.flush_count, u8::from(status == 0), "{query}");
+        if status == 0 {
+            prefixes::are_accepted_or_end(rt, alloc, query);
+            prefixes::are_no_documents(rt, alloc, document);
+        }
     }
     Ok(())
 }

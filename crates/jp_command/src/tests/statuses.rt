@@ -26,6 +26,8 @@ fn refuses_a_document_that_is_no_utf8(rt: HostRuntime) -> Result<(), Fail> {
 fn writes_the_form_of_its_subcommand(rt: HostRuntime) -> Result<(), Fail> {
     let alloc = rt.alloc();
     let rows = [
+        ("check", "accepted\n"),
+        ("canon", "$['\\'']['@']\n"),
         ("eval", "2\n"),
         ("paths", "$['\\'']['@']\n"),
         ("both", "$['\\'']['@']\t2\n"),

@@ -1,0 +1,127 @@
+-- Why a run over an accepted query and an accepted document is not refused, and writes the lines of
+-- their nodelist.
+use Rattle.std.proofs.Common.{◌≡◌, ◌≢◌, ℕ, ◌+◌, ◌≤◌, Bool, false, List, ◌++◌, length, Option, Some, None, Result, Ok, Err, refl, sym, ◌∙◌, ap, subst, arith, string_bytes}
+use Rattle.std.proofs.lemmas.List.{append-nil, length-append}
+use Rattle.std.specs.Io.KnownBytes.{Appends, Consumes, IsAtEnd}
+use Rattle.std.specs.Str.{chars}
+use Rattle.jp_check.specs.Laws.{OneAnswer}
+use Rattle.jp_document.specs.Document.{IsDocument, IsDocumentFault, list_too_long, not_json, not_whole}
+use Rattle.jp_document.specs.Laws.{DocumentOrDefect}
+use Rattle.jp_document.specs.Value.{Value}
+use Rattle.jp_document.specs.declared.fault.DocumentFault.{DocumentFault}
+use Rattle.jp_document.specs.declared.fault.DocumentFault.TheVariants as document
+use Rattle.jp_query.specs.Tree.{QueryTree}
+use Rattle.jp_command.specs.Headline.{IsAcceptedPair, Runs, is_refusal}
+use Rattle.jp_command.specs.Input.{ReadsAll, ReadsTooMuch}
+use Rattle.jp_command.specs.Limits.{document_limit}
+use Rattle.jp_command.specs.Lines.{output_of}
+use Rattle.jp_command.specs.Run.{IsAsked, RefusesQuery, refused, too_long}
+use Rattle.jp_command.specs.declared.fault.Fault.{Fault}
+use Rattle.jp_command.specs.declared.fault.Fault.TheVariants.{Query, Document, DocumentTooLarge, NoMemory, Read, Write}
+use Rattle.jp_command.specs.declared.lines.Form.{Form}
+
+-- what came of known bytes until their end is all of them
+came-all : (bytes came : List ℕ) (left : Option (List ℕ)) → Consumes (Some bytes) left came
+    → IsAtEnd left → came ≡ bytes
+came-all bytes came None consumed ended = absurd consumed
+came-all bytes came (Some rest) consumed ended =
+    sym (consumed ∙ ap (λ t. came ++ t) ended ∙ append-nil came)
+
+-- and never more than all of them
+came-within : (bytes came : List ℕ) (left : Option (List ℕ)) → Consumes (Some bytes) left came
+    → length came ≤ length bytes
+came-within bytes came None consumed = absurd consumed
+came-within bytes came (Some rest) consumed =
+    let whole : length bytes ≡ length came + length rest =
+    ap length consumed ∙ length-append came rest in
+    omega (arith, whole)
+
+-- a query that is asked is not refused
+asked-is_taken : (text : List ℕ) (q : QueryTree) (r : _) → IsAsked text q → RefusesQuery text r → ⊥
+asked-is_taken text q r asked (too_long long is) = omega (arith, asked.short, long)
+asked-is_taken text q r asked (refused short none own) = none q asked.accepted
+
+-- a document has no fault
+document-is_taken : DocumentOrDefect → (bytes : List ℕ) (d : Value) (f : DocumentFault)
+    → IsDocument bytes d → IsDocumentFault bytes f → f ≢ document.NoMemory → ⊥
+document-is_taken law bytes d document.NotJson is has known =
+    (law bytes).not_both d not_json is has
+document-is_taken law bytes d (document.NotWhole path) is has known =
+    (law bytes).not_both d (not_whole (string_bytes path)) is has
+document-is_taken law bytes d document.ListTooLong is has known =
+    (law bytes).not_both d list_too_long is has
+document-is_taken law bytes d document.NoMemory is has known = known refl
+
+module _ {R W : Type 0} (remaining : R → Option (List ℕ)) (has_failed : R → Bool)
+    (contents : W → Option (List ℕ)) (writes_failed : W → Bool) where
+  abbrev Accepted : List ℕ → R → QueryTree → Value → Type 0
+  Accepted = IsAcceptedPair remaining has_failed contents writes_failed
+
+  abbrev Ran : Form → List ℕ → R → R → W → W → Result (Unit {0}) Fault → Type 0
+  Ran = Runs remaining has_failed contents writes_failed
+
+  -- the bytes that a run has read are those that its input told
+  read-all : (i j : R) (bytes came : List ℕ) → remaining i ≡ Some bytes
+      → ReadsAll remaining has_failed i j came → came ≡ bytes
+  read-all i j bytes came tells reads =
+      came-all bytes came (remaining j)
+      (subst (λ a. Consumes a (remaining j) came) tells reads.came) reads.ended
+
+  -- an accepted query over an accepted document is not refused
+  pub accepted-is_taken : DocumentOrDefect → (form : Form) (text : List ℕ) (i j : R) (o p : W)
+      (q : QueryTree) (d : Value) (f : Fault)
+      → Accepted text i q d
+      → Ran form text i j o p (Err f)
+      → is_refusal f ≡ false
+  accepted-is_taken law form text i j o p q d (Query r) is run =
+      absurd (asked-is_taken text q r is.asked run.0)
+  accepted-is_taken law form text i j o p q d (Document f) is run =
+      let same : run.0.bytes ≡ is.bytes = read-all i j is.bytes run.0.bytes is.tells run.0.reads in
+      absurd (document-is_taken law is.bytes d f is.document
+      (subst (λ b. IsDocumentFault b f) same run.0.fault) run.0.known)
+  accepted-is_taken law form text i j o p q d DocumentTooLarge is run =
+      let much : ReadsTooMuch remaining has_failed i j = run.1 in
+      let within : length much.bytes ≤ length is.bytes =
+      came-within is.bytes much.bytes (remaining j)
+      (subst (λ a. Consumes a (remaining j) much.bytes) is.tells much.came) in
+      absurd (omega (arith, within, is.few, much.many))
+  accepted-is_taken law form text i j o p q d NoMemory is run = refl
+  accepted-is_taken law form text i j o p q d Read is run = refl
+  accepted-is_taken law form text i j o p q d Write is run = refl
+
+  -- what is answered was accepted
+  pub answered-is_accepted : (form : Form) (text bytes : List ℕ) (i j : R) (o p : W)
+      → remaining i ≡ Some bytes
+      → Ran form text i j o p (Ok tt)
+      → (q : QueryTree) × (d : Value) × Accepted text i q d
+  answered-is_accepted form text bytes i j o p tells run =
+      let given = run.is in
+      let same : given.bytes ≡ bytes = read-all i j bytes given.bytes tells given.reads in (
+        given.q,
+        given.d,
+        record {
+          bytes = bytes;
+          tells = tells;
+          few = subst (λ b. length b ≤ document_limit) same given.reads.few;
+          asked = given.asked;
+          document = subst (λ b. IsDocument b given.d) same given.document;
+        },
+      )
+
+  -- and its nodelist is written
+  pub writes-nodelist : DocumentOrDefect → ((text : List ℕ) → OneAnswer text) → (form : Form)
+      (text : List ℕ) (i j : R) (o p : W) (q : QueryTree) (d : Value)
+      → Accepted text i q d
+      → Ran form text i j o p (Ok tt)
+      → Appends (contents o) (contents p) (output_of form q d)
+  writes-nodelist documents queries form text i j o p q d is run =
+      let given = run.is in
+      let same : given.bytes ≡ is.bytes = read-all i j is.bytes given.bytes is.tells given.reads in
+      let tree : given.q ≡ q =
+      (queries (chars text)).one_tree given.q q given.asked.accepted is.asked.accepted in
+      let value : given.d ≡ d =
+      (documents is.bytes).one_value given.d d
+      (subst (λ b. IsDocument b given.d) same given.document) is.document in
+      let output : run.output ≡ output_of form q d =
+      given.is ∙ ap (λ t. output_of form t given.d) tree ∙ ap (output_of form q) value in
+      subst (Appends (contents o) (contents p)) output run.writes.written

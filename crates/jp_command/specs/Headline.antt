@@ -1,0 +1,74 @@
+-- The headline of jp, sentence by sentence: of documents, queries, nodelists, paths, canonical texts
+-- and refusals, and that runs keep to them.
+use Rattle.std.specs.Prelude.{◌≡◌, ℕ, ◌≤◌, Bool, true, false, List, length, Option, Some, Result, Ok, Err}
+use Rattle.std.specs.Io.KnownBytes.{Appends}
+use Rattle.jp_canon.specs.Laws.{CanonTellsApart}
+use Rattle.jp_check.specs.Laws.{FaultAtItsItem, OneAnswer}
+use Rattle.jp_document.specs.Document.{IsDocument}
+use Rattle.jp_document.specs.Laws.{DocumentOrDefect, NodesDiffer}
+use Rattle.jp_document.specs.Value.{Value}
+use Rattle.jp_evaluate.specs.Laws.{PathSelectsItsNode}
+use Rattle.jp_query.specs.Laws.{OneRefusal}
+use Rattle.jp_query.specs.Tree.{QueryTree}
+use Rattle.jp_command.specs.Limits.{document_limit}
+use Rattle.jp_command.specs.Lines.{output_of}
+use Rattle.jp_command.specs.Run.{IsAsked, RunsEval}
+use Rattle.jp_command.specs.declared.fault.Fault.{Fault}
+use Rattle.jp_command.specs.declared.fault.Fault.TheVariants.{Query, Document, DocumentTooLarge}
+use Rattle.jp_command.specs.declared.lines.Form.{Form}
+
+-- the query or the document is refused; other faults are those of the memory and of the streams
+abbrev pub is_refusal : Fault → Bool
+is_refusal (Query r) = true
+is_refusal (Document f) = true
+is_refusal DocumentTooLarge = true
+is_refusal _ = false
+
+-- i and j are the input before and after a run, o and p the output
+module _ {R W : Type 0} (remaining : R → Option (List ℕ)) (has_failed : R → Bool)
+    (contents : W → Option (List ℕ)) (writes_failed : W → Bool) where
+  -- the text is asked as the query q, and what the input tells is a document, not too large, of the
+  -- value d
+  pub record IsAcceptedPair (text : List ℕ) (i : R) (q : QueryTree) (d : Value) : Type 0 where
+    pub bytes : List ℕ
+    pub tells : remaining i ≡ Some bytes
+    pub few : length bytes ≤ document_limit
+    pub asked : IsAsked text q
+    pub document : IsDocument bytes d
+
+  -- a run of the query ended with this answer
+  abbrev pub Runs : Form → List ℕ → R → R → W → W → Result (Unit {0}) Fault → Type 0
+  Runs = RunsEval remaining has_failed contents writes_failed
+
+  pub record Headline : Type 0 where
+    -- Bytes are the document of one value, or have one defect, and not both.
+    pub documents : DocumentOrDefect
+    -- A text is accepted as one query, or is refused in one way, and not both.
+    pub queries : (text : List ℕ) → OneAnswer text
+    -- An accepted query over an accepted document is not refused,
+    pub accepted : (form : Form) (text : List ℕ) (i j : R) (o p : W) (q : QueryTree) (d : Value)
+        (f : Fault) → IsAcceptedPair text i q d
+        → Runs form text i j o p (Err f)
+        → is_refusal f ≡ false
+    -- and no other query over no other bytes is answered.
+    pub no_other : (form : Form) (text bytes : List ℕ) (i j : R) (o p : W)
+        → remaining i ≡ Some bytes
+        → Runs form text i j o p (Ok tt)
+        → (q : QueryTree) × (d : Value) × IsAcceptedPair text i q d
+    -- What is written of an accepted pair is the lines of its nodelist, and nothing else
+    -- (RFC 9535 section 2.1.2).
+    pub nodelist : (form : Form) (text : List ℕ) (i j : R) (o p : W) (q : QueryTree) (d : Value)
+        → IsAcceptedPair text i q d
+        → Runs form text i j o p (Ok tt)
+        → Appends (contents o) (contents p) (output_of form q d)
+    -- Two nodes of a document have equal normalized paths exactly if they are the same node
+    -- (section 2.7),
+    pub paths : NodesDiffer
+    -- and each path, read as a query, selects that node alone.
+    pub path_selects : PathSelectsItsNode
+    -- Two accepted queries have equal canonical texts exactly if their trees are equal.
+    pub canonical_texts : CanonTellsApart
+    -- A text that spells no query is refused with one kind and at one place,
+    pub syntax_places : OneRefusal
+    -- and one that spells a query with a fault, where the text of the faulty item starts.
+    pub fault_places : FaultAtItsItem

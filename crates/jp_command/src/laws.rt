@@ -1,0 +1,27 @@
+//! The headline, as the contract of a function that only calls the laws below it.
+
+ghost use Rattle.jp_command.specs.Headline.{Headline};
+
+use crate::device::{Output, Source};
+use jp_canon::laws::canon_tells_apart;
+use jp_check::laws::{fault_at_its_item, one_answer};
+use jp_document::laws::{document_or_defect, paths_differ};
+use jp_evaluate::laws::path_selects_its_node;
+use jp_query::laws::one_refusal;
+
+/// Want of memory and failing streams aside: exactly the profile's documents and queries are
+/// accepted; for an accepted pair the nodelist is the one of RFC 9535's definitions; two nodes of a
+/// document have equal normalized paths exactly if they are the same node, and each path read as a
+/// query selects that node alone; two accepted queries have equal canonical texts exactly if their
+/// trees are equal; and a refusal stands at its place.
+pub fn headline<R: Source, W: Output>()
+    ensures { Headline R.remaining R.has_failed W.contents W.has_failed }
+{
+    document_or_defect();
+    one_answer();
+    paths_differ();
+    path_selects_its_node();
+    canon_tells_apart();
+    one_refusal();
+    fault_at_its_item();
+}
