@@ -4,7 +4,6 @@ use Rattle.std.specs.List.{AllByRecursion, flat_map}
 use Rattle.jp_reading.specs.Forms.{AllPassing, Blank, Each, Form, Item, Omitted, One, Separated, word, ◌⌢◌}
 use Rattle.jp_reading.specs.Texts.{Spans, Text, bytes}
 use Rattle.jp_canon.specs.Canon.{separated}
-
 pub use Rattle.jp_reading.proofs.HasForm.{HasForm as Has, has-word, has-one, both, has-as, has-same, has-each_passing}
 
 pub has-blank : Has Blank []

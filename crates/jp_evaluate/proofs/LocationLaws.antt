@@ -104,8 +104,7 @@ step_fits v u (nth i) document there = index_fits v u i document there
 steps_fit : (v w : Value) (m : Location) → IsDocumentValue v → value_at v m ≡ Some w → StepsFit m
 steps_fit v w [] document end = tt
 steps_fit v w (k ∷ m) document end =
-    let u = inside (child v k) w m end in
-    (
+    let u = inside (child v k) w m end in (
       step_fits v u.0 k document u.1,
       steps_fit u.0 w m (IsDocumentValue-child v u.0 k document u.1) u.2,
     )

@@ -15,7 +15,13 @@ use jp_iregexp::{CharClass, Pattern, positions};
 /// Moves the marks of a pattern over the character, and answers whether its end was reached before:
 /// by a mark, or by the empty word where the pattern is entered.
 #[cycle(step)]
-pub(crate) fn step(pattern: &Pattern, row: &mut [bool], entered: bool, c: char, tests: &mut Tests) -> bool
+pub(crate) fn step(
+    pattern: &Pattern,
+    row: &mut [bool],
+    entered: bool,
+    c: char,
+    tests: &mut Tests,
+) -> bool
     requires sized { length row.old ≡ positions_of (tree pattern.now) }
     requires few { length row.old ≤ 4096 }
     ensures step { Steps (unrolled (tree pattern.now)) c entered row.old row.new result }
