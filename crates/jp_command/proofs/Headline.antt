@@ -11,10 +11,11 @@ use Rattle.jp_document.specs.Value.{Value}
 use Rattle.jp_document.specs.declared.fault.DocumentFault.{DocumentFault}
 use Rattle.jp_document.specs.declared.fault.DocumentFault.TheVariants as document
 use Rattle.jp_query.specs.Tree.{QueryTree}
-use Rattle.jp_command.specs.Headline.{IsAcceptedPair, Runs, is_refusal}
+use Rattle.jp_command.specs.Headline.{IsAcceptedPair, Runs, WritesLine, is_refusal}
 use Rattle.jp_command.specs.Input.{ReadsAll, ReadsTooMuch}
 use Rattle.jp_command.specs.Limits.{document_limit}
 use Rattle.jp_command.specs.Lines.{output_of}
+use Rattle.jp_command.specs.QueryLine.{RunsQueryLine}
 use Rattle.jp_command.specs.Run.{IsAsked, RefusesQuery, refused, too_long}
 use Rattle.jp_command.specs.declared.fault.Fault.{Fault}
 use Rattle.jp_command.specs.declared.fault.Fault.TheVariants.{Query, Document, DocumentTooLarge, NoMemory, Read, Write}
@@ -125,3 +126,13 @@ module _ {R W : Type 0} (remaining : R → Option (List ℕ)) (has_failed : R �
       let output : run.output ≡ output_of form q d =
       given.is ∙ ap (λ t. output_of form t given.d) tree ∙ ap (output_of form q) value in
       subst (Appends (contents o) (contents p)) output run.writes.written
+
+  -- a run that writes one line for a query writes that of an accepted one
+  pub line-is_written : (line_of : QueryTree → List ℕ) (text : List ℕ) (o p : W)
+      → RunsQueryLine line_of contents writes_failed text o p (Ok (tt {0}))
+      → WritesLine remaining has_failed contents writes_failed line_of text o p
+  line-is_written line_of text o p run = record {
+    q = run.is.q;
+    asked = run.is.asked;
+    writes = subst (Appends (contents o) (contents p)) run.is.is run.writes.written;
+  }

@@ -1,5 +1,6 @@
 -- The headline of jp, sentence by sentence: of documents, queries, nodelists, paths, canonical texts
--- and refusals, and that runs keep to them.
+-- and refusals, and of what runs answer and write. What is said of an input's bytes has the premise
+-- that the input tells them.
 use Rattle.std.specs.Prelude.{◌≡◌, ℕ, ◌≤◌, Bool, true, false, List, length, Option, Some, Result, Ok, Err}
 use Rattle.std.specs.Io.KnownBytes.{Appends}
 use Rattle.jp_canon.specs.Laws.{CanonTellsApart}
@@ -10,9 +11,12 @@ use Rattle.jp_document.specs.Value.{Value}
 use Rattle.jp_evaluate.specs.Laws.{PathSelectsItsNode}
 use Rattle.jp_query.specs.Laws.{OneRefusal}
 use Rattle.jp_query.specs.Tree.{QueryTree}
+use Rattle.jp_query.specs.declared.refusal.Refusal.{Refusal}
+use Rattle.jp_command.specs.Canon.{RunsCanon, canon_line}
+use Rattle.jp_command.specs.Check.{RunsCheck, accepted_line}
 use Rattle.jp_command.specs.Limits.{document_limit}
 use Rattle.jp_command.specs.Lines.{output_of}
-use Rattle.jp_command.specs.Run.{IsAsked, RunsEval}
+use Rattle.jp_command.specs.Run.{IsAsked, RefusesQuery, RunsEval}
 use Rattle.jp_command.specs.declared.fault.Fault.{Fault}
 use Rattle.jp_command.specs.declared.fault.Fault.TheVariants.{Query, Document, DocumentTooLarge}
 use Rattle.jp_command.specs.declared.lines.Form.{Form}
@@ -40,6 +44,17 @@ module _ {R W : Type 0} (remaining : R → Option (List ℕ)) (has_failed : R �
   abbrev pub Runs : Form → List ℕ → R → R → W → W → Result (Unit {0}) Fault → Type 0
   Runs = RunsEval remaining has_failed contents writes_failed
 
+  -- a run that wrote the line of an accepted query
+  pub record WritesLine (line_of : QueryTree → List ℕ) (text : List ℕ) (o p : W) : Type 0 where
+    pub q : QueryTree
+    pub asked : IsAsked text q
+    pub writes : Appends (contents o) (contents p) (line_of q)
+
+  -- what a run answers of a query that it refuses: what the query is, at its place; nothing is
+  -- read or written
+  abbrev pub Refuses : List ℕ → Refusal → R → R → W → W → Type 0
+  Refuses text r i j o p = RefusesQuery text r × (j ≡ i) × (p ≡ o)
+
   pub record Headline : Type 0 where
     -- Bytes are the document of one value, or have one defect, and not both.
     pub documents : DocumentOrDefect
@@ -55,6 +70,14 @@ module _ {R W : Type 0} (remaining : R → Option (List ℕ)) (has_failed : R �
         → remaining i ≡ Some bytes
         → Runs form text i j o p (Ok tt)
         → (q : QueryTree) × (d : Value) × IsAcceptedPair text i q d
+    -- Whatever its input tells, a run answers accepted queries alone,
+    pub asked : (form : Form) (text : List ℕ) (i j : R) (o p : W)
+        → Runs form text i j o p (Ok tt)
+        → (q : QueryTree) × IsAsked text q
+    -- and refuses a query for what it is.
+    pub refused : (form : Form) (text : List ℕ) (i j : R) (o p : W) (r : Refusal)
+        → Runs form text i j o p (Err (Query r))
+        → Refuses text r i j o p
     -- What is written of an accepted pair is the lines of its nodelist, and nothing else
     -- (RFC 9535 section 2.1.2).
     pub nodelist : (form : Form) (text : List ℕ) (i j : R) (o p : W) (q : QueryTree) (d : Value)
@@ -68,6 +91,14 @@ module _ {R W : Type 0} (remaining : R → Option (List ℕ)) (has_failed : R �
     pub path_selects : PathSelectsItsNode
     -- Two accepted queries have equal canonical texts exactly if their trees are equal.
     pub canonical_texts : CanonTellsApart
+    -- That text is what a run for it writes of an accepted query,
+    pub canonical_lines : (text : List ℕ) (o p : W)
+        → RunsCanon contents writes_failed text o p (Ok (tt {0}))
+        → WritesLine canon_line text o p
+    -- and `accepted` what a run that only checks one does.
+    pub checked_lines : (text : List ℕ) (o p : W)
+        → RunsCheck contents writes_failed text o p (Ok (tt {0}))
+        → WritesLine accepted_line text o p
     -- A text that spells no query is refused with one kind and at one place,
     pub syntax_places : OneRefusal
     -- and one that spells a query with a fault, where the text of the faulty item starts.

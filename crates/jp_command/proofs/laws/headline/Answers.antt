@@ -1,4 +1,6 @@
-use Rattle.jp_command.proofs.Headline.{accepted-is_taken, answered-is_accepted, writes-nodelist}
+use Rattle.jp_command.proofs.Headline.{accepted-is_taken, answered-is_accepted, line-is_written, writes-nodelist}
+use Rattle.jp_command.specs.Canon.{canon_line}
+use Rattle.jp_command.specs.Check.{accepted_line}
 use Rattle.jp_command.proofs.laws.headline.Goals as goal
 
 pub returns : goal.returns
@@ -7,10 +9,14 @@ returns g c = record {
   queries = c.one_answer.ensures;
   accepted = accepted-is_taken _ _ _ _ c.document_or_defect.ensures;
   no_other = answered-is_accepted _ _ _ _;
+  asked = λ form text i j o p run. (run.is.q, run.is.asked);
+  refused = λ form text i j o p r run. run;
   nodelist = writes-nodelist _ _ _ _ c.document_or_defect.ensures c.one_answer.ensures;
   paths = c.paths_differ.ensures.nodes;
   path_selects = c.path_selects_its_node.ensures;
   canonical_texts = c.canon_tells_apart.ensures;
+  canonical_lines = line-is_written _ _ _ _ canon_line;
+  checked_lines = line-is_written _ _ _ _ accepted_line;
   syntax_places = c.one_refusal.ensures;
   fault_places = c.fault_at_its_item.ensures;
 }
