@@ -12,8 +12,7 @@ use jp_document::push_quote;
 use std::alloc::{AllocError, Global};
 use std::marker::Model;
 
-/// A text as far as it is written. Where memory is wanting, a part of the next piece may stand
-/// there.
+/// A text as far as it is written. Where memory runs out, a part of the next piece may stand there.
 #[derive(Drop)]
 pub(crate) struct Writer {
     text: String,

@@ -39,8 +39,8 @@ pub trait Output {
     // Whether a call failed.
     ghost has_failed: { Self → Bool };
 
-    /// Writes some bytes from the start of `bytes` and answers how many, at least one if there
-    /// are any.
+    /// Writes some bytes from the start of `bytes` and answers how many, at least one if there are
+    /// any.
     fn write(&mut self, bytes: &[u8]) -> Result<usize, Failed>
         ensures bound { IfOk result (λ count. count ≤ length bytes.now) }
         ensures some { IfOk result (λ count. 0 < length bytes.now → 0 < count) }

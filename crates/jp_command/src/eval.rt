@@ -20,12 +20,12 @@ use std::alloc::Global;
 /// nodelist's order (RFC 9535 section 2.1.2).
 ///
 /// The query is read first, and where it is refused the input stays unread; then the input is read
-/// to its end; then the document is read; and only then is anything written, each node's line before
-/// the next node is looked for. `Query` says that the query has more than `QUERY_LIMIT` bytes
-/// (`TextTooLong`) or is refused, `Document` that what was read is no document, `DocumentTooLarge`
-/// that more than `DOCUMENT_LIMIT` bytes came, `Read` and `Write` that the input or the output
-/// failed: a call that fails is not tried again. After `Write` and `NoMemory` a prefix of the output
-/// is written.
+/// to its end; then the document is read; and only then is anything written, each node's line
+/// before the next node is looked for. `Query` says that the query has more than `QUERY_LIMIT`
+/// bytes (`TextTooLong`) or is refused, `Document` that what was read is no document,
+/// `DocumentTooLarge` that more than `DOCUMENT_LIMIT` bytes came, `Read` and `Write` that the input
+/// or the output failed: a call that fails is not tried again. After `Write` and `NoMemory` a
+/// prefix of the output is written.
 pub fn run_eval<R: Source, W: Output>(
     alloc: Global,
     query: &str,
@@ -40,8 +40,8 @@ pub fn run_eval<R: Source, W: Output>(
     Ok(())
 }
 
-/// Does what [`run_eval`] does, and hands over the document that was read, so that the caller decides
-/// whether it is freed.
+/// Does what [`run_eval`] does, and hands over the document that was read, so that the caller
+/// decides whether it is freed.
 pub(crate) fn eval_document<R: Source, W: Output>(
     alloc: Global,
     query: &str,

@@ -9,11 +9,11 @@ use jp_document::laws::{document_or_defect, paths_differ};
 use jp_evaluate::laws::path_selects_its_node;
 use jp_query::laws::one_refusal;
 
-/// Want of memory and failing streams aside: exactly the profile's documents and queries are
-/// accepted; for an accepted pair the nodelist is the one of RFC 9535's definitions; two nodes of a
-/// document have equal normalized paths exactly if they are the same node, and each path read as a
-/// query selects that node alone; two accepted queries have equal canonical texts exactly if their
-/// trees are equal; and a refusal stands at its place.
+/// Running out of memory and failing streams aside: exactly the documents and queries of
+/// docs/QUERIES.md are accepted; for an accepted pair the nodelist is the one of RFC 9535's
+/// definitions; two nodes of a document have equal normalized paths exactly if they are the same
+/// node, and each path read as a query selects that node alone; two accepted queries have equal
+/// canonical texts exactly if their trees are equal; and a refusal stands at its place.
 pub fn headline<R: Source, W: Output>()
     ensures { Headline R.remaining R.has_failed W.contents W.has_failed }
 {

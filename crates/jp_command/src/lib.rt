@@ -8,9 +8,8 @@
 //!
 //! `run_eval` runs one query over one input; `specs/Run.antt` has what it says with each answer.
 //! `run_check` tells whether a query is accepted (`specs/Check.antt`), and `run_canon` writes its
-//! canonical text (`specs/Canon.antt`).
-//! `run_line` is the whole program over its words; `specs/Line.antt` has what it says with each
-//! status.
+//! canonical text (`specs/Canon.antt`). `run_line` is the whole program over its words;
+//! `specs/Line.antt` has what it says with each status.
 #![tactic(auto)]
 
 mod canon;

@@ -20,10 +20,10 @@ use std::alloc::{AllocError, Global};
 use std::borrow::CowStr;
 use std::mem;
 
-/// Does what `words` ask for, of which the first is the program's name, and answers the status:
-/// 0 where it is done, 1 where the query is refused, 2 where the words are not ones that the
-/// command line takes, 3 where the document is refused, 4 where the memory did not suffice, 5 where
-/// the input or the output failed. Every status but 0 has its line in `faults`, if it can be written
+/// Does what `words` ask for, of which the first is the program's name, and answers the status: 0
+/// where it is done, 1 where the query is refused, 2 where the words are not ones that the command
+/// line takes, 3 where the document is refused, 4 where the memory did not suffice, 5 where the
+/// input or the output failed. Every status but 0 has its line in `faults`, if it can be written
 /// there; with status 2 that is clap's own text. The output is flushed once, after a run that is
 /// done.
 pub fn run_line<R: Source, W: Output, E: Output>(

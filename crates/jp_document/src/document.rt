@@ -56,7 +56,8 @@ impl Document {
         DocumentValue::of(self.json())
     }
 
-    /// The root, whose location is empty. It takes no memory: the allocator is for the nodes below it.
+    /// The root, whose location is empty. It takes no memory: the allocator is for the nodes below
+    /// it.
     pub fn root(&self, alloc: Global) -> Node<'_>
         ensures root { told result ≡ ([], document_of self.now) }
         ensures stands { StandsIn (document_of self.now) result }

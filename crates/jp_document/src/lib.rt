@@ -1,9 +1,8 @@
 //! JSON documents whose numbers are whole, their nodes, and normalized paths (RFC 9535).
 //!
 //! `Document::read` takes a document from bytes, `Document::root`, `child_named` and `child_at`
-//! walk
-//! its nodes, `Document::value` its values without locations, `path_text` and `value_text` print
-//! one. `read_path` reads a path again, and `Document::find` finds the value at its location:
+//! walk its nodes, `Document::value` its values without locations, `path_text` and `value_text`
+//! print one. `read_path` reads a path again, and `Document::find` finds the value at its location:
 //!
 //! ```text
 //! let document = Document::read(alloc, b"{\"a\":[1,2]}")?;
@@ -12,9 +11,9 @@
 //! ```
 //!
 //! For the layer above: `read` accepts exactly the documents and names the first number that is no
-//! whole one; each node stands in its document, with the document's own value; paths and texts are
-//! exact, and `read_path` accepts exactly the normalized paths, of which no two locations have the
-//! same.
+//! whole one; each node that these calls give stands in its document, with the document's own
+//! value; paths and texts are exact, and `read_path` accepts exactly the normalized paths, of which
+//! no two locations have the same.
 #![tactic(auto)]
 
 mod characters;

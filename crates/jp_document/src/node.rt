@@ -1,4 +1,5 @@
-//! Nodes (RFC 9535 section 1.1): a location with the value that stands there, both borrowed from the document.
+//! Nodes (RFC 9535 section 1.1): a location with the value that stands there, both borrowed from
+//! the document.
 ghost use Rattle.std.specs.Prelude.{◌≡◌, ℕ, [], ◌∷◌, ◌++◌, map, option_map, IfOk};
 ghost use Rattle.jp_document.specs.Location.{named, nth};
 ghost use Rattle.jp_document.specs.Node.{told, told_child, StandsIn, IsNodeAt};
@@ -113,8 +114,8 @@ pub(crate) fn root_of(alloc: Global, value: &Json) -> Node<'_>
     }
 }
 
-/// The member of this name of the node's object, None where there is none (RFC 9535 section 2.3.1). Its
-/// step borrows the name from the document.
+/// The member of this name of the node's object, None where there is none (RFC 9535 section 2.3.1).
+/// Its step borrows the name from the document.
 pub fn child_named<'d>(
     alloc: Global,
     node: &Node<'d>,

@@ -26,16 +26,15 @@ pub fn quote(alloc: Global, text: &str) -> Result<String, AllocError>
     Ok(quoted)
 }
 
-/// Appends a text between single quotes, spelled as a name in a normalized path. Where memory is
-/// wanting, a part of it may stand there.
+/// Appends a text between single quotes, spelled as a name in a normalized path. Where memory runs
+/// out, a part of it may stand there.
 pub fn push_quote(out: &mut String, text: &str) -> Result<(), AllocError>
     ensures { OnOk result (string_bytes out.new ≡ string_bytes out.old ++ quoted text.now) }
 {
     push_quoted(out, text, b'\'')
 }
 
-/// Appends the normalized path of a location. Where memory runs out, a part of it may stand
-/// there.
+/// Appends the normalized path of a location. Where memory runs out, a part of it may stand there.
 pub fn push_path(out: &mut String, location: &[Step]) -> Result<(), AllocError>
     ensures { OnOk result
         (string_bytes out.new ≡ string_bytes out.old ++ path_of (map key_of location.now)) }

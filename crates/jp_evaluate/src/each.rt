@@ -21,7 +21,7 @@ pub struct Nodes<'d, 'q> {
 }
 
 impl<'d, 'q> Nodes<'d, 'q> {
-    /// Whether a node could not be given for want of memory. No more are given then.
+    /// Whether a node could not be given because memory ran out. No more are given then.
     pub fn failed(&self) -> bool
         ensures { result ≡ self.now.failed }
     {
@@ -50,8 +50,7 @@ impl<'d, 'q> Iterator for Nodes<'d, 'q> {
     ghost remaining = { λ nodes. at_most (if nodes.failed then 0 else length (rest_of nodes) + 1) };
 
     /// The next node, or an error where there is no memory for it, after which there are no more;
-    /// None at the end of the
-    /// nodelist.
+    /// None at the end of the nodelist.
     fn next(&mut self) -> Option<Result<Node<'d>, AllocError>> {
         if self.failed {
             return None;

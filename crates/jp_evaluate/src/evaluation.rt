@@ -13,11 +13,9 @@ use jp_document::{Document, Node};
 use std::alloc::{AllocError, Global};
 
 /// The nodes that a query selects in a document (RFC 9535 section 2.1.2), to be taken one by one in
-/// the nodelist's
-/// order; a node that is selected twice is given twice. It takes no memory before the first is
-/// asked for, and then
-/// what it holds follows the depth of the document and the query. The nodes borrow from the
-/// document.
+/// the nodelist's order; a node that is selected twice is given twice. It takes no memory before
+/// the first is asked for, and then what it holds follows the depth of the document and the query.
+/// The nodes borrow from the document.
 pub fn nodes<'d, 'q>(alloc: Global, document: &'d Document, query: &'q Checked) -> Nodes<'d, 'q>
     ensures working { result.failed ≡ false }
     ensures nodes { rest_of result ≡ map (standing (document_of document.now))
@@ -33,8 +31,9 @@ pub fn nodes<'d, 'q>(alloc: Global, document: &'d Document, query: &'q Checked) 
     }
 }
 
-/// The nodes that a query selects in a document (RFC 9535 section 2.1.2), in the nodelist's order; a node that is
-/// selected twice stands there twice. They borrow from the document and copy nothing of it.
+/// The nodes that a query selects in a document (RFC 9535 section 2.1.2), in the nodelist's order;
+/// a node that is selected twice stands there twice. They borrow from the document and copy nothing
+/// of it.
 pub fn evaluate<'d>(
     alloc: Global,
     document: &'d Document,

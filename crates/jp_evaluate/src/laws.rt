@@ -2,8 +2,8 @@
 
 ghost use Rattle.jp_evaluate.specs.Laws.{PathSelectsItsNode, SelectsNodesAlone, SingularSelectsOne};
 
-/// The normalized path of a node of a document, read as a query, is accepted and selects that node alone
-/// (RFC 9535 section 2.7).
+/// The normalized path of a node of a document, read as a query, is accepted and selects that node
+/// alone (RFC 9535 section 2.7).
 pub fn path_selects_its_node()
     ensures { PathSelectsItsNode }
 {}

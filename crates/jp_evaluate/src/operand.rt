@@ -11,8 +11,8 @@ use jp_document::DocumentValue;
 use jp_query::{Literal, Numeral, Operand};
 use jp_select::Comparable;
 
-/// The value of a side: of a literal, or of the node that a singular query selects; Nothing where it selects none. It takes
-/// no memory, and copies nothing.
+/// The value of a side: of a literal, or of the node that a singular query selects; Nothing where
+/// it selects none. It takes no memory, and copies nothing.
 pub(crate) fn operand_value<'a>(
     operand: &'a Operand,
     root: DocumentValue<'a>,

@@ -10,7 +10,8 @@ use jp_document::DocumentValue;
 use jp_query::{Query, Segment};
 use jp_select::single;
 
-/// The value of the node that a singular query selects, None where it selects none. Other queries have None.
+/// The value of the node that a singular query selects, None where it selects none. Other queries
+/// have None.
 pub(crate) fn node_value<'d>(
     query: &Query,
     root: DocumentValue<'d>,
@@ -38,7 +39,8 @@ pub(crate) fn start<'d>(
     if query.absolute { root } else { current }
 }
 
-/// The value that a segment of a singular query selects at a value, None where it selects none. Other segments have None.
+/// The value that a segment of a singular query selects at a value, None where it selects none.
+/// Other segments have None.
 fn single_value<'d>(segment: &Segment, value: DocumentValue<'d>) -> Option<DocumentValue<'d>>
     ensures { option_map lent_value result ≡ single_value (segment_of segment.now) (lent_value value.entry) }
 {

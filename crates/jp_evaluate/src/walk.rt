@@ -1,6 +1,5 @@
 //! The walk of a query through a document, from choice to choice (RFC 9535 section 2.1.2). It keeps
-//! a frame for each
-//! value on the way from where it begins to where it stands, and no list of nodes.
+//! a frame for each value on the way from where it begins to where it stands, and no list of nodes.
 ghost use Rattle.std.specs.Prelude.{◌≡◌, ◌<◌, ◌++◌, ◌∷◌, [], IfNone, IfOk, IfSome, MatchOption, OnOk, OnSome, map, option_map, slice_get};
 ghost use Rattle.jp_document.specs.DocumentValue.{lent_entry, lent_value};
 ghost use Rattle.jp_document.specs.Location.{key_of};
@@ -18,7 +17,7 @@ use std::alloc::{AllocError, Global};
 /// A value that segments led to.
 #[derive(Clone, Copy)]
 pub(crate) struct Place<'d> {
-    /// How many segments are behind it.
+    /// How many segments are before it.
     pub(crate) done: usize,
     /// The step to it from the frame before it, None where the walk begins.
     step: Option<Step<'d>>,
@@ -41,8 +40,7 @@ pub(crate) struct Offer<'q, 'd> {
 }
 
 /// What a segment chooses by: one of its selectors, or, in a descendant segment, all children, at
-/// which it is
-/// applied again.
+/// which it is applied again.
 #[derive(Clone, Copy)]
 struct Turn<'q> {
     selector: Option<&'q Selector>,
@@ -50,8 +48,7 @@ struct Turn<'q> {
 }
 
 /// A walk under way: the value that it begins with, while that has not been offered, and the frames
-/// from there on. The last
-/// frame stands apart, so that a walk of one frame takes no memory.
+/// from there on. The last frame stands apart, so that a walk of one frame takes no memory.
 #[derive(Drop)]
 pub(crate) struct Walk<'d> {
     first: Option<DocumentValue<'d>>,

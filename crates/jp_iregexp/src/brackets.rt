@@ -12,7 +12,7 @@ use crate::class::{CharClass, ClassItem};
 use jp_reading::{Reader, Stop};
 use std::alloc::AllocError;
 
-/// What stands behind `\` for a category or for all characters outside it (charClassEsc).
+/// What stands after `\` for a category or for all characters outside it (charClassEsc).
 #[tactic(auto, unfolding(crate::specs::Private::Reading::category_at))]
 pub(crate) fn category(reader: &mut Reader) -> Result<ClassItem, Stop>
     ensures { Gives (λ x. x) result reader.new (category_at reader.old) }
@@ -27,7 +27,7 @@ pub(crate) fn category(reader: &mut Reader) -> Result<ClassItem, Stop>
     })
 }
 
-/// The code of a category, up to the brace behind it.
+/// The code of a category, up to the brace after it.
 #[tactic(auto, unfolding(crate::specs::Private::Reading::code_at))]
 fn code(reader: &mut Reader) -> Result<Category, Stop>
     ensures { Gives (λ x. x) result reader.new (code_at reader.old) }
@@ -144,8 +144,8 @@ fn is_at_category(reader: &Reader) -> bool
     reader.is_at('\\') && matches!(reader.peek_second(), Some('p' | 'P'))
 }
 
-/// The range that begins with a character: up to the one behind a `-`, or, where the `-` ends the class
-/// or stands not there, that character alone.
+/// The range that begins with a character: up to the one after a `-`, or, where the `-` ends the
+/// class or stands not there, that character alone.
 #[tactic(auto, unfolding(crate::specs::Private::Reading::range_at))]
 fn range(reader: &mut Reader, first: char) -> Result<ClassItem, Stop>
     ensures { Gives (λ x. x) result reader.new (range_at first reader.old) }

@@ -14,7 +14,7 @@ use crate::quantifiers::quantifier;
 use jp_reading::{Reader, Stop};
 use std::alloc::{AllocError, Global};
 
-/// A whole pattern with at most so many groups inside one another: the text ends behind it.
+/// A whole pattern with at most so many groups inside one another: the text ends after it.
 #[tactic(auto, unfolding(crate::specs::Private::Reading::pattern_at))]
 pub(crate) fn pattern(reader: &mut Reader, groups: u32) -> Result<Pattern, Stop>
     ensures { Gives tree result reader.new (pattern_at groups reader.old) }
@@ -65,7 +65,7 @@ fn branch(reader: &mut Reader, groups: u32) -> Result<Pattern, Stop>
     Ok(Pattern::Sequence(pieces))
 }
 
-/// A piece: an atom, with a quantifier behind it a repeat.
+/// A piece: an atom, with a quantifier after it a repeat.
 #[cycle(branches)]
 #[tactic(auto, using(crate::proofs::Trees::tree_repeat), unfolding(crate::specs::Private::Reading::piece_at))]
 fn piece(reader: &mut Reader, groups: u32) -> Result<Pattern, Stop>
@@ -123,7 +123,7 @@ fn group(reader: &mut Reader, groups: u32) -> Result<Pattern, Stop>
     Ok(inside)
 }
 
-/// What stands behind `\` outside a class: a category or a character.
+/// What stands after `\` outside a class: a category or a character.
 #[tactic(auto, unfolding(crate::specs::Private::Reading::escape_at))]
 fn escape(reader: &mut Reader) -> Result<Pattern, Stop>
     ensures { Gives tree result reader.new (escape_at reader.old) }

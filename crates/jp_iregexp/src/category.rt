@@ -7,8 +7,8 @@ ghost use Rattle.jp_iregexp.specs.Private.CodeReading.{code_of, is_pair, pair};
 
 use unicode::properties::{GeneralCategory, GeneralCategoryGroup};
 
-/// A code of `\p{..}`: one general category of Unicode by its two letters, or by one letter all that
-/// begin with it (RFC 9485, section 3).
+/// A code of `\p{..}`: one general category of Unicode by its two letters, or by one letter all
+/// that begin with it (RFC 9485, section 3).
 #[derive(Clone, Copy, Debug, PartialEq, Eq)]
 pub enum Category {
     L,

@@ -1,4 +1,4 @@
-//! The characters of patterns, alone and behind `\` (RFC 9485, section 3).
+//! The characters of patterns, alone and after `\` (RFC 9485, section 3).
 
 ghost use Rattle.std.specs.Prelude.{◌≡◌};
 ghost use Rattle.jp_reading.specs.Outcome.{passes, head, take_if};
@@ -15,13 +15,13 @@ pub(crate) enum Characters {
     Normal,
     /// Those that stand for themselves in a class.
     Plain,
-    /// Those that stand for a character behind `\`.
+    /// Those that stand for a character after `\`.
     Escaped,
-    /// Those that begin a category behind `\`.
+    /// Those that begin a category after `\`.
     CategorySign,
     /// Those of which codes are made.
     Letter,
-    /// Those that begin an item of a class behind its first one.
+    /// Those that begin an item of a class after its first one.
     Element,
     /// Those that begin a quantifier.
     Quantifier,
@@ -69,7 +69,7 @@ pub(crate) fn take(reader: &mut Reader, characters: Characters) -> Result<char, 
     }
 }
 
-/// The character that stands behind `\`.
+/// The character that stands after `\`.
 #[tactic(auto, unfolding(crate::specs::Private::Reading::escaped_at))]
 pub(crate) fn escaped(reader: &mut Reader) -> Result<char, Stop>
     ensures { Gives (λ c. c) result reader.new (escaped_at reader.old) }
@@ -107,7 +107,7 @@ fn is_plain(c: char) -> bool
     !matches!(c, '-' | '['..=']')
 }
 
-/// Whether a character may stand behind `\` (SingleCharEsc).
+/// Whether a character may stand after `\` (SingleCharEsc).
 #[tactic(auto, unfolding(crate::specs::Characters::is_escaped))]
 fn is_escaped(c: char) -> bool
     ensures { result ≡ is_escaped c }
@@ -115,7 +115,7 @@ fn is_escaped(c: char) -> bool
     matches!(c, '('..='+' | '-' | '.' | '?' | '['..='^' | 'n' | 'r' | 't' | '{'..='}')
 }
 
-/// What a character behind `\` stands for.
+/// What a character after `\` stands for.
 #[tactic(auto, unfolding(crate::specs::Characters::meant))]
 fn meant(c: char) -> char
     ensures { result ≡ meant c }

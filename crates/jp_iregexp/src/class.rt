@@ -6,7 +6,8 @@ ghost use Rattle.jp_iregexp.specs.Class.{item_holds, class_holds};
 
 use crate::category::Category;
 
-/// A character class: with `negated` it holds the characters that no item holds, else those that one does.
+/// A character class: with `negated` it holds the characters that no item holds, else those that
+/// one does.
 #[derive(Debug, PartialEq, Eq, Drop)]
 pub struct CharClass {
     pub negated: bool,
@@ -16,7 +17,8 @@ pub struct CharClass {
 /// An item of a character class.
 #[derive(Clone, Copy, Debug, PartialEq, Eq)]
 pub enum ClassItem {
-    /// The characters from the first to the last, both included; none where the last is below the first.
+    /// The characters from the first to the last, both included; none where the last is below the
+    /// first.
     Range(char, char),
     /// The characters of a general category, with `negated` all others.
     Category { code: Category, negated: bool },

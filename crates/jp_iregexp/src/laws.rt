@@ -8,8 +8,8 @@ mod membership;
 pub use membership::{pattern_found, tested_matches, tested_words};
 
 /// What the words of a pattern are (RFC 9485, section 4): of an `Either` those of each branch, of a
-/// `Sequence` those cut into a word of each piece, of a `Repeat` those cut into as many words of the inner
-/// pattern as it allows.
+/// `Sequence` those cut into a word of each piece, of a `Repeat` those cut into as many words of
+/// the inner pattern as it allows.
 pub fn languages()
     ensures branches { BranchesUnite }
     ensures sequences { SequencesCut }

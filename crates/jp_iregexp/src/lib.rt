@@ -1,14 +1,14 @@
-//! Patterns of I-Regexp (RFC 9485): their trees, the reader of their texts, and the characters that a
-//! class holds.
+//! Patterns of I-Regexp (RFC 9485): their trees, the reader of their texts, and the characters that
+//! a class holds.
 //!
 //! ```text
 //! let pattern = read_pattern(alloc, "a|[^-b-d]")?;    // an Either of two Sequences of one Class each
 //! class.holds('c');                                   // of the second class: false
 //! ```
 //!
-//! The contract for the crates above: `read_pattern` answers a pattern exactly for the texts that spell one
-//! by the grammar of `specs/Grammar.antt` within the limit of groups, and no text spells two.
-//! `CharClass::holds` is `class_holds` of `specs/Class.antt`, by the general categories of
+//! The contract for the crates above: `read_pattern` answers a pattern exactly for the texts that
+//! spell one by the grammar of `specs/Grammar.antt` within the limit of groups, and no text spells
+//! two. `CharClass::holds` is `class_holds` of `specs/Class.antt`, by the general categories of
 //! `unicode`. `positions` is `positions_of` of `specs/Positions.antt`, at most 4,097. `Language` of
 //! `specs/Language.antt` says which words a pattern stands for.
 #![tactic(auto)]

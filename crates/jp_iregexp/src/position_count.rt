@@ -10,8 +10,8 @@ use crate::pattern::Pattern;
 const MANY: u64 = 4_097;
 
 /// How many positions a pattern has: 1 for a class, the sum over the parts of an `Either` or a
-/// `Sequence`, and for a `Repeat` those of its inner pattern times its most, or without a most times
-/// the greater of its least and 1. From 4,097 on the answer is 4,097.
+/// `Sequence`, and for a `Repeat` those of its inner pattern times its most, or without a most
+/// times the greater of its least and 1. From 4,097 on the answer is 4,097.
 #[cycle(positions)]
 pub fn positions(pattern: &Pattern) -> u64
     ensures { result ≡ min (positions_of (tree pattern.now)) 4097 }

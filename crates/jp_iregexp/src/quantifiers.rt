@@ -40,7 +40,7 @@ fn braces(reader: &mut Reader) -> Result<Count, Stop>
     Ok(Count { least, most })
 }
 
-/// What stands behind the least number: nothing, a comma, or a comma and a number not below it.
+/// What stands after the least number: nothing, a comma, or a comma and a number not below it.
 #[tactic(auto, unfolding(crate::specs::Private::Reading::most_at))]
 fn most(reader: &mut Reader, least: u32) -> Result<Option<u32>, Stop>
     ensures { Gives (λ x. x) result reader.new (most_at least reader.old) }

@@ -16,7 +16,7 @@ pub struct Refusal {
 /// The kinds of refusal, numbered from 1 in this order.
 #[derive(Debug, Clone, Copy, PartialEq, Eq)]
 pub enum RefusalKind {
-    /// The text is no query: at the first place where it begins none, or at its end.
+    /// The text is no query: at the end of its longest viable prefix, or at its end.
     Syntax,
     /// More filters and parentheses are inside one another than `LEVEL_LIMIT`.
     TooDeep,
@@ -26,15 +26,15 @@ pub enum RefusalKind {
     NumberRange,
     /// An index or a part of a slice outside -(2^53)+1 to (2^53)-1.
     IndexRange,
-    /// A call of a function that is none of RFC 9535 section 2.4.
+    /// A call of a function that is none of RFC 9535 section 2.4; none is read yet.
     UnknownFunction,
-    /// A call with a wrong number of arguments.
+    /// A call with a wrong number of arguments; none is read yet.
     ArgumentCount,
     /// A query that stands for one value and is not singular (section 2.3.5.1).
     NotSingular,
-    /// A call or an argument of the wrong type (section 2.4.3).
+    /// A call or an argument of the wrong type (section 2.4.3); none is read yet.
     IllTyped,
-    /// Want of memory, at place 0.
+    /// Memory ran out, at place 0.
     NoMemory,
     /// A text longer than the program takes, at place 0.
     TextTooLong,

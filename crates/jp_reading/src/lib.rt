@@ -9,9 +9,9 @@
 //! reader.expect(']')?;
 //! ```
 //!
-//! The contract for a crate above: its rules are functions from `State` to `Outcome` in its own
-//! `specs/`, each reading function answers `Gives`, and `proofs/` here has what turns such rules
-//! into the texts that a grammar's forms speak of.
+//! The contract for a crate above: its rules, in its own `specs/`, are values of `Rule`, or
+//! functions from `State` to `Outcome`; each reading function answers `Gives`; and `proofs/` here
+//! has what turns such rules into the texts that a grammar's forms speak of.
 #![tactic(auto)]
 
 mod numbers;

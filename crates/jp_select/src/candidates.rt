@@ -11,11 +11,9 @@ use jp_document::{DocumentValue, Json, Step};
 use jp_query::{Numeral, Selector, Slice};
 
 /// The value at this position, from 0, among those that a selector chooses from at a value, with
-/// its
-/// step; None where there are no more. A name has that member, an index that item, a slice its
-/// items
-/// in its order, a wildcard and a filter all children, of which a filter takes those for which its
-/// expression is true. A number that is not whole, or beyond 64 bits, chooses nothing.
+/// its step; None where there are no more. A name has that member, an index that item, a slice its
+/// items in its order, a wildcard and a filter all children, of which a filter takes those for
+/// which its expression is true. A number that is not whole, or beyond 64 bits, chooses nothing.
 pub fn candidate<'d>(
     selector: &Selector,
     value: DocumentValue<'d>,

@@ -34,8 +34,8 @@ impl<'a> Comparable<'a> {
         }
     }
 
-    /// Whether `self == other`: Nothing equals only Nothing, and values are equal where they are the same
-    /// (RFC 9535 section 2.3.5.2.2).
+    /// Whether `self == other`: Nothing equals only Nothing, and values are equal where they are
+    /// the same (RFC 9535 section 2.3.5.2.2).
     #[cycle(equals)]
     pub fn equals(self, other: Comparable) -> bool
         ensures value { result ≡ equals (comparable_of self.entry) (comparable_of other.entry) }
@@ -53,8 +53,8 @@ impl<'a> Comparable<'a> {
         }
     }
 
-    /// Whether `self < other`: two numbers in order, or two texts in the order of their scalar values; else
-    /// false (RFC 9535 section 2.3.5.2.2).
+    /// Whether `self < other`: two numbers in order, or two texts in the order of their scalar
+    /// values; else false (RFC 9535 section 2.3.5.2.2).
     pub fn is_less(self, other: Comparable) -> bool
         ensures { result ≡ is_less (comparable_of self.entry) (comparable_of other.entry) }
     {

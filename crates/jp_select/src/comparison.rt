@@ -7,8 +7,8 @@ use crate::comparable::Comparable;
 use jp_document::Json;
 use jp_query::Op;
 
-/// Whether `left == right`, where None is Nothing: Nothing equals only Nothing, and values are equal where
-/// they are the same (RFC 9535 section 2.3.5.2.2).
+/// Whether `left == right`, where None is Nothing: Nothing equals only Nothing, and values are
+/// equal where they are the same (RFC 9535 section 2.3.5.2.2).
 pub fn equal(left: Option<&Json>, right: Option<&Json>) -> bool
     ensures value { result ≡ equals (side_of left.entry) (side_of right.entry) }
     ensures same { IsTrue result ↔ (side_of left.entry ≡ side_of right.entry) }
@@ -16,8 +16,8 @@ pub fn equal(left: Option<&Json>, right: Option<&Json>) -> bool
     Comparable::of(left).equals(Comparable::of(right))
 }
 
-/// Whether `left < right`, where None is Nothing: two numbers in order, or two texts in the order of their
-/// scalar values; else false (RFC 9535 section 2.3.5.2.2).
+/// Whether `left < right`, where None is Nothing: two numbers in order, or two texts in the order
+/// of their scalar values; else false (RFC 9535 section 2.3.5.2.2).
 pub fn less(left: Option<&Json>, right: Option<&Json>) -> bool
     ensures { result ≡ is_less (side_of left.entry) (side_of right.entry) }
 {

@@ -10,8 +10,8 @@ ghost use Rattle.jp_select.specs.Walk.{places_in, places_from, given_by, rest_of
 use jp_document::{Node, child_count, nth_child};
 use std::alloc::{AllocError, Global};
 
-/// The node and all its descendants, in document order: each node before its descendants, siblings in the
-/// order of their parent's children (RFC 9535 section 2.5.2.2).
+/// The node and all its descendants, in document order: each node before its descendants, siblings
+/// in the order of their parent's children (RFC 9535 section 2.5.2.2).
 pub fn descend<'d>(alloc: Global, node: Node<'d>) -> Result<Vec<Node<'d>>, AllocError>
     ensures { (d : Value) → StandsIn d node.entry
         → IfOk result (λ nodes. AreNodes d nodes.items (subtree d node.entry.location)) }
@@ -23,8 +23,8 @@ pub fn descend<'d>(alloc: Global, node: Node<'d>) -> Result<Vec<Node<'d>>, Alloc
     Ok(nodes)
 }
 
-/// A walk over a node and its descendants in document order, to be taken node by node. It takes no memory
-/// before the first node is asked for, and its own memory follows the depth of the walk.
+/// A walk over a node and its descendants in document order, to be taken node by node. It takes no
+/// memory before the first node is asked for, and its own memory follows the depth of the walk.
 pub fn descend_each<'d>(alloc: Global, node: Node<'d>) -> Descent<'d>
     ensures working { result.failed ≡ false }
     ensures values { rest_of result ≡ places_in (told node.entry) }
@@ -46,8 +46,8 @@ struct Frame<'d> {
     next: usize,
 }
 
-/// A walk under way: the node that it begins with, while it has not been given, and a frame for each node
-/// on the way from there to the one that was given last.
+/// A walk under way: the node that it begins with, while it has not been given, and a frame for
+/// each node on the way from there to the one that was given last.
 #[derive(Drop)]
 pub struct Descent<'d> {
     alloc: Global,
@@ -57,7 +57,7 @@ pub struct Descent<'d> {
 }
 
 impl<'d> Descent<'d> {
-    /// Whether a node could not be given for want of memory. No more are given then.
+    /// Whether a node could not be given because memory ran out. No more are given then.
     pub fn failed(&self) -> bool
         ensures { result ≡ self.now.failed }
     {

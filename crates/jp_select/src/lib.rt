@@ -11,13 +11,11 @@
 //! ```
 //!
 //! For the layer above: in each document in which the node stands, `select_plain` gives the nodes
-//! at
-//! the locations that the standard has for the selector, in its order, and `descend` those of the
-//! node and all its descendants, in document order; `descend_each` gives these one by one.
+//! at the locations that the standard has for the selector, in its order, and `descend` those of
+//! the node and all its descendants, in document order; `descend_each` gives these one by one.
 //! `candidate` is what a selector chooses from at a value, position by position, without a list.
 //! `compare` answers what the standard has for an operator between two values, or Nothing, and
-//! takes
-//! no memory.
+//! takes no memory.
 #![tactic(auto)]
 
 mod candidates;

@@ -13,12 +13,12 @@ use jp_document::{DocumentValue, Node, Step};
 use jp_query::Selector;
 use std::alloc::{AllocError, Global};
 
-/// The nodes that a plain selector selects at a node; a filter is none, and gives no node here, since what it selects
-/// depends on queries of its own, which only a layer above can evaluate.
+/// The nodes that a plain selector selects at a node; a filter is none, and gives no node here,
+/// since what it selects depends on queries of its own, which only a layer above can evaluate.
 ///
-/// In the selector's order (section 2.3): of an object the member of that name; of any value all children; of a list
-/// the item at that index, or the items of that slice. An index or a slice with a number that is not whole, or beyond
-/// 64 bits, selects nothing.
+/// In the selector's order (section 2.3): of an object the member of that name; of any value all
+/// children; of a list the item at that index, or the items of that slice. An index or a slice with
+/// a number that is not whole, or beyond 64 bits, selects nothing.
 pub fn select_plain<'d>(
     alloc: Global,
     node: &Node<'d>,

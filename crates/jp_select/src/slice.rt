@@ -6,9 +6,8 @@ ghost use Rattle.jp_select.specs.Slice.{normalized, held_within, slice_of};
 use jp_query::{Numeral, Slice};
 
 /// The index of the item at this position, from 0, among those that a slice of a list of this
-/// length
-/// selects, in its order; None where there are no more. A number that is not whole, or beyond 64
-/// bits, selects nothing.
+/// length selects, in its order; None where there are no more. A number that is not whole, or
+/// beyond 64 bits, selects nothing.
 pub(crate) fn slice_index(length: u64, slice: Slice, position: u64) -> Option<u64>
     ensures index { result ≡ slice_get (indexes_chosen slice length) position }
     ensures more { OnSome result (position < length) }
@@ -45,8 +44,8 @@ fn rising(
     }
 }
 
-/// What a slice with a negative step selects: from the upper bound down, above the lower one. Both are held
-/// one higher here, so that they are no less than 0.
+/// What a slice with a negative step selects: from the upper bound down, above the lower one. Both
+/// are held one higher here, so that they are no less than 0.
 fn falling(
     length: u64,
     start: Option<i128>,

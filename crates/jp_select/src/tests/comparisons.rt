@@ -1,4 +1,5 @@
-//! Rows of comparisons: those of RFC 9535 section 2.3.5.3, and numbers and texts near to each other.
+//! Rows of comparisons: those of RFC 9535 section 2.3.5.3, and numbers and texts near to each
+//! other.
 use crate::{Comparable, compare, equal, less};
 use jp_document::{Document, Step};
 use jp_query::Op;
