@@ -3,10 +3,11 @@ use Rattle.std.proofs.Common.{◌≡◌, ℕ, List, [], ◌∷◌, ◌++◌, map
 use Rattle.std.specs.List.{AllByRecursion}
 use Rattle.jp_reading.specs.Forms.{Blank, Form, word, ◌⌢◌}
 use Rattle.jp_reading.specs.Texts.{Spans, Text}
-use Rattle.jp_query.specs.Grammar.{Bracket, Member, Selector, any, member, named, star}
-use Rattle.jp_query.specs.Tree.{ExprTree, SelectorTree, selectors}
+use Rattle.jp_query.specs.Grammar.{Bracket, Member, Nested, Selector, any, member, named, star}
+use Rattle.jp_query.specs.Tree.{SelectorTree, selectors}
 use Rattle.jp_canon.specs.Canon.{selector_text, selector_texts, separated}
-use Rattle.jp_canon.proofs.Forms.{Has, after-blank, before-blank, both, has-as, has-same, has-separated, has-word}
+use Rattle.jp_canon.proofs.Forms.{Has, after-blank, before-blank, both}
+use Rattle.jp_canon.proofs.Forms.{has-as, has-same, has-separated, has-word}
 use Rattle.jp_canon.proofs.Names.{has-quoted}
 
 selector_texts-map : (ys : List SelectorTree) → selector_texts (selectors ys) ≡ map selector_text ys
@@ -26,7 +27,7 @@ two-dots h = both (has-word (codes ".")) (both (has-word (codes ".")) h)
 abbrev pub bracket_text : List SelectorTree → Text
 bracket_text ys = separated (codes ",") (selector_texts (selectors ys)) ++ codes "]"
 
-module _ (K : ExprTree → Form) where
+module _ (K : Nested → Form) where
   -- a name or `*` after a dot, as a selector
   pub by-member : (y : SelectorTree) (s : Spans) (o : ℕ) (t : Text) → Member y s o t
       → Has (Selector K y) (selector_text y)

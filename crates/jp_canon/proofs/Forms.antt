@@ -1,10 +1,11 @@
 -- Texts that have a form wherever they stand.
-use Rattle.std.proofs.Common.{◌≡◌, ℕ, ◌+◌, Bool, true, List, [], ◌∷◌, ◌++◌, map, Some, refl, subst, append-nil}
+use Rattle.std.proofs.Common.{ℕ, ◌+◌, List, [], ◌∷◌, ◌++◌, map, Some, refl, append-nil}
 use Rattle.std.specs.List.{AllByRecursion, flat_map}
-use Rattle.jp_reading.specs.Forms.{AllPassing, Blank, Each, Form, Item, Omitted, One, Separated, word, ◌⌢◌}
+use Rattle.jp_reading.specs.Forms.{Blank, Each, Form, Item, Omitted, Separated, ◌⌢◌}
 use Rattle.jp_reading.specs.Texts.{Spans, Text, bytes}
 use Rattle.jp_canon.specs.Canon.{separated}
-pub use Rattle.jp_reading.proofs.HasForm.{HasForm as Has, has-word, has-one, both, has-as, has-same, has-each_passing}
+pub use Rattle.jp_reading.proofs.HasForm.{HasForm as Has, has-word, has-one, both}
+pub use Rattle.jp_reading.proofs.HasForm.{has-as, has-same, has-each_passing}
 
 pub has-blank : Has Blank []
 has-blank = record { at = λ o. ([], record { none = refl; blank = tt }) }

@@ -1,33 +1,33 @@
 -- What some text spells, its canonical text spells, within the same levels.
 use Rattle.std.proofs.Common.{◌≡◌, ℕ, zero, suc, ◌≤◌, refl, sym, subst, ap, arith, codes}
 use Rattle.jp_reading.specs.Texts.{Spans, Text}
-use Rattle.jp_query.specs.Grammar.{Inside, Segments, Spells}
+use Rattle.jp_query.specs.Grammar.{Inside, Nested, Segments, Spells}
 use Rattle.jp_query.specs.Laws.{OneReading}
-use Rattle.jp_query.specs.Tree.{ExprTree, QueryTree, segments}
-use Rattle.jp_canon.specs.Canon.{canon_of, expr_text, segments_text}
+use Rattle.jp_query.specs.Tree.{QueryTree, segments}
+use Rattle.jp_canon.specs.Canon.{canon_of, segments_text}
 use Rattle.jp_canon.specs.Laws.{CanonIsAccepted, CanonSpells, CanonTellsApart}
 use Rattle.jp_canon.proofs.Forms.{Has, both, has-word}
-use Rattle.jp_canon.proofs.Grouping.{Known, Own, whole}
-use Rattle.jp_canon.proofs.Rules.{expression-text, segments-text}
+use Rattle.jp_canon.proofs.Grouping.{Known, OwnLevel, nested_text, whole}
+use Rattle.jp_canon.proofs.Rules.{level-text, segments-text}
 
 -- what some text spells within m levels has both forms within k levels, where m ≤ k: what can stand
 -- as it is within k - 1 levels can stand one level further in
 known-by : (m k : ℕ) → m ≤ k
-    → ((j : ℕ) → m ≤ suc j → (e : ExprTree) (s : Spans) (o : ℕ) (t : Text) → Inside m e s o t
-    → Has (Own (Inside j) e) (expr_text e))
-    → (e : ExprTree) (s : Spans) (o : ℕ) (t : Text) → Inside m e s o t → Known (Inside k) e
-known-by zero k fits own e s o t h = elim h [ ]
-known-by (suc m) zero fits own e s o t h = absurd (omega arith)
-known-by (suc m) (suc k) fits own e s o t h = record {
-  own = own (suc k) (omega arith) e s o t h;
-  inside = whole (Inside k) e (expr_text e) (own k (omega arith) e s o t h);
+    → ((j : ℕ) → m ≤ suc j → (x : Nested) (s : Spans) (o : ℕ) (t : Text) → Inside m x s o t
+    → Has (OwnLevel (Inside j) x) (nested_text x))
+    → (x : Nested) (s : Spans) (o : ℕ) (t : Text) → Inside m x s o t → Known (Inside k) x
+known-by zero k fits own x s o t h = elim h [ ]
+known-by (suc m) zero fits own x s o t h = absurd (omega arith)
+known-by (suc m) (suc k) fits own x s o t h = record {
+  own = own (suc k) (omega arith) x s o t h;
+  inside = whole (Inside k) x (own k (omega arith) x s o t h);
 }
 
-own-text : (m k : ℕ) → m ≤ suc k → (e : ExprTree) (s : Spans) (o : ℕ) (t : Text) → Inside m e s o t
-    → Has (Own (Inside k) e) (expr_text e)
-own-text zero k fits e s o t h = elim h [ ]
-own-text (suc m) k fits e s o t h = expression-text (Inside m) (Inside k)
-    (known-by m k (omega arith) (own-text m)) e s o t h
+own-text : (m k : ℕ) → m ≤ suc k → (x : Nested) (s : Spans) (o : ℕ) (t : Text) → Inside m x s o t
+    → Has (OwnLevel (Inside k) x) (nested_text x)
+own-text zero k fits x s o t h = elim h [ ]
+own-text (suc m) k fits x s o t h =
+    level-text (Inside m) (Inside k) (known-by m k (omega arith) (own-text m)) x s o t h
 
 -- ---- whole queries
 

@@ -1,5 +1,6 @@
 pub mod Bracketed
 pub mod Forms
+pub mod FunctionNames
 pub mod Grouping
 pub mod Induction
 pub mod Literals

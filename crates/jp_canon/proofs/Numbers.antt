@@ -1,5 +1,7 @@
 -- Numbers in decimal spell themselves.
-use Rattle.std.proofs.Common.{◌≡◌, ℕ, zero, suc, ◌+◌, ◌-◌, ◌*◌, ◌^◌, ◌<◌, ◌≤◌, ltb, leb, Bool, true, false, [], ◌∷◌, pos, negsuc, codes, refl, sym, ap, subst, ◌∙◌, inl, inr, arith, append-nil}
+use Rattle.std.proofs.Common.{◌≡◌, ℕ, zero, suc, ◌+◌, ◌-◌, ◌*◌, ◌^◌, ◌<◌, ◌≤◌, ltb}
+use Rattle.std.proofs.Common.{leb, Bool, true, false, [], ◌∷◌, pos, negsuc, codes}
+use Rattle.std.proofs.Common.{refl, sym, ap, subst, ◌∙◌, inl, inr, arith, append-nil}
 use Rattle.std.specs.Fmt.{decimal}
 use Rattle.std.specs.Fmt.{digits as fmt_digits}
 use Rattle.std.specs.List.{list_all}
@@ -10,11 +12,14 @@ use Rattle.jp_reading.specs.Numbers.{is_digit, value_from}
 use Rattle.jp_reading.specs.Texts.{Spans, Text}
 use Rattle.jp_reading.proofs.Digits.{value_from-least}
 use Rattle.jp_document.specs.Path.{index_text}
-use Rattle.jp_document.proofs.IndexTexts.{Begun, begun, decimal-index_text, other_text, value_from-index_text, zero_text}
+use Rattle.jp_document.proofs.IndexTexts.{Begun, begun, decimal-index_text, other_text}
+use Rattle.jp_document.proofs.IndexTexts.{value_from-index_text, zero_text}
 use Rattle.jp_query.specs.declared.tree.Numeral.{Numeral}
 use Rattle.jp_query.specs.declared.tree.Numeral.TheVariants.{Beyond, Fraction, Whole}
-use Rattle.jp_query.specs.Ints.{Int, is_leading_digit, negative_int, negative_of, positive_int, whole_of, zero_int}
-use Rattle.jp_query.specs.Literals.{Decimals, DigitSequence, Exponent, Mantissa, Number, Optional, decimals, left_out, minus_zero, number, whole, written}
+use Rattle.jp_query.specs.Ints.{Int, is_leading_digit, negative_int}
+use Rattle.jp_query.specs.Ints.{negative_of, positive_int, whole_of, zero_int}
+use Rattle.jp_query.specs.Literals.{Decimals, DigitSequence, Exponent, Mantissa, Number, Optional}
+use Rattle.jp_query.specs.Literals.{decimals, left_out, minus_zero, number, whole, written}
 use Rattle.jp_canon.specs.Canon.{numeral_text}
 use Rattle.jp_canon.proofs.Forms.{Has, both, has-as, has-each_passing, has-one, has-same, has-word}
 
@@ -131,7 +136,8 @@ has-plain i h =
 has-fraction : Has (Number Fraction) (codes "0.5")
 unfolding is_digit
 has-fraction =
-    let digits : Has (DigitSequence 53 []) (53 ∷ []) = both (has-one is_digit 53 refl) (has-word []) in
+    let digits : Has (DigitSequence 53 []) (53 ∷ []) =
+    both (has-one is_digit 53 refl) (has-word []) in
     let zero_text : Has (Int (whole_of 0)) (48 ∷ []) = has-as (λ s o. zero_int refl)
     (has-word (48 ∷ [])) in
     let half : Has Decimals (46 ∷ 53 ∷ []) = has-as (λ s o. decimals 53 [])

@@ -1,16 +1,24 @@
 -- Worked rows of the definitions.
-use Rattle.std.proofs.Common.{◌≡◌, ℕ, Bool, true, false, List, [], ◌∷◌, Some, None, pos, negsuc, codes, refl}
+use Rattle.std.proofs.Common.{◌≡◌, ℕ, Bool, true, false, List, [], ◌∷◌}
+use Rattle.std.proofs.Common.{Some, None, pos, negsuc, codes, refl}
 use Rattle.std.specs.Fmt.{digits}
 use Rattle.jp_document.specs.Spelling.{spelling}
 use Rattle.jp_query.specs.declared.tree.Numeral.TheVariants.{Whole}
 use Rattle.jp_query.specs.declared.tree.Op.TheVariants.{Equal}
-use Rattle.jp_query.specs.Tree.{ExprTree, SelectorTree, all_of, any_of, comparison, exists, exprs, filter, index, literal, name, negation, node_value, number, query, segment, segments, selectors, slice, wildcard}
+use Rattle.jp_query.specs.Tree.{ArgumentTree, ExprTree, QueryTree, SelectorTree, all_of, any_of}
+use Rattle.jp_query.specs.Tree.{arguments, call, call_argument, call_test, call_value, comparison}
+use Rattle.jp_query.specs.Tree.{exists, exprs, filter, index, literal, literal_argument}
+use Rattle.jp_query.specs.Tree.{logical_argument, name, negation, node_value, number, query}
+use Rattle.jp_query.specs.Tree.{query_argument, segment, segments, selectors, slice, text, wildcard}
 use Rattle.jp_canon.specs.Canon.{canon_of, expr_text, selector_text}
 use Rattle.jp_canon.specs.Precedence.{is_grouped}
 
 -- @.a, @.b and @.c, as tests
+abbrev child : ℕ → QueryTree
+child c = query false (segments (segment false (selectors (name (c ∷ []) ∷ [])) ∷ []))
+
 abbrev test : ℕ → ExprTree
-test c = exists (query false (segments (segment false (selectors (name (c ∷ []) ∷ [])) ∷ [])))
+test c = exists (child c)
 
 abbrev a : ExprTree
 a = test 97
@@ -67,9 +75,44 @@ not_relation : expr_text (negation relation) ≡ codes "!(@==1)"
 unfolding spelling digits
 not_relation = refl
 
+-- function expressions
+abbrev call_row : List ℕ → List ℕ → List ArgumentTree → Type 0
+call_row row function xs = expr_text (call_test (call function (arguments xs))) ≡ row
+
+without_arguments : call_row (codes "f()") (codes "f") []
+without_arguments = refl
+
+matched : call_row (codes "match(@['b'],'[jk]')") (codes "match")
+    (query_argument (child 98) ∷ literal_argument (text (codes "[jk]")) ∷ [])
+unfolding spelling
+matched = refl
+
+test_argument : call_row (codes "f((@['a']),@['a'])") (codes "f")
+    (logical_argument a ∷ query_argument (child 97) ∷ [])
+unfolding spelling
+test_argument = refl
+
+call_arguments : call_row (codes "f((g()),g(),!g())") (codes "f")
+    (logical_argument (call_test (call (codes "g") (arguments []))) ∷ call_argument
+    (call (codes "g") (arguments [])) ∷ logical_argument
+    (negation (call_test (call (codes "g") (arguments [])))) ∷ [])
+call_arguments = refl
+
+logical_arguments : call_row (codes "f(@['a']||@['b'],@['a']&&@['b'],!@['a'],@==1)") (codes "f")
+    (logical_argument (either a b) ∷ logical_argument (each a b) ∷ logical_argument
+    (negation a) ∷ logical_argument relation ∷ [])
+unfolding spelling digits
+logical_arguments = refl
+
+compared : expr_text
+    (comparison (call_value (call (codes "count") (arguments (query_argument (child 97) ∷ []))))
+    Equal (literal (number (Whole (pos 1))))) ≡ codes "count(@['a'])==1"
+unfolding spelling digits
+compared = refl
+
 -- slices
 abbrev slice_row : List ℕ → SelectorTree → Type 0
-slice_row text x = selector_text x ≡ text
+slice_row row x = selector_text x ≡ row
 
 without_step : slice_row (codes "1:2")
     (slice (record {
@@ -94,12 +137,12 @@ without_bounds = refl
 root : canon_of (query true (segments [])) ≡ codes "$"
 root = refl
 
-several : canon_of
+two_segments : canon_of
     (query true (segments
     (segment false (selectors (name (codes "a") ∷ wildcard ∷ [])) ∷ segment true
     (selectors (index (Whole (negsuc 1)) ∷ [])) ∷ []))) ≡ codes "$['a',*]..[-2]"
 unfolding spelling digits
-several = refl
+two_segments = refl
 
 escaped : selector_text (name (39 ∷ 92 ∷ 31 ∷ 10 ∷ 34 ∷ 233 ∷ [])) ≡ codes "'\\'\\\\\\u001f\\n\"é'"
 unfolding spelling

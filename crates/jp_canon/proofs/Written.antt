@@ -1,10 +1,12 @@
 -- Pieces that are written after a text, as characters.
-use Rattle.std.proofs.Common.{◌≡◌, ℕ, true, List, [], ◌∷◌, ◌++◌, cond, String, Result, Ok, Err, OnOk, is_ok, string_bytes, refl, ap, ap₂, sym, ◌∙◌, codes}
+use Rattle.std.proofs.Common.{◌≡◌, ℕ, true, List, [], ◌∷◌, ◌++◌, cond, String, Result, Ok}
+use Rattle.std.proofs.Common.{Err, OnOk, is_ok, string_bytes, refl, ap, ap₂, sym, ◌∙◌, codes}
 use Rattle.std.specs.Char.{is_ascii}
 use Rattle.std.specs.List.{flat_map, list_all}
 use Rattle.std.specs.Str.{chars, encode_utf8_all}
 use Rattle.std.proofs.lemmas.Bool.{and_parts, ltb-true}
-use Rattle.std.proofs.lemmas.Str.{IsUtf8-string_bytes, chars_from_encodes, encode_ascii, encodes-append, encodes-chars}
+use Rattle.std.proofs.lemmas.Str.{IsUtf8-string_bytes, chars_from_encodes}
+use Rattle.std.proofs.lemmas.Str.{encode_ascii, encodes-append, encodes-chars}
 use Rattle.jp_document.specs.Path.{quoted}
 use Rattle.jp_document.specs.Spelling.{spelling}
 use Rattle.jp_document.proofs.Encoded.{names-encode}

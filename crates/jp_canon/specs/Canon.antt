@@ -1,7 +1,8 @@
 -- The canonical text of a query: of all its spellings the one without blank space and without a
 -- choice (RFC 9535 sections 2.1 to 2.5). It is a function of the tree, and knows no text that was
 -- read.
-use Rattle.std.specs.Prelude.{ℕ, ◌^◌, ◌==◌, pos, Bool, false, if◌then◌else◌, List, [], ◌∷◌, ◌++◌, Option, Some, None, codes}
+use Rattle.std.specs.Prelude.{ℕ, ◌^◌, ◌==◌, pos, Bool, false, if◌then◌else◌}
+use Rattle.std.specs.Prelude.{List, [], ◌∷◌, ◌++◌, Option, Some, None, codes}
 use Rattle.std.specs.Fmt.{decimal, signed_decimal}
 use Rattle.std.specs.List.{join_by}
 use Rattle.jp_reading.specs.Texts.{Text}
@@ -10,8 +11,17 @@ use Rattle.jp_query.specs.declared.tree.Numeral.{Numeral}
 use Rattle.jp_query.specs.declared.tree.Numeral.TheVariants.{Whole, Beyond, Fraction}
 use Rattle.jp_query.specs.declared.tree.Slice.{Slice}
 use Rattle.jp_query.specs.Literals.{spelling}
-use Rattle.jp_query.specs.Tree.{SelectorTree, name, wildcard, index, slice, filter, SelectorTrees, no_selectors, selector_then, SegmentTree, segment, SegmentTrees, no_segments, segment_then, QueryTree, query, ExprTree, any_of, all_of, negation, comparison, exists, ExprTrees, no_exprs, expr_then, OperandTree, literal, node_value, LiteralTree, number, text, true_literal, false_literal, null_literal}
-use Rattle.jp_canon.specs.Precedence.{or_precedence, and_precedence, not_precedence, is_grouped, grouped}
+use Rattle.jp_query.specs.Tree.{SelectorTree, name, wildcard, index, slice, filter, SelectorTrees}
+use Rattle.jp_query.specs.Tree.{no_selectors, selector_then, SegmentTree, segment, SegmentTrees}
+use Rattle.jp_query.specs.Tree.{no_segments, segment_then, QueryTree, query, ExprTree, any_of}
+use Rattle.jp_query.specs.Tree.{all_of, negation, comparison, exists, call_test, ExprTrees}
+use Rattle.jp_query.specs.Tree.{no_exprs, expr_then, OperandTree, literal, node_value, call_value}
+use Rattle.jp_query.specs.Tree.{CallTree, call, ArgumentTree, literal_argument, query_argument}
+use Rattle.jp_query.specs.Tree.{call_argument, logical_argument, ArgumentTrees, no_arguments}
+use Rattle.jp_query.specs.Tree.{argument_then, LiteralTree, number, text, true_literal}
+use Rattle.jp_query.specs.Tree.{false_literal, null_literal}
+use Rattle.jp_canon.specs.Precedence.{or_precedence, and_precedence}
+use Rattle.jp_canon.specs.Precedence.{not_precedence, is_grouped, is_test, grouped}
 
 -- the texts one after another, with a mark between two neighbours
 abbrev pub separated : Text → List Text → Text
@@ -81,13 +91,14 @@ abbrev mutual
   canon_of (query absolute all) = (if absolute then codes "$" else codes "@") ++ segments_text all
 
   -- logical-expr (section 2.3.5.1): `||` or `&&` between parts, `!` before a part, an operator
-  -- between sides, or a query
+  -- between sides, a query, or a function expression
   pub expr_text : ExprTree → Text
   expr_text (any_of es) = separated (codes "||") (part_texts or_precedence es)
   expr_text (all_of es) = separated (codes "&&") (part_texts and_precedence es)
   expr_text (negation e) = codes "!" ++ grouped (is_grouped not_precedence e) (expr_text e)
   expr_text (comparison left op right) = operand_text left ++ (spelling op ++ operand_text right)
   expr_text (exists q) = canon_of q
+  expr_text (call_test c) = call_text c
 
   -- the parts of an expression of this precedence, in parentheses where they have to be
   pub part_texts : ℕ → ExprTrees → List Text
@@ -95,7 +106,26 @@ abbrev mutual
   part_texts outer (expr_then e rest) =
       grouped (is_grouped outer e) (expr_text e) ∷ part_texts outer rest
 
-  -- comparable (section 2.3.5.1): a literal, or a query
+  -- comparable (section 2.3.5.1): a literal, a query, or a function expression
   pub operand_text : OperandTree → Text
   operand_text (literal l) = literal_text l
   operand_text (node_value q) = canon_of q
+  operand_text (call_value c) = call_text c
+
+  -- function-expr (section 2.4): the function's name, and its arguments in parentheses, with commas
+  -- between them
+  pub call_text : CallTree → Text
+  call_text (call function all) =
+      function ++ (codes "(" ++ (separated (codes ",") (argument_texts all) ++ codes ")"))
+
+  pub argument_texts : ArgumentTrees → List Text
+  argument_texts no_arguments = []
+  argument_texts (argument_then x rest) = argument_text x ∷ argument_texts rest
+
+  -- function-argument (section 2.4): a test that is a logical expression as an argument stands in
+  -- parentheses, without which it is another argument
+  pub argument_text : ArgumentTree → Text
+  argument_text (literal_argument l) = literal_text l
+  argument_text (query_argument q) = canon_of q
+  argument_text (call_argument c) = call_text c
+  argument_text (logical_argument e) = grouped (is_test e) (expr_text e)

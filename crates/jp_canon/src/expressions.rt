@@ -7,6 +7,7 @@ ghost use Rattle.jp_query.specs.Tree.{expr_of, exprs, operand_of};
 ghost use Rattle.jp_canon.specs.Canon.{expr_text, operand_text, part_texts, separated};
 ghost use Rattle.jp_canon.specs.Precedence.{is_grouped, precedence};
 
+use crate::calls::write_call;
 use crate::segments::write_query;
 use crate::values::{write_literal, write_operator};
 use crate::writer::Writer;
@@ -45,6 +46,7 @@ pub(crate) fn write_expr(out: &mut Writer, expr: &Expr) -> Result<(), AllocError
             write_side(out, right)
         }
         Expr::Test(Subject::Query(query)) => write_query(out, query),
+        Expr::Test(Subject::Call(call)) => write_call(out, call),
     }
 }
 
@@ -73,6 +75,7 @@ fn write_side(out: &mut Writer, side: &Operand) -> Result<(), AllocError>
     match side {
         Operand::Literal(literal) => write_literal(out, literal),
         Operand::Query(query) => write_query(out, query),
+        Operand::Call(call) => write_call(out, call),
     }
 }
 

@@ -10,6 +10,7 @@
 //! have one canonical text exactly if they are equal (`laws`).
 #![tactic(auto)]
 
+mod calls;
 mod canonical;
 mod expressions;
 pub mod laws;

@@ -60,6 +60,13 @@ impl Writer {
         if there { self.word(word) } else { Ok(()) }
     }
 
+    /// Writes the name of a function.
+    pub(crate) fn name(&mut self, name: &str) -> Result<(), AllocError>
+        ensures { OnOk result (self.new ≡ self.old ++ chars name.now) }
+    {
+        self.text.push_str(name)
+    }
+
     /// Writes a text between single quotes, spelled as a name in a normalized path.
     pub(crate) fn quote(&mut self, text: &str) -> Result<(), AllocError>
         ensures { OnOk result (self.new ≡ self.old ++ quoted (chars text.now)) }

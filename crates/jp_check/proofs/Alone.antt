@@ -1,21 +1,30 @@
 -- No text is accepted and refused, and no text is refused in two ways.
-use Rattle.std.proofs.Common.{◌≡◌, ◌⊎◌, inl, inr, ℕ, ◌==◌, if◌then◌else◌, List, [], ◌∷◌, Result, Ok, Err, IfErr, refl, sym, ap, ◌∙◌, subst, arith, Option, Some, None, MatchOption}
+use Rattle.std.proofs.Common.{◌≡◌, ◌⊎◌, inl, inr, ℕ, ◌==◌, if◌then◌else◌, List}
+use Rattle.std.proofs.Common.{[], ◌∷◌, Result, Ok, Err, IfErr, refl, sym, ap}
+use Rattle.std.proofs.Common.{◌∙◌, subst, arith, Option, Some, None, MatchOption}
 use Rattle.std.specs.List.{All}
 use Rattle.std.proofs.lemmas.List.Elements.{All-head, All-tail}
 use Rattle.jp_reading.specs.Texts.{Text, Spans}
 use Rattle.jp_query.specs.declared.refusal.Refusal.{Refusal}
 use Rattle.jp_query.specs.declared.refusal.RefusalKind.{RefusalKind}
-use Rattle.jp_query.specs.declared.refusal.RefusalKind.TheVariants.{Syntax, TooDeep, NotWhole, NumberRange, IndexRange, UnknownFunction, ArgumentCount, NotSingular, IllTyped, NoMemory, TextTooLong}
-use Rattle.jp_query.specs.Items.{QueryItem, int, constant, inner, as_side, items_of}
+use Rattle.jp_query.specs.declared.refusal.RefusalKind.TheVariants.{Syntax, TooDeep, NotWhole}
+use Rattle.jp_query.specs.declared.refusal.RefusalKind.TheVariants.{NumberRange, IndexRange}
+use Rattle.jp_query.specs.declared.refusal.RefusalKind.TheVariants.{UnknownFunction, ArgumentCount}
+use Rattle.jp_query.specs.declared.refusal.RefusalKind.TheVariants.{NotSingular, IllTyped}
+use Rattle.jp_query.specs.declared.refusal.RefusalKind.TheVariants.{NoMemory, TextTooLong}
+use Rattle.jp_query.specs.Items.{QueryItem, int, constant, inner, called, logical, count, items_of}
 use Rattle.jp_query.specs.Grammar.{Spells}
 use Rattle.jp_query.specs.Levels.{level_limit}
 use Rattle.jp_query.specs.Laws.{OneReading, IsParseRefusal, OneRefusal}
 use Rattle.jp_query.specs.Spelled.{SpellsNothing}
 use Rattle.jp_query.specs.Refusal.{number_of}
-use Rattle.jp_query.specs.Tree.{QueryTree}
+use Rattle.jp_query.specs.Tree.{QueryTree, call}
 use Rattle.jp_check.specs.Accepted.{IsAcceptedAs, IsNotAccepted}
-use Rattle.jp_check.specs.Faults.{HasFault}
+use Rattle.jp_check.specs.declared.functions.DataType.{DataType}
+use Rattle.jp_check.specs.Faults.{HasCallFault, HasFault}
 use Rattle.jp_check.specs.First.{IsItemFault, IsNoLater, IsFirstFault}
+use Rattle.jp_check.specs.Functions.{Signature, signature_named}
+use Rattle.jp_check.specs.Types.{wanted}
 use Rattle.jp_check.specs.Laws.{OneAnswer}
 use Rattle.jp_check.specs.Refused.{IsFaulty, RefusalSays, IsRefused, IsRefusedForItself}
 use Rattle.jp_check.proofs.Least.{NoFault, of-cons, of-item, of-none, found}
@@ -129,7 +138,8 @@ refusals-same one once text r f (no_query at) (memory e) told too = absurd (too 
 refusals-same one once text r f (faulty g) (memory e) told too = absurd (too e)
 refusals-same one once text r f (no_query at) (no_query elsewhere) told too =
     let same =
-    (once level_limit text).once r.kind f.kind r.place f.place at elsewhere in same-refusal r f same.0 same.1
+    (once level_limit text).once r.kind f.kind r.place f.place at elsewhere in same-refusal r f
+    same.0 same.1
 refusals-same one once text r f (no_query at) (faulty h) told too =
     absurd (unspelled once text r at h.tree h.spans h.spelled)
 refusals-same one once text r f (faulty h) (no_query at) told too =
@@ -152,40 +162,29 @@ refused-result one once text (Err r) h = refused-only one once text r (why text 
 
 -- ---- a first fault refuses the text
 
--- a kind that is no fault of any item
-abbrev NoFaultKind : RefusalKind → Type 0
-NoFaultKind kind = (x : QueryItem) → HasFault x kind → ⊥
+-- none of the kinds that are no faults of items
+abbrev HasNone : (RefusalKind → Type 0) → Type 0
+HasNone Has = (Has Syntax → ⊥) × (Has TooDeep → ⊥) × (Has NoMemory → ⊥) × (Has TextTooLong → ⊥)
 
-no_syntax : NoFaultKind Syntax
-no_syntax (int n role) h = h
-no_syntax (constant l role) h = h
-no_syntax (inner q as_side) h = h
-no_syntax (inner q role) h = h
+call-none : (function : Option Signature) (given : ℕ) (want : Option DataType) →
+    HasNone (HasCallFault function given want)
+call-none None given want = (λ h. h, λ h. h, λ h. h, λ h. h)
+call-none (Some function) given want = (λ h. h, λ h. h, λ h. h, λ h. h)
 
-no_too_deep : NoFaultKind TooDeep
-no_too_deep (int n role) h = h
-no_too_deep (constant l role) h = h
-no_too_deep (inner q as_side) h = h
-no_too_deep (inner q role) h = h
-
-no_memory : NoFaultKind NoMemory
-no_memory (int n role) h = h
-no_memory (constant l role) h = h
-no_memory (inner q as_side) h = h
-no_memory (inner q role) h = h
-
-no_too_long : NoFaultKind TextTooLong
-no_too_long (int n role) h = h
-no_too_long (constant l role) h = h
-no_too_long (inner q as_side) h = h
-no_too_long (inner q role) h = h
+item-none : (x : QueryItem) → HasNone (HasFault x)
+item-none (int n role) = (λ h. h, λ h. h, λ h. h, λ h. h)
+item-none (constant l role) = (λ h. h, λ h. h, λ h. h, λ h. h)
+item-none (inner q role) = (λ h. h, λ h. h, λ h. h, λ h. h)
+item-none (called (call name all) role) =
+    call-none (signature_named name) (count all) (wanted role)
+item-none (logical e role) = (λ h. h, λ h. h, λ h. h, λ h. h)
 
 faulty-refused : (text : Text) (kind : RefusalKind) (place : ℕ)
     → IsFaulty text (record { kind = kind; place = place }) → RefusalSays text kind place
-faulty-refused text Syntax place h = absurd (no_syntax h.first.is.item h.first.is.kind)
-faulty-refused text TooDeep place h = absurd (no_too_deep h.first.is.item h.first.is.kind)
-faulty-refused text NoMemory place h = absurd (no_memory h.first.is.item h.first.is.kind)
-faulty-refused text TextTooLong place h = absurd (no_too_long h.first.is.item h.first.is.kind)
+faulty-refused text Syntax place h = absurd ((item-none h.first.is.item).0 h.first.is.kind)
+faulty-refused text TooDeep place h = absurd ((item-none h.first.is.item).1 h.first.is.kind)
+faulty-refused text NoMemory place h = absurd ((item-none h.first.is.item).2 h.first.is.kind)
+faulty-refused text TextTooLong place h = absurd ((item-none h.first.is.item).3 h.first.is.kind)
 faulty-refused text kind place h = h
 
 refused-for_itself : (text : Text) (kind : RefusalKind) (place : ℕ)
@@ -193,7 +192,7 @@ refused-for_itself : (text : Text) (kind : RefusalKind) (place : ℕ)
     → IsRefusedForItself text (record { kind = kind; place = place })
 refused-for_itself text kind place h = (
   faulty-refused text kind place h,
-  λ e. no_memory h.first.is.item (subst (HasFault h.first.is.item) e h.first.is.kind),
+  λ e. (item-none h.first.is.item).2 (subst (HasFault h.first.is.item) e h.first.is.kind),
 )
 
 pub first-refused : {T : Type 0} (text : Text) (q : QueryTree) (spans : Spans)

@@ -1,7 +1,10 @@
 -- The first fault that the walk finds is the first of all.
-use Rattle.std.proofs.Common.{◌≡◌, pos, ◌⊎◌, inl, inr, Bool, true, false, cond, List, [], ◌∷◌, Option, Some, None, MatchOption, length, refl, sym, ap, subst, arith}
-use Rattle.std.specs.List.{All, zip}
-use Rattle.std.proofs.lemmas.List.Elements.{All-cons, All-nil, Contains-append_left, Contains-append_right, Contains-append_cases, Contains-push, Contains-push_cases}
+use Rattle.std.proofs.Common.{◌≡◌, pos, ◌⊎◌, inl, inr, Bool, true, false, cond, List, [], ◌∷◌}
+use Rattle.std.proofs.Common.{Option, Some, None, MatchOption, length, refl, sym, ap, subst, arith}
+use Rattle.std.specs.List.{All, Contains, zip}
+use Rattle.std.proofs.lemmas.List.Elements.{All-cons, All-nil, Contains-append_left}
+use Rattle.std.proofs.lemmas.List.Elements.{Contains-append_right, Contains-append_cases}
+use Rattle.std.proofs.lemmas.List.Elements.{Contains-push, Contains-push_cases}
 use Rattle.jp_reading.specs.Texts.{Text, Spans}
 use Rattle.jp_reading.specs.declared.span.Span.{Span}
 use Rattle.jp_query.specs.declared.refusal.Refusal.{Refusal}
@@ -108,25 +111,29 @@ of-cons x xs span spans f h =
           (record { item = h.item; span = h.span; among = a; kind = h.kind; place = h.place })
     ]
 
-of-head : (x : QueryItem) (xs : List QueryItem) (span : Option Span) (spans : Spans) (f : Refusal)
-    → OfItem x span f → IsItemFault (x ∷ xs) (span ∷ spans) f
-of-head x xs span spans f h = record {
+-- and of more items, with what comes among them
+of-more : (items others : List QueryItem) (spans more : Spans) (f : Refusal) →
+    ((e : QueryItem × Option Span) → Contains (zip items spans) e → Contains (zip others more) e) →
+    IsItemFault items spans f → IsItemFault others more f
+of-more items others spans more f among h = record {
   item = h.item;
   span = h.span;
-  among = Contains-append_left ((x, span) ∷ []) (zip xs spans) (h.item, Some h.span) h.among;
+  among = among (h.item, Some h.span) h.among;
   kind = h.kind;
   place = h.place;
 }
 
-of-tail : (x : QueryItem) (xs : List QueryItem) (span : Option Span) (spans : Spans) (f : Refusal)
-    → IsItemFault xs spans f → IsItemFault (x ∷ xs) (span ∷ spans) f
-of-tail x xs span spans f h = record {
-  item = h.item;
-  span = h.span;
-  among = Contains-append_right ((x, span) ∷ []) (zip xs spans) (h.item, Some h.span) h.among;
-  kind = h.kind;
-  place = h.place;
-}
+of-head : (x : QueryItem) (xs : List QueryItem) (span : Option Span) (spans : Spans) (f : Refusal) →
+    OfItem x span f → IsItemFault (x ∷ xs) (span ∷ spans) f
+of-head x xs span spans f =
+    of-more (x ∷ []) (x ∷ xs) (span ∷ []) (span ∷ spans) f
+    (Contains-append_left ((x, span) ∷ []) (zip xs spans))
+
+of-tail : (x : QueryItem) (xs : List QueryItem) (span : Option Span) (spans : Spans) (f : Refusal) →
+    IsItemFault xs spans f → IsItemFault (x ∷ xs) (span ∷ spans) f
+of-tail x xs span spans f =
+    of-more xs (x ∷ xs) spans (span ∷ spans) f
+    (Contains-append_right ((x, span) ∷ []) (zip xs spans))
 
 -- without items or without spans there is none
 pub of-none : (items : List QueryItem) (spans : Spans) (f : Refusal) → zip items spans ≡ []

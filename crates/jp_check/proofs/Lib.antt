@@ -1,4 +1,6 @@
 pub mod Alone
+pub mod Calls
+pub mod FunctionNames
 pub mod Least
 pub mod OwnFault
 pub mod OwnText

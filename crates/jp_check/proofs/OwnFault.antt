@@ -1,22 +1,36 @@
 -- The fault of an item is the one with the least number that it has.
-use Rattle.std.proofs.Common.{◌≡◌, ◌≤◌, Bool, true, false, cond, Option, Some, None, refl, arith}
+use Rattle.std.proofs.Common.{◌≡◌, ◌==◌, ◌≤◌, ℕ, Bool, true, false, cond}
+use Rattle.std.proofs.Common.{Option, Some, None, length, refl, arith}
 use Rattle.jp_query.specs.declared.refusal.RefusalKind.{RefusalKind}
-use Rattle.jp_query.specs.declared.refusal.RefusalKind.TheVariants.{NotWhole, NumberRange, IndexRange, NotSingular}
+use Rattle.jp_query.specs.declared.refusal.RefusalKind.TheVariants.{NotWhole, NumberRange}
+use Rattle.jp_query.specs.declared.refusal.RefusalKind.TheVariants.{IndexRange, UnknownFunction}
+use Rattle.jp_query.specs.declared.refusal.RefusalKind.TheVariants.{ArgumentCount, NotSingular}
+use Rattle.jp_query.specs.declared.refusal.RefusalKind.TheVariants.{IllTyped}
 use Rattle.jp_query.specs.declared.tree.Numeral.{Numeral}
 use Rattle.jp_query.specs.declared.tree.Numeral.TheVariants.{Whole, Beyond, Fraction}
-use Rattle.jp_query.specs.Items.{QueryItem, Use, as_index, as_bound, as_step, as_side, as_test, int, constant, inner}
+use Rattle.jp_query.specs.Items.{QueryItem, Use, int, constant, inner, called, logical, count}
 use Rattle.jp_query.specs.Refusal.{number_of}
 use Rattle.jp_query.specs.Singular.{is_singular}
-use Rattle.jp_query.specs.Tree.{QueryTree, LiteralTree, number, text, true_literal, false_literal, null_literal}
-use Rattle.jp_check.specs.Faults.{HasFault}
+use Rattle.jp_query.specs.Tree.{QueryTree, ExprTree, LiteralTree, number, text}
+use Rattle.jp_query.specs.Tree.{true_literal, false_literal, null_literal, call}
+use Rattle.jp_check.specs.declared.functions.DataType.{DataType}
+use Rattle.jp_check.specs.declared.functions.DataType.TheVariants.{Value, Logical, Nodes}
+use Rattle.jp_check.specs.Faults.{HasCallFault, HasFault}
+use Rattle.jp_check.specs.Functions.{Signature, signature_named}
 use Rattle.jp_check.specs.Ranges.{is_in_index_range}
-use Rattle.jp_check.specs.Private.Walk.{fault_of, fault_of_literal}
+use Rattle.jp_check.specs.Types.{IsMisfit, fits, wanted}
+use Rattle.jp_check.specs.Private.Walk.{fault_of, fault_of_called, fault_of_literal}
+use Rattle.jp_check.specs.Private.Walk.{fault_of_query, ill_typed}
 
--- the item has none, or this kind and none with a smaller number
+-- there is no such kind, or this one and none with a smaller number
+abbrev pub IsLeastKind : (RefusalKind → Type 0) → Option RefusalKind → Type 0
+IsLeastKind P None = (kind : RefusalKind) → P kind → ⊥
+IsLeastKind P (Some kind) =
+    P kind × ((other : RefusalKind) → P other → number_of kind ≤ number_of other)
+
+-- of the kinds of the item's faults
 abbrev pub IsOwn : QueryItem → Option RefusalKind → Type 0
-IsOwn x None = (kind : RefusalKind) → HasFault x kind → ⊥
-IsOwn x (Some kind) =
-    HasFault x kind × ((other : RefusalKind) → HasFault x other → number_of kind ≤ number_of other)
+IsOwn x = IsLeastKind (HasFault x)
 
 -- an int has no fault but its range
 pub int-fault : (n : Numeral) (role : Use) (kind : RefusalKind) → HasFault (int n role) kind
@@ -29,21 +43,44 @@ own-int : (n : Numeral) (role : Use) (b : Bool) → is_in_index_range n ≡ b
 own-int n role true e = λ kind h. let is = int-fault n role kind h in cc (is.1)
 own-int n role false e = (e, λ other h. rw (int-fault n role other h).0 (omega arith))
 
--- a literal that is no such number has none
-no_fault_in : (l : LiteralTree) (role : Use) → (l ≡ number Fraction → ⊥) → (l ≡ number Beyond → ⊥)
-    → (kind : RefusalKind) → HasFault (constant l role) kind → ⊥
-no_fault_in l role whole within NotWhole h = whole h
-no_fault_in l role whole within NumberRange h = within h
-no_fault_in l role whole within _ h = absurd h
+-- what has no fault but that it doesn't fit
+own-type : (P : RefusalKind → Type 0) (own : DataType) (want : Option DataType)
+    → ((kind : RefusalKind) → P kind → (kind ≡ IllTyped) × IsMisfit own want)
+    → (IsMisfit own want → P IllTyped)
+    → IsLeastKind P (ill_typed own want)
+own-type P own None only is = λ kind h. (only kind h).1
+own-type P own (Some other) only is = decided (fits own other) refl
+  where
+    decided : (b : Bool) → fits own other ≡ b → IsLeastKind P (cond b None (Some IllTyped))
+    decided true e = λ kind h. let misfit = only kind h in cc (misfit.1)
+    decided false e = (is e, λ kind h. rw (only kind h).0 (omega arith))
 
--- a literal has none but those of its number
-own-literal : (l : LiteralTree) (role : Use) → IsOwn (constant l role) (fault_of_literal l)
+-- a literal that is no such number has none but that
+literal-fault : (l : LiteralTree) (role : Use) → (l ≡ number Fraction → ⊥)
+    → (l ≡ number Beyond → ⊥)
+    → (kind : RefusalKind) → HasFault (constant l role) kind
+    → (kind ≡ IllTyped) × IsMisfit Value (wanted role)
+literal-fault l role whole within NotWhole h = absurd (whole h)
+literal-fault l role whole within NumberRange h = absurd (within h)
+literal-fault l role whole within IllTyped h = (refl, h)
+literal-fault l role whole within _ h = absurd h
+
+plain-literal : (l : LiteralTree) (role : Use) → (l ≡ number Fraction → ⊥)
+    → (l ≡ number Beyond → ⊥)
+    → IsOwn (constant l role) (ill_typed Value (wanted role))
+plain-literal l role whole within =
+    own-type (HasFault (constant l role)) Value (wanted role) (literal-fault l role whole within)
+    (λ misfit. misfit)
+
+own-literal : (l : LiteralTree) (role : Use)
+    → IsOwn (constant l role) (fault_of_literal l (wanted role))
 own-literal (number Fraction) role = (refl, least-kind)
   where
     least-kind : (other : RefusalKind) → HasFault (constant (number Fraction) role) other
         → number_of NotWhole ≤ number_of other
     least-kind NotWhole h = omega arith
     least-kind NumberRange h = omega arith
+    least-kind IllTyped h = omega arith
     least-kind _ h = absurd h
 own-literal (number Beyond) role = (refl, least-kind)
   where
@@ -51,30 +88,76 @@ own-literal (number Beyond) role = (refl, least-kind)
         → number_of NumberRange ≤ number_of other
     least-kind NotWhole h = cc
     least-kind NumberRange h = omega arith
+    least-kind IllTyped h = omega arith
     least-kind _ h = absurd h
-own-literal (number (Whole n)) role = no_fault_in (number (Whole n)) role (λ e. cc) (λ e. cc)
-own-literal (text cs) role = no_fault_in (text cs) role (λ e. cc) (λ e. cc)
-own-literal true_literal role = no_fault_in true_literal role (λ e. cc) (λ e. cc)
-own-literal false_literal role = no_fault_in false_literal role (λ e. cc) (λ e. cc)
-own-literal null_literal role = no_fault_in null_literal role (λ e. cc) (λ e. cc)
+own-literal (number (Whole n)) role = plain-literal (number (Whole n)) role (λ e. cc) (λ e. cc)
+own-literal (text cs) role = plain-literal (text cs) role (λ e. cc) (λ e. cc)
+own-literal true_literal role = plain-literal true_literal role (λ e. cc) (λ e. cc)
+own-literal false_literal role = plain-literal false_literal role (λ e. cc) (λ e. cc)
+own-literal null_literal role = plain-literal null_literal role (λ e. cc) (λ e. cc)
 
--- a side has none but that it is not singular
-side-fault : (q : QueryTree) (kind : RefusalKind) → HasFault (inner q as_side) kind
-    → (kind ≡ NotSingular) × (is_singular q ≡ false)
-side-fault q NotSingular h = (refl, h)
-side-fault q _ h = absurd h
+-- a query has none but that it is not singular where a value is wanted
+query-fault : (q : QueryTree) (role : Use) (kind : RefusalKind) → HasFault (inner q role) kind
+    → (kind ≡ NotSingular) × (wanted role ≡ Some Value) × (is_singular q ≡ false)
+query-fault q role NotSingular h = (refl, h.0, h.1)
+query-fault q role _ h = absurd h
 
-own-side : (q : QueryTree) (b : Bool) → is_singular q ≡ b
-    → IsOwn (inner q as_side) (cond b None (Some NotSingular))
-own-side q true e = λ kind h. let is = side-fault q kind h in cc (is.1)
-own-side q false e = (e, λ other h. rw (side-fault q other h).0 (omega arith))
+own-query : (q : QueryTree) (role : Use) (want : Option DataType) → wanted role ≡ want
+    → IsOwn (inner q role) (fault_of_query q want)
+own-query q role None e = λ kind h. let is = query-fault q role kind h in cc (is.1)
+own-query q role (Some Logical) e = λ kind h. let is = query-fault q role kind h in cc (is.1)
+own-query q role (Some Nodes) e = λ kind h. let is = query-fault q role kind h in cc (is.1)
+own-query q role (Some Value) e = decided (is_singular q) refl
+  where
+    decided : (b : Bool) → is_singular q ≡ b
+        → IsOwn (inner q role) (cond b None (Some NotSingular))
+    decided true single = λ kind h. let is = query-fault q role kind h in cc (is.2)
+    decided false several =
+        ((e, several), λ other h. rw (query-fault q role other h).0 (omega arith))
+
+-- the faults of a call
+own-call : (function : Option Signature) (given : ℕ) (want : Option DataType)
+    → IsLeastKind (HasCallFault function given want) (fault_of_called function given want)
+own-call None given want = (tt, least-kind)
+  where
+    least-kind : (other : RefusalKind) → HasCallFault None given want other
+        → number_of UnknownFunction ≤ number_of other
+    least-kind UnknownFunction h = omega arith
+    least-kind _ h = absurd h
+own-call (Some function) given want = decided (length function.parameters == given) refl
+  where
+    decided : (b : Bool) → (length function.parameters == given) ≡ b
+        → IsLeastKind (HasCallFault (Some function) given want)
+        (cond b (ill_typed function.result want) (Some ArgumentCount))
+    decided true e =
+        own-type (HasCallFault (Some function) given want) function.result want only
+        (λ misfit. misfit)
+      where
+        only : (kind : RefusalKind) → HasCallFault (Some function) given want kind
+            → (kind ≡ IllTyped) × IsMisfit function.result want
+        only ArgumentCount h = absurd (cc (h))
+        only IllTyped h = (refl, h)
+        only _ h = absurd h
+    decided false e = (e, least-kind)
+      where
+        least-kind : (other : RefusalKind) → HasCallFault (Some function) given want other
+            → number_of ArgumentCount ≤ number_of other
+        least-kind ArgumentCount h = omega arith
+        least-kind IllTyped h = omega arith
+        least-kind _ h = absurd h
+
+-- a logical expression has none but that it doesn't fit
+logical-fault : (e : ExprTree) (role : Use) (kind : RefusalKind) → HasFault (logical e role) kind
+    → (kind ≡ IllTyped) × IsMisfit Logical (wanted role)
+logical-fault e role IllTyped h = (refl, h)
+logical-fault e role _ h = absurd h
 
 -- the fault of an item is its own
 pub own-fault : (x : QueryItem) → IsOwn x (fault_of x)
 own-fault (int n role) = own-int n role (is_in_index_range n) refl
 own-fault (constant l role) = own-literal l role
-own-fault (inner q as_side) = own-side q (is_singular q) refl
-own-fault (inner q as_index) = λ kind h. h
-own-fault (inner q as_bound) = λ kind h. h
-own-fault (inner q as_step) = λ kind h. h
-own-fault (inner q as_test) = λ kind h. h
+own-fault (inner q role) = own-query q role (wanted role) refl
+own-fault (called (call name all) role) = own-call (signature_named name) (count all) (wanted role)
+own-fault (logical e role) =
+    own-type (HasFault (logical e role)) Logical (wanted role) (logical-fault e role)
+    (λ misfit. misfit)

@@ -1,12 +1,22 @@
 -- The definitions at work.
-use Rattle.std.proofs.Common.{◌≡◌, inl, inr, true, false, pos, negsuc, List, [], ◌∷◌, Some, refl, arith}
-use Rattle.jp_query.specs.Items.{int, constant, inner, as_index, as_side, as_test, items_of}
-use Rattle.jp_query.specs.declared.refusal.RefusalKind.TheVariants.{NotWhole, NumberRange, IndexRange, NotSingular}
+use Rattle.std.proofs.Common.{◌≡◌, inl, inr, true, false, ℕ, pos, negsuc}
+use Rattle.std.proofs.Common.{List, [], ◌∷◌, Some, None, codes, refl, arith}
+use Rattle.jp_query.specs.Items.{int, constant, inner, called, logical, as_index}
+use Rattle.jp_query.specs.Items.{as_side, as_test, as_argument, items_of}
+use Rattle.jp_query.specs.declared.refusal.RefusalKind.TheVariants.{NotWhole, NumberRange}
+use Rattle.jp_query.specs.declared.refusal.RefusalKind.TheVariants.{IndexRange, UnknownFunction}
+use Rattle.jp_query.specs.declared.refusal.RefusalKind.TheVariants.{ArgumentCount, NotSingular}
+use Rattle.jp_query.specs.declared.refusal.RefusalKind.TheVariants.{IllTyped}
 use Rattle.jp_query.specs.declared.tree.Numeral.TheVariants.{Whole, Beyond, Fraction}
 use Rattle.jp_query.specs.declared.tree.Op.TheVariants.{Equal}
-use Rattle.jp_query.specs.Tree.{SelectorTree, name, wildcard, index, filter, segment, QueryTree, query, ExprTree, all_of, comparison, literal, node_value, number, selectors, segments, exprs}
+use Rattle.jp_query.specs.Tree.{SelectorTree, name, wildcard, index, filter, segment, QueryTree}
+use Rattle.jp_query.specs.Tree.{query, ExprTree, all_of, comparison, literal, node_value, number}
+use Rattle.jp_query.specs.Tree.{text, CallTree, call, call_test, ArgumentTree, literal_argument}
+use Rattle.jp_query.specs.Tree.{query_argument, arguments, selectors, segments, exprs}
+use Rattle.jp_check.specs.declared.functions.DataType.TheVariants.{Value}
 use Rattle.jp_check.specs.Faults.{HasFault}
 use Rattle.jp_check.specs.First.{IsItemFault, IsNoLater, IsFirstFault}
+use Rattle.jp_check.specs.Functions.{signature_named}
 use Rattle.jp_check.specs.Ranges.{is_in_index_range}
 use Rattle.jp_check.proofs.Least.{found-fault}
 
@@ -88,33 +98,100 @@ at_current xs = query false (segments (segment false (selectors xs) ∷ []))
 
 -- `@`
 row-current : HasFault (inner (query false (segments [])) as_side) NotSingular → ⊥
-row-current h = cc
+row-current h = cc (h.1)
 
 -- `@.a`
 row-single : HasFault (inner (at_current (name (97 ∷ []) ∷ [])) as_side) NotSingular → ⊥
 unfolding at_current
-row-single h = cc
+row-single h = cc (h.1)
 
 -- `@.*`
 row-wildcard : HasFault (inner (at_current (wildcard ∷ [])) as_side) NotSingular
 unfolding at_current
-row-wildcard = refl
+row-wildcard = (refl, refl)
 
 -- `@.*` as a test
 row-test : HasFault (inner (at_current (wildcard ∷ [])) as_test) NotSingular → ⊥
-row-test h = h
+row-test h = cc (h.0)
 
 -- `@[0,1]`
 row-several : HasFault
     (inner (at_current (index (Whole (pos 0)) ∷ index (Whole (pos 1)) ∷ [])) as_side) NotSingular
 unfolding at_current
-row-several = refl
+row-several = (refl, refl)
 
 -- `@..a`
 row-descendant : HasFault
     (inner (query false
     (segments (segment true (selectors (name (97 ∷ []) ∷ [])) ∷ []))) as_side) NotSingular
-row-descendant = refl
+row-descendant = (refl, refl)
+
+-- ---- functions
+
+row-length : signature_named (codes "length")
+    ≡ Some (record { parameters = Value ∷ []; result = Value })
+row-length = refl
+
+row-unknown : signature_named (codes "foo") ≡ None
+row-unknown = refl
+
+-- `length(@.*)`
+row-value-several : HasFault
+    (inner (at_current (wildcard ∷ [])) (as_argument (codes "length") 0 1)) NotSingular
+unfolding at_current
+row-value-several = (refl, refl)
+
+-- `count(@.*)`
+row-nodes-several : HasFault
+    (inner (at_current (wildcard ∷ [])) (as_argument (codes "count") 0 1)) NotSingular → ⊥
+row-nodes-several h = cc (h.0)
+
+-- `count(1)`
+row-literal-nodes : HasFault
+    (constant (number (Whole (pos 1))) (as_argument (codes "count") 0 1)) IllTyped
+row-literal-nodes = refl
+
+-- `length(@.a==1)`
+row-logical-value : HasFault
+    (logical
+    (comparison (node_value (at_current (name (97 ∷ []) ∷ []))) Equal
+    (literal (number (Whole (pos 1))))) (as_argument (codes "length") 0 1))
+    IllTyped
+row-logical-value = refl
+
+-- a call of that function with those arguments
+calling : List ℕ → List ArgumentTree → CallTree
+calling function xs = call function (arguments xs)
+
+-- `value(@..color)` as a test, and as a side
+row-value-tested : HasFault
+    (called (calling (codes "value") (query_argument (at_current []) ∷ [])) as_test) IllTyped
+unfolding calling
+row-value-tested = refl
+
+row-value-compared : HasFault
+    (called (calling (codes "value") (query_argument (at_current []) ∷ [])) as_side) IllTyped → ⊥
+unfolding calling
+row-value-compared h = cc h
+
+-- `match('a','b')` as a side
+row-match-compared : HasFault
+    (called
+    (calling (codes "match")
+    (literal_argument (text (codes "a")) ∷ literal_argument (text (codes "b")) ∷ [])) as_side)
+    IllTyped
+unfolding calling
+row-match-compared = refl
+
+-- `length()`
+row-without : HasFault (called (calling (codes "length") []) as_test) ArgumentCount
+unfolding calling
+row-without = refl
+
+-- an argument too many, which is held against no parameter
+row-beyond-last : HasFault
+    (constant (number (Whole (pos 1))) (as_argument (codes "count") 1 2)) IllTyped → ⊥
+row-beyond-last h = h
 
 -- ---- first faults of filters
 
@@ -144,3 +221,12 @@ row-literal-first : IsFirstFault
     (record { kind = NotWhole; place = 8 })
 unfolding at_current filtered
 row-literal-first = found-fault _ _ (record { kind = NotWhole; place = 8 }) refl
+
+-- `$[?foo(1.5)]`: of two faults the call's stands first, at 3
+row-call-first : IsFirstFault
+    (items_of
+    (filtered (call_test (calling (codes "foo") (literal_argument (number Fraction) ∷ [])))))
+    (Some (record { start = 3; end = 11 }) ∷ Some (record { start = 7; end = 10 }) ∷ [])
+    (record { kind = UnknownFunction; place = 3 })
+unfolding calling filtered
+row-call-first = found-fault _ _ (record { kind = UnknownFunction; place = 3 }) refl

@@ -1,5 +1,6 @@
 -- Singular segments.
-use Rattle.std.proofs.Common.{◌≡◌, ◌≤◌, Bool, true, false, List, [], ◌∷◌, length, map, refl, arith, sym, ap, ◌∙◌}
+use Rattle.std.proofs.Common.{◌≡◌, ◌≤◌, Bool, true, false, List, [], ◌∷◌}
+use Rattle.std.proofs.Common.{length, map, refl, arith, sym, ap, ◌∙◌}
 use Rattle.jp_query.specs.Singular.{is_single_segment}
 use Rattle.jp_query.specs.Tree.{segment, segment_of, selector_of, selectors}
 use Rattle.jp_query.specs.declared.tree.Segment.{Segment, out-Segment}

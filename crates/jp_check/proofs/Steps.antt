@@ -1,15 +1,23 @@
 -- The walk over the items of a query.
-use Rattle.std.proofs.Common.{◌≡◌, ◌<◌, ◌+◌, ℕ, List, [], ◌∷◌, ◌++◌, length, get_or, drop, map, refl, sym, ap, ◌∙◌}
+use Rattle.std.proofs.Common.{◌≡◌, ◌<◌, ◌+◌, ℕ, suc, List, [], ◌∷◌, ◌++◌, Option}
+use Rattle.std.proofs.Common.{length, get_or, drop, map, refl, sym, ap, ◌∙◌, arith}
+use Rattle.std.specs.List.{slice_get}
 use Rattle.std.proofs.lemmas.List.{drop_more}
+use Rattle.jp_query.specs.declared.tree.Argument.{Argument}
 use Rattle.jp_query.specs.declared.tree.Expr.{Expr}
 use Rattle.jp_query.specs.declared.tree.Expr.TheVariants.{Compare}
 use Rattle.jp_query.specs.declared.tree.Op.{Op}
 use Rattle.jp_query.specs.declared.tree.Operand.{Operand}
-use Rattle.jp_query.specs.declared.tree.Segment.{Segment}
-use Rattle.jp_query.specs.declared.tree.Selector.{Selector}
-use Rattle.jp_query.specs.Items.{QueryItem, expr_items, exprs_items, operand_items, segment_items, segments_items, selector_items, selectors_items}
-use Rattle.jp_query.specs.Tree.{expr_of, exprs, operand_of, segment_of, segments, selector_of, selectors}
-use Rattle.jp_check.specs.Private.Walk.{Progress, fault_of, past_item, steps}
+use Rattle.jp_query.specs.Items.{QueryItem, Use, as_argument, argument_items, arguments_items}
+use Rattle.jp_query.specs.Items.{count, expr_items, exprs_items, operand_items, segment_items}
+use Rattle.jp_query.specs.Items.{segments_items, selector_items, selectors_items}
+use Rattle.jp_query.specs.Tree.{ArgumentTree, literal_argument, query_argument, call_argument}
+use Rattle.jp_query.specs.Tree.{logical_argument, CallTree, call, argument_of, arguments, expr_of}
+use Rattle.jp_query.specs.Tree.{exprs, operand_of, segment_of, segments, selector_of, selectors}
+use Rattle.jp_check.specs.declared.functions.DataType.{DataType}
+use Rattle.jp_check.specs.Private.Calls.{arguments_from, wanted_of_call}
+use Rattle.jp_check.specs.Private.Walk.{Progress, fault_of, past_argument, past_item, steps}
+use Rattle.jp_check.specs.Types.{wanted}
 use Rattle.jp_check.proofs.Trees.{expr_of-Compare}
 
 -- items one after another
@@ -18,13 +26,16 @@ pub steps_append : (xs ys : List QueryItem) (p : Progress)
 steps_append [] ys p = refl
 steps_append (x ∷ xs) ys p = steps_append xs ys (past_item (fault_of x) p.spans p.first)
 
--- past one more part, where the items of a list's parts come one after another
-steps-on : {A : Type 0} (one : A → List QueryItem) (all : List A → List QueryItem)
-    → ((x : A) (xs : List A) → all (x ∷ xs) ≡ one x ++ all xs)
-    → (xs : List A) (i : ℕ) (x : A) (end before after : Progress)
-    → end ≡ steps (all (drop i xs)) before → i < length xs → x ≡ get_or xs i x
-    → after ≡ steps (one x) before → end ≡ steps (all (drop (i + 1) xs)) after
-steps-on one all cons xs i x end before after whole within here part =
+-- past one more part of a list, whose parts' items come one after another
+abbrev GoesOn : {A : Type 0} → (A → List QueryItem) → (List A → List QueryItem) → Type 0
+GoesOn {A} one all =
+    (xs : List A) (i : ℕ) (x : A) (end before after : Progress) →
+    end ≡ steps (all (drop i xs)) before → i < length xs → x ≡ get_or xs i x →
+    after ≡ steps (one x) before → end ≡ steps (all (drop (i + 1) xs)) after
+
+goes-on : {A : Type 0} (one : A → List QueryItem) (all : List A → List QueryItem) →
+    ((x : A) (xs : List A) → all (x ∷ xs) ≡ one x ++ all xs) → GoesOn one all
+goes-on one all cons xs i x end before after whole within here part =
     whole
     ∙ ap (λ ys. steps (all ys) before)
     (drop_more xs i x within ∙ ap (λ y. y ∷ drop (i + 1) xs) (sym here))
@@ -32,31 +43,21 @@ steps-on one all cons xs i x end before after whole within here part =
     ∙ steps_append (one x) (all (drop (i + 1) xs)) before
     ∙ ap (steps (all (drop (i + 1) xs))) (sym part)
 
-pub segments-on : (xs : List Segment) (i : ℕ) (x : Segment) (end before after : Progress)
-    → end ≡ steps (segments_items (segments (map segment_of (drop i xs)))) before → i < length xs
-    → x ≡ get_or xs i x
-    → after ≡ steps (segment_items (segment_of x)) before
-    → end ≡ steps (segments_items (segments (map segment_of (drop (i + 1) xs)))) after
+pub segments-on : GoesOn (λ x. segment_items (segment_of x))
+    (λ xs. segments_items (segments (map segment_of xs)))
 segments-on =
-    steps-on (λ x. segment_items (segment_of x))
+    goes-on (λ x. segment_items (segment_of x))
     (λ xs. segments_items (segments (map segment_of xs))) (λ x xs. refl)
 
-pub selectors-on : (xs : List Selector) (i : ℕ) (x : Selector) (end before after : Progress)
-    → end ≡ steps (selectors_items (selectors (map selector_of (drop i xs)))) before
-    → i < length xs → x ≡ get_or xs i x
-    → after ≡ steps (selector_items (selector_of x)) before
-    → end ≡ steps (selectors_items (selectors (map selector_of (drop (i + 1) xs)))) after
+pub selectors-on : GoesOn (λ x. selector_items (selector_of x))
+    (λ xs. selectors_items (selectors (map selector_of xs)))
 selectors-on =
-    steps-on (λ x. selector_items (selector_of x))
+    goes-on (λ x. selector_items (selector_of x))
     (λ xs. selectors_items (selectors (map selector_of xs))) (λ x xs. refl)
 
-pub exprs-on : (xs : List Expr) (i : ℕ) (x : Expr) (end before after : Progress)
-    → end ≡ steps (exprs_items (exprs (map expr_of (drop i xs)))) before → i < length xs
-    → x ≡ get_or xs i x
-    → after ≡ steps (expr_items (expr_of x)) before
-    → end ≡ steps (exprs_items (exprs (map expr_of (drop (i + 1) xs)))) after
+pub exprs-on : GoesOn (λ x. expr_items (expr_of x)) (λ xs. exprs_items (exprs (map expr_of xs)))
 exprs-on =
-    steps-on (λ x. expr_items (expr_of x)) (λ xs. exprs_items (exprs (map expr_of xs)))
+    goes-on (λ x. expr_items (expr_of x)) (λ xs. exprs_items (exprs (map expr_of xs)))
     (λ x xs. refl)
 
 -- past the left side, then past the right one
@@ -70,3 +71,38 @@ sides-on e left right op before between after is past_left past_right =
     ∙ ap (steps (operand_items (operand_of right))) past_left
     ∙ sym (steps_append (operand_items (operand_of left)) (operand_items (operand_of right)) before)
     ∙ ap (λ x. steps (expr_items x) before) (sym (ap expr_of is ∙ expr_of-Compare left right op))
+
+-- past an argument
+argument-steps : (role : Use) (x : ArgumentTree) (p : Progress)
+    → past_argument (wanted role) x p ≡ steps (argument_items role x) p
+argument-steps role (literal_argument l) p = refl
+argument-steps role (query_argument q) p = refl
+argument-steps role (call_argument c) p = refl
+argument-steps role (logical_argument e) p = refl
+
+-- past the next of a call's arguments
+pub arguments-on : (c : CallTree) (types : List DataType) (want : Option DataType)
+    (xs : List Argument) (i : ℕ) (x : Argument) (end before after : Progress)
+    → types ≡ wanted_of_call c → want ≡ slice_get types i
+    → end ≡ steps (arguments_from c i (map argument_of (drop i xs))) before → i < length xs
+    → x ≡ get_or xs i x → after ≡ past_argument want (argument_of x) before
+    → end ≡ steps (arguments_from c (i + 1) (map argument_of (drop (i + 1) xs))) after
+arguments-on (call name all) types want xs i x end before after are is whole within here part =
+    whole
+    ∙ ap (λ ys. steps (arguments_items name i (count all) (arguments (map argument_of ys))) before)
+    (drop_more xs i x within ∙ ap (λ y. y ∷ drop (i + 1) xs) (sym here))
+    ∙ steps_append (argument_items (as_argument name i (count all)) (argument_of x))
+    (arguments_items name (suc i) (count all) (arguments (map argument_of (drop (i + 1) xs))))
+    before
+    ∙ ap (steps
+    (arguments_items name (suc i) (count all) (arguments (map argument_of (drop (i + 1) xs)))))
+    (sym (argument-steps (as_argument name i (count all)) (argument_of x) before)
+    ∙ ap (λ t. past_argument t (argument_of x) before)
+    (sym (is ∙ ap (λ ts. slice_get ts i) are))
+    ∙ sym part)
+    ∙ ap (λ next. steps
+    (arguments_items name next (count all) (arguments (map argument_of (drop (i + 1) xs)))) after)
+    (suc-is i)
+  where
+    suc-is : (n : ℕ) → suc n ≡ n + 1
+    suc-is n = omega arith

@@ -1,11 +1,15 @@
 -- The trees of some values of the program.
 use Rattle.std.proofs.Common.{◌≡◌, map, rules}
+use Rattle.std.specs.Str.{chars}
+use Rattle.std.specs.String.{string_bytes}
+use Rattle.jp_query.specs.declared.tree.Call.{Call, out-Call}
 use Rattle.jp_query.specs.declared.tree.Expr.{the_lemmas}
 use Rattle.jp_query.specs.declared.tree.Expr.TheVariants.{Compare}
 use Rattle.jp_query.specs.declared.tree.Op.{Op}
 use Rattle.jp_query.specs.declared.tree.Operand.{Operand}
 use Rattle.jp_query.specs.declared.tree.Segment.{Segment, out-Segment}
-use Rattle.jp_query.specs.Tree.{comparison, expr_of, operand_of, segment, segment_of, selector_of, selectors}
+use Rattle.jp_query.specs.Tree.{argument_of, arguments, call, call_of, comparison, expr_of}
+use Rattle.jp_query.specs.Tree.{operand_of, segment, segment_of, selector_of, selectors}
 
 pub expr_of-Compare : (left right : Operand) (op : Op)
     → expr_of (Compare left op right) ≡ comparison (operand_of left) op (operand_of right)
@@ -15,3 +19,8 @@ pub segment_of-is : (s : Segment)
     → segment_of s ≡ segment (out-Segment s).descendant
     (selectors (map selector_of (out-Segment s).selectors.items))
 segment_of-is s = search (rules, the_lemmas)
+
+pub call_of-is : (c : Call)
+    → call_of c ≡ call (chars (string_bytes (out-Call c).name))
+    (arguments (map argument_of (out-Call c).arguments.items))
+call_of-is c = search (rules, the_lemmas)

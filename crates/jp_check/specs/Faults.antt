@@ -1,22 +1,43 @@
 -- The faults of a query's items (RFC 9535 sections 2.1, 2.3.5.1 and 2.4.3).
-use Rattle.std.specs.Prelude.{◌≡◌, false}
+use Rattle.std.specs.Prelude.{◌≡◌, ◌==◌, ℕ, false, Option, Some, None, length}
 use Rattle.std.specs.List.{All}
 use Rattle.jp_query.specs.declared.refusal.RefusalKind.{RefusalKind}
-use Rattle.jp_query.specs.declared.refusal.RefusalKind.TheVariants.{NotWhole, NumberRange, IndexRange, NotSingular}
+use Rattle.jp_query.specs.declared.refusal.RefusalKind.TheVariants.{NotWhole, NumberRange}
+use Rattle.jp_query.specs.declared.refusal.RefusalKind.TheVariants.{IndexRange, UnknownFunction}
+use Rattle.jp_query.specs.declared.refusal.RefusalKind.TheVariants.{ArgumentCount, NotSingular}
+use Rattle.jp_query.specs.declared.refusal.RefusalKind.TheVariants.{IllTyped}
 use Rattle.jp_query.specs.declared.tree.Numeral.TheVariants.{Beyond, Fraction}
-use Rattle.jp_query.specs.Items.{QueryItem, int, constant, inner, as_side, items_of}
+use Rattle.jp_query.specs.Items.{QueryItem, int, constant, inner, called, logical, count, items_of}
 use Rattle.jp_query.specs.Singular.{is_singular}
-use Rattle.jp_query.specs.Tree.{QueryTree, number}
+use Rattle.jp_query.specs.Tree.{QueryTree, number, call}
+use Rattle.jp_check.specs.declared.functions.DataType.{DataType}
+use Rattle.jp_check.specs.declared.functions.DataType.TheVariants.{Value, Logical}
+use Rattle.jp_check.specs.Functions.{Signature, signature_named}
 use Rattle.jp_check.specs.Ranges.{is_in_index_range}
+use Rattle.jp_check.specs.Types.{IsMisfit, wanted}
+
+-- a call with so many arguments, where that type is wanted, has a fault of that kind: there is no
+-- such function, it has not so many parameters, or its result doesn't fit (section 2.4.3)
+abbrev pub HasCallFault : Option Signature → ℕ → Option DataType → RefusalKind → Type 0
+HasCallFault None given want UnknownFunction = Unit {0}
+HasCallFault (Some function) given want ArgumentCount =
+    (length function.parameters == given) ≡ false
+HasCallFault (Some function) given want IllTyped = IsMisfit function.result want
+HasCallFault _ _ _ _ = ⊥
 
 -- the item has a fault of that kind: a literal is a number with a fraction or an exponent, or a
 -- whole number outside -(2^63) to (2^64)-1; an index or a part of a slice is out of range (section
--- 2.1); a query that is a side of a comparison is not singular (section 2.3.5.1)
+-- 2.1); a query that is not singular is where a value is wanted (section 2.3.5.1); a literal or a
+-- logical expression doesn't fit what is wanted (section 2.4.3); or it is a fault of a call
 abbrev pub HasFault : QueryItem → RefusalKind → Type 0
 HasFault (constant l _) NotWhole = l ≡ number Fraction
 HasFault (constant l _) NumberRange = l ≡ number Beyond
+HasFault (constant _ role) IllTyped = IsMisfit Value (wanted role)
 HasFault (int n _) IndexRange = is_in_index_range n ≡ false
-HasFault (inner q as_side) NotSingular = is_singular q ≡ false
+HasFault (inner q role) NotSingular = (wanted role ≡ Some Value) × (is_singular q ≡ false)
+HasFault (called (call name all) role) kind =
+    HasCallFault (signature_named name) (count all) (wanted role) kind
+HasFault (logical _ role) IllTyped = IsMisfit Logical (wanted role)
 HasFault _ _ = ⊥
 
 -- no item of the query has a fault

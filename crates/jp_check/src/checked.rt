@@ -50,8 +50,12 @@ impl Checked {
 /// The refusal is its first fault: the one with the least place, and of several there the one with
 /// the least number. A literal with a fraction or an exponent is `NotWhole`, a whole one outside
 /// -(2^63) to (2^64)-1 is `NumberRange`, at the literal; an index or a part of a slice outside
-/// -(2^53)+1 to (2^53)-1 is `IndexRange`, at that number; a query that is a side of a comparison
-/// and not singular is `NotSingular`, at the query. It takes no memory.
+/// -(2^53)+1 to (2^53)-1 is `IndexRange`, at that number. A call is `UnknownFunction` where no
+/// function has its name, and `ArgumentCount` where it has not as many arguments as the function
+/// has parameters. Where a value is wanted, as a side of a comparison or as an argument, a query
+/// that is not singular is `NotSingular`. Else a call or an argument that doesn't fit what is
+/// wanted is `IllTyped`. The place is where that call, query or argument starts. It takes no
+/// memory.
 pub fn check(parsed: Parsed) -> Result<Checked, Refusal>
     ensures same { IfOk result (λ query. query ≡ parsed.query) }
     ensures faultless { IfOk result (λ query. IsFaultless (query_of query)) }

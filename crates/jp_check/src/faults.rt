@@ -1,12 +1,14 @@
 //! The faults of items, one by one.
 
 ghost use Rattle.std.specs.Prelude.{◌≡◌};
-ghost use Rattle.jp_query.specs.Tree.{literal_of, query_of};
-ghost use Rattle.jp_check.specs.Private.Walk.{fault_of_int, fault_of_literal, fault_of_side};
+ghost use Rattle.jp_query.specs.Tree.{call_of, literal_of, query_of};
+ghost use Rattle.jp_check.specs.Private.Walk.{fault_of_call, fault_of_int, fault_of_literal};
+ghost use Rattle.jp_check.specs.Private.Walk.{fault_of_logical, fault_of_query, ill_typed};
 
+use crate::functions::{DataType, signature_named};
 use crate::ranges::is_in_index_range;
 use crate::singular::is_singular;
-use jp_query::{Literal, Numeral, Query, RefusalKind};
+use jp_query::{Call, Literal, Numeral, Query, RefusalKind};
 
 /// The fault of an index or a part of a slice, if it is outside -(2^53)+1 to (2^53)-1 (RFC 9535
 /// section 2.1).
@@ -20,26 +22,61 @@ pub(crate) fn fault_of_int(number: Numeral) -> Option<RefusalKind>
     }
 }
 
+/// The fault of what has the type `own`, if another is wanted there and it doesn't fit (RFC 9535
+/// section 2.4.3).
+fn ill_typed(own: DataType, wanted: Option<DataType>) -> Option<RefusalKind>
+    ensures { result ≡ ill_typed own wanted }
+{
+    match wanted {
+        Some(other) if !own.fits(other) => Some(RefusalKind::IllTyped),
+        _ => None,
+    }
+}
+
 /// The fault of a literal, if it is a number with a fraction or an exponent, or a whole one outside
-/// -(2^63) to (2^64)-1.
-pub(crate) fn fault_of_literal(literal: &Literal) -> Option<RefusalKind>
-    ensures { result ≡ fault_of_literal (literal_of literal.now) }
+/// -(2^63) to (2^64)-1, or if no value is wanted there.
+pub(crate) fn fault_of_literal(literal: &Literal, wanted: Option<DataType>) -> Option<RefusalKind>
+    ensures { result ≡ fault_of_literal (literal_of literal.now) wanted }
 {
     match literal {
         Literal::Number(Numeral::Fraction) => Some(RefusalKind::NotWhole),
         Literal::Number(Numeral::Beyond) => Some(RefusalKind::NumberRange),
-        Literal::Number(Numeral::Whole(_)) => None,
-        Literal::Text(_) | Literal::True | Literal::False | Literal::Null => None,
+        Literal::Number(Numeral::Whole(_)) => ill_typed(DataType::Value, wanted),
+        Literal::Text(_) | Literal::True | Literal::False | Literal::Null => {
+            ill_typed(DataType::Value, wanted)
+        }
     }
 }
 
-/// The fault of a query that is a side of a comparison, if it is not singular (section 2.3.5.1).
-pub(crate) fn fault_of_side(query: &Query) -> Option<RefusalKind>
-    ensures { result ≡ fault_of_side (query_of query.now) }
+/// The fault of a query, if a value is wanted there and it is not singular (sections 2.3.5.1 and
+/// 2.4.3).
+pub(crate) fn fault_of_query(query: &Query, wanted: Option<DataType>) -> Option<RefusalKind>
+    ensures { result ≡ fault_of_query (query_of query.now) wanted }
 {
-    if is_singular(query) {
-        None
-    } else {
-        Some(RefusalKind::NotSingular)
+    match wanted {
+        Some(DataType::Value) if !is_singular(query) => Some(RefusalKind::NotSingular),
+        _ => None,
     }
+}
+
+/// The fault of a call, if there is no function of that name, if it has another number of
+/// parameters, or if its answer doesn't fit what is wanted there (section 2.4.3).
+#[tactic(auto, using(crate::proofs::Calls::fault_of_call_is))]
+pub(crate) fn fault_of_call(call: &Call, wanted: Option<DataType>) -> Option<RefusalKind>
+    ensures { result ≡ fault_of_call (call_of call.now) wanted }
+{
+    match signature_named(&call.name) {
+        None => Some(RefusalKind::UnknownFunction),
+        Some(function) if function.parameters.len() != call.arguments.len() => {
+            Some(RefusalKind::ArgumentCount)
+        }
+        Some(function) => ill_typed(function.answer, wanted),
+    }
+}
+
+/// The fault of a logical expression that is an argument, if another type is wanted there.
+pub(crate) fn fault_of_logical(wanted: Option<DataType>) -> Option<RefusalKind>
+    ensures { result ≡ fault_of_logical wanted }
+{
+    ill_typed(DataType::Logical, wanted)
 }

@@ -6,6 +6,7 @@
 //! checked.query();                        // the query's tree
 //! read_query(alloc, "$[9007199254740992]")  // refused: IndexRange at 2
 //! read_query(alloc, "$[?@.*==1]")           // refused: NotSingular at 3
+//! read_query(alloc, "$[?value(@..color)]")  // refused: IllTyped at 3
 //! ```
 //!
 //! The contract for the crates above: `read_query` answers a tree exactly for the texts that are
@@ -15,6 +16,7 @@
 
 mod checked;
 mod faults;
+mod functions;
 pub mod laws;
 mod ranges;
 mod singular;
@@ -23,3 +25,4 @@ mod tests;
 mod walk;
 
 pub use checked::{Checked, check, read_query};
+pub use functions::Function;

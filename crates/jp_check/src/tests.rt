@@ -1,5 +1,7 @@
 //! Queries at the ends of the ranges of numbers, and first faults at their places.
 
+mod calls;
+
 use crate::{check, laws, read_query};
 use jp_query::{Numeral, Query, RefusalKind, Segment, Selector, parse};
 use std::alloc::{AllocError, Global};

@@ -1,19 +1,23 @@
 //! The walk over the items of a query, with their spans.
 
 ghost use Rattle.std.specs.Prelude.{◌≡◌, map, MatchOption, Option, None};
-ghost use Rattle.jp_query.specs.Items.{bound_items, expr_items, exprs_items, items_of};
+ghost use Rattle.jp_query.specs.Items.{bound_items, call_items, expr_items, exprs_items, items_of};
 ghost use Rattle.jp_query.specs.Items.{operand_items, segment_items, selector_items};
 ghost use Rattle.jp_query.specs.Refusal.{number_of};
-ghost use Rattle.jp_query.specs.Tree.{expr_of, exprs, operand_of, query_of, segment_of};
-ghost use Rattle.jp_query.specs.Tree.{selector_of, slice as slice_tree};
+ghost use Rattle.jp_query.specs.Tree.{argument_of, call_of, expr_of, exprs, operand_of, query_of};
+ghost use Rattle.jp_query.specs.Tree.{segment_of, selector_of, slice as slice_tree, subject_of};
 ghost use Rattle.jp_check.specs.Faults.{IsFaultless};
 ghost use Rattle.jp_check.specs.First.{IsFirstFault};
-ghost use Rattle.jp_check.specs.Private.Walk.{earlier, fault_of_int, is_before, past_item, steps};
+ghost use Rattle.jp_check.specs.Private.Walk.{earlier, fault_of_call, fault_of_int, fault_of_query};
+ghost use Rattle.jp_check.specs.Private.Walk.{is_before, past_argument, past_item, steps};
 
-use crate::faults::{fault_of_int, fault_of_literal, fault_of_side};
+use crate::faults::{
+    fault_of_call, fault_of_int, fault_of_literal, fault_of_logical, fault_of_query,
+};
+use crate::functions::{DataType, wanted_of_arguments};
 use jp_query::{
-    Expr, Numeral, Operand, Parsed, Query, Refusal, RefusalKind, Segment, Selector, Slice, Span,
-    Subject,
+    Argument, Call, Expr, Numeral, Operand, Parsed, Query, Refusal, RefusalKind, Segment, Selector,
+    Slice, Span, Subject,
 };
 use std::marker::Model;
 
@@ -105,7 +109,7 @@ impl<'s> Walk<'s> {
                 self.side(left);
                 self.side(right);
             }
-            Expr::Test(Subject::Query(query)) => self.inner(query, None),
+            Expr::Test(subject) => self.test(subject),
         }
     }
 
@@ -119,27 +123,71 @@ impl<'s> Walk<'s> {
         }
     }
 
-    /// Goes through the items of a side of a comparison, where a query has to be singular.
+    /// Goes through the items of a test, where a logical value is wanted.
+    #[cycle(walk)]
+    fn test(&mut self, subject: &Subject)
+        ensures { self.new ≡ steps (expr_items (subject_of subject.now)) self.old }
+    {
+        match subject {
+            Subject::Query(query) => self.inner(query, Some(DataType::Logical)),
+            Subject::Call(call) => self.call(call, Some(DataType::Logical)),
+        }
+    }
+
+    /// Goes through the items of a side of a comparison, where a value is wanted.
     #[cycle(walk)]
     fn side(&mut self, side: &Operand)
         ensures { self.new ≡ steps (operand_items (operand_of side.now)) self.old }
     {
+        let wanted = Some(DataType::Value);
         match side {
-            Operand::Literal(literal) => self.pass(fault_of_literal(literal)),
-            Operand::Query(query) => self.inner(query, fault_of_side(query)),
+            Operand::Literal(literal) => self.pass(fault_of_literal(literal, wanted)),
+            Operand::Query(query) => self.inner(query, wanted),
+            Operand::Call(call) => self.call(call, wanted),
         }
     }
 
-    /// Goes through an inner query, which has that fault or none, and then through the items in it.
+    /// Goes through an inner query where that type is wanted, and then through the items in it.
     #[cycle(walk)]
-    fn inner(&mut self, query: &Query, fault: Option<RefusalKind>)
+    fn inner(&mut self, query: &Query, wanted: Option<DataType>)
         ensures { self.new
             ≡ steps
             (items_of (query_of query.now))
-            (past_item fault self.old.spans self.old.first) }
+            (past_item (fault_of_query (query_of query.now) wanted) self.old.spans self.old.first) }
     {
-        self.pass(fault);
+        self.pass(fault_of_query(query, wanted));
         self.query(query);
+    }
+
+    /// Goes through a call where that type is wanted, and then through the items in it.
+    #[cycle(walk)]
+    fn call(&mut self, call: &Call, wanted: Option<DataType>)
+        ensures { self.new
+            ≡ steps
+            (call_items (call_of call.now))
+            (past_item (fault_of_call (call_of call.now) wanted) self.old.spans self.old.first) }
+    {
+        self.pass(fault_of_call(call, wanted));
+        let types = wanted_of_arguments(call);
+        for (index, argument) in call.arguments.iter().enumerate() {
+            self.argument(argument, types.get(index).copied());
+        }
+    }
+
+    /// Goes through the items of an argument of which that type is wanted.
+    #[cycle(walk)]
+    fn argument(&mut self, argument: &Argument, wanted: Option<DataType>)
+        ensures { self.new ≡ past_argument wanted (argument_of argument.now) self.old }
+    {
+        match argument {
+            Argument::Literal(literal) => self.pass(fault_of_literal(literal, wanted)),
+            Argument::Query(query) => self.inner(query, wanted),
+            Argument::Call(call) => self.call(call, wanted),
+            Argument::Logical(expr) => {
+                self.pass(fault_of_logical(wanted));
+                self.expr(expr);
+            }
+        }
     }
 
     /// Goes through the parts of a slice; an omitted step is an item without a span.

@@ -14,7 +14,7 @@ use Rattle.jp_query.specs.Tree.{QueryTree}
 use Rattle.jp_command.specs.Headline.{IsAcceptedPair, Runs, WritesLine, is_refusal}
 use Rattle.jp_command.specs.Input.{ReadsAll, ReadsTooMuch}
 use Rattle.jp_command.specs.Limits.{document_limit}
-use Rattle.jp_command.specs.Lines.{output_of}
+use Rattle.jp_command.specs.Lines.{IsOutputOf}
 use Rattle.jp_command.specs.QueryLine.{RunsQueryLine}
 use Rattle.jp_command.specs.Run.{IsAsked, RefusesQuery, refused, too_long}
 use Rattle.jp_command.specs.declared.fault.Fault.{Fault}
@@ -114,7 +114,7 @@ module _ {R W : Type 0} (remaining : R → Option (List ℕ)) (has_failed : R �
       (text : List ℕ) (i j : R) (o p : W) (q : QueryTree) (d : Value)
       → Accepted text i q d
       → Ran form text i j o p (Ok tt)
-      → Appends (contents o) (contents p) (output_of form q d)
+      → (output : List ℕ) × IsOutputOf form q d output × Appends (contents o) (contents p) output
   writes-nodelist documents queries form text i j o p q d is run =
       let given = run.is in
       let same : given.bytes ≡ is.bytes = read-all i j is.bytes given.bytes is.tells given.reads in
@@ -123,9 +123,10 @@ module _ {R W : Type 0} (remaining : R → Option (List ℕ)) (has_failed : R �
       let value : given.d ≡ d =
       (documents is.bytes).one_value given.d d
       (subst (λ b. IsDocument b given.d) same given.document) is.document in
-      let output : run.output ≡ output_of form q d =
-      given.is ∙ ap (λ t. output_of form t given.d) tree ∙ ap (output_of form q) value in
-      subst (Appends (contents o) (contents p)) output run.writes.written
+      let is_output : IsOutputOf form q d run.output =
+      subst (λ v. IsOutputOf form q v run.output) value
+      (subst (λ t. IsOutputOf form t given.d run.output) tree given.is) in
+      (run.output, is_output, run.writes.written)
 
   -- a run that writes one line for a query writes that of an accepted one
   pub line-is_written : (line_of : QueryTree → List ℕ) (text : List ℕ) (o p : W)

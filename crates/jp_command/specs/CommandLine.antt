@@ -1,4 +1,5 @@
--- What the words of a command line ask for.
+-- What the words of a command line ask for: the command line as clap reads it, and the task and the
+-- query that it finds in the words. `Line` cites it.
 use Rattle.std.specs.Prelude.{true, List, Option, Some, None, codes, if◌then◌else◌, option_and_then, option_map}
 use Rattle.std.specs.Str.{bytes_eq}
 use Rattle.clap.specs.Words.{App, Row, Text, fault_of, first_of, new_app, new_rule, subcommand_of, with_rule, with_subcommand}
@@ -16,9 +17,9 @@ query_app name = with_rule (new_app name) (record (new_rule (codes "QUERY")) { r
 abbrev pub with_task : App → Text → App
 with_task app name = with_subcommand app (query_app name).top
 
--- `jp` with its subcommands, one of which is required
+-- `jp` with its subcommands, one of which is required, and a version that it tells
 unfoldable pub jp : App
-jp = on_top (λ top. record top { subcommand_required = true })
+jp = on_top (λ top. record top { subcommand_required = true; has_version = true })
     (with_task (with_task (with_task (with_task (with_task (new_app (codes "jp"))
     (codes "check")) (codes "canon")) (codes "eval")) (codes "paths")) (codes "both"))
 

@@ -1,4 +1,5 @@
--- What a device carries.
+-- What a `Device` carries, and what it knows of it. The clauses of `Device::new`, and what
+-- a device is as a `Source` and as an `Output`, cite it.
 use Rattle.std.specs.Prelude.{Bool}
 use Rattle.jp_command.specs.declared.device.Device.{Device}
 
@@ -9,3 +10,7 @@ carried device = device.inner
 -- whether a call of it failed
 abbrev pub carrier_failed : {T : Type 0} → Device T → Bool
 carrier_failed device = device.failed
+
+-- whether the process ends with what is read from it
+abbrev pub carrier_is_last : {T : Type 0} → Device T → Bool
+carrier_is_last device = device.last

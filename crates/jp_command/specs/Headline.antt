@@ -1,7 +1,8 @@
--- The headline of jp, sentence by sentence: of documents, queries, nodelists, paths, canonical texts
--- and refusals, and of what runs answer and write. What is said of an input's bytes has the premise
--- that the input tells them.
-use Rattle.std.specs.Prelude.{◌≡◌, ℕ, ◌≤◌, Bool, true, false, List, length, Option, Some, Result, Ok, Err}
+-- The headline of jp, sentence by sentence: of documents, queries, nodelists, paths, canonical
+-- texts and refusals, and of what runs answer and write. What is said of an input's bytes has the
+-- premise that the input tells them.
+use Rattle.std.specs.Prelude.{◌≡◌, ℕ, ◌≤◌, Bool, true, false, List}
+use Rattle.std.specs.Prelude.{length, Option, Some, Result, Ok, Err}
 use Rattle.std.specs.Io.KnownBytes.{Appends}
 use Rattle.jp_canon.specs.Laws.{CanonTellsApart}
 use Rattle.jp_check.specs.Laws.{FaultAtItsItem, OneAnswer}
@@ -15,7 +16,7 @@ use Rattle.jp_query.specs.declared.refusal.Refusal.{Refusal}
 use Rattle.jp_command.specs.Canon.{RunsCanon, canon_line}
 use Rattle.jp_command.specs.Check.{RunsCheck, accepted_line}
 use Rattle.jp_command.specs.Limits.{document_limit}
-use Rattle.jp_command.specs.Lines.{output_of}
+use Rattle.jp_command.specs.Lines.{IsOutputOf}
 use Rattle.jp_command.specs.Run.{IsAsked, RefusesQuery, RunsEval}
 use Rattle.jp_command.specs.declared.fault.Fault.{Fault}
 use Rattle.jp_command.specs.declared.fault.Fault.TheVariants.{Query, Document, DocumentTooLarge}
@@ -83,7 +84,7 @@ module _ {R W : Type 0} (remaining : R → Option (List ℕ)) (has_failed : R �
     pub nodelist : (form : Form) (text : List ℕ) (i j : R) (o p : W) (q : QueryTree) (d : Value)
         → IsAcceptedPair text i q d
         → Runs form text i j o p (Ok tt)
-        → Appends (contents o) (contents p) (output_of form q d)
+        → (output : List ℕ) × IsOutputOf form q d output × Appends (contents o) (contents p) output
     -- Two nodes of a document have equal normalized paths exactly if they are the same node
     -- (section 2.7),
     pub paths : NodesDiffer

@@ -1,4 +1,5 @@
--- What is read of an input.
+-- What a run has read of its input: all of it, more than it takes, or what came before a read
+-- failed. `Run` says with which answer each holds.
 use Rattle.std.specs.Prelude.{◌≡◌, ℕ, ◌+◌, ◌<◌, ◌≤◌, Bool, true, List, length, Option}
 use Rattle.std.specs.Io.KnownBytes.{Consumes, IsAtEnd}
 use Rattle.jp_command.specs.Limits.{chunk_size, document_limit}

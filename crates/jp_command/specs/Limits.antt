@@ -1,4 +1,5 @@
--- The limits of a run.
+-- The limits of a run, which `Run` and `Input` cite. The constants of the same names in the code
+-- are these numbers.
 use Rattle.std.specs.Prelude.{ℕ}
 
 -- the most bytes that a query may have

@@ -1,4 +1,5 @@
--- What the program says with its status.
+-- What the program says with its status: the status and the line of each fault, what a task's run
+-- says, and `RunsLine`, which the clause of `run_line` cites.
 use Rattle.std.specs.Prelude.{◌≡◌, ℕ, Bool, List, ◌++◌, Option, Some, None, Result, Ok, Err, codes}
 use Rattle.std.specs.Fmt.{decimal}
 use Rattle.jp_document.specs.declared.fault.DocumentFault.{DocumentFault}

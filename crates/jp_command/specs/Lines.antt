@@ -1,8 +1,7 @@
--- What is written of a nodelist.
-use Rattle.std.specs.Prelude.{ℕ, List, [], ◌∷◌, ◌++◌, Option, Some, None, map}
+-- What is written of a nodelist: a line for each node, in one of three forms. `Run` cites it.
+use Rattle.std.specs.Prelude.{◌≡◌, ℕ, List, [], ◌∷◌, ◌++◌}
 use Rattle.std.specs.List.{flat_map}
-use Rattle.jp_document.specs.ChildNodes.{standing}
-use Rattle.jp_document.specs.Location.{Location}
+use Rattle.jp_document.specs.Node.{AreNodes, Node}
 use Rattle.jp_document.specs.Path.{path_of}
 use Rattle.jp_document.specs.Text.{text_of}
 use Rattle.jp_document.specs.Value.{Value}
@@ -11,21 +10,24 @@ use Rattle.jp_query.specs.Tree.{QueryTree}
 use Rattle.jp_command.specs.declared.lines.Form.{Form}
 use Rattle.jp_command.specs.declared.lines.Form.TheVariants.{Values, Paths, Both}
 
--- what stands in a line: the compact text, the normalized path (RFC 9535 section 2.7), or both with a tab between
-abbrev pub text_in_line : Form → Location → Value → List ℕ
-text_in_line Values l v = text_of v
-text_in_line Paths l v = path_of l
-text_in_line Both l v = path_of l ++ 9 ∷ text_of v
+-- what stands in the line of a node: the compact text of its value, its normalized path (RFC 9535
+-- section 2.7), or both with a tab between
+abbrev pub text_in_line : Form → Node → List ℕ
+text_in_line Values n = text_of n.value
+text_in_line Paths n = path_of n.location
+text_in_line Both n = path_of n.location ++ 9 ∷ text_of n.value
 
--- the line of a location and the value there, which a newline ends
-abbrev pub line_of : Form → Location × Option Value → List ℕ
-line_of form (l, Some v) = text_in_line form l v ++ 10 ∷ []
-line_of form (l, None) = []
+-- the line of a node, which a newline ends
+abbrev pub line_of : Form → Node → List ℕ
+line_of form n = text_in_line form n ++ 10 ∷ []
 
--- a line for each location
-abbrev pub lines_of : Form → List (Location × Option Value) → List ℕ
-lines_of form places = flat_map (line_of form) places
+-- a line for each node
+abbrev pub lines_of : Form → List Node → List ℕ
+lines_of form ns = flat_map (line_of form) ns
 
--- the output of a query over a document: a line for each node of its nodelist, in order
-abbrev pub output_of : Form → QueryTree → Value → List ℕ
-output_of form q d = lines_of form (map (standing d) (nodelist q d))
+-- the output of a query over a document: the lines of the document's nodes at the locations of the
+-- nodelist, in order
+pub record IsOutputOf (form : Form) (q : QueryTree) (d : Value) (output : List ℕ) : Type 0 where
+  pub nodes : List Node
+  pub selected : AreNodes d nodes (nodelist q d)
+  pub lines : output ≡ lines_of form nodes

@@ -1,4 +1,5 @@
--- What is written to an output.
+-- What a run has written to its output: all of a text, or a prefix of one, and nothing else. `Run`,
+-- `QueryLine` and `Line` say with which answer each holds.
 use Rattle.std.specs.Prelude.{◌≡◌, ℕ, Bool, true, List, ◌++◌, Option}
 use Rattle.std.specs.Io.KnownBytes.{Appends}
 use Rattle.jp_command.specs.declared.fault.Fault.{Fault}

@@ -1,2 +1,3 @@
+pub mod ByTurns
 pub mod Faults
 pub mod Stops

@@ -2,7 +2,7 @@
 
 ghost use Rattle.std.specs.Prelude.{◌≡◌, ℕ, ◌<◌, ◌≤◌, Bool, List, Option, true, false, IfOk, IsErr, OnOk, OnErr, length};
 ghost use Rattle.std.specs.Io.KnownBytes.{ReadConsumes, WriteAppends, Keeps};
-ghost use Rattle.jp_command.specs.Device.{carried, carrier_failed};
+ghost use Rattle.jp_command.specs.Device.{carried, carrier_failed, carrier_is_last};
 
 use std::io::{Read, Write};
 
@@ -18,6 +18,9 @@ pub trait Source {
     // Whether a call failed.
     ghost has_failed: { Self → Bool };
 
+    // Whether the process ends with what is read here.
+    ghost ends_process: { Self → Bool };
+
     /// Reads some bytes to the start of `buffer` and answers how many; 0 only at the end of the
     /// bytes or for a buffer without room.
     fn read(&mut self, buffer: &mut [u8]) -> Result<usize, Failed>
@@ -29,6 +32,10 @@ pub trait Source {
     /// Whether a call failed.
     fn failed(&self) -> bool
         ensures { result ≡ has_failed self.now };
+
+    /// Whether the process ends with what is read here, so that memory is left to its end.
+    fn is_last(&self) -> bool
+        ensures { result ≡ ends_process self.now };
 }
 
 /// What bytes are written to. It tells its bytes as std's writers do.
@@ -65,6 +72,7 @@ pub trait Output {
 pub struct Device<T> {
     inner: T,
     failed: bool,
+    last: bool,
 }
 
 impl<T> Device<T> {
@@ -72,11 +80,25 @@ impl<T> Device<T> {
     pub fn new(inner: T) -> Device<T>
         ensures carries { carried result ≡ inner }
         ensures fresh { carrier_failed result ≡ false }
+        ensures frees { carrier_is_last result ≡ false }
     {
         Device {
             inner,
             failed: false,
+            last: false,
         }
+    }
+
+    /// The same, for the last input of a process: what is made of it is not freed, since the
+    /// process then ends, which frees it faster.
+    pub fn last(inner: T) -> Device<T>
+        ensures carries { carried result ≡ inner }
+        ensures fresh { carrier_failed result ≡ false }
+        ensures leaves { carrier_is_last result ≡ true }
+    {
+        let mut device = Device::new(inner);
+        device.last = true;
+        device
     }
 
     /// Keeps that a call failed.
@@ -95,6 +117,8 @@ impl<T: Read> Source for Device<T> {
 
     ghost has_failed = { carrier_failed };
 
+    ghost ends_process = { carrier_is_last };
+
     fn read(&mut self, buffer: &mut [u8]) -> Result<usize, Failed> {
         match self.inner.read(buffer) {
             Ok(count) => Ok(count),
@@ -104,6 +128,10 @@ impl<T: Read> Source for Device<T> {
 
     fn failed(&self) -> bool {
         self.failed
+    }
+
+    fn is_last(&self) -> bool {
+        self.last
     }
 }
 

@@ -13,8 +13,10 @@ use crate::lines::{Form, write_lines};
 use jp_check::{Checked, read_query};
 use jp_document::Document;
 use jp_evaluate::nodes;
+use jp_match::Marks;
 use jp_query::{Refusal, RefusalKind};
 use std::alloc::Global;
+use std::mem;
 
 /// Writes a line for each node that `query` selects in the document that `input` gives, in the
 /// nodelist's order (RFC 9535 section 2.1.2).
@@ -25,7 +27,8 @@ use std::alloc::Global;
 /// bytes (`TextTooLong`) or is refused, `Document` that what was read is no document,
 /// `DocumentTooLarge` that more than `DOCUMENT_LIMIT` bytes came, `Read` and `Write` that the input
 /// or the output failed: a call that fails is not tried again. After `Write` and `NoMemory` a
-/// prefix of the output is written.
+/// prefix of the output is written. The document is freed at the end, unless the input is the last
+/// of its process (`Device::last`).
 pub fn run_eval<R: Source, W: Output>(
     alloc: Global,
     query: &str,
@@ -36,28 +39,17 @@ pub fn run_eval<R: Source, W: Output>(
     ensures { RunsEval R.remaining R.has_failed W.contents W.has_failed
         form query.now input.old input.new output.old output.new result }
 {
-    eval_document(alloc, query, form, input, output)?;
-    Ok(())
-}
-
-/// Does what [`run_eval`] does, and hands over the document that was read, so that the caller
-/// decides whether it is freed.
-pub(crate) fn eval_document<R: Source, W: Output>(
-    alloc: Global,
-    query: &str,
-    form: Form,
-    input: &mut R,
-    output: &mut W,
-) -> Result<Document, Fault>
-    ensures { RunsEval R.remaining R.has_failed W.contents W.has_failed
-        form query.now input.old input.new output.old output.new result }
-{
     let query = read_within_limit(alloc, query)?;
     let bytes = read_all(alloc, input)?;
     let document = Document::read(alloc, &bytes)?;
     drop(bytes);
-    write_lines(alloc, form, nodes(alloc, &document, &query), output)?;
-    Ok(document)
+    let mut selected = nodes(alloc, &document, &query, &Marks);
+    let written = write_lines(alloc, form, &mut selected, output);
+    drop(selected);
+    if input.is_last() {
+        mem::forget(document);
+    }
+    written
 }
 
 /// Reads a query that is not too long.

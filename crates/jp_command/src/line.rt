@@ -9,7 +9,7 @@ ghost use Rattle.jp_command.specs.Output.{AppendsPrefix, AppendsSome};
 use crate::canon::run_canon;
 use crate::check::run_check;
 use crate::device::{Output, Source};
-use crate::eval::eval_document;
+use crate::eval::run_eval;
 use crate::fault::Fault;
 use crate::output::write_all;
 use crate::words::{Task, read_words};
@@ -18,7 +18,6 @@ use clap::error::ErrorKind;
 use jp_document::DocumentFault;
 use std::alloc::{AllocError, Global};
 use std::borrow::CowStr;
-use std::mem;
 
 /// Does what `words` ask for, of which the first is the program's name, and answers the status: 0
 /// where it is done, 1 where the query is refused, 2 where the words are not ones that the command
@@ -81,12 +80,7 @@ fn run_task<R: Source, W: Output>(
     match task {
         Task::Check => run_check(alloc, query, output),
         Task::Canon => run_canon(alloc, query, output),
-        Task::Eval(form) => {
-            let document = eval_document(alloc, query, form, input, output)?;
-            // The process ends next, which frees the document faster than a walk over it.
-            mem::forget(document);
-            Ok(())
-        }
+        Task::Eval(form) => run_eval(alloc, query, form, input, output),
     }
 }
 

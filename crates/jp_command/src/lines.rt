@@ -3,7 +3,8 @@
 ghost use Rattle.std.specs.Prelude.{◌≡◌, ◌++◌, IfErr, OnOk, false, string_bytes};
 ghost use Rattle.jp_command.specs.Lines.{line_of, lines_of};
 ghost use Rattle.jp_command.specs.Output.{StopsWriting, WritesAll};
-ghost use Rattle.jp_document.specs.ChildNodes.{shown};
+ghost use Rattle.jp_command.specs.Private.ByTurns.{WritesByTurns};
+ghost use Rattle.jp_document.specs.Node.{node_of};
 ghost use Rattle.jp_evaluate.specs.Rest.{rest_of};
 
 use crate::device::Output;
@@ -11,6 +12,7 @@ use crate::fault::Fault;
 use crate::output::write_all;
 use jp_document::{Node, push_path, push_value};
 use jp_evaluate::Nodes;
+use jp_match::Marks;
 use std::alloc::{AllocError, Global};
 
 /// What is written of each node.
@@ -27,7 +29,7 @@ pub enum Form {
 /// Appends the line of `node`.
 fn push_line(form: Form, node: &Node, line: &mut String) -> Result<(), AllocError>
     ensures { OnOk result
-        (string_bytes line.new ≡ string_bytes line.old ++ line_of form (shown node.now)) }
+        (string_bytes line.new ≡ string_bytes line.old ++ line_of form (node_of node.now)) }
 {
     match form {
         Form::Values => push_value(line, node.value())?,
@@ -42,21 +44,23 @@ fn push_line(form: Form, node: &Node, line: &mut String) -> Result<(), AllocErro
 }
 
 /// Writes the line of each node before it asks for the next. After a fault a prefix of the lines is
-/// written.
-pub(crate) fn write_lines<W: Output>(
+/// written: those of the nodes that were given, the last of them perhaps in part or not at all.
+pub(crate) fn write_lines<'d: 'q, 'q, W: Output>(
     alloc: Global,
     form: Form,
-    nodes: Nodes,
+    nodes: &mut Nodes<'d, 'q, Marks>,
     output: &mut W,
 ) -> Result<(), Fault>
-    requires { nodes.failed ≡ false }
+    requires { nodes.now.failed ≡ false }
     ensures ok { OnOk result (WritesAll W.contents W.has_failed output.old output.new
-        (lines_of form (rest_of nodes.entry))) }
+        (lines_of form (rest_of nodes.old))) }
     ensures stopped { IfErr result (StopsWriting W.contents W.has_failed output.old output.new
-        (lines_of form (rest_of nodes.entry))) }
+        (lines_of form (rest_of nodes.old))) }
+    ensures by_turns { WritesByTurns W.contents form
+        nodes.old nodes.new output.old output.new result }
 {
     let mut line = String::new(alloc);
-    for next in nodes {
+    while let Some(next) = nodes.next() {
         let node = next?;
         line.clear();
         push_line(form, &node, &mut line)?;

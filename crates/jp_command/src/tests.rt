@@ -4,7 +4,6 @@ mod canonical;
 mod devices;
 mod failures;
 mod limits;
-mod places;
 mod prefixes;
 mod rows;
 mod runs;

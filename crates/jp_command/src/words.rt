@@ -11,6 +11,18 @@ use clap::error::ErrorKind;
 use clap::{Arg, ArgMatches, Command, Error};
 use std::alloc::{AllocError, Global};
 
+/// The version of the program.
+const VERSION: &str = "0.1.0";
+
+/// What help says below the subcommands.
+const AFTER_HELP: &str = "\
+Each command takes one QUERY. eval, paths and both read a JSON document from standard input.
+
+Example: echo '[1,2]' | jp eval '$[-1]'
+
+Statuses: 0 done, 1 query refused, 2 usage or help, 3 document refused,
+4 want of memory, 5 read or write fault";
+
 /// What a subcommand does with its query.
 #[derive(Debug, Clone, Copy, PartialEq, Eq)]
 pub(crate) enum Task {
@@ -38,12 +50,18 @@ fn task_named(name: &str) -> Option<Task>
 
 /// A subcommand with a query.
 #[tactic(auto, unfolding(crate::specs::CommandLine::query_app))]
-fn query_command<'w>(alloc: Global, name: &'w str) -> Result<Command<'w>, AllocError>
+fn query_command<'w>(
+    alloc: Global,
+    name: &'w str,
+    about: &'w str,
+) -> Result<Command<'w>, AllocError>
     ensures shape { IfOk result (λ command. app_of command ≡ query_app name.entry.now) }
     ensures local { IfOk result (λ command. (out-Command command).has_globals ≡ false) }
 {
-    let query = Arg::new(alloc, "QUERY").required(true);
-    Command::new(alloc, name).arg(query)
+    let query = Arg::new(alloc, "QUERY")
+        .required(true)
+        .help("A JSONPath query, such as $.a[0]");
+    Command::new(alloc, name).about(about).arg(query)
 }
 
 /// The command with one such subcommand more.
@@ -51,11 +69,12 @@ fn with_task<'w>(
     alloc: Global,
     command: Command<'w>,
     name: &'w str,
+    about: &'w str,
 ) -> Result<Command<'w>, AllocError>
     ensures { IfOk result (λ more.
         app_of more ≡ with_task (app_of command.entry) name.entry.now) }
 {
-    command.subcommand(query_command(alloc, name)?)
+    command.subcommand(query_command(alloc, name, about)?)
 }
 
 /// The whole command line.
@@ -63,11 +82,20 @@ fn with_task<'w>(
 fn jp_command<'w>(alloc: Global) -> Result<Command<'w>, AllocError>
     ensures { IfOk result (λ command. app_of command ≡ jp) }
 {
-    let command = with_task(alloc, Command::new(alloc, "jp"), "check")?;
-    let command = with_task(alloc, command, "canon")?;
-    let command = with_task(alloc, command, "eval")?;
-    let command = with_task(alloc, command, "paths")?;
-    let command = with_task(alloc, command, "both")?;
+    let command = Command::new(alloc, "jp")
+        .version(VERSION)
+        .about("Runs JSONPath queries (RFC 9535) over JSON documents")
+        .after_help(AFTER_HELP);
+    let command = with_task(alloc, command, "check", "Tells whether a query is accepted")?;
+    let command = with_task(alloc, command, "canon", "Writes a query's canonical text")?;
+    let command = with_task(alloc, command, "eval", "Writes each selected node's value")?;
+    let command = with_task(alloc, command, "paths", "Writes each selected node's path")?;
+    let command = with_task(
+        alloc,
+        command,
+        "both",
+        "Writes each one's path, a tab and its value",
+    )?;
     Ok(command.subcommand_required(true))
 }
 

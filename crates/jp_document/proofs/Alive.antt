@@ -5,7 +5,8 @@ use Rattle.jp_reading.proofs.Rules.Form.{Alive}
 use Rattle.jp_document.specs.Private.PathRules as rule
 
 abbrev pub character-alive : Alive rule.name_character
-unfolding rule.name_character rule.escape rule.hexchar rule.is_letter rule.is_plain rule.is_low_digit rule.is_hex_digit
+unfolding rule.name_character rule.escape rule.hexchar rule.is_letter rule.is_plain
+    rule.is_low_digit rule.is_hex_digit
 character-alive = ((((48, refl), (48, refl)), (98, refl)), (97, refl))
 
 abbrev pub name-alive : Alive rule.name

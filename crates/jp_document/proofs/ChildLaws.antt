@@ -1,27 +1,37 @@
--- The children of a node: what its list shows, and that it is the list of the nodes one step longer.
-use Rattle.std.proofs.Common.{◌≡◌, ℕ, zero, suc, ◌+◌, ◌<◌, true, false, true≢false, List, [], ◌∷◌, ◌++◌, length, take, map, Option, Some, None, is_some, unwrap_or, Less, Equal, refl, sym, ap, subst, ◌∙◌, arith}
-use Rattle.std.specs.List.{slice_get, AllByRecursion, Contains}
+-- The children of a node: what its list shows, and that it is the list of the nodes one step
+-- longer.
+use Rattle.std.proofs.Common.{◌≡◌, ℕ, zero, suc, ◌+◌, ◌<◌, true, false, true≢false, List}
+use Rattle.std.proofs.Common.{[], ◌∷◌, ◌++◌, length, take, map, Option, Some, None, is_some}
+use Rattle.std.proofs.Common.{unwrap_or, Less, Equal, refl, sym, ap, subst, ◌∙◌, arith}
+use Rattle.std.specs.List.{All, slice_get, AllByRecursion, Contains}
 use Rattle.std.specs.List.Sorted.{IsStrictlySortedBy}
 use Rattle.std.specs.Map.{keys_of}
 use Rattle.std.specs.Option.{option_map, option_and_then}
 use Rattle.std.specs.Ordering.{ordering_then}
 use Rattle.std.proofs.lemmas.List.{get_or-map, length-map, length_push, map-append, take_more}
+use Rattle.std.proofs.lemmas.List.Elements.{All-cons, All-nil}
 use Rattle.std.proofs.lemmas.Map.Views.{Contains-from_lookup, tells_apart}
 use Rattle.std.proofs.lemmas.Option.{slice_get-map, slice_get-get_or, slice_get_within, same_Some}
-use Rattle.jp_document.specs.ChildNodes.{IsListOf, IsChild, steps_below, children_of, standing, AreNodes, ChildrenAreExact}
-use Rattle.jp_document.specs.Location.{Key, key_cmp, Location, location_cmp, held, child, value_at}
-use Rattle.jp_document.specs.Node.{Located, told, told_entry, told_children, StandsIn}
+use Rattle.jp_document.specs.ChildNodes.{IsListOf, IsChild, steps_below}
+use Rattle.jp_document.specs.ChildNodes.{children_of, ChildrenAreExact}
+use Rattle.jp_document.specs.Location.{Key, key_cmp, Location, location_cmp}
+use Rattle.jp_document.specs.Location.{entries, child, value_at}
+use Rattle.jp_document.specs.Node.{AreNodes, Located, Node, StandsIn}
+use Rattle.jp_document.specs.Node.{children, location_of, node_below, node_of}
 use Rattle.jp_document.specs.Value.{Value, IsDocumentValue, value_of}
 use Rattle.jp_document.proofs.ChildValues.{IsDocumentValue-child, value_at-step}
 use Rattle.jp_document.proofs.Fractions.{key_same, key_exact}
-use Rattle.jp_document.proofs.Held.{held-rises, child-held}
+use Rattle.jp_document.proofs.Entries.{entries-rise, child-entry}
 
 -- ---- the list that a loop makes
 
-one_more : {X : Type 0} (xs : List X) (i : ℕ) (x : X) → Some x ≡ slice_get xs i → take (i + 1) xs ≡ take i xs ++ x ∷ []
+one_more : {X : Type 0} (xs : List X) (i : ℕ) (x : X) → Some x ≡ slice_get xs i →
+    take (i + 1) xs ≡ take i xs ++ x ∷ []
 one_more xs i x is =
     let within = slice_get_within xs i x (sym is) in
-    take_more xs i x within ∙ ap (λ y. take i xs ++ y ∷ []) (same_Some _ _ (sym (slice_get-get_or xs i x within) ∙ sym is))
+    take_more xs i x within
+    ∙ ap (λ y. take i xs ++ y ∷ [])
+    (same_Some _ _ (sym (slice_get-get_or xs i x within) ∙ sym is))
 
 no_more : {X : Type 0} (xs : List X) (i : ℕ) → None ≡ slice_get xs i → take i xs ≡ xs
 no_more [] zero is = refl
@@ -29,121 +39,178 @@ no_more [] (suc i) is = refl
 no_more (x ∷ xs) zero is = cc
 no_more (x ∷ xs) (suc i) is = ap (λ ys. x ∷ ys) (no_more xs i is)
 
-pub grown : (ns : List Located) (n : Located) (all : List (Location × Value)) → map told ns ≡ take (length ns) all → Some (told n) ≡ slice_get all (length ns) → map told (ns ++ n ∷ []) ≡ take (length (ns ++ n ∷ [])) all
+pub grown : (ns : List Located) (n : Located) (all : List Node)
+    → map node_of ns ≡ take (length ns) all → Some (node_of n) ≡ slice_get all (length ns)
+    → map node_of (ns ++ n ∷ []) ≡ take (length (ns ++ n ∷ [])) all
 grown ns n all so is =
-    map-append told ns (n ∷ []) ∙ ap (λ ps. ps ++ told n ∷ []) so ∙ sym (one_more all (length ns) (told n) is) ∙ ap (λ k. take k all) (sym (length_push ns n))
+    map-append node_of ns (n ∷ []) ∙ ap (λ ps. ps ++ node_of n ∷ []) so
+    ∙ sym (one_more all (length ns) (node_of n) is) ∙ ap (λ k. take k all) (sym (length_push ns n))
 
-pub finished : (ns : List Located) (all : List (Location × Value)) → map told ns ≡ take (length ns) all → None ≡ slice_get all (length ns) → map told ns ≡ all
+pub finished : (ns : List Located) (all : List Node) → map node_of ns ≡ take (length ns) all
+    → None ≡ slice_get all (length ns) → map node_of ns ≡ all
 finished ns all so is = so ∙ no_more all (length ns) is
 
 -- ---- where the children stand
 
-map-same : {X Y : Type 0} (f g : X → Y) (xs : List X) → ((i : ℕ) (x : X) → slice_get xs i ≡ Some x → f x ≡ g x) → map f xs ≡ map g xs
-map-same f g [] same = refl
-map-same f g (x ∷ xs) same = ap (λ y. y ∷ map f xs) (same 0 x refl) ∙ ap (λ ys. g x ∷ ys) (map-same f g xs (λ i y is. same (suc i) y is))
-
-map-map : {X Y Z : Type 0} (f : Y → Z) (g : X → Y) (xs : List X) → map f (map g xs) ≡ map (λ x. f (g x)) xs
-map-map f g [] = refl
-map-map f g (x ∷ xs) = ap (λ ys. f (g x) ∷ ys) (map-map f g xs)
-
-some_value : (f : Value → Option Value) (o : Option Value) (r : Value) → option_and_then f o ≡ Some r → (w : Value) × (o ≡ Some w)
+some_value : (f : Value → Option Value) (o : Option Value) (r : Value) →
+    option_and_then f o ≡ Some r → (w : Value) × (o ≡ Some w)
 some_value f None r is = cc
 some_value f (Some w) r is = (w, refl)
 
-IsDocumentValue-at : (d v : Value) (l : Location) → IsDocumentValue d → value_at d l ≡ Some v → IsDocumentValue v
+IsDocumentValue-at : (d v : Value) (l : Location) → IsDocumentValue d → value_at d l ≡ Some v →
+    IsDocumentValue v
 IsDocumentValue-at d v [] document is = subst IsDocumentValue (same_Some _ _ is) document
 IsDocumentValue-at d v (k ∷ l) document is =
     let w = some_value (λ w. value_at w l) (child d k) v is in
-    IsDocumentValue-at w.0 v l (IsDocumentValue-child d w.0 k document w.1) (sym (ap (option_and_then (λ x. value_at x l)) w.1) ∙ is)
+    IsDocumentValue-at w.0 v l (IsDocumentValue-child d w.0 k document w.1)
+    (sym (ap (option_and_then (λ x. value_at x l)) w.1) ∙ is)
 
 -- the value of the document at a child's location
-child_there : (d v : Value) (l : Location) (i : ℕ) (e : Key × Value) → IsDocumentValue v → value_at d l ≡ Some v → slice_get (held v) i ≡ Some e → value_at d (l ++ e.0 ∷ []) ≡ Some e.1
-child_there d v l i e document there is = value_at-step d v l e.0 there ∙ child-held v i e.0 e.1 document is
+child_there : (d v : Value) (l : Location) (i : ℕ) (e : Key × Value) → IsDocumentValue v
+    → value_at d l ≡ Some v → slice_get (entries v) i ≡ Some e
+    → value_at d (l ++ e.0 ∷ []) ≡ Some e.1
+child_there d v l i e document there is =
+    value_at-step d v l e.0 there ∙ child-entry v i e.0 e.1 document is
 
-children_of-there : (d v : Value) (l : Location) → value_at d l ≡ Some v → children_of d l ≡ steps_below l v
+children_of-there : (d v : Value) (l : Location) → value_at d l ≡ Some v →
+    children_of d l ≡ steps_below l v
 children_of-there d v l there = ap (λ o. unwrap_or (option_map (steps_below l) o) []) there
 
-abbrev with_value : Location × Value → Location × Option Value
-with_value p = (p.0, Some p.1)
+below_stand : (d : Value) (l : Location) (es : List (Key × Value)) → IsDocumentValue d
+    → ((i : ℕ) (e : Key × Value) → slice_get es i ≡ Some e → value_at d (l ++ e.0 ∷ []) ≡ Some e.1)
+    → All (StandsIn d) (map (node_below l) es)
+below_stand d l [] document each = All-nil (StandsIn d)
+below_stand d l (e ∷ es) document each =
+    All-cons (StandsIn d) (node_below l e) (map (node_below l) es) (record {
+      document = document;
+      there = each 0 e refl;
+    })
+    (below_stand d l es document (λ i x is. each (suc i) x is))
 
--- what shows the children of a node that stands in d are d's nodes at their locations
-pub AreNodes-children : (d : Value) (n : Located) (ns : List Located) → map told ns ≡ told_children n → StandsIn d n → AreNodes d ns (children_of d n.location)
-AreNodes-children d n ns is stands =
-    let v = value_of n.value in
+locations-below : (l : Location) (es : List (Key × Value))
+    → map location_of (map (node_below l) es) ≡ map (λ e. l ++ e.0 ∷ []) es
+locations-below l [] = refl
+locations-below l (e ∷ es) = ap (λ ls. (l ++ e.0 ∷ []) ∷ ls) (locations-below l es)
+
+-- the children of a node of d are d's nodes at their locations
+pub AreNodes-children : (d : Value) (n : Node) → StandsIn d n
+    → AreNodes d (children n) (children_of d n.location)
+AreNodes-children d n stands =
+    let v = n.value in
     let l = n.location in
     let document = IsDocumentValue-at d v l stands.document stands.there in
-    sym (map-map with_value told ns) ∙ ap (map with_value) is ∙ map-map with_value (told_entry l) (held v)
-    ∙ map-same (λ e. with_value (told_entry l e)) (λ e. standing d (l ++ e.0 ∷ [])) (held v)
-    (λ i e at. ap (λ o. (l ++ e.0 ∷ [], o)) (sym (child_there d v l i e document stands.there at)))
-    ∙ sym (map-map (standing d) (λ e. l ++ e.0 ∷ []) (held v)) ∙ ap (map (standing d)) (sym (children_of-there d v l stands.there))
+    record {
+      locations = locations-below l (entries v) ∙ sym (children_of-there d v l stands.there);
+      stand =
+          below_stand d l (entries v) stands.document
+          (λ i e at. child_there d v l i e document stands.there at);
+    }
 
 -- ---- the law
 
-step_less : (l : Location) (a b : Key) → key_cmp a b ≡ Less → location_cmp (l ++ a ∷ []) (l ++ b ∷ []) ≡ Less
+step_less : (l : Location) (a b : Key) → key_cmp a b ≡ Less →
+    location_cmp (l ++ a ∷ []) (l ++ b ∷ []) ≡ Less
 step_less [] a b less = ap (λ o. ordering_then o Equal) less
-step_less (k ∷ l) a b less = ap (λ o. ordering_then o (location_cmp (l ++ a ∷ []) (l ++ b ∷ []))) (key_same k) ∙ step_less l a b less
+step_less (k ∷ l) a b less =
+    ap (λ o. ordering_then o (location_cmp (l ++ a ∷ []) (l ++ b ∷ []))) (key_same k)
+    ∙ step_less l a b less
 
-all_less : (l : Location) (k : Key) (es : List (Key × Value)) → AllByRecursion (λ y. key_cmp k y ≡ Less) (keys_of es) → AllByRecursion (λ m. location_cmp (l ++ k ∷ []) m ≡ Less) (map (λ e. l ++ e.0 ∷ []) es)
+all_less : (l : Location) (k : Key) (es : List (Key × Value)) →
+    AllByRecursion (λ y. key_cmp k y ≡ Less) (keys_of es) →
+    AllByRecursion (λ m. location_cmp (l ++ k ∷ []) m ≡ Less) (map (λ e. l ++ e.0 ∷ []) es)
 all_less l k [] h = tt
 all_less l k (e ∷ es) h = (step_less l k e.0 h.0, all_less l k es h.1)
 
-steps_rise : (l : Location) (es : List (Key × Value)) → IsStrictlySortedBy key_cmp (keys_of es) → IsStrictlySortedBy location_cmp (map (λ e. l ++ e.0 ∷ []) es)
+steps_rise : (l : Location) (es : List (Key × Value)) → IsStrictlySortedBy key_cmp (keys_of es) →
+    IsStrictlySortedBy location_cmp (map (λ e. l ++ e.0 ∷ []) es)
 unfolding IsStrictlySortedBy
 steps_rise l [] h = tt
 steps_rise l (e ∷ es) h = (all_less l e.0 es h.0, steps_rise l es h.1)
 
-from_map : {A B : Type 0} (f : A → B) (o : Option A) (b : B) → option_map f o ≡ Some b → (a : A) × (o ≡ Some a) × (f a ≡ b)
-from_map f None b is = cc
-from_map f (Some a) b is = (a, refl, same_Some _ _ is)
+value_mapped : {A B : Type 0} (f : A → B) (o : Option A) (b : B) → option_map f o ≡ Some b →
+    (a : A) × (o ≡ Some a) × (f a ≡ b)
+value_mapped f None b is = cc
+value_mapped f (Some a) b is = (a, refl, same_Some _ _ is)
 
 -- the entry whose step leads to m
-entry_at : (l m : Location) (es : List (Key × Value)) → Contains (map (λ e. l ++ e.0 ∷ []) es) m → (i : ℕ) × (e : Key × Value) × (slice_get es i ≡ Some e) × (l ++ e.0 ∷ [] ≡ m)
+entry_at : (l m : Location) (es : List (Key × Value)) → Contains (map (λ e. l ++ e.0 ∷ []) es) m →
+    (i : ℕ) × (e : Key × Value) × (slice_get es i ≡ Some e) × (l ++ e.0 ∷ [] ≡ m)
 entry_at l m es has =
     let f : Key × Value → Location = λ e. l ++ e.0 ∷ [] in
-    let e = from_map f (slice_get es has.0) m (sym (slice_get-map f es has.0) ∙ slice_get-get_or (map f es) has.0 m has.1 ∙ ap Some has.2) in
+    let e =
+    value_mapped f (slice_get es has.0) m
+    (sym (slice_get-map f es has.0) ∙ slice_get-get_or (map f es) has.0 m has.1
+    ∙ ap Some has.2) in
     (has.0, e.0, e.1, e.2)
 
-is_child : (d v : Value) (l m : Location) → IsDocumentValue v → value_at d l ≡ Some v → Contains (steps_below l v) m → IsChild d l m
+is_child : (d v : Value) (l m : Location) → IsDocumentValue v → value_at d l ≡ Some v →
+    Contains (steps_below l v) m → IsChild d l m
 is_child d v l m document there has =
-    let e = entry_at l m (held v) has in
-    (ap is_some (ap (value_at d) (sym e.3) ∙ child_there d v l e.0 e.1 document there e.2), (e.1.0, sym e.3))
+    let e = entry_at l m (entries v) has in (
+      ap is_some (ap (value_at d) (sym e.3) ∙ child_there d v l e.0 e.1 document there e.2),
+      (e.1.0, sym e.3),
+    )
 
-pub Contains-map : {A B : Type 0} (f : A → B) (xs : List A) (x : A) → Contains xs x → Contains (map f xs) (f x)
-Contains-map f xs x has = (has.0, subst (λ n. has.0 < n) (sym (length-map xs f)) has.1, get_or-map f xs has.0 x (f x) has.1 ∙ ap f has.2)
+pub Contains-map : {A B : Type 0} (f : A → B) (xs : List A) (x : A) → Contains xs x →
+    Contains (map f xs) (f x)
+Contains-map f xs x has = (
+  has.0,
+  subst (λ n. has.0 < n) (sym (length-map xs f)) has.1,
+  get_or-map f xs has.0 x (f x) has.1 ∙ ap f has.2,
+)
 
 some_of : (o : Option Value) → is_some o ≡ true → (w : Value) × (o ≡ Some w)
 some_of None is = cc
 some_of (Some w) is = (w, refl)
 
-contains_child : (d v : Value) (l m : Location) → value_at d l ≡ Some v → IsChild d l m → Contains (steps_below l v) m
+contains_child : (d v : Value) (l m : Location) → value_at d l ≡ Some v → IsChild d l m →
+    Contains (steps_below l v) m
 contains_child d v l m there is =
     let k = is.1.0 in
-    let w = some_of (child v k) (ap is_some (sym (value_at-step d v l k there)) ∙ ap (λ x. is_some (value_at d x)) (sym is.1.1) ∙ is.0) in
-    let entry : Contains (held v) (k, w.0) = Contains-from_lookup (tells_apart key_exact) k w.0 (held v) w.1 in
-    subst (Contains (steps_below l v)) (sym is.1.1) (Contains-map (λ e. l ++ e.0 ∷ []) (held v) (k, w.0) entry)
+    let w =
+    some_of (child v k)
+    (ap is_some (sym (value_at-step d v l k there))
+    ∙ ap (λ x. is_some (value_at d x)) (sym is.1.1) ∙ is.0) in
+    let entry : Contains (entries v) (k, w.0) =
+    Contains-from_lookup (tells_apart key_exact) k w.0 (entries v) w.1 in
+    subst (Contains (steps_below l v)) (sym is.1.1)
+    (Contains-map (λ e. l ++ e.0 ∷ []) (entries v) (k, w.0) entry)
 
-nowhere : (o : Option Value) (f g : Value → Option Value) → ((w : Value) → f w ≡ None → g w ≡ None) → option_and_then f o ≡ None → option_and_then g o ≡ None
+nowhere : (o : Option Value) (f g : Value → Option Value) →
+    ((w : Value) → f w ≡ None → g w ≡ None) → option_and_then f o ≡ None →
+    option_and_then g o ≡ None
 nowhere None f g on is = refl
 nowhere (Some w) f g on is = on w is
 
-value_at-none : (d : Value) (l : Location) (k : Key) → value_at d l ≡ None → value_at d (l ++ k ∷ []) ≡ None
+value_at-none : (d : Value) (l : Location) (k : Key) → value_at d l ≡ None →
+    value_at d (l ++ k ∷ []) ≡ None
 value_at-none d [] k is = cc
-value_at-none d (j ∷ l) k is = nowhere (child d j) (λ w. value_at w l) (λ w. value_at w (l ++ k ∷ [])) (λ w. value_at-none w l k) is
+value_at-none d (j ∷ l) k is =
+    nowhere (child d j) (λ w. value_at w l) (λ w. value_at w (l ++ k ∷ []))
+    (λ w. value_at-none w l k) is
 
 no_child_there : (d : Value) (l m : Location) → value_at d l ≡ None → IsChild d l m → ⊥
 no_child_there d l m none is =
-    let gone : is_some (value_at d m) ≡ false = ap is_some (ap (value_at d) is.1.1 ∙ value_at-none d l is.1.0 none) in
+    let gone : is_some (value_at d m) ≡ false =
+    ap is_some (ap (value_at d) is.1.1 ∙ value_at-none d l is.1.0 none) in
     true≢false (sym is.0 ∙ gone)
 
 none_below : (m : Location) → Contains [] m → ⊥
 none_below m has = absurd (omega (arith, has.1))
 
-exact_by : (d : Value) (l : Location) (o : Option Value) → IsDocumentValue d → value_at d l ≡ o → IsListOf (IsChild d l) (unwrap_or (option_map (steps_below l) o) [])
+children_exact_by : (d : Value) (l : Location) (o : Option Value) → IsDocumentValue d →
+    value_at d l ≡ o → IsListOf (IsChild d l) (unwrap_or (option_map (steps_below l) o) [])
 unfolding IsStrictlySortedBy
-exact_by d l None document there = record { rising = tt; exactly = λ m. (λ has. absurd (none_below m has), λ is. absurd (no_child_there d l m there is)) }
-exact_by d l (Some v) document there =
+children_exact_by d l None document there = record {
+  rising = tt;
+  exactly = λ m. (λ has. absurd (none_below m has), λ is. absurd (no_child_there d l m there is));
+}
+children_exact_by d l (Some v) document there =
     let inside = IsDocumentValue-at d v l document there in
-    record { rising = steps_rise l (held v) (held-rises v inside); exactly = λ m. (is_child d v l m inside there, contains_child d v l m there) }
+    record {
+      rising = steps_rise l (entries v) (entries-rise v inside);
+      exactly = λ m. (is_child d v l m inside there, contains_child d v l m there);
+    }
 
 pub children_exact : ChildrenAreExact
-children_exact d l document = exact_by d l (value_at d l) document refl
+children_exact d l document = children_exact_by d l (value_at d l) document refl

@@ -1,7 +1,8 @@
 -- An index that does not begin with zero is read as any digits are.
 use Rattle.std.proofs.Common.{◌≡◌, ℕ, false, ◌∷◌, Option, Some, None, refl, sym, arith}
 use Rattle.std.proofs.lemmas.Bool.Decides.{nat_tests}
-use Rattle.jp_reading.specs.Outcome.{State, Outcome, took, stuck, deep, ◌>>=◌, head, passes, is, is_at, take_passing, take_if, each}
+use Rattle.jp_reading.specs.Outcome.{State, Outcome, took, stuck, deep, ◌>>=◌, head}
+use Rattle.jp_reading.specs.Outcome.{passes, is, is_at, take_passing, take_if, each}
 use Rattle.jp_reading.specs.Texts.{Text}
 use Rattle.jp_reading.specs.Numbers.{is_digit, is_at_digit, digit_at, digits_at, capped}
 use Rattle.jp_reading.specs.Views.{by}

@@ -1,5 +1,6 @@
 -- Indexes above (2^53)-1 are read as 2^53.
-use Rattle.std.proofs.Common.{◌≡◌, ℕ, min, nat_lt, Bool, false, ◌||◌, List, [], ◌∷◌, map, refl, ap, ◌∙◌, arith}
+use Rattle.std.proofs.Common.{◌≡◌, ℕ, min, nat_lt, Bool, false, ◌||◌}
+use Rattle.std.proofs.Common.{List, [], ◌∷◌, map, refl, ap, ◌∙◌, arith}
 use Rattle.std.proofs.lemmas.Bool.{or_parts}
 use Rattle.std.proofs.lemmas.Bool.Decides.{nat_tests}
 use Rattle.std.specs.List.{list_any}
@@ -11,7 +12,8 @@ abbrev pub capped_key : Key → Key
 capped_key (named s) = named s
 capped_key (nth i) = nth (min i 9007199254740992)
 
-pub list_any-map : {A B : Type 0} (p : B → Bool) (f : A → B) (xs : List A) → list_any p (map f xs) ≡ list_any (λ x. p (f x)) xs
+pub list_any-map : {A B : Type 0} (p : B → Bool) (f : A → B) (xs : List A) →
+    list_any p (map f xs) ≡ list_any (λ x. p (f x)) xs
 list_any-map p f [] = refl
 list_any-map p f (x ∷ xs) = ap (λ b. p (f x) || b) (list_any-map p f xs)
 
@@ -25,7 +27,9 @@ is_large-capped (nth i) = large-min i
 -- what is read has a large index exactly where the path has one
 pub any_large-capped : (l : Location) → list_any is_large (map capped_key l) ≡ list_any is_large l
 any_large-capped [] = refl
-any_large-capped (k ∷ l) = ap (λ b. b || list_any is_large (map capped_key l)) (is_large-capped k) ∙ ap (λ b. is_large k || b) (any_large-capped l)
+any_large-capped (k ∷ l) =
+    ap (λ b. b || list_any is_large (map capped_key l)) (is_large-capped k)
+    ∙ ap (λ b. is_large k || b) (any_large-capped l)
 
 small-min : (i : ℕ) → nat_lt 9007199254740991 i ≡ false → min i 9007199254740992 ≡ i
 small-min i h = grind (arith, nat_tests)
@@ -39,4 +43,5 @@ pub all_small-capped : (l : Location) → list_any is_large l ≡ false → map 
 all_small-capped [] h = refl
 all_small-capped (k ∷ l) h =
     let parts = or_parts (is_large k) (list_any is_large l) h in
-    ap (λ j. j ∷ map capped_key l) (small-capped k parts.0) ∙ ap (λ m. k ∷ m) (all_small-capped l parts.1)
+    ap (λ j. j ∷ map capped_key l) (small-capped k parts.0)
+    ∙ ap (λ m. k ∷ m) (all_small-capped l parts.1)

@@ -7,8 +7,8 @@ pub mod Defects
 pub mod DirectAhead
 pub mod DirectTurns
 pub mod Encoded
+pub mod Entries
 pub mod Fractions
-pub mod Held
 pub mod IndexReading
 pub mod IndexTexts
 pub mod Items

@@ -5,7 +5,8 @@ use Rattle.jp_document.specs.Location.{named, nth, location_cmp, value_at}
 use Rattle.jp_document.specs.Path.{path_of, index_text}
 use Rattle.jp_document.specs.Spelling.{spelling}
 use Rattle.jp_document.specs.Text.{text_of}
-use Rattle.jp_document.specs.Value.{Value, null, boolean, whole, text, list, object, no_items, item, no_members, member, names_rise, fits_64_bits}
+use Rattle.jp_document.specs.Value.{Value, null, boolean, whole, text, list, object, no_items}
+use Rattle.jp_document.specs.Value.{item, no_members, member, names_rise, fits_64_bits}
 
 root_path : path_of [] ≡ codes "$"
 root_path = refl
@@ -26,11 +27,18 @@ index_path : path_of (nth 0 ∷ nth 10 ∷ []) ≡ codes "$[0][10]"
 unfolding index_text
 index_path = refl
 
-list_text : text_of (list (item (whole (negsuc 0)) (item null (item (boolean true) (item (list no_items) no_items))))) ≡ codes "[-1,null,true,[]]"
+list_text : text_of
+    (list
+    (item (whole (negsuc 0)) (item null (item (boolean true) (item (list no_items) no_items))))) ≡
+    codes "[-1,null,true,[]]"
 unfolding digits
 list_text = refl
 
-object_text : text_of (object (member (codes "a") (text (codes "'\"\n")) (member (codes "b") (object no_members) no_members))) ≡ codes "{\"a\":\"'\\\"\\n\",\"b\":{}}"
+object_text : text_of
+    (object
+    (member (codes "a") (text (codes "'\"\n"))
+    (member (codes "b") (object no_members) no_members))) ≡
+    codes "{\"a\":\"'\\\"\\n\",\"b\":{}}"
 unfolding spelling
 object_text = refl
 

@@ -1,9 +1,11 @@
 -- How a character of a name is spelled: by a letter after `\`, by its number, or by itself.
-use Rattle.std.proofs.Common.{◌≡◌, ℕ, ◌<◌, ◌==◌, eqb, nat_lt, Bool, true, false, ◌||◌, List, [], ◌∷◌, inl, inr, refl, sym, ap, ◌∙◌, arith}
+use Rattle.std.proofs.Common.{◌≡◌, ℕ, ◌<◌, ◌==◌, eqb, nat_lt, Bool, true, false, ◌||◌}
+use Rattle.std.proofs.Common.{List, [], ◌∷◌, inl, inr, refl, sym, ap, ◌∙◌, arith}
 use Rattle.std.proofs.lemmas.Bool.{cases_Bool, eqb-true, not-true, or_parts}
 use Rattle.std.proofs.lemmas.Bool.Decides.{nat_tests}
 use Rattle.jp_document.specs.Spelling.{spelling, control, hex_digit}
-use Rattle.jp_document.specs.Private.PathRules.{is_plain, is_letter, meant, is_low_digit, is_hex_digit, hex_value}
+use Rattle.jp_document.specs.Private.PathRules.{is_plain, is_letter, meant}
+use Rattle.jp_document.specs.Private.PathRules.{is_low_digit, is_hex_digit, hex_value}
 
 -- whether a character below U+0020 has a letter
 unfoldable pub has_letter : ℕ → Bool
@@ -29,11 +31,17 @@ spelled c =
             | inr f ↦ elim (cases_Bool (eqb c 13)) [
               | inl e ↦ by_letter 114 refl (eqb-true c 13 e) (rw (a, b, d, f, e) refl)
               | inr g ↦ elim (cases_Bool (eqb c 39)) [
-                | inl e ↦ by_letter 39 refl (eqb-true c 39 e) (rw (a, b, d, f, g, e) (ap (λ x. 92 ∷ x ∷ []) (eqb-true c 39 e)))
+                | inl e ↦
+                    by_letter 39 refl (eqb-true c 39 e)
+                    (rw (a, b, d, f, g, e) (ap (λ x. 92 ∷ x ∷ []) (eqb-true c 39 e)))
                 | inr h ↦ elim (cases_Bool (eqb c 92)) [
-                  | inl e ↦ by_letter 92 refl (eqb-true c 92 e) (rw (a, b, d, f, g, h, e) (ap (λ x. 92 ∷ x ∷ []) (eqb-true c 92 e)))
+                  | inl e ↦
+                      by_letter 92 refl (eqb-true c 92 e)
+                      (rw (a, b, d, f, g, h, e) (ap (λ x. 92 ∷ x ∷ []) (eqb-true c 92 e)))
                   | inr k ↦ elim (cases_Bool (nat_lt c 32)) [
-                    | inl e ↦ by_number (grind (arith, nat_tests)) (rw (a, b, d, f, g) refl) (rw (a, b, d, f, g, h, k, e) refl)
+                    | inl e ↦
+                        by_number (grind (arith, nat_tests)) (rw (a, b, d, f, g) refl)
+                        (rw (a, b, d, f, g, h, k, e) refl)
                     | inr e ↦ by_itself (rw (e, h, k) refl) (rw (a, b, d, f, g, h, k, e) refl)
                   ]
                 ]
@@ -61,7 +69,9 @@ letter e is =
                 | inl h ↦ rw (eqb-true e 39 h) refl
                 | inr k ↦ elim (cases_Bool (eqb e 92)) [
                   | inl h ↦ rw (eqb-true e 92 h) refl
-                  | inr l ↦ let none : is_letter e ≡ false = rw (a, b, d, f, g, k, l) refl in absurd (let no : true ≡ false = sym is ∙ none in cc)
+                  | inr l ↦
+                      let none : is_letter e ≡ false = rw (a, b, d, f, g, k, l) refl in
+                      absurd (let no : true ≡ false = sym is ∙ none in cc)
                 ]
               ]
             ]
@@ -85,7 +95,9 @@ numbered c low none =
 itself : (c : ℕ) → is_plain c ≡ true → spelling 39 c ≡ c ∷ []
 unfolding spelling is_plain
 itself c plain =
-    let p = or_parts (nat_lt c 32 || eqb c 39) (eqb c 92) (not-true (nat_lt c 32 || eqb c 39 || eqb c 92) plain) in
+    let p =
+    or_parts (nat_lt c 32 || eqb c 39) (eqb c 92)
+    (not-true (nat_lt c 32 || eqb c 39 || eqb c 92) plain) in
     let q = or_parts (nat_lt c 32) (eqb c 39) p.0 in
     let above = q.0 in
     let a : eqb c 8 ≡ false = grind (arith, nat_tests) in
@@ -107,7 +119,8 @@ pub low-hex : (d : ℕ) → is_low_digit d ≡ true → is_hex_digit d ≡ true
 unfolding is_low_digit is_hex_digit
 low-hex d h = grind (arith, nat_tests)
 
-pub hex_digit_is : (n : ℕ) → n < 16 → (is_hex_digit (hex_digit n) ≡ true) × (hex_value (hex_digit n) ≡ n)
+pub hex_digit_is : (n : ℕ) → n < 16 →
+    (is_hex_digit (hex_digit n) ≡ true) × (hex_value (hex_digit n) ≡ n)
 unfolding is_hex_digit hex_value
 hex_digit_is n small =
     elim (cases_Bool (nat_lt n 10)) [

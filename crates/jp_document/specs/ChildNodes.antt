@@ -1,9 +1,9 @@
 -- Lists of locations in document order, and the children of a node (RFC 9535 section 1.1).
-use Rattle.std.specs.Prelude.{◌≡◌, ◌↔◌, List, [], ◌∷◌, ◌++◌, Option, Some, map, option_map, unwrap_or, IsSome}
+use Rattle.std.specs.Prelude.{◌≡◌, ◌↔◌, List, [], ◌∷◌, ◌++◌, Option}
+use Rattle.std.specs.Prelude.{Some, map, option_map, unwrap_or, IsSome}
 use Rattle.std.specs.List.{Contains}
 use Rattle.std.specs.List.Sorted.{IsStrictlySortedBy}
-use Rattle.jp_document.specs.Location.{Key, Location, location_cmp, held, value_at}
-use Rattle.jp_document.specs.Node.{Located}
+use Rattle.jp_document.specs.Location.{Key, Location, location_cmp, entries, value_at}
 use Rattle.jp_document.specs.Value.{Value, IsDocumentValue, value_of}
 
 -- ls is the list, rising in document order, of exactly the locations that P holds of
@@ -17,23 +17,11 @@ IsChild d l m = IsSome (value_at d m) × ((k : Key) × (m ≡ l ++ k ∷ []))
 
 -- the locations of the values one step inside v, which stands at l
 abbrev pub steps_below : Location → Value → List Location
-steps_below l v = map (λ e. l ++ e.0 ∷ []) (held v)
+steps_below l v = map (λ e. l ++ e.0 ∷ []) (entries v)
 
 -- the locations of the children of the node of d at l; none where d has no node there
 abbrev pub children_of : Value → Location → List Location
 children_of d l = unwrap_or (option_map (steps_below l) (value_at d l)) []
-
--- the location of a node, and its value
-abbrev pub shown : Located → Location × Option Value
-shown n = (n.location, Some (value_of n.value))
-
--- a location, and the value of d there
-abbrev pub standing : Value → Location → Location × Option Value
-standing d l = (l, value_at d l)
-
--- the nodes are those of d at the locations, one by one
-abbrev pub AreNodes : Value → List Located → List Location → Type 0
-AreNodes d ns ls = map shown ns ≡ map (standing d) ls
 
 -- the children of each node of a document are exactly its nodes one step longer, rising in document
 -- order

@@ -1,5 +1,6 @@
 -- Which bytes are a document, and why others are none.
-use Rattle.std.specs.Prelude.{◌≡◌, ◌≢◌, ℕ, suc, pos, false, Float, List, [], ◌∷◌, Option, Some, None, option_map, option_and_then, string_bytes, IsUtf8}
+use Rattle.std.specs.Prelude.{◌≡◌, ◌≢◌, ℕ, suc, pos, false, Float, List, [], ◌∷◌, Option}
+use Rattle.std.specs.Prelude.{Some, None, option_map, option_and_then, string_bytes, IsUtf8}
 use Rattle.std.specs.BTreeMap.{is_at}
 use Rattle.std.specs.Map.{lookup}
 use Rattle.std.specs.declared.cmp.Ordering.TheVariants.{Less}
@@ -8,10 +9,13 @@ use Rattle.serde_json.specs.Data.{Data, unsigned, negative, float}
 use Rattle.serde_json.specs.Read.{read}
 use Rattle.jp_document.specs.Location.{Key, named, nth, key_cmp, Location, location_cmp}
 use Rattle.jp_document.specs.Path.{path_of}
-use Rattle.jp_document.specs.Value.{Value, null, boolean, whole, text, list, object, Items, no_items, item, Members, no_members, member, everywhere, list_fits, IsDocumentValue, value_of}
+use Rattle.jp_document.specs.Value.{Value, null, boolean, whole, text, list, object}
+use Rattle.jp_document.specs.Value.{Items, no_items, item, Members, no_members, member}
+use Rattle.jp_document.specs.Value.{everywhere, list_fits, IsDocumentValue, value_of}
 use Rattle.jp_document.specs.declared.document.Document.{Document}
 use Rattle.jp_document.specs.declared.fault.DocumentFault.{DocumentFault}
-use Rattle.jp_document.specs.declared.fault.DocumentFault.TheVariants.{NotJson, NotWhole, ListTooLong, NoMemory}
+use Rattle.jp_document.specs.declared.fault.DocumentFault.TheVariants.{NotJson, NotWhole}
+use Rattle.jp_document.specs.declared.fault.DocumentFault.TheVariants.{ListTooLong, NoMemory}
 
 -- the value that a document holds
 abbrev pub document_of : Document → Value
@@ -62,15 +66,15 @@ data_members parsed.no_members = []
 data_members (parsed.member n d ms) = (named n, d) ∷ data_members ms
 
 -- what a reading holds one step inside, each at its step
-abbrev pub data_held : Data → List (Key × Data)
-data_held (parsed.array ds) = data_items_from 0 ds
-data_held (parsed.object ms) = data_members ms
-data_held _ = []
+abbrev pub data_entries : Data → List (Key × Data)
+data_entries (parsed.array ds) = data_items_from 0 ds
+data_entries (parsed.object ms) = data_members ms
+data_entries _ = []
 
 -- what stands at a location in a reading, if anything does
 abbrev pub data_at : Data → Location → Option Data
 data_at d [] = Some d
-data_at d (k ∷ l) = option_and_then (λ e. data_at e l) (lookup (is_at (key_cmp k)) (data_held d))
+data_at d (k ∷ l) = option_and_then (λ e. data_at e l) (lookup (is_at (key_cmp k)) (data_entries d))
 
 -- at l stands a number that is held neither as i64 nor as u64
 abbrev pub IsFraction : Data → Location → Type 0

@@ -1,4 +1,5 @@
--- The refusals of documents and of paths by their numbers.
+-- The numbers of the reasons why bytes are no document, and a text no path: for `DocumentFault` and
+-- `PathFault`.
 use Rattle.std.specs.Prelude.{ℕ}
 use Rattle.jp_document.specs.declared.fault.DocumentFault.{DocumentFault}
 use Rattle.jp_document.specs.declared.fault.DocumentFault.TheVariants as document

@@ -2,7 +2,7 @@
 use Rattle.std.specs.Prelude.{◌≡◌, ◌↔◌, ◌⊎◌, ℕ, List}
 use Rattle.jp_document.specs.Document.{Defect, HasDefect, IsDocument}
 use Rattle.jp_document.specs.Location.{Location}
-use Rattle.jp_document.specs.Node.{Located, told, StandsIn}
+use Rattle.jp_document.specs.Node.{Node, StandsIn}
 use Rattle.jp_document.specs.Path.{path_of}
 use Rattle.jp_document.specs.Value.{Value}
 
@@ -12,8 +12,8 @@ PathsDiffer = (l m : Location) → (path_of l ≡ path_of m) ↔ (l ≡ m)
 
 -- two nodes of a document have one path exactly if they are the same node
 abbrev pub NodesDiffer : Type 0
-NodesDiffer = (d : Value) (n m : Located) → StandsIn d n → StandsIn d m
-    → (path_of n.location ≡ path_of m.location) ↔ (told n ≡ told m)
+NodesDiffer = (d : Value) (n m : Node) → StandsIn d n → StandsIn d m
+    → (path_of n.location ≡ path_of m.location) ↔ (n ≡ m)
 
 -- bytes are a document, and the document of one value, or have a defect, and one alone; and not
 -- both

@@ -10,7 +10,8 @@ use Rattle.jp_document.specs.declared.location.Step.{Step}
 use Rattle.jp_document.specs.declared.location.Step.TheVariants as step
 use Rattle.jp_document.specs.declared.location.OwnedStep.{OwnedStep}
 use Rattle.jp_document.specs.declared.location.OwnedStep.TheVariants as owned
-use Rattle.jp_document.specs.Value.{Value, list, object, Items, no_items, item, Members, no_members, member}
+use Rattle.jp_document.specs.Value.{Value, list, object, Items, no_items}
+use Rattle.jp_document.specs.Value.{item, Members, no_members, member}
 
 -- One step of a location: a member's name, by its bytes, or an item's index from 0.
 pub data Key : Type 0 where
@@ -50,14 +51,14 @@ members_by_name no_members = []
 members_by_name (member n v ms) = (named n, v) ∷ members_by_name ms
 
 -- the values one step inside v, each at its step
-abbrev pub held : Value → List (Key × Value)
-held (list vs) = items_from 0 vs
-held (object ms) = members_by_name ms
-held _ = []
+abbrev pub entries : Value → List (Key × Value)
+entries (list vs) = items_from 0 vs
+entries (object ms) = members_by_name ms
+entries _ = []
 
 -- the value one step inside v, if there is one
 abbrev pub child : Value → Key → Option Value
-child v k = lookup (is_at (key_cmp k)) (held v)
+child v k = lookup (is_at (key_cmp k)) (entries v)
 
 -- the value that stands at a location in v, if there is one
 abbrev pub value_at : Value → Location → Option Value

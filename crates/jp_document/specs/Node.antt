@@ -1,41 +1,62 @@
 -- Nodes (RFC 9535 section 1.1): a location with the value that stands there.
-use Rattle.std.specs.Prelude.{◌≡◌, List, [], ◌∷◌, ◌++◌, Option, Some, None, MatchOption, map, option_map}
+use Rattle.std.specs.Prelude.{◌≡◌, List, [], ◌∷◌, ◌++◌, Option, Some}
+use Rattle.std.specs.Prelude.{None, MatchOption, map, option_map}
 use Rattle.std.specs.Borrow.{Bor}
+use Rattle.std.specs.List.{All}
 use Rattle.jp_document.specs.declared.location.Step.{Step}
 use Rattle.jp_document.specs.declared.value.Json.{Json}
-use Rattle.jp_document.specs.Location.{Key, Location, child, held, key_of, value_at}
+use Rattle.jp_document.specs.Location.{Key, Location, child, entries, key_of, value_at}
 use Rattle.jp_document.specs.Value.{Value, IsDocumentValue, value_of}
 
--- what a `Node` shows
+-- a node: a location and a value
+pub record Node : Type 0 where
+  pub location : Location
+  pub value : Value
+
+abbrev pub location_of : Node → Location
+location_of n = n.location
+
+-- n stands in the document d: its value is the one that d has at its location
+pub record StandsIn (d : Value) (n : Node) : Type 0 where
+  pub document : IsDocumentValue d
+  pub there : value_at d n.location ≡ Some n.value
+
+-- ns are the nodes of d at the locations ls, one by one
+pub record AreNodes (d : Value) (ns : List Node) (ls : List Location) : Type 0 where
+  pub locations : map location_of ns ≡ ls
+  pub stand : All (StandsIn d) ns
+
+-- the node of d at l, or None where d has no value there
+abbrev pub IsNodeAt : Value → Location → Option Node → Type 0
+IsNodeAt d l o = MatchOption o (value_at d l ≡ None) (λ n. (n.location ≡ l) × StandsIn d n)
+
+-- the root of the document d
+abbrev pub root_of : Value → Node
+root_of d = record { location = []; value = d }
+
+-- the node one step below l, at the step e.0 with the value e.1
+abbrev pub node_below : Location → Key × Value → Node
+node_below l e = record { location = l ++ e.0 ∷ []; value = e.1 }
+
+-- the child of a node at a step, if there is one
+abbrev pub child_of : Node → Key → Option Node
+child_of n k = option_map (λ v. node_below n.location (k, v)) (child n.value k)
+
+-- the children of a node, in document order
+abbrev pub children : Node → List Node
+children n = map (node_below n.location) (entries n.value)
+
+-- ---- what the code's values stand for
+
+-- what a `Node` of the code shows
 pub record Located : Type 0 where
   pub location : Location
   pub value : Json
 
--- the location and the value of a node
-abbrev pub told : Located → Location × Value
-told n = (n.location, value_of n.value)
-
--- the location and the value one step below the node, if there is one
-abbrev pub told_child : Located → Key → Option (Location × Value)
-told_child n k = option_map (λ v. (n.location ++ k ∷ [], v)) (child (value_of n.value) k)
-
--- the location and the value one step below l, at the step e.0 with the value e.1
-abbrev pub told_entry : Location → Key × Value → Location × Value
-told_entry l e = (l ++ e.0 ∷ [], e.1)
-
--- the locations and the values of a node's children, in document order
-abbrev pub told_children : Located → List (Location × Value)
-told_children n = map (told_entry n.location) (held (value_of n.value))
+-- the node that it is
+abbrev pub node_of : Located → Node
+node_of n = record { location = n.location; value = value_of n.value }
 
 -- the step and the value that a step with a value show
 abbrev pub entry_of : Step × Bor Json → Key × Value
 entry_of e = (key_of e.0, value_of e.1.now)
-
--- n stands in the document d: its value is the one that d has at its location
-pub record StandsIn (d : Value) (n : Located) : Type 0 where
-  pub document : IsDocumentValue d
-  pub there : value_at d n.location ≡ Some (value_of n.value)
-
--- the node of d at l, or None where d has no value there
-abbrev pub IsNodeAt : Value → Location → Option Located → Type 0
-IsNodeAt d l o = MatchOption o (value_at d l ≡ None) (λ n. (n.location ≡ l) × StandsIn d n)

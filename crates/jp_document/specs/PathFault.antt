@@ -5,7 +5,8 @@ use Rattle.std.specs.List.{list_any}
 use Rattle.jp_reading.specs.declared.reader.Stop.{Stop}
 use Rattle.jp_reading.specs.declared.reader.Stop.TheVariants as stop
 use Rattle.jp_document.specs.declared.path_fault.PathFault.{PathFault}
-use Rattle.jp_document.specs.declared.path_fault.PathFault.TheVariants.{NotNormalized, IndexRange, NoMemory}
+use Rattle.jp_document.specs.declared.path_fault.PathFault.TheVariants.{NotNormalized}
+use Rattle.jp_document.specs.declared.path_fault.PathFault.TheVariants.{IndexRange, NoMemory}
 use Rattle.jp_document.specs.Location.{Key, named, nth, Location}
 use Rattle.jp_document.specs.Path.{path_of}
 

@@ -1,4 +1,5 @@
--- Shapes of the code, which private clauses alone cite.
+-- How documents and paths are read: members put in order, numbers and faults on the way, and the
+-- rules of paths. The contracts of private functions alone cite it.
 pub mod Direct
 pub mod MemberList
 pub mod PathReading

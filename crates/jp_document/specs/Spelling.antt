@@ -1,7 +1,8 @@
--- How texts are spelled between quotes: the quote is `'` (39) in normalized paths (RFC 9535 section
--- 2.7) and `"` (34) in JSON (RFC 8259 section 7). Each character with a spelling of its own is one
--- byte, so a text is spelled byte by byte.
-use Rattle.std.specs.Prelude.{ℕ, ◌+◌, ◌/◌, ◌%◌, ◌==◌, ◌||◌, nat_lt, if◌then◌else◌, List, [], ◌∷◌, ◌++◌}
+-- How texts are spelled between quotes, for `quote`, paths and values: the quote is `'` (39) in
+-- normalized paths (RFC 9535 section 2.7) and `"` (34) in JSON (RFC 8259 section 7). Each character
+-- with a spelling of its own is one byte, so a text is spelled byte by byte.
+use Rattle.std.specs.Prelude.{ℕ, ◌+◌, ◌/◌, ◌%◌, ◌==◌, ◌||◌, nat_lt}
+use Rattle.std.specs.Prelude.{if◌then◌else◌, List, [], ◌∷◌, ◌++◌}
 use Rattle.std.specs.List.{flat_map}
 
 -- a lower case hex digit

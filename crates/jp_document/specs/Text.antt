@@ -3,7 +3,8 @@ use Rattle.std.specs.Prelude.{ℕ, true, false, List, [], ◌∷◌, ◌++◌, c
 use Rattle.std.specs.Fmt.{signed_decimal}
 use Rattle.std.specs.List.{join_with_byte}
 use Rattle.jp_document.specs.Spelling.{quoted_in}
-use Rattle.jp_document.specs.Value.{Value, null, boolean, whole, text, list, object, Items, no_items, item, Members, no_members, member}
+use Rattle.jp_document.specs.Value.{Value, null, boolean, whole, text, list, object}
+use Rattle.jp_document.specs.Value.{Items, no_items, item, Members, no_members, member}
 
 -- a text between double quotes
 abbrev pub string_text : List ℕ → List ℕ

@@ -1,5 +1,6 @@
 -- JSON values whose numbers are whole (RFC 9535 section 1.1).
-use Rattle.std.specs.Prelude.{ℕ, suc, ℤ, pos, negsuc, Bool, true, ◌&&◌, nat_lt, nat_le, ◌-◌, ◌^◌, ◌≡◌, List, [], ◌∷◌, string_bytes}
+use Rattle.std.specs.Prelude.{ℕ, suc, ℤ, pos, negsuc, Bool, true, ◌&&◌, nat_lt}
+use Rattle.std.specs.Prelude.{nat_le, ◌-◌, ◌^◌, ◌≡◌, List, [], ◌∷◌, string_bytes}
 use Rattle.std.specs.Cmp.Lexicographic.{slice_cmp}
 use Rattle.std.specs.List.{list_all}
 use Rattle.std.specs.Ordering.{is_lt, nat_cmp}

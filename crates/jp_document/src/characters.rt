@@ -1,14 +1,15 @@
 //! The characters of the names in normalized paths (RFC 9535 section 2.7).
 ghost use Rattle.std.specs.Prelude.{◌≡◌, ◌<◌, true};
-ghost use Rattle.jp_reading.specs.Outcome.{take_if};
-ghost use Rattle.jp_reading.specs.Views.{Gives};
-ghost use Rattle.jp_document.specs.Private.PathRules.{is_one_of, is_plain, is_letter, meant, is_low_digit, is_hex_digit, hex_value};
+ghost use Rattle.jp_document.specs.Private.PathRules.{is_one_of, is_plain, is_letter, meant};
+ghost use Rattle.jp_document.specs.Private.PathRules.{is_low_digit, is_hex_digit, hex_value};
 
-use jp_reading::{Reader, Stop};
+use jp_reading::CharacterClass;
 
 /// The characters that may stand at a place of a name.
 #[derive(Clone, Copy)]
 pub(crate) enum Characters {
+    /// Those with which a name goes on: all but the quote that ends it.
+    Inside,
     /// Those that stand for themselves.
     Plain,
     /// Those that stand for a character after `\`.
@@ -19,29 +20,17 @@ pub(crate) enum Characters {
     HexDigit,
 }
 
-impl Characters {
-    fn contains(self, c: char) -> bool
-        ensures { result ≡ is_one_of self c }
-    {
+impl CharacterClass for Characters {
+    ghost holds = { is_one_of };
+
+    fn contains(self, c: char) -> bool {
         match self {
+            Characters::Inside => c != '\'',
             Characters::Plain => is_plain(c),
             Characters::Letter => is_letter(c),
             Characters::LowDigit => is_low_digit(c),
             Characters::HexDigit => is_hex_digit(c),
         }
-    }
-}
-
-/// Takes the next character, which has to be one of these.
-pub(crate) fn take(reader: &mut Reader, characters: Characters) -> Result<char, Stop>
-    ensures { Gives (λ c. c) result reader.new (take_if (is_one_of characters) reader.old) }
-{
-    match reader.peek() {
-        Some(next) if characters.contains(next) => {
-            reader.bump();
-            Ok(next)
-        }
-        _ => Err(Stop::Syntax(reader.place())),
     }
 }
 

@@ -1,11 +1,15 @@
 //! Values straight from the tokens of a text, as `serde_json` reads them. What is no document is
 //! left to it.
-ghost use Rattle.std.specs.Prelude.{◌≡◌, ◌<◌, ◌==◌, true, false, Some, IfSome, IsTrue, OnSome, length, map, slice_index};
+ghost use Rattle.std.specs.Prelude.{◌≡◌, ◌<◌, ◌==◌, true, false, Some, IfSome};
+ghost use Rattle.std.specs.Prelude.{IsTrue, OnSome, length, map, slice_index};
 ghost use Rattle.serde_json.specs.Data.{unsigned, negative};
 ghost use Rattle.serde_json.specs.Read.{number_from};
-ghost use Rattle.jp_document.specs.Private.Direct.{IsWholeText, ReadsItems, ReadsMembers, ReadsText, ReadsValue};
+ghost use Rattle.jp_document.specs.Private.Direct.{IsWholeText, ReadsItems};
+ghost use Rattle.jp_document.specs.Private.Direct.{ReadsMembers, ReadsText, ReadsValue};
 ghost use Rattle.jp_document.specs.Document.{IsDocument};
-ghost use Rattle.jp_document.specs.Value.{everywhere, everywhere_in_items, everywhere_in_members, items_of, list, list_fits, member_of, members_of, value_of};
+ghost use Rattle.jp_document.specs.Value.{everywhere, everywhere_in_items};
+ghost use Rattle.jp_document.specs.Value.{everywhere_in_members, items_of, list};
+ghost use Rattle.jp_document.specs.Value.{list_fits, member_of, members_of, value_of};
 
 use crate::member_list::MemberList;
 use crate::reading::is_short;

@@ -1,5 +1,5 @@
 //! Documents: a value with its invariant.
-ghost use Rattle.std.specs.Prelude.{◌≡◌, [], map, option_map, IfOk, IfErr};
+ghost use Rattle.std.specs.Prelude.{◌≡◌, map, option_map, IfOk, IfErr};
 ghost use Rattle.jp_document.specs.Value.{IsDocumentValue, value_of};
 
 use crate::direct::direct_value;
@@ -24,7 +24,7 @@ impl Document {
     ghost use Rattle.jp_document.specs.Document.{document_of, IsDocument, IsDocumentFault};
     ghost use Rattle.jp_document.specs.DocumentValue.{lent_value};
     ghost use Rattle.jp_document.specs.Location.{key_of, value_at};
-    ghost use Rattle.jp_document.specs.Node.{told, StandsIn};
+    ghost use Rattle.jp_document.specs.Node.{StandsIn, node_of, root_of};
 
     /// The document that these bytes are. Refused are: bytes that `serde_json` reads no value from,
     /// bytes that are no UTF-8 and deeper nesting than 127 levels among them (`NotJson`); a number
@@ -59,8 +59,8 @@ impl Document {
     /// The root, whose location is empty. It takes no memory: the allocator is for the nodes below
     /// it.
     pub fn root(&self, alloc: Global) -> Node<'_>
-        ensures root { told result ≡ ([], document_of self.now) }
-        ensures stands { StandsIn (document_of self.now) result }
+        ensures root { node_of result ≡ root_of (document_of self.now) }
+        ensures stands { StandsIn (document_of self.now) (node_of result) }
     {
         root_of(alloc, self.json())
     }

@@ -17,7 +17,7 @@ pub struct DocumentValue<'d> {
 
 impl<'d> DocumentValue<'d> {
     ghost use Rattle.jp_document.specs.DocumentValue.{lent_entry, lent_value};
-    ghost use Rattle.jp_document.specs.Location.{child, held, named};
+    ghost use Rattle.jp_document.specs.Location.{child, entries, named};
 
     /// The value of a document.
     pub(crate) fn of(json: &'d Json) -> DocumentValue<'d>
@@ -40,7 +40,7 @@ impl<'d> DocumentValue<'d> {
     /// section 1.1).
     pub fn child(self, position: usize) -> Option<(Step<'d>, DocumentValue<'d>)>
         ensures entry { option_map lent_entry result
-            ≡ slice_get (held (lent_value self.entry)) position }
+            ≡ slice_get (entries (lent_value self.entry)) position }
         ensures more { OnSome result (position < usize.MAX) }
     {
         let (step, json) = entry_at(self.json, position)?;
@@ -51,7 +51,8 @@ impl<'d> DocumentValue<'d> {
     /// section 2.3.1).
     pub fn member(self, name: &str) -> Option<(Step<'d>, DocumentValue<'d>)>
         ensures { option_map lent_entry result
-            ≡ option_map (λ v. (named name.now, v)) (child (lent_value self.entry) (named name.now)) }
+            ≡ option_map (λ v. (named name.now, v))
+            (child (lent_value self.entry) (named name.now)) }
     {
         let member = member_named(self.json, name)?;
         let json = &member.value;

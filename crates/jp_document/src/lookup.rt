@@ -2,9 +2,10 @@
 ghost use Rattle.std.specs.Prelude.{◌≡◌, ℕ, List, map, option_map, true, IfSome, Contains};
 ghost use Rattle.std.specs.Cmp.Lexicographic.{slice_cmp};
 ghost use Rattle.std.specs.Ordering.{nat_cmp};
-ghost use Rattle.jp_document.specs.Location.{key_of, named, nth, child, held};
+ghost use Rattle.jp_document.specs.Location.{key_of, named, nth, child, entries};
 ghost use Rattle.jp_document.specs.declared.value.Member.{Member};
-ghost use Rattle.jp_document.specs.Value.{IsDocumentValue, value_of, list, object, items_of, members_of, member_of, names_of, names_rise};
+ghost use Rattle.jp_document.specs.Value.{IsDocumentValue, value_of, list, object, items_of};
+ghost use Rattle.jp_document.specs.Value.{members_of, member_of, names_of, names_rise};
 
 use crate::location::Step;
 use crate::value::{Json, Member};
@@ -17,8 +18,8 @@ use std::cmp::Ordering;
 pub(crate) fn child_value<'d>(json: &'d Json, step: Step) -> Option<&'d Json>
     ensures child { IsDocumentValue (value_of json.now) → option_map (λ j. value_of j.now) result
         ≡ child (value_of json.now) (key_of step.entry) }
-    ensures held { IfSome result
-        (λ j. Contains (held (value_of json.now)) (key_of step.entry, value_of j.now)) }
+    ensures inside { IfSome result
+        (λ j. Contains (entries (value_of json.now)) (key_of step.entry, value_of j.now)) }
 {
     match step {
         Step::Name(name) => Some(&member_named(json, name)?.value),
@@ -30,8 +31,8 @@ pub(crate) fn child_value<'d>(json: &'d Json, step: Step) -> Option<&'d Json>
 pub(crate) fn member_named<'d>(json: &'d Json, name: &str) -> Option<&'d Member>
     ensures found { IsDocumentValue (value_of json.now) → option_map (λ m. member_of m.now) result
         ≡ option_map (λ v. (name.now, v)) (child (value_of json.now) (named name.now)) }
-    ensures held { IfSome result
-        (λ m. Contains (held (value_of json.now)) (named name.now, (member_of m.now).1)) }
+    ensures inside { IfSome result
+        (λ m. Contains (entries (value_of json.now)) (named name.now, (member_of m.now).1)) }
 {
     let members = members(json);
     match members.binary_search_by(|member| name_order(member, name)) {
@@ -61,8 +62,8 @@ fn members(json: &Json) -> &[Member]
         ≡ child (object (members_of (map member_of result.now))) (named name) }
     ensures rise { IsDocumentValue (value_of json.now)
         → names_rise (names_of (members_of (map member_of result.now))) ≡ true }
-    ensures held { (m : Member) → Contains result.now m
-        → Contains (held (value_of json.now)) (named (member_of m).0, (member_of m).1) }
+    ensures inside { (m : Member) → Contains result.now m
+        → Contains (entries (value_of json.now)) (named (member_of m).0, (member_of m).1) }
 {
     match json {
         Json::Members(members) => members,

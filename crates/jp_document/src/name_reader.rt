@@ -1,12 +1,10 @@
 //! Reading the names of normalized paths (RFC 9535 section 2.7).
 ghost use Rattle.std.specs.Prelude.{◌≡◌, string_bytes};
 ghost use Rattle.jp_reading.specs.Views.{Gives};
-ghost use Rattle.jp_reading.specs.Outcome.{head, passes};
 ghost use Rattle.jp_document.specs.Private.PathRules as rules;
 ghost use Rattle.jp_document.specs.Private.PathReading.{read_rule};
-ghost use Rattle.jp_document.specs.Private.PathRules.{is_inside};
 
-use crate::characters::{Characters, hex_value, meant, take};
+use crate::characters::{Characters, hex_value, meant};
 use jp_reading::{Reader, Stop};
 
 /// Takes a name between single quotes.
@@ -29,21 +27,11 @@ fn characters(reader: &mut Reader) -> Result<String, Stop>
         (read_rule rules.name_characters reader.old) }
 {
     let mut name = String::new(reader.alloc());
-    'characters: while is_inside(reader) {
+    'characters: while reader.is_at_one_of(Characters::Inside) {
         let next = character(reader)?;
         name.push(next)?;
     }
     Ok(name)
-}
-
-/// Whether the name goes on here.
-fn is_inside(reader: &Reader) -> bool
-    ensures { result ≡ passes is_inside (head reader.now) }
-{
-    match reader.peek() {
-        Some(next) => next != '\'',
-        None => false,
-    }
 }
 
 /// Takes a character of a name, which stands for itself or after `\`.
@@ -55,7 +43,7 @@ fn character(reader: &mut Reader) -> Result<char, Stop>
         reader.bump();
         escaped(reader)
     } else {
-        take(reader, Characters::Plain)
+        reader.take_one_of(Characters::Plain)
     }
 }
 
@@ -68,7 +56,7 @@ fn escaped(reader: &mut Reader) -> Result<char, Stop>
         reader.bump();
         hexchar(reader)
     } else {
-        let letter = take(reader, Characters::Letter)?;
+        let letter = reader.take_one_of(Characters::Letter)?;
         Ok(meant(letter))
     }
 }
@@ -83,10 +71,10 @@ fn hexchar(reader: &mut Reader) -> Result<char, Stop>
     reader.expect('0')?;
     if reader.is_at('0') {
         reader.bump();
-        let low = take(reader, Characters::LowDigit)?;
+        let low = reader.take_one_of(Characters::LowDigit)?;
         return Ok(char::from(hex_value(low)));
     }
     reader.expect('1')?;
-    let low = take(reader, Characters::HexDigit)?;
+    let low = reader.take_one_of(Characters::HexDigit)?;
     Ok(char::from(16 + hex_value(low)))
 }

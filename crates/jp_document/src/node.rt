@@ -2,7 +2,7 @@
 //! the document.
 ghost use Rattle.std.specs.Prelude.{◌≡◌, ℕ, [], ◌∷◌, ◌++◌, map, option_map, IfOk};
 ghost use Rattle.jp_document.specs.Location.{named, nth};
-ghost use Rattle.jp_document.specs.Node.{told, told_child, StandsIn, IsNodeAt};
+ghost use Rattle.jp_document.specs.Node.{IsNodeAt, StandsIn, child_of, node_of};
 ghost use Rattle.jp_document.specs.Value.{Value, IsDocumentValue, value_of};
 
 use crate::document_value::DocumentValue;
@@ -121,9 +121,10 @@ pub fn child_named<'d>(
     node: &Node<'d>,
     name: &str,
 ) -> Result<Option<Node<'d>>, AllocError>
-    ensures held { IfOk result (λ o. option_map told o ≡ told_child node.now (named name.now)) }
-    ensures stands { (d : Value) → StandsIn d node.now
-        → IfOk result (IsNodeAt d (node.now.location ++ named name.now ∷ [])) }
+    ensures child { IfOk result
+        (λ o. option_map node_of o ≡ child_of (node_of node.now) (named name.now)) }
+    ensures stands { (d : Value) → StandsIn d (node_of node.now) → IfOk result
+        (λ o. IsNodeAt d (node.now.location ++ named name.now ∷ []) (option_map node_of o)) }
 {
     match member_named(node.value, name) {
         Some(member) => Ok(Some(node.extended(
@@ -141,9 +142,10 @@ pub fn child_at<'d>(
     node: &Node<'d>,
     index: u64,
 ) -> Result<Option<Node<'d>>, AllocError>
-    ensures held { IfOk result (λ o. option_map told o ≡ told_child node.now (nth index)) }
-    ensures stands { (d : Value) → StandsIn d node.now
-        → IfOk result (IsNodeAt d (node.now.location ++ nth index ∷ [])) }
+    ensures child { IfOk result
+        (λ o. option_map node_of o ≡ child_of (node_of node.now) (nth index)) }
+    ensures stands { (d : Value) → StandsIn d (node_of node.now) → IfOk result
+        (λ o. IsNodeAt d (node.now.location ++ nth index ∷ []) (option_map node_of o)) }
 {
     match item_at(node.value, index) {
         Some(item) => Ok(Some(node.extended(alloc, Step::Index(index), item)?)),

@@ -1,8 +1,10 @@
 //! Child nodes by their positions in document order.
-ghost use Rattle.std.specs.Prelude.{◌≡◌, ℕ, ◌<◌, Some, IfOk, IfSome, OnSome, length, map, option_map, slice_get};
-ghost use Rattle.jp_document.specs.Location.{held};
-ghost use Rattle.jp_document.specs.Node.{told, told_children, entry_of, StandsIn};
-ghost use Rattle.jp_document.specs.Value.{Value, value_of, member_of, items_of, members_of, list, object};
+ghost use Rattle.std.specs.Prelude.{◌≡◌, ℕ, ◌<◌, Some, IfOk, IfSome, OnSome};
+ghost use Rattle.std.specs.Prelude.{length, map, option_map, slice_get};
+ghost use Rattle.jp_document.specs.Location.{entries};
+ghost use Rattle.jp_document.specs.Node.{StandsIn, children, entry_of, node_of};
+ghost use Rattle.jp_document.specs.Value.{Value, value_of, member_of};
+ghost use Rattle.jp_document.specs.Value.{items_of, members_of, list, object};
 
 use crate::location::Step;
 use crate::node::Node;
@@ -11,7 +13,7 @@ use std::alloc::{AllocError, Global};
 
 /// How many children the node has: a list has its items, an object its members, other values none.
 pub fn child_count(node: &Node) -> usize
-    ensures { result ≡ length (told_children node.now) }
+    ensures { result ≡ length (children (node_of node.now)) }
 {
     match node.value() {
         Json::List(items) => items.len(),
@@ -26,8 +28,10 @@ pub fn nth_child<'d>(
     node: &Node<'d>,
     position: usize,
 ) -> Result<Option<Node<'d>>, AllocError>
-    ensures held { IfOk result (λ o. option_map told o ≡ slice_get (told_children node.now) position) }
-    ensures stands { (d : Value) → StandsIn d node.now → IfOk result (λ o. IfSome o (StandsIn d)) }
+    ensures child { IfOk result
+        (λ o. option_map node_of o ≡ slice_get (children (node_of node.now)) position) }
+    ensures stands { (d : Value) → StandsIn d (node_of node.now)
+        → IfOk result (λ o. IfSome o (λ n. StandsIn d (node_of n))) }
     ensures more { IfOk result (λ o. OnSome o (position < usize.MAX)) }
 {
     match entry_at(node.value(), position) {
@@ -38,7 +42,7 @@ pub fn nth_child<'d>(
 
 /// The value at this position one step inside, with its step.
 pub(crate) fn entry_at(json: &Json, position: usize) -> Option<(Step<'_>, &Json)>
-    ensures entry { option_map entry_of result ≡ slice_get (held (value_of json.now)) position }
+    ensures entry { option_map entry_of result ≡ slice_get (entries (value_of json.now)) position }
     ensures more { OnSome result (position < usize.MAX) }
 {
     match json {
@@ -50,7 +54,7 @@ pub(crate) fn entry_at(json: &Json, position: usize) -> Option<(Step<'_>, &Json)
 
 fn item_entry(items: &[Json], position: usize) -> Option<(Step<'_>, &Json)>
     ensures entry { option_map entry_of result
-        ≡ slice_get (held (list (items_of (map value_of items.now)))) position }
+        ≡ slice_get (entries (list (items_of (map value_of items.now)))) position }
     ensures more { OnSome result (position < usize.MAX) }
 {
     let item = items.get(position)?;
@@ -59,7 +63,7 @@ fn item_entry(items: &[Json], position: usize) -> Option<(Step<'_>, &Json)>
 
 fn member_entry(members: &[Member], position: usize) -> Option<(Step<'_>, &Json)>
     ensures entry { option_map entry_of result
-        ≡ slice_get (held (object (members_of (map member_of members.now)))) position }
+        ≡ slice_get (entries (object (members_of (map member_of members.now)))) position }
     ensures more { OnSome result (position < usize.MAX) }
 {
     let member = members.get(position)?;

@@ -1,10 +1,13 @@
 //! From a reading of `serde_json` to a value.
 ghost use Rattle.std.specs.Prelude.{◌≡◌, ◌&&◌, map, Some, true, IfOk, IfErr};
 ghost use Rattle.serde_json.specs.View.{view, number_view, items_view, members_view};
-ghost use Rattle.jp_document.specs.Document.{IsDocument, IsDocumentFault, value_of_data, items_of_data, members_of_data};
+ghost use Rattle.jp_document.specs.Document.{IsDocument, IsDocumentFault, value_of_data};
+ghost use Rattle.jp_document.specs.Document.{items_of_data, members_of_data};
 ghost use Rattle.jp_document.specs.Private.ValueFault.{IsValueFaultOf};
 ghost use Rattle.serde_json.specs.Data.{number as number_data, array, object};
-ghost use Rattle.jp_document.specs.Value.{value_of, list, items_of, members_of, member_of, everywhere, everywhere_in_items, everywhere_in_members, list_fits};
+ghost use Rattle.jp_document.specs.Value.{value_of, list, items_of, members_of};
+ghost use Rattle.jp_document.specs.Value.{member_of, everywhere, everywhere_in_items};
+ghost use Rattle.jp_document.specs.Value.{everywhere_in_members, list_fits};
 
 use crate::fault::DocumentFault;
 use crate::location::OwnedStep;

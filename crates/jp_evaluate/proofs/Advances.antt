@@ -1,5 +1,7 @@
 -- The steps of a walk.
-use Rattle.std.proofs.Common.{◌≡◌, ℕ, zero, suc, ◌+◌, ◌<◌, ◌≤◌, true, false, if◌then◌else◌, List, [], ◌∷◌, ◌++◌, None, length, map, slice_index_or, option_to_list, refl, ap, ap₂, sym, ◌∙◌, arith}
+use Rattle.std.proofs.Common.{◌≡◌, ℕ, zero, suc, ◌+◌, ◌<◌, ◌≤◌, true, false, if◌then◌else◌}
+use Rattle.std.proofs.Common.{List, [], ◌∷◌, ◌++◌, None, length, map, slice_index_or}
+use Rattle.std.proofs.Common.{option_to_list, refl, ap, ap₂, sym, ◌∙◌, arith}
 use Rattle.std.specs.List.{flat_map, sum_by}
 use Rattle.std.proofs.lemmas.Grind.{flat_map-append}
 use Rattle.std.proofs.lemmas.List.Sums.{sum_by-append, sum_by-cons}
@@ -8,7 +10,11 @@ use Rattle.jp_document.specs.Value.{Value}
 use Rattle.jp_query.specs.Tree.{segment_of, segment_then}
 use Rattle.jp_query.specs.declared.tree.Segment.{Segment}
 use Rattle.jp_evaluate.specs.Private.Reached.{reaches}
-use Rattle.jp_evaluate.specs.Private.Walk.{choice_at, choice_reaches, choice_weight, choices_from, entered, frames_pending, offered, passes, pending, reached_at, reached_place, segments_left, start_choice, steps_of, turns, walk_frames, walk_reaches, walk_weight}
+use Rattle.jp_evaluate.specs.Private.Walk.{choice_at, chosen_node, choice_reaches}
+use Rattle.jp_evaluate.specs.Private.Walk.{choice_weight, choices_from, entered, frames_pending}
+use Rattle.jp_evaluate.specs.Private.Walk.{offered, passes, pending, reached_at, reached_place}
+use Rattle.jp_evaluate.specs.Private.Walk.{segments_left, start_choice, steps_of, turns}
+use Rattle.jp_evaluate.specs.Private.Walk.{walk_frames, walk_reaches, walk_weight}
 use Rattle.jp_evaluate.specs.declared.walk.Offer.{Offer}
 use Rattle.jp_evaluate.specs.declared.walk.Place.{Place}
 use Rattle.jp_evaluate.specs.declared.walk.Walk.{Walk}
@@ -18,7 +24,8 @@ use Rattle.jp_evaluate.proofs.Turns.{segments_left-end, segments_left-next}
 
 -- the offer o of the walk that was w leaves the walk v
 abbrev pub Offers : List Segment → Walk → Offer → Walk → Type 0
-Offers all w o v = pending all w ≡ choice_at (reached_at [] (walk_frames v)) (offered all o) ∷ pending all v
+Offers all w o v =
+    pending all w ≡ choice_at (reached_at [] (walk_frames v)) (offered all o) ∷ pending all v
 
 -- ---- a choice that does not pass
 
@@ -27,7 +34,11 @@ pub passed_over : (all : List Segment) (d : Value) (w v : Walk) (o : Offer) → 
     → walk_reaches all d v ≡ walk_reaches all d w
 passed_over all d w v o gives fails =
     sym (ap (flat_map (choice_reaches d)) gives
-    ∙ ap (λ b. (if b then reaches (offered all o).left d (reached_at [] (walk_frames v) ++ (offered all o).step, (offered all o).value) else []) ++ walk_reaches all d v) fails)
+    ∙ ap
+    (λ b.
+    (if b then reaches (offered all o).left d
+    (chosen_node (choice_at (reached_at [] (walk_frames v)) (offered all o))) else [])
+    ++ walk_reaches all d v) fails)
 
 pub offer_less : (all : List Segment) (w v : Walk) (o : Offer) → Offers all w o v
     → walk_weight all v < walk_weight all w
@@ -45,29 +56,48 @@ pub arrives : (all : List Segment) (d : Value) (w v : Walk) (o : Offer) → Offe
     → walk_reaches all d w ≡ reached_place v o.place ∷ walk_reaches all d v
 arrives all d w v o gives passed done =
     ap (flat_map (choice_reaches d)) gives
-    ∙ ap (λ b. (if b then reaches (offered all o).left d (reached_place v o.place) else []) ++ walk_reaches all d v) passed
-    ∙ ap (λ left. reaches left d (reached_place v o.place) ++ walk_reaches all d v) (segments_left-end all o.place.done done)
+    ∙ ap
+    (λ b. (if b then reaches (offered all o).left d (reached_place v o.place) else [])
+    ++ walk_reaches all d v) passed
+    ∙ ap (λ left. reaches left d (reached_place v o.place) ++ walk_reaches all d v)
+    (segments_left-end all o.place.done done)
 
 -- ---- a choice to go on from
 
-entered_pending : (all : List Segment) (v u : Walk) (p : Place) → v.first ≡ None
-    → u.first ≡ v.first → walk_frames u ≡ walk_frames v ++ entered p ∷ []
-    → pending all u ≡ map (choice_at (reached_at [] (walk_frames v) ++ steps_of p.step)) (choices_from (lent_value p.value) (turns (segments_left all p.done)) 0) ++ pending all v
+entered_pending : (all : List Segment) (v u : Walk) (p : Place) → v.first ≡ None →
+    u.first ≡ v.first → walk_frames u ≡ walk_frames v ++ entered p ∷ [] →
+    pending all u ≡
+    map (choice_at (reached_at [] (walk_frames v) ++ steps_of p.step))
+    (choices_from (lent_value p.value) (turns (segments_left all p.done)) 0) ++ pending all v
 entered_pending all v u p begun same frames =
     let fs = walk_frames v in
-    ap₂ (λ o gs. map (choice_at (reached_at [] gs)) (map (start_choice all) (option_to_list o)) ++ frames_pending all [] gs) (same ∙ begun) frames
+    ap₂
+    (λ o gs. map (choice_at (reached_at [] gs)) (map (start_choice all) (option_to_list o))
+    ++ frames_pending all [] gs) (same ∙ begun) frames
     ∙ pending-push all [] fs (entered p)
-    ∙ ap (λ ts. map (choice_at (reached_at [] fs ++ steps_of p.step)) (choices_from (lent_value p.value) ts 0) ++ frames_pending all [] fs) (drop_none (turns (segments_left all p.done)))
-    ∙ ap (λ t. map (choice_at (reached_at [] fs ++ steps_of p.step)) (choices_from (lent_value p.value) (turns (segments_left all p.done)) 0) ++ t)
-    (ap (λ o. map (choice_at (reached_at [] fs)) (map (start_choice all) (option_to_list o)) ++ frames_pending all [] fs) (sym begun))
+    ∙ ap
+    (λ ts. map (choice_at (reached_at [] fs ++ steps_of p.step))
+    (choices_from (lent_value p.value) ts 0) ++ frames_pending all [] fs)
+    (drop_none (turns (segments_left all p.done)))
+    ∙ ap
+    (λ t. map (choice_at (reached_at [] fs ++ steps_of p.step))
+    (choices_from (lent_value p.value) (turns (segments_left all p.done)) 0) ++ t)
+    (ap
+    (λ o. map (choice_at (reached_at [] fs)) (map (start_choice all) (option_to_list o))
+    ++ frames_pending all [] fs) (sym begun))
 
 -- the segment that is next
 abbrev pub IsThere : List Segment → ℕ → Type 0
-IsThere all i = (s : Segment) × (segments_left all i ≡ segment_then (segment_of s) (segments_left all (i + 1)))
+IsThere all i =
+    (s : Segment) × (segments_left all i ≡ segment_then (segment_of s) (segments_left all (i + 1)))
 
 pub there : (all : List Segment) (i : ℕ) → i < length all → IsThere all i
 there [] i within = absurd (omega arith)
-there (x ∷ xs) i within = (slice_index_or (x ∷ xs) i x, segments_left-next (x ∷ xs) i (slice_index_or (x ∷ xs) i x) within (again (x ∷ xs) i x within))
+there (x ∷ xs) i within = (
+  slice_index_or (x ∷ xs) i x,
+  segments_left-next (x ∷ xs) i (slice_index_or (x ∷ xs) i x) within
+      (again (x ∷ xs) i x within),
+)
   where
     again : (ys : List Segment) (j : ℕ) (y : Segment) → j < length ys
         → slice_index_or ys j y ≡ slice_index_or ys j (slice_index_or ys j y)
@@ -88,8 +118,14 @@ goes_on all d w v u o gives begun passed more same frames =
     let choices = map (choice_at l) (choices_from (lent_value p.value) (turns left) 0) in
     ap (flat_map (choice_reaches d)) (entered_pending all v u p begun same frames)
     ∙ flat_map-append (choice_reaches d) choices (pending all v)
-    ∙ ap (λ t. t ++ walk_reaches all d v) (sym (enters (segment_of next.0) (segments_left all (p.done + 1)) left d (lent_value p.value) l next.1))
-    ∙ sym (ap (flat_map (choice_reaches d)) gives ∙ ap (λ b. (if b then reaches left d (l, lent_value p.value) else []) ++ walk_reaches all d v) passed)
+    ∙ ap (λ t. t ++ walk_reaches all d v)
+    (sym
+    (enters (segment_of next.0) (segments_left all (p.done + 1)) left d
+    (lent_value p.value) l next.1))
+    ∙ sym (ap (flat_map (choice_reaches d)) gives ∙ ap (λ b. (if b then reaches left d (record {
+      location = l;
+      value = lent_value p.value;
+    }) else []) ++ walk_reaches all d v) passed)
 
 pub goes_on_less : (all : List Segment) (w v u : Walk) (o : Offer) → Offers all w o v
     → v.first ≡ None
@@ -106,5 +142,7 @@ goes_on_less all w v u o gives begun more same frames =
     let after = ap (sum_by choice_weight) (entered_pending all v u p begun same frames)
     ∙ sum_by-append choice_weight choices (pending all v) in
     let before = ap (sum_by choice_weight) gives ∙ sum_by-cons choice_weight c (pending all v) in
-    let less = enters_less (segment_of next.0) (segments_left all (p.done + 1)) left (lent_value p.value) l next.1 in
+    let less =
+    enters_less (segment_of next.0) (segments_left all (p.done + 1)) left
+    (lent_value p.value) l next.1 in
     omega arith

@@ -1,5 +1,8 @@
 -- The values that singular queries select, step by step.
-use Rattle.std.proofs.Common.{◌≡◌, ◌≢◌, ◌+◌, ◌<◌, ℕ, suc, Bool, true, false, if◌then◌else◌, List, [], ◌∷◌, ◌++◌, Option, Some, None, drop, drop-cons, length, map, option_map, option_to_list, slice_index_or, option_and_then, IsUtf8, refl, ap, sym, ◌∙◌, subst, arith}
+use Rattle.std.proofs.Common.{◌≡◌, ◌≢◌, ◌+◌, ◌<◌, ℕ, suc, Bool, true, false, if◌then◌else◌}
+use Rattle.std.proofs.Common.{List, [], ◌∷◌, ◌++◌, Option, Some, None, drop, drop-cons}
+use Rattle.std.proofs.Common.{length, map, option_map, option_to_list, slice_index_or}
+use Rattle.std.proofs.Common.{option_and_then, IsUtf8, refl, ap, sym, ◌∙◌, subst, arith}
 use Rattle.std.specs.List.{All, slice_get}
 use Rattle.std.specs.Str.{chars, encode_utf8_all}
 use Rattle.std.proofs.lemmas.List.Elements.{All-head}
@@ -9,10 +12,13 @@ use Rattle.jp_document.proofs.ChildValues.{value_at-step}
 use Rattle.jp_document.specs.Location.{Key, Location, value_at}
 use Rattle.jp_document.specs.Value.{IsDocumentValue, Value}
 use Rattle.jp_query.specs.Singular.{are_single}
-use Rattle.jp_query.specs.Tree.{SegmentTrees, SelectorTree, filter, index, name, no_segments, no_selectors, segment, segment_of, segment_then, segments, selector_of, selector_then, selectors, slice, wildcard}
+use Rattle.jp_query.specs.Tree.{SegmentTrees, SelectorTree, filter, index, name, no_segments}
+use Rattle.jp_query.specs.Tree.{no_selectors, segment, segment_of, segment_then, segments}
+use Rattle.jp_query.specs.Tree.{selector_of, selector_then, selectors, slice, wildcard}
 use Rattle.jp_query.specs.declared.tree.Segment.{Segment, out-Segment}
 use Rattle.jp_query.specs.declared.tree.Selector.{Selector}
-use Rattle.jp_select.proofs.Chosen.{IsPlain, StandsBelow, candidates_stand, chosen-candidates, entry_location}
+use Rattle.jp_select.proofs.Chosen.{IsPlain, StandsBelow, candidates_stand}
+use Rattle.jp_select.proofs.Chosen.{chosen-candidates, entry_location}
 use Rattle.jp_select.proofs.Locations.{IsDocumentValue-at}
 use Rattle.jp_select.specs.Candidates.{candidates, single as single_entry}
 use Rattle.jp_select.specs.Selectors.{chosen}
@@ -21,40 +27,56 @@ use Rattle.jp_evaluate.specs.Private.Singular.{chosen_value, single_value, value
 use Rattle.jp_evaluate.proofs.Trees.{segment_of-is}
 
 -- the characters of a text spell its bytes
-pub text-spelled : (bytes text : List ℕ) → IsUtf8 bytes → bytes ≡ text → encode_utf8_all (chars text) ≡ bytes
-text-spelled bytes text utf8 same = let P : List ℕ → Type 0 = λ b. encode_utf8_all (chars b) ≡ bytes in subst P same (encodes-chars bytes utf8)
+pub text-spelled : (bytes text : List ℕ) → IsUtf8 bytes → bytes ≡ text →
+    encode_utf8_all (chars text) ≡ bytes
+text-spelled bytes text utf8 same =
+    let P : List ℕ → Type 0 = λ b. encode_utf8_all (chars b) ≡ bytes in
+    subst P same (encodes-chars bytes utf8)
 
 -- ---- one segment
 
-several : (b : Bool) (xs : List Selector) (v : Value) → length xs ≢ 1 → single_value (segment b (selectors (map selector_of xs))) v ≡ None
+several : (b : Bool) (xs : List Selector) (v : Value) → length xs ≢ 1 →
+    single_value (segment b (selectors (map selector_of xs))) v ≡ None
 several true xs v not = refl
 several false [] v not = refl
 several false (x ∷ []) v not = absurd (not refl)
 several false (x ∷ y ∷ xs) v not = refl
 
 -- segments with several selectors or none, and descendant segments, select no single value
-pub not_single : (s : Segment) (v : Value) → length (out-Segment s).selectors.items ≢ 1 → single_value (segment_of s) v ≡ None
-not_single s v not = ap (λ t. single_value t v) (segment_of-is s) ∙ several (out-Segment s).descendant (out-Segment s).selectors.items v not
+pub not_single : (s : Segment) (v : Value) → length (out-Segment s).selectors.items ≢ 1 →
+    single_value (segment_of s) v ≡ None
+not_single s v not =
+    ap (λ t. single_value t v) (segment_of-is s)
+    ∙ several (out-Segment s).descendant (out-Segment s).selectors.items v not
 
-only : (b : Bool) (xs : List Selector) (x : Selector) (v : Value) → b ≡ false → length xs ≡ 1 → Some x ≡ slice_get xs 0
-    → chosen_value (selector_of x) v ≡ single_value (segment b (selectors (map selector_of xs))) v
+only : (b : Bool) (xs : List Selector) (x : Selector) (v : Value) → b ≡ false → length xs ≡ 1 →
+    Some x ≡ slice_get xs 0 →
+    chosen_value (selector_of x) v ≡ single_value (segment b (selectors (map selector_of xs))) v
 only true xs x v child one first = absurd (cc)
 only false [] x v child one first = absurd (cc)
-only false (y ∷ []) x v child one first = ap (λ z. chosen_value (selector_of z) v) (same_Some x y first)
+only false (y ∷ []) x v child one first =
+    ap (λ z. chosen_value (selector_of z) v) (same_Some x y first)
 only false (y ∷ z ∷ xs) x v child one first = absurd (omega arith)
 
 -- a child segment with one selector selects what the selector does
-pub single : (s : Segment) (x : Selector) (v : Value) → (out-Segment s).descendant ≡ false → length (out-Segment s).selectors.items ≡ 1
-    → Some x ≡ slice_get (out-Segment s).selectors.items 0 → chosen_value (selector_of x) v ≡ single_value (segment_of s) v
+pub single : (s : Segment) (x : Selector) (v : Value) → (out-Segment s).descendant ≡ false →
+    length (out-Segment s).selectors.items ≡ 1 →
+    Some x ≡ slice_get (out-Segment s).selectors.items 0 →
+    chosen_value (selector_of x) v ≡ single_value (segment_of s) v
 single s x v child one first =
-    only (out-Segment s).descendant (out-Segment s).selectors.items x v child one first ∙ sym (ap (λ t. single_value t v) (segment_of-is s))
+    only (out-Segment s).descendant (out-Segment s).selectors.items x v child one first
+    ∙ sym (ap (λ t. single_value t v) (segment_of-is s))
 
-descends : (b : Bool) (s : List Selector) (v : Value) → b ≡ true → single_value (segment b (selectors (map selector_of s))) v ≡ None
+descends : (b : Bool) (s : List Selector) (v : Value) → b ≡ true →
+    single_value (segment b (selectors (map selector_of s))) v ≡ None
 descends true s v is = refl
 descends false s v is = absurd (cc)
 
-pub not_child : (s : Segment) (v : Value) → (out-Segment s).descendant ≡ true → single_value (segment_of s) v ≡ None
-not_child s v is = ap (λ t. single_value t v) (segment_of-is s) ∙ descends (out-Segment s).descendant (out-Segment s).selectors.items v is
+pub not_child : (s : Segment) (v : Value) → (out-Segment s).descendant ≡ true →
+    single_value (segment_of s) v ≡ None
+not_child s v is =
+    ap (λ t. single_value t v) (segment_of-is s)
+    ∙ descends (out-Segment s).descendant (out-Segment s).selectors.items v is
 
 -- ---- the segments of a query
 
@@ -62,15 +84,17 @@ abbrev pub of_segments : List Segment → SegmentTrees
 of_segments xs = segments (map segment_of xs)
 
 -- one segment more
-pub along-next : (items : List Segment) (i : ℕ) (s : Segment) (v : Value) (o : Option Value)
-    → i < length items → s ≡ slice_index_or items i s
-    → o ≡ single_value (segment_of s) v
-    → option_and_then (values_along (of_segments (drop (i + 1) items))) o ≡ values_along (of_segments (drop i items)) v
+pub along-next : (items : List Segment) (i : ℕ) (s : Segment) (v : Value) (o : Option Value) →
+    i < length items → s ≡ slice_index_or items i s → o ≡ single_value (segment_of s) v →
+    option_and_then (values_along (of_segments (drop (i + 1) items))) o ≡
+    values_along (of_segments (drop i items)) v
 along-next items i s v o within at is =
     let next : suc i ≡ i + 1 = omega arith in
     ap (λ n. option_and_then (values_along (of_segments (drop n items))) o) (sym next)
     ∙ ap (option_and_then (values_along (of_segments (drop (suc i) items)))) is
-    ∙ ap (λ (x : Segment). option_and_then (values_along (of_segments (drop (suc i) items))) (single_value (segment_of x) v)) at
+    ∙ ap
+    (λ (x : Segment). option_and_then (values_along (of_segments (drop (suc i) items)))
+    (single_value (segment_of x) v)) at
     ∙ ap (λ xs. values_along (of_segments xs) v) (sym (drop-cons items i s within))
 
 -- ---- what the standard has for it
@@ -95,30 +119,47 @@ result-none (segment_then (segment true ss) rest) d = result-none rest d
 -- at the one value that a selector chose, or at none
 along_entry : (rest : SegmentTrees) (d v : Value) (l : Location) (o : Option (Key × Value))
     → StandsAt d v l → All (StandsBelow v) (option_to_list o)
-    → ((k : Key) (w : Value) → StandsAt d w (l ++ k ∷ []) → values_along rest w ≡ singular_value rest d (l ++ k ∷ []))
+    →
+    ((k : Key) (w : Value) → StandsAt d w (l ++ k ∷ []) →
+    values_along rest w ≡ singular_value rest d (l ++ k ∷ []))
     → option_and_then (values_along rest) (option_map (λ e. e.1) o)
-    ≡ (if are_single rest then value_of_node d (result rest d ((map (entry_location l) (option_to_list o) ++ []) ++ [])) else None)
+    ≡
+    (if are_single rest then value_of_node d
+    (result rest d ((map (entry_location l) (option_to_list o) ++ []) ++ [])) else None)
 along_entry rest d v l None at all each =
     none_if (are_single rest)
     ∙ ap (λ ls. if are_single rest then value_of_node d ls else None) (sym (result-none rest d))
 along_entry rest d v l (Some e) at all each =
-    each e.0 e.1 (record { document = at.document; there = value_at-step d v l e.0 at.there ∙ All-head (StandsBelow v) e [] all })
+    each e.0 e.1 (record {
+      document = at.document;
+      there = value_at-step d v l e.0 at.there ∙ All-head (StandsBelow v) e [] all;
+    })
 
 along_chosen : (x : SelectorTree) (rest : SegmentTrees) (d v : Value) (l : Location) → IsPlain x
     → candidates x v ≡ option_to_list (single_entry x v) → StandsAt d v l
-    → ((k : Key) (w : Value) → StandsAt d w (l ++ k ∷ []) → values_along rest w ≡ singular_value rest d (l ++ k ∷ []))
+    →
+    ((k : Key) (w : Value) → StandsAt d w (l ++ k ∷ []) →
+    values_along rest w ≡ singular_value rest d (l ++ k ∷ []))
     → option_and_then (values_along rest) (chosen_value x v)
-    ≡ (if are_single rest then value_of_node d (result rest d ((chosen d x l ++ []) ++ [])) else None)
+    ≡
+    (if are_single rest then value_of_node d (result rest d ((chosen d x l ++ []) ++ [])) else
+    None)
 along_chosen x rest d v l plain one at each =
-    let stand = subst (All (StandsBelow v)) one (candidates_stand x v (IsDocumentValue-at d v l at.document at.there)) in
+    let stand =
+    subst (All (StandsBelow v)) one
+    (candidates_stand x v (IsDocumentValue-at d v l at.document at.there)) in
     let same : map (entry_location l) (option_to_list (single_entry x v)) ≡ chosen d x l =
     sym (chosen-candidates x d v l plain at.there ∙ ap (map (entry_location l)) one) in
     along_entry rest d v l (single_entry x v) at stand each
-    ∙ ap (λ ls. if are_single rest then value_of_node d (result rest d ((ls ++ []) ++ [])) else None) same
+    ∙ ap
+    (λ ls. if are_single rest then value_of_node d (result rest d ((ls ++ []) ++ [])) else None)
+    same
 
-along_one : (x : SelectorTree) (rest : SegmentTrees) (d v : Value) (l : Location) → StandsAt d v l
-    → ((k : Key) (w : Value) → StandsAt d w (l ++ k ∷ []) → values_along rest w ≡ singular_value rest d (l ++ k ∷ []))
-    → option_and_then (values_along rest) (chosen_value x v) ≡ singular_value (segment_then (segment false (selector_then x no_selectors)) rest) d l
+along_one : (x : SelectorTree) (rest : SegmentTrees) (d v : Value) (l : Location) → StandsAt d v l →
+    ((k : Key) (w : Value) → StandsAt d w (l ++ k ∷ []) →
+    values_along rest w ≡ singular_value rest d (l ++ k ∷ [])) →
+    option_and_then (values_along rest) (chosen_value x v) ≡
+    singular_value (segment_then (segment false (selector_then x no_selectors)) rest) d l
 along_one (name cs) rest d v l at each = along_chosen (name cs) rest d v l tt refl at each
 along_one (index i) rest d v l at each = along_chosen (index i) rest d v l tt refl at each
 along_one wildcard rest d v l at each = refl
@@ -126,7 +167,8 @@ along_one (slice s) rest d v l at each = refl
 along_one (filter e) rest d v l at each = refl
 
 -- the segments of a singular query lead to the value of its node, others to none
-pub along : (all : SegmentTrees) (d v : Value) (l : Location) → StandsAt d v l → values_along all v ≡ singular_value all d l
+pub along : (all : SegmentTrees) (d v : Value) (l : Location) → StandsAt d v l →
+    values_along all v ≡ singular_value all d l
 along no_segments d v l at = sym at.there
 along (segment_then (segment true ss) rest) d v l at = refl
 along (segment_then (segment false no_selectors) rest) d v l at = refl

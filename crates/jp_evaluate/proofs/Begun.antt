@@ -1,9 +1,10 @@
 -- Walks that begin.
-use Rattle.std.proofs.Common.{◌≡◌, Bool, true, false, List, [], ◌∷◌, ◌++◌, Some, map, option_to_list, refl, ap, ap₂, sym, ◌∙◌}
+use Rattle.std.proofs.Common.{◌≡◌, Bool, true, false, List, [], ◌∷◌, ◌++◌, Some}
+use Rattle.std.proofs.Common.{map, option_to_list, refl, ap, ap₂, subst, sym, ◌∙◌}
 use Rattle.std.specs.List.{flat_map}
 use Rattle.std.proofs.lemmas.List.{append-nil}
-use Rattle.jp_document.specs.ChildNodes.{standing}
 use Rattle.jp_document.specs.DocumentValue.{lent_value}
+use Rattle.jp_document.specs.Node.{AreNodes, root_of}
 use Rattle.jp_document.specs.Value.{IsDocumentValue, Value}
 use Rattle.jp_document.specs.declared.document_value.DocumentValue.{DocumentValue}
 use Rattle.jp_query.specs.Tree.{SegmentTrees, query, query_of, segment_of, segments}
@@ -11,21 +12,24 @@ use Rattle.jp_query.specs.declared.tree.Query.{Query, out-Query}
 use Rattle.jp_query.specs.declared.tree.Segment.{Segment}
 use Rattle.jp_evaluate.specs.Nodelist.{nodelist, nodelist_at, result}
 use Rattle.jp_evaluate.specs.Private.Reached.{reaches}
-use Rattle.jp_evaluate.specs.Private.Walk.{choice_at, choice_reaches, frames_pending, reached_at, start_choice, walk_frames, walk_reaches}
-use Rattle.jp_evaluate.specs.Rest.{as_shown}
+use Rattle.jp_evaluate.specs.Private.Walk.{choice_at, choice_reaches, frames_pending}
+use Rattle.jp_evaluate.specs.Private.Walk.{reached_at, start_choice, walk_frames, walk_reaches}
 use Rattle.jp_evaluate.specs.declared.walk.Walk.{Walk}
 use Rattle.jp_evaluate.proofs.Choices.{drop_none}
-use Rattle.jp_evaluate.proofs.Located.{nodelist-at}
+use Rattle.jp_evaluate.proofs.ByLocations.{nodelist-at}
 use Rattle.jp_evaluate.proofs.Trees.{query_of-is}
 
 -- a walk that begins with v reaches what the segments do
 pub begun_reaches : (all : List Segment) (d : Value) (w : Walk) (v : DocumentValue)
     → w.first ≡ Some v → walk_frames w ≡ []
-    → walk_reaches all d w ≡ reaches (segments (map segment_of all)) d ([], lent_value v)
+    → walk_reaches all d w ≡ reaches (segments (map segment_of all)) d (root_of (lent_value v))
 begun_reaches all d w v first frames =
-    ap (flat_map (choice_reaches d)) (ap₂ (λ o fs. map (choice_at (reached_at [] fs)) (map (start_choice all) (option_to_list o)) ++ frames_pending all [] fs) first frames)
+    ap (flat_map (choice_reaches d))
+    (ap₂
+    (λ o fs. map (choice_at (reached_at [] fs)) (map (start_choice all) (option_to_list o))
+    ++ frames_pending all [] fs) first frames)
     ∙ append-nil (choice_reaches d (choice_at [] (start_choice all v)))
-    ∙ ap (λ xs. reaches (segments (map segment_of xs)) d ([], lent_value v)) (drop_none all)
+    ∙ ap (λ xs. reaches (segments (map segment_of xs)) d (root_of (lent_value v))) (drop_none all)
 
 from_root : (absolute : Bool) (all : SegmentTrees) (d : Value)
     → nodelist_at (query absolute all) d [] ≡ result all d ([] ∷ [])
@@ -36,8 +40,13 @@ from_root false all d = refl
 pub begun_nodelist : (q : Query) (all : List Segment) (d : Value) (w : Walk) (v : DocumentValue)
     → (out-Query q).segments.items ≡ all → lent_value v ≡ d → IsDocumentValue d
     → w.first ≡ Some v → walk_frames w ≡ []
-    → map as_shown (walk_reaches all d w) ≡ map (standing d) (nodelist (query_of q) d)
+    → AreNodes d (walk_reaches all d w) (nodelist (query_of q) d)
 begun_nodelist q all d w v are is document first frames =
-    ap (map as_shown) (begun_reaches all d w v first frames ∙ ap₂ (λ xs u. reaches (segments (map segment_of xs)) d ([], u)) (sym are) is)
-    ∙ nodelist-at (segments (map segment_of (out-Query q).segments.items)) d document
-    ∙ ap (map (standing d)) (sym (ap (λ t. nodelist_at t d []) (query_of-is q) ∙ from_root (out-Query q).absolute (segments (map segment_of (out-Query q).segments.items)) d))
+    let trees = segments (map segment_of (out-Query q).segments.items) in
+    let begun =
+    begun_reaches all d w v first frames
+    ∙ ap₂ (λ xs u. reaches (segments (map segment_of xs)) d (root_of u)) (sym are) is in
+    let list =
+    ap (λ t. nodelist_at t d []) (query_of-is q) ∙ from_root (out-Query q).absolute trees d in
+    subst (λ ns. AreNodes d ns (nodelist (query_of q) d)) (sym begun)
+    (subst (AreNodes d (reaches trees d (root_of d))) (sym list) (nodelist-at trees d document))

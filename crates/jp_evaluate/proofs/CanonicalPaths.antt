@@ -14,9 +14,9 @@ use Rattle.jp_document.specs.Spelling.{spelling}
 use Rattle.jp_document.proofs.Encoded.{Ascii, digits-ascii, encode-ascii, high-plain, spelling-low}
 use Rattle.jp_document.proofs.IndexTexts.{decimal-index_text, digits-index_text}
 use Rattle.jp_document.proofs.Spelled.{by_itself, spelling_is}
-use Rattle.jp_query.specs.Grammar.{Inside, Segment, Segments, Selector, Spells, bracketed, indexed, named as by_name}
+use Rattle.jp_query.specs.Grammar.{Inside, Nested, Segment, Segments, Selector, Spells, bracketed, indexed, named as by_name}
 use Rattle.jp_query.specs.Ints.{Int}
-use Rattle.jp_query.specs.Tree.{ExprTree, segments}
+use Rattle.jp_query.specs.Tree.{segments}
 use Rattle.jp_query.specs.declared.tree.Numeral.TheVariants.{Whole}
 use Rattle.jp_canon.specs.Canon.{canon_of, segment_text, segments_text, selector_text}
 use Rattle.jp_canon.proofs.Bracketed.{bracket-of}
@@ -33,7 +33,7 @@ has-index i small =
     let fits : i < 2 ^ 64 = omega arith in
     subst (λ n. Has (Int n) (decimal i)) (rw (lt-ltb i (2 ^ 64) fits) refl) (has-decimal i fits)
 
-module _ (K : ExprTree → Form) where
+module _ (K : Nested → Form) where
   has-selector : (k : Key) → StepFits k
       → Has (Selector K (step_selector k)) (selector_text (step_selector k))
   has-selector (named s) fits = has-as (λ r p. by_name (chars s) refl) (has-quoted (chars s))

@@ -1,5 +1,7 @@
 -- The choices of a turn after another.
-use Rattle.std.proofs.Common.{◌≡◌, ℕ, suc, ◌+◌, List, [], ◌∷◌, ◌++◌, Option, Some, None, drop, map, option_map, option_to_list, Vec, Global, refl, ap, ap₂, sym, ◌∙◌, append_assoc, arith}
+use Rattle.std.proofs.Common.{◌≡◌, ℕ, suc, ◌+◌, List, [], ◌∷◌, ◌++◌, Option, Some}
+use Rattle.std.proofs.Common.{None, drop, map, option_map, option_to_list, Vec}
+use Rattle.std.proofs.Common.{Global, refl, ap, ap₂, sym, ◌∙◌, append_assoc, arith}
 use Rattle.std.specs.List.{flat_map, slice_get}
 use Rattle.std.proofs.lemmas.List.{append-nil}
 use Rattle.std.proofs.lemmas.Option.{slice_get-map}
@@ -9,7 +11,9 @@ use Rattle.jp_query.specs.Tree.{SegmentTrees, SelectorTree}
 use Rattle.jp_query.specs.declared.tree.Segment.{Segment}
 use Rattle.jp_select.proofs.Walks.{drop_at, drop_past}
 use Rattle.jp_select.specs.Candidates.{candidates}
-use Rattle.jp_evaluate.specs.Private.Walk.{Choice, choice_at, choice_of, choices_from, frame_choices, frames_pending, pending, reached_at, start_choice, steps_of, turn_choices, walk_frames}
+use Rattle.jp_evaluate.specs.Private.Walk.{Choice, choice_at, choice_of, choices_from}
+use Rattle.jp_evaluate.specs.Private.Walk.{frame_choices, frames_pending, pending, reached_at}
+use Rattle.jp_evaluate.specs.Private.Walk.{start_choice, steps_of, turn_choices, walk_frames}
 use Rattle.jp_evaluate.specs.declared.walk.Frame.{Frame}
 use Rattle.jp_evaluate.specs.declared.walk.Place.{Place}
 use Rattle.jp_evaluate.specs.declared.walk.Walk.{Walk}
@@ -17,15 +21,18 @@ use Rattle.jp_evaluate.specs.declared.walk.Walk.{Walk}
 -- ---- the choices of turns
 
 -- the next of a turn
-pub choice_next : (v : Value) (ts : List (SelectorTree × SegmentTrees)) (i k : ℕ) (t : SelectorTree × SegmentTrees) (e : Key × Value)
-    → slice_get ts i ≡ Some t → slice_get (candidates t.0 v) k ≡ Some e
-    → choices_from v (drop i ts) k ≡ choice_of t e ∷ choices_from v (drop i ts) (k + 1)
+pub choice_next : (v : Value) (ts : List (SelectorTree × SegmentTrees)) (i k : ℕ)
+    (t : SelectorTree × SegmentTrees) (e : Key × Value) → slice_get ts i ≡ Some t →
+    slice_get (candidates t.0 v) k ≡ Some e →
+    choices_from v (drop i ts) k ≡ choice_of t e ∷ choices_from v (drop i ts) (k + 1)
 choice_next v ts i k t e at entry =
-    let here : slice_get (turn_choices v t) k ≡ Some (choice_of t e) = slice_get-map (choice_of t) (candidates t.0 v) k ∙ ap (option_map (choice_of t)) entry in
+    let here : slice_get (turn_choices v t) k ≡ Some (choice_of t e) =
+    slice_get-map (choice_of t) (candidates t.0 v) k ∙ ap (option_map (choice_of t)) entry in
     let next : suc k ≡ k + 1 = omega arith in
     let rest = drop_at ts i t at in
     ap (λ us. choices_from v us k) rest
-    ∙ ap (λ cs. cs ++ flat_map (turn_choices v) (drop (suc i) ts)) (drop_at (turn_choices v t) k (choice_of t e) here)
+    ∙ ap (λ cs. cs ++ flat_map (turn_choices v) (drop (suc i) ts))
+    (drop_at (turn_choices v t) k (choice_of t e) here)
     ∙ ap (λ n. choice_of t e ∷ choices_from v (t ∷ drop (suc i) ts) n) next
     ∙ ap (λ us. choice_of t e ∷ choices_from v us (k + 1)) (sym rest)
 
@@ -36,7 +43,8 @@ drop_none (x ∷ xs) = refl
 pub choices_all : (v : Value) (ts : List (SelectorTree × SegmentTrees))
     → choices_from v ts 0 ≡ flat_map (turn_choices v) ts
 choices_all v [] = refl
-choices_all v (t ∷ ts) = ap (λ cs. cs ++ flat_map (turn_choices v) ts) (drop_none (turn_choices v t))
+choices_all v (t ∷ ts) =
+    ap (λ cs. cs ++ flat_map (turn_choices v) ts) (drop_none (turn_choices v t))
 
 none_of : (t : SelectorTree × SegmentTrees) (o : Option (Key × Value)) → o ≡ None
     → option_map (choice_of t) o ≡ None
@@ -44,15 +52,19 @@ none_of t None is = refl
 none_of t (Some e) is = absurd (cc)
 
 -- a turn without more goes over to the next
-pub turn_next : (v : Value) (ts : List (SelectorTree × SegmentTrees)) (i k : ℕ) (t : SelectorTree × SegmentTrees)
-    → slice_get ts i ≡ Some t → slice_get (candidates t.0 v) k ≡ None
-    → choices_from v (drop (i + 1) ts) 0 ≡ choices_from v (drop i ts) k
+pub turn_next : (v : Value) (ts : List (SelectorTree × SegmentTrees)) (i k : ℕ)
+    (t : SelectorTree × SegmentTrees) → slice_get ts i ≡ Some t →
+    slice_get (candidates t.0 v) k ≡ None →
+    choices_from v (drop (i + 1) ts) 0 ≡ choices_from v (drop i ts) k
 turn_next v ts i k t at past =
-    let none : slice_get (turn_choices v t) k ≡ None = slice_get-map (choice_of t) (candidates t.0 v) k ∙ none_of t (slice_get (candidates t.0 v) k) past in
+    let none : slice_get (turn_choices v t) k ≡ None =
+    slice_get-map (choice_of t) (candidates t.0 v) k
+    ∙ none_of t (slice_get (candidates t.0 v) k) past in
     let next : i + 1 ≡ suc i = omega arith in
     choices_all v (drop (i + 1) ts)
     ∙ ap (λ n. flat_map (turn_choices v) (drop n ts)) next
-    ∙ ap (λ cs. cs ++ flat_map (turn_choices v) (drop (suc i) ts)) (sym (drop_past (turn_choices v t) k none))
+    ∙ ap (λ cs. cs ++ flat_map (turn_choices v) (drop (suc i) ts))
+    (sym (drop_past (turn_choices v t) k none))
     ∙ ap (λ us. choices_from v us k) (sym (drop_at ts i t at))
 
 -- after the last turn there is no choice
@@ -68,9 +80,12 @@ reached-push l [] f = refl
 reached-push l (g ∷ fs) f = reached-push (l ++ steps_of g.place.step) fs f
 
 -- the last frame's choices come first
-pub pending-push : (all : List Segment) (l : Location) (fs : List Frame) (f : Frame)
-    → frames_pending all l (fs ++ f ∷ []) ≡ map (choice_at (reached_at l fs ++ steps_of f.place.step)) (frame_choices all f) ++ frames_pending all l fs
-pending-push all l [] f = append_nil_again (map (choice_at (l ++ steps_of f.place.step)) (frame_choices all f))
+pub pending-push : (all : List Segment) (l : Location) (fs : List Frame) (f : Frame) →
+    frames_pending all l (fs ++ f ∷ []) ≡
+    map (choice_at (reached_at l fs ++ steps_of f.place.step)) (frame_choices all f)
+    ++ frames_pending all l fs
+pending-push all l [] f =
+    append_nil_again (map (choice_at (l ++ steps_of f.place.step)) (frame_choices all f))
   where
     append_nil_again : {X : Type 0} (xs : List X) → [] ++ xs ≡ xs ++ []
     append_nil_again [] = refl
@@ -78,7 +93,9 @@ pending-push all l [] f = append_nil_again (map (choice_at (l ++ steps_of f.plac
 pending-push all l (g ∷ fs) f =
     let m = l ++ steps_of g.place.step in
     ap (λ t. t ++ map (choice_at m) (frame_choices all g)) (pending-push all m fs f)
-    ∙ append_assoc (map (choice_at (reached_at m fs ++ steps_of f.place.step)) (frame_choices all f)) (frames_pending all m fs) (map (choice_at m) (frame_choices all g))
+    ∙ append_assoc
+    (map (choice_at (reached_at m fs ++ steps_of f.place.step)) (frame_choices all f))
+    (frames_pending all m fs) (map (choice_at m) (frame_choices all g))
 
 -- ---- walks
 
@@ -86,20 +103,28 @@ pending-push all l (g ∷ fs) f =
 pub frames_alone : (all : List Segment) (w v : Walk) → w.first ≡ None → v.first ≡ None
     → walk_frames w ≡ walk_frames v → pending all w ≡ pending all v
 frames_alone all w v first begun same =
-    ap₂ (λ o fs. map (choice_at (reached_at [] fs)) (map (start_choice all) (option_to_list o)) ++ frames_pending all [] fs) (first ∙ sym begun) same
+    ap₂
+    (λ o fs. map (choice_at (reached_at [] fs)) (map (start_choice all) (option_to_list o))
+    ++ frames_pending all [] fs) (first ∙ sym begun) same
 
 -- the last frame's next choice
-pub frame_next : (all : List Segment) (before : List (Location × Choice)) (w v : Walk) (f g : Frame) (c : Choice) → w.first ≡ None → v.first ≡ None
-    → pending all w ≡ before → w.top ≡ Some f → v.top ≡ Some g → v.below ≡ w.below
-    → g.place ≡ f.place → frame_choices all f ≡ c ∷ frame_choices all g
-    → before ≡ choice_at (reached_at [] (walk_frames v)) c ∷ pending all v
+pub frame_next : (all : List Segment) (before : List (Location × Choice)) (w v : Walk) (f g : Frame)
+    (c : Choice) → w.first ≡ None → v.first ≡ None → pending all w ≡ before → w.top ≡ Some f →
+    v.top ≡ Some g → v.below ≡ w.below → g.place ≡ f.place →
+    frame_choices all f ≡ c ∷ frame_choices all g →
+    before ≡ choice_at (reached_at [] (walk_frames v)) c ∷ pending all v
 frame_next all before w v f g c first begun rest top new below place choices =
     let b = w.below.items in
     let m = reached_at [] b ++ steps_of f.place.step in
     let was : pending all w ≡ frames_pending all [] (b ++ f ∷ []) =
-    ap₂ (λ o t. map (choice_at (reached_at [] (b ++ option_to_list t))) (map (start_choice all) (option_to_list o)) ++ frames_pending all [] (b ++ option_to_list t)) first top in
+    ap₂
+    (λ o t. map (choice_at (reached_at [] (b ++ option_to_list t)))
+    (map (start_choice all) (option_to_list o))
+    ++ frames_pending all [] (b ++ option_to_list t)) first top in
     let is : pending all v ≡ frames_pending all [] (b ++ g ∷ []) =
-    ap₂ (λ o fs. map (choice_at (reached_at [] fs)) (map (start_choice all) (option_to_list o)) ++ frames_pending all [] fs) begun
+    ap₂
+    (λ o fs. map (choice_at (reached_at [] fs)) (map (start_choice all) (option_to_list o))
+    ++ frames_pending all [] fs) begun
     (ap₂ (λ (x : Vec Frame Global) t. x.items ++ option_to_list t) below new) in
     let at : reached_at [] (walk_frames v) ≡ m =
     ap (reached_at []) (ap₂ (λ (x : Vec Frame Global) t. x.items ++ option_to_list t) below new)
@@ -107,21 +132,26 @@ frame_next all before w v f g c first begun rest top new below place choices =
     sym rest ∙ was ∙ pending-push all [] b f
     ∙ ap (λ cs. map (choice_at m) cs ++ frames_pending all [] b) choices
     ∙ ap₂ (λ l t. choice_at l c ∷ t) (sym at)
-    (ap (λ (p : Place). map (choice_at (reached_at [] b ++ steps_of p.step)) (frame_choices all g) ++ frames_pending all [] b) (sym place)
-    ∙ sym (is ∙ pending-push all [] b g))
+    (ap
+    (λ (p : Place). map (choice_at (reached_at [] b ++ steps_of p.step)) (frame_choices all g)
+    ++ frames_pending all [] b) (sym place) ∙ sym (is ∙ pending-push all [] b g))
 
 -- a frame without more choices is left
-pub frame_left : (all : List Segment) (before : List (Location × Choice)) (w v : Walk) (f : Frame) → w.first ≡ None → v.first ≡ None
-    → pending all w ≡ before → w.top ≡ Some f → v.top ≡ None → v.below ≡ w.below
-    → frame_choices all f ≡ []
-    → pending all v ≡ before
+pub frame_left : (all : List Segment) (before : List (Location × Choice)) (w v : Walk) (f : Frame) →
+    w.first ≡ None → v.first ≡ None → pending all w ≡ before → w.top ≡ Some f → v.top ≡ None →
+    v.below ≡ w.below → frame_choices all f ≡ [] → pending all v ≡ before
 frame_left all before w v f first begun rest top new below choices =
     let b = w.below.items in
     let m = reached_at [] b ++ steps_of f.place.step in
     let was : pending all w ≡ frames_pending all [] (b ++ f ∷ []) =
-    ap₂ (λ o t. map (choice_at (reached_at [] (b ++ option_to_list t))) (map (start_choice all) (option_to_list o)) ++ frames_pending all [] (b ++ option_to_list t)) first top in
+    ap₂
+    (λ o t. map (choice_at (reached_at [] (b ++ option_to_list t)))
+    (map (start_choice all) (option_to_list o))
+    ++ frames_pending all [] (b ++ option_to_list t)) first top in
     let is : pending all v ≡ frames_pending all [] (b ++ []) =
-    ap₂ (λ o fs. map (choice_at (reached_at [] fs)) (map (start_choice all) (option_to_list o)) ++ frames_pending all [] fs) begun
+    ap₂
+    (λ o fs. map (choice_at (reached_at [] fs)) (map (start_choice all) (option_to_list o))
+    ++ frames_pending all [] fs) begun
     (ap₂ (λ (x : Vec Frame Global) t. x.items ++ option_to_list t) below new) in
     is ∙ ap (frames_pending all []) (append-nil b)
     ∙ ap (λ cs. map (choice_at m) cs ++ frames_pending all [] b) (sym choices)

@@ -3,14 +3,20 @@ use Rattle.std.proofs.Common.{◌≡◌, ℕ, pos, negsuc, true, false, List, []
 use lib.Utf8.{encode}
 use Rattle.jp_document.specs.Location.{Key, Location, named, nth}
 use Rattle.jp_document.specs.Value.{Value, null, list, object, no_items, item, no_members, member}
-use Rattle.jp_query.specs.Tree.{ExprTree, QueryTree, SegmentTree, all_of, any_of, comparison, exists, exprs, filter, index, literal, name, negation, no_segments, node_value, null_literal, query, segment, segments, selectors, wildcard}
+use Rattle.jp_query.specs.Tree.{ExprTree, QueryTree, SegmentTree, all_of, any_of}
+use Rattle.jp_query.specs.Tree.{comparison, exists, exprs, filter, index, literal}
+use Rattle.jp_query.specs.Tree.{name, negation, no_segments, node_value, null_literal}
+use Rattle.jp_query.specs.Tree.{query, segment, segments, selectors, wildcard}
 use Rattle.jp_query.specs.declared.tree.Numeral.TheVariants.{Whole}
 use Rattle.jp_query.specs.declared.tree.Op.TheVariants.{Equal}
 use Rattle.jp_evaluate.specs.Nodelist.{nodelist}
 
 -- {"a": [null, [null]], "b": null}
 abbrev sample : Value
-sample = object (member (97 ∷ []) (list (item null (item (list (item null no_items)) no_items))) (member (98 ∷ []) null no_members))
+sample =
+    object
+    (member (97 ∷ []) (list (item null (item (list (item null no_items)) no_items)))
+    (member (98 ∷ []) null no_members))
 
 abbrev a : Key
 a = named (97 ∷ [])
@@ -26,17 +32,22 @@ root : of_segments [] ≡ [] ∷ []
 root = refl
 
 -- $[*][*,0]
-repeated : of_segments (segment false (selectors (wildcard ∷ [])) ∷ segment false (selectors (wildcard ∷ index (Whole (pos 0)) ∷ [])) ∷ [])
+repeated : of_segments
+    (segment false (selectors (wildcard ∷ [])) ∷ segment false
+    (selectors (wildcard ∷ index (Whole (pos 0)) ∷ [])) ∷ [])
     ≡ (a ∷ nth 0 ∷ []) ∷ (a ∷ nth 1 ∷ []) ∷ (a ∷ nth 0 ∷ []) ∷ []
 repeated = refl
 
 -- $[*][-1]
-joined : of_segments (segment false (selectors (wildcard ∷ [])) ∷ segment false (selectors (index (Whole (negsuc 0)) ∷ [])) ∷ [])
+joined : of_segments
+    (segment false (selectors (wildcard ∷ [])) ∷ segment false
+    (selectors (index (Whole (negsuc 0)) ∷ [])) ∷ [])
     ≡ (a ∷ nth 1 ∷ []) ∷ []
 joined = refl
 
 -- $..[0]
-descendants : of_segments (segment true (selectors (index (Whole (pos 0)) ∷ [])) ∷ []) ≡ (a ∷ nth 0 ∷ []) ∷ (a ∷ nth 1 ∷ nth 0 ∷ []) ∷ []
+descendants : of_segments (segment true (selectors (index (Whole (pos 0)) ∷ [])) ∷ []) ≡
+    (a ∷ nth 0 ∷ []) ∷ (a ∷ nth 1 ∷ nth 0 ∷ []) ∷ []
 descendants = refl
 
 -- $..*: the children of each visited node stand together
@@ -45,7 +56,9 @@ each_in_turn : of_segments (segment true (selectors (wildcard ∷ [])) ∷ [])
 each_in_turn = refl
 
 -- $..[*]..[0]: a node that is visited twice is selected twice
-visited_twice : of_segments (segment true (selectors (wildcard ∷ [])) ∷ segment true (selectors (index (Whole (pos 0)) ∷ [])) ∷ [])
+visited_twice : of_segments
+    (segment true (selectors (wildcard ∷ [])) ∷ segment true
+    (selectors (index (Whole (pos 0)) ∷ [])) ∷ [])
     ≡ (a ∷ nth 0 ∷ []) ∷ (a ∷ nth 1 ∷ nth 0 ∷ []) ∷ (a ∷ nth 1 ∷ nth 0 ∷ []) ∷ []
 visited_twice = refl
 
@@ -88,7 +101,9 @@ missing_null : kept_by (comparison (node_value (at (120 ∷ []))) Equal (literal
 missing_null = refl
 
 -- $[?@.x==@.y]: no value equals no value
-both_missing : kept_by (comparison (node_value (at (120 ∷ []))) Equal (node_value (at (121 ∷ [])))) ≡ (a ∷ []) ∷ (b ∷ []) ∷ []
+both_missing : kept_by
+    (comparison (node_value (at (120 ∷ []))) Equal (node_value (at (121 ∷ [])))) ≡
+    (a ∷ []) ∷ (b ∷ []) ∷ []
 both_missing = refl
 
 -- $[?$.b==@]: the root is that of the document
@@ -97,10 +112,20 @@ unfolding encode
 from_root = refl
 
 -- $[?@[?@==null]]: in the inner filter the current node is the inner child
-nested : kept_by (exists (query false (segments (segment false (selectors (filter (comparison (node_value current) Equal (literal null_literal)) ∷ [])) ∷ []))))
+nested : kept_by
+    (exists
+    (query false
+    (segments
+    (segment false
+    (selectors
+    (filter (comparison (node_value current) Equal (literal null_literal)) ∷ [])) ∷ []))))
     ≡ (a ∷ []) ∷ []
 nested = refl
 
 -- $[?!@.*||@.*&&@]
-joined_truths : kept_by (any_of (exprs (negation (exists children) ∷ all_of (exprs (exists children ∷ exists current ∷ [])) ∷ []))) ≡ (a ∷ []) ∷ (b ∷ []) ∷ []
+joined_truths : kept_by
+    (any_of
+    (exprs
+    (negation (exists children) ∷ all_of
+    (exprs (exists children ∷ exists current ∷ [])) ∷ []))) ≡ (a ∷ []) ∷ (b ∷ []) ∷ []
 joined_truths = refl

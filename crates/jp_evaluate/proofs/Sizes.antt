@@ -1,26 +1,35 @@
 -- The parts of queries are smaller.
-use Rattle.std.proofs.Common.{◌≡◌, ℕ, zero, suc, ◌<◌, ◌≤◌, List, [], ◌∷◌, length, map, slice_index_or, ap, arith}
+use Rattle.std.proofs.Common.{◌≡◌, ℕ, zero, suc, ◌<◌, ◌≤◌, List, [], ◌∷◌}
+use Rattle.std.proofs.Common.{length, map, slice_index_or, ap, arith}
 use Rattle.jp_query.specs.Tree.{expr_of, exprs, segment_of, segments, selector_of, selectors}
 use Rattle.jp_query.specs.declared.tree.Expr.{Expr}
 use Rattle.jp_query.specs.declared.tree.Segment.{Segment}
 use Rattle.jp_query.specs.declared.tree.Selector.{Selector}
-use Rattle.jp_evaluate.specs.Private.Sizes.{expr_size, exprs_size, segment_size, segments_size, selector_size, selectors_size}
+use Rattle.jp_evaluate.specs.Private.Sizes.{expr_size, exprs_size, segment_size}
+use Rattle.jp_evaluate.specs.Private.Sizes.{segments_size, selector_size, selectors_size}
 
 pub part_size : (es : List Expr) (i : ℕ) (e : Expr) → i < length es → e ≡ slice_index_or es i e
     → expr_size (expr_of e) < exprs_size (exprs (map expr_of es))
 part_size [] i e within at = absurd (omega arith)
-part_size (x ∷ es) zero e within at = let same = ap (λ y. expr_size (expr_of y)) at in omega (arith, same)
-part_size (x ∷ es) (suc i) e within at = let more = part_size es i e (omega arith) at in omega (arith, more)
+part_size (x ∷ es) zero e within at =
+    let same = ap (λ y. expr_size (expr_of y)) at in omega (arith, same)
+part_size (x ∷ es) (suc i) e within at =
+    let more = part_size es i e (omega arith) at in omega (arith, more)
 
-pub selector_part : (xs : List Selector) (i : ℕ) (x : Selector) → i < length xs → x ≡ slice_index_or xs i x
-    → selector_size (selector_of x) < selectors_size (selectors (map selector_of xs))
+pub selector_part : (xs : List Selector) (i : ℕ) (x : Selector) → i < length xs →
+    x ≡ slice_index_or xs i x →
+    selector_size (selector_of x) < selectors_size (selectors (map selector_of xs))
 selector_part [] i x within at = absurd (omega arith)
-selector_part (y ∷ xs) zero x within at = let same = ap (λ z. selector_size (selector_of z)) at in omega (arith, same)
-selector_part (y ∷ xs) (suc i) x within at = let more = selector_part xs i x (omega arith) at in omega (arith, more)
+selector_part (y ∷ xs) zero x within at =
+    let same = ap (λ z. selector_size (selector_of z)) at in omega (arith, same)
+selector_part (y ∷ xs) (suc i) x within at =
+    let more = selector_part xs i x (omega arith) at in omega (arith, more)
 
 pub segment_part : (xs : List Segment) (i : ℕ) (x : Segment) → i < length xs
     → x ≡ slice_index_or xs i x
     → segment_size (segment_of x) ≤ segments_size (segments (map segment_of xs))
 segment_part [] i x within at = absurd (omega arith)
-segment_part (y ∷ xs) zero x within at = let same = ap (λ z. segment_size (segment_of z)) at in omega (arith, same)
-segment_part (y ∷ xs) (suc i) x within at = let more = segment_part xs i x (omega arith) at in omega (arith, more)
+segment_part (y ∷ xs) zero x within at =
+    let same = ap (λ z. segment_size (segment_of z)) at in omega (arith, same)
+segment_part (y ∷ xs) (suc i) x within at =
+    let more = segment_part xs i x (omega arith) at in omega (arith, more)

@@ -9,16 +9,21 @@ use Rattle.jp_query.specs.Tree.{QueryTree}
 use Rattle.jp_check.specs.Accepted.{IsAcceptedAs}
 use Rattle.jp_evaluate.specs.Nodelist.{nodelist, nodelist_at}
 
--- the normalized path of a node of a document, read as a query, is accepted and selects that node alone (RFC 9535 section 2.7)
+-- the normalized path of a node of a document, read as a query, is accepted and selects that node
+-- alone (RFC 9535 section 2.7)
 abbrev pub PathSelectsItsNode : Type 0
 PathSelectsItsNode = (d : Value) (l : Location) → IsDocumentValue d → IsSome (value_at d l)
     → (q : QueryTree) × IsAcceptedAs (chars (path_of l)) q × (nodelist q d ≡ l ∷ [])
 
--- each location of a nodelist is that of a node of the document, whatever node the query begins at (section 2.1.2)
+-- each location of a nodelist is that of a node of the document, whatever node the query begins at
+-- (section 2.1.2)
 abbrev pub SelectsNodesAlone : Type 0
-SelectsNodesAlone = (q : QueryTree) (d : Value) (c : Location) → IsDocumentValue d → IsSome (value_at d c)
+SelectsNodesAlone =
+    (q : QueryTree) (d : Value) (c : Location) → IsDocumentValue d → IsSome (value_at d c)
     → All (λ l. IsSome (value_at d l)) (nodelist_at q d c)
 
 -- a singular query selects at most one node (section 2.3.5.1)
 abbrev pub SingularSelectsOne : Type 0
-SingularSelectsOne = (q : QueryTree) (d : Value) (c : Location) → is_singular q ≡ true → length (nodelist_at q d c) ≤ 1
+SingularSelectsOne =
+    (q : QueryTree) (d : Value) (c : Location) → is_singular q ≡ true →
+    length (nodelist_at q d c) ≤ 1

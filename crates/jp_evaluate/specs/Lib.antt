@@ -1,3 +1,4 @@
+pub mod Functions
 pub mod Laws
 pub mod Nodelist
 pub mod Private

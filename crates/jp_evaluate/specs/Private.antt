@@ -1,3 +1,5 @@
+pub mod Calls
+pub mod LastPattern
 pub mod Reached
 pub mod Singular
 pub mod Sizes

@@ -1,27 +1,30 @@
 //! The nodes of a nodelist, to be taken one by one.
 ghost use Rattle.std.specs.Prelude.{◌≡◌, ◌+◌, ◌++◌, IfNone, IfOk, [], if◌then◌else◌, length, map, option_to_list};
 ghost use Rattle.std.specs.Iterator.{at_most};
-ghost use Rattle.jp_document.specs.ChildNodes.{shown};
+ghost use Rattle.jp_document.specs.Node.{node_of};
 ghost use Rattle.jp_evaluate.specs.Rest.{GivesNext, rest_of};
 
+use crate::evaluating::Evaluation;
 use crate::filter::advance;
+use crate::pattern::LastPattern;
 use crate::walk::Walk;
-use jp_document::{DocumentValue, Node};
+use jp_document::Node;
+use jp_match::Matching;
 use jp_query::Segment;
-use std::alloc::{AllocError, Global};
+use std::alloc::AllocError;
 
 /// The nodes that a query selects, one after another. What came so far is a prefix of the nodelist.
 #[derive(Drop)]
-pub struct Nodes<'d, 'q> {
-    pub(crate) alloc: Global,
-    pub(crate) root: DocumentValue<'d>,
+pub struct Nodes<'d, 'q, M> {
+    pub(crate) evaluation: Evaluation<'q, M>,
+    pub(crate) last: LastPattern<'q>,
     pub(crate) segments: &'q [Segment],
     pub(crate) walk: Walk<'d>,
     pub(crate) failed: bool,
 }
 
-impl<'d, 'q> Nodes<'d, 'q> {
-    /// Whether a node could not be given because memory ran out. No more are given then.
+impl<'d: 'q, 'q, M: Matching> Nodes<'d, 'q, M> {
+    /// Whether a node could not be given for want of memory. No more are given then.
     pub fn failed(&self) -> bool
         ensures { result ≡ self.now.failed }
     {
@@ -31,18 +34,23 @@ impl<'d, 'q> Nodes<'d, 'q> {
     /// The next node, None at the end.
     fn take(&mut self) -> Result<Option<Node<'d>>, AllocError>
         ensures gives { IfOk result (λ o. rest_of self.old
-            ≡ map shown (option_to_list o) ++ rest_of self.new) }
+            ≡ map node_of (option_to_list o) ++ rest_of self.new) }
         ensures end { IfOk result (λ o. IfNone o (rest_of self.new ≡ [])) }
         ensures failed { self.new.failed ≡ self.old.failed }
     {
-        match advance(self.alloc, self.segments, self.root, &mut self.walk)? {
-            Some(place) => Ok(Some(self.walk.node_at(self.alloc, place)?)),
+        match advance(
+            &self.evaluation,
+            &mut self.last,
+            self.segments,
+            &mut self.walk,
+        )? {
+            Some(place) => Ok(Some(self.walk.node_at(self.evaluation.alloc, place)?)),
             None => Ok(None),
         }
     }
 }
 
-impl<'d, 'q> Iterator for Nodes<'d, 'q> {
+impl<'d: 'q, 'q, M: Matching> Iterator for Nodes<'d, 'q, M> {
     type Item = Result<Node<'d>, AllocError>;
 
     ghost next_gives = { GivesNext };

@@ -1,30 +1,43 @@
 //! The evaluation of a query, node by node.
 ghost use Rattle.std.specs.Prelude.{◌≡◌, IfOk, false, map};
-ghost use Rattle.jp_document.specs.ChildNodes.{AreNodes, standing};
 ghost use Rattle.jp_document.specs.Document.{document_of};
+ghost use Rattle.jp_document.specs.Node.{AreNodes, node_of};
 ghost use Rattle.jp_query.specs.Tree.{query_of};
 ghost use Rattle.jp_evaluate.specs.Nodelist.{nodelist};
 ghost use Rattle.jp_evaluate.specs.Rest.{rest_of};
 
 use crate::each::Nodes;
+use crate::evaluating::Evaluation;
+use crate::pattern::LastPattern;
 use crate::walk::Walk;
 use jp_check::Checked;
 use jp_document::{Document, Node};
+use jp_match::Matching;
 use std::alloc::{AllocError, Global};
 
 /// The nodes that a query selects in a document (RFC 9535 section 2.1.2), to be taken one by one in
-/// the nodelist's order; a node that is selected twice is given twice. It takes no memory before
-/// the first is asked for, and then what it holds follows the depth of the document and the query.
-/// The nodes borrow from the document.
-pub fn nodes<'d, 'q>(alloc: Global, document: &'d Document, query: &'q Checked) -> Nodes<'d, 'q>
+/// the nodelist's order; a node that is selected twice is given twice. The matcher answers `match`
+/// and `search`. It takes no memory before the first is asked for, and then what it holds follows
+/// the depth of the document and the query, and the pattern that was read last. The nodes borrow
+/// from the document.
+pub fn nodes<'d: 'q, 'q, M: Matching>(
+    alloc: Global,
+    document: &'d Document,
+    query: &'q Checked,
+    matcher: &'q M,
+) -> Nodes<'d, 'q, M>
     ensures working { result.failed ≡ false }
-    ensures nodes { rest_of result ≡ map (standing (document_of document.now))
+    ensures nodes { AreNodes (document_of document.now) (rest_of result)
         (nodelist (query_of query.now) (document_of document.now)) }
 {
     let root = document.value();
     Nodes {
-        alloc,
-        root,
+        evaluation: Evaluation {
+            alloc,
+            root,
+            matcher,
+        },
+        last: LastPattern::new(),
         segments: &query.query().segments,
         walk: Walk::from(alloc, root),
         failed: false,
@@ -32,18 +45,19 @@ pub fn nodes<'d, 'q>(alloc: Global, document: &'d Document, query: &'q Checked) 
 }
 
 /// The nodes that a query selects in a document (RFC 9535 section 2.1.2), in the nodelist's order;
-/// a node that is selected twice stands there twice. They borrow from the document and copy nothing
-/// of it.
-pub fn evaluate<'d>(
+/// a node that is selected twice stands there twice. The matcher answers `match` and `search`. The
+/// nodes borrow from the document and copy nothing of it.
+pub fn evaluate<'d, M: Matching>(
     alloc: Global,
     document: &'d Document,
     query: &Checked,
+    matcher: &M,
 ) -> Result<Vec<Node<'d>>, AllocError>
-    ensures { IfOk result (λ nodes. AreNodes (document_of document.now) nodes.items
-        (nodelist (query_of query.now) (document_of document.now))) }
+    ensures { IfOk result (λ nodes. AreNodes (document_of document.now)
+        (map node_of nodes.items) (nodelist (query_of query.now) (document_of document.now))) }
 {
     let mut selected = Vec::new(alloc);
-    for next in nodes(alloc, document, query) {
+    for next in nodes(alloc, document, query, matcher) {
         selected.push(next?)?;
     }
     Ok(selected)

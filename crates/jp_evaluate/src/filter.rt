@@ -2,36 +2,42 @@
 //! it.
 ghost use Rattle.std.specs.Prelude.{◌≡◌, ◌∷◌, [], IfOk, MatchOption, map};
 ghost use Rattle.jp_document.specs.DocumentValue.{lent_value};
-ghost use Rattle.jp_query.specs.Tree.{expr_of, exprs, query_of};
-ghost use Rattle.jp_evaluate.specs.Private.Reached.{all_true, any_true, leads, truth};
+ghost use Rattle.jp_query.specs.Tree.{expr_of, exprs, operand_of, query_of, subject_of};
+ghost use Rattle.jp_select.specs.Comparable.{comparable_of};
+ghost use Rattle.jp_evaluate.specs.Private.Reached.{all_true, any_true, is_reached, query_reaches, side, truth};
 ghost use Rattle.jp_evaluate.specs.Private.Walk.{reached_place, walk_reaches};
 
-use crate::operand::operand_value;
-use crate::singular::start;
+use crate::calls::{call_holds, call_value};
+use crate::evaluating::Evaluation;
+use crate::operand::{comparable, literal_value};
+use crate::pattern::LastPattern;
+use crate::singular::{node_value, start};
 use crate::walk::{Place, Walk};
 use jp_document::DocumentValue;
-use jp_query::{Expr, Query, Segment, Subject};
-use jp_select::compare;
-use std::alloc::{AllocError, Global};
+use jp_match::Matching;
+use jp_query::{Expr, Operand, Query, Segment, Subject};
+use jp_select::{Comparable, compare};
+use std::alloc::AllocError;
 
 /// The next place that segments reach on a walk, None at the end. After an error nothing is said of
 /// what is left.
 #[cycle(filter)]
-pub(crate) fn advance<'d>(
-    alloc: Global,
-    segments: &[Segment],
-    root: DocumentValue<'d>,
+pub(crate) fn advance<'d: 'q, 'q, M: Matching>(
+    evaluation: &Evaluation<'q, M>,
+    last: &mut LastPattern<'q>,
+    segments: &'q [Segment],
     walk: &mut Walk<'d>,
 ) -> Result<Option<Place<'d>>, AllocError>
     ensures { IfOk result (λ o. MatchOption o
-        ((walk_reaches segments.now (lent_value root.entry) walk.old ≡ [])
-        × (walk_reaches segments.now (lent_value root.entry) walk.new ≡ []))
-        (λ p. walk_reaches segments.now (lent_value root.entry) walk.old
-        ≡ reached_place walk.new p ∷ walk_reaches segments.now (lent_value root.entry) walk.new)) }
+        ((walk_reaches segments.now (lent_value evaluation.now.root) walk.old ≡ [])
+        × (walk_reaches segments.now (lent_value evaluation.now.root) walk.new ≡ []))
+        (λ p. walk_reaches segments.now (lent_value evaluation.now.root) walk.old
+        ≡ reached_place walk.new p
+        ∷ walk_reaches segments.now (lent_value evaluation.now.root) walk.new)) }
 {
     while let Some(offer) = walk.next_offer(segments) {
         let passes = match offer.test {
-            Some(expr) => holds(alloc, expr, root, offer.place.value)?,
+            Some(expr) => holds(evaluation, last, expr, offer.place.value)?,
             None => true,
         };
         if passes {
@@ -44,52 +50,44 @@ pub(crate) fn advance<'d>(
     Ok(None)
 }
 
-/// Whether an expression is true of a current value, `@`, in a document whose root is `$`.
+/// Whether an expression is true of a current value, `@`.
 #[cycle(filter)]
-pub(crate) fn holds<'d>(
-    alloc: Global,
-    expr: &Expr,
-    root: DocumentValue<'d>,
-    current: DocumentValue<'d>,
+pub(crate) fn holds<'q, M: Matching>(
+    evaluation: &Evaluation<'q, M>,
+    last: &mut LastPattern<'q>,
+    expr: &'q Expr,
+    current: DocumentValue<'q>,
 ) -> Result<bool, AllocError>
     ensures { IfOk result (λ answer. answer
-        ≡ truth (expr_of expr.now) (lent_value root.entry) (lent_value current.entry)) }
+        ≡ truth (expr_of expr.now) (lent_value evaluation.now.root) (lent_value current.entry)) }
 {
     match expr {
-        Expr::AnyOf(parts) => any_holds(alloc, parts, root, current),
-        Expr::AllOf(parts) => all_hold(alloc, parts, root, current),
-        Expr::Not(part) => Ok(!holds(alloc, part, root, current)?),
-        Expr::Compare { left, op, right } => Ok(compare(
-            *op,
-            operand_value(left, root, current),
-            operand_value(right, root, current),
-        )),
-        Expr::Test(subject) => selects_some(alloc, query_of(subject), root, current),
-    }
-}
-
-/// The query that a test asks for nodes.
-fn query_of(subject: &Subject) -> &Query
-    ensures { Subject.Query result.now ≡ subject.now }
-{
-    match subject {
-        Subject::Query(query) => query,
+        Expr::AnyOf(parts) => any_holds(evaluation, last, parts, current),
+        Expr::AllOf(parts) => all_hold(evaluation, last, parts, current),
+        Expr::Not(part) => Ok(!holds(evaluation, last, part, current)?),
+        Expr::Compare { left, op, right } => {
+            let left = operand_value(evaluation, last, left, current)?;
+            let right = operand_value(evaluation, last, right, current)?;
+            Ok(compare(*op, left, right))
+        }
+        Expr::Test(Subject::Query(query)) => selects_some(evaluation, last, query, current),
+        Expr::Test(Subject::Call(call)) => call_holds(evaluation, last, call, current),
     }
 }
 
 /// Whether some of the expressions is true; those after it are not asked.
 #[cycle(filter)]
-fn any_holds<'d>(
-    alloc: Global,
-    parts: &[Expr],
-    root: DocumentValue<'d>,
-    current: DocumentValue<'d>,
+fn any_holds<'q, M: Matching>(
+    evaluation: &Evaluation<'q, M>,
+    last: &mut LastPattern<'q>,
+    parts: &'q [Expr],
+    current: DocumentValue<'q>,
 ) -> Result<bool, AllocError>
-    ensures { IfOk result (λ answer. answer
-        ≡ any_true (exprs (map expr_of parts.now)) (lent_value root.entry) (lent_value current.entry)) }
+    ensures { IfOk result (λ answer. answer ≡ any_true (exprs (map expr_of parts.now))
+        (lent_value evaluation.now.root) (lent_value current.entry)) }
 {
     for part in parts {
-        if holds(alloc, part, root, current)? {
+        if holds(evaluation, last, part, current)? {
             return Ok(true);
         }
     }
@@ -98,17 +96,17 @@ fn any_holds<'d>(
 
 /// Whether all of the expressions are true; those after one that is not are not asked.
 #[cycle(filter)]
-fn all_hold<'d>(
-    alloc: Global,
-    parts: &[Expr],
-    root: DocumentValue<'d>,
-    current: DocumentValue<'d>,
+fn all_hold<'q, M: Matching>(
+    evaluation: &Evaluation<'q, M>,
+    last: &mut LastPattern<'q>,
+    parts: &'q [Expr],
+    current: DocumentValue<'q>,
 ) -> Result<bool, AllocError>
-    ensures { IfOk result (λ answer. answer
-        ≡ all_true (exprs (map expr_of parts.now)) (lent_value root.entry) (lent_value current.entry)) }
+    ensures { IfOk result (λ answer. answer ≡ all_true (exprs (map expr_of parts.now))
+        (lent_value evaluation.now.root) (lent_value current.entry)) }
 {
     for part in parts {
-        if !holds(alloc, part, root, current)? {
+        if !holds(evaluation, last, part, current)? {
             return Ok(false);
         }
     }
@@ -117,15 +115,34 @@ fn all_hold<'d>(
 
 /// Whether a query selects a node; the walk ends at the first.
 #[cycle(filter)]
-fn selects_some<'d>(
-    alloc: Global,
-    query: &Query,
-    root: DocumentValue<'d>,
-    current: DocumentValue<'d>,
+fn selects_some<'q, M: Matching>(
+    evaluation: &Evaluation<'q, M>,
+    last: &mut LastPattern<'q>,
+    query: &'q Query,
+    current: DocumentValue<'q>,
 ) -> Result<bool, AllocError>
-    ensures { IfOk result (λ answer. answer
-        ≡ leads (query_of query.now) (lent_value root.entry) (lent_value current.entry)) }
+    ensures { IfOk result (λ answer. answer ≡ is_reached (query_reaches (query_of query.now)
+        (lent_value evaluation.now.root) (lent_value current.entry))) }
 {
-    let mut walk = Walk::from(alloc, start(query, root, current));
-    Ok(advance(alloc, &query.segments, root, &mut walk)?.is_some())
+    let mut walk = Walk::from(evaluation.alloc, start(query, evaluation.root, current));
+    Ok(advance(evaluation, last, &query.segments, &mut walk)?.is_some())
+}
+
+/// The value of a side of a comparison (RFC 9535 section 2.3.5.2.2): of a literal, of the node that a
+/// singular query selects, or what a function answers; Nothing where there is none. It copies nothing.
+#[cycle(filter)]
+fn operand_value<'q, M: Matching>(
+    evaluation: &Evaluation<'q, M>,
+    last: &mut LastPattern<'q>,
+    operand: &'q Operand,
+    current: DocumentValue<'q>,
+) -> Result<Comparable<'q>, AllocError>
+    ensures { IfOk result (λ value. comparable_of value ≡ side (operand_of operand.now)
+        (lent_value evaluation.now.root) (lent_value current.entry)) }
+{
+    match operand {
+        Operand::Literal(literal) => Ok(literal_value(literal)),
+        Operand::Query(query) => Ok(comparable(node_value(query, evaluation.root, current))),
+        Operand::Call(call) => call_value(evaluation, last, call, current),
+    }
 }

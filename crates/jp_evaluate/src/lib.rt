@@ -3,22 +3,26 @@
 //! ```text
 //! let document = Document::read(alloc, b"[{\"a\":1},{\"a\":2}]")?;
 //! let query = read_query(alloc, "$..a")?;
-//! evaluate(alloc, &document, &query)?;          // $[0]['a'] $[1]['a']
-//! nodes(alloc, &document, &query).next();       // $[0]['a']
+//! evaluate(alloc, &document, &query, &Marks)?;      // $[0]['a'] $[1]['a']
+//! nodes(alloc, &document, &query, &Marks).next();   // $[0]['a']
 //! ```
 //!
-//! The contract for the crates above: `nodes` gives the document's own nodes at the locations of
-//! the query's nodelist, by `specs/Nodelist.antt`, in order and with repeats, one at a time, and
-//! `evaluate` collects them. By `laws` the normalized path of a node of a document, read as a
-//! query, selects that node alone, a query selects nodes of the document alone, and a singular one
-//! at most one.
+//! The contract for the crates above: `nodes` gives the document's own nodes at the locations of the
+//! query's nodelist, by `specs/Nodelist.antt` and, for what functions answer, `specs/Functions.antt`,
+//! in order and with repeats, one at a time, and `evaluate` collects them. By `laws` the normalized
+//! path of a node of a document, read as a query, selects that node alone, a query selects nodes of
+//! the document alone, and a singular one at most one.
 #![tactic(auto)]
 
+mod calls;
 mod each;
+mod evaluating;
 mod evaluation;
 mod filter;
 pub mod laws;
+mod length;
 mod operand;
+mod pattern;
 mod singular;
 #[cfg(test)]
 mod tests;

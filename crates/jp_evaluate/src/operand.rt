@@ -1,36 +1,17 @@
-//! The sides of comparisons (RFC 9535 section 2.3.5.2.2).
-ghost use Rattle.std.specs.Prelude.{◌≡◌};
+//! The values of literals (RFC 9535 section 2.3.5.1).
+ghost use Rattle.std.specs.Prelude.{◌≡◌, Some, option_map, pos};
 ghost use Rattle.jp_document.specs.DocumentValue.{lent_value};
-ghost use Rattle.jp_query.specs.Tree.{literal_of, operand_of};
+ghost use Rattle.jp_document.specs.Value.{whole};
+ghost use Rattle.jp_query.specs.Tree.{literal_of};
 ghost use Rattle.jp_select.specs.Comparable.{comparable_of};
 ghost use Rattle.jp_evaluate.specs.Nodelist.{literal_value};
-ghost use Rattle.jp_evaluate.specs.Private.Reached.{side};
 
-use crate::singular::node_value;
 use jp_document::DocumentValue;
-use jp_query::{Literal, Numeral, Operand};
+use jp_query::{Literal, Numeral};
 use jp_select::Comparable;
 
-/// The value of a side: of a literal, or of the node that a singular query selects; Nothing where
-/// it selects none. It takes no memory, and copies nothing.
-pub(crate) fn operand_value<'a>(
-    operand: &'a Operand,
-    root: DocumentValue<'a>,
-    current: DocumentValue<'a>,
-) -> Comparable<'a>
-    ensures { comparable_of result
-        ≡ side (operand_of operand.now) (lent_value root.entry) (lent_value current.entry) }
-{
-    match operand {
-        Operand::Literal(literal) => literal_value(literal),
-        Operand::Query(query) => match node_value(query, root, current) {
-            Some(value) => Comparable::of(Some(value.json())),
-            None => Comparable::Nothing,
-        },
-    }
-}
-
-fn literal_value(literal: &Literal) -> Comparable<'_>
+/// The value of a literal; a number that is not whole, or beyond 64 bits, has none.
+pub(crate) fn literal_value(literal: &Literal) -> Comparable<'_>
     ensures { comparable_of result ≡ literal_value (literal_of literal.now) }
 {
     match literal {
@@ -41,4 +22,21 @@ fn literal_value(literal: &Literal) -> Comparable<'_>
         Literal::False => Comparable::Bool(false),
         Literal::Null => Comparable::Null,
     }
+}
+
+/// The side that has this value, or Nothing at None.
+pub(crate) fn comparable(value: Option<DocumentValue<'_>>) -> Comparable<'_>
+    ensures { comparable_of result ≡ option_map lent_value value.entry }
+{
+    match value {
+        Some(value) => Comparable::of(Some(value.json())),
+        None => Comparable::Nothing,
+    }
+}
+
+/// The side that has this number.
+pub(crate) fn whole<'a>(count: u64) -> Comparable<'a>
+    ensures { comparable_of result ≡ Some (whole (pos count)) }
+{
+    Comparable::Whole(count as i128)
 }

@@ -2,8 +2,8 @@
 ghost use Rattle.std.specs.Prelude.{◌≡◌, option_map};
 ghost use Rattle.jp_document.specs.DocumentValue.{lent_value};
 ghost use Rattle.jp_query.specs.declared.tree.Query.{out-Query};
-ghost use Rattle.jp_query.specs.Tree.{node_value as node_value_tree, query_of, segment_of};
-ghost use Rattle.jp_evaluate.specs.Private.Reached.{begins, side};
+ghost use Rattle.jp_query.specs.Tree.{query_of, segment_of};
+ghost use Rattle.jp_evaluate.specs.Private.Reached.{begins, single_side};
 ghost use Rattle.jp_evaluate.specs.Private.Singular.{single_value};
 
 use jp_document::DocumentValue;
@@ -17,7 +17,7 @@ pub(crate) fn node_value<'d>(
     root: DocumentValue<'d>,
     current: DocumentValue<'d>,
 ) -> Option<DocumentValue<'d>>
-    ensures { option_map lent_value result ≡ side (node_value_tree (query_of query.now))
+    ensures { option_map lent_value result ≡ single_side (query_of query.now)
         (lent_value root.entry) (lent_value current.entry) }
 {
     let mut value = start(query, root, current);

@@ -2,6 +2,7 @@
 use crate::{evaluate, nodes};
 use jp_check::read_query;
 use jp_document::{Document, path_text};
+use jp_match::Marks;
 use std::alloc::Global;
 use std::test::Fail;
 
@@ -12,7 +13,7 @@ fn nodelist(alloc: Global, bytes: &[u8], query: &str) -> Result<String, Fail> {
     let query = read_query(alloc, query).ok().ok_or("refused")?;
     let document = Document::read(alloc, bytes)?;
     let mut paths = String::new(alloc);
-    for node in &evaluate(alloc, &document, &query)? {
+    for node in &evaluate(alloc, &document, &query, &Marks)? {
         paths.push_str(" ")?;
         paths.push_str(path_text(alloc, node.location())?.as_str())?;
     }
@@ -92,7 +93,7 @@ fn nodes_one_at_a_time(rt: HostRuntime) -> Result<(), Fail> {
     let alloc = rt.alloc();
     let document = Document::read(alloc, NESTED)?;
     let query = read_query(alloc, "$..*").ok().ok_or("refused")?;
-    let mut some = nodes(alloc, &document, &query);
+    let mut some = nodes(alloc, &document, &query, &Marks);
     for path in ["$['a']", "$['o']", "$['a'][0]"] {
         let node = some.next().ok_or("no node")??;
         assert_eq!(rt; path_text(alloc, node.location())?.as_str(), path);
@@ -101,7 +102,7 @@ fn nodes_one_at_a_time(rt: HostRuntime) -> Result<(), Fail> {
     assert_eq!(rt; nodelist(alloc, NESTED, "$.o.k")?.as_str(), " $['o']['k']");
     let document = Document::read(alloc, b"[{}]")?;
     let query = read_query(alloc, "$[?@.x]").ok().ok_or("refused")?;
-    let mut none = nodes(alloc, &document, &query);
+    let mut none = nodes(alloc, &document, &query, &Marks);
     assert!(rt; none.next().is_none() && none.next().is_none() && !none.failed());
     Ok(())
 }

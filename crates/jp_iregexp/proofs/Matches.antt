@@ -1,4 +1,5 @@
--- The tests tell exactly the matches.
+-- The tests of membership tell exactly the matches of texts with patterns that are texts: for the
+-- law `tested_matches`.
 use Rattle.std.proofs.Common.{◌≡◌, ◌↔◌, Bool, true, Option, Some, None, refl, ap, ◌∙◌}
 use Rattle.jp_reading.specs.Texts.{Text}
 use Rattle.jp_iregexp.specs.Grammar.{SpellsPattern}
@@ -17,27 +18,27 @@ passed_by test None h = cc
 passed_by test (Some a) h = (a, refl, h)
 
 -- a pattern that a text spells, and of which a fact holds
-abbrev Spelt : (Tree → Type 0) → Text → Type 0
-Spelt Holds pattern = (a : Tree) × SpellsPattern group_limit a pattern × Holds a
+abbrev HasPattern : (Tree → Type 0) → Text → Type 0
+HasPattern Holds pattern = (a : Tree) × SpellsPattern group_limit a pattern × Holds a
 
 module _ (test : Tree → Bool) (Holds : Tree → Type 0) (tells : (a : Tree) → test a ≡ true ↔ Holds a)
     (pattern : Text) where
-  to_spelt : is_passing test (pattern_of pattern) ≡ true → Spelt Holds pattern
-  to_spelt h =
+  has_pattern : is_passing test (pattern_of pattern) ≡ true → HasPattern Holds pattern
+  has_pattern h =
       let (a, found, passes) = passed_by test (pattern_of pattern) h in
       (a, (spelt_is_found pattern a).0 found, (tells a).0 passes)
 
-  of_spelt : Spelt Holds pattern → is_passing test (pattern_of pattern) ≡ true
-  of_spelt (a, conforms, holds) =
+  passes_pattern : HasPattern Holds pattern → is_passing test (pattern_of pattern) ≡ true
+  passes_pattern (a, conforms, holds) =
       ap (is_passing test) ((spelt_is_found pattern a).1 conforms) ∙ (tells a).1 holds
 
-  spelt_told : is_passing test (pattern_of pattern) ≡ true ↔ Spelt Holds pattern
-  spelt_told = (to_spelt, of_spelt)
+  pattern_told : is_passing test (pattern_of pattern) ≡ true ↔ HasPattern Holds pattern
+  pattern_told = (has_pattern, passes_pattern)
 
 pub matches_are_tested : MatchesAreTested
 unfolding is_match
 matches_are_tested text pattern =
-    let told = spelt_told _ _ (λ a. words_are_tested a text) pattern in (
+    let told = pattern_told _ _ (λ a. words_are_tested a text) pattern in (
       λ h. let (a, spelt, word) = told.0 h in record { tree = a; conforms = spelt; holds = word },
       λ m. told.1 (m.tree, m.conforms, m.holds),
     )
@@ -45,7 +46,7 @@ matches_are_tested text pattern =
 pub part_matches_are_tested : PartMatchesAreTested
 unfolding has_match
 part_matches_are_tested text pattern =
-    let told = spelt_told _ _ (λ a. parts_are_tested a text) pattern in (
+    let told = pattern_told _ _ (λ a. parts_are_tested a text) pattern in (
       λ h. let (a, spelt, part) = told.0 h in record { tree = a; conforms = spelt; holds = part },
       λ m. told.1 (m.tree, m.conforms, m.holds),
     )

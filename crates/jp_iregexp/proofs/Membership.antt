@@ -1,10 +1,12 @@
--- The tests of membership tell exactly the words of a pattern, and the texts that have one.
+-- The tests of membership tell exactly the words of a pattern, and the texts that have one: for the
+-- law `tested_words`, and for the matchers.
 use Rattle.std.proofs.Common.{◌≡◌, ◌⊎◌, inl, inr, refl, sym, ap, ◌∙◌, subst, arith}
 use Rattle.std.proofs.Common.{ℕ, zero, suc, ◌+◌, ◌-◌, ◌<◌, ◌≤◌, Bool, true, false, ◌&&◌, ◌||◌}
 use Rattle.std.proofs.Common.{List, [], ◌∷◌, ◌++◌, length, take, drop, Option, Some, None}
 use Rattle.std.specs.Prelude.{⊤}
 use Rattle.std.specs.List.{list_any, range_with_len}
-use Rattle.std.proofs.lemmas.Bool.{or_cases, and_from, or_left, or_right, leb-true, le-leb}
+use Rattle.std.proofs.lemmas.Bool.{and_parts, or_cases, and_from}
+use Rattle.std.proofs.lemmas.Bool.{or_left, or_right, leb-true, le-leb}
 use Rattle.std.proofs.lemmas.Bool.{cases_eq, cases_lt}
 use Rattle.std.proofs.lemmas.List.{take-append-drop, take_at, drop_at, length-append}
 use Rattle.jp_iregexp.specs.Class.{class_holds}
@@ -14,7 +16,6 @@ use Rattle.jp_iregexp.specs.Membership.{is_repeat, is_word, has_word}
 use Rattle.jp_iregexp.specs.Membership.{WordsAreTested, PartsAreTested}
 use Rattle.jp_iregexp.specs.Part.{HasPart}
 use Rattle.jp_iregexp.specs.Tree.{Tree, class, nothing, either, empty, sequence, repeat}
-use Rattle.jp_iregexp.proofs.CodeLemmas.{both}
 
 -- ---- a number of a run that passes
 
@@ -95,7 +96,7 @@ module _ (f g : List ℕ → Bool) (A B : List ℕ → Type 0) (one : Tells f A)
   cut_found : (word : List ℕ) → is_concatenation f g word ≡ true → Concatenation A B word
   cut_found word h =
       let (k, from, here) = passing (cut_passes word) 0 (length word + 1) h in
-      let sides = both (f (take k word)) (g (drop k word)) here in
+      let sides = and_parts (f (take k word)) (g (drop k word)) here in
       record {
         front = take k word;
         back = drop k word;
@@ -182,7 +183,7 @@ module _ (f : List ℕ → Bool) (A : List ℕ → Type 0) (told : Tells f A) wh
     count_found : (word : List ℕ) → is_repeat f least most word ≡ true → Repeated word
     count_found word h =
         let (k, from, here) = passing (count_passes word) least (length word + 1) h in
-        let sides = both (is_at_most most k) (is_power f k word) here in
+        let sides = and_parts (is_at_most most k) (is_power f k word) here in
         (k, from, at_most_from most k sides.0, (power_told k).sound word sides.1)
 
     count_passed : (word : List ℕ) (k : ℕ) → least ≤ k → k < least + (length word + 1) →

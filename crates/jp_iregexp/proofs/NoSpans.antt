@@ -1,26 +1,33 @@
--- A pattern has no items, so its text has no spans.
+-- A pattern has no items, so its text has no spans: for whole texts.
 use Rattle.std.proofs.Common.{◌≡◌, ℕ, List, [], Option, Bool, zero, suc}
 use Rattle.jp_reading.specs.Texts.{Text, Spans}
-use Rattle.jp_reading.proofs.Bare.{Bare, bare-word, bare-one, bare-joined, bare-each, bare-separated}
+use Rattle.jp_reading.proofs.Bare.{Bare, bare-word, bare-one, bare-joined}
+use Rattle.jp_reading.proofs.Bare.{bare-each, bare-separated}
 use Rattle.jp_reading.specs.Forms.{Form, One, Each}
 use Rattle.jp_iregexp.specs.declared.class.ClassItem.{ClassItem}
 use Rattle.jp_iregexp.specs.Characters.{Character, itself, escaped}
 use Rattle.jp_iregexp.specs.Tree.{Tree}
 use Rattle.jp_iregexp.specs.Grammar as grammar
-use Rattle.jp_iregexp.specs.Grammar.{ClassEscape, Hyphen, Element, First, Last, Items, Class, Number, Most, Quantifier, Atom, Piece, Branch, Branches, Inside}
+use Rattle.jp_iregexp.specs.Grammar.{ClassEscape, Hyphen, Element, First, Last}
+use Rattle.jp_iregexp.specs.Grammar.{Items, Class, Number, Most, Quantifier}
+use Rattle.jp_iregexp.specs.Grammar.{Atom, Piece, Branch, Branches, Inside}
 
 bare-character : (plain : ℕ → Bool) (c : ℕ) → Bare (Character plain c)
 bare-character plain c s o t (itself h) = h.none
-bare-character plain c s o t (escaped e is h) = bare-joined _ (One _ e) (bare-word _) (bare-one _ e) s o t h
+bare-character plain c s o t (escaped e is h) =
+    bare-joined _ (One _ e) (bare-word _) (bare-one _ e) s o t h
 
 bare-escape : (x : ClassItem) → Bare (ClassEscape x)
-bare-escape x s o t (grammar.within k e h) = bare-joined _ _ (bare-word _) (bare-joined _ _ (bare-word _) (bare-word _)) s o t h
-bare-escape x s o t (grammar.outside k e h) = bare-joined _ _ (bare-word _) (bare-joined _ _ (bare-word _) (bare-word _)) s o t h
+bare-escape x s o t (grammar.within k e h) =
+    bare-joined _ _ (bare-word _) (bare-joined _ _ (bare-word _) (bare-word _)) s o t h
+bare-escape x s o t (grammar.outside k e h) =
+    bare-joined _ _ (bare-word _) (bare-joined _ _ (bare-word _) (bare-word _)) s o t h
 
 bare-element : (x : ClassItem) → Bare (Element x)
 bare-element x s o t (grammar.single c e h) = bare-character _ c s o t h
 bare-element x s o t (grammar.range c d e order h) =
-    bare-joined _ _ (bare-character _ c) (bare-joined _ _ (bare-word _) (bare-character _ d)) s o t h
+    bare-joined _ _ (bare-character _ c) (bare-joined _ _ (bare-word _) (bare-character _ d))
+    s o t h
 bare-element x s o t (grammar.class_escape h) = bare-escape x s o t h
 
 bare-first : (x : ClassItem) → Bare (First x)
@@ -33,12 +40,16 @@ bare-last xs s o t (grammar.last_hyphen x e h) = h.is.none
 
 bare-items : (xs : List ClassItem) → Bare (Items xs)
 bare-items xs s o t h =
-    bare-joined (First h.first) _ (bare-first h.first) (bare-joined (Each Element h.others) (Last h.last) (bare-each Element bare-element h.others) (bare-last h.last)) s o t h.is
+    bare-joined (First h.first) _ (bare-first h.first)
+    (bare-joined (Each Element h.others) (Last h.last) (bare-each Element bare-element h.others)
+    (bare-last h.last)) s o t h.is
 
 bare-class : (x : Tree) → Bare (Class x)
 bare-class x s o t (grammar.plain xs e h) =
-    bare-joined _ _ (bare-word _) (bare-joined _ _ (λ s o t g. bare-items xs s o t g.is) (bare-word _)) s o t h
-bare-class x s o t (grammar.negated xs e h) = bare-joined _ _ (bare-word _) (bare-joined _ _ (bare-items xs) (bare-word _)) s o t h
+    bare-joined _ _ (bare-word _)
+    (bare-joined _ _ (λ s o t g. bare-items xs s o t g.is) (bare-word _)) s o t h
+bare-class x s o t (grammar.negated xs e h) =
+    bare-joined _ _ (bare-word _) (bare-joined _ _ (bare-items xs) (bare-word _)) s o t h
 
 bare-number : (n : ℕ) → Bare (Number n)
 bare-number n s o t h = h.is.none
@@ -53,7 +64,8 @@ bare-quantifier n m s o t (grammar.any e f h) = h.none
 bare-quantifier n m s o t (grammar.some e f h) = h.none
 bare-quantifier n m s o t (grammar.optional e f h) = h.none
 bare-quantifier n m s o t (grammar.braces h) =
-    bare-joined _ _ (bare-word _) (bare-joined _ _ (bare-number n) (bare-joined _ _ (bare-most n m) (bare-word _))) s o t h
+    bare-joined _ _ (bare-word _)
+    (bare-joined _ _ (bare-number n) (bare-joined _ _ (bare-most n m) (bare-word _))) s o t h
 
 module _ (Group : Tree → Form) (bare : (x : Tree) → Bare (Group x)) where
   bare-atom : (x : Tree) → Bare (Atom Group x)
@@ -61,22 +73,26 @@ module _ (Group : Tree → Form) (bare : (x : Tree) → Bare (Group x)) where
   bare-atom x s o t (grammar.anything e h) = h.none
   bare-atom x s o t (grammar.category i e h) = bare-escape i s o t h
   bare-atom x s o t (grammar.brackets h) = bare-class x s o t h
-  bare-atom x s o t (grammar.group h) = bare-joined _ _ (bare-word _) (bare-joined _ _ (bare x) (bare-word _)) s o t h
+  bare-atom x s o t (grammar.group h) =
+      bare-joined _ _ (bare-word _) (bare-joined _ _ (bare x) (bare-word _)) s o t h
 
   bare-piece : (x : Tree) → Bare (Piece Group x)
   bare-piece x s o t (grammar.once h) = bare-atom x s o t h
-  bare-piece x s o t (grammar.repeated a least most e h) = bare-joined _ _ (bare-atom a) (bare-quantifier least most) s o t h
+  bare-piece x s o t (grammar.repeated a least most e h) =
+      bare-joined _ _ (bare-atom a) (bare-quantifier least most) s o t h
 
   bare-branch : (x : Tree) → Bare (Branch Group x)
   bare-branch x s o t h = bare-each (Piece Group) bare-piece h.parts s o t h.is
 
   bare-branches : (x : Tree) → Bare (Branches Group x)
-  bare-branches x s o t h = bare-separated _ (Branch Group) (bare-word _) bare-branch h.parts s o t h.is
+  bare-branches x s o t h =
+      bare-separated _ (Branch Group) (bare-word _) bare-branch h.parts s o t h.is
 
 bare-inside : (n : ℕ) (x : Tree) → Bare (Inside n x)
 bare-inside zero x s o t h = elim h [ ]
 bare-inside (suc n) x s o t h = bare-branches (Inside n) (bare-inside n) x s o t h
 
 -- the spans of a pattern
-pub no-spans : (n : ℕ) (x : Tree) (s : Spans) (o : ℕ) (t : Text) → Branches (Inside n) x s o t → s ≡ []
+pub no-spans : (n : ℕ) (x : Tree) (s : Spans) (o : ℕ) (t : Text) → Branches (Inside n) x s o t →
+    s ≡ []
 no-spans n x s o t h = bare-branches (Inside n) (bare-inside n) x s o t h

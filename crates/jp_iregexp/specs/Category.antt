@@ -1,15 +1,47 @@
--- The general categories that a code stands for, and the characters that it holds (RFC 9485 section 3, charProp).
+-- The general categories that a code stands for, and the characters that it holds (RFC 9485 section
+-- 3, charProp).
 use Rattle.std.specs.Prelude.{ℕ, Bool}
 use Rattle.unicode.specs.GeneralCategory.{general_category, general_category_eq}
 use Rattle.unicode.specs.GeneralCategoryGroup.{in_group}
 use Rattle.unicode.specs.declared.properties.GeneralCategory.{GeneralCategory}
-use Rattle.unicode.specs.declared.properties.GeneralCategory.TheVariants.{LowercaseLetter, ModifierLetter, OtherLetter, TitlecaseLetter, UppercaseLetter, SpacingMark, EnclosingMark, NonspacingMark, DecimalNumber, LetterNumber, OtherNumber, ConnectorPunctuation, DashPunctuation, ClosePunctuation, FinalPunctuation, InitialPunctuation, OtherPunctuation, OpenPunctuation, LineSeparator, ParagraphSeparator, SpaceSeparator, CurrencySymbol, ModifierSymbol, MathSymbol, OtherSymbol, Control, Format, Unassigned, PrivateUse}
-use Rattle.unicode.specs.declared.properties.GeneralCategoryGroup.TheVariants.{Letter, Mark, Number, Punctuation, Separator, Symbol, Other}
+use Rattle.unicode.specs.declared.properties.GeneralCategory.TheVariants.{LowercaseLetter}
+use Rattle.unicode.specs.declared.properties.GeneralCategory.TheVariants.{ModifierLetter}
+use Rattle.unicode.specs.declared.properties.GeneralCategory.TheVariants.{OtherLetter}
+use Rattle.unicode.specs.declared.properties.GeneralCategory.TheVariants.{TitlecaseLetter}
+use Rattle.unicode.specs.declared.properties.GeneralCategory.TheVariants.{UppercaseLetter}
+use Rattle.unicode.specs.declared.properties.GeneralCategory.TheVariants.{SpacingMark}
+use Rattle.unicode.specs.declared.properties.GeneralCategory.TheVariants.{EnclosingMark}
+use Rattle.unicode.specs.declared.properties.GeneralCategory.TheVariants.{NonspacingMark}
+use Rattle.unicode.specs.declared.properties.GeneralCategory.TheVariants.{DecimalNumber}
+use Rattle.unicode.specs.declared.properties.GeneralCategory.TheVariants.{LetterNumber, OtherNumber}
+use Rattle.unicode.specs.declared.properties.GeneralCategory.TheVariants.{ConnectorPunctuation}
+use Rattle.unicode.specs.declared.properties.GeneralCategory.TheVariants.{DashPunctuation}
+use Rattle.unicode.specs.declared.properties.GeneralCategory.TheVariants.{ClosePunctuation}
+use Rattle.unicode.specs.declared.properties.GeneralCategory.TheVariants.{FinalPunctuation}
+use Rattle.unicode.specs.declared.properties.GeneralCategory.TheVariants.{InitialPunctuation}
+use Rattle.unicode.specs.declared.properties.GeneralCategory.TheVariants.{OtherPunctuation}
+use Rattle.unicode.specs.declared.properties.GeneralCategory.TheVariants.{OpenPunctuation}
+use Rattle.unicode.specs.declared.properties.GeneralCategory.TheVariants.{LineSeparator}
+use Rattle.unicode.specs.declared.properties.GeneralCategory.TheVariants.{ParagraphSeparator}
+use Rattle.unicode.specs.declared.properties.GeneralCategory.TheVariants.{SpaceSeparator}
+use Rattle.unicode.specs.declared.properties.GeneralCategory.TheVariants.{CurrencySymbol}
+use Rattle.unicode.specs.declared.properties.GeneralCategory.TheVariants.{ModifierSymbol}
+use Rattle.unicode.specs.declared.properties.GeneralCategory.TheVariants.{MathSymbol, OtherSymbol}
+use Rattle.unicode.specs.declared.properties.GeneralCategory.TheVariants.{Control, Format}
+use Rattle.unicode.specs.declared.properties.GeneralCategory.TheVariants.{Unassigned, PrivateUse}
+use Rattle.unicode.specs.declared.properties.GeneralCategoryGroup.TheVariants.{Letter, Mark}
+use Rattle.unicode.specs.declared.properties.GeneralCategoryGroup.TheVariants.{Number, Punctuation}
+use Rattle.unicode.specs.declared.properties.GeneralCategoryGroup.TheVariants.{Separator, Symbol}
+use Rattle.unicode.specs.declared.properties.GeneralCategoryGroup.TheVariants.{Other}
 use Rattle.jp_iregexp.specs.declared.category.Category.{Category}
-use Rattle.jp_iregexp.specs.declared.category.Category.TheVariants.{L, Ll, Lm, Lo, Lt, Lu, M, Mc, Me, Mn, N, Nd, Nl, No, P, Pc, Pd, Pe, Pf, Pi, Po, Ps, Z, Zl, Zp, Zs, S, Sc, Sk, Sm, So, C, Cc, Cf, Cn, Co}
+use Rattle.jp_iregexp.specs.declared.category.Category.TheVariants.{L, Ll, Lm, Lo, Lt, Lu, M, Mc}
+use Rattle.jp_iregexp.specs.declared.category.Category.TheVariants.{Me, Mn, N, Nd, Nl, No, P, Pc}
+use Rattle.jp_iregexp.specs.declared.category.Category.TheVariants.{Pd, Pe, Pf, Pi, Po, Ps, Z}
+use Rattle.jp_iregexp.specs.declared.category.Category.TheVariants.{Zl, Zp, Zs, S, Sc, Sk, Sm}
+use Rattle.jp_iregexp.specs.declared.category.Category.TheVariants.{So, C, Cc, Cf, Cn, Co}
 
--- whether a code stands for a general category: two letters for the one of that name, one letter for
--- all whose names begin with it (RFC 9485 section 3, charProp)
+-- whether a code stands for a general category: two letters for the one of that name, one letter
+-- for all whose names begin with it (RFC 9485 section 3, charProp)
 unfoldable pub stands_for : Category → GeneralCategory → Bool
 stands_for L g = in_group Letter g
 stands_for Ll g = general_category_eq g LowercaseLetter

@@ -20,11 +20,13 @@ is_plain c = not (is_among (codes "-[\\]") c)
 unfoldable pub is_escaped : ℕ → Bool
 is_escaped e = is_among (codes "()*+-.?[\\]^nrt{|}") e
 
--- what it stands for there: n, r and t for line feed, carriage return and tab, each other for itself
+-- what it stands for there: n, r and t for line feed, carriage return and tab, each other for
+-- itself
 unfoldable pub meant : ℕ → ℕ
 meant e = if e == 110 then 10 else (if e == 114 then 13 else (if e == 116 then 9 else e))
 
--- SingleCharEsc: `\` and the character e after it, which stand for what `meant` says (RFC 9485 section 3)
+-- SingleCharEsc: `\` and the character e after it, which stand for what `meant` says (RFC 9485
+-- section 3)
 abbrev pub SingleEscape : ℕ → Form
 SingleEscape e = word (codes "\\") ⌢ One is_escaped e
 

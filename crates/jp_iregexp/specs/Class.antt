@@ -10,8 +10,8 @@ abbrev pub negated_if : Bool → Bool → Bool
 negated_if true b = not b
 negated_if false b = b
 
--- the characters of an item: those from the first to the last, or those of a category, negated those
--- outside it (RFC 9485 section 3, CCE1 and charClassEsc)
+-- the characters of an item: those from the first to the last, or those of a category, negated
+-- those outside it (RFC 9485 section 3, CCE1 and charClassEsc)
 unfoldable pub item_holds : ℕ → ClassItem → Bool
 item_holds c (Range first last) = nat_le first c && nat_le c last
 item_holds c (Category code negated) = negated_if negated (in_category code c)

@@ -2,7 +2,11 @@
 use Rattle.std.specs.Prelude.{codes}
 use Rattle.jp_reading.specs.Texts.{Text}
 use Rattle.jp_iregexp.specs.declared.category.Category.{Category}
-use Rattle.jp_iregexp.specs.declared.category.Category.TheVariants.{L, Ll, Lm, Lo, Lt, Lu, M, Mc, Me, Mn, N, Nd, Nl, No, P, Pc, Pd, Pe, Pf, Pi, Po, Ps, Z, Zl, Zp, Zs, S, Sc, Sk, Sm, So, C, Cc, Cf, Cn, Co}
+use Rattle.jp_iregexp.specs.declared.category.Category.TheVariants.{L, Ll, Lm, Lo, Lt, Lu, M, Mc}
+use Rattle.jp_iregexp.specs.declared.category.Category.TheVariants.{Me, Mn, N, Nd, Nl, No, P, Pc}
+use Rattle.jp_iregexp.specs.declared.category.Category.TheVariants.{Pd, Pe, Pf, Pi, Po, Ps, Z}
+use Rattle.jp_iregexp.specs.declared.category.Category.TheVariants.{Zl, Zp, Zs, S, Sc, Sk, Sm}
+use Rattle.jp_iregexp.specs.declared.category.Category.TheVariants.{So, C, Cc, Cf, Cn, Co}
 
 -- the letters of a code
 unfoldable pub letters : Category → Text

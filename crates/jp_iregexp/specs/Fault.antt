@@ -1,4 +1,4 @@
--- The numbers of faults.
+-- The numbers of the reasons why no pattern is read: for `PatternFault`.
 use Rattle.std.specs.Prelude.{ℕ}
 use Rattle.jp_iregexp.specs.declared.fault.PatternFault.{PatternFault}
 use Rattle.jp_iregexp.specs.declared.fault.PatternFault.TheVariants.{NotConforming, NoMemory}

@@ -1,5 +1,6 @@
 -- Which text spells which pattern (RFC 9485 section 3), with at most n groups inside one another.
-use Rattle.std.specs.Prelude.{◌≡◌, ◌≢◌, ℕ, zero, suc, ◌≤◌, true, false, List, [], ◌∷◌, ◌++◌, Option, Some, None, codes}
+use Rattle.std.specs.Prelude.{◌≡◌, ◌≢◌, ℕ, zero, suc, ◌≤◌, true, false, List}
+use Rattle.std.specs.Prelude.{[], ◌∷◌, ◌++◌, Option, Some, None, codes}
 use Rattle.jp_reading.specs.Texts.{Text, Spans}
 use Rattle.jp_reading.specs.Forms.{Form, word, ◌⌢◌, Each, Separated, Never}
 use Rattle.jp_reading.specs.Numbers.{Digits, value_from}
@@ -13,8 +14,10 @@ use Rattle.jp_iregexp.specs.Tree.{Tree, class, repeat, branches, pieces}
 
 -- charClassEsc: catEsc, the characters of a category, or complEsc, all others
 pub data ClassEscape (x : ClassItem) (s : Spans) (o : ℕ) (t : Text) : Type 0 where
-  within : (code : Category) → x ≡ item.Category code false → (word (codes "\\p{") ⌢ word (letters code) ⌢ word (codes "}")) s o t → ClassEscape x s o t
-  outside : (code : Category) → x ≡ item.Category code true → (word (codes "\\P{") ⌢ word (letters code) ⌢ word (codes "}")) s o t → ClassEscape x s o t
+  within : (code : Category) → x ≡ item.Category code false →
+      (word (codes "\\p{") ⌢ word (letters code) ⌢ word (codes "}")) s o t → ClassEscape x s o t
+  outside : (code : Category) → x ≡ item.Category code true →
+      (word (codes "\\P{") ⌢ word (letters code) ⌢ word (codes "}")) s o t → ClassEscape x s o t
 
 -- a `-` that stands for itself
 pub record Hyphen (x : ClassItem) (s : Spans) (o : ℕ) (t : Text) : Type 0 where
@@ -24,7 +27,9 @@ pub record Hyphen (x : ClassItem) (s : Spans) (o : ℕ) (t : Text) : Type 0 wher
 -- CCE1: a character, a range that does not end below its start, or an escape
 pub data Element (x : ClassItem) (s : Spans) (o : ℕ) (t : Text) : Type 0 where
   single : (c : ℕ) → x ≡ item.Range c c → Character is_plain c s o t → Element x s o t
-  range : (first last : ℕ) → x ≡ item.Range first last → first ≤ last → (Character is_plain first ⌢ word (codes "-") ⌢ Character is_plain last) s o t → Element x s o t
+  range : (first last : ℕ) → x ≡ item.Range first last → first ≤ last →
+      (Character is_plain first ⌢ word (codes "-") ⌢ Character is_plain last) s o t →
+      Element x s o t
   class_escape : ClassEscape x s o t → Element x s o t
 
 -- the first item of a class: a `-` may stand there
@@ -52,8 +57,10 @@ pub record NotAtCaret (xs : List ClassItem) (s : Spans) (o : ℕ) (t : Text) : T
 
 -- charClassExpr: `^` right after `[` is always the negation
 pub data Class (x : Tree) (s : Spans) (o : ℕ) (t : Text) : Type 0 where
-  plain : (xs : List ClassItem) → x ≡ class false xs → (word (codes "[") ⌢ NotAtCaret xs ⌢ word (codes "]")) s o t → Class x s o t
-  negated : (xs : List ClassItem) → x ≡ class true xs → (word (codes "[^") ⌢ Items xs ⌢ word (codes "]")) s o t → Class x s o t
+  plain : (xs : List ClassItem) → x ≡ class false xs →
+      (word (codes "[") ⌢ NotAtCaret xs ⌢ word (codes "]")) s o t → Class x s o t
+  negated : (xs : List ClassItem) → x ≡ class true xs →
+      (word (codes "[^") ⌢ Items xs ⌢ word (codes "]")) s o t → Class x s o t
 
 -- QuantExact: a number in base ten, at most 999,999,999; leading zeros are allowed
 pub record Number (n : ℕ) (s : Spans) (o : ℕ) (t : Text) : Type 0 where
@@ -62,18 +69,21 @@ pub record Number (n : ℕ) (s : Spans) (o : ℕ) (t : Text) : Type 0 where
   pub small : n ≤ 999999999
   pub is : Digits digits s o t
 
--- how often at most, behind how often at least: as often, with no upper end, or up to another number
+-- how often at most, behind how often at least: as often, with no upper end, or up to another
+-- number
 pub data Most (least : ℕ) (most : Option ℕ) (s : Spans) (o : ℕ) (t : Text) : Type 0 where
   exactly : most ≡ Some least → word [] s o t → Most least most s o t
   from : most ≡ None → word (codes ",") s o t → Most least most s o t
-  to : (n : ℕ) → most ≡ Some n → least ≤ n → (word (codes ",") ⌢ Number n) s o t → Most least most s o t
+  to : (n : ℕ) → most ≡ Some n → least ≤ n → (word (codes ",") ⌢ Number n) s o t →
+      Most least most s o t
 
 -- quantifier: how often at least, and how often at most or with no upper end
 pub data Quantifier (least : ℕ) (most : Option ℕ) (s : Spans) (o : ℕ) (t : Text) : Type 0 where
   any : least ≡ 0 → most ≡ None → word (codes "*") s o t → Quantifier least most s o t
   some : least ≡ 1 → most ≡ None → word (codes "+") s o t → Quantifier least most s o t
   optional : least ≡ 0 → most ≡ Some 1 → word (codes "?") s o t → Quantifier least most s o t
-  braces : (word (codes "{") ⌢ Number least ⌢ Most least most ⌢ word (codes "}")) s o t → Quantifier least most s o t
+  braces : (word (codes "{") ⌢ Number least ⌢ Most least most ⌢ word (codes "}")) s o t →
+      Quantifier least most s o t
 
 -- the class of one character
 abbrev pub one : ℕ → Tree
@@ -95,7 +105,8 @@ module _ (Group : Tree → Form) where
   -- piece: an atom, with a quantifier a repeat
   pub data Piece (x : Tree) (s : Spans) (o : ℕ) (t : Text) : Type 0 where
     once : Atom x s o t → Piece x s o t
-    repeated : (a : Tree) (least : ℕ) (most : Option ℕ) → x ≡ repeat a least most → (Atom a ⌢ Quantifier least most) s o t → Piece x s o t
+    repeated : (a : Tree) (least : ℕ) (most : Option ℕ) → x ≡ repeat a least most →
+        (Atom a ⌢ Quantifier least most) s o t → Piece x s o t
 
   -- branch: pieces, or none
   pub record Branch (x : Tree) (s : Spans) (o : ℕ) (t : Text) : Type 0 where

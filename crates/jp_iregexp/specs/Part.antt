@@ -1,4 +1,4 @@
--- Parts of a text.
+-- That some part of a text is in a language: for matchers, matches and the laws of membership.
 use Rattle.std.specs.Prelude.{◌≡◌, ℕ, List, ◌++◌}
 
 -- some part of a text is in a language: what comes before it, the part and what comes after it are

@@ -1,4 +1,5 @@
--- How many positions a pattern has: the classes of its text once its counted repeats are written out.
+-- How many positions a pattern has: the classes of its text once its counted repeats are written
+-- out.
 use Rattle.std.specs.Prelude.{ℕ, ◌+◌, ◌*◌, max, Option, Some, None}
 use Rattle.jp_iregexp.specs.Tree.{Tree, class, nothing, either, empty, sequence, repeat}
 

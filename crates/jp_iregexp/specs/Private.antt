@@ -1,3 +1,3 @@
--- Shapes of the code, which private clauses alone cite.
+-- How patterns are read: the functions of states that the contracts of private functions cite.
 pub mod CodeReading
 pub mod Reading

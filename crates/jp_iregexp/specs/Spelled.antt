@@ -1,4 +1,5 @@
--- What a text spells, and what it does not.
+-- That a text spells no pattern, for `read_pattern`, and that none spells two, for the law
+-- `one_pattern`.
 use Rattle.std.specs.Prelude.{◌≡◌, ℕ}
 use Rattle.jp_reading.specs.Texts.{Text}
 use Rattle.jp_iregexp.specs.Tree.{Tree}
@@ -10,4 +11,5 @@ SpellsNone n text = (x : Tree) → SpellsPattern n x text → ⊥
 
 -- no text spells two patterns, however many groups may stand inside one another
 abbrev pub OnePattern : Type 0
-OnePattern = (n m : ℕ) (x y : Tree) (text : Text) → SpellsPattern n x text → SpellsPattern m y text → x ≡ y
+OnePattern =
+    (n m : ℕ) (x y : Tree) (text : Text) → SpellsPattern n x text → SpellsPattern m y text → x ≡ y

@@ -6,8 +6,8 @@ use Rattle.jp_iregexp.specs.declared.pattern.Pattern.TheOpen as one
 use Rattle.jp_iregexp.specs.declared.pattern.Pattern.TheOpen.{Pattern-F}
 use Rattle.jp_iregexp.specs.declared.pattern.Pattern.TheFolds.{fold-Pattern}
 
--- a pattern as a pure tree: a class; no branch, or a branch beside other branches; no piece, or a piece
--- before other pieces; a repeat (RFC 9485 section 3)
+-- a pattern as a pure tree: a class; no branch, or a branch beside other branches; no piece, or a
+-- piece before other pieces; a repeat (RFC 9485 section 3)
 pub data Tree : Type 0 where
   class : Bool → List ClassItem → Tree
   nothing : Tree

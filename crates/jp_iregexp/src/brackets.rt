@@ -4,10 +4,13 @@ ghost use Rattle.std.specs.Prelude.{◌≡◌, IfOk};
 ghost use Rattle.jp_reading.specs.Outcome.{took};
 ghost use Rattle.jp_reading.specs.Views.{Gives, with_front};
 ghost use Rattle.jp_iregexp.specs.Tree.{class};
-ghost use Rattle.jp_iregexp.specs.Private.Reading.{category_at, code_at, second_at, class_at, negation_at, items_at, elements_at, first_at, last_at, hyphen_at, element_at, range_at, is_at_category};
+ghost use Rattle.jp_iregexp.specs.Private.Reading.{category_at, code_at, second_at, class_at};
+ghost use Rattle.jp_iregexp.specs.Private.Reading.{negation_at, items_at, elements_at};
+ghost use Rattle.jp_iregexp.specs.Private.Reading.{first_at, last_at, hyphen_at, element_at};
+ghost use Rattle.jp_iregexp.specs.Private.Reading.{range_at, is_at_category};
 
 use crate::category::Category;
-use crate::characters::{Characters, character, is_at, take};
+use crate::characters::{Characters, character};
 use crate::class::{CharClass, ClassItem};
 use jp_reading::{Reader, Stop};
 use std::alloc::AllocError;
@@ -17,7 +20,7 @@ use std::alloc::AllocError;
 pub(crate) fn category(reader: &mut Reader) -> Result<ClassItem, Stop>
     ensures { Gives (λ x. x) result reader.new (category_at reader.old) }
 {
-    let sign = take(reader, Characters::CategorySign)?;
+    let sign = reader.take_one_of(Characters::CategorySign)?;
     reader.expect('{')?;
     let code = code(reader)?;
     reader.expect('}')?;
@@ -32,7 +35,7 @@ pub(crate) fn category(reader: &mut Reader) -> Result<ClassItem, Stop>
 fn code(reader: &mut Reader) -> Result<Category, Stop>
     ensures { Gives (λ x. x) result reader.new (code_at reader.old) }
 {
-    let first = take(reader, Characters::Letter)?;
+    let first = reader.take_one_of(Characters::Letter)?;
     let second = second_letter(reader)?;
     match Category::of_letters(first, second) {
         Some(code) => Ok(code),
@@ -46,7 +49,7 @@ fn second_letter(reader: &mut Reader) -> Result<Option<char>, Stop>
     if reader.is_at('}') {
         return Ok(None);
     }
-    let letter = take(reader, Characters::Letter)?;
+    let letter = reader.take_one_of(Characters::Letter)?;
     Ok(Some(letter))
 }
 
@@ -87,9 +90,10 @@ fn items(reader: &mut Reader) -> Result<Vec<ClassItem>, Stop>
 
 /// These items, and item after item as long as another begins.
 fn elements(reader: &mut Reader, mut items: Vec<ClassItem>) -> Result<Vec<ClassItem>, Stop>
-    ensures { Gives (λ v. v.items) result reader.new (with_front items.items (elements_at reader.old)) }
+    ensures { Gives (λ v. v.items) result reader.new
+        (with_front items.items (elements_at reader.old)) }
 {
-    'elements: while is_at(reader, Characters::Element) {
+    'elements: while reader.is_at_one_of(Characters::Element) {
         let next = element(reader)?;
         items.push(next).map_err(AllocError::from)?;
     }

@@ -4,10 +4,12 @@ ghost use Rattle.std.specs.Prelude.{◌≡◌, [], ◌∷◌, false, IfOk};
 ghost use Rattle.jp_reading.specs.Views.{Gives};
 ghost use Rattle.jp_iregexp.specs.Tree.{tree, class};
 ghost use Rattle.jp_iregexp.specs.Grammar.{one, dot};
-ghost use Rattle.jp_iregexp.specs.Private.Reading.{inside_at, branches_at, next_branch_at, branch_at, piece_at, atom_at, group_at, escape_at, pattern_at};
+ghost use Rattle.jp_iregexp.specs.Private.Reading.{inside_at, branches_at, next_branch_at};
+ghost use Rattle.jp_iregexp.specs.Private.Reading.{branch_at, piece_at, atom_at, group_at};
+ghost use Rattle.jp_iregexp.specs.Private.Reading.{escape_at, pattern_at};
 
 use crate::brackets::{category, class};
-use crate::characters::{Characters, escaped, is_at, take};
+use crate::characters::{Characters, escaped};
 use crate::class::{CharClass, ClassItem};
 use crate::pattern::Pattern;
 use crate::quantifiers::quantifier;
@@ -58,7 +60,7 @@ fn branch(reader: &mut Reader, groups: u32) -> Result<Pattern, Stop>
     ensures { Gives tree result reader.new (branch_at (inside_at groups) reader.old) }
 {
     let mut pieces = Vec::new(reader.alloc());
-    'pieces: while is_at(reader, Characters::Piece) {
+    'pieces: while reader.is_at_one_of(Characters::Piece) {
         let next = piece(reader, groups)?;
         pieces.push(next).map_err(AllocError::from)?;
     }
@@ -72,7 +74,7 @@ fn piece(reader: &mut Reader, groups: u32) -> Result<Pattern, Stop>
     ensures { Gives tree result reader.new (piece_at (inside_at groups) reader.old) }
 {
     let inner = atom(reader, groups)?;
-    if !is_at(reader, Characters::Quantifier) {
+    if !reader.is_at_one_of(Characters::Quantifier) {
         return Ok(inner);
     }
     let count = quantifier(reader)?;
@@ -102,7 +104,7 @@ fn atom(reader: &mut Reader, groups: u32) -> Result<Pattern, Stop>
             escape(reader)
         },
         _ => {
-            let c = take(reader, Characters::Normal)?;
+            let c = reader.take_one_of(Characters::Normal)?;
             Ok(one(reader.alloc(), c)?)
         },
     }
@@ -128,7 +130,7 @@ fn group(reader: &mut Reader, groups: u32) -> Result<Pattern, Stop>
 fn escape(reader: &mut Reader) -> Result<Pattern, Stop>
     ensures { Gives tree result reader.new (escape_at reader.old) }
 {
-    if is_at(reader, Characters::CategorySign) {
+    if reader.is_at_one_of(Characters::CategorySign) {
         let item = category(reader)?;
         return Ok(plain(reader.alloc(), item)?);
     }

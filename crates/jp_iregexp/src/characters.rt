@@ -1,12 +1,11 @@
 //! The characters of patterns, alone and after `\` (RFC 9485, section 3).
 
 ghost use Rattle.std.specs.Prelude.{◌≡◌};
-ghost use Rattle.jp_reading.specs.Outcome.{passes, head, take_if};
 ghost use Rattle.jp_reading.specs.Views.{Gives};
 ghost use Rattle.jp_iregexp.specs.Characters.{is_normal, is_plain, is_escaped, meant};
 ghost use Rattle.jp_iregexp.specs.Private.Reading.{is_one_of, escaped_at, character_at};
 
-use jp_reading::{Reader, Stop};
+use jp_reading::{CharacterClass, Reader, Stop};
 
 /// The characters that may stand at a place of a pattern.
 #[derive(Clone, Copy)]
@@ -29,10 +28,10 @@ pub(crate) enum Characters {
     Piece,
 }
 
-impl Characters {
-    fn contains(self, c: char) -> bool
-        ensures { result ≡ is_one_of self c }
-    {
+impl CharacterClass for Characters {
+    ghost holds = { is_one_of };
+
+    fn contains(self, c: char) -> bool {
         match self {
             Characters::Normal => is_normal(c),
             Characters::Plain => is_plain(c),
@@ -46,35 +45,12 @@ impl Characters {
     }
 }
 
-/// Whether the next character is one of these.
-pub(crate) fn is_at(reader: &Reader, characters: Characters) -> bool
-    ensures { result ≡ passes (is_one_of characters) (head reader.now) }
-{
-    match reader.peek() {
-        Some(next) => characters.contains(next),
-        None => false,
-    }
-}
-
-/// Takes the next character, which has to be one of these.
-pub(crate) fn take(reader: &mut Reader, characters: Characters) -> Result<char, Stop>
-    ensures { Gives (λ c. c) result reader.new (take_if (is_one_of characters) reader.old) }
-{
-    match reader.peek() {
-        Some(next) if characters.contains(next) => {
-            reader.bump();
-            Ok(next)
-        },
-        _ => Err(Stop::Syntax(reader.place())),
-    }
-}
-
 /// The character that stands after `\`.
 #[tactic(auto, unfolding(crate::specs::Private::Reading::escaped_at))]
 pub(crate) fn escaped(reader: &mut Reader) -> Result<char, Stop>
     ensures { Gives (λ c. c) result reader.new (escaped_at reader.old) }
 {
-    let letter = take(reader, Characters::Escaped)?;
+    let letter = reader.take_one_of(Characters::Escaped)?;
     Ok(meant(letter))
 }
 
@@ -87,7 +63,7 @@ pub(crate) fn character(reader: &mut Reader) -> Result<char, Stop>
         reader.bump();
         escaped(reader)
     } else {
-        take(reader, Characters::Plain)
+        reader.take_one_of(Characters::Plain)
     }
 }
 

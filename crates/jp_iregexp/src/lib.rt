@@ -2,8 +2,8 @@
 //! a class holds.
 //!
 //! ```text
-//! let pattern = read_pattern(alloc, "a|[^-b-d]")?;    // an Either of two Sequences of one Class each
-//! class.holds('c');                                   // of the second class: false
+//! let pattern = read_pattern(alloc, "a|[^-b-d]")?;  // an Either of two Sequences, a Class each
+//! class.holds('c');                                 // of the second class: false
 //! ```
 //!
 //! The contract for the crates above: `read_pattern` answers a pattern exactly for the texts that

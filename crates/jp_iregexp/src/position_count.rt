@@ -39,7 +39,12 @@ fn positions_of_all(parts: &[Pattern]) -> u64
 {
     let mut sum = 0;
     for part in parts {
-        sum = (sum + positions(part)).min(MANY);
+        // Most parts are classes: no call for these.
+        let count = match part {
+            Pattern::Class(_) => 1,
+            _ => positions(part),
+        };
+        sum = (sum + count).min(MANY);
     }
     sum
 }

@@ -21,7 +21,8 @@ pub const GROUP_LIMIT: u32 = 64;
 /// length.
 pub fn read_pattern(alloc: Global, text: &str) -> Result<Pattern, PatternFault>
     ensures found { IfOk result (λ p. SpellsPattern group_limit (tree p) (chars text.now)) }
-    ensures only { IfErr result (λ e. e ≡ PatternFault.NotConforming → SpellsNone group_limit (chars text.now)) }
+    ensures only { IfErr result
+        (λ e. e ≡ PatternFault.NotConforming → SpellsNone group_limit (chars text.now)) }
 {
     let mut reader = Reader::new(alloc, text);
     match pattern(&mut reader, GROUP_LIMIT) {

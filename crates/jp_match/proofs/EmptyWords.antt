@@ -1,16 +1,16 @@
 -- The test for the empty word, and patterns without positions.
-use Rattle.std.proofs.Common.{◌≡◌, ◌↔◌, ◌⊎◌, inl, inr, ℕ, zero, suc, ◌+◌, ◌≤◌, Bool, true, false, ◌||◌, ◌&&◌, nat_le, List, [], ◌∷◌, ◌++◌, Option, Some, None, length, take, drop, get_or, refl, sym, ap, ◌∙◌, subst, arith}
+use Rattle.std.proofs.Common.{◌≡◌, ◌↔◌, ◌⊎◌, inl, inr, ℕ, zero, suc, ◌≤◌, Bool, true, false, ◌||◌, ◌&&◌, nat_le, List, [], ◌∷◌, Option, Some, None, length, refl, sym, ◌∙◌, subst, arith}
 use Rattle.std.specs.Bool.{IsTrue}
 use Rattle.std.proofs.lemmas.Bool.{leb-true, le-leb}
 use Rattle.jp_iregexp.specs.Tree as tree
 use Rattle.jp_iregexp.specs.Tree.{Tree}
 use Rattle.jp_iregexp.specs.Positions.{positions_of}
-use Rattle.jp_iregexp.specs.Language.{Concatenation, Power, Language, IsAtMost}
+use Rattle.jp_iregexp.specs.Language.{Power, Language, IsAtMost}
 use Rattle.jp_match.specs.Private.EmptyWord.{has_empty, is_within}
-use Rattle.jp_match.specs.Private.Plain.{Words, unrolled}
-use Rattle.jp_match.specs.Private.Marks.{size, Ends, Steps}
+use Rattle.jp_match.specs.Private.Plain.{unrolled}
+use Rattle.jp_match.specs.Private.Marks.{size, Steps}
 use Rattle.jp_match.proofs.EndParts.{joined_nil, nil_joined, or_is}
-use Rattle.jp_match.proofs.StepParts.{rest_none, step_without, step_nowhere}
+use Rattle.jp_match.proofs.StepParts.{step_without}
 use Rattle.jp_match.proofs.Turns.{size_unrolled}
 use Rattle.jp_match.proofs.Unrolled.{unrolled-words}
 

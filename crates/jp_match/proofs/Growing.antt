@@ -1,10 +1,13 @@
 -- Rounds of a repeat that only the new places begin.
-use Rattle.std.proofs.Common.{◌≡◌, ◌↔◌, ◌⊎◌, inl, inr, ℕ, zero, suc, ◌+◌, ◌<◌, ◌≤◌, Bool, true, false, List, [], ◌∷◌, Option, Some, None, length, get_or, refl, sym, ◌∙◌, subst, arith}
+use Rattle.std.proofs.Common.{◌≡◌, ◌↔◌, ◌⊎◌, inl, inr, ℕ, zero, suc, ◌+◌, ◌<◌}
+use Rattle.std.proofs.Common.{◌≤◌, Bool, true, false, List, [], ◌∷◌, Option, Some}
+use Rattle.std.proofs.Common.{None, length, get_or, refl, sym, ◌∙◌, subst, arith}
 use Rattle.jp_iregexp.specs.Language.{Concatenation, Power, IsAtMost}
 use Rattle.jp_iregexp.proofs.Membership.{at_most_below}
 use Rattle.jp_match.specs.Private.Counts.{Times, IsMostAfter}
 use Rattle.jp_match.specs.Private.Place.{Marked, Reached, IsImage}
-use Rattle.jp_match.proofs.Reaching.{halfway, onward, reached_as, reached_from, reached_still, still_reached}
+use Rattle.jp_match.proofs.Reaching.{halfway, onward, reached_as, reached_from}
+use Rattle.jp_match.proofs.Reaching.{reached_still, still_reached}
 use Rattle.jp_match.proofs.Repeats.{at_most_after, not_at_most, at_most_zero}
 
 true_or_not : (b : Bool) → (b ≡ true) ⊎ (b ≡ true → ⊥)
@@ -15,8 +18,8 @@ pub marked_or_not : (places : List Bool) (place : ℕ) → Marked places place �
     ⊥)
 marked_or_not places place = true_or_not (get_or places place false)
 
--- what rounds over the new places alone have reached: with what the new places reach it is all, no word
--- leads out of it but to the new places, and none of those is in it
+-- what rounds over the new places alone have reached: with what the new places reach it is all, no
+-- word leads out of it but to the new places, and none of those is in it
 pub record Grows (L : List ℕ → Type 0) (text : List ℕ) (first : List Bool) (most left : Option ℕ)
     (reached now : List Bool) : Type 0 where
   pub reached_length : length reached ≡ suc (length text)

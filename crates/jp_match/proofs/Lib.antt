@@ -6,8 +6,10 @@ pub mod Items
 pub mod Prefixes
 pub mod Reaching
 pub mod Repeats
+pub mod Rowwise
 pub mod Scanning
 pub mod Shift
+pub mod Spans
 pub mod StepParts
 pub mod Turns
 pub mod Unrolled

@@ -1,5 +1,8 @@
 -- A step over one character.
-use Rattle.std.proofs.Common.{◌≡◌, ℕ, zero, suc, ◌+◌, ◌≤◌, ◌<◌, Bool, true, false, ◌&&◌, ◌-◌, ◌^◌, min, add-one, List, [], ◌∷◌, ◌++◌, length, count_by, get_or, set, take, drop, ◌≢◌, inl, inr, get_or-set_other, get_or-set_same, refl, sym, ap, ◌∙◌, subst, arith}
+use Rattle.std.proofs.Common.{◌≡◌, ℕ, zero, suc, ◌+◌, ◌≤◌, ◌<◌, Bool, true, false, ◌&&◌}
+use Rattle.std.proofs.Common.{◌-◌, ◌^◌, min, add-one, List, [], ◌∷◌, ◌++◌, length, count_by}
+use Rattle.std.proofs.Common.{get_or, set, take, drop, ◌≢◌, inl, inr, get_or-set_other}
+use Rattle.std.proofs.Common.{get_or-set_same, refl, sym, ap, ◌∙◌, subst, arith}
 use Rattle.std.proofs.lemmas.List.{length-append, length-take, take-append-drop, drop_more}
 use Rattle.std.proofs.Math.Seq.{get_or-append_seam}
 use Rattle.std.proofs.lemmas.Bool.{cases_lt}
@@ -12,7 +15,8 @@ use Rattle.jp_match.specs.Private.ClassTests.{count_after}
 use Rattle.jp_match.specs.Private.Place.{Marked, Reached, IsImage}
 use Rattle.jp_match.proofs.Cuts.{marked_below}
 
--- whether a place is entered: the place before it is in the set, and the character between them passes
+-- whether a place is entered: the place before it is in the set, and the character between them
+-- passes
 abbrev pub shifted : (ℕ → Bool) → List ℕ → List Bool → ℕ → Bool
 shifted passes text from zero = false
 shifted passes text from (suc k) = get_or from k false && passes (get_or text k 0)

@@ -8,7 +8,7 @@ use Rattle.jp_iregexp.specs.Language.{Concatenation, Power}
 use Rattle.jp_match.specs.Private.Plain.{Plain, Words, class, nothing, either, empty, sequence, plus}
 use Rattle.jp_match.specs.Private.Marks.{Star, size, Rest, Ends, Steps}
 use Rattle.jp_match.proofs.Cuts.{marked_below}
-use Rattle.jp_match.proofs.EndParts.{or_is, nil_joined, ends_class, ends_empty, ends_nothing, ends_either, ends_sequence, ends_plus}
+use Rattle.jp_match.proofs.EndParts.{or_is, ends_class, ends_empty, ends_nothing, ends_either, ends_sequence, ends_plus}
 
 -- a word that begins with a character is joined so that the first part is empty or begins with it
 pub joined_cons : (L M : List ℕ → Type 0) (c : ℕ) (w : List ℕ) → Concatenation L M (c ∷ w) →

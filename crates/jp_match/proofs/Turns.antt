@@ -1,17 +1,23 @@
 -- Turns of loops over the parts of a pattern and the marks of each.
-use Rattle.std.proofs.Common.{◌≡◌, ◌↔◌, ◌⊎◌, inl, inr, ℕ, zero, suc, ◌+◌, ◌-◌, ◌*◌, ◌≤◌, ◌<◌, Bool, true, false, ◌||◌, ◌&&◌, List, [], ◌∷◌, ◌++◌, Option, Some, None, max, length, take, drop, get_or, refl, sym, ap, ◌∙◌, subst, arith}
+use Rattle.std.proofs.Common.{◌≡◌, ◌↔◌, ℕ, zero, suc, ◌+◌, ◌-◌, ◌*◌, ◌≤◌, ◌<◌, Bool, true}
+use Rattle.std.proofs.Common.{false, ◌||◌, ◌&&◌, List, [], ◌∷◌, ◌++◌, Some, None, max}
+use Rattle.std.proofs.Common.{length, take, drop, refl, sym, ap, ◌∙◌, subst, arith, get_or}
 use Rattle.std.specs.Bool.{IsTrue}
-use Rattle.std.proofs.lemmas.List.{take_all, append-nil, append_assoc, length-append, length-take, length-drop}
+use Rattle.std.proofs.lemmas.List.{take_all, take-append-drop, append-nil, append_assoc}
+use Rattle.std.proofs.lemmas.List.{length-append, length-take, length-drop}
 use Rattle.std.proofs.Math.Seq.{drop-drop}
 use Rattle.std.proofs.lemmas.Slice.{take-put_mid, drop-put_mid}
 use borrow.Rule.Slice.PartMut.{put_mid}
 use Rattle.jp_iregexp.specs.Tree as tree
 use Rattle.jp_iregexp.specs.Tree.{Tree, branches, pieces}
 use Rattle.jp_iregexp.specs.Positions.{positions_of}
-use Rattle.jp_match.specs.Private.Plain.{Plain, Words, class, nothing, either, empty, sequence, plus, at_least, between, counted, unrolled}
-use Rattle.jp_match.specs.Private.Marks.{size, Rest, Ends, Steps}
-use Rattle.jp_match.proofs.EndParts.{ends_empty, ends_nothing, ends_either, ends_sequence, ends_plus}
-use Rattle.jp_match.proofs.StepParts.{step_empty, step_nothing, step_either, step_sequence}
+use Rattle.jp_match.specs.Private.Plain.{Plain, nothing, either, empty, sequence}
+use Rattle.jp_match.specs.Private.Plain.{plus, at_least, between, counted, unrolled}
+use Rattle.jp_match.specs.Private.Marks.{size, Ends, Steps}
+use Rattle.jp_match.proofs.EndParts.{ends_empty, ends_nothing, ends_either}
+use Rattle.jp_match.proofs.EndParts.{ends_sequence, ends_plus}
+use Rattle.jp_match.proofs.StepParts.{step_empty, step_nothing, step_either}
+use Rattle.jp_match.proofs.StepParts.{step_nowhere, step_sequence}
 
 size_between : (a : Plain) (least most : ℕ) → size (between a least most) ≡ most * size a
 unfolding between
@@ -136,8 +142,10 @@ steps_sequence whole a b c begin entered ended through first row part next at n 
     step = record {
       completes = λ tail p h.
           let here : Steps a c entered (take (size a) (drop at row)) part through = rw sized step in
-          let rest : Steps b c through (drop (size a) (drop at row)) tail p = rw (sized, ← w.rest) h in
-          let both = so_far.completes (part ++ tail) p (step_sequence a b c entered (drop at row) part
+          let rest : Steps b c through (drop (size a) (drop at row)) tail p =
+          rw (sized, ← w.rest) h in
+          let both =
+          so_far.completes (part ++ tail) p (step_sequence a b c entered (drop at row) part
           tail through p (long ∙ sym sized) here rest) in
           rw (w.done, append_assoc) both;
     }
@@ -152,8 +160,10 @@ steps_either whole a b c begin entered ended through first row part next at n si
     step = record {
       completes = λ tail p h.
           let here : Steps a c entered (take (size a) (drop at row)) part through = rw sized step in
-          let rest : Steps b c entered (drop (size a) (drop at row)) tail p = rw (sized, ← w.rest) h in
-          let both = so_far.completes (part ++ tail) (through || p) (step_either a b c entered (drop at
+          let rest : Steps b c entered (drop (size a) (drop at row)) tail p =
+          rw (sized, ← w.rest) h in
+          let both =
+          so_far.completes (part ++ tail) (through || p) (step_either a b c entered (drop at
           row) part tail through p (long ∙ sym sized) here rest) in
           rw (w.done, append_assoc, or_assoc) both;
     }
@@ -262,6 +272,17 @@ unfolding unrolled
 steps_end_pieces whole c begin entered first row at all so_far = steps_end_empty whole c begin
     entered first row at all so_far
 
+-- where the next is not entered and no mark is left, the rest stays as it is
+pub steps_stop : (whole todo : Plain) (c : ℕ) (begin : Bool) (first row : List Bool) (at : ℕ) →
+    ((k : ℕ) → IsTrue (get_or (take (length row - at) (drop at row)) k false) → ⊥) →
+    StepsSoFar whole todo c begin false false first row at → Steps whole c begin first row false
+steps_stop whole todo c begin first row at none so_far =
+    let rest : take (length row - at) (drop at row) ≡ drop at row =
+    take_all (length row - at) (drop at row) (omega (arith, length-drop at row)) in
+    let stays = step_nowhere todo c (drop at row) (rw rest at none) in
+    subst (λ r. Steps whole c begin first r false) (take-append-drop at row)
+    (so_far.completes (drop at row) false stays)
+
 pub steps_end_branches : (whole : Plain) (c : ℕ) (begin entered ended : Bool) (first row : List
     Bool) (at : ℕ) → length row ≤ at →
     StepsSoFar whole (unrolled (branches [])) c begin entered ended first row at →
@@ -369,7 +390,8 @@ steps_star a c entered p before after h =
     (step_either empty (plus a) c entered before [] after entered p refl (step_empty c entered []
     []) h)
 
--- the end is looked for among the marks before a place: whatever the rest answers completes the whole
+-- the end is looked for among the marks before a place: whatever the rest answers completes the
+-- whole
 pub record EndsSoFar (whole todo : Plain) (begin entered ended : Bool) (row : List Bool) (at : ℕ) :
     Type 0 where
   pub completes : (p : Bool) → Ends todo entered (drop at row) p → Ends whole begin row (ended || p)

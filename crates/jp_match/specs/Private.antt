@@ -4,3 +4,4 @@ pub mod EmptyWord
 pub mod Marks
 pub mod Place
 pub mod Plain
+pub mod Rows

@@ -1,5 +1,6 @@
 -- What a scan would still accept (RFC 9485 section 4).
-use Rattle.std.specs.Prelude.{◌≡◌, ◌↔◌, ◌⊎◌, ℕ, ◌≤◌, ◌<◌, Bool, IsTrue, true, false, List, ◌++◌, Option, Some, None}
+use Rattle.std.specs.Prelude.{◌≡◌, ◌↔◌, ◌⊎◌, ℕ, ◌≤◌, ◌<◌, Bool, IsTrue}
+use Rattle.std.specs.Prelude.{true, false, List, ◌++◌, Option, Some, None}
 use Rattle.jp_iregexp.specs.Tree.{Tree, tree}
 use Rattle.jp_iregexp.specs.Language.{Language}
 use Rattle.jp_iregexp.specs.Positions.{positions_of}
@@ -23,8 +24,8 @@ Sought t true word = HasSuffix (Language t) word
 abbrev pub tree_of : Scan → Tree
 tree_of scan = tree scan.marking.pattern.now
 
--- the words that a scan would still accept: those that lead from a mark to the pattern's end, and at
--- the start those that are sought
+-- the words that a scan would still accept: those that lead from a mark to the pattern's end, and
+-- at the start those that are sought
 abbrev pub Left : Scan → List ℕ → Type 0
 Left scan word = Rest (unrolled (tree_of scan)) scan.marking.marks.items word ⊎ (IsTrue
     scan.at_start × Sought (tree_of scan) scan.anywhere word)

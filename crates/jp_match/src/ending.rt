@@ -8,7 +8,8 @@ ghost use Rattle.jp_match.specs.Private.Marks.{Ends};
 
 use crate::empty_word::repeats_empty_word;
 use crate::places::is_any;
-use jp_iregexp::{Pattern, positions};
+use crate::position_count::position_count;
+use jp_iregexp::Pattern;
 
 /// Whether the end of a pattern is reached: by a mark, or by the empty word where the pattern is
 /// entered.
@@ -39,7 +40,7 @@ fn ends_either(parts: &[Pattern], row: &[bool], entered: bool) -> bool
     let mut ended = false;
     let mut at = 0;
     for branch in parts {
-        let end = at + positions(branch) as usize;
+        let end = at + position_count(branch);
         ended |= ends(branch, &row[at..end], entered);
         at = end;
     }
@@ -56,7 +57,7 @@ fn ends_sequence(parts: &[Pattern], row: &[bool], entered: bool) -> bool
     let mut through = entered;
     let mut at = 0;
     for piece in parts {
-        let end = at + positions(piece) as usize;
+        let end = at + position_count(piece);
         through = ends(piece, &row[at..end], through);
         at = end;
     }

@@ -7,20 +7,29 @@ ghost use Rattle.jp_iregexp.specs.Language.{Language, Power};
 ghost use Rattle.jp_match.specs.Private.Counts.{IsMostAfter, Times};
 ghost use Rattle.jp_match.specs.Part.{HasPart};
 ghost use Rattle.jp_match.specs.Private.Place.{IsImage};
+ghost use Rattle.jp_match.specs.Private.Rows.{AreKnown, EachKnown, marks_of, rows_of, parts_of};
 
 use crate::class_tests::Tests;
+use crate::passing::pass;
 use crate::places::{
-    Places, Spare, assign, clear, every, is_any, is_settled, only_first, remove, shift, unite,
+    Ground, Places, assign, clear, copy_of, every, is_any, is_settled, only, remove, shift, unite,
 };
-use jp_iregexp::Pattern;
+use crate::relations::known_parts;
+use crate::rows::{Rows, follow, rows_at};
+use crate::scan::MOST_POSITIONS;
+use jp_iregexp::{Pattern, positions};
 use std::alloc::{AllocError, Global};
 use std::mem;
 
 /// The plain matcher. It goes down the pattern and keeps sets of places in the text, a mark for
-/// each place. A repeat goes on only while its set changes, so it ends after about as many rounds
-/// as the text has characters, however large its counts. Each round is a new walk of what it
-/// repeats, so the time is that number of rounds to the power of how deep repeats stand inside one
-/// another: exponential in their nesting.
+/// each place. A repeat of few positions is one pass over the text. Any other goes on only while
+/// its set changes, so it ends after about as many rounds as the text has characters, however large
+/// its counts.
+///
+/// For a pattern of m characters and a text of n the time is bounded by a constant times `m n^4`,
+/// however deep repeats stand inside one another. Where they stand more than two deep, what each
+/// of them repeats is gone over once from each single place, and a round puts these images
+/// together. They take a block of `n^2` bytes for each such part of the pattern.
 #[derive(Clone, Copy, Debug, Default)]
 pub struct Images;
 
@@ -39,8 +48,10 @@ impl Images {
         ensures kept { tests.old ≤ tests.new }
     {
         let text = characters(alloc, text)?;
-        let mut places = only_first(alloc, &text)?;
-        image(pattern, &text, &mut places, &mut Spare::new(alloc), tests)?;
+        let ground = Ground { alloc, text: &text };
+        let mut places = only(ground, 0)?;
+        let known = known_parts(pattern, ground, tests)?;
+        image(pattern, &known, ground, &mut places, tests)?;
         Ok(places[text.len()])
     }
 
@@ -58,8 +69,10 @@ impl Images {
         ensures kept { tests.old ≤ tests.new }
     {
         let text = characters(alloc, text)?;
-        let mut places = every(alloc, &text)?;
-        image(pattern, &text, &mut places, &mut Spare::new(alloc), tests)?;
+        let ground = Ground { alloc, text: &text };
+        let mut places = every(ground)?;
+        let known = known_parts(pattern, ground, tests)?;
+        image(pattern, &known, ground, &mut places, tests)?;
         Ok(is_any(&places))
     }
 }
@@ -73,59 +86,82 @@ fn characters(alloc: Global, text: &str) -> Result<Vec<char>, AllocError>
 
 /// Replaces the places by those that a word of the pattern reaches from them.
 #[cycle(images)]
-fn image(
+pub(crate) fn image(
     pattern: &Pattern,
-    text: &[char],
+    known: &[Rows],
+    ground: Ground<'_>,
     places: &mut Places,
-    spare: &mut Spare,
     tests: &mut Tests,
 ) -> Result<(), AllocError>
-    requires { length places.old.items ≡ suc (length text.now) }
-    ensures image { OnOk result (IsImage (Language (tree pattern.now)) text.now places.old.items
-        places.new.items) }
+    requires sized { length places.old.items ≡ suc (length ground.text.now) }
+    requires known { EachKnown (parts_of (tree pattern.now)) ground.text.now (rows_of known.now) }
+    ensures image { OnOk result (IsImage (Language (tree pattern.now)) ground.entry.text.now
+        places.old.items places.new.items) }
     ensures counted { tests.old ≤ tests.new }
 {
     match pattern {
-        Pattern::Either(branches) => either_image(branches, text, places, spare, tests),
-        Pattern::Sequence(pieces) => sequence_image(pieces, text, places, spare, tests),
+        Pattern::Either(branches) => either_image(branches, known, ground, places, tests),
+        Pattern::Sequence(pieces) => sequence_image(pieces, known, ground, places, tests),
+        Pattern::Repeat { .. } if positions(pattern) <= MOST_POSITIONS => {
+            pass(pattern, ground, places, tests)
+        }
         Pattern::Repeat { inner, least, most } => {
-            repeat_image(inner, *least, *most, text, places, spare, tests)
+            let rows = rows_at(known, 0);
+            repeat_image(inner, rows, *least, *most, ground, places, tests)
         }
         Pattern::Class(class) => {
-            shift(class, text, places, tests);
+            shift(class, ground.text, places, tests);
             Ok(())
         }
     }
+}
+
+/// The same for a part of a pattern: by its rows, where they are known.
+#[cycle(images)]
+fn part_image(
+    part: &Pattern,
+    rows: &[Places],
+    ground: Ground<'_>,
+    places: &mut Places,
+    tests: &mut Tests,
+) -> Result<(), AllocError>
+    requires sized { length places.old.items ≡ suc (length ground.text.now) }
+    requires known { AreKnown (Language (tree part.now)) ground.text.now (marks_of
+        rows.now) }
+    ensures image { OnOk result (IsImage (Language (tree part.now)) ground.entry.text.now
+        places.old.items places.new.items) }
+    ensures counted { tests.old ≤ tests.new }
+{
+    if rows.is_empty() {
+        return image(part, &[], ground, places, tests);
+    }
+    follow(rows, ground.alloc, places)
 }
 
 /// The same for branches: from the same places each, and together what they reach.
 #[cycle(images)]
 fn either_image(
     parts: &[Pattern],
-    text: &[char],
+    known: &[Rows],
+    ground: Ground<'_>,
     places: &mut Places,
-    spare: &mut Spare,
     tests: &mut Tests,
 ) -> Result<(), AllocError>
-    requires { length places.old.items ≡ suc (length text.now) }
-    ensures image { OnOk result (IsImage (Language (branches (map tree parts.now))) text.now
-        places.old.items places.new.items) }
+    requires sized { length places.old.items ≡ suc (length ground.text.now) }
+    requires known { EachKnown (map tree parts.now) ground.text.now (rows_of known.now) }
+    ensures image { OnOk result (IsImage (Language (branches (map tree parts.now)))
+        ground.entry.text.now places.old.items places.new.items) }
     ensures counted { tests.old ≤ tests.new }
 {
-    if let [only] = parts {
-        return image(only, text, places, spare, tests);
-    }
-    let from = spare.copy_of(places)?;
-    let mut reached = spare.copy_of(places)?;
+    let from = copy_of(ground.alloc, places)?;
+    let mut reached = copy_of(ground.alloc, places)?;
     clear(&mut reached);
-    for branch in parts {
+    for (i, branch) in parts.iter().enumerate() {
         assign(places, &from)?;
-        image(branch, text, places, spare, tests)?;
+        part_image(branch, rows_at(known, i), ground, places, tests)?;
         unite(&mut reached, places);
     }
     mem::swap(places, &mut reached);
-    spare.give_back(from);
-    spare.give_back(reached);
     Ok(())
 }
 
@@ -133,18 +169,19 @@ fn either_image(
 #[cycle(images)]
 fn sequence_image(
     parts: &[Pattern],
-    text: &[char],
+    known: &[Rows],
+    ground: Ground<'_>,
     places: &mut Places,
-    spare: &mut Spare,
     tests: &mut Tests,
 ) -> Result<(), AllocError>
-    requires { length places.old.items ≡ suc (length text.now) }
-    ensures image { OnOk result (IsImage (Language (pieces (map tree parts.now))) text.now
-        places.old.items places.new.items) }
+    requires sized { length places.old.items ≡ suc (length ground.text.now) }
+    requires known { EachKnown (map tree parts.now) ground.text.now (rows_of known.now) }
+    ensures image { OnOk result (IsImage (Language (pieces (map tree parts.now)))
+        ground.entry.text.now places.old.items places.new.items) }
     ensures counted { tests.old ≤ tests.new }
 {
-    for piece in parts {
-        image(piece, text, places, spare, tests)?;
+    for (i, piece) in parts.iter().enumerate() {
+        part_image(piece, rows_at(known, i), ground, places, tests)?;
     }
     Ok(())
 }
@@ -153,24 +190,26 @@ fn sequence_image(
 #[cycle(images)]
 fn repeat_image(
     inner: &Pattern,
+    rows: &[Places],
     least: u32,
     most: Option<u32>,
-    text: &[char],
+    ground: Ground<'_>,
     places: &mut Places,
-    spare: &mut Spare,
     tests: &mut Tests,
 ) -> Result<(), AllocError>
-    requires { length places.old.items ≡ suc (length text.now) }
-    ensures image { OnOk result (IsImage (Language (repeat (tree inner.now) least most)) text.now
-        places.old.items places.new.items) }
+    requires sized { length places.old.items ≡ suc (length ground.text.now) }
+    requires known { AreKnown (Language (tree inner.now)) ground.text.now (marks_of
+        rows.now) }
+    ensures image { OnOk result (IsImage (Language (repeat (tree inner.now) least most))
+        ground.entry.text.now places.old.items places.new.items) }
     ensures counted { tests.old ≤ tests.new }
 {
     let Some(more) = most_after(most, least) else {
         clear(places);
         return Ok(());
     };
-    exactly_image(inner, least, text, places, spare, tests)?;
-    at_most_image(inner, more, text, places, spare, tests)
+    exactly_image(inner, rows, least, ground, places, tests)?;
+    at_most_image(inner, rows, more, ground, places, tests)
 }
 
 /// The most words that may still follow once some are taken, where there is a most; none where so
@@ -189,26 +228,27 @@ fn most_after(most: Option<u32>, taken: u32) -> Option<Option<u32>>
 #[cycle(images)]
 fn exactly_image(
     inner: &Pattern,
+    rows: &[Places],
     count: u32,
-    text: &[char],
+    ground: Ground<'_>,
     places: &mut Places,
-    spare: &mut Spare,
     tests: &mut Tests,
 ) -> Result<(), AllocError>
-    requires { length places.old.items ≡ suc (length text.now) }
-    ensures image { OnOk result (IsImage (Power (Language (tree inner.now)) count) text.now
-        places.old.items places.new.items) }
+    requires sized { length places.old.items ≡ suc (length ground.text.now) }
+    requires known { AreKnown (Language (tree inner.now)) ground.text.now (marks_of
+        rows.now) }
+    ensures image { OnOk result (IsImage (Power (Language (tree inner.now)) count)
+        ground.entry.text.now places.old.items places.new.items) }
     ensures counted { tests.old ≤ tests.new }
 {
-    let mut before = spare.copy_of(places)?;
+    let mut before = copy_of(ground.alloc, places)?;
     for _ in 0..count {
-        image(inner, text, places, spare, tests)?;
+        part_image(inner, rows, ground, places, tests)?;
         if is_settled(places, &before) {
             break;
         }
         assign(&mut before, places)?;
     }
-    spare.give_back(before);
     Ok(())
 }
 
@@ -216,18 +256,20 @@ fn exactly_image(
 #[cycle(images)]
 fn at_most_image(
     inner: &Pattern,
+    rows: &[Places],
     most: Option<u32>,
-    text: &[char],
+    ground: Ground<'_>,
     places: &mut Places,
-    spare: &mut Spare,
     tests: &mut Tests,
 ) -> Result<(), AllocError>
-    requires { length places.old.items ≡ suc (length text.now) }
-    ensures image { OnOk result (IsImage (Times (Language (tree inner.now)) most) text.now
-        places.old.items places.new.items) }
+    requires sized { length places.old.items ≡ suc (length ground.text.now) }
+    requires known { AreKnown (Language (tree inner.now)) ground.text.now (marks_of
+        rows.now) }
+    ensures image { OnOk result (IsImage (Times (Language (tree inner.now)) most)
+        ground.entry.text.now places.old.items places.new.items) }
     ensures counted { tests.old ≤ tests.new }
 {
-    let mut reached = spare.copy_of(places)?;
+    let mut reached = copy_of(ground.alloc, places)?;
     clear(&mut reached);
     let mut left = most;
     while is_any(places) {
@@ -236,10 +278,9 @@ fn at_most_image(
             break;
         };
         left = fewer;
-        image(inner, text, places, spare, tests)?;
+        part_image(inner, rows, ground, places, tests)?;
         remove(places, &reached);
     }
     mem::swap(places, &mut reached);
-    spare.give_back(reached);
     Ok(())
 }

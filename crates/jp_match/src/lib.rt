@@ -20,7 +20,11 @@ mod images;
 mod marking;
 mod marks;
 mod matching;
+mod passing;
 mod places;
+mod position_count;
+mod relations;
+mod rows;
 mod scan;
 mod stepping;
 

@@ -5,6 +5,7 @@ ghost use Rattle.jp_iregexp.specs.Tree.{class as class_tree};
 ghost use Rattle.jp_iregexp.specs.Language.{Language};
 ghost use Rattle.jp_match.specs.Private.ClassTests.{count_after};
 ghost use Rattle.jp_match.specs.Private.Place.{Marked, IsImage, followed_count};
+ghost use Rattle.jp_match.specs.Private.Rows.{IsOnly};
 
 use crate::class_tests::Tests;
 use jp_iregexp::CharClass;
@@ -13,35 +14,20 @@ use std::alloc::{AllocError, Global};
 /// Whether a place is in the set, for the place before each character and for the one at the end.
 pub(crate) type Places = Vec<bool>;
 
-/// Sets that are not in use, to be written anew.
-#[derive(Drop)]
-pub(crate) struct Spare {
-    alloc: Global,
-    sets: Vec<Places>,
+/// A text, and what sets of its places are allocated by.
+#[derive(Clone, Copy)]
+pub(crate) struct Ground<'t> {
+    pub(crate) alloc: Global,
+    pub(crate) text: &'t [char],
 }
 
-impl Spare {
-    /// No set yet.
-    pub(crate) fn new(alloc: Global) -> Spare {
-        Spare {
-            alloc,
-            sets: Vec::new(alloc),
-        }
-    }
-
-    /// A copy of the set.
-    pub(crate) fn copy_of(&mut self, places: &[bool]) -> Result<Places, AllocError>
-        ensures { IfOk result (λ copy. copy.items ≡ places.now) }
-    {
-        let mut copy = self.sets.pop().unwrap_or(Vec::new(self.alloc));
-        assign(&mut copy, places)?;
-        Ok(copy)
-    }
-
-    /// Takes a set that is no longer in use. Where there is no room to keep it, it is dropped.
-    pub(crate) fn give_back(&mut self, places: Places) {
-        let _ = self.sets.push(places);
-    }
+/// A copy of the set.
+pub(crate) fn copy_of(alloc: Global, places: &[bool]) -> Result<Places, AllocError>
+    ensures { IfOk result (λ copy. copy.items ≡ places.now) }
+{
+    let mut copy = Vec::new(alloc);
+    copy.extend_from_slice(places)?;
+    Ok(copy)
 }
 
 /// None of so many places.
@@ -52,23 +38,26 @@ pub(crate) fn none(alloc: Global, count: usize) -> Result<Places, AllocError>
     vec![in alloc; false; count]
 }
 
-/// The first place of the text alone.
-pub(crate) fn only_first(alloc: Global, text: &[char]) -> Result<Places, AllocError>
-    ensures same_length { IfOk result (λ places. length places.items ≡ suc (length text.now)) }
-    ensures first { IfOk result (λ places. (place : ℕ) → Marked places.items place ↔ (place ≡ 0)) }
+/// One place of the text alone.
+pub(crate) fn only(ground: Ground<'_>, place: usize) -> Result<Places, AllocError>
+    requires { place ≤ length ground.text.now }
+    ensures same_length { IfOk result (λ places. length places.items ≡ suc (length
+        ground.entry.text.now)) }
+    ensures only { IfOk result (λ places. IsOnly places.items place) }
 {
-    let mut places = vec![in alloc; false; text.len() + 1]?;
-    places[0] = true;
+    let mut places = vec![in ground.alloc; false; ground.text.len() + 1]?;
+    places[place] = true;
     Ok(places)
 }
 
 /// Every place of the text.
-pub(crate) fn every(alloc: Global, text: &[char]) -> Result<Places, AllocError>
-    ensures same_length { IfOk result (λ places. length places.items ≡ suc (length text.now)) }
+pub(crate) fn every(ground: Ground<'_>) -> Result<Places, AllocError>
+    ensures same_length { IfOk result (λ places. length places.items ≡ suc (length
+        ground.entry.text.now)) }
     ensures every { IfOk result (λ places. (place : ℕ) →
-        Marked places.items place ↔ (place ≤ length text.now)) }
+        Marked places.items place ↔ (place ≤ length ground.entry.text.now)) }
 {
-    vec![in alloc; true; text.len() + 1]
+    vec![in ground.alloc; true; ground.text.len() + 1]
 }
 
 /// Makes the set the same as the other.

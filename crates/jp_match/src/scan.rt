@@ -12,7 +12,7 @@ use jp_iregexp::{Pattern, positions};
 use std::alloc::{AllocError, Global};
 
 /// The most positions of a pattern that there is a scan for.
-const MOST_POSITIONS: u64 = 4_096;
+pub(crate) const MOST_POSITIONS: u64 = 4_096;
 
 /// A matcher that has taken some characters of a text. It keeps none of them: what it knows is a
 /// mark for each position of the pattern, and one for the start. So it never goes back, and a step

@@ -1,6 +1,6 @@
 //! A step of a scan over one character.
 
-ghost use Rattle.std.specs.Prelude.{◌≡◌, ◌↔◌, ℕ, ◌+◌, ◌*◌, ◌≤◌, ◌<◌, IsTrue, length, map, Some, None, false};
+ghost use Rattle.std.specs.Prelude.{◌≡◌, ◌↔◌, ℕ, ◌+◌, ◌*◌, ◌/◌, ◌≤◌, ◌<◌, IsTrue, length, map, Some, None, false};
 ghost use Rattle.jp_iregexp.specs.Tree.{tree, branches, pieces, repeat};
 ghost use Rattle.jp_iregexp.specs.Positions.{positions_of};
 ghost use Rattle.jp_match.specs.Private.Plain.{unrolled, class as plain_class, plus, between, at_least};
@@ -10,7 +10,8 @@ use crate::class_tests::Tests;
 use crate::empty_word::repeats_empty_word;
 use crate::ending::ends;
 use crate::places::is_any;
-use jp_iregexp::{CharClass, Pattern, positions};
+use crate::position_count::position_count;
+use jp_iregexp::{CharClass, Pattern};
 
 /// Moves the marks of a pattern over the character, and answers whether its end was reached before:
 /// by a mark, or by the empty word where the pattern is entered.
@@ -77,19 +78,23 @@ fn step_either(
     ensures kept { tests.old ≤ tests.new }
 {
     if let [only] = parts {
-        return step(only, row, entered, c, tests);
+        return match only {
+            Pattern::Sequence(pieces) => step_sequence(pieces, row, entered, c, tests),
+            _ => step(only, row, entered, c, tests),
+        };
     }
     let mut ended = false;
     let mut at = 0;
     for branch in parts {
-        let end = at + positions(branch) as usize;
+        let end = at + position_count(branch);
         ended |= step(branch, &mut row[at..end], entered, c, tests);
         at = end;
     }
     ended
 }
 
-/// The same for pieces: where one has ended, the next is entered.
+/// The same for pieces: where one has ended, the next is entered. Where none is and no mark is left,
+/// the others have nothing to do.
 #[cycle(step)]
 fn step_sequence(
     parts: &[Pattern],
@@ -110,8 +115,12 @@ fn step_sequence(
     let mut through = entered;
     let mut at = 0;
     for piece in parts {
-        let end = at + positions(piece) as usize;
-        through = step(piece, &mut row[at..end], through, c, tests);
+        let end = at + position_count(piece);
+        let ended = step(piece, &mut row[at..end], through, c, tests);
+        if through && !ended && !is_any(&row[end..]) {
+            return false;
+        }
+        through = ended;
         at = end;
     }
     through
@@ -145,6 +154,18 @@ fn step_repeat(
     }
 }
 
+/// How many positions each copy has. Most repeats in a repeat have one copy, and a division takes
+/// longer than the rest of their step.
+fn copy_size(positions: usize, copies: u32) -> usize
+    requires { 0 < copies }
+    ensures { result ≡ positions / copies }
+{
+    if copies == 1 {
+        return positions;
+    }
+    positions / copies as usize
+}
+
 /// The same for a repeat with a most. It may end before each copy, and after the last one, where
 /// there were at least the least.
 #[cycle(step)]
@@ -165,7 +186,7 @@ fn step_between(
     ensures counted { tests.new ≤ tests.old + length row.old }
     ensures kept { tests.old ≤ tests.new }
 {
-    let size = row.len() / most as usize;
+    let size = copy_size(row.len(), most);
     let mut ended = false;
     let mut through = entered;
     let mut at = 0;
@@ -196,7 +217,7 @@ fn step_at_least(
     ensures counted { tests.new ≤ tests.old + length row.old }
     ensures kept { tests.old ≤ tests.new }
 {
-    let size = row.len() / least as usize;
+    let size = copy_size(row.len(), least);
     let mut through = entered;
     let mut at = 0;
     for _ in 1..least {

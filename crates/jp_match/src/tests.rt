@@ -202,6 +202,34 @@ fn scans_a_character_at_a_time(rt: HostRuntime) -> Result<(), Fail> {
     Ok(())
 }
 
+/// The pattern `a*` in so many more repeats, each of what is before it.
+fn nested_repeats(alloc: Global, first: &str, depth: u32) -> Result<String, AllocError> {
+    let mut pattern = String::new(alloc);
+    pattern.push_str(first)?;
+    for letter in ('b'..='z').take(depth as usize) {
+        pattern = format!(in alloc; "({pattern}{letter}|a)*")?;
+    }
+    Ok(pattern)
+}
+
+#[test]
+fn answers_repeats_in_repeats(rt: HostRuntime) -> Result<(), Fail> {
+    let text = repeated(rt.alloc(), "a", 50)?;
+    for first in ["a*", "(a|x{5000})*", "(a|x{5000}){0,40}"] {
+        let pattern = nested_repeats(rt.alloc(), first, 10)?;
+        let pattern = format!(in rt.alloc(); "x{{5000}}|{pattern}y")?;
+        assert_within(
+            &rt,
+            rt.alloc(),
+            &Marks,
+            (pattern.as_str(), text.as_str()),
+            (false, false),
+            100_000,
+        )?;
+    }
+    Ok(())
+}
+
 #[test]
 fn keeps_no_text(rt: HostRuntime) -> Result<(), Fail> {
     let pattern = read_pattern(rt.alloc(), "(ab)*")?;
@@ -268,6 +296,12 @@ fn both_matchers_agree(rt: HostRuntime) -> Result<(), Fail> {
         let part = Images.part(rt.alloc(), &pattern, word.as_str(), &mut tests)?;
         let answer = answers(&Marks, rt.alloc(), &pattern, word.as_str())?;
         assert_eq!(rt; answer, (whole, part), "{text} {word}");
+        // On a text without x each group has the same words, and too many positions for a scan.
+        let large = text.as_str().replace(rt.alloc(), "(", "(x{5000}|")?;
+        let pattern = read_pattern(rt.alloc(), large.as_str())?;
+        let whole = Images.whole(rt.alloc(), &pattern, word.as_str(), &mut tests)?;
+        let part = Images.part(rt.alloc(), &pattern, word.as_str(), &mut tests)?;
+        assert_eq!(rt; answer, (whole, part), "{large} {word}");
     }
     Ok(())
 }

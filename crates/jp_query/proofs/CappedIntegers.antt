@@ -35,8 +35,7 @@ whole-min n =
     elim (cases_Bool (nat_lt n (2 ^ 64))) [
       | inl below ↦ let h =
           ltb-true n (2 ^ 64) below in let e : min n (2 ^ 64) ≡ n = omega arith in ap whole_of e
-      | inr above ↦ let h =
-          ltb-false n (2 ^ 64) above in let e : min n
+      | inr above ↦ let h = ltb-false n (2 ^ 64) above in let e : min n
           (2 ^ 64) ≡ 2 ^ 64 = omega arith in ap whole_of e ∙ rw above refl
     ]
 

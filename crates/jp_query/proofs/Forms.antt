@@ -3,4 +3,6 @@ pub mod Strings
 pub mod Numbers
 pub mod Slices
 pub mod Selectors
+pub mod FunctionNames
 pub mod Expressions
+pub mod Arguments

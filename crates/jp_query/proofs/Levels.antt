@@ -1,89 +1,72 @@
--- Expressions inside a number of levels.
-use Rattle.std.proofs.Common.{◌≡◌, ℕ, zero, suc, ◌+◌, ◌-◌, [], ◌∷◌, refl, ap, arith}
-use Rattle.std.specs.Prelude.{codes}
+-- What is inside a number of levels.
+use Rattle.std.proofs.Common.{◌≡◌, ℕ, zero, suc, ◌+◌, ◌-◌, ◌||◌, ◌⊎◌, Bool, true, [], ◌∷◌, false, Option, Some, None, inl, inr, refl, ap, ◌∙◌, arith, codes}
 use Rattle.jp_reading.specs.Texts.{Text, Spans}
 use Rattle.jp_reading.specs.Forms.{Form, ◌⌢◌, word, Blank}
-use Rattle.jp_reading.specs.Outcome.{State, Outcome, took, ◌>>=◌, past, skip, expect}
-use Rattle.jp_reading.proofs.Between.{Within, front-then, front-none, reads-as, has-as}
-use Rattle.jp_reading.proofs.Joining.{after-within}
-use Rattle.jp_reading.proofs.Levels.{blank-has, joined-has}
+use Rattle.jp_reading.specs.Outcome.{State, Outcome, took, ◌>>=◌, head, past, skip, passes, is, expect}
+use Rattle.jp_reading.proofs.Between.{Reads, Within, Has, Stops, front-as, front-then, reads-is, front-none, reads-as, has-as}
+use Rattle.jp_reading.proofs.Joining.{after-within, nothing-before, word-joined}
 use Rattle.jp_reading.proofs.Again.{split, at-word}
-use Rattle.jp_reading.proofs.Steps.{head-is}
+use Rattle.jp_reading.proofs.Rules.Follow.{Meets}
+use Rattle.jp_reading.proofs.Levels.{word-has, blank-has, joined-has}
 use Rattle.jp_reading.proofs.Fits.{reads-word}
 use Rattle.jp_reading.proofs.Progress.{Progress}
 use Rattle.jp_reading.proofs.Rules.Progress.{goes}
 use Rattle.jp_reading.proofs.Rules.Form.{form, lifts, least, has}
-use Rattle.jp_reading.proofs.Rules.Soundness.{InnerIsSound, none_left, some_left, sound, sound-as}
+use Rattle.jp_reading.proofs.Rules.Soundness.{InnerIsSound, Opened, none_left, some_left, sound, sound-as}
 use Rattle.jp_reading.proofs.Rules.Completeness.{InnerIsComplete, done}
 use Rattle.jp_query.specs.Tree.{ExprTree, QueryTree}
-use Rattle.jp_query.specs.Grammar.{Expression, Inside, Segments, Spells}
-use Rattle.jp_query.specs.Private.Rules.{nesting, inside_mark, expression, segments}
+use Rattle.jp_query.specs.Characters.{opening_parenthesis}
+use Rattle.jp_query.specs.Names.{is_function_char}
+use Rattle.jp_query.specs.Grammar.{nested_expr, nested_arguments, without, Inside, Segments, Spells}
+use Rattle.jp_query.specs.Private.Rules.{nesting, opens, opened, inside_mark, expression, segments}
+use Rattle.jp_query.specs.Private.Rules as rule
 use Rattle.jp_query.specs.Private.Reading.{inside, read_inside}
-use Rattle.jp_query.proofs.Alive.{expression-alive, inside_mark-alive}
-use Rattle.jp_query.proofs.Apart.{closes, inside_mark-apart}
-use Rattle.jp_query.proofs.Forms.Selectors.{marked, segments-within, segments-spelt}
-use Rattle.jp_query.proofs.Forms.Expressions.{expression-within, expression-spelt}
+use Rattle.std.proofs.lemmas.Bool.{cases_Bool, eqb-true}
+use Rattle.jp_query.proofs.Soundness.Alive.{expression-alive}
+use Rattle.jp_query.proofs.Completeness.Apart.{closes, opened-alive, opened-apart}
+use Rattle.jp_query.proofs.Forms.Selectors.{marked, CallFrom, Parentheses, segments-same}
+use Rattle.jp_query.proofs.Forms.FunctionNames.{and-left, from-letter}
+use Rattle.jp_query.proofs.Forms.Expressions.{expression-same}
+use Rattle.jp_query.proofs.Forms.Arguments.{opened-same}
 
 -- they leave shorter texts
-pub inside-progress : (n mark : ℕ) → Progress (inside n mark)
-inside-progress zero mark p = tt
-inside-progress (suc n) mark p = goes (inside n) (inside-progress n) (inside_mark mark) p
+pub inside-progress : (n : ℕ) (o : rule.Opening) → Progress (inside n o)
+inside-progress zero o p = tt
+inside-progress (suc n) o p = goes (inside n) (inside-progress n) (opened o) p
 
 -- where a level is left the mark leads to an expression
 pub inside-entered : (n mark : ℕ) (p q : State) → (n ≡ 0 → ⊥) → expect mark p ≡ took mark q
-    → inside n mark p ≡ read_inside (n - 1) expression (skip q)
+    → inside n (rule.mark mark) p ≡ read_inside (n - 1) expression (skip q)
 unfolding inside_mark
 inside-entered zero mark p q some e = absurd (some refl)
 inside-entered (suc n) mark p q some e =
     let one : suc n - 1 ≡ n = omega arith in
     rw one (ap (λ (o : Outcome ℕ). o >>= λ d r. read_inside n expression (skip r)) e)
 
--- ---- forms
-
-mark-within : (I : ExprTree → Form) (mark : ℕ) (e : ExprTree)
-    → Within (form (marked I) (inside_mark mark) e) (marked (Expression I) mark e)
-unfolding inside_mark
-mark-within I mark e =
-    after-within (word (mark ∷ [])) (Blank ⌢ form (marked I) expression e) (Blank ⌢ Expression I e)
-    (after-within Blank (form (marked I) expression e) (Expression I e) (expression-within I e))
-
-mark-spelt : (I : ExprTree → Form) (mark : ℕ) (e : ExprTree)
-    → Within (marked (Expression I) mark e) (form (marked I) (inside_mark mark) e)
-unfolding inside_mark
-mark-spelt I mark e =
-    after-within (word (mark ∷ [])) (Blank ⌢ Expression I e) (Blank ⌢ form (marked I) expression e)
-    (after-within Blank (Expression I e) (form (marked I) expression e) (expression-spelt I e))
-
 -- ---- one level more
 
-pub marked-lifts : (I J : ExprTree → Form) → ((e : ExprTree) → Within (I e) (J e))
-    → (mark : ℕ) (e : ExprTree) → Within (marked I mark e) (marked J mark e)
-marked-lifts I J f mark e =
-    after-within (word (mark ∷ [])) (Blank ⌢ I e) (Blank ⌢ J e)
-    (after-within Blank (I e) (J e) (f e))
-
-pub inside-lifts : (n : ℕ) (e : ExprTree) → Within (Inside n e) (Inside (suc n) e)
-inside-lifts zero e s o t h = elim h [ ]
-inside-lifts (suc n) e s o t h =
-    expression-within (Inside (suc n)) e s o t
-    (lifts (marked (Inside n)) (marked (Inside (suc n)))
-    (marked-lifts (Inside n) (Inside (suc n)) (inside-lifts n)) expression e s o t
-    (expression-spelt (Inside n) e s o t h))
+pub marked-more : (n : ℕ) (o : rule.Opening) (x : rule.Opened o)
+    → Within (marked (Inside n) o x) (marked (Inside (suc n)) o x)
+marked-more zero (rule.mark m) e s o t h = absurd h.two.two
+marked-more zero (rule.name_from others) r s o t h = absurd h.is.two.two.two.one
+marked-more zero (rule.name_on other) r s o t h = absurd h.is.two.two.two.one
+marked-more (suc n) o x s i t h =
+    (opened-same (Inside (suc n)) o x).to s i t
+    (lifts (marked (Inside n)) (marked (Inside (suc n))) (marked-more n) (opened o) x s i t
+    ((opened-same (Inside n) o x).from s i t h))
 
 spells-lifts : (n : ℕ) (q : QueryTree) (s : Spans) (text : Text) → Spells n q s text
     → Spells (suc n) q s text
 spells-lifts n q s text h =
     let I = Inside n in
-    let J = Inside (suc n) in
+    let K = Inside (suc n) in
     record {
       parts = h.parts;
       tree = h.tree;
-      is = after-within (word (codes "$")) (Segments I h.parts) (Segments J h.parts)
-          (λ v o t g. segments-within J h.parts v o t
-          (lifts (marked I) (marked J)
-          (marked-lifts I J (inside-lifts n)) segments h.parts v o t
-          (segments-spelt I h.parts v o t g)))
-          s 0 text h.is;
+      is = after-within (word (codes "$")) (Segments I h.parts) (Segments K h.parts)
+          (λ v o t g. (segments-same K h.parts).to v o t
+          (lifts (marked I) (marked K) (marked-more n) segments h.parts v o t
+          ((segments-same I h.parts).from v o t g))) s 0 text h.is;
     }
 
 pub spells-more : (k n : ℕ) (q : QueryTree) (s : Spans) (text : Text) → Spells n q s text
@@ -95,49 +78,172 @@ spells-more (suc k) n q s text h =
 
 -- ---- soundness
 
-pub inside-sound : (n : ℕ)
-    → InnerIsSound nesting (marked (Inside n)) (marked (Inside (suc n))) (inside n)
-inside-sound zero mark p on = none_left refl (record {
-  value = e;
-  front =
-      front-then (word (mark ∷ [])) (Blank ⌢ Inside (suc zero) e) p (past p) (past p)
-      (reads-word p mark (head-is mark p on))
-      (front-none (Blank ⌢ Inside (suc zero) e) (past p)
-      (joined-has Blank (Inside (suc zero) e) blank-has
-      (has-as (form (marked (Inside zero)) expression e) (Inside (suc zero) e)
-      (expression-within (Inside zero) e)
+-- a function without arguments, after its parenthesis, and from there on
+abbrev Empty : Form
+Empty = Blank ⌢ Inside (suc zero) (nested_arguments []) ⌢ Blank ⌢ word (codes ")")
+
+empty-has : Has Empty
+empty-has =
+    joined-has Blank _ blank-has (joined-has (Inside (suc zero) (nested_arguments [])) _
+    (λ o. ([], [], without refl (record { none = refl; is = refl })))
+    (joined-has Blank (word (codes ")")) blank-has (word-has (codes ")"))))
+
+parentheses-has : Has (Parentheses (Inside (suc zero)) [])
+parentheses-has = joined-has (word (codes "(")) Empty (word-has (codes "(")) empty-has
+
+-- a function whose name is that letter alone, or ends with it
+named-deeper : (ok : ℕ → Bool) (c : ℕ) (p : State) → head p ≡ Some c → is_function_char c ≡ true
+    → ok c ≡ true → Stops (λ r. CallFrom ok (Inside (suc zero)) r) p (past p)
+named-deeper ok c p e letter first = record {
+  value = record { rest = c ∷ []; arguments = [] };
+  front = front-as (word (c ∷ []) ⌢ Parentheses (Inside (suc zero)) []) _ p (past p)
+      (λ s i t g. record { letters = (letter, tt); first = first; is = g })
+      (front-then (word (c ∷ [])) (Parentheses (Inside (suc zero)) []) p (past p) (past p)
+      (reads-word p c e)
+      (front-none (Parentheses (Inside (suc zero)) []) (past p) parentheses-has));
+}
+
+pub or-second : (a b : Bool) → a ≡ false → (a || b) ≡ true → b ≡ true
+or-second true b e h = absurd cc
+or-second false b e h = h
+
+-- where no level is left, one level deeper the next character goes on
+opened-deeper : (o : rule.Opening) (c : ℕ) (p : State) → head p ≡ Some c → opens o c ≡ true
+    → Stops (marked (Inside (suc zero)) o) p (past p)
+opened-deeper (rule.mark m) c p e h = record {
+  value = x;
+  front = front-then (word (m ∷ [])) (Blank ⌢ Inside (suc zero) (nested_expr x)) p (past p) (past p)
+      (reads-word p m (e ∙ ap Some (eqb-true c m h)))
+      (front-none (Blank ⌢ Inside (suc zero) (nested_expr x)) (past p)
+      (joined-has Blank (Inside (suc zero) (nested_expr x)) blank-has
+      (has-as (form (marked (Inside zero)) expression x) (Inside (suc zero) (nested_expr x))
+      (expression-same (Inside zero) x).to
       (has (marked (Inside zero)) expression expression-alive))));
-})
+}
   where
-    e : ExprTree
-    e = least expression expression-alive
-inside-sound (suc n) mark p on =
-    some_left
-    (sound-as (form (marked (Inside n)) (inside_mark mark))
-    (form (marked (Inside (suc n))) (inside_mark mark))
-    (marked (Inside (suc n)) mark) (marked (Inside (suc (suc n))) mark) p (inside (suc n) mark p)
-    (mark-within (Inside n) mark) (mark-within (Inside (suc n)) mark)
-    (sound (marked (Inside n)) (marked (Inside (suc n)))
-    (marked-lifts (Inside n) (Inside (suc n)) (inside-lifts n)) (inside n) (inside-sound n)
-    (inside_mark mark) (inside_mark-alive mark) p))
+    x : ExprTree
+    x = least expression expression-alive
+opened-deeper (rule.name_from others) c p e h =
+    named-deeper (opens (rule.name_from others)) c p e (from-letter others c h) h
+opened-deeper (rule.name_on other) c p e h = way (cases_Bool (is opening_parenthesis c))
+  where
+    ok : ℕ → Bool
+    ok = opens (rule.name_on other)
+
+    letter-of : is opening_parenthesis c ≡ false → ok c ≡ true → is_function_char c ≡ true
+    letter-of other_one h =
+        and-left (is_function_char c) _ (or-second (is opening_parenthesis c) _ other_one h)
+
+    way : (is opening_parenthesis c ≡ true) ⊎ (is opening_parenthesis c ≡ false)
+        → Stops (λ r. CallFrom ok (Inside (suc zero)) r) p (past p)
+    way (inl same) = record {
+      value = record { rest = []; arguments = [] };
+      front = front-as (Parentheses (Inside (suc zero)) []) _ p (past p) (λ s i t g. record {
+        letters = tt;
+        first = refl;
+        is = nothing-before (Parentheses (Inside (suc zero)) []) s i t g;
+      }) (front-then (word (codes "(")) Empty p (past p) (past p)
+          (reads-word p opening_parenthesis (e ∙ ap Some (eqb-true c opening_parenthesis same)))
+          (front-none Empty (past p) empty-has));
+    }
+    way (inr letter) = named-deeper ok c p e (letter-of letter h) h
+
+pub inside-sound : (n : ℕ) → InnerIsSound nesting (marked (Inside n)) (marked (Inside (suc n)))
+    (inside n)
+inside-sound zero o p on = way (head p) refl on
+  where
+    way : (next : Option ℕ) → head p ≡ next → passes (opens o) next ≡ true
+        → Opened (marked (Inside zero) o) (marked (Inside (suc zero)) o) p (inside zero o p)
+    way None e h = absurd cc
+    way (Some c) e h = none_left refl (opened-deeper o c p e h)
+inside-sound (suc n) o p on = way (inside-sound n) (head p) refl on
+  where
+    way : InnerIsSound nesting (marked (Inside n)) (marked (Inside (suc n))) (inside n)
+        → (next : Option ℕ) → head p ≡ next → passes (opens o) next ≡ true
+        → Opened (marked (Inside (suc n)) o) (marked (Inside (suc (suc n))) o) p
+        (inside (suc n) o p)
+    way known None e h = absurd cc
+    way known (Some c) e h =
+        some_left
+        (sound-as (form (marked (Inside n)) (opened o)) (form (marked (Inside (suc n))) (opened o))
+        (marked (Inside (suc n)) o) (marked (Inside (suc (suc n))) o) p (inside (suc n) o p)
+        (λ x. (opened-same (Inside n) o x).to) (λ x. (opened-same (Inside (suc n)) o x).to)
+        (sound (marked (Inside n)) (marked (Inside (suc n))) (marked-more n) (inside n) known
+        (opened o) (opened-alive o c h) p))
 
 -- ---- completeness
+
+-- where that character is next, a test that it passes does
+passes-next : (ok : ℕ → Bool) (c : ℕ) (p : State) → passes (is c) (head p) ≡ true → ok c ≡ true
+    → passes ok (head p) ≡ true
+passes-next ok c p next h = way (head p) next
+  where
+    way : (d : Option ℕ) → passes (is c) d ≡ true → passes ok d ≡ true
+    way None e = absurd cc
+    way (Some d) e = rw (eqb-true d c e) h
+
+call-first : (ok : ℕ → Bool) (n : ℕ) (r : rule.CallRest) (p q : State)
+    → Reads (CallFrom ok (Inside n) r) p q → passes ok (head p) ≡ true
+call-first ok n r p q h = way r.rest refl
+  where
+    tail : Form
+    tail = Blank ⌢ Inside n (nested_arguments r.arguments) ⌢ Blank ⌢ word (codes ")")
+
+    from : Form
+    from = word (codes "(") ⌢ tail
+
+    read : Reads (word r.rest ⌢ from) p q
+    read = reads-is (CallFrom ok (Inside n) r) (word r.rest ⌢ from) p q h h.is.is
+
+    way : (w : Text) → r.rest ≡ w → passes ok (head p) ≡ true
+    way [] e =
+        let two = split (word (codes "(")) tail p q
+        (reads-as (word [] ⌢ from) from p q (word-joined from) (rw e at read)) in
+        let first : ok opening_parenthesis ≡ true = rw e at h.is.first in
+        passes-next ok opening_parenthesis p (at-word opening_parenthesis [] p two.middle two.one)
+        first
+    way (c ∷ w) e =
+        let parts = split (word (c ∷ w)) from p q (rw e at read) in
+        let first : ok c ≡ true = rw e at h.is.first in
+        passes-next ok c p (at-word c w p parts.middle parts.one) first
+
+-- what is opened begins with a character of its opening
+opened-first : (n : ℕ) (o : rule.Opening) (x : rule.Opened o) (p q : State)
+    → Reads (marked (Inside n) o x) p q → passes (opens o) (head p) ≡ true
+opened-first n (rule.mark m) x p q h =
+    let parts = split (word (m ∷ [])) (Blank ⌢ Inside n (nested_expr x)) p q h in at-word m [] p
+    parts.middle parts.one
+opened-first n (rule.name_from others) r p q h =
+    call-first (opens (rule.name_from others)) n r p q h
+opened-first n (rule.name_on other) r p q h = call-first (opens (rule.name_on other)) n r p q h
 
 pub inside-complete : (n : ℕ) → InnerIsComplete nesting (marked (Inside n)) closes (inside n)
 inside-complete zero = record {
   progress = inside-progress zero;
-  again = λ mark e p q h follow. absurd h.is.two.two;
-  first = λ mark e p q h. absurd h.is.two.two;
+  again = λ o x p q h follow. absurd (nothing o x h.spans p.at h.text h.is);
+  first = λ o x p q h. opened-first zero o x p q h;
 }
+  where
+    nothing : (o : rule.Opening) (x : rule.Opened o) (s : Spans) (i : ℕ) (t : Text)
+        → marked (Inside zero) o x s i t → ⊥
+    nothing (rule.mark m) e s i t h = h.two.two
+    nothing (rule.name_from others) r s i t h = h.is.two.two.two.one
+    nothing (rule.name_on other) r s i t h = h.is.two.two.two.one
 inside-complete (suc n) = record {
   progress = inside-progress (suc n);
-  again = λ mark e p q h follow.
-      (done (marked (Inside n)) closes (inside n) (inside-complete n) (inside_mark mark)
-      (inside_mark-alive mark) (closes mark) (inside_mark-apart mark) e p q
-      (reads-as (marked (Inside (suc n)) mark e)
-      (form (marked (Inside n)) (inside_mark mark) e) p q
-      (mark-spelt (Inside n) mark e) h) follow).reads;
-  first = λ mark e p q h.
-      (let parts = split (word (mark ∷ []))
-      (Blank ⌢ Inside (suc n) e) p q h in at-word mark [] p parts.middle parts.one);
+  again = λ o x p q h follow. again (inside-complete n) o x p q h follow (head p) refl
+      (opened-first (suc n) o x p q h);
+  first = λ o x p q h. opened-first (suc n) o x p q h;
 }
+  where
+    again : InnerIsComplete nesting (marked (Inside n)) closes (inside n)
+        → (o : rule.Opening) (x : rule.Opened o) (p q : State)
+        → Reads (marked (Inside (suc n)) o x) p q → Meets (closes o) q
+        → (next : Option ℕ) → head p ≡ next → passes (opens o) next ≡ true
+        → inside (suc n) o p ≡ took x q
+    again known o x p q h follow None e g = absurd cc
+    again known o x p q h follow (Some c) e g =
+        (done (marked (Inside n)) closes (inside n) known (opened o) (opened-alive o c g) (closes o)
+        (opened-apart o c g) x p q
+        (reads-as (marked (Inside (suc n)) o x) (form (marked (Inside n)) (opened o) x) p q
+        (opened-same (Inside n) o x).from h) follow).reads

@@ -12,8 +12,8 @@ use Rattle.jp_query.specs.Spelled.{SpellsNothing}
 use Rattle.jp_query.specs.ViablePrefix.{IsViablePrefix, IsNoViablePrefix, EndsViablePrefix, IsSyntaxAt, IsTooDeepAt}
 use Rattle.jp_query.specs.Laws.{IsParseRefusal, OneRefusal}
 use Rattle.jp_query.specs.Private.Reading.{query_at}
-use Rattle.jp_query.proofs.Whole.{read-spells}
-use Rattle.jp_query.proofs.Places.{stuck-place, deep-place}
+use Rattle.jp_query.proofs.Soundness.Whole.{read-spells}
+use Rattle.jp_query.proofs.Refusals.Places.{stuck-place, deep-place}
 
 -- ---- viable prefixes of one text
 
@@ -88,9 +88,7 @@ mark-point n text place h = record {
   parts = h.parts;
   place_is = h.place_is;
   is_viable = h.is_viable;
-  no_further =
-      λ c t e.
-      (let same : h.mark ≡ c = cc in subst
+  no_further = λ c t e. (let same : h.mark ≡ c = cc in subst
       (λ d. IsNoViablePrefix n (h.before ++ d ∷ [])) same h.is_not_viable);
 }
 
@@ -115,8 +113,7 @@ not-both : (n : ℕ) (text : Text) (place other : ℕ) → IsSyntaxAt n text pla
 unfolding syntax-point mark-point deep-point
 not-both n text place other (inl h) g =
     let end = g.end in
-    end.is_not_viable
-    (viable-less n (end.before ++ end.mark ∷ []) end.after
+    end.is_not_viable (viable-less n (end.before ++ end.mark ∷ []) end.after
     (subst (IsViablePrefix n)
     (end.parts ∙ sym (append_assoc end.before (end.mark ∷ []) end.after)) h.is_viable))
 not-both n text place other (inr h) g =
@@ -142,8 +139,7 @@ once n text kind other place elsewhere (inl h) (inl g) = (
 )
 once n text kind other place elsewhere (inr h) (inr g) = (
   h.0 ∙ sym g.0,
-  one-point n text place elsewhere (deep-point n text place h.1)
-      (deep-point n text elsewhere g.1),
+  one-point n text place elsewhere (deep-point n text place h.1) (deep-point n text elsewhere g.1),
 )
 once n text kind other place elsewhere (inl h) (inr g) =
     absurd (not-both n text place elsewhere h.1 g.1)
@@ -154,8 +150,7 @@ nothing-spelled : (n : ℕ) (text : Text) (place : ℕ) → EndsViablePrefix n t
     → SpellsNothing n text
 nothing-spelled n text place end q s h =
     let through = end.before ++ end.mark ∷ [] in
-    end.is_not_viable
-    (spelled-viable n text through end.after q s
+    end.is_not_viable (spelled-viable n text through end.after q s
     (end.parts ∙ sym (append_assoc end.before (end.mark ∷ []) end.after)) h)
 
 only : (n : ℕ) (text : Text) (kind : RefusalKind) (place : ℕ) → IsParseRefusal n text kind place
@@ -172,10 +167,8 @@ answered n text (stuck r) e = inr (Syntax, r.at, inl (refl, stuck-place n text r
 answered n text (deep r) e = inr (TooDeep, r.at, inr (refl, deep-place n text r e))
 
 pub one-refusal : OneRefusal
-one-refusal n text =
-    record {
-      answered = answered n text
-          (query_at n (start text)) refl;
-      once = once n text;
-      only = only n text;
-    }
+one-refusal n text = record {
+  answered = answered n text (query_at n (start text)) refl;
+  once = once n text;
+  only = only n text;
+}

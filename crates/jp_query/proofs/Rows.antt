@@ -14,21 +14,23 @@ use Rattle.jp_query.specs.Items.{items_of, int, as_index, inner, constant, as_si
 use Rattle.jp_query.specs.Grammar.{Spells}
 use Rattle.jp_query.specs.Private.Rules as rule
 use Rattle.jp_query.specs.Private.Reading.{query_at}
-use Rattle.jp_query.proofs.Whole.{read-spells}
+use Rattle.jp_query.proofs.Soundness.Whole.{read-spells}
 use Rattle.jp_query.specs.declared.tree.Op.TheVariants.{Equal, LessEqual}
 use Rattle.jp_reading.specs.declared.span.Span.{Span}
 use Rattle.jp_query.specs.Singular.{is_singular}
+use Rattle.jp_query.specs.Characters.{backslash, digit_zero, double_quote, letter_a, letter_b, low_line, single_quote, slash}
 
 -- a letter, a letter above ASCII and `_` begin a shorthand; a digit only goes on with one
-shorthand-rows : (is_name_first 97 ≡ true) × (is_name_first 233 ≡ true) × (is_name_first 95 ≡ true)
-    × (is_name_first 48 ≡ false) × (is_name_char 48 ≡ true)
+shorthand-rows : (is_name_first letter_a ≡ true) × (is_name_first 233 ≡ true) × (is_name_first
+    low_line ≡ true) × (is_name_first digit_zero ≡ false) × (is_name_char digit_zero ≡ true)
 unfolding is_digit
 shorthand-rows = (refl, refl, refl, refl, refl)
 
 -- between single quotation marks a double one stands for itself, a single one, a backslash and
 -- U+001F do not
-plain-rows : (is_plain 39 34 ≡ true) × (is_plain 39 39 ≡ false) × (is_plain 39 92 ≡ false)
-    × (is_plain 39 31 ≡ false) × (is_plain 39 127 ≡ true)
+plain-rows : (is_plain single_quote double_quote ≡ true) × (is_plain single_quote
+    single_quote ≡ false) × (is_plain single_quote backslash ≡ false)
+    × (is_plain single_quote 31 ≡ false) × (is_plain single_quote 127 ≡ true)
 plain-rows = (refl, refl, refl, refl, refl)
 
 -- the ends of the range
@@ -42,9 +44,10 @@ range-rows = (refl, refl, refl, refl)
 abbrev ten : QueryTree
 ten = query true (segments (segment false (selectors (index (Whole (pos 10)) ∷ [])) ∷ []))
 
-index-spells : Spells 64 ten (Some (record { start = 2; end = 4 }) ∷ [])
-    (codes "$[10]")
-unfolding query_at rule.query rule.segments rule.segment rule.bracket rule.entries rule.entry rule.selector rule.number_selector rule.int rule.unsigned rule.size past_blanks loop is_blank is_digit
+index-spells : Spells 64 ten (Some (record { start = 2; end = 4 }) ∷ []) (codes "$[10]")
+unfolding query_at rule.query rule.segments rule.segment rule.bracket rule.entries rule.entry
+    rule.selector rule.number_selector rule.int rule.unsigned rule.size past_blanks loop is_blank
+    is_digit
 index-spells =
     read-spells 64 (codes "$[10]") ten
     (finish (codes "$[10]") (Some (record { start = 2; end = 4 }) ∷ [])) refl
@@ -55,55 +58,52 @@ index-items = refl
 -- `$ .a['']`: two names, no item
 abbrev names : QueryTree
 names =
-    query true
-    (segments
-    (segment false (selectors (name (codes "a") ∷ [])) ∷ segment false
+    query true (segments (segment false (selectors (name (codes "a") ∷ [])) ∷ segment false
     (selectors (name [] ∷ [])) ∷ []))
 
 names-spell : Spells 64 names [] (codes "$ .a['']")
-unfolding query_at rule.query rule.segments rule.segment rule.bracket rule.entries rule.entry rule.member rule.selection rule.selector rule.quoted rule.characters rule.shorthand past_blanks loop is_blank is_digit
-names-spell =
-    read-spells 64 (codes "$ .a['']") names
-    (finish (codes "$ .a['']") []) refl
+unfolding query_at rule.query rule.segments rule.segment rule.bracket rule.entries rule.entry
+    rule.member rule.selection rule.selector rule.quoted rule.characters rule.shorthand past_blanks
+    loop is_blank is_digit
+names-spell = read-spells 64 (codes "$ .a['']") names (finish (codes "$ .a['']") []) refl
 
 -- `$[01]` is stuck at byte 3, and `$.a` and a blank at its end
 zero-row : query_at 64 (start (codes "$[01]")) ≡ stuck
     (record { at = 3; rest = codes "1]"; found = Some (record { start = 2; end = 3 }) ∷ [] })
-unfolding query_at rule.query rule.segments rule.segment rule.bracket rule.entries rule.entry rule.selector rule.number_selector rule.int rule.unsigned past_blanks loop is_blank is_digit
+unfolding query_at rule.query rule.segments rule.segment rule.bracket rule.entries rule.entry
+    rule.selector rule.number_selector rule.int rule.unsigned past_blanks loop is_blank is_digit
 zero-row = refl
 
-blank-row : query_at 64 (start (codes "$.a ")) ≡ stuck
-    (record { at = 4; rest = []; found = [] })
-unfolding query_at rule.query rule.segments rule.segment rule.member rule.selection rule.shorthand past_blanks loop is_blank is_digit
+blank-row : query_at 64 (start (codes "$.a ")) ≡ stuck (record { at = 4; rest = []; found = [] })
+unfolding query_at rule.query rule.segments rule.segment rule.member rule.selection rule.shorthand
+    past_blanks loop is_blank is_digit
 blank-row = refl
 
 -- `$[:]`: neither bound, and an omitted step, which is 1 and has no span
 abbrev all : QueryTree
 all =
-    query true
-    (segments
-    (segment false
-    (selectors
+    query true (segments (segment false (selectors
     (slice (record { start = None; end = None; step = Whole (pos 1) }) ∷ [])) ∷ []))
 
 slice-spells : Spells 64 all (None ∷ []) (codes "$[:]")
-unfolding query_at rule.query rule.segments rule.segment rule.bracket rule.entries rule.entry rule.selector rule.slice_from rule.bound rule.step past_blanks loop is_blank
-slice-spells =
-    read-spells 64 (codes "$[:]") all (finish (codes "$[:]") (None ∷ [])) refl
+unfolding query_at rule.query rule.segments rule.segment rule.bracket rule.entries rule.entry
+    rule.selector rule.slice_from rule.bound rule.step past_blanks loop is_blank
+slice-spells = read-spells 64 (codes "$[:]") all (finish (codes "$[:]") (None ∷ [])) refl
 
 -- `$..*`: a descendant segment of a wildcard
 descend-spells : Spells 64
-    (query true (segments (segment true (selectors (wildcard ∷ [])) ∷ []))) []
-    (codes "$..*")
-unfolding query_at rule.query rule.segments rule.segment rule.selection rule.member past_blanks loop is_blank
+    (query true (segments (segment true (selectors (wildcard ∷ [])) ∷ []))) [] (codes "$..*")
+unfolding query_at rule.query rule.segments rule.segment rule.selection rule.member past_blanks loop
+    is_blank
 descend-spells =
     read-spells 64 (codes "$..*")
     (query true (segments (segment true (selectors (wildcard ∷ [])) ∷ [])))
     (finish (codes "$..*") []) refl
 
 -- the pair D83D, DE00 is U+1F600; `\b` is U+0008, and `\/` a slash
-escape-rows : (scalar_of 55357 56832 ≡ 128512) × (escaped 98 ≡ 8) × (escaped 47 ≡ 47)
-    × (is_escapable 34 39 ≡ false) × (is_escapable 39 39 ≡ true)
+escape-rows : (scalar_of 55357 56832 ≡ 128512) × (escaped letter_b ≡ 8) × (escaped slash ≡ 47)
+    × (is_escapable double_quote single_quote ≡ false) × (is_escapable single_quote
+    single_quote ≡ true)
 escape-rows = (refl, refl, refl, refl, refl)
 
 -- ---- filters
@@ -134,14 +134,12 @@ negated = filtered_by (negation (exists here))
 
 abbrev several : QueryTree
 several =
-    filtered_by
-    (any_of (exprs
+    filtered_by (any_of (exprs
     (negation (exists here) ∷ all_of (exprs (exists here ∷ exists member_a ∷ [])) ∷ [])))
 
 abbrev compared : QueryTree
 compared =
-    filtered_by
-    (all_of (exprs
+    filtered_by (all_of (exprs
     (comparison (literal (number (Whole (pos 0)))) LessEqual (node_value member_a)
     ∷ comparison (node_value here) Equal (literal (number Fraction)) ∷ [])))
 
@@ -152,36 +150,58 @@ spelled-rows : Spells 1 test (at_bytes 3 4 ∷ []) (codes "$[?@]")
     (codes "$[? !@||@ &&@.a ]")
     × Spells 1 compared (at_bytes 3 5 ∷ at_bytes 7 10 ∷ at_bytes 12 13 ∷ at_bytes 15 18 ∷ [])
     (codes "$[?-0<=@.a&&@==1.0]")
-unfolding query_at rule.query rule.segments rule.segment rule.bracket rule.entries rule.entry rule.selector rule.member rule.selection rule.shorthand rule.inner_query rule.identifier rule.side rule.comparison_with rule.test rule.closed rule.negated rule.basic rule.literal_compared rule.inside_mark rule.conjunction rule.expression rule.operator rule.literal rule.number rule.mantissa rule.decimals rule.exponent rule.power rule.digits rule.int rule.unsigned rule.size past_blanks loop is_blank is_digit
+unfolding query_at rule.query rule.segments rule.segment rule.bracket rule.entries rule.entry
+    rule.selector rule.member rule.selection rule.shorthand rule.query_within rule.identifier
+    rule.side rule.side_within rule.word rule.comparison_with rule.subject rule.test rule.closed
+    rule.negated rule.negation_on rule.basic rule.inside_mark rule.conjunction rule.expression
+    rule.operator rule.plain_literal rule.number rule.mantissa rule.decimals rule.exponent
+    rule.power rule.digits rule.int rule.unsigned rule.size past_blanks loop is_blank is_digit
 spelled-rows = (
   read-spells 1 (codes "$[?@]") test (finish (codes "$[?@]") (at_bytes 3 4 ∷ [])) refl,
   read-spells 2 (codes "$[?!(@)]") negated (finish (codes "$[?!(@)]") (at_bytes 5 6 ∷ [])) refl,
   read-spells 1 (codes "$[? !@||@ &&@.a ]") several
       (finish (codes "$[? !@||@ &&@.a ]") (at_bytes 5 6 ∷ at_bytes 8 9 ∷ at_bytes 12 15 ∷ [])) refl,
-  read-spells 1 (codes "$[?-0<=@.a&&@==1.0]") compared
-      (finish (codes "$[?-0<=@.a&&@==1.0]")
+  read-spells 1 (codes "$[?-0<=@.a&&@==1.0]") compared (finish (codes "$[?-0<=@.a&&@==1.0]")
       (at_bytes 3 5 ∷ at_bytes 7 10 ∷ at_bytes 12 13 ∷ at_bytes 15 18 ∷ [])) refl,
 )
 
 -- with no level left, `?` and `(` are too deep; a literal is no test, parentheses are no side, a
--- comparison has two sides, and no operator is `=`
-refused-rows :
-    (query_at 0 (start (codes "$[?@]")) ≡ deep (record { at = 2; rest = codes "?@]"; found = [] }))
-    × (query_at 1 (start (codes "$[?!(@)]")) ≡ deep
-    (record { at = 4; rest = codes "(@)]"; found = [] }))
-    × (query_at 1 (start (codes "$[?1]")) ≡ stuck
-    (record { at = 4; rest = codes "]"; found = at_bytes 3 4 ∷ [] }))
-    × (query_at 2 (start (codes "$[?(@)==1]")) ≡ stuck
-    (record { at = 6; rest = codes "==1]"; found = at_bytes 4 5 ∷ [] }))
-    × (query_at 1 (start (codes "$[?@==1==2]")) ≡ stuck
-    (record { at = 7; rest = codes "==2]"; found = at_bytes 3 4 ∷ at_bytes 6 7 ∷ [] }))
-    × (query_at 1 (start (codes "$[?@=1]")) ≡ stuck
-    (record { at = 5; rest = codes "1]"; found = at_bytes 3 4 ∷ [] }))
-unfolding query_at rule.query rule.segments rule.segment rule.bracket rule.entries rule.entry rule.selector rule.member rule.selection rule.shorthand rule.inner_query rule.identifier rule.side rule.comparison_with rule.test rule.closed rule.negated rule.basic rule.literal_compared rule.inside_mark rule.conjunction rule.expression rule.operator rule.literal rule.number rule.mantissa rule.decimals rule.exponent rule.power rule.digits rule.int rule.unsigned rule.size past_blanks loop is_blank is_digit
+-- comparison has two
+-- sides, and no operator is `=`
+refused-rows : (query_at 0 (start (codes "$[?@]")) ≡ deep (record {
+  at = 2;
+  rest = codes "?@]";
+  found = [];
+})) × (query_at 1 (start (codes "$[?!(@)]")) ≡ deep (record {
+  at = 4;
+  rest = codes "(@)]";
+  found = [];
+})) × (query_at 1 (start (codes "$[?1]")) ≡ stuck (record {
+  at = 4;
+  rest = codes "]";
+  found = at_bytes 3 4 ∷ [];
+})) × (query_at 2 (start (codes "$[?(@)==1]")) ≡ stuck (record {
+  at = 6;
+  rest = codes "==1]";
+  found = at_bytes 4 5 ∷ [];
+})) × (query_at 1 (start (codes "$[?@==1==2]")) ≡ stuck (record {
+  at = 7;
+  rest = codes "==2]";
+  found = at_bytes 3 4 ∷ at_bytes 6 7 ∷ [];
+})) × (query_at 1 (start (codes "$[?@=1]")) ≡ stuck (record {
+  at = 5;
+  rest = codes "1]";
+  found = at_bytes 3 4 ∷ [];
+}))
+unfolding query_at rule.query rule.segments rule.segment rule.bracket rule.entries rule.entry
+    rule.selector rule.member rule.selection rule.shorthand rule.query_within rule.identifier
+    rule.side rule.side_within rule.word rule.comparison_with rule.subject rule.test rule.closed
+    rule.negated rule.negation_on rule.basic rule.inside_mark rule.conjunction rule.expression
+    rule.operator rule.plain_literal rule.number rule.mantissa rule.decimals rule.exponent
+    rule.power rule.digits rule.int rule.unsigned rule.size past_blanks loop is_blank is_digit
 refused-rows = (refl, refl, refl, refl, refl, refl)
 
-compared-items : items_of compared
-    ≡ constant
+compared-items : items_of compared ≡ constant
     (number (Whole (pos 0))) as_side ∷ inner member_a as_side ∷ inner here as_side ∷ constant
     (number Fraction) as_side ∷ []
 compared-items = refl

@@ -15,22 +15,17 @@ use Rattle.jp_query.specs.Spelled.{SpellsNothing}
 use Rattle.jp_query.specs.Laws.{OneReading}
 use Rattle.jp_query.specs.Private.Rules.{query}
 use Rattle.jp_query.specs.Private.Reading.{query_at, inside}
-use Rattle.jp_query.proofs.Alive.{query-alive}
-use Rattle.jp_query.proofs.Apart.{closes, at_end, query-apart}
-use Rattle.jp_query.proofs.Forms.Selectors.{marked, segments-spelt}
+use Rattle.jp_query.proofs.Soundness.Alive.{query-alive}
+use Rattle.jp_query.proofs.Completeness.Apart.{closes, at_end, query-apart}
+use Rattle.jp_query.proofs.Forms.Selectors.{marked, query-same}
 use Rattle.jp_query.proofs.Levels.{inside-complete, spells-more}
 
 query-spelt : (n : ℕ) (q : QueryTree) (s : Spans) (text : Text) → Spells n q s text
     → form (marked (Inside n)) query q s 0 text
-unfolding query
 query-spelt n q s text h =
-    joined-over (word (codes "$")) (Segments (Inside n) h.parts) _ s 0 text h.is
-    (record {
-      part = h.parts;
-      same = h.tree;
-      is = segments-spelt
-          (Inside n) h.parts h.is.second_spans _ h.is.second h.is.two;
-    })
+    (query-same (Inside n) q).from s 0 text
+    (joined-over (word (codes "$")) (Segments (Inside n) h.parts) _ s 0 text h.is
+    (record { part = h.parts; same = h.tree; is = h.is.two }))
 
 ends-meet : (t : Text) (s : Spans) → Meets at_end (finish t s)
 unfolding past_blanks

@@ -1,20 +1,23 @@
 -- Where the items of a query are in its text.
-use Rattle.std.specs.Prelude.{◌≡◌, ℕ, ◌+◌, ◌<◌, pos, List, [], ◌∷◌, ◌++◌, Option, Some, None}
+use Rattle.std.specs.Prelude.{◌≡◌, ℕ, ◌+◌, ◌<◌, ◌⊎◌, pos, List, [], ◌∷◌, ◌++◌, Option, Some, None}
 use Rattle.jp_query.specs.declared.tree.Numeral.TheVariants.{Whole}
 use Rattle.jp_reading.specs.Texts.{Text, Spans, bytes}
 use Rattle.jp_reading.specs.declared.span.Span.{Span}
-use Rattle.jp_query.specs.Grammar.{InnerQuery, Inside, Spells}
+use Rattle.jp_query.specs.Grammar.{InnerQuery, FunctionCall, Logical, Inside, Spells}
 use Rattle.jp_query.specs.Ints.{Int}
-use Rattle.jp_query.specs.Items.{QueryItem, as_step, int, constant, inner, items_of}
+use Rattle.jp_query.specs.Items.{QueryItem, as_step, int, constant, inner, called, logical, items_of}
 use Rattle.jp_query.specs.Literals.{Literal}
 use Rattle.jp_query.specs.Tree.{QueryTree}
 
--- a text that starts at byte o spells the item: a number (RFC 9535 section 2.3.3.1), a literal, or
--- a query inside another, with its `$` or `@` (section 2.3.5.1)
+-- a text that starts at byte o spells the item: a number (RFC 9535 section 2.3.3.1), a literal, a
+-- query inside another, with its `$` or `@` (section 2.3.5.1), a function expression with its name,
+-- or a logical expression (section 2.4)
 abbrev pub SpellsItem : QueryItem → ℕ → Text → Type 0
 SpellsItem (int n _) o t = Int n [] o t
 SpellsItem (constant l _) o t = Literal l [] o t
 SpellsItem (inner q _) o t = (n : ℕ) × (s : Spans) × InnerQuery (Inside n) q s o t
+SpellsItem (called c _) o t = (n : ℕ) × (s : Spans) × FunctionCall (Inside n) c s o t
+SpellsItem (logical e _) o t = (n : ℕ) × (s : Spans) × Logical (Inside n) e s o t
 
 -- the item has this span in the text: the text within the span spells the item, and the span starts
 -- after as many bytes as there are before that text
@@ -39,17 +42,22 @@ EachSpanned text (item ∷ items) (span ∷ spans) =
     IsPlaceOf text item span × EachSpanned text items spans
 EachSpanned text _ _ = ⊥
 
--- each span starts after byte o
-abbrev pub StartAfter : ℕ → Spans → Type 0
-StartAfter o [] = Unit {0}
-StartAfter o (None ∷ spans) = StartAfter o spans
-StartAfter o (Some span ∷ spans) = (o < span.start) × StartAfter o spans
+-- the one starts after the other, or where the other does, and then it is the shorter
+abbrev pub ComesAfter : Span → Span → Type 0
+ComesAfter span other =
+    (other.start < span.start) ⊎ ((other.start ≡ span.start) × (span.end < other.end))
 
--- the spans start one after the other
+-- each span comes after this one
+abbrev pub AllComeAfter : Span → Spans → Type 0
+AllComeAfter other [] = Unit {0}
+AllComeAfter other (None ∷ spans) = AllComeAfter other spans
+AllComeAfter other (Some span ∷ spans) = ComesAfter span other × AllComeAfter other spans
+
+-- the spans are in the order of their starts, and of several with one start the longer is first
 abbrev pub Rise : Spans → Type 0
 Rise [] = Unit {0}
 Rise (None ∷ spans) = Rise spans
-Rise (Some span ∷ spans) = StartAfter span.start spans × Rise spans
+Rise (Some span ∷ spans) = AllComeAfter span spans × Rise spans
 
 -- these are the spans of the items in the text
 pub record AreSpansOf (text : Text) (items : List QueryItem) (spans : Spans) : Type 0 where

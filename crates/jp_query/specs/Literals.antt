@@ -23,7 +23,8 @@ DigitSequence c more = One is_digit c ⌢ Each (One is_digit) more
 
 -- frac: a dot and digits
 pub data Decimals (s : Spans) (o : ℕ) (t : Text) : Type 0 where
-  decimals : (c : ℕ) (more : Text) → (word (codes ".") ⌢ DigitSequence c more) s o t → Decimals s o t
+  decimals : (c : ℕ) (more : Text) → (word (codes ".") ⌢ DigitSequence c more) s o t
+      → Decimals s o t
 
 -- an `e` of either case; a sign
 abbrev pub is_e : ℕ → Bool
@@ -35,7 +36,8 @@ is_sign c = (c == plus) || (c == minus)
 -- exp: an `e`, a sign or none, and digits
 pub data Exponent (s : Spans) (o : ℕ) (t : Text) : Type 0 where
   unsigned : (e c : ℕ) (more : Text) → (One is_e e ⌢ DigitSequence c more) s o t → Exponent s o t
-  signed : (e sign c : ℕ) (more : Text) → (One is_e e ⌢ One is_sign sign ⌢ DigitSequence c more) s o t → Exponent s o t
+  signed : (e sign c : ℕ) (more : Text)
+      → (One is_e e ⌢ One is_sign sign ⌢ DigitSequence c more) s o t → Exponent s o t
 
 -- int / "-0": zero may have a sign here, and is 0 then too
 pub data Mantissa (x : Numeral) (s : Spans) (o : ℕ) (t : Text) : Type 0 where
@@ -48,8 +50,10 @@ numeral x has_decimals has_exponent = if has_decimals || has_exponent then Fract
 
 -- number: (int / "-0") [ frac ] [ exp ]
 pub data Number (x : Numeral) (s : Spans) (o : ℕ) (t : Text) : Type 0 where
-  number : (y : Numeral) (has_decimals has_exponent : Bool) → x ≡ numeral y has_decimals has_exponent
-      → (Mantissa y ⌢ Optional Decimals has_decimals ⌢ Optional Exponent has_exponent) s o t → Number x s o t
+  number : (y : Numeral) (has_decimals has_exponent : Bool)
+      → x ≡ numeral y has_decimals has_exponent
+      → (Mantissa y ⌢ Optional Decimals has_decimals ⌢ Optional Exponent has_exponent) s o t
+      → Number x s o t
 
 -- literal: a number, a string, or one of the words true, false, null
 pub data Literal (x : LiteralTree) (s : Spans) (o : ℕ) (t : Text) : Type 0 where

@@ -1,5 +1,6 @@
 pub mod HexDigits
 pub mod Parsed
+pub mod Parts
 pub mod Reading
 pub mod Rules
 pub mod Stops

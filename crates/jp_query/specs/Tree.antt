@@ -13,7 +13,10 @@ use Rattle.jp_query.specs.declared.tree.Operand.{Operand, fold-Operand}
 use Rattle.jp_query.specs.declared.tree.Selector.{Selector, fold-Selector}
 use Rattle.jp_query.specs.declared.tree.Segment.{Segment, fold-Segment}
 use Rattle.jp_query.specs.declared.tree.Query.{Query, fold-Query}
-use Rattle.jp_query.specs.declared.tree.Expr.TheOpen.{Expr-F, Operand-F, Selector-F, Subject-F, Query-F, Segment-F}
+use Rattle.jp_query.specs.declared.tree.Call.{Call, fold-Call}
+use Rattle.jp_query.specs.declared.tree.Subject.{Subject, fold-Subject}
+use Rattle.jp_query.specs.declared.tree.Argument.{Argument, fold-Argument}
+use Rattle.jp_query.specs.declared.tree.Argument.TheOpen.{Argument-F, Call-F, Expr-F, Operand-F, Selector-F, Subject-F, Query-F, Segment-F}
 
 -- a literal (section 2.3.5.1): a number, a text as scalar values, or one of the three words
 pub data LiteralTree : Type 0 where
@@ -51,24 +54,43 @@ mutual
   pub data QueryTree : Type 0 where
     query : Bool → SegmentTrees → QueryTree
 
-  -- a logical expression (section 2.3.5.1): `||`, `&&` and `!` of others, a comparison, or whether
-  -- a query selects a node
+  -- a logical expression (section 2.3.5.1): `||`, `&&` and `!` of others, a comparison, or a test:
+  -- whether a query selects a node, or what a function answers
   pub data ExprTree : Type 0 where
     any_of : ExprTrees → ExprTree
     all_of : ExprTrees → ExprTree
     negation : ExprTree → ExprTree
     comparison : OperandTree → Op → OperandTree → ExprTree
     exists : QueryTree → ExprTree
+    call_test : CallTree → ExprTree
 
   -- the parts of an expression, in order
   pub data ExprTrees : Type 0 where
     no_exprs : ExprTrees
     expr_then : ExprTree → ExprTrees → ExprTrees
 
-  -- a side of a comparison (section 2.3.5.1): a literal, or the value of a query's node
+  -- a side of a comparison (section 2.3.5.1): a literal, the value of a query's node, or what a
+  -- function answers
   pub data OperandTree : Type 0 where
     literal : LiteralTree → OperandTree
     node_value : QueryTree → OperandTree
+    call_value : CallTree → OperandTree
+
+  -- a function expression (section 2.4): the function's name as scalar values, and its arguments
+  pub data CallTree : Type 0 where
+    call : List ℕ → ArgumentTrees → CallTree
+
+  -- an argument of a function (section 2.4)
+  pub data ArgumentTree : Type 0 where
+    literal_argument : LiteralTree → ArgumentTree
+    query_argument : QueryTree → ArgumentTree
+    call_argument : CallTree → ArgumentTree
+    logical_argument : ExprTree → ArgumentTree
+
+  -- the arguments of a function, in order
+  pub data ArgumentTrees : Type 0 where
+    no_arguments : ArgumentTrees
+    argument_then : ArgumentTree → ArgumentTrees → ArgumentTrees
 
 -- a list of selectors as the tree holds it
 abbrev pub selectors : List SelectorTree → SelectorTrees
@@ -85,6 +107,11 @@ abbrev pub exprs : List ExprTree → ExprTrees
 exprs [] = no_exprs
 exprs (x ∷ xs) = expr_then x (exprs xs)
 
+-- a list of arguments as the tree holds it
+abbrev pub arguments : List ArgumentTree → ArgumentTrees
+arguments [] = no_arguments
+arguments (x ∷ xs) = argument_then x (arguments xs)
+
 -- ---- the trees of the program's values
 
 -- the tree of a literal
@@ -96,7 +123,8 @@ literal_of written.False = false_literal
 literal_of written.Null = null_literal
 
 -- one layer, with the tree of each part in its place
-abbrev pub expr_step : Expr-F ExprTree OperandTree SelectorTree ExprTree QueryTree SegmentTree
+abbrev pub expr_step : Expr-F
+    ArgumentTree ExprTree OperandTree SelectorTree ExprTree CallTree QueryTree SegmentTree
     → ExprTree
 expr_step (Expr-F.AnyOf es) = any_of (exprs es.items)
 expr_step (Expr-F.AllOf es) = all_of (exprs es.items)
@@ -104,12 +132,28 @@ expr_step (Expr-F.Not e) = negation e.value
 expr_step (Expr-F.Compare left op right) = comparison left op right
 expr_step (Expr-F.Test e) = e
 
-abbrev pub operand_step : Operand-F ExprTree OperandTree SelectorTree ExprTree QueryTree SegmentTree
+abbrev pub operand_step : Operand-F
+    ArgumentTree ExprTree OperandTree SelectorTree ExprTree CallTree QueryTree SegmentTree
     → OperandTree
-operand_step (Operand-F.Literal l) = literal (literal_of l)
+operand_step (Operand-F.Operand::Literal l) = literal (literal_of l)
 operand_step (Operand-F.Operand::Query q) = node_value q
+operand_step (Operand-F.Operand::Call c) = call_value c
 
-abbrev pub selector_step : Selector-F ExprTree OperandTree SelectorTree ExprTree QueryTree SegmentTree
+abbrev pub argument_step : Argument-F
+    ArgumentTree ExprTree OperandTree SelectorTree ExprTree CallTree QueryTree SegmentTree
+    → ArgumentTree
+argument_step (Argument-F.Argument::Literal l) = literal_argument (literal_of l)
+argument_step (Argument-F.Argument::Query q) = query_argument q
+argument_step (Argument-F.Argument::Call c) = call_argument c
+argument_step (Argument-F.Logical e) = logical_argument e
+
+abbrev pub call_step : Call-F
+    ArgumentTree ExprTree OperandTree SelectorTree ExprTree CallTree QueryTree SegmentTree
+    → CallTree
+call_step c = call (chars (string_bytes c.name)) (arguments c.arguments.items)
+
+abbrev pub selector_step : Selector-F
+    ArgumentTree ExprTree OperandTree SelectorTree ExprTree CallTree QueryTree SegmentTree
     → SelectorTree
 selector_step (Selector-F.Name s) = name (chars (string_bytes s))
 selector_step Selector-F.Wildcard = wildcard
@@ -117,44 +161,82 @@ selector_step (Selector-F.Index n) = index n
 selector_step (Selector-F.Slice s) = slice s
 selector_step (Selector-F.Filter e) = filter e
 
-abbrev pub subject_step : Subject-F ExprTree OperandTree SelectorTree ExprTree QueryTree SegmentTree
+abbrev pub subject_step : Subject-F
+    ArgumentTree ExprTree OperandTree SelectorTree ExprTree CallTree QueryTree SegmentTree
     → ExprTree
 subject_step (Subject-F.Subject::Query q) = exists q
+subject_step (Subject-F.Subject::Call c) = call_test c
 
-abbrev pub query_step : Query-F ExprTree OperandTree SelectorTree ExprTree QueryTree SegmentTree
+abbrev pub query_step : Query-F
+    ArgumentTree ExprTree OperandTree SelectorTree ExprTree CallTree QueryTree SegmentTree
     → QueryTree
 query_step q = query q.absolute (segments q.segments.items)
 
-abbrev pub segment_step : Segment-F ExprTree OperandTree SelectorTree ExprTree QueryTree SegmentTree
+abbrev pub segment_step : Segment-F
+    ArgumentTree ExprTree OperandTree SelectorTree ExprTree CallTree QueryTree SegmentTree
     → SegmentTree
 segment_step s = segment s.descendant (selectors s.selectors.items)
 
 -- the tree of an expression
 abbrev pub expr_of : Expr → ExprTree
 expr_of =
-    fold-Expr ExprTree OperandTree SelectorTree ExprTree QueryTree SegmentTree
-    expr_step operand_step selector_step subject_step query_step segment_step
+    fold-Expr
+    ArgumentTree ExprTree OperandTree SelectorTree ExprTree CallTree QueryTree SegmentTree
+    argument_step expr_step operand_step selector_step subject_step call_step query_step
+    segment_step
 
 -- the tree of a side of a comparison
 abbrev pub operand_of : Operand → OperandTree
 operand_of =
-    fold-Operand ExprTree OperandTree SelectorTree ExprTree QueryTree SegmentTree
-    expr_step operand_step selector_step subject_step query_step segment_step
+    fold-Operand
+    ArgumentTree ExprTree OperandTree SelectorTree ExprTree CallTree QueryTree SegmentTree
+    argument_step expr_step operand_step selector_step subject_step call_step query_step
+    segment_step
+
+-- the tree of a function expression
+abbrev pub call_of : Call → CallTree
+call_of =
+    fold-Call
+    ArgumentTree ExprTree OperandTree SelectorTree ExprTree CallTree QueryTree SegmentTree
+    argument_step expr_step operand_step selector_step subject_step call_step query_step
+    segment_step
+
+-- the tree of an argument
+abbrev pub argument_of : Argument → ArgumentTree
+argument_of =
+    fold-Argument
+    ArgumentTree ExprTree OperandTree SelectorTree ExprTree CallTree QueryTree SegmentTree
+    argument_step expr_step operand_step selector_step subject_step call_step query_step
+    segment_step
+
+-- the tree of a test
+abbrev pub subject_of : Subject → ExprTree
+subject_of =
+    fold-Subject
+    ArgumentTree ExprTree OperandTree SelectorTree ExprTree CallTree QueryTree SegmentTree
+    argument_step expr_step operand_step selector_step subject_step call_step query_step
+    segment_step
 
 -- the tree of a selector
 abbrev pub selector_of : Selector → SelectorTree
 selector_of =
-    fold-Selector ExprTree OperandTree SelectorTree ExprTree QueryTree SegmentTree
-    expr_step operand_step selector_step subject_step query_step segment_step
+    fold-Selector
+    ArgumentTree ExprTree OperandTree SelectorTree ExprTree CallTree QueryTree SegmentTree
+    argument_step expr_step operand_step selector_step subject_step call_step query_step
+    segment_step
 
 -- the tree of a segment
 abbrev pub segment_of : Segment → SegmentTree
 segment_of =
-    fold-Segment ExprTree OperandTree SelectorTree ExprTree QueryTree SegmentTree
-    expr_step operand_step selector_step subject_step query_step segment_step
+    fold-Segment
+    ArgumentTree ExprTree OperandTree SelectorTree ExprTree CallTree QueryTree SegmentTree
+    argument_step expr_step operand_step selector_step subject_step call_step query_step
+    segment_step
 
 -- the tree of a query
 abbrev pub query_of : Query → QueryTree
 query_of =
-    fold-Query ExprTree OperandTree SelectorTree ExprTree QueryTree SegmentTree
-    expr_step operand_step selector_step subject_step query_step segment_step
+    fold-Query
+    ArgumentTree ExprTree OperandTree SelectorTree ExprTree CallTree QueryTree SegmentTree
+    argument_step expr_step operand_step selector_step subject_step call_step query_step
+    segment_step

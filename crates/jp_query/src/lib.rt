@@ -11,6 +11,7 @@
 //! spells two.
 #![tactic(auto)]
 
+mod calls;
 mod expressions;
 mod ints;
 pub mod laws;
@@ -22,6 +23,7 @@ mod parsed;
 mod refusal;
 mod segments;
 mod selectors;
+mod sides;
 mod slices;
 mod strings;
 #[cfg(test)]
@@ -31,4 +33,6 @@ mod tree;
 pub use jp_reading::Span;
 pub use parsed::{LEVEL_LIMIT, Parsed, parse};
 pub use refusal::{Refusal, RefusalKind};
-pub use tree::{Expr, Literal, Numeral, Op, Operand, Query, Segment, Selector, Slice, Subject};
+pub use tree::{
+    Argument, Call, Expr, Literal, Numeral, Op, Operand, Query, Segment, Selector, Slice, Subject,
+};

@@ -1,9 +1,8 @@
 //! Literals (RFC 9535 section 2.3.5.1, literal).
 
 ghost use Rattle.std.specs.Prelude.{true};
-ghost use Rattle.jp_reading.specs.Rule.{item};
 ghost use Rattle.jp_reading.specs.Views.{Gives};
-ghost use Rattle.jp_query.specs.Tree.{LiteralTree, literal_of};
+ghost use Rattle.jp_query.specs.Tree.{literal_of};
 ghost use Rattle.jp_query.specs.Private.Rules as rules;
 ghost use Rattle.jp_query.specs.Private.Reading.{read_flat};
 
@@ -12,50 +11,16 @@ use crate::strings::quoted;
 use crate::tree::{Literal, Numeral};
 use jp_reading::{Reader, Stop, natural};
 
-/// A literal, which is an item.
-pub(crate) fn literal_item(reader: &mut Reader) -> Result<Literal, Stop>
-    ensures { Gives literal_of result reader.new (read_flat (item rules.literal) reader.old) }
-{
-    let start = reader.place();
-    let before = reader.items();
-    let literal = literal(reader)?;
-    reader.add_item(start, before)?;
-    Ok(literal)
-}
-
-/// A literal: a string, a word, or a number.
-#[tactic(auto, unfolding(crate::specs::Private::Rules::literal))]
-fn literal(reader: &mut Reader) -> Result<Literal, Stop>
-    ensures { Gives literal_of result reader.new (read_flat rules.literal reader.old) }
+/// A literal that is no word: a string or a number.
+#[tactic(auto, unfolding(crate::specs::Private::Rules::plain_literal))]
+pub fn plain_literal(reader: &mut Reader) -> Result<Literal, Stop>
+    ensures { Gives literal_of result reader.new (read_flat rules.plain_literal reader.old) }
 {
     match reader.peek() {
         Some('"') => Ok(Literal::Text(quoted(reader, '"')?)),
         Some('\'') => Ok(Literal::Text(quoted(reader, '\'')?)),
-        Some('t') => {
-            word(reader, ['t', 'r', 'u', 'e'].as_slice())?;
-            Ok(Literal::True)
-        },
-        Some('f') => {
-            word(reader, ['f', 'a', 'l', 's', 'e'].as_slice())?;
-            Ok(Literal::False)
-        },
-        Some('n') => {
-            word(reader, ['n', 'u', 'l', 'l'].as_slice())?;
-            Ok(Literal::Null)
-        },
         _ => Ok(Literal::Number(number(reader)?)),
     }
-}
-
-/// Takes the letters one by one.
-fn word(reader: &mut Reader, letters: &[char]) -> Result<(), Stop>
-    ensures { (x : LiteralTree)
-        → Gives (λ _. x) result reader.new (read_flat (rules.letters x letters.now) reader.old) }
-{
-    'letters: for letter in letters {
-        reader.expect(*letter)?;
-    }
-    Ok(())
 }
 
 /// A number, with a fraction and an exponent or without.

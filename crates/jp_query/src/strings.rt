@@ -12,7 +12,7 @@ ghost use Rattle.jp_query.specs.Private.Rules as rules;
 ghost use Rattle.jp_query.specs.Private.Rules.{begins_character};
 ghost use Rattle.jp_query.specs.Private.Reading.{read_flat};
 
-use jp_reading::{Reader, Stop};
+use jp_reading::{CharacterClass, Reader, Stop};
 
 /// A string between two of the quotation mark.
 #[tactic(auto, unfolding(crate::specs::Private::Rules::quoted))]
@@ -100,11 +100,11 @@ fn escape(reader: &mut Reader, quote: char) -> Result<char, Stop>
 fn hexchar(reader: &mut Reader) -> Result<char, Stop>
     ensures { Gives (λ c. c) result reader.new (read_flat rules.hexchar reader.old) }
 {
-    if is_at(reader, HexDigit::NotD) {
+    if reader.is_at_one_of(HexDigit::NotD) {
         return Ok(scalar(unit(reader, HexDigit::NotD, HexDigit::Any)?));
     }
     let first = digit(reader, HexDigit::D)?;
-    if is_at(reader, HexDigit::UpTo7) {
+    if reader.is_at_one_of(HexDigit::UpTo7) {
         return Ok(scalar(unit_after(reader, first, HexDigit::UpTo7)?));
     }
     surrogates_after(reader, first)
@@ -170,23 +170,8 @@ fn digit(reader: &mut Reader, kind: HexDigit) -> Result<u32, Stop>
     ensures range { IfOk result (λ v. holds_value kind v ≡ true) }
     ensures below { IfOk result (λ v. v < 16) }
 {
-    match reader.peek() {
-        Some(next) if kind.contains(next) => {
-            reader.bump();
-            Ok(value_of(next))
-        },
-        _ => Err(Stop::Syntax(reader.place())),
-    }
-}
-
-/// Whether a hexadecimal digit of that kind comes next.
-fn is_at(reader: &Reader, kind: HexDigit) -> bool
-    ensures { result ≡ passes (is_one_of kind) (head reader.now) }
-{
-    match reader.peek() {
-        Some(c) => kind.contains(c),
-        None => false,
-    }
+    let next = reader.take_one_of(kind)?;
+    Ok(value_of(next))
 }
 
 /// Kinds of hexadecimal digits, in either case.
@@ -200,17 +185,19 @@ enum HexDigit {
     FromC,
 }
 
-impl HexDigit {
-    fn contains(self, c: char) -> bool
-        ensures { result ≡ is_one_of self c }
-    {
+impl CharacterClass for HexDigit {
+    ghost holds = { is_one_of };
+
+    fn contains(self, c: char) -> bool {
         match c.to_digit(16) {
-            Some(value) => self.holds(value),
+            Some(value) => self.holds_value(value),
             None => false,
         }
     }
+}
 
-    fn holds(self, value: u32) -> bool
+impl HexDigit {
+    fn holds_value(self, value: u32) -> bool
         ensures { result ≡ holds_value self value }
     {
         match self {

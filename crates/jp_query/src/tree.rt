@@ -78,6 +78,8 @@ pub enum Expr {
 pub enum Subject {
     /// Whether the query selects a node.
     Query(Query),
+    /// Whether the function's answer is true, or selects a node.
+    Call(Call),
 }
 
 /// A side of a comparison (RFC 9535 section 2.3.5.1, comparable).
@@ -87,6 +89,27 @@ pub enum Operand {
     Literal(Literal),
     /// The value of the node that a singular query selects, or Nothing.
     Query(Query),
+    /// The value that the function answers, or Nothing.
+    Call(Call),
+}
+
+/// A function expression (RFC 9535 section 2.4).
+#[cycle(tree)]
+#[derive(Debug, PartialEq, Eq, Drop)]
+pub struct Call {
+    pub name: String,
+    pub arguments: Vec<Argument>,
+}
+
+/// An argument of a function (RFC 9535 section 2.4, function-argument). A literal, a query or a
+/// function expression that is all of it is that, and no logical expression.
+#[cycle(tree)]
+#[derive(Debug, PartialEq, Eq, Drop)]
+pub enum Argument {
+    Literal(Literal),
+    Query(Query),
+    Call(Call),
+    Logical(Expr),
 }
 
 /// A literal (RFC 9535 section 2.3.5.1).

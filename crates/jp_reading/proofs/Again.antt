@@ -12,7 +12,8 @@ use Rattle.jp_reading.proofs.Loops.{round, each-on, each-off}
 
 -- the rule reads each text of x as x, where what follows it is as it must be
 abbrev pub Again : {A : Type 0} → (A → Form) → (Text → Type 0) → (State → Outcome A) → Type 0
-Again {A} F Follows rule = (x : A) (p q : State) → Reads (F x) p q → Follows q.rest → rule p ≡ took x q
+Again {A} F Follows rule = (x : A) (p q : State) → Reads (F x) p q → Follows q.rest
+    → rule p ≡ took x q
 
 -- ---- where one part ends and the next begins
 
@@ -25,12 +26,17 @@ pub split : (P Q : Form) (p q : State) → Reads (P ⌢ Q) p q → Split P Q p q
 split P Q p q h =
     let parts = h.is in
     record {
-      middle = record { at = p.at + bytes parts.first; rest = parts.second ++ q.rest; found = p.found ++ parts.first_spans };
+      middle = record {
+        at = p.at + bytes parts.first;
+        rest = parts.second ++ q.rest;
+        found = p.found ++ parts.first_spans;
+      };
       one = record {
         spans = parts.first_spans;
         text = parts.first;
         way = record {
-          rest = h.way.rest ∙ ap (λ t. t ++ q.rest) parts.is ∙ append_assoc parts.first parts.second q.rest;
+          rest = h.way.rest ∙ ap (λ t. t ++ q.rest) parts.is
+              ∙ append_assoc parts.first parts.second q.rest;
           at = refl;
           found = refl;
         };
@@ -41,18 +47,20 @@ split P Q p q h =
         text = parts.second;
         way = record {
           rest = refl;
-          at = h.way.at ∙ ap (λ t. p.at + bytes t) parts.is ∙ (let e = bytes-append parts.first parts.second in omega arith);
-          found = h.way.found ∙ ap (λ s. p.found ++ s) parts.spans ∙ sym (append_assoc p.found parts.first_spans parts.second_spans);
+          at = h.way.at ∙ ap (λ t. p.at + bytes t) parts.is
+              ∙ (let e = bytes-append parts.first parts.second in omega arith);
+          found = h.way.found ∙ ap (λ s. p.found ++ s) parts.spans
+              ∙ sym (append_assoc p.found parts.first_spans parts.second_spans);
         };
         is = parts.two;
       };
     }
 
 -- a word is its first character and the others
-pub split-word : (c : ℕ) (w : Text) (p q : State) → Reads (word (c ∷ w)) p q → Split (word (c ∷ [])) (word w) p q
+pub split-word : (c : ℕ) (w : Text) (p q : State) → Reads (word (c ∷ w)) p q
+    → Split (word (c ∷ [])) (word w) p q
 split-word c w p q h =
-    split (word (c ∷ [])) (word w) p q
-    (reads-as (word (c ∷ w)) (word (c ∷ []) ⌢ word w) p q
+    split (word (c ∷ [])) (word w) p q (reads-as (word (c ∷ w)) (word (c ∷ []) ⌢ word w) p q
     (λ s o t g. record {
       first_spans = [];
       second_spans = [];
@@ -83,7 +91,8 @@ one-character p q s t c e f way =
     let rest : p.rest ≡ c ∷ q.rest = way.rest ∙ ap (λ u. u ++ q.rest) f in (
       ap first_of rest,
       ap (past_first p.at p.found) rest
-          ∙ state-same (past_first p.at p.found (c ∷ q.rest)) q (sym (way.at ∙ ap (λ u. p.at + bytes u) f ∙ omega arith)) refl
+          ∙ state-same (past_first p.at p.found (c ∷ q.rest)) q
+          (sym (way.at ∙ ap (λ u. p.at + bytes u) f ∙ omega arith)) refl
           (sym (way.found ∙ ap (λ v. p.found ++ v) e ∙ append-nil p.found)),
     )
 
@@ -94,7 +103,8 @@ word-first c w p q h = ap first_of (h.way.rest ∙ ap (λ u. u ++ q.rest) h.is.i
 pub one-first : (ok : ℕ → Bool) (c : ℕ) (p q : State) → Reads (One ok c) p q → head p ≡ Some c
 one-first ok c p q h = ap first_of (h.way.rest ∙ ap (λ u. u ++ q.rest) h.is.is)
 
-pub again-take_if : (ok : ℕ → Bool) (c : ℕ) (p q : State) → Reads (One ok c) p q → take_if ok p ≡ took c q
+pub again-take_if : (ok : ℕ → Bool) (c : ℕ) (p q : State) → Reads (One ok c) p q
+    → take_if ok p ≡ took c q
 again-take_if ok c p q h =
     let stands = one-character p q h.spans h.text c h.is.none h.is.is h.way in
     take_if-takes ok p c stands.0 h.is.passes ∙ ap (took c) stands.1
@@ -112,11 +122,17 @@ pub past-word : (c : ℕ) (p q : State) → Reads (word (c ∷ [])) p q → past
 past-word c p q h = (one-character p q h.spans h.text c h.is.none h.is.is h.way).1
 
 -- blanks are skipped up to what is none
-again-past_blanks : (blanks : Text) (at : ℕ) (found : Spans) (rest : Text) → AllPassing is_blank blanks
+again-past_blanks : (blanks : Text) (at : ℕ) (found : Spans) (rest : Text)
+    → AllPassing is_blank blanks
     → passes is_blank (first_of rest) ≡ false
-    → past_blanks at found (blanks ++ rest) ≡ record { at = at + bytes blanks; rest = rest; found = found }
+    → past_blanks at found (blanks ++ rest) ≡ record {
+      at = at + bytes blanks;
+      rest = rest;
+      found = found;
+    }
 unfolding past_blanks
-again-past_blanks [] at found [] all off = ap (λ (n : ℕ). record { at = n; rest = []; found = found }) (omega arith)
+again-past_blanks [] at found [] all off =
+    ap (λ (n : ℕ). record { at = n; rest = []; found = found }) (omega arith)
 again-past_blanks [] at found (c ∷ rest) all off =
     rw off (ap (λ (n : ℕ). record { at = n; rest = c ∷ rest; found = found }) (omega arith))
 again-past_blanks (b ∷ blanks) at found rest all off =
@@ -125,8 +141,13 @@ again-past_blanks (b ∷ blanks) at found rest all off =
 
 pub again-skip : (p q : State) → Reads Blank p q → passes is_blank (head q) ≡ false → skip p ≡ q
 again-skip p q h off =
-    ap (past_blanks p.at p.found) h.way.rest ∙ again-past_blanks h.text p.at p.found q.rest h.is.blank off
-    ∙ state-same (record { at = p.at + bytes h.text; rest = q.rest; found = p.found }) q (sym h.way.at) refl
+    ap (past_blanks p.at p.found) h.way.rest
+    ∙ again-past_blanks h.text p.at p.found q.rest h.is.blank off
+    ∙ state-same (record {
+      at = p.at + bytes h.text;
+      rest = q.rest;
+      found = p.found;
+    }) q (sym h.way.at) refl
     (sym (h.way.found ∙ ap (λ v. p.found ++ v) h.is.none ∙ append-nil p.found))
 
 -- ---- items and loops
@@ -149,29 +170,40 @@ inside P p q h = record {
   };
   rest = refl;
   spanned = ap (λ (f : Spans). record { at = q.at; rest = q.rest; found = f })
-      (span_inserted p.found h.is.inside (p.found ++ h.is.inside) (record { start = p.at; end = q.at })
-      (record { start = p.at; end = p.at + bytes h.text }) refl (ap (λ (e : ℕ). record { start = p.at; end = e }) h.way.at)
+      (span_inserted p.found h.is.inside (p.found ++ h.is.inside) (record {
+        start = p.at;
+        end = q.at;
+      })
+      (record { start = p.at; end = p.at + bytes h.text }) refl
+      (ap (λ (e : ℕ). record { start = p.at; end = e }) h.way.at)
       ∙ ap (λ s. p.found ++ s) (sym h.is.spans) ∙ sym h.way.found);
 }
 
--- where another text of the loop stands a round begins, and what stands there may follow a text before it
+-- where another text of the loop stands a round begins, and what stands there may follow a text
+-- before it
 abbrev pub Starts : {A : Type 0} → (A → Form) → (Text → Type 0) → (State → Bool) → Type 0
-Starts {A} F Follows begins = (x : A) (p q : State) → Reads (F x) p q → (begins p ≡ true) × Follows p.rest
+Starts {A} F Follows begins =
+    (x : A) (p q : State) → Reads (F x) p q → (begins p ≡ true) × Follows p.rest
 
 -- a value, and then a list
-pub again-round : {A : Type 0} (x : A) (xs : List A) (p m q : State) (o : Outcome A) (f : State → Outcome (List A))
+pub again-round : {A : Type 0} (x : A) (xs : List A) (p m q : State) (o : Outcome A)
+    (f : State → Outcome (List A))
     → o ≡ took x m → f m ≡ took xs q → round o f ≡ took (x ∷ xs) q
 again-round x xs p m q o f e g = rw (e, g) refl
 
-each-follows : {A : Type 0} (F : A → Form) (Follows : Text → Type 0) (begins : State → Bool) → Starts F Follows begins
+each-follows : {A : Type 0} (F : A → Form) (Follows : Text → Type 0) (begins : State → Bool)
+    → Starts F Follows begins
     → (xs : List A) (p q : State) → Reads (Each F xs) p q → Follows q.rest → Follows p.rest
-each-follows F Follows begins starts [] p q h follow = subst (λ (r : State). Follows r.rest) (sym (reads-none p q h)) follow
+each-follows F Follows begins starts [] p q h follow =
+    subst (λ (r : State). Follows r.rest) (sym (reads-none p q h)) follow
 each-follows F Follows begins starts (x ∷ xs) p q h follow =
     let parts = split (F x) (Each F xs) p q h in (starts x p parts.middle parts.one).1
 
-pub again-each : {A : Type 0} (F : A → Form) (Follows : Text → Type 0) (begins : State → Bool) (rule : State → Outcome A)
+pub again-each : {A : Type 0} (F : A → Form) (Follows : Text → Type 0) (begins : State → Bool)
+    (rule : State → Outcome A)
     → Progress rule → Again F Follows rule → Starts F Follows begins
-    → (xs : List A) (p q : State) → Reads (Each F xs) p q → begins q ≡ false → Follows q.rest → each begins rule p ≡ took xs q
+    → (xs : List A) (p q : State) → Reads (Each F xs) p q → begins q ≡ false → Follows q.rest
+    → each begins rule p ≡ took xs q
 again-each F Follows begins rule moves again starts [] p q h off follow =
     let same = reads-none p q h in
     rw same (each-off begins rule q off)
@@ -184,17 +216,21 @@ again-each F Follows begins rule moves again starts (x ∷ xs) p q h off follow 
     (again-each F Follows begins rule moves again starts xs m q parts.two off follow)
 
 -- a first value, and others behind a separator each
-pub again-separated : {A : Type 0} (w : Form) (F : A → Form) (Follows : Text → Type 0) (begins : State → Bool)
-    (first next : State → Outcome A) → Progress next → Again F Follows first → Again (λ x. w ⌢ F x) Follows next
+pub again-separated : {A : Type 0} (w : Form) (F : A → Form) (Follows : Text → Type 0)
+    (begins : State → Bool)
+    (first next : State → Outcome A) → Progress next → Again F Follows first
+    → Again (λ x. w ⌢ F x) Follows next
     → Starts (λ x. w ⌢ F x) Follows begins
     → (xs : List A) (p q : State) → Reads (Separated w F xs) p q → begins q ≡ false → Follows q.rest
     → round (first p) (each begins next) ≡ took xs q
-again-separated w F Follows begins first next moves one more starts [] p q h off follow = elim h.is [ ]
+again-separated w F Follows begins first next moves one more starts [] p q h off follow =
+    elim h.is [ ]
 again-separated w F Follows begins first next moves one more starts (x ∷ xs) p q h off follow =
     let parts = split (F x) (Each (λ y. w ⌢ F y) xs) p q h in
     let m = parts.middle in
     again-round x xs p m q (first p) (each begins next)
-    (one x p m parts.one (each-follows (λ y. w ⌢ F y) Follows begins starts xs m q parts.two follow))
+    (one x p m parts.one
+    (each-follows (λ y. w ⌢ F y) Follows begins starts xs m q parts.two follow))
     (again-each (λ y. w ⌢ F y) Follows begins next moves more starts xs m q parts.two off follow)
 
 -- ---- whole texts
@@ -215,7 +251,8 @@ reads-whole P s t h = record {
   is = h;
 }
 
-pub whole-reads : (P : Form) (t : Text) (q : State) → Reads P (start t) q → q.rest ≡ [] → P q.found 0 t
+pub whole-reads : (P : Form) (t : Text) (q : State) → Reads P (start t) q → q.rest ≡ []
+    → P q.found 0 t
 whole-reads P t q h e =
     let all : h.text ≡ t = sym (h.way.rest ∙ ap (λ u. h.text ++ u) e ∙ append-nil h.text) in
     rw (h.way.found, ← all) h.is

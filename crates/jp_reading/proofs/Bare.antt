@@ -19,11 +19,14 @@ bare-joined P Q f g s o t h =
     let two = g h.second_spans (o + bytes h.first) h.second h.two in
     h.spans ∙ rw (one, two) refl
 
-pub bare-each : {A : Type 0} (F : A → Form) → ((x : A) → Bare (F x)) → (xs : List A) → Bare (Each F xs)
+pub bare-each : {A : Type 0} (F : A → Form) → ((x : A) → Bare (F x)) → (xs : List A)
+    → Bare (Each F xs)
 bare-each F f [] = bare-word []
 bare-each F f (x ∷ xs) = bare-joined (F x) (Each F xs) (f x) (bare-each F f xs)
 
-pub bare-separated : {A : Type 0} (P : Form) (F : A → Form) → Bare P → ((x : A) → Bare (F x)) → (xs : List A) → Bare (Separated P F xs)
+pub bare-separated : {A : Type 0} (P : Form) (F : A → Form) → Bare P → ((x : A) → Bare (F x))
+    → (xs : List A) → Bare (Separated P F xs)
 bare-separated P F g f [] s o t h = elim h [ ]
 bare-separated P F g f (x ∷ xs) s o t h =
-    bare-joined (F x) (Each (λ y. P ⌢ F y) xs) (f x) (bare-each (λ y. P ⌢ F y) (λ y. bare-joined P (F y) g (f y)) xs) s o t h
+    bare-joined (F x) (Each (λ y. P ⌢ F y) xs) (f x)
+    (bare-each (λ y. P ⌢ F y) (λ y. bare-joined P (F y) g (f y)) xs) s o t h

@@ -58,7 +58,8 @@ pub state-same : (p q : State) → p.at ≡ q.at → p.rest ≡ q.rest → p.fou
 state-same p q a r f = fields p.at q.at p.rest q.rest p.found q.found a r f
   where
     fields : (a b : ℕ) (t u : Text) (s v : Spans) → a ≡ b → t ≡ u → s ≡ v
-        → ◌≡◌ {A = State} (record { at = a; rest = t; found = s }) (record { at = b; rest = u; found = v })
+        → ◌≡◌ {A = State} (record { at = a; rest = t; found = s })
+        (record { at = b; rest = u; found = v })
     fields a b t u s v e f g = cc
 
 -- and where nothing lies between two states they are one
@@ -67,7 +68,8 @@ between-none p q h =
     state-same p q (let e = h.at in omega arith) h.rest (sym (h.found ∙ append-nil p.found))
 
 -- one way after another
-pub between-then : (p q r : State) (s u : Spans) (t v : Text) → Between p s t q → Between q u v r → Between p (s ++ u) (t ++ v) r
+pub between-then : (p q r : State) (s u : Spans) (t v : Text) → Between p s t q → Between q u v r
+    → Between p (s ++ u) (t ++ v) r
 between-then p q r s u t v h g = record {
   rest = h.rest ∙ ap (λ x. t ++ x) g.rest ∙ sym (append_assoc t v r.rest);
   at = (let a = h.at in let b = g.at in let e = bytes-append t v in omega arith);
@@ -136,7 +138,12 @@ front-first P Q p r h has =
 
 -- of another form
 pub reads-as : (P Q : Form) (p q : State) → Within P Q → Reads P p q → Reads Q p q
-reads-as P Q p q w h = record { spans = h.spans; text = h.text; way = h.way; is = w h.spans p.at h.text h.is }
+reads-as P Q p q w h = record {
+  spans = h.spans;
+  text = h.text;
+  way = h.way;
+  is = w h.spans p.at h.text h.is;
+}
 
 -- what was read has another form too
 pub reads-is : (P Q : Form) (p q : State) (h : Reads P p q) → Q h.spans p.at h.text → Reads Q p q
@@ -162,7 +169,8 @@ front-none P p has =
     record { read = []; more = text.1; spans = text.0; rest = refl; at = omega arith; is = text.2 }
 
 -- two parts of other forms
-pub joined-both : (P P' Q Q' : Form) (s : Spans) (o : ℕ) (t : Text) (h : (P ⌢ Q) s o t) → P' h.first_spans o h.first
+pub joined-both : (P P' Q Q' : Form) (s : Spans) (o : ℕ) (t : Text) (h : (P ⌢ Q) s o t)
+    → P' h.first_spans o h.first
     → Q' h.second_spans (o + bytes h.first) h.second → (P' ⌢ Q') s o t
 joined-both P P' Q Q' s o t h one two = record {
   first_spans = h.first_spans;

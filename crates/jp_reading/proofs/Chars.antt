@@ -13,7 +13,8 @@ past_first-shorter ok at found [] h = cc
 past_first-shorter ok at found (c ∷ t) h = omega arith
 
 -- past a character the text is shorter
-pub past-shorter : (ok : ℕ → Bool) (p : State) → passes ok (head p) ≡ true → length (past p).rest < length p.rest
+pub past-shorter : (ok : ℕ → Bool) (p : State) → passes ok (head p) ≡ true
+    → length (past p).rest < length p.rest
 past-shorter ok p h = past_first-shorter ok p.at p.found p.rest h
 
 past_blanks-on : (at : ℕ) (found : Spans) (t : Text) → passes is_blank (first_of t) ≡ true
@@ -50,24 +51,29 @@ past_blanks-rest at place found spans (c ∷ t) =
 -- the next character that is no blank hangs on the text alone
 pub after_blank-same : (p q : State) → p.rest ≡ q.rest → after_blank p ≡ after_blank q
 after_blank-same p q e =
-    ap first_of (past_blanks-rest p.at q.at p.found q.found p.rest ∙ ap (λ t. (past_blanks q.at q.found t).rest) e)
+    ap first_of (past_blanks-rest p.at q.at p.found q.found p.rest
+    ∙ ap (λ t. (past_blanks q.at q.found t).rest) e)
 
 -- of a text alone: where it ends, where it begins with a blank, and where with another character
-pub first_past-end : (t : Text) → t ≡ [] → after_blank (record { at = 0; rest = t; found = [] }) ≡ None
+pub first_past-end : (t : Text) → t ≡ []
+    → after_blank (record { at = 0; rest = t; found = [] }) ≡ None
 unfolding past_blanks
 first_past-end t e = rw e refl
 
 pub first_past-blank : (t u : Text) (c : ℕ) → t ≡ c ∷ u → is_blank c ≡ true
-    → after_blank (record { at = 0; rest = u; found = [] }) ≡ after_blank (record { at = 0; rest = t; found = [] })
+    → after_blank (record { at = 0; rest = u; found = [] }) ≡ after_blank
+    (record { at = 0; rest = t; found = [] })
 unfolding past_blanks
-first_past-blank t u c e blank = rw (e, blank) (ap first_of (past_blanks-rest 0 (0 + len_utf8 c) [] [] u))
+first_past-blank t u c e blank =
+    rw (e, blank) (ap first_of (past_blanks-rest 0 (0 + len_utf8 c) [] [] u))
 
 pub first_past-other : (t u : Text) (c : ℕ) → t ≡ c ∷ u → is_blank c ≡ false
     → after_blank (record { at = 0; rest = t; found = [] }) ≡ Some c
 unfolding past_blanks
 first_past-other t u c e other = rw (e, other) refl
 
-past_blanks-shorter : (at : ℕ) (found : Spans) (t : Text) → length (past_blanks at found t).rest ≤ length t
+past_blanks-shorter : (at : ℕ) (found : Spans) (t : Text)
+    → length (past_blanks at found t).rest ≤ length t
 unfolding past_blanks
 past_blanks-shorter at found [] = omega arith
 past_blanks-shorter at found (c ∷ t) =
@@ -81,7 +87,10 @@ pub skip-shorter : (p : State) → length (skip p).rest ≤ length p.rest
 skip-shorter p = past_blanks-shorter p.at p.found p.rest
 
 -- a character pushed to the end of a text
-pub chars_push : (s : List ℕ) (c : ℕ) → IsUtf8 s → IsScalar c → chars (s ++ encode_utf8 c) ≡ chars s ++ c ∷ []
+pub chars_push : (s : List ℕ) (c : ℕ) → IsUtf8 s → IsScalar c
+    → chars (s ++ encode_utf8 c) ≡ chars s ++ c ∷ []
 chars_push s c text scalar =
     chars-append s (encode_utf8 c) text
-    ∙ ap (λ t. chars s ++ t) (chars_past_char (encode_utf8 c) [] c (IsUtf8-encode c scalar) (sym (append-nil (encode_utf8 c))) ∙ ap (λ t. c ∷ t) chars-nil)
+    ∙ ap (λ t. chars s ++ t)
+    (chars_past_char (encode_utf8 c) [] c (IsUtf8-encode c scalar)
+    (sym (append-nil (encode_utf8 c))) ∙ ap (λ t. c ∷ t) chars-nil)

@@ -14,25 +14,31 @@ pub digit_at-progress : Progress digit_at
 digit_at-progress p = moves-take_if is_digit p
 
 -- one more digit, by its value
-pub capped-digit : (most n d : ℕ) (ds : Text) → capped most n ((48 + d) ∷ ds) ≡ capped most (min (n * 10 + d) most) ds
-capped-digit most n d ds = ap (λ (x : ℕ). capped most (min (n * 10 + x) most) ds) (let e : 48 + d - 48 ≡ d = omega arith in e)
+pub capped-digit : (most n d : ℕ) (ds : Text) → capped most n ((48 + d) ∷ ds) ≡ capped most
+    (min (n * 10 + d) most) ds
+capped-digit most n d ds =
+    ap (λ (x : ℕ). capped most (min (n * 10 + x) most) ds)
+    (let e : 48 + d - 48 ≡ d = omega arith in e)
 
 -- the first digit
 pub digits_at-first : {B : Type 0} (f g : Text → B) (p q : State) (c : ℕ) → digit_at p ≡ took c q
     → ((ds : Text) → f (c ∷ ds) ≡ g ds) → by f (digits_at p) ≡ by g (each is_at_digit digit_at q)
 unfolding digits_at
 digits_at-first f g p q c e same =
-    ap (λ (o : Outcome ℕ). by f (o >>= λ d q. each is_at_digit digit_at q >>= λ ds r. took (d ∷ ds) r)) e
+    ap (λ (o : Outcome ℕ). by f
+    (o >>= λ d q. each is_at_digit digit_at q >>= λ ds r. took (d ∷ ds) r)) e
     ∙ by-cons f g c (each is_at_digit digit_at q) same
   where
-    by-cons : {B : Type 0} (f g : Text → B) (c : ℕ) (o : Outcome Text) → ((ds : Text) → f (c ∷ ds) ≡ g ds)
+    by-cons : {B : Type 0} (f g : Text → B) (c : ℕ) (o : Outcome Text)
+        → ((ds : Text) → f (c ∷ ds) ≡ g ds)
         → by f (o >>= λ ds r. took (c ∷ ds) r) ≡ by g o
     by-cons f g c (took ds r) same = ap (λ y. took y r) (same ds)
     by-cons f g c (stuck r) same = refl
     by-cons f g c (deep r) same = refl
 
 -- no digit at all
-pub digits_at-fails : {B : Type 0} (f : Text → B) (p : State) (e : Stop) → Fails e (digit_at p) → Fails e (by f (digits_at p))
+pub digits_at-fails : {B : Type 0} (f : Text → B) (p : State) (e : Stop) → Fails e (digit_at p)
+    → Fails e (by f (digits_at p))
 unfolding digits_at
 digits_at-fails f p e h = fails-then e (digits_at p) _ (fails-then e (digit_at p) _ h)
 
@@ -47,7 +53,8 @@ value_from-least n [] = omega arith
 value_from-least n (d ∷ ds) = let h = value_from-least (n * 10 + (d - 48)) ds in omega arith
 
 -- what stands before them may be capped first
-value_from-capped : (most n : ℕ) (ds : Text) → min (value_from (min n most) ds) most ≡ min (value_from n ds) most
+value_from-capped : (most n : ℕ) (ds : Text) → min (value_from (min n most) ds) most ≡ min
+    (value_from n ds) most
 value_from-capped most n ds =
     elim (cases_lt n most) [
       | inl within ↦ rw (let e : min n most ≡ n = omega arith in e) refl
@@ -59,15 +66,19 @@ value_from-capped most n ds =
     ]
 
 -- the cap is all that is lost
-pub capped-is_min : (most n : ℕ) (ds : Text) → n ≤ most → capped most n ds ≡ min (value_from n ds) most
+pub capped-is_min : (most n : ℕ) (ds : Text) → n ≤ most
+    → capped most n ds ≡ min (value_from n ds) most
 capped-is_min most n [] h = omega arith
 capped-is_min most n (d ∷ ds) h =
-    capped-is_min most (min (n * 10 + (d - 48)) most) ds (omega arith) ∙ value_from-capped most (n * 10 + (d - 48)) ds
+    capped-is_min most (min (n * 10 + (d - 48)) most) ds (omega arith)
+    ∙ value_from-capped most (n * 10 + (d - 48)) ds
 
 -- no digits write more than the cap
-pub capped-took : (most n : ℕ) (o : Outcome Text) (q : State) → by (capped most 0) o ≡ took n q → n ≤ most
+pub capped-took : (most n : ℕ) (o : Outcome Text) (q : State) → by (capped most 0) o ≡ took n q
+    → n ≤ most
 capped-took most n (took ds r) q e =
     let same : capped most 0 ds ≡ n = cc in
-    let least : min (value_from 0 ds) most ≡ n = sym (capped-is_min most 0 ds (omega arith)) ∙ same in omega arith
+    let least : min (value_from 0 ds) most ≡ n =
+    sym (capped-is_min most 0 ds (omega arith)) ∙ same in omega arith
 capped-took most n (stuck r) q e = cc
 capped-took most n (deep r) q e = cc

@@ -18,7 +18,8 @@ Fits F p (stuck q) = Unit {0}
 Fits F p (deep q) = Unit {0}
 
 -- one rule, and then one that goes on from what it read
-pub fits-then : {A B : Type 0} (F : A → Form) (G : B → Form) (p q : State) (o : Outcome A) (k : A → State → Outcome B)
+pub fits-then : {A B : Type 0} (F : A → Form) (G : B → Form) (p q : State) (o : Outcome A)
+    (k : A → State → Outcome B)
     → Fits F q o → ((x : A) (r : State) → Reads (F x) q r → Fits G p (k x r)) → Fits G p (o >>= k)
 fits-then F G p q (took x r) k h g = g x r h
 fits-then F G p q (stuck r) k h g = tt
@@ -34,21 +35,38 @@ pub fits-by : {A B : Type 0} (f : A → B) (F : A → Form) (G : B → Form) (p 
     → Fits F q o → ((x : A) (r : State) → Reads (F x) q r → Reads (G (f x)) p r) → Fits G p (by f o)
 fits-by f F G p q o h g = fits-then F G p q o (λ x r. took (f x) r) h g
 
-pub fits-as : {A : Type 0} (F G : A → Form) (p : State) (o : Outcome A) → ((x : A) → Within (F x) (G x)) → Fits F p o → Fits G p o
+pub fits-as : {A : Type 0} (F G : A → Form) (p : State) (o : Outcome A)
+    → ((x : A) → Within (F x) (G x)) → Fits F p o → Fits G p o
 fits-as F G p (took x q) w h = reads-as (F x) (G x) p q (w x) h
 fits-as F G p (stuck q) w h = tt
 fits-as F G p (deep q) w h = tt
 
 -- nothing at all
 pub reads-nothing : (p : State) → Reads (word []) p p
-reads-nothing p = record { spans = []; text = []; way = between-same p; is = record { none = refl; is = refl } }
+reads-nothing p = record {
+  spans = [];
+  text = [];
+  way = between-same p;
+  is = record { none = refl; is = refl };
+}
 
 -- a character that stands next
-pub reads-one : (ok : ℕ → Bool) (p : State) (c : ℕ) → head p ≡ Some c → ok c ≡ true → Reads (One ok c) p (past p)
-reads-one ok p c e h = record { spans = []; text = c ∷ []; way = past-way p c e; is = record { none = refl; is = refl; passes = h } }
+pub reads-one : (ok : ℕ → Bool) (p : State) (c : ℕ) → head p ≡ Some c → ok c ≡ true
+    → Reads (One ok c) p (past p)
+reads-one ok p c e h = record {
+  spans = [];
+  text = c ∷ [];
+  way = past-way p c e;
+  is = record { none = refl; is = refl; passes = h };
+}
 
 pub reads-word : (p : State) (c : ℕ) → head p ≡ Some c → Reads (word (c ∷ [])) p (past p)
-reads-word p c e = record { spans = []; text = c ∷ []; way = past-way p c e; is = record { none = refl; is = refl } }
+reads-word p c e = record {
+  spans = [];
+  text = c ∷ [];
+  way = past-way p c e;
+  is = record { none = refl; is = refl };
+}
 
 -- a character that passes
 pub fits-take_if : (ok : ℕ → Bool) (p : State) → Fits (One ok) p (take_if ok p)
@@ -66,18 +84,20 @@ fits-take_if ok p = taken (head p) refl
 pub fits-expect : (c : ℕ) (p : State) → Fits (λ x. word (c ∷ [])) p (expect c p)
 fits-expect c p =
     fits-as (One (is c)) (λ x. word (c ∷ [])) p (expect c p)
-    (λ x s o t h. record { none = h.none; is = subst (λ d. t ≡ d ∷ []) (eqb-true x c h.passes) h.is }) (fits-take_if (is c) p)
+    (λ x s o t h. record {
+      none = h.none;
+      is = subst (λ d. t ≡ d ∷ []) (eqb-true x c h.passes) h.is;
+    }) (fits-take_if (is c) p)
 
 fits-loop : {A : Type 0} (F : A → Form) (n : ℕ) (begins : State → Bool) (rule : State → Outcome A)
     → ((q : State) → Fits F q (rule q)) → (p : State) → Fits (Each F) p (loop n begins rule p)
 unfolding loop
 fits-loop F zero begins rule h p = reads-nothing p
 fits-loop F (suc n) begins rule h p =
-    fits-if (Each F) (begins p) p _ (took [] p)
-    (λ on. fits-then F (Each F) p p (rule p) _ (h p)
-    (λ x q one. fits-by (λ xs. x ∷ xs) (Each F) (Each F) p q (loop n begins rule q) (fits-loop F n begins rule h q)
-    (λ xs r more. reads-then (F x) (Each F xs) p q r one more)))
-    (λ off. reads-nothing p)
+    fits-if (Each F) (begins p) p _ (took [] p) (λ on. fits-then F (Each F) p p (rule p) _ (h p)
+    (λ x q one. fits-by (λ xs. x ∷ xs) (Each F) (Each F) p q (loop n begins rule q)
+    (fits-loop F n begins rule h q)
+    (λ xs r more. reads-then (F x) (Each F xs) p q r one more))) (λ off. reads-nothing p)
 
 -- one after another
 pub fits-each : {A : Type 0} (F : A → Form) (begins : State → Bool) (rule : State → Outcome A)
@@ -89,7 +109,8 @@ pub fits-digits : (p : State) → Fits Digits p (digits_at p)
 unfolding digits_at
 fits-digits p =
     fits-then (One is_digit) Digits p p (digit_at p) _ (fits-take_if is_digit p)
-    (λ d q one. fits-by (λ ds. d ∷ ds) (Each (One is_digit)) Digits p q (each is_at_digit digit_at q)
+    (λ d q one. fits-by (λ ds. d ∷ ds) (Each (One is_digit)) Digits p q
+    (each is_at_digit digit_at q)
     (fits-each (One is_digit) is_at_digit digit_at (fits-take_if is_digit) q)
     (λ ds r more. reads-as (One is_digit d ⌢ Each (One is_digit) ds) (Digits (d ∷ ds)) p r
     (λ s o t h. (let run = each-run is_digit (d ∷ ds) s o t h in
@@ -97,7 +118,8 @@ fits-digits p =
     (reads-then (One is_digit d) (Each (One is_digit) ds) p q r one more)))
 
 -- two words, one after the other, are one
-pub reads-words : (v w : Text) (p q r : State) → Reads (word v) p q → Reads (word w) q r → Reads (word (v ++ w)) p r
+pub reads-words : (v w : Text) (p q r : State) → Reads (word v) p q → Reads (word w) q r
+    → Reads (word (v ++ w)) p r
 reads-words v w p q r h g =
     reads-as (word v ⌢ word w) (word (v ++ w)) p r (words-join v w)
     (reads-then (word v) (word w) p q r h g)

@@ -1,4 +1,5 @@
--- A loop in code keeps what its rule's loop would still make of what it holds: `by f (each begins rule here)`.
+-- A loop in code keeps what its rule's loop would still make of what it holds: `by f (each begins
+-- rule here)`.
 use Rattle.std.proofs.Common.{◌≡◌, Bool, true, false, List, [], ◌∷◌, ◌++◌, refl, sym, ap, ◌∙◌, append_assoc, append-nil}
 use Rattle.jp_reading.specs.declared.reader.Stop.{Stop}
 use Rattle.jp_reading.specs.declared.reader.Stop.TheVariants.{Memory, Syntax, TooDeep}
@@ -7,7 +8,8 @@ use Rattle.jp_reading.specs.Views.{Fails, by, with_front}
 use Rattle.jp_reading.proofs.Progress.{Progress}
 use Rattle.jp_reading.proofs.Loops.{each-on, each-off, round}
 
-by-round : {A B : Type 0} (f g : List A → B) (x : A) (o : Outcome (List A)) → ((xs : List A) → f (x ∷ xs) ≡ g xs)
+by-round : {A B : Type 0} (f g : List A → B) (x : A) (o : Outcome (List A))
+    → ((xs : List A) → f (x ∷ xs) ≡ g xs)
     → by f (o >>= λ xs r. took (x ∷ xs) r) ≡ by g o
 by-round f g x (took xs q) e = ap (λ y. took y q) (e xs)
 by-round f g x (stuck q) e = refl
@@ -22,12 +24,14 @@ folds_on begins rule h f g p q x on e same =
     ∙ by-round f g x (each begins rule q) same
 
 -- the end of the loop
-pub folds_end : {A B : Type 0} (begins : State → Bool) (rule : State → Outcome A) (f : List A → B) (p : State)
+pub folds_end : {A B : Type 0} (begins : State → Bool) (rule : State → Outcome A) (f : List A → B)
+    (p : State)
     → begins p ≡ false → by f (each begins rule p) ≡ took (f []) p
 folds_end begins rule f p off = ap (by f) (each-off begins rule p off)
 
 -- a rule that fails within another
-pub fails-then : {A B : Type 0} (e : Stop) (o : Outcome A) (k : A → State → Outcome B) → Fails e o → Fails e (o >>= k)
+pub fails-then : {A B : Type 0} (e : Stop) (o : Outcome A) (k : A → State → Outcome B) → Fails e o
+    → Fails e (o >>= k)
 fails-then Memory o k h = tt
 fails-then (Syntax n) (took x q) k h = elim h [ ]
 fails-then (Syntax n) (stuck q) k h = h
@@ -38,9 +42,11 @@ fails-then (TooDeep n) (deep q) k h = h
 
 -- a round that fails
 pub folds_fail : {A B : Type 0} (begins : State → Bool) (rule : State → Outcome A) → Progress rule
-    → (f : List A → B) (p : State) (e : Stop) → begins p ≡ true → Fails e (rule p) → Fails e (by f (each begins rule p))
+    → (f : List A → B) (p : State) (e : Stop) → begins p ≡ true → Fails e (rule p)
+    → Fails e (by f (each begins rule p))
 folds_fail begins rule h f p e on failed =
-    rw (each-on begins rule h p on) (fails-then e (round (rule p) (each begins rule)) _ (fails-then e (rule p) _ failed))
+    rw (each-on begins rule h p on)
+    (fails-then e (round (rule p) (each begins rule)) _ (fails-then e (rule p) _ failed))
 
 -- nothing in front changes nothing
 pub with_front-nil : {A : Type 0} (o : Outcome (List A)) → with_front [] o ≡ o
@@ -49,18 +55,23 @@ with_front-nil (stuck q) = refl
 with_front-nil (deep q) = refl
 
 -- a loop that pushes each value to a list: a round more, and its end
-pub pushes_on : {A : Type 0} (begins : State → Bool) (rule : State → Outcome A) → Progress rule → (xs : List A)
+pub pushes_on : {A : Type 0} (begins : State → Bool) (rule : State → Outcome A) → Progress rule
+    → (xs : List A)
     (p q : State) (x : A) → begins p ≡ true → rule p ≡ took x q
     → with_front xs (each begins rule p) ≡ with_front (xs ++ x ∷ []) (each begins rule q)
 pushes_on begins rule h xs p q x on e =
-    folds_on begins rule h (λ ys. xs ++ ys) (λ ys. (xs ++ x ∷ []) ++ ys) p q x on e (λ ys. sym (append_assoc xs (x ∷ []) ys))
+    folds_on begins rule h (λ ys. xs ++ ys) (λ ys. (xs ++ x ∷ []) ++ ys) p q x on e
+    (λ ys. sym (append_assoc xs (x ∷ []) ys))
 
-pub pushes_end : {A : Type 0} (begins : State → Bool) (rule : State → Outcome A) (xs : List A) (p : State)
+pub pushes_end : {A : Type 0} (begins : State → Bool) (rule : State → Outcome A) (xs : List A)
+    (p : State)
     → begins p ≡ false → with_front xs (each begins rule p) ≡ took xs p
-pushes_end begins rule xs p off = folds_end begins rule (λ ys. xs ++ ys) p off ∙ ap (λ ys. took ys p) (append-nil xs)
+pushes_end begins rule xs p off = folds_end begins rule (λ ys. xs ++ ys) p off
+    ∙ ap (λ ys. took ys p) (append-nil xs)
 
 -- one value made into another, and that into a third
-pub by-by : {A B C : Type 0} (f : B → C) (g : A → B) (h : A → C) → ((x : A) → f (g x) ≡ h x) → (o : Outcome A)
+pub by-by : {A B C : Type 0} (f : B → C) (g : A → B) (h : A → C) → ((x : A) → f (g x) ≡ h x)
+    → (o : Outcome A)
     → by f (by g o) ≡ by h o
 by-by f g h e (took x q) = ap (λ y. took y q) (e x)
 by-by f g h e (stuck q) = refl

@@ -18,8 +18,7 @@ has-one ok c passes = record { at = λ o. ([], record { none = refl; is = refl; 
 
 pub both : {P Q : Form} {t u : Text} → HasForm P t → HasForm Q u → HasForm (P ⌢ Q) (t ++ u)
 both {t} {u} one two = record {
-  at =
-      λ o.
+  at = λ o.
       let a = one.at o in
       let b = two.at (o + bytes t) in (
         a.0 ++ b.0,
@@ -46,8 +45,7 @@ pub has-same : {P : Form} {t u : Text} → t ≡ u → HasForm P t → HasForm P
 has-same {P} e h = subst (HasForm P) e h
 
 pub has-all : {A : Type 0} (Q : A → Form) (f : A → Text) → ((x : A) → HasForm (Q x) (f x))
-    → (xs : List A)
-    → HasForm (Each Q xs) (flat_map f xs)
+    → (xs : List A) → HasForm (Each Q xs) (flat_map f xs)
 has-all Q f has [] = has-word []
 has-all Q f has (x ∷ xs) = both (has x) (has-all Q f has xs)
 

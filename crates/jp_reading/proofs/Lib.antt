@@ -14,6 +14,7 @@ pub mod Progress
 pub mod Rows
 pub mod Rules
 pub mod Runs
+pub mod Same
 pub mod Steps
 pub mod Stopping
 pub mod Words

@@ -15,7 +15,8 @@ round-same p (stuck q) f g h e = refl
 round-same p (deep q) f g h e = refl
 
 -- more rounds than characters are as good as any other such number
-pub loop-same : {A : Type 0} (n m : ℕ) (begins : State → Bool) (rule : State → Outcome A) → Progress rule → (p : State)
+pub loop-same : {A : Type 0} (n m : ℕ) (begins : State → Bool) (rule : State → Outcome A)
+    → Progress rule → (p : State)
     → length p.rest < n → length p.rest < m → loop n begins rule p ≡ loop m begins rule p
 unfolding loop
 loop-same zero m begins rule h p a b = absurd (omega arith)
@@ -28,7 +29,8 @@ loop-same (suc n) (suc m) begins rule h p a b =
     ]
 
 -- a loop goes on where another begins
-pub each-on : {A : Type 0} (begins : State → Bool) (rule : State → Outcome A) → Progress rule → (p : State)
+pub each-on : {A : Type 0} (begins : State → Bool) (rule : State → Outcome A) → Progress rule
+    → (p : State)
     → begins p ≡ true → each begins rule p ≡ round (rule p) (each begins rule)
 unfolding loop
 each-on begins rule h p on =

@@ -32,7 +32,8 @@ pub keeps-then : {A B : Type 0} (p : State) (o : Outcome A) (k : A → State →
     → Keeps p o → ((x : A) (q : State) → Keeps q (k x q)) → Keeps p (o >>= k)
 keeps-then p (took x q) k h g = keeps-along p q (k x q) h (g x q)
   where
-    keeps-along : {B : Type 0} (p q : State) (o : Outcome B) → length q.rest ≤ length p.rest → Keeps q o → Keeps p o
+    keeps-along : {B : Type 0} (p q : State) (o : Outcome B) → length q.rest ≤ length p.rest
+        → Keeps q o → Keeps p o
     keeps-along p q (took y r) h g = omega arith
     keeps-along p q (stuck r) h g = tt
     keeps-along p q (deep r) h g = tt
@@ -44,7 +45,8 @@ pub moves-then : {A B : Type 0} (p : State) (o : Outcome A) (k : A → State →
     → Moves p o → ((x : A) (q : State) → Keeps q (k x q)) → Moves p (o >>= k)
 moves-then p (took x q) k h g = moves-along p q (k x q) h (g x q)
   where
-    moves-along : {B : Type 0} (p q : State) (o : Outcome B) → length q.rest < length p.rest → Keeps q o → Moves p o
+    moves-along : {B : Type 0} (p q : State) (o : Outcome B) → length q.rest < length p.rest
+        → Keeps q o → Moves p o
     moves-along p q (took y r) h g = omega arith
     moves-along p q (stuck r) h g = tt
     moves-along p q (deep r) h g = tt
@@ -52,12 +54,14 @@ moves-then p (stuck q) k h g = tt
 moves-then p (deep q) k h g = tt
 
 -- from further on
-pub moves-after : {A : Type 0} (p q : State) (o : Outcome A) → length q.rest ≤ length p.rest → Moves q o → Moves p o
+pub moves-after : {A : Type 0} (p q : State) (o : Outcome A) → length q.rest ≤ length p.rest
+    → Moves q o → Moves p o
 moves-after p q (took y r) h g = omega arith
 moves-after p q (stuck r) h g = tt
 moves-after p q (deep r) h g = tt
 
-pub keeps-after : {A : Type 0} (p q : State) (o : Outcome A) → length q.rest ≤ length p.rest → Keeps q o → Keeps p o
+pub keeps-after : {A : Type 0} (p q : State) (o : Outcome A) → length q.rest ≤ length p.rest
+    → Keeps q o → Keeps p o
 keeps-after p q (took y r) h g = omega arith
 keeps-after p q (stuck r) h g = tt
 keeps-after p q (deep r) h g = tt
@@ -73,17 +77,20 @@ moves-later p (deep q) k h g = tt
 pub past-keeps : (p : State) → length (past p).rest ≤ length p.rest
 past-keeps p = past_first-keeps p.at p.found p.rest
   where
-    past_first-keeps : (at : ℕ) (found : Spans) (t : Text) → length (past_first at found t).rest ≤ length t
+    past_first-keeps : (at : ℕ) (found : Spans) (t : Text)
+        → length (past_first at found t).rest ≤ length t
     past_first-keeps at found [] = omega arith
     past_first-keeps at found (c ∷ t) = omega arith
 
 -- either of two ways
-pub moves-if : {A : Type 0} (b : Bool) (p : State) (o u : Outcome A) → (b ≡ true → Moves p o) → (b ≡ false → Moves p u)
+pub moves-if : {A : Type 0} (b : Bool) (p : State) (o u : Outcome A) → (b ≡ true → Moves p o)
+    → (b ≡ false → Moves p u)
     → Moves p (if b then o else u)
 moves-if true p o u f g = f refl
 moves-if false p o u f g = g refl
 
-pub keeps-if : {A : Type 0} (b : Bool) (p : State) (o u : Outcome A) → Keeps p o → Keeps p u → Keeps p (if b then o else u)
+pub keeps-if : {A : Type 0} (b : Bool) (p : State) (o u : Outcome A) → Keeps p o → Keeps p u
+    → Keeps p (if b then o else u)
 keeps-if true p o u f g = f
 keeps-if false p o u f g = g
 
@@ -133,15 +140,18 @@ keeps-loop zero begins rule h p = omega arith
 keeps-loop (suc n) begins rule h p =
     elim (cases_Bool (begins p)) [
       | inl on ↦ rw on (keeps-then p (rule p) _ (h p)
-          (λ x q. keeps-then q (loop n begins rule q) _ (keeps-loop n begins rule h q) (λ xs r. omega arith)))
+          (λ x q. keeps-then q (loop n begins rule q) _ (keeps-loop n begins rule h q)
+          (λ xs r. omega arith)))
       | inr off ↦ rw off (omega arith)
     ]
 
 pub keeps-each : {A : Type 0} (begins : State → Bool) (rule : State → Outcome A)
     → Progress rule → (p : State) → Keeps p (each begins rule p)
-keeps-each begins rule h p = keeps-loop (suc (length p.rest)) begins rule (λ q. keeps-from_moves q (rule q) (h q)) p
+keeps-each begins rule h p =
+    keeps-loop (suc (length p.rest)) begins rule (λ q. keeps-from_moves q (rule q) (h q)) p
 
 -- where a rule that moves took a value
-pub moved : {A : Type 0} (rule : State → Outcome A) → Progress rule → (p q : State) (x : A) → rule p ≡ took x q
+pub moved : {A : Type 0} (rule : State → Outcome A) → Progress rule → (p q : State) (x : A)
+    → rule p ≡ took x q
     → length q.rest < length p.rest
 moved rule h p q x e = subst (Moves p) e (h p)

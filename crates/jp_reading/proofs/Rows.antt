@@ -34,15 +34,21 @@ unfolding is_digit
 arabic_zero-row = refl
 
 -- from byte 2 past a space and a line feed
-skip-row : skip (record { at = 2; rest = 32 ∷ 10 ∷ 91 ∷ 32 ∷ []; found = [] }) ≡ record { at = 4; rest = 91 ∷ 32 ∷ []; found = [] }
+skip-row : skip (record {
+  at = 2;
+  rest = 32 ∷ 10 ∷ 91 ∷ 32 ∷ [];
+  found = [];
+}) ≡ record { at = 4; rest = 91 ∷ 32 ∷ []; found = [] }
 unfolding past_blanks is_blank
 skip-row = refl
 
 -- a quotation mark, where one stands and where none does
-expect-row : expect 39 (record { at = 1; rest = 39 ∷ 93 ∷ []; found = [] }) ≡ took 39 (record { at = 2; rest = 93 ∷ []; found = [] })
+expect-row : expect 39 (record { at = 1; rest = 39 ∷ 93 ∷ []; found = [] }) ≡ took 39
+    (record { at = 2; rest = 93 ∷ []; found = [] })
 expect-row = refl
 
-expect-stuck_row : expect 39 (record { at = 1; rest = 93 ∷ []; found = [] }) ≡ stuck (record { at = 1; rest = 93 ∷ []; found = [] })
+expect-stuck_row : expect 39 (record { at = 1; rest = 93 ∷ []; found = [] }) ≡ stuck
+    (record { at = 1; rest = 93 ∷ []; found = [] })
 expect-stuck_row = refl
 
 -- the digits of `340]`, what they write, and what they write up to 53
@@ -58,11 +64,20 @@ capped-row : capped 53 0 (51 ∷ 52 ∷ 48 ∷ []) ≡ 53
 capped-row = refl
 
 -- an item from byte 0 to byte 4, round one from 1 to 3
-item-row : item_since 0 0 (record { at = 4; rest = []; found = Some (record { start = 1; end = 3 }) ∷ [] })
-    ≡ record { at = 4; rest = []; found = Some (record { start = 0; end = 4 }) ∷ Some (record { start = 1; end = 3 }) ∷ [] }
+item-row : item_since 0 0 (record {
+  at = 4;
+  rest = [];
+  found = Some (record { start = 1; end = 3 }) ∷ [];
+})
+    ≡ record {
+      at = 4;
+      rest = [];
+      found = Some (record { start = 0; end = 4 }) ∷ Some (record { start = 1; end = 3 }) ∷ [];
+    }
 item-row = refl
 
 -- with no level left nothing is entered
-enter-row : enter {A = ℕ} 0 (record { at = 7; rest = 40 ∷ []; found = [] }) (λ n. took n (record { at = 8; rest = []; found = [] }))
+enter-row : enter {A = ℕ} 0 (record { at = 7; rest = 40 ∷ []; found = [] })
+    (λ n. took n (record { at = 8; rest = []; found = [] }))
     ≡ deep (record { at = 7; rest = 40 ∷ []; found = [] })
 enter-row = refl

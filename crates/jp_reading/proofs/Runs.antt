@@ -43,7 +43,8 @@ pub run-each : (ok : ℕ → Bool) (cs : Text) → Within (Run ok cs) (Each (One
 run-each ok cs s o t h = rw (h.none, h.is) (run-of ok cs o h.all)
 
 -- up to what does not pass
-pub again-run : (ok : ℕ → Bool) (cs : Text) (p q : State) → Reads (Run ok cs) p q → passes ok (head q) ≡ false
+pub again-run : (ok : ℕ → Bool) (cs : Text) (p q : State) → Reads (Run ok cs) p q
+    → passes ok (head q) ≡ false
     → each (λ r. passes ok (head r)) (take_if ok) p ≡ took cs q
 again-run ok cs p q h off =
     again-each (One ok) (λ t. Unit {0}) (λ r. passes ok (head r)) (take_if ok) (moves-take_if ok)
@@ -63,13 +64,16 @@ digits-first (d ∷ ds) p q h =
     is_digit_next t = passes is_digit (first_of t)
 
 -- digits up to what is none
-pub again-digits : (ds : Text) (p q : State) → Reads (Digits ds) p q → is_at_digit q ≡ false → digits_at p ≡ took ds q
+pub again-digits : (ds : Text) (p q : State) → Reads (Digits ds) p q → is_at_digit q ≡ false
+    → digits_at p ≡ took ds q
 unfolding digits_at
 again-digits [] p q h off = absurd (let l = h.is.some in omega arith)
 again-digits (d ∷ ds) p q h off =
-    let parts = split (One is_digit d) (Run is_digit ds) p q (reads-as (Digits (d ∷ ds)) (One is_digit d ⌢ Run is_digit ds) p q (cons-digits d ds) h) in
+    let parts = split (One is_digit d) (Run is_digit ds) p q
+    (reads-as (Digits (d ∷ ds)) (One is_digit d ⌢ Run is_digit ds) p q (cons-digits d ds) h) in
     again-round d ds p parts.middle q (digit_at p) (each is_at_digit digit_at)
-    (again-take_if is_digit d p parts.middle parts.one) (again-run is_digit ds parts.middle q parts.two off)
+    (again-take_if is_digit d p parts.middle parts.one)
+    (again-run is_digit ds parts.middle q parts.two off)
   where
     cons-digits : (d : ℕ) (ds : Text) → Within (Digits (d ∷ ds)) (One is_digit d ⌢ Run is_digit ds)
     cons-digits d ds s o t g = record {

@@ -12,7 +12,8 @@ take_passing-takes : (ok : ℕ → Bool) (p : State) (o : Option ℕ) (c : ℕ) 
 take_passing-takes ok p o c e h = rw (e, h) refl
 
 -- a character that passes is taken
-pub take_if-takes : (ok : ℕ → Bool) (p : State) (c : ℕ) → head p ≡ Some c → ok c ≡ true → take_if ok p ≡ took c (past p)
+pub take_if-takes : (ok : ℕ → Bool) (p : State) (c : ℕ) → head p ≡ Some c → ok c ≡ true
+    → take_if ok p ≡ took c (past p)
 take_if-takes ok p c e h = take_passing-takes ok p (head p) c e h
 
 -- the character that a test found
@@ -31,7 +32,8 @@ is-other ok c d passing failing =
       | inr apart ↦ apart
     ]
 
-pub is_at-other : (ok : ℕ → Bool) (c d : ℕ) (p : State) → head p ≡ Some c → ok c ≡ true → ok d ≡ false → is_at d p ≡ false
+pub is_at-other : (ok : ℕ → Bool) (c d : ℕ) (p : State) → head p ≡ Some c → ok c ≡ true
+    → ok d ≡ false → is_at d p ≡ false
 is_at-other ok c d p e passing failing = ap (passes (is d)) e ∙ is-other ok c d passing failing
 
 past_first-way : (at : ℕ) (found : Spans) (t : Text) (c : ℕ) → first_of t ≡ Some c
@@ -39,7 +41,11 @@ past_first-way : (at : ℕ) (found : Spans) (t : Text) (c : ℕ) → first_of t 
 past_first-way at found [] c e = cc
 past_first-way at found (d ∷ t) c e =
     let same : d ≡ c = cc in
-    record { rest = ap (λ x. x ∷ t) same; at = rw same (omega arith); found = sym (append-nil found) }
+    record {
+      rest = ap (λ x. x ∷ t) same;
+      at = rw same (omega arith);
+      found = sym (append-nil found);
+    }
 
 -- past a character lies that character
 pub past-way : (p : State) (c : ℕ) → head p ≡ Some c → Between p [] (c ∷ []) (past p)
@@ -62,7 +68,8 @@ past_blanks-way at found (c ∷ t) =
           record {
             spans = more.spans;
             text = c ∷ more.text;
-            way = between-then p q (past_blanks (at + len_utf8 c) found t) [] more.spans (c ∷ []) more.text (past-way p c refl) more.way;
+            way = between-then p q (past_blanks (at + len_utf8 c) found t) [] more.spans
+                (c ∷ []) more.text (past-way p c refl) more.way;
             is = record { none = more.is.none; blank = (blank, more.is.blank) };
           })
       | inr other ↦ rw other (record {

@@ -1,13 +1,12 @@
 -- What was read before a stop begins a text, put together from the parts; and what an item reads.
-use Rattle.std.proofs.Common.{◌≡◌, ℕ, zero, suc, ◌+◌, Bool, true, false, if◌then◌else◌, List, [], ◌∷◌, ◌++◌, length, Option, Some, None, inl, inr, refl, sym, ap, ◌∙◌, subst}
+use Rattle.std.proofs.Common.{◌≡◌, ℕ, ◌+◌, ◌∷◌, ◌++◌, length, Some, refl, ap}
 use Rattle.std.proofs.Math.Seq.{take-append_seam, drop-append_seam}
 use Rattle.std.specs.List.{insert}
 use Rattle.jp_reading.specs.declared.span.Span.{Span}
 use Rattle.jp_reading.specs.Texts.{Spans, bytes}
-use Rattle.jp_reading.specs.Forms.{Form, ◌⌢◌, word, Blank, Item}
-use Rattle.jp_reading.specs.Outcome.{State, Outcome, took, stuck, deep, ◌>>=◌, head, past, skip, is, take_passing, take_if, expect, loop, each, item_since, item}
-use Rattle.jp_reading.specs.Views.{by}
-use Rattle.jp_reading.proofs.Between.{Reads, Stops, Has, Within, front-then, front-first, reads-as, front-as, front-none}
+use Rattle.jp_reading.specs.Forms.{Form, ◌⌢◌, Item}
+use Rattle.jp_reading.specs.Outcome.{State, item_since}
+use Rattle.jp_reading.proofs.Between.{Front, Reads, Stops, Has, Within, front-then, front-first, front-as}
 use Rattle.jp_reading.proofs.Levels.{Then, Made}
 
 -- a front of the first part is one of the whole, where what goes on from each value has some text
@@ -27,30 +26,37 @@ pub stops-then : {A B : Type 0} (F : A → Form) (H : A → B → Form) (x : A) 
     → Reads (F x) p q → Stops (H x) q r → Stops (Then F H) p r
 stops-then F H x p q r h g = record {
   value = g.value;
-  front = front-as (F x ⌢ H x g.value) (Then F H g.value) p r (λ s o t k. record { part = x; is = k })
+  front = front-as (F x ⌢ H x g.value) (Then F H g.value) p r
+      (λ s o t k. record { part = x; is = k })
       (front-then (F x) (H x g.value) p q r h g.front);
 }
 
-pub stops-as : {A : Type 0} (F G : A → Form) (p r : State) → ((x : A) → Within (F x) (G x)) → Stops F p r → Stops G p r
-stops-as F G p r w h = record { value = h.value; front = front-as (F h.value) (G h.value) p r (w h.value) h.front }
-
-pub stops-made : {A B : Type 0} (f : A → B) (F : A → Form) (p r : State) → Stops F p r → Stops (Made f F) p r
-stops-made f F p r h = record {
-  value = f h.value;
-  front = front-as (F h.value) (Made f F (f h.value)) p r (λ s o t g. record { part = h.value; same = refl; is = g }) h.front;
+pub stops-as : {A : Type 0} (F G : A → Form) (p r : State) → ((x : A) → Within (F x) (G x))
+    → Stops F p r → Stops G p r
+stops-as F G p r w h = record {
+  value = h.value;
+  front = front-as (F h.value) (G h.value) p r (w h.value) h.front;
 }
 
-pub stops-item : {A : Type 0} (F : A → Form) (p r : State) → Stops F p r → Stops (λ x. Item (F x)) p r
-stops-item F p r h = record {
-  value = h.value;
-  front = record {
-    read = h.front.read;
-    more = h.front.more;
-    spans = Some (record { start = p.at; end = p.at + bytes (h.front.read ++ h.front.more) }) ∷ h.front.spans;
-    rest = h.front.rest;
-    at = h.front.at;
-    is = record { inside = h.front.spans; spans = refl; is = h.front.is };
-  };
+pub stops-made : {A B : Type 0} (f : A → B) (F : A → Form) (p r : State) → Stops F p r
+    → Stops (Made f F) p r
+stops-made f F p r h = record {
+  value = f h.value;
+  front = front-as (F h.value) (Made f F (f h.value)) p r (λ s o t g. record {
+    part = h.value;
+    same = refl;
+    is = g;
+  }) h.front;
+}
+
+pub front-item : (P : Form) (p r : State) → Front P p r → Front (Item P) p r
+front-item P p r h = record {
+  read = h.read;
+  more = h.more;
+  spans = Some (record { start = p.at; end = p.at + bytes (h.read ++ h.more) }) ∷ h.spans;
+  rest = h.rest;
+  at = h.at;
+  is = record { inside = h.spans; spans = refl; is = h.is };
 }
 
 -- the span of an item stands before those found since
@@ -60,7 +66,8 @@ span_inserted before inside found a b e same =
     rw (e, same, take-append_seam before inside, drop-append_seam before inside) refl
 
 -- an item ends where its text does
-pub reads-item : (P : Form) (p q : State) → Reads P p q → Reads (Item P) p (item_since p.at (length p.found) q)
+pub reads-item : (P : Form) (p q : State) → Reads P p q
+    → Reads (Item P) p (item_since p.at (length p.found) q)
 reads-item P p q h =
     let span : Span = record { start = p.at; end = p.at + bytes h.text } in
     record {
@@ -69,7 +76,8 @@ reads-item P p q h =
       way = record {
         rest = h.way.rest;
         at = h.way.at;
-        found = span_inserted p.found h.spans q.found (record { start = p.at; end = q.at }) span h.way.found
+        found = span_inserted p.found h.spans q.found (record { start = p.at; end = q.at }) span
+            h.way.found
             (ap (λ (e : ℕ). record { start = p.at; end = e }) h.way.at);
       };
       is = record { inside = h.spans; spans = refl; is = h.is };

@@ -5,7 +5,10 @@ use Rattle.jp_reading.specs.Forms.{◌⌢◌, word}
 use Rattle.jp_reading.proofs.Between.{Within}
 
 pub words-join : (v w : Text) → Within (word v ⌢ word w) (word (v ++ w))
-words-join v w s o t h = record { none = rw (h.spans, h.one.none, h.two.none) refl; is = rw (h.is, h.one.is, h.two.is) refl }
+words-join v w s o t h = record {
+  none = rw (h.spans, h.one.none, h.two.none) refl;
+  is = rw (h.is, h.one.is, h.two.is) refl;
+}
 
 pub words-apart : (v w : Text) → Within (word (v ++ w)) (word v ⌢ word w)
 words-apart v w s o t h = record {

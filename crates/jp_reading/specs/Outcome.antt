@@ -101,12 +101,11 @@ each begins item p = loop (suc (length p.rest)) begins item p
 -- an item began at byte `start`, when there were so many spans, and ends here: its span goes before
 -- those inside it
 abbrev pub item_since : ℕ → ℕ → State → State
-item_since start before p =
-    record {
-      at = p.at;
-      rest = p.rest;
-      found = insert p.found before (Some (record { start = start; end = p.at }));
-    }
+item_since start before p = record {
+  at = p.at;
+  rest = p.rest;
+  found = insert p.found before (Some (record { start = start; end = p.at }));
+}
 
 -- an item: what the rule reads from the state p, with its span
 abbrev pub item : {A : Type 0} → State → Outcome A → Outcome A

@@ -44,16 +44,26 @@ pub data Rule (N : Nesting) : Bool → Mark → Mark → Type 0 → Type 1 where
   -- what stands one level further in after the opening, and then the first rule, or else the second
   nested : {u v : Bool} {b : Mark} {A : Type 0} (o : N.Opening) → (N.Inner o → Rule N u beyond b A)
       → Rule N v here b A → Rule N v here b A
-  -- an item, which has a span
-  item : {u : Bool} {a b : Mark} {A : Type 0} → Rule N u a b A → Rule N u a b A
+  -- the rule, with a span of its own where its value is an item
+  item_where : {u : Bool} {a b : Mark} {A : Type 0} → (A → Bool) → Rule N u a b A → Rule N u a b A
   -- an item that the text omits
   omitted : {m : Mark} {A : Type 0} → A → Rule N false m m A
   -- the rule as often as the character at the mark passes
   some : {A : Type 0} (m : Mark) → (ℕ → Bool) → Rule N true m m A → Rule N false m m (List A)
   -- the rule, where the text may have been looked at further
   relaxed : {u : Bool} {a : Mark} {A : Type 0} → Rule N u a here A → Rule N u a beyond A
+  -- the rule, where it need not take a character
+  loose : {u : Bool} {a b : Mark} {A : Type 0} → Rule N u a b A → Rule N false a b A
+  -- the rule, where past the blanks a character that passes comes next
+  until : {u : Bool} {a : Mark} {A : Type 0} → (ℕ → Bool) → Rule N u a beyond A
+      → Rule N u a beyond A
   -- the rule, where nothing is nested in it
   flat : {u : Bool} {a b : Mark} {A : Type 0} → Rule N u a b A → Rule N u a b A
+
+-- an item, which has a span
+abbrev pub item : {N : Nesting} {u : Bool} {a b : Mark} {A : Type 0} → Rule N u a b A
+    → Rule N u a b A
+item r = item_where (λ x. true) r
 
 infixl 10 ◌>>=◌
 abbrev pub ◌>>=◌ : {N : Nesting} {u v : Bool} {a b c : Mark} {A B : Type 0} → Rule N u a b A

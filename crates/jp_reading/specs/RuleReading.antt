@@ -1,8 +1,8 @@
 -- How a rule is read: a function on what a reader has read so far.
-use Rattle.std.specs.Prelude.{ℕ, Bool, if◌then◌else◌, Option}
-use Rattle.jp_reading.specs.Outcome.{State, Outcome, took, stuck, ◌>>=◌, head, past, skip, after_blank, passes, is_at, take_if, expect, each, item as as_item, omit}
+use Rattle.std.specs.Prelude.{ℕ, Bool, if◌then◌else◌, length, Option}
+use Rattle.jp_reading.specs.Outcome.{State, Outcome, took, stuck, ◌>>=◌, head, past, skip, after_blank, passes, is_at, take_if, expect, each, item_since, omit}
 use Rattle.jp_reading.specs.Views.{by}
-use Rattle.jp_reading.specs.Rule.{Mark, here, beyond, Nesting, Step, the, blanks, Rule, value, character, after, seq, made, look, upon, nested, item, omitted, some, relaxed, flat}
+use Rattle.jp_reading.specs.Rule.{Mark, here, beyond, Nesting, Step, the, blanks, Rule, value, character, after, seq, made, look, upon, nested, item_where, omitted, some, relaxed, loose, until, flat}
 
 -- how what stands one level further in is read, from its opening on
 abbrev pub Inner : Nesting → Type 0
@@ -23,6 +23,14 @@ abbrev pub stepped : {m : Mark} {t : Bool} {A : Type 0} → Step m t → (State 
 stepped (the c) k p = expect c p >>= λ d q. k q
 stepped blanks k p = k (skip p)
 
+-- on from q, with the span of what was read since p where it is an item
+abbrev pub spanned_if : Bool → State → State → State
+spanned_if is_item p q = if is_item then item_since p.at (length p.found) q else q
+
+-- what was read since p, with its span where the value is an item
+abbrev pub spanned : {A : Type 0} → (A → Bool) → State → Outcome A → Outcome A
+spanned ok p o = o >>= λ x q. took x (spanned_if (ok x) p q)
+
 -- what a rule reads
 abbrev pub read : {N : Nesting} {u : Bool} {a b : Mark} {A : Type 0} → Inner N → Rule N u a b A
     → State → Outcome A
@@ -36,8 +44,10 @@ read inner (upon c r s) p = if is_at c p then read inner r (past p) else read in
 read {N} inner (nested o k s) p =
     if passes (N.opens o) (head p) then inner o p >>= (λ x q. read inner (k x) q)
     else read inner s p
-read inner (item r) p = as_item p (read inner r p)
+read inner (item_where ok r) p = spanned ok p (read inner r p)
 read inner (omitted x) p = took x (omit p)
 read inner (some m ok r) p = each (λ q. passes ok (next m q)) (λ q. read inner r q) p
 read inner (relaxed r) p = read inner r p
+read inner (loose r) p = read inner r p
+read inner (until ok r) p = read inner r p
 read {N} inner (flat r) p = read (nothing N) r p

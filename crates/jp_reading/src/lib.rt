@@ -14,10 +14,12 @@
 //! has what turns such rules into the texts that a grammar's forms speak of.
 #![tactic(auto)]
 
+mod character_class;
 mod numbers;
 mod reader;
 mod span;
 
+pub use character_class::CharacterClass;
 pub use numbers::{digit, is_at_digit, natural};
 pub use reader::{Reader, Stop, split_first};
 pub use span::Span;

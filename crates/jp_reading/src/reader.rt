@@ -1,12 +1,15 @@
 //! The reader: a text, where reading stands in it, and the spans of the items before it.
 
-ghost use Rattle.std.specs.Prelude.{◌≡◌, ◌∷◌, [], ◌+◌, length, MatchOption, IfSome, IfErr, OnOk, OnErr};
+ghost use Rattle.std.specs.Prelude.{◌≡◌, ◌∷◌, [], ◌+◌, true, length};
+ghost use Rattle.std.specs.Prelude.{MatchOption, IfSome, IfOk, IfErr, OnOk, OnErr};
 ghost use Rattle.std.specs.Char.{len_utf8};
 ghost use Rattle.std.specs.Str.{chars, IsUtf8};
 ghost use Rattle.jp_reading.specs.Texts.{is_blank};
-ghost use Rattle.jp_reading.specs.Outcome.{State, head, first_of, passes, past, skip, after_blank, is_at, expect, item_since, omit};
+ghost use Rattle.jp_reading.specs.Outcome.{State, head, first_of, passes, past, skip, after_blank};
+ghost use Rattle.jp_reading.specs.Outcome.{is_at, take_if, expect, item_since, omit};
 ghost use Rattle.jp_reading.specs.Views.{Gives};
 
+use crate::character_class::CharacterClass;
 use crate::span::Span;
 use std::alloc::{AllocError, Global};
 use std::marker::Model;
@@ -144,6 +147,31 @@ impl<'t> Reader<'t> {
         ensures { result ≡ is_at wanted self.now }
     {
         self.peek() == Some(wanted)
+    }
+
+    /// Whether the next character is of this class.
+    pub fn is_at_one_of<C: CharacterClass>(&self, class: C) -> bool
+        ensures { result ≡ passes (C.holds class) (head self.now) }
+    {
+        match self.peek() {
+            Some(next) => class.contains(next),
+            None => false,
+        }
+    }
+
+    /// Takes the next character, which has to be of this class: else the answer is `Syntax` at its
+    /// byte.
+    pub fn take_one_of<C: CharacterClass>(&mut self, class: C) -> Result<char, Stop>
+        ensures taken { Gives (λ c. c) result self.new (take_if (C.holds class) self.old) }
+        ensures member { IfOk result (λ c. C.holds class c ≡ true) }
+    {
+        match self.peek() {
+            Some(next) if class.contains(next) => {
+                self.bump();
+                Ok(next)
+            },
+            _ => Err(Stop::Syntax(self.place)),
+        }
     }
 
     /// Takes the next character. It has to be `wanted`: else the answer is `Syntax` at its byte,

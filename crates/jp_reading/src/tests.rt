@@ -1,7 +1,20 @@
 //! Each function once, beside what it must answer.
 
-use crate::{Reader, Span, Stop, digit, is_at_digit, natural, split_first};
+ghost use Rattle.std.specs.Char.{is_ascii_alphabetic};
+
+use crate::{CharacterClass, Reader, Span, Stop, digit, is_at_digit, natural, split_first};
 use std::test::Fail;
+
+#[derive(Clone, Copy)]
+struct Letter;
+
+impl CharacterClass for Letter {
+    ghost holds = { λ _ c. is_ascii_alphabetic c };
+
+    fn contains(self, c: char) -> bool {
+        c.is_ascii_alphabetic()
+    }
+}
 
 #[test]
 fn walks_over_characters_and_blanks(rt: HostRuntime) -> Result<(), Fail> {
@@ -18,6 +31,16 @@ fn walks_over_characters_and_blanks(rt: HostRuntime) -> Result<(), Fail> {
     assert!(rt; reader.is_at('['));
     assert_eq!(rt; reader.expect('['), Ok(()));
     assert_eq!(rt; reader.expect('\''), Err(Stop::Syntax(7)));
+    Ok(())
+}
+
+#[test]
+fn takes_one_character_of_a_class(rt: HostRuntime) -> Result<(), Fail> {
+    let mut reader = Reader::new(rt.alloc(), "a1");
+    assert!(rt; reader.is_at_one_of(Letter));
+    assert_eq!(rt; reader.take_one_of(Letter), Ok('a'));
+    assert!(rt; !reader.is_at_one_of(Letter));
+    assert_eq!(rt; reader.take_one_of(Letter), Err(Stop::Syntax(1)));
     Ok(())
 }
 

@@ -1,5 +1,7 @@
 -- What a selector chooses is what it selects, and each stands where its step leads.
-use Rattle.std.proofs.Common.{◌≡◌, ℕ, zero, suc, ◌+◌, List, [], ◌∷◌, ◌++◌, Option, Some, None, Equal, Greater, is_eq, cond, map, option_map, option_and_then, option_to_list, refl, ap, ap₂, sym, ◌∙◌, arith}
+use Rattle.std.proofs.Common.{◌≡◌, ℕ, zero, suc, ◌+◌, List, [], ◌∷◌, ◌++◌, Option, Some, None}
+use Rattle.std.proofs.Common.{Equal, Greater, is_eq, cond, map, option_map, option_and_then}
+use Rattle.std.proofs.Common.{option_to_list, refl, ap, ap₂, sym, ◌∙◌, arith}
 use Rattle.std.specs.BTreeMap.{is_at}
 use Rattle.std.specs.Cmp.{nat_cmp_is}
 use Rattle.std.specs.List.{All, flat_map, slice_get}
@@ -9,14 +11,17 @@ use Rattle.std.specs.Str.{encode_utf8_all}
 use Rattle.std.proofs.lemmas.List.{map-append}
 use Rattle.std.proofs.lemmas.List.Elements.{All-append, All-cons, All-nil}
 use Rattle.jp_document.proofs.ChildValues.{value_at-step}
-use Rattle.jp_document.proofs.Held.{child-held}
+use Rattle.jp_document.proofs.Entries.{child-entry}
 use Rattle.jp_document.specs.ChildNodes.{children_of}
-use Rattle.jp_document.specs.Location.{Key, Location, child, held, items_from, key_cmp, named, nth, value_at}
-use Rattle.jp_document.specs.Value.{IsDocumentValue, Value, null, boolean, whole, text, list, object, Items, no_items, item}
+use Rattle.jp_document.specs.Location.{Key, Location, child, entries, items_from}
+use Rattle.jp_document.specs.Location.{key_cmp, named, nth, value_at}
+use Rattle.jp_document.specs.Value.{IsDocumentValue, Value, null, boolean, whole}
+use Rattle.jp_document.specs.Value.{text, list, object, Items, no_items, item}
 use Rattle.jp_query.specs.Tree.{SelectorTree, filter, index, name, slice, wildcard}
 use Rattle.jp_query.specs.declared.tree.Numeral.TheVariants.{Beyond, Fraction, Whole}
 use Rattle.jp_select.specs.Candidates.{at_step, candidates, item_entry}
-use Rattle.jp_select.specs.Selectors.{chosen, indexes_chosen, item_at, item_step, list_length, one_step}
+use Rattle.jp_select.specs.Selectors.{chosen, indexes_chosen, item_at}
+use Rattle.jp_select.specs.Selectors.{item_step, list_length, one_step}
 
 -- where an entry of a value at l stands
 abbrev pub entry_location : Location → Key × Value → Location
@@ -30,26 +35,30 @@ StandsBelow v e = child v e.0 ≡ Some e.1
 All-each : {X : Type 0} (P : X → Type 0) (xs : List X)
     → ((i : ℕ) (x : X) → slice_get xs i ≡ Some x → P x) → All P xs
 All-each P [] each = All-nil P
-All-each P (x ∷ xs) each = All-cons P x xs (each 0 x refl) (All-each P xs (λ i y is. each (suc i) y is))
+All-each P (x ∷ xs) each =
+    All-cons P x xs (each 0 x refl) (All-each P xs (λ i y is. each (suc i) y is))
 
-held_stand : (v : Value) → IsDocumentValue v → All (StandsBelow v) (held v)
-held_stand v document = All-each (StandsBelow v) (held v) (λ i e is. child-held v i e.0 e.1 document is)
+entries_stand : (v : Value) → IsDocumentValue v → All (StandsBelow v) (entries v)
+entries_stand v document =
+    All-each (StandsBelow v) (entries v) (λ i e is. child-entry v i e.0 e.1 document is)
 
 entry_stands : (v : Value) (i : ℕ) (o : Option (Key × Value)) → IsDocumentValue v
-    → slice_get (held v) i ≡ o → All (StandsBelow v) (option_to_list o)
+    → slice_get (entries v) i ≡ o → All (StandsBelow v) (option_to_list o)
 entry_stands v i None document is = All-nil (StandsBelow v)
-entry_stands v i (Some e) document is = All-cons (StandsBelow v) e [] (child-held v i e.0 e.1 document is) (All-nil (StandsBelow v))
+entry_stands v i (Some e) document is =
+    All-cons (StandsBelow v) e [] (child-entry v i e.0 e.1 document is) (All-nil (StandsBelow v))
 
 item_stands : (v : Value) (o : Option ℕ) → IsDocumentValue v
-    → All (StandsBelow v) (option_to_list (option_and_then (slice_get (held v)) o))
+    → All (StandsBelow v) (option_to_list (option_and_then (slice_get (entries v)) o))
 item_stands v None document = All-nil (StandsBelow v)
-item_stands v (Some i) document = entry_stands v i (slice_get (held v) i) document refl
+item_stands v (Some i) document = entry_stands v i (slice_get (entries v) i) document refl
 
 items_stand : (v : Value) (is : List ℕ) → IsDocumentValue v
     → All (StandsBelow v) (flat_map (item_entry v) is)
 items_stand v [] document = All-nil (StandsBelow v)
 items_stand v (i ∷ is) document =
-    All-append (StandsBelow v) (item_entry v i) (flat_map (item_entry v) is) (entry_stands v i (slice_get (held v) i) document refl) (items_stand v is document)
+    All-append (StandsBelow v) (item_entry v i) (flat_map (item_entry v) is)
+    (entry_stands v i (slice_get (entries v) i) document refl) (items_stand v is document)
 
 slice_stands : (v : Value) (indexes : ℕ → List ℕ) (o : Option ℕ) → IsDocumentValue v
     → All (StandsBelow v) (option_map_or (λ n. flat_map (item_entry v) (indexes n)) o [])
@@ -63,13 +72,15 @@ member_stands v k (Some w) is = All-cons (StandsBelow v) (k, w) [] is (All-nil (
 
 pub candidates_stand : (s : SelectorTree) (v : Value) → IsDocumentValue v
     → All (StandsBelow v) (candidates s v)
-candidates_stand (name cs) v document = member_stands v (named (encode_utf8_all cs)) (child v (named (encode_utf8_all cs))) refl
-candidates_stand wildcard v document = held_stand v document
-candidates_stand (index (Whole i)) v document = item_stands v (option_and_then (λ n. item_at n i) (list_length v)) document
+candidates_stand (name cs) v document =
+    member_stands v (named (encode_utf8_all cs)) (child v (named (encode_utf8_all cs))) refl
+candidates_stand wildcard v document = entries_stand v document
+candidates_stand (index (Whole i)) v document =
+    item_stands v (option_and_then (λ n. item_at n i) (list_length v)) document
 candidates_stand (index Beyond) v document = All-nil (StandsBelow v)
 candidates_stand (index Fraction) v document = All-nil (StandsBelow v)
 candidates_stand (slice s) v document = slice_stands v (indexes_chosen s) (list_length v) document
-candidates_stand (filter e) v document = held_stand v document
+candidates_stand (filter e) v document = entries_stand v document
 
 -- ---- what is chosen
 
@@ -80,15 +91,22 @@ step_chosen d l k None at = rw at refl
 step_chosen d l k (Some w) at = rw at refl
 
 -- the item at an index
-nth-from : (n k i : ℕ) (vs : Items) → n ≡ k + i
-    → slice_get (items_from k vs) i ≡ option_map (at_step (nth n)) (lookup (is_at (key_cmp (nth n))) (items_from k vs))
+nth-from : (n k i : ℕ) (vs : Items) → n ≡ k + i →
+    slice_get (items_from k vs) i ≡
+    option_map (at_step (nth n)) (lookup (is_at (key_cmp (nth n))) (items_from k vs))
 nth-from n k i no_items at = refl
 nth-from n k zero (item v vs) at =
     ap (λ m. Some (nth m, v)) (omega arith)
-    ∙ ap (λ o. option_map (at_step (nth n)) (cond (is_eq o) (Some v) (lookup (is_at (key_cmp (nth n))) (items_from (suc k) vs)))) (nat_cmp_is n k Equal (omega arith))
+    ∙ ap
+    (λ o. option_map (at_step (nth n))
+    (cond (is_eq o) (Some v) (lookup (is_at (key_cmp (nth n))) (items_from (suc k) vs))))
+    (nat_cmp_is n k Equal (omega arith))
 nth-from n k (suc i) (item v vs) at =
     nth-from n (suc k) i vs (omega arith)
-    ∙ ap (λ o. option_map (at_step (nth n)) (cond (is_eq o) (Some v) (lookup (is_at (key_cmp (nth n))) (items_from (suc k) vs)))) (nat_cmp_is n k Greater (omega arith))
+    ∙ ap
+    (λ o. option_map (at_step (nth n))
+    (cond (is_eq o) (Some v) (lookup (is_at (key_cmp (nth n))) (items_from (suc k) vs))))
+    (nat_cmp_is n k Greater (omega arith))
 
 item_chosen-at : (d v : Value) (l : Location) (n i : ℕ) → value_at d l ≡ Some v
     → list_length v ≡ Some n
@@ -102,15 +120,18 @@ item_chosen-at d (whole z) l n i at long = absurd (cc)
 item_chosen-at d (text s) l n i at long = absurd (cc)
 item_chosen-at d (object ms) l n i at long = absurd (cc)
 
-index_chosen-at : (d v : Value) (l : Location) (n : ℕ) (o : Option ℕ) → value_at d l ≡ Some v
-    → list_length v ≡ Some n
-    → option_map_or (item_step d l) o [] ≡ map (entry_location l) (option_to_list (option_and_then (slice_get (held v)) o))
+index_chosen-at : (d v : Value) (l : Location) (n : ℕ) (o : Option ℕ) → value_at d l ≡ Some v →
+    list_length v ≡ Some n →
+    option_map_or (item_step d l) o [] ≡
+    map (entry_location l) (option_to_list (option_and_then (slice_get (entries v)) o))
 index_chosen-at d v l n None at long = refl
 index_chosen-at d v l n (Some i) at long = item_chosen-at d v l n i at long
 
-index_chosen : (d v : Value) (l : Location) (pick : ℕ → Option ℕ) (o : Option ℕ)
-    → value_at d l ≡ Some v → list_length v ≡ o
-    → option_map_or (item_step d l) (option_and_then pick o) [] ≡ map (entry_location l) (option_to_list (option_and_then (slice_get (held v)) (option_and_then pick o)))
+index_chosen : (d v : Value) (l : Location) (pick : ℕ → Option ℕ) (o : Option ℕ) →
+    value_at d l ≡ Some v → list_length v ≡ o →
+    option_map_or (item_step d l) (option_and_then pick o) [] ≡
+    map (entry_location l)
+    (option_to_list (option_and_then (slice_get (entries v)) (option_and_then pick o)))
 index_chosen d v l pick None at long = refl
 index_chosen d v l pick (Some n) at long = index_chosen-at d v l n (pick n) at long
 
@@ -122,15 +143,16 @@ items_chosen-at d v l n (i ∷ is) at long =
     ap₂ (λ x y. x ++ y) (item_chosen-at d v l n i at long) (items_chosen-at d v l n is at long)
     ∙ sym (map-append (entry_location l) (item_entry v i) (flat_map (item_entry v) is))
 
-slice_chosen : (d v : Value) (l : Location) (indexes : ℕ → List ℕ) (o : Option ℕ)
-    → value_at d l ≡ Some v → list_length v ≡ o
-    → option_map_or (λ n. flat_map (item_step d l) (indexes n)) o [] ≡ map (entry_location l) (option_map_or (λ n. flat_map (item_entry v) (indexes n)) o [])
+slice_chosen : (d v : Value) (l : Location) (indexes : ℕ → List ℕ) (o : Option ℕ) →
+    value_at d l ≡ Some v → list_length v ≡ o →
+    option_map_or (λ n. flat_map (item_step d l) (indexes n)) o [] ≡
+    map (entry_location l) (option_map_or (λ n. flat_map (item_entry v) (indexes n)) o [])
 slice_chosen d v l indexes None at long = refl
 slice_chosen d v l indexes (Some n) at long = items_chosen-at d v l n (indexes n) at long
 
 -- the children
 pub children_chosen : (d v : Value) (l : Location) → value_at d l ≡ Some v
-    → children_of d l ≡ map (entry_location l) (held v)
+    → children_of d l ≡ map (entry_location l) (entries v)
 children_chosen d v l at = rw at refl
 
 -- a filter is no plain selector
@@ -148,8 +170,10 @@ chosen-candidates (name cs) d v l plain at =
     let k = named (encode_utf8_all cs) in
     step_chosen d l k (child v k) (value_at-step d v l k at)
 chosen-candidates wildcard d v l plain at = children_chosen d v l at
-chosen-candidates (index (Whole i)) d v l plain at = rw at (index_chosen d v l (λ n. item_at n i) (list_length v) at refl)
+chosen-candidates (index (Whole i)) d v l plain at =
+    rw at (index_chosen d v l (λ n. item_at n i) (list_length v) at refl)
 chosen-candidates (index Beyond) d v l plain at = refl
 chosen-candidates (index Fraction) d v l plain at = refl
-chosen-candidates (slice s) d v l plain at = rw at (slice_chosen d v l (indexes_chosen s) (list_length v) at refl)
+chosen-candidates (slice s) d v l plain at =
+    rw at (slice_chosen d v l (indexes_chosen s) (list_length v) at refl)
 chosen-candidates (filter e) d v l plain at = absurd plain

@@ -1,5 +1,7 @@
 -- Values of documents that are equal are the same.
-use Rattle.std.proofs.Common.{◌≡◌, ◌↔◌, ℕ, zero, suc, List, [], ◌∷◌, length, Option, Some, None, Ordering, Less, Equal, Greater, Bool, true, false, is_eq, cond, inl, inr, refl, sym, ap, subst, ◌∙◌, arith}
+use Rattle.std.proofs.Common.{◌≡◌, ◌↔◌, ℕ, zero, suc, List, [], ◌∷◌, length, Option, Some}
+use Rattle.std.proofs.Common.{None, Ordering, Less, Equal, Greater, Bool, true, false}
+use Rattle.std.proofs.Common.{is_eq, cond, inl, inr, refl, sym, ap, subst, ◌∙◌, arith}
 use Rattle.std.specs.BTreeMap.{is_at}
 use Rattle.std.specs.List.{AllByRecursion, slice_get}
 use Rattle.std.specs.List.Sorted.{IsStrictlySortedBy}
@@ -11,10 +13,13 @@ use Rattle.std.proofs.lemmas.Cmp.{tied_itself}
 use Rattle.std.proofs.lemmas.Map.Entries.{place_from_lookup}
 use Rattle.std.proofs.lemmas.Map.Keys.{sorted_head, sorted_tail}
 use Rattle.std.proofs.lemmas.Option.{same_Some}
-use Rattle.jp_document.specs.Location.{Key, named, nth, key_cmp, items_from, members_by_name, held, child}
-use Rattle.jp_document.specs.Value.{Value, null, boolean, whole, text, list, object, Items, no_items, item, item_count, Members, no_members, member, items_of, IsDocumentValue}
+use Rattle.jp_document.specs.Location.{Key, named, nth, key_cmp, items_from}
+use Rattle.jp_document.specs.Location.{members_by_name, entries, child}
+use Rattle.jp_document.specs.Value.{Value, null, boolean, whole, text, list, object}
+use Rattle.jp_document.specs.Value.{Items, no_items, item, item_count, Members}
+use Rattle.jp_document.specs.Value.{no_members, member, items_of, IsDocumentValue}
 use Rattle.jp_document.proofs.ChildValues.{IsDocumentValue-child}
-use Rattle.jp_document.proofs.Held.{key_cmp_total, held-rises}
+use Rattle.jp_document.proofs.Entries.{key_cmp_total, entries-rise}
 use Rattle.jp_document.proofs.Items.{child-nth}
 use Rattle.jp_document.proofs.Names.{child-list_named, child-object_nth}
 use Rattle.jp_select.specs.Comparison.{equals}
@@ -35,7 +40,8 @@ found k es = lookup (is_at (key_cmp k)) es
 abbrev AllAbove : Key → Entries → Type 0
 AllAbove k es = AllByRecursion (λ j. key_cmp k j ≡ Less) (keys_of es)
 
-found_by : (o : Ordering) (e : Key × Value) (es : Entries) (k : Key) → key_cmp k e.0 ≡ o → found k (e ∷ es) ≡ cond (is_eq o) (Some e.1) (found k es)
+found_by : (o : Ordering) (e : Key × Value) (es : Entries) (k : Key) → key_cmp k e.0 ≡ o →
+    found k (e ∷ es) ≡ cond (is_eq o) (Some e.1) (found k es)
 found_by o e es k is = ap (λ r. cond (is_eq r) (Some e.1) (found k es)) is
 
 found_first : (e : Key × Value) (es : Entries) → found e.0 (e ∷ es) ≡ Some e.1
@@ -49,37 +55,54 @@ all_above : (k j : Key) (es : Entries) → key_cmp k j ≡ Less → AllAbove j e
 all_above k j [] less h = tt
 all_above k j (e ∷ es) less h = (key_cmp_total.trans k j e.0 less h.0, all_above k j es less h.1)
 
-none_before : (k : Key) (f : Key × Value) (fs : Entries) → key_cmp k f.0 ≡ Less → IsStrictlySortedBy key_cmp (keys_of (f ∷ fs)) → found k (f ∷ fs) ≡ None
-none_before k f fs less rise = none_above k (f ∷ fs) (less, all_above k f.0 fs less (sorted_head key_cmp f.0 (keys_of fs) rise))
+none_before : (k : Key) (f : Key × Value) (fs : Entries) → key_cmp k f.0 ≡ Less →
+    IsStrictlySortedBy key_cmp (keys_of (f ∷ fs)) → found k (f ∷ fs) ≡ None
+none_before k f fs less rise =
+    none_above k (f ∷ fs)
+    (less, all_above k f.0 fs less (sorted_head key_cmp f.0 (keys_of fs) rise))
 
 -- past a first entry at one key the others answer alike too
-found_after : (k : Key) (e f : Key × Value) (es fs : Entries) → e.0 ≡ f.0 → AllAbove e.0 es → AllAbove f.0 fs → found k (e ∷ es) ≡ found k (f ∷ fs) → found k es ≡ found k fs
+found_after : (k : Key) (e f : Key × Value) (es fs : Entries) → e.0 ≡ f.0 → AllAbove e.0 es →
+    AllAbove f.0 fs → found k (e ∷ es) ≡ found k (f ∷ fs) → found k es ≡ found k fs
 found_after k e f es fs key above over alike =
     elim (cases_Bool (is_eq (key_cmp k e.0))) [
       | inl h ↦
           let here : k ≡ e.0 = exact_step k e.0 h in
-          none_above k es (subst (λ j. AllAbove j es) (sym here) above) ∙ sym (none_above k fs (subst (λ j. AllAbove j fs) (sym (here ∙ key)) over))
+          none_above k es (subst (λ j. AllAbove j es) (sym here) above)
+          ∙ sym (none_above k fs (subst (λ j. AllAbove j fs) (sym (here ∙ key)) over))
       | inr h ↦
-          ap (λ b. cond b (Some e.1) (found k es)) (sym h) ∙ alike ∙ ap (λ b. cond b (Some f.1) (found k fs)) (ap (λ j. is_eq (key_cmp k j)) (sym key) ∙ h)
+          ap (λ b. cond b (Some e.1) (found k es)) (sym h) ∙ alike
+          ∙ ap (λ b. cond b (Some f.1) (found k fs)) (ap (λ j. is_eq (key_cmp k j)) (sym key) ∙ h)
     ]
 
-same_entries : (es fs : Entries) → IsStrictlySortedBy key_cmp (keys_of es) → IsStrictlySortedBy key_cmp (keys_of fs) → ((k : Key) → found k es ≡ found k fs) → es ≡ fs
+same_entries : (es fs : Entries) → IsStrictlySortedBy key_cmp (keys_of es) →
+    IsStrictlySortedBy key_cmp (keys_of fs) → ((k : Key) → found k es ≡ found k fs) → es ≡ fs
 same_entries [] [] rise up alike = refl
-same_entries [] (f ∷ fs) rise up alike = let e : None ≡ Some f.1 = alike f.0 ∙ found_first f fs in absurd (cc)
-same_entries (e ∷ es) [] rise up alike = let f : Some e.1 ≡ None = sym (found_first e es) ∙ alike e.0 in absurd (cc)
+same_entries [] (f ∷ fs) rise up alike =
+    let e : None ≡ Some f.1 = alike f.0 ∙ found_first f fs in absurd (cc)
+same_entries (e ∷ es) [] rise up alike =
+    let f : Some e.1 ≡ None = sym (found_first e es) ∙ alike e.0 in absurd (cc)
 same_entries (e ∷ es) (f ∷ fs) rise up alike =
     elim (key_cmp e.0 f.0) as (λ o. key_cmp e.0 f.0 ≡ o → e ∷ es ≡ f ∷ fs) [
-      | Less ↦ λ is. let no : Some e.1 ≡ None = sym (found_first e es) ∙ alike e.0 ∙ none_before e.0 f fs is up in absurd (cc)
+      | Less ↦
+          λ is. let no : Some e.1 ≡ None =
+          sym (found_first e es) ∙ alike e.0 ∙ none_before e.0 f fs is up in absurd (cc)
       | Greater ↦ λ is.
-          let less : key_cmp f.0 e.0 ≡ Less = key_cmp_total.antisymm f.0 e.0 ∙ ap ordering_reverse is in
-          let no : None ≡ Some f.1 = sym (none_before f.0 e es less rise) ∙ alike f.0 ∙ found_first f fs in
+          let less : key_cmp f.0 e.0 ≡ Less =
+          key_cmp_total.antisymm f.0 e.0 ∙ ap ordering_reverse is in
+          let no : None ≡ Some f.1 =
+          sym (none_before f.0 e es less rise) ∙ alike f.0 ∙ found_first f fs in
           absurd (cc)
       | Equal ↦ λ is.
           let key : e.0 ≡ f.0 = exact_step e.0 f.0 (ap is_eq is) in
-          let value : e.1 ≡ f.1 = same_Some _ _ (sym (found_first e es) ∙ alike e.0 ∙ found_by Equal f fs e.0 is) in
+          let value : e.1 ≡ f.1 =
+          same_Some _ _ (sym (found_first e es) ∙ alike e.0 ∙ found_by Equal f fs e.0 is) in
           let above = sorted_head key_cmp e.0 (keys_of es) rise in
           let over = sorted_head key_cmp f.0 (keys_of fs) up in
-          let more : es ≡ fs = same_entries es fs (sorted_tail key_cmp e.0 (keys_of es) rise) (sorted_tail key_cmp f.0 (keys_of fs) up) (λ k. found_after k e f es fs key above over (alike k)) in
+          let more : es ≡ fs =
+          same_entries es fs (sorted_tail key_cmp e.0 (keys_of es) rise)
+          (sorted_tail key_cmp f.0 (keys_of fs) up)
+          (λ k. found_after k e f es fs key above over (alike k)) in
           λ i. (key i, value i) ∷ more i
     ] refl
 
@@ -108,19 +131,31 @@ members_back-by_name (member n v ms) = ap (member n v) (members_back-by_name ms)
 abbrev Alike : Value → Value → Type 0
 Alike v w = (k : Key) → child v k ≡ child w k
 
-same_held : (v w : Value) → IsDocumentValue v → IsDocumentValue w → Alike v w → held v ≡ held w
-same_held v w document other alike = same_entries (held v) (held w) (held-rises v document) (held-rises w other) alike
+entries-alike : (v w : Value) → IsDocumentValue v → IsDocumentValue w → Alike v w
+    → entries v ≡ entries w
+entries-alike v w document other alike =
+    same_entries (entries v) (entries w) (entries-rise v document) (entries-rise w other) alike
 
-same_list : (vs ws : Items) → IsDocumentValue (list vs) → IsDocumentValue (list ws) → Alike (list vs) (list ws) → list vs ≡ list ws
-same_list vs ws document other alike = ap list (sym (items_back-from 0 vs) ∙ ap items_back (same_held (list vs) (list ws) document other alike) ∙ items_back-from 0 ws)
+same_list : (vs ws : Items) → IsDocumentValue (list vs) → IsDocumentValue (list ws) →
+    Alike (list vs) (list ws) → list vs ≡ list ws
+same_list vs ws document other alike =
+    ap list
+    (sym (items_back-from 0 vs)
+    ∙ ap items_back (entries-alike (list vs) (list ws) document other alike)
+    ∙ items_back-from 0 ws)
 
-same_object : (ms ns : Members) → IsDocumentValue (object ms) → IsDocumentValue (object ns) → Alike (object ms) (object ns) → object ms ≡ object ns
+same_object : (ms ns : Members) → IsDocumentValue (object ms) → IsDocumentValue (object ns) →
+    Alike (object ms) (object ns) → object ms ≡ object ns
 same_object ms ns document other alike =
-    ap object (sym (members_back-by_name ms) ∙ ap members_back (same_held (object ms) (object ns) document other alike) ∙ members_back-by_name ns)
+    ap object
+    (sym (members_back-by_name ms)
+    ∙ ap members_back (entries-alike (object ms) (object ns) document other alike)
+    ∙ members_back-by_name ns)
 
 -- ---- children at one step
 
-alike_options : (o p : Option Value) → is_some o ≡ is_some p → ((v w : Value) → o ≡ Some v → p ≡ Some w → v ≡ w) → o ≡ p
+alike_options : (o p : Option Value) → is_some o ≡ is_some p →
+    ((v w : Value) → o ≡ Some v → p ≡ Some w → v ≡ w) → o ≡ p
 alike_options None None same each = refl
 alike_options None (Some w) same each = absurd (cc)
 alike_options (Some v) None same each = absurd (cc)
@@ -139,18 +174,24 @@ length-item_list no_items = refl
 length-item_list (item v vs) = ap suc (length-item_list vs)
 
 child-item : (vs : Items) (i : ℕ) → child (list vs) (nth i) ≡ slice_get (item_list vs) i
-child-item vs i = ap (λ l. child (list l) (nth i)) (sym (items_of-item_list vs)) ∙ child-nth i (item_list vs)
+child-item vs i =
+    ap (λ l. child (list l) (nth i)) (sym (items_of-item_list vs)) ∙ child-nth i (item_list vs)
 
-get_alike : (xs ys : List Value) (i : ℕ) → length xs ≡ length ys → is_some (slice_get xs i) ≡ is_some (slice_get ys i)
+get_alike : (xs ys : List Value) (i : ℕ) → length xs ≡ length ys →
+    is_some (slice_get xs i) ≡ is_some (slice_get ys i)
 get_alike [] [] i same = refl
 get_alike [] (y ∷ ys) i same = absurd (omega arith)
 get_alike (x ∷ xs) [] i same = absurd (omega arith)
 get_alike (x ∷ xs) (y ∷ ys) zero same = refl
 get_alike (x ∷ xs) (y ∷ ys) (suc i) same = get_alike xs ys i (omega arith)
 
-item_alike : (vs ws : Items) (i : ℕ) → item_count vs ≡ item_count ws → is_some (child (list vs) (nth i)) ≡ is_some (child (list ws) (nth i))
+item_alike : (vs ws : Items) (i : ℕ) → item_count vs ≡ item_count ws →
+    is_some (child (list vs) (nth i)) ≡ is_some (child (list ws) (nth i))
 item_alike vs ws i same =
-    ap is_some (child-item vs i) ∙ get_alike (item_list vs) (item_list ws) i (length-item_list vs ∙ same ∙ sym (length-item_list ws)) ∙ sym (ap is_some (child-item ws i))
+    ap is_some (child-item vs i)
+    ∙ get_alike (item_list vs) (item_list ws) i
+    (length-item_list vs ∙ same ∙ sym (length-item_list ws))
+    ∙ sym (ap is_some (child-item ws i))
 
 same_truth : (a b : Bool) → (a ≡ true) ↔ (b ≡ true) → a ≡ b
 same_truth true b h = sym (h.0 refl)
@@ -159,9 +200,10 @@ same_truth false false h = refl
 
 -- ---- equal values of documents are the same
 
-by_child : (P : Value → Type 0) → ((v : Value) → ((k : Key) (w : Value) → child v k ≡ Some w → P w) → P v) → (v : Value) → P v
+by_child : (P : Value → Type 0) →
+    ((v : Value) → ((k : Key) (w : Value) → child v k ≡ Some w → P w) → P v) → (v : Value) → P v
 by_child P step = by_children P (λ v each. step v (λ k w is.
-    let at = place_from_lookup (is_at (key_cmp k)) (held v) w is in
+    let at = place_from_lookup (is_at (key_cmp k)) (entries v) w is in
     each at.0 at.1 w at.2))
 
 abbrev IsOnly : Value → Type 0
@@ -170,44 +212,66 @@ IsOnly v = (w : Value) → IsDocumentValue v → IsDocumentValue w → IsEqual v
 abbrev ChildrenAreOnly : Value → Type 0
 ChildrenAreOnly v = (k : Key) (u : Value) → child v k ≡ Some u → IsOnly u
 
-only_child : (v w a b : Value) (k : Key) → ChildrenAreOnly v → IsDocumentValue v → IsDocumentValue w → child v k ≡ Some a → child w k ≡ Some b → IsEqual a b → a ≡ b
-only_child v w a b k each document other first second = each k a first b (IsDocumentValue-child v a k document first) (IsDocumentValue-child w b k other second)
+only_child : (v w a b : Value) (k : Key) → ChildrenAreOnly v → IsDocumentValue v →
+    IsDocumentValue w → child v k ≡ Some a → child w k ≡ Some b → IsEqual a b → a ≡ b
+only_child v w a b k each document other first second =
+    each k a first b (IsDocumentValue-child v a k document first)
+    (IsDocumentValue-child w b k other second)
 
-only_from_children : (v w : Value) → IsEqual v w → ChildrenAreOnly v → IsDocumentValue v → IsDocumentValue w → v ≡ w
+only_from_children : (v w : Value) → IsEqual v w → ChildrenAreOnly v → IsDocumentValue v →
+    IsDocumentValue w → v ≡ w
 only_from_children _ _ nulls each document other = refl
 only_from_children _ _ (truths b) each document other = refl
 only_from_children _ _ (numbers z) each document other = refl
 only_from_children _ _ (texts s) each document other = refl
-only_from_children _ _ (lists vs ws count items) each document other = same_list vs ws document other alike
+only_from_children _ _ (lists vs ws count items) each document other =
+    same_list vs ws document other alike
   where
     alike : Alike (list vs) (list ws)
     alike (named n) = child-list_named n vs ∙ sym (child-list_named n ws)
-    alike (nth i) = alike_options (child (list vs) (nth i)) (child (list ws) (nth i)) (item_alike vs ws i count) (λ a b first second. only_child (list vs) (list ws) a b (nth i) each document other first second (items i a b first second))
-only_from_children _ _ (objects ms ns names values) each document other = same_object ms ns document other alike
+    alike (nth i) =
+        alike_options (child (list vs) (nth i)) (child (list ws) (nth i)) (item_alike vs ws i count)
+        (λ a b first second. only_child (list vs) (list ws) a b (nth i) each document other first
+        second (items i a b first second))
+only_from_children _ _ (objects ms ns names values) each document other =
+    same_object ms ns document other alike
   where
     alike : Alike (object ms) (object ns)
     alike (named n) =
-        alike_options (child (object ms) (named n)) (child (object ns) (named n)) (same_truth _ _ (names n)) (λ a b first second. only_child (object ms) (object ns) a b (named n) each document other first second (values n a b first second))
+        alike_options (child (object ms) (named n)) (child (object ns) (named n))
+        (same_truth _ _ (names n))
+        (λ a b first second. only_child (object ms) (object ns) a b (named n) each document other
+        first second (values n a b first second))
     alike (nth i) = child-object_nth i ms ∙ sym (child-object_nth i ns)
 
 is_only : (v : Value) → IsOnly v
-is_only = by_child IsOnly (λ v each w document other equal. only_from_children v w equal each document other)
+is_only =
+    by_child IsOnly
+    (λ v each w document other equal. only_from_children v w equal each document other)
 
 -- ---- and each value is equal to itself
 
 equal_itself : (v : Value) → IsEqual v v
 equal_itself = by_child (λ v. IsEqual v v) from_children
   where
-    from_children : (v : Value) → ((k : Key) (w : Value) → child v k ≡ Some w → IsEqual w w) → IsEqual v v
+    from_children : (v : Value) → ((k : Key) (w : Value) → child v k ≡ Some w → IsEqual w w) →
+        IsEqual v v
     from_children null each = nulls
     from_children (boolean b) each = truths b
     from_children (whole z) each = numbers z
     from_children (text s) each = texts s
-    from_children (list vs) each = lists vs vs refl (λ i v w first second. subst (IsEqual v) (same_Some v w (sym first ∙ second)) (each (nth i) v first))
-    from_children (object ms) each = objects ms ms (λ n. (λ h. h, λ h. h)) (λ n v w first second. subst (IsEqual v) (same_Some v w (sym first ∙ second)) (each (named n) v first))
+    from_children (list vs) each =
+        lists vs vs refl
+        (λ i v w first second. subst (IsEqual v) (same_Some v w (sym first ∙ second))
+        (each (nth i) v first))
+    from_children (object ms) each =
+        objects ms ms (λ n. (λ h. h, λ h. h))
+        (λ n v w first second. subst (IsEqual v) (same_Some v w (sym first ∙ second))
+        (each (named n) v first))
 
 pub equality_law : EqualsIsExact
 equality_law v w document other = (
   λ h. subst (IsEqual v) (same_Some v w (equals_is (Some v) (Some w) h)) (equal_itself v),
-  λ h. ap (λ u. equals (Some v) (Some u)) (sym (is_only v w document other h)) ∙ equals_itself (Some v),
+  λ h. ap (λ u. equals (Some v) (Some u)) (sym (is_only v w document other h))
+      ∙ equals_itself (Some v),
 )

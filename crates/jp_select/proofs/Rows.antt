@@ -1,7 +1,8 @@
 -- Worked rows of the definitions.
 use Rattle.std.proofs.Common.{◌≡◌, true, false, pos, negsuc, [], ◌∷◌, Some, None, refl}
 use Rattle.jp_document.specs.Location.{Location, named, nth}
-use Rattle.jp_document.specs.Value.{Value, null, boolean, whole, text, list, object, no_items, item, no_members, member}
+use Rattle.jp_document.specs.Value.{Value, null, boolean, whole, text, list}
+use Rattle.jp_document.specs.Value.{object, no_items, item, no_members, member}
 use Rattle.jp_query.specs.declared.tree.Op.TheVariants.{Equal, Less, LessEqual, Greater}
 use Rattle.jp_select.specs.Subtree.{subtree}
 use Rattle.jp_select.specs.Comparison.{compared, precedes}
@@ -43,12 +44,17 @@ before_the_first = refl
 
 -- {"a": [null, [null]], "b": null}
 abbrev sample : Value
-sample = object (member (97 ∷ []) (list (item null (item (list (item null no_items)) no_items))) (member (98 ∷ []) null no_members))
+sample =
+    object
+    (member (97 ∷ []) (list (item null (item (list (item null no_items)) no_items)))
+    (member (98 ∷ []) null no_members))
 
 abbrev a : Location
 a = named (97 ∷ []) ∷ []
 
-subtree_root : subtree sample [] ≡ [] ∷ a ∷ (named (97 ∷ []) ∷ nth 0 ∷ []) ∷ (named (97 ∷ []) ∷ nth 1 ∷ []) ∷ (named (97 ∷ []) ∷ nth 1 ∷ nth 0 ∷ []) ∷ (named (98 ∷ []) ∷ []) ∷ []
+subtree_root : subtree sample [] ≡
+    [] ∷ a ∷ (named (97 ∷ []) ∷ nth 0 ∷ []) ∷ (named (97 ∷ []) ∷ nth 1 ∷ []) ∷ (named
+    (97 ∷ []) ∷ nth 1 ∷ nth 0 ∷ []) ∷ (named (98 ∷ []) ∷ []) ∷ []
 subtree_root = refl
 
 subtree_leaf : subtree sample (named (98 ∷ []) ∷ []) ≡ (named (98 ∷ []) ∷ []) ∷ []
@@ -74,7 +80,8 @@ object_at_most_itself = refl
 object_not_below_itself : compared Less (Some sample) (Some sample) ≡ false
 object_not_below_itself = refl
 
-beyond_53_bits : compared Greater (Some (whole (pos 18446744073709551615))) (Some (whole (pos 18446744073709551614))) ≡ true
+beyond_53_bits : compared Greater (Some (whole (pos 18446744073709551615)))
+    (Some (whole (pos 18446744073709551614))) ≡ true
 beyond_53_bits = refl
 
 true_at_most_true : compared LessEqual (Some (boolean true)) (Some (boolean true)) ≡ true

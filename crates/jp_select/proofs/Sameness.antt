@@ -1,10 +1,13 @@
 -- `equals` answers true exactly where both sides are the same.
-use Rattle.std.proofs.Common.{◌≡◌, ℕ, suc, ◌≢◌, ◌↔◌, ◌&&◌, Bool, true, false, IsTrue, List, [], ◌∷◌, length, map, Option, Some, None, refl, sym, ap, ap₂, ◌∙◌}
+use Rattle.std.proofs.Common.{◌≡◌, ℕ, suc, ◌≢◌, ◌↔◌, ◌&&◌, Bool, true, false, IsTrue, List, []}
+use Rattle.std.proofs.Common.{◌∷◌, length, map, Option, Some, None, refl, sym, ap, ap₂, ◌∙◌}
 use Rattle.std.proofs.lemmas.Bool.{and_parts, and_from, and_right}
 use Rattle.std.proofs.lemmas.Bool.Decides.{Decides-int_eq}
 use Rattle.std.proofs.lemmas.Slice.Eq.{bytes_eq-Decides}
 use Rattle.std.specs.Str.{bytes_eq}
-use Rattle.jp_document.specs.Value.{Value, null, boolean, whole, text, list, object, Items, no_items, item, Members, no_members, member, items_of, members_of, value_of, member_of}
+use Rattle.jp_document.specs.Value.{Value, null, boolean, whole, text, list, object}
+use Rattle.jp_document.specs.Value.{Items, no_items, item, Members, no_members}
+use Rattle.jp_document.specs.Value.{member, items_of, members_of, value_of, member_of}
 use Rattle.jp_document.specs.declared.value.Json.{Json}
 use Rattle.jp_document.specs.declared.value.Member.{Member}
 use Rattle.jp_select.specs.Comparison.{equals, same_value, same_items, same_members}
@@ -26,12 +29,15 @@ mutual
 
   items_themselves : (vs : Items) → same_items vs vs ≡ true
   items_themselves no_items = refl
-  items_themselves (item v vs) = and_from (same_value v v) (same_items vs vs) (same_itself v) (items_themselves vs)
+  items_themselves (item v vs) =
+      and_from (same_value v v) (same_items vs vs) (same_itself v) (items_themselves vs)
 
   members_themselves : (ms : Members) → same_members ms ms ≡ true
   members_themselves no_members = refl
   members_themselves (member n v ms) =
-      and_from (bytes_eq n n && same_value v v) (same_members ms ms) (and_from (bytes_eq n n) (same_value v v) (same_bytes n) (same_itself v)) (members_themselves ms)
+      and_from (bytes_eq n n && same_value v v) (same_members ms ms)
+      (and_from (bytes_eq n n) (same_value v v) (same_bytes n) (same_itself v))
+      (members_themselves ms)
 
 -- ---- and as no other
 
@@ -58,7 +64,9 @@ mutual
   members_are (member m v ms) (member n w ns) h =
       let both = and_parts (bytes_eq m n && same_value v w) (same_members ms ns) h in
       let first = and_parts (bytes_eq m n) (same_value v w) both.0 in
-      ap₂ (λ (f : Members → Members) r. f r) (ap₂ (λ k u. member k u) ((bytes_eq-Decides m n).0 first.0) (same_is v w first.1)) (members_are ms ns both.1)
+      ap₂ (λ (f : Members → Members) r. f r)
+      (ap₂ (λ k u. member k u) ((bytes_eq-Decides m n).0 first.0) (same_is v w first.1))
+      (members_are ms ns both.1)
   members_are _ _ h = absurd (cc)
 
 -- ---- with Nothing beside the values
@@ -73,21 +81,30 @@ equals_is (Some v) (Some w) h = ap Some (same_is v w h)
 equals_is _ _ h = absurd (cc)
 
 pub equals-exact : (o p : Option Value) (r : Bool) → r ≡ equals o p → IsTrue r ↔ (o ≡ p)
-equals-exact o p r is = (λ h. equals_is o p (sym is ∙ h), λ e. is ∙ sym (ap (equals o) e) ∙ equals_itself o)
+equals-exact o p r is =
+    (λ h. equals_is o p (sym is ∙ h), λ e. is ∙ sym (ap (equals o) e) ∙ equals_itself o)
 
 -- ---- lists of other lengths
 
-pub items_unlike : (xs ys : List Json) → (length xs ≢ length ys) → false ≡ same_items (items_of (map value_of xs)) (items_of (map value_of ys))
+pub items_unlike : (xs ys : List Json) → (length xs ≢ length ys) →
+    false ≡ same_items (items_of (map value_of xs)) (items_of (map value_of ys))
 items_unlike [] [] unlike = absurd (unlike refl)
 items_unlike [] (y ∷ ys) unlike = refl
 items_unlike (x ∷ xs) [] unlike = refl
 items_unlike (x ∷ xs) (y ∷ ys) unlike =
-    sym (and_right (same_value (value_of x) (value_of y)) (same_items (items_of (map value_of xs)) (items_of (map value_of ys))) (sym (items_unlike xs ys (λ e. unlike (ap suc e)))))
+    sym
+    (and_right (same_value (value_of x) (value_of y))
+    (same_items (items_of (map value_of xs)) (items_of (map value_of ys)))
+    (sym (items_unlike xs ys (λ e. unlike (ap suc e)))))
 
-pub members_unlike : (xs ys : List Member) → (length xs ≢ length ys) → false ≡ same_members (members_of (map member_of xs)) (members_of (map member_of ys))
+pub members_unlike : (xs ys : List Member) → (length xs ≢ length ys) →
+    false ≡ same_members (members_of (map member_of xs)) (members_of (map member_of ys))
 members_unlike [] [] unlike = absurd (unlike refl)
 members_unlike [] (y ∷ ys) unlike = refl
 members_unlike (x ∷ xs) [] unlike = refl
 members_unlike (x ∷ xs) (y ∷ ys) unlike =
-    sym (and_right (bytes_eq (member_of x).0 (member_of y).0 && same_value (member_of x).1 (member_of y).1) (same_members (members_of (map member_of xs)) (members_of (map member_of ys)))
+    sym
+    (and_right
+    (bytes_eq (member_of x).0 (member_of y).0 && same_value (member_of x).1 (member_of y).1)
+    (same_members (members_of (map member_of xs)) (members_of (map member_of ys)))
     (sym (members_unlike xs ys (λ e. unlike (ap suc e)))))

@@ -1,11 +1,15 @@
 -- Slices, item by item: the index at a position, from the bounds and the step.
-use Rattle.std.proofs.Common.{◌≡◌, ℕ, zero, suc, ◌+◌, ◌-◌, ◌*◌, ◌^◌, ◌<◌, ◌≤◌, min, ℤ, pos, negsuc, Option, List, [], ◌∷◌, Some, None, reverse, ap, sym, subst, ◌∙◌, inl, inr, arith}
+use Rattle.std.proofs.Common.{◌≡◌, ℕ, zero, suc, ◌+◌, ◌-◌, ◌*◌, ◌^◌, ◌<◌, ◌≤◌}
+use Rattle.std.proofs.Common.{min, ℤ, pos, negsuc, Option, List, [], ◌∷◌, Some}
+use Rattle.std.proofs.Common.{None, reverse, ap, sym, subst, ◌∙◌, inl, inr, arith}
 use Rattle.std.specs.List.{All, filter, range_with_len, slice_get}
-use Rattle.std.proofs.lemmas.List.Elements.{All-cons, All-filter, All-append, All-head, All-nil, All-tail}
+use Rattle.std.proofs.lemmas.List.Elements.{All-cons, All-filter, All-append}
+use Rattle.std.proofs.lemmas.List.Elements.{All-head, All-nil, All-tail}
 use Rattle.std.proofs.lemmas.Bool.{cases_lt}
 use Rattle.std.proofs.lemmas.List.{reverse-append}
 use Rattle.jp_select.specs.Slice.{indexes, is_rising, slice_of}
-use Rattle.jp_select.proofs.Slices.{falls_between, falling-end, falling-next, rising-end, rising-next}
+use Rattle.jp_select.proofs.Slices.{falls_between, falling-end}
+use Rattle.jp_select.proofs.Slices.{falling-next, rising-end, rising-next}
 
 -- ---- upwards
 
@@ -22,7 +26,8 @@ rising-at (suc p) i u s n within fits positive =
 
 pub rising-past : (p i u s n : ℕ) → u ≤ i + s * p → u ≤ n → 0 < s
     → slice_get (filter (is_rising (pos i) (pos u) s) (indexes n)) p ≡ None
-rising-past zero i u s n past fits positive = ap (λ is. slice_get is 0) (rising-end i u s n (omega arith))
+rising-past zero i u s n past fits positive =
+    ap (λ is. slice_get is 0) (rising-end i u s n (omega arith))
 rising-past (suc p) i u s n past fits positive = elim (cases_lt i u) [
   | inl less ↦
       let same : i + s + s * p ≡ i + s * suc p = omega arith in
@@ -45,7 +50,8 @@ falling-at (suc p) l a s n within fits positive =
 
 pub falling-past : (p l a s n : ℕ) → a - s * p ≤ l → a ≤ n → 0 < s
     → slice_get (reverse (filter (falls_between l a s) (indexes n))) p ≡ None
-falling-past zero l a s n past fits positive = ap (λ is. slice_get is 0) (falling-end l a s n (omega arith))
+falling-past zero l a s n past fits positive =
+    ap (λ is. slice_get is 0) (falling-end l a s n (omega arith))
 falling-past (suc p) l a s n past fits positive = elim (cases_lt l a) [
   | inl less ↦
       let same : a - s - s * p ≡ a - s * suc p = omega arith in
@@ -59,7 +65,8 @@ falling-past (suc p) l a s n past fits positive = elim (cases_lt l a) [
 within_of : (n a m : ℕ) → a + m ≤ n → All (λ i. i < n) (range_with_len a m)
 within_of n a zero fits = All-nil (λ i. i < n)
 within_of n a (suc m) fits =
-    All-cons (λ i. i < n) a (range_with_len (a + 1) m) (omega arith) (within_of n (a + 1) m (omega arith))
+    All-cons (λ i. i < n) a (range_with_len (a + 1) m) (omega arith)
+    (within_of n (a + 1) m (omega arith))
 
 indexes_within : (n : ℕ) → All (λ i. i < n) (indexes n)
 indexes_within n = within_of n 0 n (omega arith)
@@ -68,7 +75,8 @@ All-reverse : {X : Type 0} (P : X → Type 0) (xs : List X) → All P xs → All
 All-reverse P [] all = All-nil P
 All-reverse P (x ∷ xs) all =
     subst (All P) (sym (reverse-append (x ∷ []) xs))
-    (All-append P (reverse xs) (x ∷ []) (All-reverse P xs (All-tail P x xs all)) (All-cons P x [] (All-head P x xs all) (All-nil P)))
+    (All-append P (reverse xs) (x ∷ []) (All-reverse P xs (All-tail P x xs all))
+    (All-cons P x [] (All-head P x xs all) (All-nil P)))
 
 pub slice_within : (n : ℕ) (start end : Option ℤ) (step : ℤ)
     → All (λ i. i < n) (slice_of n start end step)

@@ -1,9 +1,10 @@
 -- The values that a selector chooses from (RFC 9535 section 2.3), each with its step.
-use Rattle.std.specs.Prelude.{ℕ, List, [], Option, None, option_and_then, option_map, option_to_list}
+use Rattle.std.specs.Prelude.{ℕ, List, [], Option, None, option_and_then}
+use Rattle.std.specs.Prelude.{option_map, option_to_list}
 use Rattle.std.specs.List.{flat_map, slice_get}
 use Rattle.std.specs.Option.{option_map_or}
 use Rattle.std.specs.Str.{encode_utf8_all}
-use Rattle.jp_document.specs.Location.{Key, child, held, named}
+use Rattle.jp_document.specs.Location.{Key, child, entries, named}
 use Rattle.jp_document.specs.Value.{Value}
 use Rattle.jp_query.specs.Tree.{SelectorTree, name, wildcard, index, slice, filter}
 use Rattle.jp_query.specs.declared.tree.Numeral.TheVariants.{Whole}
@@ -17,12 +18,12 @@ at_step k v = (k, v)
 abbrev pub single : SelectorTree → Value → Option (Key × Value)
 single (name cs) v = let k = named (encode_utf8_all cs) in option_map (at_step k) (child v k)
 single (index (Whole i)) v =
-    option_and_then (slice_get (held v)) (option_and_then (λ n. item_at n i) (list_length v))
+    option_and_then (slice_get (entries v)) (option_and_then (λ n. item_at n i) (list_length v))
 single _ v = None
 
 -- the item of v with index i, if it is there
 abbrev pub item_entry : Value → ℕ → List (Key × Value)
-item_entry v i = option_to_list (slice_get (held v) i)
+item_entry v i = option_to_list (slice_get (entries v) i)
 
 -- what a selector chooses from at v, in its order: a name that member, an index that item, a slice
 -- its items, a
@@ -30,7 +31,8 @@ item_entry v i = option_to_list (slice_get (held v) i)
 -- true
 abbrev pub candidates : SelectorTree → Value → List (Key × Value)
 candidates (name cs) v = option_to_list (single (name cs) v)
-candidates wildcard v = held v
+candidates wildcard v = entries v
 candidates (index i) v = option_to_list (single (index i) v)
-candidates (slice s) v = option_map_or (λ n. flat_map (item_entry v) (indexes_chosen s n)) (list_length v) []
-candidates (filter e) v = held v
+candidates (slice s) v =
+    option_map_or (λ n. flat_map (item_entry v) (indexes_chosen s n)) (list_length v) []
+candidates (filter e) v = entries v

@@ -1,10 +1,13 @@
 -- Comparisons of values and of Nothing (RFC 9535 section 2.3.5.2.2). Nothing is None.
-use Rattle.std.specs.Prelude.{ℕ, Bool, true, false, not, ◌&&◌, ◌||◌, ◌==◌, nat_lt, int_lt, List, [], ◌∷◌, Option, Some, None, bytes_eq}
+use Rattle.std.specs.Prelude.{ℕ, Bool, true, false, not, ◌&&◌, ◌||◌, ◌==◌, nat_lt}
+use Rattle.std.specs.Prelude.{int_lt, List, [], ◌∷◌, Option, Some, None, bytes_eq}
 use Rattle.std.specs.Ordering.{int_eq}
 use Rattle.std.specs.Str.{chars}
-use Rattle.jp_document.specs.Value.{Value, null, boolean, whole, text, list, object, Items, no_items, item, Members, no_members, member}
+use Rattle.jp_document.specs.Value.{Value, null, boolean, whole, text, list, object}
+use Rattle.jp_document.specs.Value.{Items, no_items, item, Members, no_members, member}
 use Rattle.jp_query.specs.declared.tree.Op.{Op}
-use Rattle.jp_query.specs.declared.tree.Op.TheVariants.{Equal, Unequal, Less, LessEqual, Greater, GreaterEqual}
+use Rattle.jp_query.specs.declared.tree.Op.TheVariants.{Equal, Unequal, Less, LessEqual}
+use Rattle.jp_query.specs.declared.tree.Op.TheVariants.{Greater, GreaterEqual}
 
 -- ---- equal
 
@@ -27,7 +30,8 @@ abbrev mutual
 
   pub same_members : Members → Members → Bool
   same_members no_members no_members = true
-  same_members (member m v ms) (member n w ns) = bytes_eq m n && same_value v w && same_members ms ns
+  same_members (member m v ms) (member n w ns) =
+      bytes_eq m n && same_value v w && same_members ms ns
   same_members _ _ = false
 
 -- members of one name with the same value
@@ -42,8 +46,9 @@ equals _ _ = false
 
 -- ---- less
 
--- lexical order of scalar values: the empty text precedes any other; of two others the one whose first scalar value is lower
--- does, or, where those are the same, the one whose remainder precedes the other's
+-- lexical order of scalar values: the empty text precedes any other; of two others the one whose
+-- first scalar value is lower does, or, where those are the same, the one whose remainder precedes
+-- the other's
 abbrev pub precedes : List ℕ → List ℕ → Bool
 precedes cs [] = false
 precedes [] (d ∷ ds) = true

@@ -2,37 +2,46 @@
 use Rattle.std.specs.Prelude.{◌≡◌, ℕ, suc, List, [], ◌∷◌, ◌++◌, map, IsSome}
 use Rattle.std.specs.Option.{option_map_or}
 use Rattle.jp_document.specs.Location.{Key, named, nth, Location, value_at}
+use Rattle.jp_document.specs.Node.{Node, root_of}
 use Rattle.jp_document.specs.Value.{Value, null, boolean, whole, text, list, object, Items, no_items, item, Members, no_members, member}
 
--- a location with its value, as seen from one step before
-abbrev pub after : Key → Location × Value → Location × Value
-after k e = (k ∷ e.0, e.1)
+-- a node, as seen from one step before
+abbrev pub after : Key → Node → Node
+after k n = record { location = k ∷ n.location; value = n.value }
 
--- the values in v, each with its location from v on: v itself, then those in each child in turn
+-- the nodes in v, each located from v on: v itself, then those in each child in turn
 abbrev mutual
-  pub nodes_in : Value → List (Location × Value)
-  nodes_in null = ([], null) ∷ []
-  nodes_in (boolean b) = ([], boolean b) ∷ []
-  nodes_in (whole z) = ([], whole z) ∷ []
-  nodes_in (text s) = ([], text s) ∷ []
-  nodes_in (list vs) = ([], list vs) ∷ nodes_in_items 0 vs
-  nodes_in (object ms) = ([], object ms) ∷ nodes_in_members ms
+  pub nodes_in : Value → List Node
+  nodes_in null = root_of null ∷ []
+  nodes_in (boolean b) = root_of (boolean b) ∷ []
+  nodes_in (whole z) = root_of (whole z) ∷ []
+  nodes_in (text s) = root_of (text s) ∷ []
+  nodes_in (list vs) = root_of (list vs) ∷ nodes_in_items 0 vs
+  nodes_in (object ms) = root_of (object ms) ∷ nodes_in_members ms
 
-  pub nodes_in_items : ℕ → Items → List (Location × Value)
+  pub nodes_in_items : ℕ → Items → List Node
   nodes_in_items i no_items = []
   nodes_in_items i (item v vs) = map (after (nth i)) (nodes_in v) ++ nodes_in_items (suc i) vs
 
-  pub nodes_in_members : Members → List (Location × Value)
+  pub nodes_in_members : Members → List Node
   nodes_in_members no_members = []
   nodes_in_members (member n v ms) = map (after (named n)) (nodes_in v) ++ nodes_in_members ms
 
--- where a value in the one at l stands
-abbrev pub beyond : Location → Location × Value → Location
-beyond l e = l ++ e.0
+-- a node in the value at l, located from the root on
+abbrev pub beyond : Location → Node → Node
+beyond l n = record { location = l ++ n.location; value = n.value }
+
+-- a node and its descendants, in document order
+abbrev pub subtree_of : Node → List Node
+subtree_of n = map (beyond n.location) (nodes_in n.value)
+
+-- where a node in the value at l stands
+abbrev pub location_beyond : Location → Node → Location
+location_beyond l n = l ++ n.location
 
 -- the locations of the node of d at l and of its descendants, in document order
 abbrev pub subtree : Value → Location → List Location
-subtree d l = option_map_or (λ v. map (beyond l) (nodes_in v)) (value_at d l) []
+subtree d l = option_map_or (λ v. map (location_beyond l) (nodes_in v)) (value_at d l) []
 
 -- m is the location of a node of d, and begins with l
 pub record IsInSubtree (d : Value) (l m : Location) : Type 0 where

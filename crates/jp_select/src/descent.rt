@@ -1,11 +1,10 @@
 //! The walk over a node and its descendants in document order (RFC 9535 section 2.5.2.2).
 ghost use Rattle.std.specs.Prelude.{◌≡◌, ◌+◌, [], ◌++◌, false, length, map, if◌then◌else◌, IfOk, IfNone, OnOk};
 ghost use Rattle.std.specs.Iterator.{at_most};
-ghost use Rattle.jp_document.specs.ChildNodes.{AreNodes, standing};
-ghost use Rattle.jp_document.specs.Node.{told, StandsIn};
+ghost use Rattle.jp_document.specs.Node.{AreNodes, StandsIn, node_of};
 ghost use Rattle.jp_document.specs.Value.{Value};
-ghost use Rattle.jp_select.specs.Subtree.{subtree};
-ghost use Rattle.jp_select.specs.Walk.{places_in, places_from, given_by, rest_of, GivesNext, Yields};
+ghost use Rattle.jp_select.specs.Subtree.{subtree_of, subtree};
+ghost use Rattle.jp_select.specs.Walk.{GivesNext, Yields, given_by, child_subtrees, rest_of};
 
 use jp_document::{Node, child_count, nth_child};
 use std::alloc::{AllocError, Global};
@@ -13,8 +12,8 @@ use std::alloc::{AllocError, Global};
 /// The node and all its descendants, in document order: each node before its descendants, siblings
 /// in the order of their parent's children (RFC 9535 section 2.5.2.2).
 pub fn descend<'d>(alloc: Global, node: Node<'d>) -> Result<Vec<Node<'d>>, AllocError>
-    ensures { (d : Value) → StandsIn d node.entry
-        → IfOk result (λ nodes. AreNodes d nodes.items (subtree d node.entry.location)) }
+    ensures { (d : Value) → StandsIn d (node_of node.entry) → IfOk result
+        (λ nodes. AreNodes d (map node_of nodes.items) (subtree d node.entry.location)) }
 {
     let mut nodes = Vec::new(alloc);
     for next in descend_each(alloc, node) {
@@ -27,9 +26,9 @@ pub fn descend<'d>(alloc: Global, node: Node<'d>) -> Result<Vec<Node<'d>>, Alloc
 /// memory before the first node is asked for, and its own memory follows the depth of the walk.
 pub fn descend_each<'d>(alloc: Global, node: Node<'d>) -> Descent<'d>
     ensures working { result.failed ≡ false }
-    ensures values { rest_of result ≡ places_in (told node.entry) }
-    ensures nodes { (d : Value) → StandsIn d node.entry
-        → rest_of result ≡ map (standing d) (subtree d node.entry.location) }
+    ensures values { rest_of result ≡ subtree_of (node_of node.entry) }
+    ensures nodes { (d : Value) → StandsIn d (node_of node.entry)
+        → AreNodes d (rest_of result) (subtree d node.entry.location) }
 {
     Descent {
         alloc,
@@ -90,7 +89,7 @@ impl<'d> Descent<'d> {
         ensures first { self.new.first ≡ self.old.first }
         ensures failed { self.new.failed ≡ self.old.failed }
         ensures frames { OnOk result (given_by self.new.frames.items
-            ≡ places_from node.now 0 ++ given_by self.old.frames.items) }
+            ≡ child_subtrees (node_of node.now) 0 ++ given_by self.old.frames.items) }
     {
         if child_count(node) > 0 {
             let node = node.copy(self.alloc)?;

@@ -1,9 +1,8 @@
 //! What a plain selector selects at a node (RFC 9535 section 2.3).
-ghost use Rattle.std.specs.Prelude.{◌≡◌, IfOk, OnOk, ◌++◌, ◌∷◌, []};
-ghost use Rattle.jp_document.specs.ChildNodes.{AreNodes};
+ghost use Rattle.std.specs.Prelude.{◌≡◌, IfOk, OnOk, map, ◌++◌, ◌∷◌, []};
 ghost use Rattle.jp_document.specs.DocumentValue.{lent_value};
 ghost use Rattle.jp_document.specs.Location.{key_of};
-ghost use Rattle.jp_document.specs.Node.{StandsIn};
+ghost use Rattle.jp_document.specs.Node.{AreNodes, StandsIn, node_of};
 ghost use Rattle.jp_document.specs.Value.{Value, value_of};
 ghost use Rattle.jp_query.specs.Tree.{selector_of};
 ghost use Rattle.jp_select.specs.Selectors.{chosen};
@@ -24,8 +23,8 @@ pub fn select_plain<'d>(
     node: &Node<'d>,
     selector: &Selector,
 ) -> Result<Vec<Node<'d>>, AllocError>
-    ensures { (d : Value) → StandsIn d node.now → IfOk result (λ nodes.
-        AreNodes d nodes.items (chosen d (selector_of selector.now) node.now.location)) }
+    ensures { (d : Value) → StandsIn d (node_of node.now) → IfOk result (λ nodes. AreNodes d
+        (map node_of nodes.items) (chosen d (selector_of selector.now) node.now.location)) }
 {
     let mut nodes = Vec::new(alloc);
     if let Selector::Filter(_) = selector {

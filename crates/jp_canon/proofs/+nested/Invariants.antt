@@ -1,6 +1,8 @@
 use Rattle.std.proofs.Common.{◌≡◌, ◌++◌, drop, map, codes}
-use Rattle.jp_query.specs.Tree.{expr_of, exprs, query_of, segment_of, segments, selector_of, selectors}
-use Rattle.jp_canon.specs.Canon.{canon_of, part_texts, segment_text, segments_text, selector_texts, separated}
+use Rattle.jp_query.specs.Tree.{argument_of, arguments, call_of, expr_of, exprs}
+use Rattle.jp_query.specs.Tree.{query_of, segment_of, segments, selector_of, selectors}
+use Rattle.jp_canon.specs.Canon.{argument_texts, call_text, canon_of, part_texts}
+use Rattle.jp_canon.specs.Canon.{segment_text, segments_text, selector_texts, separated}
 use Rattle.jp_canon.proofs.Parts.{texts_from}
 use Rattle.jp_canon.proofs.+nested.Given as goal
 
@@ -24,3 +26,10 @@ abbrev pub invariant-expressions::write_parts-loop-i :
 invariant-expressions::write_parts-loop-i l =
     l.out ++ texts_from l.i l.mark (part_texts l.outer (exprs (map expr_of (drop l.i l.parts))))
     ≡ l.fn.out ++ separated l.mark (part_texts l.outer (exprs (map expr_of l.parts)))
+
+-- what is written, and the arguments to come, is the whole
+abbrev pub invariant-calls::write_call-loop-i : goal.invariant-calls::write_call-loop-i
+invariant-calls::write_call-loop-i l =
+    l.out ++ (texts_from l.i (codes ",")
+    (argument_texts (arguments (map argument_of (drop l.i l.argument-items)))) ++ codes ")")
+    ≡ l.fn.out ++ call_text (call_of l.call)

@@ -66,6 +66,30 @@ fn filters_rows(rt: HostRuntime) -> Result<(), Fail> {
     gives_each(&rt, rt.alloc(), FILTERS)
 }
 
+/// Section 2.4: function expressions.
+const CALLS: &[Row] = &[
+    ("$[?match( @.b , \"[jk]\" )]", "$[?match(@['b'],'[jk]')]"),
+    ("$[?!(search(@.a,'b'))]", "$[?!search(@['a'],'b')]"),
+    (
+        "$[? length( @.authors ) >= 5]",
+        "$[?length(@['authors'])>=5]",
+    ),
+    ("$[?count(@.*.author) >= 5]", "$[?count(@[*]['author'])>=5]"),
+    (
+        "$[?value(@..color) == \"red\"]",
+        "$[?value(@..['color'])=='red']",
+    ),
+    (
+        "$[?1<length( value($..[?(@.a)] ))]",
+        "$[?1<length(value($..[?@['a']]))]",
+    ),
+];
+
+#[test]
+fn calls_rows(rt: HostRuntime) -> Result<(), Fail> {
+    gives_each(&rt, rt.alloc(), CALLS)
+}
+
 /// Each query has its canonical text, which is its own.
 fn gives_each(rt: &impl Abort, alloc: Global, rows: &[Row]) -> Result<(), Fail> {
     for (text, canonical) in rows {

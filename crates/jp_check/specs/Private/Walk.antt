@@ -1,15 +1,25 @@
 -- How the items of a query are gone through: in their order, one span an item.
-use Rattle.std.specs.Prelude.{◌==◌, ◌&&◌, ◌||◌, nat_lt, Bool, List, [], ◌∷◌, Option, Some, None, if◌then◌else◌}
+use Rattle.std.specs.Prelude.{◌==◌, ◌&&◌, ◌||◌, nat_lt, ℕ, Bool, List, []}
+use Rattle.std.specs.Prelude.{◌∷◌, Option, Some, None, length, if◌then◌else◌}
 use Rattle.jp_reading.specs.Texts.{Spans}
 use Rattle.jp_query.specs.declared.refusal.Refusal.{Refusal}
 use Rattle.jp_query.specs.declared.refusal.RefusalKind.{RefusalKind}
-use Rattle.jp_query.specs.declared.refusal.RefusalKind.TheVariants.{NotWhole, NumberRange, IndexRange, NotSingular}
-use Rattle.jp_query.specs.Items.{QueryItem, int, constant, inner, as_side}
+use Rattle.jp_query.specs.declared.refusal.RefusalKind.TheVariants.{NotWhole, NumberRange}
+use Rattle.jp_query.specs.declared.refusal.RefusalKind.TheVariants.{IndexRange, UnknownFunction}
+use Rattle.jp_query.specs.declared.refusal.RefusalKind.TheVariants.{ArgumentCount, NotSingular}
+use Rattle.jp_query.specs.declared.refusal.RefusalKind.TheVariants.{IllTyped}
+use Rattle.jp_query.specs.Items.{QueryItem, int, constant, inner, called, logical}
+use Rattle.jp_query.specs.Items.{count, items_of, expr_items, call_items}
 use Rattle.jp_query.specs.Refusal.{number_of}
 use Rattle.jp_query.specs.Singular.{is_singular}
-use Rattle.jp_query.specs.Tree.{LiteralTree, number, QueryTree}
+use Rattle.jp_query.specs.Tree.{LiteralTree, number, QueryTree, CallTree, call, ArgumentTree}
+use Rattle.jp_query.specs.Tree.{literal_argument, query_argument, call_argument, logical_argument}
 use Rattle.jp_query.specs.declared.tree.Numeral.{Numeral}
 use Rattle.jp_query.specs.declared.tree.Numeral.TheVariants.{Beyond, Fraction}
+use Rattle.jp_check.specs.declared.functions.DataType.{DataType}
+use Rattle.jp_check.specs.declared.functions.DataType.TheVariants.{Value, Logical}
+use Rattle.jp_check.specs.Functions.{Signature, signature_named}
+use Rattle.jp_check.specs.Types.{fits, wanted}
 use Rattle.jp_check.specs.Ranges.{is_in_index_range}
 
 -- how far the walk is: the spans of the items that are still to come, and the first fault of those
@@ -22,22 +32,44 @@ pub record Progress : Type 0 where
 abbrev pub fault_of_int : Numeral → Option RefusalKind
 fault_of_int n = if is_in_index_range n then None else Some IndexRange
 
--- the fault of a literal, if it has one
-abbrev pub fault_of_literal : LiteralTree → Option RefusalKind
-fault_of_literal (number Fraction) = Some NotWhole
-fault_of_literal (number Beyond) = Some NumberRange
-fault_of_literal _ = None
+-- the fault of what has the first type where the second is wanted, if it has one
+abbrev pub ill_typed : DataType → Option DataType → Option RefusalKind
+ill_typed own None = None
+ill_typed own (Some other) = if fits own other then None else Some IllTyped
 
--- the fault of a side that is a query, if it has one
-abbrev pub fault_of_side : QueryTree → Option RefusalKind
-fault_of_side q = if is_singular q then None else Some NotSingular
+-- the fault of a literal where that type is wanted, if it has one
+abbrev pub fault_of_literal : LiteralTree → Option DataType → Option RefusalKind
+fault_of_literal (number Fraction) want = Some NotWhole
+fault_of_literal (number Beyond) want = Some NumberRange
+fault_of_literal _ want = ill_typed Value want
+
+-- the fault of a query where that type is wanted, if it has one
+abbrev pub fault_of_query : QueryTree → Option DataType → Option RefusalKind
+fault_of_query q (Some Value) = if is_singular q then None else Some NotSingular
+fault_of_query q _ = None
+
+-- the fault of a call of that function with so many arguments, if it has one
+abbrev pub fault_of_called : Option Signature → ℕ → Option DataType → Option RefusalKind
+fault_of_called None given want = Some UnknownFunction
+fault_of_called (Some function) given want =
+    if length function.parameters == given then ill_typed function.result want
+    else Some ArgumentCount
+
+-- the fault of a call where that type is wanted, if it has one
+abbrev pub fault_of_call : CallTree → Option DataType → Option RefusalKind
+fault_of_call (call name all) want = fault_of_called (signature_named name) (count all) want
+
+-- the fault of a logical expression where that type is wanted, if it has one
+abbrev pub fault_of_logical : Option DataType → Option RefusalKind
+fault_of_logical want = ill_typed Logical want
 
 -- the fault of an item, if it has one; of several the one with the least number
 abbrev pub fault_of : QueryItem → Option RefusalKind
 fault_of (int n _) = fault_of_int n
-fault_of (constant l _) = fault_of_literal l
-fault_of (inner q as_side) = fault_of_side q
-fault_of (inner q _) = None
+fault_of (constant l role) = fault_of_literal l (wanted role)
+fault_of (inner q role) = fault_of_query q (wanted role)
+fault_of (called c role) = fault_of_call c (wanted role)
+fault_of (logical e role) = fault_of_logical (wanted role)
 
 -- whether the one fault stands before the other
 abbrev pub is_before : Refusal → Refusal → Bool
@@ -61,3 +93,13 @@ past_item _ (_ ∷ rest) first = record { spans = rest; first = first }
 abbrev pub steps : List QueryItem → Progress → Progress
 steps [] p = p
 steps (x ∷ xs) p = steps xs (past_item (fault_of x) p.spans p.first)
+
+-- past an argument of which that type is wanted, and past the items in it
+abbrev pub past_argument : Option DataType → ArgumentTree → Progress → Progress
+past_argument want (literal_argument l) p = past_item (fault_of_literal l want) p.spans p.first
+past_argument want (query_argument q) p =
+    steps (items_of q) (past_item (fault_of_query q want) p.spans p.first)
+past_argument want (call_argument c) p =
+    steps (call_items c) (past_item (fault_of_call c want) p.spans p.first)
+past_argument want (logical_argument e) p =
+    steps (expr_items e) (past_item (fault_of_logical want) p.spans p.first)

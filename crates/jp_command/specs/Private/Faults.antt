@@ -1,4 +1,5 @@
--- Which fault of a run a fault of its parts is. Running out of memory is the same in each.
+-- Which `Fault` of a run a query's refusal or a document's fault becomes: running out of memory is
+-- the same in each. The conversions to `Fault` cite it.
 use Rattle.jp_document.specs.declared.fault.DocumentFault.{DocumentFault}
 use Rattle.jp_document.specs.declared.fault.DocumentFault.TheVariants as document
 use Rattle.jp_query.specs.declared.refusal.Refusal.{Refusal}

@@ -1,4 +1,4 @@
--- Why an input was not read to its end.
+-- Why an input was not read to its end. The clause `stopped` of `read_all` cites it.
 use Rattle.std.specs.Prelude.{◌≡◌, ℕ, Bool, List, Option}
 use Rattle.jp_command.specs.Input.{FailsToRead, ReadsTooMuch}
 use Rattle.jp_command.specs.declared.fault.Fault.{Fault}

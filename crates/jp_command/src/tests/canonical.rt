@@ -1,3 +1,5 @@
+//! Runs that write canonical texts: each text's own is itself, and the document stays unread.
+
 use super::devices::Narrow;
 use super::rows::words;
 use crate::{Device, Fault, run_canon, run_line};
@@ -13,8 +15,11 @@ fn writes_canonical_texts_that_are_their_own(rt: HostRuntime) -> Result<(), Fail
             "$ .a [ \"b\" , 1:2:1 ]..* [?( !(@.x) ) && (@.y==-0||@['z']>1)]",
             "$['a']['b',1:2]..[*][?!@['x']&&(@['y']==0||@['z']>1)]",
         ),
+        ("$[?(@.a||@.b)||@.c]", "$[?(@['a']||@['b'])||@['c']]"),
+        ("$[?@.a||@.b||@.c]", "$[?@['a']||@['b']||@['c']]"),
         ("$.a[?@.b == 'kilo']", "$['a'][?@['b']=='kilo']"),
         ("$.a[?(@.b == 'kilo')]", "$['a'][?@['b']=='kilo']"),
+        ("$[?match( @.b , \"[jk]\" )]", "$[?match(@['b'],'[jk]')]"),
     ] {
         let line = format!(in alloc; "{canonical}\n")?;
         for text in [query, canonical] {

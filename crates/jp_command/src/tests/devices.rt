@@ -16,7 +16,7 @@ impl Read for Broken<'_> {
     }
 }
 
-/// Gives blanks, and then a zero.
+/// Gives blanks, and then a one.
 #[derive(Drop)]
 pub struct Blanks(pub usize);
 
@@ -26,7 +26,7 @@ impl Read for Blanks {
             return Ok(0);
         }
         if self.0 == 0 {
-            buffer[0] = b'0';
+            buffer[0] = b'1';
             self.0 = usize::MAX;
             return Ok(1);
         }

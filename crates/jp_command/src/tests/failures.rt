@@ -1,6 +1,7 @@
 //! Runs over devices that fail at one call, or that give and take a few bytes a call.
 
 use super::devices::{Blanks, Drip, Narrow, Trickle};
+use super::table::{FILTERED, LETTERS, NESTED, NULLS};
 use crate::{Device, Fault, Form, Output, Source, run_eval};
 use std::test::Fail;
 
@@ -13,26 +14,39 @@ const ROWS: &[(&str, &str, &str)] = &[
     ),
     (r#"["a","b"]"#, "$[-2]", "$[0]\t\"a\"\n"),
     (r#"["a","b"]"#, "$[2]", ""),
+    (r#"["a","b"]"#, "$[-3]", ""),
+    (LETTERS, "$[5:1:-2]", "$[5]\t\"f\"\n$[3]\t\"d\"\n"),
     (
-        r#"["a","b","c","d","e","f","g"]"#,
-        "$[5:1:-2]",
-        "$[5]\t\"f\"\n$[3]\t\"d\"\n",
+        LETTERS,
+        "$[0:2,5]",
+        "$[0]\t\"a\"\n$[1]\t\"b\"\n$[5]\t\"f\"\n",
     ),
-    (
-        r#"{"o":{"j":1,"k":2},"a":[5,3,[{"j":4},{"k":6}]]}"#,
-        "$..j",
-        "$['a'][2][0]['j']\t4\n$['o']['j']\t1\n",
-    ),
-    (
-        r#"{"a":null,"b":[null],"c":[{}],"null":1}"#,
-        "$.b[?@==null]",
-        "$['b'][0]\tnull\n",
-    ),
+    (LETTERS, "$[0,0]", "$[0]\t\"a\"\n$[0]\t\"a\"\n"),
+    (LETTERS, "$[::0]", ""),
+    (LETTERS, "$[-3:-1]", "$[4]\t\"e\"\n$[5]\t\"f\"\n"),
+    (LETTERS, "$[10:0:-3]", "$[6]\t\"g\"\n$[3]\t\"d\"\n"),
+    (NESTED, "$..j", "$['a'][2][0]['j']\t4\n$['o']['j']\t1\n"),
+    (NESTED, "$..[0]", "$['a'][0]\t5\n$['a'][2][0]\t{\"j\":4}\n"),
+    (NULLS, "$.b[?@==null]", "$['b'][0]\tnull\n"),
+    (NULLS, "$.c[?@.d==null]", ""),
+    (NULLS, "$.null", "$['null']\t1\n"),
+    ("[{}]", "$[?@.x==@.y]", "$[0]\t{}\n"),
     ("[{}]", "$[?@.x<=@.y]", "$[0]\t{}\n"),
+    ("[{}]", "$[?@.x<@.y]", ""),
     (
-        r#"{"o":{"p":1,"q":2,"r":3}}"#,
-        "$.o[?@<2, ?@<2]",
-        "$['o']['p']\t1\n$['o']['p']\t1\n",
+        FILTERED,
+        "$.o[?@<3, ?@<3]",
+        "$['o']['p']\t1\n$['o']['q']\t2\n$['o']['p']\t1\n$['o']['q']\t2\n",
+    ),
+    (
+        FILTERED,
+        r#"$.a[?match(@.b,"[jk]")]"#,
+        "$['a'][6]\t{\"b\":\"j\"}\n$['a'][7]\t{\"b\":\"k\"}\n",
+    ),
+    (
+        FILTERED,
+        r#"$.a[?search(@.b,"[jk]")]"#,
+        "$['a'][6]\t{\"b\":\"j\"}\n$['a'][7]\t{\"b\":\"k\"}\n$['a'][9]\t{\"b\":\"kilo\"}\n",
     ),
 ];
 
@@ -128,14 +142,21 @@ fn calls_no_reader_for_a_refused_query(rt: HostRuntime) -> Result<(), Fail> {
 #[test]
 fn keeps_what_was_written_before_a_failing_write(rt: HostRuntime) {
     let alloc = rt.alloc();
-    let mut narrow = Narrow::new(alloc, 6, true);
-    let run = run_eval(
-        alloc,
-        "$.*",
-        Form::Values,
-        &mut Device::new(br#"["ab","cd"]"#.as_slice()),
-        &mut Device::new(&mut narrow),
-    );
-    assert!(rt; run == Err(Fault::Write));
-    assert_eq!(rt; narrow.taken.as_slice(), b"\"ab\"\n\"".as_slice());
+    let rows = [
+        (r#"["ab","cd"]"#, "$.*", Form::Values, "\"ab\"\n\""),
+        ("[[7,8]]", "$[0][1]", Form::Both, "$[0][1]\t8"),
+        (r#"[{"x":1},{"x":2}]"#, "$[?@.x]", Form::Both, ""),
+    ];
+    for (document, query, form, prefix) in rows {
+        let mut narrow = Narrow::new(alloc, prefix.len(), true);
+        let run = run_eval(
+            alloc,
+            query,
+            form,
+            &mut Device::new(document.as_bytes()),
+            &mut Device::new(&mut narrow),
+        );
+        assert!(rt; run == Err(Fault::Write), "{query}");
+        assert_eq!(rt; narrow.taken.as_slice(), prefix.as_bytes(), "{query}");
+    }
 }

@@ -4,6 +4,7 @@ use super::devices::Narrow;
 use super::prefixes;
 use crate::{Device, run_line};
 use std::alloc::{AllocError, Global};
+use std::io::Read;
 use std::process::Abort;
 use std::test::Fail;
 
@@ -68,6 +69,24 @@ fn told(alloc: Global, answer: &Answer) -> Result<(u8, String, String), AllocErr
         }
     };
     Ok((status, lines, fault))
+}
+
+/// What a line of words gives over an input: the status, and what is written to either output.
+pub fn ended<R: Read + Drop>(
+    alloc: Global,
+    line: &[&str],
+    input: R,
+) -> Result<(u8, Vec<u8>, Vec<u8>), AllocError> {
+    let mut output = Vec::new(alloc);
+    let mut faults = Vec::new(alloc);
+    let status = run_line(
+        alloc,
+        words(alloc, line)?,
+        &mut Device::new(input),
+        &mut Device::new(&mut output),
+        &mut Device::new(&mut faults),
+    );
+    Ok((status, output, faults))
 }
 
 /// A line of words, the program's name first.

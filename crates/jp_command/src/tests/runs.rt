@@ -1,4 +1,5 @@
-use super::devices::{Broken, Narrow};
+//! Runs of `run_eval` over outputs that take all.
+
 use crate::{Device, Fault, Form, run_eval};
 use jp_document::DocumentFault;
 use std::alloc::Global;
@@ -36,39 +37,4 @@ fn names_the_first_number_that_is_not_whole(rt: HostRuntime) -> Result<(), Fail>
         assert!(rt; named, "{path}");
     }
     Ok(())
-}
-
-#[test]
-fn tells_failures_of_its_devices(rt: HostRuntime) {
-    let alloc = rt.alloc();
-    let mut input = Device::new(Broken(b"[1"));
-    let mut output = Device::new(Narrow::new(alloc, 9, true));
-    let run = run_eval(alloc, "$", Form::Both, &mut input, &mut output);
-    assert!(rt; run == Err(Fault::Read));
-    let mut input = Device::new(b"[[7,8]]".as_slice());
-    let mut narrow = Narrow::new(alloc, 9, true);
-    let run = run_eval(
-        alloc,
-        "$[0][1]",
-        Form::Both,
-        &mut input,
-        &mut Device::new(&mut narrow),
-    );
-    assert!(rt; run == Err(Fault::Write));
-    assert_eq!(rt; narrow.taken.as_slice(), b"$[0][1]\t8".as_slice());
-}
-
-#[test]
-fn writes_nothing_where_the_first_write_fails(rt: HostRuntime) {
-    let alloc = rt.alloc();
-    let mut closed = Narrow::new(alloc, 0, true);
-    let run = run_eval(
-        alloc,
-        "$[?@.x]",
-        Form::Both,
-        &mut Device::new(b"[{\"x\":1},{\"x\":2}]".as_slice()),
-        &mut Device::new(&mut closed),
-    );
-    assert!(rt; run == Err(Fault::Write));
-    assert!(rt; closed.taken.is_empty());
 }

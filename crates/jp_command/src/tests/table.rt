@@ -11,18 +11,24 @@ const FLAT: &str = r#"{"o":{"j":1,"k":2},"a":[5,3]}"#;
 
 const PAIR: &str = r#"["a","b"]"#;
 
-const LETTERS: &str = r#"["a","b","c","d","e","f","g"]"#;
+pub(super) const LETTERS: &str = r#"["a","b","c","d","e","f","g"]"#;
 
-const FILTERED: &str = r#"{"a":[3,5,1,2,4,6,{"b":"j"},{"b":"k"},{"b":{}},{"b":"kilo"}],
+pub const FILTERED: &str = r#"{"a":[3,5,1,2,4,6,{"b":"j"},{"b":"k"},{"b":{}},{"b":"kilo"}],
     "o":{"p":1,"q":2,"r":3,"s":5,"t":{"u":6}},"e":"f"}"#;
 
 const COMPARED: &str = r#"{"obj":{"x":"y"},"arr":[2,3]}"#;
 
-const NESTED: &str = r#"{"o":{"j":1,"k":2},"a":[5,3,[{"j":4},{"k":6}]]}"#;
+pub(super) const NESTED: &str = r#"{"o":{"j":1,"k":2},"a":[5,3,[{"j":4},{"k":6}]]}"#;
 
-const NULLS: &str = r#"{"a":null,"b":[null],"c":[{}],"null":1}"#;
+pub(super) const NULLS: &str = r#"{"a":null,"b":[null],"c":[{}],"null":1}"#;
+
+const WORDS: &str = r#"["","aaa","b","^"]"#;
 
 const LARGE: &str = "[18446744073709551615,18446744073709551614]";
+
+const LENGTHS: &str = r#"["é","😀ab",[1,2],{"a":1},7]"#;
+
+const DEPTHS: &str = r#"[{"a":{"c":1}},{"a":{"c":1},"b":{"c":1}}]"#;
 
 /// Where a comparison over `COMPARED` is true, both members are selected.
 const BOTH_MEMBERS: &[(&str, &str)] = &[("$['arr']", "[2,3]"), ("$['obj']", r#"{"x":"y"}"#)];
@@ -160,6 +166,7 @@ const INDEXES: &[Row] = &[
     ("1", "$[-9007199254740992]", Query("IndexRange at 2")),
     ("1", "$[01]", Query("Syntax at 3")),
     ("1", "$[-0]", Query("Syntax at 3")),
+    ("1", "$[-]", Query("Syntax at 3")),
 ];
 
 #[test]
@@ -230,6 +237,7 @@ const SLICES: &[Row] = &[
         Nodes(&[("$[1]", r#""b""#), ("$[0]", r#""a""#)]),
     ),
     (LETTERS, "$[0:9007199254740992]", Query("IndexRange at 4")),
+    ("1", "$[1:-0]", Query("Syntax at 5")),
 ];
 
 #[test]
@@ -366,6 +374,10 @@ const REFUSED_FILTERS: &[Row] = &[
     ("[]", "$[?(@.a)==1]", Query("Syntax at 8")),
     ("[]", "$[?@.a==!@.b]", Query("Syntax at 8")),
     ("[]", "$[?@.a == 1 == 2]", Query("Syntax at 12")),
+    ("[]", "$[?tru ]", Query("Syntax at 6")),
+    ("[]", "$[?true]", Query("Syntax at 7")),
+    ("[]", "$[?truex]", Query("Syntax at 8")),
+    ("[]", "$[?!true]", Query("Syntax at 8")),
     ("[]", "$[?@.a==1.0&&@.*==2]", Query("NotWhole at 8")),
     (
         "[]",
@@ -442,6 +454,175 @@ const COMPARISONS: &[Row] = &[
 #[test]
 fn comparisons_rows(rt: HostRuntime) -> Result<(), Fail> {
     gives_each(&rt, rt.alloc(), COMPARISONS)
+}
+
+/// Section 2.4: what functions answer.
+const FUNCTIONS: &[Row] = &[
+    (
+        LENGTHS,
+        "$[?length(@)==1]",
+        Nodes(&[("$[0]", r#""é""#), ("$[3]", r#"{"a":1}"#)]),
+    ),
+    (
+        LENGTHS,
+        "$[?length(@)==length(@.x)]",
+        Nodes(&[("$[4]", "7")]),
+    ),
+    (
+        LENGTHS,
+        "$[?length(@) < 3]",
+        Nodes(&[
+            ("$[0]", r#""é""#),
+            ("$[2]", "[1,2]"),
+            ("$[3]", r#"{"a":1}"#),
+        ]),
+    ),
+    (
+        r#"[{"a":"éé"},{"a":"é"}]"#,
+        "$[?length(value(@.a))==2]",
+        Nodes(&[("$[0]", r#"{"a":"éé"}"#)]),
+    ),
+    (
+        "[[1],\"ab\",2,{}]",
+        "$[?length(@) < 2]",
+        Nodes(&[("$[0]", "[1]"), ("$[3]", "{}")]),
+    ),
+    (
+        r#"["ab","abc",[1,2,3],{"a":1},2]"#,
+        "$[?length(@) < 3]",
+        Nodes(&[("$[0]", r#""ab""#), ("$[3]", r#"{"a":1}"#)]),
+    ),
+    ("[0]", "$[?length(@)==0]", Nodes(&[])),
+    (
+        "[[1],[1,1],{}]",
+        "$[?count(@.*) == 1]",
+        Nodes(&[("$[0]", "[1]")]),
+    ),
+    (
+        "[[1,1,1]]",
+        "$[?count(@[*])==3]",
+        Nodes(&[("$[0]", "[1,1,1]")]),
+    ),
+    (
+        r#"[{"a":0}]"#,
+        "$[?count(@['a','a'])==2]",
+        Nodes(&[("$[0]", r#"{"a":0}"#)]),
+    ),
+    (
+        DEPTHS,
+        "$[?count(@..c)==2]",
+        Nodes(&[("$[1]", r#"{"a":{"c":1},"b":{"c":1}}"#)]),
+    ),
+    (
+        DEPTHS,
+        "$[?value(@..c)==1]",
+        Nodes(&[("$[0]", r#"{"a":{"c":1}}"#)]),
+    ),
+    (r#"[{"a":0}]"#, "$[?value(@['a','a'])==0]", Nodes(&[])),
+    (
+        r#"[{"color":"red"},{"color":"red","b":{"color":"red"}}]"#,
+        r#"$[?value(@..color) == "red"]"#,
+        Nodes(&[("$[0]", r#"{"color":"red"}"#)]),
+    ),
+    (
+        r#"[{"timezone":"Europe/Rome"},{"timezone":"In Europe/Rome"},{"timezone":5},{}]"#,
+        "$[?match(@.timezone, 'Europe/.*')]",
+        Nodes(&[("$[0]", r#"{"timezone":"Europe/Rome"}"#)]),
+    ),
+    (
+        r#"[{"p":"[0-9]"},{"t":"a1"},{"t":"a"}]"#,
+        "$[?search(@.t,$[0].p)]",
+        Nodes(&[("$[1]", r#"{"t":"a1"}"#)]),
+    ),
+    (r#"["aab"]"#, r#"$[?match(@,"((a*)*)*")]"#, Nodes(&[])),
+    (
+        r#"["aab"]"#,
+        r#"$[?search(@,"((a*)*)*")]"#,
+        Nodes(&[("$[0]", r#""aab""#)]),
+    ),
+    (r#"["a("]"#, "$[?search(@,'a(')]", Nodes(&[])),
+    (
+        FILTERED,
+        r#"$.a[?match(@.b, "[jk]")]"#,
+        Nodes(&[("$['a'][6]", r#"{"b":"j"}"#), ("$['a'][7]", r#"{"b":"k"}"#)]),
+    ),
+    (
+        FILTERED,
+        r#"$.a[?search(@.b, "[jk]")]"#,
+        Nodes(&[
+            ("$['a'][6]", r#"{"b":"j"}"#),
+            ("$['a'][7]", r#"{"b":"k"}"#),
+            ("$['a'][9]", r#"{"b":"kilo"}"#),
+        ]),
+    ),
+    (
+        WORDS,
+        r#"$[?match(@,"(a?){2,5}")]"#,
+        Nodes(&[("$[0]", r#""""#), ("$[1]", r#""aaa""#)]),
+    ),
+    (
+        WORDS,
+        r#"$[?match(@,"[^-a]")]"#,
+        Nodes(&[("$[2]", r#""b""#), ("$[3]", r#""^""#)]),
+    ),
+    (WORDS, r#"$[?match(@,"[^]")]"#, Nodes(&[])),
+    (
+        WORDS,
+        r#"$[?match(@,"x{999999999}|b")]"#,
+        Nodes(&[("$[2]", r#""b""#)]),
+    ),
+];
+
+#[test]
+fn functions_rows(rt: HostRuntime) -> Result<(), Fail> {
+    gives_each(&rt, rt.alloc(), FUNCTIONS)
+}
+
+/// Section 2.4.3: functions and arguments that are refused.
+const REFUSED_FUNCTIONS: &[Row] = &[
+    ("[]", "$[?length(@.*) < 3]", Query("NotSingular at 10")),
+    ("[]", "$[?count(1) == 1]", Query("IllTyped at 9")),
+    (
+        "[]",
+        "$[?match(@.timezone, 'Europe/.*') == true]",
+        Query("IllTyped at 3"),
+    ),
+    ("[]", "$[?value(@..color)]", Query("IllTyped at 3")),
+    (
+        "[]",
+        "$[?count(foo(@.*)) == 1]",
+        Query("UnknownFunction at 9"),
+    ),
+    ("[]", "$[?bar(@.a)]", Query("UnknownFunction at 3")),
+    ("[]", "$[?blt(1==1)]", Query("UnknownFunction at 3")),
+    ("[]", "$[?true(@)]", Query("UnknownFunction at 3")),
+    ("[]", "$[?foo(1.5)]", Query("UnknownFunction at 3")),
+    ("[]", "$[?length()]", Query("ArgumentCount at 3")),
+    ("[]", "$[?length(1.5==1)==1]", Query("NotWhole at 10")),
+    ("[]", "$[?length(1.5)==1]", Query("NotWhole at 10")),
+    ("[]", "$[?count(@.a,1.5)==1]", Query("ArgumentCount at 3")),
+    (
+        "[]",
+        "$[?length(match('a','b'))==1]",
+        Query("IllTyped at 10"),
+    ),
+    ("[]", "$[?length(@.a==1)==1]", Query("IllTyped at 10")),
+    ("[]", "$[?length((@.a))==1]", Query("IllTyped at 10")),
+    (
+        "[]",
+        "$[?length(foo(1))==1]",
+        Query("UnknownFunction at 10"),
+    ),
+    ("[]", "$[?length(@)]", Query("IllTyped at 3")),
+    ("[]", "$[?F(@)]", Query("Syntax at 3")),
+    ("[]", "$[?f(@.a]", Query("Syntax at 8")),
+    ("[]", "$[?foo(1.5)]", Query("UnknownFunction at 3")),
+    ("[]", "$[?length()]", Query("ArgumentCount at 3")),
+];
+
+#[test]
+fn refused_functions_rows(rt: HostRuntime) -> Result<(), Fail> {
+    gives_each(&rt, rt.alloc(), REFUSED_FUNCTIONS)
 }
 
 /// Section 2.5.1: child segments.

@@ -3,10 +3,13 @@ use Rattle.std.proofs.Common.{ℕ, Bool, true, false, Option, Some, None, refl, 
 use Rattle.std.proofs.lemmas.Bool.Decides.{nat_tests}
 use Rattle.jp_reading.specs.Numbers.{is_digit}
 use Rattle.jp_reading.specs.Outcome.{is}
-use Rattle.jp_reading.proofs.Rules.Follow.{Follow, anything, any, beginning, either_of, begins, Excludes, Apart, under-same, under-left, implies-same, apart-run}
+use Rattle.jp_reading.proofs.Rules.Follow.{Follow, anything, any, beginning, either_of}
+use Rattle.jp_reading.proofs.Rules.Follow.{begins, Excludes, Apart, under-same}
+use Rattle.jp_reading.proofs.Rules.Follow.{under-left, implies-same, apart-run}
 use Rattle.jp_document.specs.Private.PathRules.{nesting}
 use Rattle.jp_document.specs.Private.PathRules as rule
-use Rattle.jp_document.proofs.Alive.{character-alive, name-alive, index-alive, step-alive, path-alive}
+use Rattle.jp_document.proofs.Alive.{character-alive, name-alive}
+use Rattle.jp_document.proofs.Alive.{index-alive, step-alive, path-alive}
 
 -- nothing follows
 abbrev pub is_none : Option ℕ → Bool
@@ -18,7 +21,8 @@ at_end = record { near = is_none; far = anything }
 
 character-apart : (K : Follow)
     → Apart {N = nesting} (λ o. any) rule.name_character character-alive K
-unfolding rule.name_character rule.escape rule.hexchar rule.is_letter rule.is_plain rule.is_low_digit rule.is_hex_digit
+unfolding rule.name_character rule.escape rule.hexchar rule.is_letter rule.is_plain
+    rule.is_low_digit rule.is_hex_digit
 character-apart K = (
   λ c h. grind (arith, nat_tests),
   (

@@ -1,5 +1,7 @@
 -- The spelling of each name between quotes is a text of the rule of names.
-use Rattle.std.proofs.Common.{◌≡◌, ℕ, zero, suc, ◌/◌, ◌%◌, ◌<◌, ◌≤◌, nat_lt, true, false, List, [], ◌∷◌, ◌++◌, length, get_or, inl, inr, refl, sym, ap, subst, ◌∙◌, append_assoc, length-append, arith}
+use Rattle.std.proofs.Common.{◌≡◌, ℕ, zero, suc, ◌/◌, ◌%◌, ◌<◌, ◌≤◌, nat_lt, true, false}
+use Rattle.std.proofs.Common.{List, [], ◌∷◌, ◌++◌, length, get_or, inl, inr, refl, sym}
+use Rattle.std.proofs.Common.{ap, subst, ◌∙◌, append_assoc, length-append, arith}
 use Rattle.std.proofs.lemmas.Bool.{cases_Bool, cases_lt}
 use Rattle.std.proofs.lemmas.Bool.Decides.{nat_tests}
 use Rattle.std.proofs.lemmas.Str.{encode_ascii, length-encode, len_utf8_bounds}
@@ -15,9 +17,11 @@ use Rattle.jp_reading.proofs.Rules.Form.{left, right}
 use Rattle.jp_document.specs.Private.PathRules.{is_letter, is_low_digit, is_hex_digit, hex_value}
 use Rattle.jp_document.specs.Private.PathRules as rule
 use Rattle.jp_document.specs.Spelling.{spelling, hex_digit}
-use Rattle.jp_document.proofs.Encoded.{first-ascii, front-ascii, high-plain, high-bytes, peel, spelling-low}
+use Rattle.jp_document.proofs.Encoded.{first-ascii, front-ascii, high-plain}
+use Rattle.jp_document.proofs.Encoded.{high-bytes, peel, spelling-low}
 use Rattle.jp_document.proofs.Soundness.Names.{form_of}
-use Rattle.jp_document.proofs.Spelled.{has_letter, Spelled, by_letter, by_number, by_itself, spelled, spelling_is, hex_digit_is}
+use Rattle.jp_document.proofs.Spelled.{has_letter, Spelled, by_letter, by_number}
+use Rattle.jp_document.proofs.Spelled.{by_itself, spelled, spelling_is, hex_digit_is}
 
 -- ---- characters of names
 

@@ -1,5 +1,6 @@
 -- The path of each list of steps is read, to its end.
-use Rattle.std.proofs.Common.{◌≡◌, ℕ, ◌<◌, min, true, List, [], ◌∷◌, ◌++◌, length, map, refl, sym, ap, ◌∙◌, append_assoc, length-append, arith}
+use Rattle.std.proofs.Common.{◌≡◌, ℕ, ◌<◌, min, true, List, [], ◌∷◌, ◌++◌, length, map}
+use Rattle.std.proofs.Common.{refl, sym, ap, ◌∙◌, append_assoc, length-append, arith}
 use Rattle.std.proofs.lemmas.Bool.Decides.{nat_tests}
 use Rattle.std.proofs.lemmas.Str.{length-encode, len_utf8_bounds}
 use Rattle.std.specs.Char.{encode_utf8}
@@ -12,7 +13,8 @@ use Rattle.jp_reading.specs.Outcome.{State, took}
 use Rattle.jp_reading.specs.RuleReading.{nothing}
 use Rattle.jp_reading.proofs.Again.{start, finish}
 use Rattle.jp_reading.proofs.Digits.{capped-is_min}
-use Rattle.jp_reading.proofs.HasForm.{HasForm, has-word, has-one, both, has-as, has-same, has-each_passing, reads-all}
+use Rattle.jp_reading.proofs.HasForm.{HasForm, has-word, has-one, both, has-as}
+use Rattle.jp_reading.proofs.HasForm.{has-same, has-each_passing, reads-all}
 use Rattle.jp_reading.proofs.Rules.Completeness.{done, no_inner}
 use Rattle.jp_reading.proofs.Rules.Follow.{any}
 use Rattle.jp_reading.proofs.Rules.Form.{left, right, none_inside}
@@ -25,7 +27,8 @@ use Rattle.jp_document.proofs.Alive.{path-alive}
 use Rattle.jp_document.proofs.Completeness.Apart.{at_end, path-apart}
 use Rattle.jp_document.proofs.Completeness.Names.{Begins, enclosed-has, name-begins}
 use Rattle.jp_document.proofs.Encoded.{front-ascii, first-ascii, digits-ascii}
-use Rattle.jp_document.proofs.IndexTexts.{value_from-index_text, digits-index_text, Begun, zero_text, other_text, begun}
+use Rattle.jp_document.proofs.IndexTexts.{value_from-index_text, digits-index_text}
+use Rattle.jp_document.proofs.IndexTexts.{Begun, zero_text, other_text, begun}
 use Rattle.jp_document.proofs.LargeIndexes.{capped_key}
 use Rattle.jp_document.proofs.PathsDiffer.{step-named, step-nth}
 use Rattle.jp_document.proofs.Soundness.Names.{form_of}

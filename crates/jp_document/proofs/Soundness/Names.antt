@@ -1,5 +1,6 @@
 -- What the rule of names takes is a name's spelling between quotes.
-use Rattle.std.proofs.Common.{◌≡◌, ℕ, ◌+◌, ◌/◌, ◌%◌, ◌<◌, nat_lt, Bool, false, true, List, [], ◌∷◌, ◌++◌, inl, inr, refl, sym, ap, subst, ◌∙◌, ◌≤◌, arith}
+use Rattle.std.proofs.Common.{◌≡◌, ◌*◌, ℕ, ◌+◌, ◌/◌, ◌%◌, ◌<◌, nat_lt, Bool, false, true, List}
+use Rattle.std.proofs.Common.{[], ◌∷◌, ◌++◌, inl, inr, refl, sym, ap, subst, ◌∙◌, ◌≤◌, arith}
 use Rattle.std.proofs.lemmas.Bool.{cases_Bool}
 use Rattle.std.proofs.lemmas.Bool.Decides.{nat_tests}
 use Rattle.std.proofs.lemmas.Str.{encodes-append}
@@ -11,7 +12,8 @@ use Rattle.jp_reading.proofs.Between.{Within}
 use Rattle.jp_reading.proofs.Joining.{after-within, ends-within}
 use Rattle.jp_reading.proofs.Levels.{Only, Then, Made}
 use Rattle.jp_reading.proofs.Rules.Form.{Either, left, right, none_inside, form}
-use Rattle.jp_document.specs.Private.PathRules.{nesting, PathRule, is_letter, meant, is_low_digit, is_hex_digit, hex_value}
+use Rattle.jp_document.specs.Private.PathRules.{nesting, PathRule, is_letter, meant}
+use Rattle.jp_document.specs.Private.PathRules.{is_low_digit, is_hex_digit, hex_value}
 use Rattle.jp_document.specs.Private.PathRules as rule
 use Rattle.jp_document.specs.Spelling.{spelling, control, hex_digit}
 use Rattle.jp_document.proofs.Encoded.{encode-ascii, names-encode}
@@ -83,6 +85,19 @@ control-is : (c a b : ℕ) → hex_digit (c / 16) ≡ a → hex_digit (c % 16) �
     → 92 ∷ 117 ∷ 48 ∷ 48 ∷ a ∷ b ∷ [] ≡ control c
 control-is c a b high low = rw (sym high, sym low) refl
 
+by_digits : (c k a d : ℕ) (s : Spans) (o : ℕ) (t : Text) → c ≡ 16 * k + hex_value d → k < 2 →
+    hex_value d < 16 → hex_digit k ≡ a → hex_digit (hex_value d) ≡ d → has_letter c ≡ false →
+    t ≡ 48 ∷ 48 ∷ a ∷ d ∷ [] → Numbered c s o t
+by_digits c k a d s o t number high low first second none text =
+    let quotient : c / 16 ≡ k = omega arith in
+    let remainder : c % 16 ≡ hex_value d = omega arith in
+    record {
+      low = omega arith;
+      none = none;
+      is = ap (λ x. 92 ∷ 117 ∷ x) text
+          ∙ control-is c a d (ap hex_digit quotient ∙ first) (ap hex_digit remainder ∙ second);
+    }
+
 hexchar-within : (c : ℕ) → Within (form_of rule.hexchar c) (Numbered c)
 unfolding rule.hexchar
 hexchar-within c s o t h = way _ h.two.two
@@ -95,26 +110,18 @@ hexchar-within c s o t h = way _ h.two.two
         h.two.second_spans i h.two.second → Numbered c s o t
     way i (left g) =
         let d = g.two.part in
-        let number = low-number d g.two.is.passes in
-        let high : c / 16 ≡ 0 = (let e = g.two.same in omega arith) in
-        let low : c % 16 ≡ hex_value d = (let e = g.two.same in omega arith) in
-        record {
-          low = let e = g.two.same in omega arith;
-          none = ap has_letter g.two.same ∙ number.1;
-          is = ap (λ x. 92 ∷ 117 ∷ x) (text (48 ∷ d ∷ []) (rw (g.is, g.one.is, g.two.is.is) refl))
-              ∙ control-is c 48 d (ap hex_digit high) (ap hex_digit low ∙ number.2);
-        }
+        let digit = low-number d g.two.is.passes in
+        by_digits c 0 48 d s o t (let e = g.two.same in omega arith)
+        (omega arith) digit.0 refl digit.2
+        (ap has_letter g.two.same ∙ digit.1)
+        (text (48 ∷ d ∷ []) (rw (g.is, g.one.is, g.two.is.is) refl))
     way i (right g) =
         let d = g.two.part in
-        let number = hex-number d g.two.is.passes in
-        let high : c / 16 ≡ 1 = (let e = g.two.same in omega arith) in
-        let low : c % 16 ≡ hex_value d = (let e = g.two.same in omega arith) in
-        record {
-          low = let e = g.two.same in omega arith;
-          none = high-no_letter c (let e = g.two.same in omega arith);
-          is = ap (λ x. 92 ∷ 117 ∷ x) (text (49 ∷ d ∷ []) (rw (g.is, g.one.is, g.two.is.is) refl))
-              ∙ control-is c 49 d (ap hex_digit high) (ap hex_digit low ∙ number.1);
-        }
+        let digit = hex-number d g.two.is.passes in
+        by_digits c 1 49 d s o t (let e = g.two.same in omega arith)
+        (omega arith) digit.0 refl digit.1
+        (high-no_letter c (let e = g.two.same in omega arith))
+        (text (49 ∷ d ∷ []) (rw (g.is, g.one.is, g.two.is.is) refl))
 
 -- what comes after a backslash, as it is spelled
 record Escaped (c : ℕ) (s : Spans) (o : ℕ) (t : Text) : Type 0 where

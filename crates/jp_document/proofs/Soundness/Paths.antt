@@ -1,5 +1,6 @@
 -- What the rule of paths takes, up to the end of the text, is the path of the steps that it took.
-use Rattle.std.proofs.Common.{◌≡◌, ℕ, min, eqb, Bool, true, false, cond, List, [], ◌∷◌, ◌++◌, length, map, refl, sym, ap, ◌∙◌, arith}
+use Rattle.std.proofs.Common.{◌≡◌, ℕ, min, eqb, Bool, true, false, cond, List, []}
+use Rattle.std.proofs.Common.{◌∷◌, ◌++◌, length, map, refl, sym, ap, ◌∙◌, arith}
 use Rattle.std.proofs.lemmas.Bool.{eqb-true}
 use Rattle.std.proofs.lemmas.Bool.Decides.{nat_tests}
 use Rattle.std.proofs.lemmas.List.{nil_from_length}
@@ -105,13 +106,13 @@ step-within k s o t h = key-within k s o t (enclosed-is (form_of rule.key) 91 93
 -- ---- whole paths
 
 -- the location whose path it is, and that it is read so
-record Located (l : Location) (w : List ℕ) : Type 0 where
+record IsPathTo (l : Location) (w : List ℕ) : Type 0 where
   location : Location
   read : map capped_key location ≡ l
   is : w ≡ flat_map step_text location
 
 located : (l : Location) (s : Spans) (o : ℕ) (t : Text) → Each (λ k. form_of rule.step k) l s o t
-    → Located l (encode_utf8_all t)
+    → IsPathTo l (encode_utf8_all t)
 located [] s o t h = record { location = []; read = refl; is = ap encode_utf8_all h.is }
 located (k ∷ l) s o t h =
     let one = step-within k h.first_spans o h.first h.one in

@@ -1,10 +1,12 @@
 -- The rules by which normalized paths are read (RFC 9535 section 2.7), so that the next character
 -- tells how a text goes on. A name is read as its bytes.
-use Rattle.std.specs.Prelude.{ℕ, ◌+◌, ◌-◌, ◌==◌, ◌||◌, ◌&&◌, not, nat_le, nat_lt, Bool, true, false, if◌then◌else◌, List, ◌∷◌}
+use Rattle.std.specs.Prelude.{ℕ, ◌+◌, ◌-◌, ◌==◌, ◌||◌, ◌&&◌, not, nat_le, nat_lt}
+use Rattle.std.specs.Prelude.{Bool, true, false, if◌then◌else◌, List, ◌∷◌}
 use Rattle.std.specs.Str.{encode_utf8_all}
 use Rattle.jp_reading.specs.Outcome.{is}
 use Rattle.jp_reading.specs.Numbers.{is_digit, capped}
-use Rattle.jp_reading.specs.Rule.{here, Nesting, the, Rule, value, character, made, look, upon, some, ◌>>=◌, ◌>>◌}
+use Rattle.jp_reading.specs.Rule.{here, Nesting, the, Rule, value, character}
+use Rattle.jp_reading.specs.Rule.{made, look, upon, some, ◌>>=◌, ◌>>◌}
 use Rattle.jp_document.specs.declared.characters.Characters.{Characters}
 use Rattle.jp_document.specs.declared.characters.Characters.TheVariants as characters
 use Rattle.jp_document.specs.Location.{Key, named, nth, Location}
@@ -40,8 +42,13 @@ hex_value d = if nat_lt d 97 then d - 48 else d - 87
 unfoldable pub is_low_digit : ℕ → Bool
 is_low_digit d = nat_le 48 d && nat_le d 55 || d == 98 || d == 101 || d == 102
 
+-- whether a character does not end the name
+abbrev pub is_inside : ℕ → Bool
+is_inside c = not (c == 39)
+
 -- whether a character is one of these
 abbrev pub is_one_of : Characters → ℕ → Bool
+is_one_of characters.Inside = is_inside
 is_one_of characters.Plain = is_plain
 is_one_of characters.Letter = is_letter
 is_one_of characters.LowDigit = is_low_digit
@@ -72,10 +79,6 @@ escape = upon 117 hexchar (made meant (character is_letter))
 -- normal-single-quoted
 unfoldable pub name_character : PathRule true ℕ
 name_character = upon 92 escape (character is_plain)
-
--- whether a character does not end the name
-abbrev pub is_inside : ℕ → Bool
-is_inside c = not (c == 39)
 
 -- the characters up to the quote, in bytes
 unfoldable pub name_characters : PathRule false (List ℕ)

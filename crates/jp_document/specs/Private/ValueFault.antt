@@ -6,7 +6,8 @@ use Rattle.jp_document.specs.declared.location.OwnedStep.{OwnedStep}
 use Rattle.jp_document.specs.declared.value_fault.ValueFault.{ValueFault}
 use Rattle.jp_document.specs.declared.value_fault.ValueFault.TheVariants.{Fraction}
 use Rattle.jp_document.specs.declared.fault.DocumentFault.{DocumentFault}
-use Rattle.jp_document.specs.declared.fault.DocumentFault.TheVariants.{NotJson, NotWhole, ListTooLong, NoMemory}
+use Rattle.jp_document.specs.declared.fault.DocumentFault.TheVariants.{NotJson, NotWhole}
+use Rattle.jp_document.specs.declared.fault.DocumentFault.TheVariants.{ListTooLong, NoMemory}
 use Rattle.jp_document.specs.Path.{path_of}
 use Rattle.jp_document.specs.Document.{IsFirstFraction}
 use Rattle.jp_document.specs.Location.{owned_key}

@@ -1,6 +1,6 @@
 -- The sizes of queries, by which the evaluation of filters ends.
 use Rattle.std.specs.Prelude.{ℕ, suc, ◌+◌}
-use Rattle.jp_query.specs.Tree.{ExprTree, ExprTrees, QueryTree, SegmentTree, SegmentTrees, SelectorTree, SelectorTrees, all_of, any_of, comparison, exists, expr_then, filter, index, name, negation, no_exprs, no_segments, no_selectors, query, segment, segment_then, selector_then, slice, wildcard}
+use Rattle.jp_query.specs.Tree.{ArgumentTree, ArgumentTrees, CallTree, ExprTree, ExprTrees, OperandTree, QueryTree, SegmentTree, SegmentTrees, SelectorTree, SelectorTrees, all_of, any_of, argument_then, call, call_argument, call_test, call_value, comparison, exists, expr_then, filter, index, literal, literal_argument, logical_argument, name, negation, no_arguments, no_exprs, no_segments, no_selectors, node_value, query, query_argument, segment, segment_then, selector_then, slice, wildcard}
 
 abbrev mutual
   pub selector_size : SelectorTree → ℕ
@@ -28,9 +28,28 @@ abbrev mutual
   expr_size (any_of es) = suc (exprs_size es)
   expr_size (all_of es) = suc (exprs_size es)
   expr_size (negation e) = suc (expr_size e)
-  expr_size (comparison left op right) = 1
+  expr_size (comparison left op right) = suc (operand_size left + operand_size right)
   expr_size (exists q) = suc (query_size q)
+  expr_size (call_test f) = suc (call_size f)
 
   pub exprs_size : ExprTrees → ℕ
   exprs_size no_exprs = 0
   exprs_size (expr_then e rest) = suc (expr_size e + exprs_size rest)
+
+  pub operand_size : OperandTree → ℕ
+  operand_size (literal x) = 1
+  operand_size (node_value q) = 1
+  operand_size (call_value f) = suc (call_size f)
+
+  pub call_size : CallTree → ℕ
+  call_size (call cs xs) = suc (arguments_size xs)
+
+  pub argument_size : ArgumentTree → ℕ
+  argument_size (literal_argument x) = 1
+  argument_size (query_argument q) = suc (query_size q)
+  argument_size (call_argument f) = suc (call_size f)
+  argument_size (logical_argument e) = 1
+
+  pub arguments_size : ArgumentTrees → ℕ
+  arguments_size no_arguments = 0
+  arguments_size (argument_then x rest) = suc (argument_size x + arguments_size rest)

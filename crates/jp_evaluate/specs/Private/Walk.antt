@@ -1,17 +1,21 @@
 -- What a walk still has to offer, frame by frame.
-use Rattle.std.specs.Prelude.{ℕ, suc, ◌+◌, List, [], ◌∷◌, ◌++◌, if◌then◌else◌, Bool, true, false, Option, Some, None, drop, map, option_map, option_to_list, sum_by}
+use Rattle.std.specs.Prelude.{ℕ, suc, ◌+◌, List, [], ◌∷◌, ◌++◌, if◌then◌else◌, Bool, true, false}
+use Rattle.std.specs.Prelude.{Option, Some, None, drop, map, option_map, option_to_list, sum_by}
 use Rattle.std.specs.List.{flat_map}
 use Rattle.std.specs.Option.{option_map_or}
 use Rattle.jp_document.specs.DocumentValue.{lent_value}
 use Rattle.jp_document.specs.Location.{Key, Location, key_of}
+use Rattle.jp_document.specs.Node.{Node}
 use Rattle.jp_document.specs.Value.{Value}
 use Rattle.jp_document.specs.declared.document_value.DocumentValue.{DocumentValue}
 use Rattle.jp_document.specs.declared.location.Step.{Step}
-use Rattle.jp_query.specs.Tree.{ExprTree, SegmentTrees, SelectorTree, SelectorTrees, expr_of, filter, no_segments, no_selectors, segment, segment_of, segment_then, segments, selector_of, selector_then, wildcard}
+use Rattle.jp_query.specs.Tree.{ExprTree, SegmentTrees, SelectorTree, SelectorTrees, expr_of}
+use Rattle.jp_query.specs.Tree.{filter, no_segments, no_selectors, segment, segment_of}
+use Rattle.jp_query.specs.Tree.{segment_then, segments, selector_of, selector_then, wildcard}
 use Rattle.jp_query.specs.declared.tree.Segment.{Segment}
 use Rattle.jp_select.specs.Candidates.{candidates}
 use Rattle.jp_select.specs.Subtree.{nodes_in}
-use Rattle.jp_evaluate.specs.Private.Reached.{Reached, reaches, truth}
+use Rattle.jp_evaluate.specs.Private.Reached.{reaches, truth}
 use Rattle.jp_evaluate.specs.declared.walk.Frame.{Frame}
 use Rattle.jp_evaluate.specs.declared.walk.Offer.{Offer}
 use Rattle.jp_evaluate.specs.declared.walk.Place.{Place}
@@ -46,7 +50,8 @@ selector_turns rest (selector_then s ss) = (s, rest) ∷ selector_turns rest ss
 abbrev pub turns : SegmentTrees → List (SelectorTree × SegmentTrees)
 turns no_segments = []
 turns (segment_then (segment descendant ss) rest) =
-    selector_turns rest ss ++ (if descendant then (wildcard, segment_then (segment descendant ss) rest) ∷ [] else [])
+    selector_turns rest ss
+    ++ (if descendant then (wildcard, segment_then (segment descendant ss) rest) ∷ [] else [])
 
 abbrev pub turn_choices : Value → SelectorTree × SegmentTrees → List Choice
 turn_choices v t = map (choice_of t) (candidates t.0 v)
@@ -81,13 +86,15 @@ offered all o = record {
 
 -- where a walk begins
 abbrev pub start_choice : List Segment → DocumentValue → Choice
-start_choice all v = record { test = None; left = segments_left all 0; step = []; value = lent_value v }
+start_choice all v =
+    record { test = None; left = segments_left all 0; step = []; value = lent_value v }
 
 -- ---- frames
 
 abbrev pub frame_choices : List Segment → Frame → List Choice
 frame_choices all f =
-    choices_from (lent_value f.place.value) (drop f.turn (turns (segments_left all f.place.done))) f.next
+    choices_from (lent_value f.place.value) (drop f.turn (turns (segments_left all f.place.done)))
+    f.next
 
 -- a frame at its first choice
 abbrev pub entered : Place → Frame
@@ -105,14 +112,16 @@ choice_at l c = (l, c)
 abbrev pub frames_pending : List Segment → Location → List Frame → List (Location × Choice)
 frames_pending all l [] = []
 frames_pending all l (f ∷ fs) =
-    frames_pending all (l ++ steps_of f.place.step) fs ++ map (choice_at (l ++ steps_of f.place.step)) (frame_choices all f)
+    frames_pending all (l ++ steps_of f.place.step) fs
+    ++ map (choice_at (l ++ steps_of f.place.step)) (frame_choices all f)
 
 abbrev pub walk_frames : Walk → List Frame
 walk_frames w = w.below.items ++ option_to_list w.top
 
 abbrev pub pending : List Segment → Walk → List (Location × Choice)
 pending all w =
-    map (choice_at (reached_at [] (walk_frames w))) (map (start_choice all) (option_to_list w.first))
+    map (choice_at (reached_at [] (walk_frames w)))
+    (map (start_choice all) (option_to_list w.first))
     ++ frames_pending all [] (walk_frames w)
 
 -- ---- what choices lead to
@@ -121,29 +130,38 @@ abbrev pub passes : Option ExprTree → Value → Value → Bool
 passes None d v = true
 passes (Some e) d v = truth e d v
 
+-- the node that a choice of a frame is, where the frame stands at c.0
+abbrev pub chosen_node : Location × Choice → Node
+chosen_node c = record { location = c.0 ++ c.1.step; value = c.1.value }
+
 -- what a choice of a frame that stands at l reaches, in a document of value d
-abbrev pub choice_reaches : Value → Location × Choice → List Reached
-choice_reaches d c = if passes c.1.test d c.1.value then reaches c.1.left d (c.0 ++ c.1.step, c.1.value) else []
+abbrev pub choice_reaches : Value → Location × Choice → List Node
+choice_reaches d c = if passes c.1.test d c.1.value then reaches c.1.left d (chosen_node c) else []
 
 -- what a walk still reaches
-abbrev pub walk_reaches : List Segment → Value → Walk → List Reached
+abbrev pub walk_reaches : List Segment → Value → Walk → List Node
 walk_reaches all d w = flat_map (choice_reaches d) (pending all w)
 
 -- where a place of the walk stands, with its value
-abbrev pub reached_place : Walk → Place → Reached
-reached_place w p = (reached_at [] (walk_frames w) ++ steps_of p.step, lent_value p.value)
+abbrev pub reached_place : Walk → Place → Node
+reached_place w p = record {
+  location = reached_at [] (walk_frames w) ++ steps_of p.step;
+  value = lent_value p.value;
+}
 
 -- ---- how many choices there are at most
 
 abbrev pub selectors_weight : SelectorTrees → (Value → ℕ) → Value → ℕ
 selectors_weight no_selectors f v = 0
-selectors_weight (selector_then s ss) f v = sum_by (λ e. f e.1) (candidates s v) + selectors_weight ss f v
+selectors_weight (selector_then s ss) f v =
+    sum_by (λ e. f e.1) (candidates s v) + selectors_weight ss f v
 
 -- a value and all that may be chosen from it on, were every test passed
 abbrev pub weight : SegmentTrees → Value → ℕ
 weight no_segments v = 1
 weight (segment_then (segment false ss) rest) v = suc (selectors_weight ss (weight rest) v)
-weight (segment_then (segment true ss) rest) v = sum_by (λ n. suc (selectors_weight ss (weight rest) n.1)) (nodes_in v)
+weight (segment_then (segment true ss) rest) v =
+    sum_by (λ n. suc (selectors_weight ss (weight rest) n.value)) (nodes_in v)
 
 abbrev pub choice_weight : Location × Choice → ℕ
 choice_weight c = weight c.1.left c.1.value

@@ -1,7 +1,9 @@
 -- What the reader of patterns does, a function for each rule of the grammar (RFC 9485 section 3).
-use Rattle.std.specs.Prelude.{ℕ, zero, suc, ◌||◌, ◌&&◌, not, nat_lt, Bool, true, false, if◌then◌else◌, List, [], ◌∷◌, ◌++◌, Option, Some, None}
+use Rattle.std.specs.Prelude.{ℕ, zero, suc, ◌||◌, ◌&&◌, not, nat_lt, Bool, true, false}
+use Rattle.std.specs.Prelude.{if◌then◌else◌, List, [], ◌∷◌, ◌++◌, Option, Some, None}
 use Rattle.std.specs.Char.{is_ascii_alphabetic}
-use Rattle.jp_reading.specs.Outcome.{State, Outcome, took, stuck, deep, ◌>>=◌, head, past, passes, is, is_at, is_end, take_if, expect, each}
+use Rattle.jp_reading.specs.Outcome.{State, Outcome, took, stuck, deep, ◌>>=◌, head, past}
+use Rattle.jp_reading.specs.Outcome.{passes, is, is_at, is_end, take_if, expect, each}
 use Rattle.jp_reading.specs.Numbers.{digits_at, capped}
 use Rattle.jp_reading.specs.Views.{by, with_front}
 use Rattle.jp_iregexp.specs.declared.category.Category.{Category}
@@ -66,12 +68,18 @@ code_at p = take_if is_ascii_alphabetic p >>= λ a q. second_at q >>= λ b r. th
 -- behind `\`: a category, or what is outside it
 unfoldable pub category_at : State → Outcome ClassItem
 category_at p =
-    take_if is_category_sign p >>= λ c q. expect 123 q >>= λ _ q. code_at q >>= λ k q. expect 125 q >>= λ _ q. took (item.Category k (is 80 c)) q
+    take_if is_category_sign p >>= λ c q. expect 123 q >>= λ _ q. code_at q >>= λ k q. expect 125 q
+    >>= λ _ q. took (item.Category k (is 80 c)) q
 
--- the range that begins with a character: of that character alone, unless a `-` stands next that does not end the class
+-- the range that begins with a character: of that character alone, unless a `-` stands next that
+-- does not end the class
 unfoldable pub range_at : ℕ → State → Outcome ClassItem
 range_at c p =
-    if is_at 45 p && not (is_at 93 (past p)) then (character_at (past p) >>= λ d q. if nat_lt d c then stuck q else took (item.Range c d) q) else took (item.Range c c) p
+    if is_at 45 p
+    && not (is_at 93 (past p)) then
+    (character_at (past p)
+    >>= λ d q. if nat_lt d c then stuck q else took (item.Range c d) q) else took
+    (item.Range c c) p
 
 -- whether a category begins
 abbrev pub is_at_category : State → Bool
@@ -109,22 +117,32 @@ negation_at p = if is_at 94 p then took true (past p) else took false p
 -- a class
 unfoldable pub class_at : State → Outcome Tree
 class_at p =
-    expect 91 p >>= λ _ q. negation_at q >>= λ b q. items_at q >>= λ xs q. expect 93 q >>= λ _ q. took (class b xs) q
+    expect 91 p >>= λ _ q. negation_at q >>= λ b q. items_at q >>= λ xs q. expect 93 q
+    >>= λ _ q. took (class b xs) q
 
 -- a number of a quantifier
 unfoldable pub number_at : State → Outcome ℕ
-number_at p = by (capped 1000000000 0) (digits_at p) >>= λ n q. if nat_lt 999999999 n then stuck q else took n q
+number_at p =
+    by (capped 1000000000 0) (digits_at p)
+    >>= λ n q. if nat_lt 999999999 n then stuck q else took n q
 
 -- behind the least number of a quantifier: its most
 unfoldable pub most_at : ℕ → State → Outcome (Option ℕ)
 most_at n p =
     if is_at 125 p then took (Some n) p
-    else (expect 44 p >>= λ _ q. if is_at 125 q then took None q else (number_at q >>= λ m r. if nat_lt m n then stuck r else took (Some m) r))
+    else
+    (expect 44 p
+    >>= λ _ q. if is_at 125 q then took None q else
+    (number_at q >>= λ m r. if nat_lt m n then stuck r else took (Some m) r))
 
 -- the numbers of a quantifier, between braces
 unfoldable pub braces_at : State → Outcome Count
 braces_at p =
-    expect 123 p >>= λ _ q. number_at q >>= λ n q. most_at n q >>= λ m q. expect 125 q >>= λ _ q. took (record { least = n; most = m }) q
+    expect 123 p >>= λ _ q. number_at q >>= λ n q. most_at n q >>= λ m q. expect 125 q
+    >>= λ _ q. took (record {
+      least = n;
+      most = m;
+    }) q
 
 -- a quantifier
 unfoldable pub quantifier_at : State → Outcome Count
@@ -137,7 +155,8 @@ quantifier_at p =
 -- behind `\` outside a class: a category or a character
 unfoldable pub escape_at : State → Outcome Tree
 escape_at p =
-    if passes is_category_sign (head p) then by (λ i. class false (i ∷ [])) (category_at p) else by one (escaped_at p)
+    if passes is_category_sign (head p) then by (λ i. class false (i ∷ []))
+    (category_at p) else by one (escaped_at p)
 
 module _ (inside : State → Outcome Tree) where
   -- a pattern in parentheses
@@ -156,7 +175,9 @@ module _ (inside : State → Outcome Tree) where
   -- a piece
   unfoldable pub piece_at : State → Outcome Tree
   piece_at p =
-      atom_at p >>= λ a q. if passes begins_quantifier (head q) then by (λ k. repeat a k.least k.most) (quantifier_at q) else took a q
+      atom_at p
+      >>= λ a q. if passes begins_quantifier (head q) then by (λ k. repeat a k.least k.most)
+      (quantifier_at q) else took a q
 
   -- piece after piece, as long as another begins
   abbrev pub pieces_at : State → Outcome (List Tree)
@@ -172,7 +193,8 @@ module _ (inside : State → Outcome Tree) where
 
   -- branches
   unfoldable pub branches_at : State → Outcome Tree
-  branches_at p = branch_at p >>= λ x q. by (λ xs. branches (x ∷ xs)) (each (is_at 124) next_branch_at q)
+  branches_at p =
+      branch_at p >>= λ x q. by (λ xs. branches (x ∷ xs)) (each (is_at 124) next_branch_at q)
 
 -- the pattern of a group; with no level left it would need one more
 unfoldable pub inside_at : ℕ → State → Outcome Tree

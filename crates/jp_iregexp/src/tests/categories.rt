@@ -1,7 +1,7 @@
 use super::assert_holds;
 
-// A character that each code holds, and one that it does not; of a code of one letter the held one is
-// not of the category that comes first.
+// A character that each code holds, and one that it does not; of a code of one letter the held one
+// is not of the category that comes first.
 const CATEGORIES: [(&str, char, char); 36] = [
     (r"\p{L}", 'ʰ', '1'),
     (r"\p{Ll}", 'a', 'A'),

@@ -1,11 +1,14 @@
--- Sets of places in a text: a mark for the place before each character and for the place at the end.
-use Rattle.std.specs.Prelude.{◌≡◌, ◌↔◌, ℕ, ◌+◌, Bool, IsTrue, false, List, ◌++◌, length, take, count_by, get_or}
+-- Sets of places in a text: a mark for the place before each character and for the place at the
+-- end.
+use Rattle.std.specs.Prelude.{◌≡◌, ◌↔◌, ℕ, ◌+◌, Bool, IsTrue, false}
+use Rattle.std.specs.Prelude.{List, ◌++◌, length, take, count_by, get_or}
 
 -- the place is in the set
 abbrev pub Marked : List Bool → ℕ → Type 0
 Marked places place = IsTrue (get_or places place false)
 
--- the place is reached from a place of the set by a word of the language, one that stands in the text
+-- the place is reached from a place of the set by a word of the language, one that stands in the
+-- text
 pub record Reached (L : List ℕ → Type 0) (text : List ℕ) (from : List Bool) (place : ℕ) : Type 0
   where
     pub before : List ℕ

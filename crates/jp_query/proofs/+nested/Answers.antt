@@ -1,19 +1,33 @@
-use Rattle.std.proofs.Common.{◌≡◌, ◌≤◌, ◌++◌, ◌∷◌, [], true, false, length, map, sym, ap, ◌∙◌, arith}
-use Rattle.std.proofs.lemmas.List.{map-append, length-map, length-append}
+use Rattle.std.proofs.Common.{◌≡◌, ℕ, ◌+◌, ◌-◌, ◌<◌, ◌≤◌, ◌++◌, ◌∷◌, [], true, false, true≢false, length, get_or, drop, map, rules, refl, sym, ap, subst, ◌∙◌, arith}
+use Rattle.std.specs.Char.{IsScalar}
+use Rattle.std.specs.Str.{chars}
+use Rattle.std.specs.String.{string_bytes}
+use Rattle.std.proofs.lemmas.Str.{chars-nil, IsUtf8-string_bytes}
+use Rattle.std.proofs.lemmas.List.{length-map, length-append, drop_more, drop_all}
 use Rattle.std.proofs.lemmas.Result.{err_from_is_err_and}
-use Rattle.jp_reading.specs.Outcome.{took, past, skip, expect, passes, is, after_blank}
-use Rattle.jp_reading.specs.Views.{Fails, by}
+use Rattle.jp_reading.specs.Texts.{Text}
+use Rattle.jp_reading.specs.Outcome.{Outcome, took, ◌>>=◌, past, skip, expect, passes, is, after_blank, item_since}
+use Rattle.jp_reading.specs.Views.{Fails, Gives, by}
 use Rattle.jp_reading.specs.Rule.{here, beyond, the, blanks, relaxed, ◌>>◌}
+use Rattle.jp_reading.specs.RuleReading.{spanned_if}
+use Rattle.jp_reading.proofs.Chars.{chars_push}
 use Rattle.jp_reading.proofs.Folds.{fails-then}
 use Rattle.jp_reading.proofs.Rules.Rounds as loops
-use Rattle.jp_query.specs.Tree.{SegmentTree, SelectorTree, expr_of, selector_of, segment_of, any_of, all_of}
-use Rattle.jp_query.specs.Characters.{ampersand, bar, comma, closing_bracket}
+use Rattle.jp_query.specs.declared.tree.Operand.TheVariants as operand
+use Rattle.jp_query.specs.declared.tree.Subject.{the_lemmas}
+use Rattle.jp_query.specs.declared.tree.Subject.TheVariants as subject
+use Rattle.jp_query.specs.Tree.{SegmentTree, SelectorTree, argument_of, call_of, expr_of, literal_of, operand_of, selector_of, segment_of, query_of, ArgumentTree, OperandTree, true_literal, false_literal, null_literal, query_argument, call_argument, logical_argument, exists, any_of, all_of, call_test, call_value}
+use Rattle.jp_query.specs.Characters.{ampersand, bar, comma, closing_bracket, opening_parenthesis, closing_parenthesis, letter_t, letter_f, letter_n}
+use Rattle.jp_query.specs.Names.{is_function_char}
 use Rattle.jp_query.specs.Grammar.{joined}
-use Rattle.jp_query.specs.Private.Rules.{QueryRule, entries, segment, segments, begins_segment, selector, entry, basic, conjunction, expression, part, parts}
-use Rattle.jp_query.specs.Private.Reading.{inside, read_inside}
+use Rattle.jp_query.specs.Private.Rules.{QueryRule, entries, segment, segments, begins_segment, selector, entry, basic, conjunction, other_parts, run, call_with, after_parenthesis, argument, argument_start, argument_on, next_argument, some_arguments, is_logical, query_within, word, word_from, word_of}
+use Rattle.jp_query.specs.Private.Parts.{logical_at}
+use Rattle.jp_query.specs.Private.Reading.{inside, call_inside, read_flat, read_inside}
 use Rattle.jp_query.proofs.Levels.{inside-progress, inside-entered}
-use Rattle.jp_query.proofs.Trees.{tree_any_of, tree_all_of, tree_segment}
-use Rattle.jp_query.proofs.Rounds as rounds
+use Rattle.jp_query.proofs.Readers.Trees.{tree_any_of, tree_all_of, tree_segment, tree_call, tree_argument_query, tree_argument_call, tree_logical, tree_operand_call, tree_operand_literal, tree_subject_query, tree_subject_call, tree_test}
+use Rattle.jp_query.proofs.Readers.ArgumentParts as parts
+use Rattle.jp_query.proofs.Readers.Openings as openings
+use Rattle.jp_query.proofs.Readers.Rounds as rounds
 use Rattle.jp_query.proofs.+nested.Goals as goal
 
 -- ---- segments
@@ -28,8 +42,7 @@ segments::segments-returns-in_err-next t c =
     let failed : Fails c.in_err-next.field-0.0
     (read_inside c.args.levels segment (skip c.segments.reader)) =
     rw c.skip.ensures at c.in_err-next.ensures in
-    rw (p.1, p.2, ← c.segments.invariant)
-    (loops.some_fail (inside c.args.levels)
+    rw (p.1, p.2, ← c.segments.invariant) (loops.some_fail (inside c.args.levels)
     (inside-progress c.args.levels) beyond begins_segment next_segment c.segments.reader
     (map segment_of c.segments.segments.items) c.in_err-next.field-0.0
     (sym c.is_before_segment.ensures ∙ c.segments-test.true) failed)
@@ -37,22 +50,17 @@ segments::segments-returns-in_err-next t c =
 pub segments::segments-segments-smaller : goal.segments::segments-segments-smaller
 segments::segments-segments-smaller t c =
     loops.some-smaller (inside c.args.levels)
-    (inside-progress c.args.levels) beyond begins_segment next_segment c.segments.reader c.segment.new.reader _
+    (inside-progress c.args.levels) beyond begins_segment next_segment c.segments.reader
+    c.segment.new.reader _
     (ap (read_inside c.args.levels segment) (sym c.skip.ensures) ∙ c.in_ok-next.ensures)
 
 pub segments::segments-segments-preserved : goal.segments::segments-segments-preserved
 unfolding segments
 segments::segments-segments-preserved t c =
-    let items : c.append.new.list.items ≡ c.segments.segments.items
-    ++ c.in_ok-next.next ∷ [] = c.in_ok-append.ensures in
-    let pushed : map segment_of c.append.new.list.items ≡ map segment_of c.segments.segments.items
-    ++ segment_of c.in_ok-next.next ∷ [] =
-    ap (map segment_of) items
-    ∙ map-append segment_of c.segments.segments.items (c.in_ok-next.next ∷ []) in
-    rw pushed
-    (sym (loops.some_on (inside c.args.levels)
-    (inside-progress c.args.levels) beyond begins_segment next_segment c.segments.reader c.segment.new.reader
-    (map segment_of c.segments.segments.items) (segment_of c.in_ok-next.next)
+    rw (rounds.map-pushed segment_of c.segments.segments.items c.in_ok-next.next
+    c.in_ok-append.ensures) (sym (loops.some_on (inside c.args.levels)
+    (inside-progress c.args.levels) beyond begins_segment next_segment c.segments.reader
+    c.segment.new.reader (map segment_of c.segments.segments.items) (segment_of c.in_ok-next.next)
     (sym c.is_before_segment.ensures ∙ c.segments-test.true)
     (ap (read_inside c.args.levels segment) (sym c.skip.ensures) ∙ c.in_ok-next.ensures))
     ∙ c.segments.invariant)
@@ -60,8 +68,7 @@ segments::segments-segments-preserved t c =
 pub segments::segments-returns : goal.segments::segments-returns
 unfolding segments
 segments::segments-returns t c =
-    sym c.segments.invariant
-    ∙ loops.some_end (inside c.args.levels)
+    sym c.segments.invariant ∙ loops.some_end (inside c.args.levels)
     (inside-progress c.args.levels) beyond begins_segment next_segment c.segments.reader
     (map segment_of c.segments.segments.items)
     (sym c.is_before_segment.ensures ∙ c.segments-test.false)
@@ -73,18 +80,16 @@ next_entry = the comma >> (blanks {m = here} >> entry)
 
 pub selectors::entries-entries-init : goal.selectors::entries-entries-init
 selectors::entries-entries-init t c =
-    let items : c.append.new.list.items ≡ c.new-selectors.result.items
-    ++ c.in_ok-first.first ∷ [] = c.in_ok-append.ensures in
-    let one : map selector_of c.append.new.list.items ≡ selector_of c.in_ok-first.first ∷ [] =
-    ap (map selector_of)
-    (items ∙ ap (λ xs. xs ++ c.in_ok-first.first ∷ []) c.new-selectors.ensures.items) in
-    rw (one, c.skip.ensures)
-    (rounds.entries_first (inside c.args.levels) c.args.reader.now c.selector.new.reader
+    rw (
+      rounds.map-first selector_of c.in_ok-append.ensures c.new-selectors.ensures.items,
+      c.skip.ensures,
+    ) (rounds.entries_first (inside c.args.levels) c.args.reader.now c.selector.new.reader
     (selector_of c.in_ok-first.first) c.in_ok-first.ensures)
 
 pub selectors::entries-returns-in_err-next : goal.selectors::entries-returns-in_err-next
 selectors::entries-returns-in_err-next t c =
-    let p = err_from_is_err_and c.from_residual-in_err-next.result c.from_residual-in_err-next.ensures.1 in
+    let p = err_from_is_err_and c.from_residual-in_err-next.result
+    c.from_residual-in_err-next.ensures.1 in
     let failed : Fails c.in_err-next.field-0.0
     (read_inside c.args.levels selector (skip (past c.entries.reader))) =
     rw (c.skip-in-entries.ensures, c.bump.ensures.past) at c.in_err-next.ensures in
@@ -103,32 +108,24 @@ selectors::entries-entries-smaller t c =
     (is comma) next_entry c.entries.reader
     (skip c.selector-in-entries.new.reader) (selector_of c.in_ok-next.next)
     (rounds.another-took (inside c.args.levels) c.entries.reader c.selector-in-entries.new.reader
-    (selector_of c.in_ok-next.next)
-    (sym c.is_at.ensures ∙ c.entries-test.true)
+    (selector_of c.in_ok-next.next) (sym c.is_at.ensures ∙ c.entries-test.true)
     (ap (read_inside c.args.levels selector)
-    (ap skip (sym c.bump.ensures.past) ∙ sym c.skip-in-entries.ensures)
-    ∙ c.in_ok-next.ensures)))
+    (ap skip (sym c.bump.ensures.past) ∙ sym c.skip-in-entries.ensures) ∙ c.in_ok-next.ensures)))
 
 pub selectors::entries-entries-preserved : goal.selectors::entries-entries-preserved
 selectors::entries-entries-preserved t c =
-    let items : c.append-in-entries.new.list.items ≡ c.entries.selectors.items
-    ++ c.in_ok-next.next ∷ [] = c.in_ok-append-2.ensures in
-    let pushed : map selector_of c.append-in-entries.new.list.items
-    ≡ map selector_of c.entries.selectors.items ++ selector_of c.in_ok-next.next ∷ [] =
-    ap (map selector_of) items
-    ∙ map-append selector_of c.entries.selectors.items (c.in_ok-next.next ∷ []) in
-    rw (pushed, c.skip-in-entries-2.ensures)
-    (sym (loops.some_on (inside c.args.levels) (inside-progress c.args.levels) here
+    rw (
+      rounds.map-pushed selector_of c.entries.selectors.items c.in_ok-next.next
+          c.in_ok-append-2.ensures,
+      c.skip-in-entries-2.ensures,
+    ) (sym (loops.some_on (inside c.args.levels) (inside-progress c.args.levels) here
     (is comma) next_entry c.entries.reader
     (skip c.selector-in-entries.new.reader) (map selector_of c.entries.selectors.items)
-    (selector_of c.in_ok-next.next)
-    (sym c.is_at.ensures ∙ c.entries-test.true)
+    (selector_of c.in_ok-next.next) (sym c.is_at.ensures ∙ c.entries-test.true)
     (rounds.another-took (inside c.args.levels) c.entries.reader c.selector-in-entries.new.reader
-    (selector_of c.in_ok-next.next)
-    (sym c.is_at.ensures ∙ c.entries-test.true)
+    (selector_of c.in_ok-next.next) (sym c.is_at.ensures ∙ c.entries-test.true)
     (ap (read_inside c.args.levels selector)
-    (ap skip (sym c.bump.ensures.past) ∙ sym c.skip-in-entries.ensures)
-    ∙ c.in_ok-next.ensures)))
+    (ap skip (sym c.bump.ensures.past) ∙ sym c.skip-in-entries.ensures) ∙ c.in_ok-next.ensures)))
     ∙ c.entries.invariant)
 
 pub selectors::entries-returns : goal.selectors::entries-returns
@@ -140,188 +137,160 @@ selectors::entries-returns t c =
 
 -- ---- parts of expressions
 
-pub expressions::conjunction-returns-then-not-is_before : goal.expressions::conjunction-returns-then-not-is_before
-unfolding conjunction
-expressions::conjunction-returns-then-not-is_before t c =
-    let off : passes (is ampersand)
-    (after_blank c.basic.new.reader) ≡ false =
-    sym c.is_before.ensures ∙ c.if-not-is_before.true in
-    ap (by (joined all_of))
-    (rounds.parts-one (inside c.args.levels) ampersand basic c.args.reader.now c.basic.new.reader
-    (expr_of c.in_ok-first.first) c.in_ok-first.ensures off)
+pub expressions::conjunction_from-returns-then-not-is_before :
+    goal.expressions::conjunction_from-returns-then-not-is_before
+expressions::conjunction_from-returns-then-not-is_before t c =
+    ap (by (λ es. joined all_of (expr_of c.args.first ∷ es)))
+    (rounds.parts-none (inside c.args.levels) ampersand basic c.args.reader.now
+    (sym c.is_before.ensures ∙ c.if-not-is_before.true))
 
-pub expressions::conjunction-returns-in_err-joint : goal.expressions::conjunction-returns-in_err-joint
-unfolding conjunction
-expressions::conjunction-returns-in_err-joint t c =
-    let p = err_from_is_err_and c.from_residual-in_err-joint.result c.from_residual-in_err-joint.ensures.1 in
+pub expressions::conjunction_from-parts-init : goal.expressions::conjunction_from-parts-init
+expressions::conjunction_from-parts-init t c =
+    let items : c.append.new.list.items ≡ c.args.first ∷ [] =
+    c.in_ok-append.ensures ∙ ap (λ xs. xs ++ c.args.first ∷ []) c.new-parts.ensures.items in
+    let on : passes (is ampersand) (after_blank c.args.reader.now) ≡ true =
+    sym c.is_before.ensures ∙ c.if-not-is_before.false in
+    record {
+      total = rw (ap (map expr_of) items) refl;
+      some = rw items (omega arith);
+      several = λ off. absurd (true≢false (sym on ∙ off));
+    }
+
+pub expressions::conjunction_from-returns-in_err-joint :
+    goal.expressions::conjunction_from-returns-in_err-joint
+expressions::conjunction_from-returns-in_err-joint t c =
+    let p = err_from_is_err_and c.from_residual-in_err-joint.result
+    c.from_residual-in_err-joint.ensures.1 in
+    let e = c.in_err-joint.field-0.0 in
     rw (p.1, p.2)
-    (fails-then c.in_err-joint.field-0.0
-    (read_inside c.args.levels (parts ampersand basic) c.args.reader.now) _
-    (rw (← c.parts.invariant.total)
-    (loops.some_fail (inside c.args.levels) (inside-progress c.args.levels) beyond (is ampersand)
-    (part ampersand basic) c.parts.reader
-    (map expr_of c.parts.parts.items) c.in_err-joint.field-0.0
+    (rounds.parts-fail c.args.levels ampersand basic (expr_of c.args.first) c.args.reader.now all_of
+    e (map expr_of c.parts.parts.items) c.parts.reader c.parts.invariant.total
     (sym c.is_before-in-parts.ensures ∙ c.parts-test.true)
-    (rounds.mark-fails
-    (inside c.args.levels) ampersand basic c.parts.reader c.in_err-joint.field-0.0 c.in_err-joint.ensures))))
+    (rounds.mark-fails (inside c.args.levels) ampersand basic c.parts.reader e
+    c.in_err-joint.ensures))
 
-pub expressions::conjunction-returns-in_err-next : goal.expressions::conjunction-returns-in_err-next
-unfolding conjunction
-expressions::conjunction-returns-in_err-next t c =
-    let p = err_from_is_err_and c.from_residual-in_err-next.result c.from_residual-in_err-next.ensures.1 in
+pub expressions::conjunction_from-returns-in_err-next :
+    goal.expressions::conjunction_from-returns-in_err-next
+expressions::conjunction_from-returns-in_err-next t c =
+    let p = err_from_is_err_and c.from_residual-in_err-next.result
+    c.from_residual-in_err-next.ensures.1 in
+    let e = c.in_err-next.field-0.0 in
     rw (p.1, p.2)
-    (fails-then c.in_err-next.field-0.0
-    (read_inside c.args.levels (parts ampersand basic) c.args.reader.now) _
-    (rw (← c.parts.invariant.total)
-    (loops.some_fail (inside c.args.levels) (inside-progress c.args.levels) beyond (is ampersand)
-    (part ampersand basic) c.parts.reader
-    (map expr_of c.parts.parts.items) c.in_err-next.field-0.0
+    (rounds.parts-fail c.args.levels ampersand basic (expr_of c.args.first) c.args.reader.now all_of
+    e (map expr_of c.parts.parts.items) c.parts.reader c.parts.invariant.total
     (sym c.is_before-in-parts.ensures ∙ c.parts-test.true)
-    (rounds.part-fails
-    (inside c.args.levels) ampersand basic c.parts.reader c.joint.new.reader ampersand c.in_err-next.field-0.0 c.in_ok-joint.ensures
-    c.in_err-next.ensures))))
+    (rounds.part-fails (inside c.args.levels) ampersand basic c.parts.reader c.joint.new.reader
+    ampersand e c.in_ok-joint.ensures c.in_err-next.ensures))
 
-pub expressions::conjunction-parts-smaller : goal.expressions::conjunction-parts-smaller
-expressions::conjunction-parts-smaller t c =
-    loops.some-smaller (inside c.args.levels) (inside-progress c.args.levels) beyond (is ampersand)
-    (part ampersand basic) c.parts.reader
-    c.basic-in-parts.new.reader _
-    (rounds.part-took
-    (inside c.args.levels) ampersand basic c.parts.reader c.joint.new.reader c.basic-in-parts.new.reader ampersand _ c.in_ok-joint.ensures
-    c.in_ok-next.ensures)
+pub expressions::conjunction_from-parts-smaller : goal.expressions::conjunction_from-parts-smaller
+expressions::conjunction_from-parts-smaller t c =
+    rounds.parts-smaller c.args.levels ampersand basic (expr_of c.args.first) c.args.reader.now
+    c.parts.reader c.joint.new.reader c.basic.new.reader (expr_of c.in_ok-next.next)
+    c.in_ok-joint.ensures c.in_ok-next.ensures
 
-pub expressions::conjunction-parts-preserved : goal.expressions::conjunction-parts-preserved
-expressions::conjunction-parts-preserved t c =
-    let items : c.append-in-parts.new.list.items ≡ c.parts.parts.items
-    ++ c.in_ok-next.next ∷ [] = c.in_ok-append-2.ensures in
-    let pushed : map expr_of c.append-in-parts.new.list.items ≡ map expr_of c.parts.parts.items
-    ++ expr_of c.in_ok-next.next ∷ [] =
-    ap (map expr_of) items ∙ map-append expr_of c.parts.parts.items (c.in_ok-next.next ∷ []) in
+pub expressions::conjunction_from-parts-preserved :
+    goal.expressions::conjunction_from-parts-preserved
+expressions::conjunction_from-parts-preserved t c =
     let some = c.parts.invariant.some in
-    let two : 2 ≤ length c.append-in-parts.new.list.items = rw items
+    let two : 2 ≤ length c.append-in-parts.new.list.items = rw c.in_ok-append-2.ensures
     (omega (arith, length-append c.parts.parts.items (c.in_ok-next.next ∷ []))) in
     record {
-      total =
-          rw pushed
-          (sym (loops.some_on (inside c.args.levels) (inside-progress c.args.levels) beyond
-          (is ampersand) (part ampersand basic) c.parts.reader
-          c.basic-in-parts.new.reader (map expr_of c.parts.parts.items) (expr_of c.in_ok-next.next)
+      total = rw (rounds.map-pushed expr_of c.parts.parts.items c.in_ok-next.next
+          c.in_ok-append-2.ensures)
+          (rounds.parts-on c.args.levels ampersand basic (expr_of c.args.first) c.args.reader.now
+          (map expr_of c.parts.parts.items) c.parts.reader c.joint.new.reader c.basic.new.reader
+          (expr_of c.in_ok-next.next) c.parts.invariant.total
           (sym c.is_before-in-parts.ensures ∙ c.parts-test.true)
-          (rounds.part-took
-          (inside c.args.levels) ampersand basic c.parts.reader c.joint.new.reader c.basic-in-parts.new.reader ampersand
-          (expr_of c.in_ok-next.next) c.in_ok-joint.ensures c.in_ok-next.ensures))
-          ∙ c.parts.invariant.total);
+          c.in_ok-joint.ensures c.in_ok-next.ensures);
       some = omega arith;
       several = λ off. two;
     }
 
-pub expressions::conjunction-returns : goal.expressions::conjunction-returns
-unfolding conjunction
-expressions::conjunction-returns t c =
-    let off : passes (is ampersand)
-    (after_blank c.parts.reader) ≡ false =
+pub expressions::conjunction_from-returns : goal.expressions::conjunction_from-returns
+expressions::conjunction_from-returns t c =
+    let off : passes (is ampersand) (after_blank c.parts.reader) ≡ false =
     sym c.is_before-in-parts.ensures ∙ c.parts-test.false in
     let two = c.parts.invariant.several off in
-    let many : 2 ≤ length (map expr_of c.parts.parts.items) = rw length-map two in
-    ap (by (joined all_of))
-    (sym c.parts.invariant.total
-    ∙ loops.some_end (inside c.args.levels) (inside-progress c.args.levels) beyond (is ampersand)
-    (part ampersand basic) c.parts.reader (map expr_of c.parts.parts.items) off)
-    ∙ ap (λ e. took e c.parts.reader)
-    (rounds.joined-several all_of (map expr_of c.parts.parts.items) many
-    ∙ sym (tree_all_of c.parts.parts))
+    rounds.parts-end c.args.levels ampersand basic (expr_of c.args.first) c.args.reader.now all_of
+    (map expr_of c.parts.parts.items) c.parts.reader c.parts.invariant.total off (rw length-map two)
+    ∙ ap (λ e. took e c.parts.reader) (sym (tree_all_of c.parts.parts))
 
-pub expressions::expression-returns-then-not-is_before : goal.expressions::expression-returns-then-not-is_before
-unfolding expression
-expressions::expression-returns-then-not-is_before t c =
-    let off : passes (is bar)
-    (after_blank c.conjunction.new.reader) ≡ false =
-    sym c.is_before.ensures ∙ c.if-not-is_before.true in
-    ap (by (joined any_of))
-    (rounds.parts-one
-    (inside c.args.levels) bar conjunction c.args.reader.now c.conjunction.new.reader
-    (expr_of c.in_ok-first.first) c.in_ok-first.ensures off)
+pub expressions::expression_from-returns-then-not-is_before :
+    goal.expressions::expression_from-returns-then-not-is_before
+expressions::expression_from-returns-then-not-is_before t c =
+    ap (by (λ es. joined any_of (expr_of c.args.first ∷ es)))
+    (rounds.parts-none (inside c.args.levels) bar conjunction c.args.reader.now
+    (sym c.is_before.ensures ∙ c.if-not-is_before.true))
 
-pub expressions::expression-returns-in_err-joint : goal.expressions::expression-returns-in_err-joint
-unfolding expression
-expressions::expression-returns-in_err-joint t c =
-    let p = err_from_is_err_and c.from_residual-in_err-joint.result c.from_residual-in_err-joint.ensures.1 in
+pub expressions::expression_from-parts-init : goal.expressions::expression_from-parts-init
+expressions::expression_from-parts-init t c =
+    let items : c.append.new.list.items ≡ c.args.first ∷ [] =
+    c.in_ok-append.ensures ∙ ap (λ xs. xs ++ c.args.first ∷ []) c.new-parts.ensures.items in
+    let on : passes (is bar) (after_blank c.args.reader.now) ≡ true =
+    sym c.is_before.ensures ∙ c.if-not-is_before.false in
+    record {
+      total = rw (ap (map expr_of) items) refl;
+      some = rw items (omega arith);
+      several = λ off. absurd (true≢false (sym on ∙ off));
+    }
+
+pub expressions::expression_from-returns-in_err-joint :
+    goal.expressions::expression_from-returns-in_err-joint
+expressions::expression_from-returns-in_err-joint t c =
+    let p = err_from_is_err_and c.from_residual-in_err-joint.result
+    c.from_residual-in_err-joint.ensures.1 in
+    let e = c.in_err-joint.field-0.0 in
     rw (p.1, p.2)
-    (fails-then c.in_err-joint.field-0.0
-    (read_inside c.args.levels (parts bar conjunction) c.args.reader.now) _
-    (rw (← c.parts.invariant.total)
-    (loops.some_fail (inside c.args.levels) (inside-progress c.args.levels) beyond (is bar)
-    (part bar conjunction) c.parts.reader
-    (map expr_of c.parts.parts.items) c.in_err-joint.field-0.0
+    (rounds.parts-fail c.args.levels bar conjunction (expr_of c.args.first) c.args.reader.now any_of
+    e (map expr_of c.parts.parts.items) c.parts.reader c.parts.invariant.total
     (sym c.is_before-in-parts.ensures ∙ c.parts-test.true)
-    (rounds.mark-fails
-    (inside c.args.levels) bar conjunction c.parts.reader c.in_err-joint.field-0.0 c.in_err-joint.ensures))))
+    (rounds.mark-fails (inside c.args.levels) bar conjunction c.parts.reader e
+    c.in_err-joint.ensures))
 
-pub expressions::expression-returns-in_err-next : goal.expressions::expression-returns-in_err-next
-unfolding expression
-expressions::expression-returns-in_err-next t c =
-    let p = err_from_is_err_and c.from_residual-in_err-next.result c.from_residual-in_err-next.ensures.1 in
+pub expressions::expression_from-returns-in_err-next :
+    goal.expressions::expression_from-returns-in_err-next
+expressions::expression_from-returns-in_err-next t c =
+    let p = err_from_is_err_and c.from_residual-in_err-next.result
+    c.from_residual-in_err-next.ensures.1 in
+    let e = c.in_err-next.field-0.0 in
     rw (p.1, p.2)
-    (fails-then c.in_err-next.field-0.0
-    (read_inside c.args.levels (parts bar conjunction) c.args.reader.now) _
-    (rw (← c.parts.invariant.total)
-    (loops.some_fail (inside c.args.levels) (inside-progress c.args.levels) beyond (is bar)
-    (part bar conjunction) c.parts.reader
-    (map expr_of c.parts.parts.items) c.in_err-next.field-0.0
+    (rounds.parts-fail c.args.levels bar conjunction (expr_of c.args.first) c.args.reader.now any_of
+    e (map expr_of c.parts.parts.items) c.parts.reader c.parts.invariant.total
     (sym c.is_before-in-parts.ensures ∙ c.parts-test.true)
-    (rounds.part-fails
-    (inside c.args.levels) bar conjunction c.parts.reader c.joint.new.reader bar c.in_err-next.field-0.0 c.in_ok-joint.ensures
-    c.in_err-next.ensures))))
+    (rounds.part-fails (inside c.args.levels) bar conjunction c.parts.reader c.joint.new.reader bar
+    e c.in_ok-joint.ensures c.in_err-next.ensures))
 
-pub expressions::expression-parts-smaller : goal.expressions::expression-parts-smaller
-expressions::expression-parts-smaller t c =
-    loops.some-smaller (inside c.args.levels) (inside-progress c.args.levels) beyond (is bar)
-    (part bar conjunction) c.parts.reader
-    c.conjunction-in-parts.new.reader _
-    (rounds.part-took
-    (inside c.args.levels) bar conjunction c.parts.reader c.joint.new.reader c.conjunction-in-parts.new.reader bar _ c.in_ok-joint.ensures
-    c.in_ok-next.ensures)
+pub expressions::expression_from-parts-smaller : goal.expressions::expression_from-parts-smaller
+expressions::expression_from-parts-smaller t c =
+    rounds.parts-smaller c.args.levels bar conjunction (expr_of c.args.first) c.args.reader.now
+    c.parts.reader c.joint.new.reader c.conjunction.new.reader (expr_of c.in_ok-next.next)
+    c.in_ok-joint.ensures c.in_ok-next.ensures
 
-pub expressions::expression-parts-preserved : goal.expressions::expression-parts-preserved
-expressions::expression-parts-preserved t c =
-    let items : c.append-in-parts.new.list.items ≡ c.parts.parts.items
-    ++ c.in_ok-next.next ∷ [] = c.in_ok-append-2.ensures in
-    let pushed : map expr_of c.append-in-parts.new.list.items ≡ map expr_of c.parts.parts.items
-    ++ expr_of c.in_ok-next.next ∷ [] =
-    ap (map expr_of) items ∙ map-append expr_of c.parts.parts.items (c.in_ok-next.next ∷ []) in
+pub expressions::expression_from-parts-preserved : goal.expressions::expression_from-parts-preserved
+expressions::expression_from-parts-preserved t c =
     let some = c.parts.invariant.some in
-    let two : 2 ≤ length c.append-in-parts.new.list.items = rw items
+    let two : 2 ≤ length c.append-in-parts.new.list.items = rw c.in_ok-append-2.ensures
     (omega (arith, length-append c.parts.parts.items (c.in_ok-next.next ∷ []))) in
     record {
-      total =
-          rw pushed
-          (sym (loops.some_on (inside c.args.levels) (inside-progress c.args.levels) beyond
-          (is bar) (part bar conjunction) c.parts.reader
-          c.conjunction-in-parts.new.reader (map expr_of c.parts.parts.items)
-          (expr_of c.in_ok-next.next) (sym c.is_before-in-parts.ensures ∙ c.parts-test.true)
-          (rounds.part-took
-          (inside c.args.levels) bar conjunction c.parts.reader c.joint.new.reader c.conjunction-in-parts.new.reader bar
-          (expr_of c.in_ok-next.next) c.in_ok-joint.ensures c.in_ok-next.ensures))
-          ∙ c.parts.invariant.total);
+      total = rw (rounds.map-pushed expr_of c.parts.parts.items c.in_ok-next.next
+          c.in_ok-append-2.ensures)
+          (rounds.parts-on c.args.levels bar conjunction (expr_of c.args.first) c.args.reader.now
+          (map expr_of c.parts.parts.items) c.parts.reader c.joint.new.reader
+          c.conjunction.new.reader (expr_of c.in_ok-next.next) c.parts.invariant.total
+          (sym c.is_before-in-parts.ensures ∙ c.parts-test.true)
+          c.in_ok-joint.ensures c.in_ok-next.ensures);
       some = omega arith;
       several = λ off. two;
     }
 
-pub expressions::expression-returns : goal.expressions::expression-returns
-unfolding expression
-expressions::expression-returns t c =
-    let off : passes (is bar)
-    (after_blank c.parts.reader) ≡ false =
+pub expressions::expression_from-returns : goal.expressions::expression_from-returns
+expressions::expression_from-returns t c =
+    let off : passes (is bar) (after_blank c.parts.reader) ≡ false =
     sym c.is_before-in-parts.ensures ∙ c.parts-test.false in
     let two = c.parts.invariant.several off in
-    let many : 2 ≤ length (map expr_of c.parts.parts.items) = rw length-map two in
-    ap (by (joined any_of))
-    (sym c.parts.invariant.total
-    ∙ loops.some_end (inside c.args.levels) (inside-progress c.args.levels) beyond (is bar)
-    (part bar conjunction) c.parts.reader (map expr_of c.parts.parts.items) off)
-    ∙ ap (λ e. took e c.parts.reader)
-    (rounds.joined-several any_of (map expr_of c.parts.parts.items) many
-    ∙ sym (tree_any_of c.parts.parts))
+    rounds.parts-end c.args.levels bar conjunction (expr_of c.args.first) c.args.reader.now any_of
+    (map expr_of c.parts.parts.items) c.parts.reader c.parts.invariant.total off (rw length-map two)
+    ∙ ap (λ e. took e c.parts.reader) (sym (tree_any_of c.parts.parts))
 
 -- ---- levels and brackets
 
@@ -333,7 +302,8 @@ expressions::inside-returns t c =
 
 pub segments::bracketed-returns-in_err-selectors : goal.segments::bracketed-returns-in_err-selectors
 segments::bracketed-returns-in_err-selectors t c =
-    let p = err_from_is_err_and c.from_residual-in_err-selectors.result c.from_residual-in_err-selectors.ensures.1 in
+    let p = err_from_is_err_and c.from_residual-in_err-selectors.result
+    c.from_residual-in_err-selectors.ensures.1 in
     let failed : Fails c.in_err-selectors.field-0.0
     (read_inside c.args.levels entries (skip c.expect.new.self)) =
     rw c.skip.ensures at c.in_err-selectors.ensures in
@@ -341,14 +311,15 @@ segments::bracketed-returns-in_err-selectors t c =
       p.1,
       p.2,
       rounds.bracket-opened
-          (inside c.args.levels) c.args.descendant c.args.reader.now c.expect.new.self c.in_ok-expect.ensures.taken,
-    )
-    (fails-then c.in_err-selectors.field-0.0
+          (inside c.args.levels) c.args.descendant c.args.reader.now c.expect.new.self
+          c.in_ok-expect.ensures.taken,
+    ) (fails-then c.in_err-selectors.field-0.0
     (read_inside c.args.levels entries (skip c.expect.new.self)) _ failed)
 
 pub segments::bracketed-returns-in_err-expect-2 : goal.segments::bracketed-returns-in_err-expect-2
 segments::bracketed-returns-in_err-expect-2 t c =
-    let p = err_from_is_err_and c.from_residual-in_err-expect-2.result c.from_residual-in_err-expect-2.ensures.1 in
+    let p = err_from_is_err_and c.from_residual-in_err-expect-2.result
+    c.from_residual-in_err-expect-2.ensures.1 in
     let read : read_inside c.args.levels entries (skip c.expect.new.self) ≡ took
     (map selector_of c.in_ok-selectors.selectors.items) c.entries.new.reader =
     ap (read_inside c.args.levels entries) (sym c.skip.ensures) ∙ c.in_ok-selectors.ensures in
@@ -356,7 +327,8 @@ segments::bracketed-returns-in_err-expect-2 t c =
       p.1,
       p.2,
       rounds.bracket-opened
-          (inside c.args.levels) c.args.descendant c.args.reader.now c.expect.new.self c.in_ok-expect.ensures.taken,
+          (inside c.args.levels) c.args.descendant c.args.reader.now c.expect.new.self
+          c.in_ok-expect.ensures.taken,
       read,
     ) (fails-then c.in_err-expect-2.field-0.0
     (expect closing_bracket c.entries.new.reader) _ c.in_err-expect-2.ensures.taken)
@@ -368,8 +340,499 @@ segments::bracketed-returns t c =
     ap (read_inside c.args.levels entries) (sym c.skip.ensures) ∙ c.in_ok-selectors.ensures in
     rw (
       rounds.bracket-opened
-          (inside c.args.levels) c.args.descendant c.args.reader.now c.expect.new.self c.in_ok-expect.ensures.taken,
+          (inside c.args.levels) c.args.descendant c.args.reader.now c.expect.new.self
+          c.in_ok-expect.ensures.taken,
       read,
       c.in_ok-expect-2.ensures.taken,
     ) (ap (λ x. took x c.expect-2.new.self)
     (sym (tree_segment c.args.descendant c.in_ok-selectors.selectors)))
+
+-- ---- function expressions
+
+pub calls::call-returns-in_err-name : goal.calls::call-returns-in_err-name
+calls::call-returns-in_err-name t c =
+    let p = err_from_is_err_and c.from_residual.result c.from_residual.ensures.1 in
+    let w = chars (string_bytes c.args.name) in
+    let entered = openings.call-entered c.args.levels w c.args.reader.now
+    (λ none. (let some = c.if-levels-eq0.false in omega arith)) in
+    rw (p.1, p.2, entered) (fails-then c.in_err-name.field-0.0
+    (by (λ u. w ++ u) (read_flat (run is_function_char) c.args.reader.now)) _ c.in_err-name.ensures)
+
+pub calls::call-returns-in_err-expect : goal.calls::call-returns-in_err-expect
+calls::call-returns-in_err-expect t c =
+    let p = err_from_is_err_and c.from_residual-in_err-expect.result
+    c.from_residual-in_err-expect.ensures.1 in
+    let w = chars (string_bytes c.args.name) in
+    let entered = openings.call-entered c.args.levels w c.args.reader.now
+    (λ none. (let some = c.if-levels-eq0.false in omega arith)) in
+    rw (p.1, p.2, entered, c.in_ok-name.ensures) (fails-then c.in_err-expect.field-0.0
+    (expect opening_parenthesis c.function_characters.new.reader) _ c.in_err-expect.ensures.taken)
+
+pub calls::call-returns-in_err-arguments : goal.calls::call-returns-in_err-arguments
+calls::call-returns-in_err-arguments t c =
+    let p = err_from_is_err_and c.from_residual-in_err-arguments.result
+    c.from_residual-in_err-arguments.ensures.1 in
+    let w = chars (string_bytes c.args.name) in
+    let entered = openings.call-entered c.args.levels w c.args.reader.now
+    (λ none. (let some = c.if-levels-eq0.false in omega arith)) in
+    rw (p.1, p.2, entered, c.in_ok-name.ensures, c.in_ok-expect.ensures.taken)
+    (fails-then c.in_err-arguments.field-0.0
+    (read_inside (c.args.levels - 1) after_parenthesis c.expect.new.self) _
+    c.in_err-arguments.ensures)
+
+pub calls::call-returns : goal.calls::call-returns
+calls::call-returns t c =
+    let w = chars (string_bytes c.args.name) in
+    let entered = openings.call-entered c.args.levels w c.args.reader.now
+    (λ none. (let some = c.if-levels-eq0.false in omega arith)) in
+    rw (entered, c.in_ok-name.ensures, c.in_ok-expect.ensures.taken, c.in_ok-arguments.ensures)
+    (ap (λ x. took x c.arguments.new.reader)
+    (sym (tree_call c.in_ok-name.name c.in_ok-arguments.arguments)))
+
+-- ---- arguments
+
+pub calls::some_arguments-returns-in_err-first : goal.calls::some_arguments-returns-in_err-first
+unfolding some_arguments
+calls::some_arguments-returns-in_err-first t c =
+    let p = err_from_is_err_and c.from_residual.result c.from_residual.ensures.1 in
+    rw (p.1, p.2)
+    (fails-then c.in_err-first.field-0.0 (read_inside c.args.levels argument c.args.reader.now) _
+    c.in_err-first.ensures)
+
+pub calls::some_arguments-returns-in_err-next : goal.calls::some_arguments-returns-in_err-next
+calls::some_arguments-returns-in_err-next t c =
+    let p = err_from_is_err_and c.from_residual-in_err-next.result
+    c.from_residual-in_err-next.ensures.1 in
+    let e = c.in_err-next.field-0.0 in
+    let failed : Fails e (read_inside c.args.levels rounds.listed c.args.reader.now) =
+    rw (← c.arguments.invariant)
+    (loops.some_fail (inside c.args.levels) (inside-progress c.args.levels) beyond
+    (is comma) next_argument c.arguments.reader (map argument_of c.arguments.arguments.items) e
+    (sym c.is_before.ensures ∙ c.arguments-test.true) c.in_err-next.ensures) in
+    rw (p.1, p.2, parts.arguments-closed (inside c.args.levels) c.args.reader.now)
+    (fails-then e (read_inside c.args.levels rounds.listed c.args.reader.now) _ failed)
+
+pub calls::some_arguments-arguments-smaller : goal.calls::some_arguments-arguments-smaller
+calls::some_arguments-arguments-smaller t c =
+    loops.some-smaller (inside c.args.levels) (inside-progress c.args.levels) beyond
+    (is comma) next_argument c.arguments.reader c.next_argument.new.reader _ c.in_ok-next.ensures
+
+pub calls::some_arguments-arguments-preserved : goal.calls::some_arguments-arguments-preserved
+calls::some_arguments-arguments-preserved t c =
+    rw (rounds.map-pushed argument_of c.arguments.arguments.items c.in_ok-next.next
+    c.in_ok-append-2.ensures)
+    (sym (loops.some_on (inside c.args.levels) (inside-progress c.args.levels) beyond
+    (is comma) next_argument c.arguments.reader
+    c.next_argument.new.reader (map argument_of c.arguments.arguments.items)
+    (argument_of c.in_ok-next.next)
+    (sym c.is_before.ensures ∙ c.arguments-test.true) c.in_ok-next.ensures) ∙ c.arguments.invariant)
+
+pub calls::some_arguments-returns-in_err-expect : goal.calls::some_arguments-returns-in_err-expect
+calls::some_arguments-returns-in_err-expect t c =
+    let p = err_from_is_err_and c.from_residual-in_err-expect.result
+    c.from_residual-in_err-expect.ensures.1 in
+    let e = c.in_err-expect.field-0.0 in
+    let listed : read_inside c.args.levels rounds.listed c.args.reader.now ≡ took
+    (map argument_of c.arguments.arguments.items) c.arguments.reader = sym c.arguments.invariant
+    ∙ loops.some_end (inside c.args.levels) (inside-progress c.args.levels) beyond
+    (is comma) next_argument c.arguments.reader (map argument_of c.arguments.arguments.items)
+    (sym c.is_before.ensures ∙ c.arguments-test.false) in
+    let failed : Fails e (expect closing_parenthesis (skip c.arguments.reader)) =
+    rw c.skip.ensures at c.in_err-expect.ensures.taken in
+    rw (p.1, p.2, parts.arguments-closed (inside c.args.levels) c.args.reader.now, listed)
+    (fails-then e (expect closing_parenthesis (skip c.arguments.reader)) _ failed)
+
+pub calls::some_arguments-returns : goal.calls::some_arguments-returns
+calls::some_arguments-returns t c =
+    let listed : read_inside c.args.levels rounds.listed c.args.reader.now ≡ took
+    (map argument_of c.arguments.arguments.items) c.arguments.reader = sym c.arguments.invariant
+    ∙ loops.some_end (inside c.args.levels) (inside-progress c.args.levels) beyond
+    (is comma) next_argument c.arguments.reader (map argument_of c.arguments.arguments.items)
+    (sym c.is_before.ensures ∙ c.arguments-test.false) in
+    let closed : expect closing_parenthesis (skip c.arguments.reader) ≡ took closing_parenthesis
+    c.expect.new.self = rw c.skip.ensures at c.in_ok-expect.ensures.taken in
+    rw (parts.arguments-closed (inside c.args.levels) c.args.reader.now, listed, closed) refl
+
+pub calls::next_argument-returns : goal.calls::next_argument-returns
+unfolding next_argument argument
+calls::next_argument-returns t c =
+    let taken : expect comma (skip c.args.reader.now) ≡ took comma c.expect.new.self =
+    rw c.skip.ensures at c.in_ok-expect.ensures.taken in
+    rw (taken, ← c.skip-2.ensures) c.argument.ensures
+
+pub calls::argument-returns-in_err-first : goal.calls::argument-returns-in_err-first
+unfolding argument
+calls::argument-returns-in_err-first t c =
+    let p = err_from_is_err_and c.from_residual.result c.from_residual.ensures.1 in
+    let e = c.in_err-first.field-0.0 in
+    let o = read_inside c.args.levels argument_start c.args.reader.now in
+    rw (p.1, p.2) (fails-then e (o >>= λ x q. read_inside c.args.levels (argument_on x) q) _
+    (fails-then e o (λ x q. read_inside c.args.levels (argument_on x) q) c.in_err-first.ensures))
+
+pub calls::argument-returns-in_err-argument : goal.calls::argument-returns-in_err-argument
+unfolding argument
+calls::argument-returns-in_err-argument t c =
+    let p = err_from_is_err_and c.from_residual-in_err-argument.result
+    c.from_residual-in_err-argument.ensures.1 in
+    rw (p.1, p.2, c.in_ok-first.ensures) (fails-then c.in_err-argument.field-0.0
+    (read_inside c.args.levels (argument_on (argument_of c.in_ok-first.first))
+    c.argument_start.new.reader) _ c.in_err-argument.ensures)
+
+pub calls::argument-returns-then-not-is_logical : goal.calls::argument-returns-then-not-is_logical
+calls::argument-returns-then-not-is_logical t c =
+    let x = argument_of c.in_ok-argument.argument in
+    let off : is_logical x ≡ false = sym c.is_logical.ensures ∙ c.if-not-is_logical.true in
+    parts.argument-took (inside c.args.levels) c.args.reader.now c.argument_start.new.reader
+    c.argument_from.new.reader
+    (argument_of c.in_ok-first.first) x c.in_ok-first.ensures c.in_ok-argument.ensures
+    ∙ ap (λ b. took x (spanned_if b c.args.reader.now c.argument_from.new.reader)) off
+
+pub calls::argument-returns : goal.calls::argument-returns
+calls::argument-returns t c =
+    let x = argument_of c.in_ok-argument.argument in
+    let on : is_logical x ≡ true = sym c.is_logical.ensures ∙ c.if-not-is_logical.false in
+    let added : c.add_item.new.self ≡ item_since c.args.reader.now.at
+    (length c.args.reader.now.found) c.argument_from.new.reader =
+    rw (c.place-start.ensures, c.items-before.ensures) at c.in_ok-add_item.ensures.added in
+    parts.argument-took (inside c.args.levels) c.args.reader.now c.argument_start.new.reader
+    c.argument_from.new.reader
+    (argument_of c.in_ok-first.first) x c.in_ok-first.ensures c.in_ok-argument.ensures
+    ∙ ap (λ b. took x (spanned_if b c.args.reader.now c.argument_from.new.reader)) on
+    ∙ ap (took x) (sym added)
+
+pub calls::argument_from-returns-then-not-is_before_part :
+    goal.calls::argument_from-returns-then-not-is_before_part
+calls::argument_from-returns-then-not-is_before_part t c =
+    parts.argument-alone (inside c.args.levels) (inside-progress c.args.levels)
+    (argument_of c.args.first) c.args.reader.now
+    (sym c.is_before_part.ensures ∙ c.if-not-is_before_part.true)
+
+pub calls::argument_from-returns-in-Query : goal.calls::argument_from-returns-in-Query
+calls::argument_from-returns-in-Query t c =
+    let x = c.in-Query.query in
+    subst (λ (o : Outcome ArgumentTree). Gives argument_of c.logical.result c.logical.new.reader o)
+    (sym (ap (λ y. read_inside c.args.levels (argument_on y) c.args.reader.now)
+    (ap argument_of c.in-Query.is ∙ tree_argument_query x)
+    ∙ parts.parts-logical (inside c.args.levels) (inside-progress c.args.levels)
+    (query_argument (query_of x)) (exists (query_of x)) c.args.reader.now
+    (sym c.is_before_part.ensures ∙ c.if-not-is_before_part.false)
+    ∙ ap (λ e. logical_at c.args.levels e c.args.reader.now)
+    (sym (tree_test (subject.Query x) ∙ tree_subject_query x)))) c.logical.ensures
+
+pub calls::argument_from-returns-in-Call : goal.calls::argument_from-returns-in-Call
+calls::argument_from-returns-in-Call t c =
+    let x = c.in-Call.call in
+    subst (λ (o : Outcome ArgumentTree). Gives argument_of c.logical-in-Call.result
+    c.logical-in-Call.new.reader o) (sym
+    (ap (λ y. read_inside c.args.levels (argument_on y) c.args.reader.now)
+    (ap argument_of c.in-Call.is ∙ tree_argument_call x)
+    ∙ parts.parts-logical (inside c.args.levels) (inside-progress c.args.levels)
+    (call_argument (call_of x)) (call_test (call_of x)) c.args.reader.now
+    (sym c.is_before_part.ensures ∙ c.if-not-is_before_part.false)
+    ∙ ap (λ e. logical_at c.args.levels e c.args.reader.now)
+    (sym (tree_test (subject.Call x) ∙ tree_subject_call x)))) c.logical-in-Call.ensures
+
+pub calls::argument_from-returns-in-Logical : goal.calls::argument_from-returns-in-Logical
+calls::argument_from-returns-in-Logical t c =
+    let x = c.in-Logical.expr in
+    subst (λ (o : Outcome ArgumentTree). Gives argument_of c.logical-in-Logical.result
+    c.logical-in-Logical.new.reader o) (sym
+    (ap (λ y. read_inside c.args.levels (argument_on y) c.args.reader.now)
+    (ap argument_of c.in-Logical.is ∙ tree_logical x)
+    ∙ parts.parts-logical (inside c.args.levels) (inside-progress c.args.levels)
+    (logical_argument (expr_of x)) (expr_of x) c.args.reader.now
+    (sym c.is_before_part.ensures ∙ c.if-not-is_before_part.false))) c.logical-in-Logical.ensures
+
+pub calls::logical-returns-in_err-conjunction : goal.calls::logical-returns-in_err-conjunction
+calls::logical-returns-in_err-conjunction t c =
+    let p = err_from_is_err_and c.from_residual.result c.from_residual.ensures.1 in
+    rw (p.1, p.2) (fails-then c.in_err-conjunction.field-0.0
+    (by (λ es. joined all_of (expr_of c.args.first ∷ es))
+    (read_inside c.args.levels (other_parts ampersand basic) c.args.reader.now)) _
+    c.in_err-conjunction.ensures)
+
+pub calls::logical-returns-in_err-expression_from :
+    goal.calls::logical-returns-in_err-expression_from
+calls::logical-returns-in_err-expression_from t c =
+    let p = err_from_is_err_and c.from_residual-in_err-expression_from.result
+    c.from_residual-in_err-expression_from.ensures.1 in
+    rw (p.1, p.2, c.in_ok-conjunction.ensures) (fails-then c.in_err-expression_from.field-0.0
+    (by (λ es. joined any_of (expr_of c.in_ok-conjunction.conjunction ∷ es))
+    (read_inside c.args.levels (other_parts bar conjunction) c.conjunction_from.new.reader))
+    (λ e q. took (logical_argument e) q) c.in_err-expression_from.ensures)
+
+pub calls::logical-returns : goal.calls::logical-returns
+calls::logical-returns t c =
+    rw (c.in_ok-conjunction.ensures, c.in_ok-expression_from.ensures)
+    (ap (λ x. took x c.expression_from.new.reader)
+    (sym (tree_logical c.in_ok-expression_from.field-0)))
+
+-- ---- tests and sides
+
+pub expressions::subject-returns-in_err-call : goal.expressions::subject-returns-in_err-call
+expressions::subject-returns-in_err-call t c =
+    let p = err_from_is_err_and c.from_residual.result c.from_residual.ensures.1 in
+    let name : chars (string_bytes c.new-name.result) ≡ [] =
+    ap chars c.new-name.ensures.bytes ∙ chars-nil in
+    let called = by (call_with []) (call_inside c.args.levels c.args.reader.now) in
+    let failed : Fails c.in_err-call.field-0.0 called = rw name at c.in_err-call.ensures in
+    rw (
+      p.1,
+      p.2,
+      openings.subject-called c.args.levels c.args.reader.now
+          (sym c.is_at_function.ensures ∙ c.if-is_at_function.true),
+    ) (fails-then c.in_err-call.field-0.0 called _ failed)
+
+pub expressions::subject-returns-then-is_at_function :
+    goal.expressions::subject-returns-then-is_at_function
+expressions::subject-returns-then-is_at_function t c =
+    let name : chars (string_bytes c.new-name.result) ≡ [] =
+    ap chars c.new-name.ensures.bytes ∙ chars-nil in
+    let read : by (call_with []) (call_inside c.args.levels c.args.reader.now) ≡ took
+    (call_of c.in_ok-call.field-0) c.call.new.reader = rw name at c.in_ok-call.ensures in
+    openings.subject-called c.args.levels c.args.reader.now
+    (sym c.is_at_function.ensures ∙ c.if-is_at_function.true) ∙ ap (by call_test) read
+    ∙ ap (λ x. took x c.call.new.reader) (sym (tree_subject_call c.in_ok-call.field-0))
+
+pub expressions::subject-returns-in_err-query_within :
+    goal.expressions::subject-returns-in_err-query_within
+expressions::subject-returns-in_err-query_within t c =
+    let p = err_from_is_err_and c.from_residual-in_err-query_within.result
+    c.from_residual-in_err-query_within.ensures.1 in
+    rw (
+      p.1,
+      p.2,
+      openings.subject-query c.args.levels c.args.reader.now
+          (sym c.is_at_function.ensures ∙ c.if-is_at_function.false),
+    ) (fails-then c.in_err-query_within.field-0.0
+    (read_inside c.args.levels query_within c.args.reader.now) _ c.in_err-query_within.ensures)
+
+pub expressions::subject-returns : goal.expressions::subject-returns
+expressions::subject-returns t c =
+    rw (
+      openings.subject-query c.args.levels c.args.reader.now
+          (sym c.is_at_function.ensures ∙ c.if-is_at_function.false),
+      c.in_ok-query_within.ensures,
+    ) (search (rules, the_lemmas))
+
+pub expressions::compared_or_test-returns-then-is_before_operator :
+    goal.expressions::compared_or_test-returns-then-is_before_operator
+expressions::compared_or_test-returns-then-is_before_operator t c =
+    rw (
+      parts.compared-on (inside c.args.levels) (operand_of c.args.first) c.args.reader.now
+          (sym c.is_before_operator.ensures ∙ c.if-is_before_operator.true),
+      ← c.skip.ensures,
+    ) c.comparison.ensures
+
+pub sides::word-returns-then-is_at : goal.sides::word-returns-then-is_at
+sides::word-returns-then-is_at t c =
+    let step : read_inside c.args.levels word c.args.reader.now
+    ≡ read_inside c.args.levels (word_of true_literal letter_t c.as_slice.result.now)
+    c.args.reader.now =
+    openings.word-t c.args.levels c.args.reader.now (sym c.is_at.ensures ∙ c.if-is_at.true)
+    ∙ ap (λ more. read_inside c.args.levels (word_of true_literal letter_t more) c.args.reader.now)
+    (sym c.as_slice.ensures) in
+    subst
+    (λ (o : Outcome OperandTree). Gives operand_of c.word_or_call.result c.word_or_call.new.reader
+    o) (sym step) c.word_or_call.ensures
+
+pub sides::word-returns-then-is_at-2 : goal.sides::word-returns-then-is_at-2
+sides::word-returns-then-is_at-2 t c =
+    let step : read_inside c.args.levels word c.args.reader.now
+    ≡ read_inside c.args.levels (word_of false_literal letter_f c.as_slice-then-is_at-2.result.now)
+    c.args.reader.now =
+    openings.word-f c.args.levels c.args.reader.now (sym c.is_at-2.ensures ∙ c.if-is_at-2.true)
+    ∙ ap (λ more. read_inside c.args.levels (word_of false_literal letter_f more) c.args.reader.now)
+    (sym c.as_slice-then-is_at-2.ensures) in
+    subst (λ (o : Outcome OperandTree). Gives operand_of c.word_or_call-then-is_at-2.result
+    c.word_or_call-then-is_at-2.new.reader o) (sym step) c.word_or_call-then-is_at-2.ensures
+
+pub sides::word-returns-then-is_at-3 : goal.sides::word-returns-then-is_at-3
+sides::word-returns-then-is_at-3 t c =
+    let step : read_inside c.args.levels word c.args.reader.now
+    ≡ read_inside c.args.levels (word_of null_literal letter_n c.as_slice-then-is_at-3.result.now)
+    c.args.reader.now =
+    openings.word-n c.args.levels c.args.reader.now (sym c.is_at-3.ensures ∙ c.if-is_at-3.true)
+    ∙ ap (λ more. read_inside c.args.levels (word_of null_literal letter_n more) c.args.reader.now)
+    (sym c.as_slice-then-is_at-3.ensures) in
+    subst (λ (o : Outcome OperandTree). Gives operand_of c.word_or_call-then-is_at-3.result
+    c.word_or_call-then-is_at-3.new.reader o) (sym step) c.word_or_call-then-is_at-3.ensures
+
+pub sides::word-returns-then-not-is_at_function : goal.sides::word-returns-then-not-is_at_function
+sides::word-returns-then-not-is_at_function t c =
+    rw (openings.word-none c.args.levels c.args.reader.now
+    (sym c.is_at_function.ensures ∙ c.if-not-is_at_function.true)
+    (sym c.is_at.ensures ∙ c.if-is_at.false) (sym c.is_at-2.ensures ∙ c.if-is_at-2.false)
+    (sym c.is_at-3.ensures ∙ c.if-is_at-3.false)) c.place.ensures
+
+pub sides::word-returns-in_err-call : goal.sides::word-returns-in_err-call
+sides::word-returns-in_err-call t c =
+    let p = err_from_is_err_and c.from_residual.result c.from_residual.ensures.1 in
+    let name : chars (string_bytes c.new-name.result) ≡ [] =
+    ap chars c.new-name.ensures.bytes ∙ chars-nil in
+    let called = by (call_with []) (call_inside c.args.levels c.args.reader.now) in
+    let failed : Fails c.in_err-call.field-0.0 called = rw name at c.in_err-call.ensures in
+    rw (
+      p.1,
+      p.2,
+      openings.word-other c.args.levels c.args.reader.now
+          (sym c.is_at_function.ensures ∙ c.if-not-is_at_function.false)
+          (sym c.is_at.ensures ∙ c.if-is_at.false) (sym c.is_at-2.ensures ∙ c.if-is_at-2.false)
+          (sym c.is_at-3.ensures ∙ c.if-is_at-3.false),
+    ) (fails-then c.in_err-call.field-0.0 called _ failed)
+
+pub sides::word-returns : goal.sides::word-returns
+sides::word-returns t c =
+    let name : chars (string_bytes c.new-name.result) ≡ [] =
+    ap chars c.new-name.ensures.bytes ∙ chars-nil in
+    let read : by (call_with []) (call_inside c.args.levels c.args.reader.now) ≡ took
+    (call_of c.in_ok-call.field-0) c.call.new.reader = rw name at c.in_ok-call.ensures in
+    openings.word-other c.args.levels c.args.reader.now
+    (sym c.is_at_function.ensures ∙ c.if-not-is_at_function.false)
+    (sym c.is_at.ensures ∙ c.if-is_at.false) (sym c.is_at-2.ensures ∙ c.if-is_at-2.false)
+    (sym c.is_at-3.ensures ∙ c.if-is_at-3.false) ∙ ap (by call_value) read
+    ∙ ap (λ x. took x c.call.new.reader) (sym (tree_operand_call c.in_ok-call.field-0))
+
+pub sides::word_or_call-letters-init : goal.sides::word_or_call-letters-init
+sides::word_or_call-letters-init t c =
+    let l = literal_of c.args.literal in
+    let first = c.args.first in
+    let scalar : IsScalar first = search rules in
+    let pushed : chars (string_bytes c.push.new.self) ≡ first ∷ [] =
+    ap chars c.in_ok-push.ensures.bytes
+    ∙ chars_push (string_bytes c.new-name.result) first (IsUtf8-string_bytes c.new-name.result)
+    scalar ∙ ap (λ w. w ++ first ∷ []) (ap chars c.new-name.ensures.bytes ∙ chars-nil) in
+    record {
+      total = rw pushed (sym (ap (λ (o : Outcome ℕ). o >>= λ d q. read_inside c.args.levels
+          (word_from l (first ∷ []) c.args.others.now) q) c.in_ok-expect.ensures.taken));
+      same = refl;
+    }
+
+-- the letters that are left, from the next on
+letters-left : (letters : Text) (i x : ℕ) → i < length letters → x ≡ get_or letters i x
+    → drop i letters ≡ x ∷ drop (i + 1) letters
+letters-left letters i x within is =
+    drop_more letters i x within ∙ ap (λ y. y ∷ drop (i + 1) letters) (sym is)
+
+pub sides::word_or_call-returns-in_err-call : goal.sides::word_or_call-returns-in_err-call
+sides::word_or_call-returns-in_err-call t c =
+    let p = err_from_is_err_and c.from_residual-in_err-call.result
+    c.from_residual-in_err-call.ensures.1 in
+    let l = literal_of c.args.literal in
+    let w = chars (string_bytes c.letters.name) in
+    let i = c.letters.letter-index in
+    let next = letters-left c.args.others.now i c.letter-item.result
+    (let more = c.letters-test.true in omega arith) c.letter-item.is in
+    let called = by (call_with w) (call_inside c.args.levels c.letters.reader) in
+    let step : read_inside c.args.levels (word_of l c.args.first c.args.others.now)
+    c.args.reader.now ≡ by call_value called = sym c.letters.invariant.total
+    ∙ ap (λ ys. read_inside c.args.levels (word_from l w ys) c.letters.reader) next
+    ∙ openings.word-called c.args.levels l w (c.letter-item.result ∷ drop (i + 1) c.args.others.now)
+    c.letters.reader (sym c.is_before_name.ensures ∙ c.if-is_before_name.true) in
+    rw (p.1, p.2) (subst (λ (o : Outcome OperandTree). Fails c.in_err-call.field-0.0 o) (sym step)
+    (fails-then c.in_err-call.field-0.0 called (λ x q. took (call_value x) q)
+    c.in_err-call.ensures))
+
+pub sides::word_or_call-returns-then-is_before_name :
+    goal.sides::word_or_call-returns-then-is_before_name
+sides::word_or_call-returns-then-is_before_name t c =
+    let l = literal_of c.args.literal in
+    let w = chars (string_bytes c.letters.name) in
+    let i = c.letters.letter-index in
+    let next = letters-left c.args.others.now i c.letter-item.result
+    (let more = c.letters-test.true in omega arith) c.letter-item.is in
+    sym c.letters.invariant.total
+    ∙ ap (λ ys. read_inside c.args.levels (word_from l w ys) c.letters.reader) next
+    ∙ openings.word-called c.args.levels l w (c.letter-item.result ∷ drop (i + 1) c.args.others.now)
+    c.letters.reader (sym c.is_before_name.ensures ∙ c.if-is_before_name.true)
+    ∙ ap (by call_value) c.in_ok-call.ensures
+    ∙ ap (λ x. took x c.call.new.reader) (sym (tree_operand_call c.in_ok-call.field-0))
+
+pub sides::word_or_call-returns-in_err-expect-2 : goal.sides::word_or_call-returns-in_err-expect-2
+sides::word_or_call-returns-in_err-expect-2 t c =
+    let p = err_from_is_err_and c.from_residual-in_err-expect-2.result
+    c.from_residual-in_err-expect-2.ensures.1 in
+    let l = literal_of c.args.literal in
+    let w = chars (string_bytes c.letters.name) in
+    let i = c.letters.letter-index in
+    let next = letters-left c.args.others.now i c.letter-item.result
+    (let more = c.letters-test.true in omega arith) c.letter-item.is in
+    let step : read_inside c.args.levels (word_of l c.args.first c.args.others.now)
+    c.args.reader.now ≡ read_inside c.args.levels
+    (word_from l w (c.letter-item.result ∷ drop (i + 1) c.args.others.now)) c.letters.reader =
+    sym c.letters.invariant.total
+    ∙ ap (λ ys. read_inside c.args.levels (word_from l w ys) c.letters.reader) next in
+    rw (p.1, p.2)
+    (subst (λ (o : Outcome OperandTree). Fails c.in_err-expect-2.field-0.0 o) (sym step)
+    (openings.word-fails c.args.levels l w c.letter-item.result (drop (i + 1) c.args.others.now)
+    c.letters.reader c.in_err-expect-2.field-0.0
+    (sym c.is_before_name.ensures ∙ c.if-is_before_name.false) c.in_err-expect-2.ensures.taken))
+
+pub sides::word_or_call-letters-preserved : goal.sides::word_or_call-letters-preserved
+sides::word_or_call-letters-preserved t c =
+    let l = literal_of c.args.literal in
+    let text = string_bytes c.letters.name in
+    let i = c.letters.letter-index in
+    let x = c.letter-item.result in
+    let next = letters-left c.args.others.now i x (let more = c.letters-test.true in omega arith)
+    c.letter-item.is in
+    let scalar : IsScalar x = search rules in
+    let pushed : chars (string_bytes c.push-in-letters.new.self) ≡ chars text ++ x ∷ [] =
+    ap chars c.in_ok-push-2.ensures.bytes ∙ chars_push text x (IsUtf8-string_bytes c.letters.name)
+    scalar in
+    record {
+      total = rw pushed (sym
+          (openings.word-goes_on c.args.levels l (chars text) x (drop (i + 1) c.args.others.now)
+          c.letters.reader c.expect-in-letters.new.self
+          (sym c.is_before_name.ensures ∙ c.if-is_before_name.false) c.in_ok-expect-2.ensures.taken)
+          ∙ ap (λ ys. read_inside c.args.levels (word_from l (chars text) ys) c.letters.reader)
+          (sym next) ∙ c.letters.invariant.total);
+      same = c.letters.invariant.same;
+    }
+
+pub sides::word_or_call-returns-in_err-call-2 : goal.sides::word_or_call-returns-in_err-call-2
+sides::word_or_call-returns-in_err-call-2 t c =
+    let p = err_from_is_err_and c.from_residual-in_err-call-2.result
+    c.from_residual-in_err-call-2.ensures.1 in
+    let l = literal_of c.args.literal in
+    let w = chars (string_bytes c.letters.name) in
+    let last = drop_all c.letters.letter-index c.args.others.now
+    (let end = c.letters-test.false in omega arith) in
+    let called = by (call_with w) (call_inside c.args.levels c.letters.reader) in
+    let step : read_inside c.args.levels (word_of l c.args.first c.args.others.now)
+    c.args.reader.now ≡ by call_value called = sym c.letters.invariant.total
+    ∙ ap (λ ys. read_inside c.args.levels (word_from l w ys) c.letters.reader) last
+    ∙ openings.word-called c.args.levels l w [] c.letters.reader
+    (sym c.is_before_name-2.ensures ∙ c.if-is_before_name-2.true) in
+    rw (p.1, p.2) (subst (λ (o : Outcome OperandTree). Fails c.in_err-call-2.field-0.0 o) (sym step)
+    (fails-then c.in_err-call-2.field-0.0 called (λ x q. took (call_value x) q)
+    c.in_err-call-2.ensures))
+
+pub sides::word_or_call-returns-then-is_before_name-2 :
+    goal.sides::word_or_call-returns-then-is_before_name-2
+sides::word_or_call-returns-then-is_before_name-2 t c =
+    let l = literal_of c.args.literal in
+    let w = chars (string_bytes c.letters.name) in
+    let last = drop_all c.letters.letter-index c.args.others.now
+    (let end = c.letters-test.false in omega arith) in
+    sym c.letters.invariant.total
+    ∙ ap (λ ys. read_inside c.args.levels (word_from l w ys) c.letters.reader) last
+    ∙ openings.word-called c.args.levels l w [] c.letters.reader
+    (sym c.is_before_name-2.ensures ∙ c.if-is_before_name-2.true)
+    ∙ ap (by call_value) c.in_ok-call-2.ensures
+    ∙ ap (λ x. took x c.call-then-is_before_name-2.new.reader)
+    (sym (tree_operand_call c.in_ok-call-2.field-0))
+
+pub sides::word_or_call-returns : goal.sides::word_or_call-returns
+sides::word_or_call-returns t c =
+    let l = literal_of c.args.literal in
+    let w = chars (string_bytes c.letters.name) in
+    let last = drop_all c.letters.letter-index c.args.others.now
+    (let end = c.letters-test.false in omega arith) in
+    sym c.letters.invariant.total
+    ∙ ap (λ ys. read_inside c.args.levels (word_from l w ys) c.letters.reader) last
+    ∙ openings.word-ends c.args.levels l w c.letters.reader
+    (sym c.is_before_name-2.ensures ∙ c.if-is_before_name-2.false)
+    ∙ ap (λ x. took x c.letters.reader) (sym (tree_operand_literal c.args.literal))
+    ∙ ap (λ x. took (operand_of (operand.Literal x)) c.letters.reader)
+    (sym c.letters.invariant.same)

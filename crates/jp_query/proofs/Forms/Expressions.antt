@@ -1,347 +1,271 @@
 -- The rules of logical expressions take exactly the texts that the grammar says.
-use Rattle.std.proofs.Common.{◌≡◌, ℕ, ◌+◌, [], ◌∷◌, refl, ap, ◌∙◌}
+use Rattle.std.proofs.Common.{◌≡◌, ℕ, [], ◌∷◌, refl}
 use Rattle.std.specs.Prelude.{codes}
-use Rattle.jp_reading.specs.Texts.{Text, Spans, bytes}
-use Rattle.jp_reading.specs.Forms.{Form, ◌⌢◌, word, Blank, Item}
-use Rattle.jp_reading.proofs.Between.{Within, joined-over}
-use Rattle.jp_reading.proofs.Levels.{Only, Then, Made, item-lifts}
-use Rattle.jp_reading.proofs.Words.{words-join, words-apart}
-use Rattle.jp_reading.proofs.Joining.{joined-both, joined-only_two, joined-assoc, joined-back, joined-word, after-within, before-within, only-after, word-behind, separated-within, separated-spelt}
-use Rattle.jp_reading.proofs.Rules.Form.{Either, left, right, Inside, none_inside, form}
+use Rattle.jp_reading.specs.Texts.{Text, Spans}
+use Rattle.jp_reading.specs.Forms.{Form, ◌⌢◌, word, Blank, Item, Never}
+use Rattle.jp_reading.proofs.Between.{Within}
+use Rattle.jp_reading.proofs.Levels.{Only, Then, Made}
+use Rattle.jp_reading.proofs.Same.{Same, same, back, ways, ◌⨾◌, after, joined, either, made, then, item, words, assoc, after-either, either-assoc, either-flip, either-swap, or-never, after-made, after-only, after-value, made-either, made-made, made-same, then-only, then-value, then-made, then-either, item-either, item-made, separated}
+use Rattle.jp_reading.proofs.Rules.Form.{Either, left, right, form}
 use Rattle.jp_query.specs.declared.tree.Op.{Op}
-use Rattle.jp_query.specs.Tree.{QueryTree, ExprTree, negation, comparison, exists, OperandTree, literal, node_value, LiteralTree}
-use Rattle.jp_query.specs.Literals.{Literal, spelling}
-use Rattle.jp_query.specs.Grammar.{InnerQuery, Side, literal_side, query_side, Parenthesis, Basic, grouped, not_grouped, compared, tested, not_tested, Conjunction, conjunction, Expression, disjunction}
-use Rattle.jp_query.specs.Private.Rules.{nesting, QueryRule, part, parts}
+use Rattle.jp_query.specs.Characters.{ampersand, bar, opening_parenthesis}
+use Rattle.jp_query.specs.Tree.{QueryTree, ExprTree, negation, comparison, exists, call_test, OperandTree, literal, node_value, call_value, CallTree, LiteralTree, text, number as number_literal}
+use Rattle.jp_query.specs.Strings.{Quoted}
+use Rattle.jp_query.specs.Literals.{Literal, of_number, of_text, of_true, of_false, of_null, Number}
+use Rattle.jp_query.specs.Grammar.{Nested, InnerQuery, FunctionCall, function_call, Side, literal_side, query_side, call_side, Parenthesis, Comparison, Test, query_test, function_test, Composed, grouped, not_grouped, compared, not_tested, Basic, composed, tested, Conjunction, conjunction, Expression, disjunction}
+use Rattle.jp_query.specs.Private.Rules.{nesting, opens, CallRest}
 use Rattle.jp_query.specs.Private.Rules as rule
-use Rattle.jp_query.proofs.Forms.Numbers.{literal-within, literal-spelt, operator-within, operator-spelt}
-use Rattle.jp_query.proofs.Forms.Selectors.{marked, inner_query-within, inner_query-spelt}
+use Rattle.jp_query.proofs.Forms.Numbers.{plain_literal-same, operator-same}
+use Rattle.jp_query.proofs.Forms.FunctionNames.{Word, Whole, whole-same, word-same}
+use Rattle.jp_query.proofs.Forms.Selectors.{marked, none, inner_query-same}
 
--- where nothing is nested
-abbrev none : Inside nesting
-none = none_inside nesting
+module _ (I : Nested → Form) where
+  -- ---- sides
 
-module _ (I : ExprTree → Form) where
+  literal-ways : (l : LiteralTree)
+      → Same (Either (Word I l) (Either (Made text Quoted l) (Made number_literal Number l)))
+      (Literal l)
+  literal-ways l = record {
+    to = ways (ways (λ s o t h. of_true h.same h.is)
+        (ways (λ s o t h. of_false h.same h.is) (λ s o t h. of_null h.same h.is)))
+        (ways (λ s o t h. of_text h.part h.same h.is) (λ s o t h. of_number h.part h.same h.is));
+    from = λ s o t h. elim h [
+      | of_true e g ↦ left (left (record { same = e; is = g }))
+      | of_false e g ↦ left (right (left (record { same = e; is = g })))
+      | of_null e g ↦ left (right (right (record { same = e; is = g })))
+      | of_text cs e g ↦ right (left (record { part = cs; same = e; is = g }))
+      | of_number n e g ↦ right (right (record { part = n; same = e; is = g }))
+    ];
+  }
+
+  pub side-ways : (x : OperandTree) → Same (Either (Made literal (λ l. Item (Literal l)) x)
+      (Either (Made node_value (InnerQuery I) x) (Made call_value (FunctionCall I) x))) (Side I x)
+  side-ways x = record {
+    to = ways (λ s o t h. literal_side h.part h.same h.is)
+        (ways (λ s o t h. query_side h.part h.same h.is) (λ s o t h. call_side h.part h.same h.is));
+    from = λ s o t h. elim h [
+      | literal_side l e g ↦ left (record { part = l; same = e; is = g })
+      | query_side q e g ↦ right (left (record { part = q; same = e; is = g }))
+      | call_side c e g ↦ right (right (record { part = c; same = e; is = g }))
+    ];
+  }
+
+  call-ways : (c : CallTree)
+      → Same (Made (rule.call_with []) (λ r. Item (Whole I r)) c) (FunctionCall I c)
+  call-ways c = record {
+    to = λ s o t h. function_call h.part.rest h.part.arguments h.same h.is;
+    from = λ s o t h. elim h [
+      | function_call name xs e g ↦ record { part = rule.call_rest name xs; same = e; is = g }
+    ];
+  }
+
+  pub side-same : (x : OperandTree) → Same (form (marked I) rule.side x) (Side I x)
+  unfolding rule.side rule.side_within
+  side-same x =
+      item (either same (either (word-same I x) (made (plain_literal-same none))
+      ⨾ either-assoc
+      ⨾ either-swap
+      ⨾ either same (back made-either ⨾ made literal-ways)
+      ⨾ either-flip)
+      ⨾ either-swap)
+      ⨾ item-either
+      ⨾ either item-made (item-either
+      ⨾ either (item-made ⨾ made (inner_query-same I))
+      (item-made ⨾ back made-made ⨾ made call-ways))
+      ⨾ side-ways x
+
+  -- a side of that kind
+  pub query_of_side : (q : QueryTree) → Same (Side I (node_value q)) (InnerQuery I q)
+  query_of_side q = record { to = to; from = λ s o t. query_side q refl }
+    where
+      to : Within (Side I (node_value q)) (InnerQuery I q)
+      to s o t (query_side p e h) = let same : p ≡ q = cc in rw (← same) h
+      to s o t (literal_side l e h) = absurd cc
+      to s o t (call_side c e h) = absurd cc
+
+  pub call_of_side : (c : CallTree) → Same (Side I (call_value c)) (FunctionCall I c)
+  call_of_side c = record { to = to; from = λ s o t. call_side c refl }
+    where
+      to : Within (Side I (call_value c)) (FunctionCall I c)
+      to s o t (call_side d e h) = let same : d ≡ c = cc in rw (← same) h
+      to s o t (literal_side l e h) = absurd cc
+      to s o t (query_side q e h) = absurd cc
+
+  pub literal_of_side : (l : LiteralTree) → Same (Side I (literal l)) (Item (Literal l))
+  literal_of_side l = record { to = to; from = λ s o t. literal_side l refl }
+    where
+      to : Within (Side I (literal l)) (Item (Literal l))
+      to s o t (literal_side m e h) = let same : m ≡ l = cc in rw (← same) h
+      to s o t (query_side q e h) = absurd cc
+      to s o t (call_side c e h) = absurd cc
+
   -- ---- comparisons and tests
 
-  item-within : (l : LiteralTree) → Within (Item (form none rule.literal l)) (Item (Literal l))
-  item-within l = item-lifts (form none rule.literal l) (Literal l) (literal-within none l)
+  -- a first side, an operator and a second one
+  abbrev pub Compared : ExprTree → Form
+  Compared = Then (λ x. Side I x) (λ x e. Blank ⌢ form (marked I) (rule.comparison_with x) e)
 
-  item-spelt : (l : LiteralTree) → Within (Item (Literal l)) (Item (form none rule.literal l))
-  item-spelt l = item-lifts (Literal l) (form none rule.literal l) (literal-spelt none l)
-
-  side-within : (x : OperandTree) → Within (form (marked I) rule.side x) (Side I x)
-  unfolding rule.side
-  side-within x s o t (left h) = query_side h.part h.same (inner_query-within I h.part s o t h.is)
-  side-within x s o t (right h) = literal_side h.part h.same (item-within h.part s o t h.is)
-
-  side-spelt : (x : OperandTree) → Within (Side I x) (form (marked I) rule.side x)
-  unfolding rule.side
-  side-spelt x s o t (query_side q e h) =
-      left (record { part = q; same = e; is = inner_query-spelt I q s o t h })
-  side-spelt x s o t (literal_side l e h) =
-      right (record { part = l; same = e; is = item-spelt l s o t h })
-
-  -- an operator and a second side
-  data Compared (first : OperandTree) (e : ExprTree) (s : Spans) (o : ℕ) (t : Text) : Type 0 where
-    with_side : (op : Op) (second : OperandTree) → e ≡ comparison first op second
-        → (word (spelling op) ⌢ Blank ⌢ Side I second) s o t → Compared first e s o t
-
-  comparison-within : (first : OperandTree) (e : ExprTree)
-      → Within (form (marked I) (rule.comparison_with first) e) (Compared first e)
+  compared-same : (e : ExprTree) → Same (Compared e)
+      (Made (λ (p : OperandTree × (Op × OperandTree)). comparison p.0 p.1.0 p.1.1)
+      (λ p. Comparison I p.0 p.1.0 p.1.1) e)
   unfolding rule.comparison_with
-  comparison-within first e s o t h =
-      let second = h.is.two.two.part in
-      with_side h.part second h.is.two.two.same
-      (joined-both _ (word (spelling h.part)) _ (Blank ⌢ Side I second) s o t h.is
-      (operator-within none h.part h.is.first_spans o h.is.first h.is.one)
-      (joined-over Blank _ (Side I second) h.is.second_spans _ h.is.second h.is.two
-      (side-within second h.is.two.second_spans _ h.is.two.second h.is.two.two.is)))
+  compared-same e =
+      then (λ x z. after
+      (after (then (λ op w. joined (operator-same none op) (after (made side-same) ⨾ after-made))
+      ⨾ then-made)
+      ⨾ after-made))
+      ⨾ then-made
 
-  comparison-spelt : (first : OperandTree) (op : Op) (second : OperandTree)
-      → Within (word (spelling op) ⌢ Blank ⌢ Side I second)
-      (form (marked I) (rule.comparison_with first) (comparison first op second))
-  unfolding rule.comparison_with
-  comparison-spelt first op second s o t h = record {
-    part = op;
-    is =
-        joined-both (word (spelling op)) (form none rule.operator op)
-        (Blank ⌢ Side I second) _ s o t h (operator-spelt none op h.first_spans o h.first h.one)
-        (after-within Blank (Side I second)
-        (Made (comparison first op) (λ x. form (marked I) rule.side x)
-        (comparison first op second))
-        (λ r i u g. record { part = second; same = refl; is = side-spelt second r i u g }) h.second_spans _ h.second h.two);
+  pub test-ways : (e : ExprTree)
+      → Same (Either (Made exists (InnerQuery I) e) (Made call_test (FunctionCall I) e)) (Test I e)
+  test-ways e = record {
+    to = ways (λ s o t h. query_test h.part h.same h.is)
+        (λ s o t h. function_test h.part h.same h.is);
+    from = λ s o t h. elim h [
+      | query_test q f g ↦ left (record { part = q; same = f; is = g })
+      | function_test c f g ↦ right (record { part = c; same = f; is = g })
+    ];
   }
 
-  test-within : (e : ExprTree) → Within (form (marked I) rule.test e) (Basic I e)
-  unfolding rule.test
-  test-within e s o t h = ways h.is.two
-    where
-      query_part : InnerQuery I h.part h.is.first_spans o h.is.first
-      query_part = inner_query-within I h.part h.is.first_spans o h.is.first h.is.one
+  -- a side that is a test, alone
+  abbrev TestAlone : OperandTree → ExprTree → Form
+  TestAlone (literal l) e = Never
+  TestAlone (node_value q) e = Only (exists q) (word []) e
+  TestAlone (call_value c) e = Only (call_test c) (word []) e
 
-      with_operator :
-          (g : (Blank ⌢ form (marked I)
-          (rule.comparison_with (node_value h.part)) e) h.is.second_spans
-          (o + bytes h.is.first) h.is.second)
-          → Compared (node_value h.part) e g.second_spans
-          (o + bytes h.is.first + bytes g.first) g.second → Basic I e s o t
-      with_operator g (with_side op second same w) =
-          compared (node_value h.part) second op same
-          (joined-both _ (Side I (node_value h.part)) _
-          (Blank ⌢ word (spelling op) ⌢ Blank ⌢ Side I second) s o t h.is
-          (query_side h.part refl query_part)
-          (joined-over Blank _
-          (word (spelling op) ⌢ Blank ⌢ Side I second) h.is.second_spans _ h.is.second g w))
-
-      ways : Either (Blank ⌢ form (marked I) (rule.comparison_with (node_value h.part)) e)
-          (Only (exists h.part) (word []) e) h.is.second_spans (o + bytes h.is.first) h.is.second
-          → Basic I e s o t
-      ways (left g) =
-          with_operator g (comparison-within (node_value h.part) e g.second_spans _ g.second g.two)
-      ways (right g) =
-          tested h.part g.same
-          (joined-word (InnerQuery I h.part) s o t
-          (joined-both _ (InnerQuery I h.part) _ (word []) s o t h.is query_part g.is))
-
-  test-spelt : (q : QueryTree) → Within (InnerQuery I q) (form (marked I) rule.test (exists q))
-  unfolding rule.test
-  test-spelt q s o t h =
-      let w = word-behind (InnerQuery I q) s o t h in
-      record {
-        part = q;
-        is =
-            joined-both (InnerQuery I q) (form (marked I) rule.inner_query q) (word []) _ s o t w
-            (inner_query-spelt I q w.first_spans o w.first w.one)
-            (right (record { same = refl; is = w.two }));
+  test-alone : (e : ExprTree) → Same (Then (λ x. Side I x) TestAlone e) (Test I e)
+  test-alone e = record {
+    to = λ s o t h. to s o t h.part h.is;
+    from = λ s o t h. elim h [
+      | query_test q f g ↦ record {
+        part = node_value q;
+        is = after-value.from s o t (record { same = f; is = (query_of_side q).from s o t g });
       }
-
-  query_compared-spelt : (q : QueryTree) (op : Op) (second : OperandTree)
-      → Within (InnerQuery I q ⌢ Blank ⌢ word (spelling op) ⌢ Blank ⌢ Side I second)
-      (form (marked I) rule.test (comparison (node_value q) op second))
-  unfolding rule.test
-  query_compared-spelt q op second s o t h = record {
-    part = q;
-    is =
-        joined-both (InnerQuery I q) (form (marked I) rule.inner_query q)
-        (Blank ⌢ word (spelling op) ⌢ Blank ⌢ Side I second) _ s o t h
-        (inner_query-spelt I q h.first_spans o h.first h.one)
-        (left (after-within Blank (word (spelling op) ⌢ Blank ⌢ Side I second)
-        (form (marked I) (rule.comparison_with (node_value q))
-        (comparison (node_value q) op second))
-        (comparison-spelt (node_value q) op second) h.second_spans _ h.second h.two));
+      | function_test c f g ↦ record {
+        part = call_value c;
+        is = after-value.from s o t (record { same = f; is = (call_of_side c).from s o t g });
+      }
+    ];
   }
-
-  literal_compared-within : (e : ExprTree)
-      → Within (form (marked I) rule.literal_compared e) (Basic I e)
-  unfolding rule.literal_compared
-  literal_compared-within e s o t h =
-      ways (comparison-within
-      (literal h.part) e h.is.two.second_spans _ h.is.two.second h.is.two.two)
     where
-      ways : Compared (literal h.part) e h.is.two.second_spans
-          (o + bytes h.is.first + bytes h.is.two.first) h.is.two.second → Basic I e s o t
-      ways (with_side op second same w) =
-          compared (literal h.part) second op same
-          (joined-both _ (Side I (literal h.part)) _
-          (Blank ⌢ word (spelling op) ⌢ Blank ⌢ Side I second) s o t h.is
-          (literal_side h.part refl (item-within h.part h.is.first_spans o h.is.first h.is.one))
-          (joined-over Blank _
-          (word (spelling op) ⌢ Blank
-          ⌢ Side I second) h.is.second_spans _ h.is.second h.is.two w))
+      to : (s : Spans) (o : ℕ) (t : Text) (x : OperandTree) → (Side I x ⌢ TestAlone x e) s o t
+          → Test I e s o t
+      to s o t (literal l) h = absurd h.two
+      to s o t (node_value q) h =
+          let g = after-value.to s o t h in query_test q g.same ((query_of_side q).to s o t g.is)
+      to s o t (call_value c) h =
+          let g = after-value.to s o t h in function_test c g.same ((call_of_side c).to s o t g.is)
 
-  literal_compared-spelt : (l : LiteralTree) (op : Op) (second : OperandTree)
-      → Within (Item (Literal l) ⌢ Blank ⌢ word (spelling op) ⌢ Blank ⌢ Side I second)
-      (form (marked I) rule.literal_compared (comparison (literal l) op second))
-  unfolding rule.literal_compared
-  literal_compared-spelt l op second s o t h = record {
-    part = l;
-    is =
-        joined-both (Item (Literal l)) (Item (form none rule.literal l))
-        (Blank ⌢ word (spelling op) ⌢ Blank ⌢ Side I second) _ s o t h
-        (item-spelt l h.first_spans o h.first h.one)
-        (after-within Blank (word (spelling op) ⌢ Blank ⌢ Side I second)
-        (form (marked I) (rule.comparison_with (literal l)) (comparison (literal l) op second))
-        (comparison-spelt (literal l) op second) h.second_spans _ h.second h.two);
-  }
+  -- what goes on from a first side
+  on-side : (x : OperandTree) (e : ExprTree) → Same (form (marked I) (rule.compared_or_test x) e)
+      (Either (Blank ⌢ form (marked I) (rule.comparison_with x) e) (TestAlone x e))
+  on-side (literal l) e = or-never
+  on-side (node_value q) e = same
+  on-side (call_value c) e = same
+
+  first-same : (e : ExprTree) → Same
+      (Then (λ x. form (marked I) rule.side x) (λ x y. form (marked I) (rule.compared_or_test x) y)
+      e) (Either (Compared e) (Test I e))
+  first-same e =
+      then (λ x z. joined (side-same x) (on-side x z)) ⨾ then-either ⨾ either same (test-alone e)
 
   -- ---- parentheses and negations
 
-  parenthesis-within : (e : ExprTree)
-      → Within (Then (λ x. marked I 40 x) (λ x. form (marked I) (rule.closed x)) e)
-      (Parenthesis I e)
-  unfolding rule.closed
-  parenthesis-within e s o t h =
-      let end = joined-only_two Blank (word (codes ")")) h.part e h.is.second_spans
-      (o + bytes h.is.first) h.is.second h.is.two in
-      rw end.0
-      (after-within (word (codes "(")) ((Blank ⌢ I h.part) ⌢ Blank ⌢ word (codes ")"))
-      (Blank ⌢ I h.part ⌢ Blank ⌢ word (codes ")"))
-      (joined-assoc Blank (I h.part) (Blank ⌢ word (codes ")"))) s o t
-      (joined-assoc (word (codes "(")) (Blank ⌢ I h.part) (Blank ⌢ word (codes ")")) s o t
-      (joined-over (marked I 40 h.part) _ (Blank ⌢ word (codes ")")) s o t h.is end.1)))
+  abbrev pub Grouped : ExprTree → Form
+  Grouped = Then (λ x. marked I (rule.mark opening_parenthesis) x)
+      (λ x. form (marked I) (rule.closed x))
 
-  parenthesis-spelt : (e : ExprTree)
-      → Within (Parenthesis I e)
-      (Then (λ x. marked I 40 x) (λ x. form (marked I) (rule.closed x)) e)
+  parenthesis-same : (e : ExprTree) → Same (Grouped e) (Parenthesis I e)
   unfolding rule.closed
-  parenthesis-spelt e s o t h = record {
-    part = e;
-    is =
-        after-within (marked I 40 e) (Blank ⌢ word (codes ")"))
-        (Blank ⌢ word (codes ")") ⌢ Only e (word []) e)
-        (after-within Blank (word (codes ")")) (word (codes ")") ⌢ Only e (word []) e)
-        (only-after (word (codes ")")) e)) s o t
-        (joined-back (word (codes "(")) (Blank ⌢ I e) (Blank ⌢ word (codes ")")) s o t
-        (after-within (word (codes "(")) (Blank ⌢ I e ⌢ Blank ⌢ word (codes ")"))
-        ((Blank ⌢ I e) ⌢ Blank ⌢ word (codes ")"))
-        (joined-back Blank (I e) (Blank ⌢ word (codes ")"))) s o t h));
+  parenthesis-same e =
+      then (λ x z. after (after after-value ⨾ after-only)) ⨾ then-only ⨾ made-same ⨾ assoc
+      ⨾ after assoc
+
+  -- a test, which is an item
+  test-same : (e : ExprTree) → Same (form (marked I) rule.test e) (Test I e)
+  unfolding rule.test rule.subject
+  test-same e =
+      item-either
+      ⨾ either (item (then-value ⨾ made (whole-same I)) ⨾ item-made ⨾ back made-made
+      ⨾ made call-ways) (item-made ⨾ made (inner_query-same I))
+      ⨾ either-flip
+      ⨾ test-ways e
+
+  -- ---- basic expressions
+
+  abbrev pub Negated : ExprTree → Form
+  Negated e = word (codes "!") ⌢ form (marked I) rule.negation_on e
+
+  negation-same : (e : ExprTree) → Same (Negated e)
+      (Either (Made negation (λ x. word (codes "!") ⌢ Blank ⌢ Parenthesis I x) e)
+      (Made negation (λ x. word (codes "!") ⌢ Blank ⌢ Test I x) e))
+  unfolding rule.negation_on rule.negated
+  negation-same e =
+      after (after (made (λ x. either (parenthesis-same x) (test-same x))) ⨾ after-made)
+      ⨾ after-made
+      ⨾ made (λ x. after after-either ⨾ after-either)
+      ⨾ made-either
+
+  pub composed-same : (e : ExprTree)
+      → Same (Either (Negated e) (Either (Grouped e) (Compared e))) (Composed I e)
+  composed-same e =
+      either (negation-same e) (either (parenthesis-same e) (compared-same e))
+      ⨾ record {
+        to = ways (ways (λ s o t h. not_grouped h.part h.same h.is)
+            (λ s o t h. not_tested h.part h.same h.is)) (ways (λ s o t. grouped)
+            (λ s o t h. compared h.part.0 h.part.1.1 h.part.1.0 h.same h.is));
+        from = λ s o t h. elim h [
+          | not_grouped x f g ↦ left (left (record { part = x; same = f; is = g }))
+          | not_tested x f g ↦ left (right (record { part = x; same = f; is = g }))
+          | grouped g ↦ right (left g)
+          | compared first second op f g ↦ right (right (record {
+            part = (first, (op, second));
+            same = f;
+            is = g;
+          }))
+        ];
+      }
+
+  pub basic-ways : (e : ExprTree) → Same (Either (Composed I e) (Test I e)) (Basic I e)
+  basic-ways e = record {
+    to = ways (λ s o t. composed) (λ s o t. tested);
+    from = λ s o t h. elim h [ composed g ↦ left g | tested g ↦ right g ];
   }
 
-  negation-within : (e : ExprTree)
-      → Within (word (codes "!") ⌢ Blank ⌢ Made negation (λ x. form (marked I) rule.negated x) e)
-      (Basic I e)
-  unfolding rule.negated
-  negation-within e s o t h = ways h.two.two.is
-    where
-      x : ExprTree
-      x = h.two.two.part
-
-      over : (P : Form) → P h.two.second_spans (o + bytes h.first + bytes h.two.first) h.two.second
-          → (word (codes "!") ⌢ Blank ⌢ P) s o t
-      over P g =
-          joined-over (word (codes "!")) _ (Blank ⌢ P) s o t h
-          (joined-over Blank _ P h.second_spans _ h.second h.two g)
-
-      ways : Either (Then (λ y. marked I 40 y) (λ y. form (marked I) (rule.closed y)) x)
-          (Made exists (λ q. form (marked I) rule.inner_query q) x)
-          h.two.second_spans (o + bytes h.first + bytes h.two.first) h.two.second → Basic I e s o t
-      ways (left g) =
-          not_grouped x h.two.two.same
-          (over (Parenthesis I x) (parenthesis-within x h.two.second_spans _ h.two.second g))
-      ways (right g) =
-          not_tested g.part (h.two.two.same ∙ ap negation g.same)
-          (over (InnerQuery I g.part)
-          (inner_query-within I g.part h.two.second_spans _ h.two.second g.is))
-
-  basic-within : (e : ExprTree) → Within (form (marked I) rule.basic e) (Basic I e)
+  pub basic-same : (e : ExprTree) → Same (form (marked I) rule.basic e) (Basic I e)
   unfolding rule.basic
-  basic-within e s o t (left h) = negation-within e s o t h
-  basic-within e s o t (right (left h)) = grouped (parenthesis-within e s o t h)
-  basic-within e s o t (right (right (left h))) = test-within e s o t h
-  basic-within e s o t (right (right (right h))) = literal_compared-within e s o t h
-
-  negated-spelt : (e x : ExprTree) (P : Form) → e ≡ negation x
-      → Within P (form (marked I) rule.negated x)
-      → Within (word (codes "!") ⌢ Blank ⌢ P) (form (marked I) rule.basic e)
-  unfolding rule.basic
-  negated-spelt e x P same w s o t h =
-      left (after-within (word (codes "!")) (Blank ⌢ P)
-      (Blank ⌢ Made negation (λ y. form (marked I) rule.negated y) e)
-      (after-within Blank P (Made negation (λ y. form (marked I) rule.negated y) e)
-      (λ r i u g. record { part = x; same = same; is = w r i u g })) s o t h)
-
-  basic-spelt : (e : ExprTree) → Within (Basic I e) (form (marked I) rule.basic e)
-  unfolding rule.basic rule.negated
-  basic-spelt e s o t (grouped h) = right (left (parenthesis-spelt e s o t h))
-  basic-spelt e s o t (not_grouped x same h) =
-      negated-spelt e x (Parenthesis I x) same
-      (λ r i u g. left (parenthesis-spelt x r i u g)) s o t h
-  basic-spelt e s o t (compared first second op same h) = rw same (ways h.one)
-    where
-      over : (P : Form) → P h.first_spans o h.first
-          → (P ⌢ Blank ⌢ word (spelling op) ⌢ Blank ⌢ Side I second) s o t
-      over P g =
-          joined-both (Side I first) P (Blank ⌢ word (spelling op) ⌢ Blank ⌢ Side I second)
-          (Blank ⌢ word (spelling op) ⌢ Blank ⌢ Side I second) s o t h g h.two
-
-      ways : Side I first h.first_spans o h.first
-          → form (marked I) rule.basic (comparison first op second) s o t
-      ways (query_side q e g) =
-          rw e (right
-          (right (left (query_compared-spelt q op second s o t (over (InnerQuery I q) g)))))
-      ways (literal_side l e g) =
-          rw e (right
-          (right (right
-          (literal_compared-spelt l op second s o t (over (Item (Literal l)) g)))))
-  basic-spelt e s o t (tested q same h) = rw same (right (right (left (test-spelt q s o t h))))
-  basic-spelt e s o t (not_tested q same h) =
-      negated-spelt e (exists q) (InnerQuery I q) same
-      (λ r i u g. right
-      (record { part = q; same = refl; is = inner_query-spelt I q r i u g })) s o t h
+  basic-same e =
+      either same (either same (first-same e) ⨾ back either-assoc)
+      ⨾ back either-assoc
+      ⨾ either (composed-same e) same
+      ⨾ basic-ways e
 
   -- ---- parts with a mark twice between them
 
   -- the mark twice, and blanks around it
-  abbrev twice : ℕ → Form
+  abbrev pub twice : ℕ → Form
   twice c = Blank ⌢ word (c ∷ c ∷ []) ⌢ Blank
 
-  twice-within : (c : ℕ) (P Q : Form) → Within P Q
-      → Within (Blank ⌢ word (c ∷ []) ⌢ word (c ∷ []) ⌢ Blank ⌢ P) (twice c ⌢ Q)
-  twice-within c P Q w s o t h =
-      let one = word (c ∷ []) in
-      let both = word (c ∷ c ∷ []) in
-      joined-back Blank (both ⌢ Blank) Q s o t
-      (after-within Blank (one ⌢ one ⌢ Blank ⌢ P) ((both ⌢ Blank) ⌢ Q)
-      (λ r i u g. joined-back both Blank Q r i u
-      (before-within (one ⌢ one) both (Blank ⌢ Q) (words-join (c ∷ []) (c ∷ [])) r i u
-      (joined-back one one (Blank ⌢ Q) r i u
-      (after-within one (one ⌢ Blank ⌢ P) (one ⌢ Blank ⌢ Q)
-      (after-within one (Blank ⌢ P) (Blank ⌢ Q) (after-within Blank P Q w)) r i u g)))) s o t h)
+  pub twice-same : {P Q : Form} (c : ℕ) → Same P Q
+      → Same (Blank ⌢ word (c ∷ []) ⌢ word (c ∷ []) ⌢ Blank ⌢ P) (twice c ⌢ Q)
+  twice-same c f =
+      after (back assoc ⨾ joined (words (c ∷ []) (c ∷ [])) (after f) ⨾ back assoc) ⨾ back assoc
 
-  twice-spelt : (c : ℕ) (P Q : Form) → Within P Q
-      → Within (twice c ⌢ P) (Blank ⌢ word (c ∷ []) ⌢ word (c ∷ []) ⌢ Blank ⌢ Q)
-  twice-spelt c P Q w s o t h =
-      let one = word (c ∷ []) in
-      let both = word (c ∷ c ∷ []) in
-      after-within Blank ((both ⌢ Blank) ⌢ P) (one ⌢ one ⌢ Blank ⌢ Q)
-      (λ r i u g. after-within one (one ⌢ Blank ⌢ P) (one ⌢ Blank ⌢ Q)
-      (after-within one (Blank ⌢ P) (Blank ⌢ Q) (after-within Blank P Q w)) r i u
-      (joined-assoc one one (Blank ⌢ P) r i u
-      (before-within both (one ⌢ one) (Blank ⌢ P) (words-apart (c ∷ []) (c ∷ [])) r i u
-      (joined-assoc both Blank P r i u g)))) s o t
-      (joined-assoc Blank (both ⌢ Blank) P s o t h)
-
-  conjunction-within : (e : ExprTree)
-      → Within (form (marked I) rule.conjunction e) (Conjunction I e)
+  pub conjunction-same : (e : ExprTree)
+      → Same (form (marked I) rule.conjunction e) (Conjunction I e)
   unfolding rule.conjunction
-  conjunction-within e s o t h =
-      conjunction h.part h.same
-      (separated-within (twice 38) (λ x. form (marked I) rule.basic x) (Basic I)
-      (λ x. form (marked I) (part 38 rule.basic) x) basic-within
-      (λ x. twice-within 38 (form (marked I) rule.basic x) (Basic I x)
-      (basic-within x)) h.part s o t h.is)
+  conjunction-same e =
+      made (separated basic-same (λ x. twice-same ampersand (basic-same x)))
+      ⨾ record {
+        to = λ s o t h. conjunction h.part h.same h.is;
+        from = λ s o t h. elim h [ conjunction es f g ↦ record { part = es; same = f; is = g } ];
+      }
 
-  conjunction-spelt : (e : ExprTree) → Within (Conjunction I e) (form (marked I) rule.conjunction e)
-  unfolding rule.conjunction
-  conjunction-spelt e s o t (conjunction es same h) = record {
-    part = es;
-    same = same;
-    is =
-        separated-spelt (twice 38) (λ x. form (marked I) rule.basic x) (Basic I)
-        (λ x. form (marked I) (part 38 rule.basic) x) basic-spelt
-        (λ x. twice-spelt 38 (Basic I x) (form (marked I) rule.basic x) (basic-spelt x)) es s o t h;
-  }
-
-  pub expression-within : (e : ExprTree)
-      → Within (form (marked I) rule.expression e) (Expression I e)
+  pub expression-same : (e : ExprTree) → Same (form (marked I) rule.expression e) (Expression I e)
   unfolding rule.expression
-  expression-within e s o t h =
-      disjunction h.part h.same
-      (separated-within (twice 124) (λ x. form (marked I) rule.conjunction x) (Conjunction I)
-      (λ x. form (marked I) (part 124 rule.conjunction) x) conjunction-within
-      (λ x. twice-within 124 (form (marked I) rule.conjunction x) (Conjunction I x)
-      (conjunction-within x)) h.part s o t h.is)
-
-  pub expression-spelt : (e : ExprTree)
-      → Within (Expression I e) (form (marked I) rule.expression e)
-  unfolding rule.expression
-  expression-spelt e s o t (disjunction es same h) = record {
-    part = es;
-    same = same;
-    is =
-        separated-spelt (twice 124) (λ x. form (marked I) rule.conjunction x) (Conjunction I)
-        (λ x. form (marked I) (part 124 rule.conjunction) x) conjunction-spelt
-        (λ x. twice-spelt 124 (Conjunction I x) (form (marked I) rule.conjunction x)
-        (conjunction-spelt x)) es s o t h;
-  }
+  expression-same e =
+      made (separated conjunction-same (λ x. twice-same bar (conjunction-same x)))
+      ⨾ record {
+        to = λ s o t h. disjunction h.part h.same h.is;
+        from = λ s o t h. elim h [ disjunction es f g ↦ record { part = es; same = f; is = g } ];
+      }

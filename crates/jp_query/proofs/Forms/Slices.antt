@@ -1,12 +1,12 @@
 -- The rules of slices take exactly the texts that the grammar says, with the blanks after them.
-use Rattle.std.proofs.Common.{◌≡◌, ℕ, ◌+◌, Bool, [], ◌∷◌, ◌++◌, Option, Some, None, refl, ap, ◌∙◌}
-use Rattle.std.specs.Prelude.{codes}
-use Rattle.std.specs.Prelude.{pos}
-use Rattle.jp_reading.specs.Texts.{Text, bytes, is_blank}
+use Rattle.std.proofs.Common.{ℕ, Bool, [], ◌∷◌, ◌++◌, Option, Some, None, refl, ap, ◌∙◌}
+use Rattle.std.specs.Prelude.{codes, pos}
+use Rattle.jp_reading.specs.Texts.{Text, is_blank}
 use Rattle.jp_reading.specs.Forms.{Form, ◌⌢◌, word, Blank, Item, Omitted, AllPassing}
-use Rattle.jp_reading.proofs.Between.{Within, joined-over}
-use Rattle.jp_reading.proofs.Levels.{Only, Made, joined-lifts, item-lifts}
-use Rattle.jp_reading.proofs.Joining.{joined-both, joined-assoc, joined-back, after-within, before-within, word-joined, nothing-before}
+use Rattle.jp_reading.proofs.Between.{Within}
+use Rattle.jp_reading.proofs.Levels.{Only, Made}
+use Rattle.jp_reading.proofs.Joining.{before-within}
+use Rattle.jp_reading.proofs.Same.{Same, same, back, ways, ◌⨾◌, after, before, either, only, made, item, assoc, nothing-before, after-either, either-before, after-only, only-before, after-value, made-before, then-made}
 use Rattle.jp_reading.proofs.Rules.Form.{Either, left, right, Inside, form}
 use Rattle.jp_query.specs.declared.tree.Numeral.{Numeral}
 use Rattle.jp_query.specs.declared.tree.Numeral.TheVariants.{Whole}
@@ -15,209 +15,125 @@ use Rattle.jp_query.specs.Ints.{Int}
 use Rattle.jp_query.specs.Slices.{Bound, no_bound, bound, Step, no_step, empty_step, given_step}
 use Rattle.jp_query.specs.Private.Rules.{nesting, slice_of}
 use Rattle.jp_query.specs.Private.Rules as rule
-use Rattle.jp_query.proofs.Forms.Numbers.{int-within, int-spelt}
+use Rattle.jp_query.proofs.Forms.Numbers.{int-same}
 
 -- ---- blanks
 
-all-append : (ok : ℕ → Bool) (t u : Text) → AllPassing ok t → AllPassing ok u
+pub all-append : (ok : ℕ → Bool) (t u : Text) → AllPassing ok t → AllPassing ok u
     → AllPassing ok (t ++ u)
 all-append ok [] u f g = g
 all-append ok (c ∷ t) u f g = (f.0, all-append ok t u f.1 g)
 
--- blanks around an omitted item may all come after it
-blank-omitted : Within (Blank ⌢ Omitted ⌢ Blank) (Omitted ⌢ Blank)
-blank-omitted s o t h =
-    let end = h.two in
-    record {
-      first_spans = None ∷ [];
-      second_spans = [];
-      first = [];
-      second = h.first ++ end.second;
-      spans = h.spans ∙ rw (h.one.none, end.spans, end.one.spans, end.two.none) refl;
-      is = h.is ∙ rw (end.is, end.one.is) refl;
-      one = record { spans = refl; is = refl };
-      two =
-          record { none = refl; blank = all-append is_blank h.first end.second h.one.blank end.two.blank };
-    }
-
-blank-before : (P : Form) → Within P (Blank ⌢ P)
+pub blank-before : (P : Form) → Within P (Blank ⌢ P)
 blank-before P s o t h =
     before-within (word []) Blank P (λ v i u w. record { none = w.none; blank = rw w.is tt }) s o t
-    (nothing-before P s o t h)
+    ((nothing-before {P = P}).from s o t h)
 
--- a slice from its first colon on
-abbrev pub from_colon : Slice → Form
-from_colon y = word (codes ":") ⌢ Blank ⌢ Bound y.end ⌢ Step y.step
+-- blanks around an omitted item may all come after it
+blanks-omitted : Same (Blank ⌢ Omitted ⌢ Blank) (Omitted ⌢ Blank)
+blanks-omitted = record {
+  to = λ s o t h. record {
+    first_spans = None ∷ [];
+    second_spans = [];
+    first = [];
+    second = h.first ++ h.two.second;
+    spans = h.spans ∙ rw (h.one.none, h.two.spans, h.two.one.spans, h.two.two.none) refl;
+    is = h.is ∙ rw (h.two.is, h.two.one.is) refl;
+    one = record { spans = refl; is = refl };
+    two = record {
+      none = refl;
+      blank = all-append is_blank h.first h.two.second h.one.blank h.two.two.blank;
+    };
+  };
+  from = blank-before (Omitted ⌢ Blank);
+}
+
+-- a bound, or none
+pub bound-ways : (x : Option Numeral)
+    → Same (Either (Made Some (λ i. Item (Int i) ⌢ Blank) x) (Only None (word []) x)) (Bound x)
+bound-ways x = record {
+  to = ways (λ s o t h. bound h.part h.same h.is) (λ s o t h. no_bound h.same h.is);
+  from = λ s o t h. elim h [
+    | bound i e g ↦ left (record { part = i; same = e; is = g })
+    | no_bound e g ↦ right (record { same = e; is = g })
+  ];
+}
+
+-- a slice from its first colon on, and the blanks after it
+abbrev pub FromColon : Slice → Form
+FromColon y = word (codes ":") ⌢ Blank ⌢ Bound y.end ⌢ Step y.step ⌢ Blank
 
 module _ (F : Inside nesting) where
-  pub int_item-within : (x : Numeral) → Within (Item (form F rule.int x)) (Item (Int x))
-  int_item-within x = item-lifts (form F rule.int x) (Int x) (int-within F x)
-
-  pub int_item-spelt : (x : Numeral) → Within (Item (Int x)) (Item (form F rule.int x))
-  int_item-spelt x = item-lifts (Int x) (form F rule.int x) (int-spelt F x)
+  pub int_item-same : (x : Numeral) → Same (Item (form F rule.int x)) (Item (Int x))
+  int_item-same x = item (int-same F x)
 
   -- ---- steps
 
-  later_step-within : (x : Numeral) → Within (word (codes ":") ⌢ form F rule.later_step x) (Step x)
+  step-ways : (x : Numeral)
+      → Same (Either (word (codes ":") ⌢ form F rule.later_step x) (Only (Whole (pos 1)) Omitted x))
+      (Step x)
   unfolding rule.later_step
-  later_step-within x s o t h = ways h.two
-    where
-      ways : Either (Blank ⌢ Item (form F rule.int x))
-          (Only (Whole (pos 1)) Omitted x) h.second_spans (o + bytes h.first) h.second
-          → Step x s o t
-      ways (left g) =
-          given_step (joined-over (word (codes ":")) _ (Blank ⌢ Item (Int x)) s o t h
-          (after-within Blank (Item (form F rule.int x)) (Item (Int x))
-          (int_item-within x) h.second_spans _ h.second g))
-      ways (right g) = empty_step g.same (joined-over (word (codes ":")) _ Omitted s o t h g.is)
+  step-ways x =
+      either (after-either ⨾ either (after (after (int_item-same x))) after-only) same
+      ⨾ record {
+        to = ways (ways (λ s o t. given_step) (λ s o t h. empty_step h.same h.is))
+            (λ s o t h. no_step h.same h.is);
+        from = λ s o t h. elim h [
+          | given_step g ↦ left (left g)
+          | empty_step e g ↦ left (right (record { same = e; is = g }))
+          | no_step e g ↦ right (record { same = e; is = g })
+        ];
+      }
 
-  step-within : (x : Numeral) → Within (form F rule.step x) (Blank ⌢ Step x)
+  -- an omitted step may have blanks before it
+  omitted-same : (x y : Numeral)
+      → Same (Only y Omitted x ⌢ Blank) (Blank ⌢ Only y Omitted x ⌢ Blank)
+  omitted-same x y =
+      only-before ⨾ only (back blanks-omitted) ⨾ back after-only ⨾ after (back only-before)
+
+  step-same : (x : Numeral) → Same (form F rule.step x ⌢ Blank) (Blank ⌢ Step x ⌢ Blank)
   unfolding rule.step
-  step-within x s o t (left h) =
-      after-within Blank (word (codes ":") ⌢ form F rule.later_step x) (Step x)
-      (later_step-within x) s o t h
-  step-within x s o t (right h) = blank-before (Step x) s o t (no_step h.same h.is)
+  step-same x =
+      either-before
+      ⨾ either assoc (omitted-same x (Whole (pos 1)))
+      ⨾ back after-either
+      ⨾ after (back either-before ⨾ before (step-ways x))
 
-  -- a colon, and what comes after it, may have blanks before it
-  colon-spelt : (x : Numeral) (P : Form) → Within P (form F rule.later_step x)
-      → Within (Blank ⌢ (word (codes ":") ⌢ P) ⌢ Blank) (form F rule.step x ⌢ Blank)
-  unfolding rule.step
-  colon-spelt x P w s o t h =
-      before-within (Blank ⌢ word (codes ":") ⌢ P) (form F rule.step x) Blank
-      (λ r i u g. left
-      (after-within Blank (word (codes ":") ⌢ P) (word (codes ":") ⌢ form F rule.later_step x)
-      (after-within (word (codes ":")) P (form F rule.later_step x) w) r i u g))
-      s o t (joined-back Blank (word (codes ":") ⌢ P) Blank s o t h)
+  -- ---- bounds
 
-  step-spelt : (x : Numeral) → Within (Blank ⌢ Step x ⌢ Blank) (form F rule.step x ⌢ Blank)
-  unfolding rule.step rule.later_step colon-spelt
-  step-spelt x s o t h = ways h.two.one
-    where
-      over : (P : Form) → P h.two.first_spans (o + bytes h.first) h.two.first
-          → (Blank ⌢ P ⌢ Blank) s o t
-      over P g =
-          joined-over Blank (Step x ⌢ Blank) (P ⌢ Blank) s o t h
-          (joined-both (Step x) P Blank Blank h.second_spans _ h.second h.two g h.two.two)
-
-      ways : Step x h.two.first_spans (o + bytes h.first) h.two.first
-          → (form F rule.step x ⌢ Blank) s o t
-      ways (no_step e g) =
-          before-within Omitted (form F rule.step x) Blank
-          (λ r i u w. right (record { same = e; is = w })) s o t
-          (blank-omitted s o t (over Omitted g))
-      ways (empty_step e g) =
-          colon-spelt x Omitted (λ r i u w. right (record { same = e; is = w })) s o t
-          (over (word (codes ":") ⌢ Omitted) g)
-      ways (given_step g) =
-          colon-spelt x (Blank ⌢ Item (Int x))
-          (λ r i u w. left
-          (after-within Blank (Item (Int x)) (Item (form F rule.int x))
-          (int_item-spelt x) r i u w)) s o t
-          (over (word (codes ":") ⌢ Blank ⌢ Item (Int x)) g)
-
-  -- ---- what comes after the first colon
-
-  bounds-within : (end : Option Numeral) (step : Numeral)
-      → Within (form F rule.bound end ⌢ form F rule.step step) (Blank ⌢ Bound end ⌢ Step step)
+  bound-same : (x : Option Numeral) → Same (form F rule.bound x ⌢ Blank) (Blank ⌢ Bound x)
   unfolding rule.bound
-  bounds-within end step s o t h = ways h.one
-    where
-      ways : Either (Blank ⌢ Made Some (λ i. Item (form F rule.int i)) end)
-          (Only None (word []) end) h.first_spans o h.first → (Blank ⌢ Bound end ⌢ Step step) s o t
-      ways (left g) =
-          after-within Blank (Item (Int g.two.part) ⌢ Blank ⌢ Step step) (Bound end ⌢ Step step)
-          (λ r i u w. before-within (Item (Int g.two.part) ⌢ Blank) (Bound end) (Step step)
-          (λ v j x k. bound g.two.part g.two.same k) r i u
-          (joined-back (Item (Int g.two.part)) Blank (Step step) r i u w)) s o t
-          (joined-assoc Blank (Item (Int g.two.part)) (Blank ⌢ Step step) s o t
-          (joined-both _ (Blank ⌢ Item (Int g.two.part)) (form F rule.step step)
-          (Blank ⌢ Step step) s o t h
-          (joined-over Blank _ (Item (Int g.two.part)) h.first_spans o h.first g
-          (int_item-within g.two.part g.second_spans _ g.second g.two.is))
-          (step-within step h.second_spans _ h.second h.two)))
-      ways (right g) =
-          after-within Blank (Step step) (Bound end ⌢ Step step)
-          (λ r i u w. before-within (word []) (Bound end) (Step step)
-          (λ v j x k. no_bound g.same k) r i u (nothing-before (Step step) r i u w)) s o t
-          (word-joined (Blank ⌢ Step step) s o t
-          (joined-both _ (word []) (form F rule.step step) (Blank ⌢ Step step) s o t h g.is
-          (step-within step h.second_spans _ h.second h.two)))
-
-  bounds-spelt : (end : Option Numeral) (step : Numeral)
-      → Within (Blank ⌢ Bound end ⌢ Step step ⌢ Blank)
-      (form F rule.bound end ⌢ form F rule.step step ⌢ Blank)
-  unfolding rule.bound
-  bounds-spelt end step s o t h = ways h.two.one
-    where
-      over : (P : Form) → P h.two.first_spans (o + bytes h.first) h.two.first
-          → (Blank ⌢ P ⌢ Step step ⌢ Blank) s o t
-      over P g =
-          joined-over Blank (Bound end ⌢ Step step ⌢ Blank) (P ⌢ Step step ⌢ Blank) s o t h
-          (joined-both (Bound end) P (Step step ⌢ Blank)
-          (Step step ⌢ Blank) h.second_spans _ h.second h.two g h.two.two)
-
-      ways : Bound end h.two.first_spans (o + bytes h.first) h.two.first
-          → (form F rule.bound end ⌢ form F rule.step step ⌢ Blank) s o t
-      ways (no_bound e g) =
-          joined-lifts (word []) (form F rule.bound end) (Blank ⌢ Step step ⌢ Blank)
-          (form F rule.step step ⌢ Blank)
-          (λ r i u w. right (record { same = e; is = w })) (step-spelt step) s o t
-          (nothing-before (Blank ⌢ Step step ⌢ Blank) s o t
-          (after-within Blank (word [] ⌢ Step step ⌢ Blank) (Step step ⌢ Blank)
-          (word-joined (Step step ⌢ Blank)) s o t (over (word []) g)))
-      ways (bound i e g) =
-          joined-lifts (Blank ⌢ Item (Int i)) (form F rule.bound end) (Blank ⌢ Step step ⌢ Blank)
-          (form F rule.step step ⌢ Blank)
-          (λ r j u w. left
-          (joined-over Blank (Item (Int i)) _ r j u w
-          (record { part = i; same = e; is = int_item-spelt i w.second_spans _ w.second w.two })))
-          (step-spelt step) s o t
-          (joined-back Blank (Item (Int i)) (Blank ⌢ Step step ⌢ Blank) s o t
-          (after-within Blank ((Item (Int i) ⌢ Blank) ⌢ Step step ⌢ Blank)
-          (Item (Int i) ⌢ Blank ⌢ Step step ⌢ Blank)
-          (joined-assoc (Item (Int i)) Blank (Step step ⌢ Blank)) s o t
-          (over (Item (Int i) ⌢ Blank) g)))
+  bound-same x =
+      either-before
+      ⨾ either (assoc ⨾ after (before (made int_item-same) ⨾ made-before))
+      (only-before ⨾ only nothing-before ⨾ back after-value)
+      ⨾ back after-either
+      ⨾ after (bound-ways x)
 
   -- ---- from the first colon on
 
-  pub slice-within : (start : Option Numeral) (y : Slice)
-      → Within (form F (rule.slice_from start) y) (Only start (from_colon y) y.start)
-  unfolding rule.slice_from
-  slice-within start y s o t h =
-      let last = h.two.is.two in
-      rw last.same (record {
-        same = refl;
-        is = joined-over (word (codes ":")) _ (Blank ⌢ Bound h.two.part ⌢ Step last.part) s o t h
-            (bounds-within h.two.part last.part h.second_spans _ h.second
-            (joined-over (form F rule.bound h.two.part) _
-            (form F rule.step last.part) h.second_spans _ h.second h.two.is last.is));
-      })
+  slice-parts : (start : Option Numeral) (G : Option Numeral → Numeral → Form) (y : Slice)
+      → Same (Made (λ (p : Option Numeral × Numeral). slice_of start p.0 p.1) (λ p. G p.0 p.1) y)
+      (Only start (G y.end y.step) y.start)
+  slice-parts start G y = record {
+    to = λ s o t h. rw h.same (record { same = refl; is = h.is });
+    from = λ s o t h. record {
+      part = (y.end, y.step);
+      same = ap (λ (x : Option Numeral). slice_of x y.end y.step) h.same;
+      is = h.is;
+    };
+  }
 
-  pub slice-spelt : (start : Option Numeral) (y : Slice) → y.start ≡ start
-      → Within (from_colon y ⌢ Blank) (form F (rule.slice_from start) y ⌢ Blank)
+  pub slice-same : (start : Option Numeral) (y : Slice)
+      → Same (form F (rule.slice_from start) y ⌢ Blank) (Only start (FromColon y) y.start)
   unfolding rule.slice_from
-  slice-spelt start y e s o t h =
-      let W = word (codes ":") in
-      let B = form F rule.bound y.end in
-      let S = form F rule.step y.step in
-      before-within (W ⌢ B ⌢ S) (form F (rule.slice_from start) y) Blank
-      (λ r i u w. joined-over W (B ⌢ S) _ r i u w (record {
-        part = y.end;
-        is =
-            joined-over B S _ w.second_spans _ w.second w.two
-            (record {
-              part = y.step;
-              same = ap
-                  (λ (x : Option Numeral). slice_of x y.end y.step) e;
-              is = w.two.two;
-            });
-      }))
-      s o t (joined-back W (B ⌢ S) Blank s o t
-      (after-within W (Blank ⌢ Bound y.end ⌢ Step y.step ⌢ Blank) ((B ⌢ S) ⌢ Blank)
-      (λ r i u w. joined-back B S Blank r i u (bounds-spelt y.end y.step r i u w)) s o t
-      (after-within W ((Blank ⌢ Bound y.end ⌢ Step y.step) ⌢ Blank)
-      (Blank ⌢ Bound y.end ⌢ Step y.step ⌢ Blank)
-      (λ r i u w. after-within Blank ((Bound y.end ⌢ Step y.step) ⌢ Blank)
-      (Bound y.end ⌢ Step y.step ⌢ Blank) (joined-assoc (Bound y.end) (Step y.step) Blank) r i u
-      (joined-assoc Blank (Bound y.end ⌢ Step y.step) Blank r i u w)) s o t
-      (joined-assoc W (Blank ⌢ Bound y.end ⌢ Step y.step) Blank s o t h))))
+  slice-same start y =
+      before
+      (after (then-made ⨾ slice-parts start (λ e d. form F rule.bound e ⌢ form F rule.step d) y)
+      ⨾ after-only)
+      ⨾ only-before
+      ⨾ only (assoc ⨾ after (assoc
+      ⨾ after (step-same y.step)
+      ⨾ back assoc
+      ⨾ before (bound-same y.end)
+      ⨾ assoc))

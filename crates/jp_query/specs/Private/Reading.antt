@@ -5,13 +5,13 @@ use Rattle.jp_reading.specs.Rule.{Mark}
 use Rattle.jp_reading.specs.RuleReading.{Inner, nothing, read}
 use Rattle.jp_query.specs.Tree.{QueryTree, ExprTree}
 use Rattle.jp_query.specs.Characters.{opening_parenthesis}
-use Rattle.jp_query.specs.Private.Rules.{nesting, QueryRule, closed, inside_mark, query}
+use Rattle.jp_query.specs.Private.Rules.{nesting, QueryRule, mark, CallRest, any_call, closed, opened, query}
 
--- how an expression inside n levels is read. With no level left, one more would be needed at the
--- mark.
+-- how what opens a level is read inside n levels. With no level left, one more would be needed at
+-- the opening.
 abbrev pub inside : ℕ → Inner nesting
-inside zero mark p = deep p
-inside (suc n) mark p = read (inside n) (inside_mark mark) p
+inside zero o p = deep p
+inside (suc n) o p = read (inside n) (opened o) p
 
 -- what a rule reads, where nothing is nested in it
 abbrev pub read_flat : {u : Bool} {a b : Mark} {A : Type 0} → QueryRule u a b A → State → Outcome A
@@ -22,9 +22,14 @@ abbrev pub read_inside : {u : Bool} {a b : Mark} {A : Type 0} → ℕ → QueryR
     → Outcome A
 read_inside n r p = read (inside n) r p
 
+-- how the rest of a function expression is read inside n levels
+abbrev pub call_inside : ℕ → State → Outcome CallRest
+call_inside zero p = deep p
+call_inside (suc n) p = read (inside n) any_call p
+
 -- paren-expr (section 2.3.5.1), without its `!`
 abbrev pub parenthesis_at : ℕ → State → Outcome ExprTree
-parenthesis_at n p = inside n opening_parenthesis p >>= λ e q. read_inside n (closed e) q
+parenthesis_at n p = inside n (mark opening_parenthesis) p >>= λ e q. read_inside n (closed e) q
 
 -- a whole query: the text ends after its segments; at what else comes there reading is stuck, past
 -- the blanks

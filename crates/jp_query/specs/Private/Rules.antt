@@ -1,27 +1,63 @@
 -- The rules by which queries are read (RFC 9535 appendix A), so that the next character, or the
 -- next that is no blank, tells how a text goes on.
 use Rattle.std.specs.Char.{digit_value}
-use Rattle.std.specs.Prelude.{◌+◌, ◌*◌, ℕ, ◌||◌, Bool, true, false, List, [], ◌∷◌, Option, Some, None, pos, codes}
+use Rattle.std.specs.Prelude.{◌+◌, ◌*◌, ℕ, ◌||◌, ◌&&◌, not, Bool, true, false, List, [], ◌∷◌, ◌++◌, Option, Some, None, pos, codes}
 use Rattle.jp_reading.specs.Texts.{Text}
 use Rattle.jp_reading.specs.Outcome.{is}
 use Rattle.jp_reading.specs.Numbers.{is_digit, value_from}
-use Rattle.jp_reading.specs.Rule.{Mark, here, beyond, Nesting, the, blanks, Rule, value, character, made, look, upon, nested, item, omitted, some, relaxed, flat, ◌>>=◌, ◌>>◌}
+use Rattle.jp_reading.specs.Rule.{Mark, here, beyond, Nesting, the, blanks, Rule, value, character, made, look, upon, nested, item, item_where, omitted, some, relaxed, loose, until, flat, ◌>>=◌, ◌>>◌}
 use Rattle.jp_query.specs.declared.tree.Numeral.{Numeral}
 use Rattle.jp_query.specs.declared.tree.Numeral.TheVariants.{Whole}
 use Rattle.jp_query.specs.declared.tree.Slice.{Slice}
 use Rattle.jp_query.specs.declared.tree.Op.{Op}
 use Rattle.jp_query.specs.declared.tree.Op.TheVariants.{Equal, Unequal, Less, LessEqual, Greater, GreaterEqual}
-use Rattle.jp_query.specs.Tree.{SelectorTree, name, wildcard, index, slice, filter, SegmentTree, QueryTree, query as query_tree, ExprTree, any_of, all_of, negation, comparison as comparison_tree, exists, OperandTree, literal as literal_operand, node_value, LiteralTree, number as number_literal, text, true_literal, false_literal, null_literal, segment as segment_tree, selectors as selector_trees, segments as segment_trees}
+use Rattle.jp_query.specs.Tree.{SelectorTree, name, wildcard, index, slice, filter, SegmentTree, QueryTree, query as query_tree, ExprTree, any_of, all_of, negation, comparison as comparison_tree, exists, call_test, OperandTree, literal as literal_operand, node_value, call_value, CallTree, call, ArgumentTree, literal_argument, query_argument, call_argument, logical_argument, LiteralTree, number as number_literal, text, true_literal, false_literal, null_literal, segment as segment_tree, selectors as selector_trees, segments as segment_trees, arguments as argument_trees}
 use Rattle.jp_query.specs.Characters.{double_quote, single_quote, exclamation_mark, dollar, ampersand, opening_parenthesis, closing_parenthesis, star, comma, minus, dot, digit_zero, colon, less_sign, equals_sign, greater_sign, question_mark, at_sign, opening_bracket, backslash, closing_bracket, letter_f, letter_n, letter_t, letter_u, bar}
 use Rattle.jp_query.specs.Grammar.{joined}
 use Rattle.jp_query.specs.Ints.{is_leading_digit, whole_of, negative_of}
 use Rattle.jp_query.specs.Literals.{is_e, is_sign, numeral}
-use Rattle.jp_query.specs.Names.{is_name_first, is_name_char}
+use Rattle.jp_query.specs.Names.{is_name_first, is_name_char, is_function_first, is_function_char}
 use Rattle.jp_query.specs.Strings.{is_plain, is_escapable, escaped, is_hexdig, is_d, is_not_d, is_0_to_7, is_8_to_b, is_c_to_f, scalar_of}
 
--- what a query nests: an expression after the mark that opens its level
+-- what opens a level: the mark of an expression, the first letter of a function's name, which is
+-- none of some others, or what goes on with such a name or ends it, and not with another character
+pub data Opening : Type 0 where
+  mark : ℕ → Opening
+  name_from : Text → Opening
+  name_on : Option ℕ → Opening
+
+-- a function expression from somewhere within its name on: what is left of the name, and the
+-- arguments
+pub record CallRest : Type 0 where
+  pub rest : Text
+  pub arguments : List ArgumentTree
+
+-- whether a character is one of these
+abbrev pub is_among : Text → ℕ → Bool
+is_among [] c = false
+is_among (d ∷ ds) c = is d c || is_among ds c
+
+-- that character alone, if there is one
+abbrev pub only_this : Option ℕ → Text
+only_this None = []
+only_this (Some c) = c ∷ []
+
+-- whether a character begins what the opening opens
+abbrev pub opens : Opening → ℕ → Bool
+opens (mark m) c = is m c
+opens (name_from others) c = is_function_first c && not (is_among others c)
+opens (name_on other) c =
+    is opening_parenthesis c || (is_function_char c && not (is_among (only_this other) c))
+
+-- what is one level further in
+abbrev pub Opened : Opening → Type 0
+Opened (mark m) = ExprTree
+Opened (name_from others) = CallRest
+Opened (name_on other) = CallRest
+
+-- what a query nests: expressions, and arguments of functions
 abbrev pub nesting : Nesting
-nesting = record { Opening = ℕ; opens = is; Inner = λ mark. ExprTree }
+nesting = record { Opening = Opening; opens = opens; Inner = Opened }
 
 -- a rule of queries, with how far the text is looked at as it begins and as it ends
 abbrev pub QueryRule : Bool → Mark → Mark → Type 0 → Type 1
@@ -149,16 +185,6 @@ slice_from start = do
 
 -- ---- literals (section 2.3.5.1)
 
--- whether there is a character
-abbrev pub is_some : Text → Bool
-is_some [] = false
-is_some (c ∷ w) = true
-
--- a word letter by letter
-abbrev pub letters : {A : Type 0} → A → (w : Text) → QueryRule (is_some w) here here A
-letters x [] = value x
-letters x (c ∷ w) = the c >> letters x w
-
 -- digits, at least one, whose value does not count
 unfoldable pub digits : QueryRule true here here Bool
 digits = character is_digit >>= λ d. made (λ ds. true) (run is_digit)
@@ -188,14 +214,11 @@ number = do
   has_decimals ← decimals
   made (numeral x has_decimals) exponent
 
--- literal
-unfoldable pub literal : QueryRule true here here LiteralTree
-literal =
+-- literal that is no word: a string or a number
+unfoldable pub plain_literal : QueryRule true here here LiteralTree
+plain_literal =
     look here (is double_quote) (made text (quoted double_quote))
-    (look here (is single_quote) (made text (quoted single_quote))
-    (look here (is letter_t) (letters true_literal (codes "true"))
-    (look here (is letter_f) (letters false_literal (codes "false"))
-    (look here (is letter_n) (letters null_literal (codes "null")) (made number_literal number)))))
+    (look here (is single_quote) (made text (quoted single_quote)) (made number_literal number))
 
 -- an operator whose second character is `=`, after its first
 abbrev pub with_equals : Op → QueryRule true here here Op
@@ -233,7 +256,7 @@ selector =
     (look here (is single_quote) (relaxed (flat (made name (quoted single_quote))))
     (upon star (value {m = beyond} wildcard)
     (look here (is colon) (flat (made slice (slice_from None)))
-    (nested question_mark (λ e. value {m = beyond} (filter e)) (flat number_selector)))))
+    (nested (mark question_mark) (λ e. value {m = beyond} (filter e)) (flat number_selector)))))
 
 -- a selector and the blanks after it
 unfoldable pub entry : QueryRule true here here SelectorTree
@@ -297,21 +320,56 @@ query = the dollar >> made (λ xs. query_tree true (segment_trees xs)) segments
 unfoldable pub identifier : QueryRule true here here Bool
 identifier = upon dollar (value {m = here} true) (the at_sign >> value {m = here} false)
 
--- filter-query, which is an item
-unfoldable pub inner_query : QueryRule true here beyond QueryTree
-inner_query =
-    item (relaxed (flat identifier)
-    >>= λ absolute. made (λ xs. query_tree absolute (segment_trees xs)) segments)
+-- filter-query, without its span
+unfoldable pub query_within : QueryRule true here beyond QueryTree
+query_within =
+    relaxed (flat identifier)
+    >>= λ absolute. made (λ xs. query_tree absolute (segment_trees xs)) segments
 
 -- whether a character begins one
 abbrev pub begins_query : ℕ → Bool
 begins_query c = is dollar c || is at_sign c
 
--- comparable: a query, or a literal, which is an item
+-- the function expression whose name begins so
+abbrev pub call_with : Text → CallRest → CallTree
+call_with w r = call (w ++ r.rest) (argument_trees r.arguments)
+
+-- whether there is a character
+abbrev pub is_some : Text → Bool
+is_some [] = false
+is_some (c ∷ w) = true
+
+-- the word whose letters are w and then these, or a function whose name begins so far like it
+abbrev pub word_from : LiteralTree → Text → (more : Text)
+    → QueryRule (is_some more) here beyond OperandTree
+word_from l w [] =
+    nested (name_on None) (λ r. value {m = beyond} (call_value (call_with w r)))
+    (relaxed (value {m = here} (literal_operand l)))
+word_from l w (c ∷ more) =
+    nested (name_on (Some c)) (λ r. value {m = beyond} (call_value (call_with w r)))
+    (the c >> word_from l (w ++ c ∷ []) more)
+
+-- the same from its first letter on
+abbrev pub word_of : LiteralTree → ℕ → (more : Text) → QueryRule true here beyond OperandTree
+word_of l c more = the c >> word_from l (c ∷ []) more
+
+-- true, false, null, or a function
+unfoldable pub word : QueryRule true here beyond OperandTree
+word =
+    nested (name_from (codes "tfn")) (λ r. value {m = beyond} (call_value (call_with [] r)))
+    (look here (is letter_t) (word_of true_literal letter_t (codes "rue"))
+    (look here (is letter_f) (word_of false_literal letter_f (codes "alse"))
+    (word_of null_literal letter_n (codes "ull"))))
+
+-- comparable, without its span
+unfoldable pub side_within : QueryRule true here beyond OperandTree
+side_within =
+    look here begins_query (made node_value query_within)
+    (look here is_function_first word (relaxed (flat (made literal_operand plain_literal))))
+
+-- comparable, which is an item
 unfoldable pub side : QueryRule true here beyond OperandTree
-side =
-    look here begins_query (made node_value inner_query)
-    (relaxed (flat (made literal_operand (item literal))))
+side = item side_within
 
 -- the operator and the second side of a comparison
 unfoldable pub comparison_with : OperandTree → QueryRule true here beyond ExprTree
@@ -320,33 +378,44 @@ comparison_with left = do
   blanks {m = here}
   made (comparison_tree left op) side
 
--- test-expr, or a comparison-expr that begins with a query
-unfoldable pub test : QueryRule true here beyond ExprTree
-test = do
-  q ← inner_query
-  look beyond begins_operator (blanks {m = beyond} >> comparison_with (node_value q))
-      (value {m = beyond} (exists q))
-
 -- the end of paren-expr, after its expression
 unfoldable pub closed : ExprTree → QueryRule true beyond beyond ExprTree
 closed e = blanks {m = beyond} >> (the closing_parenthesis >> value {m = beyond} e)
 
+-- test-expr, without its span: a function, or a query
+unfoldable pub subject : QueryRule true here beyond ExprTree
+subject =
+    nested (name_from []) (λ r. value {m = beyond} (call_test (call_with [] r)))
+    (made exists query_within)
+
+-- test-expr, which is an item
+unfoldable pub test : QueryRule true here beyond ExprTree
+test = item subject
+
 -- what comes after a `!`
 unfoldable pub negated : QueryRule true here beyond ExprTree
-negated = nested opening_parenthesis closed (made exists inner_query)
+negated = nested (mark opening_parenthesis) closed test
 
--- a comparison-expr that begins with a literal
-unfoldable pub literal_compared : QueryRule true here beyond ExprTree
-literal_compared = do
-  l ← flat (item literal)
-  blanks {m = here}
-  comparison_with (literal_operand l)
+-- what goes on from the first side: a literal has to be compared, all else may be a test
+abbrev pub compared_or_test : OperandTree → QueryRule false beyond beyond ExprTree
+compared_or_test (literal_operand l) =
+    loose (blanks {m = beyond} >> comparison_with (literal_operand l))
+compared_or_test (node_value q) =
+    look beyond begins_operator (blanks {m = beyond} >> comparison_with (node_value q))
+    (value {m = beyond} (exists q))
+compared_or_test (call_value c) =
+    look beyond begins_operator (blanks {m = beyond} >> comparison_with (call_value c))
+    (value {m = beyond} (call_test c))
+
+-- a negation after its `!`
+unfoldable pub negation_on : QueryRule true here beyond ExprTree
+negation_on = blanks {m = here} >> made negation negated
 
 -- basic-expr
 unfoldable pub basic : QueryRule true here beyond ExprTree
 basic =
-    upon exclamation_mark (blanks {m = here} >> made negation negated)
-    (nested opening_parenthesis closed (look here begins_query test literal_compared))
+    upon exclamation_mark negation_on
+    (nested (mark opening_parenthesis) closed (side >>= compared_or_test))
 
 -- the mark c twice with blanks around it
 unfoldable pub joint : ℕ → QueryRule true beyond here ℕ
@@ -356,10 +425,15 @@ joint c = blanks {m = beyond} >> (the c >> (the c >> (blanks {m = here} >> value
 abbrev pub part : {A : Type 0} → ℕ → QueryRule true here beyond A → QueryRule true beyond beyond A
 part c rule = blanks {m = beyond} >> (the c >> (the c >> (blanks {m = here} >> rule)))
 
+-- further parts, each after the mark c twice
+abbrev pub other_parts : {A : Type 0} → ℕ → QueryRule true here beyond A
+    → QueryRule false beyond beyond (List A)
+other_parts c rule = some beyond (is c) (part c rule)
+
 -- parts with the mark c twice between them
 abbrev pub parts : {A : Type 0} → ℕ → QueryRule true here beyond A
     → QueryRule true here beyond (List A)
-parts c rule = rule >>= λ x. made (λ xs. x ∷ xs) (some beyond (is c) (part c rule))
+parts c rule = rule >>= λ x. made (λ xs. x ∷ xs) (other_parts c rule)
 
 -- logical-and-expr
 unfoldable pub conjunction : QueryRule true here beyond ExprTree
@@ -369,6 +443,107 @@ conjunction = made (joined all_of) (parts ampersand basic)
 unfoldable pub expression : QueryRule true here beyond ExprTree
 expression = made (joined any_of) (parts bar conjunction)
 
+-- ---- arguments of functions (section 2.4)
+
+-- the argument that a side is, if there is no more of it
+abbrev pub argument_alone : OperandTree → ArgumentTree
+argument_alone (literal_operand l) = literal_argument l
+argument_alone (node_value q) = query_argument q
+argument_alone (call_value c) = call_argument c
+
+-- what goes on from the first side of an argument
+abbrev pub compared_or_alone : OperandTree → QueryRule false beyond beyond ArgumentTree
+compared_or_alone x =
+    look beyond begins_operator (blanks {m = beyond} >> made logical_argument (comparison_with x))
+    (value {m = beyond} (argument_alone x))
+
+-- the first basic-expr of an argument, or a literal that is all of it
+unfoldable pub argument_start : QueryRule true here beyond ArgumentTree
+argument_start =
+    upon exclamation_mark (made logical_argument negation_on)
+    (nested (mark opening_parenthesis) (λ e. made logical_argument (closed e))
+    (side >>= compared_or_alone))
+
+-- the first part of an argument, as an expression too, and others after it
+abbrev pub argument_of_parts : ArgumentTree → ExprTree → List ExprTree → List ExprTree
+    → ArgumentTree
+argument_of_parts x e [] [] = x
+argument_of_parts x e es fs = logical_argument (joined any_of (joined all_of (e ∷ es) ∷ fs))
+
+-- the other parts of an argument
+abbrev pub other_argument_parts : ArgumentTree → ExprTree
+    → QueryRule false beyond beyond ArgumentTree
+other_argument_parts x e = do
+  es ← other_parts ampersand basic
+  made (argument_of_parts x e es) (other_parts bar conjunction)
+
+-- what goes on from the first part: a literal is no part of an expression
+abbrev pub argument_on : ArgumentTree → QueryRule false beyond beyond ArgumentTree
+argument_on (literal_argument l) = value {m = beyond} (literal_argument l)
+argument_on (query_argument q) = other_argument_parts (query_argument q) (exists q)
+argument_on (call_argument c) = other_argument_parts (call_argument c) (call_test c)
+argument_on (logical_argument e) = other_argument_parts (logical_argument e) e
+
+-- whether an argument is a logical expression, which is an item
+abbrev pub is_logical : ArgumentTree → Bool
+is_logical (logical_argument e) = true
+is_logical x = false
+
+-- what ends an expression inside a filter or a parenthesis, and an argument
+abbrev pub is_closing : ℕ → Bool
+is_closing c = is comma c || is closing_bracket c || is closing_parenthesis c
+
+-- function-argument
+unfoldable pub argument : QueryRule true here beyond ArgumentTree
+argument = until is_closing (item_where is_logical (argument_start >>= argument_on))
+
+-- another argument after a comma
+unfoldable pub next_argument : QueryRule true beyond beyond ArgumentTree
+next_argument = blanks {m = beyond} >> (the comma >> (blanks {m = here} >> argument))
+
+-- arguments up to the closing parenthesis
+unfoldable pub some_arguments : QueryRule true here beyond (List ArgumentTree)
+some_arguments = do
+  x ← argument
+  xs ← some beyond (is comma) next_argument
+  blanks {m = beyond}
+  the closing_parenthesis
+  value {m = beyond} (x ∷ xs)
+
+-- arguments, if there are any, after the opening parenthesis
+unfoldable pub after_parenthesis : QueryRule true here beyond (List ArgumentTree)
+after_parenthesis =
+    blanks {m = here} >> upon closing_parenthesis (value {m = beyond} []) some_arguments
+
+-- the rest of a function expression with these
+abbrev pub call_rest : Text → List ArgumentTree → CallRest
+call_rest rest arguments = record { rest = rest; arguments = arguments }
+
+-- the rest of a function expression, whatever it begins with
+unfoldable pub any_call : QueryRule true here beyond CallRest
+any_call = do
+  w ← run is_function_char
+  the opening_parenthesis
+  made (call_rest w) after_parenthesis
+
+-- the rest of a function expression from a character of its name on that passes
+unfoldable pub named_call : (ℕ → Bool) → QueryRule true here beyond CallRest
+named_call ok = do
+  c ← character ok
+  w ← run is_function_char
+  the opening_parenthesis
+  made (call_rest (c ∷ w)) after_parenthesis
+
+-- ---- levels
+
 -- an expression one level further in, with the mark that opens it
 unfoldable pub inside_mark : ℕ → QueryRule true here beyond ExprTree
-inside_mark mark = the mark >> (blanks {m = here} >> expression)
+inside_mark m = the m >> (blanks {m = here} >> expression)
+
+-- what is one level further in, from its opening on
+abbrev pub opened : (o : Opening) → QueryRule true here beyond (Opened o)
+opened (mark m) = inside_mark m
+opened (name_from others) = named_call (opens (name_from others))
+opened (name_on other) =
+    upon opening_parenthesis (made (call_rest []) after_parenthesis)
+    (named_call (λ c. is_function_char c && not (is_among (only_this other) c)))

@@ -1,8 +1,9 @@
--- The form of the texts that a rule takes for a value; that a level more allows no fewer; and that each rule takes a text.
-use Rattle.std.proofs.Common.{◌≡◌, ℕ, Bool, true, [], ◌∷◌, None, refl}
+-- The form of the texts that a rule takes for a value; that a level more allows no fewer; and that
+-- each rule takes a text.
+use Rattle.std.proofs.Common.{◌≡◌, ℕ, Bool, true, false, [], ◌∷◌, None, refl}
 use Rattle.jp_reading.specs.Texts.{Text, Spans}
 use Rattle.jp_reading.specs.Forms.{Form, ◌⌢◌, word, One, Blank, Each, Item, Omitted, Never}
-use Rattle.jp_reading.specs.Rule.{Mark, Nesting, Step, the, blanks, Rule, value, character, after, seq, made, look, upon, nested, item, omitted, some, relaxed, flat}
+use Rattle.jp_reading.specs.Rule.{Mark, Nesting, Step, the, blanks, Rule, value, character, after, seq, made, look, upon, nested, item_where, omitted, some, relaxed, loose, until, flat}
 use Rattle.jp_reading.proofs.Between.{Has, Within, has-as}
 use Rattle.jp_reading.proofs.Levels.{Only, Then, Made, joined-lifts, joined-has, word-has, blank-has, then-lifts, then-has, item-lifts, item-has, each-lifts}
 
@@ -14,6 +15,19 @@ pub data Either (P Q : Form) (s : Spans) (o : ℕ) (t : Text) : Type 0 where
 either-lifts : (P P' Q Q' : Form) → Within P P' → Within Q Q' → Within (Either P Q) (Either P' Q')
 either-lifts P P' Q Q' f g s o t (left h) = left (f s o t h)
 either-lifts P P' Q Q' f g s o t (right h) = right (g s o t h)
+
+-- an item, or no item of its own
+abbrev pub ItemIf : Bool → Form → Form
+ItemIf true P = Item P
+ItemIf false P = P
+
+item_if-lifts : (b : Bool) (P Q : Form) → Within P Q → Within (ItemIf b P) (ItemIf b Q)
+item_if-lifts true P Q f = item-lifts P Q f
+item_if-lifts false P Q f = f
+
+item_if-has : (b : Bool) (P : Form) → Has P → Has (ItemIf b P)
+item_if-has true P f = item-has P f
+item_if-has false P f = f
 
 -- the forms of what stands one level further in, from its opening on
 abbrev pub Inside : Nesting → Type 1
@@ -27,7 +41,8 @@ text_of (the c) = word (c ∷ [])
 text_of blanks = Blank
 
 -- which texts a rule takes for a value
-abbrev pub form : {N : Nesting} {u : Bool} {a b : Mark} {A : Type 0} → Inside N → Rule N u a b A → A → Form
+abbrev pub form : {N : Nesting} {u : Bool} {a b : Mark} {A : Type 0} → Inside N → Rule N u a b A → A
+    → Form
 form F (value x) y = Only x (word []) y
 form F (character ok) y = One ok y
 form F (after s r) y = text_of s ⌢ form F r y
@@ -36,32 +51,49 @@ form F (made f r) y = Made f (λ x. form F r x) y
 form F (look m ok r s) y = Either (form F r y) (form F s y)
 form F (upon c r s) y = Either (word (c ∷ []) ⌢ form F r y) (form F s y)
 form F (nested o k s) y = Either (Then (λ x. F o x) (λ x z. form F (k x) z) y) (form F s y)
-form F (item r) y = Item (form F r y)
+form F (item_where ok r) y = ItemIf (ok y) (form F r y)
 form F (omitted x) y = Only x Omitted y
 form F (some m ok r) y = Each (λ x. form F r x) y
 form F (relaxed r) y = form F r y
+form F (loose r) y = form F r y
+form F (until ok r) y = form F r y
 form {N} F (flat r) y = form (none_inside N) r y
 
-pub lifts : {N : Nesting} {u : Bool} {a b : Mark} {A : Type 0} (F G : Inside N) → ((o : N.Opening) (x : N.Inner o) → Within (F o x) (G o x))
+pub lifts : {N : Nesting} {u : Bool} {a b : Mark} {A : Type 0} (F G : Inside N)
+    → ((o : N.Opening) (x : N.Inner o) → Within (F o x) (G o x))
     → (r : Rule N u a b A) (y : A) → Within (form F r y) (form G r y)
 lifts F G h (value x) y = λ s o t w. w
 lifts F G h (character ok) y = λ s o t w. w
-lifts F G h (after s r) y = joined-lifts (text_of s) (text_of s) (form F r y) (form G r y) (λ v o t w. w) (lifts F G h r y)
+lifts F G h (after s r) y =
+    joined-lifts (text_of s) (text_of s) (form F r y) (form G r y) (λ v o t w. w) (lifts F G h r y)
 lifts F G h (seq r k) y =
-    then-lifts (λ x. form F r x) (λ x. form G r x) (λ x z. form F (k x) z) (λ x z. form G (k x) z) (λ x. lifts F G h r x) (λ x z. lifts F G h (k x) z) y
-lifts F G h (made f r) y = λ s o t w. record { part = w.part; same = w.same; is = lifts F G h r w.part s o t w.is }
-lifts F G h (look m ok r s) y = either-lifts (form F r y) (form G r y) (form F s y) (form G s y) (lifts F G h r y) (lifts F G h s y)
+    then-lifts (λ x. form F r x) (λ x. form G r x) (λ x z. form F (k x) z) (λ x z. form G (k x) z)
+    (λ x. lifts F G h r x) (λ x z. lifts F G h (k x) z) y
+lifts F G h (made f r) y = λ s o t w. record {
+  part = w.part;
+  same = w.same;
+  is = lifts F G h r w.part s o t w.is;
+}
+lifts F G h (look m ok r s) y =
+    either-lifts (form F r y) (form G r y) (form F s y) (form G s y) (lifts F G h r y)
+    (lifts F G h s y)
 lifts F G h (upon c r s) y =
     either-lifts (word (c ∷ []) ⌢ form F r y) (word (c ∷ []) ⌢ form G r y) (form F s y) (form G s y)
-    (joined-lifts (word (c ∷ [])) (word (c ∷ [])) (form F r y) (form G r y) (λ v o t w. w) (lifts F G h r y)) (lifts F G h s y)
+    (joined-lifts (word (c ∷ [])) (word (c ∷ [])) (form F r y) (form G r y) (λ v o t w. w)
+    (lifts F G h r y)) (lifts F G h s y)
 lifts F G h (nested o k s) y =
-    either-lifts (Then (λ x. F o x) (λ x z. form F (k x) z) y) (Then (λ x. G o x) (λ x z. form G (k x) z) y) (form F s y) (form G s y)
-    (then-lifts (λ x. F o x) (λ x. G o x) (λ x z. form F (k x) z) (λ x z. form G (k x) z) (λ x. h o x) (λ x z. lifts F G h (k x) z) y)
+    either-lifts (Then (λ x. F o x) (λ x z. form F (k x) z) y)
+    (Then (λ x. G o x) (λ x z. form G (k x) z) y) (form F s y) (form G s y)
+    (then-lifts (λ x. F o x) (λ x. G o x) (λ x z. form F (k x) z) (λ x z. form G (k x) z)
+    (λ x. h o x) (λ x z. lifts F G h (k x) z) y)
     (lifts F G h s y)
-lifts F G h (item r) y = item-lifts (form F r y) (form G r y) (lifts F G h r y)
+lifts F G h (item_where ok r) y = item_if-lifts (ok y) (form F r y) (form G r y) (lifts F G h r y)
 lifts F G h (omitted x) y = λ s o t w. w
-lifts F G h (some m ok r) y = each-lifts (λ x. form F r x) (λ x. form G r x) (λ x. lifts F G h r x) y
+lifts F G h (some m ok r) y =
+    each-lifts (λ x. form F r x) (λ x. form G r x) (λ x. lifts F G h r x) y
 lifts F G h (relaxed r) y = lifts F G h r y
+lifts F G h (loose r) y = lifts F G h r y
+lifts F G h (until ok r) y = lifts F G h r y
 lifts F G h (flat r) y = λ s o t w. w
 
 -- ---- each rule takes a text, where each of its classes of characters has one
@@ -75,14 +107,17 @@ Alive (made f r) = Alive r
 Alive (look m ok r s) = Alive r × Alive s
 Alive (upon c r s) = Alive r × Alive s
 Alive {N} (nested o k s) = ((x : N.Inner o) → Alive (k x)) × Alive s
-Alive (item r) = Alive r
+Alive (item_where ok r) = Alive r
 Alive (omitted x) = Unit {0}
 Alive (some m ok r) = Alive r
 Alive (relaxed r) = Alive r
+Alive (loose r) = Alive r
+Alive (until ok r) = Alive r
 Alive (flat r) = Alive r
 
 -- a value that has a text
-abbrev pub least : {N : Nesting} {u : Bool} {a b : Mark} {A : Type 0} (r : Rule N u a b A) → Alive r → A
+abbrev pub least : {N : Nesting} {u : Bool} {a b : Mark} {A : Type 0} (r : Rule N u a b A) → Alive r
+    → A
 least (value x) w = x
 least (character ok) w = w.0
 least (after s r) w = least r w
@@ -91,32 +126,58 @@ least (made f r) w = f (least r w)
 least (look m ok r s) w = least r w.0
 least (upon c r s) w = least s w.1
 least (nested o k s) w = least s w.1
-least (item r) w = least r w
+least (item_where ok r) w = least r w
 least (omitted x) w = x
 least (some m ok r) w = []
 least (relaxed r) w = least r w
+least (loose r) w = least r w
+least (until ok r) w = least r w
 least (flat r) w = least r w
 
 step-has : {m : Mark} {t : Bool} (s : Step m t) → Has (text_of s)
 step-has (the c) = word-has (c ∷ [])
 step-has blanks = blank-has
 
-pub has : {N : Nesting} {u : Bool} {a b : Mark} {A : Type 0} (F : Inside N) (r : Rule N u a b A) (w : Alive r) → Has (form F r (least r w))
+pub has : {N : Nesting} {u : Bool} {a b : Mark} {A : Type 0} (F : Inside N) (r : Rule N u a b A)
+    (w : Alive r) → Has (form F r (least r w))
 has F (value x) w = λ o. ([], [], record { same = refl; is = record { none = refl; is = refl } })
 has F (character ok) w = λ o. ([], w.0 ∷ [], record { none = refl; is = refl; passes = w.1 })
 has F (after s r) w = joined-has (text_of s) (form F r (least r w)) (step-has s) (has F r w)
 has F (seq r k) w =
     let x = least r w.0 in
-    then-has (λ z. form F r z) (λ z y. form F (k z) y) x (least (k x) (w.1 x)) (has F r w.0) (has F (k x) (w.1 x))
-has F (made f r) w = λ o. (let text = has F r w o in (text.0, text.1, record { part = least r w; same = refl; is = text.2 }))
-has F (look m ok r s) w = has-as (form F r (least r w.0)) (Either (form F r (least r w.0)) (form F s (least r w.0))) (λ v o t h. left h) (has F r w.0)
+    then-has (λ z. form F r z) (λ z y. form F (k z) y) x (least (k x) (w.1 x)) (has F r w.0)
+    (has F (k x) (w.1 x))
+has F (made f r) w = λ o. (let text = has F r w o in (
+  text.0,
+  text.1,
+  record {
+    part = least r w;
+    same = refl;
+    is = text.2;
+  },
+))
+has F (look m ok r s) w =
+    has-as (form F r (least r w.0)) (Either (form F r (least r w.0)) (form F s (least r w.0)))
+    (λ v o t h. left h) (has F r w.0)
 has F (upon c r s) w =
-    has-as (form F s (least s w.1)) (Either (word (c ∷ []) ⌢ form F r (least s w.1)) (form F s (least s w.1))) (λ v o t h. right h) (has F s w.1)
+    has-as (form F s (least s w.1))
+    (Either (word (c ∷ []) ⌢ form F r (least s w.1)) (form F s (least s w.1))) (λ v o t h. right h)
+    (has F s w.1)
 has F (nested o k s) w =
-    has-as (form F s (least s w.1)) (Either (Then (λ x. F o x) (λ x z. form F (k x) z) (least s w.1)) (form F s (least s w.1)))
+    has-as (form F s (least s w.1))
+    (Either (Then (λ x. F o x) (λ x z. form F (k x) z) (least s w.1)) (form F s (least s w.1)))
     (λ v i t h. right h) (has F s w.1)
-has F (item r) w = item-has (form F r (least r w)) (has F r w)
-has F (omitted x) w = λ o. (None ∷ [], [], record { same = refl; is = record { spans = refl; is = refl } })
+has F (item_where ok r) w = item_if-has (ok (least r w)) (form F r (least r w)) (has F r w)
+has F (omitted x) w = λ o. (
+  None ∷ [],
+  [],
+  record {
+    same = refl;
+    is = record { spans = refl; is = refl };
+  },
+)
 has F (some m ok r) w = word-has []
 has F (relaxed r) w = has F r w
+has F (loose r) w = has F r w
+has F (until ok r) w = has F r w
 has {N} F (flat r) w = has (none_inside N) r w

@@ -1,11 +1,11 @@
 -- A rule leaves no longer text, and a shorter one where it takes a character.
 use Rattle.std.proofs.Common.{◌≡◌, ℕ, Bool, true, false, ◌||◌, ◌&&◌, if◌then◌else◌, refl, arith}
-use Rattle.jp_reading.specs.Outcome.{State, Outcome, took, stuck, deep, ◌>>=◌, head, past, skip, passes, is, is_at, expect, item as as_item}
+use Rattle.jp_reading.specs.Outcome.{State, Outcome, took, stuck, deep, ◌>>=◌, head, past, skip, passes, is, is_at, expect}
 use Rattle.jp_reading.specs.Views.{by}
-use Rattle.jp_reading.specs.Rule.{Mark, Nesting, Step, the, blanks, Rule, value, character, after, seq, made, look, upon, nested, item, omitted, some, relaxed, flat}
-use Rattle.jp_reading.specs.RuleReading.{Inner, nothing, next, stepped, read}
+use Rattle.jp_reading.specs.Rule.{Mark, Nesting, Step, the, blanks, Rule, value, character, after, seq, made, look, upon, nested, item_where, omitted, some, relaxed, loose, until, flat}
+use Rattle.jp_reading.specs.RuleReading.{Inner, nothing, next, stepped, spanned_if, spanned, read}
 use Rattle.jp_reading.proofs.Chars.{past-shorter}
-use Rattle.jp_reading.proofs.Progress.{Moves, Keeps, Progress, keeps-from_moves, keeps-then, moves-then, moves-later, moves-skip, keeps-skip, moves-take_if, moves-by, keeps-by, moves-item, keeps-each}
+use Rattle.jp_reading.proofs.Progress.{Moves, Keeps, Progress, keeps-from_moves, keeps-then, moves-then, moves-later, moves-skip, keeps-skip, moves-take_if, moves-by, keeps-by, keeps-each}
 
 -- whether it takes a character at least
 abbrev pub Goes : {A : Type 0} → Bool → State → Outcome A → Type 0
@@ -30,59 +30,83 @@ goes-skip : {A : Type 0} (u : Bool) (p : State) (o : Outcome A) → Goes u (skip
 goes-skip true p o h = moves-skip p o h
 goes-skip false p o h = keeps-skip p o h
 
-goes-by : {A B : Type 0} (u : Bool) (f : A → B) (p : State) (o : Outcome A) → Goes u p o → Goes u p (by f o)
+goes-by : {A B : Type 0} (u : Bool) (f : A → B) (p : State) (o : Outcome A) → Goes u p o
+    → Goes u p (by f o)
 goes-by true f p o h = moves-by f p o h
 goes-by false f p o h = keeps-by f p o h
 
-goes-item : {A : Type 0} (u : Bool) (p : State) (o : Outcome A) → Goes u p o → Goes u p (as_item p o)
-goes-item true p o h = moves-item p o h
-goes-item false p (took x q) h = h
-goes-item false p (stuck q) h = h
-goes-item false p (deep q) h = h
+-- a span changes nothing of what is left
+goes-spanned : {A : Type 0} (u : Bool) (ok : A → Bool) (p : State) (o : Outcome A) → Goes u p o
+    → Goes u p (spanned ok p o)
+goes-spanned u ok p (took x q) h = way (ok x) u h
+  where
+    way : (b : Bool) (v : Bool) → Goes v p (took x q) → Goes v p (took x (spanned_if b p q))
+    way true true g = g
+    way true false g = g
+    way false true g = g
+    way false false g = g
+goes-spanned true ok p (stuck q) h = h
+goes-spanned false ok p (stuck q) h = h
+goes-spanned true ok p (deep q) h = h
+goes-spanned false ok p (deep q) h = h
 
 -- of two ways one is taken
-goes-look : {A : Type 0} (u v b : Bool) (p : State) (o w : Outcome A) → Goes u p o → Goes v p w → Goes (u && v) p (if b then o else w)
+goes-look : {A : Type 0} (u v b : Bool) (p : State) (o w : Outcome A) → Goes u p o → Goes v p w
+    → Goes (u && v) p (if b then o else w)
 goes-look true v true p o w h g = goes-moves v p o h
 goes-look false v true p o w h g = h
 goes-look true v false p o w h g = g
 goes-look false v false p o w h g = goes-keeps v p w g
 
-goes-upon : {A : Type 0} (v b : Bool) (p : State) (o w : Outcome A) → (b ≡ true → Moves p o) → Goes v p w → Goes v p (if b then o else w)
+goes-upon : {A : Type 0} (v b : Bool) (p : State) (o w : Outcome A) → (b ≡ true → Moves p o)
+    → Goes v p w → Goes v p (if b then o else w)
 goes-upon v true p o w h g = goes-moves v p o (h refl)
 goes-upon v false p o w h g = g
 
 -- past a character that was looked at
-moves-past : {A : Type 0} (c : ℕ) (p : State) (o : Outcome A) → is_at c p ≡ true → Keeps (past p) o → Moves p o
+moves-past : {A : Type 0} (c : ℕ) (p : State) (o : Outcome A) → is_at c p ≡ true → Keeps (past p) o
+    → Moves p o
 moves-past c p (took x q) on h = let less = past-shorter (is c) p on in omega arith
 moves-past c p (stuck q) on h = tt
 moves-past c p (deep q) on h = tt
 
-goes-stepped : {A : Type 0} {m : Mark} {t : Bool} (u : Bool) (s : Step m t) (k : State → Outcome A) → ((q : State) → Goes u q (k q)) → (p : State)
+goes-stepped : {A : Type 0} {m : Mark} {t : Bool} (u : Bool) (s : Step m t) (k : State → Outcome A)
+    → ((q : State) → Goes u q (k q)) → (p : State)
     → Goes (t || u) p (stepped s k p)
-goes-stepped u (the c) k h p = goes-then true u p (expect c p) (λ d q. k q) (moves-take_if (is c) p) (λ d q. h q)
+goes-stepped u (the c) k h p =
+    goes-then true u p (expect c p) (λ d q. k q) (moves-take_if (is c) p) (λ d q. h q)
 goes-stepped u blanks k h p = goes-skip u p (k (skip p)) (h (skip p))
 
-pub goes : {N : Nesting} {u : Bool} {a b : Mark} {A : Type 0} (inner : Inner N) → ((o : N.Opening) → Progress (inner o))
+pub goes : {N : Nesting} {u : Bool} {a b : Mark} {A : Type 0} (inner : Inner N)
+    → ((o : N.Opening) → Progress (inner o))
     → (r : Rule N u a b A) (p : State) → Goes u p (read inner r p)
 goes inner moves (value x) p = omega arith
 goes inner moves (character ok) p = moves-take_if ok p
-goes inner moves (after {u = u} s r) p = goes-stepped u s (λ q. read inner r q) (λ q. goes inner moves r q) p
+goes inner moves (after {u = u} s r) p =
+    goes-stepped u s (λ q. read inner r q) (λ q. goes inner moves r q) p
 goes inner moves (seq {u = u} {v = v} r k) p =
-    goes-then u v p (read inner r p) (λ x q. read inner (k x) q) (goes inner moves r p) (λ x q. goes inner moves (k x) q)
+    goes-then u v p (read inner r p) (λ x q. read inner (k x) q) (goes inner moves r p)
+    (λ x q. goes inner moves (k x) q)
 goes inner moves (made {u = u} f r) p = goes-by u f p (read inner r p) (goes inner moves r p)
 goes inner moves (look {u = u} {v = v} m ok r s) p =
-    goes-look u v (passes ok (next m p)) p (read inner r p) (read inner s p) (goes inner moves r p) (goes inner moves s p)
+    goes-look u v (passes ok (next m p)) p (read inner r p) (read inner s p) (goes inner moves r p)
+    (goes inner moves s p)
 goes inner moves (upon {u = u} {v = v} c r s) p =
     goes-upon v (is_at c p) p (read inner r (past p)) (read inner s p)
-    (λ on. moves-past c p (read inner r (past p)) on (goes-keeps u (past p) (read inner r (past p)) (goes inner moves r (past p))))
+    (λ on. moves-past c p (read inner r (past p)) on
+    (goes-keeps u (past p) (read inner r (past p)) (goes inner moves r (past p))))
     (goes inner moves s p)
 goes {N} inner moves (nested {u = u} {v = v} o k s) p =
-    goes-upon v (passes (N.opens o) (head p)) p (inner o p >>= λ x q. read inner (k x) q) (read inner s p)
+    goes-upon v (passes (N.opens o) (head p)) p (inner o p >>= λ x q. read inner (k x) q)
+    (read inner s p)
     (λ on. moves-then p (inner o p) (λ x q. read inner (k x) q) (moves o p)
-    (λ x q. goes-keeps u q (read inner (k x) q) (goes inner moves (k x) q)))
-    (goes inner moves s p)
-goes inner moves (item {u = u} r) p = goes-item u p (read inner r p) (goes inner moves r p)
+    (λ x q. goes-keeps u q (read inner (k x) q) (goes inner moves (k x) q))) (goes inner moves s p)
+goes inner moves (item_where {u = u} ok r) p =
+    goes-spanned u ok p (read inner r p) (goes inner moves r p)
 goes inner moves (omitted x) p = omega arith
-goes inner moves (some m ok r) p = keeps-each (λ q. passes ok (next m q)) (λ q. read inner r q) (λ q. goes inner moves r q) p
+goes inner moves (some m ok r) p =
+    keeps-each (λ q. passes ok (next m q)) (λ q. read inner r q) (λ q. goes inner moves r q) p
 goes inner moves (relaxed r) p = goes inner moves r p
+goes inner moves (loose {u = u} r) p = goes-keeps u p (read inner r p) (goes inner moves r p)
+goes inner moves (until ok r) p = goes inner moves r p
 goes {N} inner moves (flat r) p = goes (nothing N) (λ o q. tt) r p

@@ -17,7 +17,8 @@ returns-in_err-parsed-clause-only c =
 pub returns-clause-refused : goal.returns-clause-refused
 returns-clause-refused c =
     first-refused (chars c.args.text.now)
-    (query_of c.in_ok-parsed.parsed.query) c.in_ok-parsed.parsed.spans c.check.result c.in_ok-parsed.ensures.found c.check.ensures.first
+    (query_of c.in_ok-parsed.parsed.query) c.in_ok-parsed.parsed.spans c.check.result
+    c.in_ok-parsed.ensures.found c.check.ensures.first
 
 pub returns-clause-only : goal.returns-clause-only
 returns-clause-only c =

@@ -10,4 +10,10 @@ returns c =
     found spelled.0
     (items_of
     (query_of c.args.parsed.now.query)) c.args.parsed.now.spans c.first.result spelled.2.each
-    (rw (c.first.ensures, c.query-2.ensures, c.new-walk.ensures, c.spans.ensures.same, c.query.ensures.same) refl)
+    (rw (
+      c.first.ensures,
+      c.query-2.ensures,
+      c.new-walk.ensures,
+      c.spans.ensures.same,
+      c.query.ensures.same,
+    ) refl)

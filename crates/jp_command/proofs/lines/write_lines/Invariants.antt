@@ -1,12 +1,16 @@
-use Rattle.std.proofs.Common.{◌≡◌, false}
+use Rattle.std.proofs.Common.{◌≡◌, false, length}
 use Rattle.jp_evaluate.specs.Rest.{rest_of}
-use Rattle.jp_command.specs.Lines.{lines_of}
-use Rattle.jp_command.proofs.LineLemmas.{WritesUpTo}
+use Rattle.jp_command.specs.Private.ByTurns.{WritesGiven}
 use Rattle.jp_command.proofs.lines.write_lines.Given as goal
 
--- the lines of the nodes so far are written, and those to come are left
+-- the lines of the nodes so far are written
 abbrev pub invariant-loop-next : goal.invariant-loop-next
 invariant-loop-next g l = record {
-  working : l.next-iterator.failed ≡ false;
-  written : WritesUpTo g.W.Output.contents g.W.Output.has_failed l.fn.output l.output (lines_of l.form (rest_of l.fn.nodes)) (lines_of l.form (rest_of l.next-iterator));
+  working : l.nodes.failed ≡ false;
+  written : WritesGiven g.W.Output.contents l.form (rest_of l.fn.nodes) (rest_of l.nodes)
+      l.fn.output l.output;
+  works : g.W.Output.has_failed l.output ≡ g.W.Output.has_failed l.fn.output;
 }
+
+abbrev pub decreases-loop-next : goal.decreases-loop-next
+decreases-loop-next g l = length (rest_of l.nodes)

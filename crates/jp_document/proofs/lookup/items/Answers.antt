@@ -17,7 +17,10 @@ returns-in-Null c = record {
             | inl e ↦ rw e.1 (search (rules, the_lemmas))
             | inr r ↦ elim r [
               | inl e ↦ rw e.1 (search (rules, the_lemmas))
-              | inr e ↦ ap (λ j. child (value_of j) (nth i)) e.1 ∙ ap (λ v. child v (nth i)) (value_of-Members e.0) ∙ child-object_nth i (members_of (map member_of e.0.items))
+              | inr e ↦
+                  ap (λ j. child (value_of j) (nth i)) e.1
+                  ∙ ap (λ v. child v (nth i)) (value_of-Members e.0)
+                  ∙ child-object_nth i (members_of (map member_of e.0.items))
             ]
           ]
         ]

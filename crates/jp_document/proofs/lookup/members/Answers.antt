@@ -1,10 +1,10 @@
 use Rattle.std.proofs.Common.{◌≡◌, map, ap, sym, subst, ◌∙◌, inl, inr, rules}
 use Rattle.std.specs.List.{Contains}
 use Rattle.jp_document.proofs.ChildLaws.{Contains-map}
-use Rattle.jp_document.specs.Location.{child, held, named}
+use Rattle.jp_document.specs.Location.{child, entries, named}
 use Rattle.jp_document.specs.Value.{items_of, member_of, value_of}
 use Rattle.jp_document.specs.declared.value.Json.{the_lemmas}
-use Rattle.jp_document.proofs.Held.{at_name, members-held}
+use Rattle.jp_document.proofs.Entries.{at_name, members-entries}
 use Rattle.jp_document.proofs.Names.{child-list_named}
 use Rattle.jp_document.proofs.Values.{value_of-List, value_of-Members}
 use Rattle.jp_document.proofs.lookup.members.Goals as goal
@@ -19,17 +19,22 @@ returns-in-Null-clause-found c = λ q.
           | inl e ↦ rw e.1 (search (rules, the_lemmas))
           | inr r ↦ elim r [
             | inl e ↦ rw e.1 (search (rules, the_lemmas))
-            | inr e ↦ ap (λ j. child (value_of j) (named q)) e.1 ∙ ap (λ v. child v (named q)) (value_of-List e.0) ∙ child-list_named q (items_of (map value_of e.0.items))
+            | inr e ↦
+                ap (λ j. child (value_of j) (named q)) e.1
+                ∙ ap (λ v. child v (named q)) (value_of-List e.0)
+                ∙ child-list_named q (items_of (map value_of e.0.items))
           ]
         ]
       ]
     ]
 
-pub returns-in-Members-clause-held : goal.returns-in-Members-clause-held
-returns-in-Members-clause-held c = λ m there.
+pub returns-in-Members-clause-inside : goal.returns-in-Members-clause-inside
+returns-in-Members-clause-inside c = λ m there.
     let ms = c.in-Members.members in
-    let is : held (value_of c.args.json.now) ≡ map at_name (map member_of ms.items) =
-    ap held (ap value_of c.in-Members.is ∙ value_of-Members ms) ∙ members-held (map member_of ms.items) in
+    let is : entries (value_of c.args.json.now) ≡ map at_name (map member_of ms.items) =
+    ap entries (ap value_of c.in-Members.is ∙ value_of-Members ms)
+    ∙ members-entries (map member_of ms.items) in
     let among : Contains ms.items m = subst (λ xs. Contains xs m) c.deref.ensures.value there in
     subst (λ es. Contains es (at_name (member_of m))) (sym is)
-    (Contains-map at_name (map member_of ms.items) (member_of m) (Contains-map member_of ms.items m among))
+    (Contains-map at_name (map member_of ms.items) (member_of m)
+    (Contains-map member_of ms.items m among))

@@ -11,5 +11,7 @@ returns c =
     let ms = c.args.members.items in
     let m : Member = record { name = c.args.name; value = c.args.value } in
     let inserted : c.insert.new.self.items ≡ insert ms c.args.place m = search rules in
-    ap (map member_of) inserted ∙ seen_insert ms c.args.place m ∙ ap (insert (map member_of ms) c.args.place) (member_of_is m)
-    ∙ insert_place (string_bytes c.args.name) (value_of c.args.value) (map member_of ms) c.args.place c.requires.below c.requires.above
+    ap (map member_of) inserted ∙ seen_insert ms c.args.place m
+    ∙ ap (insert (map member_of ms) c.args.place) (member_of_is m)
+    ∙ insert_place (string_bytes c.args.name) (value_of c.args.value)
+    (map member_of ms) c.args.place c.requires.below c.requires.above

@@ -6,7 +6,10 @@ use Rattle.jp_document.proofs.Names.{bytes_cmp}
 use Rattle.jp_document.proofs.member_list.place_of.Given as goal
 
 abbrev pub invariant-down : goal.invariant-down
-invariant-down l = (l.place ≤ length l.members) × (list_all (λ m. is_lt (bytes_cmp l.name m.0)) (drop l.place (map member_of l.members)) ≡ true)
+invariant-down l =
+    (l.place ≤ length l.members)
+    × (list_all (λ m. is_lt (bytes_cmp l.name m.0)) (drop l.place (map member_of l.members)) ≡
+    true)
 
 abbrev pub decreases-down : goal.decreases-down
 decreases-down l = l.place

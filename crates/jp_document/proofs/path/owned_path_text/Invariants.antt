@@ -7,4 +7,5 @@ use Rattle.jp_document.proofs.path.owned_path_text.Given as goal
 -- what stands there, and the steps to come, is the whole
 abbrev pub invariant-loop-step : goal.invariant-loop-step
 invariant-loop-step l =
-    string_bytes l.text ++ flat_map step_text (map owned_key (drop l.step-index l.location)) ≡ path_of (map owned_key l.location)
+    string_bytes l.text ++ flat_map step_text (map owned_key (drop l.step-index l.location)) ≡
+    path_of (map owned_key l.location)

@@ -7,4 +7,5 @@ use Rattle.jp_document.proofs.path.push_path.Given as goal
 -- what stands there, and the steps to come, is the whole
 abbrev pub invariant-loop-step : goal.invariant-loop-step
 invariant-loop-step l =
-    string_bytes l.out ++ flat_map step_text (map key_of (drop l.step-index l.location)) ≡ string_bytes l.fn.out ++ path_of (map key_of l.location)
+    string_bytes l.out ++ flat_map step_text (map key_of (drop l.step-index l.location)) ≡
+    string_bytes l.fn.out ++ path_of (map key_of l.location)

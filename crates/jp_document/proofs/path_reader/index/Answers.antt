@@ -8,13 +8,17 @@ use Rattle.jp_document.proofs.path_reader.index.Goals as goal
 pub returns-in_err-index : goal.returns-in_err-index
 returns-in_err-index c =
     let p = err_from_is_err_and c.from_residual.result c.from_residual.ensures.1 in
-    rw (p.1, p.2, index-natural c.args.reader.now (sym c.is_at.ensures ∙ c.if-is_at.false)) c.in_err-index.ensures.taken
+    rw (p.1, p.2, index-natural c.args.reader.now (sym c.is_at.ensures ∙ c.if-is_at.false))
+    c.in_err-index.ensures.taken
 
 pub overflow_cast-result : goal.overflow_cast-result
 overflow_cast-result c =
     let small : c.in_ok-index.index ≤ 9007199254740992 =
-    capped-took 9007199254740992 c.in_ok-index.index (digits_at c.args.reader.now) c.natural.new.reader c.in_ok-index.ensures.taken in
+    capped-took 9007199254740992 c.in_ok-index.index (digits_at c.args.reader.now)
+    c.natural.new.reader c.in_ok-index.ensures.taken in
     omega arith
 
 pub returns : goal.returns
-returns c = index-natural c.args.reader.now (sym c.is_at.ensures ∙ c.if-is_at.false) ∙ c.in_ok-index.ensures.taken
+returns c =
+    index-natural c.args.reader.now (sym c.is_at.ensures ∙ c.if-is_at.false)
+    ∙ c.in_ok-index.ensures.taken

@@ -8,5 +8,7 @@ use Rattle.jp_document.proofs.reading.json_of_number.Goals as goal
 
 pub returns-in_default-as_i64-clause-fault : goal.returns-in_default-as_i64-clause-fault
 returns-in_default-as_i64-clause-fault c =
-    subst (IsFirstFraction (number (number_view c.args.number))) (sym (ap (λ steps. reverse (map owned_key steps)) c.new.ensures.items))
-    (IsFirstFraction-neither (number_view c.args.number) c.in_default.ensures c.in_default-as_i64.ensures)
+    subst (IsFirstFraction (number (number_view c.args.number)))
+    (sym (ap (λ steps. reverse (map owned_key steps)) c.new.ensures.items))
+    (IsFirstFraction-neither (number_view c.args.number) c.in_default.ensures
+    c.in_default-as_i64.ensures)

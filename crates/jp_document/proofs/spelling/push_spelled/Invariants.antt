@@ -8,7 +8,9 @@ use Rattle.jp_document.proofs.spelling.push_spelled.Given as goal
 -- what stands there, and the rest spelled, is the whole
 abbrev pub invariant-runs : goal.invariant-runs
 invariant-runs l =
-    shadow (Utf8 l.rest) × (string_bytes l.out ++ flat_map (spelling l.quote) l.rest ≡ string_bytes l.initial.out ++ flat_map (spelling l.quote) l.text)
+    shadow (Utf8 l.rest)
+    × (string_bytes l.out ++ flat_map (spelling l.quote) l.rest ≡
+    string_bytes l.initial.out ++ flat_map (spelling l.quote) l.text)
 
 abbrev pub decreases-runs : goal.decreases-runs
 decreases-runs l = length l.rest

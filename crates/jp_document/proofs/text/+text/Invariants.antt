@@ -8,8 +8,12 @@ use Rattle.jp_document.proofs.text.+text.Given as goal
 -- what stands there, and the parts to come, is the whole
 abbrev pub invariant-push_items-loop-i : goal.invariant-push_items-loop-i
 invariant-push_items-loop-i l =
-    string_bytes l.out ++ parts_from l.i (item_texts (items_of (map value_of (drop l.i l.items)))) ≡ string_bytes l.initial.out ++ join_with_byte 44 (item_texts (items_of (map value_of l.items)))
+    string_bytes l.out ++ parts_from l.i (item_texts (items_of (map value_of (drop l.i l.items)))) ≡
+    string_bytes l.initial.out ++ join_with_byte 44 (item_texts (items_of (map value_of l.items)))
 
 abbrev pub invariant-push_members-loop-i : goal.invariant-push_members-loop-i
 invariant-push_members-loop-i l =
-    string_bytes l.out ++ parts_from l.i (member_texts (members_of (map member_of (drop l.i l.members)))) ≡ string_bytes l.initial.out ++ join_with_byte 44 (member_texts (members_of (map member_of l.members)))
+    string_bytes l.out
+    ++ parts_from l.i (member_texts (members_of (map member_of (drop l.i l.members)))) ≡
+    string_bytes l.initial.out
+    ++ join_with_byte 44 (member_texts (members_of (map member_of l.members)))

@@ -1,6 +1,6 @@
 use Rattle.std.proofs.Common.{◌≡◌, ◌++◌, false, map}
-use Rattle.jp_document.specs.ChildNodes.{shown, standing}
 use Rattle.jp_document.specs.Document.{document_of}
+use Rattle.jp_document.specs.Node.{AreNodes, node_of}
 use Rattle.jp_query.specs.Tree.{query_of}
 use Rattle.jp_evaluate.specs.Nodelist.{nodelist}
 use Rattle.jp_evaluate.specs.Rest.{rest_of}
@@ -8,8 +8,8 @@ use Rattle.jp_evaluate.proofs.evaluation.evaluate.Given as goal
 
 -- the nodes so far and those to come are the nodelist
 abbrev pub invariant-loop-next : goal.invariant-loop-next
-invariant-loop-next l = record {
+invariant-loop-next g l = record {
   working : l.next-iterator.failed ≡ false;
-  all : map shown l.selected.items ++ rest_of l.next-iterator
-      ≡ map (standing (document_of l.document)) (nodelist (query_of l.query) (document_of l.document));
+  all : AreNodes (document_of l.document) (map node_of l.selected.items ++ rest_of l.next-iterator)
+      (nodelist (query_of l.query) (document_of l.document));
 }

@@ -7,5 +7,8 @@ use Rattle.jp_evaluate.proofs.operand.literal_value.Goals as goal
 
 pub returns-in-Text : goal.returns-in-Text
 returns-in-Text c =
-    ap (λ b. Some (text b)) (sym (text-spelled c.as_str.result.now (string_bytes c.in-Text.text) c.as_str.utf8 c.as_str.ensures.value))
+    ap (λ b. Some (text b))
+    (sym
+    (text-spelled c.as_str.result.now (string_bytes c.in-Text.text) c.as_str.utf8
+    c.as_str.ensures.value))
     ∙ sym (ap (λ l. literal_value (literal_of l)) c.in-Text.is)

@@ -1,7 +1,7 @@
 use Rattle.std.proofs.Common.{◌≡◌, drop}
 use Rattle.jp_document.specs.DocumentValue.{lent_value}
-use Rattle.jp_query.specs.Tree.{node_value, query_of}
-use Rattle.jp_evaluate.specs.Private.Reached.{side}
+use Rattle.jp_query.specs.Tree.{query_of}
+use Rattle.jp_evaluate.specs.Private.Reached.{single_side}
 use Rattle.jp_evaluate.specs.Private.Singular.{values_along}
 use Rattle.jp_evaluate.proofs.Along.{of_segments}
 use Rattle.jp_evaluate.proofs.singular.node_value.Given as goal
@@ -10,4 +10,4 @@ use Rattle.jp_evaluate.proofs.singular.node_value.Given as goal
 abbrev pub invariant-loop-segment : goal.invariant-loop-segment
 invariant-loop-segment l =
     values_along (of_segments (drop l.segment-index l.segment-items)) (lent_value l.value)
-    ≡ side (node_value (query_of l.query)) (lent_value l.root) (lent_value l.current)
+    ≡ single_side (query_of l.query) (lent_value l.root) (lent_value l.current)

@@ -13,7 +13,9 @@ loop-turn-preserved c =
     let t = turn_of all c.in-Some.turn in
     record {
       place = c.loop-turn.invariant.place;
-      same = turn_next v (turns (segments_left all f.place.done)) f.turn f.next t (sym c.in-Some.ensures.gives) (sym c.in_default-choice.ensures.entry)
+      same =
+          turn_next v (turns (segments_left all f.place.done)) f.turn f.next t
+          (sym c.in-Some.ensures.gives) (sym c.in_default-choice.ensures.entry)
           ∙ c.loop-turn.invariant.same;
     }
 
@@ -22,7 +24,8 @@ loop-turn-smaller c =
     let f = c.loop-turn.frame in
     let all = c.args.segments.now in
     let within : f.turn < length (turns (segments_left all f.place.done)) =
-    slice_get_within (turns (segments_left all f.place.done)) f.turn (turn_of all c.in-Some.turn) (sym c.in-Some.ensures.gives) in
+    slice_get_within (turns (segments_left all f.place.done)) f.turn (turn_of all c.in-Some.turn)
+    (sym c.in-Some.ensures.gives) in
     omega arith
 
 pub returns-in-Some-choice-clause-gives : goal.returns-in-Some-choice-clause-gives
@@ -34,12 +37,19 @@ returns-in-Some-choice-clause-gives c =
     let e = lent_entry (c.in-Some-choice.step, c.in-Some-choice.value) in
     let ts = turns (segments_left all f.place.done) in
     sym c.loop-turn.invariant.same
-    ∙ choice_next v ts f.turn f.next t e (sym c.in-Some.ensures.gives) (sym c.in-Some-choice.ensures.entry)
-    ∙ ap (λ x. (let o : Choice = record { test = x; left = t.1; step = e.0 ∷ []; value = e.1 } in o) ∷ choices_from v (drop f.turn ts) (f.next + 1)) (sym c.test.ensures.test)
+    ∙ choice_next v ts f.turn f.next t e (sym c.in-Some.ensures.gives)
+    (sym c.in-Some-choice.ensures.entry)
+    ∙ ap (λ x. (let o : Choice = record {
+      test = x;
+      left = t.1;
+      step = e.0 ∷ [];
+      value = e.1;
+    } in o) ∷ choices_from v (drop f.turn ts) (f.next + 1)) (sym c.test.ensures.test)
 
 pub returns-clause-gives : goal.returns-clause-gives
 returns-clause-gives c =
     let f = c.loop-turn.frame in
     let all = c.args.segments.now in
     sym c.loop-turn.invariant.same
-    ∙ turns_end (lent_value f.place.value) (turns (segments_left all f.place.done)) f.turn f.next (sym c.in_default.ensures.gives)
+    ∙ turns_end (lent_value f.place.value) (turns (segments_left all f.place.done)) f.turn f.next
+    (sym c.in_default.ensures.gives)

@@ -5,7 +5,8 @@ use Rattle.jp_iregexp.proofs.brackets.elements.Given as goal
 
 abbrev pub invariant-elements : goal.invariant-elements
 invariant-elements l =
-    with_front l.initial.items.items (elements_at l.initial.reader) ≡ with_front l.items.items (elements_at l.reader)
+    with_front l.initial.items.items (elements_at l.initial.reader) ≡
+    with_front l.items.items (elements_at l.reader)
 
 abbrev pub decreases-elements : goal.decreases-elements
 decreases-elements l = length l.reader.rest

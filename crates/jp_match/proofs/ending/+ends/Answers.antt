@@ -1,21 +1,23 @@
-use Rattle.std.proofs.Common.{◌≡◌, ◌↔◌, ℕ, ◌+◌, ◌-◌, ◌*◌, ◌≤◌, ◌<◌, suc, false, IsTrue, rules, ◌/◌, List, [], ◌∷◌, map, drop, get_or, length, refl, sym, ap, ◌∙◌, subst, arith}
-use Rattle.std.proofs.lemmas.Grind.{common_steps}
+use Rattle.std.proofs.Common.{◌≡◌, ◌+◌, ◌-◌, ◌*◌, suc, false, rules, ◌/◌}
+use Rattle.std.proofs.Common.{map, drop, length, sym, ap, ◌∙◌, subst, arith}
 use Rattle.std.proofs.lemmas.List.{take_all, length-drop}
 use Rattle.std.proofs.lemmas.Bool.{leb-true, le-leb}
 use denote.Param.Weighed.{most}
 use Rattle.jp_iregexp.proofs.pattern.Pattern.TheLaws.{the_size}
 use Rattle.jp_iregexp.specs.declared.pattern.Pattern.TheVariants as pattern
-use Rattle.jp_iregexp.specs.declared.pattern.Pattern.TheViews.{sized-Either, sized-Sequence, sized-Repeat}
+use Rattle.jp_iregexp.specs.declared.pattern.Pattern.TheViews.{sized-Either, sized-Sequence}
+use Rattle.jp_iregexp.specs.declared.pattern.Pattern.TheViews.{sized-Repeat}
 use Rattle.jp_iregexp.specs.Tree.{tree, branches, pieces, repeat}
 use Rattle.jp_iregexp.specs.Positions.{positions_of}
 use Rattle.jp_iregexp.proofs.Trees.{tree_class, tree_either, tree_sequence, tree_repeat}
-use Rattle.jp_match.specs.Private.Plain.{unrolled, counted, between, at_least}
-use Rattle.jp_match.specs.Private.Marks.{Ends}
+use Rattle.jp_match.specs.Private.Plain.{unrolled, counted}
 use Rattle.jp_match.proofs.EmptyWords.{step_empty_row, by_entered, not_entered}
 use Rattle.jp_match.proofs.EndParts.{ends_class}
 use Rattle.jp_match.proofs.Items.{drop_item, drop_all}
 use Rattle.jp_match.proofs.StepParts.{step_nowhere}
-use Rattle.jp_match.proofs.Turns.{EndsSoFar, part_is, size_unrolled, ends_next_piece, ends_next_branch, ends_end_pieces, ends_end_branches, ends_between, ends_between_end, ends_at_least, ends_at_least_end, ends_star}
+use Rattle.jp_match.proofs.Turns.{part_is, size_unrolled, ends_next_piece, ends_next_branch}
+use Rattle.jp_match.proofs.Turns.{ends_end_pieces, ends_end_branches, ends_between}
+use Rattle.jp_match.proofs.Turns.{ends_between_end, ends_at_least, ends_at_least_end, ends_star}
 use Rattle.jp_match.proofs.ending.+ends.Goals as goal
 
 pub ends-returns-then-not-is_any : goal.ends-returns-then-not-is_any
@@ -57,7 +59,8 @@ ends-ends_sequence-requires t c =
         c.requires.sized ∙
             ap (λ p. positions_of (tree p)) c.in-Sequence.is ∙
             ap positions_of (tree_sequence c.in-Sequence.pieces)
-            ∙ ap (λ ps. positions_of (pieces (map tree ps))) (sym c.deref-in-Sequence.ensures.value),
+            ∙ ap (λ ps. positions_of (pieces (map tree ps)))
+            (sym c.deref-in-Sequence.ensures.value),
         c.requires.few,
       ),
     )
@@ -119,13 +122,13 @@ ends_either-loop-branch-preserved t c =
     let item = drop_item c.args.parts.now c.loop-branch.branch-index c.branch-item.result
     c.loop-branch-test.true c.branch-item.is in
     let sized = rw item at c.loop-branch.invariant.sized in
-    let size : c.positions.result ≡ positions_of (tree c.branch-item.result) = omega (
+    let size : c.position_count.result ≡ positions_of (tree c.branch-item.result) = omega (
       arith,
       sized,
-      c.positions.ensures,
+      c.position_count.ensures,
       c.requires.few,
     ) in
-    let part = part_is c.args.row.now c.loop-branch.at c.positions.result in
+    let part = part_is c.args.row.now c.loop-branch.at c.position_count.result in
     record {
       sized = omega (arith, sized, size);
       so_far = ends_next_branch _ _ _ _ _ _ _ _ _ _ size (rw item at
@@ -143,13 +146,13 @@ ends_sequence-loop-piece-preserved t c =
     let item = drop_item c.args.parts.now c.loop-piece.piece-index c.piece-item.result
     c.loop-piece-test.true c.piece-item.is in
     let sized = rw item at c.loop-piece.invariant.sized in
-    let size : c.positions.result ≡ positions_of (tree c.piece-item.result) = omega (
+    let size : c.position_count.result ≡ positions_of (tree c.piece-item.result) = omega (
       arith,
       sized,
-      c.positions.ensures,
+      c.position_count.ensures,
       c.requires.few,
     ) in
-    let part = part_is c.args.row.now c.loop-piece.at c.positions.result in
+    let part = part_is c.args.row.now c.loop-piece.at c.position_count.result in
     record {
       sized = omega (arith, sized, size);
       so_far = ends_next_piece _ _ _ _ _ _ _ _ _ _ size (rw item at c.loop-piece.invariant.so_far)

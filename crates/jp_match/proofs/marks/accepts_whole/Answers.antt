@@ -1,11 +1,10 @@
-use Rattle.std.proofs.Common.{◌≡◌, ◌≤◌, ◌<◌, length, drop, sym, subst, ◌∙◌, arith, [], ◌∷◌}
+use Rattle.std.proofs.Common.{length, drop, sym, subst, ◌∙◌, arith}
 use Rattle.std.proofs.lemmas.Iterator.{YieldsList-from_chars}
 use Rattle.std.proofs.lemmas.Iterator.Consumers.{YieldsList-turn, YieldsList-end}
 use Rattle.std.proofs.lemmas.List.{length_push}
 use Rattle.std.specs.Str.{chars}
-use Rattle.jp_iregexp.specs.Positions.{positions_of}
-use Rattle.jp_match.specs.Scan.{Left, tree_of}
-use Rattle.jp_match.proofs.Prefixes.{taken_more, taken_all, taken_rest, left_more, left_nil, within_all}
+use Rattle.jp_match.specs.Scan.{Left}
+use Rattle.jp_match.proofs.Prefixes.{taken_more, taken_all, taken_rest, left_more, left_nil}
 use Rattle.jp_match.proofs.marks.accepts_whole.Goals as goal
 
 pub returns-then-is_spent-clause-accepted : goal.returns-then-is_spent-clause-accepted

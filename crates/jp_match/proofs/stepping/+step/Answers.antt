@@ -1,20 +1,25 @@
-use Rattle.std.proofs.Common.{◌≡◌, ◌↔◌, ℕ, ◌+◌, ◌-◌, ◌*◌, ◌/◌, ◌≤◌, ◌<◌, suc, false, IsTrue, List, [], ◌∷◌, map, take, drop, get_or, length, refl, sym, ap, ◌∙◌, subst, arith, rules}
-use Rattle.std.proofs.lemmas.List.{take_all, length-take, length-drop}
+use Rattle.std.proofs.Common.{List, [], ◌∷◌, Vec, Global, ◌≡◌, ◌+◌, ◌-◌, ◌*◌, ◌≤◌, suc, false}
+use Rattle.std.proofs.Common.{map, drop, length, refl, sym, ap, ◌∙◌, subst, arith, rules}
+use Rattle.std.proofs.lemmas.List.{length-take, length-drop}
 use Rattle.std.proofs.lemmas.Bool.{leb-true, le-leb}
 use denote.Param.Weighed.{most}
-use borrow.Rule.Slice.PartMut.{put_mid}
 use Rattle.jp_iregexp.proofs.pattern.Pattern.TheLaws.{the_size}
+use Rattle.jp_iregexp.specs.declared.pattern.Pattern.{Pattern}
 use Rattle.jp_iregexp.specs.declared.pattern.Pattern.TheVariants as pattern
-use Rattle.jp_iregexp.specs.declared.pattern.Pattern.TheViews.{sized-Either, sized-Sequence, sized-Repeat}
+use Rattle.jp_iregexp.specs.declared.pattern.Pattern.TheViews.{sized-Either, sized-Sequence}
+use Rattle.jp_iregexp.specs.declared.pattern.Pattern.TheViews.{sized-Repeat}
 use Rattle.jp_iregexp.specs.Tree.{tree, branches, pieces, repeat}
 use Rattle.jp_iregexp.specs.Positions.{positions_of}
 use Rattle.jp_iregexp.proofs.Trees.{tree_class, tree_either, tree_sequence, tree_repeat}
-use Rattle.jp_match.specs.Private.Plain.{unrolled, counted, between, at_least}
-use Rattle.jp_match.specs.Private.Marks.{Steps}
+use Rattle.jp_match.specs.Private.Plain.{unrolled, counted}
 use Rattle.jp_match.proofs.EmptyWords.{step_empty_row, by_entered, not_entered}
 use Rattle.jp_match.proofs.Items.{drop_item, drop_all, only_item}
-use Rattle.jp_match.proofs.StepParts.{step_class, step_nowhere, step_plus}
-use Rattle.jp_match.proofs.Turns.{StepsSoFar, part_is, put_long, turned, size_unrolled, steps_next_piece, steps_next_branch, steps_end_pieces, steps_end_branches, steps_copy, steps_copies_end, steps_at_least, steps_at_least_end, steps_star, steps_only_branch, steps_only_piece}
+use Rattle.jp_match.proofs.StepParts.{step_nowhere, step_plus}
+use Rattle.jp_match.proofs.Turns.{StepsSoFar, part_is, put_long, turned, size_unrolled}
+use Rattle.jp_match.proofs.Turns.{steps_next_piece, steps_next_branch, steps_end_pieces}
+use Rattle.jp_match.proofs.Turns.{steps_end_branches, steps_stop, steps_copy}
+use Rattle.jp_match.proofs.Turns.{steps_copies_end, steps_at_least, steps_at_least_end}
+use Rattle.jp_match.proofs.Turns.{steps_star, steps_only_branch, steps_only_piece}
 use Rattle.jp_match.proofs.stepping.+step.Goals as goal
 
 pub step-returns-then-not-is_any-clause-step : goal.step-returns-then-not-is_any-clause-step
@@ -56,7 +61,8 @@ step-step_sequence-requires t c =
         c.requires.sized ∙
             ap (λ p. positions_of (tree p)) c.in-Sequence.is ∙
             ap positions_of (tree_sequence c.in-Sequence.pieces)
-            ∙ ap (λ ps. positions_of (pieces (map tree ps))) (sym c.deref-in-Sequence.ensures.value),
+            ∙ ap (λ ps. positions_of (pieces (map tree ps)))
+            (sym c.deref-in-Sequence.ensures.value),
         c.requires.few,
       ),
     )
@@ -124,20 +130,20 @@ step_either-loop-branch-preserved t c =
     let item = drop_item c.args.parts.now c.loop-branch.branch-index c.branch-item.result
     c.loop-branch-test.true c.branch-item.is in
     let sized = rw item at c.loop-branch.invariant.sized in
-    let size : c.positions.result ≡ positions_of (tree c.branch-item.result) = omega (
+    let size : c.position_count.result ≡ positions_of (tree c.branch-item.result) = omega (
       arith,
       sized,
-      c.positions.ensures,
+      c.position_count.ensures,
       c.requires.few,
       c.loop-branch.invariant.long,
     ) in
-    let within : c.loop-branch.at + c.positions.result ≤ length c.loop-branch.row = omega (
+    let within : c.loop-branch.at + c.position_count.result ≤ length c.loop-branch.row = omega (
       arith,
       sized,
       size,
     ) in
-    let part = part_is c.loop-branch.row c.loop-branch.at c.positions.result in
-    let w = turned c.loop-branch.row c.step-ended.new.row c.loop-branch.at c.positions.result
+    let part = part_is c.loop-branch.row c.loop-branch.at c.position_count.result in
+    let w = turned c.loop-branch.row c.step-ended.new.row c.loop-branch.at c.position_count.result
     within c.step-ended.auto.row in
     record {
       long = w.same ∙ c.loop-branch.invariant.long;
@@ -169,35 +175,62 @@ step_sequence-loop-piece-preserved t c =
     let item = drop_item c.args.parts.now c.loop-piece.piece-index c.piece-item.result
     c.loop-piece-test.true c.piece-item.is in
     let sized = rw item at c.loop-piece.invariant.sized in
-    let size : c.positions.result ≡ positions_of (tree c.piece-item.result) = omega (
+    let size : c.position_count.result ≡ positions_of (tree c.piece-item.result) = omega (
       arith,
       sized,
-      c.positions.ensures,
+      c.position_count.ensures,
       c.requires.few,
       c.loop-piece.invariant.long,
     ) in
-    let within : c.loop-piece.at + c.positions.result ≤ length c.loop-piece.row = omega (
+    let within : c.loop-piece.at + c.position_count.result ≤ length c.loop-piece.row = omega (
       arith,
       sized,
       size,
     ) in
-    let part = part_is c.loop-piece.row c.loop-piece.at c.positions.result in
-    let w = turned c.loop-piece.row c.step-through.new.row c.loop-piece.at c.positions.result
-    within c.step-through.auto.row in
+    let part = part_is c.loop-piece.row c.loop-piece.at c.position_count.result in
+    let w = turned c.loop-piece.row c.step-ended.new.row c.loop-piece.at c.position_count.result
+    within c.step-ended.auto.row in
     record {
       long = w.same ∙ c.loop-piece.invariant.long;
       sized = omega (arith, sized, size, w.same);
       so_far = steps_next_piece _ _ _ _ _ _ _ _ _ _ _ _ _ size w.long w.written (rw item at
-          c.loop-piece.invariant.so_far) (rw part at c.step-through.ensures.step);
+          c.loop-piece.invariant.so_far) (rw part at c.step-ended.ensures.step);
       counted = omega (
         arith,
-        c.step-through.ensures.counted,
+        c.step-ended.ensures.counted,
         c.loop-piece.invariant.counted,
         w.long,
-        c.step-through.auto.row,
+        c.step-ended.auto.row,
       );
-      kept = omega (arith, c.step-through.ensures.kept, c.loop-piece.invariant.kept);
+      kept = omega (arith, c.step-ended.ensures.kept, c.loop-piece.invariant.kept);
     }
+
+pub step_sequence-returns-then-not-is_any-clause-step :
+    goal.step_sequence-returns-then-not-is_any-clause-step
+step_sequence-returns-then-not-is_any-clause-step t c =
+    let item = drop_item c.args.parts.now c.loop-piece.piece-index c.piece-item.result
+    c.loop-piece-test.true c.piece-item.is in
+    let sized = rw item at c.loop-piece.invariant.sized in
+    let size : c.position_count.result ≡ positions_of (tree c.piece-item.result) = omega (
+      arith,
+      sized,
+      c.position_count.ensures,
+      c.requires.few,
+      c.loop-piece.invariant.long,
+    ) in
+    let within : c.loop-piece.at + c.position_count.result ≤ length c.loop-piece.row = omega (
+      arith,
+      sized,
+      size,
+    ) in
+    let part = part_is c.loop-piece.row c.loop-piece.at c.position_count.result in
+    let w = turned c.loop-piece.row c.step-ended.new.row c.loop-piece.at c.position_count.result
+    within c.step-ended.auto.row in
+    let ended : c.step-ended.result ≡ false = c.if-not-ended.true in
+    steps_stop _ _ _ _ _ _ _ (λ k m. let any = c.is_any.ensures.1 (k, m) in
+    let not = c.if-not-is_any.true in cc)
+    (steps_next_piece _ _ _ _ _ _ _ _ _ _ _ _ _ size w.long w.written (rw item at
+    c.loop-piece.invariant.so_far) (rw (part, ended) at c.step-ended.ensures.step))
 
 pub step_sequence-returns-clause-step : goal.step_sequence-returns-clause-step
 step_sequence-returns-clause-step t c =
@@ -208,15 +241,15 @@ step_sequence-returns-clause-step t c =
 
 pub step_between-loop-copies-preserved : goal.step_between-loop-copies-preserved
 step_between-loop-copies-preserved t c =
-    let n = length c.args.row.now / c.args.most in
+    let n = c.copy_size-size.result in
     let left : c.args.most - c.loop-copies.copies ≡ suc (c.args.most - (c.loop-copies.copies + 1))
     = omega arith in
     let sized = rw left at c.loop-copies.invariant.sized in
-    let within : c.loop-copies.at + length c.args.row.now / c.args.most ≤ length c.loop-copies.row
+    let within : c.loop-copies.at + c.copy_size-size.result ≤ length c.loop-copies.row
     = omega (arith, sized, c.loop-copies.invariant.size) in
-    let part = part_is c.loop-copies.row c.loop-copies.at (length c.args.row.now / c.args.most) in
-    let w = turned c.loop-copies.row c.step-through.new.row c.loop-copies.at (length c.args.row.now
-    / c.args.most) within c.step-through.auto.row in
+    let part = part_is c.loop-copies.row c.loop-copies.at c.copy_size-size.result in
+    let w = turned c.loop-copies.row c.step-through.new.row c.loop-copies.at
+    c.copy_size-size.result within c.step-through.auto.row in
     record {
       long = w.same ∙ c.loop-copies.invariant.long;
       size = c.loop-copies.invariant.size;
@@ -253,11 +286,11 @@ step_at_least-loop-preserved t c =
     let left : c.args.least - c.loop.counter ≡ suc (c.args.least - (c.loop.counter + 1)) = omega
     arith in
     let sized = rw left at c.loop.invariant.sized in
-    let within : c.loop.at + length c.args.row.now / c.args.least ≤ length c.loop.row = omega
+    let within : c.loop.at + c.copy_size-size.result ≤ length c.loop.row = omega
     (arith, sized, c.loop.invariant.size) in
-    let part = part_is c.loop.row c.loop.at (length c.args.row.now / c.args.least) in
-    let w = turned c.loop.row c.step-through.new.row c.loop.at (length c.args.row.now /
-    c.args.least) within c.step-through.auto.row in
+    let part = part_is c.loop.row c.loop.at c.copy_size-size.result in
+    let w = turned c.loop.row c.step-through.new.row c.loop.at c.copy_size-size.result
+    within c.step-through.auto.row in
     record {
       long = w.same ∙ c.loop.invariant.long;
       size = c.loop.invariant.size;
@@ -324,8 +357,47 @@ step_at_least-returns-clause-step t c =
 pub step_plus-returns-clause-step : goal.step_plus-returns-clause-step
 step_plus-returns-clause-step t c = step_plus _ _ _ _ _ _ _ c.ends-again.ensures c.step.ensures.step
 
-pub step_either-returns-in-len1-clause-step : goal.step_either-returns-in-len1-clause-step
-step_either-returns-in-len1-clause-step t c =
+-- the only branch is these pieces
+only_pieces : (ps : List Pattern) (p : Pattern) (v : Vec Pattern Global) (qs : List Pattern) →
+    ps ≡ p ∷ [] → p ≡ pattern.Sequence v → qs ≡ v.items →
+    branches (map tree ps) ≡ branches (pieces (map tree qs) ∷ [])
+only_pieces ps p v qs only is items =
+    let whole : tree p ≡ pieces (map tree qs) = ap tree is ∙ tree_sequence v ∙ ap (λ q. pieces (map
+    tree q)) (sym items) in
+    ap (λ q. branches (map tree q)) only ∙ ap (λ a. branches (a ∷ [])) whole
+
+pub step_either-step_sequence-requires : goal.step_either-step_sequence-requires
+step_either-step_sequence-requires t c =
+    let only = only_item c.args.parts.now c.only-item.result c.in-len1.len_at_least
+    c.in-len1.len_below c.only-item.is in
+    let same = only_pieces _ _ _ _ only c.in-Sequence.is c.deref.ensures.value in
+    let sized = rw same at c.requires.sized in
+    let deep : 4 * most the_size c.args.parts.now + 1 ≡ t = c.decreases in (
+      omega (
+        arith,
+        deep,
+        ap (most the_size) only,
+        ap the_size c.in-Sequence.is,
+        sized-Sequence c.in-Sequence.pieces,
+        ap (most the_size) c.deref.ensures.value,
+      ),
+      (omega (arith, sized), c.requires.few),
+    )
+
+pub step_either-returns-in-Sequence-clause-step : goal.step_either-returns-in-Sequence-clause-step
+step_either-returns-in-Sequence-clause-step t c =
+    let only = only_item c.args.parts.now c.only-item.result c.in-len1.len_at_least
+    c.in-len1.len_below c.only-item.is in
+    let same = only_pieces _ _ _ _ only c.in-Sequence.is c.deref.ensures.value in
+    let sized = rw same at c.requires.sized in
+    rw same (steps_only_branch (pieces (map tree c.deref.result.now)) _ _ _ _ _ (omega (
+      arith,
+      sized,
+    )) c.step_sequence.auto.row c.step_sequence.ensures.step)
+
+pub step_either-returns-in_default-only-clause-step :
+    goal.step_either-returns-in_default-only-clause-step
+step_either-returns-in_default-only-clause-step t c =
     let only = only_item c.args.parts.now c.only-item.result c.in-len1.len_at_least
     c.in-len1.len_below c.only-item.is in
     let sized = rw only at c.requires.sized in

@@ -1,7 +1,7 @@
 use Rattle.std.proofs.Common.{ℕ, true, ap, ◌∙◌}
 use Rattle.std.proofs.lemmas.Result.{err_from_is_err_and}
 use Rattle.jp_reading.specs.Views.{by}
-use Rattle.jp_query.proofs.WordsAndDigits.{digits-natural, digits-fail}
+use Rattle.jp_query.proofs.Readers.WordsAndDigits.{digits-natural, digits-fail}
 use Rattle.jp_query.proofs.literals.digits.Goals as goal
 
 pub returns-in_err-natural : goal.returns-in_err-natural

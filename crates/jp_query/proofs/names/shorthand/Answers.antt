@@ -1,5 +1,5 @@
 use Rattle.std.proofs.Common.{sym}
-use Rattle.jp_query.proofs.Runs.{shorthand-run}
+use Rattle.jp_query.proofs.Readers.Runs.{shorthand-run}
 use Rattle.jp_query.proofs.names.shorthand.Goals as goal
 
 pub returns-in-Some : goal.returns-in-Some

@@ -4,8 +4,8 @@ use Rattle.jp_query.specs.Levels.{level_limit}
 use Rattle.jp_query.specs.Tree.{query_of}
 use Rattle.jp_query.specs.Grammar.{Spells}
 use Rattle.jp_query.specs.Private.Reading.{query_at}
-use Rattle.jp_query.proofs.Whole.{read-spells}
-use Rattle.jp_query.proofs.Refused.{refused-only, refused-kinds, refused-syntax, refused-deep}
+use Rattle.jp_query.proofs.Soundness.Whole.{read-spells}
+use Rattle.jp_query.proofs.Refusals.Refused.{refused-only, refused-kinds, refused-syntax, refused-deep}
 use Rattle.jp_query.proofs.parsed.parse.Goals as goal
 
 pub returns-in-Ok-clause-found : goal.returns-in-Ok-clause-found
@@ -17,16 +17,14 @@ returns-in-Ok-clause-found c =
 pub invariant_of-result : goal.invariant_of-result
 invariant_of-result c =
     let spells : Spells level_limit (query_of c.in-Ok.query) c.into_spans.result.items
-    (chars c.args.text.now) =
-    rw c.into_spans.ensures
+    (chars c.args.text.now) = rw c.into_spans.ensures
     (read-spells level_limit (chars c.args.text.now) (query_of c.in-Ok.query) c.query.new.reader
     (ap (query_at level_limit) (sym c.new-reader.ensures) ∙ c.in-Ok.ensures)) in
     (chars c.args.text.now, spells)
 
 pub returns-in-Err-clause-only : goal.returns-in-Err-clause-only
 returns-in-Err-clause-only c =
-    rw c.from.ensures
-    (refused-only level_limit
+    rw c.from.ensures (refused-only level_limit
     (chars c.args.text.now) c.new-reader.result c.in-Err.stop c.new-reader.ensures c.in-Err.ensures)
 
 pub returns-in-Err-clause-kinds : goal.returns-in-Err-clause-kinds
@@ -34,12 +32,10 @@ returns-in-Err-clause-kinds c = rw c.from.ensures (refused-kinds c.in-Err.stop)
 
 pub returns-in-Err-clause-syntax : goal.returns-in-Err-clause-syntax
 returns-in-Err-clause-syntax c =
-    rw c.from.ensures
-    (refused-syntax level_limit
+    rw c.from.ensures (refused-syntax level_limit
     (chars c.args.text.now) c.new-reader.result c.in-Err.stop c.new-reader.ensures c.in-Err.ensures)
 
 pub returns-in-Err-clause-deep : goal.returns-in-Err-clause-deep
 returns-in-Err-clause-deep c =
-    rw c.from.ensures
-    (refused-deep level_limit
+    rw c.from.ensures (refused-deep level_limit
     (chars c.args.text.now) c.new-reader.result c.in-Err.stop c.new-reader.ensures c.in-Err.ensures)

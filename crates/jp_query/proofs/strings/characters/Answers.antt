@@ -33,15 +33,15 @@ returns-in_err-next c =
     let text = chars (string_bytes c.characters.text) in
     rw (p.1, p.2, ← c.characters.invariant)
     (folds_fail (λ q. passes (begins_character c.args.quote) (head q))
-    (read_flat (string_character c.args.quote)) (character-progress c.args.quote)
-    (λ ys. text ++ ys)
+    (read_flat (string_character c.args.quote)) (character-progress c.args.quote) (λ ys. text ++ ys)
     c.characters.reader c.in_err-next.field-0.0
     (sym c.is_at_character.ensures ∙ c.characters-test.true) c.in_err-next.ensures)
 
 pub characters-smaller : goal.characters-smaller
 characters-smaller c =
     moved (read_flat (string_character c.args.quote))
-    (character-progress c.args.quote) c.characters.reader c.character.new.reader c.in_ok-next.next c.in_ok-next.ensures
+    (character-progress c.args.quote) c.characters.reader c.character.new.reader c.in_ok-next.next
+    c.in_ok-next.ensures
 
 pub characters-preserved : goal.characters-preserved
 unfolding characters
@@ -61,8 +61,7 @@ characters-preserved c =
 pub returns : goal.returns
 unfolding characters
 returns c =
-    sym c.characters.invariant
-    ∙ pushes_end (λ q. passes (begins_character c.args.quote) (head q))
+    sym c.characters.invariant ∙ pushes_end (λ q. passes (begins_character c.args.quote) (head q))
     (read_flat (string_character c.args.quote))
     (chars (string_bytes c.characters.text)) c.characters.reader
     (sym c.is_at_character.ensures ∙ c.characters-test.false)

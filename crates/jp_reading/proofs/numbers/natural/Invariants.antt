@@ -6,7 +6,8 @@ use Rattle.jp_reading.proofs.numbers.natural.Given as goal
 
 abbrev pub invariant-digits : goal.invariant-digits
 invariant-digits l =
-    by (capped l.fn.cap 0) (digits_at l.fn.reader) ≡ by (capped l.fn.cap l.number) (each is_at_digit digit_at l.reader)
+    by (capped l.fn.cap 0) (digits_at l.fn.reader) ≡ by (capped l.fn.cap l.number)
+    (each is_at_digit digit_at l.reader)
 
 abbrev pub decreases-digits : goal.decreases-digits
 decreases-digits l = length l.reader.rest

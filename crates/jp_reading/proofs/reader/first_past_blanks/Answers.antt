@@ -4,13 +4,15 @@ use Rattle.jp_reading.proofs.reader.first_past_blanks.Goals as goal
 
 pub returns-then-not-is_blank : goal.returns-then-not-is_blank
 returns-then-not-is_blank c =
-    sym (first_past-other _ _ c.in-Some.first c.in-Some.ensures.parts.0 (sym c.is_blank.ensures ∙ c.if-not-is_blank.true))
+    sym (first_past-other _ _ c.in-Some.first c.in-Some.ensures.parts.0
+    (sym c.is_blank.ensures ∙ c.if-not-is_blank.true))
     ∙ c.blanks.invariant.1
 
 pub blanks-preserved : goal.blanks-preserved
 blanks-preserved c = (
   c.in-Some.ensures.text,
-  first_past-blank _ _ c.in-Some.first c.in-Some.ensures.parts.0 (sym c.is_blank.ensures ∙ c.if-not-is_blank.false)
+  first_past-blank _ _ c.in-Some.first c.in-Some.ensures.parts.0
+      (sym c.is_blank.ensures ∙ c.if-not-is_blank.false)
       ∙ c.blanks.invariant.1,
 )
 

@@ -7,8 +7,7 @@ use Rattle.jp_reading.proofs.reader.first_past_blanks.Given as goal
 
 abbrev pub invariant-blanks : goal.invariant-blanks
 invariant-blanks l =
-    shadow (Utf8 l.rest)
-    × (after_blank (record { at = 0; rest = chars l.rest; found = [] })
+    shadow (Utf8 l.rest) × (after_blank (record { at = 0; rest = chars l.rest; found = [] })
     ≡ after_blank (record { at = 0; rest = chars l.fn.text; found = [] }))
 
 abbrev pub decreases-blanks : goal.decreases-blanks

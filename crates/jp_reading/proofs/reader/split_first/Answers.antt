@@ -9,7 +9,9 @@ returns-clause-parts c =
     let first = c.in_ok-first.first in
     let rest = c.as_str.result.now in
     let whole : c.args.text.now ≡ encode_utf8 first ++ rest =
-    sym c.chars-characters.ensures.rest ∙ c.in_ok-first.ensures.steps.0 ∙ ap (λ t. encode_utf8 first ++ t) (sym c.as_str.ensures) in (
+    sym c.chars-characters.ensures.rest ∙ c.in_ok-first.ensures.steps.0
+    ∙ ap (λ t. encode_utf8 first ++ t) (sym c.as_str.ensures) in (
       chars_past_char c.args.text.now rest first c.utf8.text whole,
-      ap length whole ∙ length-append (encode_utf8 first) rest ∙ ap (λ n. n + length rest) (length-encode first),
+      ap length whole ∙ length-append (encode_utf8 first) rest
+          ∙ ap (λ n. n + length rest) (length-encode first),
     )

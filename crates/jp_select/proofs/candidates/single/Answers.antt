@@ -9,4 +9,6 @@ pub returns-in-Name : goal.returns-in-Name
 returns-in-Name c =
     let v = lent_value c.args.value in
     c.member.ensures
-    ∙ sym (ap (λ s. single (selector_of s) v) c.in-Name.is ∙ single-name v c.in-Name.name c.as_str.result.now c.as_str.utf8 c.as_str.ensures.value)
+    ∙ sym
+    (ap (λ s. single (selector_of s) v) c.in-Name.is
+    ∙ single-name v c.in-Name.name c.as_str.result.now c.as_str.utf8 c.as_str.ensures.value)

@@ -4,15 +4,22 @@ use Rattle.jp_select.specs.Comparison.{equals}
 use Rattle.jp_select.proofs.Sameness.{equals-exact, items_unlike, members_unlike}
 use Rattle.jp_select.proofs.comparable.+equals.Goals as goal
 
-pub Comparable::equals-returns-in-List-List-clause-same : goal.Comparable::equals-returns-in-List-List-clause-same
+pub Comparable::equals-returns-in-List-List-clause-same :
+    goal.Comparable::equals-returns-in-List-List-clause-same
 Comparable::equals-returns-in-List-List-clause-same t c =
-    let sides = ap₂ equals (ap comparable_of c.in-List-List.is-0) (ap comparable_of c.in-List-List.is-1) in
-    equals-exact (comparable_of c.args.self) (comparable_of c.args.other) c.same_items.result (c.same_items.ensures ∙ sym sides)
+    let sides =
+    ap₂ equals (ap comparable_of c.in-List-List.is-0) (ap comparable_of c.in-List-List.is-1) in
+    equals-exact (comparable_of c.args.self) (comparable_of c.args.other) c.same_items.result
+    (c.same_items.ensures ∙ sym sides)
 
-pub Comparable::equals-returns-in-Members-Members-clause-same : goal.Comparable::equals-returns-in-Members-Members-clause-same
+pub Comparable::equals-returns-in-Members-Members-clause-same :
+    goal.Comparable::equals-returns-in-Members-Members-clause-same
 Comparable::equals-returns-in-Members-Members-clause-same t c =
-    let sides = ap₂ equals (ap comparable_of c.in-Members-Members.is-0) (ap comparable_of c.in-Members-Members.is-1) in
-    equals-exact (comparable_of c.args.self) (comparable_of c.args.other) c.same_members.result (c.same_members.ensures ∙ sym sides)
+    let sides =
+    ap₂ equals (ap comparable_of c.in-Members-Members.is-0)
+    (ap comparable_of c.in-Members-Members.is-1) in
+    equals-exact (comparable_of c.args.self) (comparable_of c.args.other) c.same_members.result
+    (c.same_members.ensures ∙ sym sides)
 
 pub same_items-returns-then-lefts-rights : goal.same_items-returns-then-lefts-rights
 same_items-returns-then-lefts-rights t c =

@@ -24,9 +24,11 @@ invariant-same_items-loop-left l =
     let xs = iter_rest l.left-iterator.a in
     let ys = iter_rest l.left-iterator.b in
     record {
-      same : same_items (items_of (map value_of l.lefts)) (items_of (map value_of l.rights)) ≡ same_items (items_of (map value_of xs)) (items_of (map value_of ys));
+      same : same_items (items_of (map value_of l.lefts)) (items_of (map value_of l.rights)) ≡
+          same_items (items_of (map value_of xs)) (items_of (map value_of ys));
       long : length xs ≡ length ys;
-      within : weight_items (items_of (map value_of xs)) ≤ weight_items (items_of (map value_of l.lefts));
+      within : weight_items (items_of (map value_of xs)) ≤ weight_items
+          (items_of (map value_of l.lefts));
     }
 
 abbrev pub invariant-same_members-loop-member : goal.invariant-same_members-loop-member
@@ -34,7 +36,10 @@ invariant-same_members-loop-member l =
     let xs = iter_rest l.member-iterator.a in
     let ys = iter_rest l.member-iterator.b in
     record {
-      same : same_members (members_of (map member_of l.members)) (members_of (map member_of l.others)) ≡ same_members (members_of (map member_of xs)) (members_of (map member_of ys));
+      same : same_members (members_of (map member_of l.members))
+          (members_of (map member_of l.others)) ≡
+          same_members (members_of (map member_of xs)) (members_of (map member_of ys));
       long : length xs ≡ length ys;
-      within : weight_members (members_of (map member_of xs)) ≤ weight_members (members_of (map member_of l.members));
+      within : weight_members (members_of (map member_of xs)) ≤ weight_members
+          (members_of (map member_of l.members));
     }

@@ -1,9 +1,9 @@
-use Rattle.std.proofs.Common.{◌≡◌, ◌+◌, ◌<◌, arith, length, Some, None, ap, ap₂, sym, ◌∙◌}
+use Rattle.std.proofs.Common.{◌≡◌, ◌+◌, ◌<◌, arith, length, map, Some, None, ap, ap₂, sym, ◌∙◌}
 use Rattle.std.specs.List.{slice_get}
 use Rattle.std.proofs.lemmas.List.{length_push}
 use Rattle.std.proofs.lemmas.Option.{slice_get_within}
 use Rattle.jp_document.specs.DocumentValue.{lent_entry}
-use Rattle.jp_document.specs.Node.{told, told_entry}
+use Rattle.jp_document.specs.Node.{node_below, node_of}
 use Rattle.jp_document.specs.Value.{value_of}
 use Rattle.jp_query.specs.Tree.{selector_of}
 use Rattle.jp_select.specs.Candidates.{candidates}
@@ -20,10 +20,15 @@ loop-step-preserved c =
     let entry : slice_get (candidates s (value_of n.value)) i ≡ Some e =
     ap (λ v. slice_get (candidates s v) i) (sym c.document_value.ensures)
     ∙ sym c.in-Some.ensures.entry in
-    let is : told c.in_ok-below.field-0 ≡ told_entry n.location e =
-    ap₂ (λ l v. (l, v)) c.in_ok-below.ensures.location c.in_ok-below.ensures.value in
-    next_chosen n.location (candidates s (value_of n.value)) _ nodes c.push.new.self.items c.in_ok-below.field-0 e i
-    (c.len.ensures ∙ c.loop-step.nodes.ok.0) entry is c.in_ok-push.ensures.items c.loop-step.invariant
+    let is : node_of c.in_ok-below.field-0 ≡ node_below n.location e =
+    ap₂ (λ l v. record {
+      location = l;
+      value = v;
+    }) c.in_ok-below.ensures.location c.in_ok-below.ensures.value in
+    next_chosen n.location (candidates s (value_of n.value)) _ nodes c.push.new.self.items
+    c.in_ok-below.field-0 e i
+    (c.len.ensures ∙ c.loop-step.nodes.ok.0) entry is c.in_ok-push.ensures.items
+    c.loop-step.invariant
 
 pub loop-step-smaller : goal.loop-step-smaller
 loop-step-smaller c =
@@ -33,7 +38,8 @@ loop-step-smaller c =
     let cs = candidates (selector_of c.args.selector.now) (value_of n.value) in
     let e = lent_entry (c.in-Some.step, c.in-Some.value) in
     let entry : slice_get cs i ≡ Some e =
-    ap (λ v. slice_get (candidates (selector_of c.args.selector.now) v) i) (sym c.document_value.ensures)
+    ap (λ v. slice_get (candidates (selector_of c.args.selector.now) v) i)
+    (sym c.document_value.ensures)
     ∙ sym c.in-Some.ensures.entry in
     let within : i < length cs = slice_get_within cs i e entry in
     let at : i ≡ length nodes = c.len.ensures ∙ c.loop-step.nodes.ok.0 in
@@ -49,5 +55,7 @@ returns c = λ d stands.
     let past : slice_get (candidates s (value_of n.value)) i ≡ None =
     ap (λ v. slice_get (candidates s v) i) (sym c.document_value.ensures)
     ∙ sym c.in_default-candidate.ensures.entry in
-    chosen_nodes s d n c.loop-step.nodes.items (is_plain c.args.selector.now c.in_default.not-Filter) stands
-    (all_chosen n.location (candidates s (value_of n.value)) c.loop-step.nodes.items i (c.len.ensures ∙ c.loop-step.nodes.ok.0) past c.loop-step.invariant)
+    chosen_nodes s d (node_of n) (map node_of c.loop-step.nodes.items)
+    (is_plain c.args.selector.now c.in_default.not-Filter) stands
+    (all_chosen n.location (candidates s (value_of n.value)) c.loop-step.nodes.items i
+    (c.len.ensures ∙ c.loop-step.nodes.ok.0) past c.loop-step.invariant)

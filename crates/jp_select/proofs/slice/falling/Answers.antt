@@ -1,4 +1,5 @@
-use Rattle.std.proofs.Common.{◌≡◌, ◌*◌, ◌<◌, ◌≤◌, ◌-◌, ◌^◌, ℤ, pos, negsuc, ◌+ℤ◌, ◌-ℤ◌, Some, unwrap_or, sym, ap, ◌∙◌, arith, rules, to_z, of_z}
+use Rattle.std.proofs.Common.{◌≡◌, ◌*◌, ◌<◌, ◌≤◌, ◌-◌, ◌^◌, ℤ, pos, negsuc, ◌+ℤ◌, ◌-ℤ◌}
+use Rattle.std.proofs.Common.{Some, unwrap_or, sym, ap, ◌∙◌, arith, rules, to_z, of_z}
 use Rattle.std.specs.Int.{w128}
 use Rattle.std.specs.List.{slice_get}
 use Rattle.std.proofs.lemmas.Int.{ints, to_z-of_z}
@@ -27,10 +28,12 @@ returns-then-lower-above-clause-index c =
     ∙ ap bound end in
     let small : a < 2 ^ 64 = omega arith in
     let at : c.saturating_sub-above.result ≡ a - s * p =
-    difference_held a (s * p) c.saturating_mul.result c.saturating_sub-above.result small c.saturating_mul.ensures c.saturating_sub-above.ensures in
+    difference_held a (s * p) c.saturating_mul.result c.saturating_sub-above.result small
+    c.saturating_mul.ensures c.saturating_sub-above.ensures in
     ap (λ k. Some (k - 1)) at
     ∙ sym (falling-at p l a s n (omega arith) c.one_higher-upper.ensures.within c.requires)
-    ∙ ap (λ is. slice_get is p) (falling-starts n c.args.start c.args.end s l a c.requires lower upper)
+    ∙ ap (λ is. slice_get is p)
+    (falling-starts n c.args.start c.args.end s l a c.requires lower upper)
 
 pub returns-then-lower-above-clause-more : goal.returns-then-lower-above-clause-more
 returns-then-lower-above-clause-more c =
@@ -39,7 +42,8 @@ returns-then-lower-above-clause-more c =
     let a = c.one_higher-upper.result in
     let small : a < 2 ^ 64 = omega arith in
     let at : c.saturating_sub-above.result ≡ a - s * p =
-    difference_held a (s * p) c.saturating_mul.result c.saturating_sub-above.result small c.saturating_mul.ensures c.saturating_sub-above.ensures in
+    difference_held a (s * p) c.saturating_mul.result c.saturating_sub-above.result small
+    c.saturating_mul.ensures c.saturating_sub-above.ensures in
     let more = position_within s p c.requires in
     omega arith
 
@@ -63,7 +67,9 @@ returns-else-lower-above-clause-index c =
     ∙ ap bound end in
     let small : a < 2 ^ 64 = omega arith in
     let at : c.saturating_sub-above.result ≡ a - s * p =
-    difference_held a (s * p) c.saturating_mul.result c.saturating_sub-above.result small c.saturating_mul.ensures c.saturating_sub-above.ensures in
+    difference_held a (s * p) c.saturating_mul.result c.saturating_sub-above.result small
+    c.saturating_mul.ensures c.saturating_sub-above.ensures in
     let past : a - s * p ≤ l = omega arith in
     sym (falling-past p l a s n past c.one_higher-upper.ensures.within c.requires)
-    ∙ ap (λ is. slice_get is p) (falling-starts n c.args.start c.args.end s l a c.requires lower upper)
+    ∙ ap (λ is. slice_get is p)
+    (falling-starts n c.args.start c.args.end s l a c.requires lower upper)

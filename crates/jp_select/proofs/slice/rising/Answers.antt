@@ -1,10 +1,12 @@
-use Rattle.std.proofs.Common.{◌≡◌, ◌+◌, ◌*◌, ◌<◌, ◌≤◌, ◌^◌, ℤ, pos, Some, unwrap_or, sym, ap, ◌∙◌, arith, rules, to_z, of_z}
+use Rattle.std.proofs.Common.{◌≡◌, ◌+◌, ◌*◌, ◌<◌, ◌≤◌, ◌^◌, ℤ, pos, Some}
+use Rattle.std.proofs.Common.{unwrap_or, sym, ap, ◌∙◌, arith, rules, to_z, of_z}
 use Rattle.std.specs.Int.{w128}
 use Rattle.std.specs.List.{slice_get}
 use Rattle.std.proofs.lemmas.Int.{ints, to_z-of_z}
 use Rattle.jp_select.specs.Slice.{held_within, normalized, rising_lower, rising_upper}
 use Rattle.jp_select.proofs.Slices.{rising-starts}
-use Rattle.jp_select.proofs.SliceItems.{position_within, rising-at, rising-past, sum_past, sum_within}
+use Rattle.jp_select.proofs.SliceItems.{position_within, rising-at}
+use Rattle.jp_select.proofs.SliceItems.{rising-past, sum_past, sum_within}
 use Rattle.jp_select.proofs.slice.rising.Goals as goal
 
 pub returns-then-index-upper-clause-index : goal.returns-then-index-upper-clause-index
@@ -26,9 +28,11 @@ returns-then-index-upper-clause-index c =
     ∙ ap bound start in
     let small : u < 2 ^ 64 = omega arith in
     let at : c.saturating_add-index.result ≡ i + s * p =
-    sum_within i u (s * p) c.saturating_mul.result c.saturating_add-index.result small c.saturating_mul.ensures c.saturating_add-index.ensures c.if-index-upper.true in
+    sum_within i u (s * p) c.saturating_mul.result c.saturating_add-index.result small
+    c.saturating_mul.ensures c.saturating_add-index.ensures c.if-index-upper.true in
     ap Some at ∙ sym (rising-at p i u s n (omega arith) c.from_zero-upper.ensures.within c.requires)
-    ∙ ap (λ is. slice_get is p) (rising-starts n c.args.start c.args.end s i u c.requires lower upper)
+    ∙ ap (λ is. slice_get is p)
+    (rising-starts n c.args.start c.args.end s i u c.requires lower upper)
 
 pub returns-then-index-upper-clause-more : goal.returns-then-index-upper-clause-more
 returns-then-index-upper-clause-more c =
@@ -38,7 +42,8 @@ returns-then-index-upper-clause-more c =
     let u = c.from_zero-upper.result in
     let small : u < 2 ^ 64 = omega arith in
     let at : c.saturating_add-index.result ≡ i + s * p =
-    sum_within i u (s * p) c.saturating_mul.result c.saturating_add-index.result small c.saturating_mul.ensures c.saturating_add-index.ensures c.if-index-upper.true in
+    sum_within i u (s * p) c.saturating_mul.result c.saturating_add-index.result small
+    c.saturating_mul.ensures c.saturating_add-index.ensures c.if-index-upper.true in
     let more = position_within s p c.requires in
     omega arith
 
@@ -61,6 +66,8 @@ returns-else-index-upper-clause-index c =
     ∙ ap bound start in
     let small : u < 2 ^ 64 = omega arith in
     let past : u ≤ i + s * p =
-    sum_past i u (s * p) c.saturating_mul.result c.saturating_add-index.result small c.saturating_mul.ensures c.saturating_add-index.ensures c.if-index-upper.false in
+    sum_past i u (s * p) c.saturating_mul.result c.saturating_add-index.result small
+    c.saturating_mul.ensures c.saturating_add-index.ensures c.if-index-upper.false in
     sym (rising-past p i u s n past c.from_zero-upper.ensures.within c.requires)
-    ∙ ap (λ is. slice_get is p) (rising-starts n c.args.start c.args.end s i u c.requires lower upper)
+    ∙ ap (λ is. slice_get is p)
+    (rising-starts n c.args.start c.args.end s i u c.requires lower upper)

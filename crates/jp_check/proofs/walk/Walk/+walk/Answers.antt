@@ -1,5 +1,6 @@
-use Rattle.std.proofs.Common.{rules}
-use Rattle.jp_check.proofs.Steps.{exprs-on, segments-on, selectors-on, sides-on}
+use Rattle.std.proofs.Common.{◌≡◌, ◌∙◌, slice_get, rules}
+use Rattle.jp_check.proofs.Calls.{copied_item}
+use Rattle.jp_check.proofs.Steps.{arguments-on, exprs-on, segments-on, selectors-on, sides-on}
 use Rattle.jp_check.proofs.walk.Walk.+walk.Goals as goal
 
 pub query-loop-segment-preserved : goal.query-loop-segment-preserved
@@ -13,3 +14,12 @@ parts-loop-part-preserved t c = search (rules, exprs-on)
 
 pub expr-returns-in-Compare : goal.expr-returns-in-Compare
 expr-returns-in-Compare t c = search (rules, sides-on)
+
+pub call-loop-index-preserved : goal.call-loop-index-preserved
+call-loop-index-preserved t c =
+    let want : c.copied.result
+    ≡ slice_get c.wanted_of_arguments-types.result.now c.loop-index.index =
+    c.copied.ensures
+    ∙ copied_item c.wanted_of_arguments-types.result.now c.loop-index.index c.get.result
+    c.get.ensures.lookup in
+    (c.loop-index.invariant.0, search (rules, want, arguments-on))

@@ -1,6 +1,9 @@
 use Rattle.std.proofs.Common.{◌≡◌, drop, map}
-use Rattle.jp_query.specs.Items.{exprs_items, items_of, segment_items, segments_items, selectors_items}
-use Rattle.jp_query.specs.Tree.{expr_of, exprs, query_of, segment_of, segments, selector_of, selectors}
+use Rattle.jp_query.specs.Items.{call_items, exprs_items, items_of}
+use Rattle.jp_query.specs.Items.{segment_items, segments_items, selectors_items}
+use Rattle.jp_query.specs.Tree.{argument_of, call_of, expr_of, exprs, query_of}
+use Rattle.jp_query.specs.Tree.{segment_of, segments, selector_of, selectors}
+use Rattle.jp_check.specs.Private.Calls.{arguments_from, wanted_of_call}
 use Rattle.jp_check.specs.Private.Walk.{steps}
 use Rattle.jp_check.proofs.walk.Walk.+walk.Given as goal
 
@@ -20,3 +23,10 @@ invariant-segment-loop-selector l = steps (segment_items (segment_of l.segment))
 abbrev pub invariant-parts-loop-part : goal.invariant-parts-loop-part
 invariant-parts-loop-part l = steps (exprs_items (exprs (map expr_of l.parts))) l.initial.self
     ≡ steps (exprs_items (exprs (map expr_of (drop l.part-index l.parts)))) l.self
+
+-- the items of the arguments still to come lead to where those of all lead
+abbrev pub invariant-call-loop-index : goal.invariant-call-loop-index
+invariant-call-loop-index l = (l.types ≡ wanted_of_call (call_of l.call))
+    × (steps (call_items (call_of l.call)) l.initial.self
+    ≡ steps (arguments_from (call_of l.call) l.index
+    (map argument_of (drop l.index l.argument-items))) l.self)

@@ -9,9 +9,12 @@ loop-step-preserved c =
     let here = value_of c.loop-step.value.now in
     let next = value_of c.in_ok-value.value.now in
     let key = c.as_step.ensures ∙ ap owned_key c.step-item.is in (
-      IsDocumentValue-child here next _ c.loop-step.invariant.0 (sym (c.in_ok-value.ensures.child c.loop-step.invariant.0)),
-      walked owned_key c.steps-step-items.result.now c.loop-step.step-index c.step-item.result here next _ c.loop-step-test.true
-          (c.in_ok-value.ensures.child c.loop-step.invariant.0 ∙ ap (child here) key) c.loop-step.invariant.1,
+      IsDocumentValue-child here next _ c.loop-step.invariant.0
+          (sym (c.in_ok-value.ensures.child c.loop-step.invariant.0)),
+      walked owned_key c.steps-step-items.result.now c.loop-step.step-index c.step-item.result here
+          next _ c.loop-step-test.true
+          (c.in_ok-value.ensures.child c.loop-step.invariant.0 ∙ ap (child here) key)
+          c.loop-step.invariant.1,
     )
 
 pub returns-in_err-value : goal.returns-in_err-value
@@ -19,5 +22,7 @@ returns-in_err-value c =
     let here = value_of c.loop-step.value.now in
     let key = c.as_step.ensures ∙ ap owned_key c.step-item.is in
     ap (option_map (λ j. value_of j.now)) c.from_residual.ensures
-    ∙ walked_out owned_key c.steps-step-items.result.now c.loop-step.step-index c.step-item.result here _ c.loop-step-test.true
-    (c.in_err-value.ensures.child c.loop-step.invariant.0 ∙ ap (child here) key) c.loop-step.invariant.1
+    ∙ walked_out owned_key c.steps-step-items.result.now c.loop-step.step-index c.step-item.result
+    here _ c.loop-step-test.true
+    (c.in_err-value.ensures.child c.loop-step.invariant.0 ∙ ap (child here) key)
+    c.loop-step.invariant.1

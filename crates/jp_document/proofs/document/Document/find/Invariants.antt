@@ -6,4 +6,6 @@ use Rattle.jp_document.proofs.document.Document.find.Given as goal
 -- the steps to come lead from here where all steps lead from the root
 abbrev pub invariant-loop-step : goal.invariant-loop-step
 invariant-loop-step l =
-    IsDocumentValue (value_of l.value) × (value_at (value_of l.value) (map owned_key (drop l.step-index l.step-items)) ≡ value_at (value_of l.self.json) l.location)
+    IsDocumentValue (value_of l.value)
+    × (value_at (value_of l.value) (map owned_key (drop l.step-index l.step-items)) ≡
+    value_at (value_of l.self.json) l.location)

@@ -10,4 +10,6 @@ pub returns-in-Ok : goal.returns-in-Ok
 returns-in-Ok c =
     let steps = c.in-Fraction.steps in
     let turned : c.deref.result.now ≡ reverse steps.items = search rules in
-    subst (λ s. IsFaultAt s (NotWhole c.in-Ok.path)) (sym c.in-Fraction.is) (c.in-Ok.ensures ∙ ap (λ xs. path_of (map owned_key xs)) turned ∙ ap path_of (map-reverse owned_key steps.items))
+    subst (λ s. IsFaultAt s (NotWhole c.in-Ok.path)) (sym c.in-Fraction.is)
+    (c.in-Ok.ensures ∙ ap (λ xs. path_of (map owned_key xs)) turned
+    ∙ ap path_of (map-reverse owned_key steps.items))

@@ -11,11 +11,15 @@ loop-frame-preserved c =
     let f = c.in-Some-last_frame.frame in
     let begun = c.last_frame.ensures.first ∙ c.loop-frame.invariant.begun in
     let rest : pending all w ≡ pending all c.args.self.now =
-    frames_alone all w c.loop-frame.self begun c.loop-frame.invariant.begun c.last_frame.ensures.frames ∙ c.loop-frame.invariant.same in
+    frames_alone all w c.loop-frame.self begun c.loop-frame.invariant.begun
+    c.last_frame.ensures.frames ∙ c.loop-frame.invariant.same in
     let v : Walk = record { first = w.first; top = None; below = w.below } in
     record {
       begun = begun;
-      same = frame_left all _ w v f begun begun rest (c.last_frame.ensures.last ∙ c.in-Some-last_frame.is) refl refl c.in_default-frame_offer.ensures.gives;
+      same =
+          frame_left all _ w v f begun begun rest
+          (c.last_frame.ensures.last ∙ c.in-Some-last_frame.is) refl refl
+          c.in_default-frame_offer.ensures.gives;
     }
 
 pub returns-in-Some-frame_offer-clause-gives : goal.returns-in-Some-frame_offer-clause-gives
@@ -26,7 +30,9 @@ returns-in-Some-frame_offer-clause-gives c =
     let g = c.frame_offer.new.frame in
     let begun = c.last_frame.ensures.first ∙ c.loop-frame.invariant.begun in
     let rest : pending all w ≡ pending all c.args.self.now =
-    frames_alone all w c.loop-frame.self begun c.loop-frame.invariant.begun c.last_frame.ensures.frames ∙ c.loop-frame.invariant.same in
+    frames_alone all w c.loop-frame.self begun c.loop-frame.invariant.begun
+    c.last_frame.ensures.frames ∙ c.loop-frame.invariant.same in
     let v : Walk = record { first = w.first; top = Some g; below = w.below } in
-    frame_next all _ w v f g (offered all c.in-Some-frame_offer.offer) begun begun rest (c.last_frame.ensures.last ∙ c.in-Some-last_frame.is) refl refl
+    frame_next all _ w v f g (offered all c.in-Some-frame_offer.offer) begun begun rest
+    (c.last_frame.ensures.last ∙ c.in-Some-last_frame.is) refl refl
     c.frame_offer.ensures.place c.in-Some-frame_offer.ensures.gives

@@ -1,4 +1,5 @@
-use Rattle.std.proofs.Common.{◌≡◌, ◌++◌, [], ◌∷◌, Global, Vec, map, take, option_to_list, ap, sym, ◌∙◌}
+use Rattle.std.proofs.Common.{◌≡◌, ◌++◌, [], ◌∷◌, Global, Vec, map}
+use Rattle.std.proofs.Common.{take, option_to_list, ap, sym, ◌∙◌}
 use Rattle.std.proofs.lemmas.List.{append-nil, take_all, take_more}
 use Rattle.jp_document.specs.Location.{key_of}
 use Rattle.jp_document.specs.declared.location.Step.{Step}
@@ -15,7 +16,9 @@ loop-frame-preserved c =
     c.in_ok-push_step.ensures
     ∙ ap (λ l. l ++ steps_of f.place.step) c.loop-frame.invariant
     ∙ sym (reached-push [] (take i fs) f)
-    ∙ ap (reached_at []) (ap (λ g. take i fs ++ g ∷ []) c.frame-item.is ∙ sym (take_more fs i f c.loop-frame-test.true))
+    ∙ ap (reached_at [])
+    (ap (λ g. take i fs ++ g ∷ []) c.frame-item.is
+    ∙ sym (take_more fs i f c.loop-frame-test.true))
 
 pub returns-clause-location : goal.returns-clause-location
 returns-clause-location c =
@@ -23,7 +26,9 @@ returns-clause-location c =
     let fs = c.deref-frame-items.result.now in
     let below : map key_of c.loop-frame.location.items ≡ reached_at [] w.below.items =
     c.loop-frame.invariant
-    ∙ ap (reached_at []) (take_all c.loop-frame.frame-index fs c.loop-frame-test.false ∙ c.deref-frame-items.ensures.value) in
+    ∙ ap (reached_at [])
+    (take_all c.loop-frame.frame-index fs c.loop-frame-test.false
+    ∙ c.deref-frame-items.ensures.value) in
     let frames : map key_of c.match-self.location.items ≡ reached_at [] (walk_frames w) =
     elim c.match-self.branch [
       | in-Some+in_ok-push_step-2 b ↦

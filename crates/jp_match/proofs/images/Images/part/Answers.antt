@@ -9,9 +9,9 @@ use Rattle.jp_match.proofs.images.Images.part.Goals as goal
 pub returns-clause-exact : goal.returns-clause-exact
 returns-clause-exact c =
     let L = Language (tree c.args.pattern.now) in
-    let text = c.deref-2.ensures.value ∙ c.in_ok-text.ensures in
+    let text = c.deref.ensures.value ∙ c.in_ok-text.ensures in
     let first = c.deref.ensures.value ∙ c.in_ok-text.ensures in
-    let image : IsImage L c.deref-2.result.now c.in_ok-places.places.items c.image.new.places.items
+    let image : IsImage L c.deref.result.now c.in_ok-places.places.items c.image.new.places.items
     = c.in_ok-image.ensures.image in
     let every = rw first at c.in_ok-places.ensures.every in
     let any = rw c.deref-3.ensures.value at c.is_any.ensures in

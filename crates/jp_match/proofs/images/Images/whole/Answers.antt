@@ -10,13 +10,13 @@ use Rattle.jp_match.proofs.images.Images.whole.Goals as goal
 pub returns-clause-exact : goal.returns-clause-exact
 returns-clause-exact c =
     let L = Language (tree c.args.pattern.now) in
-    let text : c.deref-2.result.now ≡ chars c.args.text.now = c.deref-2.ensures.value ∙
+    let text : c.deref.result.now ≡ chars c.args.text.now = c.deref.ensures.value ∙
     c.in_ok-text.ensures in
-    let image : IsImage L c.deref-2.result.now c.in_ok-places.places.items c.image.new.places.items
+    let image : IsImage L c.deref.result.now c.in_ok-places.places.items c.image.new.places.items
     = c.in_ok-image.ensures.image in
     let last : Marked c.image.new.places.items (length (chars c.args.text.now)) ↔ L (chars
     c.args.text.now) = whole_reached L (chars c.args.text.now) c.in_ok-places.places.items
-    c.image.new.places.items c.in_ok-places.ensures.first (rw text at image) in
+    c.image.new.places.items c.in_ok-places.ensures.only (rw text at image) in
     let len : c.len.result ≡ length c.in_ok-text.text.items = c.len.ensures ∙
     c.in_ok-text.text.ok.0 in
     let end : c.len.result ≡ length (chars c.args.text.now) = len ∙

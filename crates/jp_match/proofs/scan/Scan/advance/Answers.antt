@@ -1,4 +1,3 @@
-use Rattle.std.proofs.Common.{ap, sym}
 use Rattle.jp_iregexp.specs.Tree.{tree}
 use Rattle.jp_match.proofs.Scanning.{left_ends, left_step}
 use Rattle.jp_match.proofs.scan.Scan.advance.Goals as goal

@@ -1,4 +1,4 @@
-use Rattle.std.proofs.Common.{◌≡◌, Bool, IsTrue, true, false, not, inl, inr, sym, ◌∙◌}
+use Rattle.std.proofs.Common.{◌≡◌, Bool, IsTrue, true, false, not, inl, inr}
 use Rattle.jp_match.proofs.StepParts.{rest_none}
 use Rattle.jp_match.proofs.scan.Scan.is_spent.Goals as goal
 

@@ -1,4 +1,4 @@
-use Rattle.std.proofs.Common.{◌≤◌, ◌≡◌, ℕ, IsTrue, Bool, false, get_or, refl, arith, rules}
+use Rattle.std.proofs.Common.{◌≤◌, refl, arith}
 use Rattle.jp_iregexp.specs.Tree.{tree}
 use Rattle.jp_iregexp.specs.Positions.{positions_of}
 use Rattle.jp_match.proofs.Scanning.{left_first}

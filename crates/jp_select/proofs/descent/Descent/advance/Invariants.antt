@@ -4,7 +4,11 @@ use Rattle.jp_select.proofs.descent.Descent.advance.Given as goal
 
 -- the frames that were taken off had nothing to give
 abbrev pub invariant-loop-frame : goal.invariant-loop-frame
-invariant-loop-frame l = record { begun : l.self.first ≡ None; rest : rest_of l.self ≡ rest_of l.fn.self; same : l.self.failed ≡ l.fn.self.failed }
+invariant-loop-frame l = record {
+  begun : l.self.first ≡ None;
+  rest : rest_of l.self ≡ rest_of l.fn.self;
+  same : l.self.failed ≡ l.fn.self.failed;
+}
 
 abbrev pub decreases-loop-frame : goal.decreases-loop-frame
 decreases-loop-frame l = length l.self.frames.items

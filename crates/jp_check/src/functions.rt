@@ -1,0 +1,113 @@
+//! The functions of JSONPath and their types (RFC 9535 sections 2.4.1 and 2.4.4 to 2.4.8).
+
+ghost use Rattle.std.specs.Prelude.{◌≡◌, option_map};
+ghost use Rattle.std.specs.Str.{chars};
+ghost use Rattle.jp_query.specs.Tree.{call_of};
+ghost use Rattle.jp_check.specs.Functions.{function_named, signature, signature_named};
+ghost use Rattle.jp_check.specs.Private.Calls.{signature_of, wanted_of_call};
+ghost use Rattle.jp_check.specs.Types.{fits};
+
+use crate::functions::DataType::{Logical, Nodes, Value};
+use jp_query::Call;
+
+/// The type of a parameter or of a result (RFC 9535 section 2.4.1).
+#[derive(Debug, Clone, Copy, PartialEq, Eq)]
+pub(crate) enum DataType {
+    /// A value, or Nothing.
+    Value,
+    /// True or false.
+    Logical,
+    /// A list of nodes.
+    Nodes,
+}
+
+/// The types of a function's parameters, in order, and of what it answers.
+#[derive(Debug, Clone, Copy)]
+pub(crate) struct Signature {
+    pub(crate) parameters: &'static [DataType],
+    pub(crate) answer: DataType,
+}
+
+/// A function of JSONPath (RFC 9535 section 2.4).
+#[derive(Debug, Clone, Copy, PartialEq, Eq)]
+pub enum Function {
+    /// `length` (section 2.4.4).
+    Length,
+    /// `count` (section 2.4.5).
+    Count,
+    /// `match` (section 2.4.6).
+    Match,
+    /// `search` (section 2.4.7).
+    Search,
+    /// `value` (section 2.4.8).
+    ValueOf,
+}
+
+impl Function {
+    /// The function of that name, if there is one.
+    #[tactic(auto, using(crate::proofs::FunctionNames::function_named_bytes))]
+    pub fn named(name: &str) -> Option<Function>
+        ensures { result ≡ function_named (chars name.now) }
+    {
+        match name {
+            "length" => Some(Function::Length),
+            "count" => Some(Function::Count),
+            "match" => Some(Function::Match),
+            "search" => Some(Function::Search),
+            "value" => Some(Function::ValueOf),
+            _ => None,
+        }
+    }
+
+    /// The types of its parameters and of what it answers.
+    fn signature(self) -> Signature
+        ensures { signature_of result ≡ signature self }
+    {
+        match self {
+            Function::Length => types(&[Value], Value),
+            Function::Count => types(&[Nodes], Value),
+            Function::Match => types(&[Value, Value], Logical),
+            Function::Search => types(&[Value, Value], Logical),
+            Function::ValueOf => types(&[Nodes], Value),
+        }
+    }
+}
+
+/// A signature of these types.
+fn types(parameters: &'static [DataType], answer: DataType) -> Signature
+    ensures { signature_of result ≡ record { parameters = parameters.now; result = answer } }
+{
+    Signature { parameters, answer }
+}
+
+/// The types of the function of that name, if there is one.
+pub(crate) fn signature_named(name: &str) -> Option<Signature>
+    ensures { option_map signature_of result ≡ signature_named (chars name.now) }
+{
+    match Function::named(name) {
+        Some(function) => Some(function.signature()),
+        None => None,
+    }
+}
+
+impl DataType {
+    /// Whether what has this type may stand where the other is wanted (sections 2.4.2 and 2.4.3):
+    /// a list of nodes also stands for whether it has a node.
+    pub(crate) fn fits(self, wanted: DataType) -> bool
+        ensures { result ≡ fits self wanted }
+    {
+        self == wanted || (self == Nodes && wanted == Logical)
+    }
+}
+
+/// The types that are wanted of a call's arguments: those of the function's parameters, if there is
+/// such a function and it has as many parameters as the call has arguments.
+#[tactic(auto, using(crate::proofs::Calls::wanted_of_call_is))]
+pub(crate) fn wanted_of_arguments(call: &Call) -> &'static [DataType]
+    ensures { result.now ≡ wanted_of_call (call_of call.now) }
+{
+    match signature_named(&call.name) {
+        Some(function) if function.parameters.len() == call.arguments.len() => function.parameters,
+        _ => &[],
+    }
+}

@@ -1,0 +1,27 @@
+use Rattle.std.proofs.Common.{◌≡◌, refl, rules}
+use Rattle.jp_document.specs.Document.{IsDocument, document_of}
+use Rattle.jp_evaluate.specs.Rest.{rest_of}
+use Rattle.jp_query.specs.Tree.{query_of}
+use Rattle.jp_command.specs.Lines.{lines_of}
+use Rattle.jp_command.proofs.Runs.{run-ends}
+use Rattle.jp_command.proofs.eval.run_eval.Goals as goal
+
+pub returns : goal.returns
+returns g c =
+    let d = document_of c.in_ok-document.document in
+    let bytes = c.in_ok-bytes.bytes.items in
+    let nodes = rest_of c.nodes-selected.result in
+    let document : IsDocument bytes d = search rules in
+    run-ends g.R.Source.remaining g.R.Source.has_failed g.W.Output.contents g.W.Output.has_failed
+    c.args.form c.args.query.now c.args.input.now c.read_all.new.input c.args.output.now
+    c.write_lines-written.new.output (lines_of c.args.form nodes) c.write_lines-written.result
+    (record {
+      q = query_of c.in_ok-query.query;
+      bytes = bytes;
+      d = d;
+      asked = c.in_ok-query.ensures.asked;
+      reads = c.in_ok-bytes.ensures.ok;
+      document = document;
+      is = record { nodes = nodes; selected = c.nodes-selected.ensures.nodes; lines = refl };
+    })
+    c.in_ok-bytes.ensures.ok.works c.write_lines-written.ensures.ok c.write_lines-written.ensures.stopped

@@ -1,0 +1,41 @@
+-- That nodes are asked for and their lines written by turns. The clause `by_turns` of `write_lines`
+-- cites it.
+use Rattle.std.specs.Prelude.{◌≡◌, ◌⊎◌, ℕ, true, false, List, [], ◌∷◌, ◌++◌, Option, Result, Ok, Err}
+use Rattle.std.specs.Io.KnownBytes.{Appends}
+use Rattle.jp_document.specs.Node.{Node}
+use Rattle.jp_evaluate.specs.Rest.{rest_of}
+use Rattle.jp_evaluate.specs.declared.each.Nodes.{Nodes}
+use Rattle.jp_command.specs.Lines.{line_of, lines_of}
+use Rattle.jp_command.specs.declared.fault.Fault.{Fault}
+use Rattle.jp_command.specs.declared.fault.Fault.TheVariants.{NoMemory, Write}
+use Rattle.jp_command.specs.declared.lines.Form.{Form}
+
+-- o and p are the output before and after
+module _ {W : Type 0} (contents : W → Option (List ℕ)) (form : Form) where
+  -- all nodes but the rest were given, and the line of each is written
+  pub record WritesGiven (all rest : List Node) (o p : W) : Type 0 where
+    pub given : List Node
+    pub nodes : all ≡ given ++ rest
+    pub written : Appends (contents o) (contents p) (lines_of form given)
+
+  -- the same of all that were given but the last, of whose line a prefix is written
+  pub record WritesPart (all rest : List Node) (o p : W) : Type 0 where
+    pub given : List Node
+    pub last : Node
+    pub nodes : all ≡ given ++ last ∷ rest
+    pub prefix : List ℕ
+    pub left : List ℕ
+    pub line : line_of form last ≡ prefix ++ left
+    pub written : Appends (contents o) (contents p) (lines_of form given ++ prefix)
+
+  -- The nodes v were asked for, until w were left, and each but the last had its line before the
+  -- next was asked for. Memory runs out for a line, of which nothing is written, or for the next
+  -- node: then the nodes end, and which were left is not told.
+  abbrev pub WritesByTurns : {M X : Type 0} → Nodes M → Nodes M → W → W → Result X Fault → Type 0
+  WritesByTurns v w o p (Ok x) = (rest_of w ≡ []) × WritesGiven (rest_of v) (rest_of w) o p
+  WritesByTurns v w o p (Err NoMemory) =
+      ((w.failed ≡ false) × (last : Node) × WritesGiven (rest_of v) (last ∷ rest_of w) o p)
+      ⊎ ((w.failed ≡ true) × (rest : List Node) × WritesGiven (rest_of v) rest o p)
+  WritesByTurns v w o p (Err Write) =
+      (w.failed ≡ false) × WritesPart (rest_of v) (rest_of w) o p
+  WritesByTurns v w o p (Err _) = ⊥

@@ -1,0 +1,34 @@
+-- The arguments of calls, and what is asked of a list of what is reached.
+use Rattle.std.specs.Prelude.{List, Option, Some, None, option_and_then}
+use Rattle.jp_document.specs.Node.{Node}
+use Rattle.jp_document.specs.Value.{Value}
+use Rattle.jp_query.specs.Tree.{ArgumentTree, CallTree, QueryTree, argument_then, call, call_argument, literal_argument, logical_argument, no_arguments, query_argument}
+use Rattle.jp_check.specs.Functions.{function_named}
+use Rattle.jp_check.specs.declared.functions.Function.{Function}
+use Rattle.jp_evaluate.specs.Functions.{only_one}
+use Rattle.jp_evaluate.specs.Private.Reached.{value_reached}
+
+-- the function that a call names
+abbrev pub call_function : CallTree → Option Function
+call_function (call cs xs) = function_named cs
+
+-- the query that an argument is
+abbrev pub argument_query : ArgumentTree → Option QueryTree
+argument_query (query_argument q) = Some q
+argument_query (literal_argument x) = None
+argument_query (call_argument f) = None
+argument_query (logical_argument e) = None
+
+-- the argument of a call that has one
+abbrev pub only_argument : CallTree → Option ArgumentTree
+only_argument (call cs (argument_then x no_arguments)) = Some x
+only_argument (call cs _) = None
+
+-- the arguments of a call that has two
+abbrev pub both_arguments : CallTree → Option (ArgumentTree × ArgumentTree)
+both_arguments (call cs (argument_then x (argument_then y no_arguments))) = Some (x, y)
+both_arguments (call cs _) = None
+
+-- the value of the only one that is reached
+abbrev pub only_reached : List Node → Option Value
+only_reached ns = option_and_then value_reached (only_one ns)

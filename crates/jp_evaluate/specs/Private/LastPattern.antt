@@ -1,0 +1,10 @@
+-- What is kept of the pattern that was read last.
+use Rattle.std.specs.Prelude.{◌≡◌, option_map}
+use Rattle.std.specs.Str.{chars}
+use Rattle.jp_iregexp.specs.PatternOf.{pattern_of}
+use Rattle.jp_iregexp.specs.Tree.{tree}
+use Rattle.jp_evaluate.specs.declared.pattern.ReadText.TheInside.{Inside}
+
+-- the pattern is the one that the text spells
+abbrev pub IsReadInside : Inside → Type 0
+IsReadInside r = pattern_of (chars r.text.now) ≡ option_map (λ p. tree p) r.pattern

@@ -1,0 +1,170 @@
+//! The functions of filters (RFC 9535 section 2.4), over their arguments.
+ghost use Rattle.std.specs.Prelude.{◌≡◌, IfOk, length, option_map};
+ghost use Rattle.jp_document.specs.DocumentValue.{lent_value};
+ghost use Rattle.jp_query.specs.Tree.{argument_of, call_of, query_of};
+ghost use Rattle.jp_select.specs.Comparable.{comparable_of};
+ghost use Rattle.jp_evaluate.specs.Private.Reached.{argument_side, call_side, call_truth, query_reaches};
+ghost use Rattle.jp_evaluate.specs.Private.Calls.{argument_query, both_arguments, call_function, only_argument, only_reached};
+
+use crate::evaluating::{Evaluation, logical_answer};
+use crate::filter::advance;
+use crate::length::length_of;
+use crate::operand::{comparable, literal_value, whole};
+use crate::pattern::LastPattern;
+use crate::singular::{node_value, start};
+use crate::walk::Walk;
+use jp_check::Function;
+use jp_document::DocumentValue;
+use jp_match::Matching;
+use jp_query::{Argument, Call, Query};
+use jp_select::Comparable;
+use std::alloc::AllocError;
+
+/// The value that a function answers, Nothing where it answers none.
+#[cycle(filter)]
+pub(crate) fn call_value<'q, M: Matching>(
+    evaluation: &Evaluation<'q, M>,
+    last: &mut LastPattern<'q>,
+    call: &'q Call,
+    current: DocumentValue<'q>,
+) -> Result<Comparable<'q>, AllocError>
+    ensures { IfOk result (λ value. comparable_of value ≡ call_side (call_of call.now)
+        (lent_value evaluation.now.root) (lent_value current.entry)) }
+{
+    let Some(argument) = only_argument(call) else {
+        return Ok(Comparable::Nothing);
+    };
+    match function_of(call) {
+        Some(Function::Length) => Ok(length_of(argument_value(
+            evaluation, last, argument, current,
+        )?)),
+        Some(Function::Count) => match argument_query(argument) {
+            Some(query) => Ok(whole(node_count(evaluation, last, query, current)?)),
+            None => Ok(Comparable::Nothing),
+        },
+        Some(Function::ValueOf) => match argument_query(argument) {
+            Some(query) => Ok(comparable(only_value(evaluation, last, query, current)?)),
+            None => Ok(Comparable::Nothing),
+        },
+        Some(Function::Match) | Some(Function::Search) | None => Ok(Comparable::Nothing),
+    }
+}
+
+/// The truth that a function answers, false where it answers none.
+#[cycle(filter)]
+pub(crate) fn call_holds<'q, M: Matching>(
+    evaluation: &Evaluation<'q, M>,
+    last: &mut LastPattern<'q>,
+    call: &'q Call,
+    current: DocumentValue<'q>,
+) -> Result<bool, AllocError>
+    ensures { IfOk result (λ answer. answer ≡ call_truth (call_of call.now)
+        (lent_value evaluation.now.root) (lent_value current.entry)) }
+{
+    let Some((first, second)) = both_arguments(call) else {
+        return Ok(false);
+    };
+    let value = argument_value(evaluation, last, first, current)?;
+    let pattern = argument_value(evaluation, last, second, current)?;
+    logical_answer(evaluation, last, function_of(call), value, pattern)
+}
+
+/// The value that an argument stands for, Nothing where it stands for none.
+#[cycle(filter)]
+fn argument_value<'q, M: Matching>(
+    evaluation: &Evaluation<'q, M>,
+    last: &mut LastPattern<'q>,
+    argument: &'q Argument,
+    current: DocumentValue<'q>,
+) -> Result<Comparable<'q>, AllocError>
+    ensures { IfOk result (λ value. comparable_of value ≡ argument_side (argument_of argument.now)
+        (lent_value evaluation.now.root) (lent_value current.entry)) }
+{
+    match argument {
+        Argument::Literal(literal) => Ok(literal_value(literal)),
+        Argument::Query(query) => Ok(comparable(node_value(query, evaluation.root, current))),
+        Argument::Call(call) => call_value(evaluation, last, call, current),
+        Argument::Logical(_) => Ok(Comparable::Nothing),
+    }
+}
+
+/// How many nodes a query selects, repeats counted.
+#[cycle(filter)]
+fn node_count<'q, M: Matching>(
+    evaluation: &Evaluation<'q, M>,
+    last: &mut LastPattern<'q>,
+    query: &'q Query,
+    current: DocumentValue<'q>,
+) -> Result<u64, AllocError>
+    ensures { IfOk result (λ count. count ≡ length (query_reaches (query_of query.now)
+        (lent_value evaluation.now.root) (lent_value current.entry))) }
+{
+    let mut walk = Walk::from(evaluation.alloc, start(query, evaluation.root, current));
+    let mut count: u64 = 0;
+    while advance(evaluation, last, &query.segments, &mut walk)?.is_some() {
+        count = count.checked_add(1).ok_or(AllocError)?;
+    }
+    Ok(count)
+}
+
+/// The value of the only node that a query selects, None where it selects none or several; the walk
+/// ends at the second.
+#[cycle(filter)]
+fn only_value<'q, M: Matching>(
+    evaluation: &Evaluation<'q, M>,
+    last: &mut LastPattern<'q>,
+    query: &'q Query,
+    current: DocumentValue<'q>,
+) -> Result<Option<DocumentValue<'q>>, AllocError>
+    ensures { IfOk result (λ value. option_map lent_value value ≡ only_reached (query_reaches
+        (query_of query.now) (lent_value evaluation.now.root) (lent_value current.entry))) }
+{
+    let mut walk = Walk::from(evaluation.alloc, start(query, evaluation.root, current));
+    let Some(place) = advance(evaluation, last, &query.segments, &mut walk)? else {
+        return Ok(None);
+    };
+    match advance(evaluation, last, &query.segments, &mut walk)? {
+        Some(_) => Ok(None),
+        None => Ok(Some(place.value)),
+    }
+}
+
+/// The function that a call names.
+#[tactic(auto, using(crate::proofs::Arguments::named_function))]
+fn function_of(call: &Call) -> Option<Function>
+    ensures { result ≡ call_function (call_of call.now) }
+{
+    Function::named(&call.name)
+}
+
+/// The query that an argument is.
+fn argument_query(argument: &Argument) -> Option<&Query>
+    ensures { option_map (λ q. query_of q.now) result ≡ argument_query (argument_of argument.now) }
+{
+    match argument {
+        Argument::Query(query) => Some(query),
+        Argument::Literal(_) | Argument::Call(_) | Argument::Logical(_) => None,
+    }
+}
+
+/// The argument of a call that has one.
+fn only_argument(call: &Call) -> Option<&Argument>
+    ensures { option_map (λ x. argument_of x.now) result ≡ only_argument (call_of call.now) }
+{
+    if call.arguments.len() == 1 {
+        call.arguments.first()
+    } else {
+        None
+    }
+}
+
+/// The arguments of a call that has two.
+fn both_arguments(call: &Call) -> Option<(&Argument, &Argument)>
+    ensures { option_map (λ x. (argument_of x.0.now, argument_of x.1.now)) result
+        ≡ both_arguments (call_of call.now) }
+{
+    if call.arguments.len() != 2 {
+        return None;
+    }
+    Some((call.arguments.first()?, call.arguments.get(1)?))
+}

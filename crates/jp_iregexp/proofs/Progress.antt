@@ -1,0 +1,200 @@
+-- The rules of patterns leave shorter texts: for the loops over pieces, branches and elements.
+use Rattle.std.proofs.Common.{◌≡◌, ℕ, zero, suc, ◌<◌, ◌≤◌, true, false}
+use Rattle.std.proofs.Common.{[], ◌∷◌, length, Option, Some, None, arith}
+use Rattle.jp_reading.specs.Outcome.{State, Outcome, took, stuck, deep, ◌>>=◌}
+use Rattle.jp_reading.specs.Outcome.{past, is, is_at, take_if, expect, each}
+use Rattle.jp_reading.specs.Views.{by, with_front}
+use Rattle.jp_reading.specs.Numbers.{digits_at, digit_at, is_at_digit, capped}
+use Rattle.jp_reading.proofs.Chars.{past-shorter}
+use Rattle.jp_reading.proofs.Digits.{digit_at-progress}
+use Rattle.jp_reading.proofs.Progress.{Moves, Keeps, Progress, keeps-from_moves}
+use Rattle.jp_reading.proofs.Progress.{keeps-then, moves-then, moves-after, keeps-after}
+use Rattle.jp_reading.proofs.Progress.{moves-take_if, moves-by, keeps-each, past-keeps}
+use Rattle.jp_reading.proofs.Progress.{moves-if, keeps-if, keeps-by, keeps-take_if}
+use Rattle.jp_iregexp.specs.Private.CodeReading.{code_of}
+use Rattle.jp_iregexp.specs.Characters.{is_plain, is_escaped, is_normal, meant}
+use Rattle.jp_iregexp.specs.Tree.{Tree}
+use Rattle.jp_iregexp.specs.Grammar.{dot}
+use Rattle.jp_iregexp.specs.Private.Reading.{there, escaped_at, character_at, is_category_sign}
+use Rattle.jp_iregexp.specs.Private.Reading.{second_at, code_at, category_at, is_at_category}
+use Rattle.jp_iregexp.specs.Private.Reading.{range_at, element_at, elements_at, hyphen_at}
+use Rattle.jp_iregexp.specs.Private.Reading.{first_at, items_at, negation_at, class_at}
+use Rattle.jp_iregexp.specs.Private.Reading.{number_at, most_at, braces_at, quantifier_at}
+use Rattle.jp_iregexp.specs.Private.Reading.{escape_at, group_at, atom_at, piece_at, pieces_at}
+use Rattle.jp_iregexp.specs.Private.Reading.{branch_at, next_branch_at, branches_at, inside_at}
+
+keeps-there : {A : Type 0} (o : Option A) (p : State) → Keeps p (there o p)
+keeps-there None p = tt
+keeps-there (Some x) p = omega arith
+
+moves-escaped : Progress escaped_at
+unfolding escaped_at
+moves-escaped p = moves-by meant p (take_if is_escaped p) (moves-take_if is_escaped p)
+
+moves-character : Progress character_at
+unfolding character_at
+moves-character p =
+    moves-if (is_at 92 p) p (escaped_at (past p)) (take_if is_plain p)
+    (λ h. moves-after p (past p) (escaped_at (past p)) (past-keeps p) (moves-escaped (past p)))
+    (λ h. moves-take_if is_plain p)
+
+keeps-second : (p : State) → Keeps p (second_at p)
+keeps-second p =
+    keeps-if (is_at 125 p) p (took None p) (by Some (take_if _ p)) (omega arith)
+    (keeps-by Some p (take_if _ p) (keeps-take_if _ p))
+
+keeps-code : (p : State) → Keeps p (code_at p)
+unfolding code_at
+keeps-code p =
+    keeps-then p (take_if _ p) _ (keeps-take_if _ p)
+    (λ a q. keeps-then q (second_at q) _ (keeps-second q) (λ b r. keeps-there (code_of a b) r))
+
+moves-category : Progress category_at
+unfolding category_at
+moves-category p =
+    moves-then p (take_if is_category_sign p) _ (moves-take_if is_category_sign p)
+    (λ c q. keeps-then q (expect 123 q) _ (keeps-take_if (is 123) q)
+    (λ x q. keeps-then q (code_at q) _ (keeps-code q)
+    (λ k q. keeps-then q (expect 125 q) _ (keeps-take_if (is 125) q) (λ y q. omega arith))))
+
+keeps-range : (c : ℕ) (p : State) → Keeps p (range_at c p)
+unfolding range_at
+keeps-range c p =
+    keeps-if _ p (character_at (past p) >>= _) (took _ p)
+    (keeps-after p (past p) (character_at (past p) >>= _) (past-keeps p)
+    (keeps-then (past p) (character_at (past p)) _
+    (keeps-from_moves (past p) (character_at (past p)) (moves-character (past p)))
+    (λ d q. keeps-if _ q (stuck q) (took _ q) tt (omega arith))))
+    (omega arith)
+
+-- an item of a class moves
+pub moves-element : Progress element_at
+unfolding element_at
+moves-element p =
+    moves-if (is_at_category p) p (category_at (past p)) (character_at p >>= λ c q. range_at c q)
+    (λ h. moves-after p (past p) (category_at (past p)) (past-keeps p) (moves-category (past p)))
+    (λ h. moves-then p (character_at p) (λ c q. range_at c q) (moves-character p)
+    (λ c q. keeps-range c q))
+
+keeps-hyphen : (p : State) → Keeps p (hyphen_at p)
+keeps-hyphen p = keeps-then p (expect 45 p) _ (keeps-take_if (is 45) p) (λ x q. omega arith)
+
+keeps-element : (p : State) → Keeps p (element_at p)
+keeps-element p = keeps-from_moves p (element_at p) (moves-element p)
+
+keeps-items : (p : State) → Keeps p (items_at p)
+unfolding items_at
+keeps-items p =
+    keeps-then p (first_at p) _
+    (keeps-if (is_at 45 p) p (hyphen_at p) (element_at p) (keeps-hyphen p) (keeps-element p))
+    (λ x q. keeps-then q (with_front (x ∷ []) (elements_at q)) _
+    (keeps-by _ q (elements_at q) (keeps-each _ element_at moves-element q))
+    (λ xs q. keeps-if (is_at 45 q) q (by _ (hyphen_at q)) (took xs q)
+    (keeps-by _ q (hyphen_at q) (keeps-hyphen q)) (omega arith)))
+
+moves-class : Progress class_at
+unfolding class_at
+moves-class p =
+    moves-then p (expect 91 p) _ (moves-take_if (is 91) p)
+    (λ x q. keeps-then q (negation_at q) _
+    (keeps-if (is_at 94 q) q (took true (past q)) (took false q) (past-keeps q) (omega arith))
+    (λ b q. keeps-then q (items_at q) _ (keeps-items q)
+    (λ xs q. keeps-then q (expect 93 q) _ (keeps-take_if (is 93) q) (λ y q. omega arith))))
+
+keeps-number : (p : State) → Keeps p (number_at p)
+unfolding number_at digits_at
+keeps-number p =
+    keeps-then p (by (capped 1000000000 0) (digits_at p)) _
+    (keeps-by _ p (digits_at p)
+    (keeps-then p (digit_at p) _ (keeps-from_moves p (digit_at p) (digit_at-progress p))
+    (λ d q. keeps-then q (each is_at_digit digit_at q) _
+    (keeps-each is_at_digit digit_at digit_at-progress q) (λ ds r. omega arith))))
+    (λ n q. keeps-if _ q (stuck q) (took n q) tt (omega arith))
+
+keeps-most : (n : ℕ) (p : State) → Keeps p (most_at n p)
+unfolding most_at
+keeps-most n p =
+    keeps-if (is_at 125 p) p (took (Some n) p) (expect 44 p >>= _) (omega arith)
+    (keeps-then p (expect 44 p) _ (keeps-take_if (is 44) p)
+    (λ x q. keeps-if (is_at 125 q) q (took None q) (number_at q >>= _) (omega arith)
+    (keeps-then q (number_at q) _ (keeps-number q)
+    (λ m r. keeps-if _ r (stuck r) (took (Some m) r) tt (omega arith)))))
+
+keeps-quantifier : (p : State) → Keeps p (quantifier_at p)
+unfolding quantifier_at braces_at
+keeps-quantifier p =
+    keeps-if (is_at 42 p) p _ _ (past-keeps p)
+    (keeps-if (is_at 43 p) p _ _ (past-keeps p)
+    (keeps-if (is_at 63 p) p _ _ (past-keeps p)
+    (keeps-then p (expect 123 p) _ (keeps-take_if (is 123) p)
+    (λ x q. keeps-then q (number_at q) _ (keeps-number q)
+    (λ n q. keeps-then q (most_at n q) _ (keeps-most n q)
+    (λ m q. keeps-then q (expect 125 q) _ (keeps-take_if (is 125) q) (λ y q. omega arith)))))))
+
+keeps-escape : (p : State) → Keeps p (escape_at p)
+unfolding escape_at
+keeps-escape p =
+    keeps-if _ p (by _ (category_at p)) (by _ (escaped_at p))
+    (keeps-by _ p (category_at p) (keeps-from_moves p (category_at p) (moves-category p)))
+    (keeps-by _ p (escaped_at p) (keeps-from_moves p (escaped_at p) (moves-escaped p)))
+
+module _ (inside : State → Outcome Tree) (keeps : (p : State) → Keeps p (inside p)) where
+  moves-group : Progress (group_at inside)
+  unfolding group_at
+  moves-group p =
+      moves-then p (expect 40 p) _ (moves-take_if (is 40) p)
+      (λ x q. keeps-then q (inside q) _ (keeps q)
+      (λ y q. keeps-then q (expect 41 q) _ (keeps-take_if (is 41) q) (λ z q. omega arith)))
+
+  moves-past : {A : Type 0} (c : ℕ) (p : State) (o : Outcome A) → is_at c p ≡ true →
+      Keeps (past p) o → Moves p o
+  moves-past c p o at h = moves-behind p (past p) o (past-shorter (is c) p at) h
+    where
+      moves-behind : {A : Type 0} (p q : State) (o : Outcome A) → length q.rest < length p.rest →
+          Keeps q o → Moves p o
+      moves-behind p q (took x r) less h = omega arith
+      moves-behind p q (stuck r) less h = tt
+      moves-behind p q (deep r) less h = tt
+
+  moves-atom : Progress (atom_at inside)
+  unfolding atom_at
+  moves-atom p =
+      moves-if (is_at 40 p) p (group_at inside p) _ (λ h. moves-group p)
+      (λ h. moves-if (is_at 91 p) p (class_at p) _ (λ h. moves-class p)
+      (λ h. moves-if (is_at 46 p) p (took dot (past p)) _
+      (λ at. moves-past 46 p (took dot (past p)) at
+      (let still : length (past p).rest ≤ length (past p).rest = omega arith in still))
+      (λ h. moves-if (is_at 92 p) p (escape_at (past p)) _
+      (λ at. moves-past 92 p (escape_at (past p)) at (keeps-escape (past p)))
+      (λ h. moves-by _ p (take_if is_normal p) (moves-take_if is_normal p)))))
+
+  -- a piece moves
+  pub moves-piece : Progress (piece_at inside)
+  unfolding piece_at
+  moves-piece p =
+      moves-then p (atom_at inside p) _ (moves-atom p)
+      (λ a q. keeps-if _ q (by _ (quantifier_at q)) (took a q)
+      (keeps-by _ q (quantifier_at q) (keeps-quantifier q)) (omega arith))
+
+  keeps-branch : (p : State) → Keeps p (branch_at inside p)
+  unfolding branch_at
+  keeps-branch p = keeps-by _ p (pieces_at inside p) (keeps-each _ (piece_at inside) moves-piece p)
+
+  -- a `|` and a branch move
+  pub moves-next_branch : Progress (next_branch_at inside)
+  unfolding next_branch_at
+  moves-next_branch p =
+      moves-then p (expect 124 p) _ (moves-take_if (is 124) p) (λ x q. keeps-branch q)
+
+  keeps-branches : (p : State) → Keeps p (branches_at inside p)
+  unfolding branches_at
+  keeps-branches p =
+      keeps-then p (branch_at inside p) _ (keeps-branch p)
+      (λ x q. keeps-by _ q (each (is_at 124) (next_branch_at inside) q)
+      (keeps-each (is_at 124) (next_branch_at inside) moves-next_branch q))
+
+-- what stands in a group leaves no longer text
+pub keeps-inside : (n : ℕ) (p : State) → Keeps p (inside_at n p)
+unfolding inside_at
+keeps-inside zero p = tt
+keeps-inside (suc n) p = keeps-branches (inside_at n) (keeps-inside n) p

@@ -1,0 +1,36 @@
+-- What classes hold.
+use Rattle.std.proofs.Common.{◌≡◌, true, false, [], ◌∷◌, refl}
+use Rattle.jp_iregexp.specs.Category.{stands_for}
+use Rattle.jp_iregexp.specs.Class.{class_holds, item_holds}
+use Rattle.jp_iregexp.specs.declared.class.ClassItem.TheVariants.{Range}
+use Rattle.jp_iregexp.specs.declared.category.Category.TheVariants.{L, Lu}
+use Rattle.unicode.specs.declared.properties.GeneralCategory.TheVariants.{UppercaseLetter}
+use Rattle.unicode.specs.declared.properties.GeneralCategory.TheVariants.{LowercaseLetter}
+use Rattle.unicode.specs.declared.properties.GeneralCategory.TheVariants.{ModifierLetter}
+use Rattle.unicode.specs.declared.properties.GeneralCategory.TheVariants.{NonspacingMark}
+
+-- a range holds its first character and its last, and none past it; a range whose last character is
+-- below its first holds none
+ranges : (class_holds false (Range 97 99 ∷ []) 97 ≡ true) ×
+    (class_holds false (Range 97 99 ∷ []) 99 ≡ true) ×
+    (class_holds false (Range 97 99 ∷ []) 100 ≡ false) ×
+    (class_holds false (Range 99 97 ∷ []) 98 ≡ false)
+unfolding class_holds item_holds
+ranges = (refl, refl, refl, refl)
+
+-- the class of no items holds nothing, and its negation all
+no_items : (class_holds false [] 97 ≡ false) × (class_holds true [] 97 ≡ true)
+unfolding class_holds
+no_items = (refl, refl)
+
+-- `.` holds U+0085, and neither U+000A nor U+000D
+dots : (class_holds true (Range 10 10 ∷ Range 13 13 ∷ []) 0x85 ≡ true) ×
+    (class_holds true (Range 10 10 ∷ Range 13 13 ∷ []) 10 ≡ false)
+unfolding class_holds item_holds
+dots = (refl, refl)
+
+-- `Lu` stands for one general category, `L` for all that begin with that letter
+categories : (stands_for Lu UppercaseLetter ≡ true) × (stands_for Lu LowercaseLetter ≡ false) ×
+    (stands_for L ModifierLetter ≡ true) × (stands_for L NonspacingMark ≡ false)
+unfolding stands_for
+categories = (refl, refl, refl, refl)

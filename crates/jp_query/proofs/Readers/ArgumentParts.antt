@@ -1,0 +1,190 @@
+-- Where another part comes, an argument goes on as a logical expression; and what goes on from the
+-- first side.
+use Rattle.std.proofs.Common.{◌≡◌, ℕ, ◌||◌, ◌⊎◌, Bool, true, false, List, Option, Some, None, [], ◌∷◌, inl, inr, refl, sym, ap, ◌∙◌}
+use Rattle.std.proofs.lemmas.Bool.{cases_Bool}
+use Rattle.jp_reading.specs.Outcome.{State, Outcome, took, stuck, deep, ◌>>=◌, skip, after_blank, passes, is, expect}
+use Rattle.jp_reading.specs.Views.{by}
+use Rattle.jp_reading.specs.Rule.{beyond, some}
+use Rattle.jp_reading.specs.RuleReading.{Inner, read, spanned, spanned_if}
+use Rattle.jp_reading.proofs.Loops.{each-on, round}
+use Rattle.jp_reading.proofs.Progress.{Progress}
+use Rattle.jp_reading.proofs.Rules.Progress.{goes}
+use Rattle.jp_query.specs.Tree.{ExprTree, any_of, all_of, exists, call_test, OperandTree, literal, node_value, call_value, ArgumentTree, literal_argument, query_argument, call_argument, logical_argument}
+use Rattle.jp_query.specs.Characters.{ampersand, bar, comma, closing_parenthesis}
+use Rattle.jp_query.specs.Grammar.{joined}
+use Rattle.jp_query.specs.Private.Rules.{nesting, Opening, basic, conjunction, part, other_parts, argument_start, argument_on, argument_of_parts, other_argument_parts, argument, next_argument, some_arguments, is_logical, begins_operator, comparison_with, compared_or_test}
+use Rattle.jp_query.specs.Private.Parts.{begins_part}
+use Rattle.jp_query.proofs.Levels.{or-second}
+use Rattle.jp_query.proofs.Readers.Rounds.{along, by-twice, listed, parts-none}
+
+-- ---- tests of a character
+
+or-neither : (a b : Bool) → (a || b) ≡ false → (a ≡ false) × (b ≡ false)
+or-neither true b h = absurd cc
+or-neither false b h = (refl, h)
+
+no-part : (o : Option ℕ) → passes begins_part o ≡ false
+    → (passes (is ampersand) o ≡ false) × (passes (is bar) o ≡ false)
+no-part None h = (refl, refl)
+no-part (Some c) h = or-neither (is ampersand c) (is bar c) h
+
+second-part : (o : Option ℕ) → passes begins_part o ≡ true → passes (is ampersand) o ≡ false
+    → passes (is bar) o ≡ true
+second-part None h off = h
+second-part (Some c) h off = or-second (is ampersand c) (is bar c) off h
+
+module _ (inner : Inner nesting) (moves : (o : Opening) → Progress (inner o)) where
+  -- ---- parts
+
+  -- a logical expression from its first part on
+  abbrev pub logical_parts : ExprTree → State → Outcome ArgumentTree
+  logical_parts e p =
+      by (λ es. joined all_of (e ∷ es)) (read inner (other_parts ampersand basic) p)
+      >>= λ a q. by logical_argument
+      (by (λ es. joined any_of (a ∷ es)) (read inner (other_parts bar conjunction) q))
+
+  alone : (x : ArgumentTree) (e : ExprTree) (p : State)
+      → passes (is ampersand) (after_blank p) ≡ false
+      → passes (is bar) (after_blank p) ≡ false → read inner (other_argument_parts x e) p ≡ took x p
+  alone x e p a b =
+      ap (λ (o : Outcome (List ExprTree)). o >>= λ es q. by (argument_of_parts x e es)
+      (read inner (other_parts bar conjunction) q)) (parts-none inner ampersand basic p a)
+      ∙ ap (λ (o : Outcome (List ExprTree)). by (argument_of_parts x e []) o)
+      (parts-none inner bar conjunction p b)
+
+  with-and : (x : ArgumentTree) (e : ExprTree) (p : State)
+      → passes (is ampersand) (after_blank p) ≡ true
+      → read inner (other_argument_parts x e) p ≡ logical_parts e p
+  with-and x e p on =
+      ap (λ (o : Outcome (List ExprTree)). o >>= λ es q. by (argument_of_parts x e es)
+      (read inner (other_parts bar conjunction) q)) step
+      ∙ more (read inner (part ampersand basic) p) ∙ sym (ap
+      (λ (o : Outcome (List ExprTree)). by (λ es. joined all_of (e ∷ es)) o
+      >>= λ a q. by logical_argument
+      (by (λ es. joined any_of (a ∷ es)) (read inner (other_parts bar conjunction) q))) step)
+    where
+      step : read inner (other_parts ampersand basic) p
+          ≡ round (read inner (part ampersand basic) p)
+          (λ q. read inner (other_parts ampersand basic) q)
+      step =
+          each-on (λ q. passes (is ampersand) (after_blank q))
+          (λ q. read inner (part ampersand basic) q)
+          (λ q. goes inner moves (part ampersand basic) q) p on
+
+      rest : (b : ExprTree) (o : Outcome (List ExprTree)) → ((o >>= λ bs r. took (b ∷ bs) r)
+          >>= λ es q. by (argument_of_parts x e es) (read inner (other_parts bar conjunction) q))
+          ≡ (by (λ es. joined all_of (e ∷ es)) (o >>= λ bs r. took (b ∷ bs) r)
+          >>= λ a q. by logical_argument
+          (by (λ es. joined any_of (a ∷ es)) (read inner (other_parts bar conjunction) q)))
+      rest b (took bs r) =
+          sym (by-twice logical_argument (λ fs. joined any_of (joined all_of (e ∷ b ∷ bs) ∷ fs))
+          (read inner (other_parts bar conjunction) r))
+      rest b (stuck r) = refl
+      rest b (deep r) = refl
+
+      more : (o : Outcome ExprTree) → (round o (λ q. read inner (other_parts ampersand basic) q)
+          >>= λ es q. by (argument_of_parts x e es) (read inner (other_parts bar conjunction) q))
+          ≡ (by (λ es. joined all_of (e ∷ es))
+          (round o (λ q. read inner (other_parts ampersand basic) q)) >>= λ a q. by logical_argument
+          (by (λ es. joined any_of (a ∷ es)) (read inner (other_parts bar conjunction) q)))
+      more (took b q) = rest b (read inner (other_parts ampersand basic) q)
+      more (stuck q) = refl
+      more (deep q) = refl
+
+  with-or : (x : ArgumentTree) (e : ExprTree) (p : State)
+      → passes (is ampersand) (after_blank p) ≡ false → passes (is bar) (after_blank p) ≡ true
+      → read inner (other_argument_parts x e) p ≡ logical_parts e p
+  with-or x e p off on =
+      ap (λ (o : Outcome (List ExprTree)). o >>= λ es q. by (argument_of_parts x e es)
+      (read inner (other_parts bar conjunction) q)) none
+      ∙ ap (λ (o : Outcome (List ExprTree)). by (argument_of_parts x e []) o) step
+      ∙ more (read inner (part bar conjunction) p) ∙ sym (ap
+      (λ (o : Outcome (List ExprTree)). by logical_argument (by (λ es. joined any_of (e ∷ es)) o))
+      step) ∙ sym (ap (λ (o : Outcome (List ExprTree)). by (λ es. joined all_of (e ∷ es)) o
+      >>= λ a q. by logical_argument
+      (by (λ es. joined any_of (a ∷ es)) (read inner (other_parts bar conjunction) q))) none)
+    where
+      none : read inner (other_parts ampersand basic) p ≡ took [] p
+      none = parts-none inner ampersand basic p off
+
+      step : read inner (other_parts bar conjunction) p
+          ≡ round (read inner (part bar conjunction) p)
+          (λ q. read inner (other_parts bar conjunction) q)
+      step =
+          each-on (λ q. passes (is bar) (after_blank q)) (λ q. read inner (part bar conjunction) q)
+          (λ q. goes inner moves (part bar conjunction) q) p on
+
+      rest : (b : ExprTree) (o : Outcome (List ExprTree))
+          → by (argument_of_parts x e []) (o >>= λ bs r. took (b ∷ bs) r)
+          ≡ by logical_argument (by (λ es. joined any_of (e ∷ es)) (o >>= λ bs r. took (b ∷ bs) r))
+      rest b (took bs r) = refl
+      rest b (stuck r) = refl
+      rest b (deep r) = refl
+
+      more : (o : Outcome ExprTree) → by (argument_of_parts x e [])
+          (round o (λ q. read inner (other_parts bar conjunction) q)) ≡ by logical_argument
+          (by (λ es. joined any_of (e ∷ es))
+          (round o (λ q. read inner (other_parts bar conjunction) q)))
+      more (took b q) = rest b (read inner (other_parts bar conjunction) q)
+      more (stuck q) = refl
+      more (deep q) = refl
+
+  pub parts-logical : (x : ArgumentTree) (e : ExprTree) (p : State)
+      → passes begins_part (after_blank p) ≡ true
+      → read inner (other_argument_parts x e) p ≡ logical_parts e p
+  parts-logical x e p on = way (cases_Bool (passes (is ampersand) (after_blank p)))
+    where
+      way : (passes (is ampersand) (after_blank p) ≡ true) ⊎
+          (passes (is ampersand) (after_blank p) ≡ false)
+          → read inner (other_argument_parts x e) p ≡ logical_parts e p
+      way (inl and) = with-and x e p and
+      way (inr off) = with-or x e p off (second-part (after_blank p) on off)
+
+  -- no other part
+  pub argument-alone : (x : ArgumentTree) (p : State) → passes begins_part (after_blank p) ≡ false
+      → read inner (argument_on x) p ≡ took x p
+  argument-alone (literal_argument l) p off = refl
+  argument-alone (query_argument q) p off = let no =
+      no-part (after_blank p) off in alone (query_argument q) (exists q) p no.0 no.1
+  argument-alone (call_argument c) p off = let no =
+      no-part (after_blank p) off in alone (call_argument c) (call_test c) p no.0 no.1
+  argument-alone (logical_argument e) p off = let no =
+      no-part (after_blank p) off in alone (logical_argument e) e p no.0 no.1
+
+module _ (inner : Inner nesting) where
+  -- ---- arguments
+
+  pub argument-took : (p q r : State) (x y : ArgumentTree) → read inner argument_start p ≡ took x q
+      → read inner (argument_on x) q ≡ took y r
+      → read inner argument p ≡ took y (spanned_if (is_logical y) p r)
+  unfolding argument
+  argument-took p q r x y e f =
+      ap (λ (o : Outcome ArgumentTree). spanned is_logical p
+      (o >>= λ z s. read inner (argument_on z) s)) e
+      ∙ ap (λ (o : Outcome ArgumentTree). spanned is_logical p o) f
+
+  -- arguments, and the parenthesis after them
+  pub arguments-closed : (p : State) → read inner some_arguments p
+      ≡ read inner listed p >>= λ xs q. expect closing_parenthesis (skip q) >>= λ d r. took xs r
+  unfolding some_arguments
+  arguments-closed p = closing (read inner argument p)
+    where
+      closing : (o : Outcome ArgumentTree)
+          → (o >>= λ x q. read inner (some beyond (is comma) next_argument) q >>= λ xs r. expect
+          closing_parenthesis (skip r) >>= λ d s. took (x ∷ xs) s)
+          ≡ (o >>= λ x q. by (λ xs. x ∷ xs) (read inner (some beyond (is comma) next_argument) q))
+          >>= λ xs q. expect closing_parenthesis (skip q) >>= λ d r. took xs r
+      closing (took x q) =
+          sym (along (read inner (some beyond (is comma) next_argument) q) (λ xs r. took (x ∷ xs) r)
+          (λ xs w. expect closing_parenthesis (skip w) >>= λ d r. took xs r))
+      closing (stuck q) = refl
+      closing (deep q) = refl
+
+  -- ---- sides
+
+  -- what an operator follows is compared
+  pub compared-on : (x : OperandTree) (p : State) → passes begins_operator (after_blank p) ≡ true
+      → read inner (compared_or_test x) p ≡ read inner (comparison_with x) (skip p)
+  compared-on (literal l) p on = refl
+  compared-on (node_value q) p on = rw on refl
+  compared-on (call_value c) p on = rw on refl

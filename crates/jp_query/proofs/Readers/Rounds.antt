@@ -1,0 +1,179 @@
+-- The loops over selectors, and over the parts of an expression.
+use Rattle.std.proofs.Common.{◌≡◌, ℕ, ◌<◌, ◌≤◌, Bool, true, false, List, [], ◌∷◌, ◌++◌, length, map, refl, sym, ap, ◌∙◌, arith}
+use Rattle.std.proofs.lemmas.List.{map-append}
+use Rattle.jp_reading.specs.declared.reader.Stop.{Stop}
+use Rattle.jp_reading.specs.Outcome.{State, Outcome, took, stuck, deep, ◌>>=◌, past, skip, after_blank, passes, is, is_at, expect}
+use Rattle.jp_reading.specs.Views.{Fails, by, with_front}
+use Rattle.jp_reading.specs.Rule.{here, beyond, blanks, the, some, made, ◌>>◌, seq}
+use Rattle.jp_reading.specs.RuleReading.{Inner, read}
+use Rattle.jp_reading.proofs.Loops.{each-off}
+use Rattle.jp_reading.proofs.Folds.{fails-then}
+use Rattle.jp_reading.proofs.Rules.Rounds as loops
+use Rattle.jp_reading.proofs.Steps.{take_if-takes, head-is}
+use Rattle.jp_query.specs.Tree.{SelectorTree, segment, selectors, ExprTree, ExprTrees, exprs, ArgumentTree}
+use Rattle.jp_query.specs.Characters.{comma, opening_bracket, closing_bracket}
+use Rattle.jp_query.specs.Grammar.{joined}
+use Rattle.jp_query.specs.Private.Rules.{nesting, QueryRule, selector, entry, entries, bracket, joint, part, other_parts, argument, next_argument}
+use Rattle.jp_query.specs.Private.Reading.{inside, read_flat, read_inside}
+use Rattle.jp_query.proofs.Levels.{inside-progress}
+
+-- ---- selectors in brackets
+
+-- those after the first, each with its comma
+abbrev pub other_entries : QueryRule false here here (List SelectorTree)
+other_entries = some here (is comma) (the comma >> (blanks {m = here} >> entry))
+
+pub entries_first : (inner : Inner nesting) (p q : State) (x : SelectorTree)
+    → read inner selector p ≡ took x q
+    → with_front (x ∷ []) (read inner other_entries (skip q)) ≡ read inner entries p
+unfolding entries entry
+entries_first inner p q x e = rw e refl
+
+-- brackets, once the first is taken
+pub bracket-opened : (inner : Inner nesting) (descendant : Bool) (p q : State)
+    → expect opening_bracket p ≡ took opening_bracket q → read inner (bracket descendant) p
+    ≡ read inner entries (skip q) >>= λ xs r. expect closing_bracket r >>= λ d w. took
+    (segment descendant (selectors xs)) w
+unfolding bracket
+bracket-opened inner descendant p q e =
+    ap (λ (o : Outcome ℕ). o >>= λ c r. read inner entries
+    (skip r) >>= λ xs v. expect closing_bracket v >>= λ d w. took
+    (segment descendant (selectors xs)) w) e
+
+-- another, after its comma
+pub another-is : (inner : Inner nesting) (p : State) → is_at comma p ≡ true
+    → read inner (the comma >> (blanks {m = here} >> entry)) p ≡ read inner selector
+    (skip (past p)) >>= λ x q. took x (skip q)
+unfolding entry
+another-is inner p on =
+    ap (λ (o : Outcome ℕ). o >>= λ c q. read inner selector (skip q) >>= λ x r. took x (skip r))
+    (take_if-takes (is comma) p comma (head-is comma p on) refl)
+
+pub another-took : (inner : Inner nesting) (p q : State) (x : SelectorTree) → is_at comma p ≡ true
+    → read inner selector (skip (past p)) ≡ took x q
+    → read inner (the comma >> (blanks {m = here} >> entry)) p ≡ took x (skip q)
+another-took inner p q x on e =
+    another-is inner p on ∙ ap (λ (o : Outcome SelectorTree). o >>= λ y r. took y (skip r)) e
+
+pub another-fails : (inner : Inner nesting) (p : State) (e : Stop) → is_at comma p ≡ true
+    → Fails e (read inner selector (skip (past p)))
+    → Fails e (read inner (the comma >> (blanks {m = here} >> entry)) p)
+another-fails inner p e on failed =
+    rw (another-is inner p on)
+    (fails-then e (read inner selector (skip (past p))) (λ x q. took x (skip q)) failed)
+
+-- ---- parts of an expression
+
+-- a rule after one that follows another
+pub along : {A B C : Type 0} (o : Outcome A) (f : A → State → Outcome B) (g : B → State → Outcome C)
+    → (o >>= f) >>= g ≡ o >>= λ x q. f x q >>= g
+along (took x q) f g = refl
+along (stuck q) f g = refl
+along (deep q) f g = refl
+
+module _ {A : Type 0} (inner : Inner nesting) (c : ℕ) (r : QueryRule true here beyond A) where
+  -- a part comes after its mark
+  part-joint : (p : State)
+      → read inner (part c r) p ≡ read_flat (joint c) p >>= λ d q. read inner r q
+  unfolding joint
+  part-joint p =
+      sym (along (expect c (skip p)) _ _ ∙ ap (λ f. expect c (skip p) >>= f)
+      (λ i d q. along (expect c q) (λ x w. took c (skip w)) (λ x w. read inner r w) i))
+
+  pub part-is : (p q : State) (d : ℕ) → read_flat (joint c) p ≡ took d q
+      → read inner (part c r) p ≡ read inner r q
+  part-is p q d e = part-joint p ∙ ap (λ (o : Outcome ℕ). o >>= λ x w. read inner r w) e
+
+  pub part-took : (p q w : State) (d : ℕ) (x : A) → read_flat (joint c) p ≡ took d q
+      → read inner r q ≡ took x w → read inner (part c r) p ≡ took x w
+  part-took p q w d x e f = part-is p q d e ∙ f
+
+  -- a mark that is not there whole, or a part that fails after it
+  pub mark-fails : (p : State) (e : Stop) → Fails e (read_flat (joint c) p)
+      → Fails e (read inner (part c r) p)
+  mark-fails p e h =
+      rw (part-joint p) (fails-then e (read_flat (joint c) p) (λ d q. read inner r q) h)
+
+  pub part-fails : (p q : State) (d : ℕ) (e : Stop) → read_flat (joint c) p ≡ took d q
+      → Fails e (read inner r q) → Fails e (read inner (part c r) p)
+  part-fails p q d e f h = rw (part-is p q d f) h
+
+  -- no further part
+  pub parts-none : (p : State) → passes (is c) (after_blank p) ≡ false
+      → read inner (other_parts c r) p ≡ took [] p
+  parts-none p off = each-off (λ w. passes (is c) (after_blank w)) (λ w. read inner (part c r) w) p
+      off
+
+-- a value made into another, twice
+pub by-twice : {A B C : Type 0} (f : B → C) (g : A → B) (o : Outcome A)
+    → by f (by g o) ≡ by (λ x. f (g x)) o
+by-twice f g (took x q) = refl
+by-twice f g (stuck q) = refl
+by-twice f g (deep q) = refl
+
+-- arguments without the parenthesis after them
+abbrev pub listed : QueryRule true here beyond (List ArgumentTree)
+listed = seq argument (λ x. made (λ xs. x ∷ xs) (some beyond (is comma) next_argument))
+
+-- two parts or more are several
+pub joined-several : (several : ExprTrees → ExprTree) (es : List ExprTree) → 2 ≤ length es
+    → joined several es ≡ several (exprs es)
+joined-several several [] h = absurd (omega arith)
+joined-several several (e ∷ []) h = absurd (omega arith)
+joined-several several (e ∷ f ∷ es) h = refl
+
+-- what was pushed, each as its tree
+pub map-pushed : {A B : Type 0} (f : A → B) {ys : List A} (xs : List A) (x : A) → ys ≡ xs ++ x ∷ []
+    → map f ys ≡ map f xs ++ f x ∷ []
+map-pushed f xs x e = ap (map f) e ∙ map-append f xs (x ∷ [])
+
+pub map-first : {A B : Type 0} (f : A → B) {ys xs : List A} {x : A} → ys ≡ xs ++ x ∷ [] → xs ≡ []
+    → map f ys ≡ f x ∷ []
+map-first f {x} e none = ap (map f) (e ∙ ap (λ zs. zs ++ x ∷ []) none)
+
+-- ---- several parts with a mark twice between them, once the first is read
+
+module _ (n c : ℕ) (r : QueryRule true here beyond ExprTree) (first : ExprTree) (from : State) where
+  -- the loop goes on from p with these parts
+  abbrev pub StillMakes : List ExprTree → State → Type 0
+  StillMakes xs p =
+      with_front xs (read_inside n (other_parts c r) p)
+      ≡ by (λ es. first ∷ es) (read_inside n (other_parts c r) from)
+
+  -- a part that fails
+  pub parts-fail : (several : ExprTrees → ExprTree) (e : Stop) (xs : List ExprTree) (p : State)
+      → StillMakes xs p
+      → passes (is c) (after_blank p) ≡ true → Fails e (read_inside n (part c r) p)
+      → Fails e (by (λ es. joined several (first ∷ es)) (read_inside n (other_parts c r) from))
+  parts-fail several e xs p total on failed =
+      let o = by (λ es. first ∷ es) (read_inside n (other_parts c r) from) in
+      let made : Fails e o = rw (← total)
+      (loops.some_fail (inside n) (inside-progress n) beyond (is c) (part c r) p xs e on failed) in
+      rw (← by-twice (joined several) (λ es. first ∷ es) (read_inside n (other_parts c r) from))
+      (fails-then e o _ made)
+
+  -- another part
+  pub parts-on : (xs : List ExprTree) (p q w : State) (x : ExprTree) → StillMakes xs p
+      → passes (is c) (after_blank p) ≡ true → read_flat (joint c) p ≡ took c q
+      → read_inside n r q ≡ took x w → StillMakes (xs ++ x ∷ []) w
+  parts-on xs p q w x total on mark one =
+      sym (loops.some_on (inside n) (inside-progress n) beyond (is c) (part c r) p w xs x on
+      (part-took (inside n) c r p q w c x mark one)) ∙ total
+
+  pub parts-smaller : (p q w : State) (x : ExprTree) → read_flat (joint c) p ≡ took c q
+      → read_inside n r q ≡ took x w → length w.rest < length p.rest
+  parts-smaller p q w x mark one =
+      loops.some-smaller (inside n) (inside-progress n) beyond (is c) (part c r) p w x
+      (part-took (inside n) c r p q w c x mark one)
+
+  -- no part more
+  pub parts-end : (several : ExprTrees → ExprTree) (xs : List ExprTree) (p : State)
+      → StillMakes xs p
+      → passes (is c) (after_blank p) ≡ false → 2 ≤ length xs
+      → by (λ es. joined several (first ∷ es)) (read_inside n (other_parts c r) from)
+      ≡ took (several (exprs xs)) p
+  parts-end several xs p total off many =
+      sym (by-twice (joined several) (λ es. first ∷ es) (read_inside n (other_parts c r) from))
+      ∙ ap (by (joined several))
+      (sym total ∙ loops.some_end (inside n) (inside-progress n) beyond (is c) (part c r) p xs off)
+      ∙ ap (λ e. took e p) (joined-several several xs many)

@@ -1,0 +1,59 @@
+-- Reading a query looks at its text from its beginning on, and what comes after the text that it
+-- looks at changes nothing.
+use Rattle.std.proofs.Common.{◌≡◌, ℕ, zero, suc, ◌≤◌, false, if◌then◌else◌, [], ◌∷◌, ◌++◌, ◌==◌, length, inl, inr, arith}
+use Rattle.std.proofs.lemmas.Bool.{cases_Bool, eqb-true}
+use Rattle.jp_reading.specs.Texts.{Text, Spans}
+use Rattle.jp_reading.specs.Outcome.{State, Outcome, took, stuck, skip, is_end}
+use Rattle.jp_reading.specs.RuleReading.{read}
+use Rattle.jp_reading.proofs.Chars.{skip-shorter}
+use Rattle.jp_reading.proofs.Locality.{all, unblanked, Ends, Agrees, ended, Local, local-then, local-deep, local-stuck, local-skip, unblanked-skip}
+use Rattle.jp_reading.proofs.Rules.Locality.{local-rule}
+use Rattle.jp_query.specs.Private.Rules.{Opening, opened, query}
+use Rattle.jp_query.specs.Private.Reading.{inside, query_at}
+use Rattle.jp_query.proofs.Levels.{inside-progress}
+
+local-inside : (n : ℕ) (o : Opening) → Local all unblanked (inside n o)
+local-inside zero o = local-deep unblanked
+local-inside (suc n) o = local-rule (inside n) (inside-progress n) (local-inside n) (opened o)
+
+-- where a query's segments end the text ends too, or there is a stop past the blanks
+at_text_end : {A : Type 0} → A → State → Outcome A
+at_text_end x r = if is_end r then took x r else stuck (skip r)
+
+goes_on : (c : ℕ) (t : Text) → (length (c ∷ t) == 0) ≡ false
+goes_on c t =
+    elim (cases_Bool (length (c ∷ t) == 0)) [
+      | inl none ↦ let e = eqb-true (length (c ∷ t)) 0 none in absurd (omega arith)
+      | inr some ↦ some
+    ]
+
+local-text_end : {A : Type 0} (x : A) → Local unblanked all (at_text_end x)
+unfolding at_text_end
+local-text_end {A} x = record {
+  ends = λ m p e. comes m p.at p.found p.rest e;
+  agrees = λ u p. alike u p.at p.found p.rest;
+}
+  where
+    comes : (m at : ℕ) (found : Spans) (t : Text) → unblanked t ≤ m
+        → Ends all m (at_text_end x (record { at = at; rest = t; found = found }))
+    comes m at found [] e = omega arith
+    comes m at found (c ∷ t) e =
+        rw (goes_on c t) (let f = unblanked-skip
+        (record { at = at; rest = c ∷ t; found = found }) in omega arith)
+
+    alike : (u : Text) (at : ℕ) (found : Spans) (t : Text)
+        → Agrees all u (at_text_end x (record { at = at; rest = t; found = found }))
+        (at_text_end x (record { at = at; rest = t ++ u; found = found }))
+    alike u at found [] =
+        ended (omega arith)
+        (comes (length u) at found u (skip-shorter (record { at = 0; rest = u; found = [] })))
+    alike u at found (c ∷ t) =
+        rw (goes_on c t, goes_on c (t ++ u))
+        ((local-skip {A = A} all stuck (local-stuck all)).agrees u
+        (record { at = at; rest = c ∷ t; found = found }))
+
+pub local-query : (n : ℕ) → Local all all (query_at n)
+unfolding query_at at_text_end
+local-query n =
+    local-then all unblanked all (read (inside n) query) _
+    (local-rule (inside n) (inside-progress n) (local-inside n) query) (λ q. local-text_end q)

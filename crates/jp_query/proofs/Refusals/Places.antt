@@ -1,0 +1,151 @@
+-- Where a text is refused it goes on to no query, and nowhere before.
+use Rattle.std.proofs.Common.{◌≡◌, ℕ, suc, ◌≤◌, [], ◌∷◌, ◌++◌, length, inl, inr, refl, sym, ap, ◌∙◌, subst, append_assoc, append-nil, length-append, arith}
+use Rattle.std.proofs.lemmas.List.{append_cancel_right}
+use Rattle.jp_reading.specs.Texts.{Text, Spans, bytes}
+use Rattle.jp_reading.specs.Outcome.{State, Outcome, took, stuck, deep, past}
+use Rattle.jp_reading.proofs.Between.{Stops, Passes}
+use Rattle.jp_reading.proofs.Again.{start}
+use Rattle.jp_query.specs.ViablePrefix.{IsViablePrefix, IsNoViablePrefix, EndsViablePrefix, IsSyntaxAt, IsTooDeepAt}
+use Rattle.jp_query.specs.Private.Reading.{query_at}
+use Rattle.jp_reading.proofs.Locality.{all, Agrees, same, ended, longer}
+use Rattle.jp_query.proofs.Refusals.Locality.{local-query}
+use Rattle.jp_query.proofs.Refusals.LevelsMonotone.{stuck-deeper}
+use Rattle.jp_query.proofs.Unique.{spells-read, unread-spells_nothing}
+use Rattle.jp_query.proofs.Soundness.Whole.{query-sound, whole, spells-of}
+
+-- ---- no further
+
+-- reading stops where the text t is left
+abbrev StopsAt : {A : Type 0} → Text → Outcome A → Type 0
+StopsAt t (took x q) = ⊥
+StopsAt t (stuck q) = q.rest ≡ t
+StopsAt t (deep q) = q.rest ≡ t
+
+abbrev Takes : {A : Type 0} → Outcome A → Type 0
+Takes (took x q) = Unit {0}
+Takes (stuck q) = ⊥
+Takes (deep q) = ⊥
+
+-- what is left before the character at the end of the text, is not left behind it
+too-long : (c : ℕ) (u t : Text) → t ≡ c ∷ u → length t ≤ length u → ⊥
+too-long c u t e h = let f : length t ≡ length (c ∷ u) = ap length e in absurd (omega arith)
+
+too-short : (c : ℕ) (u : Text) (q : State) → q.rest ++ u ≡ c ∷ u → length q.rest ≤ 0 → ⊥
+too-short c u q e h =
+    let f : length (q.rest ++ u) ≡ length
+    (c ∷ u) = ap length e in let g = length-append q.rest u in absurd (omega arith)
+
+-- no reading stops at the last character of a text and, with another text behind, takes a value
+apart : {A : Type 0} (c : ℕ) (u t : Text) (o v w : Outcome A) → Agrees all u o v → Agrees all t o w
+    → StopsAt (c ∷ u) v → Takes w → ⊥
+apart c u t o (took x q) w f g stops takes = stops
+apart c u t o (stuck q) w (ended e k) g stops takes = too-long c u q.rest stops k
+apart c u t o (deep q) w (ended e k) g stops takes = too-long c u q.rest stops k
+apart c u t (took x q) (stuck r) w (same e) g stops takes = cc
+apart c u t (took x q) (deep r) w (same e) g stops takes = cc
+apart c u t (deep q) (stuck r) w (same e) g stops takes = cc
+apart c u t (stuck q) (deep r) w (same e) g stops takes = cc
+apart c u t (stuck q) (stuck r) w (same e) (same f) stops takes = subst Takes f takes
+apart c u t (deep q) (deep r) w (same e) (same f) stops takes = subst Takes f takes
+apart c u t (stuck q) (stuck r) w (same e) (ended g k) stops takes =
+    let f : r ≡ longer u q = cc in too-short c u q (ap (λ (p : State). p.rest) (sym f) ∙ stops) g
+apart c u t (deep q) (deep r) w (same e) (ended g k) stops takes =
+    let f : r ≡ longer u q = cc in too-short c u q (ap (λ (p : State). p.rest) (sym f) ∙ stops) g
+
+-- through the character at which reading a query stops no text goes on to one
+pub no-further : (n : ℕ) (before behind : Text) (mark : ℕ)
+    → StopsAt (mark ∷ behind) (query_at n (start (before ++ mark ∷ behind)))
+    → IsNoViablePrefix n (before ++ mark ∷ [])
+no-further n before behind mark stops spelled =
+    let through = before ++ mark ∷ [] in
+    let alike = (local-query n).agrees in
+    let read = spells-read n spelled.1 spelled.2 (through ++ spelled.0) spelled.3 in
+    apart mark behind spelled.0 (query_at n (start through))
+    (query_at n (start (through ++ behind))) (query_at n (start (through ++ spelled.0)))
+    (alike behind (start through)) (alike spelled.0 (start through))
+    (rw (append_assoc before (mark ∷ []) behind) stops) (rw read tt)
+
+-- ---- places
+
+-- what stands before a stop begins a text that spells a query
+prefix-of : (n : ℕ) (text : Text) (r : State) (h : Stops (whole n) (start text) r)
+    → IsViablePrefix n h.front.read
+prefix-of n text r h = (
+  h.front.more,
+  h.value,
+  h.front.spans,
+  spells-of n h.value h.front.spans (h.front.read ++ h.front.more) h.front.is,
+)
+
+place-of : (n : ℕ) (text : Text) (r : State) (h : Stops (whole n) (start text) r)
+    → bytes h.front.read ≡ r.at
+place-of n text r h = sym (h.front.at ∙ omega arith)
+
+syntax-parts : (n : ℕ) (text : Text) (at : ℕ) (rest : Text) (found : Spans)
+    → query_at n (start text) ≡ stuck (record { at = at; rest = rest; found = found })
+    → Stops (whole n) (start text) (record { at = at; rest = rest; found = found })
+    → IsSyntaxAt n text at
+syntax-parts n text at [] found e h =
+    let r : State = record { at = at; rest = []; found = found } in
+    let all_read : h.front.read ≡ text = sym (h.front.rest ∙ append-nil h.front.read) in
+    inl (record {
+      place_is = subst (λ (t : Text). bytes t ≡ at) all_read (place-of n text r h);
+      is_viable = subst (IsViablePrefix n) all_read (prefix-of n text r h);
+      nothing = unread-spells_nothing n text r e;
+    })
+syntax-parts n text at (mark ∷ behind) found e h =
+    let r : State = record { at = at; rest = mark ∷ behind; found = found } in
+    let before = h.front.read in
+    let stops = λ (k : ℕ) (f : query_at k (start text) ≡ stuck r). no-further k before behind mark
+    (rw (sym h.front.rest, f) refl) in
+    let end : EndsViablePrefix n text at = record {
+      before = before;
+      mark = mark;
+      after = behind;
+      parts = h.front.rest;
+      place_is = place-of n text r h;
+      is_viable = prefix-of n text r h;
+      is_not_viable = stops n e;
+    } in
+    inr (record { end = end; none_deeper = stops (suc n) (stuck-deeper n (start text) r e) })
+
+-- where reading is stuck
+pub stuck-place : (n : ℕ) (text : Text) (r : State) → query_at n (start text) ≡ stuck r
+    → IsSyntaxAt n text r.at
+stuck-place n text r e =
+    let judged = rw e at (query-sound n (start text)) in
+    syntax-parts n text r.at r.rest r.found e judged.is
+
+deep-parts : (n : ℕ) (text : Text) (at : ℕ) (rest : Text) (found : Spans)
+    → query_at n (start text) ≡ deep (record { at = at; rest = rest; found = found })
+    → Stops (whole n) (start text) (record { at = at; rest = rest; found = found })
+    → Passes (whole (suc n)) (start text) (record { at = at; rest = rest; found = found })
+    → IsTooDeepAt n text at
+deep-parts n text at [] found e h g = absurd (let none = g.next in omega arith)
+deep-parts n text at (mark ∷ behind) found e h g =
+    let r : State = record { at = at; rest = mark ∷ behind; found = found } in
+    let before = h.front.read in
+    let through = g.stops.front in
+    let same_text : through.read ≡ before ++ mark ∷ [] =
+    append_cancel_right through.read (before ++ mark ∷ []) behind
+    (sym through.rest ∙ h.front.rest ∙ sym (append_assoc before (mark ∷ []) behind)) in
+    let end : EndsViablePrefix n text at = record {
+      before = before;
+      mark = mark;
+      after = behind;
+      parts = h.front.rest;
+      place_is = place-of n text r h;
+      is_viable = prefix-of n text r h;
+      is_not_viable = no-further n before behind mark (rw (sym h.front.rest, e) refl);
+    } in
+    record {
+      end = end;
+      deeper = subst (IsViablePrefix (suc n)) same_text (prefix-of (suc n) text (past r) g.stops);
+    }
+
+-- where a level is missing, and with one level more the character there goes on
+pub deep-place : (n : ℕ) (text : Text) (r : State) → query_at n (start text) ≡ deep r
+    → IsTooDeepAt n text r.at
+deep-place n text r e =
+    let judged = rw e at (query-sound n (start text)) in
+    deep-parts n text r.at r.rest r.found e judged.is.0 judged.is.1

@@ -1,0 +1,206 @@
+//! Function expressions and their arguments (RFC 9535 section 2.4).
+
+ghost use Rattle.std.specs.Prelude.{◌≡◌, map};
+ghost use Rattle.std.specs.Str.{chars};
+ghost use Rattle.std.specs.String.{string_bytes};
+ghost use Rattle.jp_reading.specs.Outcome.{after_blank, passes};
+ghost use Rattle.jp_reading.specs.Views.{Gives, by};
+ghost use Rattle.jp_query.specs.Tree.{argument_of, call_of, expr_of, operand_of};
+ghost use Rattle.jp_query.specs.Private.Rules as rules;
+ghost use Rattle.jp_query.specs.Private.Rules.{is_logical};
+ghost use Rattle.jp_query.specs.Private.Parts.{begins_part, logical_at};
+ghost use Rattle.jp_query.specs.Private.Reading.{call_inside, read_inside};
+
+use crate::expressions::{comparison, conjunction_from, expression_from, negation, parenthesis};
+use crate::lists::append;
+use crate::names::function_characters;
+use crate::operators::is_before_operator;
+use crate::sides::side;
+use crate::tree::{Argument, Call, Expr, Operand, Subject};
+use jp_reading::{Reader, Stop};
+
+/// A function expression, of whose name these characters were read.
+#[cycle(nested)]
+pub fn call(reader: &mut Reader, levels: u32, name: String) -> Result<Call, Stop>
+    ensures { Gives
+        call_of
+        result
+        reader.new
+        (by (rules.call_with (chars (string_bytes name))) (call_inside levels reader.old)) }
+{
+    if levels == 0 {
+        return Err(Stop::TooDeep(reader.place()));
+    }
+    let name = function_characters(reader, name)?;
+    reader.expect('(')?;
+    let arguments = arguments(reader, levels - 1)?;
+    Ok(Call { name, arguments })
+}
+
+/// The arguments of a function after its opening parenthesis, with the closing one.
+#[cycle(nested)]
+#[tactic(auto, unfolding(crate::specs::Private::Rules::after_parenthesis))]
+fn arguments(reader: &mut Reader, levels: u32) -> Result<Vec<Argument>, Stop>
+    ensures { Gives
+        (λ v. map argument_of v.items)
+        result
+        reader.new
+        (read_inside levels rules.after_parenthesis reader.old) }
+{
+    reader.skip();
+    if reader.is_at(')') {
+        reader.bump();
+        return Ok(Vec::new(reader.alloc()));
+    }
+    some_arguments(reader, levels)
+}
+
+/// Arguments with commas between them, and the closing parenthesis.
+#[cycle(nested)]
+#[tactic(auto, unfolding(crate::specs::Private::Rules::some_arguments))]
+fn some_arguments(reader: &mut Reader, levels: u32) -> Result<Vec<Argument>, Stop>
+    ensures { Gives
+        (λ v. map argument_of v.items)
+        result
+        reader.new
+        (read_inside levels rules.some_arguments reader.old) }
+{
+    let mut arguments = Vec::new(reader.alloc());
+    let first = argument(reader, levels)?;
+    append(&mut arguments, first)?;
+    'arguments: while reader.is_before(',') {
+        let next = next_argument(reader, levels)?;
+        append(&mut arguments, next)?;
+    }
+    reader.skip();
+    reader.expect(')')?;
+    Ok(arguments)
+}
+
+/// An argument after a comma.
+#[cycle(nested)]
+#[tactic(auto, unfolding(crate::specs::Private::Rules::next_argument))]
+fn next_argument(reader: &mut Reader, levels: u32) -> Result<Argument, Stop>
+    ensures { Gives
+        argument_of
+        result
+        reader.new
+        (read_inside levels rules.next_argument reader.old) }
+{
+    reader.skip();
+    reader.expect(',')?;
+    reader.skip();
+    argument(reader, levels)
+}
+
+/// An argument, which is an item of its own where it is a logical expression.
+#[cycle(nested)]
+#[tactic(auto, unfolding(crate::specs::Private::Rules::argument))]
+fn argument(reader: &mut Reader, levels: u32) -> Result<Argument, Stop>
+    ensures { Gives argument_of result reader.new (read_inside levels rules.argument reader.old) }
+{
+    let start = reader.place();
+    let before = reader.items();
+    let first = argument_start(reader, levels)?;
+    let argument = argument_from(reader, levels, first)?;
+    if !is_logical(&argument) {
+        return Ok(argument);
+    }
+    reader.add_item(start, before)?;
+    Ok(argument)
+}
+
+/// Whether an argument is a logical expression.
+fn is_logical(argument: &Argument) -> bool
+    ensures { result ≡ is_logical (argument_of argument.now) }
+{
+    match argument {
+        Argument::Literal(_) => false,
+        Argument::Query(_) => false,
+        Argument::Call(_) => false,
+        Argument::Logical(_) => true,
+    }
+}
+
+/// The first part of an argument: a basic expression, or a literal.
+#[cycle(nested)]
+#[tactic(auto, unfolding(crate::specs::Private::Rules::argument_start))]
+fn argument_start(reader: &mut Reader, levels: u32) -> Result<Argument, Stop>
+    ensures { Gives
+        argument_of
+        result
+        reader.new
+        (read_inside levels rules.argument_start reader.old) }
+{
+    match reader.peek() {
+        Some('!') => {
+            reader.bump();
+            Ok(Argument::Logical(negation(reader, levels)?))
+        },
+        Some('(') => Ok(Argument::Logical(parenthesis(reader, levels)?)),
+        _ => {
+            let first = side(reader, levels)?;
+            compared_or_alone(reader, levels, first)
+        },
+    }
+}
+
+/// What goes on from the first side of an argument: a comparison, or nothing.
+#[cycle(nested)]
+fn compared_or_alone(reader: &mut Reader, levels: u32, first: Operand) -> Result<Argument, Stop>
+    ensures { Gives
+        argument_of
+        result
+        reader.new
+        (read_inside levels (rules.compared_or_alone (operand_of first)) reader.old) }
+{
+    if is_before_operator(reader) {
+        reader.skip();
+        return Ok(Argument::Logical(comparison(reader, levels, first)?));
+    }
+    match first {
+        Operand::Literal(literal) => Ok(Argument::Literal(literal)),
+        Operand::Query(query) => Ok(Argument::Query(query)),
+        Operand::Call(call) => Ok(Argument::Call(call)),
+    }
+}
+
+/// An argument from its first part on: a literal is no part of a logical expression.
+#[cycle(nested)]
+fn argument_from(reader: &mut Reader, levels: u32, first: Argument) -> Result<Argument, Stop>
+    ensures { Gives
+        argument_of
+        result
+        reader.new
+        (read_inside levels (rules.argument_on (argument_of first)) reader.old) }
+{
+    if !is_before_part(reader) {
+        return Ok(first);
+    }
+    match first {
+        Argument::Literal(literal) => Ok(Argument::Literal(literal)),
+        Argument::Query(query) => logical(reader, levels, Expr::Test(Subject::Query(query))),
+        Argument::Call(call) => logical(reader, levels, Expr::Test(Subject::Call(call))),
+        Argument::Logical(expr) => logical(reader, levels, expr),
+    }
+}
+
+/// Whether another part of a logical expression comes past the blanks.
+fn is_before_part(reader: &Reader) -> bool
+    ensures { result ≡ passes begins_part (after_blank reader.now) }
+{
+    matches!(reader.peek_past_blank(), Some('&' | '|'))
+}
+
+/// A logical expression from its first part on.
+#[cycle(nested)]
+fn logical(reader: &mut Reader, levels: u32, first: Expr) -> Result<Argument, Stop>
+    ensures { Gives
+        argument_of
+        result
+        reader.new
+        (logical_at levels (expr_of first) reader.old) }
+{
+    let conjunction = conjunction_from(reader, levels, first)?;
+    Ok(Argument::Logical(expression_from(reader, levels, conjunction)?))
+}

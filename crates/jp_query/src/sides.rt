@@ -1,0 +1,149 @@
+//! Sides of comparisons: literals, queries and functions (RFC 9535 section 2.3.5.1, comparable).
+
+ghost use Rattle.std.specs.Prelude.{◌≡◌};
+ghost use Rattle.jp_reading.specs.Views.{Gives};
+ghost use Rattle.jp_query.specs.Tree.{literal_of, operand_of, query_of};
+ghost use Rattle.jp_query.specs.Private.Rules as rules;
+ghost use Rattle.jp_query.specs.Private.Rules.{opens};
+ghost use Rattle.jp_query.specs.Private.Reading.{read_flat, read_inside};
+ghost use Rattle.jp_reading.specs.Outcome.{head, passes};
+
+use crate::calls::call;
+use crate::literals::plain_literal;
+use crate::names::{goes_on, is_at_function};
+use crate::segments::segments;
+use crate::tree::{Literal, Operand, Query};
+use jp_reading::{Reader, Stop};
+
+/// A side of a comparison, which is an item.
+#[cycle(nested)]
+#[tactic(auto, unfolding(crate::specs::Private::Rules::side))]
+pub fn side(reader: &mut Reader, levels: u32) -> Result<Operand, Stop>
+    ensures { Gives operand_of result reader.new (read_inside levels rules.side reader.old) }
+{
+    let start = reader.place();
+    let before = reader.items();
+    let side = side_within(reader, levels)?;
+    reader.add_item(start, before)?;
+    Ok(side)
+}
+
+/// A query, a literal, or a function.
+#[cycle(nested)]
+#[tactic(auto, unfolding(crate::specs::Private::Rules::side_within))]
+fn side_within(reader: &mut Reader, levels: u32) -> Result<Operand, Stop>
+    ensures { Gives operand_of result reader.new (read_inside levels rules.side_within reader.old) }
+{
+    match reader.peek() {
+        Some('$' | '@') => Ok(Operand::Query(query_within(reader, levels)?)),
+        Some('a'..='z') => word(reader, levels),
+        _ => Ok(Operand::Literal(plain_literal(reader)?)),
+    }
+}
+
+/// A query inside another.
+#[cycle(nested)]
+#[tactic(auto, unfolding(crate::specs::Private::Rules::query_within))]
+pub fn query_within(reader: &mut Reader, levels: u32) -> Result<Query, Stop>
+    ensures { Gives query_of result reader.new (read_inside levels rules.query_within reader.old) }
+{
+    let absolute = is_absolute(reader)?;
+    let segments = segments(reader, levels)?;
+    Ok(Query { absolute, segments })
+}
+
+/// The identifier of a query inside another: whether it is `$`, and not `@`.
+#[tactic(auto, unfolding(crate::specs::Private::Rules::identifier))]
+fn is_absolute(reader: &mut Reader) -> Result<bool, Stop>
+    ensures { Gives (λ b. b) result reader.new (read_flat rules.identifier reader.old) }
+{
+    if reader.is_at('$') {
+        reader.bump();
+        return Ok(true);
+    }
+    reader.expect('@')?;
+    Ok(false)
+}
+
+/// One of the words `true`, `false`, `null`, or a function.
+#[cycle(nested)]
+fn word(reader: &mut Reader, levels: u32) -> Result<Operand, Stop>
+    ensures { Gives operand_of result reader.new (read_inside levels rules.word reader.old) }
+{
+    if reader.is_at('t') {
+        return word_or_call(
+            reader,
+            levels,
+            't',
+            ['r', 'u', 'e'].as_slice(),
+            Literal::True,
+        );
+    }
+    if reader.is_at('f') {
+        return word_or_call(
+            reader,
+            levels,
+            'f',
+            ['a', 'l', 's', 'e'].as_slice(),
+            Literal::False,
+        );
+    }
+    if reader.is_at('n') {
+        return word_or_call(
+            reader,
+            levels,
+            'n',
+            ['u', 'l', 'l'].as_slice(),
+            Literal::Null,
+        );
+    }
+    if !is_at_function(reader) {
+        return Err(Stop::Syntax(reader.place()));
+    }
+    let name = String::new(reader.alloc());
+    Ok(Operand::Call(call(reader, levels, name)?))
+}
+
+/// The word of these letters, or a function whose name begins like it.
+#[cycle(nested)]
+fn word_or_call(
+    reader: &mut Reader,
+    levels: u32,
+    first: char,
+    others: &[char],
+    literal: Literal,
+) -> Result<Operand, Stop>
+    ensures { Gives
+        operand_of
+        result
+        reader.new
+        (read_inside
+        levels
+        (rules.word_of (literal_of literal) first others.now)
+        reader.old) }
+{
+    reader.expect(first)?;
+    let mut name = String::new(reader.alloc());
+    name.push(first)?;
+    'letters: for letter in others {
+        if is_before_name(reader, Some(*letter)) {
+            return Ok(Operand::Call(call(reader, levels, name)?));
+        }
+        reader.expect(*letter)?;
+        name.push(*letter)?;
+    }
+    if is_before_name(reader, None) {
+        return Ok(Operand::Call(call(reader, levels, name)?));
+    }
+    Ok(Operand::Literal(literal))
+}
+
+/// Whether a function's name goes on or ends here, and not with that character.
+fn is_before_name(reader: &Reader, other: Option<char>) -> bool
+    ensures { result ≡ passes (opens (rules.name_on other)) (head reader.now) }
+{
+    match reader.peek() {
+        Some(next) => goes_on(next, other),
+        None => false,
+    }
+}
