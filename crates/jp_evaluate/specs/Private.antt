@@ -1,3 +1,6 @@
+-- How an evaluation goes: truth and values of expressions over values, what a walk still reaches,
+-- and what is kept between two calls. Beside `Rest`, the contracts of private functions alone cite
+-- it.
 pub mod Calls
 pub mod LastPattern
 pub mod Reached

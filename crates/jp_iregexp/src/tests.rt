@@ -1,3 +1,5 @@
+//! Texts that spell patterns and texts that spell none.
+
 use super::*;
 use std::alloc::{AllocError, Global};
 use std::process::Abort;

@@ -1,3 +1,5 @@
+//! Patterns on texts, by both matchers.
+
 use super::*;
 use jp_iregexp::{Pattern, read_pattern};
 use std::alloc::{AllocError, Global};

@@ -1,3 +1,5 @@
+-- How queries are read: the rules of the reader, and what its parts answer on the way. The
+-- contracts of private functions alone cite it.
 pub mod HexDigits
 pub mod Parsed
 pub mod Parts

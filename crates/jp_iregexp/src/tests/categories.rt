@@ -1,3 +1,5 @@
+//! Characters that the general categories hold.
+
 use super::assert_holds;
 
 // A character that each code holds, and one that it does not; of a code of one letter the held one

@@ -1,3 +1,5 @@
+//! Texts of RFC 9485 that conform, and texts that do not.
+
 use super::*;
 
 const CONFORMING: [&str; 22] = [

@@ -1,3 +1,5 @@
+//! Long and deep texts.
+
 use super::*;
 
 #[test]

@@ -1,3 +1,5 @@
+//! The positions of patterns.
+
 use super::*;
 
 #[test]

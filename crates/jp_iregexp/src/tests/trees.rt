@@ -1,3 +1,5 @@
+//! The trees that texts spell.
+
 use super::*;
 
 fn range(first: char, last: char) -> ClassItem {
