@@ -1,4 +1,4 @@
--- Rows of the definitions, computed.
+-- Rows of the definitions, computed: for a reader who checks them by examples.
 use Rattle.std.proofs.Common.{◌≡◌, pos, negsuc, true, false, [], ◌∷◌, Some, None, Less, refl, codes}
 use Rattle.std.specs.Fmt.{digits}
 use Rattle.jp_document.specs.Location.{named, nth, location_cmp, value_at}

@@ -1,4 +1,4 @@
--- The spelling of each name between quotes is a text of the rule of names.
+-- The spelling of each name between quotes is a text of the rule of names: for completeness.
 use Rattle.std.proofs.Common.{◌≡◌, ℕ, zero, suc, ◌/◌, ◌%◌, ◌<◌, ◌≤◌, nat_lt, true, false}
 use Rattle.std.proofs.Common.{List, [], ◌∷◌, ◌++◌, length, get_or, inl, inr, refl, sym}
 use Rattle.std.proofs.Common.{ap, subst, ◌∙◌, append_assoc, length-append, arith}
@@ -17,11 +17,11 @@ use Rattle.jp_reading.proofs.Rules.Form.{left, right}
 use Rattle.jp_document.specs.Private.PathRules.{is_letter, is_low_digit, is_hex_digit, hex_value}
 use Rattle.jp_document.specs.Private.PathRules as rule
 use Rattle.jp_document.specs.Spelling.{spelling, hex_digit}
-use Rattle.jp_document.proofs.Encoded.{first-ascii, front-ascii, high-plain}
-use Rattle.jp_document.proofs.Encoded.{high-bytes, peel, spelling-low}
+use Rattle.jp_document.proofs.Spellings.Encoded.{first-ascii, front-ascii, high-plain}
+use Rattle.jp_document.proofs.Spellings.Encoded.{high-bytes, peel, spelling-low}
 use Rattle.jp_document.proofs.Soundness.Names.{form_of}
-use Rattle.jp_document.proofs.Spelled.{has_letter, Spelled, by_letter, by_number}
-use Rattle.jp_document.proofs.Spelled.{by_itself, spelled, spelling_is, hex_digit_is}
+use Rattle.jp_document.proofs.Spellings.Characters.{has_letter, Spelled, by_letter, by_number}
+use Rattle.jp_document.proofs.Spellings.Characters.{by_itself, spelled, spelling_is, hex_digit_is}
 
 -- ---- characters of names
 

@@ -1,4 +1,4 @@
--- What the rule of names takes is a name's spelling between quotes.
+-- What the rule of names takes is a name's spelling between quotes: for soundness.
 use Rattle.std.proofs.Common.{◌≡◌, ◌*◌, ℕ, ◌+◌, ◌/◌, ◌%◌, ◌<◌, nat_lt, Bool, false, true, List}
 use Rattle.std.proofs.Common.{[], ◌∷◌, ◌++◌, inl, inr, refl, sym, ap, subst, ◌∙◌, ◌≤◌, arith}
 use Rattle.std.proofs.lemmas.Bool.{cases_Bool}
@@ -16,8 +16,8 @@ use Rattle.jp_document.specs.Private.PathRules.{nesting, PathRule, is_letter, me
 use Rattle.jp_document.specs.Private.PathRules.{is_low_digit, is_hex_digit, hex_value}
 use Rattle.jp_document.specs.Private.PathRules as rule
 use Rattle.jp_document.specs.Spelling.{spelling, control, hex_digit}
-use Rattle.jp_document.proofs.Encoded.{encode-ascii, names-encode}
-use Rattle.jp_document.proofs.Spelled.{has_letter, by_letter, by_number, by_itself, spelling_is}
+use Rattle.jp_document.proofs.Spellings.Encoded.{encode-ascii, names-encode}
+use Rattle.jp_document.proofs.Spellings.Characters.{has_letter, by_letter, by_number, by_itself, spelling_is}
 
 -- the form of a rule of paths
 abbrev pub form_of : {u : Bool} {A : Type 0} → PathRule u A → A → Form

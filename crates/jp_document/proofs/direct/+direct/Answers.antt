@@ -9,13 +9,13 @@ use Rattle.json.specs.Reads.{token_of}
 use Rattle.json.proofs.Grammar.{read_key-shorter}
 use Rattle.jp_document.specs.Private.Direct.{ReadsValue}
 use Rattle.jp_document.specs.Private.MemberList.{entries_of}
-use Rattle.jp_document.proofs.Names.{bytes_cmp}
+use Rattle.jp_document.proofs.Members.ByName.{bytes_cmp}
 use Rattle.jp_document.specs.Value.{null, boolean, whole, text, value_of}
 use Rattle.jp_document.specs.declared.value.Json.{Null, Bool, Whole, Text, the_lemmas}
-use Rattle.jp_document.proofs.DirectAhead.{ahead_item, ahead_items_end, ahead_item_short}
-use Rattle.jp_document.proofs.DirectAhead.{ahead_member, ahead_members_end}
-use Rattle.jp_document.proofs.DirectTurns.{reads-null, reads-boolean, reads-text}
-use Rattle.jp_document.proofs.DirectTurns.{reads-whole, reads-list, reads-object}
+use Rattle.jp_document.proofs.Tokens.Ahead.{ahead_item, ahead_items_end, ahead_item_short}
+use Rattle.jp_document.proofs.Tokens.Ahead.{ahead_member, ahead_members_end}
+use Rattle.jp_document.proofs.Tokens.Turns.{reads-null, reads-boolean, reads-text}
+use Rattle.jp_document.proofs.Tokens.Turns.{reads-whole, reads-list, reads-object}
 use Rattle.jp_document.proofs.Values.{value_of-List, value_of-Members}
 use Rattle.jp_document.proofs.direct.+direct.Goals as goal
 

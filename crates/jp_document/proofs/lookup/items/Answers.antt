@@ -2,7 +2,7 @@ use Rattle.std.proofs.Common.{map, ap, ◌∙◌, inl, inr, rules}
 use Rattle.jp_document.specs.Location.{child, nth}
 use Rattle.jp_document.specs.Value.{members_of, member_of, value_of}
 use Rattle.jp_document.specs.declared.value.Json.{the_lemmas}
-use Rattle.jp_document.proofs.Names.{child-object_nth}
+use Rattle.jp_document.proofs.Members.ByName.{child-object_nth}
 use Rattle.jp_document.proofs.Values.{value_of-Members}
 use Rattle.jp_document.proofs.lookup.items.Goals as goal
 

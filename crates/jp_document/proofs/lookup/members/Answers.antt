@@ -1,11 +1,11 @@
 use Rattle.std.proofs.Common.{◌≡◌, map, ap, sym, subst, ◌∙◌, inl, inr, rules}
 use Rattle.std.specs.List.{Contains}
-use Rattle.jp_document.proofs.ChildLaws.{Contains-map}
+use Rattle.jp_document.proofs.Descent.Exact.{Contains-map}
 use Rattle.jp_document.specs.Location.{child, entries, named}
 use Rattle.jp_document.specs.Value.{items_of, member_of, value_of}
 use Rattle.jp_document.specs.declared.value.Json.{the_lemmas}
-use Rattle.jp_document.proofs.Entries.{at_name, members-entries}
-use Rattle.jp_document.proofs.Names.{child-list_named}
+use Rattle.jp_document.proofs.Descent.Entries.{at_name, members-entries}
+use Rattle.jp_document.proofs.Members.ByName.{child-list_named}
 use Rattle.jp_document.proofs.Values.{value_of-List, value_of-Members}
 use Rattle.jp_document.proofs.lookup.members.Goals as goal
 

@@ -2,8 +2,8 @@ use Rattle.std.proofs.Common.{◌≡◌, ◌-◌, ◌<◌, ℕ, List, length, ge
 use Rattle.std.proofs.lemmas.List.{get_or-map, length-map}
 use Rattle.jp_document.specs.declared.value.Member.{Member}
 use Rattle.jp_document.specs.Value.{member_of}
-use Rattle.jp_document.proofs.Names.{bytes_cmp}
-use Rattle.jp_document.proofs.Places.{place_found, place_down}
+use Rattle.jp_document.proofs.Members.ByName.{bytes_cmp}
+use Rattle.jp_document.proofs.Members.Places.{place_found, place_down}
 use Rattle.jp_document.proofs.member_list.place_of.Goals as goal
 
 -- the name at a position is that of its member

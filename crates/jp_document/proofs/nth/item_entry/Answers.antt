@@ -1,8 +1,8 @@
 use Rattle.std.proofs.Common.{map, option_map, sym, ap, ◌∙◌}
 use Rattle.jp_document.specs.Node.{entry_of}
 use Rattle.jp_document.specs.Value.{value_of}
-use Rattle.jp_document.proofs.Entries.{at_index, item_entry}
-use Rattle.jp_document.proofs.Items.{get_seen}
+use Rattle.jp_document.proofs.Descent.Entries.{at_index, item_entry}
+use Rattle.jp_document.proofs.Descent.Items.{get_seen}
 use Rattle.jp_document.proofs.nth.item_entry.Goals as goal
 
 pub returns-clause-entry : goal.returns-clause-entry

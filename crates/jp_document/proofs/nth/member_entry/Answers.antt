@@ -2,8 +2,8 @@ use Rattle.std.proofs.Common.{Some, map, option_map, sym, ap, ◌∙◌}
 use Rattle.jp_document.specs.Location.{named}
 use Rattle.jp_document.specs.Node.{entry_of}
 use Rattle.jp_document.specs.Value.{member_of, value_of}
-use Rattle.jp_document.proofs.Entries.{at_name, member_entry}
-use Rattle.jp_document.proofs.Items.{get_seen}
+use Rattle.jp_document.proofs.Descent.Entries.{at_name, member_entry}
+use Rattle.jp_document.proofs.Descent.Items.{get_seen}
 use Rattle.jp_document.proofs.Values.{member_of_is}
 use Rattle.jp_document.proofs.nth.member_entry.Goals as goal
 

@@ -1,7 +1,7 @@
 use Rattle.std.proofs.Common.{option_map, sym, ap, ◌∙◌}
 use Rattle.jp_document.specs.Location.{owned_key, child}
 use Rattle.jp_document.specs.Value.{value_of}
-use Rattle.jp_document.proofs.ChildValues.{IsDocumentValue-child, walked, walked_out}
+use Rattle.jp_document.proofs.Descent.Inside.{IsDocumentValue-child, walked, walked_out}
 use Rattle.jp_document.proofs.document.Document.find.Goals as goal
 
 pub loop-step-preserved : goal.loop-step-preserved
