@@ -2,6 +2,7 @@ pub mod Completeness
 pub mod Conjunctions
 pub mod Descent
 pub mod Members
+pub mod Options
 pub mod Paths
 pub mod Readings
 pub mod Rows

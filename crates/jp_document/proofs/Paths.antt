@@ -3,4 +3,5 @@ pub mod Alive
 pub mod Differ
 pub mod IndexReading
 pub mod LargeIndexes
+pub mod Progress
 pub mod WholeTexts

@@ -35,9 +35,9 @@ use Rattle.jp_document.proofs.Soundness.Names.{form_of}
 
 -- ---- steps
 
-leading : (d : ℕ) → is_digit d ≡ true → 48 < d → is_leading_digit d ≡ true
+is_leading_digit-above_zero : (d : ℕ) → is_digit d ≡ true → 48 < d → is_leading_digit d ≡ true
 unfolding is_digit
-leading d digit above = grind (arith, nat_tests)
+is_leading_digit-above_zero d digit above = grind (arith, nat_tests)
 
 index-has : (n : ℕ) (w : Text) → Begun n w → w ≡ index_text n
     → HasForm (form_of rule.index (min n 9007199254740992)) w
@@ -52,7 +52,7 @@ index-has n w (other_text d ds is digit all above) text =
     ∙ ap (λ (m : ℕ). min m 9007199254740992)
     (ap (value_from 0) (sym is ∙ text) ∙ value_from-index_text n)) in
     has-same (sym is) (has-as (λ s o h. right (record { part = d; is = h }))
-    (both (has-one is_leading_digit d (leading d digit above))
+    (both (has-one is_leading_digit d (is_leading_digit-above_zero d digit above))
     (has-as (λ s o h. record { part = ds; same = value; is = h })
     (has-each_passing is_digit ds all))))
 

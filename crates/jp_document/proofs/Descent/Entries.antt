@@ -15,7 +15,7 @@ use Rattle.std.proofs.lemmas.Option.{slice_get-map, same_Some}
 use Rattle.jp_document.specs.Location.{Key, named, nth, key_cmp, Location}
 use Rattle.jp_document.specs.Location.{items_from, members_by_name, entries, child}
 use Rattle.jp_document.specs.Node.{node_below}
-use Rattle.jp_document.specs.Value.{Value, null, boolean, whole, text, list, object, Items}
+use Rattle.jp_document.specs.Value.{Value, list, object, Items}
 use Rattle.jp_document.specs.Value.{no_items, item, Members, no_members, member, items_of}
 use Rattle.jp_document.specs.Value.{members_of, names_of, everywhere, everywhere_in_items}
 use Rattle.jp_document.specs.Value.{everywhere_in_members, IsDocumentValue}
@@ -84,12 +84,9 @@ member_passes p (member n v ms) (suc i) e all is = member_passes p ms i e (and-r
 
 pub everywhere-entry : (p : Value → Bool) (v : Value) (i : ℕ) (e : Key × Value)
     → everywhere p v ≡ true → slice_get (entries v) i ≡ Some e → everywhere p e.1 ≡ true
-everywhere-entry p null i e all is = cc
-everywhere-entry p (boolean b) i e all is = cc
-everywhere-entry p (whole z) i e all is = cc
-everywhere-entry p (text s) i e all is = cc
 everywhere-entry p (list vs) i e all is = item_passes p 0 vs i e (and-right _ _ all) is
 everywhere-entry p (object ms) i e all is = member_passes p ms i e (and-right _ _ all) is
+everywhere-entry p v i e all is = cc
 
 -- ---- the order of steps
 
@@ -146,13 +143,10 @@ members-rise (member n v ms) h = (named_above n ms h.0, members-rise ms h.1)
 pub entries-rise : (v : Value) → IsDocumentValue v
     → IsStrictlySortedBy key_cmp (keys_of (entries v))
 unfolding IsStrictlySortedBy
-entries-rise null document = tt
-entries-rise (boolean b) document = tt
-entries-rise (whole z) document = tt
-entries-rise (text s) document = tt
 entries-rise (list vs) document = items-rise 0 vs
 entries-rise (object ms) document =
     members-rise ms (sorted_from_rise (names_of ms) (and-left _ _ (and-left _ _ document)))
+entries-rise v document = tt
 
 -- the value one step inside at an entry's step is the entry's
 pub child-entry : (v : Value) (i : ℕ) (k : Key) (w : Value) → IsDocumentValue v

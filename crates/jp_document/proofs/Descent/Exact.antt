@@ -1,26 +1,24 @@
 -- The children of a node are the nodes one step longer, in order: for the law `children_are_exact`.
-use Rattle.std.proofs.Common.{◌≡◌, ℕ, zero, suc, ◌+◌, ◌<◌, true, false, true≢false, List}
-use Rattle.std.proofs.Common.{[], ◌∷◌, ◌++◌, length, take, map, Option, Some, None, is_some}
+use Rattle.std.proofs.Common.{◌≡◌, ℕ, ◌<◌, true, false, true≢false, List}
+use Rattle.std.proofs.Common.{[], ◌∷◌, ◌++◌, map, Option, Some, None, is_some}
 use Rattle.std.proofs.Common.{unwrap_or, Less, Equal, refl, sym, ap, subst, ◌∙◌, arith}
-use Rattle.std.specs.List.{All, slice_get, AllByRecursion, Contains}
+use Rattle.std.specs.List.{slice_get, AllByRecursion, Contains}
 use Rattle.std.specs.List.Sorted.{IsStrictlySortedBy}
 use Rattle.std.specs.Map.{keys_of}
 use Rattle.std.specs.Option.{option_map, option_and_then}
 use Rattle.std.specs.Ordering.{ordering_then}
-use Rattle.std.proofs.lemmas.List.{get_or-map, length-map, length_push, map-append, take_more}
-use Rattle.std.proofs.lemmas.List.Elements.{All-cons, All-nil}
+use Rattle.std.proofs.lemmas.List.{get_or-map, length-map}
 use Rattle.std.proofs.lemmas.Map.Views.{Contains-from_lookup, tells_apart}
-use Rattle.std.proofs.lemmas.Option.{slice_get-map, slice_get-get_or, slice_get_within, same_Some}
+use Rattle.std.proofs.lemmas.Option.{slice_get-map, slice_get-get_or}
 use Rattle.jp_document.specs.ChildNodes.{IsListOf, IsChild, steps_below}
-use Rattle.jp_document.specs.ChildNodes.{children_of, ChildrenAreExact}
+use Rattle.jp_document.specs.ChildNodes.{ChildrenAreExact}
 use Rattle.jp_document.specs.Location.{Key, key_cmp, Location, location_cmp}
 use Rattle.jp_document.specs.Location.{entries, child, value_at}
-use Rattle.jp_document.specs.Node.{AreNodes, Located, Node, StandsIn}
-use Rattle.jp_document.specs.Node.{children, location_of, node_below, node_of}
-use Rattle.jp_document.specs.Value.{Value, IsDocumentValue, value_of}
-use Rattle.jp_document.proofs.Descent.Inside.{IsDocumentValue-child, value_at-step}
+use Rattle.jp_document.specs.Value.{Value, IsDocumentValue}
+use Rattle.jp_document.proofs.Descent.Inside.{value_at-step}
 use Rattle.jp_document.proofs.Readings.Fractions.{key_same, key_exact}
-use Rattle.jp_document.proofs.Descent.Entries.{entries-rise, child-entry}
+use Rattle.jp_document.proofs.Options.{some_from_map}
+use Rattle.jp_document.proofs.Descent.Entries.{entries-rise}
 use Rattle.jp_document.proofs.Descent.Nodes.{IsDocumentValue-at, child_there}
 
 step_less : (l : Location) (a b : Key) → key_cmp a b ≡ Less →
@@ -42,18 +40,13 @@ unfolding IsStrictlySortedBy
 steps_rise l [] h = tt
 steps_rise l (e ∷ es) h = (all_less l e.0 es h.0, steps_rise l es h.1)
 
-value_mapped : {A B : Type 0} (f : A → B) (o : Option A) (b : B) → option_map f o ≡ Some b →
-    (a : A) × (o ≡ Some a) × (f a ≡ b)
-value_mapped f None b is = cc
-value_mapped f (Some a) b is = (a, refl, same_Some _ _ is)
-
 -- the entry whose step leads to m
 entry_at : (l m : Location) (es : List (Key × Value)) → Contains (map (λ e. l ++ e.0 ∷ []) es) m →
     (i : ℕ) × (e : Key × Value) × (slice_get es i ≡ Some e) × (l ++ e.0 ∷ [] ≡ m)
 entry_at l m es has =
     let f : Key × Value → Location = λ e. l ++ e.0 ∷ [] in
     let e =
-    value_mapped f (slice_get es has.0) m
+    some_from_map f (slice_get es has.0) m
     (sym (slice_get-map f es has.0) ∙ slice_get-get_or (map f es) has.0 m has.1
     ∙ ap Some has.2) in
     (has.0, e.0, e.1, e.2)

@@ -1,8 +1,9 @@
--- What holds everywhere in a value holds one step inside, and a child stands where its parent's
+-- What holds everywhere in a value holds one step value_at-below, and a child stands where its parent's
 -- location goes on: for each call that goes to a child.
 use Rattle.std.proofs.Common.{◌≡◌, ℕ, suc, ◌+◌, ◌<◌, Bool, true, false, List}
 use Rattle.std.proofs.Common.{[], ◌∷◌, ◌++◌, length, get_or, drop, map, Option}
-use Rattle.std.proofs.Common.{Some, None, cond, refl, sym, ap, subst, ◌∙◌}
+use Rattle.std.proofs.Common.{Some, None, cond, refl, sym, ap, subst, ◌∙◌, ◌⊎◌, inl, inr, ℤ, rules}
+use Rattle.std.proofs.Common.{String, Global}
 use Rattle.std.specs.BTreeMap.{is_at}
 use Rattle.std.specs.Map.{lookup}
 use Rattle.std.proofs.lemmas.List.{drop_more}
@@ -11,65 +12,77 @@ use Rattle.std.specs.Option.{option_map, option_and_then}
 use Rattle.jp_document.specs.Location.{Key, key_cmp, Location, items_from}
 use Rattle.jp_document.specs.Location.{members_by_name, child, value_at}
 use Rattle.jp_document.specs.Node.{IsNodeAt, Node, StandsIn, child_of, node_below}
-use Rattle.jp_document.specs.Value.{Value, null, boolean, whole, text, list, object, Items}
+use Rattle.jp_document.specs.Value.{Value, list, object, Items}
 use Rattle.jp_document.specs.Value.{no_items, item, Members, no_members, member}
 use Rattle.jp_document.specs.Value.{everywhere, everywhere_in_items, everywhere_in_members}
 use Rattle.jp_document.specs.Value.{is_allowed, IsDocumentValue, value_of}
+use Rattle.jp_document.specs.declared.value.Json.{Json, Null, Bool as Truth, Whole, Text}
+use Rattle.jp_document.specs.declared.value.Json.{the_lemmas}
 use Rattle.jp_document.proofs.Conjunctions.{and-left, and-right}
 
-either : (p : Value → Bool) (b : Bool) (v w : Value) (rest : Option Value) →
+everywhere-first_or_rest : (p : Value → Bool) (b : Bool) (v w : Value) (rest : Option Value) →
     cond b (Some v) rest ≡ Some w → everywhere p v ≡ true →
     (rest ≡ Some w → everywhere p w ≡ true) → everywhere p w ≡ true
-either p true v w rest is here there =
+everywhere-first_or_rest p true v w rest is here there =
     let same : v ≡ w = cc in subst (λ x. everywhere p x ≡ true) same here
-either p false v w rest is here there = there is
+everywhere-first_or_rest p false v w rest is here there = there is
 
 among_items : (p : Value → Bool) (test : Key → Bool) (i : ℕ) (vs : Items) (w : Value) →
     everywhere_in_items p vs ≡ true → lookup test (items_from i vs) ≡ Some w → everywhere p w ≡ true
 among_items p test i no_items w all is = cc
 among_items p test i (item v vs) w all is =
-    either p _ v w _ is (and-left _ _ all) (among_items p test (suc i) vs w (and-right _ _ all))
+    everywhere-first_or_rest p _ v w _ is (and-left _ _ all) (among_items p test (suc i) vs w (and-right _ _ all))
 
 among_members : (p : Value → Bool) (test : Key → Bool) (ms : Members) (w : Value) →
     everywhere_in_members p ms ≡ true → lookup test (members_by_name ms) ≡ Some w →
     everywhere p w ≡ true
 among_members p test no_members w all is = cc
 among_members p test (member n v ms) w all is =
-    either p _ v w _ is (and-left _ _ all) (among_members p test ms w (and-right _ _ all))
+    everywhere-first_or_rest p _ v w _ is (and-left _ _ all) (among_members p test ms w (and-right _ _ all))
 
 -- what holds everywhere in v holds everywhere in its child
 pub everywhere-child : (p : Value → Bool) (v w : Value) (k : Key) → everywhere p v ≡ true →
     child v k ≡ Some w → everywhere p w ≡ true
-everywhere-child p null w k all is = cc
-everywhere-child p (boolean b) w k all is = cc
-everywhere-child p (whole z) w k all is = cc
-everywhere-child p (text s) w k all is = cc
 everywhere-child p (list vs) w k all is =
     among_items p (is_at (key_cmp k)) 0 vs w (and-right _ _ all) is
 everywhere-child p (object ms) w k all is =
     among_members p (is_at (key_cmp k)) ms w (and-right _ _ all) is
+everywhere-child p v w k all is = cc
 
 pub IsDocumentValue-child : (v w : Value) (k : Key) → IsDocumentValue v → child v k ≡ Some w →
     IsDocumentValue w
 IsDocumentValue-child = everywhere-child is_allowed
 
+-- a value of one sort, or one with no values inside, has no child where that sort has none
+pub no_child_unless : {X : Type 0} (sort : X → Json) (j : Json) (k : Key) →
+    ((x : X) → child (value_of (sort x)) k ≡ None) →
+    (j ≡ Null) ⊎ (((b : Bool) × (j ≡ Truth b)) ⊎ (((z : ℤ) × (j ≡ Whole z)) ⊎
+    (((s : String Global) × (j ≡ Text s)) ⊎ ((x : X) × (j ≡ sort x))))) →
+    child (value_of j) k ≡ None
+no_child_unless sort j k none (inl e) = rw e (search (rules, the_lemmas))
+no_child_unless sort j k none (inr (inl e)) = rw e.1 (search (rules, the_lemmas))
+no_child_unless sort j k none (inr (inr (inl e))) = rw e.1 (search (rules, the_lemmas))
+no_child_unless sort j k none (inr (inr (inr (inl e)))) = rw e.1 (search (rules, the_lemmas))
+no_child_unless sort j k none (inr (inr (inr (inr e)))) =
+    ap (λ i. child (value_of i) k) e.1 ∙ none e.0
+
 and_then-Some : (o : Option Value) → option_and_then (λ w. Some w) o ≡ o
 and_then-Some None = refl
 and_then-Some (Some w) = refl
 
-inside : (o : Option Value) (v : Value) (l : Location) (k : Key) →
+value_at-below : (o : Option Value) (v : Value) (l : Location) (k : Key) →
     ((w : Value) → value_at w l ≡ Some v → value_at w (l ++ k ∷ []) ≡ child v k) →
     option_and_then (λ w. value_at w l) o ≡ Some v →
     option_and_then (λ w. value_at w (l ++ k ∷ [])) o ≡ child v k
-inside None v l k from is = cc
-inside (Some w) v l k from is = from w is
+value_at-below None v l k from is = cc
+value_at-below (Some w) v l k from is = from w is
 
 -- the value one step further
 pub value_at-step : (d v : Value) (l : Location) (k : Key) → value_at d l ≡ Some v →
     value_at d (l ++ k ∷ []) ≡ child v k
 value_at-step d v [] k is =
     let same : d ≡ v = cc in and_then-Some (child d k) ∙ ap (λ x. child x k) same
-value_at-step d v (j ∷ l) k is = inside (child d j) v l k (λ w. value_at-step w v l k) is
+value_at-step d v (j ∷ l) k is = value_at-below (child d j) v l k (λ w. value_at-step w v l k) is
 
 child_stands_by : (d : Value) (n : Node) (k : Key) (o : Option Value)
     → value_at d (n.location ++ k ∷ []) ≡ o → StandsIn d n

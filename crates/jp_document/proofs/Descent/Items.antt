@@ -39,3 +39,11 @@ get_seen f (Some x) xs i h =
     sym
     (slice_get-map f xs i
     ∙ ap (option_map f) (slice_get-get_or xs i x.now h.0 ∙ ap Some (sym (h.1 x.now))))
+
+-- what `get` gives at a position, beside the entry there
+pub get_entry : {X Y E : Type 0} (f : X → Y) (at : Y → E) (o r : Option (Bor X)) (xs : List X)
+    (i : ℕ) (e : Option E) → r ≡ o →
+    MatchOption r (length xs ≤ i) (λ x. (i < length xs) × HoldsAt (λ y. x.now ≡ y) xs i) →
+    e ≡ option_map at (slice_get (map f xs) i) → option_map at (option_map (λ j. f j.now) o) ≡ e
+get_entry f at o r xs i e was found is =
+    ap (option_map at) (ap (option_map (λ j. f j.now)) (sym was) ∙ get_seen f r xs i found) ∙ sym is

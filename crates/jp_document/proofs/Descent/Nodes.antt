@@ -1,26 +1,22 @@
 -- The nodes that a loop over the children of a node makes, and where they stand: for `children`.
-use Rattle.std.proofs.Common.{◌≡◌, ℕ, zero, suc, ◌+◌, ◌<◌, true, false, true≢false, List}
-use Rattle.std.proofs.Common.{[], ◌∷◌, ◌++◌, length, take, map, Option, Some, None, is_some}
-use Rattle.std.proofs.Common.{unwrap_or, Less, Equal, refl, sym, ap, subst, ◌∙◌, arith}
-use Rattle.std.specs.List.{All, slice_get, AllByRecursion, Contains}
-use Rattle.std.specs.List.Sorted.{IsStrictlySortedBy}
-use Rattle.std.specs.Map.{keys_of}
+use Rattle.std.proofs.Common.{◌≡◌, ℕ, zero, suc, ◌+◌, List}
+use Rattle.std.proofs.Common.{[], ◌∷◌, ◌++◌, length, take, map, Some, None}
+use Rattle.std.proofs.Common.{unwrap_or, refl, sym, ap, subst, ◌∙◌}
+use Rattle.std.specs.List.{All, slice_get}
 use Rattle.std.specs.Option.{option_map, option_and_then}
-use Rattle.std.specs.Ordering.{ordering_then}
-use Rattle.std.proofs.lemmas.List.{get_or-map, length-map, length_push, map-append, take_more}
+use Rattle.std.proofs.lemmas.List.{length_push, map-append, take_more}
 use Rattle.std.proofs.lemmas.List.Elements.{All-cons, All-nil}
-use Rattle.std.proofs.lemmas.Map.Views.{Contains-from_lookup, tells_apart}
-use Rattle.std.proofs.lemmas.Option.{slice_get-map, slice_get-get_or, slice_get_within, same_Some}
-use Rattle.jp_document.specs.ChildNodes.{IsListOf, IsChild, steps_below}
-use Rattle.jp_document.specs.ChildNodes.{children_of, ChildrenAreExact}
-use Rattle.jp_document.specs.Location.{Key, key_cmp, Location, location_cmp}
+use Rattle.std.proofs.lemmas.Option.{slice_get-get_or, slice_get_within, same_Some}
+use Rattle.jp_document.specs.ChildNodes.{steps_below}
+use Rattle.jp_document.specs.ChildNodes.{children_of}
+use Rattle.jp_document.specs.Location.{Key, Location}
 use Rattle.jp_document.specs.Location.{entries, child, value_at}
 use Rattle.jp_document.specs.Node.{AreNodes, Located, Node, StandsIn}
 use Rattle.jp_document.specs.Node.{children, location_of, node_below, node_of}
-use Rattle.jp_document.specs.Value.{Value, IsDocumentValue, value_of}
+use Rattle.jp_document.specs.Value.{Value, IsDocumentValue}
 use Rattle.jp_document.proofs.Descent.Inside.{IsDocumentValue-child, value_at-step}
-use Rattle.jp_document.proofs.Readings.Fractions.{key_same, key_exact}
-use Rattle.jp_document.proofs.Descent.Entries.{entries-rise, child-entry}
+use Rattle.jp_document.proofs.Options.{some_from_then}
+use Rattle.jp_document.proofs.Descent.Entries.{child-entry}
 
 -- ---- the list that a loop makes
 
@@ -51,16 +47,11 @@ finished ns all so is = so ∙ no_more all (length ns) is
 
 -- ---- where the children stand
 
-some_value : (f : Value → Option Value) (o : Option Value) (r : Value) →
-    option_and_then f o ≡ Some r → (w : Value) × (o ≡ Some w)
-some_value f None r is = cc
-some_value f (Some w) r is = (w, refl)
-
 pub IsDocumentValue-at : (d v : Value) (l : Location) → IsDocumentValue d → value_at d l ≡ Some v →
     IsDocumentValue v
 IsDocumentValue-at d v [] document is = subst IsDocumentValue (same_Some _ _ is) document
 IsDocumentValue-at d v (k ∷ l) document is =
-    let w = some_value (λ w. value_at w l) (child d k) v is in
+    let w = some_from_then (λ w. value_at w l) (child d k) v is in
     IsDocumentValue-at w.0 v l (IsDocumentValue-child d w.0 k document w.1)
     (sym (ap (option_and_then (λ x. value_at x l)) w.1) ∙ is)
 
@@ -86,10 +77,10 @@ below_stand d l (e ∷ es) document each =
     })
     (below_stand d l es document (λ i x is. each (suc i) x is))
 
-locations-below : (l : Location) (es : List (Key × Value))
+map-location_of-node_below : (l : Location) (es : List (Key × Value))
     → map location_of (map (node_below l) es) ≡ map (λ e. l ++ e.0 ∷ []) es
-locations-below l [] = refl
-locations-below l (e ∷ es) = ap (λ ls. (l ++ e.0 ∷ []) ∷ ls) (locations-below l es)
+map-location_of-node_below l [] = refl
+map-location_of-node_below l (e ∷ es) = ap (λ ls. (l ++ e.0 ∷ []) ∷ ls) (map-location_of-node_below l es)
 
 -- the children of a node of d are d's nodes at their locations
 pub AreNodes-children : (d : Value) (n : Node) → StandsIn d n
@@ -99,7 +90,7 @@ AreNodes-children d n stands =
     let l = n.location in
     let document = IsDocumentValue-at d v l stands.document stands.there in
     record {
-      locations = locations-below l (entries v) ∙ sym (children_of-there d v l stands.there);
+      locations = map-location_of-node_below l (entries v) ∙ sym (children_of-there d v l stands.there);
       stand =
           below_stand d l (entries v) stands.document
           (λ i e at. child_there d v l i e document stands.there at);

@@ -1,5 +1,5 @@
 -- Members found by their names, which rise: for `child_named` and each look-up by a name.
-use Rattle.std.proofs.Common.{◌≡◌, ℕ, suc, ◌+◌, ◌<◌, Bool, true, false, ◌&&◌, List, [], ◌∷◌}
+use Rattle.std.proofs.Common.{◌≡◌, ℕ, suc, ◌+◌, ◌<◌, true, false, List, [], ◌∷◌}
 use Rattle.std.proofs.Common.{length, get_or, map, Option, Some, None, option_map, Result}
 use Rattle.std.proofs.Common.{Ok, Err, Ordering, Less, Equal, Greater, is_eq, is_lt, nat_cmp}
 use Rattle.std.proofs.Common.{cond, refl, sym, ap, subst, ◌∙◌, arith, inl, inr, MatchResult}
@@ -36,17 +36,17 @@ is_less Less h = refl
 is_less Equal h = cc
 is_less Greater h = cc
 
-below_each : (n : List ℕ) (ns : List (List ℕ)) → list_all (λ m. is_lt (bytes_cmp n m)) ns ≡ true →
+each_less-from_list_all : (n : List ℕ) (ns : List (List ℕ)) → list_all (λ m. is_lt (bytes_cmp n m)) ns ≡ true →
     AllByRecursion (λ m. bytes_cmp n m ≡ Less) ns
-below_each n [] h = tt
-below_each n (m ∷ ns) h =
-    (is_less (bytes_cmp n m) (and-left _ _ h), below_each n ns (and-right _ _ h))
+each_less-from_list_all n [] h = tt
+each_less-from_list_all n (m ∷ ns) h =
+    (is_less (bytes_cmp n m) (and-left _ _ h), each_less-from_list_all n ns (and-right _ _ h))
 
 pub sorted_from_rise : (ns : List (List ℕ)) → names_rise ns ≡ true → IsStrictlySortedBy bytes_cmp ns
 unfolding IsStrictlySortedBy
 sorted_from_rise [] h = tt
 sorted_from_rise (n ∷ ns) h =
-    (below_each n ns (and-left _ _ h), sorted_from_rise ns (and-right _ _ h))
+    (each_less-from_list_all n ns (and-left _ _ h), sorted_from_rise ns (and-right _ _ h))
 
 -- the member of a name by a look-up among names
 pub child-named : (q : List ℕ) (ps : List (List ℕ × Value)) →
@@ -63,10 +63,10 @@ absent f q (x ∷ xs) other =
     rw (other 0 x (omega arith)) (absent f q xs (λ k d within. other (suc k) d (omega arith)))
 
 -- a name that the member at i has
-found : {X V : Type 0} (f : X → List ℕ × V) (q : List ℕ) (xs : List X) (i : ℕ) (d : X) →
+lookup-name_at : {X V : Type 0} (f : X → List ℕ × V) (q : List ℕ) (xs : List X) (i : ℕ) (d : X) →
     IsStrictlySortedBy bytes_cmp (keys_of (map f xs)) → i < length xs → (f (get_or xs i d)).0 ≡ q →
     lookup (eq_by_cmp bytes_cmp q) (map f xs) ≡ Some (f (get_or xs i d)).1
-found f q xs i d sorted within is =
+lookup-name_at f q xs i d sorted within is =
     let v = (f (get_or xs i d)).1 in
     lookup-from_Contains (eq_by_cmp_equiv nat_list_cmp_total) q v (map f xs)
     (IsDistinct-from_sorted bytes_cmp (keys_of (map f xs)) sorted) (
@@ -116,7 +116,7 @@ pub searched_name : {X V : Type 0} (f : X → List ℕ × V) (q : List ℕ) (xs 
     (λ i. lookup (eq_by_cmp bytes_cmp q) (map f xs) ≡ None)
 searched_name f q xs (Ok i) sorted h = λ d within.
     let is = exact_bytes (f (get_or xs i d)).0 q (h d) in
-    (is, found f q xs i d sorted within is)
+    (is, lookup-name_at f q xs i d sorted within is)
 searched_name f q xs (Err i) sorted h =
     let parts = h (searchable f q xs sorted) in
     absent f q xs (λ k d within. elim (cases_lt k i) [

@@ -8,6 +8,7 @@ use Rattle.std.specs.Map.{keys_of}
 use Rattle.std.specs.Option.{option_map, option_and_then}
 use Rattle.std.specs.Ordering.{match_ordering, ordering_reverse}
 use Rattle.std.proofs.Math.Seq.{drop-cons}
+use Rattle.std.proofs.lemmas.Bool.{and_from}
 use Rattle.std.proofs.lemmas.Cmp.{nat_list_cmp_total}
 use Rattle.serde_json.specs.Data as parsed
 use Rattle.serde_json.specs.Data.{Data, put}
@@ -20,7 +21,7 @@ use Rattle.jp_document.specs.Value.{value_of, member_of, Value, members_of, memb
 use Rattle.jp_document.specs.Value.{names_of, names_rise, everywhere, everywhere_in_members}
 use Rattle.jp_document.proofs.Members.ByName.{bytes_cmp, is_less, names_of-members_of}
 use Rattle.jp_document.proofs.Conjunctions.{and-left, and-right}
-use Rattle.jp_document.proofs.Readings.Conversion.{both, all-members}
+use Rattle.jp_document.proofs.Readings.Conversion.{all-members}
 
 abbrev Pair : Type 0
 Pair = List ℕ × Value
@@ -45,10 +46,10 @@ below_up_to : (k : List ℕ) (ms : List Pair) (i : ℕ) (d : Pair) → i < lengt
     names_rise (keys_of ms) ≡ true → bytes_cmp (get_or ms i d).0 k ≡ Less →
     list_all (λ m. is_lt (bytes_cmp m.0 k)) (take (suc i) ms) ≡ true
 below_up_to k [] i d within rise h = absurd (omega (arith, within))
-below_up_to k (m ∷ ms) zero d within rise h = both _ _ (ap is_lt h) refl
+below_up_to k (m ∷ ms) zero d within rise h = and_from _ _ (ap is_lt h) refl
 below_up_to k (m ∷ ms) (suc i) d within rise h =
     let first = is_less _ (below_at m.0 ms i d (omega (arith, within)) (and-left _ _ rise)) in
-    both _ _ (ap is_lt (nat_list_cmp_total.trans m.0 (get_or ms i d).0 k first h))
+    and_from _ _ (ap is_lt (nat_list_cmp_total.trans m.0 (get_or ms i d).0 k first h))
     (below_up_to k ms i d (omega (arith, within)) (and-right _ _ rise) h)
 
 pub place_found : (k : List ℕ) (ms : List Pair) (i j : ℕ) (d : Pair) → i ≡ suc j → i ≤ length ms →
@@ -70,7 +71,7 @@ pub place_down : (k : List ℕ) (ms : List Pair) (i j : ℕ) (d : Pair) → i �
     list_all (λ m. is_lt (bytes_cmp k m.0)) (drop j ms) ≡ true
 place_down k ms i j d e within above h =
     ap (list_all (λ m. is_lt (bytes_cmp k m.0))) (drop-cons ms j d (omega (arith, e, within)))
-    ∙ both _ _ (above_is_less k _ h)
+    ∙ and_from _ _ (above_is_less k _ h)
     (ap (λ n. list_all (λ m. is_lt (bytes_cmp k m.0)) (drop n ms)) (sym e) ∙ above)
 
 -- what goes to its place goes there by its name
@@ -119,11 +120,11 @@ by_order t Greater a b c p q r = r
 pub all_insert : {V : Type 0} (t : V → Bool) (ms : List (List ℕ × V)) (k : List ℕ) (v : V) →
     list_all (λ m. t m.1) ms ≡ true → t v ≡ true →
     list_all (λ m. t m.1) (insert_entry bytes_cmp ms k v) ≡ true
-all_insert t [] k v h p = both _ _ p refl
+all_insert t [] k v h p = and_from _ _ p refl
 all_insert t (m ∷ ms) k v h p =
     by_order (list_all (λ m. t m.1)) (bytes_cmp k m.0) ((k, v) ∷ m ∷ ms) ((m.0, v) ∷ ms)
-    (m ∷ insert_entry bytes_cmp ms k v) (both _ _ p h) (both _ _ p (and-right _ _ h))
-    (both _ _ (and-left _ _ h) (all_insert t ms k v (and-right _ _ h) p))
+    (m ∷ insert_entry bytes_cmp ms k v) (and_from _ _ p h) (and_from _ _ p (and-right _ _ h))
+    (and_from _ _ (and-left _ _ h) (all_insert t ms k v (and-right _ _ h) p))
 
 pub sound_insert : (p : Value → Bool) (ms : List Pair) (k : List ℕ) (v : Value) →
     everywhere_in_members p (members_of ms) ≡ true → everywhere p v ≡ true →
@@ -133,29 +134,29 @@ sound_insert p ms k v h here =
     ∙ all_insert (everywhere p) ms k v (sym (all-members p ms) ∙ h) here
 
 -- names above a name are above each name below it
-above_all : (k n : List ℕ) (ns : List (List ℕ)) → bytes_cmp k n ≡ Less →
+below_each-trans : (k n : List ℕ) (ns : List (List ℕ)) → bytes_cmp k n ≡ Less →
     list_all (λ m. is_lt (bytes_cmp n m)) ns ≡ true →
     list_all (λ m. is_lt (bytes_cmp k m)) ns ≡ true
-above_all k n [] first h = refl
-above_all k n (m ∷ ns) first h =
-    both _ _ (ap is_lt (nat_list_cmp_total.trans k n m first (is_less _ (and-left _ _ h))))
-    (above_all k n ns first (and-right _ _ h))
+below_each-trans k n [] first h = refl
+below_each-trans k n (m ∷ ns) first h =
+    and_from _ _ (ap is_lt (nat_list_cmp_total.trans k n m first (is_less _ (and-left _ _ h))))
+    (below_each-trans k n ns first (and-right _ _ h))
 
 pub keys_by : {V : Type 0} (t : List ℕ → Bool) (ms : List (List ℕ × V)) (k : List ℕ) (v : V) →
     list_all t (keys_of ms) ≡ true → t k ≡ true →
     list_all t (keys_of (insert_entry bytes_cmp ms k v)) ≡ true
-keys_by t [] k v h p = both _ _ p refl
+keys_by t [] k v h p = and_from _ _ p refl
 keys_by t (m ∷ ms) k v h p =
     by_order (λ ns. list_all t (keys_of ns)) (bytes_cmp k m.0) ((k, v) ∷ m ∷ ms) ((m.0, v) ∷ ms)
-    (m ∷ insert_entry bytes_cmp ms k v) (both _ _ p h) h
-    (both _ _ (and-left _ _ h) (keys_by t ms k v (and-right _ _ h) p))
+    (m ∷ insert_entry bytes_cmp ms k v) (and_from _ _ p h) h
+    (and_from _ _ (and-left _ _ h) (keys_by t ms k v (and-right _ _ h) p))
 
 rise_by : {V : Type 0} (k : List ℕ) (v : V) (m : List ℕ × V) (ms more : List (List ℕ × V))
     (o : Ordering) → bytes_cmp k m.0 ≡ o → names_rise (keys_of (m ∷ ms)) ≡ true →
     (bytes_cmp k m.0 ≡ Greater → names_rise (keys_of (m ∷ more)) ≡ true) →
     names_rise (keys_of (match_ordering o ((k, v) ∷ m ∷ ms) ((m.0, v) ∷ ms) (m ∷ more))) ≡ true
 rise_by k v m ms more Less is rise later =
-    both _ _ (both _ _ (ap is_lt is) (above_all k m.0 (keys_of ms) is (and-left _ _ rise))) rise
+    and_from _ _ (and_from _ _ (ap is_lt is) (below_each-trans k m.0 (keys_of ms) is (and-left _ _ rise))) rise
 rise_by k v m ms more Equal is rise later = rise
 rise_by k v m ms more Greater is rise later = later is
 
@@ -164,7 +165,7 @@ pub keys_rise : {V : Type 0} (ms : List (List ℕ × V)) (k : List ℕ) (v : V) 
 keys_rise [] k v rise = refl
 keys_rise (m ∷ ms) k v rise =
     rise_by k v m ms (insert_entry bytes_cmp ms k v) (bytes_cmp k m.0) refl rise
-    (λ is. both _ _
+    (λ is. and_from _ _
     (keys_by (λ n. is_lt (bytes_cmp m.0 n)) ms k v (and-left _ _ rise) (above_is_less m.0 k is))
     (keys_rise ms k v (and-right _ _ rise)))
 

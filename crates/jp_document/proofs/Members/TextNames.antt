@@ -7,8 +7,8 @@ use Rattle.std.specs.Str.{is_utf8}
 use Rattle.std.proofs.lemmas.Map.Lookups.{exact_bytes}
 use Rattle.std.proofs.lemmas.Str.{IsUtf8-from_is_utf8}
 use Rattle.jp_document.specs.Location.{child, named}
-use Rattle.jp_document.specs.Value.{IsDocumentValue, Members, Value, boolean, list, member}
-use Rattle.jp_document.specs.Value.{names_of, no_members, null, object, text, whole}
+use Rattle.jp_document.specs.Value.{IsDocumentValue, Members, Value, list, member}
+use Rattle.jp_document.specs.Value.{names_of, no_members, object}
 use Rattle.jp_document.proofs.Members.ByName.{bytes_cmp, child-list_named}
 use Rattle.jp_document.proofs.Conjunctions.{and-left, and-right}
 
@@ -28,10 +28,7 @@ member_text (member n v ms) s w all is =
 
 pub IsUtf8-child_named : (v w : Value) (s : List ℕ) → IsDocumentValue v →
     child v (named s) ≡ Some w → IsUtf8 s
-IsUtf8-child_named null w s document is = absurd (cc)
-IsUtf8-child_named (boolean b) w s document is = absurd (cc)
-IsUtf8-child_named (whole z) w s document is = absurd (cc)
-IsUtf8-child_named (text t) w s document is = absurd (cc)
 IsUtf8-child_named (list vs) w s document is = absurd (let none = child-list_named s vs in cc)
 IsUtf8-child_named (object ms) w s document is =
     IsUtf8-from_is_utf8 s (member_text ms s w (and-right _ _ (and-left _ _ document)) is)
+IsUtf8-child_named v w s document is = absurd (cc)

@@ -24,53 +24,52 @@ Same a b x y = (a ≡ b) × (x ≡ y)
 hex-same : (m n : ℕ) → m < 16 → n < 16 → hex_digit m ≡ hex_digit n → m ≡ n
 hex-same m n a b e = sym (hex_digit_is m a).1 ∙ ap hex_value e ∙ (hex_digit_is n b).1
 
+-- what follows two equal fronts, with the fronts as they are spelled
+spelled-same : {v w a b : List ℕ} (x y : List ℕ) → v ≡ a → w ≡ b → v ++ x ≡ w ++ y →
+    a ++ x ≡ b ++ y
+spelled-same x y is was h = ap (λ t. t ++ x) (sym is) ∙ h ∙ ap (λ t. t ++ y) was
+
+plain-no_slash : (c : ℕ) (x y : List ℕ) → is_plain c ≡ true → 92 ∷ x ≡ c ∷ y → ⊥
+unfolding is_plain
+plain-no_slash c x y plain same =
+    let slash : c ≡ 92 = cc in
+    let no : true ≡ false = sym plain ∙ ap is_plain slash in
+    cc
+
+letter-no_u : (e : ℕ) (x y : List ℕ) → is_letter e ≡ true → 92 ∷ e ∷ x ≡ 92 ∷ 117 ∷ y → ⊥
+unfolding is_letter
+letter-no_u e x y letter same =
+    let u : e ≡ 117 = cc in
+    let no : true ≡ false = sym letter ∙ ap is_letter u in
+    cc
+
 -- no character's spelling begins another's
 cancel : (c d : ℕ) (v w x y : List ℕ) → Spelled c v → Spelled d w → v ++ x ≡ w ++ y → Same c d x y
-unfolding is_letter is_plain
 cancel c d v w x y (by_letter e l m is) (by_letter f k n was) h =
-    let same : 92 ∷ e ∷ x ≡ 92 ∷ f ∷ y = ap (λ t. t ++ x) (sym is) ∙ h ∙ ap (λ t. t ++ y) was in
+    let same : 92 ∷ e ∷ x ≡ 92 ∷ f ∷ y = spelled-same x y is was h in
     let letters : e ≡ f = cc in
     (m ∙ ap meant letters ∙ sym n, cc)
 cancel c d v w x y (by_letter e l m is) (by_number low o was) h =
-    let same : 92 ∷ e ∷ x ≡ control d ++ y = ap (λ t. t ++ x) (sym is) ∙ h ∙ ap (λ t. t ++ y) was in
-    let u : e ≡ 117 = cc in
-    let no : true ≡ false = sym l ∙ ap is_letter u in
-    cc
+    absurd (letter-no_u e x _ l (spelled-same x y is was h))
 cancel c d v w x y (by_letter e l m is) (by_itself p was) h =
-    let same : 92 ∷ e ∷ x ≡ d ∷ y = ap (λ t. t ++ x) (sym is) ∙ h ∙ ap (λ t. t ++ y) was in
-    let slash : d ≡ 92 = cc in
-    let no : true ≡ false = sym p ∙ ap is_plain slash in
-    cc
+    absurd (plain-no_slash d _ y p (spelled-same x y is was h))
 cancel c d v w x y (by_number low o is) (by_letter f k n was) h =
-    let same : control c ++ x ≡ 92 ∷ f ∷ y = ap (λ t. t ++ x) (sym is) ∙ h ∙ ap (λ t. t ++ y) was in
-    let u : f ≡ 117 = cc in
-    let no : true ≡ false = sym k ∙ ap is_letter u in
-    cc
+    absurd (letter-no_u f y _ k (sym (spelled-same x y is was h)))
 cancel c d v w x y (by_number low o is) (by_number below p was) h =
-    let same : control c ++ x ≡ control d ++ y =
-    ap (λ t. t ++ x) (sym is) ∙ h ∙ ap (λ t. t ++ y) was in
+    let same : control c ++ x ≡ control d ++ y = spelled-same x y is was h in
     let high : hex_digit (c / 16) ≡ hex_digit (d / 16) = ap (λ t. get_or t 4 0) same in
     let last : hex_digit (c % 16) ≡ hex_digit (d % 16) = ap (λ t. get_or t 5 0) same in
     let e = hex-same (c / 16) (d / 16) (omega arith) (omega arith) high in
     let f = hex-same (c % 16) (d % 16) (omega arith) (omega arith) last in
     (omega arith, cc)
 cancel c d v w x y (by_number low o is) (by_itself p was) h =
-    let same : control c ++ x ≡ d ∷ y = ap (λ t. t ++ x) (sym is) ∙ h ∙ ap (λ t. t ++ y) was in
-    let slash : d ≡ 92 = cc in
-    let no : true ≡ false = sym p ∙ ap is_plain slash in
-    cc
+    absurd (plain-no_slash d _ y p (spelled-same x y is was h))
 cancel c d v w x y (by_itself p is) (by_letter f k n was) h =
-    let same : c ∷ x ≡ 92 ∷ f ∷ y = ap (λ t. t ++ x) (sym is) ∙ h ∙ ap (λ t. t ++ y) was in
-    let slash : c ≡ 92 = cc in
-    let no : true ≡ false = sym p ∙ ap is_plain slash in
-    cc
+    absurd (plain-no_slash c _ x p (sym (spelled-same x y is was h)))
 cancel c d v w x y (by_itself p is) (by_number below q was) h =
-    let same : c ∷ x ≡ control d ++ y = ap (λ t. t ++ x) (sym is) ∙ h ∙ ap (λ t. t ++ y) was in
-    let slash : c ≡ 92 = cc in
-    let no : true ≡ false = sym p ∙ ap is_plain slash in
-    cc
+    absurd (plain-no_slash c _ x p (sym (spelled-same x y is was h)))
 cancel c d v w x y (by_itself p is) (by_itself q was) h =
-    let same : c ∷ x ≡ d ∷ y = ap (λ t. t ++ x) (sym is) ∙ h ∙ ap (λ t. t ++ y) was in
+    let same : c ∷ x ≡ d ∷ y = spelled-same x y is was h in
     (cc, cc)
 
 -- none begins with the quote

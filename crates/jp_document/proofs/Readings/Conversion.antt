@@ -1,5 +1,5 @@
 -- A reading turned into a value, part by part: for the loops of `json_of`.
-use Rattle.std.proofs.Common.{◌≡◌, ℕ, suc, ◌<◌, Bool, true, false, ◌&&◌, List, [], ◌∷◌, ◌++◌}
+use Rattle.std.proofs.Common.{◌≡◌, ℕ, suc, ◌<◌, Bool, true, ◌&&◌, List, [], ◌∷◌, ◌++◌}
 use Rattle.std.proofs.Common.{length, map, Option, Some, String, Global, Ordering, Less}
 use Rattle.std.proofs.Common.{Equal, Greater, is_eq, string_bytes, string_cmp, cond, refl}
 use Rattle.std.proofs.Common.{sym, ap, subst, ◌∙◌, arith, append_assoc, append-nil, add-one}
@@ -10,10 +10,10 @@ use Rattle.std.specs.List.Sorted.{IsStrictlySortedBy}
 use Rattle.std.specs.Map.{lookup, keys_of}
 use Rattle.std.specs.Option.{option_map, option_and_then}
 use Rattle.std.specs.Ordering.{ordering_reverse}
+use Rattle.std.proofs.lemmas.Bool.{and_from}
 use Rattle.std.proofs.lemmas.Cmp.{nat_list_cmp_total}
 use Rattle.std.proofs.lemmas.List.{map-append, length_push}
 use Rattle.std.proofs.lemmas.Map.Keys.{sorted_head, sorted_tail}
-use Rattle.std.proofs.lemmas.Option.{same_Some}
 use Rattle.serde_json.specs.Data as parsed
 use Rattle.serde_json.specs.Data.{Data}
 use Rattle.serde_json.specs.View.{view, items_view, members_view}
@@ -79,14 +79,10 @@ pub all-members : (p : Value → Bool) (ms : List (List ℕ × Value)) →
 all-members p [] = refl
 all-members p (m ∷ ms) = ap (λ b. everywhere p m.1 && b) (all-members p ms)
 
-pub both : (a b : Bool) → a ≡ true → b ≡ true → (a && b) ≡ true
-both true b h k = k
-both false b h k = cc
-
 pub all_push : {X : Type 0} (t : X → Bool) (xs : List X) (x : X) → list_all t xs ≡ true →
     t x ≡ true → list_all t (xs ++ x ∷ []) ≡ true
-all_push t [] x h k = both _ _ k refl
-all_push t (y ∷ xs) x h k = both _ _ (and-left _ _ h) (all_push t xs x (and-right _ _ h) k)
+all_push t [] x h k = and_from _ _ k refl
+all_push t (y ∷ xs) x h k = and_from _ _ (and-left _ _ h) (all_push t xs x (and-right _ _ h) k)
 
 -- ---- items
 
@@ -146,10 +142,6 @@ pub record MembersSoFar (all rest : List Entry) (found : List Member) : Type 0 w
       IsFirstIn (data_members (members_view all)) l
   pub sorted : IsStrictlySortedBy string_cmp (keys_of rest)
 
-pub members_begin : (all : List Entry) → IsStrictlySortedBy string_cmp (keys_of all) →
-    MembersSoFar all all []
-members_begin all sorted = record { value = λ ws is. is; first = λ l is. is; sorted = sorted }
-
 members_of_data-member : (n : List ℕ) (d : Data) (v : Value) (ms : parsed.Members)
     (ws : List (List ℕ × Value)) → value_of_data d ≡ Some v →
     members_of_data ms ≡ Some (members_of ws) →
@@ -194,12 +186,3 @@ pub members_end : (all : List Entry) (found : List Member) → MembersSoFar all 
     members_of_data (members_view all) ≡ Some (members_of (map member_of found))
 members_end all found so =
     so.value [] refl ∙ ap (λ ps. Some (members_of ps)) (append-nil (map member_of found))
-
--- ---- two parts of a reading
-
-pub both_is : {A B C : Type 0} (f : A → B → C) (o : Option A) (p : Option B) (c : C) (a : A)
-    (b : B) → option_and_then (λ a. option_map (f a) p) o ≡ Some c → o ≡ Some a → p ≡ Some b →
-    c ≡ f a b
-both_is f o p c a b is here later =
-    same_Some _ _
-    (sym is ∙ ap (option_and_then (λ a. option_map (f a) p)) here ∙ ap (option_map (f a)) later)

@@ -100,12 +100,12 @@ document_by bytes d v reads is short = record {
   valid = value_allowed d v (reading_fits bytes d reads) is short;
 }
 
-answer_by : (bytes : List ℕ) (d : Data) (v : Value) (short : Bool) → IsReading bytes d →
+value_or_long_list : (bytes : List ℕ) (d : Data) (v : Value) (short : Bool) → IsReading bytes d →
     value_of_data d ≡ Some v → everywhere list_fits v ≡ short →
     ((w : Value) × IsDocument bytes w) ⊎ ((x : Defect) × HasDefect bytes x)
-answer_by bytes d v true reads is lists =
+value_or_long_list bytes d v true reads is lists =
     inl (v, document_by bytes d v reads is lists)
-answer_by bytes d v false reads is lists =
+value_or_long_list bytes d v false reads is lists =
     inr (
       list_too_long,
       record {
@@ -117,9 +117,9 @@ answer_by bytes d v false reads is lists =
       },
     )
 
-answer_of : (bytes : List ℕ) (d : Data) (o : Option Value) → IsReading bytes d →
+value_or_fraction : (bytes : List ℕ) (d : Data) (o : Option Value) → IsReading bytes d →
     value_of_data d ≡ o → ((w : Value) × IsDocument bytes w) ⊎ ((x : Defect) × HasDefect bytes x)
-answer_of bytes d None reads is =
+value_or_fraction bytes d None reads is =
     let l = first_of d (reading_fits bytes d reads) is in
     inr (
       not_whole (path_of l.0),
@@ -131,20 +131,20 @@ answer_of bytes d None reads is =
         spelled = refl;
       },
     )
-answer_of bytes d (Some v) reads is = answer_by bytes d v (everywhere list_fits v) reads is refl
+value_or_fraction bytes d (Some v) reads is = value_or_long_list bytes d v (everywhere list_fits v) reads is refl
 
-answered : (bytes : List ℕ) (utf8 : Bool) (o : Option Data) → is_utf8 bytes ≡ utf8 →
+value_or_defect : (bytes : List ℕ) (utf8 : Bool) (o : Option Data) → is_utf8 bytes ≡ utf8 →
     read bytes ≡ o → ((w : Value) × IsDocument bytes w) ⊎ ((x : Defect) × HasDefect bytes x)
-answered bytes false o text is =
+value_or_defect bytes false o text is =
     inr (
       not_json,
       λ d reads. absurd
           (let yes : is_utf8 bytes ≡ true = is_utf8-from_IsUtf8 bytes reads.utf8 in cc),
     )
-answered bytes true None text is =
+value_or_defect bytes true None text is =
     inr (not_json, λ d reads. absurd (let there = reads.reading in cc))
-answered bytes true (Some d) text is =
-    answer_of bytes d (value_of_data d) (record {
+value_or_defect bytes true (Some d) text is =
+    value_or_fraction bytes d (value_of_data d) (record {
       utf8 = IsUtf8-from_is_utf8 bytes text;
       reading = is;
     }) refl
@@ -153,21 +153,21 @@ long_or_short : (v w : Value) → v ≡ w → IsDocumentValue v → everywhere l
 long_or_short v w same valid long =
     true≢false (sym (fits-allowed v valid) ∙ ap (everywhere list_fits) same ∙ long)
 
-not_both : (bytes : List ℕ) (v : Value) (x : Defect) → IsDocument bytes v → HasDefect bytes x → ⊥
-not_both bytes v not_json document defect = defect document.reading document.reads
-not_both bytes v (not_whole path) document defect =
+no_defect_beside_value : (bytes : List ℕ) (v : Value) (x : Defect) → IsDocument bytes v → HasDefect bytes x → ⊥
+no_defect_beside_value bytes v not_json document defect = defect document.reading document.reads
+no_defect_beside_value bytes v (not_whole path) document defect =
     fraction_or_value bytes path document.reading v defect document.reads document.holds
-not_both bytes v list_too_long document defect =
+no_defect_beside_value bytes v list_too_long document defect =
     long_or_short v defect.value
     (same_value bytes document.reading defect.reading v defect.value document.reads defect.reads
     document.holds defect.holds) document.valid defect.too_long
 
 pub document_or_defect : DocumentOrDefect
 document_or_defect bytes = record {
-  answered = answered bytes (is_utf8 bytes) (read bytes) refl refl;
+  answered = value_or_defect bytes (is_utf8 bytes) (read bytes) refl refl;
   one_value =
       λ v w one two. same_value bytes one.reading two.reading v w one.reads two.reads one.holds
       two.holds;
   one_defect = one_defect bytes;
-  not_both = not_both bytes;
+  not_both = no_defect_beside_value bytes;
 }

@@ -9,9 +9,9 @@ use Rattle.jp_document.specs.declared.location.OwnedStep.{OwnedStep}
 use Rattle.jp_document.specs.declared.value_fault.ValueFault.{ValueFault}
 use Rattle.jp_document.specs.declared.value_fault.ValueFault.TheVariants.{Fraction, NoMemory}
 
-turned : (steps more : List OwnedStep) (step : OwnedStep) → more ≡ steps ++ step ∷ []
+reverse-last_step : (steps more : List OwnedStep) (step : OwnedStep) → more ≡ steps ++ step ∷ []
     → reverse (map owned_key more) ≡ owned_key step ∷ reverse (map owned_key steps)
-turned steps more step is = ap (λ xs. reverse (map owned_key xs)) is
+reverse-last_step steps more step is = ap (λ xs. reverse (map owned_key xs)) is
     ∙ ap reverse (map-append owned_key steps (step ∷ []))
     ∙ reverse-append (map owned_key steps) (owned_key step ∷ [])
 
@@ -20,7 +20,7 @@ pub value_fault-within : (part whole : Data) (fault more : ValueFault) (step : O
     → ((l : Location) → IsFirstFraction part l → IsFirstFraction whole (owned_key step ∷ l))
     → IsValueFaultOf part fault → IsFaultWithin fault step more → IsValueFaultOf whole more
 value_fault-within part whole (Fraction steps) (Fraction more) step out at within = subst
-    (IsFirstFraction whole) (sym (turned steps.items more.items step within))
+    (IsFirstFraction whole) (sym (reverse-last_step steps.items more.items step within))
     (out (reverse (map owned_key steps.items)) at)
 value_fault-within part whole (Fraction steps) NoMemory step out at within = tt
 value_fault-within part whole NoMemory (Fraction more) step out at within = absurd within

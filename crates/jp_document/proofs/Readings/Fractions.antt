@@ -6,7 +6,7 @@ use Rattle.std.specs.BTreeMap.{is_at}
 use Rattle.std.specs.Map.{lookup}
 use Rattle.std.specs.Ordering.{ordering_then}
 use Rattle.std.proofs.lemmas.Option.{same_Some}
-use Rattle.std.specs.Option.{option_map, option_and_then}
+use Rattle.std.specs.Option.{option_and_then}
 use Rattle.std.proofs.lemmas.Cmp.{nat_cmp_total, nat_list_cmp_total, tied_itself}
 use Rattle.std.proofs.lemmas.Map.Lookups.{exact_bytes, exact_unsigned}
 use Rattle.serde_json.specs.Data as parsed
@@ -17,50 +17,29 @@ use Rattle.jp_document.specs.Document.{data_items_from, data_members, data_entri
 use Rattle.jp_document.specs.Document.{data_at, IsFraction, IsFirstFraction}
 use Rattle.jp_document.specs.Location.{Key, named, nth, key_cmp, Location, location_cmp}
 use Rattle.jp_document.specs.Value.{Value, list, object, Items, item, Members, member}
+use Rattle.jp_document.proofs.Options.{some_from_both, some_from_map, some_from_then}
 
 -- ---- a reading with a value has no such number
 
-pub from_map : {A B : Type 0} (f : A → B) (o : Option A) (b : B) → option_map f o ≡ Some b →
-    (a : A) × (o ≡ Some a)
-from_map f None b is = cc
-from_map f (Some a) b is = (a, refl)
-
-pub from_both : {A B C : Type 0} (f : A → B → C) (o : Option A) (p : Option B) (c : C) →
-    option_and_then (λ a. option_map (f a) p) o ≡ Some c →
-    ((a : A) × (o ≡ Some a)) × ((b : B) × (p ≡ Some b))
-from_both f None p c is = cc
-from_both f (Some a) None c is = cc
-from_both f (Some a) (Some b) c is = ((a, refl), (b, refl))
-
 -- what a look-up goes on with stands first, or is found among the others
-apart : (b : Bool) (d : Data) (rest r : Option Data) (f : Data → Option Data) →
+neither_found : (b : Bool) (d : Data) (rest r : Option Data) (f : Data → Option Data) →
     option_and_then f (cond b (Some d) rest) ≡ r → (f d ≡ r → ⊥) →
     (option_and_then f rest ≡ r → ⊥) → ⊥
-apart true d rest r f is here there = here is
-apart false d rest r f is here there = there is
+neither_found true d rest r f is here there = here is
+neither_found false d rest r f is here there = there is
 
 mutual
   pub no_fraction : (d : Data) (v : Value) (l : Location) (x : Float) → value_of_data d ≡ Some v →
       data_at d l ≡ Some (parsed.number (float x)) → ⊥
-  no_fraction parsed.null v [] x has is = cc
-  no_fraction parsed.null v (k ∷ l) x has is = cc
-  no_fraction (parsed.boolean b) v [] x has is = cc
-  no_fraction (parsed.boolean b) v (k ∷ l) x has is = cc
-  no_fraction (parsed.number (unsigned n)) v [] x has is = cc
-  no_fraction (parsed.number (unsigned n)) v (k ∷ l) x has is = cc
-  no_fraction (parsed.number (negative z)) v [] x has is = cc
-  no_fraction (parsed.number (negative z)) v (k ∷ l) x has is = cc
-  no_fraction (parsed.number (float y)) v l x has is = cc
-  no_fraction (parsed.string s) v [] x has is = cc
-  no_fraction (parsed.string s) v (k ∷ l) x has is = cc
-  no_fraction (parsed.array ds) v [] x has is = cc
   no_fraction (parsed.array ds) v (k ∷ l) x has is =
-      let vs = from_map list (items_of_data ds) v has in
+      let vs = some_from_map list (items_of_data ds) v has in
       no_fraction_in_items ds vs.0 0 k l x vs.1 is
-  no_fraction (parsed.object ms) v [] x has is = cc
   no_fraction (parsed.object ms) v (k ∷ l) x has is =
-      let vs = from_map object (members_of_data ms) v has in
+      let vs = some_from_map object (members_of_data ms) v has in
       no_fraction_in_members ms vs.0 k l x vs.1 is
+  no_fraction (parsed.number (float y)) v l x has is = cc
+  no_fraction d v [] x has is = cc
+  no_fraction d v (k ∷ l) x has is = cc
 
   no_fraction_in_items : (ds : parsed.Items) (vs : Items) (i : ℕ) (k : Key) (l : Location)
       (x : Float) → items_of_data ds ≡ Some vs →
@@ -68,9 +47,9 @@ mutual
       Some (parsed.number (float x)) → ⊥
   no_fraction_in_items parsed.no_items vs i k l x has is = cc
   no_fraction_in_items (parsed.item d ds) vs i k l x has is =
-      let both = from_both item (value_of_data d) (items_of_data ds) vs has in
-      apart _ d _ _ (λ e. data_at e l) is (no_fraction d both.0.0 l x both.0.1)
-      (no_fraction_in_items ds both.1.0 (suc i) k l x both.1.1)
+      let both = some_from_both item (value_of_data d) (items_of_data ds) vs has in
+      neither_found _ d _ _ (λ e. data_at e l) is (no_fraction d both.0 l x both.2)
+      (no_fraction_in_items ds both.1 (suc i) k l x both.3)
 
   no_fraction_in_members : (ms : parsed.Members) (vs : Members) (k : Key) (l : Location)
       (x : Float) → members_of_data ms ≡ Some vs →
@@ -78,9 +57,9 @@ mutual
       Some (parsed.number (float x)) → ⊥
   no_fraction_in_members parsed.no_members vs k l x has is = cc
   no_fraction_in_members (parsed.member n d ms) vs k l x has is =
-      let both = from_both (member n) (value_of_data d) (members_of_data ms) vs has in
-      apart _ d _ _ (λ e. data_at e l) is (no_fraction d both.0.0 l x both.0.1)
-      (no_fraction_in_members ms both.1.0 k l x both.1.1)
+      let both = some_from_both (member n) (value_of_data d) (members_of_data ms) vs has in
+      neither_found _ d _ _ (λ e. data_at e l) is (no_fraction d both.0 l x both.2)
+      (no_fraction_in_members ms both.1 k l x both.3)
 
 -- ---- the first among entries
 
@@ -116,17 +95,12 @@ key_exact (named s) (nth j) is = cc
 key_exact (nth i) (named t) is = cc
 key_exact (nth i) (nth j) is = ap nth (exact_unsigned i j is)
 
-some_from : (f : Data → Option Data) (o : Option Data) (r : Data) → option_and_then f o ≡ Some r →
-    (e : Data) × (o ≡ Some e)
-some_from f None r is = cc
-some_from f (Some e) r is = (e, refl)
-
 there_later : (k : Key) (d : Data) (es : Entries) (l : Location) (x : Float) → IsAbove k es →
     entries_at es l ≡ Some (parsed.number (float x)) →
     entries_at ((k, d) ∷ es) l ≡ Some (parsed.number (float x))
 there_later k d es [] x above is = is
 there_later k d es (q ∷ m) x above is =
-    let e = some_from (λ e. data_at e m) (lookup (is_at (key_cmp q)) es) _ is in
+    let e = some_from_then (λ e. data_at e m) (lookup (is_at (key_cmp q)) es) _ is in
     ap
     (λ o. option_and_then (λ e. data_at e m)
     (cond (is_eq o) (Some d) (lookup (is_at (key_cmp q)) es))) (above.above q e.0 e.1) ∙ is
@@ -136,7 +110,7 @@ least_later : (k : Key) (d : Data) (v : Value) (es : Entries) (l m : Location) (
     entries_at ((k, d) ∷ es) m ≡ Some (parsed.number (float x)) → location_cmp m l ≢ Less
 least_later k d v es l [] x has first is less = cc
 least_later k d v es l (q ∷ n) x has first is less =
-    apart _ d _ _ (λ e. data_at e n) is (no_fraction d v n x has)
+    neither_found _ d _ _ (λ e. data_at e n) is (no_fraction d v n x has)
     (λ h. first.least (q ∷ n) x h less)
 
 -- an entry without a fraction stands before the entries
@@ -155,7 +129,7 @@ least_by : (q k : Key) (d : Data) (es : Entries) (n l : Location) (x : Float) (o
 least_by q k d es n l x Equal above first at is less = first.least n (x, is) less
 least_by q k d es n l x Greater above first at is less = cc
 least_by q k d es n l x Less above first at is less =
-    let e = some_from (λ e. data_at e n) (lookup (is_at (key_cmp q)) es) _ is in
+    let e = some_from_then (λ e. data_at e n) (lookup (is_at (key_cmp q)) es) _ is in
     let higher = above.above q e.0 e.1 in
     cc
 

@@ -1,11 +1,12 @@
 -- A reading holds a value that a document may have, or a first number that is no whole one: for the
 -- defects of bytes.
 use Rattle.std.proofs.Common.{◌≡◌, ℕ, suc, true, List, [], ◌∷◌, Option, Some, None, Greater}
-use Rattle.std.proofs.Common.{is_lt, option_map, option_and_then, refl, sym, ap, ◌∙◌}
+use Rattle.std.proofs.Common.{is_lt, refl, sym, ap, ◌∙◌}
 use Rattle.std.specs.BTreeMap.{is_at}
 use Rattle.std.specs.List.{list_all}
 use Rattle.std.specs.Map.{keys_of, lookup}
 use Rattle.std.specs.Ordering.{ordering_reverse}
+use Rattle.std.proofs.lemmas.Bool.{and_from}
 use Rattle.std.proofs.lemmas.Cmp.{nat_list_cmp_total}
 use Rattle.std.proofs.lemmas.Option.{same_Some}
 use Rattle.serde_json.specs.Data as parsed
@@ -14,30 +15,27 @@ use Rattle.jp_document.specs.Document.{IsFirstFraction, data_items_from, data_me
 use Rattle.jp_document.specs.Document.{items_of_data, members_of_data, value_of_data}
 use Rattle.jp_document.specs.Location.{Key, Location, key_cmp, named, nth}
 use Rattle.jp_document.specs.Value.{Items, Members, Value, everywhere, everywhere_in_items}
-use Rattle.jp_document.specs.Value.{everywhere_in_members, boolean, is_allowed, item, list}
+use Rattle.jp_document.specs.Value.{everywhere_in_members, is_allowed, item, list}
 use Rattle.jp_document.specs.Value.{list_fits, member, names_fit, names_of, names_rise}
-use Rattle.jp_document.specs.Value.{no_items, no_members, null, object, text, whole}
+use Rattle.jp_document.specs.Value.{no_items, no_members, object}
+use Rattle.jp_document.proofs.Options.{none_from_both, none_from_map}
+use Rattle.jp_document.proofs.Options.{some_from_both, some_from_map}
 use Rattle.jp_document.proofs.Readings.Fractions.{Entries, IsAbove, IsFirstFraction-inside}
-use Rattle.jp_document.proofs.Readings.Fractions.{IsFirstFraction-number, IsFirstIn, from_both, hit, skipped}
+use Rattle.jp_document.proofs.Readings.Fractions.{IsFirstFraction-number, IsFirstIn, hit, skipped}
 use Rattle.jp_document.proofs.Members.ByName.{bytes_cmp, is_less}
 use Rattle.jp_document.proofs.Conjunctions.{and-left, and-right}
 use Rattle.jp_document.proofs.Readings.Ranges.{data_fits, members_read, items_fit, members_fit}
-use Rattle.jp_document.proofs.Readings.Conversion.{IsAbove-items, above_by, both, both_is}
+use Rattle.jp_document.proofs.Readings.Conversion.{IsAbove-items, above_by}
 
 -- ---- a reading with whole numbers alone has a document's value, where its lists fit
-
-mapped : {A B : Type 0} (f : A → B) (o : Option A) (b : B) → option_map f o ≡ Some b →
-    (a : A) × (o ≡ Some a) × (f a ≡ b)
-mapped f None b is = absurd (cc)
-mapped f (Some a) b is = (a, refl, same_Some (f a) b is)
 
 read_names : (ms : parsed.Members) (vs : Members) → members_of_data ms ≡ Some vs →
     names_of vs ≡ keys_of (members_read ms)
 read_names parsed.no_members vs is = ap names_of (sym (same_Some no_members vs is))
 read_names (parsed.member n d ms) vs is =
-    let parts = from_both (member n) (value_of_data d) (members_of_data ms) vs is in
-    ap names_of (both_is (member n) _ _ vs parts.0.0 parts.1.0 is parts.0.1 parts.1.1)
-    ∙ ap (λ ns. n ∷ ns) (read_names ms parts.1.0 parts.1.1)
+    let parts = some_from_both (member n) (value_of_data d) (members_of_data ms) vs is in
+    ap names_of (sym parts.4)
+    ∙ ap (λ ns. n ∷ ns) (read_names ms parts.1 parts.3)
 
 plain_value : (d : Data) (v w : Value) → value_of_data d ≡ Some v → value_of_data d ≡ Some w →
     everywhere is_allowed w ≡ true → everywhere is_allowed v ≡ true
@@ -46,25 +44,19 @@ plain_value d v w is same here = ap (everywhere is_allowed) (same_Some v w (sym 
 mutual
   pub value_allowed : (d : Data) (v : Value) → data_fits d ≡ true → value_of_data d ≡ Some v →
       everywhere list_fits v ≡ true → everywhere is_allowed v ≡ true
-  value_allowed parsed.null v fits is short = plain_value parsed.null v _ is refl refl
-  value_allowed (parsed.boolean b) v fits is short = plain_value (parsed.boolean b) v _ is refl refl
-  value_allowed (parsed.number (unsigned n)) v fits is short =
-      plain_value (parsed.number (unsigned n)) v _ is refl fits
-  value_allowed (parsed.number (negative z)) v fits is short =
-      plain_value (parsed.number (negative z)) v _ is refl fits
-  value_allowed (parsed.number (float x)) v fits is short = absurd (cc)
-  value_allowed (parsed.string s) v fits is short = plain_value (parsed.string s) v _ is refl fits
   value_allowed (parsed.array ds) v fits is short =
-      let vs = mapped list (items_of_data ds) v is in
+      let vs = some_from_map list (items_of_data ds) v is in
       let lists = ap (everywhere list_fits) vs.2 ∙ short in
       ap (everywhere is_allowed) (sym vs.2)
-      ∙ both _ _ (and-left _ _ lists) (items_allowed ds vs.0 fits vs.1 (and-right _ _ lists))
+      ∙ and_from _ _ (and-left _ _ lists) (items_allowed ds vs.0 fits vs.1 (and-right _ _ lists))
   value_allowed (parsed.object ms) v fits is short =
-      let vs = mapped object (members_of_data ms) v is in
+      let vs = some_from_map object (members_of_data ms) v is in
       let lists = ap (everywhere list_fits) vs.2 ∙ short in
       ap (everywhere is_allowed) (sym vs.2)
-      ∙ both _ _ (ap names_fit (read_names ms vs.0 vs.1) ∙ and-left _ _ fits)
+      ∙ and_from _ _ (ap names_fit (read_names ms vs.0 vs.1) ∙ and-left _ _ fits)
       (members_allowed ms vs.0 (and-right _ _ fits) vs.1 lists)
+  value_allowed (parsed.number (float x)) v fits is short = absurd (cc)
+  value_allowed d v fits is short = plain_value d v _ is refl fits
 
   items_allowed : (ds : parsed.Items) (vs : Items) → items_fit ds ≡ true →
       items_of_data ds ≡ Some vs → everywhere_in_items list_fits vs ≡ true →
@@ -72,12 +64,12 @@ mutual
   items_allowed parsed.no_items vs fits is short =
       ap (everywhere_in_items is_allowed) (sym (same_Some no_items vs is))
   items_allowed (parsed.item d ds) vs fits is short =
-      let parts = from_both item (value_of_data d) (items_of_data ds) vs is in
-      let same = both_is item _ _ vs parts.0.0 parts.1.0 is parts.0.1 parts.1.1 in
+      let parts = some_from_both item (value_of_data d) (items_of_data ds) vs is in
+      let same = sym parts.4 in
       let lists = ap (everywhere_in_items list_fits) (sym same) ∙ short in
       ap (everywhere_in_items is_allowed) same
-      ∙ both _ _ (value_allowed d parts.0.0 (and-left _ _ fits) parts.0.1 (and-left _ _ lists))
-      (items_allowed ds parts.1.0 (and-right _ _ fits) parts.1.1 (and-right _ _ lists))
+      ∙ and_from _ _ (value_allowed d parts.0 (and-left _ _ fits) parts.2 (and-left _ _ lists))
+      (items_allowed ds parts.1 (and-right _ _ fits) parts.3 (and-right _ _ lists))
 
   members_allowed : (ms : parsed.Members) (vs : Members) → members_fit ms ≡ true →
       members_of_data ms ≡ Some vs → everywhere_in_members list_fits vs ≡ true →
@@ -85,12 +77,12 @@ mutual
   members_allowed parsed.no_members vs fits is short =
       ap (everywhere_in_members is_allowed) (sym (same_Some no_members vs is))
   members_allowed (parsed.member n d ms) vs fits is short =
-      let parts = from_both (member n) (value_of_data d) (members_of_data ms) vs is in
-      let same = both_is (member n) _ _ vs parts.0.0 parts.1.0 is parts.0.1 parts.1.1 in
+      let parts = some_from_both (member n) (value_of_data d) (members_of_data ms) vs is in
+      let same = sym parts.4 in
       let lists = ap (everywhere_in_members list_fits) (sym same) ∙ short in
       ap (everywhere_in_members is_allowed) same
-      ∙ both _ _ (value_allowed d parts.0.0 (and-left _ _ fits) parts.0.1 (and-left _ _ lists))
-      (members_allowed ms parts.1.0 (and-right _ _ fits) parts.1.1 (and-right _ _ lists))
+      ∙ and_from _ _ (value_allowed d parts.0 (and-left _ _ fits) parts.2 (and-left _ _ lists))
+      (members_allowed ms parts.1 (and-right _ _ fits) parts.3 (and-right _ _ lists))
 
 -- ---- a reading with no value has a first number that is no whole one
 
@@ -108,15 +100,6 @@ IsAbove-names : (n : List ℕ) (ms : parsed.Members) →
     IsAbove (named n) (data_members ms)
 IsAbove-names n ms below = record { above = λ q e is. above_among n ms q e below is }
 
-unmapped : {A B : Type 0} (f : A → B) (o : Option A) → option_map f o ≡ None → o ≡ None
-unmapped f None is = refl
-unmapped f (Some a) is = absurd (cc)
-
-unread : {A B C : Type 0} (f : A → B → C) (o : Option A) (p : Option B) (a : A) →
-    option_and_then (λ a. option_map (f a) p) o ≡ None → o ≡ Some a → p ≡ None
-unread f None p a is here = absurd (cc)
-unread f (Some b) p a is here = unmapped (f b) p is
-
 abbrev First : Data → Type 0
 First d = (l : Location) × IsFirstFraction d l
 
@@ -133,20 +116,16 @@ first_entry k d es (Some v) above is here later =
 
 mutual
   pub first_of : (d : Data) → data_fits d ≡ true → value_of_data d ≡ None → First d
-  first_of parsed.null fits none = absurd (cc)
-  first_of (parsed.boolean b) fits none = absurd (cc)
-  first_of (parsed.number (unsigned n)) fits none = absurd (cc)
-  first_of (parsed.number (negative z)) fits none = absurd (cc)
   first_of (parsed.number (float x)) fits none = ([], IsFirstFraction-number x)
-  first_of (parsed.string s) fits none = absurd (cc)
   first_of (parsed.array ds) fits none =
-      let l = first_item 0 ds fits (unmapped list (items_of_data ds) none) in
+      let l = first_item 0 ds fits (none_from_map list (items_of_data ds) none) in
       (l.0, IsFirstFraction-inside (parsed.array ds) l.0 (λ y is. cc) l.1)
   first_of (parsed.object ms) fits none =
       let l =
       first_member ms (and-left _ _ (and-left _ _ fits)) (and-right _ _ fits)
-      (unmapped object (members_of_data ms) none) in
+      (none_from_map object (members_of_data ms) none) in
       (l.0, IsFirstFraction-inside (parsed.object ms) l.0 (λ y is. cc) l.1)
+  first_of d fits none = absurd (cc)
 
   first_item : (i : ℕ) (ds : parsed.Items) → items_fit ds ≡ true → items_of_data ds ≡ None →
       FirstIn (data_items_from i ds)
@@ -155,7 +134,7 @@ mutual
       first_entry (nth i) d (data_items_from (suc i) ds) (value_of_data d) (IsAbove-items i ds) refl
       (first_of d (and-left _ _ fits))
       (λ v is. first_item (suc i) ds (and-right _ _ fits)
-      (unread item (value_of_data d) (items_of_data ds) v none is))
+      (none_from_both item (value_of_data d) (items_of_data ds) v none is))
 
   first_member : (ms : parsed.Members) → names_rise (keys_of (members_read ms)) ≡ true →
       members_fit ms ≡ true → members_of_data ms ≡ None → FirstIn (data_members ms)
@@ -164,36 +143,29 @@ mutual
       first_entry (named n) d (data_members ms) (value_of_data d)
       (IsAbove-names n ms (and-left _ _ rise)) refl (first_of d (and-left _ _ fits))
       (λ v is. first_member ms (and-right _ _ rise) (and-right _ _ fits)
-      (unread (member n) (value_of_data d) (members_of_data ms) v none is))
+      (none_from_both (member n) (value_of_data d) (members_of_data ms) v none is))
 
 -- ---- a document's value has no list that is too long
 
 fits_alone : (v : Value) → is_allowed v ≡ true → list_fits v ≡ true
-fits_alone null h = refl
-fits_alone (boolean b) h = refl
-fits_alone (whole z) h = refl
-fits_alone (text s) h = refl
 fits_alone (list vs) h = h
-fits_alone (object ms) h = refl
+fits_alone v h = refl
 
 mutual
   pub fits-allowed : (v : Value) → everywhere is_allowed v ≡ true → everywhere list_fits v ≡ true
-  fits-allowed null h = refl
-  fits-allowed (boolean b) h = refl
-  fits-allowed (whole z) h = refl
-  fits-allowed (text s) h = refl
   fits-allowed (list vs) h =
-      both _ _ (fits_alone (list vs) (and-left _ _ h)) (items_fit-allowed vs (and-right _ _ h))
+      and_from _ _ (fits_alone (list vs) (and-left _ _ h)) (items_fit-allowed vs (and-right _ _ h))
   fits-allowed (object ms) h = members_fit-allowed ms (and-right _ _ h)
+  fits-allowed v h = refl
 
   items_fit-allowed : (vs : Items) → everywhere_in_items is_allowed vs ≡ true →
       everywhere_in_items list_fits vs ≡ true
   items_fit-allowed no_items h = refl
   items_fit-allowed (item v vs) h =
-      both _ _ (fits-allowed v (and-left _ _ h)) (items_fit-allowed vs (and-right _ _ h))
+      and_from _ _ (fits-allowed v (and-left _ _ h)) (items_fit-allowed vs (and-right _ _ h))
 
   members_fit-allowed : (ms : Members) → everywhere_in_members is_allowed ms ≡ true →
       everywhere_in_members list_fits ms ≡ true
   members_fit-allowed no_members h = refl
   members_fit-allowed (member n v ms) h =
-      both _ _ (fits-allowed v (and-left _ _ h)) (members_fit-allowed ms (and-right _ _ h))
+      and_from _ _ (fits-allowed v (and-left _ _ h)) (members_fit-allowed ms (and-right _ _ h))

@@ -9,8 +9,8 @@ use Rattle.std.specs.BTreeMap.{insert_entry}
 use Rattle.std.specs.List.{list_all}
 use Rattle.std.specs.Map.{keys_of}
 use Rattle.std.specs.Str.{is_utf8}
-use Rattle.std.proofs.lemmas.Bool.{and_parts, leb-true}
-use Rattle.std.proofs.lemmas.Option.{same_Some}
+use Rattle.std.proofs.lemmas.Bool.{and_from, and_parts, leb-true}
+use Rattle.std.proofs.lemmas.Option.{none-some, same_Some}
 use Rattle.fast_float.specs.Text.{Parts, digits_of, minus, scan, with_sign}
 use Rattle.json.specs.Json as json
 use Rattle.json.specs.Json.{Json}
@@ -23,9 +23,9 @@ use Rattle.jp_document.specs.Value.{fits_64_bits, names_fit}
 use Rattle.jp_document.proofs.Members.ByName.{bytes_cmp}
 use Rattle.jp_document.proofs.Conjunctions.{and-left, and-right}
 use Rattle.jp_document.proofs.Utf8.Parsed.{items_texts, json_texts, members_texts}
-use Rattle.jp_document.proofs.Utf8.Parsed.{some_is_none, text_of_texts}
+use Rattle.jp_document.proofs.Utf8.Parsed.{text_of_texts}
 use Rattle.jp_document.proofs.Members.Places.{all_insert, keys_by, keys_rise, through}
-use Rattle.jp_document.proofs.Readings.Conversion.{both}
+use Rattle.jp_document.proofs.Options.{some_from_then}
 
 -- ---- what may be read
 
@@ -60,7 +60,7 @@ record EachFits {A : Type 0} (fits : A → Bool) (o : Option A) : Type 0 where
   pub each : (a : A) → o ≡ Some a → fits a ≡ true
 
 fits_none : {A : Type 0} (fits : A → Bool) → EachFits fits None
-fits_none fits = record { each = λ a is. absurd (some_is_none a is) }
+fits_none fits = record { each = λ a is. absurd (none-some a is) }
 
 fits_some : {A : Type 0} (fits : A → Bool) (a : A) → fits a ≡ true → EachFits fits (Some a)
 fits_some fits a here = record { each = λ b is. ap fits (sym (same_Some a b is)) ∙ here }
@@ -136,9 +136,9 @@ put_fits n d ms name here before =
     let es = members_read ms in
     let names = and-left _ _ before in
     let same = entries-put n d ms in
-    both _ _
+    and_from _ _
     (ap (λ xs. names_fit (keys_of xs)) same
-    ∙ both _ _ (keys_rise es n d (and-left _ _ names))
+    ∙ and_from _ _ (keys_rise es n d (and-left _ _ names))
     (keys_by is_utf8 es n d (and-right _ _ names) name))
     (members_fit-entries (put n d ms) ∙ ap (list_all (λ e. data_fits e.1)) same
     ∙ all_insert data_fits es n d (sym (members_fit-entries ms) ∙ and-right _ _ before) here)
@@ -165,7 +165,7 @@ mutual
   json_items_fit (json.item j js) texts =
       fits_then data_fits items_fit (of_json j) (λ d. option_map (parsed.item d) (of_items js))
       (λ d here. fits_map items_fit items_fit (parsed.item d) (of_items js)
-      (λ ds there. both _ _ here there) (json_items_fit js (and-right _ _ texts)))
+      (λ ds there. and_from _ _ here there) (json_items_fit js (and-right _ _ texts)))
       (json_fits j (and-left _ _ texts))
 
   json_members_fit : (ms : json.Members) (found : parsed.Members) → members_texts ms ≡ true →
@@ -180,13 +180,8 @@ mutual
       (put_fits n d found (and-left _ _ texts) here before))
       (json_fits j (and-left _ _ (and-right _ _ texts)))
 
-from_then : {A B : Type 0} (o : Option A) (k : A → Option B) (b : B) →
-    option_and_then k o ≡ Some b → (a : A) × (o ≡ Some a) × (k a ≡ Some b)
-from_then None k b is = absurd (cc)
-from_then (Some a) k b is = (a, refl, is)
-
 -- the reading of bytes fits
 pub reading_fits : (bytes : List ℕ) (d : Data) → IsReading bytes d → data_fits d ≡ true
 reading_fits bytes d reads =
-    let j = from_then _ of_json d reads.reading in
+    let j = some_from_then of_json _ d reads.reading in
     (json_fits j.0 (text_of_texts bytes j.0 reads.utf8 j.1)).each d j.2

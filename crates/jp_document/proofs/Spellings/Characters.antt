@@ -1,7 +1,7 @@
 -- A character of a name is spelled by a letter after `\`, by its number, or by itself: for paths
 -- and for what spells names elsewhere.
 use Rattle.std.proofs.Common.{◌≡◌, ℕ, ◌<◌, ◌==◌, eqb, nat_lt, Bool, true, false, ◌||◌}
-use Rattle.std.proofs.Common.{List, [], ◌∷◌, inl, inr, refl, sym, ap, ◌∙◌, arith}
+use Rattle.std.proofs.Common.{List, [], ◌∷◌, inl, inr, refl, sym, ap, subst, ◌∙◌, arith}
 use Rattle.std.proofs.lemmas.Bool.{cases_Bool, eqb-true, not-true, or_parts}
 use Rattle.std.proofs.lemmas.Bool.Decides.{nat_tests}
 use Rattle.jp_document.specs.Spelling.{spelling, control, hex_digit}
@@ -53,33 +53,19 @@ spelled c =
       ]
     ]
 
+-- what holds of a character and of those before it in a row of tests holds where one test passes
+one_of : (P : ℕ → Type 0) (e a : ℕ) (before : Bool) → P a → (before ≡ true → P e) →
+    (before || eqb e a) ≡ true → P e
+one_of P e a true here earlier is = earlier refl
+one_of P e a false here earlier is = subst P (sym (eqb-true e a is)) here
+
 letter : (e : ℕ) → is_letter e ≡ true → spelling 39 (meant e) ≡ 92 ∷ e ∷ []
 unfolding spelling is_letter meant
-letter e is =
-    elim (cases_Bool (eqb e 98)) [
-      | inl h ↦ rw (eqb-true e 98 h) refl
-      | inr a ↦ elim (cases_Bool (eqb e 116)) [
-        | inl h ↦ rw (eqb-true e 116 h) refl
-        | inr b ↦ elim (cases_Bool (eqb e 110)) [
-          | inl h ↦ rw (eqb-true e 110 h) refl
-          | inr d ↦ elim (cases_Bool (eqb e 102)) [
-            | inl h ↦ rw (eqb-true e 102 h) refl
-            | inr f ↦ elim (cases_Bool (eqb e 114)) [
-              | inl h ↦ rw (eqb-true e 114 h) refl
-              | inr g ↦ elim (cases_Bool (eqb e 39)) [
-                | inl h ↦ rw (eqb-true e 39 h) refl
-                | inr k ↦ elim (cases_Bool (eqb e 92)) [
-                  | inl h ↦ rw (eqb-true e 92 h) refl
-                  | inr l ↦
-                      let none : is_letter e ≡ false = rw (a, b, d, f, g, k, l) refl in
-                      absurd (let no : true ≡ false = sym is ∙ none in cc)
-                ]
-              ]
-            ]
-          ]
-        ]
-      ]
-    ]
+letter e =
+    let P : ℕ → Type 0 = λ x. spelling 39 (meant x) ≡ 92 ∷ x ∷ [] in
+    one_of P e 92 _ refl (one_of P e 39 _ refl (one_of P e 114 _ refl (one_of P e 102 _ refl
+    (one_of P e 110 _ refl (one_of P e 116 _ refl
+    (λ first. subst P (sym (eqb-true e 98 first)) refl))))))
 
 numbered : (c : ℕ) → c < 32 → has_letter c ≡ false → spelling 39 c ≡ control c
 unfolding spelling has_letter

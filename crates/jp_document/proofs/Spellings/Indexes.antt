@@ -20,12 +20,12 @@ use Rattle.jp_document.specs.Path.{index_text}
 abbrev digit_text : ℕ → ℕ
 digit_text d = 48 + d
 
-written : (n : ℕ) (ds : List ℕ) →
+value_from-digit_texts : (n : ℕ) (ds : List ℕ) →
     value_from n (map digit_text ds) ≡ number_from_digits_after 10 n ds
-written n [] = refl
-written n (d ∷ ds) =
+value_from-digit_texts n [] = refl
+value_from-digit_texts n (d ∷ ds) =
     ap (λ (x : ℕ). value_from (n * 10 + x) (map digit_text ds))
-    (let e : 48 + d - 48 ≡ d = omega arith in e) ∙ written (n * 10 + d) ds
+    (let e : 48 + d - 48 ≡ d = omega arith in e) ∙ value_from-digit_texts (n * 10 + d) ds
 
 all_digits : (ds : List ℕ) → AllBelowBase 10 ds → AllPassing is_digit (map digit_text ds)
 unfolding is_digit
@@ -38,7 +38,7 @@ unfolding index_text
 value_from-index_text n =
     elim (cases_Bool (eqb n 0)) [
       | inl e ↦ rw e (sym (eqb-true n 0 e))
-      | inr e ↦ rw e (written 0 (digits_of 10 n) ∙ number_digits_of 10 n (omega arith))
+      | inr e ↦ rw e (value_from-digit_texts 0 (digits_of 10 n) ∙ number_digits_of 10 n (omega arith))
     ]
 
 -- it is digits

@@ -1,7 +1,7 @@
 -- Whatever items and members are to come, they complete those that were read from tokens: for the
 -- loops of `items` and `members`.
 use Rattle.std.proofs.Common.{◌≡◌, ℕ, ◌-◌, ◌<◌, ◌≤◌, true, List, [], ◌∷◌, ◌++◌, length, map}
-use Rattle.std.proofs.Common.{Some, None, refl, sym, ap, subst, ◌∙◌, append_assoc, append-nil}
+use Rattle.std.proofs.Common.{Some, None, sym, ap, subst, ◌∙◌, append_assoc, append-nil}
 use Rattle.std.specs.BTreeMap.{insert_entry}
 use Rattle.std.specs.List.{list_all}
 use Rattle.std.proofs.lemmas.List.{map-append}
@@ -72,10 +72,6 @@ pub record MembersAhead (depth : ℕ) (initial : List Token) (n : ℕ) (ts : Lis
       converted (λ js. of_members js (data_of entries)) (members (value depth) n ts)
   pub rise : names_rise (names_of (members_of found)) ≡ true
   pub short : everywhere_in_members list_fits (members_of found) ≡ true
-
-pub ahead_members_begin : (depth : ℕ) (ts : List Token) → MembersAhead depth ts (length ts) ts []
-ahead_members_begin depth ts =
-    record { entries = []; seen = refl; ahead = refl; rise = refl; short = refl }
 
 pub ahead_member : (depth : ℕ) (initial : List Token) (n : ℕ) (k : List ℕ) (ts s r : List Token)
     (found : List (List ℕ × Value)) (v : Value) → 0 < n → read_key ts ≡ Some (Some k, s) →

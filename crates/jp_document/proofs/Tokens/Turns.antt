@@ -2,7 +2,9 @@
 use Rattle.std.specs.Prelude.{slice_index}
 use Rattle.std.proofs.Common.{◌≡◌, ◌==◌, ℕ, ℤ, pos, Bool, true, false, drop, ◌-◌}
 use Rattle.std.proofs.Common.{◌<◌, ◌≤◌, List, [], ◌∷◌, length, Option, Some}
-use Rattle.std.proofs.Common.{None, option_map, option_and_then, refl, ap, ◌∙◌}
+use Rattle.std.proofs.Common.{None, option_map, option_and_then, refl, sym, ap, ◌∙◌, map, rules}
+use Rattle.std.proofs.Common.{Global, String, Vec, string_bytes}
+use Rattle.std.proofs.lemmas.Option.{some_pair_parts}
 use Rattle.json.specs.Lex.{tokens}
 use Rattle.json.specs.Token.{Token}
 use Rattle.json.specs.Json as json
@@ -16,19 +18,20 @@ use Rattle.serde_json.specs.Read.{of_json, of_items, of_members, converted}
 use Rattle.serde_json.specs.Read.{number_of, number_from, max_depth}
 use Rattle.jp_document.specs.Private.Direct.{IsWholeText, ReadsItems}
 use Rattle.jp_document.specs.Private.Direct.{ReadsMembers, ReadsText, ReadsValue}
-use Rattle.jp_document.specs.Document.{items_of_data}
+use Rattle.jp_document.specs.Document.{items_of_data, value_of_data}
 use Rattle.jp_document.specs.Value.{Value, null, boolean, whole, text, list}
-use Rattle.jp_document.specs.Value.{object, Items, no_items, item, Members}
-
-abbrev pick : {A : Type 0} → A → Option A → A
-pick d None = d
-pick d (Some a) = a
+use Rattle.jp_document.specs.Value.{object, Items, no_items, item, items_of, members_of}
+use Rattle.jp_document.specs.Value.{member_of, value_of}
+use Rattle.jp_document.specs.declared.value.Json.{Json, Null, Bool as Truth, Whole, Text}
+use Rattle.jp_document.specs.declared.value.Json.{List as ListOf, Members as MembersOf, the_lemmas}
+use Rattle.jp_document.specs.declared.value.Member.{Member}
+use Rattle.jp_document.proofs.Values.{value_of-List, value_of-Members}
 
 same_parts : {B : Type 0} (r s : List Token) (x : Option B) (b : B) →
     option_map {U = B × List Token} (λ y. (y, r)) x ≡ Some (b, s) → (r ≡ s) × (x ≡ Some b)
 same_parts r s None b e = absurd (cc)
 same_parts r s (Some y) b e =
-    let same = ap (pick (y, r)) e in (ap (λ p. p.1) same, ap (λ p. Some p.0) same)
+    let same = some_pair_parts y b r s e in (same.1, ap Some same.0)
 
 -- what was parsed before it was converted
 parsed_before : {A B : Type 0} (f : A → Option B) (o : Option (A × List Token)) (b : B)
@@ -39,38 +42,45 @@ parsed_before f (Some p) b r e =
 
 -- ---- a value of one token
 
-pub reads-null : (depth : ℕ) (ts r : List Token) → ts ≡ Token.null ∷ r → ReadsValue depth ts r null
-reads-null depth ts r first = record {
-  reading = parsed.null;
-  read = ap (converted of_json) (ap (value depth) first ∙ value_is depth _);
-  holds = refl;
+one_token : (depth : ℕ) (ts r : List Token) (t : Token) (d : Data) (v : Value) → ts ≡ t ∷ r →
+    converted of_json (value depth (t ∷ r)) ≡ Some (d, r) → value_of_data d ≡ Some v →
+    ReadsValue depth ts r v
+one_token depth ts r t d v first is holds = record {
+  reading = d;
+  read = ap (λ s. converted of_json (value depth s)) first ∙ is;
+  holds = holds;
 }
+
+pub reads-null : (depth : ℕ) (ts r : List Token) → ts ≡ Token.null ∷ r →
+    ReadsValue depth ts r (value_of Null)
+reads-null depth ts r first =
+    one_token depth ts r Token.null parsed.null _ first
+    (ap (converted of_json) (value_is depth (Token.null ∷ r)))
+    (let seen : value_of Null ≡ null = search (rules, the_lemmas) in ap Some (sym seen))
 
 pub reads-boolean : (depth : ℕ) (ts r : List Token) (b : Bool) → ts ≡ Token.boolean b ∷ r →
-    ReadsValue depth ts r (boolean b)
-reads-boolean depth ts r b first = record {
-  reading = parsed.boolean b;
-  read = ap (converted of_json) (ap (value depth) first ∙ value_is depth _);
-  holds = refl;
-}
+    ReadsValue depth ts r (value_of (Truth b))
+reads-boolean depth ts r b first =
+    one_token depth ts r (Token.boolean b) (parsed.boolean b) _ first
+    (ap (converted of_json) (value_is depth (Token.boolean b ∷ r)))
+    (let seen : value_of (Truth b) ≡ boolean b = search (rules, the_lemmas) in ap Some (sym seen))
 
-pub reads-text : (depth : ℕ) (ts r : List Token) (s : List ℕ) → ts ≡ Token.string s ∷ r →
-    ReadsValue depth ts r (text s)
-reads-text depth ts r s first = record {
-  reading = parsed.string s;
-  read = ap (converted of_json) (ap (value depth) first ∙ value_is depth _);
-  holds = refl;
-}
+pub reads-text : (depth : ℕ) (ts r : List Token) (s : String Global) →
+    ts ≡ Token.string (string_bytes s) ∷ r → ReadsValue depth ts r (value_of (Text s))
+reads-text depth ts r s first =
+    one_token depth ts r (Token.string (string_bytes s)) (parsed.string (string_bytes s)) _ first
+    (ap (converted of_json) (value_is depth (Token.string (string_bytes s) ∷ r)))
+    (let seen : value_of (Text s) ≡ text (string_bytes s) = search (rules, the_lemmas) in
+    ap Some (sym seen))
 
 pub reads-whole : (depth : ℕ) (ts r : List Token) (s : List ℕ) (z : ℤ) → ts ≡ Token.number s ∷ r →
-    IsWholeText s z → ReadsValue depth ts r (whole z)
-reads-whole depth ts r s z first x = record {
-  reading = parsed.number x.number;
-  read =
-      ap (converted of_json) (ap (value depth) first ∙ value_is depth _)
-      ∙ ap (λ o. option_map (λ d. (d, r)) (option_map parsed.number o)) x.read;
-  holds = x.holds;
-}
+    IsWholeText s z → ReadsValue depth ts r (value_of (Whole z))
+reads-whole depth ts r s z first x =
+    one_token depth ts r (Token.number s) (parsed.number x.number) _ first
+    (ap (converted of_json) (value_is depth (Token.number s ∷ r))
+    ∙ ap (λ o. option_map (λ d. (d, r)) (option_map parsed.number o)) x.read)
+    (x.holds
+    ∙ (let seen : value_of (Whole z) ≡ whole z = search (rules, the_lemmas) in ap Some (sym seen)))
 
 -- ---- lists and objects
 
@@ -79,39 +89,40 @@ twice : {A B : Type 0} (g : A → B) (r : List Token) (x : Option A) →
 twice g r None = refl
 twice g r (Some a) = refl
 
-converted-array : (o : Option (json.Items × List Token)) →
-    converted of_json (parse_map json.array o) ≡ parse_map parsed.array (converted of_items o)
-converted-array None = refl
-converted-array (Some p) = twice parsed.array p.1 (of_items p.0)
+-- a part that is read with its parts
+converted-map : {A B C D : Type 0} (f : A → Option B) (g : C → Option D) (h : A → C) (k : B → D) →
+    ((a : A) → g (h a) ≡ option_map k (f a)) → (o : Option (A × List Token)) →
+    converted g (parse_map h o) ≡ parse_map k (converted f o)
+converted-map f g h k same None = refl
+converted-map {D = D} f g h k same (Some p) =
+    ap (option_map {U = D × List Token} (λ d. (d, p.1))) (same p.0) ∙ twice k p.1 (f p.0)
 
-converted-object : (o : Option (json.Members × List Token)) →
-    converted of_json (parse_map json.object o) ≡
-    parse_map parsed.object (converted (λ ms. of_members ms parsed.no_members) o)
-converted-object None = refl
-converted-object (Some p) = twice parsed.object p.1 (of_members p.0 parsed.no_members)
-
-pub reads-list : (depth : ℕ) (ts s r : List Token) (vs : Items) → 0 < depth →
-    ts ≡ Token.begin_array ∷ s → ReadsItems (depth - 1) (length s) s r vs →
-    ReadsValue depth ts r (list vs)
-reads-list depth ts s r vs deep first x = record {
+pub reads-list : (depth : ℕ) (ts s r : List Token) (v : Vec Json Global) → 0 < depth →
+    ts ≡ Token.begin_array ∷ s →
+    ReadsItems (depth - 1) (length s) s r (items_of (map value_of v.items)) →
+    ReadsValue depth ts r (value_of (ListOf v))
+reads-list depth ts s r v deep first x = record {
   reading = parsed.array x.reading;
   read =
       ap (converted of_json) (ap (value depth) first ∙ value-begin_array depth s deep)
-      ∙ converted-array (items (value (depth - 1)) (length s) s)
+      ∙ converted-map of_items of_json json.array parsed.array (λ js. refl)
+      (items (value (depth - 1)) (length s) s)
       ∙ ap (parse_map parsed.array) x.read;
-  holds = ap (option_map list) x.holds;
+  holds = ap (option_map list) x.holds ∙ ap Some (sym (value_of-List v));
 }
 
-pub reads-object : (depth : ℕ) (ts s r : List Token) (ms : Members) → 0 < depth →
-    ts ≡ Token.begin_object ∷ s → ReadsMembers (depth - 1) (length s) s r ms →
-    ReadsValue depth ts r (object ms)
-reads-object depth ts s r ms deep first x = record {
+pub reads-object : (depth : ℕ) (ts s r : List Token) (v : Vec Member Global) → 0 < depth →
+    ts ≡ Token.begin_object ∷ s →
+    ReadsMembers (depth - 1) (length s) s r (members_of (map member_of v.items)) →
+    ReadsValue depth ts r (value_of (MembersOf v))
+reads-object depth ts s r v deep first x = record {
   reading = parsed.object x.reading;
   read =
       ap (converted of_json) (ap (value depth) first ∙ value-begin_object depth s deep)
-      ∙ converted-object (members (value (depth - 1)) (length s) s)
+      ∙ converted-map (λ ms. of_members ms parsed.no_members) of_json json.object parsed.object
+      (λ ms. refl) (members (value (depth - 1)) (length s) s)
       ∙ ap (parse_map parsed.object) x.read;
-  holds = ap (option_map object) x.holds;
+  holds = ap (option_map object) x.holds ∙ ap Some (sym (value_of-Members v));
 }
 
 -- ---- the whole text
@@ -130,13 +141,6 @@ reads-all s v x = record {
 
 -- ---- one item more
 
-with_item : (j : json.Json) (d : Data) → of_json j ≡ Some d →
-    (o : Option (json.Items × List Token)) →
-    converted of_items (parse_map (json.item j) o) ≡
-    parse_map (parsed.item d) (converted of_items o)
-with_item j d e None = refl
-with_item j d e (Some p) = rw e (twice (parsed.item d) p.1 (of_items p.0))
-
 pub items_turn : (depth n : ℕ) (ts r s : List Token) (v : Value) (vs : Items) → 0 < n →
     after_end_array ts ≡ None → ReadsValue depth ts r v → ReadsItems depth (n - 1) r s vs →
     ReadsItems depth n ts s (item v vs)
@@ -145,7 +149,9 @@ items_turn depth n ts r s v vs some going x later = record {
   read =
       let j = parsed_before of_json (value depth ts) x.reading r x.read in
       ap (converted of_items) (items_more (value depth) n ts r j.0 some going j.1)
-      ∙ with_item j.0 x.reading j.2 _ ∙ ap (parse_map (parsed.item x.reading)) later.read;
+      ∙ converted-map of_items of_items (json.item j.0) (parsed.item x.reading)
+      (λ js. ap (option_and_then (λ d. option_map (parsed.item d) (of_items js))) j.2) _
+      ∙ ap (parse_map (parsed.item x.reading)) later.read;
   holds =
       ap (option_and_then (λ w. option_map (item w) (items_of_data later.reading))) x.holds
       ∙ ap (option_map (item v)) later.holds;

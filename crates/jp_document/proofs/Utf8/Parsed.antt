@@ -2,7 +2,8 @@
 use Rattle.std.proofs.Common.{◌≡◌, ℕ, zero, suc, Bool, true, ◌&&◌, List, [], ◌∷◌, length}
 use Rattle.std.proofs.Common.{Option, Some, None, option_and_then, IsUtf8, refl, sym, ap, ◌∙◌}
 use Rattle.std.specs.Str.{is_utf8}
-use Rattle.std.proofs.lemmas.Option.{same_Some}
+use Rattle.std.proofs.lemmas.Bool.{and_from}
+use Rattle.std.proofs.lemmas.Option.{none-some, same_Some}
 use Rattle.json.specs.Json as json
 use Rattle.json.specs.Json.{Json, Parse, after_end_array, if_last, items, items_step}
 use Rattle.json.specs.Json.{members, members_step, parse_map, read_key, value, value_with}
@@ -11,17 +12,14 @@ use Rattle.json.specs.Token.{Token}
 use Rattle.serde_json.specs.Read.{max_depth}
 use Rattle.jp_document.proofs.Conjunctions.{and-left, and-right}
 use Rattle.jp_document.proofs.Utf8.Tokens.{are_texts, tokens_are_texts}
-use Rattle.jp_document.proofs.Readings.Conversion.{both}
 
 -- every string and name in a value is a text
 abbrev mutual
   pub json_texts : Json → Bool
-  json_texts json.null = true
-  json_texts (json.boolean b) = true
-  json_texts (json.number s) = true
   json_texts (json.string s) = is_utf8 s
   json_texts (json.array js) = items_texts js
   json_texts (json.object ms) = members_texts ms
+  json_texts j = true
 
   pub items_texts : json.Items → Bool
   items_texts json.no_items = true
@@ -35,9 +33,6 @@ abbrev mutual
 record HoldsTexts {A : Type 0} (texts : A → Bool) (o : Option (A × List Token)) : Type 0 where
   pub each : (a : A) (r : List Token) → o ≡ Some (a, r) → (texts a ≡ true) × (are_texts r ≡ true)
 
-pub some_is_none : {X : Type 0} (x : X) → None ≡ Some x → ⊥
-some_is_none x is = cc
-
 same_read : {A : Type 0} (texts : A → Bool) (p q : A × List Token) → Some p ≡ Some q →
     texts p.0 ≡ true → are_texts p.1 ≡ true → (texts q.0 ≡ true) × (are_texts q.1 ≡ true)
 same_read texts p q is here later =
@@ -49,7 +44,7 @@ record KeepsTexts {A : Type 0} (texts : A → Bool) (p : Parse A) : Type 0 where
   pub read : (ts : List Token) → are_texts ts ≡ true → HoldsTexts texts (p ts)
 
 read_none : {A : Type 0} (texts : A → Bool) → HoldsTexts texts None
-read_none texts = record { each = λ a r is. absurd (some_is_none (a, r) is) }
+read_none texts = record { each = λ a r is. absurd (none-some (a, r) is) }
 
 read_some : {A : Type 0} (texts : A → Bool) (a : A) (r : List Token) → texts a ≡ true →
     are_texts r ≡ true → HoldsTexts texts (Some (a, r))
@@ -75,34 +70,17 @@ read_then texts more (Some p) k next is =
 
 closed : (ts : List Token) (r : List Token) → after_end_array ts ≡ Some r → are_texts ts ≡ true →
     are_texts r ≡ true
-closed [] r is all = absurd (cc)
-closed (Token.begin_object ∷ ts) r is all = absurd (cc)
-closed (Token.end_object ∷ ts) r is all = absurd (cc)
-closed (Token.begin_array ∷ ts) r is all = absurd (cc)
 closed (Token.end_array ∷ ts) r is all = let same : ts ≡ r = cc in ap are_texts (sym same) ∙ all
-closed (Token.key s ∷ ts) r is all = absurd (cc)
-closed (Token.string s ∷ ts) r is all = absurd (cc)
-closed (Token.number s ∷ ts) r is all = absurd (cc)
-closed (Token.boolean b ∷ ts) r is all = absurd (cc)
-closed (Token.null ∷ ts) r is all = absurd (cc)
-closed (Token.bad ∷ ts) r is all = absurd (cc)
+closed ts r is all = absurd (cc)
 
 abbrev key_text : Option (List ℕ) → Bool
 key_text None = true
 key_text (Some k) = is_utf8 k
 
 keyed : (ts : List Token) → are_texts ts ≡ true → HoldsTexts key_text (read_key ts)
-keyed [] all = read_none key_text
-keyed (Token.begin_object ∷ ts) all = read_none key_text
-keyed (Token.end_object ∷ ts) all = read_some key_text None ts refl all
-keyed (Token.begin_array ∷ ts) all = read_none key_text
-keyed (Token.end_array ∷ ts) all = read_none key_text
 keyed (Token.key s ∷ ts) all = read_some key_text (Some s) ts (and-left _ _ all) (and-right _ _ all)
-keyed (Token.string s ∷ ts) all = read_none key_text
-keyed (Token.number s ∷ ts) all = read_none key_text
-keyed (Token.boolean b ∷ ts) all = read_none key_text
-keyed (Token.null ∷ ts) all = read_none key_text
-keyed (Token.bad ∷ ts) all = read_none key_text
+keyed (Token.end_object ∷ ts) all = read_some key_text None ts refl all
+keyed ts all = read_none key_text
 
 items_by : (p : Parse Json) (more : Parse json.Items) (ts : List Token) (o : Option (List Token)) →
     after_end_array ts ≡ o → are_texts ts ≡ true → KeepsTexts json_texts p →
@@ -112,7 +90,7 @@ items_by p more ts (Some r) is all one rest =
 items_by p more ts None is all one rest =
     read_then json_texts items_texts (p ts) _
     (λ j r here later. read_map items_texts items_texts (json.item j) (more r)
-    (λ js there. both _ _ here there) (rest.read r later)) (one.read ts all)
+    (λ js there. and_from _ _ here there) (rest.read r later)) (one.read ts all)
 
 items_read : (p : Parse Json) (n : ℕ) → KeepsTexts json_texts p → KeepsTexts items_texts (items p n)
 unfolding items
@@ -130,7 +108,7 @@ members_by p more None ts name all one rest = read_some members_texts json.no_me
 members_by p more (Some k) ts name all one rest =
     read_then json_texts members_texts (p ts) _
     (λ j r here later. read_map members_texts members_texts (json.member k j) (more r)
-    (λ ms there. both _ _ name (both _ _ here there)) (rest.read r later)) (one.read ts all)
+    (λ ms there. and_from _ _ name (and_from _ _ here there)) (rest.read r later)) (one.read ts all)
 
 members_read : (p : Parse Json) (n : ℕ) → KeepsTexts json_texts p →
     KeepsTexts members_texts (members p n)
@@ -149,21 +127,17 @@ members_read p (suc n) one = record {
 with_read : (a : Parse json.Items) (o : Parse json.Members) (ts : List Token) →
     KeepsTexts items_texts a → KeepsTexts members_texts o → are_texts ts ≡ true →
     HoldsTexts json_texts (value_with a o ts)
-with_read a o [] some many all = read_none json_texts
 with_read a o (Token.begin_object ∷ ts) some many all =
     read_map members_texts json_texts json.object (o ts) (λ ms is. is) (many.read ts all)
-with_read a o (Token.end_object ∷ ts) some many all = read_none json_texts
 with_read a o (Token.begin_array ∷ ts) some many all =
     read_map items_texts json_texts json.array (a ts) (λ js is. is) (some.read ts all)
-with_read a o (Token.end_array ∷ ts) some many all = read_none json_texts
-with_read a o (Token.key s ∷ ts) some many all = read_none json_texts
 with_read a o (Token.string s ∷ ts) some many all =
     read_some json_texts (json.string s) ts (and-left _ _ all) (and-right _ _ all)
 with_read a o (Token.number s ∷ ts) some many all = read_some json_texts (json.number s) ts refl all
 with_read a o (Token.boolean b ∷ ts) some many all =
     read_some json_texts (json.boolean b) ts refl all
 with_read a o (Token.null ∷ ts) some many all = read_some json_texts json.null ts refl all
-with_read a o (Token.bad ∷ ts) some many all = read_none json_texts
+with_read a o ts some many all = read_none json_texts
 
 value_read : (depth : ℕ) → KeepsTexts json_texts (value depth)
 unfolding value

@@ -8,7 +8,7 @@ use Rattle.std.specs.Str.{IsCharBoundary}
 use Rattle.std.proofs.Math.Seq.{drop-append-add, get_or-append_seam, take-append_seam}
 use Rattle.std.proofs.lemmas.Bool.{and_parts, cases_lt}
 use Rattle.std.proofs.lemmas.Bool.Decides.{nat_tests}
-use Rattle.std.proofs.lemmas.Option.{same_Some}
+use Rattle.std.proofs.lemmas.Option.{cond_some, same_Some}
 use Rattle.std.proofs.lemmas.Str.{IsCharBoundary-after_ascii, IsUtf8-append}
 use Rattle.std.proofs.lemmas.Str.{IsUtf8-drop, IsUtf8-encode, IsUtf8-take, encode_ascii}
 use lib.Utf8.{low_scalar}
@@ -62,14 +62,10 @@ record FourDigits (a b c d u : ℕ) : Type 0 where
   pub fourth : d < 128
   pub small : u < 65536
 
-four_by : (t : Bool) (w u : ℕ) → cond t (Some w) None ≡ Some u → (t ≡ true) × (w ≡ u)
-four_by true w u is = (refl, same_Some w u is)
-four_by false w u is = absurd (cc)
-
 four_digits : (a b c d u : ℕ) → code_unit a b c d ≡ Some u → FourDigits a b c d u
 unfolding code_unit
 four_digits a b c d u is =
-    let both = four_by (is_digit a 16 && is_digit b 16 && is_digit c 16 && is_digit d 16) _ u is in
+    let both = cond_some (is_digit a 16 && is_digit b 16 && is_digit c 16 && is_digit d 16) _ u is in
     let three =
     and_parts (is_digit a 16 && is_digit b 16 && is_digit c 16) (is_digit d 16) both.0 in
     let two = and_parts (is_digit a 16 && is_digit b 16) (is_digit c 16) three.0 in
@@ -191,15 +187,10 @@ second_escape false n h x y a b c d xs p s each short high marks before utf8 is 
 high_half : (n h : ℕ) (xs p s : List ℕ) → Shorter n → length xs < n → is_high_surrogate h ≡ true →
     IsUtf8 p → IsUtf8 xs → content (after_high h) xs ≡ Some s → IsUtf8 (p ++ s)
 unfolding content
-high_half n h [] p s each short high before utf8 is = absurd (cc)
-high_half n h (x ∷ []) p s each short high before utf8 is = absurd (cc)
-high_half n h (x ∷ y ∷ []) p s each short high before utf8 is = absurd (cc)
-high_half n h (x ∷ y ∷ a ∷ []) p s each short high before utf8 is = absurd (cc)
-high_half n h (x ∷ y ∷ a ∷ b ∷ []) p s each short high before utf8 is = absurd (cc)
-high_half n h (x ∷ y ∷ a ∷ b ∷ c ∷ []) p s each short high before utf8 is = absurd (cc)
 high_half n h (x ∷ y ∷ a ∷ b ∷ c ∷ d ∷ xs) p s each short high before utf8 is =
     second_escape ((x == 92) && (y == 117)) n h x y a b c d xs p s each
     (omega arith) high refl before utf8 is
+high_half n h xs p s each short high before utf8 is = absurd (cc)
 
 by_surrogate : (t w : Bool) (n u : ℕ) (xs p s : List ℕ) → Shorter n → length xs < n → u < 65536 →
     is_high_surrogate u ≡ t → is_low_surrogate u ≡ w → IsUtf8 p → IsUtf8 xs →
@@ -227,12 +218,9 @@ first_unit n a b c d (Some u) xs p s each short unit before utf8 is =
 numbered_text : (n : ℕ) (xs p s : List ℕ) → Shorter n → length xs < n → IsUtf8 p → IsUtf8 xs →
     content after_u xs ≡ Some s → IsUtf8 (p ++ s)
 unfolding content
-numbered_text n [] p s each short before utf8 is = absurd (cc)
-numbered_text n (a ∷ []) p s each short before utf8 is = absurd (cc)
-numbered_text n (a ∷ b ∷ []) p s each short before utf8 is = absurd (cc)
-numbered_text n (a ∷ b ∷ c ∷ []) p s each short before utf8 is = absurd (cc)
 numbered_text n (a ∷ b ∷ c ∷ d ∷ xs) p s each short before utf8 is =
     first_unit n a b c d (code_unit a b c d) xs p s each (omega arith) refl before utf8 is
+numbered_text n xs p s each short before utf8 is = absurd (cc)
 
 lettered_text : (n x : ℕ) (o : Option ℕ) (xs p s : List ℕ) → Shorter n → length xs < n →
     short_escape x ≡ o → IsUtf8 p → IsUtf8 (x ∷ xs) →

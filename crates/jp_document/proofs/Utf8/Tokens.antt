@@ -3,6 +3,7 @@ use Rattle.std.proofs.Common.{◌≡◌, ℕ, Bool, true, false, ◌==◌, cond,
 use Rattle.std.proofs.Common.{◌++◌, Option, Some, None, IsUtf8, ◌<◌, arith, refl}
 use Rattle.std.specs.List.{list_all}
 use Rattle.std.specs.Str.{is_utf8}
+use Rattle.std.proofs.lemmas.Bool.{and_from}
 use Rattle.std.proofs.lemmas.Bool.Decides.{nat_tests}
 use Rattle.std.proofs.lemmas.Str.{is_utf8-from_IsUtf8}
 use Rattle.json.specs.Ascii as ascii
@@ -16,20 +17,12 @@ use Rattle.json.specs.Token.{Token}
 use Rattle.json.specs.Word.{after_number, ends_word, literal, number_before, word}
 use Rattle.jp_document.proofs.Conjunctions.{and-left, and-right}
 use Rattle.jp_document.proofs.Utf8.Strings.{content-IsUtf8, text_after, text_moved}
-use Rattle.jp_document.proofs.Readings.Conversion.{both}
 
 -- what a token holds between quotes is a text
 abbrev pub token_is_text : Token → Bool
-token_is_text Token.begin_object = true
-token_is_text Token.end_object = true
-token_is_text Token.begin_array = true
-token_is_text Token.end_array = true
 token_is_text (Token.key s) = is_utf8 s
 token_is_text (Token.string s) = is_utf8 s
-token_is_text (Token.number s) = true
-token_is_text (Token.boolean b) = true
-token_is_text Token.null = true
-token_is_text Token.bad = true
+token_is_text t = true
 
 abbrev lexeme_is_text : Lexeme → Bool
 lexeme_is_text (token t) = token_is_text t
@@ -96,12 +89,12 @@ byte_texts : (m : Mode) (c : Class) (x : ℕ) (xs : List ℕ) → (c ≡ quote �
     ((next : Mode) → LexemesAreTexts (lex next xs)) →
     LexemesAreTexts (lex_byte m c x xs (λ next. lex next xs))
 byte_texts between quote x xs utf8 later =
-    both _ _ (string_token_text xs (content plain xs) (utf8 refl) refl) (later in_string)
+    and_from _ _ (string_token_text xs (content plain xs) (utf8 refl) refl) (later in_string)
 byte_texts between backslash x xs utf8 later = later in_word
-byte_texts between operator x xs utf8 later = both _ _ (operator_text x).is (later between)
+byte_texts between operator x xs utf8 later = and_from _ _ (operator_text x).is (later between)
 byte_texts between space x xs utf8 later = later between
-byte_texts between other x xs utf8 later = both _ _ (word_text (x ∷ xs)).is (later in_word)
-byte_texts in_word operator x xs utf8 later = both _ _ (operator_text x).is (later between)
+byte_texts between other x xs utf8 later = and_from _ _ (word_text (x ∷ xs)).is (later in_word)
+byte_texts in_word operator x xs utf8 later = and_from _ _ (operator_text x).is (later between)
 byte_texts in_word space x xs utf8 later = later between
 byte_texts in_word c x xs utf8 later = later in_word
 byte_texts in_string quote x xs utf8 later = later between
@@ -134,7 +127,7 @@ lexemes_are_texts p (x ∷ xs) m utf8 =
 
 allowed_texts : (b : Bool) (t : Token) (k : Place → List Token) (next : Place) →
     token_is_text t ≡ true → are_texts (k next) ≡ true → are_texts (if_allowed b t k next) ≡ true
-allowed_texts true t k next here later = both _ _ here later
+allowed_texts true t k next here later = and_from _ _ here later
 allowed_texts false t k next here later = refl
 
 placed_texts : (p : Place) (t : Token) (b : Bool) (k : Place → List Token) →
@@ -153,41 +146,19 @@ placed_texts p (Token.string s) true k here later =
     allowed_texts (may_begin p) (Token.key s) k after_key here (later after_key)
 placed_texts p (Token.string s) false k here later =
     allowed_texts (may_begin p) (Token.string s) k after_value here (later after_value)
-placed_texts p (Token.number s) b k here later =
-    allowed_texts (may_begin p) (Token.number s) k after_value here (later after_value)
-placed_texts p (Token.boolean v) b k here later =
-    allowed_texts (may_begin p) (Token.boolean v) k after_value here (later after_value)
-placed_texts p Token.null b k here later =
-    allowed_texts (may_begin p) Token.null k after_value here (later after_value)
 placed_texts p Token.bad b k here later = refl
+placed_texts p t b k here later =
+    allowed_texts (may_begin p) t k after_value here (later after_value)
 
 punctuated_texts : (p : Place) (ls : List Lexeme) → LexemesAreTexts ls →
     are_texts (punctuate p ls) ≡ true
 unfolding punctuate
-punctuated_texts fresh [] all = refl
-punctuated_texts after_value [] all = refl
-punctuated_texts after_comma [] all = refl
-punctuated_texts after_key [] all = refl
-punctuated_texts fresh (token t ∷ ls) all =
-    placed_texts fresh t (begins_colon ls) (λ next. punctuate next ls) (and-left _ _ all)
-    (λ next. punctuated_texts next ls (and-right _ _ all))
-punctuated_texts after_value (token t ∷ ls) all =
-    placed_texts after_value t (begins_colon ls) (λ next. punctuate next ls) (and-left _ _ all)
-    (λ next. punctuated_texts next ls (and-right _ _ all))
-punctuated_texts after_comma (token t ∷ ls) all =
-    placed_texts after_comma t (begins_colon ls) (λ next. punctuate next ls) (and-left _ _ all)
-    (λ next. punctuated_texts next ls (and-right _ _ all))
-punctuated_texts after_key (token t ∷ ls) all =
-    placed_texts after_key t (begins_colon ls) (λ next. punctuate next ls) (and-left _ _ all)
-    (λ next. punctuated_texts next ls (and-right _ _ all))
-punctuated_texts fresh (comma ∷ ls) all = refl
 punctuated_texts after_value (comma ∷ ls) all = punctuated_texts after_comma ls all
-punctuated_texts after_comma (comma ∷ ls) all = refl
-punctuated_texts after_key (comma ∷ ls) all = refl
-punctuated_texts fresh (colon ∷ ls) all = refl
-punctuated_texts after_value (colon ∷ ls) all = refl
-punctuated_texts after_comma (colon ∷ ls) all = refl
 punctuated_texts after_key (colon ∷ ls) all = punctuated_texts fresh ls all
+punctuated_texts p (token t ∷ ls) all =
+    placed_texts p t (begins_colon ls) (λ next. punctuate next ls) (and-left _ _ all)
+    (λ next. punctuated_texts next ls (and-right _ _ all))
+punctuated_texts p ls all = refl
 
 -- the tokens of a text hold texts
 pub tokens_are_texts : (text : List ℕ) → IsUtf8 text → are_texts (tokens text) ≡ true
