@@ -4,4 +4,5 @@ pub mod Entries
 pub mod Exact
 pub mod Inside
 pub mod Items
+pub mod Keys
 pub mod Nodes

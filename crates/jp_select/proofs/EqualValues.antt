@@ -19,7 +19,8 @@ use Rattle.jp_document.specs.Value.{Value, null, boolean, whole, text, list, obj
 use Rattle.jp_document.specs.Value.{Items, no_items, item, item_count, Members}
 use Rattle.jp_document.specs.Value.{no_members, member, items_of, IsDocumentValue}
 use Rattle.jp_document.proofs.Descent.Inside.{IsDocumentValue-child}
-use Rattle.jp_document.proofs.Descent.Entries.{key_cmp_total, entries-rise}
+use Rattle.jp_document.proofs.Descent.Keys.{key_cmp_total}
+use Rattle.jp_document.proofs.Descent.Entries.{entries-rise}
 use Rattle.jp_document.proofs.Descent.Items.{child-nth}
 use Rattle.jp_document.proofs.Members.ByName.{child-list_named, child-object_nth}
 use Rattle.jp_select.specs.Comparison.{equals}

@@ -1,14 +1,13 @@
 -- The entries of a value by their positions, and that their steps rise: for `nth_child` and for
 -- walks in document order.
 use Rattle.std.proofs.Common.{◌≡◌, ℕ, zero, suc, ◌+◌, ◌<◌, Bool, true, List, [], ◌∷◌, length}
-use Rattle.std.proofs.Common.{map, Option, Some, Less, Equal, refl, sym, ap, subst, ◌∙◌, arith}
-use Rattle.std.specs.Cmp.{IsTotalOrder, nat_cmp_is}
+use Rattle.std.proofs.Common.{map, Option, Some, Less, refl, sym, ap, subst, ◌∙◌, arith}
+use Rattle.std.specs.Cmp.{nat_cmp_is}
 use Rattle.std.specs.List.{slice_get, AllByRecursion}
 use Rattle.std.specs.List.Sorted.{IsStrictlySortedBy}
 use Rattle.std.specs.Map.{keys_of}
 use Rattle.std.specs.Option.{option_map}
-use Rattle.std.specs.Ordering.{ordering_reverse}
-use Rattle.std.proofs.lemmas.Cmp.{nat_cmp_total, nat_list_cmp_total, eq_by_cmp_equiv}
+use Rattle.std.proofs.lemmas.Cmp.{eq_by_cmp_equiv}
 use Rattle.std.proofs.lemmas.Map.Entries.{lookup_from_place}
 use Rattle.std.proofs.lemmas.Map.Keys.{IsDistinct-from_sorted}
 use Rattle.std.proofs.lemmas.Option.{slice_get-map, same_Some}
@@ -20,6 +19,7 @@ use Rattle.jp_document.specs.Value.{no_items, item, Members, no_members, member,
 use Rattle.jp_document.specs.Value.{members_of, names_of, everywhere, everywhere_in_items}
 use Rattle.jp_document.specs.Value.{everywhere_in_members, IsDocumentValue}
 use Rattle.jp_document.proofs.Members.ByName.{bytes_cmp, sorted_from_rise}
+use Rattle.jp_document.proofs.Descent.Keys.{key_cmp_total}
 use Rattle.jp_document.proofs.Conjunctions.{and-left, and-right}
 
 abbrev pub at_index : ℕ → Value → Key × Value
@@ -87,34 +87,6 @@ pub everywhere-entry : (p : Value → Bool) (v : Value) (i : ℕ) (e : Key × Va
 everywhere-entry p (list vs) i e all is = item_passes p 0 vs i e (and-right _ _ all) is
 everywhere-entry p (object ms) i e all is = member_passes p ms i e (and-right _ _ all) is
 everywhere-entry p v i e all is = cc
-
--- ---- the order of steps
-
-antisymm : (x y : Key) → key_cmp x y ≡ ordering_reverse (key_cmp y x)
-antisymm (named s) (named t) = nat_list_cmp_total.antisymm s t
-antisymm (named s) (nth j) = refl
-antisymm (nth i) (named t) = refl
-antisymm (nth i) (nth j) = nat_cmp_total.antisymm i j
-
-trans : (x y z : Key) → key_cmp x y ≡ Less → key_cmp y z ≡ Less → key_cmp x z ≡ Less
-trans (named s) (named t) (named u) a b = nat_list_cmp_total.trans s t u a b
-trans (named s) (named t) (nth k) a b = refl
-trans (named s) (nth j) (named u) a b = cc
-trans (named s) (nth j) (nth k) a b = refl
-trans (nth i) (named t) z a b = cc
-trans (nth i) (nth j) (named u) a b = cc
-trans (nth i) (nth j) (nth k) a b = nat_cmp_total.trans i j k a b
-
-congr : (x y z : Key) → key_cmp x y ≡ Equal → key_cmp x z ≡ key_cmp y z
-congr (named s) (named t) (named u) a = nat_list_cmp_total.congr s t u a
-congr (named s) (named t) (nth k) a = refl
-congr (named s) (nth j) z a = cc
-congr (nth i) (named t) z a = cc
-congr (nth i) (nth j) (named u) a = refl
-congr (nth i) (nth j) (nth k) a = nat_cmp_total.congr i j k a
-
-pub key_cmp_total : IsTotalOrder key_cmp
-key_cmp_total = record { antisymm = antisymm; trans = trans; congr = congr }
 
 -- ---- the steps rise
 

@@ -16,7 +16,7 @@ use Rattle.jp_document.specs.Location.{Key, key_cmp, Location, location_cmp}
 use Rattle.jp_document.specs.Location.{entries, child, value_at}
 use Rattle.jp_document.specs.Value.{Value, IsDocumentValue}
 use Rattle.jp_document.proofs.Descent.Inside.{value_at-step}
-use Rattle.jp_document.proofs.Readings.Fractions.{key_same, key_exact}
+use Rattle.jp_document.proofs.Descent.Keys.{key_same, key_exact}
 use Rattle.jp_document.proofs.Options.{some_from_map}
 use Rattle.jp_document.proofs.Descent.Entries.{entries-rise}
 use Rattle.jp_document.proofs.Descent.Nodes.{IsDocumentValue-at, child_there}

@@ -1,10 +1,11 @@
--- What holds everywhere in a value holds one step value_at-below, and a child stands where its parent's
+-- What holds everywhere in a value holds one step inside, and a child stands where its parent's
 -- location goes on: for each call that goes to a child.
-use Rattle.std.proofs.Common.{◌≡◌, ℕ, suc, ◌+◌, ◌<◌, Bool, true, false, List}
+use Rattle.std.proofs.Common.{◌≡◌, ◌&&◌, ℕ, suc, ◌+◌, ◌<◌, Bool, true, false, List}
 use Rattle.std.proofs.Common.{[], ◌∷◌, ◌++◌, length, get_or, drop, map, Option}
 use Rattle.std.proofs.Common.{Some, None, cond, refl, sym, ap, subst, ◌∙◌, ◌⊎◌, inl, inr, ℤ, rules}
 use Rattle.std.proofs.Common.{String, Global}
 use Rattle.std.specs.BTreeMap.{is_at}
+use Rattle.std.specs.List.{list_all}
 use Rattle.std.specs.Map.{lookup}
 use Rattle.std.proofs.lemmas.List.{drop_more}
 use Rattle.std.proofs.lemmas.Option.{same_Some}
@@ -14,6 +15,7 @@ use Rattle.jp_document.specs.Location.{members_by_name, child, value_at}
 use Rattle.jp_document.specs.Node.{IsNodeAt, Node, StandsIn, child_of, node_below}
 use Rattle.jp_document.specs.Value.{Value, list, object, Items}
 use Rattle.jp_document.specs.Value.{no_items, item, Members, no_members, member}
+use Rattle.jp_document.specs.Value.{items_of, members_of}
 use Rattle.jp_document.specs.Value.{everywhere, everywhere_in_items, everywhere_in_members}
 use Rattle.jp_document.specs.Value.{is_allowed, IsDocumentValue, value_of}
 use Rattle.jp_document.specs.declared.value.Json.{Json, Null, Bool as Truth, Whole, Text}
@@ -52,6 +54,18 @@ everywhere-child p v w k all is = cc
 pub IsDocumentValue-child : (v w : Value) (k : Key) → IsDocumentValue v → child v k ≡ Some w →
     IsDocumentValue w
 IsDocumentValue-child = everywhere-child is_allowed
+
+-- ---- what holds everywhere among parts
+
+pub all-items : (p : Value → Bool) (vs : List Value) →
+    everywhere_in_items p (items_of vs) ≡ list_all (everywhere p) vs
+all-items p [] = refl
+all-items p (v ∷ vs) = ap (λ b. everywhere p v && b) (all-items p vs)
+
+pub all-members : (p : Value → Bool) (ms : List (List ℕ × Value)) →
+    everywhere_in_members p (members_of ms) ≡ list_all (λ m. everywhere p m.1) ms
+all-members p [] = refl
+all-members p (m ∷ ms) = ap (λ b. everywhere p m.1 && b) (all-members p ms)
 
 -- a value of one sort, or one with no values inside, has no child where that sort has none
 pub no_child_unless : {X : Type 0} (sort : X → Json) (j : Json) (k : Key) →

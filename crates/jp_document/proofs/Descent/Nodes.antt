@@ -77,7 +77,7 @@ below_stand d l (e ∷ es) document each =
     })
     (below_stand d l es document (λ i x is. each (suc i) x is))
 
-map-location_of-node_below : (l : Location) (es : List (Key × Value))
+pub map-location_of-node_below : (l : Location) (es : List (Key × Value))
     → map location_of (map (node_below l) es) ≡ map (λ e. l ++ e.0 ∷ []) es
 map-location_of-node_below l [] = refl
 map-location_of-node_below l (e ∷ es) = ap (λ ls. (l ++ e.0 ∷ []) ∷ ls) (map-location_of-node_below l es)

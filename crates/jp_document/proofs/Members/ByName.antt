@@ -31,16 +31,16 @@ pub names_of-members_of : (ps : List (List ℕ × Value)) → names_of (members_
 names_of-members_of [] = refl
 names_of-members_of (p ∷ ps) = ap (λ ns. p.0 ∷ ns) (names_of-members_of ps)
 
-pub is_less : (o : Ordering) → is_lt o ≡ true → o ≡ Less
-is_less Less h = refl
-is_less Equal h = cc
-is_less Greater h = cc
+pub Less-from_is_lt : (o : Ordering) → is_lt o ≡ true → o ≡ Less
+Less-from_is_lt Less h = refl
+Less-from_is_lt Equal h = cc
+Less-from_is_lt Greater h = cc
 
-each_less-from_list_all : (n : List ℕ) (ns : List (List ℕ)) → list_all (λ m. is_lt (bytes_cmp n m)) ns ≡ true →
+pub each_less-from_list_all : (n : List ℕ) (ns : List (List ℕ)) → list_all (λ m. is_lt (bytes_cmp n m)) ns ≡ true →
     AllByRecursion (λ m. bytes_cmp n m ≡ Less) ns
 each_less-from_list_all n [] h = tt
 each_less-from_list_all n (m ∷ ns) h =
-    (is_less (bytes_cmp n m) (and-left _ _ h), each_less-from_list_all n ns (and-right _ _ h))
+    (Less-from_is_lt (bytes_cmp n m) (and-left _ _ h), each_less-from_list_all n ns (and-right _ _ h))
 
 pub sorted_from_rise : (ns : List (List ℕ)) → names_rise ns ≡ true → IsStrictlySortedBy bytes_cmp ns
 unfolding IsStrictlySortedBy

@@ -19,9 +19,9 @@ use Rattle.jp_document.specs.declared.value.Json.{Json}
 use Rattle.jp_document.specs.declared.value.Member.{Member}
 use Rattle.jp_document.specs.Value.{value_of, member_of, Value, members_of, member}
 use Rattle.jp_document.specs.Value.{names_of, names_rise, everywhere, everywhere_in_members}
-use Rattle.jp_document.proofs.Members.ByName.{bytes_cmp, is_less, names_of-members_of}
+use Rattle.jp_document.proofs.Members.ByName.{bytes_cmp, Less-from_is_lt, names_of-members_of}
 use Rattle.jp_document.proofs.Conjunctions.{and-left, and-right}
-use Rattle.jp_document.proofs.Readings.Conversion.{all-members}
+use Rattle.jp_document.proofs.Descent.Inside.{all-members}
 
 abbrev Pair : Type 0
 Pair = List ℕ × Value
@@ -32,7 +32,7 @@ above_is_less : (k n : List ℕ) → bytes_cmp n k ≡ Greater → is_lt (bytes_
 above_is_less k n h = ap is_lt (nat_list_cmp_total.antisymm k n ∙ ap ordering_reverse h)
 
 less_is_above : (k n : List ℕ) → is_lt (bytes_cmp n k) ≡ true → bytes_cmp k n ≡ Greater
-less_is_above k n h = nat_list_cmp_total.antisymm k n ∙ ap ordering_reverse (is_less _ h)
+less_is_above k n h = nat_list_cmp_total.antisymm k n ∙ ap ordering_reverse (Less-from_is_lt _ h)
 
 -- the first i names lie below the one at i, and so below a name above it
 below_at : (n : List ℕ) (ms : List Pair) (i : ℕ) (d : Pair) → i < length ms →
@@ -48,7 +48,7 @@ below_up_to : (k : List ℕ) (ms : List Pair) (i : ℕ) (d : Pair) → i < lengt
 below_up_to k [] i d within rise h = absurd (omega (arith, within))
 below_up_to k (m ∷ ms) zero d within rise h = and_from _ _ (ap is_lt h) refl
 below_up_to k (m ∷ ms) (suc i) d within rise h =
-    let first = is_less _ (below_at m.0 ms i d (omega (arith, within)) (and-left _ _ rise)) in
+    let first = Less-from_is_lt _ (below_at m.0 ms i d (omega (arith, within)) (and-left _ _ rise)) in
     and_from _ _ (ap is_lt (nat_list_cmp_total.trans m.0 (get_or ms i d).0 k first h))
     (below_up_to k ms i d (omega (arith, within)) (and-right _ _ rise) h)
 
@@ -85,7 +85,7 @@ insert_place k v (m ∷ ms) zero below above =
     sym
     (ap
     (λ o. match_ordering o ((k, v) ∷ m ∷ ms) ((m.0, v) ∷ ms)
-    (m ∷ insert_entry bytes_cmp ms k v)) (is_less _ (and-left _ _ above)))
+    (m ∷ insert_entry bytes_cmp ms k v)) (Less-from_is_lt _ (and-left _ _ above)))
 insert_place k v (m ∷ ms) (suc i) below above =
     ap (λ ns. m ∷ ns) (insert_place k v ms i (and-right _ _ below) above)
     ∙ sym
@@ -139,7 +139,7 @@ below_each-trans : (k n : List ℕ) (ns : List (List ℕ)) → bytes_cmp k n ≡
     list_all (λ m. is_lt (bytes_cmp k m)) ns ≡ true
 below_each-trans k n [] first h = refl
 below_each-trans k n (m ∷ ns) first h =
-    and_from _ _ (ap is_lt (nat_list_cmp_total.trans k n m first (is_less _ (and-left _ _ h))))
+    and_from _ _ (ap is_lt (nat_list_cmp_total.trans k n m first (Less-from_is_lt _ (and-left _ _ h))))
     (below_each-trans k n ns first (and-right _ _ h))
 
 pub keys_by : {V : Type 0} (t : List ℕ → Bool) (ms : List (List ℕ × V)) (k : List ℕ) (v : V) →

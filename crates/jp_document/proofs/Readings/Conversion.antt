@@ -1,17 +1,11 @@
 -- A reading turned into a value, part by part: for the loops of `json_of`.
-use Rattle.std.proofs.Common.{◌≡◌, ℕ, suc, ◌<◌, Bool, true, ◌&&◌, List, [], ◌∷◌, ◌++◌}
-use Rattle.std.proofs.Common.{length, map, Option, Some, String, Global, Ordering, Less}
-use Rattle.std.proofs.Common.{Equal, Greater, is_eq, string_bytes, string_cmp, cond, refl}
-use Rattle.std.proofs.Common.{sym, ap, subst, ◌∙◌, arith, append_assoc, append-nil, add-one}
-use Rattle.std.specs.BTreeMap.{is_at}
-use Rattle.std.specs.Cmp.{nat_cmp_is}
-use Rattle.std.specs.List.{AllByRecursion, list_all}
+use Rattle.std.proofs.Common.{◌≡◌, ℕ, List, [], ◌∷◌, ◌++◌}
+use Rattle.std.proofs.Common.{length, map, Some, String, Global}
+use Rattle.std.proofs.Common.{string_bytes, string_cmp, refl}
+use Rattle.std.proofs.Common.{sym, ap, subst, ◌∙◌, append_assoc, append-nil, add-one}
 use Rattle.std.specs.List.Sorted.{IsStrictlySortedBy}
-use Rattle.std.specs.Map.{lookup, keys_of}
+use Rattle.std.specs.Map.{keys_of}
 use Rattle.std.specs.Option.{option_map, option_and_then}
-use Rattle.std.specs.Ordering.{ordering_reverse}
-use Rattle.std.proofs.lemmas.Bool.{and_from}
-use Rattle.std.proofs.lemmas.Cmp.{nat_list_cmp_total}
 use Rattle.std.proofs.lemmas.List.{map-append, length_push}
 use Rattle.std.proofs.lemmas.Map.Keys.{sorted_head, sorted_tail}
 use Rattle.serde_json.specs.Data as parsed
@@ -20,69 +14,17 @@ use Rattle.serde_json.specs.View.{view, items_view, members_view}
 use Rattle.serde_json.specs.declared.value.Value.{Value as Reading}
 use Rattle.jp_document.specs.Document.{value_of_data, items_of_data, members_of_data}
 use Rattle.jp_document.specs.Document.{data_items_from, data_members, IsFirstFraction}
-use Rattle.jp_document.specs.Location.{Key, named, nth, key_cmp, Location}
-use Rattle.jp_document.specs.Value.{Value, item, items_of, member, members_of, everywhere}
-use Rattle.jp_document.specs.Value.{everywhere_in_items, everywhere_in_members, value_of, member_of}
+use Rattle.jp_document.specs.Location.{named, nth, Location}
+use Rattle.jp_document.specs.Value.{Value, item, items_of, member, members_of}
+use Rattle.jp_document.specs.Value.{value_of, member_of}
 use Rattle.jp_document.specs.declared.value.Json.{Json}
 use Rattle.jp_document.specs.declared.value.Member.{Member}
-use Rattle.jp_document.proofs.Readings.Fractions.{IsFirstIn, IsAbove, key_exact}
+use Rattle.jp_document.proofs.Readings.Above.{IsAbove-items, IsAbove-view}
+use Rattle.jp_document.proofs.Readings.Fractions.{IsFirstIn}
 use Rattle.jp_document.proofs.Readings.Fractions.{skipped, hit, IsFirstFraction-inside}
-use Rattle.jp_document.proofs.Conjunctions.{and-left, and-right}
-
--- ---- what stands later is above
-
-pub above_by : (q k n : Key) (d e : Data) (rest : Option Data) (o : Ordering) → key_cmp q n ≡ o →
-    cond (is_eq o) (Some d) rest ≡ Some e → key_cmp n k ≡ Greater →
-    (rest ≡ Some e → key_cmp q k ≡ Greater) → key_cmp q k ≡ Greater
-above_by q k n d e rest Less at is here later = later is
-above_by q k n d e rest Equal at is here later = ap (λ j. key_cmp j k) (key_exact q n at) ∙ here
-above_by q k n d e rest Greater at is here later = later is
-
-above_in_items : (i n : ℕ) (ds : parsed.Items) (q : Key) (e : Data) → i < n →
-    lookup (is_at (key_cmp q)) (data_items_from n ds) ≡ Some e → key_cmp q (nth i) ≡ Greater
-above_in_items i n parsed.no_items q e below is = cc
-above_in_items i n (parsed.item d ds) q e below is =
-    above_by q (nth i) (nth n) d e _ (key_cmp q (nth n)) refl is
-    (sym (nat_cmp_is n i Greater below)) (above_in_items i (suc n) ds q e (omega arith))
-
-pub IsAbove-items : (i : ℕ) (ds : parsed.Items) → IsAbove (nth i) (data_items_from (suc i) ds)
-IsAbove-items i ds = record { above = λ q e is. above_in_items i (suc i) ds q e (omega arith) is }
 
 abbrev Entry : Type 0
 Entry = String Global × Reading
-
-above_in_members : (k : String Global) (es : List Entry) (q : Key) (e : Data) →
-    AllByRecursion (λ y. string_cmp k y ≡ Less) (keys_of es) →
-    lookup (is_at (key_cmp q)) (data_members (members_view es)) ≡ Some e →
-    key_cmp q (named (string_bytes k)) ≡ Greater
-above_in_members k [] q e below is = cc
-above_in_members k (m ∷ es) q e below is =
-    above_by q (named (string_bytes k)) (named (string_bytes m.0)) (view m.1) e _
-    (key_cmp q (named (string_bytes m.0))) refl is
-    (nat_list_cmp_total.antisymm (string_bytes m.0) (string_bytes k) ∙ ap ordering_reverse below.0)
-    (above_in_members k es q e below.1)
-
-pub IsAbove-members : (k : String Global) (es : List Entry) →
-    AllByRecursion (λ y. string_cmp k y ≡ Less) (keys_of es) →
-    IsAbove (named (string_bytes k)) (data_members (members_view es))
-IsAbove-members k es below = record { above = λ q e is. above_in_members k es q e below is }
-
--- ---- what holds everywhere among parts
-
-pub all-items : (p : Value → Bool) (vs : List Value) →
-    everywhere_in_items p (items_of vs) ≡ list_all (everywhere p) vs
-all-items p [] = refl
-all-items p (v ∷ vs) = ap (λ b. everywhere p v && b) (all-items p vs)
-
-pub all-members : (p : Value → Bool) (ms : List (List ℕ × Value)) →
-    everywhere_in_members p (members_of ms) ≡ list_all (λ m. everywhere p m.1) ms
-all-members p [] = refl
-all-members p (m ∷ ms) = ap (λ b. everywhere p m.1 && b) (all-members p ms)
-
-pub all_push : {X : Type 0} (t : X → Bool) (xs : List X) (x : X) → list_all t xs ≡ true →
-    t x ≡ true → list_all t (xs ++ x ∷ []) ≡ true
-all_push t [] x h k = and_from _ _ k refl
-all_push t (y ∷ xs) x h k = and_from _ _ (and-left _ _ h) (all_push t xs x (and-right _ _ h) k)
 
 -- ---- items
 
@@ -167,7 +109,7 @@ members_more all rest found e m v is here so =
       first =
           λ l later. so.first l
           (skipped (named (string_bytes e.0)) (view e.1) v _ l here
-          (IsAbove-members e.0 rest (sorted_head string_cmp e.0 (keys_of rest) so.sorted))
+          (IsAbove-view e.0 rest (sorted_head string_cmp e.0 (keys_of rest) so.sorted))
           later);
       sorted = sorted_tail string_cmp e.0 (keys_of rest) so.sorted;
     }
@@ -180,7 +122,7 @@ members_stop all rest found e l first so =
     (λ y is. cc)
     (so.first (named (string_bytes e.0) ∷ l)
     (hit (named (string_bytes e.0)) (view e.1) _ l
-    (IsAbove-members e.0 rest (sorted_head string_cmp e.0 (keys_of rest) so.sorted)) first))
+    (IsAbove-view e.0 rest (sorted_head string_cmp e.0 (keys_of rest) so.sorted)) first))
 
 pub members_end : (all : List Entry) (found : List Member) → MembersSoFar all [] found →
     members_of_data (members_view all) ≡ Some (members_of (map member_of found))

@@ -15,8 +15,9 @@ use Rattle.jp_document.specs.Laws.{DocumentOrDefect}
 use Rattle.jp_document.specs.Location.{Key, Location, key_cmp, location_cmp}
 use Rattle.jp_document.specs.Path.{path_of}
 use Rattle.jp_document.specs.Value.{IsDocumentValue, Value, everywhere, list_fits}
-use Rattle.jp_document.proofs.Readings.Fractions.{key_exact, no_fraction}
-use Rattle.jp_document.proofs.Descent.Entries.{key_cmp_total}
+use Rattle.jp_document.proofs.Descent.Keys.{key_exact}
+use Rattle.jp_document.proofs.Readings.Fractions.{no_fraction}
+use Rattle.jp_document.proofs.Descent.Keys.{key_cmp_total}
 use Rattle.jp_document.proofs.Readings.Ranges.{reading_fits}
 use Rattle.jp_document.proofs.Readings.Holdings.{first_of, fits-allowed, value_allowed}
 

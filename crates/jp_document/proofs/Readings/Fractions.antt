@@ -7,16 +7,15 @@ use Rattle.std.specs.Map.{lookup}
 use Rattle.std.specs.Ordering.{ordering_then}
 use Rattle.std.proofs.lemmas.Option.{same_Some}
 use Rattle.std.specs.Option.{option_and_then}
-use Rattle.std.proofs.lemmas.Cmp.{nat_cmp_total, nat_list_cmp_total, tied_itself}
-use Rattle.std.proofs.lemmas.Map.Lookups.{exact_bytes, exact_unsigned}
 use Rattle.serde_json.specs.Data as parsed
 use Rattle.serde_json.specs.Find.{as_u64, as_i64}
 use Rattle.serde_json.specs.Data.{Num, Data, unsigned, negative, float}
 use Rattle.jp_document.specs.Document.{value_of_data, items_of_data, members_of_data}
 use Rattle.jp_document.specs.Document.{data_items_from, data_members, data_entries}
 use Rattle.jp_document.specs.Document.{data_at, IsFraction, IsFirstFraction}
-use Rattle.jp_document.specs.Location.{Key, named, nth, key_cmp, Location, location_cmp}
+use Rattle.jp_document.specs.Location.{Key, key_cmp, Location, location_cmp}
 use Rattle.jp_document.specs.Value.{Value, list, object, Items, item, Members, member}
+use Rattle.jp_document.proofs.Descent.Keys.{key_same}
 use Rattle.jp_document.proofs.Options.{some_from_both, some_from_map, some_from_then}
 
 -- ---- a reading with a value has no such number
@@ -84,16 +83,6 @@ pub record IsAbove (k : Key) (es : Entries) : Type 0 where
 not_below : (m : Location) → location_cmp m [] ≢ Less
 not_below [] less = cc
 not_below (k ∷ m) less = cc
-
-pub key_same : (k : Key) → key_cmp k k ≡ Equal
-key_same (named s) = tied_itself nat_list_cmp_total s
-key_same (nth i) = tied_itself nat_cmp_total i
-
-pub key_exact : (j k : Key) → key_cmp j k ≡ Equal → j ≡ k
-key_exact (named s) (named t) is = ap named (exact_bytes s t is)
-key_exact (named s) (nth j) is = cc
-key_exact (nth i) (named t) is = cc
-key_exact (nth i) (nth j) is = ap nth (exact_unsigned i j is)
 
 there_later : (k : Key) (d : Data) (es : Entries) (l : Location) (x : Float) → IsAbove k es →
     entries_at es l ≡ Some (parsed.number (float x)) →

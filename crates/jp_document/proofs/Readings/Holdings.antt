@@ -1,19 +1,15 @@
 -- A reading holds a value that a document may have, or a first number that is no whole one: for the
 -- defects of bytes.
-use Rattle.std.proofs.Common.{◌≡◌, ℕ, suc, true, List, [], ◌∷◌, Option, Some, None, Greater}
-use Rattle.std.proofs.Common.{is_lt, refl, sym, ap, ◌∙◌}
-use Rattle.std.specs.BTreeMap.{is_at}
-use Rattle.std.specs.List.{list_all}
-use Rattle.std.specs.Map.{keys_of, lookup}
-use Rattle.std.specs.Ordering.{ordering_reverse}
+use Rattle.std.proofs.Common.{◌≡◌, ℕ, suc, true, [], ◌∷◌, Option, Some, None}
+use Rattle.std.proofs.Common.{refl, sym, ap, ◌∙◌}
+use Rattle.std.specs.Map.{keys_of}
 use Rattle.std.proofs.lemmas.Bool.{and_from}
-use Rattle.std.proofs.lemmas.Cmp.{nat_list_cmp_total}
 use Rattle.std.proofs.lemmas.Option.{same_Some}
 use Rattle.serde_json.specs.Data as parsed
 use Rattle.serde_json.specs.Data.{Data, Num, float, negative, unsigned}
 use Rattle.jp_document.specs.Document.{IsFirstFraction, data_items_from, data_members}
 use Rattle.jp_document.specs.Document.{items_of_data, members_of_data, value_of_data}
-use Rattle.jp_document.specs.Location.{Key, Location, key_cmp, named, nth}
+use Rattle.jp_document.specs.Location.{Key, Location, named, nth}
 use Rattle.jp_document.specs.Value.{Items, Members, Value, everywhere, everywhere_in_items}
 use Rattle.jp_document.specs.Value.{everywhere_in_members, is_allowed, item, list}
 use Rattle.jp_document.specs.Value.{list_fits, member, names_fit, names_of, names_rise}
@@ -22,10 +18,10 @@ use Rattle.jp_document.proofs.Options.{none_from_both, none_from_map}
 use Rattle.jp_document.proofs.Options.{some_from_both, some_from_map}
 use Rattle.jp_document.proofs.Readings.Fractions.{Entries, IsAbove, IsFirstFraction-inside}
 use Rattle.jp_document.proofs.Readings.Fractions.{IsFirstFraction-number, IsFirstIn, hit, skipped}
-use Rattle.jp_document.proofs.Members.ByName.{bytes_cmp, is_less}
+use Rattle.jp_document.proofs.Members.ByName.{each_less-from_list_all}
 use Rattle.jp_document.proofs.Conjunctions.{and-left, and-right}
 use Rattle.jp_document.proofs.Readings.Ranges.{data_fits, members_read, items_fit, members_fit}
-use Rattle.jp_document.proofs.Readings.Conversion.{IsAbove-items, above_by}
+use Rattle.jp_document.proofs.Readings.Above.{IsAbove-items, IsAbove-members}
 
 -- ---- a reading with whole numbers alone has a document's value, where its lists fit
 
@@ -86,20 +82,6 @@ mutual
 
 -- ---- a reading with no value has a first number that is no whole one
 
-above_among : (n : List ℕ) (ms : parsed.Members) (q : Key) (e : Data) →
-    list_all (λ m. is_lt (bytes_cmp n m)) (keys_of (members_read ms)) ≡ true →
-    lookup (is_at (key_cmp q)) (data_members ms) ≡ Some e → key_cmp q (named n) ≡ Greater
-above_among n parsed.no_members q e below is = absurd (cc)
-above_among n (parsed.member m d ms) q e below is =
-    above_by q (named n) (named m) d e _ (key_cmp q (named m)) refl is
-    (nat_list_cmp_total.antisymm m n ∙ ap ordering_reverse (is_less _ (and-left _ _ below)))
-    (above_among n ms q e (and-right _ _ below))
-
-IsAbove-names : (n : List ℕ) (ms : parsed.Members) →
-    list_all (λ m. is_lt (bytes_cmp n m)) (keys_of (members_read ms)) ≡ true →
-    IsAbove (named n) (data_members ms)
-IsAbove-names n ms below = record { above = λ q e is. above_among n ms q e below is }
-
 abbrev First : Data → Type 0
 First d = (l : Location) × IsFirstFraction d l
 
@@ -141,7 +123,7 @@ mutual
   first_member parsed.no_members rise fits none = absurd (cc)
   first_member (parsed.member n d ms) rise fits none =
       first_entry (named n) d (data_members ms) (value_of_data d)
-      (IsAbove-names n ms (and-left _ _ rise)) refl (first_of d (and-left _ _ fits))
+      (IsAbove-members n ms (each_less-from_list_all n _ (and-left _ _ rise))) refl (first_of d (and-left _ _ fits))
       (λ v is. first_member ms (and-right _ _ rise) (and-right _ _ fits)
       (none_from_both (member n) (value_of_data d) (members_of_data ms) v none is))
 

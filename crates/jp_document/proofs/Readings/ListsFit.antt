@@ -1,15 +1,17 @@
 -- Which lists fit, as one flag for all of a value says it: for the flag of `json_of`.
 use Rattle.std.proofs.Common.{◌≡◌, ℕ, suc, Bool, true, false, ◌&&◌, List, []}
-use Rattle.std.proofs.Common.{◌∷◌, ◌++◌, length, map, refl, sym, ap, ◌∙◌, nat_le}
-use Rattle.std.proofs.Math.Bool.{and_assoc, and-false, and-true}
+use Rattle.std.proofs.Common.{◌∷◌, ◌++◌, length, map, refl, sym, ap, ap₂, ◌∙◌, nat_le}
+use Rattle.std.proofs.Math.Bool.{and-false, and-true}
 use Rattle.std.proofs.lemmas.List.{length-map, map-append}
+use Rattle.std.proofs.lemmas.List.Folds.{list_all-append}
+use Rattle.jp_document.proofs.Descent.Inside.{all-items, all-members}
 use Rattle.jp_document.specs.Value.{Value, list, items_of, item_count, members_of}
 use Rattle.jp_document.specs.Value.{everywhere, everywhere_in_items}
 use Rattle.jp_document.specs.Value.{everywhere_in_members, list_fits, value_of, member_of}
 use Rattle.jp_document.specs.declared.value.Json.{Json}
 use Rattle.jp_document.specs.declared.value.Member.{Member}
 
-item_count-items_of : (vs : List Value) → item_count (items_of vs) ≡ length vs
+pub item_count-items_of : (vs : List Value) → item_count (items_of vs) ≡ length vs
 item_count-items_of [] = refl
 item_count-items_of (v ∷ vs) = ap suc (item_count-items_of vs)
 
@@ -27,18 +29,17 @@ and-more here false old = and-false here
 items_fit-push : (vs : List Value) (v : Value) →
     everywhere_in_items list_fits (items_of (vs ++ v ∷ [])) ≡
     (everywhere_in_items list_fits (items_of vs) && everywhere list_fits v)
-items_fit-push [] v = and-true (everywhere list_fits v)
-items_fit-push (w ∷ vs) v =
-    ap (λ b. everywhere list_fits w && b) (items_fit-push vs v)
-    ∙ sym (and_assoc (everywhere list_fits w) _ _)
+items_fit-push vs v =
+    all-items list_fits (vs ++ v ∷ []) ∙ list_all-append (everywhere list_fits) vs (v ∷ [])
+    ∙ ap₂ (λ a b. a && b) (sym (all-items list_fits vs)) (and-true (everywhere list_fits v))
 
 members_fit-push : (ms : List (List ℕ × Value)) (m : List ℕ × Value) →
     everywhere_in_members list_fits (members_of (ms ++ m ∷ [])) ≡
     (everywhere_in_members list_fits (members_of ms) && everywhere list_fits m.1)
-members_fit-push [] m = and-true (everywhere list_fits m.1)
-members_fit-push (n ∷ ms) m =
-    ap (λ b. everywhere list_fits n.1 && b) (members_fit-push ms m)
-    ∙ sym (and_assoc (everywhere list_fits n.1) _ _)
+members_fit-push ms m =
+    all-members list_fits (ms ++ m ∷ [])
+    ∙ list_all-append (λ n. everywhere list_fits n.1) ms (m ∷ [])
+    ∙ ap₂ (λ a b. a && b) (sym (all-members list_fits ms)) (and-true (everywhere list_fits m.1))
 
 -- the flag after one more item, and after one more member
 pub items_fit_more : (done more : List Json) (j : Json) (now after old : Bool) →

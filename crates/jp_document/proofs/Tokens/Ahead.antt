@@ -1,7 +1,7 @@
 -- Whatever items and members are to come, they complete those that were read from tokens: for the
 -- loops of `items` and `members`.
 use Rattle.std.proofs.Common.{◌≡◌, ℕ, ◌-◌, ◌<◌, ◌≤◌, true, List, [], ◌∷◌, ◌++◌, length, map}
-use Rattle.std.proofs.Common.{Some, None, sym, ap, subst, ◌∙◌, append_assoc, append-nil}
+use Rattle.std.proofs.Common.{Some, None, refl, sym, ap, subst, ◌∙◌, append_assoc, append-nil}
 use Rattle.std.specs.BTreeMap.{insert_entry}
 use Rattle.std.specs.List.{list_all}
 use Rattle.std.proofs.lemmas.List.{map-append}
@@ -19,7 +19,9 @@ use Rattle.jp_document.proofs.Tokens.Turns.{items_turn, items_over, member_turn,
 use Rattle.jp_document.proofs.Members.Places.{ReadMember, pair, data_of, members_of_data-entries, put_entry}
 use Rattle.jp_document.proofs.Members.Places.{pairs-put_entry, data_of-put_entry, rise_insert, sound_insert}
 use Rattle.jp_document.proofs.Members.ByName.{bytes_cmp}
-use Rattle.jp_document.proofs.Readings.Conversion.{all-items, all_push}
+use Rattle.jp_document.proofs.Descent.Inside.{all-items}
+use Rattle.std.proofs.lemmas.Bool.{and_from}
+use Rattle.std.proofs.lemmas.List.Folds.{list_all-append}
 use Rattle.jp_document.proofs.Readings.Defects.{document_by}
 
 -- ---- items
@@ -57,8 +59,9 @@ ahead_item_short found j before here =
     all-items list_fits (map value_of (found ++ j ∷ []))
     ∙ subst (λ vs. list_all (everywhere list_fits) vs ≡ true)
     (sym (map-append value_of found (j ∷ [])))
-    (all_push (everywhere list_fits) (map value_of found) (value_of j)
-    (sym (all-items list_fits (map value_of found)) ∙ before) here)
+    (list_all-append (everywhere list_fits) (map value_of found) (value_of j ∷ [])
+    ∙ and_from _ _ (sym (all-items list_fits (map value_of found)) ∙ before)
+    (and_from _ _ here refl))
 
 -- ---- members
 
