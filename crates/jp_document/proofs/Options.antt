@@ -1,6 +1,6 @@
 -- What a `Some` and a `None` were made of: for readings that are turned into values, and for values
 -- found inside others.
-use Rattle.std.proofs.Common.{◌≡◌, Option, Some, None, option_map, option_and_then, refl}
+use Rattle.std.proofs.Common.{◌≡◌, Bool, true, false, cond, Option, Some, None, option_map, option_and_then, refl}
 use Rattle.std.proofs.lemmas.Option.{same_Some}
 
 pub some_from_map : {A B : Type 0} (f : A → B) (o : Option A) (b : B) → option_map f o ≡ Some b →
@@ -28,3 +28,8 @@ pub none_from_both : {A B C : Type 0} (f : A → B → C) (o : Option A) (p : Op
     option_and_then (λ a. option_map (f a) p) o ≡ None → o ≡ Some a → p ≡ None
 none_from_both f None p a is here = absurd (cc)
 none_from_both f (Some b) p a is here = none_from_map (f b) p is
+
+pub some_from_if : {A : Type 0} (t : Bool) (o : Option A) (a : A) → cond t o None ≡ Some a →
+    (t ≡ true) × (o ≡ Some a)
+some_from_if true o a is = (refl, is)
+some_from_if false o a is = absurd (cc)

@@ -123,18 +123,10 @@ value_from_pair n p (Some v) is =
     let same : p ≡ (n, v) = same_Some _ _ is in ap Some (sym (ap (λ q. q.1) same))
 
 -- one step of a walk along a location: on to a value, or to none
-pub walked : {S : Type 0} (key : S → Key) (steps : List S) (i : ℕ) (e : S) (v w : Value)
-    (all : Option Value) → i < length steps → Some w ≡ child v (key (get_or steps i e)) →
-    value_at v (map key (drop i steps)) ≡ all → value_at w (map key (drop (i + 1) steps)) ≡ all
-walked key steps i e v w all within is before =
-    let next = map key (drop (i + 1) steps) in
-    ap (option_and_then (λ x. value_at x next)) is
-    ∙ sym (ap (λ ks. value_at v (map key ks)) (drop_more steps i e within)) ∙ before
-
-pub walked_out : {S : Type 0} (key : S → Key) (steps : List S) (i : ℕ) (e : S) (v : Value)
-    (all : Option Value) → i < length steps → None ≡ child v (key (get_or steps i e)) →
-    value_at v (map key (drop i steps)) ≡ all → None ≡ all
-walked_out key steps i e v all within is before =
-    let next = map key (drop (i + 1) steps) in
-    ap (option_and_then (λ x. value_at x next)) is
+pub walked : {S : Type 0} (key : S → Key) (steps : List S) (i : ℕ) (e : S) (v : Value)
+    (o all : Option Value) → i < length steps → o ≡ child v (key (get_or steps i e)) →
+    value_at v (map key (drop i steps)) ≡ all →
+    option_and_then (λ x. value_at x (map key (drop (i + 1) steps))) o ≡ all
+walked key steps i e v o all within is before =
+    ap (option_and_then (λ x. value_at x (map key (drop (i + 1) steps)))) is
     ∙ sym (ap (λ ks. value_at v (map key ks)) (drop_more steps i e within)) ∙ before

@@ -54,6 +54,12 @@ enclosed-is F a b x =
 
 -- ---- characters of names
 
+-- the digits of a number below 16, and of one from there on
+abbrev pub Hexchar : ℕ → Form
+Hexchar c =
+    Either (word (48 ∷ []) ⌢ Made hex_value (One is_low_digit) c)
+    (word (49 ∷ []) ⌢ Made (λ d. 16 + hex_value d) (One is_hex_digit) c)
+
 -- the number of a character that has no letter
 record Numbered (c : ℕ) (s : Spans) (o : ℕ) (t : Text) : Type 0 where
   low : c < 32
@@ -105,9 +111,7 @@ hexchar-within c s o t h = way _ h.two.two
     text : (u : Text) → h.two.second ≡ u → t ≡ 48 ∷ 48 ∷ u
     text u e = rw (h.is, h.one.is, h.two.is, h.two.one.is, e) refl
 
-    way : (i : ℕ) → Either (word (48 ∷ []) ⌢ Made hex_value (One is_low_digit) c)
-        (word (49 ∷ []) ⌢ Made (λ d. 16 + hex_value d) (One is_hex_digit) c)
-        h.two.second_spans i h.two.second → Numbered c s o t
+    way : (i : ℕ) → Hexchar c h.two.second_spans i h.two.second → Numbered c s o t
     way i (left g) =
         let d = g.two.part in
         let digit = low-number d g.two.is.passes in

@@ -2,16 +2,17 @@
 use Rattle.std.proofs.Common.{◌≡◌, ℕ, zero, suc, ◌+◌, ◌<◌, ◌≤◌, Bool, true, false, ◌&&◌}
 use Rattle.std.proofs.Common.{◌==◌, cond, nat_lt, List, [], ◌∷◌, ◌++◌, length, get_or}
 use Rattle.std.proofs.Common.{Option, Some, None, option_and_then, IsUtf8, inl, inr, refl}
-use Rattle.std.proofs.Common.{subst, arith, append_assoc, append-nil, length-append}
+use Rattle.std.proofs.Common.{sym, ◌∙◌, subst, arith, append_assoc, append-nil, length-append}
 use Rattle.std.specs.Char.{IsScalar, digit_value, encode_utf8, is_digit}
 use Rattle.std.specs.Str.{IsCharBoundary}
 use Rattle.std.proofs.Math.Seq.{drop-append-add, get_or-append_seam, take-append_seam}
 use Rattle.std.proofs.lemmas.Bool.{and_parts, cases_lt}
 use Rattle.std.proofs.lemmas.Bool.Decides.{nat_tests}
-use Rattle.std.proofs.lemmas.Option.{cond_some, same_Some}
+use Rattle.std.proofs.lemmas.Option.{cond_some, none-some, same_Some}
 use Rattle.std.proofs.lemmas.Str.{IsCharBoundary-after_ascii, IsUtf8-append}
 use Rattle.std.proofs.lemmas.Str.{IsUtf8-drop, IsUtf8-encode, IsUtf8-take, encode_ascii}
 use lib.Utf8.{low_scalar}
+use Rattle.jp_document.proofs.Options.{some_from_if, some_from_then}
 use Rattle.json.specs.Text.{after_backslash, after_high, after_u, code_unit}
 use Rattle.json.specs.Text.{content, is_high_surrogate, is_low_surrogate}
 use Rattle.json.specs.Text.{plain, prepend, short_escape, surrogate_pair}
@@ -140,16 +141,6 @@ after_character n bs xs p s each short before here later is =
     (IsUtf8-append p (bs ++ t.0) before
     (IsUtf8-append bs t.0 here (each [] xs t.0 short later t.1)))
 
--- the number of a low surrogate, and what comes after it
-low_half : (n h l : ℕ) (t : Bool) (xs p s : List ℕ) → Shorter n → length xs < n →
-    is_high_surrogate h ≡ true → is_low_surrogate l ≡ t → IsUtf8 p → IsUtf8 xs →
-    cond t (prepend (encode_utf8 (surrogate_pair h l)) (content plain xs)) None ≡ Some s →
-    IsUtf8 (p ++ s)
-low_half n h l true xs p s each short high low before later is =
-    after_character n (encode_utf8 (surrogate_pair h l)) xs p s each short before
-    (IsUtf8-encode (surrogate_pair h l) (pair_of h l high low)) later is
-low_half n h l false xs p s each short high low before later is = absurd (cc)
-
 text_past_four : (a b c d u : ℕ) (xs : List ℕ) → FourDigits a b c d u →
     IsUtf8 (a ∷ b ∷ c ∷ d ∷ xs) → IsUtf8 xs
 text_past_four a b c d u xs digits utf8 =
@@ -157,39 +148,22 @@ text_past_four a b c d u xs digits utf8 =
     (text_past c (d ∷ xs) digits.third
     (text_past b (c ∷ d ∷ xs) digits.second (text_past a (b ∷ c ∷ d ∷ xs) digits.first utf8)))
 
-second_unit : (n h a b c d : ℕ) (o : Option ℕ) (xs p s : List ℕ) → Shorter n → length xs < n →
-    is_high_surrogate h ≡ true → code_unit a b c d ≡ o → IsUtf8 p → IsUtf8 (a ∷ b ∷ c ∷ d ∷ xs) →
-    option_and_then
-    (λ l. cond (is_low_surrogate l)
-    (prepend (encode_utf8 (surrogate_pair h l)) (content plain xs)) None) o ≡ Some s →
-    IsUtf8 (p ++ s)
-second_unit n h a b c d None xs p s each short high unit before utf8 is = absurd (cc)
-second_unit n h a b c d (Some l) xs p s each short high unit before utf8 is =
-    low_half n h l (is_low_surrogate l) xs p s each short high refl before
-    (text_past_four a b c d l xs (four_digits a b c d l unit) utf8) is
-
-second_escape : (t : Bool) (n h x y a b c d : ℕ) (xs p s : List ℕ) → Shorter n → length xs < n →
-    is_high_surrogate h ≡ true → ((x == 92) && (y == 117)) ≡ t → IsUtf8 p →
-    IsUtf8 (x ∷ y ∷ a ∷ b ∷ c ∷ d ∷ xs) →
-    cond t
-    (option_and_then
-    (λ l. cond (is_low_surrogate l)
-    (prepend (encode_utf8 (surrogate_pair h l)) (content plain xs)) None) (code_unit a b c d))
-    None ≡ Some s → IsUtf8 (p ++ s)
-second_escape true n h x y a b c d xs p s each short high marks before utf8 is =
-    let both = and_parts (x == 92) (y == 117) marks in
-    let first : x < 128 = let e = both.0 in grind (arith, nat_tests) in
-    let second : y < 128 = let e = both.1 in grind (arith, nat_tests) in
-    second_unit n h a b c d (code_unit a b c d) xs p s each short high refl before
-    (text_past y (a ∷ b ∷ c ∷ d ∷ xs) second (text_past x (y ∷ a ∷ b ∷ c ∷ d ∷ xs) first utf8)) is
-second_escape false n h x y a b c d xs p s each short high marks before utf8 is = absurd (cc)
-
+-- the low surrogate that comes after a high one, and what comes after both
 high_half : (n h : ℕ) (xs p s : List ℕ) → Shorter n → length xs < n → is_high_surrogate h ≡ true →
     IsUtf8 p → IsUtf8 xs → content (after_high h) xs ≡ Some s → IsUtf8 (p ++ s)
 unfolding content
 high_half n h (x ∷ y ∷ a ∷ b ∷ c ∷ d ∷ xs) p s each short high before utf8 is =
-    second_escape ((x == 92) && (y == 117)) n h x y a b c d xs p s each
-    (omega arith) high refl before utf8 is
+    let marks = some_from_if ((x == 92) && (y == 117)) _ s is in
+    let both = and_parts (x == 92) (y == 117) marks.0 in
+    let first : x < 128 = let e = both.0 in grind (arith, nat_tests) in
+    let second : y < 128 = let e = both.1 in grind (arith, nat_tests) in
+    let unit = some_from_then _ (code_unit a b c d) s marks.1 in
+    let low = some_from_if (is_low_surrogate unit.0) _ s unit.2 in
+    after_character n (encode_utf8 (surrogate_pair h unit.0)) xs p s each (omega arith) before
+    (IsUtf8-encode (surrogate_pair h unit.0) (pair_of h unit.0 high low.0))
+    (text_past_four a b c d unit.0 xs (four_digits a b c d unit.0 unit.1)
+    (text_past y (a ∷ b ∷ c ∷ d ∷ xs) second (text_past x (y ∷ a ∷ b ∷ c ∷ d ∷ xs) first utf8)))
+    low.1
 high_half n h xs p s each short high before utf8 is = absurd (cc)
 
 by_surrogate : (t w : Bool) (n u : ℕ) (xs p s : List ℕ) → Shorter n → length xs < n → u < 65536 →
@@ -203,35 +177,30 @@ by_surrogate false false n u xs p s each short small high low before utf8 is =
     after_character n (encode_utf8 u) xs p s each short before
     (IsUtf8-encode u (surrogate u small high low)) utf8 is
 
-first_unit : (n a b c d : ℕ) (o : Option ℕ) (xs p s : List ℕ) → Shorter n → length xs < n →
-    code_unit a b c d ≡ o → IsUtf8 p → IsUtf8 (a ∷ b ∷ c ∷ d ∷ xs) →
-    option_and_then
-    (λ u. cond (is_high_surrogate u) (content (after_high u) xs)
-    (cond (is_low_surrogate u) None (prepend (encode_utf8 u) (content plain xs)))) o ≡ Some s →
-    IsUtf8 (p ++ s)
-first_unit n a b c d None xs p s each short unit before utf8 is = absurd (cc)
-first_unit n a b c d (Some u) xs p s each short unit before utf8 is =
-    let digits = four_digits a b c d u unit in
-    by_surrogate (is_high_surrogate u) (is_low_surrogate u) n u xs p s each short digits.small refl
-    refl before (text_past_four a b c d u xs digits utf8) is
-
 numbered_text : (n : ℕ) (xs p s : List ℕ) → Shorter n → length xs < n → IsUtf8 p → IsUtf8 xs →
     content after_u xs ≡ Some s → IsUtf8 (p ++ s)
 unfolding content
 numbered_text n (a ∷ b ∷ c ∷ d ∷ xs) p s each short before utf8 is =
-    first_unit n a b c d (code_unit a b c d) xs p s each (omega arith) refl before utf8 is
+    let unit = some_from_then _ (code_unit a b c d) s is in
+    let digits = four_digits a b c d unit.0 unit.1 in
+    by_surrogate (is_high_surrogate unit.0) (is_low_surrogate unit.0) n unit.0 xs p s each
+    (omega arith) digits.small refl refl before (text_past_four a b c d unit.0 xs digits utf8) unit.2
 numbered_text n xs p s each short before utf8 is = absurd (cc)
 
-lettered_text : (n x : ℕ) (o : Option ℕ) (xs p s : List ℕ) → Shorter n → length xs < n →
-    short_escape x ≡ o → IsUtf8 p → IsUtf8 (x ∷ xs) →
-    option_and_then (λ c. prepend (c ∷ []) (content plain xs)) o ≡ Some s → IsUtf8 (p ++ s)
-lettered_text n x None xs p s each short letter before utf8 is = absurd (cc)
-lettered_text n x (Some c) xs p s each short letter before utf8 is = elim (cases_lt x 128) [
-  | inl low ↦
-      after_character n (c ∷ []) xs p s each short before (text_of_one c (short_low x low c letter))
-      (text_past x xs low utf8) is
-  | inr high ↦ absurd (let none = short_high x high in cc)
-]
+lettered_text : (n x : ℕ) (xs p s : List ℕ) → Shorter n → length xs < n → IsUtf8 p →
+    IsUtf8 (x ∷ xs) →
+    option_and_then (λ c. prepend (c ∷ []) (content plain xs)) (short_escape x) ≡ Some s →
+    IsUtf8 (p ++ s)
+lettered_text n x xs p s each short before utf8 is =
+    let letter = some_from_then _ (short_escape x) s is in
+    elim (cases_lt x 128) [
+      | inl low ↦
+          after_character n (letter.0 ∷ []) xs p s each short before
+          (text_of_one letter.0 (short_low x low letter.0 letter.1)) (text_past x xs low utf8)
+          letter.2
+      | inr high ↦
+          absurd (none-some letter.0 (sym (short_high x high) ∙ letter.1))
+    ]
 
 escape_text : (t : Bool) (n x : ℕ) (xs p s : List ℕ) → Shorter n → length xs < n → (x == 117) ≡ t →
     IsUtf8 p → IsUtf8 (x ∷ xs) →
@@ -242,7 +211,7 @@ escape_text true n x xs p s each short mark before utf8 is =
     let low : x < 128 = grind (arith, nat_tests) in
     numbered_text n xs p s each short before (text_past x xs low utf8) is
 escape_text false n x xs p s each short mark before utf8 is =
-    lettered_text n x (short_escape x) xs p s each short refl before utf8 is
+    lettered_text n x xs p s each short before utf8 is
 
 escaped_text : (n : ℕ) (xs p s : List ℕ) → Shorter n → length xs < n → IsUtf8 p → IsUtf8 xs →
     content after_backslash xs ≡ Some s → IsUtf8 (p ++ s)
