@@ -1,6 +1,7 @@
 -- What a `Some` and a `None` were made of: for readings that are turned into values, and for values
 -- found inside others.
-use Rattle.std.proofs.Common.{◌≡◌, Bool, true, false, cond, Option, Some, None, option_map, option_and_then, refl}
+use Rattle.std.proofs.Common.{◌≡◌, Bool, true, false, cond, Option, Some, None, option_map}
+use Rattle.std.proofs.Common.{option_and_then, refl}
 use Rattle.std.proofs.lemmas.Option.{same_Some}
 
 pub some_from_map : {A B : Type 0} (f : A → B) (o : Option A) (b : B) → option_map f o ≡ Some b →

@@ -1,5 +1,5 @@
--- What `serde_json` reads from bytes is one document, or has one defect: for `Document::read` and the
--- law `document_or_defect`.
+-- What `serde_json` reads from bytes is one document, or has one defect: for `Document::read` and
+-- the law `document_or_defect`.
 pub mod Above
 pub mod Conversion
 pub mod Defects

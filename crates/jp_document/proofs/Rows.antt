@@ -52,7 +52,8 @@ names_by_bytes : location_cmp (named (codes "B") ∷ nth 5 ∷ []) (named (codes
 names_by_bytes = refl
 
 abbrev list_with_an_object : Value
-list_with_an_object = list (item null (item (object (member (codes "a") (whole (pos 7)) no_members)) no_items))
+list_with_an_object =
+    list (item null (item (object (member (codes "a") (whole (pos 7)) no_members)) no_items))
 
 value_inside : value_at list_with_an_object (nth 1 ∷ named (codes "a") ∷ []) ≡ Some (whole (pos 7))
 value_inside = refl

@@ -33,14 +33,16 @@ among_items : (p : Value → Bool) (test : Key → Bool) (i : ℕ) (vs : Items) 
     everywhere_in_items p vs ≡ true → lookup test (items_from i vs) ≡ Some w → everywhere p w ≡ true
 among_items p test i no_items w all is = cc
 among_items p test i (item v vs) w all is =
-    everywhere-first_or_rest p _ v w _ is (and-left _ _ all) (among_items p test (suc i) vs w (and-right _ _ all))
+    everywhere-first_or_rest p _ v w _ is (and-left _ _ all)
+    (among_items p test (suc i) vs w (and-right _ _ all))
 
 among_members : (p : Value → Bool) (test : Key → Bool) (ms : Members) (w : Value) →
     everywhere_in_members p ms ≡ true → lookup test (members_by_name ms) ≡ Some w →
     everywhere p w ≡ true
 among_members p test no_members w all is = cc
 among_members p test (member n v ms) w all is =
-    everywhere-first_or_rest p _ v w _ is (and-left _ _ all) (among_members p test ms w (and-right _ _ all))
+    everywhere-first_or_rest p _ v w _ is (and-left _ _ all)
+    (among_members p test ms w (and-right _ _ all))
 
 -- what holds everywhere in v holds everywhere in its child
 pub everywhere-child : (p : Value → Bool) (v w : Value) (k : Key) → everywhere p v ≡ true →

@@ -80,7 +80,8 @@ below_stand d l (e ∷ es) document each =
 pub map-location_of-node_below : (l : Location) (es : List (Key × Value))
     → map location_of (map (node_below l) es) ≡ map (λ e. l ++ e.0 ∷ []) es
 map-location_of-node_below l [] = refl
-map-location_of-node_below l (e ∷ es) = ap (λ ls. (l ++ e.0 ∷ []) ∷ ls) (map-location_of-node_below l es)
+map-location_of-node_below l (e ∷ es) =
+    ap (λ ls. (l ++ e.0 ∷ []) ∷ ls) (map-location_of-node_below l es)
 
 -- the children of a node of d are d's nodes at their locations
 pub AreNodes-children : (d : Value) (n : Node) → StandsIn d n
@@ -90,7 +91,8 @@ AreNodes-children d n stands =
     let l = n.location in
     let document = IsDocumentValue-at d v l stands.document stands.there in
     record {
-      locations = map-location_of-node_below l (entries v) ∙ sym (children_of-there d v l stands.there);
+      locations =
+          map-location_of-node_below l (entries v) ∙ sym (children_of-there d v l stands.there);
       stand =
           below_stand d l (entries v) stands.document
           (λ i e at. child_there d v l i e document stands.there at);

@@ -36,11 +36,12 @@ Less-from_is_lt Less h = refl
 Less-from_is_lt Equal h = cc
 Less-from_is_lt Greater h = cc
 
-pub each_less-from_list_all : (n : List ℕ) (ns : List (List ℕ)) → list_all (λ m. is_lt (bytes_cmp n m)) ns ≡ true →
+pub each_less-from_list_all : (n : List ℕ) (ns : List (List ℕ)) →
+    list_all (λ m. is_lt (bytes_cmp n m)) ns ≡ true →
     AllByRecursion (λ m. bytes_cmp n m ≡ Less) ns
 each_less-from_list_all n [] h = tt
 each_less-from_list_all n (m ∷ ns) h =
-    (Less-from_is_lt (bytes_cmp n m) (and-left _ _ h), each_less-from_list_all n ns (and-right _ _ h))
+    (Less-from_is_lt _ (and-left _ _ h), each_less-from_list_all n ns (and-right _ _ h))
 
 pub sorted_from_rise : (ns : List (List ℕ)) → names_rise ns ≡ true → IsStrictlySortedBy bytes_cmp ns
 unfolding IsStrictlySortedBy

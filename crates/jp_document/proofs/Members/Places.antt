@@ -48,7 +48,8 @@ below_up_to : (k : List ℕ) (ms : List Pair) (i : ℕ) (d : Pair) → i < lengt
 below_up_to k [] i d within rise h = absurd (omega (arith, within))
 below_up_to k (m ∷ ms) zero d within rise h = and_from _ _ (ap is_lt h) refl
 below_up_to k (m ∷ ms) (suc i) d within rise h =
-    let first = Less-from_is_lt _ (below_at m.0 ms i d (omega (arith, within)) (and-left _ _ rise)) in
+    let first =
+    Less-from_is_lt _ (below_at m.0 ms i d (omega (arith, within)) (and-left _ _ rise)) in
     and_from _ _ (ap is_lt (nat_list_cmp_total.trans m.0 (get_or ms i d).0 k first h))
     (below_up_to k ms i d (omega (arith, within)) (and-right _ _ rise) h)
 
@@ -139,7 +140,8 @@ below_each-trans : (k n : List ℕ) (ns : List (List ℕ)) → bytes_cmp k n ≡
     list_all (λ m. is_lt (bytes_cmp k m)) ns ≡ true
 below_each-trans k n [] first h = refl
 below_each-trans k n (m ∷ ns) first h =
-    and_from _ _ (ap is_lt (nat_list_cmp_total.trans k n m first (Less-from_is_lt _ (and-left _ _ h))))
+    and_from _ _
+    (ap is_lt (nat_list_cmp_total.trans k n m first (Less-from_is_lt _ (and-left _ _ h))))
     (below_each-trans k n ns first (and-right _ _ h))
 
 pub keys_by : {V : Type 0} (t : List ℕ → Bool) (ms : List (List ℕ × V)) (k : List ℕ) (v : V) →
@@ -156,7 +158,8 @@ rise_by : {V : Type 0} (k : List ℕ) (v : V) (m : List ℕ × V) (ms more : Lis
     (bytes_cmp k m.0 ≡ Greater → names_rise (keys_of (m ∷ more)) ≡ true) →
     names_rise (keys_of (match_ordering o ((k, v) ∷ m ∷ ms) ((m.0, v) ∷ ms) (m ∷ more))) ≡ true
 rise_by k v m ms more Less is rise later =
-    and_from _ _ (and_from _ _ (ap is_lt is) (below_each-trans k m.0 (keys_of ms) is (and-left _ _ rise))) rise
+    and_from _ _
+    (and_from _ _ (ap is_lt is) (below_each-trans k m.0 (keys_of ms) is (and-left _ _ rise))) rise
 rise_by k v m ms more Equal is rise later = rise
 rise_by k v m ms more Greater is rise later = later is
 

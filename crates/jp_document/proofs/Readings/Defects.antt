@@ -132,7 +132,8 @@ value_or_fraction bytes d None reads is =
         spelled = refl;
       },
     )
-value_or_fraction bytes d (Some v) reads is = value_or_long_list bytes d v (everywhere list_fits v) reads is refl
+value_or_fraction bytes d (Some v) reads is =
+    value_or_long_list bytes d v (everywhere list_fits v) reads is refl
 
 value_or_defect : (bytes : List ℕ) (utf8 : Bool) (o : Option Data) → is_utf8 bytes ≡ utf8 →
     read bytes ≡ o → ((w : Value) × IsDocument bytes w) ⊎ ((x : Defect) × HasDefect bytes x)
@@ -154,7 +155,8 @@ long_or_short : (v w : Value) → v ≡ w → IsDocumentValue v → everywhere l
 long_or_short v w same valid long =
     true≢false (sym (fits-allowed v valid) ∙ ap (everywhere list_fits) same ∙ long)
 
-no_defect_beside_value : (bytes : List ℕ) (v : Value) (x : Defect) → IsDocument bytes v → HasDefect bytes x → ⊥
+no_defect_beside_value : (bytes : List ℕ) (v : Value) (x : Defect) → IsDocument bytes v →
+    HasDefect bytes x → ⊥
 no_defect_beside_value bytes v not_json document defect = defect document.reading document.reads
 no_defect_beside_value bytes v (not_whole path) document defect =
     fraction_or_value bytes path document.reading v defect document.reads document.holds

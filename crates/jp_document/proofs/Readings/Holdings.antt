@@ -123,7 +123,8 @@ mutual
   first_member parsed.no_members rise fits none = absurd (cc)
   first_member (parsed.member n d ms) rise fits none =
       first_entry (named n) d (data_members ms) (value_of_data d)
-      (IsAbove-members n ms (each_less-from_list_all n _ (and-left _ _ rise))) refl (first_of d (and-left _ _ fits))
+      (IsAbove-members n ms (each_less-from_list_all n _ (and-left _ _ rise))) refl
+      (first_of d (and-left _ _ fits))
       (λ v is. first_member ms (and-right _ _ rise) (and-right _ _ fits)
       (none_from_both (member n) (value_of_data d) (members_of_data ms) v none is))
 

@@ -17,7 +17,8 @@ use Rattle.jp_document.specs.Private.PathRules.{is_low_digit, is_hex_digit, hex_
 use Rattle.jp_document.specs.Private.PathRules as rule
 use Rattle.jp_document.specs.Spelling.{spelling, control, hex_digit}
 use Rattle.jp_document.proofs.Spellings.Encoded.{encode-ascii, names-encode}
-use Rattle.jp_document.proofs.Spellings.Characters.{has_letter, by_letter, by_number, by_itself, spelling_is}
+use Rattle.jp_document.proofs.Spellings.Characters.{has_letter, by_letter, by_number, by_itself}
+use Rattle.jp_document.proofs.Spellings.Characters.{spelling_is}
 
 -- the form of a rule of paths
 abbrev pub form_of : {u : Bool} {A : Type 0} → PathRule u A → A → Form

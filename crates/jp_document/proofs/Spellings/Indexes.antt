@@ -38,7 +38,8 @@ unfolding index_text
 value_from-index_text n =
     elim (cases_Bool (eqb n 0)) [
       | inl e ↦ rw e (sym (eqb-true n 0 e))
-      | inr e ↦ rw e (value_from-digit_texts 0 (digits_of 10 n) ∙ number_digits_of 10 n (omega arith))
+      | inr e ↦
+          rw e (value_from-digit_texts 0 (digits_of 10 n) ∙ number_digits_of 10 n (omega arith))
     ]
 
 -- it is digits

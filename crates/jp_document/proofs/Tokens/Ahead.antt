@@ -16,8 +16,9 @@ use Rattle.jp_document.specs.Value.{Value, everywhere, everywhere_in_items, ever
 use Rattle.jp_document.specs.Value.{list_fits, items_of, members_of, names_of, names_rise, value_of}
 use Rattle.jp_document.specs.declared.value.Json.{Json}
 use Rattle.jp_document.proofs.Tokens.Turns.{items_turn, items_over, member_turn, members_over}
-use Rattle.jp_document.proofs.Members.Places.{ReadMember, pair, data_of, members_of_data-entries, put_entry}
-use Rattle.jp_document.proofs.Members.Places.{pairs-put_entry, data_of-put_entry, rise_insert, sound_insert}
+use Rattle.jp_document.proofs.Members.Places.{ReadMember, pair, data_of, put_entry}
+use Rattle.jp_document.proofs.Members.Places.{members_of_data-entries, pairs-put_entry}
+use Rattle.jp_document.proofs.Members.Places.{data_of-put_entry, rise_insert, sound_insert}
 use Rattle.jp_document.proofs.Members.ByName.{bytes_cmp}
 use Rattle.jp_document.proofs.Descent.Inside.{all-items}
 use Rattle.std.proofs.lemmas.Bool.{and_from}

@@ -66,7 +66,8 @@ record FourDigits (a b c d u : ℕ) : Type 0 where
 four_digits : (a b c d u : ℕ) → code_unit a b c d ≡ Some u → FourDigits a b c d u
 unfolding code_unit
 four_digits a b c d u is =
-    let both = cond_some (is_digit a 16 && is_digit b 16 && is_digit c 16 && is_digit d 16) _ u is in
+    let both =
+    cond_some (is_digit a 16 && is_digit b 16 && is_digit c 16 && is_digit d 16) _ u is in
     let three =
     and_parts (is_digit a 16 && is_digit b 16 && is_digit c 16) (is_digit d 16) both.0 in
     let two = and_parts (is_digit a 16 && is_digit b 16) (is_digit c 16) three.0 in
@@ -184,7 +185,8 @@ numbered_text n (a ∷ b ∷ c ∷ d ∷ xs) p s each short before utf8 is =
     let unit = some_from_then _ (code_unit a b c d) s is in
     let digits = four_digits a b c d unit.0 unit.1 in
     by_surrogate (is_high_surrogate unit.0) (is_low_surrogate unit.0) n unit.0 xs p s each
-    (omega arith) digits.small refl refl before (text_past_four a b c d unit.0 xs digits utf8) unit.2
+    (omega arith) digits.small refl refl before (text_past_four a b c d unit.0 xs digits utf8)
+    unit.2
 numbered_text n xs p s each short before utf8 is = absurd (cc)
 
 lettered_text : (n x : ℕ) (xs p s : List ℕ) → Shorter n → length xs < n → IsUtf8 p →

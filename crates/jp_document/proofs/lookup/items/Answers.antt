@@ -10,5 +10,6 @@ use Rattle.jp_document.proofs.lookup.items.Goals as goal
 pub returns-in-Null : goal.returns-in-Null
 returns-in-Null c = record {
   found = λ i. no_child_unless Members _ (nth i)
-      (λ v. ap (λ w. child w (nth i)) (value_of-Members v) ∙ child-object_nth i (members_of (map member_of v.items))) c.in-Null.is;
+      (λ v. ap (λ w. child w (nth i)) (value_of-Members v)
+      ∙ child-object_nth i (members_of (map member_of v.items))) c.in-Null.is;
 }

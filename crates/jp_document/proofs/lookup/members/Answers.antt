@@ -12,7 +12,8 @@ use Rattle.jp_document.proofs.lookup.members.Goals as goal
 
 pub returns-in-Null-clause-found : goal.returns-in-Null-clause-found
 returns-in-Null-clause-found c = λ q. no_child_unless ListOf _ (named q)
-    (λ v. ap (λ w. child w (named q)) (value_of-List v) ∙ child-list_named q (items_of (map value_of v.items))) c.in-Null.is
+    (λ v. ap (λ w. child w (named q)) (value_of-List v)
+    ∙ child-list_named q (items_of (map value_of v.items))) c.in-Null.is
 
 pub returns-in-Members-clause-inside : goal.returns-in-Members-clause-inside
 returns-in-Members-clause-inside c = λ m there.

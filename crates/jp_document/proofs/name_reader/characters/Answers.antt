@@ -18,20 +18,23 @@ pub returns-in_err-next : goal.returns-in_err-next
 returns-in_err-next c =
     let p = err_from_is_err_and c.from_residual.result c.from_residual.ensures.1 in
     rw (p.1, p.2, c.characters.invariant)
-    (folds_fail (λ q. passes is_inside (head q)) (read_rule name_character) (path_rule-progress name_character)
+    (folds_fail (λ q. passes is_inside (head q)) (read_rule name_character)
+    (path_rule-progress name_character)
     (λ cs. string_bytes c.characters.name ++ encode_utf8_all cs) c.characters.reader
     c.in_err-next.field-0.0 (sym c.is_at_one_of.ensures ∙ c.characters-test.true)
     c.in_err-next.ensures)
 
 pub characters-smaller : goal.characters-smaller
 characters-smaller c =
-    moved (read_rule name_character) (path_rule-progress name_character) c.characters.reader c.character.new.reader
+    moved (read_rule name_character) (path_rule-progress name_character) c.characters.reader
+    c.character.new.reader
     c.in_ok-next.next c.in_ok-next.ensures
 
 pub characters-preserved : goal.characters-preserved
 characters-preserved c =
     c.characters.invariant
-    ∙ folds_on (λ q. passes is_inside (head q)) (read_rule name_character) (path_rule-progress name_character)
+    ∙ folds_on (λ q. passes is_inside (head q)) (read_rule name_character)
+    (path_rule-progress name_character)
     (λ cs. string_bytes c.characters.name ++ encode_utf8_all cs)
     (λ cs. string_bytes c.push.new.self ++ encode_utf8_all cs) c.characters.reader
     c.character.new.reader c.in_ok-next.next

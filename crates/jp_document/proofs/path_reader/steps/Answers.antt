@@ -15,13 +15,15 @@ unfolding steps
 returns-in_err-next c =
     let p = err_from_is_err_and c.from_residual.result c.from_residual.ensures.1 in
     rw (p.1, p.2, c.steps.invariant)
-    (folds_fail (is_at 91) (read_rule step) (path_rule-progress step) (λ ks. map owned_key c.steps.steps.items ++ ks)
+    (folds_fail (is_at 91) (read_rule step) (path_rule-progress step)
+    (λ ks. map owned_key c.steps.steps.items ++ ks)
     c.steps.reader c.in_err-next.field-0.0 (sym c.is_at.ensures ∙ c.steps-test.true)
     c.in_err-next.ensures)
 
 pub steps-smaller : goal.steps-smaller
 steps-smaller c =
-    moved (read_rule step) (path_rule-progress step) c.steps.reader c.step.new.reader (owned_key c.in_ok-next.next)
+    moved (read_rule step) (path_rule-progress step) c.steps.reader c.step.new.reader
+    (owned_key c.in_ok-next.next)
     c.in_ok-next.ensures
 
 pub steps-preserved : goal.steps-preserved
@@ -31,7 +33,8 @@ steps-preserved c =
     search rules in
     rw (pushed, map-append owned_key c.steps.steps.items (c.in_ok-next.next ∷ []))
     (c.steps.invariant
-    ∙ pushes_on (is_at 91) (read_rule step) (path_rule-progress step) (map owned_key c.steps.steps.items)
+    ∙ pushes_on (is_at 91) (read_rule step) (path_rule-progress step)
+    (map owned_key c.steps.steps.items)
     c.steps.reader c.step.new.reader
     (owned_key c.in_ok-next.next) (sym c.is_at.ensures ∙ c.steps-test.true) c.in_ok-next.ensures)
 

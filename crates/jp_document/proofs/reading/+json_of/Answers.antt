@@ -12,7 +12,8 @@ use Rattle.jp_document.proofs.Readings.ListsFit.{items_fit_more, members_fit_mor
 use Rattle.jp_document.proofs.Readings.Faults.{value_fault-within}
 use Rattle.jp_document.proofs.Values.{member_of_is}
 use Rattle.jp_document.proofs.Readings.Conversion.{ItemsSoFar, items_more, items_stop, items_end}
-use Rattle.jp_document.proofs.Readings.Conversion.{MembersSoFar, members_more, members_stop, members_end}
+use Rattle.jp_document.proofs.Readings.Conversion.{MembersSoFar, members_more}
+use Rattle.jp_document.proofs.Readings.Conversion.{members_stop, members_end}
 use Rattle.jp_document.proofs.reading.+json_of.Goals as goal
 
 pub json_items-loop-item-preserved : goal.json_items-loop-item-preserved
