@@ -12,8 +12,8 @@ use Rattle.jp_reading.specs.Numbers.{is_digit, value_from}
 use Rattle.jp_reading.specs.Texts.{Spans, Text}
 use Rattle.jp_reading.proofs.Digits.{value_from-least}
 use Rattle.jp_document.specs.Path.{index_text}
-use Rattle.jp_document.proofs.IndexTexts.{Begun, begun, decimal-index_text, other_text}
-use Rattle.jp_document.proofs.IndexTexts.{value_from-index_text, zero_text}
+use Rattle.jp_document.proofs.Spellings.Indexes.{Begun, begun, decimal-index_text, other_text}
+use Rattle.jp_document.proofs.Spellings.Indexes.{value_from-index_text, zero_text}
 use Rattle.jp_query.specs.declared.tree.Numeral.{Numeral}
 use Rattle.jp_query.specs.declared.tree.Numeral.TheVariants.{Beyond, Fraction, Whole}
 use Rattle.jp_query.specs.Ints.{Int, is_leading_digit, negative_int}

@@ -9,7 +9,7 @@ use Rattle.std.proofs.lemmas.Str.{IsUtf8-string_bytes, chars_from_encodes}
 use Rattle.std.proofs.lemmas.Str.{encode_ascii, encodes-append, encodes-chars}
 use Rattle.jp_document.specs.Path.{quoted}
 use Rattle.jp_document.specs.Spelling.{spelling}
-use Rattle.jp_document.proofs.Encoded.{names-encode}
+use Rattle.jp_document.proofs.Spellings.Encoded.{names-encode}
 
 -- a text with more bytes has the characters of which these are the UTF-8 as well
 written : {Z : Type 0} (old new : String Z) (before bs cs : List ℕ) → chars (string_bytes old)

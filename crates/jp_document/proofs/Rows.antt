@@ -1,4 +1,4 @@
--- Rows of the definitions, computed.
+-- Rows of the definitions, computed: for a reader who checks them by examples.
 use Rattle.std.proofs.Common.{◌≡◌, pos, negsuc, true, false, [], ◌∷◌, Some, None, Less, refl, codes}
 use Rattle.std.specs.Fmt.{digits}
 use Rattle.jp_document.specs.Location.{named, nth, location_cmp, value_at}
@@ -51,23 +51,24 @@ indexes_by_number = refl
 names_by_bytes : location_cmp (named (codes "B") ∷ nth 5 ∷ []) (named (codes "a") ∷ []) ≡ Less
 names_by_bytes = refl
 
-abbrev sample : Value
-sample = list (item null (item (object (member (codes "a") (whole (pos 7)) no_members)) no_items))
+abbrev list_with_an_object : Value
+list_with_an_object =
+    list (item null (item (object (member (codes "a") (whole (pos 7)) no_members)) no_items))
 
-value_inside : value_at sample (nth 1 ∷ named (codes "a") ∷ []) ≡ Some (whole (pos 7))
+value_inside : value_at list_with_an_object (nth 1 ∷ named (codes "a") ∷ []) ≡ Some (whole (pos 7))
 value_inside = refl
 
-no_value : value_at sample (nth 2 ∷ []) ≡ None
+no_value : value_at list_with_an_object (nth 2 ∷ []) ≡ None
 no_value = refl
 
-no_member : value_at sample (nth 1 ∷ named (codes "b") ∷ []) ≡ None
+no_member : value_at list_with_an_object (nth 1 ∷ named (codes "b") ∷ []) ≡ None
 no_member = refl
 
 rising : names_rise (codes "B" ∷ codes "a" ∷ codes "aa" ∷ []) ≡ true
 rising = refl
 
-repeated : names_rise (codes "a" ∷ codes "a" ∷ []) ≡ false
-repeated = refl
+equal_names : names_rise (codes "a" ∷ codes "a" ∷ []) ≡ false
+equal_names = refl
 
 greatest : fits_64_bits (pos 18446744073709551615) ≡ true
 greatest = refl

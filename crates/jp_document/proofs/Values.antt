@@ -1,4 +1,4 @@
--- A `Json`, level by level, beside the value that it stands for.
+-- A `Json`, level by level, beside the value that it stands for: for each function over a `Json`.
 use Rattle.std.proofs.Common.{◌≡◌, map, Global, Vec, string_bytes, rules}
 use Rattle.jp_document.specs.Value.{list, object, items_of, members_of, value_of, member_of}
 use Rattle.jp_document.specs.declared.value.Json.{Json, List as ListOf, Members, the_lemmas}

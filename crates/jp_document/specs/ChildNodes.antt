@@ -1,10 +1,10 @@
 -- Lists of locations in document order, and the children of a node (RFC 9535 section 1.1).
-use Rattle.std.specs.Prelude.{◌≡◌, ◌↔◌, List, [], ◌∷◌, ◌++◌, Option}
-use Rattle.std.specs.Prelude.{Some, map, option_map, unwrap_or, IsSome}
+use Rattle.std.specs.Prelude.{◌≡◌, ◌↔◌, List, [], ◌∷◌, ◌++◌}
+use Rattle.std.specs.Prelude.{map, option_map, unwrap_or, IsSome}
 use Rattle.std.specs.List.{Contains}
 use Rattle.std.specs.List.Sorted.{IsStrictlySortedBy}
 use Rattle.jp_document.specs.Location.{Key, Location, location_cmp, entries, value_at}
-use Rattle.jp_document.specs.Value.{Value, IsDocumentValue, value_of}
+use Rattle.jp_document.specs.Value.{Value, IsDocumentValue}
 
 -- ls is the list, rising in document order, of exactly the locations that P holds of
 pub record IsListOf (P : Location → Type 0) (ls : List Location) : Type 0 where

@@ -6,7 +6,7 @@ use Rattle.std.specs.List.{All, filter as those_of, flat_map}
 use Rattle.std.proofs.lemmas.List.{append-nil, length-map, map-append}
 use Rattle.std.proofs.lemmas.List.Elements.{All-append, All-cons, All-filter}
 use Rattle.std.proofs.lemmas.List.Elements.{All-head, All-nil, All-tail, All-weaker}
-use Rattle.jp_document.proofs.ChildValues.{value_at-step}
+use Rattle.jp_document.proofs.Descent.Inside.{value_at-step}
 use Rattle.jp_document.specs.Location.{Key, Location, entries, value_at}
 use Rattle.jp_document.specs.Node.{AreNodes, Node, StandsIn, location_of, node_below, root_of}
 use Rattle.jp_document.specs.Value.{IsDocumentValue, Value, whole}

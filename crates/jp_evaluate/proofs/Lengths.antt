@@ -2,7 +2,7 @@
 use Rattle.std.proofs.Common.{◌≡◌, suc, List, [], ◌∷◌, length, map, refl, ap, ◌∙◌, sym}
 use Rattle.std.proofs.lemmas.List.{length-map}
 use Rattle.std.proofs.lemmas.Map.Entries.{length-keys_of}
-use Rattle.jp_document.proofs.Names.{names_of-members_of}
+use Rattle.jp_document.proofs.Members.ByName.{names_of-members_of}
 use Rattle.jp_document.specs.Value.{item_count, items_of, member_of, members_of, names_of, value_of}
 use Rattle.jp_document.specs.declared.value.Json.{Json}
 use Rattle.jp_document.specs.declared.value.Member.{Member}

@@ -5,10 +5,11 @@ use Rattle.std.proofs.lemmas.Bool.{leb-true}
 use Rattle.std.proofs.lemmas.List.{append-nil}
 use Rattle.std.proofs.lemmas.List.Elements.{All-cons, All-nil}
 use Rattle.std.proofs.lemmas.Option.{option_and_then_some, slice_get_within}
-use Rattle.jp_document.proofs.ChildValues.{IsDocumentValue-child, value_at-step}
-use Rattle.jp_document.proofs.Items.{child-nth}
-use Rattle.jp_document.proofs.Names.{and-left, child-object_nth}
-use Rattle.jp_document.proofs.TextNames.{IsUtf8-child_named}
+use Rattle.jp_document.proofs.Descent.Inside.{IsDocumentValue-child, value_at-step}
+use Rattle.jp_document.proofs.Descent.Items.{child-nth}
+use Rattle.jp_document.proofs.Members.ByName.{child-object_nth}
+use Rattle.jp_document.proofs.Conjunctions.{and-left}
+use Rattle.jp_document.proofs.Members.TextNames.{IsUtf8-child_named}
 use Rattle.jp_document.specs.Location.{Key, Location, child, named, nth, value_at}
 use Rattle.jp_document.specs.Value.{IsDocumentValue, Items, Value, boolean, item, item_count, items_of, list, no_items, null, object, text, whole}
 use Rattle.jp_query.specs.Items.{segments_items}

@@ -10,8 +10,8 @@ use Rattle.std.specs.Option.{option_map_or}
 use Rattle.std.specs.Str.{encode_utf8_all}
 use Rattle.std.proofs.lemmas.List.{map-append}
 use Rattle.std.proofs.lemmas.List.Elements.{All-append, All-cons, All-nil}
-use Rattle.jp_document.proofs.ChildValues.{value_at-step}
-use Rattle.jp_document.proofs.Entries.{child-entry}
+use Rattle.jp_document.proofs.Descent.Inside.{value_at-step}
+use Rattle.jp_document.proofs.Descent.Entries.{child-entry}
 use Rattle.jp_document.specs.ChildNodes.{children_of}
 use Rattle.jp_document.specs.Location.{Key, Location, child, entries, items_from}
 use Rattle.jp_document.specs.Location.{key_cmp, named, nth, value_at}

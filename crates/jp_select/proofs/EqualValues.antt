@@ -18,10 +18,11 @@ use Rattle.jp_document.specs.Location.{members_by_name, entries, child}
 use Rattle.jp_document.specs.Value.{Value, null, boolean, whole, text, list, object}
 use Rattle.jp_document.specs.Value.{Items, no_items, item, item_count, Members}
 use Rattle.jp_document.specs.Value.{no_members, member, items_of, IsDocumentValue}
-use Rattle.jp_document.proofs.ChildValues.{IsDocumentValue-child}
-use Rattle.jp_document.proofs.Entries.{key_cmp_total, entries-rise}
-use Rattle.jp_document.proofs.Items.{child-nth}
-use Rattle.jp_document.proofs.Names.{child-list_named, child-object_nth}
+use Rattle.jp_document.proofs.Descent.Inside.{IsDocumentValue-child}
+use Rattle.jp_document.proofs.Descent.Keys.{key_cmp_total}
+use Rattle.jp_document.proofs.Descent.Entries.{entries-rise}
+use Rattle.jp_document.proofs.Descent.Items.{child-nth}
+use Rattle.jp_document.proofs.Members.ByName.{child-list_named, child-object_nth}
 use Rattle.jp_select.specs.Comparison.{equals}
 use Rattle.jp_select.specs.Equality.{IsEqual, nulls, truths, numbers, texts, lists, objects}
 use Rattle.jp_select.specs.Laws.{EqualsIsExact}

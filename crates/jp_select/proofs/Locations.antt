@@ -10,8 +10,8 @@ use Rattle.jp_document.specs.Location.{members_by_name, entries, child, value_at
 use Rattle.jp_document.specs.Node.{AreNodes, Node, StandsIn, location_of, root_of}
 use Rattle.jp_document.specs.Value.{Value, null, boolean, whole, text, list, object, Items}
 use Rattle.jp_document.specs.Value.{no_items, item, Members, no_members, member, IsDocumentValue}
-use Rattle.jp_document.proofs.ChildValues.{IsDocumentValue-child}
-use Rattle.jp_document.proofs.Entries.{child-entry}
+use Rattle.jp_document.proofs.Descent.Inside.{IsDocumentValue-child}
+use Rattle.jp_document.proofs.Descent.Entries.{child-entry}
 use Rattle.jp_select.specs.Subtree.{after, beyond, location_beyond, subtree_of}
 use Rattle.jp_select.specs.Subtree.{nodes_in, nodes_in_items, nodes_in_members, subtree}
 

@@ -20,8 +20,9 @@ use Rattle.jp_document.specs.Location.{Key, named, nth, key_cmp, Location}
 use Rattle.jp_document.specs.Location.{location_cmp, entries, child, value_at}
 use Rattle.jp_document.specs.Node.{Node, location_of, root_of}
 use Rattle.jp_document.specs.Value.{Value, IsDocumentValue}
-use Rattle.jp_document.proofs.ChildValues.{IsDocumentValue-child}
-use Rattle.jp_document.proofs.Entries.{key_cmp_total, entries-rise, child-entry}
+use Rattle.jp_document.proofs.Descent.Inside.{IsDocumentValue-child}
+use Rattle.jp_document.proofs.Descent.Keys.{key_cmp_total}
+use Rattle.jp_document.proofs.Descent.Entries.{entries-rise, child-entry}
 use Rattle.jp_select.specs.Subtree.{IsInSubtree, after, location_beyond, nodes_in, subtree}
 use Rattle.jp_select.proofs.Locations.{value_at-append, IsDocumentValue-at, inner}
 use Rattle.jp_select.proofs.Locations.{nodes_in-entries, by_children, Stands, nodes_stand}

@@ -6,7 +6,7 @@ use Rattle.std.specs.List.{All, slice_get}
 use Rattle.std.proofs.lemmas.List.{append-nil, length_push, map-append}
 use Rattle.std.proofs.lemmas.List.Elements.{All-map, All-same, All-weaker}
 use Rattle.std.specs.Str.{chars}
-use Rattle.jp_document.proofs.ChildValues.{value_at-step}
+use Rattle.jp_document.proofs.Descent.Inside.{value_at-step}
 use Rattle.jp_document.specs.Location.{Key, Location, value_at}
 use Rattle.jp_document.specs.Node.{AreNodes, Located, Node, StandsIn}
 use Rattle.jp_document.specs.Node.{location_of, node_below, node_of}

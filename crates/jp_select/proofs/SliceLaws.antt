@@ -16,7 +16,7 @@ use Rattle.std.proofs.lemmas.List.Sorted.{Contains-permutation}
 use Rattle.std.proofs.lemmas.List.Sorted.{IsPermutation-reverse, IsPermutation-sym}
 use Rattle.std.proofs.lemmas.Nat.{div-add-mod'}
 use Rattle.std.proofs.Math.Nat.{add-mul-mod_self_right}
-use Rattle.jp_document.proofs.Names.{and-left, and-right}
+use Rattle.jp_document.proofs.Conjunctions.{and-left, and-right}
 use Rattle.jp_select.specs.Laws.{IsRisingSlice, IsFallingSlice, SlicesAreExact}
 use Rattle.jp_select.specs.Slice.{normalized, held_within, rising_lower, rising_upper}
 use Rattle.jp_select.specs.Slice.{falling_lower, falling_upper, is_rising, is_falling, indexes}

@@ -1,4 +1,4 @@
--- Each rule of paths tells its ways, and what follows it, by the next character.
+-- Each rule of paths tells its ways, and what follows it, by the next character: for completeness.
 use Rattle.std.proofs.Common.{ℕ, Bool, true, false, Option, Some, None, refl, arith}
 use Rattle.std.proofs.lemmas.Bool.Decides.{nat_tests}
 use Rattle.jp_reading.specs.Numbers.{is_digit}
@@ -8,8 +8,8 @@ use Rattle.jp_reading.proofs.Rules.Follow.{begins, Excludes, Apart, under-same}
 use Rattle.jp_reading.proofs.Rules.Follow.{under-left, implies-same, apart-run}
 use Rattle.jp_document.specs.Private.PathRules.{nesting}
 use Rattle.jp_document.specs.Private.PathRules as rule
-use Rattle.jp_document.proofs.Alive.{character-alive, name-alive}
-use Rattle.jp_document.proofs.Alive.{index-alive, step-alive, path-alive}
+use Rattle.jp_document.proofs.Paths.Alive.{character-alive, name-alive}
+use Rattle.jp_document.proofs.Paths.Alive.{index-alive, step-alive, path-alive}
 
 -- nothing follows
 abbrev pub is_none : Option ℕ → Bool

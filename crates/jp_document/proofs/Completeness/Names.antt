@@ -1,4 +1,4 @@
--- The spelling of each name between quotes is a text of the rule of names.
+-- The spelling of each name between quotes is a text of the rule of names: for completeness.
 use Rattle.std.proofs.Common.{◌≡◌, ℕ, zero, suc, ◌/◌, ◌%◌, ◌<◌, ◌≤◌, nat_lt, true, false}
 use Rattle.std.proofs.Common.{List, [], ◌∷◌, ◌++◌, length, get_or, inl, inr, refl, sym}
 use Rattle.std.proofs.Common.{ap, subst, ◌∙◌, append_assoc, length-append, arith}
@@ -17,11 +17,11 @@ use Rattle.jp_reading.proofs.Rules.Form.{left, right}
 use Rattle.jp_document.specs.Private.PathRules.{is_letter, is_low_digit, is_hex_digit, hex_value}
 use Rattle.jp_document.specs.Private.PathRules as rule
 use Rattle.jp_document.specs.Spelling.{spelling, hex_digit}
-use Rattle.jp_document.proofs.Encoded.{first-ascii, front-ascii, high-plain}
-use Rattle.jp_document.proofs.Encoded.{high-bytes, peel, spelling-low}
-use Rattle.jp_document.proofs.Soundness.Names.{form_of}
-use Rattle.jp_document.proofs.Spelled.{has_letter, Spelled, by_letter, by_number}
-use Rattle.jp_document.proofs.Spelled.{by_itself, spelled, spelling_is, hex_digit_is}
+use Rattle.jp_document.proofs.Spellings.Encoded.{first-ascii, front-ascii, high-plain}
+use Rattle.jp_document.proofs.Spellings.Encoded.{high-bytes, peel, spelling-low}
+use Rattle.jp_document.proofs.Soundness.Names.{form_of, Hexchar}
+use Rattle.jp_document.proofs.Spellings.Characters.{has_letter, Spelled, by_letter, by_number}
+use Rattle.jp_document.proofs.Spellings.Characters.{by_itself, spelled, spelling_is, hex_digit_is}
 
 -- ---- characters of names
 
@@ -33,6 +33,23 @@ low-digit c small none =
       | inr e ↦ rw e (grind (arith, nat_tests))
     ]
 
+low-hexchar-has : (c : ℕ) → c < 16 → has_letter c ≡ false
+    → HasForm (Hexchar c) (48 ∷ hex_digit c ∷ [])
+low-hexchar-has c low none = has-as (λ s o h. left h) (both (has-word (48 ∷ [])) (has-as
+    (λ s o h. record { part = hex_digit c; same = sym (hex_digit_is c low).1; is = h })
+    (has-one is_low_digit (hex_digit c) (low-digit c low none))))
+
+high-hexchar-has : (c : ℕ) → 16 ≤ c → c < 32 → HasForm (Hexchar c) (49 ∷ hex_digit (c % 16) ∷ [])
+high-hexchar-has c above small =
+    let digit = hex_digit_is (c % 16) (omega arith) in
+    has-as (λ s o h. right h) (both (has-word (49 ∷ [])) (has-as
+    (λ s o h. record {
+      part = hex_digit (c % 16);
+      same = (let e = digit.1 in omega arith);
+      is = h;
+    })
+    (has-one is_hex_digit (hex_digit (c % 16)) digit.0)))
+
 hexchar-has : (c : ℕ) → c < 32 → has_letter c ≡ false
     → HasForm (form_of rule.hexchar c) (48 ∷ 48 ∷ hex_digit (c / 16) ∷ hex_digit (c % 16) ∷ [])
 unfolding rule.hexchar
@@ -41,21 +58,10 @@ hexchar-has c small none =
       | inl low ↦
           let high : c / 16 ≡ 0 = omega arith in
           let last : c % 16 ≡ c = omega arith in
-          has-same (rw (high, last) refl) (has-as (λ s o h. left h) (both (has-word (48 ∷ []))
-          (has-as
-          (λ s o h. record { part = hex_digit c; same = sym (hex_digit_is c low).1; is = h })
-          (has-one is_low_digit (hex_digit c) (low-digit c low none)))))
+          has-same {P = Hexchar c} (rw (high, last) refl) (low-hexchar-has c low none)
       | inr above ↦
           let high : c / 16 ≡ 1 = omega arith in
-          let digit = hex_digit_is (c % 16) (omega arith) in
-          has-same (rw high refl) (has-as (λ s o h. right h) (both (has-word (49 ∷ []))
-          (has-as (λ s o h. record {
-            part = hex_digit (c % 16);
-            same =
-                (let e = digit.1 in omega arith);
-            is = h;
-          })
-          (has-one is_hex_digit (hex_digit (c % 16)) digit.0))))
+          has-same {P = Hexchar c} (rw high refl) (high-hexchar-has c above small)
     ]))
 
 spelled-has : (c : ℕ) (w : Text) → Spelled c w → HasForm (form_of rule.name_character c) w

@@ -1,4 +1,4 @@
--- The path of each list of steps is read, to its end.
+-- The path of each list of steps is read, to its end: for what `read_path` refuses.
 use Rattle.std.proofs.Common.{◌≡◌, ℕ, ◌<◌, min, true, List, [], ◌∷◌, ◌++◌, length, map}
 use Rattle.std.proofs.Common.{refl, sym, ap, ◌∙◌, append_assoc, length-append, arith}
 use Rattle.std.proofs.lemmas.Bool.Decides.{nat_tests}
@@ -23,21 +23,21 @@ use Rattle.jp_document.specs.Path.{index_text, step_text, path_of}
 use Rattle.jp_document.specs.Private.PathReading.{path_at}
 use Rattle.jp_document.specs.Private.PathRules.{nesting, is_leading_digit}
 use Rattle.jp_document.specs.Private.PathRules as rule
-use Rattle.jp_document.proofs.Alive.{path-alive}
+use Rattle.jp_document.proofs.Paths.Alive.{path-alive}
 use Rattle.jp_document.proofs.Completeness.Apart.{at_end, path-apart}
 use Rattle.jp_document.proofs.Completeness.Names.{Begins, enclosed-has, name-begins}
-use Rattle.jp_document.proofs.Encoded.{front-ascii, first-ascii, digits-ascii}
-use Rattle.jp_document.proofs.IndexTexts.{value_from-index_text, digits-index_text}
-use Rattle.jp_document.proofs.IndexTexts.{Begun, zero_text, other_text, begun}
-use Rattle.jp_document.proofs.LargeIndexes.{capped_key}
-use Rattle.jp_document.proofs.PathsDiffer.{step-named, step-nth}
+use Rattle.jp_document.proofs.Spellings.Encoded.{front-ascii, first-ascii, digits-ascii}
+use Rattle.jp_document.proofs.Spellings.Indexes.{value_from-index_text, digits-index_text}
+use Rattle.jp_document.proofs.Spellings.Indexes.{Begun, zero_text, other_text, begun}
+use Rattle.jp_document.proofs.Paths.LargeIndexes.{capped_key}
+use Rattle.jp_document.proofs.Paths.Differ.{step-named, step-nth}
 use Rattle.jp_document.proofs.Soundness.Names.{form_of}
 
 -- ---- steps
 
-leading : (d : ℕ) → is_digit d ≡ true → 48 < d → is_leading_digit d ≡ true
+is_leading_digit-above_zero : (d : ℕ) → is_digit d ≡ true → 48 < d → is_leading_digit d ≡ true
 unfolding is_digit
-leading d digit above = grind (arith, nat_tests)
+is_leading_digit-above_zero d digit above = grind (arith, nat_tests)
 
 index-has : (n : ℕ) (w : Text) → Begun n w → w ≡ index_text n
     → HasForm (form_of rule.index (min n 9007199254740992)) w
@@ -52,7 +52,7 @@ index-has n w (other_text d ds is digit all above) text =
     ∙ ap (λ (m : ℕ). min m 9007199254740992)
     (ap (value_from 0) (sym is ∙ text) ∙ value_from-index_text n)) in
     has-same (sym is) (has-as (λ s o h. right (record { part = d; is = h }))
-    (both (has-one is_leading_digit d (leading d digit above))
+    (both (has-one is_leading_digit d (is_leading_digit-above_zero d digit above))
     (has-as (λ s o h. record { part = ds; same = value; is = h })
     (has-each_passing is_digit ds all))))
 

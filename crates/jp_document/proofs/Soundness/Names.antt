@@ -1,4 +1,4 @@
--- What the rule of names takes is a name's spelling between quotes.
+-- What the rule of names takes is a name's spelling between quotes: for soundness.
 use Rattle.std.proofs.Common.{◌≡◌, ◌*◌, ℕ, ◌+◌, ◌/◌, ◌%◌, ◌<◌, nat_lt, Bool, false, true, List}
 use Rattle.std.proofs.Common.{[], ◌∷◌, ◌++◌, inl, inr, refl, sym, ap, subst, ◌∙◌, ◌≤◌, arith}
 use Rattle.std.proofs.lemmas.Bool.{cases_Bool}
@@ -16,8 +16,9 @@ use Rattle.jp_document.specs.Private.PathRules.{nesting, PathRule, is_letter, me
 use Rattle.jp_document.specs.Private.PathRules.{is_low_digit, is_hex_digit, hex_value}
 use Rattle.jp_document.specs.Private.PathRules as rule
 use Rattle.jp_document.specs.Spelling.{spelling, control, hex_digit}
-use Rattle.jp_document.proofs.Encoded.{encode-ascii, names-encode}
-use Rattle.jp_document.proofs.Spelled.{has_letter, by_letter, by_number, by_itself, spelling_is}
+use Rattle.jp_document.proofs.Spellings.Encoded.{encode-ascii, names-encode}
+use Rattle.jp_document.proofs.Spellings.Characters.{has_letter, by_letter, by_number, by_itself}
+use Rattle.jp_document.proofs.Spellings.Characters.{spelling_is}
 
 -- the form of a rule of paths
 abbrev pub form_of : {u : Bool} {A : Type 0} → PathRule u A → A → Form
@@ -53,6 +54,12 @@ enclosed-is F a b x =
     subst (λ z. (F z ⌢ word (b ∷ [])) s o t) (sym end.same) end.is))
 
 -- ---- characters of names
+
+-- the digits of a number below 16, and of one from there on
+abbrev pub Hexchar : ℕ → Form
+Hexchar c =
+    Either (word (48 ∷ []) ⌢ Made hex_value (One is_low_digit) c)
+    (word (49 ∷ []) ⌢ Made (λ d. 16 + hex_value d) (One is_hex_digit) c)
 
 -- the number of a character that has no letter
 record Numbered (c : ℕ) (s : Spans) (o : ℕ) (t : Text) : Type 0 where
@@ -105,9 +112,7 @@ hexchar-within c s o t h = way _ h.two.two
     text : (u : Text) → h.two.second ≡ u → t ≡ 48 ∷ 48 ∷ u
     text u e = rw (h.is, h.one.is, h.two.is, h.two.one.is, e) refl
 
-    way : (i : ℕ) → Either (word (48 ∷ []) ⌢ Made hex_value (One is_low_digit) c)
-        (word (49 ∷ []) ⌢ Made (λ d. 16 + hex_value d) (One is_hex_digit) c)
-        h.two.second_spans i h.two.second → Numbered c s o t
+    way : (i : ℕ) → Hexchar c h.two.second_spans i h.two.second → Numbered c s o t
     way i (left g) =
         let d = g.two.part in
         let digit = low-number d g.two.is.passes in

@@ -1,4 +1,5 @@
--- What the rule of paths takes, up to the end of the text, is the path of the steps that it took.
+-- What the rule of paths takes, up to the end of the text, is the path of the steps that it took:
+-- for what `read_path` answers.
 use Rattle.std.proofs.Common.{◌≡◌, ℕ, min, eqb, Bool, true, false, cond, List, []}
 use Rattle.std.proofs.Common.{◌∷◌, ◌++◌, length, map, refl, sym, ap, ◌∙◌, arith}
 use Rattle.std.proofs.lemmas.Bool.{eqb-true}
@@ -24,10 +25,10 @@ use Rattle.jp_document.specs.Path.{index_text, step_text, path_of}
 use Rattle.jp_document.specs.Private.PathReading.{read_rule, path_at}
 use Rattle.jp_document.specs.Private.PathRules.{nesting, is_leading_digit}
 use Rattle.jp_document.specs.Private.PathRules as rule
-use Rattle.jp_document.proofs.Alive.{path-alive}
-use Rattle.jp_document.proofs.Encoded.{encode-ascii, digits-ascii}
-use Rattle.jp_document.proofs.IndexTexts.{index_text-value, index_text-zero}
-use Rattle.jp_document.proofs.LargeIndexes.{capped_key}
+use Rattle.jp_document.proofs.Paths.Alive.{path-alive}
+use Rattle.jp_document.proofs.Spellings.Encoded.{encode-ascii, digits-ascii}
+use Rattle.jp_document.proofs.Spellings.Indexes.{index_text-value, index_text-zero}
+use Rattle.jp_document.proofs.Paths.LargeIndexes.{capped_key}
 use Rattle.jp_document.proofs.Soundness.Names.{form_of, enclosed, enclosed-is, name-within}
 
 -- ---- steps

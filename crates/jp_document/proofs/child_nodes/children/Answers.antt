@@ -4,7 +4,7 @@ use Rattle.std.specs.List.{slice_get}
 use Rattle.std.specs.Option.{option_map}
 use Rattle.jp_document.specs.ChildNodes.{children_of}
 use Rattle.jp_document.specs.Node.{AreNodes, children, node_of}
-use Rattle.jp_document.proofs.ChildLaws.{grown, finished, AreNodes-children}
+use Rattle.jp_document.proofs.Descent.Nodes.{grown, finished, AreNodes-children}
 use Rattle.jp_document.proofs.child_nodes.children.Goals as goal
 
 pub loop-nodes-preserved : goal.loop-nodes-preserved

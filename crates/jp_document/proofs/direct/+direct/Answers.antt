@@ -9,33 +9,27 @@ use Rattle.json.specs.Reads.{token_of}
 use Rattle.json.proofs.Grammar.{read_key-shorter}
 use Rattle.jp_document.specs.Private.Direct.{ReadsValue}
 use Rattle.jp_document.specs.Private.MemberList.{entries_of}
-use Rattle.jp_document.proofs.Names.{bytes_cmp}
-use Rattle.jp_document.specs.Value.{null, boolean, whole, text, value_of}
-use Rattle.jp_document.specs.declared.value.Json.{Null, Bool, Whole, Text, the_lemmas}
-use Rattle.jp_document.proofs.DirectAhead.{ahead_item, ahead_items_end, ahead_item_short}
-use Rattle.jp_document.proofs.DirectAhead.{ahead_member, ahead_members_end}
-use Rattle.jp_document.proofs.DirectTurns.{reads-null, reads-boolean, reads-text}
-use Rattle.jp_document.proofs.DirectTurns.{reads-whole, reads-list, reads-object}
-use Rattle.jp_document.proofs.Values.{value_of-List, value_of-Members}
+use Rattle.jp_document.proofs.Members.ByName.{bytes_cmp}
+use Rattle.jp_document.specs.Value.{value_of}
+use Rattle.jp_document.specs.declared.value.Json.{Whole}
+use Rattle.jp_document.proofs.Tokens.Ahead.{ahead_item, ahead_items_end, ahead_item_short}
+use Rattle.jp_document.proofs.Tokens.Ahead.{ahead_member, ahead_members_end}
+use Rattle.jp_document.proofs.Tokens.Turns.{reads-null, reads-boolean, reads-text}
+use Rattle.jp_document.proofs.Tokens.Turns.{reads-whole, reads-list, reads-object}
 use Rattle.jp_document.proofs.direct.+direct.Goals as goal
 
 pub value-returns-in-Null-clause-reads : goal.value-returns-in-Null-clause-reads
 value-returns-in-Null-clause-reads t c =
     let first : c.args.reader.now ≡ token_of c.in_ok-token.token ∷ c.next.new.self = grind arith in
     let is : c.args.reader.now ≡ Token.null ∷ c.next.new.self = grind (arith, first) in
-    let seen : value_of Null ≡ null = search (rules, the_lemmas) in
-    subst (ReadsValue c.args.depth c.args.reader.now c.next.new.self) (sym seen)
-    (reads-null c.args.depth c.args.reader.now c.next.new.self is)
+    reads-null c.args.depth c.args.reader.now c.next.new.self is
 
 pub value-returns-in-Bool-clause-reads : goal.value-returns-in-Bool-clause-reads
 value-returns-in-Bool-clause-reads t c =
     let first : c.args.reader.now ≡ token_of c.in_ok-token.token ∷ c.next.new.self = grind arith in
     let is : c.args.reader.now ≡ Token.boolean c.in-Bool.truth ∷ c.next.new.self =
     grind (arith, first) in
-    let seen : value_of (Bool c.in-Bool.truth) ≡ boolean c.in-Bool.truth =
-    search (rules, the_lemmas) in
-    subst (ReadsValue c.args.depth c.args.reader.now c.next.new.self) (sym seen)
-    (reads-boolean c.args.depth c.args.reader.now c.next.new.self _ is)
+    reads-boolean c.args.depth c.args.reader.now c.next.new.self _ is
 
 pub value-returns-in_ok-integer_of-in-Number-clause-reads :
     goal.value-returns-in_ok-integer_of-in-Number-clause-reads
@@ -45,10 +39,8 @@ value-returns-in_ok-integer_of-in-Number-clause-reads t c =
     grind (arith, first) in
     let z = c.in_ok-integer_of-in-Number.field-0 in
     let same : to_z w128 (of_z w128 z) ≡ z = search rules in
-    let seen : value_of (Whole z) ≡ whole z = search (rules, the_lemmas) in
-    subst (ReadsValue c.args.depth c.args.reader.now c.next.new.self)
-    (sym (ap (λ n. value_of (Whole n)) same ∙ seen))
-    (reads-whole c.args.depth c.args.reader.now c.next.new.self _ _ is
+    subst (λ n. ReadsValue c.args.depth c.args.reader.now c.next.new.self (value_of (Whole n)))
+    (sym same) (reads-whole c.args.depth c.args.reader.now c.next.new.self _ _ is
     c.in_ok-integer_of-in-Number.ensures)
 
 pub value-returns-in_ok-ok-in-String-clause-reads :
@@ -58,32 +50,24 @@ value-returns-in_ok-ok-in-String-clause-reads t c =
     let is : c.args.reader.now ≡ Token.string c.in-String.text.now ∷ c.next.new.self =
     grind (arith, first) in
     let copied : string_bytes c.in_ok-ok-in-String.field-0 ≡ c.in-String.text.now = search rules in
-    let seen : value_of (Text c.in_ok-ok-in-String.field-0) ≡
-    text (string_bytes c.in_ok-ok-in-String.field-0) = search (rules, the_lemmas) in
-    subst (ReadsValue c.args.depth c.args.reader.now c.next.new.self) (sym (seen ∙ ap text copied))
-    (reads-text c.args.depth c.args.reader.now c.next.new.self _ is)
+    reads-text c.args.depth c.args.reader.now c.next.new.self c.in_ok-ok-in-String.field-0
+    (is ∙ ap (λ s. Token.string s ∷ c.next.new.self) (sym copied))
 
 pub value-returns-in_ok-items-in-BeginArray-clause-reads :
     goal.value-returns-in_ok-items-in-BeginArray-clause-reads
 value-returns-in_ok-items-in-BeginArray-clause-reads t c =
     let first : c.args.reader.now ≡ token_of c.in_ok-token.token ∷ c.next.new.self = grind arith in
     let is : c.args.reader.now ≡ Token.begin_array ∷ c.next.new.self = grind (arith, first) in
-    let found = c.in_ok-items-in-BeginArray in
-    subst (ReadsValue c.args.depth c.args.reader.now c.items.new.reader)
-    (sym (value_of-List found.field-0))
-    (reads-list c.args.depth c.args.reader.now c.next.new.self c.items.new.reader _
-    (omega arith) is found.ensures.reads)
+    reads-list c.args.depth c.args.reader.now c.next.new.self c.items.new.reader _
+    (omega arith) is c.in_ok-items-in-BeginArray.ensures.reads
 
 pub value-returns-in_ok-members-in-BeginObject-clause-reads :
     goal.value-returns-in_ok-members-in-BeginObject-clause-reads
 value-returns-in_ok-members-in-BeginObject-clause-reads t c =
     let first : c.args.reader.now ≡ token_of c.in_ok-token.token ∷ c.next.new.self = grind arith in
     let is : c.args.reader.now ≡ Token.begin_object ∷ c.next.new.self = grind (arith, first) in
-    let found = c.in_ok-members-in-BeginObject in
-    subst (ReadsValue c.args.depth c.args.reader.now c.members.new.reader)
-    (sym (value_of-Members found.field-0))
-    (reads-object c.args.depth c.args.reader.now c.next.new.self c.members.new.reader _
-    (omega arith) is found.ensures.reads)
+    reads-object c.args.depth c.args.reader.now c.next.new.self c.members.new.reader _
+    (omega arith) is c.in_ok-members-in-BeginObject.ensures.reads
 
 pub items-items-preserved : goal.items-items-preserved
 items-items-preserved t c =

@@ -3,7 +3,7 @@ use Rattle.json.specs.Token.{Token}
 use Rattle.jp_document.specs.Private.Direct.{ReadsItems}
 use Rattle.jp_document.specs.Private.MemberList.{entries_of}
 use Rattle.jp_document.specs.Value.{Value, everywhere_in_items, list_fits, items_of, value_of}
-use Rattle.jp_document.proofs.DirectAhead.{MembersAhead}
+use Rattle.jp_document.proofs.Tokens.Ahead.{MembersAhead}
 use Rattle.jp_document.proofs.direct.+direct.Given as goal
 
 abbrev pub decreases-value : goal.decreases-value

@@ -1,7 +1,7 @@
 use Rattle.std.proofs.Common.{◌≡◌, subst, rules, IsUtf8}
 use Rattle.jp_document.specs.Private.Direct.{ReadsText}
 use Rattle.jp_document.specs.Value.{value_of}
-use Rattle.jp_document.proofs.DirectAhead.{document_from_text}
+use Rattle.jp_document.proofs.Tokens.Ahead.{document_from_text}
 use Rattle.jp_document.proofs.direct.direct_value.Goals as goal
 
 pub returns : goal.returns

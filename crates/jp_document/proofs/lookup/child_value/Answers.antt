@@ -5,7 +5,7 @@ use Rattle.std.proofs.lemmas.Map.Views.{Contains-from_lookup, tells_apart}
 use Rattle.jp_document.specs.Location.{Key, child, entries, key_of, nth}
 use Rattle.jp_document.specs.Value.{Value, value_of}
 use Rattle.jp_document.specs.declared.value.Json.{Json}
-use Rattle.jp_document.proofs.Fractions.{key_exact}
+use Rattle.jp_document.proofs.Descent.Keys.{key_exact}
 use Rattle.jp_document.proofs.lookup.child_value.Goals as goal
 
 found_entry : (v : Value) (k : Key) (o : Option (Bor Json))

@@ -1,6 +1,6 @@
 use Rattle.std.proofs.Common.{map, sym, ◌∙◌}
 use Rattle.jp_document.specs.Value.{value_of}
-use Rattle.jp_document.proofs.Items.{child-nth, get_seen}
+use Rattle.jp_document.proofs.Descent.Items.{child-nth, get_seen}
 use Rattle.jp_document.proofs.lookup.item_at.Goals as goal
 
 pub returns : goal.returns

@@ -5,8 +5,8 @@ use Rattle.std.proofs.lemmas.Map.Lookups.{exact_bytes}
 use Rattle.std.proofs.lemmas.Fn.{always_returns_same}
 use Rattle.jp_document.specs.Location.{entries, named}
 use Rattle.jp_document.specs.Value.{value_of, member_of}
-use Rattle.jp_document.proofs.Names.{bytes_cmp, found_pair, child_at_name}
-use Rattle.jp_document.proofs.Names.{sorted_members, searched_name}
+use Rattle.jp_document.proofs.Members.ByName.{bytes_cmp, found_pair, child_at_name}
+use Rattle.jp_document.proofs.Members.ByName.{sorted_members, searched_name}
 use Rattle.jp_document.proofs.lookup.member_named.Goals as goal
 
 pub returns-in-Ok-clause-found : goal.returns-in-Ok-clause-found

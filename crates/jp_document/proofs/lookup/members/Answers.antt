@@ -1,32 +1,19 @@
-use Rattle.std.proofs.Common.{◌≡◌, map, ap, sym, subst, ◌∙◌, inl, inr, rules}
+use Rattle.std.proofs.Common.{◌≡◌, map, ap, sym, subst, ◌∙◌}
 use Rattle.std.specs.List.{Contains}
-use Rattle.jp_document.proofs.ChildLaws.{Contains-map}
+use Rattle.jp_document.proofs.Descent.Exact.{Contains-map}
 use Rattle.jp_document.specs.Location.{child, entries, named}
 use Rattle.jp_document.specs.Value.{items_of, member_of, value_of}
-use Rattle.jp_document.specs.declared.value.Json.{the_lemmas}
-use Rattle.jp_document.proofs.Entries.{at_name, members-entries}
-use Rattle.jp_document.proofs.Names.{child-list_named}
+use Rattle.jp_document.specs.declared.value.Json.{List as ListOf}
+use Rattle.jp_document.proofs.Descent.Entries.{at_name, members-entries}
+use Rattle.jp_document.proofs.Descent.Inside.{no_child_unless}
+use Rattle.jp_document.proofs.Members.ByName.{child-list_named}
 use Rattle.jp_document.proofs.Values.{value_of-List, value_of-Members}
 use Rattle.jp_document.proofs.lookup.members.Goals as goal
 
 pub returns-in-Null-clause-found : goal.returns-in-Null-clause-found
-returns-in-Null-clause-found c = λ q.
-    elim c.in-Null.is [
-      | inl e ↦ rw e (search (rules, the_lemmas))
-      | inr r ↦ elim r [
-        | inl e ↦ rw e.1 (search (rules, the_lemmas))
-        | inr r ↦ elim r [
-          | inl e ↦ rw e.1 (search (rules, the_lemmas))
-          | inr r ↦ elim r [
-            | inl e ↦ rw e.1 (search (rules, the_lemmas))
-            | inr e ↦
-                ap (λ j. child (value_of j) (named q)) e.1
-                ∙ ap (λ v. child v (named q)) (value_of-List e.0)
-                ∙ child-list_named q (items_of (map value_of e.0.items))
-          ]
-        ]
-      ]
-    ]
+returns-in-Null-clause-found c = λ q. no_child_unless ListOf _ (named q)
+    (λ v. ap (λ w. child w (named q)) (value_of-List v)
+    ∙ child-list_named q (items_of (map value_of v.items))) c.in-Null.is
 
 pub returns-in-Members-clause-inside : goal.returns-in-Members-clause-inside
 returns-in-Members-clause-inside c = λ m there.

@@ -2,7 +2,7 @@ use Rattle.std.proofs.Common.{◌≡◌, map, string_bytes, ap, ◌∙◌, rules
 use Rattle.std.specs.List.{insert}
 use Rattle.jp_document.specs.Value.{member_of, value_of}
 use Rattle.jp_document.specs.declared.value.Member.{Member}
-use Rattle.jp_document.proofs.Places.{insert_place, seen_insert}
+use Rattle.jp_document.proofs.Members.Places.{insert_place, seen_insert}
 use Rattle.jp_document.proofs.Values.{member_of_is}
 use Rattle.jp_document.proofs.member_list.insert_at.Goals as goal
 

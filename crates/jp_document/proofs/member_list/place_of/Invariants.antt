@@ -2,7 +2,7 @@ use Rattle.std.proofs.Common.{◌≡◌, true, ◌≤◌, length, drop, map}
 use Rattle.std.specs.List.{list_all}
 use Rattle.std.specs.Ordering.{is_lt}
 use Rattle.jp_document.specs.Value.{member_of}
-use Rattle.jp_document.proofs.Names.{bytes_cmp}
+use Rattle.jp_document.proofs.Members.ByName.{bytes_cmp}
 use Rattle.jp_document.proofs.member_list.place_of.Given as goal
 
 abbrev pub invariant-down : goal.invariant-down

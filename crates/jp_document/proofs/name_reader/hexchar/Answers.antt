@@ -1,4 +1,4 @@
-use Rattle.jp_document.proofs.Spelled.{low-hex}
+use Rattle.jp_document.proofs.Spellings.Characters.{low-hex}
 use Rattle.jp_document.proofs.name_reader.hexchar.Goals as goal
 
 pub hex_value-requires : goal.hex_value-requires

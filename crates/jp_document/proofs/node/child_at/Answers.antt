@@ -2,7 +2,7 @@ use Rattle.std.proofs.Common.{Some, None, sym, rules}
 use Rattle.jp_document.specs.Location.{nth}
 use Rattle.jp_document.specs.Node.{node_of}
 use Rattle.jp_document.specs.Value.{value_of}
-use Rattle.jp_document.proofs.ChildValues.{child_stands, IsDocumentValue-child}
+use Rattle.jp_document.proofs.Descent.Inside.{child_stands, IsDocumentValue-child}
 use Rattle.jp_document.proofs.node.child_at.Goals as goal
 
 pub extended-requires : goal.extended-requires

@@ -3,7 +3,7 @@ use Rattle.std.proofs.lemmas.Grind.{common_steps}
 use Rattle.jp_document.specs.Node.{child_of, node_of}
 use Rattle.jp_document.specs.Location.{named}
 use Rattle.jp_document.specs.Value.{IsDocumentValue, value_of, member_of}
-use Rattle.jp_document.proofs.ChildValues.{child_stands, value_from_pair, IsDocumentValue-child}
+use Rattle.jp_document.proofs.Descent.Inside.{child_stands, value_from_pair, IsDocumentValue-child}
 use Rattle.jp_document.proofs.Values.{member_of_is}
 use Rattle.jp_document.proofs.node.child_named.Goals as goal
 

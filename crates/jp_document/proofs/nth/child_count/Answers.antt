@@ -3,7 +3,7 @@ use Rattle.std.proofs.lemmas.List.{length-map}
 use Rattle.jp_document.specs.Location.{entries}
 use Rattle.jp_document.specs.Node.{node_below}
 use Rattle.jp_document.specs.Value.{member_of, value_of}
-use Rattle.jp_document.proofs.Entries.{at_name, length-items_from, members-entries}
+use Rattle.jp_document.proofs.Descent.Entries.{at_name, length-items_from, members-entries}
 use Rattle.jp_document.proofs.Values.{value_of-List, value_of-Members}
 use Rattle.jp_document.proofs.nth.child_count.Goals as goal
 

@@ -1,25 +1,21 @@
-use Rattle.std.proofs.Common.{map, option_map, sym, ap, ◌∙◌}
+use Rattle.std.proofs.Common.{map, option_map, ap, ◌∙◌}
 use Rattle.jp_document.specs.Node.{entry_of}
 use Rattle.jp_document.specs.Value.{value_of}
-use Rattle.jp_document.proofs.Entries.{at_index, item_entry}
-use Rattle.jp_document.proofs.Items.{get_seen}
+use Rattle.jp_document.proofs.Descent.Entries.{at_index, item_entry}
+use Rattle.jp_document.proofs.Descent.Items.{get_entry}
 use Rattle.jp_document.proofs.nth.item_entry.Goals as goal
 
 pub returns-clause-entry : goal.returns-clause-entry
 returns-clause-entry c =
     let xs = c.args.items.now in
     let i = c.args.position in
-    ap (option_map (at_index i))
-    (ap (option_map (λ j. value_of j.now)) (sym c.in_ok-item.was)
-    ∙ get_seen value_of c.get.result xs i c.get.ensures.lookup.3)
-    ∙ sym (item_entry i (map value_of xs))
+    get_entry value_of (at_index i) _ c.get.result xs i _ c.in_ok-item.was c.get.ensures.lookup.3
+    (item_entry i (map value_of xs))
 
 pub returns-in_err-item-clause-entry : goal.returns-in_err-item-clause-entry
 returns-in_err-item-clause-entry c =
     let xs = c.args.items.now in
     let i = c.args.position in
     ap (option_map entry_of) c.from_residual.ensures
-    ∙ ap (option_map (at_index i))
-    (ap (option_map (λ j. value_of j.now)) (sym c.in_err-item.was)
-    ∙ get_seen value_of c.get.result xs i c.get.ensures.lookup.3)
-    ∙ sym (item_entry i (map value_of xs))
+    ∙ get_entry value_of (at_index i) _ c.get.result xs i _ c.in_err-item.was c.get.ensures.lookup.3
+    (item_entry i (map value_of xs))

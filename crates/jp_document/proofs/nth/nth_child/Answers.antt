@@ -3,8 +3,8 @@ use Rattle.std.specs.List.{slice_get}
 use Rattle.jp_document.specs.Location.{entries, key_of, value_at}
 use Rattle.jp_document.specs.Node.{entry_of, node_below, node_of}
 use Rattle.jp_document.specs.Value.{is_allowed, value_of}
-use Rattle.jp_document.proofs.ChildValues.{value_at-step}
-use Rattle.jp_document.proofs.Entries.{child_at_position, everywhere-entry, child-entry}
+use Rattle.jp_document.proofs.Descent.Inside.{value_at-step}
+use Rattle.jp_document.proofs.Descent.Entries.{child_at_position, everywhere-entry, child-entry}
 use Rattle.jp_document.proofs.nth.nth_child.Goals as goal
 
 pub extended-requires : goal.extended-requires

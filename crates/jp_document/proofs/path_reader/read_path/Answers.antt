@@ -8,8 +8,8 @@ use Rattle.jp_document.specs.Location.{owned_key}
 use Rattle.jp_document.specs.Path.{path_of}
 use Rattle.jp_document.specs.PathFault.{is_large}
 use Rattle.jp_document.specs.Private.PathReading.{path_at}
-use Rattle.jp_document.proofs.LargeIndexes.{list_any-map}
-use Rattle.jp_document.proofs.PathRead.{refused, too_large, path_read}
+use Rattle.jp_document.proofs.Paths.LargeIndexes.{list_any-map}
+use Rattle.jp_document.proofs.Paths.WholeTexts.{refused, too_large, path_read}
 use Rattle.jp_document.proofs.path_reader.read_path.Goals as goal
 
 pub returns-in_err-steps-clause-fault : goal.returns-in_err-steps-clause-fault

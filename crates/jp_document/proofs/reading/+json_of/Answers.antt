@@ -8,11 +8,12 @@ use Rattle.jp_document.specs.Location.{nth}
 use Rattle.jp_document.specs.Value.{value_of}
 use Rattle.jp_document.specs.declared.value.Member.{Member}
 use Rattle.jp_document.specs.declared.location.OwnedStep.TheVariants.{Name, Index}
-use Rattle.jp_document.proofs.ListsFit.{items_fit_more, members_fit_more}
-use Rattle.jp_document.proofs.ValueFaults.{value_fault-within}
+use Rattle.jp_document.proofs.Readings.ListsFit.{items_fit_more, members_fit_more}
+use Rattle.jp_document.proofs.Readings.Faults.{value_fault-within}
 use Rattle.jp_document.proofs.Values.{member_of_is}
-use Rattle.jp_document.proofs.Conversion.{ItemsSoFar, items_more, items_stop, items_end}
-use Rattle.jp_document.proofs.Conversion.{MembersSoFar, members_more, members_stop, members_end}
+use Rattle.jp_document.proofs.Readings.Conversion.{ItemsSoFar, items_more, items_stop, items_end}
+use Rattle.jp_document.proofs.Readings.Conversion.{MembersSoFar, members_more}
+use Rattle.jp_document.proofs.Readings.Conversion.{members_stop, members_end}
 use Rattle.jp_document.proofs.reading.+json_of.Goals as goal
 
 pub json_items-loop-item-preserved : goal.json_items-loop-item-preserved

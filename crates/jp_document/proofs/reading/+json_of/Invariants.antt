@@ -2,7 +2,7 @@ use Rattle.std.proofs.Common.{◌≡◌, ◌&&◌, length, map}
 use Rattle.std.specs.Vec.Iter.{into_iter_items, into_iter_len}
 use Rattle.jp_document.specs.Value.{everywhere_in_items, everywhere_in_members}
 use Rattle.jp_document.specs.Value.{list_fits, items_of, members_of, value_of, member_of}
-use Rattle.jp_document.proofs.Conversion.{ItemsSoFar, MembersSoFar}
+use Rattle.jp_document.proofs.Readings.Conversion.{ItemsSoFar, MembersSoFar}
 use Rattle.jp_document.proofs.reading.+json_of.Given as goal
 
 abbrev pub invariant-json_items-loop-item : goal.invariant-json_items-loop-item

@@ -1,5 +1,5 @@
 use Rattle.std.proofs.Common.{nat_le, ap, ◌∙◌, rules}
-use Rattle.jp_document.proofs.ListsFit.{list_fits-length}
+use Rattle.jp_document.proofs.Readings.ListsFit.{list_fits-length}
 use Rattle.jp_document.proofs.reading.is_short.Goals as goal
 
 pub returns : goal.returns

@@ -3,7 +3,7 @@ use Rattle.serde_json.specs.Data.{number}
 use Rattle.serde_json.specs.View.{number_view}
 use Rattle.jp_document.specs.Document.{IsFirstFraction}
 use Rattle.jp_document.specs.Location.{owned_key}
-use Rattle.jp_document.proofs.Fractions.{IsFirstFraction-neither}
+use Rattle.jp_document.proofs.Readings.Fractions.{IsFirstFraction-neither}
 use Rattle.jp_document.proofs.reading.json_of_number.Goals as goal
 
 pub returns-in_default-as_i64-clause-fault : goal.returns-in_default-as_i64-clause-fault

@@ -5,7 +5,7 @@ use Rattle.std.proofs.lemmas.Str.{IsCharBoundary-after_ascii}
 use Rattle.std.specs.List.{flat_map}
 use Rattle.std.specs.Str.{IsUtf8}
 use Rattle.jp_document.specs.Spelling.{spelling}
-use Rattle.jp_document.proofs.Spellings.{moved, first_and_rest, ascii_after, IsUtf8-after}
+use Rattle.jp_document.proofs.Writing.Runs.{moved, first_and_rest, ascii_after, IsUtf8-after}
 use Rattle.jp_document.proofs.spelling.push_spelled.Goals as goal
 
 pub split_at-requires-in-runs : goal.split_at-requires-in-runs

@@ -3,7 +3,7 @@ use Rattle.std.proofs.Common.{string_bytes, sym, ap, ◌∙◌, arith, rules}
 use Rattle.std.proofs.lemmas.List.{drop_more}
 use Rattle.jp_document.specs.Text.{text_of, item_texts, member_texts, string_text}
 use Rattle.jp_document.specs.Value.{value_of, items_of, members_of, member_of}
-use Rattle.jp_document.proofs.Texts.{joined_more, wrote_member}
+use Rattle.jp_document.proofs.Writing.Parts.{joined_more, wrote_member}
 use Rattle.jp_document.proofs.Values.{member_of_is}
 use Rattle.jp_document.proofs.text.+text.Goals as goal
 

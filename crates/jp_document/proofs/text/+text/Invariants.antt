@@ -2,7 +2,7 @@ use Rattle.std.proofs.Common.{◌≡◌, ◌++◌, drop, map, string_bytes}
 use Rattle.std.specs.List.{join_with_byte}
 use Rattle.jp_document.specs.Text.{item_texts, member_texts}
 use Rattle.jp_document.specs.Value.{value_of, items_of, members_of, member_of}
-use Rattle.jp_document.proofs.Texts.{parts_from}
+use Rattle.jp_document.proofs.Writing.Parts.{parts_from}
 use Rattle.jp_document.proofs.text.+text.Given as goal
 
 -- what stands there, and the parts to come, is the whole

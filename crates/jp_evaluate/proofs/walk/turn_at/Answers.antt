@@ -1,7 +1,7 @@
 use Rattle.std.proofs.Common.{◌≡◌, ◌≢◌, ◌+◌, ◌≤◌, true, Some, length, map, sym, ap, ◌∙◌, arith}
 use Rattle.std.specs.List.{slice_get}
 use Rattle.std.proofs.lemmas.List.{length-map}
-use Rattle.jp_document.proofs.Items.{get_seen}
+use Rattle.jp_document.proofs.Descent.Items.{get_seen}
 use Rattle.jp_query.specs.Tree.{selector_of, wildcard}
 use Rattle.jp_query.specs.declared.tree.Segment.{out-Segment}
 use Rattle.jp_evaluate.specs.Private.Walk.{segments_left, turns}

@@ -1,7 +1,7 @@
-use Rattle.std.proofs.Common.{option_map, sym, ap, ◌∙◌}
+use Rattle.std.proofs.Common.{Some, None, option_map, sym, ap, ◌∙◌}
 use Rattle.jp_document.specs.Location.{owned_key, child}
 use Rattle.jp_document.specs.Value.{value_of}
-use Rattle.jp_document.proofs.ChildValues.{IsDocumentValue-child, walked, walked_out}
+use Rattle.jp_document.proofs.Descent.Inside.{IsDocumentValue-child, walked}
 use Rattle.jp_document.proofs.document.Document.find.Goals as goal
 
 pub loop-step-preserved : goal.loop-step-preserved
@@ -12,7 +12,7 @@ loop-step-preserved c =
       IsDocumentValue-child here next _ c.loop-step.invariant.0
           (sym (c.in_ok-value.ensures.child c.loop-step.invariant.0)),
       walked owned_key c.steps-step-items.result.now c.loop-step.step-index c.step-item.result here
-          next _ c.loop-step-test.true
+          (Some next) _ c.loop-step-test.true
           (c.in_ok-value.ensures.child c.loop-step.invariant.0 ∙ ap (child here) key)
           c.loop-step.invariant.1,
     )
@@ -22,7 +22,7 @@ returns-in_err-value c =
     let here = value_of c.loop-step.value.now in
     let key = c.as_step.ensures ∙ ap owned_key c.step-item.is in
     ap (option_map (λ j. value_of j.now)) c.from_residual.ensures
-    ∙ walked_out owned_key c.steps-step-items.result.now c.loop-step.step-index c.step-item.result
-    here _ c.loop-step-test.true
+    ∙ walked owned_key c.steps-step-items.result.now c.loop-step.step-index c.step-item.result
+    here None _ c.loop-step-test.true
     (c.in_err-value.ensures.child c.loop-step.invariant.0 ∙ ap (child here) key)
     c.loop-step.invariant.1

@@ -1,7 +1,7 @@
 use Rattle.std.proofs.Common.{sym}
 use Rattle.jp_document.specs.Node.{entry_of}
 use Rattle.jp_document.specs.Value.{is_allowed, value_of}
-use Rattle.jp_document.proofs.Entries.{everywhere-entry}
+use Rattle.jp_document.proofs.Descent.Entries.{everywhere-entry}
 use Rattle.jp_document.proofs.document_value.DocumentValue.child.Goals as goal
 
 pub invariant_of-result : goal.invariant_of-result

@@ -1,7 +1,7 @@
 use Rattle.std.proofs.Common.{ap, subst}
 use Rattle.jp_document.specs.Location.{named}
 use Rattle.jp_document.specs.Value.{IsDocumentValue, member_of, value_of}
-use Rattle.jp_document.proofs.ChildValues.{IsDocumentValue-child, value_from_pair}
+use Rattle.jp_document.proofs.Descent.Inside.{IsDocumentValue-child, value_from_pair}
 use Rattle.jp_document.proofs.Values.{member_of_is}
 use Rattle.jp_document.proofs.document_value.DocumentValue.member.Goals as goal
 

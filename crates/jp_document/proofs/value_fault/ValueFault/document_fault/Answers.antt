@@ -3,7 +3,7 @@ use Rattle.jp_document.specs.Location.{owned_key}
 use Rattle.jp_document.specs.Path.{path_of}
 use Rattle.jp_document.specs.Private.ValueFault.{IsFaultAt}
 use Rattle.jp_document.specs.declared.fault.DocumentFault.TheVariants.{NotWhole}
-use Rattle.jp_document.proofs.ValueFaults.{map-reverse}
+use Rattle.jp_document.proofs.Readings.Faults.{map-reverse}
 use Rattle.jp_document.proofs.value_fault.ValueFault.document_fault.Goals as goal
 
 pub returns-in-Ok : goal.returns-in-Ok

@@ -1,0 +1,128 @@
+-- The entries of a value by their positions, and that their steps rise: for `nth_child` and for
+-- walks in document order.
+use Rattle.std.proofs.Common.{◌≡◌, ℕ, zero, suc, ◌+◌, ◌<◌, Bool, true, List, [], ◌∷◌, length}
+use Rattle.std.proofs.Common.{map, Option, Some, Less, refl, sym, ap, subst, ◌∙◌, arith}
+use Rattle.std.specs.Cmp.{nat_cmp_is}
+use Rattle.std.specs.List.{slice_get, AllByRecursion}
+use Rattle.std.specs.List.Sorted.{IsStrictlySortedBy}
+use Rattle.std.specs.Map.{keys_of}
+use Rattle.std.specs.Option.{option_map}
+use Rattle.std.proofs.lemmas.Cmp.{eq_by_cmp_equiv}
+use Rattle.std.proofs.lemmas.Map.Entries.{lookup_from_place}
+use Rattle.std.proofs.lemmas.Map.Keys.{IsDistinct-from_sorted}
+use Rattle.std.proofs.lemmas.Option.{slice_get-map, same_Some}
+use Rattle.jp_document.specs.Location.{Key, named, nth, key_cmp, Location}
+use Rattle.jp_document.specs.Location.{items_from, members_by_name, entries, child}
+use Rattle.jp_document.specs.Node.{node_below}
+use Rattle.jp_document.specs.Value.{Value, list, object, Items}
+use Rattle.jp_document.specs.Value.{no_items, item, Members, no_members, member, items_of}
+use Rattle.jp_document.specs.Value.{members_of, names_of, everywhere, everywhere_in_items}
+use Rattle.jp_document.specs.Value.{everywhere_in_members, IsDocumentValue}
+use Rattle.jp_document.proofs.Members.ByName.{bytes_cmp, sorted_from_rise}
+use Rattle.jp_document.proofs.Descent.Keys.{key_cmp_total}
+use Rattle.jp_document.proofs.Conjunctions.{and-left, and-right}
+
+abbrev pub at_index : ℕ → Value → Key × Value
+at_index i v = (nth i, v)
+
+abbrev pub at_name : List ℕ × Value → Key × Value
+at_name p = (named p.0, p.1)
+
+-- ---- by positions
+
+entry_of_item : (n k i : ℕ) (vs : List Value) → n ≡ k + i
+    → slice_get (items_from k (items_of vs)) i ≡ option_map (at_index n) (slice_get vs i)
+entry_of_item n k i [] at = refl
+entry_of_item n k zero (v ∷ vs) at =
+    let same : k ≡ n = omega arith in ap (λ m. Some (at_index m v)) same
+entry_of_item n k (suc i) (v ∷ vs) at = entry_of_item n (suc k) i vs (omega arith)
+
+pub item_entry : (i : ℕ) (vs : List Value)
+    → slice_get (items_from 0 (items_of vs)) i ≡ option_map (at_index i) (slice_get vs i)
+item_entry i vs = entry_of_item i 0 i vs (omega arith)
+
+pub length-items_from : (k : ℕ) (vs : List Value) → length (items_from k (items_of vs)) ≡ length vs
+length-items_from k [] = refl
+length-items_from k (v ∷ vs) = ap suc (length-items_from (suc k) vs)
+
+pub members-entries : (ps : List (List ℕ × Value))
+    → members_by_name (members_of ps) ≡ map at_name ps
+members-entries [] = refl
+members-entries (p ∷ ps) = ap (λ es. at_name p ∷ es) (members-entries ps)
+
+pub member_entry : (i : ℕ) (ps : List (List ℕ × Value))
+    → slice_get (members_by_name (members_of ps)) i ≡ option_map at_name (slice_get ps i)
+member_entry i ps = ap (λ es. slice_get es i) (members-entries ps) ∙ slice_get-map at_name ps i
+
+-- the child at a position, beside the entry
+pub child_at_position : (l : Location) (es : List (Key × Value)) (i : ℕ) (o : Option (Key × Value))
+    → o ≡ slice_get es i → option_map (node_below l) o ≡ slice_get (map (node_below l) es) i
+child_at_position l es i o is =
+    ap (option_map (node_below l)) is ∙ sym (slice_get-map (node_below l) es i)
+
+-- ---- what holds everywhere
+
+first_passes : (p : Value → Bool) (k : Key) (v : Value) (e : Key × Value) → Some (k, v) ≡ Some e →
+    everywhere p v ≡ true → everywhere p e.1 ≡ true
+first_passes p k v e is there =
+    let same : (k, v) ≡ e = same_Some _ _ is in
+    subst (λ x. everywhere p x ≡ true) (ap (λ x. x.1) same) there
+
+item_passes : (p : Value → Bool) (k : ℕ) (vs : Items) (i : ℕ) (e : Key × Value) →
+    everywhere_in_items p vs ≡ true → slice_get (items_from k vs) i ≡ Some e →
+    everywhere p e.1 ≡ true
+item_passes p k no_items i e all is = cc
+item_passes p k (item v vs) zero e all is = first_passes p (nth k) v e is (and-left _ _ all)
+item_passes p k (item v vs) (suc i) e all is = item_passes p (suc k) vs i e (and-right _ _ all) is
+
+member_passes : (p : Value → Bool) (ms : Members) (i : ℕ) (e : Key × Value) →
+    everywhere_in_members p ms ≡ true → slice_get (members_by_name ms) i ≡ Some e →
+    everywhere p e.1 ≡ true
+member_passes p no_members i e all is = cc
+member_passes p (member n v ms) zero e all is = first_passes p (named n) v e is (and-left _ _ all)
+member_passes p (member n v ms) (suc i) e all is = member_passes p ms i e (and-right _ _ all) is
+
+pub everywhere-entry : (p : Value → Bool) (v : Value) (i : ℕ) (e : Key × Value)
+    → everywhere p v ≡ true → slice_get (entries v) i ≡ Some e → everywhere p e.1 ≡ true
+everywhere-entry p (list vs) i e all is = item_passes p 0 vs i e (and-right _ _ all) is
+everywhere-entry p (object ms) i e all is = member_passes p ms i e (and-right _ _ all) is
+everywhere-entry p v i e all is = cc
+
+-- ---- the steps rise
+
+above : (j k : ℕ) (vs : Items) → j < k →
+    AllByRecursion (λ y. key_cmp (nth j) y ≡ Less) (keys_of (items_from k vs))
+above j k no_items less = tt
+above j k (item v vs) less = (sym (nat_cmp_is j k Less less), above j (suc k) vs (omega arith))
+
+items-rise : (k : ℕ) (vs : Items) → IsStrictlySortedBy key_cmp (keys_of (items_from k vs))
+unfolding IsStrictlySortedBy
+items-rise k no_items = tt
+items-rise k (item v vs) = (above k (suc k) vs (omega arith), items-rise (suc k) vs)
+
+named_above : (n : List ℕ) (ms : Members) →
+    AllByRecursion (λ m. bytes_cmp n m ≡ Less) (names_of ms) →
+    AllByRecursion (λ y. key_cmp (named n) y ≡ Less) (keys_of (members_by_name ms))
+named_above n no_members h = tt
+named_above n (member m v ms) h = (h.0, named_above n ms h.1)
+
+members-rise : (ms : Members) → IsStrictlySortedBy bytes_cmp (names_of ms) →
+    IsStrictlySortedBy key_cmp (keys_of (members_by_name ms))
+unfolding IsStrictlySortedBy
+members-rise no_members h = tt
+members-rise (member n v ms) h = (named_above n ms h.0, members-rise ms h.1)
+
+pub entries-rise : (v : Value) → IsDocumentValue v
+    → IsStrictlySortedBy key_cmp (keys_of (entries v))
+unfolding IsStrictlySortedBy
+entries-rise (list vs) document = items-rise 0 vs
+entries-rise (object ms) document =
+    members-rise ms (sorted_from_rise (names_of ms) (and-left _ _ (and-left _ _ document)))
+entries-rise v document = tt
+
+-- the value one step inside at an entry's step is the entry's
+pub child-entry : (v : Value) (i : ℕ) (k : Key) (w : Value) → IsDocumentValue v
+    → slice_get (entries v) i ≡ Some (k, w) → child v k ≡ Some w
+child-entry v i k w document is =
+    lookup_from_place (eq_by_cmp_equiv key_cmp_total) (entries v) i k w
+    (IsDistinct-from_sorted key_cmp (keys_of (entries v)) (entries-rise v document)) is

@@ -1,0 +1,43 @@
+-- Keys are in a total order, in which those alone that are the same are equal: for entries that
+-- rise, and for the first fraction of a reading.
+use Rattle.std.proofs.Common.{◌≡◌, Less, Equal, refl, ap}
+use Rattle.std.specs.Cmp.{IsTotalOrder}
+use Rattle.std.specs.Ordering.{ordering_reverse}
+use Rattle.std.proofs.lemmas.Cmp.{nat_cmp_total, nat_list_cmp_total, tied_itself}
+use Rattle.std.proofs.lemmas.Map.Lookups.{exact_bytes, exact_unsigned}
+use Rattle.jp_document.specs.Location.{Key, named, nth, key_cmp}
+
+antisymm : (x y : Key) → key_cmp x y ≡ ordering_reverse (key_cmp y x)
+antisymm (named s) (named t) = nat_list_cmp_total.antisymm s t
+antisymm (named s) (nth j) = refl
+antisymm (nth i) (named t) = refl
+antisymm (nth i) (nth j) = nat_cmp_total.antisymm i j
+
+trans : (x y z : Key) → key_cmp x y ≡ Less → key_cmp y z ≡ Less → key_cmp x z ≡ Less
+trans (named s) (named t) (named u) a b = nat_list_cmp_total.trans s t u a b
+trans (named s) (named t) (nth k) a b = refl
+trans (named s) (nth j) (named u) a b = cc
+trans (named s) (nth j) (nth k) a b = refl
+trans (nth i) (named t) z a b = cc
+trans (nth i) (nth j) (named u) a b = cc
+trans (nth i) (nth j) (nth k) a b = nat_cmp_total.trans i j k a b
+
+congr : (x y z : Key) → key_cmp x y ≡ Equal → key_cmp x z ≡ key_cmp y z
+congr (named s) (named t) (named u) a = nat_list_cmp_total.congr s t u a
+congr (named s) (named t) (nth k) a = refl
+congr (named s) (nth j) z a = cc
+congr (nth i) (named t) z a = cc
+congr (nth i) (nth j) (named u) a = refl
+congr (nth i) (nth j) (nth k) a = nat_cmp_total.congr i j k a
+
+pub key_cmp_total : IsTotalOrder key_cmp
+key_cmp_total = record { antisymm = antisymm; trans = trans; congr = congr }
+
+pub key_same : (k : Key) → key_cmp k k ≡ Equal
+key_same = tied_itself key_cmp_total
+
+pub key_exact : (j k : Key) → key_cmp j k ≡ Equal → j ≡ k
+key_exact (named s) (named t) is = ap named (exact_bytes s t is)
+key_exact (named s) (nth j) is = cc
+key_exact (nth i) (named t) is = cc
+key_exact (nth i) (nth j) is = ap nth (exact_unsigned i j is)
