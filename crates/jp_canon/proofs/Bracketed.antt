@@ -1,5 +1,5 @@
 -- Selectors between brackets, and names after dots.
-use Rattle.std.proofs.Common.{◌≡◌, ℕ, List, [], ◌∷◌, ◌++◌, map, refl, sym, ap, subst, codes}
+use Rattle.std.proofs.Common.{◌≡◌, ℕ, List, [], ◌∷◌, ◌++◌, map, refl, sym, ap, codes}
 use Rattle.std.specs.List.{AllByRecursion}
 use Rattle.jp_reading.specs.Forms.{Blank, Form, word, ◌⌢◌}
 use Rattle.jp_reading.specs.Texts.{Spans, Text}
