@@ -1,5 +1,5 @@
 -- Selectors between brackets, and names after dots.
-use Rattle.std.proofs.Common.{◌≡◌, ℕ, List, [], ◌∷◌, ◌++◌, map, refl, sym, ap, subst, codes}
+use Rattle.std.proofs.Common.{◌≡◌, ℕ, List, [], ◌∷◌, ◌++◌, map, refl, sym, ap, codes}
 use Rattle.std.specs.List.{AllByRecursion}
 use Rattle.jp_reading.specs.Forms.{Blank, Form, word, ◌⌢◌}
 use Rattle.jp_reading.specs.Texts.{Spans, Text}
@@ -7,7 +7,7 @@ use Rattle.jp_query.specs.Grammar.{Bracket, Member, Nested, Selector, any, membe
 use Rattle.jp_query.specs.Tree.{SelectorTree, selectors}
 use Rattle.jp_canon.specs.Canon.{selector_text, selector_texts, separated}
 use Rattle.jp_canon.proofs.Forms.{Has, after-blank, before-blank, both}
-use Rattle.jp_canon.proofs.Forms.{has-as, has-same, has-separated, has-word}
+use Rattle.jp_canon.proofs.Forms.{has-as, has-equal_tree, has-same, has-separated, has-word}
 use Rattle.jp_canon.proofs.Names.{has-quoted}
 
 selector_texts-map : (ys : List SelectorTree) → selector_texts (selectors ys) ≡ map selector_text ys
@@ -31,9 +31,9 @@ module _ (K : Nested → Form) where
   -- a name or `*` after a dot, as a selector
   pub by-member : (y : SelectorTree) (s : Spans) (o : ℕ) (t : Text) → Member y s o t
       → Has (Selector K y) (selector_text y)
-  by-member y s o t (star is h) = subst (λ z. Has (Selector K z) (selector_text z)) (sym is)
+  by-member y s o t (star is h) = has-equal_tree (Selector K) selector_text is
       (has-as (λ r p. any refl) (has-word _))
-  by-member y s o t (member cs is h) = subst (λ z. Has (Selector K z) (selector_text z)) (sym is)
+  by-member y s o t (member cs is h) = has-equal_tree (Selector K) selector_text is
       (has-as (λ r p. named cs refl) (has-quoted cs))
 
   abbrev pub HasSelector : SelectorTree → Type 0

@@ -1,5 +1,5 @@
 -- Texts that have a form wherever they stand.
-use Rattle.std.proofs.Common.{ℕ, ◌+◌, List, [], ◌∷◌, ◌++◌, map, Some, refl, append-nil}
+use Rattle.std.proofs.Common.{◌≡◌, ℕ, ◌+◌, List, [], ◌∷◌, ◌++◌, map, Some, refl, sym, subst, append-nil}
 use Rattle.std.specs.List.{AllByRecursion, flat_map}
 use Rattle.jp_reading.specs.Forms.{Blank, Each, Form, Item, Omitted, Separated, ◌⌢◌}
 use Rattle.jp_reading.specs.Texts.{Spans, Text, bytes}
@@ -22,6 +22,11 @@ has-item {t} h = record {
         record { inside = a.0; spans = refl; is = a.1 },
       );
 }
+
+-- what has the form of a tree has that of an equal tree
+pub has-equal_tree : {X : Type 0} (P : X → Form) (text : X → Text) {x y : X} → x ≡ y
+    → Has (P y) (text y) → Has (P x) (text x)
+has-equal_tree P text is h = subst (λ z. Has (P z) (text z)) (sym is) h
 
 -- no blanks before a text, and none after it
 pub after-blank : {P : Form} {t : Text} → Has P t → Has (Blank ⌢ P) t

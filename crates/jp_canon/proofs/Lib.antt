@@ -1,12 +1,8 @@
 pub mod Bracketed
+pub mod Spells
 pub mod Forms
-pub mod FunctionNames
-pub mod Grouping
-pub mod Induction
-pub mod Literals
 pub mod Names
 pub mod Numbers
 pub mod Parts
 pub mod Rows
-pub mod Rules
 pub mod Written

@@ -23,13 +23,10 @@ hex_digit-hexdig : (n : ℕ) → n < 16 → is_hexdig (hex_digit n) ≡ true
 unfolding is_hexdig
 hex_digit-hexdig n small = rw (hex_digit-value n small) (lt-ltb n 16 small)
 
-zero-not_d : is_not_d 48 ≡ true
-unfolding is_not_d
-zero-not_d = refl
-
-zero-hexdig : is_hexdig 48 ≡ true
-unfolding is_hexdig
-zero-hexdig = refl
+-- `0`, as the first digit and as another
+zero-digit : (is_not_d 48 ≡ true) × (is_hexdig 48 ≡ true)
+unfolding is_not_d is_hexdig
+zero-digit = (refl, refl)
 
 control-unit : (c : ℕ) → c < 32 → c ≡ unit_of 48 48 (hex_digit (c / 16)) (hex_digit (c % 16))
 control-unit c small =
@@ -41,8 +38,8 @@ has-control : (c : ℕ) → c < 32
     → Has (FourDigits is_not_d is_hexdig c) (48 ∷ 48 ∷ hex_digit (c / 16) ∷ hex_digit (c % 16) ∷ [])
 has-control c small =
     has-as (λ s o. digits 48 48 (hex_digit (c / 16)) (hex_digit (c % 16)) (control-unit c small))
-    (both (has-one is_not_d 48 zero-not_d)
-    (both (has-one is_hexdig 48 zero-hexdig)
+    (both (has-one is_not_d 48 zero-digit.0)
+    (both (has-one is_hexdig 48 zero-digit.1)
     (both (has-one is_hexdig (hex_digit (c / 16)) (hex_digit-hexdig (c / 16) (omega arith)))
     (has-one is_hexdig (hex_digit (c % 16)) (hex_digit-hexdig (c % 16) (omega arith))))))
 

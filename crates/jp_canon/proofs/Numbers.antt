@@ -21,21 +21,21 @@ use Rattle.jp_query.specs.Ints.{negative_of, positive_int, whole_of, zero_int}
 use Rattle.jp_query.specs.Literals.{Decimals, DigitSequence, Exponent, Mantissa, Number, Optional}
 use Rattle.jp_query.specs.Literals.{decimals, left_out, minus_zero, number, whole, written}
 use Rattle.jp_canon.specs.Canon.{numeral_text}
-use Rattle.jp_canon.proofs.Forms.{Has, both, has-as, has-each_passing, has-one, has-same, has-word}
+use Rattle.jp_canon.proofs.Forms.{Has, both, has-as, has-equal_tree, has-each_passing, has-one, has-same, has-word}
 
 -- ---- whole numbers, by their digits
 
-leading : (d : ℕ) → is_digit d ≡ true → 48 < d → is_leading_digit d ≡ true
+above_zero-leading : (d : ℕ) → is_digit d ≡ true → 48 < d → is_leading_digit d ≡ true
 unfolding is_digit
-leading d is above = grind (arith, nat_tests)
+above_zero-leading d is above = grind (arith, nat_tests)
 
-has-index : (n : ℕ) (w : Text) → Begun n w → value_from 0 w ≡ n → Has (Int (whole_of n)) w
-has-index n w (zero_text is shape) value = has-same (sym shape)
+has-no_sign : (n : ℕ) (w : Text) → Begun n w → value_from 0 w ≡ n → Has (Int (whole_of n)) w
+has-no_sign n w (zero_text is shape) value = has-same (sym shape)
     (has-as (λ s o. zero_int (ap whole_of is)) (has-word (48 ∷ [])))
-has-index n w (other_text d ds shape is all above) value =
+has-no_sign n w (other_text d ds shape is all above) value =
     has-same (sym shape)
     (has-as (λ s o. positive_int d ds (ap whole_of (sym value ∙ ap (value_from 0) shape)))
-    (both (has-one is_leading_digit d (leading d is above)) (has-each_passing is_digit ds all)))
+    (both (has-one is_leading_digit d (above_zero-leading d is above)) (has-each_passing is_digit ds all)))
 
 has-negative : (n : ℕ) (w : Text) → Begun n w → value_from 0 w ≡ n → 0 < n
     → Has (Int (negative_of n)) (45 ∷ w)
@@ -44,12 +44,12 @@ has-negative n w (other_text d ds shape is all above) value some =
     has-same (ap (λ t. 45 ∷ t) (sym shape))
     (has-as (λ s o. negative_int d ds (ap negative_of (sym value ∙ ap (value_from 0) shape)))
     (both (has-word (45 ∷ []))
-    (both (has-one is_leading_digit d (leading d is above))
+    (both (has-one is_leading_digit d (above_zero-leading d is above))
     (has-each_passing is_digit ds all))))
 
 pub has-decimal : (n : ℕ) → n < 2 ^ 64 → Has (Int (whole_of n)) (decimal n)
 has-decimal n fits = has-same (sym (decimal-index_text n fits))
-    (has-index n (index_text n) (begun n) (value_from-index_text n))
+    (has-no_sign n (index_text n) (begun n) (value_from-index_text n))
 
 -- ---- beyond the range
 
@@ -73,17 +73,14 @@ has-beyond =
 
 -- ---- every int
 
-int_text : (i j : Numeral) → i ≡ j → Has (Int j) (numeral_text j) → Has (Int i) (numeral_text i)
-int_text i j is h = subst (λ k. Has (Int k) (numeral_text k)) (sym is) h
-
 has-whole_of : (n : ℕ) → Has (Int (whole_of n)) (numeral_text (whole_of n))
 has-whole_of n =
     elim (cases_Bool (ltb n (2 ^ 64))) [
       | inl fits ↦
           let is : whole_of n ≡ Whole (pos n) = rw fits refl in
-          int_text (whole_of n) (Whole (pos n)) is
+          has-equal_tree Int numeral_text is
           (subst (λ i. Has (Int i) (decimal n)) is (has-decimal n (ltb-true n (2 ^ 64) fits)))
-      | inr large ↦ int_text (whole_of n) Beyond (rw large refl) has-beyond
+      | inr large ↦ has-equal_tree Int numeral_text {y = Beyond} (rw large refl) has-beyond
     ]
 
 has-negative_of : (n : ℕ) → 0 < n → Has (Int (negative_of n)) (numeral_text (negative_of n))
@@ -94,12 +91,12 @@ has-negative_of (suc m) some =
           let is : negative_of (suc m) ≡ Whole (negsuc m) = rw fits refl in
           let small : suc m ≤ 2 ^ 63 = leb-true (suc m) (2 ^ 63) fits in
           let text = decimal-index_text (suc m) (omega arith) in
-          int_text (negative_of (suc m)) (Whole (negsuc m)) is
+          has-equal_tree Int numeral_text is
           (subst (λ i. Has (Int i) (45 ∷ decimal (suc m))) is
           (has-same (ap (λ t. 45 ∷ t) (sym text))
           (has-negative (suc m) (index_text (suc m)) (begun (suc m))
           (value_from-index_text (suc m)) some)))
-      | inr large ↦ int_text (negative_of (suc m)) Beyond (rw large refl) has-beyond
+      | inr large ↦ has-equal_tree Int numeral_text {y = Beyond} (rw large refl) has-beyond
     ]
 
 value-some : (c : ℕ) (more : Text) → is_leading_digit c ≡ true → 0 < value_from 0 (c ∷ more)
@@ -109,11 +106,11 @@ value-some c more is =
 
 -- the canonical text of what some text spells as an int
 pub int : (i : Numeral) (s : Spans) (o : ℕ) (t : Text) → Int i s o t → Has (Int i) (numeral_text i)
-int i s o t (zero_int is h) = int_text i (whole_of 0) is (has-whole_of 0)
-int i s o t (positive_int c more is h) = int_text i (whole_of (value_from 0 (c ∷ more))) is
+int i s o t (zero_int is h) = has-equal_tree Int numeral_text is (has-whole_of 0)
+int i s o t (positive_int c more is h) = has-equal_tree Int numeral_text is
     (has-whole_of (value_from 0 (c ∷ more)))
 int i s o t (negative_int c more is h) =
-    int_text i (negative_of (value_from 0 (c ∷ more))) is
+    has-equal_tree Int numeral_text is
     (has-negative_of (value_from 0 (c ∷ more)) (value-some c more h.two.one.passes))
 
 -- ---- numbers of literals
@@ -121,17 +118,17 @@ int i s o t (negative_int c more is h) =
 mantissa : (i : Numeral) (s : Spans) (o : ℕ) (t : Text) → Mantissa i s o t
     → Has (Mantissa i) (numeral_text i)
 mantissa i s o t (whole h) = has-as (λ r p. whole) (int i s o t h)
-mantissa i s o t (minus_zero is h) = subst (λ j. Has (Mantissa j) (numeral_text j)) (sym is)
+mantissa i s o t (minus_zero is h) = has-equal_tree Mantissa numeral_text is
     (has-as (λ r p. whole) (has-whole_of 0))
 
-no-part : (P : Form) → Has (Optional P false) []
-no-part P = has-as (λ s o. left_out refl) (has-word [])
+has-left_out : (P : Form) → Has (Optional P false) []
+has-left_out P = has-as (λ s o. left_out refl) (has-word [])
 
 has-plain : (i : Numeral) → Has (Mantissa i) (numeral_text i) → Has (Number i) (numeral_text i)
 has-plain i h =
     has-same (append-nil (numeral_text i))
     (has-as (λ s o. number i false false refl)
-    (both h (both (no-part Decimals) (no-part Exponent))))
+    (both h (both (has-left_out Decimals) (has-left_out Exponent))))
 
 has-fraction : Has (Number Fraction) (codes "0.5")
 unfolding is_digit
@@ -144,14 +141,12 @@ has-fraction =
     (both (has-word (46 ∷ [])) digits) in
     has-as (λ s o. number (whole_of 0) true false refl)
     (both (has-as (λ s o. whole) zero_text)
-    (both (has-as (λ s o. written refl) half) (no-part Exponent)))
+    (both (has-as (λ s o. written refl) half) (has-left_out Exponent)))
 
 pub number-text : (i : Numeral) (s : Spans) (o : ℕ) (t : Text) → Number i s o t
     → Has (Number i) (numeral_text i)
 number-text i s o t (number j false false is h) =
-    subst (λ k. Has (Number k) (numeral_text k)) (sym is)
+    has-equal_tree Number numeral_text is
     (has-plain j (mantissa j h.first_spans o h.first h.one))
-number-text i s o t (number j true has_exponent is h) = subst
-    (λ k. Has (Number k) (numeral_text k)) (sym is) has-fraction
-number-text i s o t (number j false true is h) = subst (λ k. Has (Number k) (numeral_text k))
-    (sym is) has-fraction
+number-text i s o t (number j true has_exponent is h) = has-equal_tree Number numeral_text is has-fraction
+number-text i s o t (number j false true is h) = has-equal_tree Number numeral_text is has-fraction

@@ -17,23 +17,23 @@ use Rattle.jp_canon.specs.Precedence.{is_grouped}
 abbrev child : ℕ → QueryTree
 child c = query false (segments (segment false (selectors (name (c ∷ []) ∷ [])) ∷ []))
 
-abbrev test : ℕ → ExprTree
-test c = exists (child c)
+abbrev child_test : ℕ → ExprTree
+child_test c = exists (child c)
 
-abbrev a : ExprTree
-a = test 97
+abbrev test_a : ExprTree
+test_a = child_test 97
 
-abbrev b : ExprTree
-b = test 98
+abbrev test_b : ExprTree
+test_b = child_test 98
 
-abbrev c : ExprTree
-c = test 99
+abbrev test_c : ExprTree
+test_c = child_test 99
 
-abbrev either : ExprTree → ExprTree → ExprTree
-either e f = any_of (exprs (e ∷ f ∷ []))
+abbrev or_of : ExprTree → ExprTree → ExprTree
+or_of e f = any_of (exprs (e ∷ f ∷ []))
 
-abbrev each : ExprTree → ExprTree → ExprTree
-each e f = all_of (exprs (e ∷ f ∷ []))
+abbrev and_of : ExprTree → ExprTree → ExprTree
+and_of e f = all_of (exprs (e ∷ f ∷ []))
 
 -- @==1
 abbrev relation : ExprTree
@@ -42,8 +42,8 @@ relation = comparison (node_value (query false (segments []))) Equal
 
 -- in which expressions which parts stand in parentheses: in `||`, in `&&`, and after `!`
 abbrev grouped_parts : ℕ → List Bool
-grouped_parts outer = is_grouped outer (either a b) ∷ is_grouped outer
-    (each a b) ∷ is_grouped outer relation ∷ is_grouped outer (negation a) ∷ is_grouped outer a ∷ []
+grouped_parts outer = is_grouped outer (or_of test_a test_b) ∷ is_grouped outer
+    (and_of test_a test_b) ∷ is_grouped outer relation ∷ is_grouped outer (negation test_a) ∷ is_grouped outer test_a ∷ []
 
 in_or : grouped_parts 1 ≡ true ∷ false ∷ false ∷ false ∷ false ∷ []
 in_or = refl
@@ -55,19 +55,19 @@ after_not : grouped_parts 4 ≡ true ∷ true ∷ true ∷ true ∷ false ∷ []
 after_not = refl
 
 -- expressions
-or_in_and : expr_text (each a (either b c)) ≡ codes "@['a']&&(@['b']||@['c'])"
+or_in_and : expr_text (and_of test_a (or_of test_b test_c)) ≡ codes "@['a']&&(@['b']||@['c'])"
 unfolding spelling
 or_in_and = refl
 
-and_in_or : expr_text (either a (each b c)) ≡ codes "@['a']||@['b']&&@['c']"
+and_in_or : expr_text (or_of test_a (and_of test_b test_c)) ≡ codes "@['a']||@['b']&&@['c']"
 unfolding spelling
 and_in_or = refl
 
-or_in_or : expr_text (either (either a b) c) ≡ codes "(@['a']||@['b'])||@['c']"
+or_in_or : expr_text (or_of (or_of test_a test_b) test_c) ≡ codes "(@['a']||@['b'])||@['c']"
 unfolding spelling
 or_in_or = refl
 
-not_in_not : expr_text (negation (negation a)) ≡ codes "!(!@['a'])"
+not_in_not : expr_text (negation (negation test_a)) ≡ codes "!(!@['a'])"
 unfolding spelling
 not_in_not = refl
 
@@ -88,7 +88,7 @@ unfolding spelling
 matched = refl
 
 test_argument : call_row (codes "f((@['a']),@['a'])") (codes "f")
-    (logical_argument a ∷ query_argument (child 97) ∷ [])
+    (logical_argument test_a ∷ query_argument (child 97) ∷ [])
 unfolding spelling
 test_argument = refl
 
@@ -99,16 +99,16 @@ call_arguments : call_row (codes "f((g()),g(),!g())") (codes "f")
 call_arguments = refl
 
 logical_arguments : call_row (codes "f(@['a']||@['b'],@['a']&&@['b'],!@['a'],@==1)") (codes "f")
-    (logical_argument (either a b) ∷ logical_argument (each a b) ∷ logical_argument
-    (negation a) ∷ logical_argument relation ∷ [])
+    (logical_argument (or_of test_a test_b) ∷ logical_argument (and_of test_a test_b) ∷ logical_argument
+    (negation test_a) ∷ logical_argument relation ∷ [])
 unfolding spelling digits
 logical_arguments = refl
 
-compared : expr_text
+compared_call : expr_text
     (comparison (call_value (call (codes "count") (arguments (query_argument (child 97) ∷ []))))
     Equal (literal (number (Whole (pos 1))))) ≡ codes "count(@['a'])==1"
 unfolding spelling digits
-compared = refl
+compared_call = refl
 
 -- slices
 abbrev slice_row : List ℕ → SelectorTree → Type 0
@@ -124,18 +124,18 @@ without_step : slice_row (codes "1:2")
 unfolding digits
 without_step = refl
 
-with_step : slice_row (codes "::-1")
+negative_step : slice_row (codes "::-1")
     (slice (record { start = None; end = None; step = Whole (negsuc 0) }))
 unfolding digits
-with_step = refl
+negative_step = refl
 
 without_bounds : slice_row (codes ":")
     (slice (record { start = None; end = None; step = Whole (pos 1) }))
 without_bounds = refl
 
 -- queries
-root : canon_of (query true (segments [])) ≡ codes "$"
-root = refl
+root_alone : canon_of (query true (segments [])) ≡ codes "$"
+root_alone = refl
 
 two_segments : canon_of
     (query true (segments
@@ -148,8 +148,8 @@ escaped : selector_text (name (39 ∷ 92 ∷ 31 ∷ 10 ∷ 34 ∷ 233 ∷ [])) �
 unfolding spelling
 escaped = refl
 
-filtered : canon_of
-    (query true (segments (segment false (selectors (filter (negation a) ∷ [])) ∷ [])))
+filter_of_not : canon_of
+    (query true (segments (segment false (selectors (filter (negation test_a) ∷ [])) ∷ [])))
     ≡ codes "$[?!@['a']]"
 unfolding spelling
-filtered = refl
+filter_of_not = refl

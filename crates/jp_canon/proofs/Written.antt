@@ -1,4 +1,4 @@
--- Pieces that are written after a text, as characters.
+-- Pieces that are characters-appended after a text, as characters.
 use Rattle.std.proofs.Common.{◌≡◌, ℕ, true, List, [], ◌∷◌, ◌++◌, cond, String, Result, Ok}
 use Rattle.std.proofs.Common.{Err, OnOk, is_ok, string_bytes, refl, ap, ap₂, sym, ◌∙◌, codes}
 use Rattle.std.specs.Char.{is_ascii}
@@ -12,10 +12,10 @@ use Rattle.jp_document.specs.Spelling.{spelling}
 use Rattle.jp_document.proofs.Spellings.Encoded.{names-encode}
 
 -- a text with more bytes has the characters of which these are the UTF-8 as well
-written : {Z : Type 0} (old new : String Z) (before bs cs : List ℕ) → chars (string_bytes old)
+characters-appended : {Z : Type 0} (old new : String Z) (before bs cs : List ℕ) → chars (string_bytes old)
     ≡ before → string_bytes new ≡ string_bytes old ++ bs
     → encode_utf8_all cs ≡ bs → chars (string_bytes new) ≡ before ++ cs
-written old new before bs cs seen wrote is =
+characters-appended old new before bs cs seen wrote is =
     sym (chars_from_encodes (chars (string_bytes old) ++ cs) (string_bytes new)
     (IsUtf8-string_bytes new)
     (encodes-append (chars (string_bytes old)) cs ∙ ap₂ (λ x y. x ++ y)
@@ -27,7 +27,7 @@ pub pushed : {Z T E : Type 0} (old new : String Z) (before bs cs : List ℕ) (r 
     (string_bytes old) ≡ before
     → OnOk r (string_bytes new ≡ string_bytes old ++ bs) → encode_utf8_all cs ≡ bs
     → OnOk r (chars (string_bytes new) ≡ before ++ cs)
-pushed old new before bs cs (Ok x) seen wrote is = written old new before bs cs seen wrote is
+pushed old new before bs cs (Ok x) seen wrote is = characters-appended old new before bs cs seen wrote is
 pushed old new before bs cs (Err e) seen wrote is = tt
 
 pub pushed_str : {Z T E : Type 0} (old new : String Z) (before bs cs : List ℕ) (r : Result T E)
@@ -35,7 +35,7 @@ pub pushed_str : {Z T E : Type 0} (old new : String Z) (before bs cs : List ℕ)
     → string_bytes new ≡ cond (is_ok r) (string_bytes old ++ bs) (string_bytes old)
     → encode_utf8_all cs ≡ bs
     → OnOk r (chars (string_bytes new) ≡ before ++ cs)
-pushed_str old new before bs cs (Ok x) seen wrote is = written old new before bs cs seen wrote is
+pushed_str old new before bs cs (Ok x) seen wrote is = characters-appended old new before bs cs seen wrote is
 pushed_str old new before bs cs (Err e) seen wrote is = tt
 
 -- ASCII characters are their own bytes

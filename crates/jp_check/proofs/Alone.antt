@@ -230,9 +230,9 @@ unspelled-refused : (text : Text) (kind : RefusalKind) (place : ℕ)
 unspelled-refused text kind place (inl (e, at)) = rw e (at, λ memory. cc)
 unspelled-refused text kind place (inr (e, at)) = rw e (at, λ memory. cc)
 
-answered : OneRefusal → (text : Text)
+accepted-or_refused : OneRefusal → (text : Text)
     → ((q : QueryTree) × IsAcceptedAs text q) ⊎ ((r : Refusal) × IsRefusedForItself text r)
-answered once text = told ((once level_limit text).answered)
+accepted-or_refused once text = told ((once level_limit text).answered)
   where
     told : ((q : QueryTree) × (s : Spans) × Spells level_limit q s text) ⊎
         ((kind : RefusalKind) × (place : ℕ) × IsParseRefusal level_limit text kind place)
@@ -243,7 +243,7 @@ answered once text = told ((once level_limit text).answered)
 
 pub one-answer : OneReading → OneRefusal → (text : Text) → OneAnswer text
 one-answer one once text = record {
-  answered = answered once text;
+  answered = accepted-or_refused once text;
   one_tree =
       λ q u a b. (one level_limit level_limit q u a.spans b.spans text a.spelled b.spelled).0;
   one_fault = faults-same one text;

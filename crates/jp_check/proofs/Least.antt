@@ -20,9 +20,6 @@ use Rattle.jp_check.proofs.OwnFault.{IsOwn, int-fault, own-fault}
 
 -- ---- the order of faults
 
-no_later-refl : (r : Refusal) → IsNoLater r r
-no_later-refl r = inr (refl, omega arith)
-
 no_later-trans : (r f g : Refusal) → IsNoLater r f → IsNoLater f g → IsNoLater r g
 no_later-trans r f g (inl a) (inl b) = inl (omega arith)
 no_later-trans r f g (inl a) (inr b) = inl (omega arith)

@@ -196,37 +196,37 @@ row-beyond-last h = h
 -- ---- first faults of filters
 
 -- `$[?` the expression `]`
-filtered : ExprTree → QueryTree
-filtered e = query true (segments (segment false (selectors (filter e ∷ [])) ∷ []))
+filter_query : ExprTree → QueryTree
+filter_query e = query true (segments (segment false (selectors (filter e ∷ [])) ∷ []))
 
 -- `$[?@.*==1.0]`: of two faults the query's stands first, at 3
 row-query-first : IsFirstFault
     (items_of
-    (filtered
+    (filter_query
     (comparison (node_value (at_current (wildcard ∷ []))) Equal
     (literal (number Fraction)))))
     (Some (record { start = 3; end = 6 }) ∷ Some (record { start = 8; end = 11 }) ∷ [])
     (record { kind = NotSingular; place = 3 })
-unfolding at_current filtered
+unfolding at_current filter_query
 row-query-first = found-fault _ _ (record { kind = NotSingular; place = 3 }) refl
 
 -- `$[?@.a==1.0&&@.*==2]`: of two faults the literal's stands first, at 8
 row-literal-first : IsFirstFault
-    (items_of (filtered (all_of (exprs (
+    (items_of (filter_query (all_of (exprs (
     comparison (node_value (at_current (name (97 ∷ []) ∷ []))) Equal (literal (number Fraction))
     ∷ comparison (node_value (at_current (wildcard ∷ []))) Equal (literal (number (Whole (pos 2))))
     ∷ [])))))
     (Some (record { start = 3; end = 6 }) ∷ Some (record { start = 8; end = 11 }) ∷ Some
     (record { start = 13; end = 16 }) ∷ Some (record { start = 18; end = 19 }) ∷ [])
     (record { kind = NotWhole; place = 8 })
-unfolding at_current filtered
+unfolding at_current filter_query
 row-literal-first = found-fault _ _ (record { kind = NotWhole; place = 8 }) refl
 
 -- `$[?foo(1.5)]`: of two faults the call's stands first, at 3
 row-call-first : IsFirstFault
     (items_of
-    (filtered (call_test (calling (codes "foo") (literal_argument (number Fraction) ∷ [])))))
+    (filter_query (call_test (calling (codes "foo") (literal_argument (number Fraction) ∷ [])))))
     (Some (record { start = 3; end = 11 }) ∷ Some (record { start = 7; end = 10 }) ∷ [])
     (record { kind = UnknownFunction; place = 3 })
-unfolding calling filtered
+unfolding calling filter_query
 row-call-first = found-fault _ _ (record { kind = UnknownFunction; place = 3 }) refl

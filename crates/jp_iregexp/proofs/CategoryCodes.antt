@@ -1,16 +1,12 @@
 -- The codes of categories and their letters: for both directions of reading a category.
-use Rattle.std.proofs.Common.{◌≡◌, ℕ, Bool, true, List, [], ◌∷◌}
+use Rattle.std.proofs.Common.{◌≡◌, ℕ, Bool, true, List, [], ◌∷◌, get_or}
 use Rattle.std.proofs.Common.{Option, Some, None, inl, inr, refl, ap, subst}
 use Rattle.std.proofs.lemmas.Bool.{and_parts, cases_Bool, eqb-true}
 use Rattle.std.specs.Prelude.{find}
 use Rattle.std.specs.Char.{is_ascii_alphabetic}
 use Rattle.jp_reading.specs.Texts.{Text}
 use Rattle.jp_iregexp.specs.declared.category.Category.{Category}
-use Rattle.jp_iregexp.specs.declared.category.Category.TheVariants.{L, Ll, Lm, Lo, Lt, Lu, M, Mc}
-use Rattle.jp_iregexp.specs.declared.category.Category.TheVariants.{Me, Mn, N, Nd, Nl, No, P, Pc}
-use Rattle.jp_iregexp.specs.declared.category.Category.TheVariants.{Pd, Pe, Pf, Pi, Po, Ps, Z}
-use Rattle.jp_iregexp.specs.declared.category.Category.TheVariants.{Zl, Zp, Zs, S, Sc, Sk, Sm}
-use Rattle.jp_iregexp.specs.declared.category.Category.TheVariants.{So, C, Cc, Cf, Cn, Co}
+use Rattle.jp_iregexp.specs.declared.category.Category.TheVariants.{L, M, N, P, Z, S, C}
 use Rattle.jp_iregexp.specs.declared.category.TheConstants.Category.{ALL}
 use Rattle.jp_iregexp.specs.Codes.{letters}
 use Rattle.jp_iregexp.specs.Private.CodeReading.{pair, is_pair, code_of}
@@ -81,38 +77,10 @@ two_letters k a b are first second found = record {
 pub lettered : (k : Category) → Lettered k
 unfolding letters code_of
 lettered L = one_letter L 76 refl refl refl
-lettered Ll = two_letters Ll 76 108 refl refl refl refl
-lettered Lm = two_letters Lm 76 109 refl refl refl refl
-lettered Lo = two_letters Lo 76 111 refl refl refl refl
-lettered Lt = two_letters Lt 76 116 refl refl refl refl
-lettered Lu = two_letters Lu 76 117 refl refl refl refl
 lettered M = one_letter M 77 refl refl refl
-lettered Mc = two_letters Mc 77 99 refl refl refl refl
-lettered Me = two_letters Me 77 101 refl refl refl refl
-lettered Mn = two_letters Mn 77 110 refl refl refl refl
 lettered N = one_letter N 78 refl refl refl
-lettered Nd = two_letters Nd 78 100 refl refl refl refl
-lettered Nl = two_letters Nl 78 108 refl refl refl refl
-lettered No = two_letters No 78 111 refl refl refl refl
 lettered P = one_letter P 80 refl refl refl
-lettered Pc = two_letters Pc 80 99 refl refl refl refl
-lettered Pd = two_letters Pd 80 100 refl refl refl refl
-lettered Pe = two_letters Pe 80 101 refl refl refl refl
-lettered Pf = two_letters Pf 80 102 refl refl refl refl
-lettered Pi = two_letters Pi 80 105 refl refl refl refl
-lettered Po = two_letters Po 80 111 refl refl refl refl
-lettered Ps = two_letters Ps 80 115 refl refl refl refl
 lettered Z = one_letter Z 90 refl refl refl
-lettered Zl = two_letters Zl 90 108 refl refl refl refl
-lettered Zp = two_letters Zp 90 112 refl refl refl refl
-lettered Zs = two_letters Zs 90 115 refl refl refl refl
 lettered S = one_letter S 83 refl refl refl
-lettered Sc = two_letters Sc 83 99 refl refl refl refl
-lettered Sk = two_letters Sk 83 107 refl refl refl refl
-lettered Sm = two_letters Sm 83 109 refl refl refl refl
-lettered So = two_letters So 83 111 refl refl refl refl
 lettered C = one_letter C 67 refl refl refl
-lettered Cc = two_letters Cc 67 99 refl refl refl refl
-lettered Cf = two_letters Cf 67 102 refl refl refl refl
-lettered Cn = two_letters Cn 67 110 refl refl refl refl
-lettered Co = two_letters Co 67 111 refl refl refl refl
+lettered k = two_letters k (get_or (letters k) 0 0) (get_or (letters k) 1 0) refl refl refl refl

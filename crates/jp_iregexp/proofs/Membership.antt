@@ -19,14 +19,14 @@ use Rattle.jp_iregexp.specs.Tree.{Tree, class, nothing, either, empty, sequence,
 
 -- ---- a number of a run that passes
 
-passing : (test : ℕ → Bool) (a n : ℕ) → list_any test (range_with_len a n) ≡ true →
+passing_number : (test : ℕ → Bool) (a n : ℕ) → list_any test (range_with_len a n) ≡ true →
     (k : ℕ) × (a ≤ k) × (test k ≡ true)
-passing test a zero h = cc
-passing test a (suc n) h =
+passing_number test a zero h = cc
+passing_number test a (suc n) h =
     elim (or_cases (test a) (list_any test (range_with_len (a + 1) n)) h) [
       | inl here ↦ (a, omega arith, here)
       | inr later ↦
-          let (k, from, passes) = passing test (a + 1) n later in
+          let (k, from, passes) = passing_number test (a + 1) n later in
           (k, omega (arith, from), passes)
     ]
 
@@ -95,7 +95,7 @@ module _ (f g : List ℕ → Bool) (A B : List ℕ → Type 0) (one : Tells f A)
 
   cut_found : (word : List ℕ) → is_concatenation f g word ≡ true → Concatenation A B word
   cut_found word h =
-      let (k, from, here) = passing (cut_passes word) 0 (length word + 1) h in
+      let (k, from, here) = passing_number (cut_passes word) 0 (length word + 1) h in
       let sides = and_parts (f (take k word)) (g (drop k word)) here in
       record {
         front = take k word;
@@ -182,7 +182,7 @@ module _ (f : List ℕ → Bool) (A : List ℕ → Type 0) (told : Tells f A) wh
 
     count_found : (word : List ℕ) → is_repeat f least most word ≡ true → Repeated word
     count_found word h =
-        let (k, from, here) = passing (count_passes word) least (length word + 1) h in
+        let (k, from, here) = passing_number (count_passes word) least (length word + 1) h in
         let sides = and_parts (is_at_most most k) (is_power f k word) here in
         (k, from, at_most_from most k sides.0, (power_told k).sound word sides.1)
 

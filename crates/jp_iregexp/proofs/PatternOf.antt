@@ -19,18 +19,18 @@ pub data Answered (n : ℕ) (text : Text) (answer : Option Tree) : Type 0 where
   spelt : (a : Tree) → answer ≡ Some a → SpellsPattern n a text → Answered n text answer
   none_spelt : answer ≡ None → SpellsNone n text → Answered n text answer
 
-answered : (n : ℕ) (text : Text) (o : Outcome Tree) → pattern_at n (start text) ≡ o →
+outcome_answered : (n : ℕ) (text : Text) (o : Outcome Tree) → pattern_at n (start text) ≡ o →
     Answered n text (taken o)
-answered n text (took a q) e = spelt a refl (read-spelt n a text q e)
-answered n text (stuck p) e =
+outcome_answered n text (took a q) e = spelt a refl (read-spelt n a text q e)
+outcome_answered n text (stuck p) e =
     none_spelt refl (fails-spelt n text p.at (subst (Fails (Syntax p.at)) (sym e) refl))
-answered n text (deep p) e =
+outcome_answered n text (deep p) e =
     none_spelt refl (deep-spelt n text p.at (subst (Fails (TooDeep p.at)) (sym e) refl))
 
 -- the pattern of a text is spelt, or nothing is
 pub pattern_answered : (text : Text) → Answered group_limit text (pattern_of text)
 unfolding pattern_of
-pattern_answered text = answered group_limit text (pattern_at group_limit (start text)) refl
+pattern_answered text = outcome_answered group_limit text (pattern_at group_limit (start text)) refl
 
 to_spelt : (n : ℕ) (text : Text) (answer : Option Tree) (a : Tree) → Answered n text answer →
     answer ≡ Some a → SpellsPattern n a text

@@ -20,6 +20,7 @@ use Rattle.jp_document.specs.Value.{text, list, object, Items, no_items, item}
 use Rattle.jp_query.specs.Tree.{SelectorTree, filter, index, name, slice, wildcard}
 use Rattle.jp_query.specs.declared.tree.Numeral.TheVariants.{Beyond, Fraction, Whole}
 use Rattle.jp_select.specs.Candidates.{at_step, candidates, item_entry}
+use Rattle.jp_select.specs.Laws.{CandidatesAreChosen}
 use Rattle.jp_select.specs.Selectors.{chosen, indexes_chosen, item_at}
 use Rattle.jp_select.specs.Selectors.{item_step, list_length, one_step}
 
@@ -177,3 +178,8 @@ chosen-candidates (index Fraction) d v l plain at = refl
 chosen-candidates (slice s) d v l plain at =
     rw at (slice_chosen d v l (indexes_chosen s) (list_length v) at refl)
 chosen-candidates (filter e) d v l plain at = absurd plain
+
+-- what a selector chooses from stands where its candidates do
+pub candidates_law : CandidatesAreChosen
+candidates_law d v l (filter e) at = sym (children_chosen d v l at)
+candidates_law d v l s at = sym (chosen-candidates s d v l tt at)

@@ -1,15 +1,8 @@
-pub mod Choices
+pub mod Choosing
 pub mod Chosen
-pub mod EqualValues
+pub mod Comparisons
 pub mod Locations
 pub mod Rising
 pub mod Rows
-pub mod Sameness
-pub mod Selecting
-pub mod Selections
-pub mod SliceLaws
-pub mod SliceItems
 pub mod Slices
-pub mod TextOrder
 pub mod Walks
-pub mod Weights

@@ -1,6 +1,6 @@
 -- Values and their locations: what stands in a value, and where.
 use Rattle.std.proofs.Common.{◌≡◌, ℕ, zero, suc, List, [], ◌∷◌, ◌++◌, map, Option}
-use Rattle.std.proofs.Common.{Some, None, refl, sym, ap, ap₂, subst, ◌∙◌, arith}
+use Rattle.std.proofs.Common.{Some, None, refl, sym, ap, subst, ◌∙◌}
 use Rattle.std.specs.List.{All, flat_map, slice_get}
 use Rattle.std.specs.Option.{option_and_then, option_map_or}
 use Rattle.std.proofs.lemmas.List.Elements.{All-cons, All-nil, All-append, All-map, All-weaker}
@@ -14,6 +14,10 @@ use Rattle.jp_document.proofs.Descent.Inside.{IsDocumentValue-child}
 use Rattle.jp_document.proofs.Descent.Entries.{child-entry}
 use Rattle.jp_select.specs.Subtree.{after, beyond, location_beyond, subtree_of}
 use Rattle.jp_select.specs.Subtree.{nodes_in, nodes_in_items, nodes_in_members, subtree}
+
+-- the node of a value at a location
+abbrev pub node_at : Location → Value → Node
+node_at l v = record { location = l; value = v }
 
 -- ---- values at longer locations
 
@@ -105,12 +109,12 @@ mutual
 
 -- ---- each node in a value stands at its location
 
-All-flat_map : {X Y : Type 0} (P : Y → Type 0) (f : X → List Y) (xs : List X) →
+pub All-flat_map_each : {X Y : Type 0} (P : Y → Type 0) (f : X → List Y) (xs : List X) →
     ((i : ℕ) (x : X) → slice_get xs i ≡ Some x → All P (f x)) → All P (flat_map f xs)
-All-flat_map P f [] each = All-nil P
-All-flat_map P f (x ∷ xs) each =
+All-flat_map_each P f [] each = All-nil P
+All-flat_map_each P f (x ∷ xs) each =
     All-append P (f x) (flat_map f xs) (each 0 x refl)
-    (All-flat_map P f xs (λ i y is. each (suc i) y is))
+    (All-flat_map_each P f xs (λ i y is. each (suc i) y is))
 
 abbrev pub Stands : Value → Node → Type 0
 Stands v n = value_at v n.location ≡ Some n.value
@@ -126,7 +130,7 @@ pub nodes_stand : (v : Value) → IsDocumentValue v → All (Stands v) (nodes_in
 nodes_stand = by_children (λ v. IsDocumentValue v → All (Stands v) (nodes_in v)) (λ v each document.
     subst (All (Stands v)) (sym (nodes_in-entries v))
     (All-cons (Stands v) (root_of v) (flat_map inner (entries v)) refl
-    (All-flat_map (Stands v) inner (entries v) (λ i e is.
+    (All-flat_map_each (Stands v) inner (entries v) (λ i e is.
     let at : child v e.0 ≡ Some e.1 = child-entry v i e.0 e.1 document is in
     stands_under v e.0 e.1 at (each i e.0 e.1 is (IsDocumentValue-child v e.1 e.0 document at))))))
 

@@ -24,7 +24,7 @@ use Rattle.jp_document.proofs.Descent.Inside.{IsDocumentValue-child}
 use Rattle.jp_document.proofs.Descent.Keys.{key_cmp_total}
 use Rattle.jp_document.proofs.Descent.Entries.{entries-rise, child-entry}
 use Rattle.jp_select.specs.Subtree.{IsInSubtree, after, location_beyond, nodes_in, subtree}
-use Rattle.jp_select.proofs.Locations.{value_at-append, IsDocumentValue-at, inner}
+use Rattle.jp_select.proofs.Locations.{value_at-append, IsDocumentValue-at, inner, node_at}
 use Rattle.jp_select.proofs.Locations.{nodes_in-entries, by_children, Stands, nodes_stand}
 
 -- ---- lists that rise
@@ -50,23 +50,20 @@ sorted_appended (x ∷ xs) ys a b across = (
 abbrev pub places : List Node → List Location
 places ns = map location_of ns
 
-abbrev node_at : Location → Value → Node
-node_at l v = record { location = l; value = v }
-
 same_step : (k : Key) (l m : Location) → location_cmp (k ∷ l) (k ∷ m) ≡ location_cmp l m
 same_step k l m = ap (λ o. ordering_then o (location_cmp l m)) (tied_itself key_cmp_total k)
 
-below_each : (k : Key) (l : Location) (es : List Node)
+precedes-after : (k : Key) (l : Location) (es : List Node)
     → AllByRecursion (λ m. location_cmp l m ≡ Less) (places es)
     → AllByRecursion (λ m. location_cmp (k ∷ l) m ≡ Less) (places (map (after k) es))
-below_each k l [] h = tt
-below_each k l (e ∷ es) h = (same_step k l e.location ∙ h.0, below_each k l es h.1)
+precedes-after k l [] h = tt
+precedes-after k l (e ∷ es) h = (same_step k l e.location ∙ h.0, precedes-after k l es h.1)
 
 sorted_after : (k : Key) (es : List Node) → IsStrictlySortedBy location_cmp (places es)
     → IsStrictlySortedBy location_cmp (places (map (after k) es))
 unfolding IsStrictlySortedBy
 sorted_after k [] h = tt
-sorted_after k (e ∷ es) h = (below_each k e.location es h.0, sorted_after k es h.1)
+sorted_after k (e ∷ es) h = (precedes-after k e.location es h.0, sorted_after k es h.1)
 
 before_later : (k j : Key) (t : Location) (es : List Node) → key_cmp k j ≡ Less
     → AllByRecursion (λ m. location_cmp (k ∷ t) m ≡ Less) (places (map (after j) es))

@@ -14,8 +14,8 @@ use Rattle.jp_select.specs.Slice.{slice_of}
 omitted_end : slice_of 7 (Some (pos 5)) None (pos 1) ≡ 5 ∷ 6 ∷ []
 omitted_end = refl
 
-with_step : slice_of 7 (Some (pos 1)) (Some (pos 5)) (pos 2) ≡ 1 ∷ 3 ∷ []
-with_step = refl
+every_other : slice_of 7 (Some (pos 1)) (Some (pos 5)) (pos 2) ≡ 1 ∷ 3 ∷ []
+every_other = refl
 
 downwards : slice_of 7 (Some (pos 5)) (Some (pos 1)) (negsuc 1) ≡ 5 ∷ 3 ∷ []
 downwards = refl
@@ -43,24 +43,24 @@ before_the_first = refl
 -- ---- descendants (section 2.5.2)
 
 -- {"a": [null, [null]], "b": null}
-abbrev sample : Value
-sample =
+abbrev nested_nulls : Value
+nested_nulls =
     object
     (member (97 ∷ []) (list (item null (item (list (item null no_items)) no_items)))
     (member (98 ∷ []) null no_members))
 
-abbrev a : Location
-a = named (97 ∷ []) ∷ []
+abbrev at_a : Location
+at_a = named (97 ∷ []) ∷ []
 
-subtree_root : subtree sample [] ≡
-    [] ∷ a ∷ (named (97 ∷ []) ∷ nth 0 ∷ []) ∷ (named (97 ∷ []) ∷ nth 1 ∷ []) ∷ (named
+subtree_root : subtree nested_nulls [] ≡
+    [] ∷ at_a ∷ (named (97 ∷ []) ∷ nth 0 ∷ []) ∷ (named (97 ∷ []) ∷ nth 1 ∷ []) ∷ (named
     (97 ∷ []) ∷ nth 1 ∷ nth 0 ∷ []) ∷ (named (98 ∷ []) ∷ []) ∷ []
 subtree_root = refl
 
-subtree_leaf : subtree sample (named (98 ∷ []) ∷ []) ≡ (named (98 ∷ []) ∷ []) ∷ []
+subtree_leaf : subtree nested_nulls (named (98 ∷ []) ∷ []) ≡ (named (98 ∷ []) ∷ []) ∷ []
 subtree_leaf = refl
 
-subtree_nothing : subtree sample (nth 3 ∷ []) ≡ []
+subtree_nothing : subtree nested_nulls (nth 3 ∷ []) ≡ []
 subtree_nothing = refl
 
 -- ---- comparisons (section 2.3.5.3)
@@ -74,10 +74,10 @@ nothing_is_not_null = refl
 number_is_no_text : compared Equal (Some (whole (pos 13))) (Some (text (49 ∷ 51 ∷ []))) ≡ false
 number_is_no_text = refl
 
-object_at_most_itself : compared LessEqual (Some sample) (Some sample) ≡ true
+object_at_most_itself : compared LessEqual (Some nested_nulls) (Some nested_nulls) ≡ true
 object_at_most_itself = refl
 
-object_not_below_itself : compared Less (Some sample) (Some sample) ≡ false
+object_not_below_itself : compared Less (Some nested_nulls) (Some nested_nulls) ≡ false
 object_not_below_itself = refl
 
 beyond_53_bits : compared Greater (Some (whole (pos 18446744073709551615)))

@@ -9,11 +9,12 @@ use Rattle.jp_document.specs.Location.{Key, named, nth, Location}
 use Rattle.jp_document.specs.Location.{items_from, members_by_name, entries}
 use Rattle.jp_document.specs.Node.{Located, Node, children, node_below, node_of}
 use Rattle.jp_document.specs.Value.{Value, null, boolean, whole, text, list, object, Items}
-use Rattle.jp_document.specs.Value.{no_items, item, Members, no_members, member, value_of}
+use Rattle.jp_document.specs.Value.{no_items, item, Members, no_members, member}
 use Rattle.jp_select.specs.Subtree.{after, beyond, subtree_of, nodes_in}
 use Rattle.jp_select.specs.Subtree.{nodes_in_items, nodes_in_members}
 use Rattle.jp_select.specs.Walk.{begun_by, given_by, child_subtrees}
 use Rattle.jp_select.specs.declared.descent.Frame.{Frame}
+use Rattle.jp_select.proofs.Locations.{node_at}
 
 -- ---- a value and its children
 
@@ -47,19 +48,16 @@ subtree_of_members l no_members = refl
 subtree_of_members l (member n v ms) =
     child_and_more l (named n) v (nodes_in_members ms) _ (subtree_of_members l ms)
 
-abbrev at : Location → Value → Node
-at l v = record { location = l; value = v }
-
 nodes-children : (l : Location) (v : Value)
-    → subtree_of (at l v) ≡ at l v ∷ flat_map subtree_of (map (node_below l) (entries v))
-nodes-children l null = ap (λ m. at m null ∷ []) (append-nil l)
-nodes-children l (boolean b) = ap (λ m. at m (boolean b) ∷ []) (append-nil l)
-nodes-children l (whole z) = ap (λ m. at m (whole z) ∷ []) (append-nil l)
-nodes-children l (text s) = ap (λ m. at m (text s) ∷ []) (append-nil l)
+    → subtree_of (node_at l v) ≡ node_at l v ∷ flat_map subtree_of (map (node_below l) (entries v))
+nodes-children l null = ap (λ m. node_at m null ∷ []) (append-nil l)
+nodes-children l (boolean b) = ap (λ m. node_at m (boolean b) ∷ []) (append-nil l)
+nodes-children l (whole z) = ap (λ m. node_at m (whole z) ∷ []) (append-nil l)
+nodes-children l (text s) = ap (λ m. node_at m (text s) ∷ []) (append-nil l)
 nodes-children l (list vs) =
-    ap₂ (λ m t. at m (list vs) ∷ t) (append-nil l) (subtree_of_items l 0 vs)
+    ap₂ (λ m t. node_at m (list vs) ∷ t) (append-nil l) (subtree_of_items l 0 vs)
 nodes-children l (object ms) =
-    ap₂ (λ m t. at m (object ms) ∷ t) (append-nil l) (subtree_of_members l ms)
+    ap₂ (λ m t. node_at m (object ms) ∷ t) (append-nil l) (subtree_of_members l ms)
 
 -- a node comes before what its children give
 pub nodes-first : (n : Node) → subtree_of n ≡ n ∷ child_subtrees n 0

@@ -1,11 +1,14 @@
 -- What is true of the definitions, in the standard's words.
 use Rattle.std.specs.Prelude.{◌≡◌, ◌↔◌, ℕ, suc, ◌*◌, ℤ, pos, negsuc, ◌+ℤ◌, ◌<ℤ◌}
-use Rattle.std.specs.Prelude.{List, [], reverse, Contains, Option, Some, true}
+use Rattle.std.specs.Prelude.{List, [], ◌∷◌, ◌++◌, map, reverse, Contains, Option, Some, true}
 use Rattle.std.specs.List.Sorted.{IsStrictlySortedBy}
 use Rattle.std.specs.Ordering.{nat_cmp}
-use Rattle.jp_document.specs.ChildNodes.{IsListOf}
-use Rattle.jp_document.specs.Location.{Location}
+use Rattle.jp_document.specs.ChildNodes.{IsListOf, children_of}
+use Rattle.jp_document.specs.Location.{Key, Location, value_at}
 use Rattle.jp_document.specs.Value.{Value, IsDocumentValue}
+use Rattle.jp_query.specs.Tree.{SelectorTree, filter}
+use Rattle.jp_select.specs.Candidates.{candidates}
+use Rattle.jp_select.specs.Selectors.{chosen}
 use Rattle.jp_select.specs.Subtree.{subtree, IsInSubtree}
 use Rattle.jp_select.specs.Comparison.{equals}
 use Rattle.jp_select.specs.Equality.{IsEqual}
@@ -17,6 +20,22 @@ use Rattle.jp_select.specs.Slice.{falling_lower, falling_upper, slice_of}
 abbrev pub SubtreeRises : Type 0
 SubtreeRises =
     (d : Value) (l : Location) → IsDocumentValue d → IsListOf (IsInSubtree d l) (subtree d l)
+
+-- where the entry of a value at l stands
+abbrev pub entry_location : Location → Key × Value → Location
+entry_location l e = l ++ e.0 ∷ []
+
+-- where a selector chooses at l: a filter among all children, any other what it selects
+abbrev pub choices : Value → SelectorTree → Location → List Location
+choices d (filter e) l = children_of d l
+choices d s l = chosen d s l
+
+-- the candidates at the value of a node stand, from the node on, where the selector chooses, in the
+-- same order (RFC 9535 section 2.3)
+abbrev pub CandidatesAreChosen : Type 0
+CandidatesAreChosen =
+    (d v : Value) (l : Location) (s : SelectorTree) → value_at d l ≡ Some v →
+    map (entry_location l) (candidates s v) ≡ choices d s l
 
 -- the indexes rise, and are exactly lower, lower + step, lower + 2 * step .. below upper
 pub record IsRisingSlice (lower upper : ℤ) (step : ℕ) (is : List ℕ) : Type 0 where

@@ -1,5 +1,5 @@
 //! What is true of the definitions that the calls cite: functions without a body, each for one law.
-ghost use Rattle.jp_select.specs.Laws.{SubtreeRises, EqualsIsExact, SlicesAreExact};
+ghost use Rattle.jp_select.specs.Laws.{CandidatesAreChosen, EqualsIsExact, SlicesAreExact, SubtreeRises};
 
 /// A node and its descendants are exactly the nodes whose locations begin with its own, in document
 /// order (RFC 9535 section 2.5.2.2).
@@ -18,4 +18,10 @@ pub fn slices_are_exact()
 /// section 2.3.5.2.2).
 pub fn equals_is_exact()
     ensures { EqualsIsExact }
+{}
+
+/// The candidates of a name, an index, a slice or a wildcard at a node are what it selects there,
+/// in the same order, and those of a filter are all children (RFC 9535 section 2.3).
+pub fn candidates_are_chosen()
+    ensures { CandidatesAreChosen }
 {}

@@ -2,6 +2,7 @@
 ghost use Rattle.std.specs.Prelude.{◌≡◌, ◌-◌, ◌<◌, ◌≤◌, pos, negsuc, ◌+ℤ◌, ◌-ℤ◌, ◌≤ℤ◌, OnSome, slice_get};
 ghost use Rattle.jp_select.specs.Selectors.{bound_of, indexes_chosen, whole_of};
 ghost use Rattle.jp_select.specs.Slice.{normalized, held_within, slice_of};
+ghost use Rattle.jp_select.specs.Slice.{falling_lower, falling_upper, rising_lower, rising_upper};
 
 use jp_query::{Numeral, Slice};
 
@@ -34,8 +35,8 @@ fn rising(
     ensures index { result ≡ slice_get (slice_of length start end (pos step)) position }
     ensures more { OnSome result (position < length) }
 {
-    let lower = from_zero(length, start.unwrap_or(0));
-    let upper = from_zero(length, end.unwrap_or(length as i128));
+    let lower = rising_lower(length, start);
+    let upper = rising_upper(length, end);
     let index = lower.saturating_add(step.saturating_mul(position as u128));
     if index < upper {
         Some(index as u64)
@@ -44,8 +45,7 @@ fn rising(
     }
 }
 
-/// What a slice with a negative step selects: from the upper bound down, above the lower one. Both
-/// are held one higher here, so that they are no less than 0.
+/// What a slice with a negative step selects: from the upper bound down, above the lower one.
 fn falling(
     length: u64,
     start: Option<i128>,
@@ -57,13 +57,63 @@ fn falling(
     ensures index { result ≡ slice_get (slice_of length start end (negsuc (size - 1))) position }
     ensures more { OnSome result (position < length) }
 {
-    let upper = one_higher(length, start.unwrap_or(length as i128 - 1));
-    let lower = one_higher(length, end.unwrap_or(-(length as i128) - 1));
+    let upper = falling_upper(length, start);
+    let lower = falling_lower(length, end);
     let above = upper.saturating_sub(size.saturating_mul(position as u128));
     if lower < above {
         Some((above - 1) as u64)
     } else {
         None
+    }
+}
+
+/// The lower bound of a slice whose step is positive: 0 where it is omitted.
+#[tactic(auto, using(crate::proofs::Slices::Bounds::rising_lower_omitted))]
+fn rising_lower(length: u64, start: Option<i128>) -> u128
+    ensures bound { pos result ≡ rising_lower length start }
+    ensures within { result ≤ length }
+{
+    match start {
+        Some(start) => from_zero(length, start),
+        None => 0,
+    }
+}
+
+/// The upper bound of a slice whose step is positive: the length where it is omitted.
+#[tactic(auto, using(crate::proofs::Slices::Bounds::rising_upper_omitted))]
+fn rising_upper(length: u64, end: Option<i128>) -> u128
+    ensures bound { pos result ≡ rising_upper length end }
+    ensures within { result ≤ length }
+{
+    match end {
+        Some(end) => from_zero(length, end),
+        None => length as u128,
+    }
+}
+
+/// One more than the upper bound of a slice whose step is negative, which is the last index where
+/// it is omitted.
+#[tactic(auto, using(crate::proofs::Slices::Bounds::falling_upper_omitted))]
+fn falling_upper(length: u64, start: Option<i128>) -> u128
+    ensures bound { pos result ≡ falling_upper length start +ℤ pos 1 }
+    ensures within { result ≤ length }
+{
+    match start {
+        Some(start) => one_higher(length, start),
+        None => length as u128,
+    }
+}
+
+/// One more than the lower bound of a slice whose step is negative, which is -1 where it is
+/// omitted.
+#[tactic(auto, using(crate::proofs::Slices::Bounds::falling_lower_omitted))]
+fn falling_lower(length: u64, end: Option<i128>) -> u128
+    ensures bound { pos result ≡ falling_lower length end +ℤ pos 1 }
+    ensures within { result ≤ length }
+{
+    match end {
+        Some(end) => one_higher(length, end),
+        None => 0,
     }
 }
 

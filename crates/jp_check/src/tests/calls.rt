@@ -75,16 +75,8 @@ fn calls_are_refused_with_their_first_faults(rt: HostRuntime) -> Result<(), Fail
 
 /// A filter: so many times `open`, then `inner`, then as many `)`.
 fn nested(alloc: Global, count: usize, open: &str, inner: &str) -> Result<String, AllocError> {
-    let mut text = String::from_str(alloc, "$[?")?;
-    for _ in 0..count {
-        text.push_str(open)?;
-    }
-    text.push_str(inner)?;
-    for _ in 0..count {
-        text.push_str(")")?;
-    }
-    text.push_str("]")?;
-    Ok(text)
+    let (opened, closed) = (open.repeat(alloc, count)?, ")".repeat(alloc, count)?);
+    format!(in alloc; "$[?{opened}{inner}{closed}]")
 }
 
 #[test]

@@ -34,8 +34,8 @@ behind [] = []
 behind (c ∷ t) = t
 
 -- whether a `-` stands next that does not end the class
-abbrev goes_on : Text → Bool
-goes_on t = passes (is 45) (first_of t) && not (passes (is 93) (first_of (behind t)))
+abbrev is_inner_hyphen : Text → Bool
+is_inner_hyphen t = passes (is 45) (first_of t) && not (passes (is 93) (first_of (behind t)))
 
 past-behind : (at : ℕ) (found : Spans) (t : Text) → (past_first at found t).rest ≡ behind t
 past-behind at found [] = refl
@@ -43,7 +43,7 @@ past-behind at found (c ∷ t) = refl
 
 -- what may follow an item
 record AfterElement (t : Text) : Type 0 where
-  none : goes_on t ≡ false
+  none : is_inner_hyphen t ≡ false
 
 range-off : (q : State) → AfterElement q.rest → (is_at 45 q && not (is_at 93 (past q))) ≡ false
 range-off q h =

@@ -165,18 +165,13 @@ module _ (Group : Tree → Form) (inside : State → Outcome Tree)
   unfolding atom_at
   atom-dot p q h =
       let e = word-first 46 [] p q h in
+      let after = past-word 46 p q h in
       record {
         first = 46;
         at = e;
         piece = refl;
         none = refl;
-        is =
-            rw (
-              ap (passes (is 40)) e,
-              ap (passes (is 91)) e,
-              ap (passes (is 46)) e,
-              past-word 46 p q h,
-            ) refl;
+        is = rw (ap (passes (is 40)) e, ap (passes (is 91)) e, ap (passes (is 46)) e, after) refl;
       }
 
   atom-class : (x : Tree) (p q : State) → head p ≡ Some 91 → Reads (Class x) p q → AtomRead x p q

@@ -1,4 +1,4 @@
-use Rattle.jp_canon.proofs.Induction.{canon-accepted, canon-spells}
+use Rattle.jp_canon.proofs.Spells.Induction.{canon-accepted, canon-spells}
 use Rattle.jp_canon.proofs.laws.canon_spells.Goals as goal
 
 pub returns-clause-spells : goal.returns-clause-spells

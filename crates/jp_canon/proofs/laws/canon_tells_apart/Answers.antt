@@ -1,4 +1,4 @@
-use Rattle.jp_canon.proofs.Induction.{canon-tells-apart}
+use Rattle.jp_canon.proofs.Spells.Induction.{canon-tells-apart}
 use Rattle.jp_canon.proofs.laws.canon_tells_apart.Goals as goal
 
 pub returns : goal.returns

@@ -1,7 +1,7 @@
 use Rattle.std.proofs.Common.{Some, sym, ap, ◌∙◌}
 use Rattle.jp_document.specs.Value.{value_of}
 use Rattle.jp_select.specs.Selectors.{list_length}
-use Rattle.jp_select.proofs.Selections.{list_length-of}
+use Rattle.jp_select.proofs.Choosing.ListLengths.{list_length-of}
 use Rattle.jp_select.proofs.candidates.list_length.Goals as goal
 
 pub returns-in-List : goal.returns-in-List

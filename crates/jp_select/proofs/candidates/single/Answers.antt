@@ -2,7 +2,7 @@ use Rattle.std.proofs.Common.{sym, ap, ◌∙◌}
 use Rattle.jp_document.specs.DocumentValue.{lent_value}
 use Rattle.jp_query.specs.Tree.{selector_of}
 use Rattle.jp_select.specs.Candidates.{single}
-use Rattle.jp_select.proofs.Choices.{single-name}
+use Rattle.jp_select.proofs.Choosing.Entries.{single-name}
 use Rattle.jp_select.proofs.candidates.single.Goals as goal
 
 pub returns-in-Name : goal.returns-in-Name

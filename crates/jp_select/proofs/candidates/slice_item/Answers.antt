@@ -3,7 +3,7 @@ use Rattle.std.specs.List.{slice_get}
 use Rattle.jp_document.specs.DocumentValue.{lent_entry, lent_value}
 use Rattle.jp_document.specs.Location.{entries}
 use Rattle.jp_select.specs.Selectors.{list_length}
-use Rattle.jp_select.proofs.Choices.{slice-entry}
+use Rattle.jp_select.proofs.Choosing.Entries.{slice-entry}
 use Rattle.jp_select.proofs.candidates.slice_item.Goals as goal
 
 pub returns-in_err-item-clause-entry : goal.returns-in_err-item-clause-entry

@@ -1,7 +1,7 @@
 use Rattle.std.proofs.Common.{◌≢◌, length, sym, ap, ap₂, ◌∙◌, arith}
 use Rattle.jp_select.specs.Comparable.{comparable_of}
 use Rattle.jp_select.specs.Comparison.{equals}
-use Rattle.jp_select.proofs.Sameness.{equals-exact, items_unlike, members_unlike}
+use Rattle.jp_select.proofs.Comparisons.Sameness.{equals-exact, items_unlike, members_unlike}
 use Rattle.jp_select.proofs.comparable.+equals.Goals as goal
 
 pub Comparable::equals-returns-in-List-List-clause-same :

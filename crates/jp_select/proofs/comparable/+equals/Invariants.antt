@@ -3,7 +3,7 @@ use Rattle.std.specs.Slice.Iter.{iter_rest}
 use Rattle.jp_document.specs.Value.{value_of, items_of, members_of, member_of}
 use Rattle.jp_select.specs.Comparable.{comparable_of}
 use Rattle.jp_select.specs.Comparison.{same_items, same_members}
-use Rattle.jp_select.proofs.Weights.{weight, weight_items, weight_members, weight_of}
+use Rattle.jp_select.proofs.Comparisons.Weights.{weight, weight_items, weight_members, weight_of}
 use Rattle.jp_select.proofs.comparable.+equals.Given as goal
 
 abbrev pub decreases-Comparable::equals : goal.decreases-Comparable::equals

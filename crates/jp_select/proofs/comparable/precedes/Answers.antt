@@ -1,5 +1,5 @@
 use Rattle.std.proofs.Common.{◌∙◌}
-use Rattle.jp_select.proofs.TextOrder.{bytes-precedes}
+use Rattle.jp_select.proofs.Comparisons.TextOrder.{bytes-precedes}
 use Rattle.jp_select.proofs.comparable.precedes.Goals as goal
 
 pub returns : goal.returns

@@ -1,4 +1,4 @@
-use Rattle.jp_select.proofs.EqualValues.{equality_law}
+use Rattle.jp_select.proofs.Comparisons.EqualValues.{equality_law}
 use Rattle.jp_select.proofs.laws.equals_is_exact.Goals as goal
 
 pub returns : goal.returns

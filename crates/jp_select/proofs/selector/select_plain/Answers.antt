@@ -7,7 +7,7 @@ use Rattle.jp_document.specs.Node.{node_below, node_of}
 use Rattle.jp_document.specs.Value.{value_of}
 use Rattle.jp_query.specs.Tree.{selector_of}
 use Rattle.jp_select.specs.Candidates.{candidates}
-use Rattle.jp_select.proofs.Selecting.{all_chosen, chosen_nodes, is_plain, next_chosen}
+use Rattle.jp_select.proofs.Choosing.Nodes.{all_chosen, chosen_nodes, is_plain, next_chosen}
 use Rattle.jp_select.proofs.selector.select_plain.Goals as goal
 
 pub loop-step-preserved : goal.loop-step-preserved

@@ -174,8 +174,8 @@ some_byte c bs x (four h) = refl
 
 -- ---- texts
 
-turned : (x y : List ℕ) → bytes_cmp x y ≡ ordering_reverse (bytes_cmp y x)
-turned = nat_list_cmp_total.antisymm
+bytes_cmp-reverse : (x y : List ℕ) → bytes_cmp x y ≡ ordering_reverse (bytes_cmp y x)
+bytes_cmp-reverse = nat_list_cmp_total.antisymm
 
 precedes-lower : (c d : ℕ) (cs ds : List ℕ) → c < d → precedes (c ∷ cs) (d ∷ ds) ≡ true
 precedes-lower c d cs ds less = grind (arith, nat_tests)
@@ -192,7 +192,7 @@ encoded [] [] = refl
 encoded [] (d ∷ ds) = ap is_lt (some_byte d (encode_utf8 d) (encode_utf8_all ds) (bytes d))
 encoded (c ∷ cs) [] =
     ap is_lt
-    (turned (encode_utf8_all (c ∷ cs)) []
+    (bytes_cmp-reverse (encode_utf8_all (c ∷ cs)) []
     ∙ ap ordering_reverse (some_byte c (encode_utf8 c) (encode_utf8_all cs) (bytes c)))
 encoded (c ∷ cs) (d ∷ ds) =
     let x : List ℕ = encode_utf8_all cs in
@@ -202,7 +202,7 @@ encoded (c ∷ cs) (d ∷ ds) =
       | inr up ↦ elim (cases_lt d c) [
         | inl more ↦
             ap is_lt
-            (turned (encode_utf8 c ++ x) (encode_utf8 d ++ y)
+            (bytes_cmp-reverse (encode_utf8 c ++ x) (encode_utf8 d ++ y)
             ∙ ap ordering_reverse (lower_character d c y x more))
             ∙ sym (precedes-higher c d cs ds more)
         | inr down ↦

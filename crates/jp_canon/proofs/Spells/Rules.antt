@@ -23,15 +23,15 @@ use Rattle.jp_canon.specs.Canon.{argument_text, argument_texts, call_text}
 use Rattle.jp_canon.specs.Canon.{canon_of, expr_text, operand_text, segment_text}
 use Rattle.jp_canon.specs.Canon.{segments_text, selector_text, separated}
 use Rattle.jp_canon.specs.Precedence.{and_precedence, is_grouped, is_test, or_precedence}
-use Rattle.jp_canon.proofs.Forms.{Has, after-blank, before-blank, both, has-as, has-item}
+use Rattle.jp_canon.proofs.Forms.{Has, after-blank, before-blank, both, has-as, has-equal_tree, has-item}
 use Rattle.jp_canon.proofs.Forms.{has-same, has-separated, has-word, separated-gives}
 use Rattle.jp_canon.proofs.Bracketed.{Comma, HasSelector, bracket-of}
 use Rattle.jp_canon.proofs.Bracketed.{bracket_text, dotted-bracket, two-dots}
-use Rattle.jp_canon.proofs.FunctionNames.{has-function_name}
-use Rattle.jp_canon.proofs.Grouping.{And, Known, Or, Own, OwnLevel, Ready, and-part}
-use Rattle.jp_canon.proofs.Grouping.{logical-part, negated-call, negated-query, nested_text}
-use Rattle.jp_canon.proofs.Grouping.{not-part, or-part, part_text, part_texts-map, several}
-use Rattle.jp_canon.proofs.Literals.{literal-text, sliced-text}
+use Rattle.jp_canon.proofs.Spells.FunctionNames.{has-function_name}
+use Rattle.jp_canon.proofs.Spells.Grouping.{And, Known, Or, Own, OwnLevel, Ready, and-part}
+use Rattle.jp_canon.proofs.Spells.Grouping.{logical-part, negated-call, negated-query, nested_text}
+use Rattle.jp_canon.proofs.Spells.Grouping.{not-part, or-part, part_text, part_texts-map, several}
+use Rattle.jp_canon.proofs.Spells.Literals.{literal-text, sliced-text}
 use Rattle.jp_canon.proofs.Names.{has-quoted}
 use Rattle.jp_canon.proofs.Numbers.{int}
 
@@ -72,18 +72,18 @@ module _ (I K : Nested → Form)
     (known : (x : Nested) (s : Spans) (o : ℕ) (t : Text) → I x s o t → Known K x) where
   selector : (x : SelectorTree) (s : Spans) (o : ℕ) (t : Text) → Selector I x s o t
       → Has (Selector K x) (selector_text x)
-  selector x s o t (named cs is h) = subst (λ y. Has (Selector K y) (selector_text y)) (sym is)
+  selector x s o t (named cs is h) = has-equal_tree (Selector K) selector_text is
       (has-as (λ r p. named cs refl) (has-quoted cs))
-  selector x s o t (any is h) = subst (λ y. Has (Selector K y) (selector_text y)) (sym is)
+  selector x s o t (any is h) = has-equal_tree (Selector K) selector_text is
       (has-as (λ r p. any refl) (has-word _))
   selector x s o t (indexed i is h) =
-      subst (λ y. Has (Selector K y) (selector_text y)) (sym is)
+      has-equal_tree (Selector K) selector_text is
       (has-as (λ r p. indexed i refl) (has-item (int i h.inside o t h.is)))
   selector x s o t (sliced y is h) =
-      subst (λ z. Has (Selector K z) (selector_text z)) (sym is)
+      has-equal_tree (Selector K) selector_text is
       (has-as (λ r p. sliced y refl) (sliced-text y s o t h))
   selector x s o t (filtered e is h) =
-      subst (λ y. Has (Selector K y) (selector_text y)) (sym is)
+      has-equal_tree (Selector K) selector_text is
       (has-as (λ r p. filtered e refl)
       (both (has-word (codes "?")) (after-blank (known (nested_expr e) _ _ _ h.two.two).inside)))
 
@@ -100,16 +100,16 @@ module _ (I K : Nested → Form)
   segment-text : (x : SegmentTree) (s : Spans) (o : ℕ) (t : Text) → Segment I x s o t
       → Has (Segment K x) (segment_text x)
   segment-text x s o t (bracketed ys is h) =
-      subst (λ y. Has (Segment K y) (segment_text y)) (sym is)
+      has-equal_tree (Segment K) segment_text is
       (has-as (λ r p. bracketed ys refl) (bracket ys s o t h))
   segment-text x s o t (dotted y is h) =
-      subst (λ z. Has (Segment K z) (segment_text z)) (sym is)
+      has-equal_tree (Segment K) segment_text is
       (has-as (λ r p. bracketed (y ∷ []) refl) (dotted-bracket K y _ _ _ h.two))
   segment-text x s o t (deep_bracketed ys is h) =
-      subst (λ y. Has (Segment K y) (segment_text y)) (sym is)
+      has-equal_tree (Segment K) segment_text is
       (has-as (λ r p. deep_bracketed ys refl) (two-dots (bracket ys _ _ _ h.two.two)))
   segment-text x s o t (deep_dotted y is h) =
-      subst (λ z. Has (Segment K z) (segment_text z)) (sym is)
+      has-equal_tree (Segment K) segment_text is
       (has-as (λ r p. deep_bracketed (y ∷ []) refl) (two-dots (dotted-bracket K y _ _ _ h.two.two)))
 
   pub segments-text : (xs : List SegmentTree) (s : Spans) (o : ℕ) (t : Text) → Segments I xs s o t
@@ -124,18 +124,18 @@ module _ (I K : Nested → Form)
   inner : (q : QueryTree) (s : Spans) (o : ℕ) (t : Text) → InnerQuery I q s o t
       → Has (InnerQuery K q) (canon_of q)
   inner q s o t (from_root xs is h) =
-      subst (λ p. Has (InnerQuery K p) (canon_of p)) (sym is)
+      has-equal_tree (InnerQuery K) canon_of is
       (has-as (λ r p. from_root xs refl)
       (has-item (both (has-word (codes "$")) (segments-text xs _ _ _ h.is.two))))
   inner q s o t (from_current xs is h) =
-      subst (λ p. Has (InnerQuery K p) (canon_of p)) (sym is)
+      has-equal_tree (InnerQuery K) canon_of is
       (has-as (λ r p. from_current xs refl)
       (has-item (both (has-word (codes "@")) (segments-text xs _ _ _ h.is.two))))
 
   call-text : (c : CallTree) (s : Spans) (o : ℕ) (t : Text) → FunctionCall I c s o t
       → Has (FunctionCall K c) (call_text c)
   call-text c s o t (function_call name xs is h) =
-      subst (λ x. Has (FunctionCall K x) (call_text x)) (sym is)
+      has-equal_tree (FunctionCall K) call_text is
       (has-as (λ r p. function_call name xs refl)
       (has-item
       (both (has-function_name name _ _ _ h.is.one)
@@ -149,13 +149,13 @@ module _ (I K : Nested → Form)
   side : (x : OperandTree) (s : Spans) (o : ℕ) (t : Text) → Side I x s o t
       → Has (Side K x) (operand_text x)
   side x s o t (literal_side l is h) =
-      subst (λ y. Has (Side K y) (operand_text y)) (sym is)
+      has-equal_tree (Side K) operand_text is
       (has-as (λ r p. literal_side l refl) (has-item (literal-text l h.inside o t h.is)))
   side x s o t (query_side q is h) =
-      subst (λ y. Has (Side K y) (operand_text y)) (sym is)
+      has-equal_tree (Side K) operand_text is
       (has-as (λ r p. query_side q refl) (inner q s o t h))
   side x s o t (call_side c is h) =
-      subst (λ y. Has (Side K y) (operand_text y)) (sym is)
+      has-equal_tree (Side K) operand_text is
       (has-as (λ r p. call_side c refl) (call-text c s o t h))
 
   comparison-text : (left right : OperandTree) (op : Op) (s : Spans) (o : ℕ) (t : Text)
@@ -267,7 +267,7 @@ module _ (I K : Nested → Form)
   -- around it
   expression-text : (e : ExprTree) (s : Spans) (o : ℕ) (t : Text) → Expression I e s o t
       → Has (Own K e) (expr_text e)
-  expression-text e s o t (disjunction es is h) = subst (λ x. Has (Own K x) (expr_text x)) (sym is)
+  expression-text e s o t (disjunction es is h) = has-equal_tree (Own K) expr_text is
       (or-parts es s o t h)
 
   -- ---- arguments
@@ -287,16 +287,16 @@ module _ (I K : Nested → Form)
   argument : (x : ArgumentTree) (s : Spans) (o : ℕ) (t : Text) → Argument I x s o t
       → Has (Argument K x) (argument_text x)
   argument x s o t (literal_alone l is h) =
-      subst (λ y. Has (Argument K y) (argument_text y)) (sym is)
+      has-equal_tree (Argument K) argument_text is
       (has-as (λ r p. literal_alone l refl) (has-item (literal-text l h.inside o t h.is)))
   argument x s o t (query_alone q is h) =
-      subst (λ y. Has (Argument K y) (argument_text y)) (sym is)
+      has-equal_tree (Argument K) argument_text is
       (has-as (λ r p. query_alone q refl) (inner q s o t h))
   argument x s o t (call_alone c is h) =
-      subst (λ y. Has (Argument K y) (argument_text y)) (sym is)
+      has-equal_tree (Argument K) argument_text is
       (has-as (λ r p. call_alone c refl) (call-text c s o t h))
   argument x s o t (logical_expr e is h) =
-      subst (λ y. Has (Argument K y) (argument_text y)) (sym is)
+      has-equal_tree (Argument K) argument_text is
       (has-as (λ r p. logical_expr e refl)
       (has-item (logical-part K e (logical-text e h.inside o t h.is))))
 

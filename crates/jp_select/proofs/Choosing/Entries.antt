@@ -16,7 +16,7 @@ use Rattle.jp_query.specs.declared.tree.Selector.{Name}
 use Rattle.jp_query.specs.declared.tree.Slice.{Slice}
 use Rattle.jp_select.specs.Candidates.{at_step, candidates, item_entry, single}
 use Rattle.jp_select.specs.Selectors.{indexes_chosen, indexes_of, bound_of, whole_of, list_length}
-use Rattle.jp_select.proofs.SliceItems.{slice_within}
+use Rattle.jp_select.proofs.Slices.Items.{slice_within}
 
 -- ---- names
 

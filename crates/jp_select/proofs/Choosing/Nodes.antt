@@ -1,5 +1,5 @@
 -- The nodes of what a selector chooses, one after another.
-use Rattle.std.proofs.Common.{◌≡◌, ℕ, suc, List, [], ◌∷◌, ◌++◌, Option, Some}
+use Rattle.std.proofs.Common.{◌≡◌, ℕ, suc, List, [], ◌∷◌, ◌++◌, Some}
 use Rattle.std.proofs.Common.{None, string_bytes, length, drop, map, rules, refl}
 use Rattle.std.proofs.Common.{ap, ap₂, sym, subst, ◌∙◌, append_assoc, arith}
 use Rattle.std.specs.List.{All, slice_get}
@@ -50,20 +50,20 @@ all_chosen l cs nodes i at past before =
     (sym (drop_past cs i past) ∙ ap (λ k. drop k cs) at)
     ∙ before
 
-entries_stand : (d v : Value) (l : Location) (es : List (Key × Value)) → IsDocumentValue d
+nodes_below-stand : (d v : Value) (l : Location) (es : List (Key × Value)) → IsDocumentValue d
     → value_at d l ≡ Some v → All (StandsBelow v) es
     → All (StandsIn d) (map (node_below l) es)
-entries_stand d v l es document at all =
+nodes_below-stand d v l es document at all =
     All-map (StandsIn d) (node_below l) es
     (All-weaker (StandsBelow v) (λ e. StandsIn d (node_below l e)) (λ e there. record {
       document = document;
       there = value_at-step d v l e.0 at ∙ there;
     }) es all)
 
-locations-below : (l : Location) (es : List (Key × Value))
+location_of-node_below : (l : Location) (es : List (Key × Value))
     → map location_of (map (node_below l) es) ≡ map (entry_location l) es
-locations-below l [] = refl
-locations-below l (e ∷ es) = ap (λ ls. entry_location l e ∷ ls) (locations-below l es)
+location_of-node_below l [] = refl
+location_of-node_below l (e ∷ es) = ap (λ ls. entry_location l e ∷ ls) (location_of-node_below l es)
 
 -- the nodes are the document's own, at what the selector selects
 pub chosen_nodes : (s : SelectorTree) (d : Value) (n : Node) (ns : List Node) → IsPlain s
@@ -74,11 +74,11 @@ chosen_nodes s d n ns plain stands is =
     let here = IsDocumentValue-at d n.value n.location stands.document stands.there in
     record {
       locations =
-          ap (map location_of) is ∙ locations-below n.location (candidates s n.value)
+          ap (map location_of) is ∙ location_of-node_below n.location (candidates s n.value)
           ∙ sym (chosen-candidates s d n.value n.location plain stands.there);
       stand =
           All-same (StandsIn d) ns _ is
-          (entries_stand d n.value n.location (candidates s n.value) stands.document stands.there
+          (nodes_below-stand d n.value n.location (candidates s n.value) stands.document stands.there
           (candidates_stand s n.value here));
     }
 

@@ -14,7 +14,7 @@ use Rattle.jp_query.specs.Tree.{LiteralTree}
 use Rattle.jp_canon.specs.Canon.{bound_text, is_one, literal_text}
 use Rattle.jp_canon.specs.Canon.{numeral_text, slice_text, step_text}
 use Rattle.jp_canon.proofs.Forms.{Has, after-blank, before-blank, both}
-use Rattle.jp_canon.proofs.Forms.{has-as, has-item, has-omitted, has-word}
+use Rattle.jp_canon.proofs.Forms.{has-as, has-equal_tree, has-item, has-omitted, has-word}
 use Rattle.jp_canon.proofs.Names.{has-quoted}
 use Rattle.jp_canon.proofs.Numbers.{int, number-text}
 
@@ -28,10 +28,10 @@ is_one-is Fraction is = absurd (cc)
 
 has-bound : (x : Option Numeral) (s : Spans) (o : ℕ) (t : Text) → Bound x s o t
     → Has (Bound x) (bound_text x)
-has-bound x s o t (no_bound is h) = subst (λ y. Has (Bound y) (bound_text y)) (sym is)
+has-bound x s o t (no_bound is h) = has-equal_tree Bound bound_text is
     (has-as (λ r p. no_bound refl) (has-word []))
 has-bound x s o t (bound i is h) =
-    subst (λ y. Has (Bound y) (bound_text y)) (sym is)
+    has-equal_tree Bound bound_text is
     (has-as (λ r p. bound i refl) (before-blank (has-item (int i h.one.inside o h.first h.one.is))))
 
 no-step : Has (Step (Whole (pos 1))) []
@@ -44,8 +44,8 @@ given i false is h = has-as (λ s o. given_step)
     (both (has-word (codes ":")) (after-blank (has-item h)))
 
 has-step : (i : Numeral) (s : Spans) (o : ℕ) (t : Text) → Step i s o t → Has (Step i) (step_text i)
-has-step i s o t (no_step is h) = subst (λ j. Has (Step j) (step_text j)) (sym is) no-step
-has-step i s o t (empty_step is h) = subst (λ j. Has (Step j) (step_text j)) (sym is) no-step
+has-step i s o t (no_step is h) = has-equal_tree Step step_text is no-step
+has-step i s o t (empty_step is h) = has-equal_tree Step step_text is no-step
 has-step i s o t (given_step h) =
     let at = o + bytes h.first + bytes h.two.first in
     given i (is_one i) refl (int i h.two.two.inside at h.two.second h.two.two.is)
@@ -63,14 +63,14 @@ sliced-text x s o t h =
 pub literal-text : (x : LiteralTree) (s : Spans) (o : ℕ) (t : Text) → Literal x s o t
     → Has (Literal x) (literal_text x)
 literal-text x s o t (of_number i is h) =
-    subst (λ y. Has (Literal y) (literal_text y)) (sym is)
+    has-equal_tree Literal literal_text is
     (has-as (λ r p. of_number i refl) (number-text i s o t h))
 literal-text x s o t (of_text cs is h) =
-    subst (λ y. Has (Literal y) (literal_text y)) (sym is)
+    has-equal_tree Literal literal_text is
     (has-as (λ r p. of_text cs refl) (has-quoted cs))
-literal-text x s o t (of_true is h) = subst (λ y. Has (Literal y) (literal_text y)) (sym is)
+literal-text x s o t (of_true is h) = has-equal_tree Literal literal_text is
     (has-as (λ r p. of_true refl) (has-word _))
-literal-text x s o t (of_false is h) = subst (λ y. Has (Literal y) (literal_text y)) (sym is)
+literal-text x s o t (of_false is h) = has-equal_tree Literal literal_text is
     (has-as (λ r p. of_false refl) (has-word _))
-literal-text x s o t (of_null is h) = subst (λ y. Has (Literal y) (literal_text y)) (sym is)
+literal-text x s o t (of_null is h) = has-equal_tree Literal literal_text is
     (has-as (λ r p. of_null refl) (has-word _))

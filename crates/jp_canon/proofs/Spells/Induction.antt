@@ -7,8 +7,8 @@ use Rattle.jp_query.specs.Tree.{QueryTree, segments}
 use Rattle.jp_canon.specs.Canon.{canon_of, segments_text}
 use Rattle.jp_canon.specs.Laws.{CanonIsAccepted, CanonSpells, CanonTellsApart}
 use Rattle.jp_canon.proofs.Forms.{Has, both, has-word}
-use Rattle.jp_canon.proofs.Grouping.{Known, OwnLevel, nested_text, whole}
-use Rattle.jp_canon.proofs.Rules.{level-text, segments-text}
+use Rattle.jp_canon.proofs.Spells.Grouping.{Known, OwnLevel, nested_text, whole}
+use Rattle.jp_canon.proofs.Spells.Rules.{level-text, segments-text}
 
 -- what some text spells within m levels has both forms within k levels, where m ≤ k: what can stand
 -- as it is within k - 1 levels can stand one level further in

@@ -28,27 +28,27 @@ use Rattle.jp_select.specs.Equality.{IsEqual, nulls, truths, numbers, texts, lis
 use Rattle.jp_select.specs.Laws.{EqualsIsExact}
 use Rattle.jp_select.proofs.Locations.{by_children}
 use Rattle.jp_select.proofs.Rising.{exact_step}
-use Rattle.jp_select.proofs.Sameness.{equals_is, equals_itself}
+use Rattle.jp_select.proofs.Comparisons.Sameness.{equals_is, equals_itself}
 
 -- ---- entries whose keys rise are the same where they answer alike
 
 abbrev Entries : Type 0
 Entries = List (Key × Value)
 
-abbrev found : Key → Entries → Option Value
-found k es = lookup (is_at (key_cmp k)) es
+abbrev value_under : Key → Entries → Option Value
+value_under k es = lookup (is_at (key_cmp k)) es
 
 abbrev AllAbove : Key → Entries → Type 0
 AllAbove k es = AllByRecursion (λ j. key_cmp k j ≡ Less) (keys_of es)
 
 found_by : (o : Ordering) (e : Key × Value) (es : Entries) (k : Key) → key_cmp k e.0 ≡ o →
-    found k (e ∷ es) ≡ cond (is_eq o) (Some e.1) (found k es)
-found_by o e es k is = ap (λ r. cond (is_eq r) (Some e.1) (found k es)) is
+    value_under k (e ∷ es) ≡ cond (is_eq o) (Some e.1) (value_under k es)
+found_by o e es k is = ap (λ r. cond (is_eq r) (Some e.1) (value_under k es)) is
 
-found_first : (e : Key × Value) (es : Entries) → found e.0 (e ∷ es) ≡ Some e.1
+found_first : (e : Key × Value) (es : Entries) → value_under e.0 (e ∷ es) ≡ Some e.1
 found_first e es = found_by Equal e es e.0 (tied_itself key_cmp_total e.0)
 
-none_above : (k : Key) (es : Entries) → AllAbove k es → found k es ≡ None
+none_above : (k : Key) (es : Entries) → AllAbove k es → value_under k es ≡ None
 none_above k [] h = refl
 none_above k (e ∷ es) h = found_by Less e es k h.0 ∙ none_above k es h.1
 
@@ -57,14 +57,14 @@ all_above k j [] less h = tt
 all_above k j (e ∷ es) less h = (key_cmp_total.trans k j e.0 less h.0, all_above k j es less h.1)
 
 none_before : (k : Key) (f : Key × Value) (fs : Entries) → key_cmp k f.0 ≡ Less →
-    IsStrictlySortedBy key_cmp (keys_of (f ∷ fs)) → found k (f ∷ fs) ≡ None
+    IsStrictlySortedBy key_cmp (keys_of (f ∷ fs)) → value_under k (f ∷ fs) ≡ None
 none_before k f fs less rise =
     none_above k (f ∷ fs)
     (less, all_above k f.0 fs less (sorted_head key_cmp f.0 (keys_of fs) rise))
 
 -- past a first entry at one key the others answer alike too
 found_after : (k : Key) (e f : Key × Value) (es fs : Entries) → e.0 ≡ f.0 → AllAbove e.0 es →
-    AllAbove f.0 fs → found k (e ∷ es) ≡ found k (f ∷ fs) → found k es ≡ found k fs
+    AllAbove f.0 fs → value_under k (e ∷ es) ≡ value_under k (f ∷ fs) → value_under k es ≡ value_under k fs
 found_after k e f es fs key above over alike =
     elim (cases_Bool (is_eq (key_cmp k e.0))) [
       | inl h ↦
@@ -72,12 +72,12 @@ found_after k e f es fs key above over alike =
           none_above k es (subst (λ j. AllAbove j es) (sym here) above)
           ∙ sym (none_above k fs (subst (λ j. AllAbove j fs) (sym (here ∙ key)) over))
       | inr h ↦
-          ap (λ b. cond b (Some e.1) (found k es)) (sym h) ∙ alike
-          ∙ ap (λ b. cond b (Some f.1) (found k fs)) (ap (λ j. is_eq (key_cmp k j)) (sym key) ∙ h)
+          ap (λ b. cond b (Some e.1) (value_under k es)) (sym h) ∙ alike
+          ∙ ap (λ b. cond b (Some f.1) (value_under k fs)) (ap (λ j. is_eq (key_cmp k j)) (sym key) ∙ h)
     ]
 
 same_entries : (es fs : Entries) → IsStrictlySortedBy key_cmp (keys_of es) →
-    IsStrictlySortedBy key_cmp (keys_of fs) → ((k : Key) → found k es ≡ found k fs) → es ≡ fs
+    IsStrictlySortedBy key_cmp (keys_of fs) → ((k : Key) → value_under k es ≡ value_under k fs) → es ≡ fs
 same_entries [] [] rise up alike = refl
 same_entries [] (f ∷ fs) rise up alike =
     let e : None ≡ Some f.1 = alike f.0 ∙ found_first f fs in absurd (cc)
@@ -194,10 +194,10 @@ item_alike vs ws i same =
     (length-item_list vs ∙ same ∙ sym (length-item_list ws))
     ∙ sym (ap is_some (child-item ws i))
 
-same_truth : (a b : Bool) → (a ≡ true) ↔ (b ≡ true) → a ≡ b
-same_truth true b h = sym (h.0 refl)
-same_truth false true h = h.1 refl
-same_truth false false h = refl
+Bool-from_both : (a b : Bool) → (a ≡ true) ↔ (b ≡ true) → a ≡ b
+Bool-from_both true b h = sym (h.0 refl)
+Bool-from_both false true h = h.1 refl
+Bool-from_both false false h = refl
 
 -- ---- equal values of documents are the same
 
@@ -240,7 +240,7 @@ only_from_children _ _ (objects ms ns names values) each document other =
     alike : Alike (object ms) (object ns)
     alike (named n) =
         alike_options (child (object ms) (named n)) (child (object ns) (named n))
-        (same_truth _ _ (names n))
+        (Bool-from_both _ _ (names n))
         (λ a b first second. only_child (object ms) (object ns) a b (named n) each document other
         first second (values n a b first second))
     alike (nth i) = child-object_nth i ms ∙ sym (child-object_nth i ns)

@@ -21,19 +21,19 @@ use Rattle.jp_select.specs.Laws.{IsRisingSlice, IsFallingSlice, SlicesAreExact}
 use Rattle.jp_select.specs.Slice.{normalized, held_within, rising_lower, rising_upper}
 use Rattle.jp_select.specs.Slice.{falling_lower, falling_upper, is_rising, is_falling, indexes}
 use Rattle.jp_select.proofs.Rising.{contained_head, contained_tail}
-use Rattle.jp_select.proofs.Slices.{distance, distance_down, above_lower, not_above_lower}
-use Rattle.jp_select.proofs.Slices.{below_upper, not_below_upper, falls_between}
+use Rattle.jp_select.proofs.Slices.Indexes.{distance, distance_down, above_lower, not_above_lower}
+use Rattle.jp_select.proofs.Slices.Indexes.{below_upper, not_below_upper, falls_between}
 
 -- ---- filters of indexes
 
-above_all : (b a n : ℕ) → b < a → AllByRecursion (λ y. nat_cmp b y ≡ Less) (range_with_len a n)
-above_all b a zero less = tt
-above_all b a (suc n) less = (sym (nat_cmp_is b a Less less), above_all b (a + 1) n (omega arith))
+range-above : (b a n : ℕ) → b < a → AllByRecursion (λ y. nat_cmp b y ≡ Less) (range_with_len a n)
+range-above b a zero less = tt
+range-above b a (suc n) less = (sym (nat_cmp_is b a Less less), range-above b (a + 1) n (omega arith))
 
 indexes_rise : (a n : ℕ) → IsStrictlySortedBy nat_cmp (range_with_len a n)
 unfolding IsStrictlySortedBy
 indexes_rise a zero = tt
-indexes_rise a (suc n) = (above_all a (a + 1) n (omega arith), indexes_rise (a + 1) n)
+indexes_rise a (suc n) = (range-above a (a + 1) n (omega arith), indexes_rise (a + 1) n)
 
 filter_rises : (p : ℕ → Bool) (n : ℕ) → IsStrictlySortedBy nat_cmp (filter p (indexes n))
 filter_rises p n = IsStrictlySortedBy-filter nat_cmp p (indexes n) (indexes_rise 0 n)

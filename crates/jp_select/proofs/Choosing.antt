@@ -1,0 +1,4 @@
+-- What selectors choose from, and the nodes that they select.
+pub mod Entries
+pub mod ListLengths
+pub mod Nodes

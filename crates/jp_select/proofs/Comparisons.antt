@@ -1,0 +1,5 @@
+-- How values compare.
+pub mod EqualValues
+pub mod Sameness
+pub mod TextOrder
+pub mod Weights
