@@ -3,6 +3,7 @@ pub mod EmptyWords
 pub mod EndParts
 pub mod Growing
 pub mod Items
+pub mod OneClass
 pub mod Prefixes
 pub mod Reaching
 pub mod Repeats

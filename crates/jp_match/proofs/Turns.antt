@@ -60,7 +60,7 @@ or_comm true false = refl
 or_comm false true = refl
 or_comm false false = refl
 
-or_false : (a : Bool) → (a || false) ≡ a
+pub or_false : (a : Bool) → (a || false) ≡ a
 or_false true = refl
 or_false false = refl
 

@@ -1,6 +1,6 @@
 use Rattle.std.proofs.Common.{List, [], ◌∷◌, Vec, Global, ◌≡◌, ◌+◌, ◌-◌, ◌*◌, ◌≤◌, suc, false}
-use Rattle.std.proofs.Common.{map, drop, length, refl, sym, ap, ◌∙◌, subst, arith, rules}
-use Rattle.std.proofs.lemmas.List.{length-take, length-drop}
+use Rattle.std.proofs.Common.{map, take, drop, get_or, ◌<◌, ◌&&◌, length, refl, sym, ap, ◌∙◌, subst, arith, rules}
+use Rattle.std.proofs.lemmas.List.{length-take, length-drop, length-set}
 use Rattle.std.proofs.lemmas.Bool.{leb-true, le-leb}
 use denote.Param.Weighed.{most}
 use Rattle.jp_iregexp.proofs.pattern.Pattern.TheLaws.{the_size}
@@ -14,8 +14,9 @@ use Rattle.jp_iregexp.proofs.Trees.{tree_class, tree_either, tree_sequence, tree
 use Rattle.jp_match.specs.Private.Plain.{unrolled, counted}
 use Rattle.jp_match.proofs.EmptyWords.{step_empty_row, by_entered, not_entered}
 use Rattle.jp_match.proofs.Items.{drop_item, drop_all, only_item}
+use Rattle.jp_match.proofs.OneClass.{mark_taken, mark_written}
 use Rattle.jp_match.proofs.StepParts.{step_nowhere, step_plus}
-use Rattle.jp_match.proofs.Turns.{StepsSoFar, part_is, put_long, turned, size_unrolled}
+use Rattle.jp_match.proofs.Turns.{part_is, put_long, turned, size_unrolled}
 use Rattle.jp_match.proofs.Turns.{steps_next_piece, steps_next_branch, steps_end_pieces}
 use Rattle.jp_match.proofs.Turns.{steps_end_branches, steps_stop, steps_copy}
 use Rattle.jp_match.proofs.Turns.{steps_copies_end, steps_at_least, steps_at_least_end}
@@ -239,8 +240,8 @@ step_sequence-returns-clause-step t c =
     let sized = rw none at c.loop-piece.invariant.sized in
     steps_end_pieces _ _ _ _ _ _ _ (omega (arith, sized)) (rw none at c.loop-piece.invariant.so_far)
 
-pub step_between-loop-copies-preserved : goal.step_between-loop-copies-preserved
-step_between-loop-copies-preserved t c =
+pub step_copies-loop-copies-preserved : goal.step_copies-loop-copies-preserved
+step_copies-loop-copies-preserved t c =
     let n = c.copy_size-size.result in
     let left : c.args.most - c.loop-copies.copies ≡ suc (c.args.most - (c.loop-copies.copies + 1))
     = omega arith in
@@ -271,8 +272,8 @@ step_between-loop-copies-preserved t c =
       kept = omega (arith, c.step-through.ensures.kept, c.loop-copies.invariant.kept);
     }
 
-pub step_between-returns-clause-step : goal.step_between-returns-clause-step
-step_between-returns-clause-step t c =
+pub step_copies-returns-clause-step : goal.step_copies-returns-clause-step
+step_copies-returns-clause-step t c =
     let none : c.args.most - c.loop-copies.copies ≡ 0 = omega arith in
     let sized = rw none at c.loop-copies.invariant.sized in
     steps_copies_end _ _ _ _ _ _ _ c.args.least c.args.most c.loop-copies.copies _ _ _ (omega
@@ -280,6 +281,40 @@ step_between-returns-clause-step t c =
       arith,
       sized,
     )) c.loop-copies.invariant.so_far
+
+pub step_between-loop-copies-init : goal.step_between-loop-copies-init
+step_between-loop-copies-init t c =
+    let one : positions_of (tree c.args.inner.now) ≡ 1 = sym (size_unrolled (tree
+    c.args.inner.now)) ∙ c.in-Some.ensures.sized in
+    record {
+      long = refl;
+      sized = omega (arith, rw one at c.requires.sized);
+      so_far = search rules;
+    }
+
+pub step_between-loop-copies-preserved : goal.step_between-loop-copies-preserved
+step_between-loop-copies-preserved t c =
+    let one = c.in-Some.ensures in
+    let row = c.loop-copies.row in
+    let at = c.loop-copies.copies in
+    let below : at < length row = omega arith in
+    let marked : take 1 (drop at row) ≡ get_or row at false ∷ [] = mark_taken row at below in
+    record {
+      long = length-set row at _ ∙ c.loop-copies.invariant.long;
+      sized = length-set row at _ ∙ c.loop-copies.invariant.sized;
+      so_far = steps_copy _ _ _ _ _ _ _ _ c.args.least c.args.most at _ _ _ _ _ _
+          c.loop-copies-test.true (
+            leb-true _ _,
+            le-leb _ _,
+          ) one.sized refl (mark_written row at _ below) c.loop-copies.invariant.so_far (rw marked
+          (one.steps c.args.c c.loop-copies.through (get_or row at false) _ (ap
+          (λ holds. c.loop-copies.through && holds) c.holds-holds.ensures.answer)));
+    }
+
+pub step_between-returns-clause-step : goal.step_between-returns-clause-step
+step_between-returns-clause-step t c =
+    steps_copies_end _ _ _ _ _ _ _ c.args.least c.args.most c.loop-copies.copies _ _ _ (omega
+    arith) (omega arith) (leb-true _ _, le-leb _ _) (omega arith) c.loop-copies.invariant.so_far
 
 pub step_at_least-loop-preserved : goal.step_at_least-loop-preserved
 step_at_least-loop-preserved t c =
