@@ -3,8 +3,8 @@ use Rattle.std.proofs.lemmas.Option.{IfSome_then}
 use Rattle.jp_iregexp.specs.Tree.{tree}
 use Rattle.jp_iregexp.proofs.Trees.{tree_class, tree_either, tree_sequence, tree_repeat}
 use Rattle.jp_match.specs.Private.Plain.{unrolled}
-use Rattle.jp_match.proofs.Items.{only_item}
-use Rattle.jp_match.proofs.OneClass.{one_class, one_branch, one_piece, one_optional}
+use Rattle.jp_match.proofs.Patterns.Items.{only_item}
+use Rattle.jp_match.proofs.Steps.OneClass.{one_class, one_branch, one_piece, one_optional}
 use Rattle.jp_match.proofs.one_class.+one_class.Goals as goal
 
 pub one_class-returns-in-Either : goal.one_class-returns-in-Either

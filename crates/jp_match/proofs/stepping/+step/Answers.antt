@@ -1,26 +1,26 @@
 use Rattle.std.proofs.Common.{List, [], ◌∷◌, Vec, Global, ◌≡◌, ◌+◌, ◌-◌, ◌*◌, ◌≤◌, suc, false}
-use Rattle.std.proofs.Common.{map, take, drop, get_or, ◌<◌, ◌&&◌, length, refl, sym, ap, ◌∙◌, subst, arith, rules}
+use Rattle.std.proofs.Common.{map, take, drop, get_or, ◌<◌, ◌&&◌, length, refl, sym, ap, ◌∙◌, arith, rules}
 use Rattle.std.proofs.lemmas.List.{length-take, length-drop, length-set}
 use Rattle.std.proofs.lemmas.Bool.{leb-true, le-leb}
 use denote.Param.Weighed.{most}
 use Rattle.jp_iregexp.proofs.pattern.Pattern.TheLaws.{the_size}
 use Rattle.jp_iregexp.specs.declared.pattern.Pattern.{Pattern}
 use Rattle.jp_iregexp.specs.declared.pattern.Pattern.TheVariants as pattern
-use Rattle.jp_iregexp.specs.declared.pattern.Pattern.TheViews.{sized-Either, sized-Sequence}
-use Rattle.jp_iregexp.specs.declared.pattern.Pattern.TheViews.{sized-Repeat}
+use Rattle.jp_iregexp.specs.declared.pattern.Pattern.TheViews.{sized-Sequence}
 use Rattle.jp_iregexp.specs.Tree.{tree, branches, pieces, repeat}
 use Rattle.jp_iregexp.specs.Positions.{positions_of}
 use Rattle.jp_iregexp.proofs.Trees.{tree_class, tree_either, tree_sequence, tree_repeat}
 use Rattle.jp_match.specs.Private.Plain.{unrolled, counted}
-use Rattle.jp_match.proofs.EmptyWords.{step_empty_row, by_entered, not_entered}
-use Rattle.jp_match.proofs.Items.{drop_item, drop_all, only_item}
-use Rattle.jp_match.proofs.OneClass.{mark_taken, mark_written}
-use Rattle.jp_match.proofs.StepParts.{step_nowhere, step_plus}
-use Rattle.jp_match.proofs.Turns.{part_is, put_long, turned, size_unrolled}
-use Rattle.jp_match.proofs.Turns.{steps_next_piece, steps_next_branch, steps_end_pieces}
-use Rattle.jp_match.proofs.Turns.{steps_end_branches, steps_stop, steps_copy}
-use Rattle.jp_match.proofs.Turns.{steps_copies_end, steps_at_least, steps_at_least_end}
-use Rattle.jp_match.proofs.Turns.{steps_star, steps_only_branch, steps_only_piece}
+use Rattle.jp_match.proofs.Patterns.Variants.{either_is, sequence_is, repeat_is}
+use Rattle.jp_match.proofs.Steps.EmptyWords.{step_empty_row, by_entered, not_entered}
+use Rattle.jp_match.proofs.Patterns.Items.{drop_item, drop_all, only_item}
+use Rattle.jp_match.proofs.Steps.OneClass.{mark_taken, mark_written}
+use Rattle.jp_match.proofs.Steps.StepParts.{step_nowhere, step_plus}
+use Rattle.jp_match.proofs.Steps.Turns.{part_is, put_long, turned, size_unrolled}
+use Rattle.jp_match.proofs.Steps.Turns.{steps_next_piece, steps_next_branch, steps_end_pieces}
+use Rattle.jp_match.proofs.Steps.Turns.{steps_end_branches, steps_stop, steps_copy}
+use Rattle.jp_match.proofs.Steps.Turns.{steps_copies_end, steps_at_least, steps_at_least_end}
+use Rattle.jp_match.proofs.Steps.Turns.{steps_star, steps_only_branch, steps_only_piece}
 use Rattle.jp_match.proofs.stepping.+step.Goals as goal
 
 pub step-returns-then-not-is_any-clause-step : goal.step-returns-then-not-is_any-clause-step
@@ -31,62 +31,18 @@ step-returns-then-not-is_any-clause-step t c =
 
 pub step-step_either-requires : goal.step-step_either-requires
 step-step_either-requires t c =
-    let deep : 4 * the_size (pattern.Either c.in-Either.branches) + 0 ≡ t = subst (λ p. 4 *
-    the_size p + 0 ≡ t) c.in-Either.is c.decreases in (
-      omega (
-        arith,
-        deep,
-        sized-Either c.in-Either.branches,
-        ap (most the_size) c.deref.ensures.value,
-      ),
-      (
-        c.requires.sized ∙
-            ap (λ p. positions_of (tree p)) c.in-Either.is ∙
-            ap positions_of (tree_either c.in-Either.branches)
-            ∙ ap (λ ps. positions_of (branches (map tree ps))) (sym c.deref.ensures.value),
-        c.requires.few,
-      ),
-    )
+    let is = either_is _ _ _ c.in-Either.is c.deref.ensures.value in
+    (omega (arith, c.decreases, is.smaller), (c.requires.sized ∙ ap positions_of is.same, c.requires.few))
 
 pub step-step_sequence-requires : goal.step-step_sequence-requires
 step-step_sequence-requires t c =
-    let deep : 4 * the_size (pattern.Sequence c.in-Sequence.pieces) + 0 ≡ t = subst (λ p. 4 *
-    the_size p + 0 ≡ t) c.in-Sequence.is c.decreases in (
-      omega (
-        arith,
-        deep,
-        sized-Sequence c.in-Sequence.pieces,
-        ap (most the_size) c.deref-in-Sequence.ensures.value,
-      ),
-      (
-        c.requires.sized ∙
-            ap (λ p. positions_of (tree p)) c.in-Sequence.is ∙
-            ap positions_of (tree_sequence c.in-Sequence.pieces)
-            ∙ ap (λ ps. positions_of (pieces (map tree ps)))
-            (sym c.deref-in-Sequence.ensures.value),
-        c.requires.few,
-      ),
-    )
+    let is = sequence_is _ _ _ c.in-Sequence.is c.deref-in-Sequence.ensures.value in
+    (omega (arith, c.decreases, is.smaller), (c.requires.sized ∙ ap positions_of is.same, c.requires.few))
 
 pub step-step_repeat-requires : goal.step-step_repeat-requires
 step-step_repeat-requires t c =
-    let deep : 4 * the_size (pattern.Repeat c.in-Repeat.inner c.in-Repeat.least c.in-Repeat.most) +
-    0 ≡ t = subst (λ p. 4 * the_size p + 0 ≡ t) c.in-Repeat.is c.decreases in (
-      omega (
-        arith,
-        deep,
-        sized-Repeat c.in-Repeat.inner c.in-Repeat.least c.in-Repeat.most,
-        ap the_size c.deref-in-Repeat.ensures,
-      ),
-      (
-        c.requires.sized ∙
-            ap (λ p. positions_of (tree p)) c.in-Repeat.is ∙
-            ap positions_of (tree_repeat c.in-Repeat.inner c.in-Repeat.least c.in-Repeat.most)
-            ∙ ap (λ p. positions_of (repeat (tree p) c.in-Repeat.least c.in-Repeat.most)) (sym
-            c.deref-in-Repeat.ensures),
-        c.requires.few,
-      ),
-    )
+    let is = repeat_is _ _ _ _ _ c.in-Repeat.is c.deref-in-Repeat.ensures in
+    (omega (arith, c.decreases, is.smaller), (c.requires.sized ∙ ap positions_of is.same, c.requires.few))
 
 pub step-step_class-requires : goal.step-step_class-requires
 step-step_class-requires t c = record {

@@ -2,7 +2,7 @@ use Rattle.std.proofs.Common.{◌≡◌, ◌+◌, ◌-◌, ◌*◌, ◌≤◌, s
 use Rattle.jp_iregexp.specs.Tree.{tree, branches, pieces}
 use Rattle.jp_iregexp.specs.Positions.{positions_of}
 use Rattle.jp_match.specs.Private.Plain.{unrolled, between, at_least}
-use Rattle.jp_match.proofs.Turns.{StepsSoFar}
+use Rattle.jp_match.proofs.Steps.Turns.{StepsSoFar}
 use Rattle.jp_match.proofs.stepping.+step.Given as goal
 
 abbrev pub invariant-step_either-loop-branch : goal.invariant-step_either-loop-branch

@@ -7,8 +7,9 @@ use Rattle.jp_iregexp.specs.Tree.{Tree, branches, pieces, repeat}
 use Rattle.jp_match.specs.Private.Plain.{class, either, empty, sequence, between, counted, unrolled}
 use Rattle.jp_match.specs.Private.Marks.{size, Steps}
 use Rattle.jp_match.specs.Private.OneClass.{IsOneClass}
-use Rattle.jp_match.proofs.StepParts.{step_class, step_empty, step_either, step_sequence}
-use Rattle.jp_match.proofs.Turns.{Written, size_unrolled, steps_only_branch, steps_only_piece, or_false}
+use Rattle.jp_match.proofs.Bools.{or_false}
+use Rattle.jp_match.proofs.Steps.StepParts.{step_class, step_empty, step_either, step_sequence}
+use Rattle.jp_match.proofs.Steps.Turns.{Written, size_unrolled, steps_only_branch, steps_only_piece}
 
 pub one_class : (negated : Bool) (items : List ClassItem) →
     IsOneClass (class negated items) negated items false
