@@ -1,13 +1,14 @@
-use Rattle.std.proofs.Common.{List, [], ◌∷◌, Vec, Global, ◌≡◌, ◌+◌, ◌-◌, ◌*◌, ◌≤◌, suc, false}
+use Rattle.std.proofs.Common.{ℕ, Bool, min, List, [], ◌∷◌, Vec, Global, ◌≡◌, ◌+◌, ◌-◌, ◌*◌, ◌≤◌, suc, false}
 use Rattle.std.proofs.Common.{map, take, drop, get_or, ◌<◌, ◌&&◌, length, refl, sym, ap, ◌∙◌, arith, rules}
 use Rattle.std.proofs.lemmas.List.{length-take, length-drop, length-set}
 use Rattle.std.proofs.lemmas.Bool.{leb-true, le-leb}
+use borrow.Rule.Slice.PartMut.{put_mid}
 use denote.Param.Weighed.{most}
 use Rattle.jp_iregexp.proofs.pattern.Pattern.TheLaws.{the_size}
 use Rattle.jp_iregexp.specs.declared.pattern.Pattern.{Pattern}
 use Rattle.jp_iregexp.specs.declared.pattern.Pattern.TheVariants as pattern
 use Rattle.jp_iregexp.specs.declared.pattern.Pattern.TheViews.{sized-Sequence}
-use Rattle.jp_iregexp.specs.Tree.{tree, branches, pieces, repeat}
+use Rattle.jp_iregexp.specs.Tree.{Tree, tree, branches, pieces, repeat}
 use Rattle.jp_iregexp.specs.Positions.{positions_of}
 use Rattle.jp_iregexp.proofs.Trees.{tree_class, tree_either, tree_sequence, tree_repeat}
 use Rattle.jp_match.specs.Private.Plain.{unrolled, counted}
@@ -16,7 +17,7 @@ use Rattle.jp_match.proofs.Steps.EmptyWords.{step_empty_row, by_entered, not_ent
 use Rattle.jp_match.proofs.Patterns.Items.{drop_item, drop_all, only_item}
 use Rattle.jp_match.proofs.Steps.OneClass.{mark_taken, mark_written}
 use Rattle.jp_match.proofs.Steps.StepParts.{step_nowhere, step_plus}
-use Rattle.jp_match.proofs.Steps.Turns.{part_is, put_long, turned, size_unrolled}
+use Rattle.jp_match.proofs.Steps.Turns.{Turned, part_is, put_long, turned, size_unrolled}
 use Rattle.jp_match.proofs.Steps.Turns.{steps_next_piece, steps_next_branch, steps_end_pieces}
 use Rattle.jp_match.proofs.Steps.Turns.{steps_end_branches, steps_stop, steps_copy}
 use Rattle.jp_match.proofs.Steps.Turns.{steps_copies_end, steps_at_least, steps_at_least_end}
@@ -82,26 +83,32 @@ step-returns-in-Class-clause-counted t c =
     ap positions_of (tree_class c.in-Class.class) in
     omega (arith, c.step_class.ensures.counted)
 
+-- the turn of one part: its marks are as many as its positions, and written anew within the row
+record PartTurn (t : Tree) (row part : List Bool) (at n : ℕ) : Type 0 where
+  size : n ≡ positions_of t
+  turned : Turned row part (put_mid at (at + n - at) row part) at n
+
+part_turn : (t : Tree) (row part : List Bool) (at n : ℕ) → n ≡ min (positions_of t) 4097 →
+    at + positions_of t ≤ length row → length row ≤ 4096 →
+    length part ≡ length (take (at + n - at) (drop at row)) → PartTurn t row part at n
+part_turn t row part at n count within few kept =
+    let size : n ≡ positions_of t = omega (arith, count, within, few) in
+    record { size = size; turned = turned row part at n (omega (arith, size, within)) kept }
+
 pub step_either-loop-branch-preserved : goal.step_either-loop-branch-preserved
 step_either-loop-branch-preserved t c =
     let item = drop_item c.args.parts.now c.loop-branch.branch-index c.branch-item.result
     c.loop-branch-test.true c.branch-item.is in
     let sized = rw item at c.loop-branch.invariant.sized in
-    let size : c.position_count.result ≡ positions_of (tree c.branch-item.result) = omega (
+    let part = part_is c.loop-branch.row c.loop-branch.at c.position_count.result in
+    let turn = part_turn (tree c.branch-item.result) c.loop-branch.row c.step-ended.new.row c.loop-branch.at
+    c.position_count.result c.position_count.ensures (omega (arith, sized)) (omega (
       arith,
-      sized,
-      c.position_count.ensures,
       c.requires.few,
       c.loop-branch.invariant.long,
-    ) in
-    let within : c.loop-branch.at + c.position_count.result ≤ length c.loop-branch.row = omega (
-      arith,
-      sized,
-      size,
-    ) in
-    let part = part_is c.loop-branch.row c.loop-branch.at c.position_count.result in
-    let w = turned c.loop-branch.row c.step-ended.new.row c.loop-branch.at c.position_count.result
-    within c.step-ended.auto.row in
+    )) c.step-ended.auto.row in
+    let size = turn.size in
+    let w = turn.turned in
     record {
       long = w.same ∙ c.loop-branch.invariant.long;
       sized = omega (arith, sized, size, w.same);
@@ -132,21 +139,15 @@ step_sequence-loop-piece-preserved t c =
     let item = drop_item c.args.parts.now c.loop-piece.piece-index c.piece-item.result
     c.loop-piece-test.true c.piece-item.is in
     let sized = rw item at c.loop-piece.invariant.sized in
-    let size : c.position_count.result ≡ positions_of (tree c.piece-item.result) = omega (
+    let part = part_is c.loop-piece.row c.loop-piece.at c.position_count.result in
+    let turn = part_turn (tree c.piece-item.result) c.loop-piece.row c.step-ended.new.row c.loop-piece.at
+    c.position_count.result c.position_count.ensures (omega (arith, sized)) (omega (
       arith,
-      sized,
-      c.position_count.ensures,
       c.requires.few,
       c.loop-piece.invariant.long,
-    ) in
-    let within : c.loop-piece.at + c.position_count.result ≤ length c.loop-piece.row = omega (
-      arith,
-      sized,
-      size,
-    ) in
-    let part = part_is c.loop-piece.row c.loop-piece.at c.position_count.result in
-    let w = turned c.loop-piece.row c.step-ended.new.row c.loop-piece.at c.position_count.result
-    within c.step-ended.auto.row in
+    )) c.step-ended.auto.row in
+    let size = turn.size in
+    let w = turn.turned in
     record {
       long = w.same ∙ c.loop-piece.invariant.long;
       sized = omega (arith, sized, size, w.same);
@@ -168,21 +169,15 @@ step_sequence-returns-then-not-is_any-clause-step t c =
     let item = drop_item c.args.parts.now c.loop-piece.piece-index c.piece-item.result
     c.loop-piece-test.true c.piece-item.is in
     let sized = rw item at c.loop-piece.invariant.sized in
-    let size : c.position_count.result ≡ positions_of (tree c.piece-item.result) = omega (
+    let part = part_is c.loop-piece.row c.loop-piece.at c.position_count.result in
+    let turn = part_turn (tree c.piece-item.result) c.loop-piece.row c.step-ended.new.row c.loop-piece.at
+    c.position_count.result c.position_count.ensures (omega (arith, sized)) (omega (
       arith,
-      sized,
-      c.position_count.ensures,
       c.requires.few,
       c.loop-piece.invariant.long,
-    ) in
-    let within : c.loop-piece.at + c.position_count.result ≤ length c.loop-piece.row = omega (
-      arith,
-      sized,
-      size,
-    ) in
-    let part = part_is c.loop-piece.row c.loop-piece.at c.position_count.result in
-    let w = turned c.loop-piece.row c.step-ended.new.row c.loop-piece.at c.position_count.result
-    within c.step-ended.auto.row in
+    )) c.step-ended.auto.row in
+    let size = turn.size in
+    let w = turn.turned in
     let ended : c.step-ended.result ≡ false = c.if-not-ended.true in
     steps_stop _ _ _ _ _ _ _ (λ k m. let any = c.is_any.ensures.1 (k, m) in
     let not = c.if-not-is_any.true in cc)
