@@ -20,6 +20,7 @@ mod images;
 mod marking;
 mod marks;
 mod matching;
+mod one_class;
 mod passing;
 mod places;
 mod position_count;

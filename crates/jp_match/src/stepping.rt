@@ -9,6 +9,7 @@ ghost use Rattle.jp_match.specs.Private.Marks.{Steps};
 use crate::class_tests::Tests;
 use crate::empty_word::repeats_empty_word;
 use crate::ending::ends;
+use crate::one_class::one_class;
 use crate::places::is_any;
 use crate::position_count::position_count;
 use jp_iregexp::{CharClass, Pattern};
@@ -167,9 +168,43 @@ fn copy_size(positions: usize, copies: u32) -> usize
 }
 
 /// The same for a repeat with a most. It may end before each copy, and after the last one, where
-/// there were at least the least.
+/// there were at least the least. All copies of one class share one test of it.
 #[cycle(step)]
 fn step_between(
+    inner: &Pattern,
+    least: u32,
+    most: u32,
+    row: &mut [bool],
+    entered: bool,
+    c: char,
+    tests: &mut Tests,
+) -> bool
+    requires sized { length row.old ≡ most * positions_of (tree inner.now) }
+    requires some { 0 < most }
+    requires few { length row.old ≤ 4096 }
+    ensures step { Steps (between (unrolled (tree inner.now)) least most) c entered row.old row.new
+        result }
+    ensures counted { tests.new ≤ tests.old + length row.old }
+    ensures kept { tests.old ≤ tests.new }
+{
+    let Some(one) = one_class(inner) else {
+        return step_copies(inner, least, most, row, entered, c, tests);
+    };
+    let holds = tests.holds(one.class, c);
+    let mut ended = false;
+    let mut through = entered;
+    for copies in 0..most {
+        ended |= (least <= copies) & through;
+        let marked = row[copies as usize];
+        row[copies as usize] = through & holds;
+        through = marked | (one.is_optional & through);
+    }
+    ended | ((least <= most) & through)
+}
+
+/// The same for copies of more than one class, each by itself.
+#[cycle(step)]
+fn step_copies(
     inner: &Pattern,
     least: u32,
     most: u32,

@@ -1,23 +1,19 @@
-use Rattle.std.proofs.Common.{◌≡◌, ◌+◌, ◌-◌, ◌*◌, suc, false, rules, ◌/◌}
-use Rattle.std.proofs.Common.{map, drop, length, sym, ap, ◌∙◌, subst, arith}
+use Rattle.std.proofs.Common.{◌≡◌, ◌+◌, ◌-◌, suc, false, rules, ◌/◌}
+use Rattle.std.proofs.Common.{drop, length, sym, ap, ◌∙◌, arith}
 use Rattle.std.proofs.lemmas.List.{take_all, length-drop}
 use Rattle.std.proofs.lemmas.Bool.{leb-true, le-leb}
-use denote.Param.Weighed.{most}
-use Rattle.jp_iregexp.proofs.pattern.Pattern.TheLaws.{the_size}
-use Rattle.jp_iregexp.specs.declared.pattern.Pattern.TheVariants as pattern
-use Rattle.jp_iregexp.specs.declared.pattern.Pattern.TheViews.{sized-Either, sized-Sequence}
-use Rattle.jp_iregexp.specs.declared.pattern.Pattern.TheViews.{sized-Repeat}
-use Rattle.jp_iregexp.specs.Tree.{tree, branches, pieces, repeat}
+use Rattle.jp_iregexp.specs.Tree.{tree, repeat}
 use Rattle.jp_iregexp.specs.Positions.{positions_of}
 use Rattle.jp_iregexp.proofs.Trees.{tree_class, tree_either, tree_sequence, tree_repeat}
 use Rattle.jp_match.specs.Private.Plain.{unrolled, counted}
-use Rattle.jp_match.proofs.EmptyWords.{step_empty_row, by_entered, not_entered}
-use Rattle.jp_match.proofs.EndParts.{ends_class}
-use Rattle.jp_match.proofs.Items.{drop_item, drop_all}
-use Rattle.jp_match.proofs.StepParts.{step_nowhere}
-use Rattle.jp_match.proofs.Turns.{part_is, size_unrolled, ends_next_piece, ends_next_branch}
-use Rattle.jp_match.proofs.Turns.{ends_end_pieces, ends_end_branches, ends_between}
-use Rattle.jp_match.proofs.Turns.{ends_between_end, ends_at_least, ends_at_least_end, ends_star}
+use Rattle.jp_match.proofs.Patterns.Variants.{either_is, sequence_is, repeat_is}
+use Rattle.jp_match.proofs.Steps.EmptyWords.{step_empty_row, by_entered, not_entered}
+use Rattle.jp_match.proofs.Steps.EndParts.{ends_class}
+use Rattle.jp_match.proofs.Patterns.Items.{drop_item, drop_all}
+use Rattle.jp_match.proofs.Steps.StepParts.{step_nowhere}
+use Rattle.jp_match.proofs.Steps.Turns.{part_is, size_unrolled, ends_next_piece, ends_next_branch}
+use Rattle.jp_match.proofs.Steps.Turns.{ends_end_pieces, ends_end_branches, ends_between}
+use Rattle.jp_match.proofs.Steps.Turns.{ends_between_end, ends_at_least, ends_at_least_end, ends_star}
 use Rattle.jp_match.proofs.ending.+ends.Goals as goal
 
 pub ends-returns-then-not-is_any : goal.ends-returns-then-not-is_any
@@ -28,62 +24,18 @@ ends-returns-then-not-is_any t c =
 
 pub ends-ends_either-requires : goal.ends-ends_either-requires
 ends-ends_either-requires t c =
-    let deep : 3 * the_size (pattern.Either c.in-Either.branches) + 0 ≡ t = subst (λ p. 3 *
-    the_size p + 0 ≡ t) c.in-Either.is c.decreases in (
-      omega (
-        arith,
-        deep,
-        sized-Either c.in-Either.branches,
-        ap (most the_size) c.deref.ensures.value,
-      ),
-      (
-        c.requires.sized ∙
-            ap (λ p. positions_of (tree p)) c.in-Either.is ∙
-            ap positions_of (tree_either c.in-Either.branches)
-            ∙ ap (λ ps. positions_of (branches (map tree ps))) (sym c.deref.ensures.value),
-        c.requires.few,
-      ),
-    )
+    let is = either_is _ _ _ c.in-Either.is c.deref.ensures.value in
+    (omega (arith, c.decreases, is.smaller), (c.requires.sized ∙ ap positions_of is.same, c.requires.few))
 
 pub ends-ends_sequence-requires : goal.ends-ends_sequence-requires
 ends-ends_sequence-requires t c =
-    let deep : 3 * the_size (pattern.Sequence c.in-Sequence.pieces) + 0 ≡ t = subst (λ p. 3 *
-    the_size p + 0 ≡ t) c.in-Sequence.is c.decreases in (
-      omega (
-        arith,
-        deep,
-        sized-Sequence c.in-Sequence.pieces,
-        ap (most the_size) c.deref-in-Sequence.ensures.value,
-      ),
-      (
-        c.requires.sized ∙
-            ap (λ p. positions_of (tree p)) c.in-Sequence.is ∙
-            ap positions_of (tree_sequence c.in-Sequence.pieces)
-            ∙ ap (λ ps. positions_of (pieces (map tree ps)))
-            (sym c.deref-in-Sequence.ensures.value),
-        c.requires.few,
-      ),
-    )
+    let is = sequence_is _ _ _ c.in-Sequence.is c.deref-in-Sequence.ensures.value in
+    (omega (arith, c.decreases, is.smaller), (c.requires.sized ∙ ap positions_of is.same, c.requires.few))
 
 pub ends-ends_repeat-requires : goal.ends-ends_repeat-requires
 ends-ends_repeat-requires t c =
-    let deep : 3 * the_size (pattern.Repeat c.in-Repeat.inner c.in-Repeat.least c.in-Repeat.most) +
-    0 ≡ t = subst (λ p. 3 * the_size p + 0 ≡ t) c.in-Repeat.is c.decreases in (
-      omega (
-        arith,
-        deep,
-        sized-Repeat c.in-Repeat.inner c.in-Repeat.least c.in-Repeat.most,
-        ap the_size c.deref-in-Repeat.ensures,
-      ),
-      (
-        c.requires.sized ∙
-            ap (λ p. positions_of (tree p)) c.in-Repeat.is ∙
-            ap positions_of (tree_repeat c.in-Repeat.inner c.in-Repeat.least c.in-Repeat.most)
-            ∙ ap (λ p. positions_of (repeat (tree p) c.in-Repeat.least c.in-Repeat.most)) (sym
-            c.deref-in-Repeat.ensures),
-        c.requires.few,
-      ),
-    )
+    let is = repeat_is _ _ _ _ _ c.in-Repeat.is c.deref-in-Repeat.ensures in
+    (omega (arith, c.decreases, is.smaller), (c.requires.sized ∙ ap positions_of is.same, c.requires.few))
 
 pub ends-bounds-row-0 : goal.ends-bounds-row-0
 ends-bounds-row-0 t c =

@@ -2,7 +2,7 @@ use Rattle.std.proofs.Common.{◌≡◌, ◌+◌, ◌-◌, ◌*◌, suc, false, 
 use Rattle.jp_iregexp.specs.Tree.{tree, branches, pieces}
 use Rattle.jp_iregexp.specs.Positions.{positions_of}
 use Rattle.jp_match.specs.Private.Plain.{unrolled, between, at_least}
-use Rattle.jp_match.proofs.Turns.{EndsSoFar}
+use Rattle.jp_match.proofs.Steps.Turns.{EndsSoFar}
 use Rattle.jp_match.proofs.ending.+ends.Given as goal
 
 abbrev pub invariant-ends_either-loop-branch : goal.invariant-ends_either-loop-branch

@@ -1,17 +1,15 @@
-use Rattle.std.proofs.Common.{◌≡◌, ◌+◌, ◌*◌, ◌-◌, suc, drop, map, length, inl, inr, sym, ap, ◌∙◌, subst, arith}
+use Rattle.std.proofs.Common.{◌≡◌, ◌+◌, ◌-◌, suc, drop, map, length, inl, inr, sym, ap, ◌∙◌, subst, arith}
 use Rattle.std.proofs.lemmas.Result.{on_ok_weaker}
-use denote.Param.Weighed.{most}
-use Rattle.jp_iregexp.proofs.pattern.Pattern.TheLaws.{the_size}
-use Rattle.jp_iregexp.specs.declared.pattern.Pattern.TheVariants as pattern
-use Rattle.jp_iregexp.specs.declared.pattern.Pattern.TheViews.{sized-Either, sized-Sequence, sized-Repeat}
 use Rattle.jp_iregexp.specs.Tree.{tree, branches, pieces}
 use Rattle.jp_iregexp.specs.Language.{Language, Power}
 use Rattle.jp_iregexp.proofs.Trees.{tree_class, tree_either, tree_sequence, tree_repeat}
-use Rattle.jp_match.proofs.Items.{drop_item, drop_all}
-use Rattle.jp_match.proofs.Reaching.{Completes, Covers, completes_more, completes_all, covers_more}
-use Rattle.jp_match.proofs.Repeats.{image_repeat, settled_ends}
-use Rattle.jp_match.proofs.Growing.{grows_more, grows_all, grows_last, absent_falls}
-use Rattle.jp_match.proofs.Rowwise.{either_parts, sequence_parts, known_as, known_inner, rows_when_known, some_marks, image_rows}
+use Rattle.jp_match.specs.Private.Rows.{parts_of}
+use Rattle.jp_match.proofs.Patterns.Variants.{either_is, sequence_is, repeat_is}
+use Rattle.jp_match.proofs.Patterns.Items.{drop_item, drop_all}
+use Rattle.jp_match.proofs.Sets.Reaching.{Completes, Covers, completes_more, completes_all, covers_more}
+use Rattle.jp_match.proofs.Sets.Repeats.{image_repeat, settled_ends}
+use Rattle.jp_match.proofs.Sets.Growing.{grows_more, grows_all, grows_last, absent_falls}
+use Rattle.jp_match.proofs.Sets.Rowwise.{parts_branches, parts_pieces, known_as, known_inner, rows_when_known, some_marks, image_rows}
 use Rattle.jp_match.proofs.images.+images.Goals as goal
 use Rattle.jp_match.proofs.images.+images.Goals.{at_most_image-else-loop-left-test, at_most_image-then-loop-left-test+in_default, exactly_image-else-loop-test, exactly_image-then-loop-test+in_ok-part_image+then-is_settled}
 
@@ -158,51 +156,18 @@ part_image-returns-clause-image t c =
 
 pub image-either_image-requires : goal.image-either_image-requires
 image-either_image-requires t c =
-    let deep : 4 * the_size (pattern.Either c.in-Either.branches) + 0 ≡ t = subst (λ p. 4 *
-    the_size p + 0 ≡ t) c.in-Either.is c.decreases in (
-      omega (
-        arith,
-        deep,
-        sized-Either c.in-Either.branches,
-        ap (most the_size)
-            c.deref.ensures.value,
-      ),
-      (
-        c.requires.sized,
-        known_as _ _ _ _ (either_parts _ _ _ c.in-Either.is c.deref.ensures.value)
-            c.requires.known,
-      ),
-    )
+    let is = either_is _ _ _ c.in-Either.is c.deref.ensures.value in
+    (omega (arith, c.decreases, is.smaller), (c.requires.sized, known_as _ _ _ _ (ap parts_of is.same ∙ parts_branches _) c.requires.known))
 
 pub image-sequence_image-requires : goal.image-sequence_image-requires
 image-sequence_image-requires t c =
-    let deep : 4 * the_size (pattern.Sequence c.in-Sequence.pieces) + 0 ≡ t = subst (λ p. 4 *
-    the_size p + 0 ≡ t) c.in-Sequence.is c.decreases in (
-      omega (
-        arith,
-        deep,
-        sized-Sequence c.in-Sequence.pieces,
-        ap (most the_size)
-            c.deref-in-Sequence.ensures.value,
-      ),
-      (
-        c.requires.sized,
-        known_as _ _ _ _ (sequence_parts _ _ _ c.in-Sequence.is
-            c.deref-in-Sequence.ensures.value) c.requires.known,
-      ),
-    )
+    let is = sequence_is _ _ _ c.in-Sequence.is c.deref-in-Sequence.ensures.value in
+    (omega (arith, c.decreases, is.smaller), (c.requires.sized, known_as _ _ _ _ (ap parts_of is.same ∙ parts_pieces _) c.requires.known))
 
 pub image-repeat_image-requires : goal.image-repeat_image-requires
 image-repeat_image-requires t c =
-    let deep : 4 * the_size (pattern.Repeat c.in-Repeat-2.inner c.in-Repeat-2.least
-    c.in-Repeat-2.most) + 0 ≡ t = subst (λ p. 4 * the_size p + 0 ≡ t) c.in-Repeat-2.is c.decreases
-    in (
-      omega (
-        arith,
-        deep,
-        sized-Repeat c.in-Repeat-2.inner c.in-Repeat-2.least c.in-Repeat-2.most,
-        ap the_size c.deref-in-Repeat-2.ensures,
-      ),
+    let is = repeat_is _ _ _ _ _ c.in-Repeat-2.is c.deref-in-Repeat-2.ensures in (
+      omega (arith, c.decreases, is.smaller),
       (
         c.requires.sized,
         known_inner _ _ _ _ _ _ _ _ c.requires.known c.in-Repeat-2.is c.deref-in-Repeat-2.ensures

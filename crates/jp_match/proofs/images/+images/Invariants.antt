@@ -1,8 +1,8 @@
 use Rattle.std.proofs.Common.{◌≡◌, ◌≤◌, suc, ◌-◌, length, map, drop}
 use Rattle.jp_iregexp.specs.Tree.{tree, branches, pieces}
 use Rattle.jp_iregexp.specs.Language.{Language, Power}
-use Rattle.jp_match.proofs.Reaching.{Completes, Covers}
-use Rattle.jp_match.proofs.Growing.{Grows, absent}
+use Rattle.jp_match.proofs.Sets.Reaching.{Completes, Covers}
+use Rattle.jp_match.proofs.Sets.Growing.{Grows, absent}
 use Rattle.jp_match.proofs.images.+images.Given as goal
 
 abbrev pub invariant-at_most_image-loop-left : goal.invariant-at_most_image-loop-left

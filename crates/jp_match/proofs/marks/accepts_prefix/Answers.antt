@@ -1,4 +1,4 @@
-use Rattle.std.proofs.Common.{◌≡◌, inl, inr, IsTrue, Bool, true, false, ◌+◌, length, take, sym, ap, subst, ◌∙◌, arith}
+use Rattle.std.proofs.Common.{◌≡◌, inl, inr, ◌+◌, length, take, sym, ap, subst, ◌∙◌, arith}
 use Rattle.std.proofs.lemmas.Bool.{cases_lt}
 use Rattle.std.proofs.lemmas.Iterator.{YieldsList-from_chars}
 use Rattle.std.proofs.lemmas.Iterator.Consumers.{YieldsList-turn, YieldsList-end}
@@ -6,12 +6,9 @@ use Rattle.std.proofs.lemmas.List.{length_push}
 use Rattle.std.specs.Str.{chars}
 use Rattle.jp_iregexp.specs.Positions.{positions_of}
 use Rattle.jp_match.specs.Scan.{Left, tree_of}
-use Rattle.jp_match.proofs.Prefixes.{taken_more, left_more, left_nil, within_all}
+use Rattle.jp_match.proofs.Bools.{not_false}
+use Rattle.jp_match.proofs.Texts.Prefixes.{taken_more, left_more, left_nil, within_all}
 use Rattle.jp_match.proofs.marks.accepts_prefix.Goals as goal
-
-not_false : (b : Bool) → b ≡ false → IsTrue b → ⊥
-not_false true n h = cc
-not_false false n h = cc
 
 pub returns-then-advance-clause-counted : goal.returns-then-advance-clause-counted
 returns-then-advance-clause-counted c =

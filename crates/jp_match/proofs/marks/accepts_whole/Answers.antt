@@ -4,7 +4,7 @@ use Rattle.std.proofs.lemmas.Iterator.Consumers.{YieldsList-turn, YieldsList-end
 use Rattle.std.proofs.lemmas.List.{length_push}
 use Rattle.std.specs.Str.{chars}
 use Rattle.jp_match.specs.Scan.{Left}
-use Rattle.jp_match.proofs.Prefixes.{taken_more, taken_all, taken_rest, left_more, left_nil}
+use Rattle.jp_match.proofs.Texts.Prefixes.{taken_more, taken_all, taken_rest, left_more, left_nil}
 use Rattle.jp_match.proofs.marks.accepts_whole.Goals as goal
 
 pub returns-then-is_spent-clause-accepted : goal.returns-then-is_spent-clause-accepted

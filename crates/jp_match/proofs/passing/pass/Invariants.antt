@@ -1,6 +1,6 @@
 use Rattle.std.proofs.Common.{◌≡◌, ◌≤◌}
 use Rattle.jp_iregexp.specs.Tree.{tree}
-use Rattle.jp_match.proofs.Spans.{Carries, Passes}
+use Rattle.jp_match.proofs.Sets.Spans.{Carries, Passes}
 use Rattle.jp_match.proofs.passing.pass.Given as goal
 
 abbrev pub invariant-loop-i : goal.invariant-loop-i

@@ -2,7 +2,7 @@ use Rattle.std.proofs.Common.{◌≢◌, ◌<◌, length, arith, add-one, below_
 use Rattle.std.proofs.lemmas.Grind.{common_steps}
 use Rattle.jp_match.proofs.places.shift.Goals as goal
 use Rattle.jp_match.proofs.places.shift.Goals.{then-leaves, else-leaves}
-use Rattle.jp_match.proofs.Shift.{counted_more, counted_same, last_entered, image_shift}
+use Rattle.jp_match.proofs.Sets.Shift.{counted_more, counted_same, last_entered, image_shift}
 
 pub loop-i-preserved : goal.loop-i-preserved
 loop-i-preserved c = record {

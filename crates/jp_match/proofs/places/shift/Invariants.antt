@@ -1,6 +1,6 @@
 use Rattle.std.proofs.Common.{◌≡◌, ◌<◌, ◌≤◌, ℕ, false, length, get_or}
 use Rattle.jp_iregexp.specs.Class.{class_holds}
-use Rattle.jp_match.proofs.Shift.{counted_to, shifted}
+use Rattle.jp_match.proofs.Sets.Shift.{counted_to, shifted}
 use Rattle.jp_match.proofs.places.shift.Given as goal
 
 abbrev pub invariant-loop-i : goal.invariant-loop-i

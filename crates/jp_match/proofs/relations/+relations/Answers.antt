@@ -2,7 +2,7 @@ use Rattle.std.proofs.Common.{◌≡◌, ◌∷◌, [], ◌++◌, ap, sym, subst
 use Rattle.std.proofs.lemmas.Result.{IfOk-weaker}
 use Rattle.jp_match.specs.Private.Rows.{EachKnown, rows_of, parts_of}
 use Rattle.jp_iregexp.specs.Tree.{tree}
-use Rattle.jp_match.proofs.Rowwise.{either_parts, sequence_parts, known_as, known_repeat}
+use Rattle.jp_match.proofs.Sets.Rowwise.{either_parts, sequence_parts, known_as, known_repeat}
 use Rattle.jp_match.proofs.relations.+relations.Goals as goal
 
 pub known_parts-returns-in-Either-clause-known : goal.known_parts-returns-in-Either-clause-known

@@ -2,7 +2,7 @@ use Rattle.std.proofs.Common.{◌≤◌}
 use Rattle.jp_iregexp.specs.Tree.{tree}
 use Rattle.jp_iregexp.specs.Language.{Language}
 use Rattle.jp_match.specs.Private.Rows.{marks_of, rows_of}
-use Rattle.jp_match.proofs.Rowwise.{KnownTo, RowsTo}
+use Rattle.jp_match.proofs.Sets.Rowwise.{KnownTo, RowsTo}
 use Rattle.jp_match.proofs.relations.+relations.Given as goal
 
 abbrev pub invariant-each_known-loop-part : goal.invariant-each_known-loop-part

@@ -1,11 +1,9 @@
-use Rattle.std.proofs.Common.{◌≡◌, ◌<◌, ◌≤◌, Bool, true, false, length, sym, ap, ◌∙◌, arith, add-one}
+use Rattle.std.proofs.Common.{◌<◌, ◌≤◌, false, length, sym, ap, ◌∙◌, arith, add-one}
 use Rattle.std.proofs.lemmas.List.{get_or_default}
-use Rattle.jp_match.proofs.Rowwise.{mark_at, unites_more, unites_same, unites_all}
+use Rattle.jp_match.proofs.Bools.{not_false}
+use Rattle.jp_match.proofs.Sets.Rowwise.{mark_at, unites_more, unites_same, unites_all}
 use Rattle.jp_match.proofs.rows.follow.Goals as goal
 use Rattle.jp_match.proofs.rows.follow.Goals.{then-index, else-index}
-
-not_both : (b : Bool) → b ≡ false → b ≡ true → ⊥
-not_both b n h = let e = sym n ∙ h in cc
 
 pub unite-requires : goal.unite-requires
 unite-requires c =
@@ -32,7 +30,7 @@ loop-start-preserved c =
             rw w.places-is (unites_more _ _ _ _ _ (sym read ∙ w.if-index.true)
             w.unite.ensures.same_length both c.loop-start.invariant.unites)
         | else-index w ↦
-            rw w.places-is (unites_same _ _ _ _ (not_both _ (sym read ∙ w.if-index.false))
+            rw w.places-is (unites_same _ _ _ _ (not_false _ (sym read ∙ w.if-index.false))
             c.loop-start.invariant.unites)
       ]);
     }

@@ -1,6 +1,6 @@
 use Rattle.std.proofs.Common.{◌≡◌}
 use Rattle.jp_match.specs.Private.Rows.{marks_of}
-use Rattle.jp_match.proofs.Rowwise.{Unites}
+use Rattle.jp_match.proofs.Sets.Rowwise.{Unites}
 use Rattle.jp_match.proofs.rows.follow.Given as goal
 
 abbrev pub invariant-loop-start : goal.invariant-loop-start

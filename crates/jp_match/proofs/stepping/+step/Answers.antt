@@ -1,25 +1,27 @@
-use Rattle.std.proofs.Common.{List, [], ◌∷◌, Vec, Global, ◌≡◌, ◌+◌, ◌-◌, ◌*◌, ◌≤◌, suc, false}
-use Rattle.std.proofs.Common.{map, drop, length, refl, sym, ap, ◌∙◌, subst, arith, rules}
-use Rattle.std.proofs.lemmas.List.{length-take, length-drop}
+use Rattle.std.proofs.Common.{ℕ, Bool, min, List, [], ◌∷◌, Vec, Global, ◌≡◌, ◌+◌, ◌-◌, ◌*◌, ◌≤◌, suc, false}
+use Rattle.std.proofs.Common.{map, take, drop, get_or, ◌<◌, ◌&&◌, length, refl, sym, ap, ◌∙◌, arith, rules}
+use Rattle.std.proofs.lemmas.List.{length-take, length-drop, length-set}
 use Rattle.std.proofs.lemmas.Bool.{leb-true, le-leb}
+use borrow.Rule.Slice.PartMut.{put_mid}
 use denote.Param.Weighed.{most}
 use Rattle.jp_iregexp.proofs.pattern.Pattern.TheLaws.{the_size}
 use Rattle.jp_iregexp.specs.declared.pattern.Pattern.{Pattern}
 use Rattle.jp_iregexp.specs.declared.pattern.Pattern.TheVariants as pattern
-use Rattle.jp_iregexp.specs.declared.pattern.Pattern.TheViews.{sized-Either, sized-Sequence}
-use Rattle.jp_iregexp.specs.declared.pattern.Pattern.TheViews.{sized-Repeat}
-use Rattle.jp_iregexp.specs.Tree.{tree, branches, pieces, repeat}
+use Rattle.jp_iregexp.specs.declared.pattern.Pattern.TheViews.{sized-Sequence}
+use Rattle.jp_iregexp.specs.Tree.{Tree, tree, branches, pieces, repeat}
 use Rattle.jp_iregexp.specs.Positions.{positions_of}
 use Rattle.jp_iregexp.proofs.Trees.{tree_class, tree_either, tree_sequence, tree_repeat}
 use Rattle.jp_match.specs.Private.Plain.{unrolled, counted}
-use Rattle.jp_match.proofs.EmptyWords.{step_empty_row, by_entered, not_entered}
-use Rattle.jp_match.proofs.Items.{drop_item, drop_all, only_item}
-use Rattle.jp_match.proofs.StepParts.{step_nowhere, step_plus}
-use Rattle.jp_match.proofs.Turns.{StepsSoFar, part_is, put_long, turned, size_unrolled}
-use Rattle.jp_match.proofs.Turns.{steps_next_piece, steps_next_branch, steps_end_pieces}
-use Rattle.jp_match.proofs.Turns.{steps_end_branches, steps_stop, steps_copy}
-use Rattle.jp_match.proofs.Turns.{steps_copies_end, steps_at_least, steps_at_least_end}
-use Rattle.jp_match.proofs.Turns.{steps_star, steps_only_branch, steps_only_piece}
+use Rattle.jp_match.proofs.Patterns.Variants.{either_is, sequence_is, repeat_is}
+use Rattle.jp_match.proofs.Steps.EmptyWords.{step_empty_row, by_entered, not_entered}
+use Rattle.jp_match.proofs.Patterns.Items.{drop_item, drop_all, only_item}
+use Rattle.jp_match.proofs.Steps.OneClass.{mark_taken, mark_written}
+use Rattle.jp_match.proofs.Steps.StepParts.{step_nowhere, step_plus}
+use Rattle.jp_match.proofs.Steps.Turns.{Turned, part_is, put_long, turned, size_unrolled}
+use Rattle.jp_match.proofs.Steps.Turns.{steps_next_piece, steps_next_branch, steps_end_pieces}
+use Rattle.jp_match.proofs.Steps.Turns.{steps_end_branches, steps_stop, steps_copy}
+use Rattle.jp_match.proofs.Steps.Turns.{steps_copies_end, steps_at_least, steps_at_least_end}
+use Rattle.jp_match.proofs.Steps.Turns.{steps_star, steps_only_branch, steps_only_piece}
 use Rattle.jp_match.proofs.stepping.+step.Goals as goal
 
 pub step-returns-then-not-is_any-clause-step : goal.step-returns-then-not-is_any-clause-step
@@ -30,62 +32,18 @@ step-returns-then-not-is_any-clause-step t c =
 
 pub step-step_either-requires : goal.step-step_either-requires
 step-step_either-requires t c =
-    let deep : 4 * the_size (pattern.Either c.in-Either.branches) + 0 ≡ t = subst (λ p. 4 *
-    the_size p + 0 ≡ t) c.in-Either.is c.decreases in (
-      omega (
-        arith,
-        deep,
-        sized-Either c.in-Either.branches,
-        ap (most the_size) c.deref.ensures.value,
-      ),
-      (
-        c.requires.sized ∙
-            ap (λ p. positions_of (tree p)) c.in-Either.is ∙
-            ap positions_of (tree_either c.in-Either.branches)
-            ∙ ap (λ ps. positions_of (branches (map tree ps))) (sym c.deref.ensures.value),
-        c.requires.few,
-      ),
-    )
+    let is = either_is _ _ _ c.in-Either.is c.deref.ensures.value in
+    (omega (arith, c.decreases, is.smaller), (c.requires.sized ∙ ap positions_of is.same, c.requires.few))
 
 pub step-step_sequence-requires : goal.step-step_sequence-requires
 step-step_sequence-requires t c =
-    let deep : 4 * the_size (pattern.Sequence c.in-Sequence.pieces) + 0 ≡ t = subst (λ p. 4 *
-    the_size p + 0 ≡ t) c.in-Sequence.is c.decreases in (
-      omega (
-        arith,
-        deep,
-        sized-Sequence c.in-Sequence.pieces,
-        ap (most the_size) c.deref-in-Sequence.ensures.value,
-      ),
-      (
-        c.requires.sized ∙
-            ap (λ p. positions_of (tree p)) c.in-Sequence.is ∙
-            ap positions_of (tree_sequence c.in-Sequence.pieces)
-            ∙ ap (λ ps. positions_of (pieces (map tree ps)))
-            (sym c.deref-in-Sequence.ensures.value),
-        c.requires.few,
-      ),
-    )
+    let is = sequence_is _ _ _ c.in-Sequence.is c.deref-in-Sequence.ensures.value in
+    (omega (arith, c.decreases, is.smaller), (c.requires.sized ∙ ap positions_of is.same, c.requires.few))
 
 pub step-step_repeat-requires : goal.step-step_repeat-requires
 step-step_repeat-requires t c =
-    let deep : 4 * the_size (pattern.Repeat c.in-Repeat.inner c.in-Repeat.least c.in-Repeat.most) +
-    0 ≡ t = subst (λ p. 4 * the_size p + 0 ≡ t) c.in-Repeat.is c.decreases in (
-      omega (
-        arith,
-        deep,
-        sized-Repeat c.in-Repeat.inner c.in-Repeat.least c.in-Repeat.most,
-        ap the_size c.deref-in-Repeat.ensures,
-      ),
-      (
-        c.requires.sized ∙
-            ap (λ p. positions_of (tree p)) c.in-Repeat.is ∙
-            ap positions_of (tree_repeat c.in-Repeat.inner c.in-Repeat.least c.in-Repeat.most)
-            ∙ ap (λ p. positions_of (repeat (tree p) c.in-Repeat.least c.in-Repeat.most)) (sym
-            c.deref-in-Repeat.ensures),
-        c.requires.few,
-      ),
-    )
+    let is = repeat_is _ _ _ _ _ c.in-Repeat.is c.deref-in-Repeat.ensures in
+    (omega (arith, c.decreases, is.smaller), (c.requires.sized ∙ ap positions_of is.same, c.requires.few))
 
 pub step-step_class-requires : goal.step-step_class-requires
 step-step_class-requires t c = record {
@@ -125,26 +83,32 @@ step-returns-in-Class-clause-counted t c =
     ap positions_of (tree_class c.in-Class.class) in
     omega (arith, c.step_class.ensures.counted)
 
+-- the turn of one part: its marks are as many as its positions, and written anew within the row
+record PartTurn (t : Tree) (row part : List Bool) (at n : ℕ) : Type 0 where
+  size : n ≡ positions_of t
+  turned : Turned row part (put_mid at (at + n - at) row part) at n
+
+part_turn : (t : Tree) (row part : List Bool) (at n : ℕ) → n ≡ min (positions_of t) 4097 →
+    at + positions_of t ≤ length row → length row ≤ 4096 →
+    length part ≡ length (take (at + n - at) (drop at row)) → PartTurn t row part at n
+part_turn t row part at n count within few kept =
+    let size : n ≡ positions_of t = omega (arith, count, within, few) in
+    record { size = size; turned = turned row part at n (omega (arith, size, within)) kept }
+
 pub step_either-loop-branch-preserved : goal.step_either-loop-branch-preserved
 step_either-loop-branch-preserved t c =
     let item = drop_item c.args.parts.now c.loop-branch.branch-index c.branch-item.result
     c.loop-branch-test.true c.branch-item.is in
     let sized = rw item at c.loop-branch.invariant.sized in
-    let size : c.position_count.result ≡ positions_of (tree c.branch-item.result) = omega (
+    let part = part_is c.loop-branch.row c.loop-branch.at c.position_count.result in
+    let turn = part_turn (tree c.branch-item.result) c.loop-branch.row c.step-ended.new.row c.loop-branch.at
+    c.position_count.result c.position_count.ensures (omega (arith, sized)) (omega (
       arith,
-      sized,
-      c.position_count.ensures,
       c.requires.few,
       c.loop-branch.invariant.long,
-    ) in
-    let within : c.loop-branch.at + c.position_count.result ≤ length c.loop-branch.row = omega (
-      arith,
-      sized,
-      size,
-    ) in
-    let part = part_is c.loop-branch.row c.loop-branch.at c.position_count.result in
-    let w = turned c.loop-branch.row c.step-ended.new.row c.loop-branch.at c.position_count.result
-    within c.step-ended.auto.row in
+    )) c.step-ended.auto.row in
+    let size = turn.size in
+    let w = turn.turned in
     record {
       long = w.same ∙ c.loop-branch.invariant.long;
       sized = omega (arith, sized, size, w.same);
@@ -175,21 +139,15 @@ step_sequence-loop-piece-preserved t c =
     let item = drop_item c.args.parts.now c.loop-piece.piece-index c.piece-item.result
     c.loop-piece-test.true c.piece-item.is in
     let sized = rw item at c.loop-piece.invariant.sized in
-    let size : c.position_count.result ≡ positions_of (tree c.piece-item.result) = omega (
+    let part = part_is c.loop-piece.row c.loop-piece.at c.position_count.result in
+    let turn = part_turn (tree c.piece-item.result) c.loop-piece.row c.step-ended.new.row c.loop-piece.at
+    c.position_count.result c.position_count.ensures (omega (arith, sized)) (omega (
       arith,
-      sized,
-      c.position_count.ensures,
       c.requires.few,
       c.loop-piece.invariant.long,
-    ) in
-    let within : c.loop-piece.at + c.position_count.result ≤ length c.loop-piece.row = omega (
-      arith,
-      sized,
-      size,
-    ) in
-    let part = part_is c.loop-piece.row c.loop-piece.at c.position_count.result in
-    let w = turned c.loop-piece.row c.step-ended.new.row c.loop-piece.at c.position_count.result
-    within c.step-ended.auto.row in
+    )) c.step-ended.auto.row in
+    let size = turn.size in
+    let w = turn.turned in
     record {
       long = w.same ∙ c.loop-piece.invariant.long;
       sized = omega (arith, sized, size, w.same);
@@ -211,21 +169,15 @@ step_sequence-returns-then-not-is_any-clause-step t c =
     let item = drop_item c.args.parts.now c.loop-piece.piece-index c.piece-item.result
     c.loop-piece-test.true c.piece-item.is in
     let sized = rw item at c.loop-piece.invariant.sized in
-    let size : c.position_count.result ≡ positions_of (tree c.piece-item.result) = omega (
+    let part = part_is c.loop-piece.row c.loop-piece.at c.position_count.result in
+    let turn = part_turn (tree c.piece-item.result) c.loop-piece.row c.step-ended.new.row c.loop-piece.at
+    c.position_count.result c.position_count.ensures (omega (arith, sized)) (omega (
       arith,
-      sized,
-      c.position_count.ensures,
       c.requires.few,
       c.loop-piece.invariant.long,
-    ) in
-    let within : c.loop-piece.at + c.position_count.result ≤ length c.loop-piece.row = omega (
-      arith,
-      sized,
-      size,
-    ) in
-    let part = part_is c.loop-piece.row c.loop-piece.at c.position_count.result in
-    let w = turned c.loop-piece.row c.step-ended.new.row c.loop-piece.at c.position_count.result
-    within c.step-ended.auto.row in
+    )) c.step-ended.auto.row in
+    let size = turn.size in
+    let w = turn.turned in
     let ended : c.step-ended.result ≡ false = c.if-not-ended.true in
     steps_stop _ _ _ _ _ _ _ (λ k m. let any = c.is_any.ensures.1 (k, m) in
     let not = c.if-not-is_any.true in cc)
@@ -239,8 +191,8 @@ step_sequence-returns-clause-step t c =
     let sized = rw none at c.loop-piece.invariant.sized in
     steps_end_pieces _ _ _ _ _ _ _ (omega (arith, sized)) (rw none at c.loop-piece.invariant.so_far)
 
-pub step_between-loop-copies-preserved : goal.step_between-loop-copies-preserved
-step_between-loop-copies-preserved t c =
+pub step_copies-loop-copies-preserved : goal.step_copies-loop-copies-preserved
+step_copies-loop-copies-preserved t c =
     let n = c.copy_size-size.result in
     let left : c.args.most - c.loop-copies.copies ≡ suc (c.args.most - (c.loop-copies.copies + 1))
     = omega arith in
@@ -271,8 +223,8 @@ step_between-loop-copies-preserved t c =
       kept = omega (arith, c.step-through.ensures.kept, c.loop-copies.invariant.kept);
     }
 
-pub step_between-returns-clause-step : goal.step_between-returns-clause-step
-step_between-returns-clause-step t c =
+pub step_copies-returns-clause-step : goal.step_copies-returns-clause-step
+step_copies-returns-clause-step t c =
     let none : c.args.most - c.loop-copies.copies ≡ 0 = omega arith in
     let sized = rw none at c.loop-copies.invariant.sized in
     steps_copies_end _ _ _ _ _ _ _ c.args.least c.args.most c.loop-copies.copies _ _ _ (omega
@@ -280,6 +232,40 @@ step_between-returns-clause-step t c =
       arith,
       sized,
     )) c.loop-copies.invariant.so_far
+
+pub step_between-loop-copies-init : goal.step_between-loop-copies-init
+step_between-loop-copies-init t c =
+    let one : positions_of (tree c.args.inner.now) ≡ 1 = sym (size_unrolled (tree
+    c.args.inner.now)) ∙ c.in-Some.ensures.sized in
+    record {
+      long = refl;
+      sized = omega (arith, rw one at c.requires.sized);
+      so_far = search rules;
+    }
+
+pub step_between-loop-copies-preserved : goal.step_between-loop-copies-preserved
+step_between-loop-copies-preserved t c =
+    let one = c.in-Some.ensures in
+    let row = c.loop-copies.row in
+    let at = c.loop-copies.copies in
+    let below : at < length row = omega arith in
+    let marked : take 1 (drop at row) ≡ get_or row at false ∷ [] = mark_taken row at below in
+    record {
+      long = length-set row at _ ∙ c.loop-copies.invariant.long;
+      sized = length-set row at _ ∙ c.loop-copies.invariant.sized;
+      so_far = steps_copy _ _ _ _ _ _ _ _ c.args.least c.args.most at _ _ _ _ _ _
+          c.loop-copies-test.true (
+            leb-true _ _,
+            le-leb _ _,
+          ) one.sized refl (mark_written row at _ below) c.loop-copies.invariant.so_far (rw marked
+          (one.steps c.args.c c.loop-copies.through (get_or row at false) _ (ap
+          (λ holds. c.loop-copies.through && holds) c.holds-holds.ensures.answer)));
+    }
+
+pub step_between-returns-clause-step : goal.step_between-returns-clause-step
+step_between-returns-clause-step t c =
+    steps_copies_end _ _ _ _ _ _ _ c.args.least c.args.most c.loop-copies.copies _ _ _ (omega
+    arith) (omega arith) (leb-true _ _, le-leb _ _) (omega arith) c.loop-copies.invariant.so_far
 
 pub step_at_least-loop-preserved : goal.step_at_least-loop-preserved
 step_at_least-loop-preserved t c =

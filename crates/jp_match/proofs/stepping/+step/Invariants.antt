@@ -2,7 +2,7 @@ use Rattle.std.proofs.Common.{◌≡◌, ◌+◌, ◌-◌, ◌*◌, ◌≤◌, s
 use Rattle.jp_iregexp.specs.Tree.{tree, branches, pieces}
 use Rattle.jp_iregexp.specs.Positions.{positions_of}
 use Rattle.jp_match.specs.Private.Plain.{unrolled, between, at_least}
-use Rattle.jp_match.proofs.Turns.{StepsSoFar}
+use Rattle.jp_match.proofs.Steps.Turns.{StepsSoFar}
 use Rattle.jp_match.proofs.stepping.+step.Given as goal
 
 abbrev pub invariant-step_either-loop-branch : goal.invariant-step_either-loop-branch
@@ -27,6 +27,15 @@ invariant-step_sequence-loop-piece l = record {
 
 abbrev pub invariant-step_between-loop-copies : goal.invariant-step_between-loop-copies
 invariant-step_between-loop-copies l = record {
+  long : length l.row ≡ length l.fn.row;
+  sized : length l.row ≡ l.most;
+  so_far : StepsSoFar (between (unrolled (tree l.inner)) l.least l.most) (between (unrolled (tree
+      l.inner)) (l.least - l.copies) (l.most - l.copies)) l.fn.c l.entered l.through l.ended l.fn.row
+      l.row l.copies;
+}
+
+abbrev pub invariant-step_copies-loop-copies : goal.invariant-step_copies-loop-copies
+invariant-step_copies-loop-copies l = record {
   long : length l.row ≡ length l.fn.row;
   size : l.size ≡ positions_of (tree l.inner);
   sized : l.at + (l.most - l.copies) * positions_of (tree l.inner) ≡ length l.row;

@@ -3,7 +3,7 @@ use Rattle.std.specs.Str.{chars}
 use Rattle.jp_iregexp.specs.Tree.{tree}
 use Rattle.jp_iregexp.specs.Language.{Language}
 use Rattle.jp_match.specs.Private.Place.{IsImage}
-use Rattle.jp_match.proofs.WholeAndPart.{part_reached}
+use Rattle.jp_match.proofs.Sets.WholeAndPart.{part_reached}
 use Rattle.jp_match.proofs.images.Images.part.Goals as goal
 
 pub returns-clause-exact : goal.returns-clause-exact

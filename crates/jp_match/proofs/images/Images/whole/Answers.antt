@@ -4,7 +4,7 @@ use Rattle.std.specs.Str.{chars}
 use Rattle.jp_iregexp.specs.Tree.{tree}
 use Rattle.jp_iregexp.specs.Language.{Language}
 use Rattle.jp_match.specs.Private.Place.{Marked, IsImage}
-use Rattle.jp_match.proofs.WholeAndPart.{whole_reached}
+use Rattle.jp_match.proofs.Sets.WholeAndPart.{whole_reached}
 use Rattle.jp_match.proofs.images.Images.whole.Goals as goal
 
 pub returns-clause-exact : goal.returns-clause-exact

@@ -1,7 +1,7 @@
 use Rattle.std.specs.Str.{chars}
 use Rattle.jp_iregexp.specs.Tree.{tree}
 use Rattle.jp_iregexp.specs.Language.{Language}
-use Rattle.jp_match.proofs.Prefixes.{part_is}
+use Rattle.jp_match.proofs.Texts.Prefixes.{part_is}
 use Rattle.jp_match.proofs.marks.MarksMatching.part.Goals as goal
 
 pub returns-in-Some-clause-exact : goal.returns-in-Some-clause-exact

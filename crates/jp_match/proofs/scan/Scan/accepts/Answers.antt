@@ -1,4 +1,4 @@
-use Rattle.jp_match.proofs.Scanning.{left_ends}
+use Rattle.jp_match.proofs.Texts.Scanning.{left_ends}
 use Rattle.jp_match.proofs.scan.Scan.accepts.Goals as goal
 
 pub returns : goal.returns

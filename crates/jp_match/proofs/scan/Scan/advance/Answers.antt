@@ -1,5 +1,5 @@
 use Rattle.jp_iregexp.specs.Tree.{tree}
-use Rattle.jp_match.proofs.Scanning.{left_ends, left_step}
+use Rattle.jp_match.proofs.Texts.Scanning.{left_ends, left_step}
 use Rattle.jp_match.proofs.scan.Scan.advance.Goals as goal
 
 pub returns-clause-accepted : goal.returns-clause-accepted

@@ -1,7 +1,7 @@
 use Rattle.std.proofs.Common.{◌≤◌, refl, arith}
 use Rattle.jp_iregexp.specs.Tree.{tree}
 use Rattle.jp_iregexp.specs.Positions.{positions_of}
-use Rattle.jp_match.proofs.Scanning.{left_first}
+use Rattle.jp_match.proofs.Texts.Scanning.{left_first}
 use Rattle.jp_match.proofs.scan.Scan.new.Goals as goal
 
 pub returns : goal.returns

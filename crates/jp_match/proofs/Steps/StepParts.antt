@@ -1,5 +1,5 @@
 -- A step over one character, part by part.
-use Rattle.std.proofs.Common.{◌≡◌, ◌↔◌, ◌⊎◌, inl, inr, ℕ, zero, suc, ◌+◌, ◌<◌, Bool, true, false, ◌||◌, ◌&&◌, List, [], ◌∷◌, ◌++◌, length, take, drop, get_or, refl, sym, ap, ◌∙◌, subst, arith}
+use Rattle.std.proofs.Common.{◌≡◌, ◌↔◌, ◌⊎◌, inl, inr, ℕ, zero, suc, ◌+◌, ◌<◌, Bool, true, false, ◌||◌, ◌&&◌, List, [], ◌∷◌, ◌++◌, length, take, drop, get_or, sym, ap, ◌∙◌, subst, arith}
 use Rattle.std.specs.Bool.{IsTrue}
 use Rattle.std.proofs.lemmas.List.{take_at, drop_at, get_or-drop, get_or-take, length-take}
 use Rattle.jp_iregexp.specs.declared.class.ClassItem.{ClassItem}
@@ -7,8 +7,9 @@ use Rattle.jp_iregexp.specs.Class.{class_holds}
 use Rattle.jp_iregexp.specs.Language.{Concatenation, Power}
 use Rattle.jp_match.specs.Private.Plain.{Plain, Words, class, nothing, either, empty, sequence, plus}
 use Rattle.jp_match.specs.Private.Marks.{Star, size, Rest, Ends, Steps}
-use Rattle.jp_match.proofs.Cuts.{marked_below}
-use Rattle.jp_match.proofs.EndParts.{or_is, ends_class, ends_empty, ends_nothing, ends_either, ends_sequence, ends_plus}
+use Rattle.jp_match.proofs.Bools.{and_is, or_is}
+use Rattle.jp_match.proofs.Sets.Cuts.{marked_below}
+use Rattle.jp_match.proofs.Steps.EndParts.{ends_class, ends_empty, ends_nothing, ends_either, ends_sequence, ends_plus, nil_before}
 
 -- a word that begins with a character is joined so that the first part is empty or begins with it
 pub joined_cons : (L M : List ℕ → Type 0) (c : ℕ) (w : List ℕ) → Concatenation L M (c ∷ w) →
@@ -39,16 +40,6 @@ cons_joined L M c w j = record {
   second = j.second;
 }
 
-pub nil_before : (L M : List ℕ → Type 0) (w : List ℕ) → L [] → M w → Concatenation L M w
-nil_before L M w first second = record {
-  front = [];
-  back = w;
-  is = refl;
-  first = first;
-  second =
-      second;
-}
-
 -- words that together begin with a character: the first that is not empty begins with it
 pub power_cons : (L : List ℕ → Type 0) (k c : ℕ) (w : List ℕ) → Power L k (c ∷ w) →
     Concatenation (λ v. L (c ∷ v)) (Star L) w
@@ -73,7 +64,7 @@ pub step_class : (negated : Bool) (items : List ClassItem) (c : ℕ) (entered : 
     Steps (class negated items) c entered before after (get_or before 0 false)
 step_class negated items c entered before after is = record {
   left = λ word. (
-    λ h. let t = both entered (class_holds negated items c) (sym is ∙ h.0) in
+    λ h. let t = (and_is entered (class_holds negated items c)).0 (sym is ∙ h.0) in
         inr (t.0, (c, t.1, ap (λ w. c ∷ w) h.1)),
     λ h. elim h [
       | inl x ↦ absurd (let e = x.1 in cc)
@@ -81,20 +72,17 @@ step_class negated items c entered before after is = record {
           let (d, holds, one) = y.1 in
           let same : d ≡ c = cc in
           let none : word ≡ [] = cc in (
-            is ∙ joint entered (class_holds negated items c) y.0 (subst (λ x. class_holds negated
-                items x ≡ true) same holds),
+            is ∙ (and_is entered (class_holds negated items c)).1 (
+              y.0,
+              subst (λ x. class_holds
+                  negated items x ≡ true) same holds,
+            ),
             none,
           )
     ],
   );
   ends = ends_class negated items entered before;
-} where
-  both : (a b : Bool) → (a && b) ≡ true → (a ≡ true) × (b ≡ true)
-  both true b h = (refl, h)
-  both false b h = absurd (cc)
-
-  joint : (a b : Bool) → a ≡ true → b ≡ true → (a && b) ≡ true
-  joint a b x y = cc
+}
 
 pub step_empty : (c : ℕ) (entered : Bool) (before after : List Bool) →
     Steps empty c entered before after entered

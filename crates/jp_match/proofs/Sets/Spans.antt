@@ -8,9 +8,9 @@ use Rattle.jp_iregexp.specs.Language.{Language}
 use Rattle.jp_match.specs.Private.Place.{Marked, Reached, IsImage}
 use Rattle.jp_match.specs.Private.Plain.{unrolled}
 use Rattle.jp_match.specs.Private.Marks.{Rest, Ends, Steps}
-use Rattle.jp_match.proofs.Cuts.{marked_below}
-use Rattle.jp_match.proofs.StepParts.{rest_none}
-use Rattle.jp_match.proofs.Unrolled.{unrolled-words}
+use Rattle.jp_match.proofs.Sets.Cuts.{marked_below}
+use Rattle.jp_match.proofs.Steps.StepParts.{rest_none}
+use Rattle.jp_match.proofs.Steps.Unrolled.{unrolled-words}
 
 -- the characters of the text from one place to another
 abbrev pub span : List ℕ → ℕ → ℕ → List ℕ

@@ -13,17 +13,14 @@ use Rattle.jp_iregexp.specs.Tree.{class}
 use Rattle.jp_iregexp.specs.Language.{Language}
 use Rattle.jp_match.specs.Private.ClassTests.{count_after}
 use Rattle.jp_match.specs.Private.Place.{Marked, Reached, IsImage}
-use Rattle.jp_match.proofs.Cuts.{marked_below}
+use Rattle.jp_match.proofs.Bools.{and_is}
+use Rattle.jp_match.proofs.Sets.Cuts.{marked_below}
 
 -- whether a place is entered: the place before it is in the set, and the character between them
 -- passes
 abbrev pub shifted : (ℕ → Bool) → List ℕ → List Bool → ℕ → Bool
 shifted passes text from zero = false
 shifted passes text from (suc k) = get_or from k false && passes (get_or text k 0)
-
-and_parts : (a b : Bool) → (a && b) ≡ true → (a ≡ true) × (b ≡ true)
-and_parts true b h = (refl, h)
-and_parts false b h = absurd (cc)
 
 -- a text cut before and after one character
 record CutRound (text : List ℕ) (place : ℕ) : Type 0 where
@@ -47,7 +44,7 @@ to_reached : (negated : Bool) (items : List ClassItem) (text : List ℕ) (from :
     Reached (Language (class negated items)) text from place
 to_reached negated items text from long zero within h = absurd (cc)
 to_reached negated items text from long (suc k) within h =
-    let both = and_parts (get_or from k false) (class_holds negated items (get_or text k 0)) h in
+    let both = (and_is (get_or from k false) (class_holds negated items (get_or text k 0))).0 h in
     let cut = cut_round text k (omega arith) in
     record {
       before = cut.before;

@@ -8,11 +8,12 @@ use Rattle.jp_iregexp.specs.Tree.{Tree, tree, nothing, branches, pieces}
 use Rattle.jp_iregexp.specs.Language.{Language}
 use Rattle.jp_iregexp.specs.declared.pattern.Pattern.{Pattern}
 use Rattle.jp_iregexp.specs.declared.pattern.Pattern.TheVariants as pattern
-use Rattle.jp_iregexp.proofs.Trees.{tree_either, tree_sequence, tree_repeat}
+use Rattle.jp_iregexp.proofs.Trees.{tree_repeat}
 use Rattle.jp_match.specs.Private.Place.{Marked, IsImage}
 use Rattle.jp_match.specs.Private.Rows.{marks_of, rows_of, IsOnly, IsRow, AreRows, AreKnown, EachKnown, IsUnion, parts_of}
-use Rattle.jp_match.proofs.Cuts.{marked_below}
-use Rattle.jp_match.proofs.Reaching.{reached_from}
+use Rattle.jp_match.proofs.Patterns.Variants.{either_is, sequence_is}
+use Rattle.jp_match.proofs.Sets.Cuts.{marked_below}
+use Rattle.jp_match.proofs.Sets.Reaching.{reached_from}
 
 -- the marks of one set of a list
 pub mark_at : (sets : List (Vec Bool Global)) (i : ℕ) (set : Vec Bool Global) → i < length sets →
@@ -174,14 +175,12 @@ some_marks (set ∷ sets) not none = let e = none in cc
 pub either_parts : (p : Pattern) (bs : Vec Pattern Global) (ps : List Pattern) →
     p ≡ pattern.Either bs → ps ≡ bs.items → parts_of (tree p) ≡ map tree ps
 either_parts p bs ps is items =
-    ap (λ q. parts_of (tree q)) is ∙ ap parts_of (tree_either bs) ∙
-    parts_branches (map tree bs.items) ∙ ap (map tree) (sym items)
+    ap parts_of (either_is p bs ps is items).same ∙ parts_branches (map tree ps)
 
 pub sequence_parts : (p : Pattern) (bs : Vec Pattern Global) (ps : List Pattern) →
     p ≡ pattern.Sequence bs → ps ≡ bs.items → parts_of (tree p) ≡ map tree ps
 sequence_parts p bs ps is items =
-    ap (λ q. parts_of (tree q)) is ∙ ap parts_of (tree_sequence bs) ∙
-    parts_pieces (map tree bs.items) ∙ ap (map tree) (sym items)
+    ap parts_of (sequence_is p bs ps is items).same ∙ parts_pieces (map tree ps)
 
 repeat_parts : (p : Pattern) (inner : Box Pattern Global) (least : ℕ) (most : Option ℕ) →
     p ≡ pattern.Repeat inner least most → parts_of (tree p) ≡ tree inner.value ∷ []

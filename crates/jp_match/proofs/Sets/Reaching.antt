@@ -3,7 +3,7 @@ use Rattle.std.proofs.Common.{◌≡◌, ◌↔◌, ◌⊎◌, inl, inr, ℕ, su
 use Rattle.std.proofs.lemmas.List.{length-append, append_assoc}
 use Rattle.jp_iregexp.specs.Language.{Concatenation}
 use Rattle.jp_match.specs.Private.Place.{Marked, Reached, IsImage}
-use Rattle.jp_match.proofs.Cuts.{cut_apart, cut_at, marked_below}
+use Rattle.jp_match.proofs.Sets.Cuts.{cut_apart, cut_at, marked_below}
 
 -- the way is also one by another language that holds its word
 pub reached_as : (L M : List ℕ → Type 0) (text : List ℕ) (from : List Bool) (place : ℕ) →

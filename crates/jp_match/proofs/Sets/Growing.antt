@@ -6,9 +6,9 @@ use Rattle.jp_iregexp.specs.Language.{Concatenation, Power, IsAtMost}
 use Rattle.jp_iregexp.proofs.Membership.{at_most_below}
 use Rattle.jp_match.specs.Private.Counts.{Times, IsMostAfter}
 use Rattle.jp_match.specs.Private.Place.{Marked, Reached, IsImage}
-use Rattle.jp_match.proofs.Reaching.{halfway, onward, reached_as, reached_from}
-use Rattle.jp_match.proofs.Reaching.{reached_still, still_reached}
-use Rattle.jp_match.proofs.Repeats.{at_most_after, not_at_most, at_most_zero}
+use Rattle.jp_match.proofs.Sets.Reaching.{halfway, onward, reached_as, reached_from}
+use Rattle.jp_match.proofs.Sets.Reaching.{reached_still, still_reached}
+use Rattle.jp_match.proofs.Sets.Repeats.{at_most_after, not_at_most, at_most_zero}
 
 true_or_not : (b : Bool) → (b ≡ true) ⊎ (b ≡ true → ⊥)
 true_or_not true = inl refl

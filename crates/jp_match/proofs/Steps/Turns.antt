@@ -14,10 +14,11 @@ use Rattle.jp_iregexp.specs.Positions.{positions_of}
 use Rattle.jp_match.specs.Private.Plain.{Plain, nothing, either, empty, sequence}
 use Rattle.jp_match.specs.Private.Plain.{plus, at_least, between, counted, unrolled}
 use Rattle.jp_match.specs.Private.Marks.{size, Ends, Steps}
-use Rattle.jp_match.proofs.EndParts.{ends_empty, ends_nothing, ends_either}
-use Rattle.jp_match.proofs.EndParts.{ends_sequence, ends_plus}
-use Rattle.jp_match.proofs.StepParts.{step_empty, step_nothing, step_either}
-use Rattle.jp_match.proofs.StepParts.{step_nowhere, step_sequence}
+use Rattle.jp_match.proofs.Bools.{or_assoc, or_comm, or_false}
+use Rattle.jp_match.proofs.Steps.EndParts.{ends_empty, ends_nothing, ends_either}
+use Rattle.jp_match.proofs.Steps.EndParts.{ends_sequence, ends_plus}
+use Rattle.jp_match.proofs.Steps.StepParts.{step_empty, step_nothing, step_either}
+use Rattle.jp_match.proofs.Steps.StepParts.{step_nowhere, step_sequence}
 
 size_between : (a : Plain) (least most : ℕ) → size (between a least most) ≡ most * size a
 unfolding between
@@ -49,20 +50,6 @@ size_unrolled (tree.repeat a least None) = size_at_least (unrolled a) least ∙
     ap (λ n. max least 1 * n) (size_unrolled a)
 size_unrolled (tree.repeat a least (Some most)) = size_between (unrolled a) least most ∙
     ap (λ n. most * n) (size_unrolled a)
-
-or_assoc : (a b c : Bool) → ((a || b) || c) ≡ (a || (b || c))
-or_assoc true b c = refl
-or_assoc false b c = refl
-
-or_comm : (a b : Bool) → (a || b) ≡ (b || a)
-or_comm true true = refl
-or_comm true false = refl
-or_comm false true = refl
-or_comm false false = refl
-
-or_false : (a : Bool) → (a || false) ≡ a
-or_false true = refl
-or_false false = refl
 
 -- a part of the marks
 pub part_is : (row : List Bool) (at n : ℕ) → take (at + n - at) (drop at row) ≡ take n (drop at row)
@@ -574,6 +561,14 @@ ends_star a entered p row h =
     (ends_either empty (plus a) entered row entered p (ends_empty entered []) (ends_plus a entered
     row p h))
 
+-- a part takes all marks where they are as many as its positions
+all_taken : (a : Tree) (c : ℕ) (entered p : Bool) (before after : List Bool) →
+    length before ≡ positions_of a → Steps (unrolled a) c entered before after p →
+    Steps (unrolled a) c entered (take (size (unrolled a)) before) after p
+all_taken a c entered p before after sized step =
+    let all = take_all (size (unrolled a)) before (omega (arith, size_unrolled a)) in
+    rw all step
+
 -- the only part takes all the marks
 pub steps_only_branch : (a : Tree) (c : ℕ) (entered p : Bool) (before after : List Bool) →
     length before ≡ positions_of a → length after ≡ length before →
@@ -581,9 +576,7 @@ pub steps_only_branch : (a : Tree) (c : ℕ) (entered p : Bool) (before after : 
     Steps (unrolled (branches (a ∷ []))) c entered before after p
 unfolding unrolled
 steps_only_branch a c entered p before after sized long step =
-    let all = take_all (size (unrolled a)) before (omega (arith, size_unrolled a)) in
-    let here : Steps (unrolled a) c entered (take (size (unrolled a)) before) after p = rw all step
-    in
+    let here = all_taken a c entered p before after sized step in
     subst (λ q. Steps (either (unrolled a) nothing) c entered before after q) (or_false p)
     (subst (λ r. Steps (either (unrolled a) nothing) c entered before r (p || false)) (append-nil
     after)
@@ -598,9 +591,7 @@ pub steps_only_piece : (a : Tree) (c : ℕ) (entered p : Bool) (before after : L
     Steps (unrolled (pieces (a ∷ []))) c entered before after p
 unfolding unrolled
 steps_only_piece a c entered p before after sized long step =
-    let all = take_all (size (unrolled a)) before (omega (arith, size_unrolled a)) in
-    let here : Steps (unrolled a) c entered (take (size (unrolled a)) before) after p = rw all step
-    in
+    let here = all_taken a c entered p before after sized step in
     subst (λ r. Steps (sequence (unrolled a) empty) c entered before r p) (append-nil after)
     (step_sequence (unrolled a) empty c entered before after [] p p (omega (
       arith,

@@ -1,5 +1,5 @@
 -- The test for the empty word, and patterns without positions.
-use Rattle.std.proofs.Common.{◌≡◌, ◌↔◌, ◌⊎◌, inl, inr, ℕ, zero, suc, ◌≤◌, Bool, true, false, ◌||◌, ◌&&◌, nat_le, List, [], ◌∷◌, Option, Some, None, length, refl, sym, ◌∙◌, subst, arith}
+use Rattle.std.proofs.Common.{◌≡◌, ◌↔◌, ◌⊎◌, inl, inr, ℕ, zero, suc, ◌≤◌, Bool, true, false, ◌||◌, nat_le, List, [], ◌∷◌, Option, Some, None, length, refl, sym, ◌∙◌, subst, arith}
 use Rattle.std.specs.Bool.{IsTrue}
 use Rattle.std.proofs.lemmas.Bool.{leb-true, le-leb}
 use Rattle.jp_iregexp.specs.Tree as tree
@@ -9,14 +9,11 @@ use Rattle.jp_iregexp.specs.Language.{Power, Language, IsAtMost}
 use Rattle.jp_match.specs.Private.EmptyWord.{has_empty, is_within}
 use Rattle.jp_match.specs.Private.Plain.{unrolled}
 use Rattle.jp_match.specs.Private.Marks.{size, Steps}
-use Rattle.jp_match.proofs.EndParts.{joined_nil, nil_joined, or_is}
-use Rattle.jp_match.proofs.StepParts.{step_without}
-use Rattle.jp_match.proofs.Turns.{size_unrolled}
-use Rattle.jp_match.proofs.Unrolled.{unrolled-words}
-
-and_is : (a b : Bool) → IsTrue (a && b) ↔ (IsTrue a × IsTrue b)
-and_is true b = (λ h. (refl, h), λ h. h.1)
-and_is false b = (λ h. absurd (cc), λ h. h.0)
+use Rattle.jp_match.proofs.Bools.{and_is, or_is}
+use Rattle.jp_match.proofs.Steps.EndParts.{joined_nil, nil_joined}
+use Rattle.jp_match.proofs.Steps.StepParts.{step_without}
+use Rattle.jp_match.proofs.Steps.Turns.{size_unrolled}
+use Rattle.jp_match.proofs.Steps.Unrolled.{unrolled-words}
 
 within_is : (least : ℕ) (most : Option ℕ) → IsTrue (is_within least most) ↔ IsAtMost most least
 within_is least None = (λ h. tt, λ h. refl)

@@ -1,10 +1,10 @@
 -- Where the end is reached, part by part.
-use Rattle.std.proofs.Common.{◌≡◌, ◌↔◌, ◌⊎◌, inl, inr, ℕ, Bool, true, false, ◌||◌, List, [], ◌∷◌, ◌++◌, take, drop, get_or, refl, sym, subst}
-use Rattle.std.specs.Bool.{IsTrue}
+use Rattle.std.proofs.Common.{◌≡◌, inl, inr, ℕ, Bool, false, ◌||◌, List, [], ◌∷◌, ◌++◌, take, drop, get_or, refl, sym, subst}
 use Rattle.jp_iregexp.specs.declared.class.ClassItem.{ClassItem}
 use Rattle.jp_iregexp.specs.Language.{Concatenation, Power}
 use Rattle.jp_match.specs.Private.Plain.{Plain, Words, class, nothing, either, empty, sequence, plus}
 use Rattle.jp_match.specs.Private.Marks.{Star, size, Rest, Ends}
+use Rattle.jp_match.proofs.Bools.{or_is}
 
 -- parts of the empty word are empty
 pub joined_nil : (L M : List ℕ → Type 0) → Concatenation L M [] → L [] × M []
@@ -13,19 +13,17 @@ joined_nil L M j = parts j.front j.back j.is j.first j.second where
   parts [] back is first second = (first, subst M (sym is) second)
   parts (x ∷ front) back is first second = absurd (cc)
 
-pub nil_joined : (L M : List ℕ → Type 0) → L [] → M [] → Concatenation L M []
-nil_joined L M first second = record {
+pub nil_before : (L M : List ℕ → Type 0) (w : List ℕ) → L [] → M w → Concatenation L M w
+nil_before L M w first second = record {
   front = [];
-  back = [];
+  back = w;
   is = refl;
   first = first;
-  second =
-      second;
+  second = second;
 }
 
-pub or_is : (a b : Bool) → IsTrue (a || b) ↔ (IsTrue a ⊎ IsTrue b)
-or_is true b = (λ h. inl refl, λ h. refl)
-or_is false b = (λ h. inr h, λ h. elim h [ inl x ↦ absurd (cc) | inr y ↦ y ])
+pub nil_joined : (L M : List ℕ → Type 0) → L [] → M [] → Concatenation L M []
+nil_joined L M first second = nil_before L M [] first second
 
 pub ends_class : (negated : Bool) (items : List ClassItem) (entered : Bool) (marks : List Bool) →
     Ends (class negated items) entered marks (get_or marks 0 false)

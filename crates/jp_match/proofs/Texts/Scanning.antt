@@ -6,8 +6,8 @@ use Rattle.jp_iregexp.specs.Language.{Language}
 use Rattle.jp_match.specs.Scan.{HasSuffix, Sought}
 use Rattle.jp_match.specs.Private.Plain.{unrolled}
 use Rattle.jp_match.specs.Private.Marks.{Rest, Ends, Steps}
-use Rattle.jp_match.proofs.StepParts.{rest_none}
-use Rattle.jp_match.proofs.Unrolled.{unrolled-words}
+use Rattle.jp_match.proofs.Steps.StepParts.{rest_none}
+use Rattle.jp_match.proofs.Steps.Unrolled.{unrolled-words}
 
 -- a suffix of a word is the word, or one of what is behind its first character
 suffix_cons : (L : List ℕ → Type 0) (c : ℕ) (w : List ℕ) → HasSuffix L (c ∷ w) →

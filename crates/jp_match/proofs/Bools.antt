@@ -1,0 +1,33 @@
+-- Truth values: for every proof with a test in it.
+use Rattle.std.proofs.Common.{◌≡◌, ◌↔◌, ◌⊎◌, inl, inr, Bool, true, false, not, ◌||◌, ◌&&◌, refl}
+use Rattle.std.specs.Bool.{IsTrue}
+
+pub or_is : (a b : Bool) → IsTrue (a || b) ↔ (IsTrue a ⊎ IsTrue b)
+or_is true b = (λ h. inl refl, λ h. refl)
+or_is false b = (λ h. inr h, λ h. elim h [ inl x ↦ absurd (cc) | inr y ↦ y ])
+
+pub and_is : (a b : Bool) → IsTrue (a && b) ↔ (IsTrue a × IsTrue b)
+and_is true b = (λ h. (refl, h), λ h. h.1)
+and_is false b = (λ h. absurd (cc), λ h. h.0)
+
+pub or_assoc : (a b c : Bool) → ((a || b) || c) ≡ (a || (b || c))
+or_assoc true b c = refl
+or_assoc false b c = refl
+
+pub or_comm : (a b : Bool) → (a || b) ≡ (b || a)
+or_comm true true = refl
+or_comm true false = refl
+or_comm false true = refl
+or_comm false false = refl
+
+pub or_false : (a : Bool) → (a || false) ≡ a
+or_false true = refl
+or_false false = refl
+
+pub not_both : (b : Bool) → IsTrue (not b) → IsTrue b → ⊥
+not_both true n h = cc
+not_both false n h = cc
+
+pub not_false : (b : Bool) → b ≡ false → IsTrue b → ⊥
+not_false true n h = cc
+not_false false n h = cc

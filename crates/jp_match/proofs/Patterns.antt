@@ -1,0 +1,3 @@
+-- What patterns are made of: for every function that goes down a pattern.
+pub mod Items
+pub mod Variants

@@ -1,0 +1,9 @@
+-- Sets of places in a text: for the plain matcher.
+pub mod Cuts
+pub mod Growing
+pub mod Reaching
+pub mod Repeats
+pub mod Rowwise
+pub mod Shift
+pub mod Spans
+pub mod WholeAndPart

@@ -1,0 +1,3 @@
+-- A scan over a text: for the scan and the matcher of positions.
+pub mod Prefixes
+pub mod Scanning
