@@ -11,7 +11,7 @@ ghost use Rattle.jp_query.specs.Private.Rules.{is_logical};
 ghost use Rattle.jp_query.specs.Private.Parts.{begins_part, logical_at};
 ghost use Rattle.jp_query.specs.Private.Reading.{call_inside, read_inside};
 
-use crate::expressions::{comparison, conjunction_from, expression_from, negation, parenthesis};
+use crate::expressions::{Connective, comparison, joined_from, negation, parenthesis};
 use crate::lists::append;
 use crate::names::function_characters;
 use crate::operators::is_before_operator;
@@ -201,6 +201,7 @@ fn logical(reader: &mut Reader, levels: u32, first: Expr) -> Result<Argument, St
         reader.new
         (logical_at levels (expr_of first) reader.old) }
 {
-    let conjunction = conjunction_from(reader, levels, first)?;
-    Ok(Argument::Logical(expression_from(reader, levels, conjunction)?))
+    let conjunction = joined_from(reader, levels, Connective::And, first)?;
+    let expression = joined_from(reader, levels, Connective::Or, conjunction)?;
+    Ok(Argument::Logical(expression))
 }

@@ -21,10 +21,10 @@ use Rattle.jp_query.specs.Characters.{ampersand, bar, comma, closing_bracket, op
 use Rattle.jp_query.specs.Names.{is_function_char}
 use Rattle.jp_query.specs.Grammar.{joined}
 use Rattle.jp_query.specs.Private.Rules.{QueryRule, entries, segment, segments, begins_segment, selector, entry, basic, conjunction, other_parts, run, call_with, after_parenthesis, argument, argument_start, argument_on, next_argument, some_arguments, is_logical, query_within, word, word_from, word_of}
-use Rattle.jp_query.specs.Private.Parts.{logical_at}
+use Rattle.jp_query.specs.Private.Parts.{logical_at, mark_of, part_of, several}
 use Rattle.jp_query.specs.Private.Reading.{inside, call_inside, read_flat, read_inside}
 use Rattle.jp_query.proofs.Levels.{inside-progress, inside-entered}
-use Rattle.jp_query.proofs.Readers.Trees.{tree_any_of, tree_all_of, tree_segment, tree_call, tree_argument_query, tree_argument_call, tree_logical, tree_operand_call, tree_operand_literal, tree_subject_query, tree_subject_call, tree_test}
+use Rattle.jp_query.proofs.Readers.Trees.{tree_segment, tree_call, tree_argument_query, tree_argument_call, tree_logical, tree_operand_call, tree_operand_literal, tree_subject_query, tree_subject_call, tree_test}
 use Rattle.jp_query.proofs.Readers.ArgumentParts as parts
 use Rattle.jp_query.proofs.Readers.Openings as openings
 use Rattle.jp_query.proofs.Readers.Rounds as rounds
@@ -137,160 +137,83 @@ selectors::entries-returns t c =
 
 -- ---- parts of expressions
 
-pub expressions::conjunction_from-returns-then-not-is_before :
-    goal.expressions::conjunction_from-returns-then-not-is_before
-expressions::conjunction_from-returns-then-not-is_before t c =
-    ap (by (λ es. joined all_of (expr_of c.args.first ∷ es)))
-    (rounds.parts-none (inside c.args.levels) ampersand basic c.args.reader.now
-    (sym c.is_before.ensures ∙ c.if-not-is_before.true))
+pub expressions::joined_from-returns-then-not-is_before_joint :
+    goal.expressions::joined_from-returns-then-not-is_before_joint
+expressions::joined_from-returns-then-not-is_before_joint t c =
+    ap (by (λ es. joined (several c.args.connective) (expr_of c.args.first ∷ es)))
+    (rounds.parts-none (inside c.args.levels) (mark_of c.args.connective) (part_of c.args.connective) c.args.reader.now
+    (sym c.is_before_joint.ensures ∙ c.if-not-is_before_joint.true))
 
-pub expressions::conjunction_from-parts-init : goal.expressions::conjunction_from-parts-init
-expressions::conjunction_from-parts-init t c =
+pub expressions::joined_from-parts-init : goal.expressions::joined_from-parts-init
+expressions::joined_from-parts-init t c =
     let items : c.append.new.list.items ≡ c.args.first ∷ [] =
     c.in_ok-append.ensures ∙ ap (λ xs. xs ++ c.args.first ∷ []) c.new-parts.ensures.items in
-    let on : passes (is ampersand) (after_blank c.args.reader.now) ≡ true =
-    sym c.is_before.ensures ∙ c.if-not-is_before.false in
+    let on : passes (is (mark_of c.args.connective)) (after_blank c.args.reader.now) ≡ true =
+    sym c.is_before_joint.ensures ∙ c.if-not-is_before_joint.false in
     record {
       total = rw (ap (map expr_of) items) refl;
       some = rw items (omega arith);
       several = λ off. absurd (true≢false (sym on ∙ off));
     }
 
-pub expressions::conjunction_from-returns-in_err-joint :
-    goal.expressions::conjunction_from-returns-in_err-joint
-expressions::conjunction_from-returns-in_err-joint t c =
+pub expressions::joined_from-returns-in_err-joint :
+    goal.expressions::joined_from-returns-in_err-joint
+expressions::joined_from-returns-in_err-joint t c =
     let p = err_from_is_err_and c.from_residual-in_err-joint.result
     c.from_residual-in_err-joint.ensures.1 in
     let e = c.in_err-joint.field-0.0 in
     rw (p.1, p.2)
-    (rounds.parts-fail c.args.levels ampersand basic (expr_of c.args.first) c.args.reader.now all_of
+    (rounds.parts-fail c.args.levels c.args.connective (expr_of c.args.first) c.args.reader.now
     e (map expr_of c.parts.parts.items) c.parts.reader c.parts.invariant.total
-    (sym c.is_before-in-parts.ensures ∙ c.parts-test.true)
-    (rounds.mark-fails (inside c.args.levels) ampersand basic c.parts.reader e
+    (sym c.is_before_joint-in-parts.ensures ∙ c.parts-test.true)
+    (rounds.mark-fails (inside c.args.levels) (mark_of c.args.connective) (part_of c.args.connective) c.parts.reader e
     c.in_err-joint.ensures))
 
-pub expressions::conjunction_from-returns-in_err-next :
-    goal.expressions::conjunction_from-returns-in_err-next
-expressions::conjunction_from-returns-in_err-next t c =
+pub expressions::joined_from-returns-in_err-next :
+    goal.expressions::joined_from-returns-in_err-next
+expressions::joined_from-returns-in_err-next t c =
     let p = err_from_is_err_and c.from_residual-in_err-next.result
     c.from_residual-in_err-next.ensures.1 in
     let e = c.in_err-next.field-0.0 in
     rw (p.1, p.2)
-    (rounds.parts-fail c.args.levels ampersand basic (expr_of c.args.first) c.args.reader.now all_of
+    (rounds.parts-fail c.args.levels c.args.connective (expr_of c.args.first) c.args.reader.now
     e (map expr_of c.parts.parts.items) c.parts.reader c.parts.invariant.total
-    (sym c.is_before-in-parts.ensures ∙ c.parts-test.true)
-    (rounds.part-fails (inside c.args.levels) ampersand basic c.parts.reader c.joint.new.reader
-    ampersand e c.in_ok-joint.ensures c.in_err-next.ensures))
+    (sym c.is_before_joint-in-parts.ensures ∙ c.parts-test.true)
+    (rounds.part-fails (inside c.args.levels) (mark_of c.args.connective) (part_of c.args.connective) c.parts.reader c.joint.new.reader
+    (mark_of c.args.connective) e c.in_ok-joint.ensures c.in_err-next.ensures))
 
-pub expressions::conjunction_from-parts-smaller : goal.expressions::conjunction_from-parts-smaller
-expressions::conjunction_from-parts-smaller t c =
-    rounds.parts-smaller c.args.levels ampersand basic (expr_of c.args.first) c.args.reader.now
-    c.parts.reader c.joint.new.reader c.basic.new.reader (expr_of c.in_ok-next.next)
+pub expressions::joined_from-parts-smaller : goal.expressions::joined_from-parts-smaller
+expressions::joined_from-parts-smaller t c =
+    rounds.parts-smaller c.args.levels c.args.connective (expr_of c.args.first) c.args.reader.now
+    c.parts.reader c.joint.new.reader c.part.new.reader (expr_of c.in_ok-next.next)
     c.in_ok-joint.ensures c.in_ok-next.ensures
 
-pub expressions::conjunction_from-parts-preserved :
-    goal.expressions::conjunction_from-parts-preserved
-expressions::conjunction_from-parts-preserved t c =
+pub expressions::joined_from-parts-preserved :
+    goal.expressions::joined_from-parts-preserved
+expressions::joined_from-parts-preserved t c =
     let some = c.parts.invariant.some in
     let two : 2 ≤ length c.append-in-parts.new.list.items = rw c.in_ok-append-2.ensures
     (omega (arith, length-append c.parts.parts.items (c.in_ok-next.next ∷ []))) in
     record {
       total = rw (rounds.map-pushed expr_of c.parts.parts.items c.in_ok-next.next
           c.in_ok-append-2.ensures)
-          (rounds.parts-on c.args.levels ampersand basic (expr_of c.args.first) c.args.reader.now
-          (map expr_of c.parts.parts.items) c.parts.reader c.joint.new.reader c.basic.new.reader
+          (rounds.parts-on c.args.levels c.args.connective (expr_of c.args.first) c.args.reader.now
+          (map expr_of c.parts.parts.items) c.parts.reader c.joint.new.reader c.part.new.reader
           (expr_of c.in_ok-next.next) c.parts.invariant.total
-          (sym c.is_before-in-parts.ensures ∙ c.parts-test.true)
+          (sym c.is_before_joint-in-parts.ensures ∙ c.parts-test.true)
           c.in_ok-joint.ensures c.in_ok-next.ensures);
       some = omega arith;
       several = λ off. two;
     }
 
-pub expressions::conjunction_from-returns : goal.expressions::conjunction_from-returns
-expressions::conjunction_from-returns t c =
-    let off : passes (is ampersand) (after_blank c.parts.reader) ≡ false =
-    sym c.is_before-in-parts.ensures ∙ c.parts-test.false in
+pub expressions::joined_from-returns : goal.expressions::joined_from-returns
+expressions::joined_from-returns t c =
+    let off : passes (is (mark_of c.args.connective)) (after_blank c.parts.reader) ≡ false =
+    sym c.is_before_joint-in-parts.ensures ∙ c.parts-test.false in
     let two = c.parts.invariant.several off in
-    rounds.parts-end c.args.levels ampersand basic (expr_of c.args.first) c.args.reader.now all_of
+    rounds.parts-end c.args.levels c.args.connective (expr_of c.args.first) c.args.reader.now
     (map expr_of c.parts.parts.items) c.parts.reader c.parts.invariant.total off (rw length-map two)
-    ∙ ap (λ e. took e c.parts.reader) (sym (tree_all_of c.parts.parts))
-
-pub expressions::expression_from-returns-then-not-is_before :
-    goal.expressions::expression_from-returns-then-not-is_before
-expressions::expression_from-returns-then-not-is_before t c =
-    ap (by (λ es. joined any_of (expr_of c.args.first ∷ es)))
-    (rounds.parts-none (inside c.args.levels) bar conjunction c.args.reader.now
-    (sym c.is_before.ensures ∙ c.if-not-is_before.true))
-
-pub expressions::expression_from-parts-init : goal.expressions::expression_from-parts-init
-expressions::expression_from-parts-init t c =
-    let items : c.append.new.list.items ≡ c.args.first ∷ [] =
-    c.in_ok-append.ensures ∙ ap (λ xs. xs ++ c.args.first ∷ []) c.new-parts.ensures.items in
-    let on : passes (is bar) (after_blank c.args.reader.now) ≡ true =
-    sym c.is_before.ensures ∙ c.if-not-is_before.false in
-    record {
-      total = rw (ap (map expr_of) items) refl;
-      some = rw items (omega arith);
-      several = λ off. absurd (true≢false (sym on ∙ off));
-    }
-
-pub expressions::expression_from-returns-in_err-joint :
-    goal.expressions::expression_from-returns-in_err-joint
-expressions::expression_from-returns-in_err-joint t c =
-    let p = err_from_is_err_and c.from_residual-in_err-joint.result
-    c.from_residual-in_err-joint.ensures.1 in
-    let e = c.in_err-joint.field-0.0 in
-    rw (p.1, p.2)
-    (rounds.parts-fail c.args.levels bar conjunction (expr_of c.args.first) c.args.reader.now any_of
-    e (map expr_of c.parts.parts.items) c.parts.reader c.parts.invariant.total
-    (sym c.is_before-in-parts.ensures ∙ c.parts-test.true)
-    (rounds.mark-fails (inside c.args.levels) bar conjunction c.parts.reader e
-    c.in_err-joint.ensures))
-
-pub expressions::expression_from-returns-in_err-next :
-    goal.expressions::expression_from-returns-in_err-next
-expressions::expression_from-returns-in_err-next t c =
-    let p = err_from_is_err_and c.from_residual-in_err-next.result
-    c.from_residual-in_err-next.ensures.1 in
-    let e = c.in_err-next.field-0.0 in
-    rw (p.1, p.2)
-    (rounds.parts-fail c.args.levels bar conjunction (expr_of c.args.first) c.args.reader.now any_of
-    e (map expr_of c.parts.parts.items) c.parts.reader c.parts.invariant.total
-    (sym c.is_before-in-parts.ensures ∙ c.parts-test.true)
-    (rounds.part-fails (inside c.args.levels) bar conjunction c.parts.reader c.joint.new.reader bar
-    e c.in_ok-joint.ensures c.in_err-next.ensures))
-
-pub expressions::expression_from-parts-smaller : goal.expressions::expression_from-parts-smaller
-expressions::expression_from-parts-smaller t c =
-    rounds.parts-smaller c.args.levels bar conjunction (expr_of c.args.first) c.args.reader.now
-    c.parts.reader c.joint.new.reader c.conjunction.new.reader (expr_of c.in_ok-next.next)
-    c.in_ok-joint.ensures c.in_ok-next.ensures
-
-pub expressions::expression_from-parts-preserved : goal.expressions::expression_from-parts-preserved
-expressions::expression_from-parts-preserved t c =
-    let some = c.parts.invariant.some in
-    let two : 2 ≤ length c.append-in-parts.new.list.items = rw c.in_ok-append-2.ensures
-    (omega (arith, length-append c.parts.parts.items (c.in_ok-next.next ∷ []))) in
-    record {
-      total = rw (rounds.map-pushed expr_of c.parts.parts.items c.in_ok-next.next
-          c.in_ok-append-2.ensures)
-          (rounds.parts-on c.args.levels bar conjunction (expr_of c.args.first) c.args.reader.now
-          (map expr_of c.parts.parts.items) c.parts.reader c.joint.new.reader
-          c.conjunction.new.reader (expr_of c.in_ok-next.next) c.parts.invariant.total
-          (sym c.is_before-in-parts.ensures ∙ c.parts-test.true)
-          c.in_ok-joint.ensures c.in_ok-next.ensures);
-      some = omega arith;
-      several = λ off. two;
-    }
-
-pub expressions::expression_from-returns : goal.expressions::expression_from-returns
-expressions::expression_from-returns t c =
-    let off : passes (is bar) (after_blank c.parts.reader) ≡ false =
-    sym c.is_before-in-parts.ensures ∙ c.parts-test.false in
-    let two = c.parts.invariant.several off in
-    rounds.parts-end c.args.levels bar conjunction (expr_of c.args.first) c.args.reader.now any_of
-    (map expr_of c.parts.parts.items) c.parts.reader c.parts.invariant.total off (rw length-map two)
-    ∙ ap (λ e. took e c.parts.reader) (sym (tree_any_of c.parts.parts))
+    ∙ ap (λ e. took e c.parts.reader) (sym c.join.ensures)
 
 -- ---- levels and brackets
 
@@ -551,21 +474,21 @@ calls::logical-returns-in_err-conjunction t c =
     (read_inside c.args.levels (other_parts ampersand basic) c.args.reader.now)) _
     c.in_err-conjunction.ensures)
 
-pub calls::logical-returns-in_err-expression_from :
-    goal.calls::logical-returns-in_err-expression_from
-calls::logical-returns-in_err-expression_from t c =
-    let p = err_from_is_err_and c.from_residual-in_err-expression_from.result
-    c.from_residual-in_err-expression_from.ensures.1 in
-    rw (p.1, p.2, c.in_ok-conjunction.ensures) (fails-then c.in_err-expression_from.field-0.0
+pub calls::logical-returns-in_err-expression :
+    goal.calls::logical-returns-in_err-expression
+calls::logical-returns-in_err-expression t c =
+    let p = err_from_is_err_and c.from_residual-in_err-expression.result
+    c.from_residual-in_err-expression.ensures.1 in
+    rw (p.1, p.2, c.in_ok-conjunction.ensures) (fails-then c.in_err-expression.field-0.0
     (by (λ es. joined any_of (expr_of c.in_ok-conjunction.conjunction ∷ es))
-    (read_inside c.args.levels (other_parts bar conjunction) c.conjunction_from.new.reader))
-    (λ e q. took (logical_argument e) q) c.in_err-expression_from.ensures)
+    (read_inside c.args.levels (other_parts bar conjunction) c.joined_from.new.reader))
+    (λ e q. took (logical_argument e) q) c.in_err-expression.ensures)
 
 pub calls::logical-returns : goal.calls::logical-returns
 calls::logical-returns t c =
-    rw (c.in_ok-conjunction.ensures, c.in_ok-expression_from.ensures)
-    (ap (λ x. took x c.expression_from.new.reader)
-    (sym (tree_logical c.in_ok-expression_from.field-0)))
+    rw (c.in_ok-conjunction.ensures, c.in_ok-expression.ensures)
+    (ap (λ x. took x c.joined_from-2.new.reader)
+    (sym (tree_logical c.in_ok-expression.expression)))
 
 -- ---- tests and sides
 

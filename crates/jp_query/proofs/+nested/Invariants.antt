@@ -1,12 +1,15 @@
-use Rattle.std.proofs.Common.{◌≡◌, ◌+◌, ◌*◌, ◌≤◌, ◌∷◌, false, drop, length, map}
+use Rattle.std.proofs.Common.{◌≡◌, ℕ, ◌+◌, ◌*◌, ◌≤◌, ◌∷◌, false, drop, length, map}
 use Rattle.std.specs.Str.{chars}
 use Rattle.std.specs.String.{string_bytes}
 use Rattle.jp_reading.specs.Outcome.{after_blank, passes, is}
 use Rattle.jp_reading.specs.Views.{by, with_front}
 use Rattle.jp_query.specs.Tree.{argument_of, expr_of, literal_of, selector_of, segment_of}
 use Rattle.jp_reading.specs.Rule.{beyond, some}
-use Rattle.jp_query.specs.Characters.{ampersand, bar, comma}
-use Rattle.jp_query.specs.Private.Rules.{segments, entries, other_parts, basic, conjunction, next_argument, word_from, word_of}
+use Rattle.jp_query.specs.Characters.{comma}
+use Rattle.jp_query.specs.declared.expressions.Connective.{Connective}
+use Rattle.jp_query.specs.declared.expressions.Connective.TheVariants.{Or, And}
+use Rattle.jp_query.specs.Private.Parts.{mark_of, part_of}
+use Rattle.jp_query.specs.Private.Rules.{segments, entries, other_parts, next_argument, word_from, word_of}
 use Rattle.jp_query.specs.Private.Reading.{read_inside}
 use Rattle.jp_query.proofs.Readers.Rounds.{other_entries, listed}
 use Rattle.jp_query.proofs.+nested.Given as goal
@@ -71,23 +74,28 @@ decreases-expressions::negation l = l.levels * 32 + 18
 abbrev pub decreases-expressions::basic : goal.decreases-expressions::basic
 decreases-expressions::basic l = l.levels * 32 + 19
 
-abbrev pub decreases-expressions::conjunction_from : goal.decreases-expressions::conjunction_from
-decreases-expressions::conjunction_from l = l.levels * 32 + 20
+-- how much a connective's parts nest at one level
+abbrev rank : Connective → ℕ
+rank Or = 23
+rank And = 20
+
+abbrev pub decreases-expressions::part : goal.decreases-expressions::part
+decreases-expressions::part l = l.levels * 32 + rank l.connective
+
+abbrev pub decreases-expressions::joined_from : goal.decreases-expressions::joined_from
+decreases-expressions::joined_from l = l.levels * 32 + (rank l.connective + 1)
 
 abbrev pub decreases-expressions::conjunction : goal.decreases-expressions::conjunction
-decreases-expressions::conjunction l = l.levels * 32 + 21
-
-abbrev pub decreases-expressions::expression_from : goal.decreases-expressions::expression_from
-decreases-expressions::expression_from l = l.levels * 32 + 22
+decreases-expressions::conjunction l = l.levels * 32 + 22
 
 abbrev pub decreases-expressions::expression : goal.decreases-expressions::expression
-decreases-expressions::expression l = l.levels * 32 + 23
+decreases-expressions::expression l = l.levels * 32 + 25
 
 abbrev pub decreases-calls::compared_or_alone : goal.decreases-calls::compared_or_alone
 decreases-calls::compared_or_alone l = l.levels * 32 + 24
 
 abbrev pub decreases-calls::logical : goal.decreases-calls::logical
-decreases-calls::logical l = l.levels * 32 + 24
+decreases-calls::logical l = l.levels * 32 + 25
 
 abbrev pub decreases-calls::argument_start : goal.decreases-calls::argument_start
 decreases-calls::argument_start l = l.levels * 32 + 25
@@ -123,35 +131,19 @@ invariant-selectors::entries-entries l =
 abbrev pub decreases-selectors::entries-entries : goal.decreases-selectors::entries-entries
 decreases-selectors::entries-entries l = length l.reader.rest
 
-abbrev pub invariant-expressions::conjunction_from-parts :
-    goal.invariant-expressions::conjunction_from-parts
-invariant-expressions::conjunction_from-parts l = record {
+abbrev pub invariant-expressions::joined_from-parts : goal.invariant-expressions::joined_from-parts
+invariant-expressions::joined_from-parts l = record {
   total : with_front (map expr_of l.parts.items)
-      (read_inside l.levels (other_parts ampersand basic) l.reader)
+      (read_inside l.levels (other_parts (mark_of l.connective) (part_of l.connective)) l.reader)
       ≡ by (λ es. expr_of l.fn.first ∷ es)
-      (read_inside l.levels (other_parts ampersand basic) l.fn.reader);
+      (read_inside l.levels (other_parts (mark_of l.connective) (part_of l.connective)) l.fn.reader);
   some : 1 ≤ length l.parts.items;
-  several : passes (is ampersand) (after_blank l.reader) ≡ false → 2 ≤ length l.parts.items;
+  several : passes (is (mark_of l.connective)) (after_blank l.reader) ≡ false
+      → 2 ≤ length l.parts.items;
 }
 
-abbrev pub decreases-expressions::conjunction_from-parts :
-    goal.decreases-expressions::conjunction_from-parts
-decreases-expressions::conjunction_from-parts l = length l.reader.rest
-
-abbrev pub invariant-expressions::expression_from-parts :
-    goal.invariant-expressions::expression_from-parts
-invariant-expressions::expression_from-parts l = record {
-  total : with_front (map expr_of l.parts.items)
-      (read_inside l.levels (other_parts bar conjunction) l.reader)
-      ≡ by (λ es. expr_of l.fn.first ∷ es)
-      (read_inside l.levels (other_parts bar conjunction) l.fn.reader);
-  some : 1 ≤ length l.parts.items;
-  several : passes (is bar) (after_blank l.reader) ≡ false → 2 ≤ length l.parts.items;
-}
-
-abbrev pub decreases-expressions::expression_from-parts :
-    goal.decreases-expressions::expression_from-parts
-decreases-expressions::expression_from-parts l = length l.reader.rest
+abbrev pub decreases-expressions::joined_from-parts : goal.decreases-expressions::joined_from-parts
+decreases-expressions::joined_from-parts l = length l.reader.rest
 
 abbrev pub invariant-calls::some_arguments-arguments :
     goal.invariant-calls::some_arguments-arguments

@@ -14,6 +14,8 @@ use Rattle.jp_query.specs.Tree.{SelectorTree, segment, selectors, ExprTree, Expr
 use Rattle.jp_query.specs.Characters.{comma, opening_bracket, closing_bracket}
 use Rattle.jp_query.specs.Grammar.{joined}
 use Rattle.jp_query.specs.Private.Rules.{nesting, QueryRule, selector, entry, entries, bracket, joint, part, other_parts, argument, next_argument}
+use Rattle.jp_query.specs.declared.expressions.Connective.{Connective}
+use Rattle.jp_query.specs.Private.Parts.{mark_of, part_of, several}
 use Rattle.jp_query.specs.Private.Reading.{inside, read_flat, read_inside}
 use Rattle.jp_query.proofs.Levels.{inside-progress}
 
@@ -133,47 +135,50 @@ map-first f {x} e none = ap (map f) (e ∙ ap (λ zs. zs ++ x ∷ []) none)
 
 -- ---- several parts with a mark twice between them, once the first is read
 
-module _ (n c : ℕ) (r : QueryRule true here beyond ExprTree) (first : ExprTree) (from : State) where
+module _ (n : ℕ) (j : Connective) (first : ExprTree) (from : State) where
+  abbrev others : QueryRule false beyond beyond (List ExprTree)
+  others = other_parts (mark_of j) (part_of j)
+
   -- the loop goes on from p with these parts
   abbrev pub StillMakes : List ExprTree → State → Type 0
   StillMakes xs p =
-      with_front xs (read_inside n (other_parts c r) p)
-      ≡ by (λ es. first ∷ es) (read_inside n (other_parts c r) from)
+      with_front xs (read_inside n others p)
+      ≡ by (λ es. first ∷ es) (read_inside n others from)
 
   -- a part that fails
-  pub parts-fail : (several : ExprTrees → ExprTree) (e : Stop) (xs : List ExprTree) (p : State)
+  pub parts-fail : (e : Stop) (xs : List ExprTree) (p : State)
       → StillMakes xs p
-      → passes (is c) (after_blank p) ≡ true → Fails e (read_inside n (part c r) p)
-      → Fails e (by (λ es. joined several (first ∷ es)) (read_inside n (other_parts c r) from))
-  parts-fail several e xs p total on failed =
-      let o = by (λ es. first ∷ es) (read_inside n (other_parts c r) from) in
+      → passes (is (mark_of j)) (after_blank p) ≡ true → Fails e (read_inside n (part (mark_of j) (part_of j)) p)
+      → Fails e (by (λ es. joined (several j) (first ∷ es)) (read_inside n others from))
+  parts-fail e xs p total on failed =
+      let o = by (λ es. first ∷ es) (read_inside n others from) in
       let made : Fails e o = rw (← total)
-      (loops.some_fail (inside n) (inside-progress n) beyond (is c) (part c r) p xs e on failed) in
-      rw (← by-twice (joined several) (λ es. first ∷ es) (read_inside n (other_parts c r) from))
+      (loops.some_fail (inside n) (inside-progress n) beyond (is (mark_of j)) (part (mark_of j) (part_of j)) p xs e on failed) in
+      rw (← by-twice (joined (several j)) (λ es. first ∷ es) (read_inside n others from))
       (fails-then e o _ made)
 
   -- another part
   pub parts-on : (xs : List ExprTree) (p q w : State) (x : ExprTree) → StillMakes xs p
-      → passes (is c) (after_blank p) ≡ true → read_flat (joint c) p ≡ took c q
-      → read_inside n r q ≡ took x w → StillMakes (xs ++ x ∷ []) w
+      → passes (is (mark_of j)) (after_blank p) ≡ true → read_flat (joint (mark_of j)) p ≡ took (mark_of j) q
+      → read_inside n (part_of j) q ≡ took x w → StillMakes (xs ++ x ∷ []) w
   parts-on xs p q w x total on mark one =
-      sym (loops.some_on (inside n) (inside-progress n) beyond (is c) (part c r) p w xs x on
-      (part-took (inside n) c r p q w c x mark one)) ∙ total
+      sym (loops.some_on (inside n) (inside-progress n) beyond (is (mark_of j)) (part (mark_of j) (part_of j)) p w xs x on
+      (part-took (inside n) (mark_of j) (part_of j) p q w (mark_of j) x mark one)) ∙ total
 
-  pub parts-smaller : (p q w : State) (x : ExprTree) → read_flat (joint c) p ≡ took c q
-      → read_inside n r q ≡ took x w → length w.rest < length p.rest
+  pub parts-smaller : (p q w : State) (x : ExprTree) → read_flat (joint (mark_of j)) p ≡ took (mark_of j) q
+      → read_inside n (part_of j) q ≡ took x w → length w.rest < length p.rest
   parts-smaller p q w x mark one =
-      loops.some-smaller (inside n) (inside-progress n) beyond (is c) (part c r) p w x
-      (part-took (inside n) c r p q w c x mark one)
+      loops.some-smaller (inside n) (inside-progress n) beyond (is (mark_of j)) (part (mark_of j) (part_of j)) p w x
+      (part-took (inside n) (mark_of j) (part_of j) p q w (mark_of j) x mark one)
 
   -- no part more
-  pub parts-end : (several : ExprTrees → ExprTree) (xs : List ExprTree) (p : State)
+  pub parts-end : (xs : List ExprTree) (p : State)
       → StillMakes xs p
-      → passes (is c) (after_blank p) ≡ false → 2 ≤ length xs
-      → by (λ es. joined several (first ∷ es)) (read_inside n (other_parts c r) from)
-      ≡ took (several (exprs xs)) p
-  parts-end several xs p total off many =
-      sym (by-twice (joined several) (λ es. first ∷ es) (read_inside n (other_parts c r) from))
-      ∙ ap (by (joined several))
-      (sym total ∙ loops.some_end (inside n) (inside-progress n) beyond (is c) (part c r) p xs off)
-      ∙ ap (λ e. took e p) (joined-several several xs many)
+      → passes (is (mark_of j)) (after_blank p) ≡ false → 2 ≤ length xs
+      → by (λ es. joined (several j) (first ∷ es)) (read_inside n others from)
+      ≡ took (several j (exprs xs)) p
+  parts-end xs p total off many =
+      sym (by-twice (joined (several j)) (λ es. first ∷ es) (read_inside n others from))
+      ∙ ap (by (joined (several j)))
+      (sym total ∙ loops.some_end (inside n) (inside-progress n) beyond (is (mark_of j)) (part (mark_of j) (part_of j)) p xs off)
+      ∙ ap (λ e. took e p) (joined-several (several j) xs many)
