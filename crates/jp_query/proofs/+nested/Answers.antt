@@ -4,7 +4,6 @@ use Rattle.std.specs.Str.{chars}
 use Rattle.std.specs.String.{string_bytes}
 use Rattle.std.proofs.lemmas.Str.{chars-nil, IsUtf8-string_bytes}
 use Rattle.std.proofs.lemmas.List.{length-map, length-append, drop_more, drop_all}
-use Rattle.std.proofs.lemmas.Result.{err_from_is_err_and}
 use Rattle.jp_reading.specs.Texts.{Text}
 use Rattle.jp_reading.specs.Outcome.{Outcome, took, ◌>>=◌, past, skip, expect, passes, is, after_blank, item_since}
 use Rattle.jp_reading.specs.Views.{Fails, Gives, by}
@@ -25,6 +24,7 @@ use Rattle.jp_query.specs.Private.Parts.{logical_at, mark_of, part_of, several}
 use Rattle.jp_query.specs.Private.Reading.{inside, call_inside, read_flat, read_inside}
 use Rattle.jp_query.proofs.Levels.{inside-progress, inside-entered}
 use Rattle.jp_query.proofs.Readers.Trees.{tree_segment, tree_call, tree_argument_query, tree_argument_call, tree_logical, tree_operand_call, tree_operand_literal, tree_subject_query, tree_subject_call, tree_test}
+use Rattle.jp_query.proofs.Readers.Exits.{err_is}
 use Rattle.jp_query.proofs.Readers.ArgumentParts as parts
 use Rattle.jp_query.proofs.Readers.Openings as openings
 use Rattle.jp_query.proofs.Readers.Rounds as rounds
@@ -38,11 +38,10 @@ next_segment = blanks {m = beyond} >> relaxed segment
 pub segments::segments-returns-in_err-next : goal.segments::segments-returns-in_err-next
 unfolding segments
 segments::segments-returns-in_err-next t c =
-    let p = err_from_is_err_and c.from_residual.result c.from_residual.ensures.1 in
     let failed : Fails c.in_err-next.field-0.0
     (read_inside c.args.levels segment (skip c.segments.reader)) =
     rw c.skip.ensures at c.in_err-next.ensures in
-    rw (p.1, p.2, ← c.segments.invariant) (loops.some_fail (inside c.args.levels)
+    rw (err_is c.from_residual.result c.from_residual.ensures.1, ← c.segments.invariant) (loops.some_fail (inside c.args.levels)
     (inside-progress c.args.levels) beyond begins_segment next_segment c.segments.reader
     (map segment_of c.segments.segments.items) c.in_err-next.field-0.0
     (sym c.is_before_segment.ensures ∙ c.segments-test.true) failed)
@@ -88,12 +87,10 @@ selectors::entries-entries-init t c =
 
 pub selectors::entries-returns-in_err-next : goal.selectors::entries-returns-in_err-next
 selectors::entries-returns-in_err-next t c =
-    let p = err_from_is_err_and c.from_residual-in_err-next.result
-    c.from_residual-in_err-next.ensures.1 in
     let failed : Fails c.in_err-next.field-0.0
     (read_inside c.args.levels selector (skip (past c.entries.reader))) =
     rw (c.skip-in-entries.ensures, c.bump.ensures.past) at c.in_err-next.ensures in
-    rw (p.1, p.2, ← c.entries.invariant)
+    rw (err_is c.from_residual-in_err-next.result c.from_residual-in_err-next.ensures.1, ← c.entries.invariant)
     (loops.some_fail (inside c.args.levels) (inside-progress c.args.levels) here
     (is comma) next_entry c.entries.reader
     (map selector_of c.entries.selectors.items) c.in_err-next.field-0.0
@@ -159,10 +156,8 @@ expressions::joined_from-parts-init t c =
 pub expressions::joined_from-returns-in_err-joint :
     goal.expressions::joined_from-returns-in_err-joint
 expressions::joined_from-returns-in_err-joint t c =
-    let p = err_from_is_err_and c.from_residual-in_err-joint.result
-    c.from_residual-in_err-joint.ensures.1 in
     let e = c.in_err-joint.field-0.0 in
-    rw (p.1, p.2)
+    rw (err_is c.from_residual-in_err-joint.result c.from_residual-in_err-joint.ensures.1)
     (rounds.parts-fail c.args.levels c.args.connective (expr_of c.args.first) c.args.reader.now
     e (map expr_of c.parts.parts.items) c.parts.reader c.parts.invariant.total
     (sym c.is_before_joint-in-parts.ensures ∙ c.parts-test.true)
@@ -172,10 +167,8 @@ expressions::joined_from-returns-in_err-joint t c =
 pub expressions::joined_from-returns-in_err-next :
     goal.expressions::joined_from-returns-in_err-next
 expressions::joined_from-returns-in_err-next t c =
-    let p = err_from_is_err_and c.from_residual-in_err-next.result
-    c.from_residual-in_err-next.ensures.1 in
     let e = c.in_err-next.field-0.0 in
-    rw (p.1, p.2)
+    rw (err_is c.from_residual-in_err-next.result c.from_residual-in_err-next.ensures.1)
     (rounds.parts-fail c.args.levels c.args.connective (expr_of c.args.first) c.args.reader.now
     e (map expr_of c.parts.parts.items) c.parts.reader c.parts.invariant.total
     (sym c.is_before_joint-in-parts.ensures ∙ c.parts-test.true)
@@ -225,14 +218,11 @@ expressions::inside-returns t c =
 
 pub segments::bracketed-returns-in_err-selectors : goal.segments::bracketed-returns-in_err-selectors
 segments::bracketed-returns-in_err-selectors t c =
-    let p = err_from_is_err_and c.from_residual-in_err-selectors.result
-    c.from_residual-in_err-selectors.ensures.1 in
     let failed : Fails c.in_err-selectors.field-0.0
     (read_inside c.args.levels entries (skip c.expect.new.self)) =
     rw c.skip.ensures at c.in_err-selectors.ensures in
     rw (
-      p.1,
-      p.2,
+      err_is c.from_residual-in_err-selectors.result c.from_residual-in_err-selectors.ensures.1,
       rounds.bracket-opened
           (inside c.args.levels) c.args.descendant c.args.reader.now c.expect.new.self
           c.in_ok-expect.ensures.taken,
@@ -241,14 +231,11 @@ segments::bracketed-returns-in_err-selectors t c =
 
 pub segments::bracketed-returns-in_err-expect-2 : goal.segments::bracketed-returns-in_err-expect-2
 segments::bracketed-returns-in_err-expect-2 t c =
-    let p = err_from_is_err_and c.from_residual-in_err-expect-2.result
-    c.from_residual-in_err-expect-2.ensures.1 in
     let read : read_inside c.args.levels entries (skip c.expect.new.self) ≡ took
     (map selector_of c.in_ok-selectors.selectors.items) c.entries.new.reader =
     ap (read_inside c.args.levels entries) (sym c.skip.ensures) ∙ c.in_ok-selectors.ensures in
     rw (
-      p.1,
-      p.2,
+      err_is c.from_residual-in_err-expect-2.result c.from_residual-in_err-expect-2.ensures.1,
       rounds.bracket-opened
           (inside c.args.levels) c.args.descendant c.args.reader.now c.expect.new.self
           c.in_ok-expect.ensures.taken,
@@ -274,31 +261,26 @@ segments::bracketed-returns t c =
 
 pub calls::call-returns-in_err-name : goal.calls::call-returns-in_err-name
 calls::call-returns-in_err-name t c =
-    let p = err_from_is_err_and c.from_residual.result c.from_residual.ensures.1 in
     let w = chars (string_bytes c.args.name) in
     let entered = openings.call-entered c.args.levels w c.args.reader.now
     (λ none. (let some = c.if-levels-eq0.false in omega arith)) in
-    rw (p.1, p.2, entered) (fails-then c.in_err-name.field-0.0
+    rw (err_is c.from_residual.result c.from_residual.ensures.1, entered) (fails-then c.in_err-name.field-0.0
     (by (λ u. w ++ u) (read_flat (run is_function_char) c.args.reader.now)) _ c.in_err-name.ensures)
 
 pub calls::call-returns-in_err-expect : goal.calls::call-returns-in_err-expect
 calls::call-returns-in_err-expect t c =
-    let p = err_from_is_err_and c.from_residual-in_err-expect.result
-    c.from_residual-in_err-expect.ensures.1 in
     let w = chars (string_bytes c.args.name) in
     let entered = openings.call-entered c.args.levels w c.args.reader.now
     (λ none. (let some = c.if-levels-eq0.false in omega arith)) in
-    rw (p.1, p.2, entered, c.in_ok-name.ensures) (fails-then c.in_err-expect.field-0.0
+    rw (err_is c.from_residual-in_err-expect.result c.from_residual-in_err-expect.ensures.1, entered, c.in_ok-name.ensures) (fails-then c.in_err-expect.field-0.0
     (expect opening_parenthesis c.function_characters.new.reader) _ c.in_err-expect.ensures.taken)
 
 pub calls::call-returns-in_err-arguments : goal.calls::call-returns-in_err-arguments
 calls::call-returns-in_err-arguments t c =
-    let p = err_from_is_err_and c.from_residual-in_err-arguments.result
-    c.from_residual-in_err-arguments.ensures.1 in
     let w = chars (string_bytes c.args.name) in
     let entered = openings.call-entered c.args.levels w c.args.reader.now
     (λ none. (let some = c.if-levels-eq0.false in omega arith)) in
-    rw (p.1, p.2, entered, c.in_ok-name.ensures, c.in_ok-expect.ensures.taken)
+    rw (err_is c.from_residual-in_err-arguments.result c.from_residual-in_err-arguments.ensures.1, entered, c.in_ok-name.ensures, c.in_ok-expect.ensures.taken)
     (fails-then c.in_err-arguments.field-0.0
     (read_inside (c.args.levels - 1) after_parenthesis c.expect.new.self) _
     c.in_err-arguments.ensures)
@@ -317,22 +299,19 @@ calls::call-returns t c =
 pub calls::some_arguments-returns-in_err-first : goal.calls::some_arguments-returns-in_err-first
 unfolding some_arguments
 calls::some_arguments-returns-in_err-first t c =
-    let p = err_from_is_err_and c.from_residual.result c.from_residual.ensures.1 in
-    rw (p.1, p.2)
+    rw (err_is c.from_residual.result c.from_residual.ensures.1)
     (fails-then c.in_err-first.field-0.0 (read_inside c.args.levels argument c.args.reader.now) _
     c.in_err-first.ensures)
 
 pub calls::some_arguments-returns-in_err-next : goal.calls::some_arguments-returns-in_err-next
 calls::some_arguments-returns-in_err-next t c =
-    let p = err_from_is_err_and c.from_residual-in_err-next.result
-    c.from_residual-in_err-next.ensures.1 in
     let e = c.in_err-next.field-0.0 in
     let failed : Fails e (read_inside c.args.levels rounds.listed c.args.reader.now) =
     rw (← c.arguments.invariant)
     (loops.some_fail (inside c.args.levels) (inside-progress c.args.levels) beyond
     (is comma) next_argument c.arguments.reader (map argument_of c.arguments.arguments.items) e
     (sym c.is_before.ensures ∙ c.arguments-test.true) c.in_err-next.ensures) in
-    rw (p.1, p.2, parts.arguments-closed (inside c.args.levels) c.args.reader.now)
+    rw (err_is c.from_residual-in_err-next.result c.from_residual-in_err-next.ensures.1, parts.arguments-closed (inside c.args.levels) c.args.reader.now)
     (fails-then e (read_inside c.args.levels rounds.listed c.args.reader.now) _ failed)
 
 pub calls::some_arguments-arguments-smaller : goal.calls::some_arguments-arguments-smaller
@@ -352,8 +331,6 @@ calls::some_arguments-arguments-preserved t c =
 
 pub calls::some_arguments-returns-in_err-expect : goal.calls::some_arguments-returns-in_err-expect
 calls::some_arguments-returns-in_err-expect t c =
-    let p = err_from_is_err_and c.from_residual-in_err-expect.result
-    c.from_residual-in_err-expect.ensures.1 in
     let e = c.in_err-expect.field-0.0 in
     let listed : read_inside c.args.levels rounds.listed c.args.reader.now ≡ took
     (map argument_of c.arguments.arguments.items) c.arguments.reader = sym c.arguments.invariant
@@ -362,7 +339,7 @@ calls::some_arguments-returns-in_err-expect t c =
     (sym c.is_before.ensures ∙ c.arguments-test.false) in
     let failed : Fails e (expect closing_parenthesis (skip c.arguments.reader)) =
     rw c.skip.ensures at c.in_err-expect.ensures.taken in
-    rw (p.1, p.2, parts.arguments-closed (inside c.args.levels) c.args.reader.now, listed)
+    rw (err_is c.from_residual-in_err-expect.result c.from_residual-in_err-expect.ensures.1, parts.arguments-closed (inside c.args.levels) c.args.reader.now, listed)
     (fails-then e (expect closing_parenthesis (skip c.arguments.reader)) _ failed)
 
 pub calls::some_arguments-returns : goal.calls::some_arguments-returns
@@ -386,18 +363,15 @@ calls::next_argument-returns t c =
 pub calls::argument-returns-in_err-first : goal.calls::argument-returns-in_err-first
 unfolding argument
 calls::argument-returns-in_err-first t c =
-    let p = err_from_is_err_and c.from_residual.result c.from_residual.ensures.1 in
     let e = c.in_err-first.field-0.0 in
     let o = read_inside c.args.levels argument_start c.args.reader.now in
-    rw (p.1, p.2) (fails-then e (o >>= λ x q. read_inside c.args.levels (argument_on x) q) _
+    rw (err_is c.from_residual.result c.from_residual.ensures.1) (fails-then e (o >>= λ x q. read_inside c.args.levels (argument_on x) q) _
     (fails-then e o (λ x q. read_inside c.args.levels (argument_on x) q) c.in_err-first.ensures))
 
 pub calls::argument-returns-in_err-argument : goal.calls::argument-returns-in_err-argument
 unfolding argument
 calls::argument-returns-in_err-argument t c =
-    let p = err_from_is_err_and c.from_residual-in_err-argument.result
-    c.from_residual-in_err-argument.ensures.1 in
-    rw (p.1, p.2, c.in_ok-first.ensures) (fails-then c.in_err-argument.field-0.0
+    rw (err_is c.from_residual-in_err-argument.result c.from_residual-in_err-argument.ensures.1, c.in_ok-first.ensures) (fails-then c.in_err-argument.field-0.0
     (read_inside c.args.levels (argument_on (argument_of c.in_ok-first.first))
     c.argument_start.new.reader) _ c.in_err-argument.ensures)
 
@@ -468,8 +442,7 @@ calls::argument_from-returns-in-Logical t c =
 
 pub calls::logical-returns-in_err-conjunction : goal.calls::logical-returns-in_err-conjunction
 calls::logical-returns-in_err-conjunction t c =
-    let p = err_from_is_err_and c.from_residual.result c.from_residual.ensures.1 in
-    rw (p.1, p.2) (fails-then c.in_err-conjunction.field-0.0
+    rw (err_is c.from_residual.result c.from_residual.ensures.1) (fails-then c.in_err-conjunction.field-0.0
     (by (λ es. joined all_of (expr_of c.args.first ∷ es))
     (read_inside c.args.levels (other_parts ampersand basic) c.args.reader.now)) _
     c.in_err-conjunction.ensures)
@@ -477,9 +450,7 @@ calls::logical-returns-in_err-conjunction t c =
 pub calls::logical-returns-in_err-expression :
     goal.calls::logical-returns-in_err-expression
 calls::logical-returns-in_err-expression t c =
-    let p = err_from_is_err_and c.from_residual-in_err-expression.result
-    c.from_residual-in_err-expression.ensures.1 in
-    rw (p.1, p.2, c.in_ok-conjunction.ensures) (fails-then c.in_err-expression.field-0.0
+    rw (err_is c.from_residual-in_err-expression.result c.from_residual-in_err-expression.ensures.1, c.in_ok-conjunction.ensures) (fails-then c.in_err-expression.field-0.0
     (by (λ es. joined any_of (expr_of c.in_ok-conjunction.conjunction ∷ es))
     (read_inside c.args.levels (other_parts bar conjunction) c.joined_from.new.reader))
     (λ e q. took (logical_argument e) q) c.in_err-expression.ensures)
@@ -494,14 +465,12 @@ calls::logical-returns t c =
 
 pub expressions::subject-returns-in_err-call : goal.expressions::subject-returns-in_err-call
 expressions::subject-returns-in_err-call t c =
-    let p = err_from_is_err_and c.from_residual.result c.from_residual.ensures.1 in
     let name : chars (string_bytes c.new-name.result) ≡ [] =
     ap chars c.new-name.ensures.bytes ∙ chars-nil in
     let called = by (call_with []) (call_inside c.args.levels c.args.reader.now) in
     let failed : Fails c.in_err-call.field-0.0 called = rw name at c.in_err-call.ensures in
     rw (
-      p.1,
-      p.2,
+      err_is c.from_residual.result c.from_residual.ensures.1,
       openings.subject-called c.args.levels c.args.reader.now
           (sym c.is_at_function.ensures ∙ c.if-is_at_function.true),
     ) (fails-then c.in_err-call.field-0.0 called _ failed)
@@ -520,11 +489,8 @@ expressions::subject-returns-then-is_at_function t c =
 pub expressions::subject-returns-in_err-query_within :
     goal.expressions::subject-returns-in_err-query_within
 expressions::subject-returns-in_err-query_within t c =
-    let p = err_from_is_err_and c.from_residual-in_err-query_within.result
-    c.from_residual-in_err-query_within.ensures.1 in
     rw (
-      p.1,
-      p.2,
+      err_is c.from_residual-in_err-query_within.result c.from_residual-in_err-query_within.ensures.1,
       openings.subject-query c.args.levels c.args.reader.now
           (sym c.is_at_function.ensures ∙ c.if-is_at_function.false),
     ) (fails-then c.in_err-query_within.field-0.0
@@ -590,14 +556,12 @@ sides::word-returns-then-not-is_at_function t c =
 
 pub sides::word-returns-in_err-call : goal.sides::word-returns-in_err-call
 sides::word-returns-in_err-call t c =
-    let p = err_from_is_err_and c.from_residual.result c.from_residual.ensures.1 in
     let name : chars (string_bytes c.new-name.result) ≡ [] =
     ap chars c.new-name.ensures.bytes ∙ chars-nil in
     let called = by (call_with []) (call_inside c.args.levels c.args.reader.now) in
     let failed : Fails c.in_err-call.field-0.0 called = rw name at c.in_err-call.ensures in
     rw (
-      p.1,
-      p.2,
+      err_is c.from_residual.result c.from_residual.ensures.1,
       openings.word-other c.args.levels c.args.reader.now
           (sym c.is_at_function.ensures ∙ c.if-not-is_at_function.false)
           (sym c.is_at.ensures ∙ c.if-is_at.false) (sym c.is_at-2.ensures ∙ c.if-is_at-2.false)
@@ -639,8 +603,6 @@ letters-left letters i x within is =
 
 pub sides::word_or_call-returns-in_err-call : goal.sides::word_or_call-returns-in_err-call
 sides::word_or_call-returns-in_err-call t c =
-    let p = err_from_is_err_and c.from_residual-in_err-call.result
-    c.from_residual-in_err-call.ensures.1 in
     let l = literal_of c.args.literal in
     let w = chars (string_bytes c.letters.name) in
     let i = c.letters.letter-index in
@@ -652,7 +614,7 @@ sides::word_or_call-returns-in_err-call t c =
     ∙ ap (λ ys. read_inside c.args.levels (word_from l w ys) c.letters.reader) next
     ∙ openings.word-called c.args.levels l w (c.letter-item.result ∷ drop (i + 1) c.args.others.now)
     c.letters.reader (sym c.is_before_name.ensures ∙ c.if-is_before_name.true) in
-    rw (p.1, p.2) (subst (λ (o : Outcome OperandTree). Fails c.in_err-call.field-0.0 o) (sym step)
+    rw (err_is c.from_residual-in_err-call.result c.from_residual-in_err-call.ensures.1) (subst (λ (o : Outcome OperandTree). Fails c.in_err-call.field-0.0 o) (sym step)
     (fails-then c.in_err-call.field-0.0 called (λ x q. took (call_value x) q)
     c.in_err-call.ensures))
 
@@ -673,8 +635,6 @@ sides::word_or_call-returns-then-is_before_name t c =
 
 pub sides::word_or_call-returns-in_err-expect-2 : goal.sides::word_or_call-returns-in_err-expect-2
 sides::word_or_call-returns-in_err-expect-2 t c =
-    let p = err_from_is_err_and c.from_residual-in_err-expect-2.result
-    c.from_residual-in_err-expect-2.ensures.1 in
     let l = literal_of c.args.literal in
     let w = chars (string_bytes c.letters.name) in
     let i = c.letters.letter-index in
@@ -685,7 +645,7 @@ sides::word_or_call-returns-in_err-expect-2 t c =
     (word_from l w (c.letter-item.result ∷ drop (i + 1) c.args.others.now)) c.letters.reader =
     sym c.letters.invariant.total
     ∙ ap (λ ys. read_inside c.args.levels (word_from l w ys) c.letters.reader) next in
-    rw (p.1, p.2)
+    rw (err_is c.from_residual-in_err-expect-2.result c.from_residual-in_err-expect-2.ensures.1)
     (subst (λ (o : Outcome OperandTree). Fails c.in_err-expect-2.field-0.0 o) (sym step)
     (openings.word-fails c.args.levels l w c.letter-item.result (drop (i + 1) c.args.others.now)
     c.letters.reader c.in_err-expect-2.field-0.0
@@ -715,8 +675,6 @@ sides::word_or_call-letters-preserved t c =
 
 pub sides::word_or_call-returns-in_err-call-2 : goal.sides::word_or_call-returns-in_err-call-2
 sides::word_or_call-returns-in_err-call-2 t c =
-    let p = err_from_is_err_and c.from_residual-in_err-call-2.result
-    c.from_residual-in_err-call-2.ensures.1 in
     let l = literal_of c.args.literal in
     let w = chars (string_bytes c.letters.name) in
     let last = drop_all c.letters.letter-index c.args.others.now
@@ -727,7 +685,7 @@ sides::word_or_call-returns-in_err-call-2 t c =
     ∙ ap (λ ys. read_inside c.args.levels (word_from l w ys) c.letters.reader) last
     ∙ openings.word-called c.args.levels l w [] c.letters.reader
     (sym c.is_before_name-2.ensures ∙ c.if-is_before_name-2.true) in
-    rw (p.1, p.2) (subst (λ (o : Outcome OperandTree). Fails c.in_err-call-2.field-0.0 o) (sym step)
+    rw (err_is c.from_residual-in_err-call-2.result c.from_residual-in_err-call-2.ensures.1) (subst (λ (o : Outcome OperandTree). Fails c.in_err-call-2.field-0.0 o) (sym step)
     (fails-then c.in_err-call-2.field-0.0 called (λ x q. took (call_value x) q)
     c.in_err-call-2.ensures))
 
