@@ -4,6 +4,5 @@ pub mod Exits
 pub mod HexKinds
 pub mod Openings
 pub mod Rounds
-pub mod Runs
 pub mod Trees
 pub mod WordsAndDigits

@@ -1,4 +1,5 @@
 pub mod HexDigits
+pub mod NameCharacters
 pub mod Parsed
 pub mod Parts
 pub mod Reading

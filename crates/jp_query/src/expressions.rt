@@ -205,8 +205,7 @@ fn subject(reader: &mut Reader, levels: u32) -> Result<Subject, Stop>
     ensures { Gives subject_of result reader.new (read_inside levels rules.subject reader.old) }
 {
     if is_at_function(reader) {
-        let name = String::new(reader.alloc());
-        return Ok(Subject::Call(call(reader, levels, name)?));
+        return Ok(Subject::Call(call(reader, levels)?));
     }
     Ok(Subject::Query(query_within(reader, levels)?))
 }

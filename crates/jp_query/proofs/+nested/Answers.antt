@@ -20,10 +20,10 @@ use Rattle.jp_query.specs.Characters.{ampersand, bar, comma, closing_bracket, op
 use Rattle.jp_query.specs.Names.{is_function_char}
 use Rattle.jp_query.specs.Grammar.{joined}
 use Rattle.jp_query.specs.Private.Rules.{QueryRule, entries, segment, segments, begins_segment, selector, entry, basic, conjunction, other_parts, run, call_with, after_parenthesis, argument, argument_start, argument_on, next_argument, some_arguments, is_logical, query_within, word, word_from, word_of}
-use Rattle.jp_query.specs.Private.Parts.{logical_at, mark_of, part_of, several}
+use Rattle.jp_query.specs.Private.Parts.{next_entry, logical_at, mark_of, part_of, several}
 use Rattle.jp_query.specs.Private.Reading.{inside, call_inside, read_flat, read_inside}
 use Rattle.jp_query.proofs.Levels.{inside-progress, inside-entered}
-use Rattle.jp_query.proofs.Readers.Trees.{tree_segment, tree_call, tree_argument_query, tree_argument_call, tree_logical, tree_operand_call, tree_operand_literal, tree_subject_query, tree_subject_call, tree_test}
+use Rattle.jp_query.proofs.Readers.Trees.{tree_segment, tree_call, tree_argument_query, tree_argument_call, tree_logical, tree_operand_literal, tree_subject_query, tree_subject_call, tree_test}
 use Rattle.jp_query.proofs.Readers.Exits.{err_is}
 use Rattle.jp_query.proofs.Readers.ArgumentParts as parts
 use Rattle.jp_query.proofs.Readers.Openings as openings
@@ -74,56 +74,37 @@ segments::segments-returns t c =
 
 -- ---- selectors in brackets
 
-abbrev next_entry : QueryRule true here here SelectorTree
-next_entry = the comma >> (blanks {m = here} >> entry)
-
 pub selectors::entries-entries-init : goal.selectors::entries-entries-init
+unfolding entries
 selectors::entries-entries-init t c =
     rw (
       rounds.map-first selector_of c.in_ok-append.ensures c.new-selectors.ensures.items,
-      c.skip.ensures,
-    ) (rounds.entries_first (inside c.args.levels) c.args.reader.now c.selector.new.reader
-    (selector_of c.in_ok-first.first) c.in_ok-first.ensures)
+      c.in_ok-first.ensures,
+    ) refl
 
 pub selectors::entries-returns-in_err-next : goal.selectors::entries-returns-in_err-next
 selectors::entries-returns-in_err-next t c =
-    let failed : Fails c.in_err-next.field-0.0
-    (read_inside c.args.levels selector (skip (past c.entries.reader))) =
-    rw (c.skip-in-entries.ensures, c.bump.ensures.past) at c.in_err-next.ensures in
-    rw (err_is c.from_residual-in_err-next.result c.from_residual-in_err-next.ensures.1, ← c.entries.invariant)
-    (loops.some_fail (inside c.args.levels) (inside-progress c.args.levels) here
-    (is comma) next_entry c.entries.reader
-    (map selector_of c.entries.selectors.items) c.in_err-next.field-0.0
-    (sym c.is_at.ensures ∙ c.entries-test.true)
-    (rounds.another-fails (inside c.args.levels) c.entries.reader c.in_err-next.field-0.0
-    (sym c.is_at.ensures ∙ c.entries-test.true) failed))
+    rw (
+      err_is c.from_residual-in_err-next.result c.from_residual-in_err-next.ensures.1,
+      ← c.entries.invariant,
+    )
+    (loops.some_fail (inside c.args.levels) (inside-progress c.args.levels) here (is comma)
+    next_entry c.entries.reader (map selector_of c.entries.selectors.items)
+    c.in_err-next.field-0.0 (sym c.is_at.ensures ∙ c.entries-test.true) c.in_err-next.ensures)
 
 pub selectors::entries-entries-smaller : goal.selectors::entries-entries-smaller
 selectors::entries-entries-smaller t c =
-    rw c.skip-in-entries-2.ensures
-    (loops.some-smaller (inside c.args.levels) (inside-progress c.args.levels) here
-    (is comma) next_entry c.entries.reader
-    (skip c.selector-in-entries.new.reader) (selector_of c.in_ok-next.next)
-    (rounds.another-took (inside c.args.levels) c.entries.reader c.selector-in-entries.new.reader
-    (selector_of c.in_ok-next.next) (sym c.is_at.ensures ∙ c.entries-test.true)
-    (ap (read_inside c.args.levels selector)
-    (ap skip (sym c.bump.ensures.past) ∙ sym c.skip-in-entries.ensures) ∙ c.in_ok-next.ensures)))
+    loops.some-smaller (inside c.args.levels) (inside-progress c.args.levels) here (is comma)
+    next_entry c.entries.reader c.next_entry.new.reader _ c.in_ok-next.ensures
 
 pub selectors::entries-entries-preserved : goal.selectors::entries-entries-preserved
 selectors::entries-entries-preserved t c =
-    rw (
-      rounds.map-pushed selector_of c.entries.selectors.items c.in_ok-next.next
-          c.in_ok-append-2.ensures,
-      c.skip-in-entries-2.ensures,
-    ) (sym (loops.some_on (inside c.args.levels) (inside-progress c.args.levels) here
-    (is comma) next_entry c.entries.reader
-    (skip c.selector-in-entries.new.reader) (map selector_of c.entries.selectors.items)
+    rw (rounds.map-pushed selector_of c.entries.selectors.items c.in_ok-next.next
+    c.in_ok-append-2.ensures)
+    (sym (loops.some_on (inside c.args.levels) (inside-progress c.args.levels) here (is comma)
+    next_entry c.entries.reader c.next_entry.new.reader (map selector_of c.entries.selectors.items)
     (selector_of c.in_ok-next.next) (sym c.is_at.ensures ∙ c.entries-test.true)
-    (rounds.another-took (inside c.args.levels) c.entries.reader c.selector-in-entries.new.reader
-    (selector_of c.in_ok-next.next) (sym c.is_at.ensures ∙ c.entries-test.true)
-    (ap (read_inside c.args.levels selector)
-    (ap skip (sym c.bump.ensures.past) ∙ sym c.skip-in-entries.ensures) ∙ c.in_ok-next.ensures)))
-    ∙ c.entries.invariant)
+    c.in_ok-next.ensures) ∙ c.entries.invariant)
 
 pub selectors::entries-returns : goal.selectors::entries-returns
 selectors::entries-returns t c =
@@ -131,6 +112,11 @@ selectors::entries-returns t c =
     ∙ loops.some_end (inside c.args.levels) (inside-progress c.args.levels) here
     (is comma) next_entry c.entries.reader
     (map selector_of c.entries.selectors.items) (sym c.is_at.ensures ∙ c.entries-test.false)
+
+pub selectors::next_entry-returns : goal.selectors::next_entry-returns
+unfolding entry
+selectors::next_entry-returns t c =
+    rw (c.in_ok-expect.ensures.taken, ← c.skip.ensures) c.entry.ensures
 
 -- ---- parts of expressions
 
@@ -259,40 +245,14 @@ segments::bracketed-returns t c =
 
 -- ---- function expressions
 
-pub calls::call-returns-in_err-name : goal.calls::call-returns-in_err-name
-calls::call-returns-in_err-name t c =
-    let w = chars (string_bytes c.args.name) in
-    let entered = openings.call-entered c.args.levels w c.args.reader.now
-    (λ none. (let some = c.if-levels-eq0.false in omega arith)) in
-    rw (err_is c.from_residual.result c.from_residual.ensures.1, entered) (fails-then c.in_err-name.field-0.0
-    (by (λ u. w ++ u) (read_flat (run is_function_char) c.args.reader.now)) _ c.in_err-name.ensures)
-
-pub calls::call-returns-in_err-expect : goal.calls::call-returns-in_err-expect
-calls::call-returns-in_err-expect t c =
-    let w = chars (string_bytes c.args.name) in
-    let entered = openings.call-entered c.args.levels w c.args.reader.now
-    (λ none. (let some = c.if-levels-eq0.false in omega arith)) in
-    rw (err_is c.from_residual-in_err-expect.result c.from_residual-in_err-expect.ensures.1, entered, c.in_ok-name.ensures) (fails-then c.in_err-expect.field-0.0
-    (expect opening_parenthesis c.function_characters.new.reader) _ c.in_err-expect.ensures.taken)
-
-pub calls::call-returns-in_err-arguments : goal.calls::call-returns-in_err-arguments
-calls::call-returns-in_err-arguments t c =
-    let w = chars (string_bytes c.args.name) in
-    let entered = openings.call-entered c.args.levels w c.args.reader.now
-    (λ none. (let some = c.if-levels-eq0.false in omega arith)) in
-    rw (err_is c.from_residual-in_err-arguments.result c.from_residual-in_err-arguments.ensures.1, entered, c.in_ok-name.ensures, c.in_ok-expect.ensures.taken)
-    (fails-then c.in_err-arguments.field-0.0
-    (read_inside (c.args.levels - 1) after_parenthesis c.expect.new.self) _
-    c.in_err-arguments.ensures)
+pub calls::call_from-returns : goal.calls::call_from-returns
+calls::call_from-returns t c =
+    rw (openings.call-entered c.args.levels (chars (string_bytes c.args.name)) c.args.reader.now
+    (λ none. (let some = c.if-levels-eq0.false in omega arith))) c.rest_of_call.ensures
 
 pub calls::call-returns : goal.calls::call-returns
 calls::call-returns t c =
-    let w = chars (string_bytes c.args.name) in
-    let entered = openings.call-entered c.args.levels w c.args.reader.now
-    (λ none. (let some = c.if-levels-eq0.false in omega arith)) in
-    rw (entered, c.in_ok-name.ensures, c.in_ok-expect.ensures.taken, c.in_ok-arguments.ensures)
-    (ap (λ x. took x c.arguments.new.reader)
-    (sym (tree_call c.in_ok-name.name c.in_ok-arguments.arguments)))
+    rw (ap chars c.new-name.ensures.bytes ∙ chars-nil) at c.call_from.ensures
 
 -- ---- arguments
 
@@ -465,25 +425,18 @@ calls::logical-returns t c =
 
 pub expressions::subject-returns-in_err-call : goal.expressions::subject-returns-in_err-call
 expressions::subject-returns-in_err-call t c =
-    let name : chars (string_bytes c.new-name.result) ≡ [] =
-    ap chars c.new-name.ensures.bytes ∙ chars-nil in
-    let called = by (call_with []) (call_inside c.args.levels c.args.reader.now) in
-    let failed : Fails c.in_err-call.field-0.0 called = rw name at c.in_err-call.ensures in
     rw (
       err_is c.from_residual.result c.from_residual.ensures.1,
       openings.subject-called c.args.levels c.args.reader.now
           (sym c.is_at_function.ensures ∙ c.if-is_at_function.true),
-    ) (fails-then c.in_err-call.field-0.0 called _ failed)
+    ) (fails-then c.in_err-call.field-0.0
+    (by (call_with []) (call_inside c.args.levels c.args.reader.now)) _ c.in_err-call.ensures)
 
 pub expressions::subject-returns-then-is_at_function :
     goal.expressions::subject-returns-then-is_at_function
 expressions::subject-returns-then-is_at_function t c =
-    let name : chars (string_bytes c.new-name.result) ≡ [] =
-    ap chars c.new-name.ensures.bytes ∙ chars-nil in
-    let read : by (call_with []) (call_inside c.args.levels c.args.reader.now) ≡ took
-    (call_of c.in_ok-call.field-0) c.call.new.reader = rw name at c.in_ok-call.ensures in
     openings.subject-called c.args.levels c.args.reader.now
-    (sym c.is_at_function.ensures ∙ c.if-is_at_function.true) ∙ ap (by call_test) read
+    (sym c.is_at_function.ensures ∙ c.if-is_at_function.true) ∙ ap (by call_test) c.in_ok-call.ensures
     ∙ ap (λ x. took x c.call.new.reader) (sym (tree_subject_call c.in_ok-call.field-0))
 
 pub expressions::subject-returns-in_err-query_within :
@@ -515,37 +468,24 @@ expressions::compared_or_test-returns-then-is_before_operator t c =
 
 pub sides::word-returns-then-is_at : goal.sides::word-returns-then-is_at
 sides::word-returns-then-is_at t c =
-    let step : read_inside c.args.levels word c.args.reader.now
-    ≡ read_inside c.args.levels (word_of true_literal letter_t c.as_slice.result.now)
-    c.args.reader.now =
-    openings.word-t c.args.levels c.args.reader.now (sym c.is_at.ensures ∙ c.if-is_at.true)
-    ∙ ap (λ more. read_inside c.args.levels (word_of true_literal letter_t more) c.args.reader.now)
-    (sym c.as_slice.ensures) in
-    subst
-    (λ (o : Outcome OperandTree). Gives operand_of c.word_or_call.result c.word_or_call.new.reader
-    o) (sym step) c.word_or_call.ensures
+    rw (openings.word-t c.args.levels c.args.reader.now (sym c.is_at.ensures ∙ c.if-is_at.true))
+    (subst (λ (more : Text). Gives operand_of c.word_or_call.result c.word_or_call.new.reader
+    (read_inside c.args.levels (word_of true_literal letter_t more) c.args.reader.now)) c.as_slice.ensures
+    c.word_or_call.ensures)
 
 pub sides::word-returns-then-is_at-2 : goal.sides::word-returns-then-is_at-2
 sides::word-returns-then-is_at-2 t c =
-    let step : read_inside c.args.levels word c.args.reader.now
-    ≡ read_inside c.args.levels (word_of false_literal letter_f c.as_slice-then-is_at-2.result.now)
-    c.args.reader.now =
-    openings.word-f c.args.levels c.args.reader.now (sym c.is_at-2.ensures ∙ c.if-is_at-2.true)
-    ∙ ap (λ more. read_inside c.args.levels (word_of false_literal letter_f more) c.args.reader.now)
-    (sym c.as_slice-then-is_at-2.ensures) in
-    subst (λ (o : Outcome OperandTree). Gives operand_of c.word_or_call-then-is_at-2.result
-    c.word_or_call-then-is_at-2.new.reader o) (sym step) c.word_or_call-then-is_at-2.ensures
+    rw (openings.word-f c.args.levels c.args.reader.now (sym c.is_at-2.ensures ∙ c.if-is_at-2.true))
+    (subst (λ (more : Text). Gives operand_of c.word_or_call-then-is_at-2.result c.word_or_call-then-is_at-2.new.reader
+    (read_inside c.args.levels (word_of false_literal letter_f more) c.args.reader.now)) c.as_slice-then-is_at-2.ensures
+    c.word_or_call-then-is_at-2.ensures)
 
 pub sides::word-returns-then-is_at-3 : goal.sides::word-returns-then-is_at-3
 sides::word-returns-then-is_at-3 t c =
-    let step : read_inside c.args.levels word c.args.reader.now
-    ≡ read_inside c.args.levels (word_of null_literal letter_n c.as_slice-then-is_at-3.result.now)
-    c.args.reader.now =
-    openings.word-n c.args.levels c.args.reader.now (sym c.is_at-3.ensures ∙ c.if-is_at-3.true)
-    ∙ ap (λ more. read_inside c.args.levels (word_of null_literal letter_n more) c.args.reader.now)
-    (sym c.as_slice-then-is_at-3.ensures) in
-    subst (λ (o : Outcome OperandTree). Gives operand_of c.word_or_call-then-is_at-3.result
-    c.word_or_call-then-is_at-3.new.reader o) (sym step) c.word_or_call-then-is_at-3.ensures
+    rw (openings.word-n c.args.levels c.args.reader.now (sym c.is_at-3.ensures ∙ c.if-is_at-3.true))
+    (subst (λ (more : Text). Gives operand_of c.word_or_call-then-is_at-3.result c.word_or_call-then-is_at-3.new.reader
+    (read_inside c.args.levels (word_of null_literal letter_n more) c.args.reader.now)) c.as_slice-then-is_at-3.ensures
+    c.word_or_call-then-is_at-3.ensures)
 
 pub sides::word-returns-then-not-is_at_function : goal.sides::word-returns-then-not-is_at_function
 sides::word-returns-then-not-is_at_function t c =
@@ -554,41 +494,21 @@ sides::word-returns-then-not-is_at_function t c =
     (sym c.is_at.ensures ∙ c.if-is_at.false) (sym c.is_at-2.ensures ∙ c.if-is_at-2.false)
     (sym c.is_at-3.ensures ∙ c.if-is_at-3.false)) c.place.ensures
 
-pub sides::word-returns-in_err-call : goal.sides::word-returns-in_err-call
-sides::word-returns-in_err-call t c =
-    let name : chars (string_bytes c.new-name.result) ≡ [] =
-    ap chars c.new-name.ensures.bytes ∙ chars-nil in
-    let called = by (call_with []) (call_inside c.args.levels c.args.reader.now) in
-    let failed : Fails c.in_err-call.field-0.0 called = rw name at c.in_err-call.ensures in
-    rw (
-      err_is c.from_residual.result c.from_residual.ensures.1,
-      openings.word-other c.args.levels c.args.reader.now
-          (sym c.is_at_function.ensures ∙ c.if-not-is_at_function.false)
-          (sym c.is_at.ensures ∙ c.if-is_at.false) (sym c.is_at-2.ensures ∙ c.if-is_at-2.false)
-          (sym c.is_at-3.ensures ∙ c.if-is_at-3.false),
-    ) (fails-then c.in_err-call.field-0.0 called _ failed)
-
 pub sides::word-returns : goal.sides::word-returns
 sides::word-returns t c =
-    let name : chars (string_bytes c.new-name.result) ≡ [] =
-    ap chars c.new-name.ensures.bytes ∙ chars-nil in
-    let read : by (call_with []) (call_inside c.args.levels c.args.reader.now) ≡ took
-    (call_of c.in_ok-call.field-0) c.call.new.reader = rw name at c.in_ok-call.ensures in
-    openings.word-other c.args.levels c.args.reader.now
+    rw (openings.word-other c.args.levels c.args.reader.now
     (sym c.is_at_function.ensures ∙ c.if-not-is_at_function.false)
     (sym c.is_at.ensures ∙ c.if-is_at.false) (sym c.is_at-2.ensures ∙ c.if-is_at-2.false)
-    (sym c.is_at-3.ensures ∙ c.if-is_at-3.false) ∙ ap (by call_value) read
-    ∙ ap (λ x. took x c.call.new.reader) (sym (tree_operand_call c.in_ok-call.field-0))
+    (sym c.is_at-3.ensures ∙ c.if-is_at-3.false))
+    (rw (ap chars c.new-name.ensures.bytes ∙ chars-nil) at c.called.ensures)
 
 pub sides::word_or_call-letters-init : goal.sides::word_or_call-letters-init
 sides::word_or_call-letters-init t c =
     let l = literal_of c.args.literal in
     let first = c.args.first in
-    let scalar : IsScalar first = search rules in
-    let pushed : chars (string_bytes c.push.new.self) ≡ first ∷ [] =
-    ap chars c.in_ok-push.ensures.bytes
-    ∙ chars_push (string_bytes c.new-name.result) first (IsUtf8-string_bytes c.new-name.result)
-    scalar ∙ ap (λ w. w ++ first ∷ []) (ap chars c.new-name.ensures.bytes ∙ chars-nil) in
+    let pushed : chars (string_bytes c.append_char.new.text) ≡ first ∷ [] =
+    c.in_ok-append_char.ensures
+    ∙ ap (λ w. w ++ first ∷ []) (ap chars c.new-name.ensures.bytes ∙ chars-nil) in
     record {
       total = rw pushed (sym (ap (λ (o : Outcome ℕ). o >>= λ d q. read_inside c.args.levels
           (word_from l (first ∷ []) c.args.others.now) q) c.in_ok-expect.ensures.taken));
@@ -601,23 +521,6 @@ letters-left : (letters : Text) (i x : ℕ) → i < length letters → x ≡ get
 letters-left letters i x within is =
     drop_more letters i x within ∙ ap (λ y. y ∷ drop (i + 1) letters) (sym is)
 
-pub sides::word_or_call-returns-in_err-call : goal.sides::word_or_call-returns-in_err-call
-sides::word_or_call-returns-in_err-call t c =
-    let l = literal_of c.args.literal in
-    let w = chars (string_bytes c.letters.name) in
-    let i = c.letters.letter-index in
-    let next = letters-left c.args.others.now i c.letter-item.result
-    (let more = c.letters-test.true in omega arith) c.letter-item.is in
-    let called = by (call_with w) (call_inside c.args.levels c.letters.reader) in
-    let step : read_inside c.args.levels (word_of l c.args.first c.args.others.now)
-    c.args.reader.now ≡ by call_value called = sym c.letters.invariant.total
-    ∙ ap (λ ys. read_inside c.args.levels (word_from l w ys) c.letters.reader) next
-    ∙ openings.word-called c.args.levels l w (c.letter-item.result ∷ drop (i + 1) c.args.others.now)
-    c.letters.reader (sym c.is_before_name.ensures ∙ c.if-is_before_name.true) in
-    rw (err_is c.from_residual-in_err-call.result c.from_residual-in_err-call.ensures.1) (subst (λ (o : Outcome OperandTree). Fails c.in_err-call.field-0.0 o) (sym step)
-    (fails-then c.in_err-call.field-0.0 called (λ x q. took (call_value x) q)
-    c.in_err-call.ensures))
-
 pub sides::word_or_call-returns-then-is_before_name :
     goal.sides::word_or_call-returns-then-is_before_name
 sides::word_or_call-returns-then-is_before_name t c =
@@ -626,12 +529,11 @@ sides::word_or_call-returns-then-is_before_name t c =
     let i = c.letters.letter-index in
     let next = letters-left c.args.others.now i c.letter-item.result
     (let more = c.letters-test.true in omega arith) c.letter-item.is in
-    sym c.letters.invariant.total
+    subst (λ (o : Outcome OperandTree). Gives operand_of c.called.result c.called.new.reader o)
+    (sym (sym c.letters.invariant.total
     ∙ ap (λ ys. read_inside c.args.levels (word_from l w ys) c.letters.reader) next
     ∙ openings.word-called c.args.levels l w (c.letter-item.result ∷ drop (i + 1) c.args.others.now)
-    c.letters.reader (sym c.is_before_name.ensures ∙ c.if-is_before_name.true)
-    ∙ ap (by call_value) c.in_ok-call.ensures
-    ∙ ap (λ x. took x c.call.new.reader) (sym (tree_operand_call c.in_ok-call.field-0))
+    c.letters.reader (sym c.is_before_name.ensures ∙ c.if-is_before_name.true))) c.called.ensures
 
 pub sides::word_or_call-returns-in_err-expect-2 : goal.sides::word_or_call-returns-in_err-expect-2
 sides::word_or_call-returns-in_err-expect-2 t c =
@@ -654,40 +556,20 @@ sides::word_or_call-returns-in_err-expect-2 t c =
 pub sides::word_or_call-letters-preserved : goal.sides::word_or_call-letters-preserved
 sides::word_or_call-letters-preserved t c =
     let l = literal_of c.args.literal in
-    let text = string_bytes c.letters.name in
+    let w = chars (string_bytes c.letters.name) in
     let i = c.letters.letter-index in
     let x = c.letter-item.result in
     let next = letters-left c.args.others.now i x (let more = c.letters-test.true in omega arith)
     c.letter-item.is in
-    let scalar : IsScalar x = search rules in
-    let pushed : chars (string_bytes c.push-in-letters.new.self) ≡ chars text ++ x ∷ [] =
-    ap chars c.in_ok-push-2.ensures.bytes ∙ chars_push text x (IsUtf8-string_bytes c.letters.name)
-    scalar in
     record {
-      total = rw pushed (sym
-          (openings.word-goes_on c.args.levels l (chars text) x (drop (i + 1) c.args.others.now)
+      total = rw c.in_ok-append_char-2.ensures (sym
+          (openings.word-goes_on c.args.levels l w x (drop (i + 1) c.args.others.now)
           c.letters.reader c.expect-in-letters.new.self
           (sym c.is_before_name.ensures ∙ c.if-is_before_name.false) c.in_ok-expect-2.ensures.taken)
-          ∙ ap (λ ys. read_inside c.args.levels (word_from l (chars text) ys) c.letters.reader)
+          ∙ ap (λ ys. read_inside c.args.levels (word_from l w ys) c.letters.reader)
           (sym next) ∙ c.letters.invariant.total);
       same = c.letters.invariant.same;
     }
-
-pub sides::word_or_call-returns-in_err-call-2 : goal.sides::word_or_call-returns-in_err-call-2
-sides::word_or_call-returns-in_err-call-2 t c =
-    let l = literal_of c.args.literal in
-    let w = chars (string_bytes c.letters.name) in
-    let last = drop_all c.letters.letter-index c.args.others.now
-    (let end = c.letters-test.false in omega arith) in
-    let called = by (call_with w) (call_inside c.args.levels c.letters.reader) in
-    let step : read_inside c.args.levels (word_of l c.args.first c.args.others.now)
-    c.args.reader.now ≡ by call_value called = sym c.letters.invariant.total
-    ∙ ap (λ ys. read_inside c.args.levels (word_from l w ys) c.letters.reader) last
-    ∙ openings.word-called c.args.levels l w [] c.letters.reader
-    (sym c.is_before_name-2.ensures ∙ c.if-is_before_name-2.true) in
-    rw (err_is c.from_residual-in_err-call-2.result c.from_residual-in_err-call-2.ensures.1) (subst (λ (o : Outcome OperandTree). Fails c.in_err-call-2.field-0.0 o) (sym step)
-    (fails-then c.in_err-call-2.field-0.0 called (λ x q. took (call_value x) q)
-    c.in_err-call-2.ensures))
 
 pub sides::word_or_call-returns-then-is_before_name-2 :
     goal.sides::word_or_call-returns-then-is_before_name-2
@@ -696,13 +578,12 @@ sides::word_or_call-returns-then-is_before_name-2 t c =
     let w = chars (string_bytes c.letters.name) in
     let last = drop_all c.letters.letter-index c.args.others.now
     (let end = c.letters-test.false in omega arith) in
-    sym c.letters.invariant.total
+    subst (λ (o : Outcome OperandTree). Gives operand_of c.called-then-is_before_name-2.result
+    c.called-then-is_before_name-2.new.reader o) (sym (sym c.letters.invariant.total
     ∙ ap (λ ys. read_inside c.args.levels (word_from l w ys) c.letters.reader) last
     ∙ openings.word-called c.args.levels l w [] c.letters.reader
-    (sym c.is_before_name-2.ensures ∙ c.if-is_before_name-2.true)
-    ∙ ap (by call_value) c.in_ok-call-2.ensures
-    ∙ ap (λ x. took x c.call-then-is_before_name-2.new.reader)
-    (sym (tree_operand_call c.in_ok-call-2.field-0))
+    (sym c.is_before_name-2.ensures ∙ c.if-is_before_name-2.true)))
+    c.called-then-is_before_name-2.ensures
 
 pub sides::word_or_call-returns : goal.sides::word_or_call-returns
 sides::word_or_call-returns t c =

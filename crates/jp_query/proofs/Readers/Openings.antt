@@ -16,6 +16,7 @@ use Rattle.jp_query.specs.Tree.{exists, call_test, literal, call_value, CallTree
 use Rattle.jp_query.specs.Characters.{opening_parenthesis, letter_t, letter_f, letter_n}
 use Rattle.jp_query.specs.Names.{is_function_first, is_function_char}
 use Rattle.jp_query.specs.Private.Rules.{nesting, name_from, name_on, opens, is_among, only_this, CallRest, call_rest, call_with, run, after_parenthesis, any_call, named_call, opened, word, word_of, word_from, subject, query_within}
+use Rattle.jp_query.specs.Private.Parts.{rest_of_call}
 use Rattle.jp_query.specs.Private.Reading.{inside, call_inside, read_flat, read_inside}
 use Rattle.jp_query.proofs.Forms.FunctionNames.{and-left, from-letter}
 use Rattle.jp_query.proofs.Levels.{or-second}
@@ -101,12 +102,6 @@ called-on (suc n) other p on = on-any (inside n) other p on
 
 -- ---- function expressions
 
--- the name, its parenthesis and the arguments
-abbrev pub spelt_out : ℕ → Text → State → Outcome CallTree
-spelt_out n w p =
-    by (λ u. w ++ u) (read_flat (run is_function_char) p) >>= λ name q. expect opening_parenthesis q
-    >>= λ d r. by (λ xs. call name (arguments xs)) (read_inside n after_parenthesis r)
-
 respelt : (n : ℕ) (w : Text) (o : Outcome Text)
     → by (call_with w) (o >>= λ u q. after_name (inside n) u q)
     ≡ by (λ u. w ++ u) o >>= λ name q. expect opening_parenthesis q
@@ -123,7 +118,7 @@ respelt n w (stuck q) = refl
 respelt n w (deep q) = refl
 
 pub call-entered : (n : ℕ) (w : Text) (p : State) → (n ≡ 0 → ⊥)
-    → by (call_with w) (call_inside n p) ≡ spelt_out (n - 1) w p
+    → by (call_with w) (call_inside n p) ≡ rest_of_call (n - 1) w p
 unfolding any_call
 call-entered zero w p some = absurd (some refl)
 call-entered (suc n) w p some =
@@ -176,32 +171,17 @@ module _ (n : ℕ) (p : State) where
   pub word-t : is_at letter_t p ≡ true
       → read_inside n word p ≡ read_inside n (word_of true_literal letter_t (codes "rue")) p
   unfolding word
-  word-t at =
-      let e : head p ≡ Some letter_t = head-is letter_t p at in
-      let off : passes (opens (name_from (codes "tfn"))) (head p) ≡ false =
-      ap (passes (opens (name_from (codes "tfn")))) e in
-      rw (off, at) refl
+  word-t at = rw (head-is letter_t p at) refl
 
   pub word-f : is_at letter_f p ≡ true
       → read_inside n word p ≡ read_inside n (word_of false_literal letter_f (codes "alse")) p
   unfolding word
-  word-f at =
-      let e : head p ≡ Some letter_f = head-is letter_f p at in
-      let off : passes (opens (name_from (codes "tfn"))) (head p) ≡ false =
-      ap (passes (opens (name_from (codes "tfn")))) e in
-      let t : is_at letter_t p ≡ false = ap (passes (is letter_t)) e in
-      rw (off, t, at) refl
+  word-f at = rw (head-is letter_f p at) refl
 
   pub word-n : is_at letter_n p ≡ true
       → read_inside n word p ≡ read_inside n (word_of null_literal letter_n (codes "ull")) p
   unfolding word
-  word-n at =
-      let e : head p ≡ Some letter_n = head-is letter_n p at in
-      let off : passes (opens (name_from (codes "tfn"))) (head p) ≡ false =
-      ap (passes (opens (name_from (codes "tfn")))) e in
-      let t : is_at letter_t p ≡ false = ap (passes (is letter_t)) e in
-      let f : is_at letter_f p ≡ false = ap (passes (is letter_f)) e in
-      rw (off, t, f) refl
+  word-n at = rw (head-is letter_n p at) refl
 
 opens-other : (o : Option ℕ) → passes is_function_first o ≡ true → passes (is letter_t) o ≡ false
     → passes (is letter_f) o ≡ false → passes (is letter_n) o ≡ false

@@ -15,7 +15,7 @@ use Rattle.jp_query.specs.Characters.{comma, opening_bracket, closing_bracket}
 use Rattle.jp_query.specs.Grammar.{joined}
 use Rattle.jp_query.specs.Private.Rules.{nesting, QueryRule, selector, entry, entries, bracket, joint, part, other_parts, argument, next_argument}
 use Rattle.jp_query.specs.declared.expressions.Connective.{Connective}
-use Rattle.jp_query.specs.Private.Parts.{mark_of, part_of, several}
+use Rattle.jp_query.specs.Private.Parts.{next_entry, mark_of, part_of, several}
 use Rattle.jp_query.specs.Private.Reading.{inside, read_flat, read_inside}
 use Rattle.jp_query.proofs.Levels.{inside-progress}
 
@@ -23,13 +23,7 @@ use Rattle.jp_query.proofs.Levels.{inside-progress}
 
 -- those after the first, each with its comma
 abbrev pub other_entries : QueryRule false here here (List SelectorTree)
-other_entries = some here (is comma) (the comma >> (blanks {m = here} >> entry))
-
-pub entries_first : (inner : Inner nesting) (p q : State) (x : SelectorTree)
-    → read inner selector p ≡ took x q
-    → with_front (x ∷ []) (read inner other_entries (skip q)) ≡ read inner entries p
-unfolding entries entry
-entries_first inner p q x e = rw e refl
+other_entries = some here (is comma) next_entry
 
 -- brackets, once the first is taken
 pub bracket-opened : (inner : Inner nesting) (descendant : Bool) (p q : State)
@@ -41,28 +35,6 @@ bracket-opened inner descendant p q e =
     ap (λ (o : Outcome ℕ). o >>= λ c r. read inner entries
     (skip r) >>= λ xs v. expect closing_bracket v >>= λ d w. took
     (segment descendant (selectors xs)) w) e
-
--- another, after its comma
-pub another-is : (inner : Inner nesting) (p : State) → is_at comma p ≡ true
-    → read inner (the comma >> (blanks {m = here} >> entry)) p ≡ read inner selector
-    (skip (past p)) >>= λ x q. took x (skip q)
-unfolding entry
-another-is inner p on =
-    ap (λ (o : Outcome ℕ). o >>= λ c q. read inner selector (skip q) >>= λ x r. took x (skip r))
-    (take_if-takes (is comma) p comma (head-is comma p on) refl)
-
-pub another-took : (inner : Inner nesting) (p q : State) (x : SelectorTree) → is_at comma p ≡ true
-    → read inner selector (skip (past p)) ≡ took x q
-    → read inner (the comma >> (blanks {m = here} >> entry)) p ≡ took x (skip q)
-another-took inner p q x on e =
-    another-is inner p on ∙ ap (λ (o : Outcome SelectorTree). o >>= λ y r. took y (skip r)) e
-
-pub another-fails : (inner : Inner nesting) (p : State) (e : Stop) → is_at comma p ≡ true
-    → Fails e (read inner selector (skip (past p)))
-    → Fails e (read inner (the comma >> (blanks {m = here} >> entry)) p)
-another-fails inner p e on failed =
-    rw (another-is inner p on)
-    (fails-then e (read inner selector (skip (past p))) (λ x q. took x (skip q)) failed)
 
 -- ---- parts of an expression
 

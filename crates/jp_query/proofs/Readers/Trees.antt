@@ -29,9 +29,6 @@ pub tree_call : (name : String Global) (xs : Vec Argument Global)
     (chars (string_bytes name)) (arguments (map argument_of xs.items))
 tree_call name xs = search (rules, the_lemmas)
 
-pub tree_operand_call : (x : Call) → operand_of (operand.Call x) ≡ call_value (call_of x)
-tree_operand_call x = search (rules, the_lemmas)
-
 pub tree_operand_literal : (x : Literal) → operand_of (operand.Literal x) ≡ literal (literal_of x)
 tree_operand_literal x = search (rules, the_lemmas)
 

@@ -1,15 +1,21 @@
--- The parts of a logical expression, and what goes on from an argument's first part.
-use Rattle.std.specs.Prelude.{ℕ, Bool, true, ◌||◌, ◌∷◌}
-use Rattle.jp_reading.specs.Outcome.{State, Outcome, ◌>>=◌, is}
-use Rattle.jp_reading.specs.Rule.{here, beyond}
+-- The parts of brackets and of a logical expression, and what goes on from an argument's first part.
+use Rattle.std.specs.Prelude.{ℕ, Bool, true, ◌||◌, ◌∷◌, ◌++◌}
+use Rattle.jp_reading.specs.Outcome.{State, Outcome, ◌>>=◌, is, expect}
+use Rattle.jp_reading.specs.Texts.{Text}
+use Rattle.jp_reading.specs.Rule.{here, beyond, the, blanks, ◌>>◌}
 use Rattle.jp_reading.specs.Views.{by}
 use Rattle.jp_query.specs.declared.expressions.Connective.{Connective}
 use Rattle.jp_query.specs.declared.expressions.Connective.TheVariants.{Or, And}
-use Rattle.jp_query.specs.Tree.{ExprTree, ExprTrees, any_of, all_of, ArgumentTree, logical_argument}
-use Rattle.jp_query.specs.Characters.{ampersand, bar}
+use Rattle.jp_query.specs.Tree.{SelectorTree, ExprTree, ExprTrees, any_of, all_of, CallTree, call, arguments, ArgumentTree, logical_argument}
+use Rattle.jp_query.specs.Characters.{ampersand, bar, comma, opening_parenthesis}
+use Rattle.jp_query.specs.Names.{is_function_char}
 use Rattle.jp_query.specs.Grammar.{joined}
-use Rattle.jp_query.specs.Private.Rules.{QueryRule, basic, conjunction, other_parts}
-use Rattle.jp_query.specs.Private.Reading.{read_inside}
+use Rattle.jp_query.specs.Private.Rules.{QueryRule, entry, basic, conjunction, other_parts, run, after_parenthesis}
+use Rattle.jp_query.specs.Private.Reading.{read_flat, read_inside}
+
+-- a selector after a comma, and the blanks after each of them
+abbrev pub next_entry : QueryRule true here here SelectorTree
+next_entry = the comma >> (blanks {m = here} >> entry)
 
 -- the mark that stands twice between two parts
 abbrev pub mark_of : Connective → ℕ
@@ -38,3 +44,9 @@ begins_part c = is ampersand c || is bar c
 -- how an argument that is a logical expression is read inside n levels from its first part on
 abbrev pub logical_at : ℕ → ExprTree → State → Outcome ArgumentTree
 logical_at n e p = joined_at And n e p >>= λ a q. by logical_argument (joined_at Or n a q)
+
+-- how the rest of a function's name that begins so, and arguments inside n levels, are read
+abbrev pub rest_of_call : ℕ → Text → State → Outcome CallTree
+rest_of_call n w p =
+    by (λ u. w ++ u) (read_flat (run is_function_char) p) >>= λ name q. expect opening_parenthesis q
+    >>= λ d r. by (λ xs. call name (arguments xs)) (read_inside n after_parenthesis r)
