@@ -18,7 +18,7 @@ use Rattle.jp_query.specs.Names.{is_function_first, is_function_char}
 use Rattle.jp_query.specs.Private.Rules.{nesting, name_from, name_on, opens, is_among, only_this, CallRest, call_rest, call_with, run, after_parenthesis, any_call, named_call, opened, word, word_of, word_from, subject, query_within}
 use Rattle.jp_query.specs.Private.Parts.{rest_of_call}
 use Rattle.jp_query.specs.Private.Reading.{inside, call_inside, read_flat, read_inside}
-use Rattle.jp_query.proofs.Forms.FunctionNames.{and-left, from-letter}
+use Rattle.jp_query.proofs.Forms.FunctionNames.{and-left, passed, from-letter}
 use Rattle.jp_query.proofs.Levels.{or-second}
 use Rattle.jp_query.proofs.Readers.Rounds.{along, by-twice}
 
@@ -60,32 +60,24 @@ module _ (inner : Inner nesting) where
 
   from-any : (others : Text) (p : State) → passes (opens (name_from others)) (head p) ≡ true
       → read inner (opened (name_from others)) p ≡ read inner any_call p
-  from-any others p on = way (head p) refl on
-    where
-      way : (o : Option ℕ) → head p ≡ o → passes (opens (name_from others)) o ≡ true
-          → read inner (opened (name_from others)) p ≡ read inner any_call p
-      way None e h = absurd cc
-      way (Some c) e h = named-any (opens (name_from others)) p c e h (from-letter others c h)
+  from-any others p on =
+      let h = passed (opens (name_from others)) (head p) on in
+      named-any (opens (name_from others)) p h.0 h.1 h.2 (from-letter others h.0 h.2)
 
   on-any : (other : Option ℕ) (p : State) → passes (opens (name_on other)) (head p) ≡ true
       → read inner (opened (name_on other)) p ≡ read inner any_call p
   on-any other p on = way (cases_Bool (is_at opening_parenthesis p))
     where
-      letter : (o : Option ℕ) → head p ≡ o → passes (opens (name_on other)) o ≡ true
-          → passes (is opening_parenthesis) o ≡ false
-          → read inner (named_call (λ c. is_function_char c && not (is_among (only_this other) c)))
-          p ≡ read inner any_call p
-      letter None e h off = absurd cc
-      letter (Some c) e h off =
-          let going = or-second (is opening_parenthesis c)
-          (is_function_char c && not (is_among (only_this other) c)) off h in
-          named-any (λ d. is_function_char d && not (is_among (only_this other) d)) p c e going
-          (and-left (is_function_char c) (not (is_among (only_this other) c)) going)
-
       way : (is_at opening_parenthesis p ≡ true) ⊎ (is_at opening_parenthesis p ≡ false)
           → read inner (opened (name_on other)) p ≡ read inner any_call p
       way (inl at) = rw at (ending-any p at)
-      way (inr off) = rw off (letter (head p) refl on off)
+      way (inr off) =
+          let h = passed (opens (name_on other)) (head p) on in
+          let going = or-second (is opening_parenthesis h.0)
+          (is_function_char h.0 && not (is_among (only_this other) h.0))
+          (sym (ap (passes (is opening_parenthesis)) h.1) ∙ off) h.2 in
+          rw off (named-any (λ d. is_function_char d && not (is_among (only_this other) d)) p h.0 h.1
+          going (and-left (is_function_char h.0) (not (is_among (only_this other) h.0)) going))
 
 -- a function expression from the first letter of its name on, inside n levels
 pub called-from : (n : ℕ) (others : Text) (p : State)
