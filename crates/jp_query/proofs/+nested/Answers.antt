@@ -5,7 +5,7 @@ use Rattle.std.specs.String.{string_bytes}
 use Rattle.std.proofs.lemmas.Str.{chars-nil, IsUtf8-string_bytes}
 use Rattle.std.proofs.lemmas.List.{length-map, length-append, drop_more, drop_all}
 use Rattle.jp_reading.specs.Texts.{Text}
-use Rattle.jp_reading.specs.Outcome.{Outcome, took, ◌>>=◌, past, skip, expect, passes, is, after_blank, item_since}
+use Rattle.jp_reading.specs.Outcome.{State, Outcome, took, ◌>>=◌, past, skip, expect, passes, is, after_blank, item_since}
 use Rattle.jp_reading.specs.Views.{Fails, Gives, by}
 use Rattle.jp_reading.specs.Rule.{here, beyond, the, blanks, relaxed, ◌>>◌}
 use Rattle.jp_reading.specs.RuleReading.{spanned_if}
@@ -19,7 +19,7 @@ use Rattle.jp_query.specs.Tree.{SegmentTree, SelectorTree, argument_of, call_of,
 use Rattle.jp_query.specs.Characters.{ampersand, bar, comma, closing_bracket, opening_parenthesis, closing_parenthesis, letter_t, letter_f, letter_n}
 use Rattle.jp_query.specs.Names.{is_function_char}
 use Rattle.jp_query.specs.Grammar.{joined}
-use Rattle.jp_query.specs.Private.Rules.{QueryRule, entries, segment, segments, begins_segment, selector, entry, basic, conjunction, other_parts, run, call_with, after_parenthesis, argument, argument_start, argument_on, next_argument, some_arguments, is_logical, query_within, word, word_from, word_of}
+use Rattle.jp_query.specs.Private.Rules.{QueryRule, bracket, in_brackets, entries, segment, segments, begins_segment, selector, entry, basic, conjunction, other_parts, run, call_with, after_parenthesis, argument, argument_start, argument_on, next_argument, some_arguments, is_logical, query_within, word, word_from, word_of}
 use Rattle.jp_query.specs.Private.Parts.{next_entry, logical_at, mark_of, part_of, several}
 use Rattle.jp_query.specs.Private.Reading.{inside, call_inside, read_flat, read_inside}
 use Rattle.jp_query.proofs.Levels.{inside-progress, inside-entered}
@@ -202,46 +202,12 @@ expressions::inside-returns t c =
     (λ none. (let some = c.if-levels-eq0.false in omega arith)) c.in_ok-expect.ensures.taken in
     rw (entered, ← c.skip.ensures) c.expression.ensures
 
-pub segments::bracketed-returns-in_err-selectors : goal.segments::bracketed-returns-in_err-selectors
-segments::bracketed-returns-in_err-selectors t c =
-    let failed : Fails c.in_err-selectors.field-0.0
-    (read_inside c.args.levels entries (skip c.expect.new.self)) =
-    rw c.skip.ensures at c.in_err-selectors.ensures in
-    rw (
-      err_is c.from_residual-in_err-selectors.result c.from_residual-in_err-selectors.ensures.1,
-      rounds.bracket-opened
-          (inside c.args.levels) c.args.descendant c.args.reader.now c.expect.new.self
-          c.in_ok-expect.ensures.taken,
-    ) (fails-then c.in_err-selectors.field-0.0
-    (read_inside c.args.levels entries (skip c.expect.new.self)) _ failed)
-
-pub segments::bracketed-returns-in_err-expect-2 : goal.segments::bracketed-returns-in_err-expect-2
-segments::bracketed-returns-in_err-expect-2 t c =
-    let read : read_inside c.args.levels entries (skip c.expect.new.self) ≡ took
-    (map selector_of c.in_ok-selectors.selectors.items) c.entries.new.reader =
-    ap (read_inside c.args.levels entries) (sym c.skip.ensures) ∙ c.in_ok-selectors.ensures in
-    rw (
-      err_is c.from_residual-in_err-expect-2.result c.from_residual-in_err-expect-2.ensures.1,
-      rounds.bracket-opened
-          (inside c.args.levels) c.args.descendant c.args.reader.now c.expect.new.self
-          c.in_ok-expect.ensures.taken,
-      read,
-    ) (fails-then c.in_err-expect-2.field-0.0
-    (expect closing_bracket c.entries.new.reader) _ c.in_err-expect-2.ensures.taken)
-
 pub segments::bracketed-returns : goal.segments::bracketed-returns
+unfolding bracket
 segments::bracketed-returns t c =
-    let read : read_inside c.args.levels entries (skip c.expect.new.self) ≡ took
-    (map selector_of c.in_ok-selectors.selectors.items) c.entries.new.reader =
-    ap (read_inside c.args.levels entries) (sym c.skip.ensures) ∙ c.in_ok-selectors.ensures in
-    rw (
-      rounds.bracket-opened
-          (inside c.args.levels) c.args.descendant c.args.reader.now c.expect.new.self
-          c.in_ok-expect.ensures.taken,
-      read,
-      c.in_ok-expect-2.ensures.taken,
-    ) (ap (λ x. took x c.expect-2.new.self)
-    (sym (tree_segment c.args.descendant c.in_ok-selectors.selectors)))
+    rw c.in_ok-expect.ensures.taken (subst (λ (q : State). Gives segment_of c.in_brackets.result
+    c.in_brackets.new.reader (read_inside c.args.levels (in_brackets c.args.descendant) q))
+    c.skip.ensures c.in_brackets.ensures)
 
 -- ---- function expressions
 

@@ -32,67 +32,70 @@ decreases-expressions::parenthesis l = l.levels * 32 + 2
 abbrev pub decreases-selectors::entries : goal.decreases-selectors::entries
 decreases-selectors::entries l = l.levels * 32 + 4
 
+abbrev pub decreases-segments::in_brackets : goal.decreases-segments::in_brackets
+decreases-segments::in_brackets l = l.levels * 32 + 5
+
 abbrev pub decreases-segments::bracketed : goal.decreases-segments::bracketed
-decreases-segments::bracketed l = l.levels * 32 + 5
+decreases-segments::bracketed l = l.levels * 32 + 6
 
 abbrev pub decreases-segments::segment : goal.decreases-segments::segment
-decreases-segments::segment l = l.levels * 32 + 6
+decreases-segments::segment l = l.levels * 32 + 7
 
 abbrev pub decreases-segments::segments : goal.decreases-segments::segments
-decreases-segments::segments l = l.levels * 32 + 7
+decreases-segments::segments l = l.levels * 32 + 8
 
 abbrev pub decreases-sides::query_within : goal.decreases-sides::query_within
-decreases-sides::query_within l = l.levels * 32 + 8
+decreases-sides::query_within l = l.levels * 32 + 9
 
 abbrev pub decreases-calls::call_from : goal.decreases-calls::call_from
-decreases-calls::call_from l = l.levels * 32 + 8
+decreases-calls::call_from l = l.levels * 32 + 9
 
 abbrev pub decreases-calls::rest_of_call : goal.decreases-calls::rest_of_call
-decreases-calls::rest_of_call l = l.levels * 32 + 32
+decreases-calls::rest_of_call l = l.levels * 32 + 33
 
 abbrev pub decreases-calls::call : goal.decreases-calls::call
-decreases-calls::call l = l.levels * 32 + 9
+decreases-calls::call l = l.levels * 32 + 10
 
 abbrev pub decreases-sides::called : goal.decreases-sides::called
-decreases-sides::called l = l.levels * 32 + 9
+decreases-sides::called l = l.levels * 32 + 10
 
 abbrev pub decreases-sides::word_or_call : goal.decreases-sides::word_or_call
-decreases-sides::word_or_call l = l.levels * 32 + 10
+decreases-sides::word_or_call l = l.levels * 32 + 11
 
 abbrev pub decreases-sides::word : goal.decreases-sides::word
-decreases-sides::word l = l.levels * 32 + 11
+decreases-sides::word l = l.levels * 32 + 12
 
 abbrev pub decreases-sides::side_within : goal.decreases-sides::side_within
-decreases-sides::side_within l = l.levels * 32 + 12
+decreases-sides::side_within l = l.levels * 32 + 13
 
 abbrev pub decreases-sides::side : goal.decreases-sides::side
-decreases-sides::side l = l.levels * 32 + 13
+decreases-sides::side l = l.levels * 32 + 14
 
 abbrev pub decreases-expressions::comparison : goal.decreases-expressions::comparison
-decreases-expressions::comparison l = l.levels * 32 + 14
+decreases-expressions::comparison l = l.levels * 32 + 15
 
 abbrev pub decreases-expressions::compared_or_test : goal.decreases-expressions::compared_or_test
-decreases-expressions::compared_or_test l = l.levels * 32 + 15
+decreases-expressions::compared_or_test l = l.levels * 32 + 16
 
 abbrev pub decreases-expressions::subject : goal.decreases-expressions::subject
-decreases-expressions::subject l = l.levels * 32 + 16
+decreases-expressions::subject l = l.levels * 32 + 17
 
 abbrev pub decreases-expressions::test : goal.decreases-expressions::test
-decreases-expressions::test l = l.levels * 32 + 17
+decreases-expressions::test l = l.levels * 32 + 18
 
 abbrev pub decreases-expressions::negated : goal.decreases-expressions::negated
-decreases-expressions::negated l = l.levels * 32 + 18
+decreases-expressions::negated l = l.levels * 32 + 19
 
 abbrev pub decreases-expressions::negation : goal.decreases-expressions::negation
-decreases-expressions::negation l = l.levels * 32 + 19
+decreases-expressions::negation l = l.levels * 32 + 20
 
 abbrev pub decreases-expressions::basic : goal.decreases-expressions::basic
-decreases-expressions::basic l = l.levels * 32 + 20
+decreases-expressions::basic l = l.levels * 32 + 21
 
 -- how much a connective's parts nest at one level
 abbrev rank : Connective → ℕ
-rank Or = 24
-rank And = 21
+rank Or = 25
+rank And = 22
 
 abbrev pub decreases-expressions::part : goal.decreases-expressions::part
 decreases-expressions::part l = l.levels * 32 + rank l.connective
@@ -101,34 +104,34 @@ abbrev pub decreases-expressions::joined_from : goal.decreases-expressions::join
 decreases-expressions::joined_from l = l.levels * 32 + (rank l.connective + 1)
 
 abbrev pub decreases-expressions::conjunction : goal.decreases-expressions::conjunction
-decreases-expressions::conjunction l = l.levels * 32 + 23
+decreases-expressions::conjunction l = l.levels * 32 + 24
 
 abbrev pub decreases-expressions::expression : goal.decreases-expressions::expression
-decreases-expressions::expression l = l.levels * 32 + 26
+decreases-expressions::expression l = l.levels * 32 + 27
 
 abbrev pub decreases-calls::compared_or_alone : goal.decreases-calls::compared_or_alone
-decreases-calls::compared_or_alone l = l.levels * 32 + 25
+decreases-calls::compared_or_alone l = l.levels * 32 + 26
 
 abbrev pub decreases-calls::logical : goal.decreases-calls::logical
-decreases-calls::logical l = l.levels * 32 + 26
+decreases-calls::logical l = l.levels * 32 + 27
 
 abbrev pub decreases-calls::argument_start : goal.decreases-calls::argument_start
-decreases-calls::argument_start l = l.levels * 32 + 26
+decreases-calls::argument_start l = l.levels * 32 + 27
 
 abbrev pub decreases-calls::argument_from : goal.decreases-calls::argument_from
-decreases-calls::argument_from l = l.levels * 32 + 27
+decreases-calls::argument_from l = l.levels * 32 + 28
 
 abbrev pub decreases-calls::argument : goal.decreases-calls::argument
-decreases-calls::argument l = l.levels * 32 + 28
+decreases-calls::argument l = l.levels * 32 + 29
 
 abbrev pub decreases-calls::next_argument : goal.decreases-calls::next_argument
-decreases-calls::next_argument l = l.levels * 32 + 29
+decreases-calls::next_argument l = l.levels * 32 + 30
 
 abbrev pub decreases-calls::some_arguments : goal.decreases-calls::some_arguments
-decreases-calls::some_arguments l = l.levels * 32 + 30
+decreases-calls::some_arguments l = l.levels * 32 + 31
 
 abbrev pub decreases-calls::arguments : goal.decreases-calls::arguments
-decreases-calls::arguments l = l.levels * 32 + 31
+decreases-calls::arguments l = l.levels * 32 + 32
 
 abbrev pub invariant-segments::segments-segments : goal.invariant-segments::segments-segments
 invariant-segments::segments-segments l =

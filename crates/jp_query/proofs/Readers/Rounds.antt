@@ -25,17 +25,6 @@ use Rattle.jp_query.proofs.Levels.{inside-progress}
 abbrev pub other_entries : QueryRule false here here (List SelectorTree)
 other_entries = some here (is comma) next_entry
 
--- brackets, once the first is taken
-pub bracket-opened : (inner : Inner nesting) (descendant : Bool) (p q : State)
-    → expect opening_bracket p ≡ took opening_bracket q → read inner (bracket descendant) p
-    ≡ read inner entries (skip q) >>= λ xs r. expect closing_bracket r >>= λ d w. took
-    (segment descendant (selectors xs)) w
-unfolding bracket
-bracket-opened inner descendant p q e =
-    ap (λ (o : Outcome ℕ). o >>= λ c r. read inner entries
-    (skip r) >>= λ xs v. expect closing_bracket v >>= λ d w. took
-    (segment descendant (selectors xs)) w) e
-
 -- ---- parts of an expression
 
 -- a rule after one that follows another
