@@ -9,7 +9,7 @@ use Rattle.jp_query.specs.declared.tree.Op.TheVariants.{Equal, Unequal, Less, Le
 use Rattle.jp_query.specs.Names.{is_function_first, is_function_char, FunctionName, function_name}
 use Rattle.jp_reading.specs.Texts.{Text, bytes}
 use Rattle.jp_reading.specs.Forms.{Form, ◌⌢◌, word, One, Each, Blank, Separated, Item, Omitted}
-use Rattle.jp_reading.proofs.Bare.{Bare, bare-word, bare-one, bare-each, bare-joined}
+use Rattle.jp_reading.proofs.Bare.{Bare, bare-word}
 use Rattle.jp_reading.proofs.Between.{bytes-append}
 use Rattle.jp_query.specs.Tree.{SelectorTree, SegmentTree, QueryTree, ExprTree, ExprTrees, OperandTree, CallTree, ArgumentTree, LiteralTree, segments, selectors, exprs, arguments, slice, any_of, all_of, comparison}
 use Rattle.jp_query.specs.Ints.{Int}
@@ -18,7 +18,7 @@ use Rattle.jp_query.specs.Literals.{Literal, spelling}
 use Rattle.jp_query.specs.Slices.{Bound, no_bound, bound, Step, no_step, empty_step, given_step, Sliced}
 use Rattle.jp_query.specs.Grammar.{nested_expr, nested_arguments, FunctionCall, function_call, call_side, Test, query_test, function_test, Composed, composed, Logical, one_part, parts_all, parts_any, Argument, literal_alone, query_alone, call_alone, logical_expr, Arguments, without, with_some, joined, Member, star, member, Selector, named, any, indexed, sliced, filtered, Bracket, Segment, bracketed, dotted, deep_bracketed, deep_dotted, Segments, InnerQuery, from_root, from_current, Side, literal_side, query_side, Parenthesis, Comparison, Basic, grouped, not_grouped, compared, tested, not_tested, Conjunction, conjunction, Expression, disjunction, Inside}
 use Rattle.jp_query.specs.Items.{Use, as_index, as_bound, as_step, as_side, as_test, as_argument, QueryItem, int, constant, inner, called, logical, count, call_items, arguments_items, argument_items, bound_items, selector_items, selectors_items, segment_items, segments_items, items_of, expr_items, exprs_items, operand_items}
-use Rattle.jp_query.proofs.Spans.NoItems.{quoted-bare, shorthand-bare, int-bare, literal-bare}
+use Rattle.jp_query.proofs.Spans.NoItems.{then-bare, run-bare, quoted-bare, shorthand-bare, int-bare, literal-bare}
 use Rattle.jp_query.proofs.Spans.HasItems.{Part, Placed, HasItems, item-over, item-after, Later, later-word, later-blank, later-with, Sooner, sooner-later, sooner-first, bare-has_items, joined-has_items, after-bare, before-bare, blank-bare, each-has_items, separated-has_items, leaf-has_items}
 use Rattle.jp_query.proofs.Spans.Written.{Written, joined-written, one-written, word-written, int-written, literal-written}
 use Rattle.jp_query.specs.Characters.{ampersand, at_sign, bar, dollar, equals_sign, exclamation_mark, greater_sign, less_sign, opening_parenthesis}
@@ -77,17 +77,15 @@ entry_comma = word (codes ",") ⌢ Blank
 
 entry_comma-bare : Bare entry_comma
 unfolding entry_comma
-entry_comma-bare = bare-joined (word (codes ",")) Blank (bare-word (codes ",")) blank-bare
+entry_comma-bare = then-bare (bare-word (codes ",")) blank-bare
 
--- what is argument_comma two parts of an expression
+-- what stands between two parts of an expression
 doubled : ℕ → Form
 doubled c = Blank ⌢ word (c ∷ c ∷ []) ⌢ Blank
 
 doubled-bare : (c : ℕ) → Bare (doubled c)
 unfolding doubled
-doubled-bare c =
-    bare-joined Blank (word (c ∷ c ∷ []) ⌢ Blank) blank-bare
-    (bare-joined (word (c ∷ c ∷ [])) Blank (bare-word (c ∷ c ∷ [])) blank-bare)
+doubled-bare c = then-bare blank-bare (then-bare (bare-word (c ∷ c ∷ [])) blank-bare)
 
 -- the items of several parts are those of each in turn, of a single one its own
 joined-items : (several : ExprTrees → ExprTree)
@@ -97,15 +95,20 @@ joined-items several same [] = same (exprs [])
 joined-items several same (e ∷ []) = sym (append-nil (expr_items e))
 joined-items several same (e ∷ d ∷ es) = same (exprs (e ∷ d ∷ es))
 
--- what is argument_comma two arguments
+-- several parts with a mark twice between them
+parts-have_items : (c : ℕ) (P : ExprTree → Form) → ((e : ExprTree) → HasItems (P e) (expr_items e))
+    → (es : List ExprTree) → HasItems (Separated (doubled c) P es) (exprs_items (exprs es))
+parts-have_items c P f =
+    separated-has_items expr_items (λ ds. exprs_items (exprs ds)) refl (λ d ds. refl)
+    (doubled-bare c) f
+
+-- what stands between two arguments
 argument_comma : Form
 argument_comma = Blank ⌢ word (codes ",") ⌢ Blank
 
 argument_comma-bare : Bare argument_comma
 unfolding argument_comma
-argument_comma-bare =
-    bare-joined Blank (word (codes ",") ⌢ Blank) blank-bare
-    (bare-joined (word (codes ",")) Blank (bare-word (codes ",")) blank-bare)
+argument_comma-bare = then-bare blank-bare (then-bare (bare-word (codes ",")) blank-bare)
 
 second-written : {P Q : Form} → Written Q → Written (P ⌢ Q)
 second-written f s o t h =
@@ -127,9 +130,7 @@ operator-written GreaterEqual = word-written greater_sign (codes "=")
 
 name-bare : (f : Text) → Bare (FunctionName f)
 name-bare f s o t (function_name c more e h) =
-    bare-joined (One is_function_first c) (Each (One is_function_char) more)
-    (bare-one is_function_first c)
-    (bare-each (One is_function_char) (bare-one is_function_char) more) s o t h
+    run-bare is_function_first is_function_char c more s o t h
 
 name-written : (f : Text) → Written (FunctionName f)
 name-written f s o t (function_name c more e h) =
@@ -213,7 +214,7 @@ module _ (n : ℕ) (inside-has_items : InnerExprs n) (inside-has_arguments : Inn
       (item-after (called c use_of) (name-bare f) (name-written f)
       (after-bare (bare-word (codes "(")) (after-bare blank-bare (before-bare
       (inside-has_arguments f zero (count (arguments xs)) xs)
-      (bare-joined Blank (word (codes ")")) blank-bare (bare-word (codes ")"))))))
+      (then-bare blank-bare (bare-word (codes ")"))))))
       text s o t (n, s, function_call f xs e h) h p)
 
   side-has_items : (x : OperandTree) → HasItems (Side (Inside n) x) (operand_items x)
@@ -225,7 +226,7 @@ module _ (n : ℕ) (inside-has_items : InnerExprs n) (inside-has_arguments : Inn
   parenthesis-has_items : (e : ExprTree) → HasItems (Parenthesis (Inside n) e) (expr_items e)
   parenthesis-has_items e =
       after-bare (bare-word (codes "(")) (after-bare blank-bare (before-bare (inside-has_items e)
-      (bare-joined Blank (word (codes ")")) blank-bare (bare-word (codes ")")))))
+      (then-bare blank-bare (bare-word (codes ")")))))
 
   comparison-has_items : (left right : OperandTree) (op : Op)
       → HasItems (Comparison (Inside n) left op right) (expr_items (comparison left op right))
@@ -262,15 +263,13 @@ module _ (n : ℕ) (inside-has_items : InnerExprs n) (inside-has_arguments : Inn
   unfolding doubled
   conjunction-has_items e text s o t (conjunction es same h) p =
       rw (same, joined-items all_of (λ all. refl) es)
-      (separated-has_items expr_items (λ ds. exprs_items (exprs ds)) refl (λ d ds. refl)
-      (doubled-bare ampersand) basic-has_items es text s o t h p)
+      (parts-have_items ampersand (Basic (Inside n)) basic-has_items es text s o t h p)
 
   expression-has_items : (e : ExprTree) → HasItems (Expression (Inside n) e) (expr_items e)
   unfolding doubled
   expression-has_items e text s o t (disjunction es same h) p =
       rw (same, joined-items any_of (λ all. refl) es)
-      (separated-has_items expr_items (λ ds. exprs_items (exprs ds)) refl (λ d ds. refl)
-      (doubled-bare bar) conjunction-has_items es text s o t h p)
+      (parts-have_items bar (Conjunction (Inside n)) conjunction-has_items es text s o t h p)
 
   -- ---- arguments
 
@@ -279,7 +278,7 @@ module _ (n : ℕ) (inside-has_items : InnerExprs n) (inside-has_arguments : Inn
   parenthesis-later e =
       later-word (bare-word (codes "(")) (word-written opening_parenthesis [])
       (after-bare blank-bare (before-bare (inside-has_items e)
-      (bare-joined Blank (word (codes ")")) blank-bare (bare-word (codes ")")))))
+      (then-bare blank-bare (bare-word (codes ")")))))
 
   not-later : (P : Form) (xs : List QueryItem) → HasItems P xs
       → Later (word (codes "!") ⌢ Blank ⌢ P)
@@ -306,7 +305,7 @@ module _ (n : ℕ) (inside-has_items : InnerExprs n) (inside-has_arguments : Inn
       sooner-later
       (not-later (Test (Inside n) part) (expr_items part) (test-has_items part)) text s o t h p
 
-  -- several parts with a doubled mark argument_comma them come after the whole as well
+  -- several parts with a mark twice between them come after the whole as well
   several-sooner : (c : ℕ) (P : ExprTree → Form) → ((e : ExprTree) → HasItems (P e) (expr_items e))
       → (x y : ExprTree) (es : List ExprTree) → Sooner (Separated (doubled c) P (x ∷ y ∷ es))
   several-sooner c P f x y es =
@@ -327,11 +326,9 @@ module _ (n : ℕ) (inside-has_items : InnerExprs n) (inside-has_arguments : Inn
   unfolding doubled
   logical-inside e text s o t (one_part h) p = composed-has_items e text s o t h p
   logical-inside e text s o t (parts_all x y es same h) p =
-      rw same (separated-has_items expr_items (λ ds. exprs_items (exprs ds)) refl (λ d ds. refl)
-      (doubled-bare ampersand) basic-has_items (x ∷ y ∷ es) text s o t h p)
+      rw same (parts-have_items ampersand (Basic (Inside n)) basic-has_items (x ∷ y ∷ es) text s o t h p)
   logical-inside e text s o t (parts_any x y es same h) p =
-      rw same (separated-has_items expr_items (λ ds. exprs_items (exprs ds)) refl (λ d ds. refl)
-      (doubled-bare bar) conjunction-has_items (x ∷ y ∷ es) text s o t h p)
+      rw same (parts-have_items bar (Conjunction (Inside n)) conjunction-has_items (x ∷ y ∷ es) text s o t h p)
 
   logical-has_items : (e : ExprTree) (use_of : Use)
       → HasItems (Item (Logical (Inside n) e)) (logical e use_of ∷ expr_items e)

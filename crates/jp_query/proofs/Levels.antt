@@ -25,7 +25,7 @@ use Rattle.std.proofs.lemmas.Bool.{cases_Bool, eqb-true}
 use Rattle.jp_query.proofs.Soundness.Alive.{expression-alive}
 use Rattle.jp_query.proofs.Completeness.Apart.{closes, opened-alive, opened-apart}
 use Rattle.jp_query.proofs.Forms.Selectors.{marked, CallFrom, Parentheses, segments-same}
-use Rattle.jp_query.proofs.Forms.FunctionNames.{and-left, from-letter}
+use Rattle.jp_query.proofs.Forms.FunctionNames.{and-left, passed, from-letter}
 use Rattle.jp_query.proofs.Forms.Expressions.{expression-same}
 use Rattle.jp_query.proofs.Forms.Arguments.{opened-same}
 
@@ -150,26 +150,16 @@ opened-deeper (rule.name_on other) c p e h = way (cases_Bool (is opening_parenth
 
 pub inside-sound : (n : ℕ) → InnerIsSound nesting (marked (Inside n)) (marked (Inside (suc n)))
     (inside n)
-inside-sound zero o p on = way (head p) refl on
-  where
-    way : (next : Option ℕ) → head p ≡ next → passes (opens o) next ≡ true
-        → Opened (marked (Inside zero) o) (marked (Inside (suc zero)) o) p (inside zero o p)
-    way None e h = absurd cc
-    way (Some c) e h = none_left refl (opened-deeper o c p e h)
-inside-sound (suc n) o p on = way (inside-sound n) (head p) refl on
-  where
-    way : InnerIsSound nesting (marked (Inside n)) (marked (Inside (suc n))) (inside n)
-        → (next : Option ℕ) → head p ≡ next → passes (opens o) next ≡ true
-        → Opened (marked (Inside (suc n)) o) (marked (Inside (suc (suc n))) o) p
-        (inside (suc n) o p)
-    way known None e h = absurd cc
-    way known (Some c) e h =
-        some_left
-        (sound-as (form (marked (Inside n)) (opened o)) (form (marked (Inside (suc n))) (opened o))
-        (marked (Inside (suc n)) o) (marked (Inside (suc (suc n))) o) p (inside (suc n) o p)
-        (λ x. (opened-same (Inside n) o x).to) (λ x. (opened-same (Inside (suc n)) o x).to)
-        (sound (marked (Inside n)) (marked (Inside (suc n))) (marked-more n) (inside n) known
-        (opened o) (opened-alive o c h) p))
+inside-sound zero o p on =
+    let h = passed (opens o) (head p) on in none_left refl (opened-deeper o h.0 p h.1 h.2)
+inside-sound (suc n) o p on =
+    let h = passed (opens o) (head p) on in
+    some_left
+    (sound-as (form (marked (Inside n)) (opened o)) (form (marked (Inside (suc n))) (opened o))
+    (marked (Inside (suc n)) o) (marked (Inside (suc (suc n))) o) p (inside (suc n) o p)
+    (λ x. (opened-same (Inside n) o x).to) (λ x. (opened-same (Inside (suc n)) o x).to)
+    (sound (marked (Inside n)) (marked (Inside (suc n))) (marked-more n) (inside n) (inside-sound n)
+    (opened o) (opened-alive o h.0 h.2) p))
 
 -- ---- completeness
 
@@ -231,19 +221,11 @@ inside-complete zero = record {
     nothing (rule.name_on other) r s i t h = h.is.two.two.two.one
 inside-complete (suc n) = record {
   progress = inside-progress (suc n);
-  again = λ o x p q h follow. again (inside-complete n) o x p q h follow (head p) refl
-      (opened-first (suc n) o x p q h);
+  again = λ o x p q h follow. (let c =
+      passed (opens o) (head p) (opened-first (suc n) o x p q h) in
+      (done (marked (Inside n)) closes (inside n) (inside-complete n) (opened o)
+      (opened-alive o c.0 c.2) (closes o) (opened-apart o c.0 c.2) x p q
+      (reads-as (marked (Inside (suc n)) o x) (form (marked (Inside n)) (opened o) x) p q
+      (opened-same (Inside n) o x).from h) follow).reads);
   first = λ o x p q h. opened-first (suc n) o x p q h;
 }
-  where
-    again : InnerIsComplete nesting (marked (Inside n)) closes (inside n)
-        → (o : rule.Opening) (x : rule.Opened o) (p q : State)
-        → Reads (marked (Inside (suc n)) o x) p q → Meets (closes o) q
-        → (next : Option ℕ) → head p ≡ next → passes (opens o) next ≡ true
-        → inside (suc n) o p ≡ took x q
-    again known o x p q h follow None e g = absurd cc
-    again known o x p q h follow (Some c) e g =
-        (done (marked (Inside n)) closes (inside n) known (opened o) (opened-alive o c g) (closes o)
-        (opened-apart o c g) x p q
-        (reads-as (marked (Inside (suc n)) o x) (form (marked (Inside n)) (opened o) x) p q
-        (opened-same (Inside n) o x).from h) follow).reads

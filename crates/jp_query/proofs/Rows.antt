@@ -40,20 +40,13 @@ range-rows : (whole_of 18446744073709551615 ≡ Whole (pos 18446744073709551615)
     × (negative_of 9223372036854775809 ≡ Beyond)
 range-rows = (refl, refl, refl, refl)
 
+-- a span
+abbrev at_bytes : ℕ → ℕ → Option Span
+at_bytes from to = Some (record { start = from; end = to })
+
 -- `$[10]`: one index, from byte 2 up to byte 4
 abbrev ten : QueryTree
 ten = query true (segments (segment false (selectors (index (Whole (pos 10)) ∷ [])) ∷ []))
-
-index-spells : Spells 64 ten (Some (record { start = 2; end = 4 }) ∷ []) (codes "$[10]")
-unfolding query_at rule.query rule.segments rule.segment rule.bracket rule.entries rule.entry
-    rule.selector rule.number_selector rule.int rule.unsigned rule.size past_blanks loop is_blank
-    is_digit
-index-spells =
-    read-spells 64 (codes "$[10]") ten
-    (finish (codes "$[10]") (Some (record { start = 2; end = 4 }) ∷ [])) refl
-
-index-items : items_of ten ≡ int (Whole (pos 10)) as_index ∷ []
-index-items = refl
 
 -- `$ .a['']`: two names, no item
 abbrev names : QueryTree
@@ -61,44 +54,39 @@ names =
     query true (segments (segment false (selectors (name (codes "a") ∷ [])) ∷ segment false
     (selectors (name [] ∷ [])) ∷ []))
 
-names-spell : Spells 64 names [] (codes "$ .a['']")
-unfolding query_at rule.query rule.segments rule.segment rule.bracket rule.entries rule.entry
-    rule.member rule.selection rule.selector rule.quoted rule.characters rule.shorthand past_blanks
-    loop is_blank is_digit
-names-spell = read-spells 64 (codes "$ .a['']") names (finish (codes "$ .a['']") []) refl
-
--- `$[01]` is stuck at byte 3, and `$.a` and a blank at its end
-zero-row : query_at 64 (start (codes "$[01]")) ≡ stuck
-    (record { at = 3; rest = codes "1]"; found = Some (record { start = 2; end = 3 }) ∷ [] })
-unfolding query_at rule.query rule.segments rule.segment rule.bracket rule.entries rule.entry
-    rule.selector rule.number_selector rule.int rule.unsigned past_blanks loop is_blank is_digit
-zero-row = refl
-
-blank-row : query_at 64 (start (codes "$.a ")) ≡ stuck (record { at = 4; rest = []; found = [] })
-unfolding query_at rule.query rule.segments rule.segment rule.member rule.selection rule.shorthand
-    past_blanks loop is_blank is_digit
-blank-row = refl
-
 -- `$[:]`: neither bound, and an omitted step, which is 1 and has no span
 abbrev all : QueryTree
 all =
     query true (segments (segment false (selectors
     (slice (record { start = None; end = None; step = Whole (pos 1) }) ∷ [])) ∷ []))
 
-slice-spells : Spells 64 all (None ∷ []) (codes "$[:]")
-unfolding query_at rule.query rule.segments rule.segment rule.bracket rule.entries rule.entry
-    rule.selector rule.slice_from rule.bound rule.step past_blanks loop is_blank
-slice-spells = read-spells 64 (codes "$[:]") all (finish (codes "$[:]") (None ∷ [])) refl
-
 -- `$..*`: a descendant segment of a wildcard
-descend-spells : Spells 64
-    (query true (segments (segment true (selectors (wildcard ∷ [])) ∷ []))) [] (codes "$..*")
-unfolding query_at rule.query rule.segments rule.segment rule.selection rule.member past_blanks loop
-    is_blank
-descend-spells =
-    read-spells 64 (codes "$..*")
-    (query true (segments (segment true (selectors (wildcard ∷ [])) ∷ [])))
-    (finish (codes "$..*") []) refl
+abbrev descendants : QueryTree
+descendants = query true (segments (segment true (selectors (wildcard ∷ [])) ∷ []))
+
+spelled-rows : Spells 0 ten (at_bytes 2 4 ∷ []) (codes "$[10]")
+    × Spells 0 names [] (codes "$ .a['']")
+    × Spells 0 all (None ∷ []) (codes "$[:]")
+    × Spells 0 descendants [] (codes "$..*")
+unfolding query_at rule.query rule.segments rule.segment rule.bracket rule.entries rule.entry
+    rule.member rule.selection rule.selector rule.quoted rule.characters rule.shorthand
+    rule.slice_from rule.bound rule.step rule.number_selector rule.int rule.unsigned rule.size
+    past_blanks loop is_blank is_digit
+spelled-rows = (
+  read-spells 0 (codes "$[10]") ten (finish (codes "$[10]") (at_bytes 2 4 ∷ [])) refl,
+  read-spells 0 (codes "$ .a['']") names (finish (codes "$ .a['']") []) refl,
+  read-spells 0 (codes "$[:]") all (finish (codes "$[:]") (None ∷ [])) refl,
+  read-spells 0 (codes "$..*") descendants (finish (codes "$..*") []) refl,
+)
+
+-- `$[01]` is stuck at byte 3, and `$.a` and a blank at its end
+refused-rows : (query_at 0 (start (codes "$[01]"))
+    ≡ stuck (record { at = 3; rest = codes "1]"; found = at_bytes 2 3 ∷ [] }))
+    × (query_at 0 (start (codes "$.a ")) ≡ stuck (record { at = 4; rest = []; found = [] }))
+unfolding query_at rule.query rule.segments rule.segment rule.bracket rule.entries rule.entry
+    rule.member rule.selection rule.shorthand rule.selector rule.number_selector rule.int
+    rule.unsigned past_blanks loop is_blank is_digit
+refused-rows = (refl, refl)
 
 -- the pair D83D, DE00 is U+1F600; `\b` is U+0008, and `\/` a slash
 escape-rows : (scalar_of 55357 56832 ≡ 128512) × (escaped letter_b ≡ 8) × (escaped slash ≡ 47)
@@ -120,10 +108,6 @@ here = query false (segments [])
 abbrev member_a : QueryTree
 member_a = query false (segments (segment false (selectors (name (codes "a") ∷ [])) ∷ []))
 
--- a span
-abbrev at_bytes : ℕ → ℕ → Option Span
-at_bytes from to = Some (record { start = from; end = to })
-
 -- `$[?@]`, `$[?!(@)]`; `!` belongs to one part alone, and `&&` binds more tightly than `||`; `-0`
 -- is 0, and 1.0 a fraction
 abbrev test : QueryTree
@@ -144,7 +128,7 @@ compared =
     ∷ comparison (node_value here) Equal (literal (number Fraction)) ∷ [])))
 
 -- a filter takes a level, and a parenthesis another one; each side and each test is an item
-spelled-rows : Spells 1 test (at_bytes 3 4 ∷ []) (codes "$[?@]")
+filter-rows : Spells 1 test (at_bytes 3 4 ∷ []) (codes "$[?@]")
     × Spells 2 negated (at_bytes 5 6 ∷ []) (codes "$[?!(@)]")
     × Spells 1 several (at_bytes 5 6 ∷ at_bytes 8 9 ∷ at_bytes 12 15 ∷ [])
     (codes "$[? !@||@ &&@.a ]")
@@ -156,7 +140,7 @@ unfolding query_at rule.query rule.segments rule.segment rule.bracket rule.entri
     rule.negated rule.negation_on rule.basic rule.inside_mark rule.conjunction rule.expression
     rule.operator rule.plain_literal rule.number rule.mantissa rule.decimals rule.exponent
     rule.power rule.digits rule.int rule.unsigned rule.size past_blanks loop is_blank is_digit
-spelled-rows = (
+filter-rows = (
   read-spells 1 (codes "$[?@]") test (finish (codes "$[?@]") (at_bytes 3 4 ∷ [])) refl,
   read-spells 2 (codes "$[?!(@)]") negated (finish (codes "$[?!(@)]") (at_bytes 5 6 ∷ [])) refl,
   read-spells 1 (codes "$[? !@||@ &&@.a ]") several
@@ -168,7 +152,7 @@ spelled-rows = (
 -- with no level left, `?` and `(` are too deep; a literal is no test, parentheses are no side, a
 -- comparison has two
 -- sides, and no operator is `=`
-refused-rows : (query_at 0 (start (codes "$[?@]")) ≡ deep (record {
+refused_filter-rows : (query_at 0 (start (codes "$[?@]")) ≡ deep (record {
   at = 2;
   rest = codes "?@]";
   found = [];
@@ -199,12 +183,13 @@ unfolding query_at rule.query rule.segments rule.segment rule.bracket rule.entri
     rule.negated rule.negation_on rule.basic rule.inside_mark rule.conjunction rule.expression
     rule.operator rule.plain_literal rule.number rule.mantissa rule.decimals rule.exponent
     rule.power rule.digits rule.int rule.unsigned rule.size past_blanks loop is_blank is_digit
-refused-rows = (refl, refl, refl, refl, refl, refl)
+refused_filter-rows = (refl, refl, refl, refl, refl, refl)
 
-compared-items : items_of compared ≡ constant
-    (number (Whole (pos 0))) as_side ∷ inner member_a as_side ∷ inner here as_side ∷ constant
-    (number Fraction) as_side ∷ []
-compared-items = refl
+-- the items of `$[10]`, and of comparisons
+items-rows : (items_of ten ≡ int (Whole (pos 10)) as_index ∷ [])
+    × (items_of compared ≡ constant (number (Whole (pos 0))) as_side ∷ inner member_a as_side
+    ∷ inner here as_side ∷ constant (number Fraction) as_side ∷ [])
+items-rows = (refl, refl)
 
 -- `@.a` is singular, and `$[?@]` is not
 singular-rows : (is_singular member_a ≡ true) × (is_singular test ≡ false)

@@ -1,6 +1,6 @@
 //! Function expressions and their arguments (RFC 9535 section 2.4).
 
-ghost use Rattle.std.specs.Prelude.{◌≡◌, map};
+ghost use Rattle.std.specs.Prelude.{◌≡◌, [], map};
 ghost use Rattle.std.specs.Str.{chars};
 ghost use Rattle.std.specs.String.{string_bytes};
 ghost use Rattle.jp_reading.specs.Outcome.{after_blank, passes};
@@ -8,20 +8,29 @@ ghost use Rattle.jp_reading.specs.Views.{Gives, by};
 ghost use Rattle.jp_query.specs.Tree.{argument_of, call_of, expr_of, operand_of};
 ghost use Rattle.jp_query.specs.Private.Rules as rules;
 ghost use Rattle.jp_query.specs.Private.Rules.{is_logical};
-ghost use Rattle.jp_query.specs.Private.Parts.{begins_part, logical_at};
+ghost use Rattle.jp_query.specs.Private.Parts.{begins_part, logical_at, rest_of_call};
 ghost use Rattle.jp_query.specs.Private.Reading.{call_inside, read_inside};
 
-use crate::expressions::{comparison, conjunction_from, expression_from, negation, parenthesis};
+use crate::expressions::{Connective, comparison, joined_from, negation, parenthesis};
 use crate::lists::append;
-use crate::names::function_characters;
+use crate::names::{NameCharacter, name_from};
 use crate::operators::is_before_operator;
 use crate::sides::side;
 use crate::tree::{Argument, Call, Expr, Operand, Subject};
 use jp_reading::{Reader, Stop};
 
+/// A function expression.
+#[cycle(nested)]
+pub fn call(reader: &mut Reader, levels: u32) -> Result<Call, Stop>
+    ensures { Gives call_of result reader.new (by (rules.call_with []) (call_inside levels reader.old)) }
+{
+    let name = String::new(reader.alloc());
+    call_from(reader, levels, name)
+}
+
 /// A function expression, of whose name these characters were read.
 #[cycle(nested)]
-pub fn call(reader: &mut Reader, levels: u32, name: String) -> Result<Call, Stop>
+pub fn call_from(reader: &mut Reader, levels: u32, name: String) -> Result<Call, Stop>
     ensures { Gives
         call_of
         result
@@ -31,9 +40,21 @@ pub fn call(reader: &mut Reader, levels: u32, name: String) -> Result<Call, Stop
     if levels == 0 {
         return Err(Stop::TooDeep(reader.place()));
     }
-    let name = function_characters(reader, name)?;
+    rest_of_call(reader, levels - 1, name)
+}
+
+/// The rest of a function's name, and its arguments in parentheses.
+#[cycle(nested)]
+fn rest_of_call(reader: &mut Reader, levels: u32, name: String) -> Result<Call, Stop>
+    ensures { Gives
+        call_of
+        result
+        reader.new
+        (rest_of_call levels (chars (string_bytes name)) reader.old) }
+{
+    let name = name_from(reader, NameCharacter::Function, name)?;
     reader.expect('(')?;
-    let arguments = arguments(reader, levels - 1)?;
+    let arguments = arguments(reader, levels)?;
     Ok(Call { name, arguments })
 }
 
@@ -201,6 +222,7 @@ fn logical(reader: &mut Reader, levels: u32, first: Expr) -> Result<Argument, St
         reader.new
         (logical_at levels (expr_of first) reader.old) }
 {
-    let conjunction = conjunction_from(reader, levels, first)?;
-    Ok(Argument::Logical(expression_from(reader, levels, conjunction)?))
+    let conjunction = joined_from(reader, levels, Connective::And, first)?;
+    let expression = joined_from(reader, levels, Connective::Or, conjunction)?;
+    Ok(Argument::Logical(expression))
 }

@@ -1,10 +1,10 @@
 //! Logical expressions of filters (RFC 9535 section 2.3.5.1).
 
-ghost use Rattle.std.specs.Prelude.{◌∷◌};
-ghost use Rattle.jp_reading.specs.Views.{Gives, by};
-ghost use Rattle.jp_query.specs.Characters.{ampersand, bar};
-ghost use Rattle.jp_query.specs.Grammar.{joined};
-ghost use Rattle.jp_query.specs.Tree.{all_of, any_of, expr_of, operand_of, subject_of};
+ghost use Rattle.std.specs.Prelude.{◌≡◌, map};
+ghost use Rattle.jp_reading.specs.Outcome.{after_blank, is, passes};
+ghost use Rattle.jp_reading.specs.Views.{Gives};
+ghost use Rattle.jp_query.specs.Tree.{expr_of, exprs, operand_of, subject_of};
+ghost use Rattle.jp_query.specs.Private.Parts.{joined_at, mark_of, part_of, several};
 ghost use Rattle.jp_query.specs.Private.Rules as rules;
 ghost use Rattle.jp_query.specs.Private.Reading.{inside, parenthesis_at, read_flat, read_inside};
 
@@ -30,6 +30,35 @@ pub fn inside(reader: &mut Reader, mark: char, levels: u32) -> Result<Expr, Stop
     expression(reader, levels - 1)
 }
 
+/// What joins the parts of an expression: `||` joins conjunctions, `&&` basic expressions.
+#[derive(Clone, Copy)]
+pub enum Connective {
+    Or,
+    And,
+}
+
+impl Connective {
+    /// The character that stands twice between two parts.
+    fn mark(self) -> char
+        ensures { result ≡ mark_of self }
+    {
+        match self {
+            Connective::Or => '|',
+            Connective::And => '&',
+        }
+    }
+
+    /// The expression of several parts.
+    fn join(self, parts: Vec<Expr>) -> Expr
+        ensures { expr_of result ≡ several self (exprs (map expr_of parts.items)) }
+    {
+        match self {
+            Connective::Or => Expr::AnyOf(parts),
+            Connective::And => Expr::AllOf(parts),
+        }
+    }
+}
+
 /// Conjunctions with `||` between them; a single one stands for itself.
 #[cycle(nested)]
 #[tactic(auto, unfolding(crate::specs::Private::Rules::expression))]
@@ -37,31 +66,7 @@ fn expression(reader: &mut Reader, levels: u32) -> Result<Expr, Stop>
     ensures { Gives expr_of result reader.new (read_inside levels rules.expression reader.old) }
 {
     let first = conjunction(reader, levels)?;
-    expression_from(reader, levels, first)
-}
-
-/// A conjunction and those after it, each after a `||`; a single one stands for itself.
-#[cycle(nested)]
-pub fn expression_from(reader: &mut Reader, levels: u32, first: Expr) -> Result<Expr, Stop>
-    ensures { Gives
-        expr_of
-        result
-        reader.new
-        (by
-        (λ es. joined any_of (expr_of first ∷ es))
-        (read_inside levels (rules.other_parts bar rules.conjunction) reader.old)) }
-{
-    if !reader.is_before('|') {
-        return Ok(first);
-    }
-    let mut parts = Vec::new(reader.alloc());
-    append(&mut parts, first)?;
-    'parts: while reader.is_before('|') {
-        joint(reader, '|')?;
-        let next = conjunction(reader, levels)?;
-        append(&mut parts, next)?;
-    }
-    Ok(Expr::AnyOf(parts))
+    joined_from(reader, levels, Connective::Or, first)
 }
 
 /// Basic expressions with `&&` between them; a single one stands for itself.
@@ -71,38 +76,64 @@ fn conjunction(reader: &mut Reader, levels: u32) -> Result<Expr, Stop>
     ensures { Gives expr_of result reader.new (read_inside levels rules.conjunction reader.old) }
 {
     let first = basic(reader, levels)?;
-    conjunction_from(reader, levels, first)
+    joined_from(reader, levels, Connective::And, first)
 }
 
-/// A basic expression and those after it, each after a `&&`; a single one stands for itself.
+/// A part and those after it, each after the connective; a single one stands for itself.
 #[cycle(nested)]
-pub fn conjunction_from(reader: &mut Reader, levels: u32, first: Expr) -> Result<Expr, Stop>
+pub fn joined_from(
+    reader: &mut Reader,
+    levels: u32,
+    connective: Connective,
+    first: Expr,
+) -> Result<Expr, Stop>
     ensures { Gives
         expr_of
         result
         reader.new
-        (by
-        (λ es. joined all_of (expr_of first ∷ es))
-        (read_inside levels (rules.other_parts ampersand rules.basic) reader.old)) }
+        (joined_at connective levels (expr_of first) reader.old) }
 {
-    if !reader.is_before('&') {
+    if !is_before_joint(reader, connective) {
         return Ok(first);
     }
     let mut parts = Vec::new(reader.alloc());
     append(&mut parts, first)?;
-    'parts: while reader.is_before('&') {
-        joint(reader, '&')?;
-        let next = basic(reader, levels)?;
+    'parts: while is_before_joint(reader, connective) {
+        joint(reader, connective)?;
+        let next = part(reader, levels, connective)?;
         append(&mut parts, next)?;
     }
-    Ok(Expr::AllOf(parts))
+    Ok(connective.join(parts))
 }
 
-/// The mark twice, with blanks before and after it.
-#[tactic(auto, unfolding(crate::specs::Private::Rules::joint))]
-fn joint(reader: &mut Reader, mark: char) -> Result<(), Stop>
-    ensures { Gives (λ _. mark) result reader.new (read_flat (rules.joint mark) reader.old) }
+/// A part that the connective joins to others.
+#[cycle(nested)]
+fn part(reader: &mut Reader, levels: u32, connective: Connective) -> Result<Expr, Stop>
+    ensures { Gives expr_of result reader.new (read_inside levels (part_of connective) reader.old) }
 {
+    match connective {
+        Connective::Or => conjunction(reader, levels),
+        Connective::And => basic(reader, levels),
+    }
+}
+
+/// Whether the connective's mark comes past the blanks.
+fn is_before_joint(reader: &Reader, connective: Connective) -> bool
+    ensures { result ≡ passes (is (mark_of connective)) (after_blank reader.now) }
+{
+    reader.is_before(connective.mark())
+}
+
+/// The connective's mark twice, with blanks before and after it.
+#[tactic(auto, unfolding(crate::specs::Private::Rules::joint))]
+fn joint(reader: &mut Reader, connective: Connective) -> Result<(), Stop>
+    ensures { Gives
+        (λ _. mark_of connective)
+        result
+        reader.new
+        (read_flat (rules.joint (mark_of connective)) reader.old) }
+{
+    let mark = connective.mark();
     reader.skip();
     reader.expect(mark)?;
     reader.expect(mark)?;
@@ -174,8 +205,7 @@ fn subject(reader: &mut Reader, levels: u32) -> Result<Subject, Stop>
     ensures { Gives subject_of result reader.new (read_inside levels rules.subject reader.old) }
 {
     if is_at_function(reader) {
-        let name = String::new(reader.alloc());
-        return Ok(Subject::Call(call(reader, levels, name)?));
+        return Ok(Subject::Call(call(reader, levels)?));
     }
     Ok(Subject::Query(query_within(reader, levels)?))
 }

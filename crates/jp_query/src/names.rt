@@ -1,4 +1,5 @@
-//! Members' names after a dot (RFC 9535 section 2.5.1.1, member-name-shorthand).
+//! Members' names after a dot (RFC 9535 section 2.5.1.1, member-name-shorthand), and functions'
+//! names (section 2.4).
 
 ghost use Rattle.std.specs.Prelude.{◌≡◌, ◌++◌};
 ghost use Rattle.std.specs.Str.{chars};
@@ -9,9 +10,34 @@ ghost use Rattle.jp_query.specs.Names.{is_name_first, is_name_char, is_function_
 ghost use Rattle.jp_query.specs.Names.{is_function_char};
 ghost use Rattle.jp_query.specs.Private.Rules as rules;
 ghost use Rattle.jp_query.specs.Private.Rules.{opens};
+ghost use Rattle.jp_query.specs.Private.NameCharacters.{is_one_of};
 ghost use Rattle.jp_query.specs.Private.Reading.{read_flat};
 
-use jp_reading::{Reader, Stop};
+use crate::lists::append_char;
+use jp_reading::{CharacterClass, Reader, Stop};
+
+/// Classes of characters in names.
+#[derive(Clone, Copy)]
+pub enum NameCharacter {
+    /// What begins a member's name (name-first).
+    First,
+    /// What goes on with a member's name (name-char).
+    Member,
+    /// What goes on with a function's name (function-name-char, section 2.4).
+    Function,
+}
+
+impl CharacterClass for NameCharacter {
+    ghost holds = { is_one_of };
+
+    fn contains(self, c: char) -> bool {
+        match self {
+            NameCharacter::First => is_name_first(c),
+            NameCharacter::Member => is_name_char(c),
+            NameCharacter::Function => is_function_char(c),
+        }
+    }
+}
 
 /// A member's name after a dot.
 #[tactic(auto, unfolding(crate::specs::Private::Rules::shorthand))]
@@ -22,49 +48,26 @@ pub(crate) fn shorthand(reader: &mut Reader) -> Result<String, Stop>
         reader.new
         (read_flat rules.shorthand reader.old) }
 {
-    match reader.peek() {
-        Some(first) if is_name_first(first) => run(reader),
-        _ => Err(Stop::Syntax(reader.place())),
-    }
+    let first = reader.take_one_of(NameCharacter::First)?;
+    let mut name = String::new(reader.alloc());
+    append_char(&mut name, first)?;
+    name_from(reader, NameCharacter::Member, name)
 }
 
-/// Takes the characters that stand next, as long as they may stand in a shorthand.
-fn run(reader: &mut Reader) -> Result<String, Stop>
-    ensures { Gives
-        (λ s. chars (string_bytes s))
-        result
-        reader.new
-        (read_flat (rules.run is_name_char) reader.old) }
-{
-    let mut text = String::new(reader.alloc());
-    'characters: while let Some(next) = reader.peek() {
-        if !is_name_char(next) {
-            break;
-        }
-        text.push(next)?;
-        reader.bump();
-    }
-    Ok(text)
-}
-
-/// A name with the characters after it that stand next, as long as they may stand in a function's
-/// name (section 2.4).
-pub fn function_characters(reader: &mut Reader, name: String) -> Result<String, Stop>
+/// A name with the characters of the class after it that stand next, as many as there are.
+pub fn name_from(reader: &mut Reader, class: NameCharacter, name: String) -> Result<String, Stop>
     ensures { Gives
         (λ s. chars (string_bytes s))
         result
         reader.new
         (by
         (λ w. chars (string_bytes name) ++ w)
-        (read_flat (rules.run is_function_char) reader.old)) }
+        (read_flat (rules.run (is_one_of class)) reader.old)) }
 {
     let mut text = name;
-    'characters: while let Some(next) = reader.peek() {
-        if !is_function_char(next) {
-            break;
-        }
-        text.push(next)?;
-        reader.bump();
+    'characters: while reader.is_at_one_of(class) {
+        let next = reader.take_one_of(class)?;
+        append_char(&mut text, next)?;
     }
     Ok(text)
 }

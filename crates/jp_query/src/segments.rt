@@ -90,6 +90,18 @@ fn bracketed(reader: &mut Reader, levels: u32, descendant: bool) -> Result<Segme
 {
     reader.expect('[')?;
     reader.skip();
+    in_brackets(reader, levels, descendant)
+}
+
+/// Selectors, and the closing bracket.
+#[cycle(nested)]
+fn in_brackets(reader: &mut Reader, levels: u32, descendant: bool) -> Result<Segment, Stop>
+    ensures { Gives
+        segment_of
+        result
+        reader.new
+        (read_inside levels (rules.in_brackets descendant) reader.old) }
+{
     let selectors = entries(reader, levels)?;
     reader.expect(']')?;
     Ok(Segment {

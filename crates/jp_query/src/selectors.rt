@@ -4,6 +4,7 @@ ghost use Rattle.std.specs.Prelude.{◌≡◌, map};
 ghost use Rattle.jp_reading.specs.Views.{Gives};
 ghost use Rattle.jp_query.specs.Tree.{selector_of};
 ghost use Rattle.jp_query.specs.Private.Rules as rules;
+ghost use Rattle.jp_query.specs.Private.Parts.{next_entry};
 ghost use Rattle.jp_query.specs.Private.Reading.{read_flat, read_inside};
 
 use crate::expressions::inside;
@@ -17,7 +18,7 @@ use jp_reading::{Reader, Stop};
 /// Selectors with commas between them, and blank space around each. The reader stands before the
 /// first, and then past the blanks after the last.
 #[cycle(nested)]
-#[tactic(auto, unfolding(crate::specs::Private::Rules::entries, crate::specs::Private::Rules::entry))]
+#[tactic(auto, unfolding(crate::specs::Private::Rules::entries))]
 pub(crate) fn entries(reader: &mut Reader, levels: u32) -> Result<Vec<Selector>, Stop>
     ensures { Gives
         (λ v. map selector_of v.items)
@@ -26,17 +27,34 @@ pub(crate) fn entries(reader: &mut Reader, levels: u32) -> Result<Vec<Selector>,
         (read_inside levels rules.entries reader.old) }
 {
     let mut selectors = Vec::new(reader.alloc());
-    let first = selector(reader, levels)?;
-    reader.skip();
+    let first = entry(reader, levels)?;
     append(&mut selectors, first)?;
     'entries: while reader.is_at(',') {
-        reader.bump();
-        reader.skip();
-        let next = selector(reader, levels)?;
-        reader.skip();
+        let next = next_entry(reader, levels)?;
         append(&mut selectors, next)?;
     }
     Ok(selectors)
+}
+
+/// A selector after a comma, and the blanks after each of them.
+#[cycle(nested)]
+fn next_entry(reader: &mut Reader, levels: u32) -> Result<Selector, Stop>
+    ensures { Gives selector_of result reader.new (read_inside levels next_entry reader.old) }
+{
+    reader.expect(',')?;
+    reader.skip();
+    entry(reader, levels)
+}
+
+/// A selector and the blanks after it.
+#[cycle(nested)]
+#[tactic(auto, unfolding(crate::specs::Private::Rules::entry))]
+fn entry(reader: &mut Reader, levels: u32) -> Result<Selector, Stop>
+    ensures { Gives selector_of result reader.new (read_inside levels rules.entry reader.old) }
+{
+    let selector = selector(reader, levels)?;
+    reader.skip();
+    Ok(selector)
 }
 
 /// A selector.

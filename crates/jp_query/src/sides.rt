@@ -1,14 +1,17 @@
 //! Sides of comparisons: literals, queries and functions (RFC 9535 section 2.3.5.1, comparable).
 
 ghost use Rattle.std.specs.Prelude.{◌≡◌};
-ghost use Rattle.jp_reading.specs.Views.{Gives};
-ghost use Rattle.jp_query.specs.Tree.{literal_of, operand_of, query_of};
+ghost use Rattle.std.specs.Str.{chars};
+ghost use Rattle.std.specs.String.{string_bytes};
+ghost use Rattle.jp_reading.specs.Views.{Gives, by};
+ghost use Rattle.jp_query.specs.Tree.{call_value, literal_of, operand_of, query_of};
 ghost use Rattle.jp_query.specs.Private.Rules as rules;
 ghost use Rattle.jp_query.specs.Private.Rules.{opens};
-ghost use Rattle.jp_query.specs.Private.Reading.{read_flat, read_inside};
+ghost use Rattle.jp_query.specs.Private.Reading.{call_inside, read_flat, read_inside};
 ghost use Rattle.jp_reading.specs.Outcome.{head, passes};
 
-use crate::calls::call;
+use crate::calls::call_from;
+use crate::lists::append_char;
 use crate::literals::plain_literal;
 use crate::names::{goes_on, is_at_function};
 use crate::segments::segments;
@@ -101,7 +104,7 @@ fn word(reader: &mut Reader, levels: u32) -> Result<Operand, Stop>
         return Err(Stop::Syntax(reader.place()));
     }
     let name = String::new(reader.alloc());
-    Ok(Operand::Call(call(reader, levels, name)?))
+    called(reader, levels, name)
 }
 
 /// The word of these letters, or a function whose name begins like it.
@@ -124,18 +127,32 @@ fn word_or_call(
 {
     reader.expect(first)?;
     let mut name = String::new(reader.alloc());
-    name.push(first)?;
+    append_char(&mut name, first)?;
     'letters: for letter in others {
         if is_before_name(reader, Some(*letter)) {
-            return Ok(Operand::Call(call(reader, levels, name)?));
+            return called(reader, levels, name);
         }
         reader.expect(*letter)?;
-        name.push(*letter)?;
+        append_char(&mut name, *letter)?;
     }
     if is_before_name(reader, None) {
-        return Ok(Operand::Call(call(reader, levels, name)?));
+        return called(reader, levels, name);
     }
     Ok(Operand::Literal(literal))
+}
+
+/// A function, of whose name these characters were read.
+#[cycle(nested)]
+fn called(reader: &mut Reader, levels: u32, name: String) -> Result<Operand, Stop>
+    ensures { Gives
+        operand_of
+        result
+        reader.new
+        (by
+        call_value
+        (by (rules.call_with (chars (string_bytes name))) (call_inside levels reader.old))) }
+{
+    Ok(Operand::Call(call_from(reader, levels, name)?))
 }
 
 /// Whether a function's name goes on or ends here, and not with that character.

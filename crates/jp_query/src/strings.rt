@@ -12,6 +12,7 @@ ghost use Rattle.jp_query.specs.Private.Rules as rules;
 ghost use Rattle.jp_query.specs.Private.Rules.{begins_character};
 ghost use Rattle.jp_query.specs.Private.Reading.{read_flat};
 
+use crate::lists::append_char;
 use jp_reading::{CharacterClass, Reader, Stop};
 
 /// A string between two of the quotation mark.
@@ -40,7 +41,7 @@ fn characters(reader: &mut Reader, quote: char) -> Result<String, Stop>
     let mut text = String::new(reader.alloc());
     'characters: while is_at_character(reader, quote) {
         let next = character(reader, quote)?;
-        text.push(next)?;
+        append_char(&mut text, next)?;
     }
     Ok(text)
 }

@@ -4,9 +4,8 @@ use Rattle.std.specs.Str.{chars}
 use Rattle.std.specs.String.{string_bytes}
 use Rattle.std.proofs.lemmas.Str.{chars-nil, IsUtf8-string_bytes}
 use Rattle.std.proofs.lemmas.List.{length-map, length-append, drop_more, drop_all}
-use Rattle.std.proofs.lemmas.Result.{err_from_is_err_and}
 use Rattle.jp_reading.specs.Texts.{Text}
-use Rattle.jp_reading.specs.Outcome.{Outcome, took, ◌>>=◌, past, skip, expect, passes, is, after_blank, item_since}
+use Rattle.jp_reading.specs.Outcome.{State, Outcome, took, ◌>>=◌, past, skip, expect, passes, is, after_blank, item_since}
 use Rattle.jp_reading.specs.Views.{Fails, Gives, by}
 use Rattle.jp_reading.specs.Rule.{here, beyond, the, blanks, relaxed, ◌>>◌}
 use Rattle.jp_reading.specs.RuleReading.{spanned_if}
@@ -20,11 +19,12 @@ use Rattle.jp_query.specs.Tree.{SegmentTree, SelectorTree, argument_of, call_of,
 use Rattle.jp_query.specs.Characters.{ampersand, bar, comma, closing_bracket, opening_parenthesis, closing_parenthesis, letter_t, letter_f, letter_n}
 use Rattle.jp_query.specs.Names.{is_function_char}
 use Rattle.jp_query.specs.Grammar.{joined}
-use Rattle.jp_query.specs.Private.Rules.{QueryRule, entries, segment, segments, begins_segment, selector, entry, basic, conjunction, other_parts, run, call_with, after_parenthesis, argument, argument_start, argument_on, next_argument, some_arguments, is_logical, query_within, word, word_from, word_of}
-use Rattle.jp_query.specs.Private.Parts.{logical_at}
+use Rattle.jp_query.specs.Private.Rules.{QueryRule, bracket, in_brackets, entries, segment, segments, begins_segment, selector, entry, basic, conjunction, other_parts, run, call_with, after_parenthesis, argument, argument_start, argument_on, next_argument, some_arguments, is_logical, query_within, word, word_from, word_of}
+use Rattle.jp_query.specs.Private.Parts.{next_entry, logical_at, mark_of, part_of, several}
 use Rattle.jp_query.specs.Private.Reading.{inside, call_inside, read_flat, read_inside}
 use Rattle.jp_query.proofs.Levels.{inside-progress, inside-entered}
-use Rattle.jp_query.proofs.Readers.Trees.{tree_any_of, tree_all_of, tree_segment, tree_call, tree_argument_query, tree_argument_call, tree_logical, tree_operand_call, tree_operand_literal, tree_subject_query, tree_subject_call, tree_test}
+use Rattle.jp_query.proofs.Readers.Trees.{tree_segment, tree_call, tree_argument_query, tree_argument_call, tree_logical, tree_operand_literal, tree_subject_query, tree_subject_call, tree_test}
+use Rattle.jp_query.proofs.Readers.Exits.{err_is}
 use Rattle.jp_query.proofs.Readers.ArgumentParts as parts
 use Rattle.jp_query.proofs.Readers.Openings as openings
 use Rattle.jp_query.proofs.Readers.Rounds as rounds
@@ -38,11 +38,10 @@ next_segment = blanks {m = beyond} >> relaxed segment
 pub segments::segments-returns-in_err-next : goal.segments::segments-returns-in_err-next
 unfolding segments
 segments::segments-returns-in_err-next t c =
-    let p = err_from_is_err_and c.from_residual.result c.from_residual.ensures.1 in
     let failed : Fails c.in_err-next.field-0.0
     (read_inside c.args.levels segment (skip c.segments.reader)) =
     rw c.skip.ensures at c.in_err-next.ensures in
-    rw (p.1, p.2, ← c.segments.invariant) (loops.some_fail (inside c.args.levels)
+    rw (err_is c.from_residual.result c.from_residual.ensures.1, ← c.segments.invariant) (loops.some_fail (inside c.args.levels)
     (inside-progress c.args.levels) beyond begins_segment next_segment c.segments.reader
     (map segment_of c.segments.segments.items) c.in_err-next.field-0.0
     (sym c.is_before_segment.ensures ∙ c.segments-test.true) failed)
@@ -75,58 +74,37 @@ segments::segments-returns t c =
 
 -- ---- selectors in brackets
 
-abbrev next_entry : QueryRule true here here SelectorTree
-next_entry = the comma >> (blanks {m = here} >> entry)
-
 pub selectors::entries-entries-init : goal.selectors::entries-entries-init
+unfolding entries
 selectors::entries-entries-init t c =
     rw (
       rounds.map-first selector_of c.in_ok-append.ensures c.new-selectors.ensures.items,
-      c.skip.ensures,
-    ) (rounds.entries_first (inside c.args.levels) c.args.reader.now c.selector.new.reader
-    (selector_of c.in_ok-first.first) c.in_ok-first.ensures)
+      c.in_ok-first.ensures,
+    ) refl
 
 pub selectors::entries-returns-in_err-next : goal.selectors::entries-returns-in_err-next
 selectors::entries-returns-in_err-next t c =
-    let p = err_from_is_err_and c.from_residual-in_err-next.result
-    c.from_residual-in_err-next.ensures.1 in
-    let failed : Fails c.in_err-next.field-0.0
-    (read_inside c.args.levels selector (skip (past c.entries.reader))) =
-    rw (c.skip-in-entries.ensures, c.bump.ensures.past) at c.in_err-next.ensures in
-    rw (p.1, p.2, ← c.entries.invariant)
-    (loops.some_fail (inside c.args.levels) (inside-progress c.args.levels) here
-    (is comma) next_entry c.entries.reader
-    (map selector_of c.entries.selectors.items) c.in_err-next.field-0.0
-    (sym c.is_at.ensures ∙ c.entries-test.true)
-    (rounds.another-fails (inside c.args.levels) c.entries.reader c.in_err-next.field-0.0
-    (sym c.is_at.ensures ∙ c.entries-test.true) failed))
+    rw (
+      err_is c.from_residual-in_err-next.result c.from_residual-in_err-next.ensures.1,
+      ← c.entries.invariant,
+    )
+    (loops.some_fail (inside c.args.levels) (inside-progress c.args.levels) here (is comma)
+    next_entry c.entries.reader (map selector_of c.entries.selectors.items)
+    c.in_err-next.field-0.0 (sym c.is_at.ensures ∙ c.entries-test.true) c.in_err-next.ensures)
 
 pub selectors::entries-entries-smaller : goal.selectors::entries-entries-smaller
 selectors::entries-entries-smaller t c =
-    rw c.skip-in-entries-2.ensures
-    (loops.some-smaller (inside c.args.levels) (inside-progress c.args.levels) here
-    (is comma) next_entry c.entries.reader
-    (skip c.selector-in-entries.new.reader) (selector_of c.in_ok-next.next)
-    (rounds.another-took (inside c.args.levels) c.entries.reader c.selector-in-entries.new.reader
-    (selector_of c.in_ok-next.next) (sym c.is_at.ensures ∙ c.entries-test.true)
-    (ap (read_inside c.args.levels selector)
-    (ap skip (sym c.bump.ensures.past) ∙ sym c.skip-in-entries.ensures) ∙ c.in_ok-next.ensures)))
+    loops.some-smaller (inside c.args.levels) (inside-progress c.args.levels) here (is comma)
+    next_entry c.entries.reader c.next_entry.new.reader _ c.in_ok-next.ensures
 
 pub selectors::entries-entries-preserved : goal.selectors::entries-entries-preserved
 selectors::entries-entries-preserved t c =
-    rw (
-      rounds.map-pushed selector_of c.entries.selectors.items c.in_ok-next.next
-          c.in_ok-append-2.ensures,
-      c.skip-in-entries-2.ensures,
-    ) (sym (loops.some_on (inside c.args.levels) (inside-progress c.args.levels) here
-    (is comma) next_entry c.entries.reader
-    (skip c.selector-in-entries.new.reader) (map selector_of c.entries.selectors.items)
+    rw (rounds.map-pushed selector_of c.entries.selectors.items c.in_ok-next.next
+    c.in_ok-append-2.ensures)
+    (sym (loops.some_on (inside c.args.levels) (inside-progress c.args.levels) here (is comma)
+    next_entry c.entries.reader c.next_entry.new.reader (map selector_of c.entries.selectors.items)
     (selector_of c.in_ok-next.next) (sym c.is_at.ensures ∙ c.entries-test.true)
-    (rounds.another-took (inside c.args.levels) c.entries.reader c.selector-in-entries.new.reader
-    (selector_of c.in_ok-next.next) (sym c.is_at.ensures ∙ c.entries-test.true)
-    (ap (read_inside c.args.levels selector)
-    (ap skip (sym c.bump.ensures.past) ∙ sym c.skip-in-entries.ensures) ∙ c.in_ok-next.ensures)))
-    ∙ c.entries.invariant)
+    c.in_ok-next.ensures) ∙ c.entries.invariant)
 
 pub selectors::entries-returns : goal.selectors::entries-returns
 selectors::entries-returns t c =
@@ -135,162 +113,86 @@ selectors::entries-returns t c =
     (is comma) next_entry c.entries.reader
     (map selector_of c.entries.selectors.items) (sym c.is_at.ensures ∙ c.entries-test.false)
 
+pub selectors::next_entry-returns : goal.selectors::next_entry-returns
+unfolding entry
+selectors::next_entry-returns t c =
+    rw (c.in_ok-expect.ensures.taken, ← c.skip.ensures) c.entry.ensures
+
 -- ---- parts of expressions
 
-pub expressions::conjunction_from-returns-then-not-is_before :
-    goal.expressions::conjunction_from-returns-then-not-is_before
-expressions::conjunction_from-returns-then-not-is_before t c =
-    ap (by (λ es. joined all_of (expr_of c.args.first ∷ es)))
-    (rounds.parts-none (inside c.args.levels) ampersand basic c.args.reader.now
-    (sym c.is_before.ensures ∙ c.if-not-is_before.true))
+pub expressions::joined_from-returns-then-not-is_before_joint :
+    goal.expressions::joined_from-returns-then-not-is_before_joint
+expressions::joined_from-returns-then-not-is_before_joint t c =
+    ap (by (λ es. joined (several c.args.connective) (expr_of c.args.first ∷ es)))
+    (rounds.parts-none (inside c.args.levels) (mark_of c.args.connective) (part_of c.args.connective) c.args.reader.now
+    (sym c.is_before_joint.ensures ∙ c.if-not-is_before_joint.true))
 
-pub expressions::conjunction_from-parts-init : goal.expressions::conjunction_from-parts-init
-expressions::conjunction_from-parts-init t c =
+pub expressions::joined_from-parts-init : goal.expressions::joined_from-parts-init
+expressions::joined_from-parts-init t c =
     let items : c.append.new.list.items ≡ c.args.first ∷ [] =
     c.in_ok-append.ensures ∙ ap (λ xs. xs ++ c.args.first ∷ []) c.new-parts.ensures.items in
-    let on : passes (is ampersand) (after_blank c.args.reader.now) ≡ true =
-    sym c.is_before.ensures ∙ c.if-not-is_before.false in
+    let on : passes (is (mark_of c.args.connective)) (after_blank c.args.reader.now) ≡ true =
+    sym c.is_before_joint.ensures ∙ c.if-not-is_before_joint.false in
     record {
       total = rw (ap (map expr_of) items) refl;
       some = rw items (omega arith);
       several = λ off. absurd (true≢false (sym on ∙ off));
     }
 
-pub expressions::conjunction_from-returns-in_err-joint :
-    goal.expressions::conjunction_from-returns-in_err-joint
-expressions::conjunction_from-returns-in_err-joint t c =
-    let p = err_from_is_err_and c.from_residual-in_err-joint.result
-    c.from_residual-in_err-joint.ensures.1 in
+pub expressions::joined_from-returns-in_err-joint :
+    goal.expressions::joined_from-returns-in_err-joint
+expressions::joined_from-returns-in_err-joint t c =
     let e = c.in_err-joint.field-0.0 in
-    rw (p.1, p.2)
-    (rounds.parts-fail c.args.levels ampersand basic (expr_of c.args.first) c.args.reader.now all_of
+    rw (err_is c.from_residual-in_err-joint.result c.from_residual-in_err-joint.ensures.1)
+    (rounds.parts-fail c.args.levels c.args.connective (expr_of c.args.first) c.args.reader.now
     e (map expr_of c.parts.parts.items) c.parts.reader c.parts.invariant.total
-    (sym c.is_before-in-parts.ensures ∙ c.parts-test.true)
-    (rounds.mark-fails (inside c.args.levels) ampersand basic c.parts.reader e
+    (sym c.is_before_joint-in-parts.ensures ∙ c.parts-test.true)
+    (rounds.mark-fails (inside c.args.levels) (mark_of c.args.connective) (part_of c.args.connective) c.parts.reader e
     c.in_err-joint.ensures))
 
-pub expressions::conjunction_from-returns-in_err-next :
-    goal.expressions::conjunction_from-returns-in_err-next
-expressions::conjunction_from-returns-in_err-next t c =
-    let p = err_from_is_err_and c.from_residual-in_err-next.result
-    c.from_residual-in_err-next.ensures.1 in
+pub expressions::joined_from-returns-in_err-next :
+    goal.expressions::joined_from-returns-in_err-next
+expressions::joined_from-returns-in_err-next t c =
     let e = c.in_err-next.field-0.0 in
-    rw (p.1, p.2)
-    (rounds.parts-fail c.args.levels ampersand basic (expr_of c.args.first) c.args.reader.now all_of
+    rw (err_is c.from_residual-in_err-next.result c.from_residual-in_err-next.ensures.1)
+    (rounds.parts-fail c.args.levels c.args.connective (expr_of c.args.first) c.args.reader.now
     e (map expr_of c.parts.parts.items) c.parts.reader c.parts.invariant.total
-    (sym c.is_before-in-parts.ensures ∙ c.parts-test.true)
-    (rounds.part-fails (inside c.args.levels) ampersand basic c.parts.reader c.joint.new.reader
-    ampersand e c.in_ok-joint.ensures c.in_err-next.ensures))
+    (sym c.is_before_joint-in-parts.ensures ∙ c.parts-test.true)
+    (rounds.part-fails (inside c.args.levels) (mark_of c.args.connective) (part_of c.args.connective) c.parts.reader c.joint.new.reader
+    (mark_of c.args.connective) e c.in_ok-joint.ensures c.in_err-next.ensures))
 
-pub expressions::conjunction_from-parts-smaller : goal.expressions::conjunction_from-parts-smaller
-expressions::conjunction_from-parts-smaller t c =
-    rounds.parts-smaller c.args.levels ampersand basic (expr_of c.args.first) c.args.reader.now
-    c.parts.reader c.joint.new.reader c.basic.new.reader (expr_of c.in_ok-next.next)
+pub expressions::joined_from-parts-smaller : goal.expressions::joined_from-parts-smaller
+expressions::joined_from-parts-smaller t c =
+    rounds.parts-smaller c.args.levels c.args.connective (expr_of c.args.first) c.args.reader.now
+    c.parts.reader c.joint.new.reader c.part.new.reader (expr_of c.in_ok-next.next)
     c.in_ok-joint.ensures c.in_ok-next.ensures
 
-pub expressions::conjunction_from-parts-preserved :
-    goal.expressions::conjunction_from-parts-preserved
-expressions::conjunction_from-parts-preserved t c =
+pub expressions::joined_from-parts-preserved :
+    goal.expressions::joined_from-parts-preserved
+expressions::joined_from-parts-preserved t c =
     let some = c.parts.invariant.some in
     let two : 2 ≤ length c.append-in-parts.new.list.items = rw c.in_ok-append-2.ensures
     (omega (arith, length-append c.parts.parts.items (c.in_ok-next.next ∷ []))) in
     record {
       total = rw (rounds.map-pushed expr_of c.parts.parts.items c.in_ok-next.next
           c.in_ok-append-2.ensures)
-          (rounds.parts-on c.args.levels ampersand basic (expr_of c.args.first) c.args.reader.now
-          (map expr_of c.parts.parts.items) c.parts.reader c.joint.new.reader c.basic.new.reader
+          (rounds.parts-on c.args.levels c.args.connective (expr_of c.args.first) c.args.reader.now
+          (map expr_of c.parts.parts.items) c.parts.reader c.joint.new.reader c.part.new.reader
           (expr_of c.in_ok-next.next) c.parts.invariant.total
-          (sym c.is_before-in-parts.ensures ∙ c.parts-test.true)
+          (sym c.is_before_joint-in-parts.ensures ∙ c.parts-test.true)
           c.in_ok-joint.ensures c.in_ok-next.ensures);
       some = omega arith;
       several = λ off. two;
     }
 
-pub expressions::conjunction_from-returns : goal.expressions::conjunction_from-returns
-expressions::conjunction_from-returns t c =
-    let off : passes (is ampersand) (after_blank c.parts.reader) ≡ false =
-    sym c.is_before-in-parts.ensures ∙ c.parts-test.false in
+pub expressions::joined_from-returns : goal.expressions::joined_from-returns
+expressions::joined_from-returns t c =
+    let off : passes (is (mark_of c.args.connective)) (after_blank c.parts.reader) ≡ false =
+    sym c.is_before_joint-in-parts.ensures ∙ c.parts-test.false in
     let two = c.parts.invariant.several off in
-    rounds.parts-end c.args.levels ampersand basic (expr_of c.args.first) c.args.reader.now all_of
+    rounds.parts-end c.args.levels c.args.connective (expr_of c.args.first) c.args.reader.now
     (map expr_of c.parts.parts.items) c.parts.reader c.parts.invariant.total off (rw length-map two)
-    ∙ ap (λ e. took e c.parts.reader) (sym (tree_all_of c.parts.parts))
-
-pub expressions::expression_from-returns-then-not-is_before :
-    goal.expressions::expression_from-returns-then-not-is_before
-expressions::expression_from-returns-then-not-is_before t c =
-    ap (by (λ es. joined any_of (expr_of c.args.first ∷ es)))
-    (rounds.parts-none (inside c.args.levels) bar conjunction c.args.reader.now
-    (sym c.is_before.ensures ∙ c.if-not-is_before.true))
-
-pub expressions::expression_from-parts-init : goal.expressions::expression_from-parts-init
-expressions::expression_from-parts-init t c =
-    let items : c.append.new.list.items ≡ c.args.first ∷ [] =
-    c.in_ok-append.ensures ∙ ap (λ xs. xs ++ c.args.first ∷ []) c.new-parts.ensures.items in
-    let on : passes (is bar) (after_blank c.args.reader.now) ≡ true =
-    sym c.is_before.ensures ∙ c.if-not-is_before.false in
-    record {
-      total = rw (ap (map expr_of) items) refl;
-      some = rw items (omega arith);
-      several = λ off. absurd (true≢false (sym on ∙ off));
-    }
-
-pub expressions::expression_from-returns-in_err-joint :
-    goal.expressions::expression_from-returns-in_err-joint
-expressions::expression_from-returns-in_err-joint t c =
-    let p = err_from_is_err_and c.from_residual-in_err-joint.result
-    c.from_residual-in_err-joint.ensures.1 in
-    let e = c.in_err-joint.field-0.0 in
-    rw (p.1, p.2)
-    (rounds.parts-fail c.args.levels bar conjunction (expr_of c.args.first) c.args.reader.now any_of
-    e (map expr_of c.parts.parts.items) c.parts.reader c.parts.invariant.total
-    (sym c.is_before-in-parts.ensures ∙ c.parts-test.true)
-    (rounds.mark-fails (inside c.args.levels) bar conjunction c.parts.reader e
-    c.in_err-joint.ensures))
-
-pub expressions::expression_from-returns-in_err-next :
-    goal.expressions::expression_from-returns-in_err-next
-expressions::expression_from-returns-in_err-next t c =
-    let p = err_from_is_err_and c.from_residual-in_err-next.result
-    c.from_residual-in_err-next.ensures.1 in
-    let e = c.in_err-next.field-0.0 in
-    rw (p.1, p.2)
-    (rounds.parts-fail c.args.levels bar conjunction (expr_of c.args.first) c.args.reader.now any_of
-    e (map expr_of c.parts.parts.items) c.parts.reader c.parts.invariant.total
-    (sym c.is_before-in-parts.ensures ∙ c.parts-test.true)
-    (rounds.part-fails (inside c.args.levels) bar conjunction c.parts.reader c.joint.new.reader bar
-    e c.in_ok-joint.ensures c.in_err-next.ensures))
-
-pub expressions::expression_from-parts-smaller : goal.expressions::expression_from-parts-smaller
-expressions::expression_from-parts-smaller t c =
-    rounds.parts-smaller c.args.levels bar conjunction (expr_of c.args.first) c.args.reader.now
-    c.parts.reader c.joint.new.reader c.conjunction.new.reader (expr_of c.in_ok-next.next)
-    c.in_ok-joint.ensures c.in_ok-next.ensures
-
-pub expressions::expression_from-parts-preserved : goal.expressions::expression_from-parts-preserved
-expressions::expression_from-parts-preserved t c =
-    let some = c.parts.invariant.some in
-    let two : 2 ≤ length c.append-in-parts.new.list.items = rw c.in_ok-append-2.ensures
-    (omega (arith, length-append c.parts.parts.items (c.in_ok-next.next ∷ []))) in
-    record {
-      total = rw (rounds.map-pushed expr_of c.parts.parts.items c.in_ok-next.next
-          c.in_ok-append-2.ensures)
-          (rounds.parts-on c.args.levels bar conjunction (expr_of c.args.first) c.args.reader.now
-          (map expr_of c.parts.parts.items) c.parts.reader c.joint.new.reader
-          c.conjunction.new.reader (expr_of c.in_ok-next.next) c.parts.invariant.total
-          (sym c.is_before-in-parts.ensures ∙ c.parts-test.true)
-          c.in_ok-joint.ensures c.in_ok-next.ensures);
-      some = omega arith;
-      several = λ off. two;
-    }
-
-pub expressions::expression_from-returns : goal.expressions::expression_from-returns
-expressions::expression_from-returns t c =
-    let off : passes (is bar) (after_blank c.parts.reader) ≡ false =
-    sym c.is_before-in-parts.ensures ∙ c.parts-test.false in
-    let two = c.parts.invariant.several off in
-    rounds.parts-end c.args.levels bar conjunction (expr_of c.args.first) c.args.reader.now any_of
-    (map expr_of c.parts.parts.items) c.parts.reader c.parts.invariant.total off (rw length-map two)
-    ∙ ap (λ e. took e c.parts.reader) (sym (tree_any_of c.parts.parts))
+    ∙ ap (λ e. took e c.parts.reader) (sym c.join.ensures)
 
 -- ---- levels and brackets
 
@@ -300,116 +202,42 @@ expressions::inside-returns t c =
     (λ none. (let some = c.if-levels-eq0.false in omega arith)) c.in_ok-expect.ensures.taken in
     rw (entered, ← c.skip.ensures) c.expression.ensures
 
-pub segments::bracketed-returns-in_err-selectors : goal.segments::bracketed-returns-in_err-selectors
-segments::bracketed-returns-in_err-selectors t c =
-    let p = err_from_is_err_and c.from_residual-in_err-selectors.result
-    c.from_residual-in_err-selectors.ensures.1 in
-    let failed : Fails c.in_err-selectors.field-0.0
-    (read_inside c.args.levels entries (skip c.expect.new.self)) =
-    rw c.skip.ensures at c.in_err-selectors.ensures in
-    rw (
-      p.1,
-      p.2,
-      rounds.bracket-opened
-          (inside c.args.levels) c.args.descendant c.args.reader.now c.expect.new.self
-          c.in_ok-expect.ensures.taken,
-    ) (fails-then c.in_err-selectors.field-0.0
-    (read_inside c.args.levels entries (skip c.expect.new.self)) _ failed)
-
-pub segments::bracketed-returns-in_err-expect-2 : goal.segments::bracketed-returns-in_err-expect-2
-segments::bracketed-returns-in_err-expect-2 t c =
-    let p = err_from_is_err_and c.from_residual-in_err-expect-2.result
-    c.from_residual-in_err-expect-2.ensures.1 in
-    let read : read_inside c.args.levels entries (skip c.expect.new.self) ≡ took
-    (map selector_of c.in_ok-selectors.selectors.items) c.entries.new.reader =
-    ap (read_inside c.args.levels entries) (sym c.skip.ensures) ∙ c.in_ok-selectors.ensures in
-    rw (
-      p.1,
-      p.2,
-      rounds.bracket-opened
-          (inside c.args.levels) c.args.descendant c.args.reader.now c.expect.new.self
-          c.in_ok-expect.ensures.taken,
-      read,
-    ) (fails-then c.in_err-expect-2.field-0.0
-    (expect closing_bracket c.entries.new.reader) _ c.in_err-expect-2.ensures.taken)
-
 pub segments::bracketed-returns : goal.segments::bracketed-returns
+unfolding bracket
 segments::bracketed-returns t c =
-    let read : read_inside c.args.levels entries (skip c.expect.new.self) ≡ took
-    (map selector_of c.in_ok-selectors.selectors.items) c.entries.new.reader =
-    ap (read_inside c.args.levels entries) (sym c.skip.ensures) ∙ c.in_ok-selectors.ensures in
-    rw (
-      rounds.bracket-opened
-          (inside c.args.levels) c.args.descendant c.args.reader.now c.expect.new.self
-          c.in_ok-expect.ensures.taken,
-      read,
-      c.in_ok-expect-2.ensures.taken,
-    ) (ap (λ x. took x c.expect-2.new.self)
-    (sym (tree_segment c.args.descendant c.in_ok-selectors.selectors)))
+    rw c.in_ok-expect.ensures.taken (subst (λ (q : State). Gives segment_of c.in_brackets.result
+    c.in_brackets.new.reader (read_inside c.args.levels (in_brackets c.args.descendant) q))
+    c.skip.ensures c.in_brackets.ensures)
 
 -- ---- function expressions
 
-pub calls::call-returns-in_err-name : goal.calls::call-returns-in_err-name
-calls::call-returns-in_err-name t c =
-    let p = err_from_is_err_and c.from_residual.result c.from_residual.ensures.1 in
-    let w = chars (string_bytes c.args.name) in
-    let entered = openings.call-entered c.args.levels w c.args.reader.now
-    (λ none. (let some = c.if-levels-eq0.false in omega arith)) in
-    rw (p.1, p.2, entered) (fails-then c.in_err-name.field-0.0
-    (by (λ u. w ++ u) (read_flat (run is_function_char) c.args.reader.now)) _ c.in_err-name.ensures)
-
-pub calls::call-returns-in_err-expect : goal.calls::call-returns-in_err-expect
-calls::call-returns-in_err-expect t c =
-    let p = err_from_is_err_and c.from_residual-in_err-expect.result
-    c.from_residual-in_err-expect.ensures.1 in
-    let w = chars (string_bytes c.args.name) in
-    let entered = openings.call-entered c.args.levels w c.args.reader.now
-    (λ none. (let some = c.if-levels-eq0.false in omega arith)) in
-    rw (p.1, p.2, entered, c.in_ok-name.ensures) (fails-then c.in_err-expect.field-0.0
-    (expect opening_parenthesis c.function_characters.new.reader) _ c.in_err-expect.ensures.taken)
-
-pub calls::call-returns-in_err-arguments : goal.calls::call-returns-in_err-arguments
-calls::call-returns-in_err-arguments t c =
-    let p = err_from_is_err_and c.from_residual-in_err-arguments.result
-    c.from_residual-in_err-arguments.ensures.1 in
-    let w = chars (string_bytes c.args.name) in
-    let entered = openings.call-entered c.args.levels w c.args.reader.now
-    (λ none. (let some = c.if-levels-eq0.false in omega arith)) in
-    rw (p.1, p.2, entered, c.in_ok-name.ensures, c.in_ok-expect.ensures.taken)
-    (fails-then c.in_err-arguments.field-0.0
-    (read_inside (c.args.levels - 1) after_parenthesis c.expect.new.self) _
-    c.in_err-arguments.ensures)
+pub calls::call_from-returns : goal.calls::call_from-returns
+calls::call_from-returns t c =
+    rw (openings.call-entered c.args.levels (chars (string_bytes c.args.name)) c.args.reader.now
+    (λ none. (let some = c.if-levels-eq0.false in omega arith))) c.rest_of_call.ensures
 
 pub calls::call-returns : goal.calls::call-returns
 calls::call-returns t c =
-    let w = chars (string_bytes c.args.name) in
-    let entered = openings.call-entered c.args.levels w c.args.reader.now
-    (λ none. (let some = c.if-levels-eq0.false in omega arith)) in
-    rw (entered, c.in_ok-name.ensures, c.in_ok-expect.ensures.taken, c.in_ok-arguments.ensures)
-    (ap (λ x. took x c.arguments.new.reader)
-    (sym (tree_call c.in_ok-name.name c.in_ok-arguments.arguments)))
+    rw (ap chars c.new-name.ensures.bytes ∙ chars-nil) at c.call_from.ensures
 
 -- ---- arguments
 
 pub calls::some_arguments-returns-in_err-first : goal.calls::some_arguments-returns-in_err-first
 unfolding some_arguments
 calls::some_arguments-returns-in_err-first t c =
-    let p = err_from_is_err_and c.from_residual.result c.from_residual.ensures.1 in
-    rw (p.1, p.2)
+    rw (err_is c.from_residual.result c.from_residual.ensures.1)
     (fails-then c.in_err-first.field-0.0 (read_inside c.args.levels argument c.args.reader.now) _
     c.in_err-first.ensures)
 
 pub calls::some_arguments-returns-in_err-next : goal.calls::some_arguments-returns-in_err-next
 calls::some_arguments-returns-in_err-next t c =
-    let p = err_from_is_err_and c.from_residual-in_err-next.result
-    c.from_residual-in_err-next.ensures.1 in
     let e = c.in_err-next.field-0.0 in
     let failed : Fails e (read_inside c.args.levels rounds.listed c.args.reader.now) =
     rw (← c.arguments.invariant)
     (loops.some_fail (inside c.args.levels) (inside-progress c.args.levels) beyond
     (is comma) next_argument c.arguments.reader (map argument_of c.arguments.arguments.items) e
     (sym c.is_before.ensures ∙ c.arguments-test.true) c.in_err-next.ensures) in
-    rw (p.1, p.2, parts.arguments-closed (inside c.args.levels) c.args.reader.now)
+    rw (err_is c.from_residual-in_err-next.result c.from_residual-in_err-next.ensures.1, parts.arguments-closed (inside c.args.levels) c.args.reader.now)
     (fails-then e (read_inside c.args.levels rounds.listed c.args.reader.now) _ failed)
 
 pub calls::some_arguments-arguments-smaller : goal.calls::some_arguments-arguments-smaller
@@ -429,8 +257,6 @@ calls::some_arguments-arguments-preserved t c =
 
 pub calls::some_arguments-returns-in_err-expect : goal.calls::some_arguments-returns-in_err-expect
 calls::some_arguments-returns-in_err-expect t c =
-    let p = err_from_is_err_and c.from_residual-in_err-expect.result
-    c.from_residual-in_err-expect.ensures.1 in
     let e = c.in_err-expect.field-0.0 in
     let listed : read_inside c.args.levels rounds.listed c.args.reader.now ≡ took
     (map argument_of c.arguments.arguments.items) c.arguments.reader = sym c.arguments.invariant
@@ -439,7 +265,7 @@ calls::some_arguments-returns-in_err-expect t c =
     (sym c.is_before.ensures ∙ c.arguments-test.false) in
     let failed : Fails e (expect closing_parenthesis (skip c.arguments.reader)) =
     rw c.skip.ensures at c.in_err-expect.ensures.taken in
-    rw (p.1, p.2, parts.arguments-closed (inside c.args.levels) c.args.reader.now, listed)
+    rw (err_is c.from_residual-in_err-expect.result c.from_residual-in_err-expect.ensures.1, parts.arguments-closed (inside c.args.levels) c.args.reader.now, listed)
     (fails-then e (expect closing_parenthesis (skip c.arguments.reader)) _ failed)
 
 pub calls::some_arguments-returns : goal.calls::some_arguments-returns
@@ -463,18 +289,15 @@ calls::next_argument-returns t c =
 pub calls::argument-returns-in_err-first : goal.calls::argument-returns-in_err-first
 unfolding argument
 calls::argument-returns-in_err-first t c =
-    let p = err_from_is_err_and c.from_residual.result c.from_residual.ensures.1 in
     let e = c.in_err-first.field-0.0 in
     let o = read_inside c.args.levels argument_start c.args.reader.now in
-    rw (p.1, p.2) (fails-then e (o >>= λ x q. read_inside c.args.levels (argument_on x) q) _
+    rw (err_is c.from_residual.result c.from_residual.ensures.1) (fails-then e (o >>= λ x q. read_inside c.args.levels (argument_on x) q) _
     (fails-then e o (λ x q. read_inside c.args.levels (argument_on x) q) c.in_err-first.ensures))
 
 pub calls::argument-returns-in_err-argument : goal.calls::argument-returns-in_err-argument
 unfolding argument
 calls::argument-returns-in_err-argument t c =
-    let p = err_from_is_err_and c.from_residual-in_err-argument.result
-    c.from_residual-in_err-argument.ensures.1 in
-    rw (p.1, p.2, c.in_ok-first.ensures) (fails-then c.in_err-argument.field-0.0
+    rw (err_is c.from_residual-in_err-argument.result c.from_residual-in_err-argument.ensures.1, c.in_ok-first.ensures) (fails-then c.in_err-argument.field-0.0
     (read_inside c.args.levels (argument_on (argument_of c.in_ok-first.first))
     c.argument_start.new.reader) _ c.in_err-argument.ensures)
 
@@ -545,63 +368,48 @@ calls::argument_from-returns-in-Logical t c =
 
 pub calls::logical-returns-in_err-conjunction : goal.calls::logical-returns-in_err-conjunction
 calls::logical-returns-in_err-conjunction t c =
-    let p = err_from_is_err_and c.from_residual.result c.from_residual.ensures.1 in
-    rw (p.1, p.2) (fails-then c.in_err-conjunction.field-0.0
+    rw (err_is c.from_residual.result c.from_residual.ensures.1) (fails-then c.in_err-conjunction.field-0.0
     (by (λ es. joined all_of (expr_of c.args.first ∷ es))
     (read_inside c.args.levels (other_parts ampersand basic) c.args.reader.now)) _
     c.in_err-conjunction.ensures)
 
-pub calls::logical-returns-in_err-expression_from :
-    goal.calls::logical-returns-in_err-expression_from
-calls::logical-returns-in_err-expression_from t c =
-    let p = err_from_is_err_and c.from_residual-in_err-expression_from.result
-    c.from_residual-in_err-expression_from.ensures.1 in
-    rw (p.1, p.2, c.in_ok-conjunction.ensures) (fails-then c.in_err-expression_from.field-0.0
+pub calls::logical-returns-in_err-expression :
+    goal.calls::logical-returns-in_err-expression
+calls::logical-returns-in_err-expression t c =
+    rw (err_is c.from_residual-in_err-expression.result c.from_residual-in_err-expression.ensures.1, c.in_ok-conjunction.ensures) (fails-then c.in_err-expression.field-0.0
     (by (λ es. joined any_of (expr_of c.in_ok-conjunction.conjunction ∷ es))
-    (read_inside c.args.levels (other_parts bar conjunction) c.conjunction_from.new.reader))
-    (λ e q. took (logical_argument e) q) c.in_err-expression_from.ensures)
+    (read_inside c.args.levels (other_parts bar conjunction) c.joined_from.new.reader))
+    (λ e q. took (logical_argument e) q) c.in_err-expression.ensures)
 
 pub calls::logical-returns : goal.calls::logical-returns
 calls::logical-returns t c =
-    rw (c.in_ok-conjunction.ensures, c.in_ok-expression_from.ensures)
-    (ap (λ x. took x c.expression_from.new.reader)
-    (sym (tree_logical c.in_ok-expression_from.field-0)))
+    rw (c.in_ok-conjunction.ensures, c.in_ok-expression.ensures)
+    (ap (λ x. took x c.joined_from-2.new.reader)
+    (sym (tree_logical c.in_ok-expression.expression)))
 
 -- ---- tests and sides
 
 pub expressions::subject-returns-in_err-call : goal.expressions::subject-returns-in_err-call
 expressions::subject-returns-in_err-call t c =
-    let p = err_from_is_err_and c.from_residual.result c.from_residual.ensures.1 in
-    let name : chars (string_bytes c.new-name.result) ≡ [] =
-    ap chars c.new-name.ensures.bytes ∙ chars-nil in
-    let called = by (call_with []) (call_inside c.args.levels c.args.reader.now) in
-    let failed : Fails c.in_err-call.field-0.0 called = rw name at c.in_err-call.ensures in
     rw (
-      p.1,
-      p.2,
+      err_is c.from_residual.result c.from_residual.ensures.1,
       openings.subject-called c.args.levels c.args.reader.now
           (sym c.is_at_function.ensures ∙ c.if-is_at_function.true),
-    ) (fails-then c.in_err-call.field-0.0 called _ failed)
+    ) (fails-then c.in_err-call.field-0.0
+    (by (call_with []) (call_inside c.args.levels c.args.reader.now)) _ c.in_err-call.ensures)
 
 pub expressions::subject-returns-then-is_at_function :
     goal.expressions::subject-returns-then-is_at_function
 expressions::subject-returns-then-is_at_function t c =
-    let name : chars (string_bytes c.new-name.result) ≡ [] =
-    ap chars c.new-name.ensures.bytes ∙ chars-nil in
-    let read : by (call_with []) (call_inside c.args.levels c.args.reader.now) ≡ took
-    (call_of c.in_ok-call.field-0) c.call.new.reader = rw name at c.in_ok-call.ensures in
     openings.subject-called c.args.levels c.args.reader.now
-    (sym c.is_at_function.ensures ∙ c.if-is_at_function.true) ∙ ap (by call_test) read
+    (sym c.is_at_function.ensures ∙ c.if-is_at_function.true) ∙ ap (by call_test) c.in_ok-call.ensures
     ∙ ap (λ x. took x c.call.new.reader) (sym (tree_subject_call c.in_ok-call.field-0))
 
 pub expressions::subject-returns-in_err-query_within :
     goal.expressions::subject-returns-in_err-query_within
 expressions::subject-returns-in_err-query_within t c =
-    let p = err_from_is_err_and c.from_residual-in_err-query_within.result
-    c.from_residual-in_err-query_within.ensures.1 in
     rw (
-      p.1,
-      p.2,
+      err_is c.from_residual-in_err-query_within.result c.from_residual-in_err-query_within.ensures.1,
       openings.subject-query c.args.levels c.args.reader.now
           (sym c.is_at_function.ensures ∙ c.if-is_at_function.false),
     ) (fails-then c.in_err-query_within.field-0.0
@@ -626,37 +434,24 @@ expressions::compared_or_test-returns-then-is_before_operator t c =
 
 pub sides::word-returns-then-is_at : goal.sides::word-returns-then-is_at
 sides::word-returns-then-is_at t c =
-    let step : read_inside c.args.levels word c.args.reader.now
-    ≡ read_inside c.args.levels (word_of true_literal letter_t c.as_slice.result.now)
-    c.args.reader.now =
-    openings.word-t c.args.levels c.args.reader.now (sym c.is_at.ensures ∙ c.if-is_at.true)
-    ∙ ap (λ more. read_inside c.args.levels (word_of true_literal letter_t more) c.args.reader.now)
-    (sym c.as_slice.ensures) in
-    subst
-    (λ (o : Outcome OperandTree). Gives operand_of c.word_or_call.result c.word_or_call.new.reader
-    o) (sym step) c.word_or_call.ensures
+    rw (openings.word-t c.args.levels c.args.reader.now (sym c.is_at.ensures ∙ c.if-is_at.true))
+    (subst (λ (more : Text). Gives operand_of c.word_or_call.result c.word_or_call.new.reader
+    (read_inside c.args.levels (word_of true_literal letter_t more) c.args.reader.now)) c.as_slice.ensures
+    c.word_or_call.ensures)
 
 pub sides::word-returns-then-is_at-2 : goal.sides::word-returns-then-is_at-2
 sides::word-returns-then-is_at-2 t c =
-    let step : read_inside c.args.levels word c.args.reader.now
-    ≡ read_inside c.args.levels (word_of false_literal letter_f c.as_slice-then-is_at-2.result.now)
-    c.args.reader.now =
-    openings.word-f c.args.levels c.args.reader.now (sym c.is_at-2.ensures ∙ c.if-is_at-2.true)
-    ∙ ap (λ more. read_inside c.args.levels (word_of false_literal letter_f more) c.args.reader.now)
-    (sym c.as_slice-then-is_at-2.ensures) in
-    subst (λ (o : Outcome OperandTree). Gives operand_of c.word_or_call-then-is_at-2.result
-    c.word_or_call-then-is_at-2.new.reader o) (sym step) c.word_or_call-then-is_at-2.ensures
+    rw (openings.word-f c.args.levels c.args.reader.now (sym c.is_at-2.ensures ∙ c.if-is_at-2.true))
+    (subst (λ (more : Text). Gives operand_of c.word_or_call-then-is_at-2.result c.word_or_call-then-is_at-2.new.reader
+    (read_inside c.args.levels (word_of false_literal letter_f more) c.args.reader.now)) c.as_slice-then-is_at-2.ensures
+    c.word_or_call-then-is_at-2.ensures)
 
 pub sides::word-returns-then-is_at-3 : goal.sides::word-returns-then-is_at-3
 sides::word-returns-then-is_at-3 t c =
-    let step : read_inside c.args.levels word c.args.reader.now
-    ≡ read_inside c.args.levels (word_of null_literal letter_n c.as_slice-then-is_at-3.result.now)
-    c.args.reader.now =
-    openings.word-n c.args.levels c.args.reader.now (sym c.is_at-3.ensures ∙ c.if-is_at-3.true)
-    ∙ ap (λ more. read_inside c.args.levels (word_of null_literal letter_n more) c.args.reader.now)
-    (sym c.as_slice-then-is_at-3.ensures) in
-    subst (λ (o : Outcome OperandTree). Gives operand_of c.word_or_call-then-is_at-3.result
-    c.word_or_call-then-is_at-3.new.reader o) (sym step) c.word_or_call-then-is_at-3.ensures
+    rw (openings.word-n c.args.levels c.args.reader.now (sym c.is_at-3.ensures ∙ c.if-is_at-3.true))
+    (subst (λ (more : Text). Gives operand_of c.word_or_call-then-is_at-3.result c.word_or_call-then-is_at-3.new.reader
+    (read_inside c.args.levels (word_of null_literal letter_n more) c.args.reader.now)) c.as_slice-then-is_at-3.ensures
+    c.word_or_call-then-is_at-3.ensures)
 
 pub sides::word-returns-then-not-is_at_function : goal.sides::word-returns-then-not-is_at_function
 sides::word-returns-then-not-is_at_function t c =
@@ -665,43 +460,21 @@ sides::word-returns-then-not-is_at_function t c =
     (sym c.is_at.ensures ∙ c.if-is_at.false) (sym c.is_at-2.ensures ∙ c.if-is_at-2.false)
     (sym c.is_at-3.ensures ∙ c.if-is_at-3.false)) c.place.ensures
 
-pub sides::word-returns-in_err-call : goal.sides::word-returns-in_err-call
-sides::word-returns-in_err-call t c =
-    let p = err_from_is_err_and c.from_residual.result c.from_residual.ensures.1 in
-    let name : chars (string_bytes c.new-name.result) ≡ [] =
-    ap chars c.new-name.ensures.bytes ∙ chars-nil in
-    let called = by (call_with []) (call_inside c.args.levels c.args.reader.now) in
-    let failed : Fails c.in_err-call.field-0.0 called = rw name at c.in_err-call.ensures in
-    rw (
-      p.1,
-      p.2,
-      openings.word-other c.args.levels c.args.reader.now
-          (sym c.is_at_function.ensures ∙ c.if-not-is_at_function.false)
-          (sym c.is_at.ensures ∙ c.if-is_at.false) (sym c.is_at-2.ensures ∙ c.if-is_at-2.false)
-          (sym c.is_at-3.ensures ∙ c.if-is_at-3.false),
-    ) (fails-then c.in_err-call.field-0.0 called _ failed)
-
 pub sides::word-returns : goal.sides::word-returns
 sides::word-returns t c =
-    let name : chars (string_bytes c.new-name.result) ≡ [] =
-    ap chars c.new-name.ensures.bytes ∙ chars-nil in
-    let read : by (call_with []) (call_inside c.args.levels c.args.reader.now) ≡ took
-    (call_of c.in_ok-call.field-0) c.call.new.reader = rw name at c.in_ok-call.ensures in
-    openings.word-other c.args.levels c.args.reader.now
+    rw (openings.word-other c.args.levels c.args.reader.now
     (sym c.is_at_function.ensures ∙ c.if-not-is_at_function.false)
     (sym c.is_at.ensures ∙ c.if-is_at.false) (sym c.is_at-2.ensures ∙ c.if-is_at-2.false)
-    (sym c.is_at-3.ensures ∙ c.if-is_at-3.false) ∙ ap (by call_value) read
-    ∙ ap (λ x. took x c.call.new.reader) (sym (tree_operand_call c.in_ok-call.field-0))
+    (sym c.is_at-3.ensures ∙ c.if-is_at-3.false))
+    (rw (ap chars c.new-name.ensures.bytes ∙ chars-nil) at c.called.ensures)
 
 pub sides::word_or_call-letters-init : goal.sides::word_or_call-letters-init
 sides::word_or_call-letters-init t c =
     let l = literal_of c.args.literal in
     let first = c.args.first in
-    let scalar : IsScalar first = search rules in
-    let pushed : chars (string_bytes c.push.new.self) ≡ first ∷ [] =
-    ap chars c.in_ok-push.ensures.bytes
-    ∙ chars_push (string_bytes c.new-name.result) first (IsUtf8-string_bytes c.new-name.result)
-    scalar ∙ ap (λ w. w ++ first ∷ []) (ap chars c.new-name.ensures.bytes ∙ chars-nil) in
+    let pushed : chars (string_bytes c.append_char.new.text) ≡ first ∷ [] =
+    c.in_ok-append_char.ensures
+    ∙ ap (λ w. w ++ first ∷ []) (ap chars c.new-name.ensures.bytes ∙ chars-nil) in
     record {
       total = rw pushed (sym (ap (λ (o : Outcome ℕ). o >>= λ d q. read_inside c.args.levels
           (word_from l (first ∷ []) c.args.others.now) q) c.in_ok-expect.ensures.taken));
@@ -714,25 +487,6 @@ letters-left : (letters : Text) (i x : ℕ) → i < length letters → x ≡ get
 letters-left letters i x within is =
     drop_more letters i x within ∙ ap (λ y. y ∷ drop (i + 1) letters) (sym is)
 
-pub sides::word_or_call-returns-in_err-call : goal.sides::word_or_call-returns-in_err-call
-sides::word_or_call-returns-in_err-call t c =
-    let p = err_from_is_err_and c.from_residual-in_err-call.result
-    c.from_residual-in_err-call.ensures.1 in
-    let l = literal_of c.args.literal in
-    let w = chars (string_bytes c.letters.name) in
-    let i = c.letters.letter-index in
-    let next = letters-left c.args.others.now i c.letter-item.result
-    (let more = c.letters-test.true in omega arith) c.letter-item.is in
-    let called = by (call_with w) (call_inside c.args.levels c.letters.reader) in
-    let step : read_inside c.args.levels (word_of l c.args.first c.args.others.now)
-    c.args.reader.now ≡ by call_value called = sym c.letters.invariant.total
-    ∙ ap (λ ys. read_inside c.args.levels (word_from l w ys) c.letters.reader) next
-    ∙ openings.word-called c.args.levels l w (c.letter-item.result ∷ drop (i + 1) c.args.others.now)
-    c.letters.reader (sym c.is_before_name.ensures ∙ c.if-is_before_name.true) in
-    rw (p.1, p.2) (subst (λ (o : Outcome OperandTree). Fails c.in_err-call.field-0.0 o) (sym step)
-    (fails-then c.in_err-call.field-0.0 called (λ x q. took (call_value x) q)
-    c.in_err-call.ensures))
-
 pub sides::word_or_call-returns-then-is_before_name :
     goal.sides::word_or_call-returns-then-is_before_name
 sides::word_or_call-returns-then-is_before_name t c =
@@ -741,17 +495,14 @@ sides::word_or_call-returns-then-is_before_name t c =
     let i = c.letters.letter-index in
     let next = letters-left c.args.others.now i c.letter-item.result
     (let more = c.letters-test.true in omega arith) c.letter-item.is in
-    sym c.letters.invariant.total
+    subst (λ (o : Outcome OperandTree). Gives operand_of c.called.result c.called.new.reader o)
+    (sym (sym c.letters.invariant.total
     ∙ ap (λ ys. read_inside c.args.levels (word_from l w ys) c.letters.reader) next
     ∙ openings.word-called c.args.levels l w (c.letter-item.result ∷ drop (i + 1) c.args.others.now)
-    c.letters.reader (sym c.is_before_name.ensures ∙ c.if-is_before_name.true)
-    ∙ ap (by call_value) c.in_ok-call.ensures
-    ∙ ap (λ x. took x c.call.new.reader) (sym (tree_operand_call c.in_ok-call.field-0))
+    c.letters.reader (sym c.is_before_name.ensures ∙ c.if-is_before_name.true))) c.called.ensures
 
 pub sides::word_or_call-returns-in_err-expect-2 : goal.sides::word_or_call-returns-in_err-expect-2
 sides::word_or_call-returns-in_err-expect-2 t c =
-    let p = err_from_is_err_and c.from_residual-in_err-expect-2.result
-    c.from_residual-in_err-expect-2.ensures.1 in
     let l = literal_of c.args.literal in
     let w = chars (string_bytes c.letters.name) in
     let i = c.letters.letter-index in
@@ -762,7 +513,7 @@ sides::word_or_call-returns-in_err-expect-2 t c =
     (word_from l w (c.letter-item.result ∷ drop (i + 1) c.args.others.now)) c.letters.reader =
     sym c.letters.invariant.total
     ∙ ap (λ ys. read_inside c.args.levels (word_from l w ys) c.letters.reader) next in
-    rw (p.1, p.2)
+    rw (err_is c.from_residual-in_err-expect-2.result c.from_residual-in_err-expect-2.ensures.1)
     (subst (λ (o : Outcome OperandTree). Fails c.in_err-expect-2.field-0.0 o) (sym step)
     (openings.word-fails c.args.levels l w c.letter-item.result (drop (i + 1) c.args.others.now)
     c.letters.reader c.in_err-expect-2.field-0.0
@@ -771,42 +522,20 @@ sides::word_or_call-returns-in_err-expect-2 t c =
 pub sides::word_or_call-letters-preserved : goal.sides::word_or_call-letters-preserved
 sides::word_or_call-letters-preserved t c =
     let l = literal_of c.args.literal in
-    let text = string_bytes c.letters.name in
+    let w = chars (string_bytes c.letters.name) in
     let i = c.letters.letter-index in
     let x = c.letter-item.result in
     let next = letters-left c.args.others.now i x (let more = c.letters-test.true in omega arith)
     c.letter-item.is in
-    let scalar : IsScalar x = search rules in
-    let pushed : chars (string_bytes c.push-in-letters.new.self) ≡ chars text ++ x ∷ [] =
-    ap chars c.in_ok-push-2.ensures.bytes ∙ chars_push text x (IsUtf8-string_bytes c.letters.name)
-    scalar in
     record {
-      total = rw pushed (sym
-          (openings.word-goes_on c.args.levels l (chars text) x (drop (i + 1) c.args.others.now)
+      total = rw c.in_ok-append_char-2.ensures (sym
+          (openings.word-goes_on c.args.levels l w x (drop (i + 1) c.args.others.now)
           c.letters.reader c.expect-in-letters.new.self
           (sym c.is_before_name.ensures ∙ c.if-is_before_name.false) c.in_ok-expect-2.ensures.taken)
-          ∙ ap (λ ys. read_inside c.args.levels (word_from l (chars text) ys) c.letters.reader)
+          ∙ ap (λ ys. read_inside c.args.levels (word_from l w ys) c.letters.reader)
           (sym next) ∙ c.letters.invariant.total);
       same = c.letters.invariant.same;
     }
-
-pub sides::word_or_call-returns-in_err-call-2 : goal.sides::word_or_call-returns-in_err-call-2
-sides::word_or_call-returns-in_err-call-2 t c =
-    let p = err_from_is_err_and c.from_residual-in_err-call-2.result
-    c.from_residual-in_err-call-2.ensures.1 in
-    let l = literal_of c.args.literal in
-    let w = chars (string_bytes c.letters.name) in
-    let last = drop_all c.letters.letter-index c.args.others.now
-    (let end = c.letters-test.false in omega arith) in
-    let called = by (call_with w) (call_inside c.args.levels c.letters.reader) in
-    let step : read_inside c.args.levels (word_of l c.args.first c.args.others.now)
-    c.args.reader.now ≡ by call_value called = sym c.letters.invariant.total
-    ∙ ap (λ ys. read_inside c.args.levels (word_from l w ys) c.letters.reader) last
-    ∙ openings.word-called c.args.levels l w [] c.letters.reader
-    (sym c.is_before_name-2.ensures ∙ c.if-is_before_name-2.true) in
-    rw (p.1, p.2) (subst (λ (o : Outcome OperandTree). Fails c.in_err-call-2.field-0.0 o) (sym step)
-    (fails-then c.in_err-call-2.field-0.0 called (λ x q. took (call_value x) q)
-    c.in_err-call-2.ensures))
 
 pub sides::word_or_call-returns-then-is_before_name-2 :
     goal.sides::word_or_call-returns-then-is_before_name-2
@@ -815,13 +544,12 @@ sides::word_or_call-returns-then-is_before_name-2 t c =
     let w = chars (string_bytes c.letters.name) in
     let last = drop_all c.letters.letter-index c.args.others.now
     (let end = c.letters-test.false in omega arith) in
-    sym c.letters.invariant.total
+    subst (λ (o : Outcome OperandTree). Gives operand_of c.called-then-is_before_name-2.result
+    c.called-then-is_before_name-2.new.reader o) (sym (sym c.letters.invariant.total
     ∙ ap (λ ys. read_inside c.args.levels (word_from l w ys) c.letters.reader) last
     ∙ openings.word-called c.args.levels l w [] c.letters.reader
-    (sym c.is_before_name-2.ensures ∙ c.if-is_before_name-2.true)
-    ∙ ap (by call_value) c.in_ok-call-2.ensures
-    ∙ ap (λ x. took x c.call-then-is_before_name-2.new.reader)
-    (sym (tree_operand_call c.in_ok-call-2.field-0))
+    (sym c.is_before_name-2.ensures ∙ c.if-is_before_name-2.true)))
+    c.called-then-is_before_name-2.ensures
 
 pub sides::word_or_call-returns : goal.sides::word_or_call-returns
 sides::word_or_call-returns t c =

@@ -1,12 +1,15 @@
-use Rattle.std.proofs.Common.{◌≡◌, ◌+◌, ◌*◌, ◌≤◌, ◌∷◌, false, drop, length, map}
+use Rattle.std.proofs.Common.{◌≡◌, ℕ, ◌+◌, ◌*◌, ◌≤◌, ◌∷◌, false, drop, length, map}
 use Rattle.std.specs.Str.{chars}
 use Rattle.std.specs.String.{string_bytes}
 use Rattle.jp_reading.specs.Outcome.{after_blank, passes, is}
 use Rattle.jp_reading.specs.Views.{by, with_front}
 use Rattle.jp_query.specs.Tree.{argument_of, expr_of, literal_of, selector_of, segment_of}
 use Rattle.jp_reading.specs.Rule.{beyond, some}
-use Rattle.jp_query.specs.Characters.{ampersand, bar, comma}
-use Rattle.jp_query.specs.Private.Rules.{segments, entries, other_parts, basic, conjunction, next_argument, word_from, word_of}
+use Rattle.jp_query.specs.Characters.{comma}
+use Rattle.jp_query.specs.declared.expressions.Connective.{Connective}
+use Rattle.jp_query.specs.declared.expressions.Connective.TheVariants.{Or, And}
+use Rattle.jp_query.specs.Private.Parts.{mark_of, part_of}
+use Rattle.jp_query.specs.Private.Rules.{segments, entries, other_parts, next_argument, word_from, word_of}
 use Rattle.jp_query.specs.Private.Reading.{read_inside}
 use Rattle.jp_query.proofs.Readers.Rounds.{other_entries, listed}
 use Rattle.jp_query.proofs.+nested.Given as goal
@@ -17,95 +20,118 @@ decreases-expressions::inside l = l.levels * 32 + 0
 abbrev pub decreases-selectors::selector : goal.decreases-selectors::selector
 decreases-selectors::selector l = l.levels * 32 + 1
 
+abbrev pub decreases-selectors::entry : goal.decreases-selectors::entry
+decreases-selectors::entry l = l.levels * 32 + 2
+
+abbrev pub decreases-selectors::next_entry : goal.decreases-selectors::next_entry
+decreases-selectors::next_entry l = l.levels * 32 + 3
+
 abbrev pub decreases-expressions::parenthesis : goal.decreases-expressions::parenthesis
 decreases-expressions::parenthesis l = l.levels * 32 + 2
 
 abbrev pub decreases-selectors::entries : goal.decreases-selectors::entries
-decreases-selectors::entries l = l.levels * 32 + 3
+decreases-selectors::entries l = l.levels * 32 + 4
+
+abbrev pub decreases-segments::in_brackets : goal.decreases-segments::in_brackets
+decreases-segments::in_brackets l = l.levels * 32 + 5
 
 abbrev pub decreases-segments::bracketed : goal.decreases-segments::bracketed
-decreases-segments::bracketed l = l.levels * 32 + 4
+decreases-segments::bracketed l = l.levels * 32 + 6
 
 abbrev pub decreases-segments::segment : goal.decreases-segments::segment
-decreases-segments::segment l = l.levels * 32 + 5
+decreases-segments::segment l = l.levels * 32 + 7
 
 abbrev pub decreases-segments::segments : goal.decreases-segments::segments
-decreases-segments::segments l = l.levels * 32 + 6
+decreases-segments::segments l = l.levels * 32 + 8
 
 abbrev pub decreases-sides::query_within : goal.decreases-sides::query_within
-decreases-sides::query_within l = l.levels * 32 + 7
+decreases-sides::query_within l = l.levels * 32 + 9
+
+abbrev pub decreases-calls::call_from : goal.decreases-calls::call_from
+decreases-calls::call_from l = l.levels * 32 + 9
+
+abbrev pub decreases-calls::rest_of_call : goal.decreases-calls::rest_of_call
+decreases-calls::rest_of_call l = l.levels * 32 + 33
 
 abbrev pub decreases-calls::call : goal.decreases-calls::call
-decreases-calls::call l = l.levels * 32 + 8
+decreases-calls::call l = l.levels * 32 + 10
+
+abbrev pub decreases-sides::called : goal.decreases-sides::called
+decreases-sides::called l = l.levels * 32 + 10
 
 abbrev pub decreases-sides::word_or_call : goal.decreases-sides::word_or_call
-decreases-sides::word_or_call l = l.levels * 32 + 9
+decreases-sides::word_or_call l = l.levels * 32 + 11
 
 abbrev pub decreases-sides::word : goal.decreases-sides::word
-decreases-sides::word l = l.levels * 32 + 10
+decreases-sides::word l = l.levels * 32 + 12
 
 abbrev pub decreases-sides::side_within : goal.decreases-sides::side_within
-decreases-sides::side_within l = l.levels * 32 + 11
+decreases-sides::side_within l = l.levels * 32 + 13
 
 abbrev pub decreases-sides::side : goal.decreases-sides::side
-decreases-sides::side l = l.levels * 32 + 12
+decreases-sides::side l = l.levels * 32 + 14
 
 abbrev pub decreases-expressions::comparison : goal.decreases-expressions::comparison
-decreases-expressions::comparison l = l.levels * 32 + 13
+decreases-expressions::comparison l = l.levels * 32 + 15
 
 abbrev pub decreases-expressions::compared_or_test : goal.decreases-expressions::compared_or_test
-decreases-expressions::compared_or_test l = l.levels * 32 + 14
+decreases-expressions::compared_or_test l = l.levels * 32 + 16
 
 abbrev pub decreases-expressions::subject : goal.decreases-expressions::subject
-decreases-expressions::subject l = l.levels * 32 + 15
+decreases-expressions::subject l = l.levels * 32 + 17
 
 abbrev pub decreases-expressions::test : goal.decreases-expressions::test
-decreases-expressions::test l = l.levels * 32 + 16
+decreases-expressions::test l = l.levels * 32 + 18
 
 abbrev pub decreases-expressions::negated : goal.decreases-expressions::negated
-decreases-expressions::negated l = l.levels * 32 + 17
+decreases-expressions::negated l = l.levels * 32 + 19
 
 abbrev pub decreases-expressions::negation : goal.decreases-expressions::negation
-decreases-expressions::negation l = l.levels * 32 + 18
+decreases-expressions::negation l = l.levels * 32 + 20
 
 abbrev pub decreases-expressions::basic : goal.decreases-expressions::basic
-decreases-expressions::basic l = l.levels * 32 + 19
+decreases-expressions::basic l = l.levels * 32 + 21
 
-abbrev pub decreases-expressions::conjunction_from : goal.decreases-expressions::conjunction_from
-decreases-expressions::conjunction_from l = l.levels * 32 + 20
+-- how much a connective's parts nest at one level
+abbrev rank : Connective → ℕ
+rank Or = 25
+rank And = 22
+
+abbrev pub decreases-expressions::part : goal.decreases-expressions::part
+decreases-expressions::part l = l.levels * 32 + rank l.connective
+
+abbrev pub decreases-expressions::joined_from : goal.decreases-expressions::joined_from
+decreases-expressions::joined_from l = l.levels * 32 + (rank l.connective + 1)
 
 abbrev pub decreases-expressions::conjunction : goal.decreases-expressions::conjunction
-decreases-expressions::conjunction l = l.levels * 32 + 21
-
-abbrev pub decreases-expressions::expression_from : goal.decreases-expressions::expression_from
-decreases-expressions::expression_from l = l.levels * 32 + 22
+decreases-expressions::conjunction l = l.levels * 32 + 24
 
 abbrev pub decreases-expressions::expression : goal.decreases-expressions::expression
-decreases-expressions::expression l = l.levels * 32 + 23
+decreases-expressions::expression l = l.levels * 32 + 27
 
 abbrev pub decreases-calls::compared_or_alone : goal.decreases-calls::compared_or_alone
-decreases-calls::compared_or_alone l = l.levels * 32 + 24
+decreases-calls::compared_or_alone l = l.levels * 32 + 26
 
 abbrev pub decreases-calls::logical : goal.decreases-calls::logical
-decreases-calls::logical l = l.levels * 32 + 24
+decreases-calls::logical l = l.levels * 32 + 27
 
 abbrev pub decreases-calls::argument_start : goal.decreases-calls::argument_start
-decreases-calls::argument_start l = l.levels * 32 + 25
+decreases-calls::argument_start l = l.levels * 32 + 27
 
 abbrev pub decreases-calls::argument_from : goal.decreases-calls::argument_from
-decreases-calls::argument_from l = l.levels * 32 + 26
+decreases-calls::argument_from l = l.levels * 32 + 28
 
 abbrev pub decreases-calls::argument : goal.decreases-calls::argument
-decreases-calls::argument l = l.levels * 32 + 27
+decreases-calls::argument l = l.levels * 32 + 29
 
 abbrev pub decreases-calls::next_argument : goal.decreases-calls::next_argument
-decreases-calls::next_argument l = l.levels * 32 + 28
+decreases-calls::next_argument l = l.levels * 32 + 30
 
 abbrev pub decreases-calls::some_arguments : goal.decreases-calls::some_arguments
-decreases-calls::some_arguments l = l.levels * 32 + 29
+decreases-calls::some_arguments l = l.levels * 32 + 31
 
 abbrev pub decreases-calls::arguments : goal.decreases-calls::arguments
-decreases-calls::arguments l = l.levels * 32 + 30
+decreases-calls::arguments l = l.levels * 32 + 32
 
 abbrev pub invariant-segments::segments-segments : goal.invariant-segments::segments-segments
 invariant-segments::segments-segments l =
@@ -123,35 +149,19 @@ invariant-selectors::entries-entries l =
 abbrev pub decreases-selectors::entries-entries : goal.decreases-selectors::entries-entries
 decreases-selectors::entries-entries l = length l.reader.rest
 
-abbrev pub invariant-expressions::conjunction_from-parts :
-    goal.invariant-expressions::conjunction_from-parts
-invariant-expressions::conjunction_from-parts l = record {
+abbrev pub invariant-expressions::joined_from-parts : goal.invariant-expressions::joined_from-parts
+invariant-expressions::joined_from-parts l = record {
   total : with_front (map expr_of l.parts.items)
-      (read_inside l.levels (other_parts ampersand basic) l.reader)
+      (read_inside l.levels (other_parts (mark_of l.connective) (part_of l.connective)) l.reader)
       ≡ by (λ es. expr_of l.fn.first ∷ es)
-      (read_inside l.levels (other_parts ampersand basic) l.fn.reader);
+      (read_inside l.levels (other_parts (mark_of l.connective) (part_of l.connective)) l.fn.reader);
   some : 1 ≤ length l.parts.items;
-  several : passes (is ampersand) (after_blank l.reader) ≡ false → 2 ≤ length l.parts.items;
+  several : passes (is (mark_of l.connective)) (after_blank l.reader) ≡ false
+      → 2 ≤ length l.parts.items;
 }
 
-abbrev pub decreases-expressions::conjunction_from-parts :
-    goal.decreases-expressions::conjunction_from-parts
-decreases-expressions::conjunction_from-parts l = length l.reader.rest
-
-abbrev pub invariant-expressions::expression_from-parts :
-    goal.invariant-expressions::expression_from-parts
-invariant-expressions::expression_from-parts l = record {
-  total : with_front (map expr_of l.parts.items)
-      (read_inside l.levels (other_parts bar conjunction) l.reader)
-      ≡ by (λ es. expr_of l.fn.first ∷ es)
-      (read_inside l.levels (other_parts bar conjunction) l.fn.reader);
-  some : 1 ≤ length l.parts.items;
-  several : passes (is bar) (after_blank l.reader) ≡ false → 2 ≤ length l.parts.items;
-}
-
-abbrev pub decreases-expressions::expression_from-parts :
-    goal.decreases-expressions::expression_from-parts
-decreases-expressions::expression_from-parts l = length l.reader.rest
+abbrev pub decreases-expressions::joined_from-parts : goal.decreases-expressions::joined_from-parts
+decreases-expressions::joined_from-parts l = length l.reader.rest
 
 abbrev pub invariant-calls::some_arguments-arguments :
     goal.invariant-calls::some_arguments-arguments

@@ -91,14 +91,6 @@ module _ (I : Nested → Form) where
       to s o t (literal_side l e h) = absurd cc
       to s o t (query_side q e h) = absurd cc
 
-  pub literal_of_side : (l : LiteralTree) → Same (Side I (literal l)) (Item (Literal l))
-  literal_of_side l = record { to = to; from = λ s o t. literal_side l refl }
-    where
-      to : Within (Side I (literal l)) (Item (Literal l))
-      to s o t (literal_side m e h) = let same : m ≡ l = cc in rw (← same) h
-      to s o t (query_side q e h) = absurd cc
-      to s o t (call_side c e h) = absurd cc
-
   -- ---- comparisons and tests
 
   -- a first side, an operator and a second one

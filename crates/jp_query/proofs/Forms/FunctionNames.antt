@@ -25,6 +25,12 @@ pub and-left : (a b : Bool) → (a && b) ≡ true → a ≡ true
 and-left true b h = refl
 and-left false b h = h
 
+-- a character that passes
+pub passed : (ok : ℕ → Bool) (o : Option ℕ) → passes ok o ≡ true
+    → (c : ℕ) × (o ≡ Some c) × (ok c ≡ true)
+passed ok None h = absurd cc
+passed ok (Some c) h = (c, refl, h)
+
 -- a first letter may go on with a name
 pub from-letter : (others : Text) (c : ℕ) → opens (rule.name_from others) c ≡ true
     → is_function_char c ≡ true

@@ -195,11 +195,6 @@ module _ (I : Nested → Form) where
 
   -- ---- queries inside others
 
-  -- an item's form, from another
-  pub item-from : (P Q : Form) (s : Spans) (o : ℕ) (t : Text) (h : Item P s o t) → Q h.inside o t
-      → Item Q s o t
-  item-from P Q s o t h g = record { inside = h.inside; spans = h.spans; is = g }
-
   pub inner_query-same : (q : QueryTree) → Same (Item (form (marked I) rule.query_within q))
       (InnerQuery I q)
   unfolding rule.query_within rule.identifier

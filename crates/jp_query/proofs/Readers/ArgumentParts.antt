@@ -1,10 +1,10 @@
 -- Where another part comes, an argument goes on as a logical expression; and what goes on from the
 -- first side.
-use Rattle.std.proofs.Common.{◌≡◌, ℕ, ◌||◌, ◌⊎◌, Bool, true, false, List, Option, Some, None, [], ◌∷◌, inl, inr, refl, sym, ap, ◌∙◌}
+use Rattle.std.proofs.Common.{◌≡◌, ℕ, ◌||◌, ◌⊎◌, Bool, true, false, List, Option, Some, None, [], ◌∷◌, inl, inr, refl, sym, ap, ◌∙◌, subst}
 use Rattle.std.proofs.lemmas.Bool.{cases_Bool}
 use Rattle.jp_reading.specs.Outcome.{State, Outcome, took, stuck, deep, ◌>>=◌, skip, after_blank, passes, is, expect}
 use Rattle.jp_reading.specs.Views.{by}
-use Rattle.jp_reading.specs.Rule.{beyond, some}
+use Rattle.jp_reading.specs.Rule.{here, beyond, some}
 use Rattle.jp_reading.specs.RuleReading.{Inner, read, spanned, spanned_if}
 use Rattle.jp_reading.proofs.Loops.{each-on, round}
 use Rattle.jp_reading.proofs.Progress.{Progress}
@@ -12,7 +12,7 @@ use Rattle.jp_reading.proofs.Rules.Progress.{goes}
 use Rattle.jp_query.specs.Tree.{ExprTree, any_of, all_of, exists, call_test, OperandTree, literal, node_value, call_value, ArgumentTree, literal_argument, query_argument, call_argument, logical_argument}
 use Rattle.jp_query.specs.Characters.{ampersand, bar, comma, closing_parenthesis}
 use Rattle.jp_query.specs.Grammar.{joined}
-use Rattle.jp_query.specs.Private.Rules.{nesting, Opening, basic, conjunction, part, other_parts, argument_start, argument_on, argument_of_parts, other_argument_parts, argument, next_argument, some_arguments, is_logical, begins_operator, comparison_with, compared_or_test}
+use Rattle.jp_query.specs.Private.Rules.{nesting, QueryRule, Opening, basic, conjunction, part, other_parts, argument_start, argument_on, argument_of_parts, other_argument_parts, argument, next_argument, some_arguments, is_logical, begins_operator, comparison_with, compared_or_test}
 use Rattle.jp_query.specs.Private.Parts.{begins_part}
 use Rattle.jp_query.proofs.Levels.{or-second}
 use Rattle.jp_query.proofs.Readers.Rounds.{along, by-twice, listed, parts-none}
@@ -52,82 +52,48 @@ module _ (inner : Inner nesting) (moves : (o : Opening) → Progress (inner o)) 
       ∙ ap (λ (o : Outcome (List ExprTree)). by (argument_of_parts x e []) o)
       (parts-none inner bar conjunction p b)
 
-  with-and : (x : ArgumentTree) (e : ExprTree) (p : State)
-      → passes (is ampersand) (after_blank p) ≡ true
-      → read inner (other_argument_parts x e) p ≡ logical_parts e p
-  with-and x e p on =
-      ap (λ (o : Outcome (List ExprTree)). o >>= λ es q. by (argument_of_parts x e es)
-      (read inner (other_parts bar conjunction) q)) step
-      ∙ more (read inner (part ampersand basic) p) ∙ sym (ap
-      (λ (o : Outcome (List ExprTree)). by (λ es. joined all_of (e ∷ es)) o
-      >>= λ a q. by logical_argument
-      (by (λ es. joined any_of (a ∷ es)) (read inner (other_parts bar conjunction) q))) step)
+  -- no empty list
+  abbrev Filled : {A : Type 0} → Outcome (List A) → Type 0
+  Filled (took [] q) = ⊥
+  Filled (took (x ∷ xs) q) = Unit {0}
+  Filled (stuck q) = Unit {0}
+  Filled (deep q) = Unit {0}
+
+  filled : {A : Type 0} (c : ℕ) (r : QueryRule true here beyond A) (p : State)
+      → passes (is c) (after_blank p) ≡ true → Filled (read inner (other_parts c r) p)
+  filled {A} c r p on =
+      subst (λ (o : Outcome (List A)). Filled o)
+      (sym (each-on (λ q. passes (is c) (after_blank q)) (λ q. read inner (part c r) q)
+      (λ q. goes inner moves (part c r) q) p on)) (one (read inner (part c r) p))
     where
-      step : read inner (other_parts ampersand basic) p
-          ≡ round (read inner (part ampersand basic) p)
-          (λ q. read inner (other_parts ampersand basic) q)
-      step =
-          each-on (λ q. passes (is ampersand) (after_blank q))
-          (λ q. read inner (part ampersand basic) q)
-          (λ q. goes inner moves (part ampersand basic) q) p on
+      rest : (x : A) (o : Outcome (List A)) → Filled (o >>= λ xs q. took (x ∷ xs) q)
+      rest x (took xs q) = tt
+      rest x (stuck q) = tt
+      rest x (deep q) = tt
 
-      rest : (b : ExprTree) (o : Outcome (List ExprTree)) → ((o >>= λ bs r. took (b ∷ bs) r)
-          >>= λ es q. by (argument_of_parts x e es) (read inner (other_parts bar conjunction) q))
-          ≡ (by (λ es. joined all_of (e ∷ es)) (o >>= λ bs r. took (b ∷ bs) r)
-          >>= λ a q. by logical_argument
-          (by (λ es. joined any_of (a ∷ es)) (read inner (other_parts bar conjunction) q)))
-      rest b (took bs r) =
-          sym (by-twice logical_argument (λ fs. joined any_of (joined all_of (e ∷ b ∷ bs) ∷ fs))
-          (read inner (other_parts bar conjunction) r))
-      rest b (stuck r) = refl
-      rest b (deep r) = refl
+      one : (o : Outcome A) → Filled (round o (λ q. read inner (other_parts c r) q))
+      one (took x q) = rest x (read inner (other_parts c r) q)
+      one (stuck q) = tt
+      one (deep q) = tt
 
-      more : (o : Outcome ExprTree) → (round o (λ q. read inner (other_parts ampersand basic) q)
-          >>= λ es q. by (argument_of_parts x e es) (read inner (other_parts bar conjunction) q))
-          ≡ (by (λ es. joined all_of (e ∷ es))
-          (round o (λ q. read inner (other_parts ampersand basic) q)) >>= λ a q. by logical_argument
-          (by (λ es. joined any_of (a ∷ es)) (read inner (other_parts bar conjunction) q)))
-      more (took b q) = rest b (read inner (other_parts ampersand basic) q)
-      more (stuck q) = refl
-      more (deep q) = refl
+  with-and : (x : ArgumentTree) (e : ExprTree) (o : Outcome (List ExprTree)) → Filled o
+      → (o >>= λ es q. by (argument_of_parts x e es) (read inner (other_parts bar conjunction) q))
+      ≡ by (λ es. joined all_of (e ∷ es)) o >>= λ a q. by logical_argument
+      (by (λ es. joined any_of (a ∷ es)) (read inner (other_parts bar conjunction) q))
+  with-and x e (took [] q) full = absurd full
+  with-and x e (took (b ∷ bs) q) full =
+      sym (by-twice logical_argument (λ fs. joined any_of (joined all_of (e ∷ b ∷ bs) ∷ fs))
+      (read inner (other_parts bar conjunction) q))
+  with-and x e (stuck q) full = refl
+  with-and x e (deep q) full = refl
 
-  with-or : (x : ArgumentTree) (e : ExprTree) (p : State)
-      → passes (is ampersand) (after_blank p) ≡ false → passes (is bar) (after_blank p) ≡ true
-      → read inner (other_argument_parts x e) p ≡ logical_parts e p
-  with-or x e p off on =
-      ap (λ (o : Outcome (List ExprTree)). o >>= λ es q. by (argument_of_parts x e es)
-      (read inner (other_parts bar conjunction) q)) none
-      ∙ ap (λ (o : Outcome (List ExprTree)). by (argument_of_parts x e []) o) step
-      ∙ more (read inner (part bar conjunction) p) ∙ sym (ap
-      (λ (o : Outcome (List ExprTree)). by logical_argument (by (λ es. joined any_of (e ∷ es)) o))
-      step) ∙ sym (ap (λ (o : Outcome (List ExprTree)). by (λ es. joined all_of (e ∷ es)) o
-      >>= λ a q. by logical_argument
-      (by (λ es. joined any_of (a ∷ es)) (read inner (other_parts bar conjunction) q))) none)
-    where
-      none : read inner (other_parts ampersand basic) p ≡ took [] p
-      none = parts-none inner ampersand basic p off
-
-      step : read inner (other_parts bar conjunction) p
-          ≡ round (read inner (part bar conjunction) p)
-          (λ q. read inner (other_parts bar conjunction) q)
-      step =
-          each-on (λ q. passes (is bar) (after_blank q)) (λ q. read inner (part bar conjunction) q)
-          (λ q. goes inner moves (part bar conjunction) q) p on
-
-      rest : (b : ExprTree) (o : Outcome (List ExprTree))
-          → by (argument_of_parts x e []) (o >>= λ bs r. took (b ∷ bs) r)
-          ≡ by logical_argument (by (λ es. joined any_of (e ∷ es)) (o >>= λ bs r. took (b ∷ bs) r))
-      rest b (took bs r) = refl
-      rest b (stuck r) = refl
-      rest b (deep r) = refl
-
-      more : (o : Outcome ExprTree) → by (argument_of_parts x e [])
-          (round o (λ q. read inner (other_parts bar conjunction) q)) ≡ by logical_argument
-          (by (λ es. joined any_of (e ∷ es))
-          (round o (λ q. read inner (other_parts bar conjunction) q)))
-      more (took b q) = rest b (read inner (other_parts bar conjunction) q)
-      more (stuck q) = refl
-      more (deep q) = refl
+  with-or : (x : ArgumentTree) (e : ExprTree) (o : Outcome (List ExprTree)) → Filled o
+      → by (argument_of_parts x e []) o
+      ≡ by logical_argument (by (λ es. joined any_of (e ∷ es)) o)
+  with-or x e (took [] q) full = absurd full
+  with-or x e (took (f ∷ fs) q) full = refl
+  with-or x e (stuck q) full = refl
+  with-or x e (deep q) full = refl
 
   pub parts-logical : (x : ArgumentTree) (e : ExprTree) (p : State)
       → passes begins_part (after_blank p) ≡ true
@@ -137,8 +103,17 @@ module _ (inner : Inner nesting) (moves : (o : Opening) → Progress (inner o)) 
       way : (passes (is ampersand) (after_blank p) ≡ true) ⊎
           (passes (is ampersand) (after_blank p) ≡ false)
           → read inner (other_argument_parts x e) p ≡ logical_parts e p
-      way (inl and) = with-and x e p and
-      way (inr off) = with-or x e p off (second-part (after_blank p) on off)
+      way (inl and) =
+          with-and x e (read inner (other_parts ampersand basic) p) (filled ampersand basic p and)
+      way (inr off) =
+          let none = parts-none inner ampersand basic p off in
+          ap (λ (o : Outcome (List ExprTree)). o >>= λ es q. by (argument_of_parts x e es)
+          (read inner (other_parts bar conjunction) q)) none
+          ∙ with-or x e (read inner (other_parts bar conjunction) p)
+          (filled bar conjunction p (second-part (after_blank p) on off))
+          ∙ sym (ap (λ (o : Outcome (List ExprTree)). by (λ es. joined all_of (e ∷ es)) o
+          >>= λ a q. by logical_argument
+          (by (λ es. joined any_of (a ∷ es)) (read inner (other_parts bar conjunction) q))) none)
 
   -- no other part
   pub argument-alone : (x : ArgumentTree) (p : State) → passes begins_part (after_blank p) ≡ false

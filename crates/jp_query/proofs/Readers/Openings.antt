@@ -16,8 +16,9 @@ use Rattle.jp_query.specs.Tree.{exists, call_test, literal, call_value, CallTree
 use Rattle.jp_query.specs.Characters.{opening_parenthesis, letter_t, letter_f, letter_n}
 use Rattle.jp_query.specs.Names.{is_function_first, is_function_char}
 use Rattle.jp_query.specs.Private.Rules.{nesting, name_from, name_on, opens, is_among, only_this, CallRest, call_rest, call_with, run, after_parenthesis, any_call, named_call, opened, word, word_of, word_from, subject, query_within}
+use Rattle.jp_query.specs.Private.Parts.{rest_of_call}
 use Rattle.jp_query.specs.Private.Reading.{inside, call_inside, read_flat, read_inside}
-use Rattle.jp_query.proofs.Forms.FunctionNames.{and-left, from-letter}
+use Rattle.jp_query.proofs.Forms.FunctionNames.{and-left, passed, from-letter}
 use Rattle.jp_query.proofs.Levels.{or-second}
 use Rattle.jp_query.proofs.Readers.Rounds.{along, by-twice}
 
@@ -59,32 +60,24 @@ module _ (inner : Inner nesting) where
 
   from-any : (others : Text) (p : State) → passes (opens (name_from others)) (head p) ≡ true
       → read inner (opened (name_from others)) p ≡ read inner any_call p
-  from-any others p on = way (head p) refl on
-    where
-      way : (o : Option ℕ) → head p ≡ o → passes (opens (name_from others)) o ≡ true
-          → read inner (opened (name_from others)) p ≡ read inner any_call p
-      way None e h = absurd cc
-      way (Some c) e h = named-any (opens (name_from others)) p c e h (from-letter others c h)
+  from-any others p on =
+      let h = passed (opens (name_from others)) (head p) on in
+      named-any (opens (name_from others)) p h.0 h.1 h.2 (from-letter others h.0 h.2)
 
   on-any : (other : Option ℕ) (p : State) → passes (opens (name_on other)) (head p) ≡ true
       → read inner (opened (name_on other)) p ≡ read inner any_call p
   on-any other p on = way (cases_Bool (is_at opening_parenthesis p))
     where
-      letter : (o : Option ℕ) → head p ≡ o → passes (opens (name_on other)) o ≡ true
-          → passes (is opening_parenthesis) o ≡ false
-          → read inner (named_call (λ c. is_function_char c && not (is_among (only_this other) c)))
-          p ≡ read inner any_call p
-      letter None e h off = absurd cc
-      letter (Some c) e h off =
-          let going = or-second (is opening_parenthesis c)
-          (is_function_char c && not (is_among (only_this other) c)) off h in
-          named-any (λ d. is_function_char d && not (is_among (only_this other) d)) p c e going
-          (and-left (is_function_char c) (not (is_among (only_this other) c)) going)
-
       way : (is_at opening_parenthesis p ≡ true) ⊎ (is_at opening_parenthesis p ≡ false)
           → read inner (opened (name_on other)) p ≡ read inner any_call p
       way (inl at) = rw at (ending-any p at)
-      way (inr off) = rw off (letter (head p) refl on off)
+      way (inr off) =
+          let h = passed (opens (name_on other)) (head p) on in
+          let going = or-second (is opening_parenthesis h.0)
+          (is_function_char h.0 && not (is_among (only_this other) h.0))
+          (sym (ap (passes (is opening_parenthesis)) h.1) ∙ off) h.2 in
+          rw off (named-any (λ d. is_function_char d && not (is_among (only_this other) d)) p h.0 h.1
+          going (and-left (is_function_char h.0) (not (is_among (only_this other) h.0)) going))
 
 -- a function expression from the first letter of its name on, inside n levels
 pub called-from : (n : ℕ) (others : Text) (p : State)
@@ -100,12 +93,6 @@ called-on zero other p on = refl
 called-on (suc n) other p on = on-any (inside n) other p on
 
 -- ---- function expressions
-
--- the name, its parenthesis and the arguments
-abbrev pub spelt_out : ℕ → Text → State → Outcome CallTree
-spelt_out n w p =
-    by (λ u. w ++ u) (read_flat (run is_function_char) p) >>= λ name q. expect opening_parenthesis q
-    >>= λ d r. by (λ xs. call name (arguments xs)) (read_inside n after_parenthesis r)
 
 respelt : (n : ℕ) (w : Text) (o : Outcome Text)
     → by (call_with w) (o >>= λ u q. after_name (inside n) u q)
@@ -123,7 +110,7 @@ respelt n w (stuck q) = refl
 respelt n w (deep q) = refl
 
 pub call-entered : (n : ℕ) (w : Text) (p : State) → (n ≡ 0 → ⊥)
-    → by (call_with w) (call_inside n p) ≡ spelt_out (n - 1) w p
+    → by (call_with w) (call_inside n p) ≡ rest_of_call (n - 1) w p
 unfolding any_call
 call-entered zero w p some = absurd (some refl)
 call-entered (suc n) w p some =
@@ -176,32 +163,17 @@ module _ (n : ℕ) (p : State) where
   pub word-t : is_at letter_t p ≡ true
       → read_inside n word p ≡ read_inside n (word_of true_literal letter_t (codes "rue")) p
   unfolding word
-  word-t at =
-      let e : head p ≡ Some letter_t = head-is letter_t p at in
-      let off : passes (opens (name_from (codes "tfn"))) (head p) ≡ false =
-      ap (passes (opens (name_from (codes "tfn")))) e in
-      rw (off, at) refl
+  word-t at = rw (head-is letter_t p at) refl
 
   pub word-f : is_at letter_f p ≡ true
       → read_inside n word p ≡ read_inside n (word_of false_literal letter_f (codes "alse")) p
   unfolding word
-  word-f at =
-      let e : head p ≡ Some letter_f = head-is letter_f p at in
-      let off : passes (opens (name_from (codes "tfn"))) (head p) ≡ false =
-      ap (passes (opens (name_from (codes "tfn")))) e in
-      let t : is_at letter_t p ≡ false = ap (passes (is letter_t)) e in
-      rw (off, t, at) refl
+  word-f at = rw (head-is letter_f p at) refl
 
   pub word-n : is_at letter_n p ≡ true
       → read_inside n word p ≡ read_inside n (word_of null_literal letter_n (codes "ull")) p
   unfolding word
-  word-n at =
-      let e : head p ≡ Some letter_n = head-is letter_n p at in
-      let off : passes (opens (name_from (codes "tfn"))) (head p) ≡ false =
-      ap (passes (opens (name_from (codes "tfn")))) e in
-      let t : is_at letter_t p ≡ false = ap (passes (is letter_t)) e in
-      let f : is_at letter_f p ≡ false = ap (passes (is letter_f)) e in
-      rw (off, t, f) refl
+  word-n at = rw (head-is letter_n p at) refl
 
 opens-other : (o : Option ℕ) → passes is_function_first o ≡ true → passes (is letter_t) o ≡ false
     → passes (is letter_f) o ≡ false → passes (is letter_n) o ≡ false

@@ -14,6 +14,8 @@ use Rattle.jp_query.specs.Tree.{SelectorTree, segment, selectors, ExprTree, Expr
 use Rattle.jp_query.specs.Characters.{comma, opening_bracket, closing_bracket}
 use Rattle.jp_query.specs.Grammar.{joined}
 use Rattle.jp_query.specs.Private.Rules.{nesting, QueryRule, selector, entry, entries, bracket, joint, part, other_parts, argument, next_argument}
+use Rattle.jp_query.specs.declared.expressions.Connective.{Connective}
+use Rattle.jp_query.specs.Private.Parts.{next_entry, mark_of, part_of, several}
 use Rattle.jp_query.specs.Private.Reading.{inside, read_flat, read_inside}
 use Rattle.jp_query.proofs.Levels.{inside-progress}
 
@@ -21,46 +23,7 @@ use Rattle.jp_query.proofs.Levels.{inside-progress}
 
 -- those after the first, each with its comma
 abbrev pub other_entries : QueryRule false here here (List SelectorTree)
-other_entries = some here (is comma) (the comma >> (blanks {m = here} >> entry))
-
-pub entries_first : (inner : Inner nesting) (p q : State) (x : SelectorTree)
-    → read inner selector p ≡ took x q
-    → with_front (x ∷ []) (read inner other_entries (skip q)) ≡ read inner entries p
-unfolding entries entry
-entries_first inner p q x e = rw e refl
-
--- brackets, once the first is taken
-pub bracket-opened : (inner : Inner nesting) (descendant : Bool) (p q : State)
-    → expect opening_bracket p ≡ took opening_bracket q → read inner (bracket descendant) p
-    ≡ read inner entries (skip q) >>= λ xs r. expect closing_bracket r >>= λ d w. took
-    (segment descendant (selectors xs)) w
-unfolding bracket
-bracket-opened inner descendant p q e =
-    ap (λ (o : Outcome ℕ). o >>= λ c r. read inner entries
-    (skip r) >>= λ xs v. expect closing_bracket v >>= λ d w. took
-    (segment descendant (selectors xs)) w) e
-
--- another, after its comma
-pub another-is : (inner : Inner nesting) (p : State) → is_at comma p ≡ true
-    → read inner (the comma >> (blanks {m = here} >> entry)) p ≡ read inner selector
-    (skip (past p)) >>= λ x q. took x (skip q)
-unfolding entry
-another-is inner p on =
-    ap (λ (o : Outcome ℕ). o >>= λ c q. read inner selector (skip q) >>= λ x r. took x (skip r))
-    (take_if-takes (is comma) p comma (head-is comma p on) refl)
-
-pub another-took : (inner : Inner nesting) (p q : State) (x : SelectorTree) → is_at comma p ≡ true
-    → read inner selector (skip (past p)) ≡ took x q
-    → read inner (the comma >> (blanks {m = here} >> entry)) p ≡ took x (skip q)
-another-took inner p q x on e =
-    another-is inner p on ∙ ap (λ (o : Outcome SelectorTree). o >>= λ y r. took y (skip r)) e
-
-pub another-fails : (inner : Inner nesting) (p : State) (e : Stop) → is_at comma p ≡ true
-    → Fails e (read inner selector (skip (past p)))
-    → Fails e (read inner (the comma >> (blanks {m = here} >> entry)) p)
-another-fails inner p e on failed =
-    rw (another-is inner p on)
-    (fails-then e (read inner selector (skip (past p))) (λ x q. took x (skip q)) failed)
+other_entries = some here (is comma) next_entry
 
 -- ---- parts of an expression
 
@@ -133,47 +96,50 @@ map-first f {x} e none = ap (map f) (e ∙ ap (λ zs. zs ++ x ∷ []) none)
 
 -- ---- several parts with a mark twice between them, once the first is read
 
-module _ (n c : ℕ) (r : QueryRule true here beyond ExprTree) (first : ExprTree) (from : State) where
+module _ (n : ℕ) (j : Connective) (first : ExprTree) (from : State) where
+  abbrev others : QueryRule false beyond beyond (List ExprTree)
+  others = other_parts (mark_of j) (part_of j)
+
   -- the loop goes on from p with these parts
   abbrev pub StillMakes : List ExprTree → State → Type 0
   StillMakes xs p =
-      with_front xs (read_inside n (other_parts c r) p)
-      ≡ by (λ es. first ∷ es) (read_inside n (other_parts c r) from)
+      with_front xs (read_inside n others p)
+      ≡ by (λ es. first ∷ es) (read_inside n others from)
 
   -- a part that fails
-  pub parts-fail : (several : ExprTrees → ExprTree) (e : Stop) (xs : List ExprTree) (p : State)
+  pub parts-fail : (e : Stop) (xs : List ExprTree) (p : State)
       → StillMakes xs p
-      → passes (is c) (after_blank p) ≡ true → Fails e (read_inside n (part c r) p)
-      → Fails e (by (λ es. joined several (first ∷ es)) (read_inside n (other_parts c r) from))
-  parts-fail several e xs p total on failed =
-      let o = by (λ es. first ∷ es) (read_inside n (other_parts c r) from) in
+      → passes (is (mark_of j)) (after_blank p) ≡ true → Fails e (read_inside n (part (mark_of j) (part_of j)) p)
+      → Fails e (by (λ es. joined (several j) (first ∷ es)) (read_inside n others from))
+  parts-fail e xs p total on failed =
+      let o = by (λ es. first ∷ es) (read_inside n others from) in
       let made : Fails e o = rw (← total)
-      (loops.some_fail (inside n) (inside-progress n) beyond (is c) (part c r) p xs e on failed) in
-      rw (← by-twice (joined several) (λ es. first ∷ es) (read_inside n (other_parts c r) from))
+      (loops.some_fail (inside n) (inside-progress n) beyond (is (mark_of j)) (part (mark_of j) (part_of j)) p xs e on failed) in
+      rw (← by-twice (joined (several j)) (λ es. first ∷ es) (read_inside n others from))
       (fails-then e o _ made)
 
   -- another part
   pub parts-on : (xs : List ExprTree) (p q w : State) (x : ExprTree) → StillMakes xs p
-      → passes (is c) (after_blank p) ≡ true → read_flat (joint c) p ≡ took c q
-      → read_inside n r q ≡ took x w → StillMakes (xs ++ x ∷ []) w
+      → passes (is (mark_of j)) (after_blank p) ≡ true → read_flat (joint (mark_of j)) p ≡ took (mark_of j) q
+      → read_inside n (part_of j) q ≡ took x w → StillMakes (xs ++ x ∷ []) w
   parts-on xs p q w x total on mark one =
-      sym (loops.some_on (inside n) (inside-progress n) beyond (is c) (part c r) p w xs x on
-      (part-took (inside n) c r p q w c x mark one)) ∙ total
+      sym (loops.some_on (inside n) (inside-progress n) beyond (is (mark_of j)) (part (mark_of j) (part_of j)) p w xs x on
+      (part-took (inside n) (mark_of j) (part_of j) p q w (mark_of j) x mark one)) ∙ total
 
-  pub parts-smaller : (p q w : State) (x : ExprTree) → read_flat (joint c) p ≡ took c q
-      → read_inside n r q ≡ took x w → length w.rest < length p.rest
+  pub parts-smaller : (p q w : State) (x : ExprTree) → read_flat (joint (mark_of j)) p ≡ took (mark_of j) q
+      → read_inside n (part_of j) q ≡ took x w → length w.rest < length p.rest
   parts-smaller p q w x mark one =
-      loops.some-smaller (inside n) (inside-progress n) beyond (is c) (part c r) p w x
-      (part-took (inside n) c r p q w c x mark one)
+      loops.some-smaller (inside n) (inside-progress n) beyond (is (mark_of j)) (part (mark_of j) (part_of j)) p w x
+      (part-took (inside n) (mark_of j) (part_of j) p q w (mark_of j) x mark one)
 
   -- no part more
-  pub parts-end : (several : ExprTrees → ExprTree) (xs : List ExprTree) (p : State)
+  pub parts-end : (xs : List ExprTree) (p : State)
       → StillMakes xs p
-      → passes (is c) (after_blank p) ≡ false → 2 ≤ length xs
-      → by (λ es. joined several (first ∷ es)) (read_inside n (other_parts c r) from)
-      ≡ took (several (exprs xs)) p
-  parts-end several xs p total off many =
-      sym (by-twice (joined several) (λ es. first ∷ es) (read_inside n (other_parts c r) from))
-      ∙ ap (by (joined several))
-      (sym total ∙ loops.some_end (inside n) (inside-progress n) beyond (is c) (part c r) p xs off)
-      ∙ ap (λ e. took e p) (joined-several several xs many)
+      → passes (is (mark_of j)) (after_blank p) ≡ false → 2 ≤ length xs
+      → by (λ es. joined (several j) (first ∷ es)) (read_inside n others from)
+      ≡ took (several j (exprs xs)) p
+  parts-end xs p total off many =
+      sym (by-twice (joined (several j)) (λ es. first ∷ es) (read_inside n others from))
+      ∙ ap (by (joined (several j)))
+      (sym total ∙ loops.some_end (inside n) (inside-progress n) beyond (is (mark_of j)) (part (mark_of j) (part_of j)) p xs off)
+      ∙ ap (λ e. took e p) (joined-several (several j) xs many)

@@ -1,6 +1,7 @@
 -- The trees of several expressions joined, of a segment, and of a function expression in its
 -- places.
-use Rattle.std.proofs.Common.{◌≡◌, map, Bool, sym, ap, ◌∙◌, Vec, String, string_bytes, chars, Global}
+use Rattle.std.proofs.Common.{◌≡◌, map, rules, Bool, Vec, String, string_bytes, chars, Global}
+use Rattle.jp_query.specs.declared.tree.Subject.{the_lemmas}
 use Rattle.jp_query.specs.declared.tree.Expr.{Expr}
 use Rattle.jp_query.specs.declared.tree.Argument.TheOpen as one
 use Rattle.jp_query.specs.declared.tree.Argument.TheViews.{roll-Segment, roll-Call}
@@ -18,90 +19,33 @@ use Rattle.jp_query.specs.declared.tree.Subject.{Subject}
 use Rattle.jp_query.specs.declared.tree.Subject.TheVariants as subject
 use Rattle.jp_query.specs.Tree.{ArgumentTree, argument_of, arguments, call, call_of, call_test, call_argument, call_value, exists, literal, literal_of, logical_argument, operand_of, query_argument, query_of, subject_of, argument_step, CallTree, call_step, ExprTree, OperandTree, SelectorTree, QueryTree, SegmentTree, any_of, all_of, exprs, expr_of, expr_step, operand_step, selector_step, subject_step, query_step, segment_step, segment, segment_of, selectors, selector_of}
 
-pub tree_any_of : (es : Vec Expr Global)
-    → expr_of (expr.AnyOf es) ≡ any_of (exprs (map expr_of es.items))
-tree_any_of es =
-    ap expr_of (sym (rolls-AnyOf es))
-    ∙ fold-roll-Expr ArgumentTree ExprTree OperandTree SelectorTree ExprTree CallTree QueryTree
-    SegmentTree argument_step expr_step operand_step selector_step subject_step call_step query_step
-    segment_step (one.AnyOf es)
-
-pub tree_all_of : (es : Vec Expr Global)
-    → expr_of (expr.AllOf es) ≡ all_of (exprs (map expr_of es.items))
-tree_all_of es =
-    ap expr_of (sym (rolls-AllOf es))
-    ∙ fold-roll-Expr ArgumentTree ExprTree OperandTree SelectorTree ExprTree CallTree QueryTree
-    SegmentTree argument_step expr_step operand_step selector_step subject_step call_step query_step
-    segment_step (one.AllOf es)
-
 pub tree_segment : (descendant : Bool) (all : Vec Selector Global) → segment_of
     (roll-Segment (record { descendant = descendant; selectors = all })) ≡ segment descendant
     (selectors (map selector_of all.items))
-tree_segment descendant all =
-    fold-roll-Segment ArgumentTree ExprTree OperandTree SelectorTree ExprTree CallTree QueryTree
-    SegmentTree argument_step expr_step operand_step selector_step subject_step call_step query_step
-    segment_step (record { descendant = descendant; selectors = all })
+tree_segment descendant all = search (rules, the_lemmas)
 
 pub tree_call : (name : String Global) (xs : Vec Argument Global)
     → call_of (roll-Call (record { name = name; arguments = xs })) ≡ call
     (chars (string_bytes name)) (arguments (map argument_of xs.items))
-tree_call name xs =
-    fold-roll-Call ArgumentTree ExprTree OperandTree SelectorTree ExprTree CallTree QueryTree
-    SegmentTree argument_step expr_step operand_step selector_step subject_step call_step query_step
-    segment_step (record { name = name; arguments = xs })
-
-pub tree_operand_call : (x : Call) → operand_of (operand.Call x) ≡ call_value (call_of x)
-tree_operand_call x =
-    ap operand_of (sym (operand.rolls-Call x))
-    ∙ fold-roll-Operand ArgumentTree ExprTree OperandTree SelectorTree ExprTree CallTree QueryTree
-    SegmentTree argument_step expr_step operand_step selector_step subject_step call_step query_step
-    segment_step (one.Operand::Call x)
+tree_call name xs = search (rules, the_lemmas)
 
 pub tree_operand_literal : (x : Literal) → operand_of (operand.Literal x) ≡ literal (literal_of x)
-tree_operand_literal x =
-    ap operand_of (sym (operand.rolls-Literal x))
-    ∙ fold-roll-Operand ArgumentTree ExprTree OperandTree SelectorTree ExprTree CallTree QueryTree
-    SegmentTree argument_step expr_step operand_step selector_step subject_step call_step query_step
-    segment_step (one.Operand::Literal x)
+tree_operand_literal x = search (rules, the_lemmas)
 
 pub tree_subject_call : (x : Call) → subject_of (subject.Call x) ≡ call_test (call_of x)
-tree_subject_call x =
-    ap subject_of (sym (subject.rolls-Call x))
-    ∙ fold-roll-Subject ArgumentTree ExprTree OperandTree SelectorTree ExprTree CallTree QueryTree
-    SegmentTree argument_step expr_step operand_step selector_step subject_step call_step query_step
-    segment_step (one.Subject::Call x)
+tree_subject_call x = search (rules, the_lemmas)
 
 pub tree_subject_query : (x : Query) → subject_of (subject.Query x) ≡ exists (query_of x)
-tree_subject_query x =
-    ap subject_of (sym (subject.rolls-Query x))
-    ∙ fold-roll-Subject ArgumentTree ExprTree OperandTree SelectorTree ExprTree CallTree QueryTree
-    SegmentTree argument_step expr_step operand_step selector_step subject_step call_step query_step
-    segment_step (one.Subject::Query x)
+tree_subject_query x = search (rules, the_lemmas)
 
 pub tree_test : (x : Subject) → expr_of (expr.Test x) ≡ subject_of x
-tree_test x =
-    ap expr_of (sym (expr.rolls-Test x))
-    ∙ fold-roll-Expr ArgumentTree ExprTree OperandTree SelectorTree ExprTree CallTree QueryTree
-    SegmentTree argument_step expr_step operand_step selector_step subject_step call_step query_step
-    segment_step (one.Test x)
+tree_test x = search (rules, the_lemmas)
 
 pub tree_argument_query : (x : Query) → argument_of (argument.Query x) ≡ query_argument (query_of x)
-tree_argument_query x =
-    ap argument_of (sym (argument.rolls-Query x))
-    ∙ fold-roll-Argument ArgumentTree ExprTree OperandTree SelectorTree ExprTree CallTree QueryTree
-    SegmentTree argument_step expr_step operand_step selector_step subject_step call_step query_step
-    segment_step (one.Argument::Query x)
+tree_argument_query x = search (rules, the_lemmas)
 
 pub tree_argument_call : (x : Call) → argument_of (argument.Call x) ≡ call_argument (call_of x)
-tree_argument_call x =
-    ap argument_of (sym (argument.rolls-Call x))
-    ∙ fold-roll-Argument ArgumentTree ExprTree OperandTree SelectorTree ExprTree CallTree QueryTree
-    SegmentTree argument_step expr_step operand_step selector_step subject_step call_step query_step
-    segment_step (one.Argument::Call x)
+tree_argument_call x = search (rules, the_lemmas)
 
 pub tree_logical : (x : Expr) → argument_of (argument.Logical x) ≡ logical_argument (expr_of x)
-tree_logical x =
-    ap argument_of (sym (argument.rolls-Logical x))
-    ∙ fold-roll-Argument ArgumentTree ExprTree OperandTree SelectorTree ExprTree CallTree QueryTree
-    SegmentTree argument_step expr_step operand_step selector_step subject_step call_step query_step
-    segment_step (one.Logical x)
+tree_logical x = search (rules, the_lemmas)

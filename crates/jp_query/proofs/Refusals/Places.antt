@@ -81,6 +81,20 @@ place-of : (n : ℕ) (text : Text) (r : State) (h : Stops (whole n) (start text)
     → bytes h.front.read ≡ r.at
 place-of n text r h = sym (h.front.at ∙ omega arith)
 
+-- a stop before a character with which nothing goes on
+abbrev ends-at : (n : ℕ) (text : Text) (at mark : ℕ) (behind : Text) (found : Spans)
+    (h : Stops (whole n) (start text) (record { at = at; rest = mark ∷ behind; found = found }))
+    → IsNoViablePrefix n (h.front.read ++ mark ∷ []) → EndsViablePrefix n text at
+ends-at n text at mark behind found h halts = record {
+  before = h.front.read;
+  mark = mark;
+  after = behind;
+  parts = h.front.rest;
+  place_is = place-of n text (record { at = at; rest = mark ∷ behind; found = found }) h;
+  is_viable = prefix-of n text (record { at = at; rest = mark ∷ behind; found = found }) h;
+  is_not_viable = halts;
+}
+
 syntax-parts : (n : ℕ) (text : Text) (at : ℕ) (rest : Text) (found : Spans)
     → query_at n (start text) ≡ stuck (record { at = at; rest = rest; found = found })
     → Stops (whole n) (start text) (record { at = at; rest = rest; found = found })
@@ -95,19 +109,12 @@ syntax-parts n text at [] found e h =
     })
 syntax-parts n text at (mark ∷ behind) found e h =
     let r : State = record { at = at; rest = mark ∷ behind; found = found } in
-    let before = h.front.read in
-    let stops = λ (k : ℕ) (f : query_at k (start text) ≡ stuck r). no-further k before behind mark
-    (rw (sym h.front.rest, f) refl) in
-    let end : EndsViablePrefix n text at = record {
-      before = before;
-      mark = mark;
-      after = behind;
-      parts = h.front.rest;
-      place_is = place-of n text r h;
-      is_viable = prefix-of n text r h;
-      is_not_viable = stops n e;
-    } in
-    inr (record { end = end; none_deeper = stops (suc n) (stuck-deeper n (start text) r e) })
+    let stops = λ (k : ℕ) (f : query_at k (start text) ≡ stuck r). no-further k h.front.read behind
+    mark (rw (sym h.front.rest, f) refl) in
+    inr (record {
+      end = ends-at n text at mark behind found h (stops n e);
+      none_deeper = stops (suc n) (stuck-deeper n (start text) r e);
+    })
 
 -- where reading is stuck
 pub stuck-place : (n : ℕ) (text : Text) (r : State) → query_at n (start text) ≡ stuck r
@@ -129,17 +136,9 @@ deep-parts n text at (mark ∷ behind) found e h g =
     let same_text : through.read ≡ before ++ mark ∷ [] =
     append_cancel_right through.read (before ++ mark ∷ []) behind
     (sym through.rest ∙ h.front.rest ∙ sym (append_assoc before (mark ∷ []) behind)) in
-    let end : EndsViablePrefix n text at = record {
-      before = before;
-      mark = mark;
-      after = behind;
-      parts = h.front.rest;
-      place_is = place-of n text r h;
-      is_viable = prefix-of n text r h;
-      is_not_viable = no-further n before behind mark (rw (sym h.front.rest, e) refl);
-    } in
     record {
-      end = end;
+      end = ends-at n text at mark behind found h
+          (no-further n before behind mark (rw (sym h.front.rest, e) refl));
       deeper = subst (IsViablePrefix (suc n)) same_text (prefix-of (suc n) text (past r) g.stops);
     }
 

@@ -162,26 +162,6 @@ leaf-has_items {P} x bare written spells text s o t h p =
     rw (h.spans, none)
     (item-placed text x [] [] o t p (spells o t own) (written [] o t own) tt tt tt)
 
--- an item whose own text begins before the items inside it
-pub item-after : {P Q : Form} {xs : List QueryItem} (x : QueryItem) → Bare P → Written P
-    → HasItems Q xs
-    → (text : Text) (s : Spans) (o : ℕ) (t : Text) → SpellsItem x o t → Item (P ⌢ Q) s o t
-    → Part text o t → Placed text (x ∷ xs) s o t
-item-after {xs} x bare written f text s o t spelled h p =
-    let m = h.is in
-    let whole : Part text o (m.first ++ m.second) = subst (Part text o) m.is p in
-    let body = f text m.second_spans (o + bytes m.first) m.second m.two
-    (part-second text o m.first m.second whole) in
-    let size = ap bytes m.is ∙ bytes-append m.first m.second in
-    let first : 0 < bytes m.first = written m.first_spans o m.first m.one in
-    let low : o + 1 ≤ o + bytes m.first = omega (arith, first) in
-    let high : o + bytes m.first + bytes m.second ≤ o + bytes t = omega (arith, size) in
-    let some : 0 < bytes t = omega (arith, size, first) in
-    rw (h.spans, m.spans, bare m.first_spans o m.first m.one)
-    (item-placed text x xs m.second_spans o t p spelled some body.each body.rise
-    (within-wider (o + bytes m.first) (o + bytes m.first + bytes m.second) (o + 1)
-    (o + bytes t) low high m.second_spans body.within))
-
 -- ---- forms whose items come after the whole text of the form
 
 -- each text of the form takes a byte at least, and its items start after its first byte
@@ -195,23 +175,6 @@ abbrev pub Sooner : Form → Type 0
 Sooner P =
     (text : Text) (s : Spans) (o : ℕ) (t : Text) → P s o t → Part text o t
     → (0 < bytes t) × AllComeAfter (record { start = o; end = o + bytes t }) s
-
-pub later-word : {P Q : Form} {ys : List QueryItem} → Bare P → Written P → HasItems Q ys
-    → Later (P ⌢ Q)
-later-word bare written f text s o t h p =
-    let whole : Part text o (h.first ++ h.second) = subst (Part text o) h.is p in
-    let size = ap bytes h.is ∙ bytes-append h.first h.second in
-    let first : 0 < bytes h.first = written h.first_spans o h.first h.one in
-    let body = f text h.second_spans (o + bytes h.first) h.second h.two
-    (part-second text o h.first h.second whole) in
-    let low : o + 1 ≤ o + bytes h.first = omega (arith, first) in
-    let high : o + bytes h.first + bytes h.second ≤ o + bytes t = omega (arith, size) in
-    let some : 0 < bytes t = omega (arith, size, first) in
-    rw (h.spans, bare h.first_spans o h.first h.one) (
-      some,
-      within-wider (o + bytes h.first) (o + bytes h.first + bytes h.second) (o + 1)
-          (o + bytes t) low high h.second_spans body.within,
-    )
 
 pub later-blank : {Q : Form} → Later Q → Later (Blank ⌢ Q)
 later-blank later text s o t h p =
@@ -249,6 +212,25 @@ later-with later f text s o t h p =
           one.1) (within-wider (o + bytes h.first) (o + bytes h.first + bytes h.second) (o + 1)
           (o + bytes t) low high h.second_spans body.within),
     )
+
+-- a form without items, and one with
+later-bare : {P : Form} → Bare P → Written P → Later P
+later-bare bare written text s o t h p = rw (bare s o t h) (written s o t h, tt)
+
+pub later-word : {P Q : Form} {ys : List QueryItem} → Bare P → Written P → HasItems Q ys
+    → Later (P ⌢ Q)
+later-word bare written f = later-with (later-bare bare written) f
+
+-- an item whose own text begins before the items inside it
+pub item-after : {P Q : Form} {xs : List QueryItem} (x : QueryItem) → Bare P → Written P
+    → HasItems Q xs
+    → (text : Text) (s : Spans) (o : ℕ) (t : Text) → SpellsItem x o t → Item (P ⌢ Q) s o t
+    → Part text o t → Placed text (x ∷ xs) s o t
+item-after {xs} x bare written f text s o t spelled h p =
+    let body = after-bare bare f text h.inside o t h.is p in
+    let later = later-word bare written f text h.inside o t h.is p in
+    rw h.spans
+    (item-placed text x xs h.inside o t p spelled later.0 body.each body.rise later.1)
 
 pub sooner-later : {P : Form} → Later P → Sooner P
 sooner-later later text s o t h p =

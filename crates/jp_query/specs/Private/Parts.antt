@@ -1,12 +1,41 @@
--- What goes on from an argument's first part.
-use Rattle.std.specs.Prelude.{ℕ, Bool, ◌||◌, ◌∷◌}
-use Rattle.jp_reading.specs.Outcome.{State, Outcome, ◌>>=◌, is}
+-- The parts of brackets and of a logical expression, and what goes on from an argument's first part.
+use Rattle.std.specs.Prelude.{ℕ, Bool, true, ◌||◌, ◌∷◌, ◌++◌}
+use Rattle.jp_reading.specs.Outcome.{State, Outcome, ◌>>=◌, is, expect}
+use Rattle.jp_reading.specs.Texts.{Text}
+use Rattle.jp_reading.specs.Rule.{here, beyond, the, blanks, ◌>>◌}
 use Rattle.jp_reading.specs.Views.{by}
-use Rattle.jp_query.specs.Tree.{ExprTree, any_of, all_of, ArgumentTree, logical_argument}
-use Rattle.jp_query.specs.Characters.{ampersand, bar}
+use Rattle.jp_query.specs.declared.expressions.Connective.{Connective}
+use Rattle.jp_query.specs.declared.expressions.Connective.TheVariants.{Or, And}
+use Rattle.jp_query.specs.Tree.{SelectorTree, ExprTree, ExprTrees, any_of, all_of, CallTree, call, arguments, ArgumentTree, logical_argument}
+use Rattle.jp_query.specs.Characters.{ampersand, bar, comma, opening_parenthesis}
+use Rattle.jp_query.specs.Names.{is_function_char}
 use Rattle.jp_query.specs.Grammar.{joined}
-use Rattle.jp_query.specs.Private.Rules.{basic, conjunction, other_parts}
-use Rattle.jp_query.specs.Private.Reading.{read_inside}
+use Rattle.jp_query.specs.Private.Rules.{QueryRule, entry, basic, conjunction, other_parts, run, after_parenthesis}
+use Rattle.jp_query.specs.Private.Reading.{read_flat, read_inside}
+
+-- a selector after a comma, and the blanks after each of them
+abbrev pub next_entry : QueryRule true here here SelectorTree
+next_entry = the comma >> (blanks {m = here} >> entry)
+
+-- the mark that stands twice between two parts
+abbrev pub mark_of : Connective → ℕ
+mark_of Or = bar
+mark_of And = ampersand
+
+-- the parts that the connective joins
+abbrev pub part_of : Connective → QueryRule true here beyond ExprTree
+part_of Or = conjunction
+part_of And = basic
+
+-- the tree of several parts
+abbrev pub several : Connective → ExprTrees → ExprTree
+several Or = any_of
+several And = all_of
+
+-- how parts are read inside n levels from the first on; a single one stands for itself
+abbrev pub joined_at : Connective → ℕ → ExprTree → State → Outcome ExprTree
+joined_at c n e p =
+    by (λ es. joined (several c) (e ∷ es)) (read_inside n (other_parts (mark_of c) (part_of c)) p)
 
 -- whether a character begins another part of a logical expression
 abbrev pub begins_part : ℕ → Bool
@@ -14,8 +43,10 @@ begins_part c = is ampersand c || is bar c
 
 -- how an argument that is a logical expression is read inside n levels from its first part on
 abbrev pub logical_at : ℕ → ExprTree → State → Outcome ArgumentTree
-logical_at n e p =
-    by (λ es. joined all_of (e ∷ es)) (read_inside n (other_parts ampersand basic) p)
-    >>= λ a q. by
-    logical_argument
-    (by (λ es. joined any_of (a ∷ es)) (read_inside n (other_parts bar conjunction) q))
+logical_at n e p = joined_at And n e p >>= λ a q. by logical_argument (joined_at Or n a q)
+
+-- how the rest of a function's name that begins so, and arguments inside n levels, are read
+abbrev pub rest_of_call : ℕ → Text → State → Outcome CallTree
+rest_of_call n w p =
+    by (λ u. w ++ u) (read_flat (run is_function_char) p) >>= λ name q. expect opening_parenthesis q
+    >>= λ d r. by (λ xs. call name (arguments xs)) (read_inside n after_parenthesis r)

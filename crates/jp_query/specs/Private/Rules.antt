@@ -273,14 +273,16 @@ entries =
 
 -- ---- segments (section 2.5)
 
--- bracketed-selection
-unfoldable pub bracket : Bool → QueryRule true here here SegmentTree
-bracket descendant = do
-  the opening_bracket
-  blanks {m = here}
+-- bracketed-selection after its first bracket and the blanks there
+abbrev pub in_brackets : Bool → QueryRule true here here SegmentTree
+in_brackets descendant = do
   xs ← entries
   the closing_bracket
   value {m = here} (segment_tree descendant (selector_trees xs))
+
+-- bracketed-selection
+unfoldable pub bracket : Bool → QueryRule true here here SegmentTree
+bracket descendant = the opening_bracket >> (blanks {m = here} >> in_brackets descendant)
 
 -- the segment of one selector
 abbrev pub segment_of_one : Bool → SelectorTree → SegmentTree

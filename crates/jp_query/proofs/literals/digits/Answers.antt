@@ -1,13 +1,12 @@
 use Rattle.std.proofs.Common.{ℕ, true, ap, ◌∙◌}
-use Rattle.std.proofs.lemmas.Result.{err_from_is_err_and}
+use Rattle.jp_query.proofs.Readers.Exits.{err_is}
 use Rattle.jp_reading.specs.Views.{by}
 use Rattle.jp_query.proofs.Readers.WordsAndDigits.{digits-natural, digits-fail}
 use Rattle.jp_query.proofs.literals.digits.Goals as goal
 
 pub returns-in_err-natural : goal.returns-in_err-natural
 returns-in_err-natural c =
-    let p = err_from_is_err_and c.from_residual.result c.from_residual.ensures.1 in
-    rw (p.1, p.2)
+    rw (err_is c.from_residual.result c.from_residual.ensures.1)
     (digits-fail c.args.reader.now c.in_err-natural.field-0.0 c.in_err-natural.ensures.taken)
 
 pub returns : goal.returns

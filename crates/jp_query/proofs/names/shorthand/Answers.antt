@@ -1,8 +1,15 @@
-use Rattle.std.proofs.Common.{sym}
-use Rattle.jp_query.proofs.Readers.Runs.{shorthand-run}
+use Rattle.std.proofs.Common.{◌≡◌, ◌++◌, ◌∷◌, [], ap, ◌∙◌}
+use Rattle.std.specs.Str.{chars}
+use Rattle.std.specs.String.{string_bytes}
+use Rattle.std.proofs.lemmas.Str.{chars-nil}
+use Rattle.jp_query.specs.Private.Rules.{shorthand}
 use Rattle.jp_query.proofs.names.shorthand.Goals as goal
 
-pub returns-in-Some : goal.returns-in-Some
-returns-in-Some c =
-    rw (shorthand-run c.args.reader.now c.in-Some.first (sym c.in-Some.ensures)
-    (sym c.if-is_name_first.ensures)) c.run.ensures
+pub returns : goal.returns
+unfolding shorthand
+returns c =
+    let first = c.in_ok-first.first in
+    let one : chars (string_bytes c.append_char.new.text) ≡ first ∷ [] =
+    c.in_ok-append_char.ensures
+    ∙ ap (λ w. w ++ first ∷ []) (ap chars c.new-name.ensures.bytes ∙ chars-nil) in
+    rw c.in_ok-first.ensures.taken (rw one at c.name_from.ensures)

@@ -1,12 +1,10 @@
-use Rattle.std.proofs.Common.{◌≡◌, ℕ, ◌++◌, ◌∷◌, [], rules, sym, ap, ◌∙◌}
-use Rattle.std.specs.Char.{IsScalar}
+use Rattle.std.proofs.Common.{ℕ, ◌++◌, sym, ap, ◌∙◌}
 use Rattle.std.specs.Str.{chars}
 use Rattle.std.specs.String.{string_bytes}
-use Rattle.std.proofs.lemmas.Str.{chars-nil, IsUtf8-string_bytes}
-use Rattle.std.proofs.lemmas.Result.{err_from_is_err_and}
+use Rattle.std.proofs.lemmas.Str.{chars-nil}
+use Rattle.jp_query.proofs.Readers.Exits.{err_is}
 use Rattle.jp_reading.specs.Outcome.{passes, head}
 use Rattle.jp_reading.specs.Views.{with_front}
-use Rattle.jp_reading.proofs.Chars.{chars_push}
 use Rattle.jp_reading.proofs.Progress.{moved}
 use Rattle.jp_reading.proofs.Folds.{with_front-nil, pushes_on, pushes_end, folds_fail}
 use Rattle.jp_query.specs.Private.Rules.{nesting, characters, string_character, begins_character}
@@ -29,9 +27,8 @@ characters-init c =
 pub returns-in_err-next : goal.returns-in_err-next
 unfolding characters
 returns-in_err-next c =
-    let p = err_from_is_err_and c.from_residual.result c.from_residual.ensures.1 in
     let text = chars (string_bytes c.characters.text) in
-    rw (p.1, p.2, ← c.characters.invariant)
+    rw (err_is c.from_residual.result c.from_residual.ensures.1, ← c.characters.invariant)
     (folds_fail (λ q. passes (begins_character c.args.quote) (head q))
     (read_flat (string_character c.args.quote)) (character-progress c.args.quote) (λ ys. text ++ ys)
     c.characters.reader c.in_err-next.field-0.0
@@ -46,17 +43,12 @@ characters-smaller c =
 pub characters-preserved : goal.characters-preserved
 unfolding characters
 characters-preserved c =
-    let text = string_bytes c.characters.text in
-    let next = c.in_ok-next.next in
-    let scalar : IsScalar next = search rules in
-    let pushed : chars (string_bytes c.push.new.self) ≡ chars text ++ next ∷ [] =
-    ap chars c.in_ok-push.ensures.bytes
-    ∙ chars_push text next (IsUtf8-string_bytes c.characters.text) scalar in
+    let text = chars (string_bytes c.characters.text) in
     let step = pushes_on (λ q. passes (begins_character c.args.quote) (head q))
-    (read_flat (string_character c.args.quote)) (character-progress c.args.quote) (chars text)
-    c.characters.reader c.character.new.reader next
+    (read_flat (string_character c.args.quote)) (character-progress c.args.quote) text
+    c.characters.reader c.character.new.reader c.in_ok-next.next
     (sym c.is_at_character.ensures ∙ c.characters-test.true) c.in_ok-next.ensures in
-    rw (pushed, ← step) c.characters.invariant
+    rw (c.in_ok-append_char.ensures, ← step) c.characters.invariant
 
 pub returns : goal.returns
 unfolding characters
