@@ -326,9 +326,11 @@ module _ (n : ℕ) (inside-has_items : InnerExprs n) (inside-has_arguments : Inn
   unfolding doubled
   logical-inside e text s o t (one_part h) p = composed-has_items e text s o t h p
   logical-inside e text s o t (parts_all x y es same h) p =
-      rw same (parts-have_items ampersand (Basic (Inside n)) basic-has_items (x ∷ y ∷ es) text s o t h p)
+      rw same (parts-have_items ampersand (Basic (Inside n)) basic-has_items
+      (x ∷ y ∷ es) text s o t h p)
   logical-inside e text s o t (parts_any x y es same h) p =
-      rw same (parts-have_items bar (Conjunction (Inside n)) conjunction-has_items (x ∷ y ∷ es) text s o t h p)
+      rw same (parts-have_items bar (Conjunction (Inside n)) conjunction-has_items
+      (x ∷ y ∷ es) text s o t h p)
 
   logical-has_items : (e : ExprTree) (use_of : Use)
       → HasItems (Item (Logical (Inside n) e)) (logical e use_of ∷ expr_items e)

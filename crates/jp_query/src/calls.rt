@@ -22,7 +22,11 @@ use jp_reading::{Reader, Stop};
 /// A function expression.
 #[cycle(nested)]
 pub fn call(reader: &mut Reader, levels: u32) -> Result<Call, Stop>
-    ensures { Gives call_of result reader.new (by (rules.call_with []) (call_inside levels reader.old)) }
+    ensures { Gives
+        call_of
+        result
+        reader.new
+        (by (rules.call_with []) (call_inside levels reader.old)) }
 {
     let name = String::new(reader.alloc());
     call_from(reader, levels, name)

@@ -2,3 +2,14 @@
 mod calls;
 mod filters;
 mod queries;
+
+use crate::{Parsed, Query, Segment};
+
+/// Whether the query has these segments, from the root.
+fn is_of(parsed: Parsed, segments: Vec<Segment>) -> bool {
+    parsed.into_query()
+        == Query {
+            absolute: true,
+            segments,
+        }
+}

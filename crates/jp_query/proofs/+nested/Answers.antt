@@ -41,7 +41,8 @@ segments::segments-returns-in_err-next t c =
     let failed : Fails c.in_err-next.field-0.0
     (read_inside c.args.levels segment (skip c.segments.reader)) =
     rw c.skip.ensures at c.in_err-next.ensures in
-    rw (err_is c.from_residual.result c.from_residual.ensures.1, ← c.segments.invariant) (loops.some_fail (inside c.args.levels)
+    rw (err_is c.from_residual.result c.from_residual.ensures.1, ← c.segments.invariant)
+    (loops.some_fail (inside c.args.levels)
     (inside-progress c.args.levels) beyond begins_segment next_segment c.segments.reader
     (map segment_of c.segments.segments.items) c.in_err-next.field-0.0
     (sym c.is_before_segment.ensures ∙ c.segments-test.true) failed)
@@ -124,7 +125,8 @@ pub expressions::joined_from-returns-then-not-is_before_joint :
     goal.expressions::joined_from-returns-then-not-is_before_joint
 expressions::joined_from-returns-then-not-is_before_joint t c =
     ap (by (λ es. joined (several c.args.connective) (expr_of c.args.first ∷ es)))
-    (rounds.parts-none (inside c.args.levels) (mark_of c.args.connective) (part_of c.args.connective) c.args.reader.now
+    (rounds.parts-none (inside c.args.levels) (mark_of c.args.connective)
+    (part_of c.args.connective) c.args.reader.now
     (sym c.is_before_joint.ensures ∙ c.if-not-is_before_joint.true))
 
 pub expressions::joined_from-parts-init : goal.expressions::joined_from-parts-init
@@ -147,7 +149,8 @@ expressions::joined_from-returns-in_err-joint t c =
     (rounds.parts-fail c.args.levels c.args.connective (expr_of c.args.first) c.args.reader.now
     e (map expr_of c.parts.parts.items) c.parts.reader c.parts.invariant.total
     (sym c.is_before_joint-in-parts.ensures ∙ c.parts-test.true)
-    (rounds.mark-fails (inside c.args.levels) (mark_of c.args.connective) (part_of c.args.connective) c.parts.reader e
+    (rounds.mark-fails (inside c.args.levels) (mark_of c.args.connective)
+    (part_of c.args.connective) c.parts.reader e
     c.in_err-joint.ensures))
 
 pub expressions::joined_from-returns-in_err-next :
@@ -158,7 +161,8 @@ expressions::joined_from-returns-in_err-next t c =
     (rounds.parts-fail c.args.levels c.args.connective (expr_of c.args.first) c.args.reader.now
     e (map expr_of c.parts.parts.items) c.parts.reader c.parts.invariant.total
     (sym c.is_before_joint-in-parts.ensures ∙ c.parts-test.true)
-    (rounds.part-fails (inside c.args.levels) (mark_of c.args.connective) (part_of c.args.connective) c.parts.reader c.joint.new.reader
+    (rounds.part-fails (inside c.args.levels) (mark_of c.args.connective)
+    (part_of c.args.connective) c.parts.reader c.joint.new.reader
     (mark_of c.args.connective) e c.in_ok-joint.ensures c.in_err-next.ensures))
 
 pub expressions::joined_from-parts-smaller : goal.expressions::joined_from-parts-smaller
@@ -237,7 +241,8 @@ calls::some_arguments-returns-in_err-next t c =
     (loops.some_fail (inside c.args.levels) (inside-progress c.args.levels) beyond
     (is comma) next_argument c.arguments.reader (map argument_of c.arguments.arguments.items) e
     (sym c.is_before.ensures ∙ c.arguments-test.true) c.in_err-next.ensures) in
-    rw (err_is c.from_residual-in_err-next.result c.from_residual-in_err-next.ensures.1, parts.arguments-closed (inside c.args.levels) c.args.reader.now)
+    rw (err_is c.from_residual-in_err-next.result c.from_residual-in_err-next.ensures.1,
+    parts.arguments-closed (inside c.args.levels) c.args.reader.now)
     (fails-then e (read_inside c.args.levels rounds.listed c.args.reader.now) _ failed)
 
 pub calls::some_arguments-arguments-smaller : goal.calls::some_arguments-arguments-smaller
@@ -265,7 +270,8 @@ calls::some_arguments-returns-in_err-expect t c =
     (sym c.is_before.ensures ∙ c.arguments-test.false) in
     let failed : Fails e (expect closing_parenthesis (skip c.arguments.reader)) =
     rw c.skip.ensures at c.in_err-expect.ensures.taken in
-    rw (err_is c.from_residual-in_err-expect.result c.from_residual-in_err-expect.ensures.1, parts.arguments-closed (inside c.args.levels) c.args.reader.now, listed)
+    rw (err_is c.from_residual-in_err-expect.result c.from_residual-in_err-expect.ensures.1,
+    parts.arguments-closed (inside c.args.levels) c.args.reader.now, listed)
     (fails-then e (expect closing_parenthesis (skip c.arguments.reader)) _ failed)
 
 pub calls::some_arguments-returns : goal.calls::some_arguments-returns
@@ -291,13 +297,15 @@ unfolding argument
 calls::argument-returns-in_err-first t c =
     let e = c.in_err-first.field-0.0 in
     let o = read_inside c.args.levels argument_start c.args.reader.now in
-    rw (err_is c.from_residual.result c.from_residual.ensures.1) (fails-then e (o >>= λ x q. read_inside c.args.levels (argument_on x) q) _
+    rw (err_is c.from_residual.result c.from_residual.ensures.1) (fails-then e (o
+    >>= λ x q. read_inside c.args.levels (argument_on x) q) _
     (fails-then e o (λ x q. read_inside c.args.levels (argument_on x) q) c.in_err-first.ensures))
 
 pub calls::argument-returns-in_err-argument : goal.calls::argument-returns-in_err-argument
 unfolding argument
 calls::argument-returns-in_err-argument t c =
-    rw (err_is c.from_residual-in_err-argument.result c.from_residual-in_err-argument.ensures.1, c.in_ok-first.ensures) (fails-then c.in_err-argument.field-0.0
+    rw (err_is c.from_residual-in_err-argument.result c.from_residual-in_err-argument.ensures.1,
+    c.in_ok-first.ensures) (fails-then c.in_err-argument.field-0.0
     (read_inside c.args.levels (argument_on (argument_of c.in_ok-first.first))
     c.argument_start.new.reader) _ c.in_err-argument.ensures)
 
@@ -368,7 +376,8 @@ calls::argument_from-returns-in-Logical t c =
 
 pub calls::logical-returns-in_err-conjunction : goal.calls::logical-returns-in_err-conjunction
 calls::logical-returns-in_err-conjunction t c =
-    rw (err_is c.from_residual.result c.from_residual.ensures.1) (fails-then c.in_err-conjunction.field-0.0
+    rw (err_is c.from_residual.result c.from_residual.ensures.1)
+    (fails-then c.in_err-conjunction.field-0.0
     (by (λ es. joined all_of (expr_of c.args.first ∷ es))
     (read_inside c.args.levels (other_parts ampersand basic) c.args.reader.now)) _
     c.in_err-conjunction.ensures)
@@ -376,7 +385,8 @@ calls::logical-returns-in_err-conjunction t c =
 pub calls::logical-returns-in_err-expression :
     goal.calls::logical-returns-in_err-expression
 calls::logical-returns-in_err-expression t c =
-    rw (err_is c.from_residual-in_err-expression.result c.from_residual-in_err-expression.ensures.1, c.in_ok-conjunction.ensures) (fails-then c.in_err-expression.field-0.0
+    rw (err_is c.from_residual-in_err-expression.result c.from_residual-in_err-expression.ensures.1,
+    c.in_ok-conjunction.ensures) (fails-then c.in_err-expression.field-0.0
     (by (λ es. joined any_of (expr_of c.in_ok-conjunction.conjunction ∷ es))
     (read_inside c.args.levels (other_parts bar conjunction) c.joined_from.new.reader))
     (λ e q. took (logical_argument e) q) c.in_err-expression.ensures)
@@ -402,14 +412,16 @@ pub expressions::subject-returns-then-is_at_function :
     goal.expressions::subject-returns-then-is_at_function
 expressions::subject-returns-then-is_at_function t c =
     openings.subject-called c.args.levels c.args.reader.now
-    (sym c.is_at_function.ensures ∙ c.if-is_at_function.true) ∙ ap (by call_test) c.in_ok-call.ensures
+    (sym c.is_at_function.ensures ∙ c.if-is_at_function.true)
+    ∙ ap (by call_test) c.in_ok-call.ensures
     ∙ ap (λ x. took x c.call.new.reader) (sym (tree_subject_call c.in_ok-call.field-0))
 
 pub expressions::subject-returns-in_err-query_within :
     goal.expressions::subject-returns-in_err-query_within
 expressions::subject-returns-in_err-query_within t c =
     rw (
-      err_is c.from_residual-in_err-query_within.result c.from_residual-in_err-query_within.ensures.1,
+      err_is c.from_residual-in_err-query_within.result
+      c.from_residual-in_err-query_within.ensures.1,
       openings.subject-query c.args.levels c.args.reader.now
           (sym c.is_at_function.ensures ∙ c.if-is_at_function.false),
     ) (fails-then c.in_err-query_within.field-0.0
@@ -436,21 +448,26 @@ pub sides::word-returns-then-is_at : goal.sides::word-returns-then-is_at
 sides::word-returns-then-is_at t c =
     rw (openings.word-t c.args.levels c.args.reader.now (sym c.is_at.ensures ∙ c.if-is_at.true))
     (subst (λ (more : Text). Gives operand_of c.word_or_call.result c.word_or_call.new.reader
-    (read_inside c.args.levels (word_of true_literal letter_t more) c.args.reader.now)) c.as_slice.ensures
+    (read_inside c.args.levels (word_of true_literal letter_t more) c.args.reader.now))
+    c.as_slice.ensures
     c.word_or_call.ensures)
 
 pub sides::word-returns-then-is_at-2 : goal.sides::word-returns-then-is_at-2
 sides::word-returns-then-is_at-2 t c =
     rw (openings.word-f c.args.levels c.args.reader.now (sym c.is_at-2.ensures ∙ c.if-is_at-2.true))
-    (subst (λ (more : Text). Gives operand_of c.word_or_call-then-is_at-2.result c.word_or_call-then-is_at-2.new.reader
-    (read_inside c.args.levels (word_of false_literal letter_f more) c.args.reader.now)) c.as_slice-then-is_at-2.ensures
+    (subst (λ (more : Text). Gives operand_of c.word_or_call-then-is_at-2.result
+    c.word_or_call-then-is_at-2.new.reader
+    (read_inside c.args.levels (word_of false_literal letter_f more) c.args.reader.now))
+    c.as_slice-then-is_at-2.ensures
     c.word_or_call-then-is_at-2.ensures)
 
 pub sides::word-returns-then-is_at-3 : goal.sides::word-returns-then-is_at-3
 sides::word-returns-then-is_at-3 t c =
     rw (openings.word-n c.args.levels c.args.reader.now (sym c.is_at-3.ensures ∙ c.if-is_at-3.true))
-    (subst (λ (more : Text). Gives operand_of c.word_or_call-then-is_at-3.result c.word_or_call-then-is_at-3.new.reader
-    (read_inside c.args.levels (word_of null_literal letter_n more) c.args.reader.now)) c.as_slice-then-is_at-3.ensures
+    (subst (λ (more : Text). Gives operand_of c.word_or_call-then-is_at-3.result
+    c.word_or_call-then-is_at-3.new.reader
+    (read_inside c.args.levels (word_of null_literal letter_n more) c.args.reader.now))
+    c.as_slice-then-is_at-3.ensures
     c.word_or_call-then-is_at-3.ensures)
 
 pub sides::word-returns-then-not-is_at_function : goal.sides::word-returns-then-not-is_at_function

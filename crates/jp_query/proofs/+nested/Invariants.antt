@@ -154,7 +154,8 @@ invariant-expressions::joined_from-parts l = record {
   total : with_front (map expr_of l.parts.items)
       (read_inside l.levels (other_parts (mark_of l.connective) (part_of l.connective)) l.reader)
       ≡ by (λ es. expr_of l.fn.first ∷ es)
-      (read_inside l.levels (other_parts (mark_of l.connective) (part_of l.connective)) l.fn.reader);
+      (read_inside l.levels (other_parts (mark_of l.connective)
+      (part_of l.connective)) l.fn.reader);
   some : 1 ≤ length l.parts.items;
   several : passes (is (mark_of l.connective)) (after_blank l.reader) ≡ false
       → 2 ≤ length l.parts.items;

@@ -76,7 +76,8 @@ module _ (inner : Inner nesting) where
           let going = or-second (is opening_parenthesis h.0)
           (is_function_char h.0 && not (is_among (only_this other) h.0))
           (sym (ap (passes (is opening_parenthesis)) h.1) ∙ off) h.2 in
-          rw off (named-any (λ d. is_function_char d && not (is_among (only_this other) d)) p h.0 h.1
+          rw off (named-any (λ d. is_function_char d && not (is_among
+          (only_this other) d)) p h.0 h.1
           going (and-left (is_function_char h.0) (not (is_among (only_this other) h.0)) going))
 
 -- a function expression from the first letter of its name on, inside n levels

@@ -109,27 +109,33 @@ module _ (n : ℕ) (j : Connective) (first : ExprTree) (from : State) where
   -- a part that fails
   pub parts-fail : (e : Stop) (xs : List ExprTree) (p : State)
       → StillMakes xs p
-      → passes (is (mark_of j)) (after_blank p) ≡ true → Fails e (read_inside n (part (mark_of j) (part_of j)) p)
+      → passes (is (mark_of j)) (after_blank p) ≡ true → Fails e (read_inside n (part (mark_of j)
+      (part_of j)) p)
       → Fails e (by (λ es. joined (several j) (first ∷ es)) (read_inside n others from))
   parts-fail e xs p total on failed =
       let o = by (λ es. first ∷ es) (read_inside n others from) in
       let made : Fails e o = rw (← total)
-      (loops.some_fail (inside n) (inside-progress n) beyond (is (mark_of j)) (part (mark_of j) (part_of j)) p xs e on failed) in
+      (loops.some_fail (inside n) (inside-progress n) beyond (is (mark_of j)) (part (mark_of j)
+      (part_of j)) p xs e on failed) in
       rw (← by-twice (joined (several j)) (λ es. first ∷ es) (read_inside n others from))
       (fails-then e o _ made)
 
   -- another part
   pub parts-on : (xs : List ExprTree) (p q w : State) (x : ExprTree) → StillMakes xs p
-      → passes (is (mark_of j)) (after_blank p) ≡ true → read_flat (joint (mark_of j)) p ≡ took (mark_of j) q
+      → passes (is (mark_of j)) (after_blank p) ≡ true → read_flat (joint (mark_of j)) p
+      ≡ took (mark_of j) q
       → read_inside n (part_of j) q ≡ took x w → StillMakes (xs ++ x ∷ []) w
   parts-on xs p q w x total on mark one =
-      sym (loops.some_on (inside n) (inside-progress n) beyond (is (mark_of j)) (part (mark_of j) (part_of j)) p w xs x on
+      sym (loops.some_on (inside n) (inside-progress n) beyond (is (mark_of j)) (part (mark_of j)
+      (part_of j)) p w xs x on
       (part-took (inside n) (mark_of j) (part_of j) p q w (mark_of j) x mark one)) ∙ total
 
-  pub parts-smaller : (p q w : State) (x : ExprTree) → read_flat (joint (mark_of j)) p ≡ took (mark_of j) q
+  pub parts-smaller : (p q w : State) (x : ExprTree) → read_flat (joint (mark_of j)) p
+      ≡ took (mark_of j) q
       → read_inside n (part_of j) q ≡ took x w → length w.rest < length p.rest
   parts-smaller p q w x mark one =
-      loops.some-smaller (inside n) (inside-progress n) beyond (is (mark_of j)) (part (mark_of j) (part_of j)) p w x
+      loops.some-smaller (inside n) (inside-progress n) beyond (is (mark_of j)) (part (mark_of j)
+      (part_of j)) p w x
       (part-took (inside n) (mark_of j) (part_of j) p q w (mark_of j) x mark one)
 
   -- no part more
@@ -141,5 +147,6 @@ module _ (n : ℕ) (j : Connective) (first : ExprTree) (from : State) where
   parts-end xs p total off many =
       sym (by-twice (joined (several j)) (λ es. first ∷ es) (read_inside n others from))
       ∙ ap (by (joined (several j)))
-      (sym total ∙ loops.some_end (inside n) (inside-progress n) beyond (is (mark_of j)) (part (mark_of j) (part_of j)) p xs off)
+      (sym total ∙ loops.some_end (inside n) (inside-progress n) beyond (is (mark_of j)) (part
+      (mark_of j) (part_of j)) p xs off)
       ∙ ap (λ e. took e p) (joined-several (several j) xs many)

@@ -1,4 +1,5 @@
--- The parts of brackets and of a logical expression, and what goes on from an argument's first part.
+-- The parts of brackets, of logical expressions and of calls, and what goes on from an argument's
+-- first part.
 use Rattle.std.specs.Prelude.{ℕ, Bool, true, ◌||◌, ◌∷◌, ◌++◌}
 use Rattle.jp_reading.specs.Outcome.{State, Outcome, ◌>>=◌, is, expect}
 use Rattle.jp_reading.specs.Texts.{Text}

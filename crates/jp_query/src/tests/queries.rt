@@ -1,6 +1,7 @@
 //! Queries of RFC 9535 read, and texts refused with their places.
 
-use crate::{Numeral, Query, RefusalKind, Segment, Selector, Slice, Span, parse};
+use crate::tests::is_of;
+use crate::{Numeral, RefusalKind, Segment, Selector, Slice, Span, parse};
 use std::alloc::{AllocError, Global};
 use std::test::Fail;
 
@@ -34,27 +35,22 @@ fn names_and_indexes_are_read(rt: HostRuntime) -> Result<(), Fail> {
         child(alloc, Selector::Index(Numeral::Whole(-20)))?,
     ]?;
     assert_eq!(rt; parsed.query().segments.len(), 4);
-    assert_eq!(rt;
-        parsed.into_query(),
-        Query {
-            absolute: true,
-            segments
-        }
-    );
+    assert!(rt; is_of(parsed, segments));
     Ok(())
+}
+
+/// Whether the text is a query of these segments.
+fn reads(alloc: Global, text: &str, segments: Vec<Segment>) -> bool {
+    match parse(alloc, text) {
+        Ok(parsed) => is_of(parsed, segments),
+        Err(_) => false,
+    }
 }
 
 /// Whether the text is a query of one segment, with that index.
 fn reads_index(alloc: Global, text: &str, index: Numeral) -> Result<bool, AllocError> {
     let segments = vec![in alloc; child(alloc, Selector::Index(index))?]?;
-    Ok(match parse(alloc, text) {
-        Ok(parsed) => parsed.into_query()
-            == Query {
-                absolute: true,
-                segments,
-            },
-        Err(_) => false,
-    })
+    Ok(reads(alloc, text, segments))
 }
 
 #[test]
@@ -90,14 +86,7 @@ fn whole_numbers_have_their_range(rt: HostRuntime) -> Result<(), Fail> {
 /// Whether the text is a query of one segment, with that name.
 fn reads_name(alloc: Global, text: &str, wanted: &str) -> Result<bool, AllocError> {
     let segments = vec![in alloc; child(alloc, name(alloc, wanted)?)?]?;
-    Ok(match parse(alloc, text) {
-        Ok(parsed) => parsed.into_query()
-            == Query {
-                absolute: true,
-                segments,
-            },
-        Err(_) => false,
-    })
+    Ok(reads(alloc, text, segments))
 }
 
 #[test]
@@ -151,13 +140,7 @@ fn selectors_and_descendants_are_read(rt: HostRuntime) -> Result<(), Fail> {
             ]?
         },
     ]?;
-    assert_eq!(rt;
-        parsed.into_query(),
-        Query {
-            absolute: true,
-            segments
-        }
-    );
+    assert!(rt; is_of(parsed, segments));
     Ok(())
 }
 
@@ -175,14 +158,7 @@ fn reads_slice(
         step: Numeral::Whole(step),
     };
     let segments = vec![in alloc; child(alloc, Selector::Slice(slice))?]?;
-    Ok(match parse(alloc, text) {
-        Ok(parsed) => parsed.into_query()
-            == Query {
-                absolute: true,
-                segments,
-            },
-        Err(_) => false,
-    })
+    Ok(reads(alloc, text, segments))
 }
 
 #[test]

@@ -10,4 +10,5 @@ pub returns : goal.returns
 returns c =
     let scalar : IsScalar c.args.c = search rules in
     ap chars c.in_ok-push.ensures.bytes
-    ∙ chars_push (string_bytes c.args.text.now) c.args.c (IsUtf8-string_bytes c.args.text.now) scalar
+    ∙ chars_push (string_bytes c.args.text.now) c.args.c (IsUtf8-string_bytes c.args.text.now)
+    scalar
