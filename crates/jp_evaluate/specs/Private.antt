@@ -1,6 +1,6 @@
 pub mod Calls
-pub mod LastPattern
 pub mod Reached
+pub mod ReadText
 pub mod Singular
 pub mod Sizes
 pub mod Walk
