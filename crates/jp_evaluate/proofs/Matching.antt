@@ -16,24 +16,24 @@ use Rattle.jp_iregexp.specs.Tree.{Tree}
 use Rattle.jp_reading.specs.Texts.{Text}
 use Rattle.jp_evaluate.specs.Functions.{logical_answer}
 
-same_truth : {P : Type 0} (a b : Bool) → IsTrue a ↔ P → IsTrue b ↔ P → a ≡ b
-same_truth true true by_a by_b = refl
-same_truth true false by_a by_b = sym (by_b.1 (by_a.0 refl))
-same_truth false true by_a by_b = by_a.1 (by_b.0 refl)
-same_truth false false by_a by_b = refl
+same_by_meaning : {P : Type 0} (a b : Bool) → IsTrue a ↔ P → IsTrue b ↔ P → a ≡ b
+same_by_meaning true true by_a by_b = refl
+same_by_meaning true false by_a by_b = sym (by_b.1 (by_a.0 refl))
+same_by_meaning false true by_a by_b = by_a.1 (by_b.0 refl)
+same_by_meaning false false by_a by_b = refl
 
 pub whole_answer : (answer : Bool) (a : Tree) (string pattern : Text) → pattern_of pattern ≡ Some a
     → IsTrue answer ↔ Language a string → answer ≡ is_match string pattern
 unfolding is_match
 whole_answer answer a string pattern found exact =
-    same_truth answer (is_word a string) exact (words_are_tested a string)
+    same_by_meaning answer (is_word a string) exact (words_are_tested a string)
     ∙ sym (ap (is_passing (λ x. is_word x string)) found)
 
 pub part_answer : (answer : Bool) (a : Tree) (string pattern : Text) → pattern_of pattern ≡ Some a
     → IsTrue answer ↔ HasPart (Language a) string → answer ≡ has_match string pattern
 unfolding has_match
 part_answer answer a string pattern found exact =
-    same_truth answer (has_word a string) exact (parts_are_tested a string)
+    same_by_meaning answer (has_word a string) exact (parts_are_tested a string)
     ∙ sym (ap (is_passing (λ x. has_word x string)) found)
 
 -- a text that spells no pattern has no match

@@ -130,7 +130,7 @@ fn only_value<'q, M: Matching>(
 }
 
 /// The function that a call names.
-#[tactic(auto, using(crate::proofs::Arguments::named_function))]
+#[tactic(auto, using(crate::proofs::Parts::Arguments::named_function))]
 fn function_of(call: &Call) -> Option<Function>
     ensures { result ≡ call_function (call_of call.now) }
 {

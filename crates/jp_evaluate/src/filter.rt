@@ -128,8 +128,9 @@ fn selects_some<'q, M: Matching>(
     Ok(advance(evaluation, patterns, &query.segments, &mut walk)?.is_some())
 }
 
-/// The value of a side of a comparison (RFC 9535 section 2.3.5.2.2): of a literal, of the node that a
-/// singular query selects, or what a function answers; Nothing where there is none. It copies nothing.
+/// The value of a side of a comparison (RFC 9535 section 2.3.5.2.2): of a literal, of the node that
+/// a singular query selects, or what a function answers; Nothing where there is none. It copies
+/// nothing.
 #[cycle(filter)]
 fn operand_value<'q, M: Matching>(
     evaluation: &Evaluation<'q, M>,

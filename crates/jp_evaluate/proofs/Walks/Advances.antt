@@ -18,9 +18,9 @@ use Rattle.jp_evaluate.specs.Private.Walk.{walk_frames, walk_reaches, walk_weigh
 use Rattle.jp_evaluate.specs.declared.walk.Offer.{Offer}
 use Rattle.jp_evaluate.specs.declared.walk.Place.{Place}
 use Rattle.jp_evaluate.specs.declared.walk.Walk.{Walk}
-use Rattle.jp_evaluate.proofs.Choices.{drop_none, pending-push}
-use Rattle.jp_evaluate.proofs.Reaching.{choice-weighs, enters, enters_less}
-use Rattle.jp_evaluate.proofs.Turns.{segments_left-end, segments_left-next}
+use Rattle.jp_evaluate.proofs.Walks.Choices.{drop_none, pending-push}
+use Rattle.jp_evaluate.proofs.Walks.Reaching.{choice-weighs, enters, enters_less}
+use Rattle.jp_evaluate.proofs.Walks.Turns.{segments_left-next}
 
 -- the offer o of the walk that was w leaves the walk v
 abbrev pub Offers : List Segment → Walk → Offer → Walk → Type 0
@@ -47,20 +47,6 @@ offer_less all w v o gives =
     let sum = ap (sum_by choice_weight) gives ∙ sum_by-cons choice_weight c (pending all v) in
     let some = choice-weighs c in
     omega arith
-
--- ---- a choice with no segment left
-
-pub arrives : (all : List Segment) (d : Value) (w v : Walk) (o : Offer) → Offers all w o v
-    → passes (offered all o).test d (offered all o).value ≡ true
-    → length all ≤ o.place.done
-    → walk_reaches all d w ≡ reached_place v o.place ∷ walk_reaches all d v
-arrives all d w v o gives passed done =
-    ap (flat_map (choice_reaches d)) gives
-    ∙ ap
-    (λ b. (if b then reaches (offered all o).left d (reached_place v o.place) else [])
-    ++ walk_reaches all d v) passed
-    ∙ ap (λ left. reaches left d (reached_place v o.place) ++ walk_reaches all d v)
-    (segments_left-end all o.place.done done)
 
 -- ---- a choice to go on from
 
