@@ -1,5 +1,5 @@
 -- The steps of a walk.
-use Rattle.std.proofs.Common.{◌≡◌, ℕ, zero, suc, ◌+◌, ◌<◌, ◌≤◌, true, false, if◌then◌else◌}
+use Rattle.std.proofs.Common.{◌≡◌, ℕ, zero, suc, ◌+◌, ◌<◌, true, false, if◌then◌else◌}
 use Rattle.std.proofs.Common.{List, [], ◌∷◌, ◌++◌, None, length, map, slice_index_or}
 use Rattle.std.proofs.Common.{option_to_list, refl, ap, ap₂, sym, ◌∙◌, arith}
 use Rattle.std.specs.List.{flat_map, sum_by}
@@ -12,7 +12,7 @@ use Rattle.jp_query.specs.declared.tree.Segment.{Segment}
 use Rattle.jp_evaluate.specs.Private.Reached.{reaches}
 use Rattle.jp_evaluate.specs.Private.Walk.{choice_at, chosen_node, choice_reaches}
 use Rattle.jp_evaluate.specs.Private.Walk.{choice_weight, choices_from, entered, frames_pending}
-use Rattle.jp_evaluate.specs.Private.Walk.{offered, passes, pending, reached_at, reached_place}
+use Rattle.jp_evaluate.specs.Private.Walk.{offered, passes, pending, reached_at}
 use Rattle.jp_evaluate.specs.Private.Walk.{segments_left, start_choice, steps_of, turns}
 use Rattle.jp_evaluate.specs.Private.Walk.{walk_frames, walk_reaches, walk_weight}
 use Rattle.jp_evaluate.specs.declared.walk.Offer.{Offer}

@@ -1,6 +1,6 @@
 -- The turns by which a segment chooses.
 use Rattle.std.proofs.Common.{◌≡◌, ◌≢◌, ℕ, zero, suc, ◌+◌, ◌-◌, ◌<◌, ◌≤◌, Bool, true}
-use Rattle.std.proofs.Common.{false, List, [], ◌∷◌, ◌++◌, Some, None, drop, drop-cons}
+use Rattle.std.proofs.Common.{false, List, [], ◌∷◌, ◌++◌, Some, None, drop-cons}
 use Rattle.std.proofs.Common.{length, map, slice_index_or, refl, ap, ap₂, sym, ◌∙◌, arith}
 use Rattle.std.specs.List.{slice_get}
 use Rattle.std.proofs.lemmas.Option.{same_Some}
