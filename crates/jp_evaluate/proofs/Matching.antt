@@ -1,5 +1,11 @@
 -- What a matcher answers is what the tests of patterns tell.
-use Rattle.std.proofs.Common.{◌≡◌, ◌↔◌, Bool, true, false, IsTrue, Some, None, refl, ap, sym, ◌∙◌}
+use Rattle.std.proofs.Common.{◌≡◌, ◌↔◌, ℕ, List, Bool, true, false, IsTrue, Option, Some, None}
+use Rattle.std.proofs.Common.{refl, ap, sym, ◌∙◌}
+use Rattle.std.specs.Str.{chars}
+use Rattle.jp_check.specs.declared.functions.Function.{Function}
+use Rattle.jp_check.specs.declared.functions.Function.TheVariants.{Count, Length, Match}
+use Rattle.jp_check.specs.declared.functions.Function.TheVariants.{Search, ValueOf}
+use Rattle.jp_document.specs.Value.{text}
 use Rattle.jp_iregexp.proofs.Membership.{parts_are_tested, words_are_tested}
 use Rattle.jp_iregexp.specs.Language.{Language}
 use Rattle.jp_iregexp.specs.Matches.{has_match, is_match, is_passing}
@@ -8,31 +14,35 @@ use Rattle.jp_iregexp.specs.Part.{HasPart}
 use Rattle.jp_iregexp.specs.PatternOf.{pattern_of}
 use Rattle.jp_iregexp.specs.Tree.{Tree}
 use Rattle.jp_reading.specs.Texts.{Text}
+use Rattle.jp_evaluate.specs.Functions.{logical_answer}
 
-same_truth : {P : Type 0} (a b : Bool) → IsTrue a ↔ P → IsTrue b ↔ P → a ≡ b
-same_truth true true by_a by_b = refl
-same_truth true false by_a by_b = sym (by_b.1 (by_a.0 refl))
-same_truth false true by_a by_b = by_a.1 (by_b.0 refl)
-same_truth false false by_a by_b = refl
+same_by_meaning : {P : Type 0} (a b : Bool) → IsTrue a ↔ P → IsTrue b ↔ P → a ≡ b
+same_by_meaning true true by_a by_b = refl
+same_by_meaning true false by_a by_b = sym (by_b.1 (by_a.0 refl))
+same_by_meaning false true by_a by_b = by_a.1 (by_b.0 refl)
+same_by_meaning false false by_a by_b = refl
 
-pub whole_answer : (answer : Bool) (a : Tree) (text pattern : Text) → pattern_of pattern ≡ Some a
-    → IsTrue answer ↔ Language a text → answer ≡ is_match text pattern
+pub whole_answer : (answer : Bool) (a : Tree) (string pattern : Text) → pattern_of pattern ≡ Some a
+    → IsTrue answer ↔ Language a string → answer ≡ is_match string pattern
 unfolding is_match
-whole_answer answer a text pattern found exact =
-    same_truth answer (is_word a text) exact (words_are_tested a text)
-    ∙ sym (ap (is_passing (λ x. is_word x text)) found)
+whole_answer answer a string pattern found exact =
+    same_by_meaning answer (is_word a string) exact (words_are_tested a string)
+    ∙ sym (ap (is_passing (λ x. is_word x string)) found)
 
-pub part_answer : (answer : Bool) (a : Tree) (text pattern : Text) → pattern_of pattern ≡ Some a
-    → IsTrue answer ↔ HasPart (Language a) text → answer ≡ has_match text pattern
+pub part_answer : (answer : Bool) (a : Tree) (string pattern : Text) → pattern_of pattern ≡ Some a
+    → IsTrue answer ↔ HasPart (Language a) string → answer ≡ has_match string pattern
 unfolding has_match
-part_answer answer a text pattern found exact =
-    same_truth answer (has_word a text) exact (parts_are_tested a text)
-    ∙ sym (ap (is_passing (λ x. has_word x text)) found)
+part_answer answer a string pattern found exact =
+    same_by_meaning answer (has_word a string) exact (parts_are_tested a string)
+    ∙ sym (ap (is_passing (λ x. has_word x string)) found)
 
-pub no_whole : (text pattern : Text) → pattern_of pattern ≡ None → false ≡ is_match text pattern
-unfolding is_match
-no_whole text pattern none = sym (ap (is_passing (λ x. is_word x text)) none)
-
-pub no_part : (text pattern : Text) → pattern_of pattern ≡ None → false ≡ has_match text pattern
-unfolding has_match
-no_part text pattern none = sym (ap (is_passing (λ x. has_word x text)) none)
+-- a text that spells no pattern has no match
+pub no_answer : (f : Option Function) (s p : List ℕ) → pattern_of (chars p) ≡ None
+    → false ≡ logical_answer f (Some (text s)) (Some (text p))
+unfolding is_match has_match
+no_answer (Some Match) s p none = sym (ap (is_passing (λ x. is_word x (chars s))) none)
+no_answer (Some Search) s p none = sym (ap (is_passing (λ x. has_word x (chars s))) none)
+no_answer (Some Length) s p none = refl
+no_answer (Some Count) s p none = refl
+no_answer (Some ValueOf) s p none = refl
+no_answer None s p none = refl

@@ -12,54 +12,55 @@ use Rattle.jp_query.specs.declared.tree.Op.TheVariants.{Equal}
 use Rattle.jp_evaluate.specs.Nodelist.{nodelist}
 
 -- {"a": [null, [null]], "b": null}
-abbrev sample : Value
-sample =
+abbrev nested_lists : Value
+nested_lists =
     object
     (member (97 ∷ []) (list (item null (item (list (item null no_items)) no_items)))
     (member (98 ∷ []) null no_members))
 
-abbrev a : Key
-a = named (97 ∷ [])
+abbrev key_a : Key
+key_a = named (97 ∷ [])
 
-abbrev b : Key
-b = named (98 ∷ [])
+abbrev key_b : Key
+key_b = named (98 ∷ [])
 
 abbrev of_segments : List SegmentTree → List Location
-of_segments ss = nodelist (query true (segments ss)) sample
+of_segments ss = nodelist (query true (segments ss)) nested_lists
 
 -- $
-root : of_segments [] ≡ [] ∷ []
-root = refl
+root_alone : of_segments [] ≡ [] ∷ []
+root_alone = refl
 
 -- $[*][*,0]
-repeated : of_segments
+first_item_twice : of_segments
     (segment false (selectors (wildcard ∷ [])) ∷ segment false
     (selectors (wildcard ∷ index (Whole (pos 0)) ∷ [])) ∷ [])
-    ≡ (a ∷ nth 0 ∷ []) ∷ (a ∷ nth 1 ∷ []) ∷ (a ∷ nth 0 ∷ []) ∷ []
-repeated = refl
+    ≡ (key_a ∷ nth 0 ∷ []) ∷ (key_a ∷ nth 1 ∷ []) ∷ (key_a ∷ nth 0 ∷ []) ∷ []
+first_item_twice = refl
 
 -- $[*][-1]
 joined : of_segments
     (segment false (selectors (wildcard ∷ [])) ∷ segment false
     (selectors (index (Whole (negsuc 0)) ∷ [])) ∷ [])
-    ≡ (a ∷ nth 1 ∷ []) ∷ []
+    ≡ (key_a ∷ nth 1 ∷ []) ∷ []
 joined = refl
 
 -- $..[0]
 descendants : of_segments (segment true (selectors (index (Whole (pos 0)) ∷ [])) ∷ []) ≡
-    (a ∷ nth 0 ∷ []) ∷ (a ∷ nth 1 ∷ nth 0 ∷ []) ∷ []
+    (key_a ∷ nth 0 ∷ []) ∷ (key_a ∷ nth 1 ∷ nth 0 ∷ []) ∷ []
 descendants = refl
 
 -- $..*: the children of each visited node stand together
 each_in_turn : of_segments (segment true (selectors (wildcard ∷ [])) ∷ [])
-    ≡ (a ∷ []) ∷ (b ∷ []) ∷ (a ∷ nth 0 ∷ []) ∷ (a ∷ nth 1 ∷ []) ∷ (a ∷ nth 1 ∷ nth 0 ∷ []) ∷ []
+    ≡ (key_a ∷ []) ∷ (key_b ∷ []) ∷ (key_a ∷ nth 0 ∷ []) ∷ (key_a ∷ nth 1 ∷ [])
+    ∷ (key_a ∷ nth 1 ∷ nth 0 ∷ []) ∷ []
 each_in_turn = refl
 
 -- $..[*]..[0]: a node that is visited twice is selected twice
 visited_twice : of_segments
     (segment true (selectors (wildcard ∷ [])) ∷ segment true
     (selectors (index (Whole (pos 0)) ∷ [])) ∷ [])
-    ≡ (a ∷ nth 0 ∷ []) ∷ (a ∷ nth 1 ∷ nth 0 ∷ []) ∷ (a ∷ nth 1 ∷ nth 0 ∷ []) ∷ []
+    ≡ (key_a ∷ nth 0 ∷ []) ∷ (key_a ∷ nth 1 ∷ nth 0 ∷ []) ∷ (key_a ∷ nth 1 ∷ nth 0 ∷ []) ∷ []
 visited_twice = refl
 
 -- $[0]
@@ -72,8 +73,9 @@ abbrev kept_by : ExprTree → List Location
 kept_by e = of_segments (segment false (selectors (filter e ∷ [])) ∷ [])
 
 -- a query of the current node, or of the root, by one member
-abbrev at : List ℕ → QueryTree
-at name_chars = query false (segments (segment false (selectors (name name_chars ∷ [])) ∷ []))
+abbrev member_of_current : List ℕ → QueryTree
+member_of_current name_chars =
+    query false (segments (segment false (selectors (name name_chars ∷ [])) ∷ []))
 
 abbrev current : QueryTree
 current = query false no_segments
@@ -85,31 +87,35 @@ abbrev children : QueryTree
 children = query false (segments (segment false (selectors (wildcard ∷ [])) ∷ []))
 
 -- $[?@.*]: a value without children has no node to test
-tested : kept_by (exists children) ≡ (a ∷ []) ∷ []
+tested : kept_by (exists children) ≡ (key_a ∷ []) ∷ []
 tested = refl
 
 -- $[?@]: null is there
-present_null : kept_by (exists current) ≡ (a ∷ []) ∷ (b ∷ []) ∷ []
+present_null : kept_by (exists current) ≡ (key_a ∷ []) ∷ (key_b ∷ []) ∷ []
 present_null = refl
 
 -- $[?@==null]
-equal_null : kept_by (comparison (node_value current) Equal (literal null_literal)) ≡ (b ∷ []) ∷ []
+equal_null : kept_by (comparison (node_value current) Equal (literal null_literal))
+    ≡ (key_b ∷ []) ∷ []
 equal_null = refl
 
 -- $[?@.x==null]: no value is not null
-missing_null : kept_by (comparison (node_value (at (120 ∷ []))) Equal (literal null_literal)) ≡ []
+missing_null : kept_by
+    (comparison (node_value (member_of_current (120 ∷ []))) Equal (literal null_literal)) ≡ []
 missing_null = refl
 
 -- $[?@.x==@.y]: no value equals no value
 both_missing : kept_by
-    (comparison (node_value (at (120 ∷ []))) Equal (node_value (at (121 ∷ [])))) ≡
-    (a ∷ []) ∷ (b ∷ []) ∷ []
+    (comparison (node_value (member_of_current (120 ∷ []))) Equal
+    (node_value (member_of_current (121 ∷ [])))) ≡
+    (key_a ∷ []) ∷ (key_b ∷ []) ∷ []
 both_missing = refl
 
 -- $[?$.b==@]: the root is that of the document
-from_root : kept_by (comparison (node_value root_b) Equal (node_value current)) ≡ (b ∷ []) ∷ []
+root_of_document : kept_by (comparison (node_value root_b) Equal (node_value current))
+    ≡ (key_b ∷ []) ∷ []
 unfolding encode
-from_root = refl
+root_of_document = refl
 
 -- $[?@[?@==null]]: in the inner filter the current node is the inner child
 nested : kept_by
@@ -119,7 +125,7 @@ nested : kept_by
     (segment false
     (selectors
     (filter (comparison (node_value current) Equal (literal null_literal)) ∷ [])) ∷ []))))
-    ≡ (a ∷ []) ∷ []
+    ≡ (key_a ∷ []) ∷ []
 nested = refl
 
 -- $[?!@.*||@.*&&@]
@@ -127,5 +133,5 @@ joined_truths : kept_by
     (any_of
     (exprs
     (negation (exists children) ∷ all_of
-    (exprs (exists children ∷ exists current ∷ [])) ∷ []))) ≡ (a ∷ []) ∷ (b ∷ []) ∷ []
+    (exprs (exists children ∷ exists current ∷ [])) ∷ []))) ≡ (key_a ∷ []) ∷ (key_b ∷ []) ∷ []
 joined_truths = refl

@@ -2,8 +2,8 @@
 -- and what is kept between two calls. Beside `Rest`, the contracts of private functions alone cite
 -- it.
 pub mod Calls
-pub mod LastPattern
 pub mod Reached
+pub mod ReadText
 pub mod Singular
 pub mod Sizes
 pub mod Walk

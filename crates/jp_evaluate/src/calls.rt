@@ -10,7 +10,7 @@ use crate::evaluating::{Evaluation, logical_answer};
 use crate::filter::advance;
 use crate::length::length_of;
 use crate::operand::{comparable, literal_value, whole};
-use crate::pattern::LastPattern;
+use crate::pattern::Patterns;
 use crate::singular::{node_value, start};
 use crate::walk::Walk;
 use jp_check::Function;
@@ -24,7 +24,7 @@ use std::alloc::AllocError;
 #[cycle(filter)]
 pub(crate) fn call_value<'q, M: Matching>(
     evaluation: &Evaluation<'q, M>,
-    last: &mut LastPattern<'q>,
+    patterns: &mut Patterns<'q>,
     call: &'q Call,
     current: DocumentValue<'q>,
 ) -> Result<Comparable<'q>, AllocError>
@@ -36,14 +36,14 @@ pub(crate) fn call_value<'q, M: Matching>(
     };
     match function_of(call) {
         Some(Function::Length) => Ok(length_of(argument_value(
-            evaluation, last, argument, current,
+            evaluation, patterns, argument, current,
         )?)),
         Some(Function::Count) => match argument_query(argument) {
-            Some(query) => Ok(whole(node_count(evaluation, last, query, current)?)),
+            Some(query) => Ok(whole(node_count(evaluation, patterns, query, current)?)),
             None => Ok(Comparable::Nothing),
         },
         Some(Function::ValueOf) => match argument_query(argument) {
-            Some(query) => Ok(comparable(only_value(evaluation, last, query, current)?)),
+            Some(query) => Ok(comparable(only_value(evaluation, patterns, query, current)?)),
             None => Ok(Comparable::Nothing),
         },
         Some(Function::Match) | Some(Function::Search) | None => Ok(Comparable::Nothing),
@@ -54,7 +54,7 @@ pub(crate) fn call_value<'q, M: Matching>(
 #[cycle(filter)]
 pub(crate) fn call_holds<'q, M: Matching>(
     evaluation: &Evaluation<'q, M>,
-    last: &mut LastPattern<'q>,
+    patterns: &mut Patterns<'q>,
     call: &'q Call,
     current: DocumentValue<'q>,
 ) -> Result<bool, AllocError>
@@ -64,16 +64,16 @@ pub(crate) fn call_holds<'q, M: Matching>(
     let Some((first, second)) = both_arguments(call) else {
         return Ok(false);
     };
-    let value = argument_value(evaluation, last, first, current)?;
-    let pattern = argument_value(evaluation, last, second, current)?;
-    logical_answer(evaluation, last, function_of(call), value, pattern)
+    let value = argument_value(evaluation, patterns, first, current)?;
+    let pattern = argument_value(evaluation, patterns, second, current)?;
+    logical_answer(evaluation, patterns, function_of(call), value, pattern)
 }
 
 /// The value that an argument stands for, Nothing where it stands for none.
 #[cycle(filter)]
 fn argument_value<'q, M: Matching>(
     evaluation: &Evaluation<'q, M>,
-    last: &mut LastPattern<'q>,
+    patterns: &mut Patterns<'q>,
     argument: &'q Argument,
     current: DocumentValue<'q>,
 ) -> Result<Comparable<'q>, AllocError>
@@ -83,7 +83,7 @@ fn argument_value<'q, M: Matching>(
     match argument {
         Argument::Literal(literal) => Ok(literal_value(literal)),
         Argument::Query(query) => Ok(comparable(node_value(query, evaluation.root, current))),
-        Argument::Call(call) => call_value(evaluation, last, call, current),
+        Argument::Call(call) => call_value(evaluation, patterns, call, current),
         Argument::Logical(_) => Ok(Comparable::Nothing),
     }
 }
@@ -92,7 +92,7 @@ fn argument_value<'q, M: Matching>(
 #[cycle(filter)]
 fn node_count<'q, M: Matching>(
     evaluation: &Evaluation<'q, M>,
-    last: &mut LastPattern<'q>,
+    patterns: &mut Patterns<'q>,
     query: &'q Query,
     current: DocumentValue<'q>,
 ) -> Result<u64, AllocError>
@@ -101,7 +101,7 @@ fn node_count<'q, M: Matching>(
 {
     let mut walk = Walk::from(evaluation.alloc, start(query, evaluation.root, current));
     let mut count: u64 = 0;
-    while advance(evaluation, last, &query.segments, &mut walk)?.is_some() {
+    while advance(evaluation, patterns, &query.segments, &mut walk)?.is_some() {
         count = count.checked_add(1).ok_or(AllocError)?;
     }
     Ok(count)
@@ -112,7 +112,7 @@ fn node_count<'q, M: Matching>(
 #[cycle(filter)]
 fn only_value<'q, M: Matching>(
     evaluation: &Evaluation<'q, M>,
-    last: &mut LastPattern<'q>,
+    patterns: &mut Patterns<'q>,
     query: &'q Query,
     current: DocumentValue<'q>,
 ) -> Result<Option<DocumentValue<'q>>, AllocError>
@@ -120,17 +120,17 @@ fn only_value<'q, M: Matching>(
         (query_of query.now) (lent_value evaluation.now.root) (lent_value current.entry))) }
 {
     let mut walk = Walk::from(evaluation.alloc, start(query, evaluation.root, current));
-    let Some(place) = advance(evaluation, last, &query.segments, &mut walk)? else {
+    let Some(place) = advance(evaluation, patterns, &query.segments, &mut walk)? else {
         return Ok(None);
     };
-    match advance(evaluation, last, &query.segments, &mut walk)? {
+    match advance(evaluation, patterns, &query.segments, &mut walk)? {
         Some(_) => Ok(None),
         None => Ok(Some(place.value)),
     }
 }
 
 /// The function that a call names.
-#[tactic(auto, using(crate::proofs::Arguments::named_function))]
+#[tactic(auto, using(crate::proofs::Parts::Arguments::named_function))]
 fn function_of(call: &Call) -> Option<Function>
     ensures { result ≡ call_function (call_of call.now) }
 {

@@ -6,7 +6,7 @@ ghost use Rattle.jp_evaluate.specs.Rest.{GivesNext, rest_of};
 
 use crate::evaluating::Evaluation;
 use crate::filter::advance;
-use crate::pattern::LastPattern;
+use crate::pattern::Patterns;
 use crate::walk::Walk;
 use jp_document::Node;
 use jp_match::Matching;
@@ -17,7 +17,7 @@ use std::alloc::AllocError;
 #[derive(Drop)]
 pub struct Nodes<'d, 'q, M> {
     pub(crate) evaluation: Evaluation<'q, M>,
-    pub(crate) last: LastPattern<'q>,
+    pub(crate) patterns: Patterns<'q>,
     pub(crate) segments: &'q [Segment],
     pub(crate) walk: Walk<'d>,
     pub(crate) failed: bool,
@@ -40,7 +40,7 @@ impl<'d: 'q, 'q, M: Matching> Nodes<'d, 'q, M> {
     {
         match advance(
             &self.evaluation,
-            &mut self.last,
+            &mut self.patterns,
             self.segments,
             &mut self.walk,
         )? {

@@ -8,7 +8,7 @@ ghost use Rattle.jp_evaluate.specs.Rest.{rest_of};
 
 use crate::each::Nodes;
 use crate::evaluating::Evaluation;
-use crate::pattern::LastPattern;
+use crate::pattern::Patterns;
 use crate::walk::Walk;
 use jp_check::Checked;
 use jp_document::{Document, Node};
@@ -18,8 +18,8 @@ use std::alloc::{AllocError, Global};
 /// The nodes that a query selects in a document (RFC 9535 section 2.1.2), to be taken one by one in
 /// the nodelist's order; a node that is selected twice is given twice. The matcher answers `match`
 /// and `search`. It takes no memory before the first is asked for, and then what it holds follows
-/// the depth of the document and the query, and the pattern that was read last. The nodes borrow
-/// from the document.
+/// the depth of the document and the query, and the patterns that were read, of which it keeps 16
+/// at most. The nodes borrow from the document.
 pub fn nodes<'d: 'q, 'q, M: Matching>(
     alloc: Global,
     document: &'d Document,
@@ -37,7 +37,7 @@ pub fn nodes<'d: 'q, 'q, M: Matching>(
             root,
             matcher,
         },
-        last: LastPattern::new(),
+        patterns: Patterns::new(alloc),
         segments: &query.query().segments,
         walk: Walk::from(alloc, root),
         failed: false,

@@ -10,7 +10,7 @@ ghost use Rattle.jp_evaluate.specs.Private.Walk.{reached_place, walk_reaches};
 use crate::calls::{call_holds, call_value};
 use crate::evaluating::Evaluation;
 use crate::operand::{comparable, literal_value};
-use crate::pattern::LastPattern;
+use crate::pattern::Patterns;
 use crate::singular::{node_value, start};
 use crate::walk::{Place, Walk};
 use jp_document::DocumentValue;
@@ -24,7 +24,7 @@ use std::alloc::AllocError;
 #[cycle(filter)]
 pub(crate) fn advance<'d: 'q, 'q, M: Matching>(
     evaluation: &Evaluation<'q, M>,
-    last: &mut LastPattern<'q>,
+    patterns: &mut Patterns<'q>,
     segments: &'q [Segment],
     walk: &mut Walk<'d>,
 ) -> Result<Option<Place<'d>>, AllocError>
@@ -37,7 +37,7 @@ pub(crate) fn advance<'d: 'q, 'q, M: Matching>(
 {
     while let Some(offer) = walk.next_offer(segments) {
         let passes = match offer.test {
-            Some(expr) => holds(evaluation, last, expr, offer.place.value)?,
+            Some(expr) => holds(evaluation, patterns, expr, offer.place.value)?,
             None => true,
         };
         if passes {
@@ -54,7 +54,7 @@ pub(crate) fn advance<'d: 'q, 'q, M: Matching>(
 #[cycle(filter)]
 pub(crate) fn holds<'q, M: Matching>(
     evaluation: &Evaluation<'q, M>,
-    last: &mut LastPattern<'q>,
+    patterns: &mut Patterns<'q>,
     expr: &'q Expr,
     current: DocumentValue<'q>,
 ) -> Result<bool, AllocError>
@@ -62,16 +62,16 @@ pub(crate) fn holds<'q, M: Matching>(
         ≡ truth (expr_of expr.now) (lent_value evaluation.now.root) (lent_value current.entry)) }
 {
     match expr {
-        Expr::AnyOf(parts) => any_holds(evaluation, last, parts, current),
-        Expr::AllOf(parts) => all_hold(evaluation, last, parts, current),
-        Expr::Not(part) => Ok(!holds(evaluation, last, part, current)?),
+        Expr::AnyOf(parts) => any_holds(evaluation, patterns, parts, current),
+        Expr::AllOf(parts) => all_hold(evaluation, patterns, parts, current),
+        Expr::Not(part) => Ok(!holds(evaluation, patterns, part, current)?),
         Expr::Compare { left, op, right } => {
-            let left = operand_value(evaluation, last, left, current)?;
-            let right = operand_value(evaluation, last, right, current)?;
+            let left = operand_value(evaluation, patterns, left, current)?;
+            let right = operand_value(evaluation, patterns, right, current)?;
             Ok(compare(*op, left, right))
         }
-        Expr::Test(Subject::Query(query)) => selects_some(evaluation, last, query, current),
-        Expr::Test(Subject::Call(call)) => call_holds(evaluation, last, call, current),
+        Expr::Test(Subject::Query(query)) => selects_some(evaluation, patterns, query, current),
+        Expr::Test(Subject::Call(call)) => call_holds(evaluation, patterns, call, current),
     }
 }
 
@@ -79,7 +79,7 @@ pub(crate) fn holds<'q, M: Matching>(
 #[cycle(filter)]
 fn any_holds<'q, M: Matching>(
     evaluation: &Evaluation<'q, M>,
-    last: &mut LastPattern<'q>,
+    patterns: &mut Patterns<'q>,
     parts: &'q [Expr],
     current: DocumentValue<'q>,
 ) -> Result<bool, AllocError>
@@ -87,7 +87,7 @@ fn any_holds<'q, M: Matching>(
         (lent_value evaluation.now.root) (lent_value current.entry)) }
 {
     for part in parts {
-        if holds(evaluation, last, part, current)? {
+        if holds(evaluation, patterns, part, current)? {
             return Ok(true);
         }
     }
@@ -98,7 +98,7 @@ fn any_holds<'q, M: Matching>(
 #[cycle(filter)]
 fn all_hold<'q, M: Matching>(
     evaluation: &Evaluation<'q, M>,
-    last: &mut LastPattern<'q>,
+    patterns: &mut Patterns<'q>,
     parts: &'q [Expr],
     current: DocumentValue<'q>,
 ) -> Result<bool, AllocError>
@@ -106,7 +106,7 @@ fn all_hold<'q, M: Matching>(
         (lent_value evaluation.now.root) (lent_value current.entry)) }
 {
     for part in parts {
-        if !holds(evaluation, last, part, current)? {
+        if !holds(evaluation, patterns, part, current)? {
             return Ok(false);
         }
     }
@@ -117,7 +117,7 @@ fn all_hold<'q, M: Matching>(
 #[cycle(filter)]
 fn selects_some<'q, M: Matching>(
     evaluation: &Evaluation<'q, M>,
-    last: &mut LastPattern<'q>,
+    patterns: &mut Patterns<'q>,
     query: &'q Query,
     current: DocumentValue<'q>,
 ) -> Result<bool, AllocError>
@@ -125,15 +125,16 @@ fn selects_some<'q, M: Matching>(
         (lent_value evaluation.now.root) (lent_value current.entry))) }
 {
     let mut walk = Walk::from(evaluation.alloc, start(query, evaluation.root, current));
-    Ok(advance(evaluation, last, &query.segments, &mut walk)?.is_some())
+    Ok(advance(evaluation, patterns, &query.segments, &mut walk)?.is_some())
 }
 
-/// The value of a side of a comparison (RFC 9535 section 2.3.5.2.2): of a literal, of the node that a
-/// singular query selects, or what a function answers; Nothing where there is none. It copies nothing.
+/// The value of a side of a comparison (RFC 9535 section 2.3.5.2.2): of a literal, of the node that
+/// a singular query selects, or what a function answers; Nothing where there is none. It copies
+/// nothing.
 #[cycle(filter)]
 fn operand_value<'q, M: Matching>(
     evaluation: &Evaluation<'q, M>,
-    last: &mut LastPattern<'q>,
+    patterns: &mut Patterns<'q>,
     operand: &'q Operand,
     current: DocumentValue<'q>,
 ) -> Result<Comparable<'q>, AllocError>
@@ -143,6 +144,6 @@ fn operand_value<'q, M: Matching>(
     match operand {
         Operand::Literal(literal) => Ok(literal_value(literal)),
         Operand::Query(query) => Ok(comparable(node_value(query, evaluation.root, current))),
-        Operand::Call(call) => call_value(evaluation, last, call, current),
+        Operand::Call(call) => call_value(evaluation, patterns, call, current),
     }
 }

@@ -1,5 +1,6 @@
 //! The patterns of `match` and `search` (RFC 9485).
-ghost use Rattle.std.specs.Prelude.{◌≡◌, ◌↔◌, IfOk, IfSome, IsTrue, OnOk, Some, option_map};
+ghost use Rattle.std.specs.Prelude.{◌≡◌, ◌↔◌, ◌≤◌, IfOk, IfSome, IsTrue, Some, option_map, vec_len};
+ghost use Rattle.std.specs.List.{slice_get};
 ghost use Rattle.std.specs.Str.{chars};
 ghost use Rattle.jp_iregexp.specs.PatternOf.{pattern_of};
 ghost use Rattle.jp_iregexp.specs.Tree.{tree};
@@ -7,6 +8,9 @@ ghost use Rattle.jp_iregexp.specs.Tree.{tree};
 use jp_iregexp::{Pattern, PatternFault, read_pattern};
 use std::alloc::{AllocError, Global};
 use std::marker::Model;
+
+/// How many texts are kept at most.
+const MOST_KEPT: usize = 16;
 
 /// A text with the pattern that it spells, None where it does not conform.
 #[derive(Drop)]
@@ -17,7 +21,7 @@ struct ReadText<'q> {
 
 impl<'q> Model for ReadText<'q> {
     ghost use Rattle.std.specs.Prelude.{ℕ, List};
-    ghost use Rattle.jp_evaluate.specs.Private.LastPattern.{IsReadInside};
+    ghost use Rattle.jp_evaluate.specs.Private.ReadText.{IsReadInside};
 
     ghost Value = { List ℕ };
 
@@ -58,20 +62,24 @@ fn conforming(alloc: Global, text: &str) -> Result<Option<Pattern>, AllocError>
     }
 }
 
-/// The pattern that was read last.
+/// The texts that were read, with their patterns; of 16 that are kept, the last gives way to a new
+/// one.
 #[derive(Drop)]
-pub(crate) struct LastPattern<'q> {
-    read: Option<ReadText<'q>>,
+pub(crate) struct Patterns<'q> {
+    read: Vec<ReadText<'q>>,
+    ghost few: { vec_len read ≤ 16 },
 }
 
-impl<'q> LastPattern<'q> {
-    /// No pattern was read yet.
-    pub(crate) fn new() -> LastPattern<'q> {
-        LastPattern { read: None }
+impl<'q> Patterns<'q> {
+    /// No text was read yet. It takes no memory.
+    pub(crate) fn new(alloc: Global) -> Patterns<'q> {
+        Patterns {
+            read: Vec::new(alloc),
+        }
     }
 
-    /// The pattern that a text spells, None where it does not conform. A text that was read last is
-    /// not read again.
+    /// The pattern that a text spells, None where it does not conform. A text that is kept is not
+    /// read again.
     pub(crate) fn of(
         &mut self,
         alloc: Global,
@@ -79,31 +87,43 @@ impl<'q> LastPattern<'q> {
     ) -> Result<Option<&Pattern>, AllocError>
         ensures { IfOk result (λ o. pattern_of (chars text.now) ≡ option_map (λ p. tree p.now) o) }
     {
-        self.read(alloc, text)?;
-        Ok(self.pattern())
-    }
-
-    fn read(&mut self, alloc: Global, text: &'q str) -> Result<(), AllocError>
-        ensures { OnOk result (self.new.read ≡ Some text.now) }
-    {
-        let is_last = match &self.read {
-            Some(read) => read.is(text),
-            None => false,
+        let position = match self.position(text) {
+            Some(position) => position,
+            None => self.read(alloc, text)?,
         };
-        if !is_last {
-            self.read = Some(ReadText::new(alloc, text)?);
-        }
-        Ok(())
+        Ok(self.pattern(position))
     }
 
-    /// The pattern that was read last, None where its text does not conform.
-    fn pattern(&self) -> Option<&Pattern>
-        ensures { IfSome self.now.read
+    /// The position of a text that is kept.
+    fn position(&self, text: &str) -> Option<usize>
+        ensures { IfSome result (λ i. slice_get self.now.read.items i ≡ Some text.now) }
+    {
+        for (i, read) in self.read.iter().enumerate() {
+            if read.is(text) {
+                return Some(i);
+            }
+        }
+        None
+    }
+
+    /// Reads a text and keeps it; answers its position.
+    fn read(&mut self, alloc: Global, text: &'q str) -> Result<usize, AllocError>
+        ensures { IfOk result (λ i. slice_get self.new.read.items i ≡ Some text.now) }
+    {
+        let read = ReadText::new(alloc, text)?;
+        if self.read.len() >= MOST_KEPT {
+            self.read.pop();
+        }
+        let position = self.read.len();
+        self.read.push(read)?;
+        Ok(position)
+    }
+
+    /// The pattern of the text at a position, None where it does not conform.
+    fn pattern(&self, position: usize) -> Option<&Pattern>
+        ensures { IfSome (slice_get self.now.read.items position)
             (λ text. pattern_of (chars text) ≡ option_map (λ p. tree p.now) result) }
     {
-        match &self.read {
-            Some(read) => read.pattern(),
-            None => None,
-        }
+        self.read.get(position)?.pattern()
     }
 }

@@ -1,11 +1,10 @@
-use Rattle.std.proofs.Common.{◌≡◌, ◌<◌, ℕ, Option, Bor, option_map, ap, sym, subst, ◌∙◌}
+use Rattle.std.proofs.Common.{◌≡◌, Option, Bor, option_map, ap, sym, ◌∙◌}
 use Rattle.jp_document.specs.DocumentValue.{lent_value}
 use Rattle.jp_query.specs.declared.tree.Expr.{Expr}
 use Rattle.jp_query.specs.Tree.{expr_of}
-use Rattle.jp_evaluate.specs.Private.Sizes.{expr_size}
 use Rattle.jp_evaluate.specs.Private.Walk.{offered, passes}
-use Rattle.jp_evaluate.proofs.Advances.{goes_on, goes_on_less, offer_less, passed_over}
-use Rattle.jp_evaluate.proofs.Sizes.{part_size}
+use Rattle.jp_evaluate.proofs.Walks.Advances.{goes_on, goes_on_less, offer_less, passed_over}
+use Rattle.jp_evaluate.proofs.Parts.Sizes.{part_less}
 use Rattle.jp_evaluate.proofs.+filter.Goals as goal
 use Rattle.jp_evaluate.proofs.+filter.Goals.{filter::advance-in-Some-test+in_ok-passes-in-Some-test}
 use Rattle.jp_evaluate.proofs.+filter.Goals.{filter::advance-in-None}
@@ -13,20 +12,18 @@ use Rattle.jp_evaluate.proofs.+filter.Goals.{filter::advance-in-None}
 -- ---- expressions
 
 pub filter::any_holds-holds-requires : goal.filter::any_holds-holds-requires
-filter::any_holds-holds-requires g t c κs within =
-    let n = expr_size (expr_of c.part-item.result) in
-    let less =
-    part_size c.args.parts.now c.loop-part.part-index c.part-item.result c.loop-part-test.true
-    c.part-item.is in
-    (subst (λ (k : ℕ). n < k) c.decreases less, within)
+filter::any_holds-holds-requires g t c κs within = (
+  part_less c.args.parts.now c.loop-part.part-index c.part-item.result _ c.loop-part-test.true
+      c.part-item.is c.decreases,
+  within,
+)
 
 pub filter::all_hold-holds-requires : goal.filter::all_hold-holds-requires
-filter::all_hold-holds-requires g t c κs within =
-    let n = expr_size (expr_of c.part-item.result) in
-    let less =
-    part_size c.args.parts.now c.loop-part.part-index c.part-item.result c.loop-part-test.true
-    c.part-item.is in
-    (subst (λ (k : ℕ). n < k) c.decreases less, within)
+filter::all_hold-holds-requires g t c κs within = (
+  part_less c.args.parts.now c.loop-part.part-index c.part-item.result _ c.loop-part-test.true
+      c.part-item.is c.decreases,
+  within,
+)
 
 -- ---- the walk
 

@@ -1,7 +1,9 @@
-use Rattle.std.proofs.Common.{◌≡◌, ◌+◌, drop, length, map}
+use Rattle.std.proofs.Common.{◌≡◌, ◌+◌, ℕ, Bool, List, drop, length, map}
 use Rattle.jp_document.specs.DocumentValue.{lent_value}
+use Rattle.jp_document.specs.Value.{Value}
+use Rattle.jp_query.specs.declared.tree.Expr.{Expr}
 use Rattle.jp_query.specs.declared.tree.Query.{out-Query}
-use Rattle.jp_query.specs.Tree.{argument_of, call_of, expr_of, exprs}
+use Rattle.jp_query.specs.Tree.{ExprTrees, argument_of, call_of, expr_of, exprs}
 use Rattle.jp_query.specs.Tree.{operand_of, query_of, segment_of, segments}
 use Rattle.jp_evaluate.specs.Private.Reached.{all_true, any_true, query_reaches}
 use Rattle.jp_evaluate.specs.Private.Sizes.{argument_size, call_size, expr_size, exprs_size}
@@ -55,18 +57,18 @@ invariant-filter::advance-loop-offer g l =
 abbrev pub decreases-filter::advance-loop-offer : goal.decreases-filter::advance-loop-offer
 decreases-filter::advance-loop-offer g l = walk_weight l.segments l.walk
 
--- the parts to come decide
+-- the parts from i on decide
+abbrev rest_decides : (ExprTrees → Value → Value → Bool) → List Expr → ℕ → Value → Value → Type 0
+rest_decides truth_of es i d v =
+    truth_of (exprs (map expr_of (drop i es))) d v ≡ truth_of (exprs (map expr_of es)) d v
+
 abbrev pub invariant-filter::any_holds-loop-part : goal.invariant-filter::any_holds-loop-part
 invariant-filter::any_holds-loop-part g l =
-    any_true (exprs (map expr_of (drop l.part-index l.parts))) (lent_value l.evaluation.root)
-    (lent_value l.current)
-    ≡ any_true (exprs (map expr_of l.parts)) (lent_value l.evaluation.root) (lent_value l.current)
+    rest_decides any_true l.parts l.part-index (lent_value l.evaluation.root) (lent_value l.current)
 
 abbrev pub invariant-filter::all_hold-loop-part : goal.invariant-filter::all_hold-loop-part
 invariant-filter::all_hold-loop-part g l =
-    all_true (exprs (map expr_of (drop l.part-index l.parts))) (lent_value l.evaluation.root)
-    (lent_value l.current)
-    ≡ all_true (exprs (map expr_of l.parts)) (lent_value l.evaluation.root) (lent_value l.current)
+    rest_decides all_true l.parts l.part-index (lent_value l.evaluation.root) (lent_value l.current)
 
 -- the nodes so far and those to come are all
 abbrev pub invariant-calls::node_count-loop-walk : goal.invariant-calls::node_count-loop-walk

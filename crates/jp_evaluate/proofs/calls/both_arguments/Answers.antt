@@ -1,7 +1,7 @@
 use Rattle.std.proofs.Common.{◌≡◌, ◌≢◌, ◌∙◌, Some, ap, length, sym, arith}
 use Rattle.std.specs.List.{slice_get}
 use Rattle.std.proofs.lemmas.Option.{slice_get-get_or}
-use Rattle.jp_evaluate.proofs.Arguments.{not_two_arguments, two_arguments}
+use Rattle.jp_evaluate.proofs.Parts.Arguments.{not_two_arguments, two_arguments}
 use Rattle.jp_evaluate.proofs.calls.both_arguments.Goals as goal
 
 pub returns-then-len-ne2 : goal.returns-then-len-ne2

@@ -1,5 +1,5 @@
 use Rattle.std.proofs.Common.{◌≢◌, length, arith}
-use Rattle.jp_evaluate.proofs.Arguments.{not_one_argument}
+use Rattle.jp_evaluate.proofs.Parts.Arguments.{not_one_argument}
 use Rattle.jp_evaluate.proofs.calls.only_argument.Goals as goal
 
 pub returns-else-len-eq1 : goal.returns-else-len-eq1

@@ -5,7 +5,7 @@ use Rattle.jp_query.specs.Tree.{query_of}
 use Rattle.jp_query.specs.declared.tree.Query.{Query, out-Query}
 use Rattle.jp_evaluate.specs.Nodelist.{nodelist}
 use Rattle.jp_evaluate.specs.Private.Walk.{walk_reaches}
-use Rattle.jp_evaluate.proofs.Begun.{begun_nodelist}
+use Rattle.jp_evaluate.proofs.Walks.Begun.{begun_nodelist}
 use Rattle.jp_evaluate.proofs.evaluation.nodes.Goals as goal
 
 pub returns-clause-nodes : goal.returns-clause-nodes

@@ -1,5 +1,5 @@
 use Rattle.std.proofs.Common.{Some, ap}
-use Rattle.jp_evaluate.proofs.Lengths.{item_count-of, name_count-of}
+use Rattle.jp_evaluate.proofs.Parts.Lengths.{item_count-of, name_count-of}
 use Rattle.jp_evaluate.proofs.length.size_of.Goals as goal
 
 pub returns-in-List : goal.returns-in-List

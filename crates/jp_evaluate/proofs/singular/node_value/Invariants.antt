@@ -3,7 +3,7 @@ use Rattle.jp_document.specs.DocumentValue.{lent_value}
 use Rattle.jp_query.specs.Tree.{query_of}
 use Rattle.jp_evaluate.specs.Private.Reached.{single_side}
 use Rattle.jp_evaluate.specs.Private.Singular.{values_along}
-use Rattle.jp_evaluate.proofs.Along.{of_segments}
+use Rattle.jp_evaluate.proofs.Nodelists.Along.{of_segments}
 use Rattle.jp_evaluate.proofs.singular.node_value.Given as goal
 
 -- the segments to come lead from here where all segments lead from the start

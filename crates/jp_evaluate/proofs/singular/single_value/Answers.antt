@@ -1,7 +1,7 @@
 use Rattle.std.proofs.Common.{◌≡◌, ◌≢◌, ◌∙◌, ap, length, option_map, sym, arith}
 use Rattle.std.specs.List.{slice_get}
 use Rattle.jp_document.specs.DocumentValue.{lent_value}
-use Rattle.jp_evaluate.proofs.Along.{not_child, not_single, single}
+use Rattle.jp_evaluate.proofs.Nodelists.Along.{not_child, not_single, single}
 use Rattle.jp_evaluate.proofs.singular.single_value.Goals as goal
 use Rattle.jp_evaluate.proofs.singular.single_value.Goals.{then-segment-via-then-segment}
 use Rattle.jp_evaluate.proofs.singular.single_value.Goals.{then-segment-via-else-segment+then-len-ne1}

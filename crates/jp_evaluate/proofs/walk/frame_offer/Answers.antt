@@ -2,7 +2,7 @@ use Rattle.std.proofs.Common.{◌<◌, ◌+◌, [], ◌∷◌, drop, length, ap,
 use Rattle.std.proofs.lemmas.Option.{slice_get_within}
 use Rattle.jp_document.specs.DocumentValue.{lent_entry, lent_value}
 use Rattle.jp_evaluate.specs.Private.Walk.{Choice, choices_from, segments_left, turn_of, turns}
-use Rattle.jp_evaluate.proofs.Choices.{choice_next, turn_next, turns_end}
+use Rattle.jp_evaluate.proofs.Walks.Choices.{choice_next, turn_next, turns_end}
 use Rattle.jp_evaluate.proofs.walk.frame_offer.Goals as goal
 
 pub loop-turn-preserved : goal.loop-turn-preserved

@@ -5,8 +5,8 @@ use Rattle.jp_document.proofs.Descent.Items.{get_seen}
 use Rattle.jp_query.specs.Tree.{selector_of, wildcard}
 use Rattle.jp_query.specs.declared.tree.Segment.{out-Segment}
 use Rattle.jp_evaluate.specs.Private.Walk.{segments_left, turns}
-use Rattle.jp_evaluate.proofs.Turns.{children_turn, left_there, no_turn}
-use Rattle.jp_evaluate.proofs.Turns.{selector_smaller, selector_turn}
+use Rattle.jp_evaluate.proofs.Walks.Turns.{children_turn, left_there, no_turn}
+use Rattle.jp_evaluate.proofs.Walks.Turns.{selector_smaller, selector_turn}
 use Rattle.jp_evaluate.proofs.walk.turn_at.Goals as goal
 use Rattle.jp_evaluate.proofs.walk.turn_at.Goals.{else-segment-via-then-segment+else-number-len}
 use Rattle.jp_evaluate.proofs.walk.turn_at.Goals.{else-segment-via-else-segment}

@@ -1,7 +1,7 @@
 use Rattle.std.proofs.Common.{◌≡◌, ◌∙◌, Some, None, refl}
 use Rattle.jp_evaluate.specs.Private.Walk.{offered, pending}
 use Rattle.jp_evaluate.specs.declared.walk.Walk.{Walk}
-use Rattle.jp_evaluate.proofs.Choices.{frame_left, frame_next, frames_alone}
+use Rattle.jp_evaluate.proofs.Walks.Choices.{frame_left, frame_next, frames_alone}
 use Rattle.jp_evaluate.proofs.walk.Walk.next_offer.Goals as goal
 
 pub loop-frame-preserved : goal.loop-frame-preserved

@@ -4,7 +4,7 @@ use Rattle.std.proofs.lemmas.List.{append-nil, take_all, take_more}
 use Rattle.jp_document.specs.Location.{key_of}
 use Rattle.jp_document.specs.declared.location.Step.{Step}
 use Rattle.jp_evaluate.specs.Private.Walk.{reached_at, steps_of, walk_frames}
-use Rattle.jp_evaluate.proofs.Choices.{reached-push}
+use Rattle.jp_evaluate.proofs.Walks.Choices.{reached-push}
 use Rattle.jp_evaluate.proofs.walk.Walk.node_at.Goals as goal
 use Rattle.jp_evaluate.proofs.walk.Walk.node_at.Goals.{in-Some+in_ok-push_step-2, in_default}
 

@@ -38,8 +38,9 @@ use Rattle.jp_evaluate.specs.Private.Reached.{all_true, any_true, argument_reach
 use Rattle.jp_evaluate.specs.Private.Reached.{call_side, call_truth, is_reached, query_reaches}
 use Rattle.jp_evaluate.specs.Private.Reached.{reaches, segment_reaches, side, single_side, taken}
 use Rattle.jp_evaluate.specs.Private.Reached.{takes, truth, value_reached, visits}
-use Rattle.jp_evaluate.proofs.Along.{StandsAt, along}
-use Rattle.jp_evaluate.proofs.Reaching.{flat_map-flat_map}
+use Rattle.jp_evaluate.proofs.Nodelists.Along.{StandsAt, along}
+use Rattle.jp_evaluate.proofs.Walks.Reaching.{flat_map-flat_map}
+use Rattle.jp_evaluate.proofs.Nodelists.Elements.{All-flat_map_from}
 
 -- where n stands, reached from c
 abbrev pub at : Location → Node → Location
@@ -50,13 +51,6 @@ abbrev pub Stood : Value → Location → Node → Type 0
 Stood d c n = value_at d (at c n) ≡ Some n.value
 
 -- ---- all that is reached stands in the document
-
-All-flat_map : {X Y : Type 0} (Q : X → Type 0) (P : Y → Type 0) (f : X → List Y) (xs : List X)
-    → ((x : X) → Q x → All P (f x)) → All Q xs → All P (flat_map f xs)
-All-flat_map Q P f [] each all = All-nil P
-All-flat_map Q P f (x ∷ xs) each all =
-    All-append P (f x) (flat_map f xs) (each x (All-head Q x xs all))
-    (All-flat_map Q P f xs each (All-tail Q x xs all))
 
 entries_stood : (d : Value) (c : Location) (n : Node) (es : List (Key × Value)) → Stood d c n
     → All (StandsBelow n.value) es → All (Stood d c) (map (node_below n.location) es)
@@ -177,9 +171,9 @@ reaches_stood : (all : SegmentTrees) (d : Value) (c : Location) (n : Node) → I
 reaches_stood no_segments d c n document there =
     All-cons (Stood d c) n [] there (All-nil (Stood d c))
 reaches_stood (segment_then (segment b ss) rest) d c n document there =
-    All-flat_map (Stood d c) (Stood d c) (reaches rest d) (segment_reaches (segment b ss) d n)
+    All-flat_map_from (Stood d c) (Stood d c) (reaches rest d) (segment_reaches (segment b ss) d n)
     (λ m is. reaches_stood rest d c m document is)
-    (All-flat_map (Stood d c) (Stood d c) (taken ss d) (visits b n)
+    (All-flat_map_from (Stood d c) (Stood d c) (taken ss d) (visits b n)
     (λ m is. taken_stood ss d c m document is) (visits_stood b d c n document there))
 
 from_the_root : (d : Value) (ns : List Node) → map (at []) ns ≡ map location_of ns
@@ -346,10 +340,10 @@ mutual
   result-at no_segments d c ns document there = ap (map (at c)) (sym (singles ns))
   result-at (segment_then (segment b ss) rest) d c ns document there =
       let visits_there : All (Stood d c) (flat_map (visits b) ns) =
-      All-flat_map (Stood d c) (Stood d c) (visits b) ns (λ n is. visits_stood b d c n document is)
-      there in
+      All-flat_map_from (Stood d c) (Stood d c) (visits b) ns
+      (λ n is. visits_stood b d c n document is) there in
       let taken_there : All (Stood d c) (flat_map (taken ss d) (flat_map (visits b) ns)) =
-      All-flat_map (Stood d c) (Stood d c) (taken ss d) (flat_map (visits b) ns)
+      All-flat_map_from (Stood d c) (Stood d c) (taken ss d) (flat_map (visits b) ns)
       (λ n is. taken_stood ss d c n document is) visits_there in
       ap (λ ls. result rest d (flat_map (selected ss d) ls)) (visited_at b d c ns there)
       ∙ ap (result rest d)

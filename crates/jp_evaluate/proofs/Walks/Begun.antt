@@ -15,9 +15,9 @@ use Rattle.jp_evaluate.specs.Private.Reached.{reaches}
 use Rattle.jp_evaluate.specs.Private.Walk.{choice_at, choice_reaches, frames_pending}
 use Rattle.jp_evaluate.specs.Private.Walk.{reached_at, start_choice, walk_frames, walk_reaches}
 use Rattle.jp_evaluate.specs.declared.walk.Walk.{Walk}
-use Rattle.jp_evaluate.proofs.Choices.{drop_none}
-use Rattle.jp_evaluate.proofs.ByLocations.{nodelist-at}
-use Rattle.jp_evaluate.proofs.Trees.{query_of-is}
+use Rattle.jp_evaluate.proofs.Walks.Choices.{drop_none}
+use Rattle.jp_evaluate.proofs.Nodelists.ByLocations.{nodelist-at}
+use Rattle.jp_evaluate.proofs.Parts.Trees.{query_of-is}
 
 -- a walk that begins with v reaches what the segments do
 pub begun_reaches : (all : List Segment) (d : Value) (w : Walk) (v : DocumentValue)
@@ -31,10 +31,10 @@ begun_reaches all d w v first frames =
     ∙ append-nil (choice_reaches d (choice_at [] (start_choice all v)))
     ∙ ap (λ xs. reaches (segments (map segment_of xs)) d (root_of (lent_value v))) (drop_none all)
 
-from_root : (absolute : Bool) (all : SegmentTrees) (d : Value)
+nodelist_at-root : (absolute : Bool) (all : SegmentTrees) (d : Value)
     → nodelist_at (query absolute all) d [] ≡ result all d ([] ∷ [])
-from_root true all d = refl
-from_root false all d = refl
+nodelist_at-root true all d = refl
+nodelist_at-root false all d = refl
 
 -- from the root it reaches the nodelist
 pub begun_nodelist : (q : Query) (all : List Segment) (d : Value) (w : Walk) (v : DocumentValue)
@@ -47,6 +47,7 @@ begun_nodelist q all d w v are is document first frames =
     begun_reaches all d w v first frames
     ∙ ap₂ (λ xs u. reaches (segments (map segment_of xs)) d (root_of u)) (sym are) is in
     let list =
-    ap (λ t. nodelist_at t d []) (query_of-is q) ∙ from_root (out-Query q).absolute trees d in
+    ap (λ t. nodelist_at t d []) (query_of-is q)
+    ∙ nodelist_at-root (out-Query q).absolute trees d in
     subst (λ ns. AreNodes d ns (nodelist (query_of q) d)) (sym begun)
     (subst (AreNodes d (reaches trees d (root_of d))) (sym list) (nodelist-at trees d document))

@@ -18,7 +18,7 @@ use Rattle.jp_evaluate.specs.Private.Reached.{reaches, taken, takes, visits}
 use Rattle.jp_evaluate.specs.Private.Walk.{Choice, choice_at, choice_of, choice_reaches}
 use Rattle.jp_evaluate.specs.Private.Walk.{choice_weight, choices_from, passes, selector_turns}
 use Rattle.jp_evaluate.specs.Private.Walk.{selectors_weight, test_of, turn_choices, turns, weight}
-use Rattle.jp_evaluate.proofs.Choices.{choices_all}
+use Rattle.jp_evaluate.proofs.Walks.Choices.{choices_all}
 
 -- ---- lists of lists
 

@@ -1,4 +1,4 @@
--- What is kept of the pattern that was read last.
+-- A text that was read, with its pattern.
 use Rattle.std.specs.Prelude.{◌≡◌, option_map}
 use Rattle.std.specs.Str.{chars}
 use Rattle.jp_iregexp.specs.PatternOf.{pattern_of}

@@ -8,7 +8,7 @@ use Rattle.std.specs.Str.{encode_utf8_all}
 use Rattle.std.proofs.lemmas.Bool.{and_parts}
 use Rattle.std.proofs.lemmas.List.{append-nil}
 use Rattle.std.proofs.lemmas.List.Elements.{All-append, All-cons, All-contains_itself}
-use Rattle.std.proofs.lemmas.List.Elements.{All-filter, All-head, All-nil, All-tail, All-weaker}
+use Rattle.std.proofs.lemmas.List.Elements.{All-filter, All-nil, All-weaker}
 use Rattle.jp_document.proofs.Descent.Exact.{children_exact}
 use Rattle.jp_document.specs.ChildNodes.{IsChild, IsListOf, children_of}
 use Rattle.jp_document.specs.Location.{Key, Location, named, value_at}
@@ -24,18 +24,12 @@ use Rattle.jp_select.specs.Subtree.{IsInSubtree, subtree}
 use Rattle.jp_evaluate.specs.Laws.{SelectsNodesAlone, SingularSelectsOne}
 use Rattle.jp_evaluate.specs.Nodelist.{holds, result, segment_result}
 use Rattle.jp_evaluate.specs.Nodelist.{selected, selection, start_of, visited}
+use Rattle.jp_evaluate.proofs.Nodelists.Elements.{All-flat_map_from}
 
 -- ---- where each location of a list has a node
 
 abbrev There : Value → Location → Type 0
 There d l = IsSome (value_at d l)
-
-All-flat_map : {X Y : Type 0} (Q : X → Type 0) (P : Y → Type 0) (f : X → List Y) (xs : List X) →
-    ((x : X) → Q x → All P (f x)) → All Q xs → All P (flat_map f xs)
-All-flat_map Q P f [] each all = All-nil P
-All-flat_map Q P f (x ∷ xs) each all =
-    All-append P (f x) (flat_map f xs) (each x (All-head Q x xs all))
-    (All-flat_map Q P f xs each (All-tail Q x xs all))
 
 -- what a list has is there, where what it is the list of is
 from_list : (P Q : Location → Type 0) (ls : List Location) → IsListOf P ls →
@@ -94,14 +88,14 @@ visited_there : (descendant : Bool) (d : Value) (ls : List Location) → IsDocum
     All (There d) ls → All (There d) (visited descendant d ls)
 visited_there false d ls document all = all
 visited_there true d ls document all =
-    All-flat_map (There d) (There d) (subtree d) ls
+    All-flat_map_from (There d) (There d) (subtree d) ls
     (λ l there. from_list (IsInSubtree d l) (There d) (subtree d l) (subtree_law d l document)
     (λ m is. is.there)) all
 
 segment_there : (s : SegmentTree) (d : Value) (ls : List Location) → IsDocumentValue d →
     All (There d) ls → All (There d) (segment_result s d ls)
 segment_there (segment descendant xs) d ls document all =
-    All-flat_map (There d) (There d) (selected xs d) (visited descendant d ls)
+    All-flat_map_from (There d) (There d) (selected xs d) (visited descendant d ls)
     (λ l there. selected_there xs d l document) (visited_there descendant d ls document all)
 
 result_there : (ss : SegmentTrees) (d : Value) (ls : List Location) → IsDocumentValue d →

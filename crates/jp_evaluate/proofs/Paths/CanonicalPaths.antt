@@ -1,5 +1,6 @@
 -- The normalized path of a location is the canonical text of its tree, and spells it.
-use Rattle.std.proofs.Common.{◌≡◌, ℕ, ◌<◌, ◌^◌, ◌&&◌, true, List, [], ◌∷◌, ◌++◌, map, pos, codes, IsUtf8, inl, inr, refl, ap, ap₂, subst, sym, ◌∙◌, append-nil, arith}
+use Rattle.std.proofs.Common.{◌≡◌, ℕ, ◌<◌, ◌^◌, ◌&&◌, true, List, [], ◌∷◌, ◌++◌, map, pos, codes}
+use Rattle.std.proofs.Common.{IsUtf8, inl, inr, refl, ap, ap₂, subst, sym, ◌∙◌, append-nil, arith}
 use Rattle.std.proofs.lemmas.Bool.{and_parts, cases_lt, lt-ltb}
 use Rattle.std.proofs.lemmas.Str.{chars-encodes, encodes-append, encodes-chars, scalars-chars}
 use Rattle.std.specs.Fmt.{decimal}
@@ -14,7 +15,8 @@ use Rattle.jp_document.specs.Spelling.{spelling}
 use Rattle.jp_document.proofs.Spellings.Encoded.{Ascii, digits-ascii, encode-ascii, high-plain, spelling-low}
 use Rattle.jp_document.proofs.Spellings.Indexes.{decimal-index_text, digits-index_text}
 use Rattle.jp_document.proofs.Spellings.Characters.{by_itself, spelling_is}
-use Rattle.jp_query.specs.Grammar.{Inside, Nested, Segment, Segments, Selector, Spells, bracketed, indexed, named as by_name}
+use Rattle.jp_query.specs.Grammar.{Inside, Nested, Segment, Segments, Selector, Spells, bracketed}
+use Rattle.jp_query.specs.Grammar.{indexed, named as by_name}
 use Rattle.jp_query.specs.Ints.{Int}
 use Rattle.jp_query.specs.Tree.{segments}
 use Rattle.jp_query.specs.declared.tree.Numeral.TheVariants.{Whole}
@@ -24,12 +26,13 @@ use Rattle.jp_canon.proofs.Forms.{Has, after-blank, before-blank, both, has-as, 
 use Rattle.jp_canon.proofs.Names.{has-quoted}
 use Rattle.jp_canon.proofs.Numbers.{has-decimal}
 use Rattle.jp_canon.proofs.Written.{quoted-encode}
-use Rattle.jp_evaluate.proofs.PathTrees.{StepFits, StepsFit, path_tree, step_segment, step_selector}
+use Rattle.jp_evaluate.proofs.Paths.PathTrees.{StepFits, StepsFit, path_tree, step_segment}
+use Rattle.jp_evaluate.proofs.Paths.PathTrees.{step_selector}
 
 -- ---- the canonical text spells the tree
 
-has-index : (i : ℕ) → i < 2 ^ 53 → Has (Int (Whole (pos i))) (decimal i)
-has-index i small =
+has-step_index : (i : ℕ) → i < 2 ^ 53 → Has (Int (Whole (pos i))) (decimal i)
+has-step_index i small =
     let fits : i < 2 ^ 64 = omega arith in
     subst (λ n. Has (Int n) (decimal i)) (rw (lt-ltb i (2 ^ 64) fits) refl) (has-decimal i fits)
 
@@ -38,7 +41,7 @@ module _ (K : Nested → Form) where
       → Has (Selector K (step_selector k)) (selector_text (step_selector k))
   has-selector (named s) fits = has-as (λ r p. by_name (chars s) refl) (has-quoted (chars s))
   has-selector (nth i) fits = has-as (λ r p. indexed (Whole (pos i)) refl)
-      (has-item (has-index i fits))
+      (has-item (has-step_index i fits))
 
   has-segment : (k : Key) → StepFits k
       → Has (Segment K (step_segment k)) (segment_text (step_segment k))

@@ -1,6 +1,6 @@
 -- The turns by which a segment chooses.
 use Rattle.std.proofs.Common.{◌≡◌, ◌≢◌, ℕ, zero, suc, ◌+◌, ◌-◌, ◌<◌, ◌≤◌, Bool, true}
-use Rattle.std.proofs.Common.{false, List, [], ◌∷◌, ◌++◌, Some, None, drop, drop-cons}
+use Rattle.std.proofs.Common.{false, List, [], ◌∷◌, ◌++◌, Some, None, drop-cons}
 use Rattle.std.proofs.Common.{length, map, slice_index_or, refl, ap, ap₂, sym, ◌∙◌, arith}
 use Rattle.std.specs.List.{slice_get}
 use Rattle.std.proofs.lemmas.Option.{same_Some}
@@ -10,8 +10,8 @@ use Rattle.jp_query.specs.declared.tree.Segment.{Segment, out-Segment}
 use Rattle.jp_query.specs.declared.tree.Selector.{Selector}
 use Rattle.jp_evaluate.specs.Private.Sizes.{segment_size, segments_size, selector_size}
 use Rattle.jp_evaluate.specs.Private.Walk.{segments_left, selector_turns, turns}
-use Rattle.jp_evaluate.proofs.Sizes.{segment_part, selector_part}
-use Rattle.jp_evaluate.proofs.Trees.{segment_of-is}
+use Rattle.jp_evaluate.proofs.Parts.Sizes.{segment_part, selector_part}
+use Rattle.jp_evaluate.proofs.Parts.Trees.{segment_of-is}
 
 -- ---- segments
 
@@ -22,16 +22,6 @@ segments_left-next all i s within at =
     let next : suc i ≡ i + 1 = omega arith in
     ap (λ xs. segments (map segment_of xs)) (drop-cons all i s within)
     ∙ ap₂ (λ (x : Segment) k. segment_then (segment_of x) (segments_left all k)) (sym at) next
-
-drop-past : {X : Type 0} (xs : List X) (i : ℕ) → length xs ≤ i → drop i xs ≡ []
-drop-past [] zero past = refl
-drop-past [] (suc i) past = refl
-drop-past (x ∷ xs) zero past = absurd (omega arith)
-drop-past (x ∷ xs) (suc i) past = drop-past xs i (omega arith)
-
-pub segments_left-end : (all : List Segment) (i : ℕ) → length all ≤ i
-    → segments_left all i ≡ segments []
-segments_left-end all i past = ap (λ xs. segments (map segment_of xs)) (drop-past all i past)
 
 -- the segment after i others, and those after it
 pub left_there : (all : List Segment) (i : ℕ) (s : Segment) (xs : List Selector) → i < length all →

@@ -1,5 +1,5 @@
 -- The steps of a walk.
-use Rattle.std.proofs.Common.{◌≡◌, ℕ, zero, suc, ◌+◌, ◌<◌, ◌≤◌, true, false, if◌then◌else◌}
+use Rattle.std.proofs.Common.{◌≡◌, ℕ, zero, suc, ◌+◌, ◌<◌, true, false, if◌then◌else◌}
 use Rattle.std.proofs.Common.{List, [], ◌∷◌, ◌++◌, None, length, map, slice_index_or}
 use Rattle.std.proofs.Common.{option_to_list, refl, ap, ap₂, sym, ◌∙◌, arith}
 use Rattle.std.specs.List.{flat_map, sum_by}
@@ -12,15 +12,15 @@ use Rattle.jp_query.specs.declared.tree.Segment.{Segment}
 use Rattle.jp_evaluate.specs.Private.Reached.{reaches}
 use Rattle.jp_evaluate.specs.Private.Walk.{choice_at, chosen_node, choice_reaches}
 use Rattle.jp_evaluate.specs.Private.Walk.{choice_weight, choices_from, entered, frames_pending}
-use Rattle.jp_evaluate.specs.Private.Walk.{offered, passes, pending, reached_at, reached_place}
+use Rattle.jp_evaluate.specs.Private.Walk.{offered, passes, pending, reached_at}
 use Rattle.jp_evaluate.specs.Private.Walk.{segments_left, start_choice, steps_of, turns}
 use Rattle.jp_evaluate.specs.Private.Walk.{walk_frames, walk_reaches, walk_weight}
 use Rattle.jp_evaluate.specs.declared.walk.Offer.{Offer}
 use Rattle.jp_evaluate.specs.declared.walk.Place.{Place}
 use Rattle.jp_evaluate.specs.declared.walk.Walk.{Walk}
-use Rattle.jp_evaluate.proofs.Choices.{drop_none, pending-push}
-use Rattle.jp_evaluate.proofs.Reaching.{choice-weighs, enters, enters_less}
-use Rattle.jp_evaluate.proofs.Turns.{segments_left-end, segments_left-next}
+use Rattle.jp_evaluate.proofs.Walks.Choices.{drop_none, pending-push}
+use Rattle.jp_evaluate.proofs.Walks.Reaching.{choice-weighs, enters, enters_less}
+use Rattle.jp_evaluate.proofs.Walks.Turns.{segments_left-next}
 
 -- the offer o of the walk that was w leaves the walk v
 abbrev pub Offers : List Segment → Walk → Offer → Walk → Type 0
@@ -47,20 +47,6 @@ offer_less all w v o gives =
     let sum = ap (sum_by choice_weight) gives ∙ sum_by-cons choice_weight c (pending all v) in
     let some = choice-weighs c in
     omega arith
-
--- ---- a choice with no segment left
-
-pub arrives : (all : List Segment) (d : Value) (w v : Walk) (o : Offer) → Offers all w o v
-    → passes (offered all o).test d (offered all o).value ≡ true
-    → length all ≤ o.place.done
-    → walk_reaches all d w ≡ reached_place v o.place ∷ walk_reaches all d v
-arrives all d w v o gives passed done =
-    ap (flat_map (choice_reaches d)) gives
-    ∙ ap
-    (λ b. (if b then reaches (offered all o).left d (reached_place v o.place) else [])
-    ++ walk_reaches all d v) passed
-    ∙ ap (λ left. reaches left d (reached_place v o.place) ++ walk_reaches all d v)
-    (segments_left-end all o.place.done done)
 
 -- ---- a choice to go on from
 

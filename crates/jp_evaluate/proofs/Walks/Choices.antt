@@ -99,13 +99,19 @@ pending-push all l (g ∷ fs) f =
 
 -- ---- walks
 
--- a walk whose first value was offered, by its frames
+-- a walk whose first value was offered has what its frames have
+pub pending_frames : (all : List Segment) (w : Walk) (fs : List Frame) → w.first ≡ None
+    → walk_frames w ≡ fs → pending all w ≡ frames_pending all [] fs
+pending_frames all w fs first frames =
+    ap₂
+    (λ o gs. map (choice_at (reached_at [] gs)) (map (start_choice all) (option_to_list o))
+    ++ frames_pending all [] gs) first frames
+
 pub frames_alone : (all : List Segment) (w v : Walk) → w.first ≡ None → v.first ≡ None
     → walk_frames w ≡ walk_frames v → pending all w ≡ pending all v
 frames_alone all w v first begun same =
-    ap₂
-    (λ o fs. map (choice_at (reached_at [] fs)) (map (start_choice all) (option_to_list o))
-    ++ frames_pending all [] fs) (first ∙ sym begun) same
+    pending_frames all w (walk_frames v) first same
+    ∙ sym (pending_frames all v (walk_frames v) begun refl)
 
 -- the last frame's next choice
 pub frame_next : (all : List Segment) (before : List (Location × Choice)) (w v : Walk) (f g : Frame)
@@ -116,18 +122,12 @@ pub frame_next : (all : List Segment) (before : List (Location × Choice)) (w v 
 frame_next all before w v f g c first begun rest top new below place choices =
     let b = w.below.items in
     let m = reached_at [] b ++ steps_of f.place.step in
-    let was : pending all w ≡ frames_pending all [] (b ++ f ∷ []) =
-    ap₂
-    (λ o t. map (choice_at (reached_at [] (b ++ option_to_list t)))
-    (map (start_choice all) (option_to_list o))
-    ++ frames_pending all [] (b ++ option_to_list t)) first top in
-    let is : pending all v ≡ frames_pending all [] (b ++ g ∷ []) =
-    ap₂
-    (λ o fs. map (choice_at (reached_at [] fs)) (map (start_choice all) (option_to_list o))
-    ++ frames_pending all [] fs) begun
-    (ap₂ (λ (x : Vec Frame Global) t. x.items ++ option_to_list t) below new) in
+    let was = pending_frames all w (b ++ f ∷ []) first (ap (λ t. b ++ option_to_list t) top) in
+    let frames : walk_frames v ≡ b ++ g ∷ [] =
+    ap₂ (λ (x : Vec Frame Global) t. x.items ++ option_to_list t) below new in
+    let is = pending_frames all v (b ++ g ∷ []) begun frames in
     let at : reached_at [] (walk_frames v) ≡ m =
-    ap (reached_at []) (ap₂ (λ (x : Vec Frame Global) t. x.items ++ option_to_list t) below new)
+    ap (reached_at []) frames
     ∙ reached-push [] b g ∙ ap (λ (p : Place). reached_at [] b ++ steps_of p.step) place in
     sym rest ∙ was ∙ pending-push all [] b f
     ∙ ap (λ cs. map (choice_at m) cs ++ frames_pending all [] b) choices
@@ -143,15 +143,9 @@ pub frame_left : (all : List Segment) (before : List (Location × Choice)) (w v 
 frame_left all before w v f first begun rest top new below choices =
     let b = w.below.items in
     let m = reached_at [] b ++ steps_of f.place.step in
-    let was : pending all w ≡ frames_pending all [] (b ++ f ∷ []) =
-    ap₂
-    (λ o t. map (choice_at (reached_at [] (b ++ option_to_list t)))
-    (map (start_choice all) (option_to_list o))
-    ++ frames_pending all [] (b ++ option_to_list t)) first top in
-    let is : pending all v ≡ frames_pending all [] (b ++ []) =
-    ap₂
-    (λ o fs. map (choice_at (reached_at [] fs)) (map (start_choice all) (option_to_list o))
-    ++ frames_pending all [] fs) begun
+    let was = pending_frames all w (b ++ f ∷ []) first (ap (λ t. b ++ option_to_list t) top) in
+    let is =
+    pending_frames all v (b ++ []) begun
     (ap₂ (λ (x : Vec Frame Global) t. x.items ++ option_to_list t) below new) in
     is ∙ ap (frames_pending all []) (append-nil b)
     ∙ ap (λ cs. map (choice_at m) cs ++ frames_pending all [] b) (sym choices)

@@ -1,5 +1,7 @@
 -- The location of a node as a query.
-use Rattle.std.proofs.Common.{true, pos, ◌≡◌, ℕ, suc, ◌<◌, ◌≤◌, ◌-◌, ◌^◌, List, [], ◌∷◌, ◌++◌, map, length, Option, Some, None, IsSome, refl, ap, sym, ◌∙◌, append_assoc, arith, option_and_then, lt-ltb}
+use Rattle.std.proofs.Common.{true, pos, ◌≡◌, ℕ, suc, ◌<◌, ◌≤◌, ◌-◌, ◌^◌, List, [], ◌∷◌, ◌++◌}
+use Rattle.std.proofs.Common.{map, length, Option, Some, None, IsSome, refl, ap, sym, ◌∙◌}
+use Rattle.std.proofs.Common.{append_assoc, arith, option_and_then, lt-ltb}
 use Rattle.std.specs.List.{All}
 use Rattle.std.proofs.lemmas.Bool.{leb-true}
 use Rattle.std.proofs.lemmas.List.{append-nil}
@@ -11,7 +13,8 @@ use Rattle.jp_document.proofs.Members.ByName.{child-object_nth}
 use Rattle.jp_document.proofs.Conjunctions.{and-left}
 use Rattle.jp_document.proofs.Members.TextNames.{IsUtf8-child_named}
 use Rattle.jp_document.specs.Location.{Key, Location, child, named, nth, value_at}
-use Rattle.jp_document.specs.Value.{IsDocumentValue, Items, Value, boolean, item, item_count, items_of, list, no_items, null, object, text, whole}
+use Rattle.jp_document.specs.Value.{IsDocumentValue, Items, Value, boolean, item, item_count}
+use Rattle.jp_document.specs.Value.{items_of, list, no_items, null, object, text, whole}
 use Rattle.jp_query.specs.Items.{segments_items}
 use Rattle.jp_query.specs.Tree.{segments}
 use Rattle.jp_check.specs.Faults.{HasFault}
@@ -22,8 +25,8 @@ use Rattle.jp_query.specs.Items.{QueryItem, as_index, int}
 use Rattle.jp_query.specs.declared.refusal.RefusalKind.{RefusalKind}
 use Rattle.jp_query.specs.declared.tree.Numeral.TheVariants.{Whole}
 use Rattle.jp_evaluate.specs.Laws.{PathSelectsItsNode}
-use Rattle.jp_evaluate.proofs.CanonicalPaths.{path-spells}
-use Rattle.jp_evaluate.proofs.PathTrees.{StepFits, StepsFit, path_tree, step_segment}
+use Rattle.jp_evaluate.proofs.Paths.CanonicalPaths.{path-spells}
+use Rattle.jp_evaluate.proofs.Paths.PathTrees.{StepFits, StepsFit, path_tree, step_segment}
 use Rattle.jp_evaluate.specs.Nodelist.{result, segment_result}
 use Rattle.jp_select.specs.Selectors.{one_step}
 use Rattle.std.proofs.lemmas.Str.{encodes-chars}
@@ -48,10 +51,10 @@ within_items vs i u there =
     omega arith
 
 -- what stands one step below has its own step there
-inside : (o : Option Value) (w : Value) (m : Location)
+first_step_there : (o : Option Value) (w : Value) (m : Location)
     → option_and_then (λ u. value_at u m) o ≡ Some w
     → (u : Value) × (o ≡ Some u) × (value_at u m ≡ Some w)
-inside o w m e = option_and_then_some (λ u. value_at u m) o w e (λ u at end. (u, at, end))
+first_step_there o w m e = option_and_then_some (λ u. value_at u m) o w e (λ u at end. (u, at, end))
 
 present : (d u : Value) (l : Location) (k : Key) → value_at d (l ++ k ∷ []) ≡ Some u
     → one_step d l k ≡ (l ++ k ∷ []) ∷ []
@@ -80,7 +83,7 @@ walks : (d v w : Value) (l m : Location) → value_at d l ≡ Some v → value_a
     → StepsFit m → result (segments (map step_segment m)) d (l ∷ []) ≡ (l ++ m) ∷ []
 walks d v w l [] at end fit = ap (λ x. x ∷ []) (sym (append-nil l))
 walks d v w l (k ∷ m) at end fit =
-    let u = inside (child v k) w m end in
+    let u = first_step_there (child v k) w m end in
     ap (result (segments (map step_segment m)) d) (step_result d v u.0 l k at u.1 fit.0)
     ∙ walks d u.0 w (l ++ k ∷ []) m (value_at-step d v l k at ∙ u.1) u.2 fit.1
     ∙ ap (λ x. x ∷ []) (append_assoc l (k ∷ []) m)
@@ -105,7 +108,7 @@ step_fits v u (nth i) document there = index_fits v u i document there
 steps_fit : (v w : Value) (m : Location) → IsDocumentValue v → value_at v m ≡ Some w → StepsFit m
 steps_fit v w [] document end = tt
 steps_fit v w (k ∷ m) document end =
-    let u = inside (child v k) w m end in (
+    let u = first_step_there (child v k) w m end in (
       step_fits v u.0 k document u.1,
       steps_fit u.0 w m (IsDocumentValue-child v u.0 k document u.1) u.2,
     )
@@ -127,13 +130,13 @@ steps_faultless (nth i ∷ m) fit =
     All-cons NoFault (int (Whole (pos i)) as_index) (segments_items (segments (map step_segment m)))
     (index_faultless i fit.0) (steps_faultless m fit.1)
 
-some_value : (o : Option Value) → IsSome o → (w : Value) × (o ≡ Some w)
-some_value None is = absurd (cc)
-some_value (Some w) is = (w, refl)
+Some-of_IsSome : (o : Option Value) → IsSome o → (w : Value) × (o ≡ Some w)
+Some-of_IsSome None is = absurd (cc)
+Some-of_IsSome (Some w) is = (w, refl)
 
 pub path_selects_its_node : PathSelectsItsNode
 path_selects_its_node d l document there =
-    let w = some_value (value_at d l) there in
+    let w = Some-of_IsSome (value_at d l) there in
     let fit = steps_fit d w.0 l document w.1 in
     let spelled = path-spells level_limit l fit in (
       path_tree l,

@@ -1,7 +1,7 @@
 -- The values that singular queries select, step by step.
-use Rattle.std.proofs.Common.{◌≡◌, ◌≢◌, ◌+◌, ◌<◌, ℕ, suc, Bool, true, false, if◌then◌else◌}
-use Rattle.std.proofs.Common.{List, [], ◌∷◌, ◌++◌, Option, Some, None, drop, drop-cons}
-use Rattle.std.proofs.Common.{length, map, option_map, option_to_list, slice_index_or}
+use Rattle.std.proofs.Common.{◌≡◌, ◌≢◌, ℕ, Bool, true, false, if◌then◌else◌}
+use Rattle.std.proofs.Common.{List, [], ◌∷◌, ◌++◌, Option, Some, None}
+use Rattle.std.proofs.Common.{length, map, option_map, option_to_list}
 use Rattle.std.proofs.Common.{option_and_then, IsUtf8, refl, ap, sym, ◌∙◌, subst, arith}
 use Rattle.std.specs.List.{All, slice_get}
 use Rattle.std.specs.Str.{chars, encode_utf8_all}
@@ -24,7 +24,7 @@ use Rattle.jp_select.specs.Candidates.{candidates, single as single_entry}
 use Rattle.jp_select.specs.Selectors.{chosen}
 use Rattle.jp_evaluate.specs.Nodelist.{result, value_of_node}
 use Rattle.jp_evaluate.specs.Private.Singular.{chosen_value, single_value, values_along}
-use Rattle.jp_evaluate.proofs.Trees.{segment_of-is}
+use Rattle.jp_evaluate.proofs.Parts.Trees.{segment_of-is}
 
 -- the characters of a text spell its bytes
 pub text-spelled : (bytes text : List ℕ) → IsUtf8 bytes → bytes ≡ text →
@@ -35,28 +35,28 @@ text-spelled bytes text utf8 same =
 
 -- ---- one segment
 
-several : (b : Bool) (xs : List Selector) (v : Value) → length xs ≢ 1 →
+none_of_several : (b : Bool) (xs : List Selector) (v : Value) → length xs ≢ 1 →
     single_value (segment b (selectors (map selector_of xs))) v ≡ None
-several true xs v not = refl
-several false [] v not = refl
-several false (x ∷ []) v not = absurd (not refl)
-several false (x ∷ y ∷ xs) v not = refl
+none_of_several true xs v not = refl
+none_of_several false [] v not = refl
+none_of_several false (x ∷ []) v not = absurd (not refl)
+none_of_several false (x ∷ y ∷ xs) v not = refl
 
 -- segments with several selectors or none, and descendant segments, select no single value
 pub not_single : (s : Segment) (v : Value) → length (out-Segment s).selectors.items ≢ 1 →
     single_value (segment_of s) v ≡ None
 not_single s v not =
     ap (λ t. single_value t v) (segment_of-is s)
-    ∙ several (out-Segment s).descendant (out-Segment s).selectors.items v not
+    ∙ none_of_several (out-Segment s).descendant (out-Segment s).selectors.items v not
 
-only : (b : Bool) (xs : List Selector) (x : Selector) (v : Value) → b ≡ false → length xs ≡ 1 →
-    Some x ≡ slice_get xs 0 →
+chosen_by_only : (b : Bool) (xs : List Selector) (x : Selector) (v : Value) → b ≡ false →
+    length xs ≡ 1 → Some x ≡ slice_get xs 0 →
     chosen_value (selector_of x) v ≡ single_value (segment b (selectors (map selector_of xs))) v
-only true xs x v child one first = absurd (cc)
-only false [] x v child one first = absurd (cc)
-only false (y ∷ []) x v child one first =
+chosen_by_only true xs x v child one first = absurd (cc)
+chosen_by_only false [] x v child one first = absurd (cc)
+chosen_by_only false (y ∷ []) x v child one first =
     ap (λ z. chosen_value (selector_of z) v) (same_Some x y first)
-only false (y ∷ z ∷ xs) x v child one first = absurd (omega arith)
+chosen_by_only false (y ∷ z ∷ xs) x v child one first = absurd (omega arith)
 
 -- a child segment with one selector selects what the selector does
 pub single : (s : Segment) (x : Selector) (v : Value) → (out-Segment s).descendant ≡ false →
@@ -64,7 +64,7 @@ pub single : (s : Segment) (x : Selector) (v : Value) → (out-Segment s).descen
     Some x ≡ slice_get (out-Segment s).selectors.items 0 →
     chosen_value (selector_of x) v ≡ single_value (segment_of s) v
 single s x v child one first =
-    only (out-Segment s).descendant (out-Segment s).selectors.items x v child one first
+    chosen_by_only (out-Segment s).descendant (out-Segment s).selectors.items x v child one first
     ∙ sym (ap (λ t. single_value t v) (segment_of-is s))
 
 descends : (b : Bool) (s : List Selector) (v : Value) → b ≡ true →
@@ -82,20 +82,6 @@ not_child s v is =
 
 abbrev pub of_segments : List Segment → SegmentTrees
 of_segments xs = segments (map segment_of xs)
-
--- one segment more
-pub along-next : (items : List Segment) (i : ℕ) (s : Segment) (v : Value) (o : Option Value) →
-    i < length items → s ≡ slice_index_or items i s → o ≡ single_value (segment_of s) v →
-    option_and_then (values_along (of_segments (drop (i + 1) items))) o ≡
-    values_along (of_segments (drop i items)) v
-along-next items i s v o within at is =
-    let next : suc i ≡ i + 1 = omega arith in
-    ap (λ n. option_and_then (values_along (of_segments (drop n items))) o) (sym next)
-    ∙ ap (option_and_then (values_along (of_segments (drop (suc i) items)))) is
-    ∙ ap
-    (λ (x : Segment). option_and_then (values_along (of_segments (drop (suc i) items)))
-    (single_value (segment_of x) v)) at
-    ∙ ap (λ xs. values_along (of_segments xs) v) (sym (drop-cons items i s within))
 
 -- ---- what the standard has for it
 

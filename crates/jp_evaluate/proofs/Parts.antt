@@ -1,0 +1,5 @@
+-- The parts of queries and values, one layer at a time.
+pub mod Arguments
+pub mod Lengths
+pub mod Sizes
+pub mod Trees

@@ -1,0 +1,4 @@
+-- The path of a node as a query.
+pub mod CanonicalPaths
+pub mod LocationLaws
+pub mod PathTrees

@@ -1,0 +1,6 @@
+-- What is left of a walk is what its segments reach.
+pub mod Advances
+pub mod Begun
+pub mod Choices
+pub mod Reaching
+pub mod Turns
