@@ -241,8 +241,10 @@ calls::some_arguments-returns-in_err-next t c =
     (loops.some_fail (inside c.args.levels) (inside-progress c.args.levels) beyond
     (is comma) next_argument c.arguments.reader (map argument_of c.arguments.arguments.items) e
     (sym c.is_before.ensures ∙ c.arguments-test.true) c.in_err-next.ensures) in
-    rw (err_is c.from_residual-in_err-next.result c.from_residual-in_err-next.ensures.1,
-    parts.arguments-closed (inside c.args.levels) c.args.reader.now)
+    rw (
+      err_is c.from_residual-in_err-next.result c.from_residual-in_err-next.ensures.1,
+      parts.arguments-closed (inside c.args.levels) c.args.reader.now,
+    )
     (fails-then e (read_inside c.args.levels rounds.listed c.args.reader.now) _ failed)
 
 pub calls::some_arguments-arguments-smaller : goal.calls::some_arguments-arguments-smaller
@@ -270,8 +272,11 @@ calls::some_arguments-returns-in_err-expect t c =
     (sym c.is_before.ensures ∙ c.arguments-test.false) in
     let failed : Fails e (expect closing_parenthesis (skip c.arguments.reader)) =
     rw c.skip.ensures at c.in_err-expect.ensures.taken in
-    rw (err_is c.from_residual-in_err-expect.result c.from_residual-in_err-expect.ensures.1,
-    parts.arguments-closed (inside c.args.levels) c.args.reader.now, listed)
+    rw (
+      err_is c.from_residual-in_err-expect.result c.from_residual-in_err-expect.ensures.1,
+      parts.arguments-closed (inside c.args.levels) c.args.reader.now,
+      listed,
+    )
     (fails-then e (expect closing_parenthesis (skip c.arguments.reader)) _ failed)
 
 pub calls::some_arguments-returns : goal.calls::some_arguments-returns
@@ -304,8 +309,10 @@ calls::argument-returns-in_err-first t c =
 pub calls::argument-returns-in_err-argument : goal.calls::argument-returns-in_err-argument
 unfolding argument
 calls::argument-returns-in_err-argument t c =
-    rw (err_is c.from_residual-in_err-argument.result c.from_residual-in_err-argument.ensures.1,
-    c.in_ok-first.ensures) (fails-then c.in_err-argument.field-0.0
+    rw (
+      err_is c.from_residual-in_err-argument.result c.from_residual-in_err-argument.ensures.1,
+      c.in_ok-first.ensures,
+    ) (fails-then c.in_err-argument.field-0.0
     (read_inside c.args.levels (argument_on (argument_of c.in_ok-first.first))
     c.argument_start.new.reader) _ c.in_err-argument.ensures)
 
@@ -385,8 +392,10 @@ calls::logical-returns-in_err-conjunction t c =
 pub calls::logical-returns-in_err-expression :
     goal.calls::logical-returns-in_err-expression
 calls::logical-returns-in_err-expression t c =
-    rw (err_is c.from_residual-in_err-expression.result c.from_residual-in_err-expression.ensures.1,
-    c.in_ok-conjunction.ensures) (fails-then c.in_err-expression.field-0.0
+    rw (
+      err_is c.from_residual-in_err-expression.result c.from_residual-in_err-expression.ensures.1,
+      c.in_ok-conjunction.ensures,
+    ) (fails-then c.in_err-expression.field-0.0
     (by (λ es. joined any_of (expr_of c.in_ok-conjunction.conjunction ∷ es))
     (read_inside c.args.levels (other_parts bar conjunction) c.joined_from.new.reader))
     (λ e q. took (logical_argument e) q) c.in_err-expression.ensures)
@@ -421,7 +430,7 @@ pub expressions::subject-returns-in_err-query_within :
 expressions::subject-returns-in_err-query_within t c =
     rw (
       err_is c.from_residual-in_err-query_within.result
-      c.from_residual-in_err-query_within.ensures.1,
+          c.from_residual-in_err-query_within.ensures.1,
       openings.subject-query c.args.levels c.args.reader.now
           (sym c.is_at_function.ensures ∙ c.if-is_at_function.false),
     ) (fails-then c.in_err-query_within.field-0.0
