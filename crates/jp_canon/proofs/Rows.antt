@@ -134,8 +134,8 @@ without_bounds : slice_row (codes ":")
 without_bounds = refl
 
 -- queries
-root_alone : canon_of (query true (segments [])) ≡ codes "$"
-root_alone = refl
+text_of_the_root : canon_of (query true (segments [])) ≡ codes "$"
+text_of_the_root = refl
 
 two_segments : canon_of
     (query true (segments

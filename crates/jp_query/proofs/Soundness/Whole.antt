@@ -97,22 +97,22 @@ no-characters : (t : Text) → (length t == 0) ≡ true → t ≡ []
 no-characters [] h = refl
 no-characters (c ∷ t) h = let e = eqb-true (length (c ∷ t)) 0 h in absurd (omega arith)
 
-ends-then : {A B : Type 0} (o : Outcome A) (k : A → State → Outcome B)
+at_end-then : {A B : Type 0} (o : Outcome A) (k : A → State → Outcome B)
     → ((x : A) (q : State) → Ends (k x q)) → Ends (o >>= k)
-ends-then (took x q) k h = h x q
-ends-then (stuck q) k h = record { at = λ y r e. cc }
-ends-then (deep q) k h = record { at = λ y r e. cc }
+at_end-then (took x q) k h = h x q
+at_end-then (stuck q) k h = record { at = λ y r e. cc }
+at_end-then (deep q) k h = record { at = λ y r e. cc }
 
-ends-if : {A : Type 0} (y : A) (r : State) (b : Bool) → (b ≡ true → r.rest ≡ [])
+at_end-if : {A : Type 0} (y : A) (r : State) (b : Bool) → (b ≡ true → r.rest ≡ [])
     → Ends (if b then took y r else stuck (skip r))
-ends-if y r true h = record { at = λ x q e. (let same : r ≡ q = cc in rw (← same) (h refl)) }
-ends-if y r false h = record { at = λ x q e. cc }
+at_end-if y r true h = record { at = λ x q e. (let same : r ≡ q = cc in rw (← same) (h refl)) }
+at_end-if y r false h = record { at = λ x q e. cc }
 
 query-ends : (n : ℕ) (p : State) → Ends (query_at n p)
 unfolding query_at
 query-ends n p =
-    ends-then (read (inside n) rule.query p) _
-    (λ q r. ends-if q r (is_end r) (no-characters r.rest))
+    at_end-then (read (inside n) rule.query p) _
+    (λ q r. at_end-if q r (is_end r) (no-characters r.rest))
 
 pub spells-of : (n : ℕ) (q : QueryTree) (s : Spans) (text : Text) → whole n q s 0 text
     → Spells n q s text
