@@ -1,5 +1,6 @@
 -- Texts that have a form wherever they stand.
-use Rattle.std.proofs.Common.{◌≡◌, ℕ, ◌+◌, List, [], ◌∷◌, ◌++◌, map, Some, refl, sym, subst, append-nil}
+use Rattle.std.proofs.Common.{◌≡◌, ℕ, ◌+◌, List, [], ◌∷◌, ◌++◌, map, Some, refl, sym, subst}
+use Rattle.std.proofs.Common.{append-nil}
 use Rattle.std.specs.List.{AllByRecursion, flat_map}
 use Rattle.jp_reading.specs.Forms.{Blank, Each, Form, Item, Omitted, Separated, ◌⌢◌}
 use Rattle.jp_reading.specs.Texts.{Spans, Text, bytes}

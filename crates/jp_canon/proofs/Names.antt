@@ -8,7 +8,8 @@ use Rattle.jp_reading.specs.Texts.{Text}
 use Rattle.jp_document.specs.Path.{quoted}
 use Rattle.jp_document.specs.Private.PathRules.{is_letter, is_plain as is_bare, meant}
 use Rattle.jp_document.specs.Spelling.{hex_digit, spelling}
-use Rattle.jp_document.proofs.Spellings.Characters.{Spelled, by_itself, by_letter, by_number, spelled}
+use Rattle.jp_document.proofs.Spellings.Characters.{Spelled, by_itself, by_letter, by_number}
+use Rattle.jp_document.proofs.Spellings.Characters.{spelled}
 use Rattle.jp_query.specs.Strings.{Character, Quoted, Unit as FourDigits, digits}
 use Rattle.jp_query.specs.Strings.{escape, escaped, hex, in_single, is_escapable}
 use Rattle.jp_query.specs.Strings.{is_hexdig, is_not_d, is_plain, not_d, plain, unit_of}

@@ -21,7 +21,8 @@ use Rattle.jp_query.specs.Ints.{negative_of, positive_int, whole_of, zero_int}
 use Rattle.jp_query.specs.Literals.{Decimals, DigitSequence, Exponent, Mantissa, Number, Optional}
 use Rattle.jp_query.specs.Literals.{decimals, left_out, minus_zero, number, whole, written}
 use Rattle.jp_canon.specs.Canon.{numeral_text}
-use Rattle.jp_canon.proofs.Forms.{Has, both, has-as, has-equal_tree, has-each_passing, has-one, has-same, has-word}
+use Rattle.jp_canon.proofs.Forms.{Has, both, has-as, has-equal_tree, has-each_passing, has-one}
+use Rattle.jp_canon.proofs.Forms.{has-same, has-word}
 
 -- ---- whole numbers, by their digits
 

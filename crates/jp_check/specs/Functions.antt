@@ -5,7 +5,8 @@ use Rattle.std.specs.Str.{bytes_eq}
 use Rattle.jp_check.specs.declared.functions.DataType.{DataType}
 use Rattle.jp_check.specs.declared.functions.DataType.TheVariants.{Value, Logical, Nodes}
 use Rattle.jp_check.specs.declared.functions.Function.{Function}
-use Rattle.jp_check.specs.declared.functions.Function.TheVariants.{Length, Count, Match, Search, ValueOf}
+use Rattle.jp_check.specs.declared.functions.Function.TheVariants.{Length, Count, Match, Search}
+use Rattle.jp_check.specs.declared.functions.Function.TheVariants.{ValueOf}
 
 -- the types of a function's parameters, in order, and of its result (section 2.4.1)
 pub record Signature : Type 0 where

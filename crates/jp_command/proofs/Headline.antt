@@ -1,11 +1,13 @@
 -- Why a run over an accepted query and an accepted document is not refused, and writes the lines of
 -- their nodelist.
-use Rattle.std.proofs.Common.{◌≡◌, ◌≢◌, ℕ, ◌+◌, ◌≤◌, Bool, false, List, ◌++◌, length, Option, Some, None, Result, Ok, Err, refl, sym, ◌∙◌, ap, subst, arith, string_bytes}
+use Rattle.std.proofs.Common.{◌≡◌, ◌≢◌, ℕ, ◌+◌, ◌≤◌, Bool, false, List, ◌++◌, length, Option, Some}
+use Rattle.std.proofs.Common.{None, Result, Ok, Err, refl, sym, ◌∙◌, ap, subst, arith, string_bytes}
 use Rattle.std.proofs.lemmas.List.{append-nil, length-append}
 use Rattle.std.specs.Io.KnownBytes.{Appends, Consumes, IsAtEnd}
 use Rattle.std.specs.Str.{chars}
 use Rattle.jp_check.specs.Laws.{OneAnswer}
-use Rattle.jp_document.specs.Document.{IsDocument, IsDocumentFault, list_too_long, not_json, not_whole}
+use Rattle.jp_document.specs.Document.{IsDocument, IsDocumentFault, list_too_long, not_json}
+use Rattle.jp_document.specs.Document.{not_whole}
 use Rattle.jp_document.specs.Laws.{DocumentOrDefect}
 use Rattle.jp_document.specs.Value.{Value}
 use Rattle.jp_document.specs.declared.fault.DocumentFault.{DocumentFault}
@@ -18,7 +20,8 @@ use Rattle.jp_command.specs.Lines.{IsOutputOf}
 use Rattle.jp_command.specs.QueryLine.{RunsQueryLine}
 use Rattle.jp_command.specs.Run.{IsAsked, RefusesQuery, refused, too_long}
 use Rattle.jp_command.specs.declared.fault.Fault.{Fault}
-use Rattle.jp_command.specs.declared.fault.Fault.TheVariants.{Query, Document, DocumentTooLarge, NoMemory, Read, Write}
+use Rattle.jp_command.specs.declared.fault.Fault.TheVariants.{Query, Document, DocumentTooLarge}
+use Rattle.jp_command.specs.declared.fault.Fault.TheVariants.{NoMemory, Read, Write}
 use Rattle.jp_command.specs.declared.lines.Form.{Form}
 
 -- what came of known bytes until their end is all of them

@@ -1,6 +1,9 @@
 -- What clap's matches of the words of `jp` are.
-use Rattle.std.proofs.Common.{◌∙◌, ap, codes, Option, Some, option_map, ◌≡◌, true, List, [], Result, Ok, Err, IfOk, IfErr, refl, subst}
-use Rattle.clap.specs.Words.{App, FailsBy, Kinds, HasKind, HasMatchesOf, Text, fault_of, is_simple, first_of, first_value, is_simple_and_free, rows_of, subcommand_of, subcommand_rows_of}
+use Rattle.std.proofs.Common.{◌∙◌, ap, codes, Option, Some, option_map, ◌≡◌, true, List, [], Result}
+use Rattle.std.proofs.Common.{Ok, Err, IfOk, IfErr, refl, subst}
+use Rattle.clap.specs.Words.{App, FailsBy, Kinds, HasKind, HasMatchesOf, Text, fault_of, is_simple}
+use Rattle.clap.specs.Words.{first_of, first_value, is_simple_and_free, rows_of, subcommand_of}
+use Rattle.clap.specs.Words.{subcommand_rows_of}
 use Rattle.clap.specs.declared.error.Error.{Error}
 use Rattle.clap.specs.declared.parser.matches.ArgMatches.{ArgMatches}
 use Rattle.clap.specs.declared.parser.matches.Found.{Found}

@@ -3,7 +3,8 @@ use Rattle.std.proofs.Common.{◌≡◌, ℕ, Bool, List, Option, Result, Ok, Er
 use Rattle.jp_command.specs.Output.{StopsWriting, WritesAll}
 use Rattle.jp_command.specs.Run.{IsOutput, RunsEval}
 use Rattle.jp_command.specs.declared.fault.Fault.{Fault}
-use Rattle.jp_command.specs.declared.fault.Fault.TheVariants.{Query, Document, DocumentTooLarge, NoMemory, Read, Write}
+use Rattle.jp_command.specs.declared.fault.Fault.TheVariants.{Query, Document, DocumentTooLarge}
+use Rattle.jp_command.specs.declared.fault.Fault.TheVariants.{NoMemory, Read, Write}
 use Rattle.jp_command.specs.declared.lines.Form.{Form}
 
 module _ {R W : Type 0} (remaining : R → Option (List ℕ)) (has_failed : R → Bool)

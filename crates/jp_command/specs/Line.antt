@@ -11,7 +11,8 @@ use Rattle.jp_command.specs.CommandLine.{asked}
 use Rattle.jp_command.specs.Run.{RunsEval}
 use Rattle.jp_command.specs.Output.{AppendsPrefix, AppendsSome}
 use Rattle.jp_command.specs.declared.fault.Fault.{Fault}
-use Rattle.jp_command.specs.declared.fault.Fault.TheVariants.{Query, Document, DocumentTooLarge, NoMemory, Read, Write}
+use Rattle.jp_command.specs.declared.fault.Fault.TheVariants.{Query, Document, DocumentTooLarge}
+use Rattle.jp_command.specs.declared.fault.Fault.TheVariants.{NoMemory, Read, Write}
 use Rattle.jp_command.specs.declared.words.Task.{Task}
 use Rattle.jp_command.specs.declared.words.Task.TheVariants.{Check, Canon, Eval}
 

@@ -1,5 +1,6 @@
 -- What a run of a query over an input says with its answer.
-use Rattle.std.specs.Prelude.{◌≡◌, ◌≢◌, ◌⊎◌, ℕ, ◌<◌, ◌≤◌, Bool, true, List, length, Option, Result, Ok, Err}
+use Rattle.std.specs.Prelude.{◌≡◌, ◌≢◌, ◌⊎◌, ℕ, ◌<◌, ◌≤◌, Bool, true, List, length, Option, Result}
+use Rattle.std.specs.Prelude.{Ok, Err}
 use Rattle.std.specs.Str.{chars}
 use Rattle.jp_check.specs.Accepted.{IsAcceptedAs, IsNotAccepted}
 use Rattle.jp_check.specs.Refused.{IsRefusedForItself}
@@ -15,7 +16,8 @@ use Rattle.jp_command.specs.Limits.{query_limit}
 use Rattle.jp_command.specs.Lines.{IsOutputOf}
 use Rattle.jp_command.specs.Output.{WritesOutput, WritesPrefix}
 use Rattle.jp_command.specs.declared.fault.Fault.{Fault}
-use Rattle.jp_command.specs.declared.fault.Fault.TheVariants.{Query, Document, DocumentTooLarge, NoMemory, Read, Write}
+use Rattle.jp_command.specs.declared.fault.Fault.TheVariants.{Query, Document, DocumentTooLarge}
+use Rattle.jp_command.specs.declared.fault.Fault.TheVariants.{NoMemory, Read, Write}
 use Rattle.jp_command.specs.declared.lines.Form.{Form}
 
 -- the query, in bytes, is not too long and is accepted as the tree q

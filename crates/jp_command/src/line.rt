@@ -3,7 +3,8 @@
 ghost use Rattle.std.specs.Prelude.{◌≡◌, ◌≢◌, IfOk, map, string_bytes};
 ghost use Rattle.std.specs.Cow.{cow_str_bytes};
 ghost use Rattle.clap.specs.Words.{kind_of};
-ghost use Rattle.jp_command.specs.Line.{RunsLine, RunsTask, document_fault_name, fault_line, status_of};
+ghost use Rattle.jp_command.specs.Line.{RunsLine, RunsTask, document_fault_name, fault_line};
+ghost use Rattle.jp_command.specs.Line.{status_of};
 ghost use Rattle.jp_command.specs.Output.{AppendsPrefix, AppendsSome};
 
 use crate::canon::run_canon;

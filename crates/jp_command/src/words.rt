@@ -1,10 +1,13 @@
 //! Reading the words of a command line.
 
-ghost use Rattle.std.specs.Prelude.{◌≡◌, ◌⊎◌, Some, None, IfOk, IfErr, [], false, map, option_and_then, option_map, string_bytes};
-ghost use Rattle.clap.specs.Words.{IsAmong, app_of, fault_of, found_of, kind_of, rows_of, subcommand_of, subcommand_rows_of};
+ghost use Rattle.std.specs.Prelude.{◌≡◌, ◌⊎◌, Some, None, IfOk, IfErr, [], false, map};
+ghost use Rattle.std.specs.Prelude.{option_and_then, option_map, string_bytes};
+ghost use Rattle.clap.specs.Words.{IsAmong, app_of, fault_of, found_of, kind_of, rows_of};
+ghost use Rattle.clap.specs.Words.{subcommand_of, subcommand_rows_of};
 ghost use Rattle.clap.specs.declared.builder.command.Command.TheViews.{out-Command};
 ghost use Rattle.clap.specs.declared.error.kind.ErrorKind.TheVariants.{OutOfMemory};
-ghost use Rattle.jp_command.specs.CommandLine.{asked, jp, query_app, task_and_query, task_called, with_task};
+ghost use Rattle.jp_command.specs.CommandLine.{asked, jp, query_app, task_and_query, task_called};
+ghost use Rattle.jp_command.specs.CommandLine.{with_task};
 
 use crate::lines::Form;
 use clap::error::ErrorKind;

@@ -3,8 +3,10 @@ ghost use Rattle.std.specs.Prelude.{◌≡◌, IfOk, length, option_map};
 ghost use Rattle.jp_document.specs.DocumentValue.{lent_value};
 ghost use Rattle.jp_query.specs.Tree.{argument_of, call_of, query_of};
 ghost use Rattle.jp_select.specs.Comparable.{comparable_of};
-ghost use Rattle.jp_evaluate.specs.Private.Reached.{argument_side, call_side, call_truth, query_reaches};
-ghost use Rattle.jp_evaluate.specs.Private.Calls.{argument_query, both_arguments, call_function, only_argument, only_reached};
+ghost use Rattle.jp_evaluate.specs.Private.Reached.{argument_side, call_side, call_truth};
+ghost use Rattle.jp_evaluate.specs.Private.Reached.{query_reaches};
+ghost use Rattle.jp_evaluate.specs.Private.Calls.{argument_query, both_arguments, call_function};
+ghost use Rattle.jp_evaluate.specs.Private.Calls.{only_argument, only_reached};
 
 use crate::evaluating::{Evaluation, logical_answer};
 use crate::filter::advance;

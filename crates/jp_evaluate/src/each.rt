@@ -1,5 +1,6 @@
 //! The nodes of a nodelist, to be taken one by one.
-ghost use Rattle.std.specs.Prelude.{◌≡◌, ◌+◌, ◌++◌, IfNone, IfOk, [], if◌then◌else◌, length, map, option_to_list};
+ghost use Rattle.std.specs.Prelude.{◌≡◌, ◌+◌, ◌++◌, IfNone, IfOk, [], if◌then◌else◌, length, map};
+ghost use Rattle.std.specs.Prelude.{option_to_list};
 ghost use Rattle.std.specs.Iterator.{at_most};
 ghost use Rattle.jp_document.specs.Node.{node_of};
 ghost use Rattle.jp_evaluate.specs.Rest.{GivesNext, rest_of};

@@ -4,7 +4,8 @@ ghost use Rattle.std.specs.Prelude.{◌≡◌, ◌∷◌, [], IfOk, MatchOption,
 ghost use Rattle.jp_document.specs.DocumentValue.{lent_value};
 ghost use Rattle.jp_query.specs.Tree.{expr_of, exprs, operand_of, query_of, subject_of};
 ghost use Rattle.jp_select.specs.Comparable.{comparable_of};
-ghost use Rattle.jp_evaluate.specs.Private.Reached.{all_true, any_true, is_reached, query_reaches, side, truth};
+ghost use Rattle.jp_evaluate.specs.Private.Reached.{all_true, any_true, is_reached, query_reaches};
+ghost use Rattle.jp_evaluate.specs.Private.Reached.{side, truth};
 ghost use Rattle.jp_evaluate.specs.Private.Walk.{reached_place, walk_reaches};
 
 use crate::calls::{call_holds, call_value};

@@ -1,13 +1,17 @@
 //! The walk of a query through a document, from choice to choice (RFC 9535 section 2.1.2). It keeps
 //! a frame for each value on the way from where it begins to where it stands, and no list of nodes.
-ghost use Rattle.std.specs.Prelude.{◌≡◌, ◌<◌, ◌++◌, ◌∷◌, [], IfNone, IfOk, IfSome, MatchOption, OnOk, OnSome, map, option_map, slice_get};
+ghost use Rattle.std.specs.Prelude.{◌≡◌, ◌<◌, ◌++◌, ◌∷◌, [], IfNone, IfOk, IfSome, MatchOption};
+ghost use Rattle.std.specs.Prelude.{OnOk, OnSome, map, option_map, slice_get};
 ghost use Rattle.jp_document.specs.DocumentValue.{lent_entry, lent_value};
 ghost use Rattle.jp_document.specs.Location.{key_of};
 ghost use Rattle.jp_document.specs.Value.{value_of};
 ghost use Rattle.jp_query.specs.Tree.{expr_of, segment_of, segments as segment_trees, selector_of};
 ghost use Rattle.jp_select.specs.Candidates.{candidates};
 ghost use Rattle.jp_evaluate.specs.Private.Sizes.{expr_size, segments_size, selector_size};
-ghost use Rattle.jp_evaluate.specs.Private.Walk.{choice_at, entered, frame_choices, offered, pending, reached_at, segments_left, steps_of, test_of, turn_of, turn_selector, turns, walk_frames};
+ghost use Rattle.jp_evaluate.specs.Private.Walk.{choice_at, entered, frame_choices, offered};
+ghost use Rattle.jp_evaluate.specs.Private.Walk.{pending, reached_at, segments_left, steps_of};
+ghost use Rattle.jp_evaluate.specs.Private.Walk.{test_of, turn_of, turn_selector, turns};
+ghost use Rattle.jp_evaluate.specs.Private.Walk.{walk_frames};
 
 use jp_document::{DocumentValue, Node, Step};
 use jp_query::{Expr, Segment, Selector};

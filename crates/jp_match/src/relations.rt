@@ -3,7 +3,8 @@
 ghost use Rattle.std.specs.Prelude.{◌≡◌, ◌≤◌, IfOk, map};
 ghost use Rattle.jp_iregexp.specs.Tree.{tree};
 ghost use Rattle.jp_iregexp.specs.Language.{Language};
-ghost use Rattle.jp_match.specs.Private.Rows.{AreRows, AreKnown, EachKnown, marks_of, rows_of, parts_of};
+ghost use Rattle.jp_match.specs.Private.Rows.{AreRows, AreKnown, EachKnown, marks_of, rows_of};
+ghost use Rattle.jp_match.specs.Private.Rows.{parts_of};
 
 use crate::class_tests::Tests;
 use crate::images::image;

@@ -1,9 +1,11 @@
 //! A step of a scan over one character.
 
-ghost use Rattle.std.specs.Prelude.{◌≡◌, ◌↔◌, ℕ, ◌+◌, ◌*◌, ◌/◌, ◌≤◌, ◌<◌, IsTrue, length, map, Some, None, false};
+ghost use Rattle.std.specs.Prelude.{◌≡◌, ◌↔◌, ℕ, ◌+◌, ◌*◌, ◌/◌, ◌≤◌, ◌<◌, IsTrue, length, map};
+ghost use Rattle.std.specs.Prelude.{Some, None, false};
 ghost use Rattle.jp_iregexp.specs.Tree.{tree, branches, pieces, repeat};
 ghost use Rattle.jp_iregexp.specs.Positions.{positions_of};
-ghost use Rattle.jp_match.specs.Private.Plain.{unrolled, class as plain_class, plus, between, at_least};
+ghost use Rattle.jp_match.specs.Private.Plain.{unrolled, class as plain_class, plus, between};
+ghost use Rattle.jp_match.specs.Private.Plain.{at_least};
 ghost use Rattle.jp_match.specs.Private.Marks.{Steps};
 
 use crate::class_tests::Tests;

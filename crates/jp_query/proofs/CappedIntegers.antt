@@ -1,5 +1,6 @@
 -- Sizes of whole numbers: one past the range tells the range as well as the size itself.
-use Rattle.std.proofs.Common.{◌≡◌, ℕ, ◌^◌, min, true, false, ◌∷◌, Some, inl, inr, refl, sym, ap, ◌∙◌, arith, nat_lt, nat_le}
+use Rattle.std.proofs.Common.{◌≡◌, ℕ, ◌^◌, min, true, false, ◌∷◌, Some, inl, inr, refl, sym, ap}
+use Rattle.std.proofs.Common.{◌∙◌, arith, nat_lt, nat_le}
 use Rattle.jp_reading.specs.Outcome.{State, Outcome, ◌>>=◌, head, past}
 use Rattle.jp_reading.specs.Numbers.{is_digit, value_from, digits_at, capped}
 use Rattle.jp_reading.specs.Views.{by}

@@ -1,27 +1,54 @@
 -- Each item of a query has its own text at its span.
-use Rattle.std.proofs.Common.{◌≡◌, ℕ, ◌+◌, zero, suc, pos, List, [], ◌∷◌, Option, refl, sym, ap, ◌∙◌, subst, arith, append-nil, append_assoc}
+use Rattle.std.proofs.Common.{◌≡◌, ℕ, ◌+◌, zero, suc, pos, List, [], ◌∷◌, Option, refl, sym, ap}
+use Rattle.std.proofs.Common.{◌∙◌, subst, arith, append-nil, append_assoc}
 use Rattle.std.specs.Prelude.{codes}
 use Rattle.jp_query.specs.declared.tree.Numeral.{Numeral}
 use Rattle.jp_query.specs.declared.tree.Numeral.TheVariants.{Whole}
 use Rattle.jp_query.specs.declared.tree.Slice.{Slice}
 use Rattle.jp_query.specs.declared.tree.Op.{Op}
-use Rattle.jp_query.specs.declared.tree.Op.TheVariants.{Equal, Unequal, Less, LessEqual, Greater, GreaterEqual}
+use Rattle.jp_query.specs.declared.tree.Op.TheVariants.{Equal, Unequal, Less, LessEqual, Greater}
+use Rattle.jp_query.specs.declared.tree.Op.TheVariants.{GreaterEqual}
 use Rattle.jp_query.specs.Names.{is_function_first, is_function_char, FunctionName, function_name}
 use Rattle.jp_reading.specs.Texts.{Text, bytes}
 use Rattle.jp_reading.specs.Forms.{Form, ◌⌢◌, word, One, Each, Blank, Separated, Item, Omitted}
 use Rattle.jp_reading.proofs.Bare.{Bare, bare-word}
 use Rattle.jp_reading.proofs.Between.{bytes-append}
-use Rattle.jp_query.specs.Tree.{SelectorTree, SegmentTree, QueryTree, ExprTree, ExprTrees, OperandTree, CallTree, ArgumentTree, LiteralTree, segments, selectors, exprs, arguments, slice, any_of, all_of, comparison}
+use Rattle.jp_query.specs.Tree.{SelectorTree, SegmentTree, QueryTree, ExprTree, ExprTrees}
+use Rattle.jp_query.specs.Tree.{OperandTree, CallTree, ArgumentTree, LiteralTree, segments}
+use Rattle.jp_query.specs.Tree.{selectors, exprs, arguments, slice, any_of, all_of, comparison}
 use Rattle.jp_query.specs.Ints.{Int}
 use Rattle.jp_query.specs.Laws.{SpansOfItems}
 use Rattle.jp_query.specs.Literals.{Literal, spelling}
-use Rattle.jp_query.specs.Slices.{Bound, no_bound, bound, Step, no_step, empty_step, given_step, Sliced}
-use Rattle.jp_query.specs.Grammar.{nested_expr, nested_arguments, FunctionCall, function_call, call_side, Test, query_test, function_test, Composed, composed, Logical, one_part, parts_all, parts_any, Argument, literal_alone, query_alone, call_alone, logical_expr, Arguments, without, with_some, joined, Member, star, member, Selector, named, any, indexed, sliced, filtered, Bracket, Segment, bracketed, dotted, deep_bracketed, deep_dotted, Segments, InnerQuery, from_root, from_current, Side, literal_side, query_side, Parenthesis, Comparison, Basic, grouped, not_grouped, compared, tested, not_tested, Conjunction, conjunction, Expression, disjunction, Inside}
-use Rattle.jp_query.specs.Items.{Use, as_index, as_bound, as_step, as_side, as_test, as_argument, QueryItem, int, constant, inner, called, logical, count, call_items, arguments_items, argument_items, bound_items, selector_items, selectors_items, segment_items, segments_items, items_of, expr_items, exprs_items, operand_items}
-use Rattle.jp_query.proofs.Spans.NoItems.{then-bare, run-bare, quoted-bare, shorthand-bare, int-bare, literal-bare}
-use Rattle.jp_query.proofs.Spans.HasItems.{Part, Placed, HasItems, item-over, item-after, Later, later-word, later-blank, later-with, Sooner, sooner-later, sooner-first, bare-has_items, joined-has_items, after-bare, before-bare, blank-bare, each-has_items, separated-has_items, leaf-has_items}
-use Rattle.jp_query.proofs.Spans.Written.{Written, joined-written, one-written, word-written, int-written, literal-written}
-use Rattle.jp_query.specs.Characters.{ampersand, at_sign, bar, dollar, equals_sign, exclamation_mark, greater_sign, less_sign, opening_parenthesis}
+use Rattle.jp_query.specs.Slices.{Bound, no_bound, bound, Step, no_step, empty_step, given_step}
+use Rattle.jp_query.specs.Slices.{Sliced}
+use Rattle.jp_query.specs.Grammar.{nested_expr, nested_arguments, FunctionCall, function_call}
+use Rattle.jp_query.specs.Grammar.{call_side, Test, query_test, function_test, Composed, composed}
+use Rattle.jp_query.specs.Grammar.{Logical, one_part, parts_all, parts_any, Argument, literal_alone}
+use Rattle.jp_query.specs.Grammar.{query_alone, call_alone, logical_expr, Arguments, without}
+use Rattle.jp_query.specs.Grammar.{with_some, joined, Member, star, member, Selector, named, any}
+use Rattle.jp_query.specs.Grammar.{indexed, sliced, filtered, Bracket, Segment, bracketed, dotted}
+use Rattle.jp_query.specs.Grammar.{deep_bracketed, deep_dotted, Segments, InnerQuery, from_root}
+use Rattle.jp_query.specs.Grammar.{from_current, Side, literal_side, query_side, Parenthesis}
+use Rattle.jp_query.specs.Grammar.{Comparison, Basic, grouped, not_grouped, compared, tested}
+use Rattle.jp_query.specs.Grammar.{not_tested, Conjunction, conjunction, Expression, disjunction}
+use Rattle.jp_query.specs.Grammar.{Inside}
+use Rattle.jp_query.specs.Items.{Use, as_index, as_bound, as_step, as_side, as_test, as_argument}
+use Rattle.jp_query.specs.Items.{QueryItem, int, constant, inner, called, logical, count}
+use Rattle.jp_query.specs.Items.{call_items, arguments_items, argument_items, bound_items}
+use Rattle.jp_query.specs.Items.{selector_items, selectors_items, segment_items, segments_items}
+use Rattle.jp_query.specs.Items.{items_of, expr_items, exprs_items, operand_items}
+use Rattle.jp_query.proofs.Spans.NoItems.{then-bare, run-bare, quoted-bare, shorthand-bare}
+use Rattle.jp_query.proofs.Spans.NoItems.{int-bare, literal-bare}
+use Rattle.jp_query.proofs.Spans.HasItems.{Part, Placed, HasItems, item-over, item-after, Later}
+use Rattle.jp_query.proofs.Spans.HasItems.{later-word, later-blank, later-with, Sooner}
+use Rattle.jp_query.proofs.Spans.HasItems.{sooner-later, sooner-first, bare-has_items}
+use Rattle.jp_query.proofs.Spans.HasItems.{joined-has_items, after-bare, before-bare, blank-bare}
+use Rattle.jp_query.proofs.Spans.HasItems.{each-has_items, separated-has_items, leaf-has_items}
+use Rattle.jp_query.proofs.Spans.Written.{Written, joined-written, one-written, word-written}
+use Rattle.jp_query.proofs.Spans.Written.{int-written, literal-written}
+use Rattle.jp_query.specs.Characters.{ampersand, at_sign, bar, dollar, equals_sign}
+use Rattle.jp_query.specs.Characters.{exclamation_mark, greater_sign, less_sign}
+use Rattle.jp_query.specs.Characters.{opening_parenthesis}
 
 -- ---- items
 

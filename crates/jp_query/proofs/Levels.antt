@@ -1,9 +1,12 @@
 -- What is inside a number of levels.
-use Rattle.std.proofs.Common.{◌≡◌, ℕ, zero, suc, ◌+◌, ◌-◌, ◌||◌, ◌⊎◌, Bool, true, [], ◌∷◌, false, Option, Some, None, inl, inr, refl, ap, ◌∙◌, arith, codes}
+use Rattle.std.proofs.Common.{◌≡◌, ℕ, zero, suc, ◌+◌, ◌-◌, ◌||◌, ◌⊎◌, Bool, true, [], ◌∷◌, false}
+use Rattle.std.proofs.Common.{Option, Some, None, inl, inr, refl, ap, ◌∙◌, arith, codes}
 use Rattle.jp_reading.specs.Texts.{Text, Spans}
 use Rattle.jp_reading.specs.Forms.{Form, ◌⌢◌, word, Blank}
-use Rattle.jp_reading.specs.Outcome.{State, Outcome, took, ◌>>=◌, head, past, skip, passes, is, expect}
-use Rattle.jp_reading.proofs.Between.{Reads, Within, Has, Stops, front-as, front-then, reads-is, front-none, reads-as, has-as}
+use Rattle.jp_reading.specs.Outcome.{State, Outcome, took, ◌>>=◌, head, past, skip, passes, is}
+use Rattle.jp_reading.specs.Outcome.{expect}
+use Rattle.jp_reading.proofs.Between.{Reads, Within, Has, Stops, front-as, front-then, reads-is}
+use Rattle.jp_reading.proofs.Between.{front-none, reads-as, has-as}
 use Rattle.jp_reading.proofs.Joining.{after-within, nothing-before, word-joined}
 use Rattle.jp_reading.proofs.Again.{split, at-word}
 use Rattle.jp_reading.proofs.Rules.Follow.{Meets}
@@ -12,7 +15,8 @@ use Rattle.jp_reading.proofs.Fits.{reads-word}
 use Rattle.jp_reading.proofs.Progress.{Progress}
 use Rattle.jp_reading.proofs.Rules.Progress.{goes}
 use Rattle.jp_reading.proofs.Rules.Form.{form, lifts, least, has}
-use Rattle.jp_reading.proofs.Rules.Soundness.{InnerIsSound, Opened, none_left, some_left, sound, sound-as}
+use Rattle.jp_reading.proofs.Rules.Soundness.{InnerIsSound, Opened, none_left, some_left, sound}
+use Rattle.jp_reading.proofs.Rules.Soundness.{sound-as}
 use Rattle.jp_reading.proofs.Rules.Completeness.{InnerIsComplete, done}
 use Rattle.jp_query.specs.Tree.{ExprTree, QueryTree}
 use Rattle.jp_query.specs.Characters.{opening_parenthesis}

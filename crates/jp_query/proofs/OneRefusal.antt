@@ -1,5 +1,6 @@
 -- A text spells a tree, or is refused with one kind and at one place.
-use Rattle.std.proofs.Common.{◌≡◌, ◌⊎◌, ℕ, [], ◌∷◌, ◌++◌, inl, inr, refl, sym, ap, ◌∙◌, subst, append_assoc, append-nil}
+use Rattle.std.proofs.Common.{◌≡◌, ◌⊎◌, ℕ, [], ◌∷◌, ◌++◌, inl, inr, refl, sym, ap, ◌∙◌, subst}
+use Rattle.std.proofs.Common.{append_assoc, append-nil}
 use Rattle.std.proofs.lemmas.List.{append_cancel_left}
 use Rattle.jp_reading.specs.Texts.{Text, Spans, bytes}
 use Rattle.jp_reading.specs.Outcome.{Outcome, took, stuck, deep}
@@ -9,7 +10,8 @@ use Rattle.jp_query.specs.declared.refusal.RefusalKind.TheVariants.{Syntax, TooD
 use Rattle.jp_query.specs.Tree.{QueryTree}
 use Rattle.jp_query.specs.Grammar.{Spells}
 use Rattle.jp_query.specs.Spelled.{SpellsNothing}
-use Rattle.jp_query.specs.ViablePrefix.{IsViablePrefix, IsNoViablePrefix, EndsViablePrefix, IsSyntaxAt, IsTooDeepAt}
+use Rattle.jp_query.specs.ViablePrefix.{IsViablePrefix, IsNoViablePrefix, EndsViablePrefix}
+use Rattle.jp_query.specs.ViablePrefix.{IsSyntaxAt, IsTooDeepAt}
 use Rattle.jp_query.specs.Laws.{IsParseRefusal, OneRefusal}
 use Rattle.jp_query.specs.Private.Reading.{query_at}
 use Rattle.jp_query.proofs.Soundness.Whole.{read-spells}

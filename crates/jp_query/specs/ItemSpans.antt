@@ -5,7 +5,8 @@ use Rattle.jp_reading.specs.Texts.{Text, Spans, bytes}
 use Rattle.jp_reading.specs.declared.span.Span.{Span}
 use Rattle.jp_query.specs.Grammar.{InnerQuery, FunctionCall, Logical, Inside, Spells}
 use Rattle.jp_query.specs.Ints.{Int}
-use Rattle.jp_query.specs.Items.{QueryItem, as_step, int, constant, inner, called, logical, items_of}
+use Rattle.jp_query.specs.Items.{QueryItem, as_step, int, constant, inner, called, logical}
+use Rattle.jp_query.specs.Items.{items_of}
 use Rattle.jp_query.specs.Literals.{Literal}
 use Rattle.jp_query.specs.Tree.{QueryTree}
 

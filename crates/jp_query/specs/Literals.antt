@@ -3,11 +3,13 @@ use Rattle.std.specs.Prelude.{◌≡◌, ℕ, Bool, true, false, ◌||◌, ◌==
 use Rattle.jp_query.specs.declared.tree.Numeral.{Numeral}
 use Rattle.jp_query.specs.declared.tree.Numeral.TheVariants.{Fraction}
 use Rattle.jp_query.specs.declared.tree.Op.{Op}
-use Rattle.jp_query.specs.declared.tree.Op.TheVariants.{Equal, Unequal, Less, LessEqual, Greater, GreaterEqual}
+use Rattle.jp_query.specs.declared.tree.Op.TheVariants.{Equal, Unequal, Less, LessEqual, Greater}
+use Rattle.jp_query.specs.declared.tree.Op.TheVariants.{GreaterEqual}
 use Rattle.jp_reading.specs.Texts.{Text, Spans}
 use Rattle.jp_reading.specs.Forms.{Form, word, One, ◌⌢◌, Each}
 use Rattle.jp_reading.specs.Numbers.{is_digit}
-use Rattle.jp_query.specs.Tree.{LiteralTree, number as number_literal, text, true_literal, false_literal, null_literal}
+use Rattle.jp_query.specs.Tree.{LiteralTree, number as number_literal, text, true_literal}
+use Rattle.jp_query.specs.Tree.{false_literal, null_literal}
 use Rattle.jp_query.specs.Ints.{Int, whole_of}
 use Rattle.jp_query.specs.Strings.{Quoted}
 use Rattle.jp_query.specs.Characters.{plus, minus, letter_e, capital_e}

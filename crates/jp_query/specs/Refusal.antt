@@ -1,7 +1,11 @@
 -- The kinds of refusal: their numbers and their names.
 use Rattle.std.specs.Prelude.{ℕ, List, codes}
 use Rattle.jp_query.specs.declared.refusal.RefusalKind.{RefusalKind}
-use Rattle.jp_query.specs.declared.refusal.RefusalKind.TheVariants.{Syntax, TooDeep, NotWhole, NumberRange, IndexRange, UnknownFunction, ArgumentCount, NotSingular, IllTyped, NoMemory, TextTooLong}
+use Rattle.jp_query.specs.declared.refusal.RefusalKind.TheVariants.{Syntax, TooDeep, NotWhole}
+use Rattle.jp_query.specs.declared.refusal.RefusalKind.TheVariants.{NumberRange, IndexRange}
+use Rattle.jp_query.specs.declared.refusal.RefusalKind.TheVariants.{UnknownFunction, ArgumentCount}
+use Rattle.jp_query.specs.declared.refusal.RefusalKind.TheVariants.{NotSingular, IllTyped, NoMemory}
+use Rattle.jp_query.specs.declared.refusal.RefusalKind.TheVariants.{TextTooLong}
 
 -- the number of a kind
 abbrev pub number_of : RefusalKind → ℕ

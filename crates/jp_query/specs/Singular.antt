@@ -1,6 +1,7 @@
 -- Singular queries (RFC 9535 section 2.3.5.1).
 use Rattle.std.specs.Prelude.{Bool, true, false, ◌&&◌}
-use Rattle.jp_query.specs.Tree.{SelectorTree, name, index, no_selectors, selector_then, SegmentTree, segment, SegmentTrees, no_segments, segment_then, QueryTree, query}
+use Rattle.jp_query.specs.Tree.{SelectorTree, name, index, no_selectors, selector_then, SegmentTree}
+use Rattle.jp_query.specs.Tree.{segment, SegmentTrees, no_segments, segment_then, QueryTree, query}
 
 -- name-selector or index-selector, of which each selects at most one node
 abbrev pub is_single : SelectorTree → Bool

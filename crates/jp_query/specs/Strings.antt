@@ -1,9 +1,11 @@
 -- Strings (RFC 9535 section 2.3.1.1, string-literal).
-use Rattle.std.specs.Prelude.{◌≡◌, ℕ, ◌+◌, ◌-◌, ◌*◌, Bool, not, ◌&&◌, ◌||◌, nat_le, nat_lt, ◌==◌, if◌then◌else◌, [], ◌∷◌, codes}
+use Rattle.std.specs.Prelude.{◌≡◌, ℕ, ◌+◌, ◌-◌, ◌*◌, Bool, not, ◌&&◌, ◌||◌, nat_le, nat_lt, ◌==◌}
+use Rattle.std.specs.Prelude.{if◌then◌else◌, [], ◌∷◌, codes}
 use Rattle.std.specs.Char.{digit_value}
 use Rattle.jp_reading.specs.Texts.{Text, Spans}
 use Rattle.jp_reading.specs.Forms.{Form, word, One, ◌⌢◌, Each}
-use Rattle.jp_query.specs.Characters.{space, double_quote, single_quote, backslash, slash, letter_b, letter_f, letter_n, letter_r, letter_t}
+use Rattle.jp_query.specs.Characters.{space, double_quote, single_quote, backslash, slash, letter_b}
+use Rattle.jp_query.specs.Characters.{letter_f, letter_n, letter_r, letter_t}
 
 -- a character that stands for itself: from U+0020 up, and neither the quotation mark around it nor
 -- a backslash (unescaped, and the other quotation mark)

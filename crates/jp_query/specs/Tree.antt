@@ -16,7 +16,8 @@ use Rattle.jp_query.specs.declared.tree.Query.{Query, fold-Query}
 use Rattle.jp_query.specs.declared.tree.Call.{Call, fold-Call}
 use Rattle.jp_query.specs.declared.tree.Subject.{Subject, fold-Subject}
 use Rattle.jp_query.specs.declared.tree.Argument.{Argument, fold-Argument}
-use Rattle.jp_query.specs.declared.tree.Argument.TheOpen.{Argument-F, Call-F, Expr-F, Operand-F, Selector-F, Subject-F, Query-F, Segment-F}
+use Rattle.jp_query.specs.declared.tree.Argument.TheOpen.{Argument-F, Call-F, Expr-F, Operand-F}
+use Rattle.jp_query.specs.declared.tree.Argument.TheOpen.{Selector-F, Subject-F, Query-F, Segment-F}
 
 -- a literal (section 2.3.5.1): a number, a text as scalar values, or one of the three words
 pub data LiteralTree : Type 0 where

@@ -1,10 +1,14 @@
 -- What has the form of a value is read as that value.
-use Rattle.std.proofs.Common.{◌≡◌, ℕ, ◌+◌, Bool, true, false, List, [], ◌∷◌, ◌++◌, length, Some, refl, sym, ap, ◌∙◌, subst, append_assoc, append-nil, eq-eqb, arith}
+use Rattle.std.proofs.Common.{◌≡◌, ℕ, ◌+◌, Bool, true, false, List, [], ◌∷◌, ◌++◌, length, Some}
+use Rattle.std.proofs.Common.{refl, sym, ap, ◌∙◌, subst, append_assoc, append-nil, eq-eqb, arith}
 use Rattle.std.specs.Char.{len_utf8}
 use Rattle.jp_reading.specs.Texts.{Text, Spans, bytes, is_blank}
 use Rattle.jp_reading.specs.Forms.{Form, ◌⌢◌, word, One, Blank, AllPassing, Each, Separated, Item}
-use Rattle.jp_reading.specs.Outcome.{State, Outcome, took, head, first_of, past, past_first, past_blanks, skip, passes, is, is_at, take_if, expect, each, item_since}
-use Rattle.jp_reading.proofs.Between.{reads-as, Between, Reads, bytes-append, between-none, state-same}
+use Rattle.jp_reading.specs.Outcome.{State, Outcome, took, head, first_of, past, past_first}
+use Rattle.jp_reading.specs.Outcome.{past_blanks, skip, passes, is, is_at, take_if, expect, each}
+use Rattle.jp_reading.specs.Outcome.{item_since}
+use Rattle.jp_reading.proofs.Between.{reads-as, Between, Reads, bytes-append, between-none}
+use Rattle.jp_reading.proofs.Between.{state-same}
 use Rattle.jp_reading.proofs.Steps.{take_if-takes}
 use Rattle.jp_reading.proofs.Stopping.{span_inserted}
 use Rattle.jp_reading.proofs.Progress.{Progress}

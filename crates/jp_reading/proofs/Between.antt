@@ -1,5 +1,6 @@
 -- What lies between two states of a reader, and what a rule's outcome says of it.
-use Rattle.std.proofs.Common.{◌≡◌, ℕ, ◌+◌, ◌<◌, [], ◌∷◌, ◌++◌, length, refl, sym, ap, ◌∙◌, subst, append_assoc, append-nil, arith}
+use Rattle.std.proofs.Common.{◌≡◌, ℕ, ◌+◌, ◌<◌, [], ◌∷◌, ◌++◌, length, refl, sym, ap, ◌∙◌, subst}
+use Rattle.std.proofs.Common.{append_assoc, append-nil, arith}
 use Rattle.jp_reading.specs.Texts.{Text, Spans, bytes}
 use Rattle.jp_reading.specs.Forms.{Form, ◌⌢◌}
 use Rattle.jp_reading.specs.Outcome.{State, past}

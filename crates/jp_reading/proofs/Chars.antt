@@ -1,11 +1,13 @@
 -- Steps over one character, and over blanks.
-use Rattle.std.proofs.Common.{◌≡◌, ℕ, ◌+◌, ◌<◌, ◌≤◌, Bool, true, false, List, [], ◌∷◌, ◌++◌, append-nil, length, Some, None, inl, inr, refl, sym, ap, ◌∙◌, arith}
+use Rattle.std.proofs.Common.{◌≡◌, ℕ, ◌+◌, ◌<◌, ◌≤◌, Bool, true, false, List, [], ◌∷◌, ◌++◌}
+use Rattle.std.proofs.Common.{append-nil, length, Some, None, inl, inr, refl, sym, ap, ◌∙◌, arith}
 use Rattle.std.proofs.lemmas.Bool.{cases_Bool}
 use Rattle.std.proofs.lemmas.Str.{chars_past_char, chars-append, chars-nil, IsUtf8-encode}
 use Rattle.std.specs.Char.{len_utf8, encode_utf8, IsScalar}
 use Rattle.std.specs.Str.{chars, IsUtf8}
 use Rattle.jp_reading.specs.Texts.{Text, Spans, is_blank}
-use Rattle.jp_reading.specs.Outcome.{State, head, first_of, past, past_first, past_blanks, skip, after_blank, passes}
+use Rattle.jp_reading.specs.Outcome.{State, head, first_of, past, past_first, past_blanks, skip}
+use Rattle.jp_reading.specs.Outcome.{after_blank, passes}
 
 past_first-shorter : (ok : ℕ → Bool) (at : ℕ) (found : Spans) (t : Text)
     → passes ok (first_of t) ≡ true → length (past_first at found t).rest < length t

@@ -1,10 +1,12 @@
 -- What a rule took has the form of its value, where nothing is asked of a rule that fails.
-use Rattle.std.proofs.Common.{◌≡◌, ℕ, zero, suc, Bool, true, false, cond, [], ◌∷◌, ◌++◌, length, Option, Some, None, inl, inr, refl, subst, arith}
+use Rattle.std.proofs.Common.{◌≡◌, ℕ, zero, suc, Bool, true, false, cond, [], ◌∷◌, ◌++◌, length}
+use Rattle.std.proofs.Common.{Option, Some, None, inl, inr, refl, subst, arith}
 use Rattle.std.proofs.lemmas.Bool.{cases_Bool, eqb-true}
 use Rattle.jp_reading.specs.Texts.{Text}
 use Rattle.jp_reading.specs.Forms.{Form, ◌⌢◌, word, One, Each}
 use Rattle.jp_reading.specs.Numbers.{Digits, is_digit, is_at_digit, digit_at, digits_at}
-use Rattle.jp_reading.specs.Outcome.{State, Outcome, took, stuck, deep, ◌>>=◌, head, past, is, is_at, take_passing, take_if, expect, loop, each}
+use Rattle.jp_reading.specs.Outcome.{State, Outcome, took, stuck, deep, ◌>>=◌, head, past, is}
+use Rattle.jp_reading.specs.Outcome.{is_at, take_passing, take_if, expect, loop, each}
 use Rattle.jp_reading.specs.Views.{by}
 use Rattle.jp_reading.proofs.Between.{Reads, Within, between-same, reads-then, reads-as}
 use Rattle.jp_reading.proofs.Runs.{each-run}

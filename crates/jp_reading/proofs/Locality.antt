@@ -1,10 +1,14 @@
 -- Reading a text, and reading it with more behind it: the same happens, unless reading comes to the
 -- end of the shorter text.
-use Rattle.std.proofs.Common.{◌≡◌, ℕ, zero, suc, ◌+◌, ◌≤◌, Bool, true, false, if◌then◌else◌, [], ◌∷◌, ◌++◌, length, Option, Some, None, inl, inr, refl, ap, length-append, arith}
+use Rattle.std.proofs.Common.{◌≡◌, ℕ, zero, suc, ◌+◌, ◌≤◌, Bool, true, false, if◌then◌else◌, []}
+use Rattle.std.proofs.Common.{◌∷◌, ◌++◌, length, Option, Some, None, inl, inr, refl, ap}
+use Rattle.std.proofs.Common.{length-append, arith}
 use Rattle.std.proofs.lemmas.Bool.{cases_Bool}
 use Rattle.std.specs.Char.{len_utf8}
 use Rattle.jp_reading.specs.Texts.{Text, Spans, is_blank}
-use Rattle.jp_reading.specs.Outcome.{State, Outcome, took, stuck, deep, ◌>>=◌, head, first_of, past, past_first, past_blanks, skip, after_blank, passes, take_passing, take_if, loop, each, omit}
+use Rattle.jp_reading.specs.Outcome.{State, Outcome, took, stuck, deep, ◌>>=◌, head, first_of, past}
+use Rattle.jp_reading.specs.Outcome.{past_first, past_blanks, skip, after_blank, passes}
+use Rattle.jp_reading.specs.Outcome.{take_passing, take_if, loop, each, omit}
 use Rattle.jp_reading.specs.Views.{by}
 use Rattle.jp_reading.specs.RuleReading.{spanned_if, spanned}
 use Rattle.jp_reading.proofs.Chars.{past_blanks-rest, skip-shorter}

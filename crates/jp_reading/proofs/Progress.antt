@@ -1,8 +1,10 @@
 -- That rules leave shorter texts, so that loops over them end.
-use Rattle.std.proofs.Common.{◌≡◌, ℕ, zero, suc, ◌<◌, ◌≤◌, Bool, true, false, if◌then◌else◌, [], ◌∷◌, length, Option, Some, None, inl, inr, refl, subst, arith}
+use Rattle.std.proofs.Common.{◌≡◌, ℕ, zero, suc, ◌<◌, ◌≤◌, Bool, true, false, if◌then◌else◌, []}
+use Rattle.std.proofs.Common.{◌∷◌, length, Option, Some, None, inl, inr, refl, subst, arith}
 use Rattle.jp_reading.specs.Texts.{Text, Spans}
 use Rattle.std.proofs.lemmas.Bool.{cases_Bool}
-use Rattle.jp_reading.specs.Outcome.{State, Outcome, took, stuck, deep, ◌>>=◌, head, past, past_first, skip, take_passing, take_if, loop, each, item}
+use Rattle.jp_reading.specs.Outcome.{State, Outcome, took, stuck, deep, ◌>>=◌, head, past}
+use Rattle.jp_reading.specs.Outcome.{past_first, skip, take_passing, take_if, loop, each, item}
 use Rattle.jp_reading.specs.Views.{by}
 use Rattle.jp_reading.proofs.Chars.{past-shorter, skip-shorter}
 

@@ -1,7 +1,8 @@
 -- The definitions at work.
 use Rattle.std.proofs.Common.{◌≡◌, ℕ, true, false, [], ◌∷◌, Some, refl}
 use Rattle.jp_reading.specs.Texts.{bytes, is_blank}
-use Rattle.jp_reading.specs.Outcome.{took, stuck, deep, past_blanks, skip, expect, loop, item_since, enter}
+use Rattle.jp_reading.specs.Outcome.{took, stuck, deep, past_blanks, skip, expect, loop, item_since}
+use Rattle.jp_reading.specs.Outcome.{enter}
 use Rattle.jp_reading.specs.Numbers.{is_digit, digits_at, value_from, capped}
 
 -- `é[` takes three bytes, `😀` four

@@ -1,11 +1,13 @@
 -- What single steps of a rule do: taking a character, or stopping at it; and passing blanks.
-use Rattle.std.proofs.Common.{◌≡◌, ℕ, ◌+◌, Bool, true, false, [], ◌∷◌, Option, Some, None, inl, inr, refl, sym, ap, ◌∙◌, append-nil, arith}
+use Rattle.std.proofs.Common.{◌≡◌, ℕ, ◌+◌, Bool, true, false, [], ◌∷◌, Option, Some, None, inl, inr}
+use Rattle.std.proofs.Common.{refl, sym, ap, ◌∙◌, append-nil, arith}
 use Rattle.std.proofs.lemmas.Bool.{cases_Bool, eqb-true}
 use Rattle.std.specs.Char.{len_utf8}
 use Rattle.jp_reading.specs.Texts.{Text, Spans, is_blank}
 use Rattle.jp_reading.specs.Forms.{Blank}
 use Rattle.jp_reading.proofs.Between.{Between, Reads, between-same, between-then}
-use Rattle.jp_reading.specs.Outcome.{State, took, head, first_of, past, past_first, past_blanks, skip, passes, is, is_at, take_passing, take_if}
+use Rattle.jp_reading.specs.Outcome.{State, took, head, first_of, past, past_first, past_blanks}
+use Rattle.jp_reading.specs.Outcome.{skip, passes, is, is_at, take_passing, take_if}
 
 take_passing-takes : (ok : ℕ → Bool) (p : State) (o : Option ℕ) (c : ℕ) → o ≡ Some c → ok c ≡ true
     → take_passing ok p o ≡ took c (past p)

@@ -6,7 +6,8 @@ use Rattle.jp_reading.specs.declared.span.Span.{Span}
 use Rattle.jp_reading.specs.Texts.{Spans, bytes}
 use Rattle.jp_reading.specs.Forms.{Form, ◌⌢◌, Item}
 use Rattle.jp_reading.specs.Outcome.{State, item_since}
-use Rattle.jp_reading.proofs.Between.{Front, Reads, Stops, Has, Within, front-then, front-first, front-as}
+use Rattle.jp_reading.proofs.Between.{Front, Reads, Stops, Has, Within, front-then, front-first}
+use Rattle.jp_reading.proofs.Between.{front-as}
 use Rattle.jp_reading.proofs.Levels.{Then, Made}
 
 -- a front of the first part is one of the whole, where what goes on from each value has some text

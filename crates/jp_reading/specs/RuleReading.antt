@@ -1,8 +1,12 @@
 -- How a rule is read: a function on what a reader has read so far.
 use Rattle.std.specs.Prelude.{ℕ, Bool, if◌then◌else◌, length, Option}
-use Rattle.jp_reading.specs.Outcome.{State, Outcome, took, stuck, ◌>>=◌, head, past, skip, after_blank, passes, is_at, take_if, expect, each, item_since, omit}
+use Rattle.jp_reading.specs.Outcome.{State, Outcome, took, stuck, ◌>>=◌, head, past, skip}
+use Rattle.jp_reading.specs.Outcome.{after_blank, passes, is_at, take_if, expect, each, item_since}
+use Rattle.jp_reading.specs.Outcome.{omit}
 use Rattle.jp_reading.specs.Views.{by}
-use Rattle.jp_reading.specs.Rule.{Mark, here, beyond, Nesting, Step, the, blanks, Rule, value, character, after, seq, made, look, upon, nested, item_where, omitted, some, relaxed, loose, until, flat}
+use Rattle.jp_reading.specs.Rule.{Mark, here, beyond, Nesting, Step, the, blanks, Rule, value}
+use Rattle.jp_reading.specs.Rule.{character, after, seq, made, look, upon, nested, item_where}
+use Rattle.jp_reading.specs.Rule.{omitted, some, relaxed, loose, until, flat}
 
 -- how what stands one level further in is read, from its opening on
 abbrev pub Inner : Nesting → Type 0

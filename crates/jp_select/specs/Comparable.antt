@@ -1,7 +1,8 @@
 -- The sides of comparisons (RFC 9535 section 2.3.5.1).
 use Rattle.std.specs.Prelude.{Option, Some, None, map, option_map}
 use Rattle.std.specs.Borrow.{Bor}
-use Rattle.jp_document.specs.Value.{Value, null, boolean, whole, text, list, object, items_of, members_of, value_of, member_of}
+use Rattle.jp_document.specs.Value.{Value, null, boolean, whole, text, list, object, items_of}
+use Rattle.jp_document.specs.Value.{members_of, value_of, member_of}
 use Rattle.jp_document.specs.declared.value.Json.{Json}
 use Rattle.jp_select.specs.declared.comparable.Comparable.{Comparable}
 use Rattle.jp_select.specs.declared.comparable.Comparable.TheVariants as side

@@ -3,7 +3,8 @@ use Rattle.std.specs.Prelude.{◌≡◌, ℕ, suc, List, [], ◌∷◌, ◌++◌
 use Rattle.std.specs.Option.{option_map_or}
 use Rattle.jp_document.specs.Location.{Key, named, nth, Location, value_at}
 use Rattle.jp_document.specs.Node.{Node, root_of}
-use Rattle.jp_document.specs.Value.{Value, null, boolean, whole, text, list, object, Items, no_items, item, Members, no_members, member}
+use Rattle.jp_document.specs.Value.{Value, null, boolean, whole, text, list, object, Items}
+use Rattle.jp_document.specs.Value.{no_items, item, Members, no_members, member}
 
 -- a node, as seen from one step before
 abbrev pub after : Key → Node → Node

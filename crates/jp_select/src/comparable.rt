@@ -2,7 +2,8 @@
 ghost use Rattle.std.specs.Prelude.{◌≡◌, ◌↔◌, IsTrue, map, chars};
 ghost use Rattle.jp_document.specs.Value.{value_of, items_of, members_of, member_of};
 ghost use Rattle.jp_select.specs.Comparable.{comparable_of, side_of};
-ghost use Rattle.jp_select.specs.Comparison.{equals, is_less, precedes, same_items, same_member, same_members};
+ghost use Rattle.jp_select.specs.Comparison.{equals, is_less, precedes, same_items, same_member};
+ghost use Rattle.jp_select.specs.Comparison.{same_members};
 
 use jp_document::{Json, Member};
 

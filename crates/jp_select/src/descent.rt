@@ -1,5 +1,6 @@
 //! The walk over a node and its descendants in document order (RFC 9535 section 2.5.2.2).
-ghost use Rattle.std.specs.Prelude.{◌≡◌, ◌+◌, [], ◌++◌, false, length, map, if◌then◌else◌, IfOk, IfNone, OnOk};
+ghost use Rattle.std.specs.Prelude.{◌≡◌, ◌+◌, [], ◌++◌, false, length, map, if◌then◌else◌, IfOk};
+ghost use Rattle.std.specs.Prelude.{IfNone, OnOk};
 ghost use Rattle.std.specs.Iterator.{at_most};
 ghost use Rattle.jp_document.specs.Node.{AreNodes, StandsIn, node_of};
 ghost use Rattle.jp_document.specs.Value.{Value};

@@ -1,5 +1,6 @@
 //! Array slices (RFC 9535 section 2.3.4.2): which items of a list they select.
-ghost use Rattle.std.specs.Prelude.{◌≡◌, ◌-◌, ◌<◌, ◌≤◌, pos, negsuc, ◌+ℤ◌, ◌-ℤ◌, ◌≤ℤ◌, OnSome, slice_get};
+ghost use Rattle.std.specs.Prelude.{◌≡◌, ◌-◌, ◌<◌, ◌≤◌, pos, negsuc, ◌+ℤ◌, ◌-ℤ◌, ◌≤ℤ◌, OnSome};
+ghost use Rattle.std.specs.Prelude.{slice_get};
 ghost use Rattle.jp_select.specs.Selectors.{bound_of, indexes_chosen, whole_of};
 ghost use Rattle.jp_select.specs.Slice.{normalized, held_within, slice_of};
 ghost use Rattle.jp_select.specs.Slice.{falling_lower, falling_upper, rising_lower, rising_upper};

@@ -23,7 +23,8 @@ use Rattle.jp_canon.specs.Canon.{argument_text, argument_texts, call_text}
 use Rattle.jp_canon.specs.Canon.{canon_of, expr_text, operand_text, segment_text}
 use Rattle.jp_canon.specs.Canon.{segments_text, selector_text, separated}
 use Rattle.jp_canon.specs.Precedence.{and_precedence, is_grouped, is_test, or_precedence}
-use Rattle.jp_canon.proofs.Forms.{Has, after-blank, before-blank, both, has-as, has-equal_tree, has-item}
+use Rattle.jp_canon.proofs.Forms.{Has, after-blank, before-blank, both, has-as, has-equal_tree}
+use Rattle.jp_canon.proofs.Forms.{has-item}
 use Rattle.jp_canon.proofs.Forms.{has-same, has-separated, has-word, separated-gives}
 use Rattle.jp_canon.proofs.Bracketed.{Comma, HasSelector, bracket-of}
 use Rattle.jp_canon.proofs.Bracketed.{bracket_text, dotted-bracket, two-dots}

@@ -1,6 +1,7 @@
 -- That nodes are asked for and their lines written by turns. The clause `by_turns` of `write_lines`
 -- cites it.
-use Rattle.std.specs.Prelude.{◌≡◌, ◌⊎◌, ℕ, true, false, List, [], ◌∷◌, ◌++◌, Option, Result, Ok, Err}
+use Rattle.std.specs.Prelude.{◌≡◌, ◌⊎◌, ℕ, true, false, List, [], ◌∷◌, ◌++◌, Option, Result, Ok}
+use Rattle.std.specs.Prelude.{Err}
 use Rattle.std.specs.Io.KnownBytes.{Appends}
 use Rattle.jp_document.specs.Node.{Node}
 use Rattle.jp_evaluate.specs.Rest.{rest_of}

@@ -12,7 +12,8 @@ use Rattle.jp_reading.specs.Texts.{Spans, Text}
 use Rattle.jp_document.specs.Location.{Key, Location, named, nth}
 use Rattle.jp_document.specs.Path.{index_text, path_of, quoted, step_text}
 use Rattle.jp_document.specs.Spelling.{spelling}
-use Rattle.jp_document.proofs.Spellings.Encoded.{Ascii, digits-ascii, encode-ascii, high-plain, spelling-low}
+use Rattle.jp_document.proofs.Spellings.Encoded.{Ascii, digits-ascii, encode-ascii, high-plain}
+use Rattle.jp_document.proofs.Spellings.Encoded.{spelling-low}
 use Rattle.jp_document.proofs.Spellings.Indexes.{decimal-index_text, digits-index_text}
 use Rattle.jp_document.proofs.Spellings.Characters.{by_itself, spelling_is}
 use Rattle.jp_query.specs.Grammar.{Inside, Nested, Segment, Segments, Selector, Spells, bracketed}

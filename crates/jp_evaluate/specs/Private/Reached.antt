@@ -1,11 +1,19 @@
 -- What queries reach, by values alone: the values stand where their steps lead, and none is looked
 -- up by its location.
-use Rattle.std.specs.Prelude.{Bool, true, false, not, ◌&&◌, ◌||◌, List, [], ◌∷◌, ◌++◌, filter as those_of, map, Option, Some, None}
+use Rattle.std.specs.Prelude.{Bool, true, false, not, ◌&&◌, ◌||◌, List, [], ◌∷◌, ◌++◌}
+use Rattle.std.specs.Prelude.{filter as those_of, map, Option, Some, None}
 use Rattle.std.specs.List.{flat_map}
 use Rattle.jp_document.specs.Location.{Key}
 use Rattle.jp_document.specs.Node.{Node, node_below, root_of}
 use Rattle.jp_document.specs.Value.{Value}
-use Rattle.jp_query.specs.Tree.{ArgumentTree, CallTree, ExprTree, ExprTrees, OperandTree, QueryTree, SegmentTree, SegmentTrees, SelectorTree, SelectorTrees, all_of, any_of, argument_then, call, call_argument, call_test, call_value, comparison, exists, expr_then, filter, index, literal, literal_argument, logical_argument, name, negation, no_arguments, no_exprs, no_segments, no_selectors, node_value, query, query_argument, segment, segment_then, selector_then, slice, wildcard}
+use Rattle.jp_query.specs.Tree.{ArgumentTree, CallTree, ExprTree, ExprTrees, OperandTree, QueryTree}
+use Rattle.jp_query.specs.Tree.{SegmentTree, SegmentTrees, SelectorTree, SelectorTrees, all_of}
+use Rattle.jp_query.specs.Tree.{any_of, argument_then, call, call_argument, call_test, call_value}
+use Rattle.jp_query.specs.Tree.{comparison, exists, expr_then, filter, index, literal}
+use Rattle.jp_query.specs.Tree.{literal_argument, logical_argument, name, negation, no_arguments}
+use Rattle.jp_query.specs.Tree.{no_exprs, no_segments, no_selectors, node_value, query}
+use Rattle.jp_query.specs.Tree.{query_argument, segment, segment_then, selector_then, slice}
+use Rattle.jp_query.specs.Tree.{wildcard}
 use Rattle.jp_check.specs.Functions.{function_named}
 use Rattle.jp_select.specs.Candidates.{candidates}
 use Rattle.jp_select.specs.Comparison.{compared}

@@ -1,11 +1,13 @@
 -- What repeats reach.
-use Rattle.std.proofs.Common.{◌≡◌, ◌↔◌, ◌⊎◌, inl, inr, ℕ, zero, suc, ◌+◌, ◌-◌, ◌≤◌, Bool, List, [], ◌++◌, Option, Some, None, length, refl, sym, ap, ◌∙◌, subst, arith}
+use Rattle.std.proofs.Common.{◌≡◌, ◌↔◌, ◌⊎◌, inl, inr, ℕ, zero, suc, ◌+◌, ◌-◌, ◌≤◌, Bool, List, []}
+use Rattle.std.proofs.Common.{◌++◌, Option, Some, None, length, refl, sym, ap, ◌∙◌, subst, arith}
 use Rattle.std.proofs.lemmas.List.{append_assoc}
 use Rattle.jp_iregexp.specs.Language.{Concatenation, Power, IsAtMost, Language}
 use Rattle.jp_iregexp.specs.Tree.{Tree, repeat}
 use Rattle.jp_match.specs.Private.Counts.{Times, IsMostAfter}
 use Rattle.jp_match.specs.Private.Place.{Marked, IsImage}
-use Rattle.jp_match.proofs.Sets.Reaching.{Completes, completes_more, image_by, image_none, image_joined, image_still}
+use Rattle.jp_match.proofs.Sets.Reaching.{Completes, completes_more, image_by, image_none}
+use Rattle.jp_match.proofs.Sets.Reaching.{image_joined, image_still}
 
 -- so many words are first some of them and then the others
 pub power_split : (L : List ℕ → Type 0) (m n s : ℕ) (w : List ℕ) → s ≡ m + n → Power L s w →

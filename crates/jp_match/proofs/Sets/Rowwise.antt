@@ -1,5 +1,7 @@
 -- What is reached from each place alone, put together.
-use Rattle.std.proofs.Common.{◌≡◌, ◌↔◌, ◌⊎◌, inl, inr, ℕ, zero, suc, ◌≤◌, ◌<◌, Bool, false, List, [], ◌∷◌, ◌++◌, Option, Box, Vec, Global, nat_eq, length, map, get_or, refl, sym, ap, ◌∙◌, subst, arith}
+use Rattle.std.proofs.Common.{◌≡◌, ◌↔◌, ◌⊎◌, inl, inr, ℕ, zero, suc, ◌≤◌, ◌<◌, Bool, false, List}
+use Rattle.std.proofs.Common.{[], ◌∷◌, ◌++◌, Option, Box, Vec, Global, nat_eq, length, map, get_or}
+use Rattle.std.proofs.Common.{refl, sym, ap, ◌∙◌, subst, arith}
 use Rattle.std.proofs.lemmas.Bool.{cases_lt}
 use Rattle.std.proofs.lemmas.List.{length-map, length-append, map-append, get_or_append_left}
 use Rattle.std.proofs.lemmas.List.{get_or-map}
@@ -10,7 +12,8 @@ use Rattle.jp_iregexp.specs.declared.pattern.Pattern.{Pattern}
 use Rattle.jp_iregexp.specs.declared.pattern.Pattern.TheVariants as pattern
 use Rattle.jp_iregexp.proofs.Trees.{tree_repeat}
 use Rattle.jp_match.specs.Private.Place.{Marked, IsImage}
-use Rattle.jp_match.specs.Private.Rows.{marks_of, rows_of, IsOnly, IsRow, AreRows, AreKnown, EachKnown, IsUnion, parts_of}
+use Rattle.jp_match.specs.Private.Rows.{marks_of, rows_of, IsOnly, IsRow, AreRows, AreKnown}
+use Rattle.jp_match.specs.Private.Rows.{EachKnown, IsUnion, parts_of}
 use Rattle.jp_match.proofs.Patterns.Variants.{either_is, sequence_is}
 use Rattle.jp_match.proofs.Sets.Cuts.{marked_below}
 use Rattle.jp_match.proofs.Sets.Reaching.{reached_from}

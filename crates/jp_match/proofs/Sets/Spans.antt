@@ -1,7 +1,10 @@
 -- One pass over a text, from many places at once.
-use Rattle.std.proofs.Common.{◌≡◌, ◌↔◌, ◌⊎◌, inl, inr, ℕ, suc, ◌≤◌, ◌<◌, Bool, IsTrue, false, List, [], ◌∷◌, ◌++◌, add-one, length, take, drop, get_or, set, ◌≢◌, get_or-set_other, get_or-set_same, refl, sym, ap, ◌∙◌, subst, arith}
+use Rattle.std.proofs.Common.{◌≡◌, ◌↔◌, ◌⊎◌, inl, inr, ℕ, suc, ◌≤◌, ◌<◌, Bool, IsTrue, false, List}
+use Rattle.std.proofs.Common.{[], ◌∷◌, ◌++◌, add-one, length, take, drop, get_or, set, ◌≢◌}
+use Rattle.std.proofs.Common.{get_or-set_other, get_or-set_same, refl, sym, ap, ◌∙◌, subst, arith}
 use Rattle.std.proofs.lemmas.Bool.{cases_lt}
-use Rattle.std.proofs.lemmas.List.{append_assoc, append-nil, length-append, length-set, length-take, take-append-drop, take_at, take_more, drop-append-le}
+use Rattle.std.proofs.lemmas.List.{append_assoc, append-nil, length-append, length-set, length-take}
+use Rattle.std.proofs.lemmas.List.{take-append-drop, take_at, take_more, drop-append-le}
 use Rattle.std.proofs.Math.Seq.{drop-append_seam}
 use Rattle.jp_iregexp.specs.Tree.{Tree}
 use Rattle.jp_iregexp.specs.Language.{Language}

@@ -1,8 +1,10 @@
 -- Where the end is reached, part by part.
-use Rattle.std.proofs.Common.{◌≡◌, inl, inr, ℕ, Bool, false, ◌||◌, List, [], ◌∷◌, ◌++◌, take, drop, get_or, refl, sym, subst}
+use Rattle.std.proofs.Common.{◌≡◌, inl, inr, ℕ, Bool, false, ◌||◌, List, [], ◌∷◌, ◌++◌, take, drop}
+use Rattle.std.proofs.Common.{get_or, refl, sym, subst}
 use Rattle.jp_iregexp.specs.declared.class.ClassItem.{ClassItem}
 use Rattle.jp_iregexp.specs.Language.{Concatenation, Power}
-use Rattle.jp_match.specs.Private.Plain.{Plain, Words, class, nothing, either, empty, sequence, plus}
+use Rattle.jp_match.specs.Private.Plain.{Plain, Words, class, nothing, either, empty, sequence}
+use Rattle.jp_match.specs.Private.Plain.{plus}
 use Rattle.jp_match.specs.Private.Marks.{Star, size, Rest, Ends}
 use Rattle.jp_match.proofs.Bools.{or_is}
 

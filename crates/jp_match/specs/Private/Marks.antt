@@ -1,8 +1,10 @@
 -- Marks on the positions of a pattern whose repeats are written out: a position is marked where its
 -- class has taken the last character.
-use Rattle.std.specs.Prelude.{◌≡◌, ◌↔◌, ◌⊎◌, ℕ, ◌+◌, Bool, IsTrue, false, List, [], ◌∷◌, take, drop, get_or}
+use Rattle.std.specs.Prelude.{◌≡◌, ◌↔◌, ◌⊎◌, ℕ, ◌+◌, Bool, IsTrue, false, List, [], ◌∷◌, take, drop}
+use Rattle.std.specs.Prelude.{get_or}
 use Rattle.jp_iregexp.specs.Language.{Concatenation, Power}
-use Rattle.jp_match.specs.Private.Plain.{Plain, Words, class, nothing, either, empty, sequence, plus}
+use Rattle.jp_match.specs.Private.Plain.{Plain, Words, class, nothing, either, empty, sequence}
+use Rattle.jp_match.specs.Private.Plain.{plus}
 
 -- how many positions there are
 abbrev pub size : Plain → ℕ

@@ -1,5 +1,6 @@
 -- What words of a language reach from each place alone: a row of marks for each place.
-use Rattle.std.specs.Prelude.{◌≡◌, ◌↔◌, ◌⊎◌, ℕ, suc, ◌≤◌, ◌<◌, Bool, List, [], ◌∷◌, Vec, length, map, get_or}
+use Rattle.std.specs.Prelude.{◌≡◌, ◌↔◌, ◌⊎◌, ℕ, suc, ◌≤◌, ◌<◌, Bool, List, [], ◌∷◌, Vec, length}
+use Rattle.std.specs.Prelude.{map, get_or}
 use Rattle.std.specs.Global.{Global}
 use Rattle.jp_iregexp.specs.Tree.{Tree, class, nothing, either, empty, sequence, repeat}
 use Rattle.jp_iregexp.specs.Language.{Language}

@@ -9,7 +9,8 @@ use Rattle.jp_query.specs.Characters.{comma}
 use Rattle.jp_query.specs.declared.expressions.Connective.{Connective}
 use Rattle.jp_query.specs.declared.expressions.Connective.TheVariants.{Or, And}
 use Rattle.jp_query.specs.Private.Parts.{mark_of, part_of}
-use Rattle.jp_query.specs.Private.Rules.{segments, entries, other_parts, next_argument, word_from, word_of}
+use Rattle.jp_query.specs.Private.Rules.{segments, entries, other_parts, next_argument, word_from}
+use Rattle.jp_query.specs.Private.Rules.{word_of}
 use Rattle.jp_query.specs.Private.Reading.{read_inside}
 use Rattle.jp_query.proofs.Readers.Rounds.{other_entries, listed}
 use Rattle.jp_query.proofs.+nested.Given as goal

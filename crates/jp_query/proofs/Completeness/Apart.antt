@@ -1,6 +1,7 @@
 -- Each rule of queries tells its ways, and what follows it, by the next character, or the next that
 -- is no blank.
-use Rattle.std.proofs.Common.{◌≡◌, ℕ, Bool, true, false, ◌&&◌, not, [], ◌∷◌, ◌++◌, Option, Some, None, inl, inr, refl, sym, arith}
+use Rattle.std.proofs.Common.{◌≡◌, ℕ, Bool, true, false, ◌&&◌, not, [], ◌∷◌, ◌++◌, Option, Some}
+use Rattle.std.proofs.Common.{None, inl, inr, refl, sym, arith}
 use Rattle.std.specs.Prelude.{codes}
 use Rattle.std.proofs.lemmas.Bool.{cases_Bool, eqb-true}
 use Rattle.std.proofs.lemmas.Bool.Decides.{nat_tests}
@@ -10,14 +11,37 @@ use Rattle.jp_reading.specs.Rule.{beyond, blanks}
 use Rattle.jp_reading.specs.Outcome.{is}
 use Rattle.jp_reading.specs.Numbers.{is_digit}
 use Rattle.jp_reading.proofs.Rules.Form.{Alive}
-use Rattle.jp_reading.proofs.Rules.Follow.{Follow, any, beginning, either_of, blanked, stepping, begins, at, Under, Implies, Excludes, Apart, under-same, under-left, implies-same, apart-run}
+use Rattle.jp_reading.proofs.Rules.Follow.{Follow, any, beginning, either_of, blanked, stepping}
+use Rattle.jp_reading.proofs.Rules.Follow.{begins, at, Under, Implies, Excludes, Apart, under-same}
+use Rattle.jp_reading.proofs.Rules.Follow.{under-left, implies-same, apart-run}
 use Rattle.jp_query.specs.Names.{is_name_char, is_function_char}
-use Rattle.jp_query.specs.Tree.{LiteralTree, true_literal, false_literal, null_literal, OperandTree, literal, node_value, call_value, ExprTree, exists, call_test, ArgumentTree, literal_argument, query_argument, call_argument, logical_argument}
-use Rattle.jp_query.specs.Characters.{comma, closing_bracket, closing_parenthesis, exclamation_mark, less_sign, equals_sign, greater_sign, opening_parenthesis, ampersand, bar, dot, double_quote, letter_a, opening_bracket, single_quote}
-use Rattle.jp_query.specs.Private.Rules.{nesting, opens, begins_int, begins_operator, begins_segment, begins_query, is_closing}
+use Rattle.jp_query.specs.Tree.{LiteralTree, true_literal, false_literal, null_literal, OperandTree}
+use Rattle.jp_query.specs.Tree.{literal, node_value, call_value, ExprTree, exists, call_test}
+use Rattle.jp_query.specs.Tree.{ArgumentTree, literal_argument, query_argument, call_argument}
+use Rattle.jp_query.specs.Tree.{logical_argument}
+use Rattle.jp_query.specs.Characters.{comma, closing_bracket, closing_parenthesis, exclamation_mark}
+use Rattle.jp_query.specs.Characters.{less_sign, equals_sign, greater_sign, opening_parenthesis}
+use Rattle.jp_query.specs.Characters.{ampersand, bar, dot, double_quote, letter_a, opening_bracket}
+use Rattle.jp_query.specs.Characters.{single_quote}
+use Rattle.jp_query.specs.Private.Rules.{nesting, opens, begins_int, begins_operator}
+use Rattle.jp_query.specs.Private.Rules.{begins_segment, begins_query, is_closing}
 use Rattle.jp_query.specs.Private.Rules as rule
-use Rattle.jp_query.proofs.Soundness.Alive.{selector-alive, entry-alive, entries-alive, bracket-alive, member-alive, selection-alive, segment-alive, segments-alive, query-alive, identifier-alive, query_within-alive, word_from-alive, word-alive, side-alive, comparison-alive, compared_or_test-alive, test-alive, closed-alive, negated-alive, negation_on-alive, basic-alive, conjunction-alive, expression-alive, compared_or_alone-alive, argument_start-alive, argument_on-alive, argument-alive, some_arguments-alive, after_parenthesis-alive, named_call-alive, inside_mark-alive}
-use Rattle.jp_query.proofs.Completeness.ApartFlat.{EndsNumber, EndsSlice, either-excludes, shorthand-apart, quoted-apart, plain_literal-apart, operator-apart, slice-apart, number_selector-apart}
+use Rattle.jp_query.proofs.Soundness.Alive.{selector-alive, entry-alive, entries-alive}
+use Rattle.jp_query.proofs.Soundness.Alive.{bracket-alive, member-alive, selection-alive}
+use Rattle.jp_query.proofs.Soundness.Alive.{segment-alive, segments-alive, query-alive}
+use Rattle.jp_query.proofs.Soundness.Alive.{identifier-alive, query_within-alive, word_from-alive}
+use Rattle.jp_query.proofs.Soundness.Alive.{word-alive, side-alive, comparison-alive}
+use Rattle.jp_query.proofs.Soundness.Alive.{compared_or_test-alive, test-alive, closed-alive}
+use Rattle.jp_query.proofs.Soundness.Alive.{negated-alive, negation_on-alive, basic-alive}
+use Rattle.jp_query.proofs.Soundness.Alive.{conjunction-alive, expression-alive}
+use Rattle.jp_query.proofs.Soundness.Alive.{compared_or_alone-alive, argument_start-alive}
+use Rattle.jp_query.proofs.Soundness.Alive.{argument_on-alive, argument-alive, some_arguments-alive}
+use Rattle.jp_query.proofs.Soundness.Alive.{after_parenthesis-alive, named_call-alive}
+use Rattle.jp_query.proofs.Soundness.Alive.{inside_mark-alive}
+use Rattle.jp_query.proofs.Completeness.ApartFlat.{EndsNumber, EndsSlice, either-excludes}
+use Rattle.jp_query.proofs.Completeness.ApartFlat.{shorthand-apart, quoted-apart}
+use Rattle.jp_query.proofs.Completeness.ApartFlat.{plain_literal-apart, operator-apart, slice-apart}
+use Rattle.jp_query.proofs.Completeness.ApartFlat.{number_selector-apart}
 
 -- ---- what follows
 

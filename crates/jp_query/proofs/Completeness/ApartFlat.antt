@@ -5,15 +5,28 @@ use Rattle.std.proofs.lemmas.Bool.Decides.{nat_tests}
 use Rattle.jp_reading.specs.Texts.{is_blank}
 use Rattle.jp_reading.specs.Outcome.{passes, is}
 use Rattle.jp_reading.specs.Numbers.{is_digit}
-use Rattle.jp_reading.proofs.Rules.Follow.{Follow, beginning, Excludes, Apart, under-same, under-left, implies-same, apart-run}
+use Rattle.jp_reading.proofs.Rules.Follow.{Follow, beginning, Excludes, Apart, under-same}
+use Rattle.jp_reading.proofs.Rules.Follow.{under-left, implies-same, apart-run}
 use Rattle.jp_query.specs.declared.tree.Numeral.{Numeral}
 use Rattle.jp_query.specs.Names.{is_name_char}
-use Rattle.jp_query.specs.Strings.{is_plain, is_hexdig, is_d, is_not_d, is_0_to_7, is_8_to_b, is_c_to_f}
+use Rattle.jp_query.specs.Strings.{is_plain, is_hexdig, is_d, is_not_d, is_0_to_7, is_8_to_b}
+use Rattle.jp_query.specs.Strings.{is_c_to_f}
 use Rattle.jp_query.specs.Literals.{is_e}
-use Rattle.jp_query.specs.Private.Rules.{nesting, begins_character, begins_int, begins_operator, begins_segment, begins_query}
+use Rattle.jp_query.specs.Private.Rules.{nesting, begins_character, begins_int, begins_operator}
+use Rattle.jp_query.specs.Private.Rules.{begins_segment, begins_query}
 use Rattle.jp_query.specs.Private.Rules as rule
-use Rattle.jp_query.proofs.Soundness.Alive.{Passed, shorthand-alive, hexdig-passed, d-passed, not_d-passed, low-passed, high-passed, from_c-passed, digit-passed, unit_after-alive, unit-alive, surrogates-alive, hexchar-alive, escape-alive, character-alive, characters-alive, quoted-alive, size-alive, unsigned-alive, int-alive, mantissa-alive, digits-alive, decimals-alive, power-alive, exponent-alive, number-alive, plain_literal-alive, operator-alive, bound-alive, later_step-alive, step-alive, slice-alive, number_selector-alive}
-use Rattle.jp_query.specs.Characters.{backslash, colon, dot, double_quote, equals_sign, letter_a, single_quote}
+use Rattle.jp_query.proofs.Soundness.Alive.{Passed, shorthand-alive, hexdig-passed, d-passed}
+use Rattle.jp_query.proofs.Soundness.Alive.{not_d-passed, low-passed, high-passed, from_c-passed}
+use Rattle.jp_query.proofs.Soundness.Alive.{digit-passed, unit_after-alive, unit-alive}
+use Rattle.jp_query.proofs.Soundness.Alive.{surrogates-alive, hexchar-alive, escape-alive}
+use Rattle.jp_query.proofs.Soundness.Alive.{character-alive, characters-alive, quoted-alive}
+use Rattle.jp_query.proofs.Soundness.Alive.{size-alive, unsigned-alive, int-alive, mantissa-alive}
+use Rattle.jp_query.proofs.Soundness.Alive.{digits-alive, decimals-alive, power-alive}
+use Rattle.jp_query.proofs.Soundness.Alive.{exponent-alive, number-alive, plain_literal-alive}
+use Rattle.jp_query.proofs.Soundness.Alive.{operator-alive, bound-alive, later_step-alive}
+use Rattle.jp_query.proofs.Soundness.Alive.{step-alive, slice-alive, number_selector-alive}
+use Rattle.jp_query.specs.Characters.{backslash, colon, dot, double_quote, equals_sign, letter_a}
+use Rattle.jp_query.specs.Characters.{single_quote}
 
 -- what follows a number goes on with none of its parts
 pub record EndsNumber (K : Follow) : Type 0 where

@@ -1,6 +1,7 @@
 -- The rules of functions' arguments, and of what opens a level, take exactly the texts that the
 -- grammar says.
-use Rattle.std.proofs.Common.{◌≡◌, ℕ, Bool, true, false, ◌&&◌, ◌||◌, not, arith, List, [], ◌∷◌, ◌++◌, Option, refl, ap, ◌∙◌, sym, subst}
+use Rattle.std.proofs.Common.{◌≡◌, ℕ, Bool, true, false, ◌&&◌, ◌||◌, not, arith, List, [], ◌∷◌}
+use Rattle.std.proofs.Common.{◌++◌, Option, refl, ap, ◌∙◌, sym, subst}
 use Rattle.std.specs.Prelude.{codes}
 use Rattle.std.proofs.lemmas.Bool.Decides.{nat_tests}
 use Rattle.jp_reading.specs.Texts.{Text, Spans, is_blank}
@@ -11,19 +12,33 @@ use Rattle.jp_reading.proofs.Rules.Follow.{or-right}
 use Rattle.jp_reading.proofs.Between.{Within, joined-both}
 use Rattle.jp_reading.proofs.Joining.{before-within}
 use Rattle.jp_reading.proofs.Levels.{Only, Then, Made}
-use Rattle.jp_reading.proofs.Same.{Same, same, back, ways, ◌⨾◌, after, before, joined, either, only, made, then, each, item_if, assoc, nothing-before, nothing-after, after-either, either-before, either-assoc, either-cross, after-only, only-before, after-made, after-value, made-before, made-made, made-either, either-then, then-only, then-value, then-made, then-made_out, then-of_made, then-either, Some_of, some, some-either, some-only, some-made, then-some, Given, word-on, passing-word}
+use Rattle.jp_reading.proofs.Same.{Same, same, back, ways, ◌⨾◌, after, before, joined, either, only}
+use Rattle.jp_reading.proofs.Same.{made, then, each, item_if, assoc, nothing-before, nothing-after}
+use Rattle.jp_reading.proofs.Same.{after-either, either-before, either-assoc, either-cross}
+use Rattle.jp_reading.proofs.Same.{after-only, only-before, after-made, after-value, made-before}
+use Rattle.jp_reading.proofs.Same.{made-made, made-either, either-then, then-only, then-value}
+use Rattle.jp_reading.proofs.Same.{then-made, then-made_out, then-of_made, then-either, Some_of}
+use Rattle.jp_reading.proofs.Same.{some, some-either, some-only, some-made, then-some, Given}
+use Rattle.jp_reading.proofs.Same.{word-on, passing-word}
 use Rattle.jp_reading.proofs.Rules.Form.{Either, left, right, ItemIf, form}
-use Rattle.jp_query.specs.Tree.{ExprTree, any_of, all_of, exists, call_test, exprs, ArgumentTree, literal_argument, query_argument, call_argument, logical_argument}
+use Rattle.jp_query.specs.Tree.{ExprTree, any_of, all_of, exists, call_test, exprs, ArgumentTree}
+use Rattle.jp_query.specs.Tree.{literal_argument, query_argument, call_argument, logical_argument}
 use Rattle.jp_query.specs.Characters.{ampersand, bar, opening_parenthesis}
 use Rattle.jp_query.specs.Literals.{Literal}
 use Rattle.jp_query.specs.Names.{is_function_char}
-use Rattle.jp_query.specs.Grammar.{joined as joined_parts, Nested, InnerQuery, FunctionCall, Composed, Basic, Conjunction, conjunction, Logical, one_part, parts_all, parts_any, Argument, literal_alone, query_alone, call_alone, logical_expr, Arguments, without, with_some, Level}
-use Rattle.jp_query.specs.Private.Rules.{opens, CallRest, part, other_parts, argument_of_parts, is_among, only_this}
+use Rattle.jp_query.specs.Grammar.{joined as joined_parts, Nested, InnerQuery, FunctionCall}
+use Rattle.jp_query.specs.Grammar.{Composed, Basic, Conjunction, conjunction, Logical, one_part}
+use Rattle.jp_query.specs.Grammar.{parts_all, parts_any, Argument, literal_alone, query_alone}
+use Rattle.jp_query.specs.Grammar.{call_alone, logical_expr, Arguments, without, with_some, Level}
+use Rattle.jp_query.specs.Private.Rules.{opens, CallRest, part, other_parts, argument_of_parts}
+use Rattle.jp_query.specs.Private.Rules.{is_among, only_this}
 use Rattle.jp_query.specs.Private.Rules as rule
 use Rattle.jp_query.proofs.Forms.Slices.{all-append, blank-before}
 use Rattle.jp_query.proofs.Forms.Selectors.{marked, CallFrom, Parentheses}
 use Rattle.jp_query.proofs.Forms.FunctionNames.{and-left, from-letter}
-use Rattle.jp_query.proofs.Forms.Expressions.{side-ways, side-same, composed-same, test-ways, basic-ways, basic-same, twice, twice-same, conjunction-same, expression-same}
+use Rattle.jp_query.proofs.Forms.Expressions.{side-ways, side-same, composed-same, test-ways}
+use Rattle.jp_query.proofs.Forms.Expressions.{basic-ways, basic-same, twice, twice-same}
+use Rattle.jp_query.proofs.Forms.Expressions.{conjunction-same, expression-same}
 
 module _ (I : Nested → Form) where
   -- ---- the first part of an argument

@@ -5,14 +5,24 @@ use Rattle.jp_reading.specs.Texts.{Text, Spans}
 use Rattle.jp_reading.specs.Forms.{Form, ◌⌢◌, word, Blank, Item, Never}
 use Rattle.jp_reading.proofs.Between.{Within}
 use Rattle.jp_reading.proofs.Levels.{Only, Then, Made}
-use Rattle.jp_reading.proofs.Same.{Same, same, back, ways, ◌⨾◌, after, joined, either, made, then, item, words, assoc, after-either, either-assoc, either-flip, either-swap, or-never, after-made, after-only, after-value, made-either, made-made, made-same, then-only, then-value, then-made, then-either, item-either, item-made, separated}
+use Rattle.jp_reading.proofs.Same.{Same, same, back, ways, ◌⨾◌, after, joined, either, made, then}
+use Rattle.jp_reading.proofs.Same.{item, words, assoc, after-either, either-assoc, either-flip}
+use Rattle.jp_reading.proofs.Same.{either-swap, or-never, after-made, after-only, after-value}
+use Rattle.jp_reading.proofs.Same.{made-either, made-made, made-same, then-only, then-value}
+use Rattle.jp_reading.proofs.Same.{then-made, then-either, item-either, item-made, separated}
 use Rattle.jp_reading.proofs.Rules.Form.{Either, left, right, form}
 use Rattle.jp_query.specs.declared.tree.Op.{Op}
 use Rattle.jp_query.specs.Characters.{ampersand, bar, opening_parenthesis}
-use Rattle.jp_query.specs.Tree.{QueryTree, ExprTree, negation, comparison, exists, call_test, OperandTree, literal, node_value, call_value, CallTree, LiteralTree, text, number as number_literal}
+use Rattle.jp_query.specs.Tree.{QueryTree, ExprTree, negation, comparison, exists, call_test}
+use Rattle.jp_query.specs.Tree.{OperandTree, literal, node_value, call_value, CallTree, LiteralTree}
+use Rattle.jp_query.specs.Tree.{text, number as number_literal}
 use Rattle.jp_query.specs.Strings.{Quoted}
 use Rattle.jp_query.specs.Literals.{Literal, of_number, of_text, of_true, of_false, of_null, Number}
-use Rattle.jp_query.specs.Grammar.{Nested, InnerQuery, FunctionCall, function_call, Side, literal_side, query_side, call_side, Parenthesis, Comparison, Test, query_test, function_test, Composed, grouped, not_grouped, compared, not_tested, Basic, composed, tested, Conjunction, conjunction, Expression, disjunction}
+use Rattle.jp_query.specs.Grammar.{Nested, InnerQuery, FunctionCall, function_call, Side}
+use Rattle.jp_query.specs.Grammar.{literal_side, query_side, call_side, Parenthesis, Comparison}
+use Rattle.jp_query.specs.Grammar.{Test, query_test, function_test, Composed, grouped, not_grouped}
+use Rattle.jp_query.specs.Grammar.{compared, not_tested, Basic, composed, tested, Conjunction}
+use Rattle.jp_query.specs.Grammar.{conjunction, Expression, disjunction}
 use Rattle.jp_query.specs.Private.Rules.{nesting, opens, CallRest}
 use Rattle.jp_query.specs.Private.Rules as rule
 use Rattle.jp_query.proofs.Forms.Numbers.{plain_literal-same, operator-same}

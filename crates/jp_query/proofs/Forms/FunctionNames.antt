@@ -1,6 +1,8 @@
 -- The rules of functions' names, and of the words that are told from them, take exactly the texts
 -- that the grammar says.
-use Rattle.std.proofs.Common.{◌≡◌, ℕ, Bool, true, false, ◌||◌, ◌&&◌, not, ◌⊎◌, Option, Some, None, List, [], ◌∷◌, ◌++◌, inl, inr, refl, sym, ap, ◌∙◌, append_assoc, arith, codes}
+use Rattle.std.proofs.Common.{◌≡◌, ℕ, Bool, true, false, ◌||◌, ◌&&◌, not, ◌⊎◌, Option, Some, None}
+use Rattle.std.proofs.Common.{List, [], ◌∷◌, ◌++◌, inl, inr, refl, sym, ap, ◌∙◌, append_assoc}
+use Rattle.std.proofs.Common.{arith, codes}
 use Rattle.std.proofs.lemmas.Bool.{cases_Bool, eqb-true}
 use Rattle.std.proofs.lemmas.Bool.Decides.{nat_tests}
 use Rattle.jp_reading.specs.Texts.{Text, Spans}
@@ -9,9 +11,13 @@ use Rattle.jp_reading.specs.Outcome.{is, passes, first_of}
 use Rattle.jp_reading.specs.Numbers.{is_digit}
 use Rattle.jp_reading.proofs.Between.{Within, joined-both}
 use Rattle.jp_reading.proofs.Levels.{Only, Made}
-use Rattle.jp_reading.proofs.Same.{Same, same, back, ways, ◌⨾◌, after, before, either, only, made, assoc, words, after-either, either-assoc, either-flip, either-swap, either-pull, after-only, after-made, made-before, made-only, made-either, then-value, Given, word-on, passing-word}
+use Rattle.jp_reading.proofs.Same.{Same, same, back, ways, ◌⨾◌, after, before, either, only, made}
+use Rattle.jp_reading.proofs.Same.{assoc, words, after-either, either-assoc, either-flip}
+use Rattle.jp_reading.proofs.Same.{either-swap, either-pull, after-only, after-made, made-before}
+use Rattle.jp_reading.proofs.Same.{made-only, made-either, then-value, Given, word-on, passing-word}
 use Rattle.jp_reading.proofs.Rules.Form.{Either, left, right, form}
-use Rattle.jp_query.specs.Tree.{OperandTree, literal, call_value, call, ArgumentTree, arguments, LiteralTree, true_literal, false_literal, null_literal}
+use Rattle.jp_query.specs.Tree.{OperandTree, literal, call_value, call, ArgumentTree, arguments}
+use Rattle.jp_query.specs.Tree.{LiteralTree, true_literal, false_literal, null_literal}
 use Rattle.jp_query.specs.Characters.{opening_parenthesis, letter_t, letter_f, letter_n}
 use Rattle.jp_query.specs.Names.{is_function_first, is_function_char, FunctionName, function_name}
 use Rattle.jp_query.specs.Grammar.{Nested}

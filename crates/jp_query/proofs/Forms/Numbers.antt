@@ -6,16 +6,21 @@ use Rattle.jp_reading.specs.Forms.{Form, ◌⌢◌, word}
 use Rattle.jp_reading.specs.Numbers.{value_from}
 use Rattle.jp_reading.proofs.Between.{Within}
 use Rattle.jp_reading.proofs.Levels.{Only, Made}
-use Rattle.jp_reading.proofs.Same.{Same, same, ways, ◌⨾◌, after, joined, either, only, made, then, words, after-either, either-assoc, after-made, after-only, after-value, made-made, then-made, then-either}
+use Rattle.jp_reading.proofs.Same.{Same, same, ways, ◌⨾◌, after, joined, either, only, made, then}
+use Rattle.jp_reading.proofs.Same.{words, after-either, either-assoc, after-made, after-only}
+use Rattle.jp_reading.proofs.Same.{after-value, made-made, then-made, then-either}
 use Rattle.jp_reading.proofs.Rules.Form.{Either, left, right, Inside, form}
 use Rattle.jp_query.specs.declared.tree.Numeral.{Numeral}
 use Rattle.jp_query.specs.declared.tree.Op.{Op}
-use Rattle.jp_query.specs.declared.tree.Op.TheVariants.{Equal, Unequal, Less, LessEqual, Greater, GreaterEqual}
+use Rattle.jp_query.specs.declared.tree.Op.TheVariants.{Equal, Unequal, Less, LessEqual, Greater}
+use Rattle.jp_query.specs.declared.tree.Op.TheVariants.{GreaterEqual}
 use Rattle.jp_query.specs.Tree.{LiteralTree, text, number as number_literal}
 use Rattle.jp_query.specs.Characters.{double_quote, single_quote}
 use Rattle.jp_query.specs.Strings.{Quoted, in_double, in_single}
 use Rattle.jp_query.specs.Ints.{Unsigned, Int, zero_int, positive_int, negative_int}
-use Rattle.jp_query.specs.Literals.{Optional, left_out, written, DigitSequence, Decimals, decimals, Exponent, unsigned, signed, Mantissa, whole, minus_zero, Number, number, spelling}
+use Rattle.jp_query.specs.Literals.{Optional, left_out, written, DigitSequence, Decimals, decimals}
+use Rattle.jp_query.specs.Literals.{Exponent, unsigned, signed, Mantissa, whole, minus_zero, Number}
+use Rattle.jp_query.specs.Literals.{number, spelling}
 use Rattle.jp_query.specs.Private.Rules.{nesting}
 use Rattle.jp_query.specs.Private.Rules as rule
 use Rattle.jp_query.proofs.Forms.Strings.{quoted-same}

@@ -1,20 +1,30 @@
 -- The rules of selectors, segments and queries take exactly the texts that the grammar says.
-use Rattle.std.proofs.Common.{◌≡◌, ℕ, Bool, true, false, List, [], ◌∷◌, ◌++◌, Some, None, refl, ap, ◌∙◌}
+use Rattle.std.proofs.Common.{◌≡◌, ℕ, Bool, true, false, List, [], ◌∷◌, ◌++◌, Some, None, refl, ap}
+use Rattle.std.proofs.Common.{◌∙◌}
 use Rattle.std.specs.Prelude.{codes}
 use Rattle.jp_reading.specs.Texts.{Text, Spans}
 use Rattle.jp_reading.specs.Forms.{Form, ◌⌢◌, word, AllPassing, Blank, Separated, Item}
 use Rattle.jp_reading.specs.Outcome.{passes, first_of}
 use Rattle.jp_reading.proofs.Levels.{Only, Then, Made}
-use Rattle.jp_reading.proofs.Same.{Same, same, back, ways, ◌⨾◌, after, before, joined, either, only, made, then, each, item, assoc, nothing-before, after-either, either-before, either-assoc, either-flip, either-swap, in-first, in-second, after-only, only-before, after-made, after-value, made-before, made-same, made-either, then-only, then-value, then-made, then-either, then-before, separated}
+use Rattle.jp_reading.proofs.Same.{Same, same, back, ways, ◌⨾◌, after, before, joined, either, only}
+use Rattle.jp_reading.proofs.Same.{made, then, each, item, assoc, nothing-before, after-either}
+use Rattle.jp_reading.proofs.Same.{either-before, either-assoc, either-flip, either-swap, in-first}
+use Rattle.jp_reading.proofs.Same.{in-second, after-only, only-before, after-made, after-value}
+use Rattle.jp_reading.proofs.Same.{made-before, made-same, made-either, then-only, then-value}
+use Rattle.jp_reading.proofs.Same.{then-made, then-either, then-before, separated}
 use Rattle.jp_reading.proofs.Rules.Form.{Either, left, right, Inside, none_inside, form}
 use Rattle.jp_query.specs.declared.tree.Slice.{Slice}
-use Rattle.jp_query.specs.Tree.{SelectorTree, slice, SegmentTree, segment, QueryTree, query, ArgumentTree, selectors, segments}
+use Rattle.jp_query.specs.Tree.{SelectorTree, slice, SegmentTree, segment, QueryTree, query}
+use Rattle.jp_query.specs.Tree.{ArgumentTree, selectors, segments}
 use Rattle.jp_query.specs.Characters.{double_quote, single_quote}
 use Rattle.jp_query.specs.Ints.{Int}
 use Rattle.jp_query.specs.Names.{is_function_char}
 use Rattle.jp_query.specs.Strings.{in_double, in_single}
 use Rattle.jp_query.specs.Slices.{Sliced}
-use Rattle.jp_query.specs.Grammar.{Nested, nested_expr, nested_arguments, Member, star, member, Selector, named, any, indexed, sliced, filtered, Bracket, Segment, bracketed, dotted, deep_bracketed, deep_dotted, Segments, InnerQuery, from_root, from_current}
+use Rattle.jp_query.specs.Grammar.{Nested, nested_expr, nested_arguments, Member, star, member}
+use Rattle.jp_query.specs.Grammar.{Selector, named, any, indexed, sliced, filtered, Bracket}
+use Rattle.jp_query.specs.Grammar.{Segment, bracketed, dotted, deep_bracketed, deep_dotted}
+use Rattle.jp_query.specs.Grammar.{Segments, InnerQuery, from_root, from_current}
 use Rattle.jp_query.specs.Private.Rules.{nesting, opens, CallRest, segment_of_one}
 use Rattle.jp_query.specs.Private.Rules as rule
 use Rattle.jp_query.proofs.Forms.Strings.{shorthand-same, quoted-same}

@@ -6,7 +6,9 @@ use Rattle.jp_reading.specs.Forms.{Form, ◌⌢◌, word, Blank, Item, Omitted, 
 use Rattle.jp_reading.proofs.Between.{Within}
 use Rattle.jp_reading.proofs.Levels.{Only, Made}
 use Rattle.jp_reading.proofs.Joining.{before-within}
-use Rattle.jp_reading.proofs.Same.{Same, same, back, ways, ◌⨾◌, after, before, either, only, made, item, assoc, nothing-before, after-either, either-before, after-only, only-before, after-value, made-before, then-made}
+use Rattle.jp_reading.proofs.Same.{Same, same, back, ways, ◌⨾◌, after, before, either, only, made}
+use Rattle.jp_reading.proofs.Same.{item, assoc, nothing-before, after-either, either-before}
+use Rattle.jp_reading.proofs.Same.{after-only, only-before, after-value, made-before, then-made}
 use Rattle.jp_reading.proofs.Rules.Form.{Either, left, right, Inside, form}
 use Rattle.jp_query.specs.declared.tree.Numeral.{Numeral}
 use Rattle.jp_query.specs.declared.tree.Numeral.TheVariants.{Whole}

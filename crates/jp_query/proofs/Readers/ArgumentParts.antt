@@ -1,18 +1,26 @@
 -- Where another part comes, an argument goes on as a logical expression; and what goes on from the
 -- first side.
-use Rattle.std.proofs.Common.{◌≡◌, ℕ, ◌||◌, ◌⊎◌, Bool, true, false, List, Option, Some, None, [], ◌∷◌, inl, inr, refl, sym, ap, ◌∙◌, subst}
+use Rattle.std.proofs.Common.{◌≡◌, ℕ, ◌||◌, ◌⊎◌, Bool, true, false, List, Option, Some, None, []}
+use Rattle.std.proofs.Common.{◌∷◌, inl, inr, refl, sym, ap, ◌∙◌, subst}
 use Rattle.std.proofs.lemmas.Bool.{cases_Bool}
-use Rattle.jp_reading.specs.Outcome.{State, Outcome, took, stuck, deep, ◌>>=◌, skip, after_blank, passes, is, expect}
+use Rattle.jp_reading.specs.Outcome.{State, Outcome, took, stuck, deep, ◌>>=◌, skip, after_blank}
+use Rattle.jp_reading.specs.Outcome.{passes, is, expect}
 use Rattle.jp_reading.specs.Views.{by}
 use Rattle.jp_reading.specs.Rule.{here, beyond, some}
 use Rattle.jp_reading.specs.RuleReading.{Inner, read, spanned, spanned_if}
 use Rattle.jp_reading.proofs.Loops.{each-on, round}
 use Rattle.jp_reading.proofs.Progress.{Progress}
 use Rattle.jp_reading.proofs.Rules.Progress.{goes}
-use Rattle.jp_query.specs.Tree.{ExprTree, any_of, all_of, exists, call_test, OperandTree, literal, node_value, call_value, ArgumentTree, literal_argument, query_argument, call_argument, logical_argument}
+use Rattle.jp_query.specs.Tree.{ExprTree, any_of, all_of, exists, call_test, OperandTree, literal}
+use Rattle.jp_query.specs.Tree.{node_value, call_value, ArgumentTree, literal_argument}
+use Rattle.jp_query.specs.Tree.{query_argument, call_argument, logical_argument}
 use Rattle.jp_query.specs.Characters.{ampersand, bar, comma, closing_parenthesis}
 use Rattle.jp_query.specs.Grammar.{joined}
-use Rattle.jp_query.specs.Private.Rules.{nesting, QueryRule, Opening, basic, conjunction, part, other_parts, argument_start, argument_on, argument_of_parts, other_argument_parts, argument, next_argument, some_arguments, is_logical, begins_operator, comparison_with, compared_or_test}
+use Rattle.jp_query.specs.Private.Rules.{nesting, QueryRule, Opening, basic, conjunction, part}
+use Rattle.jp_query.specs.Private.Rules.{other_parts, argument_start, argument_on}
+use Rattle.jp_query.specs.Private.Rules.{argument_of_parts, other_argument_parts, argument}
+use Rattle.jp_query.specs.Private.Rules.{next_argument, some_arguments, is_logical, begins_operator}
+use Rattle.jp_query.specs.Private.Rules.{comparison_with, compared_or_test}
 use Rattle.jp_query.specs.Private.Parts.{begins_part}
 use Rattle.jp_query.proofs.Levels.{or-second}
 use Rattle.jp_query.proofs.Readers.Rounds.{along, by-twice, listed, parts-none}

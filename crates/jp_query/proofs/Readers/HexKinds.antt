@@ -4,7 +4,8 @@ use Rattle.std.specs.Prelude.{Result, Ok, Err, IfOk}
 use Rattle.std.proofs.lemmas.Bool.Decides.{nat_tests}
 use Rattle.std.specs.Char.{digit_value}
 use Rattle.jp_query.specs.declared.strings.HexDigit.{HexDigit}
-use Rattle.jp_query.specs.declared.strings.HexDigit.TheVariants.{Any, NotD, D, UpTo7, EightToB, FromC}
+use Rattle.jp_query.specs.declared.strings.HexDigit.TheVariants.{Any, NotD, D, UpTo7, EightToB}
+use Rattle.jp_query.specs.declared.strings.HexDigit.TheVariants.{FromC}
 use Rattle.jp_query.specs.Strings.{is_hexdig, is_not_d, is_d, is_0_to_7, is_8_to_b, is_c_to_f}
 use Rattle.jp_query.specs.Private.HexDigits.{is_one_of, holds_value, IsUnitAfter, IsUnitOf}
 

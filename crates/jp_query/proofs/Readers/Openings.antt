@@ -1,10 +1,12 @@
 -- A function expression reads the same from each opening that it has; and what begins with a name.
-use Rattle.std.proofs.Common.{◌≡◌, ℕ, zero, suc, ◌-◌, ◌&&◌, not, ◌⊎◌, Bool, true, false, Option, Some, None, [], ◌∷◌, ◌++◌, inl, inr, refl, sym, ap, ◌∙◌, arith}
+use Rattle.std.proofs.Common.{◌≡◌, ℕ, zero, suc, ◌-◌, ◌&&◌, not, ◌⊎◌, Bool, true, false, Option}
+use Rattle.std.proofs.Common.{Some, None, [], ◌∷◌, ◌++◌, inl, inr, refl, sym, ap, ◌∙◌, arith}
 use Rattle.std.specs.Prelude.{codes}
 use Rattle.std.proofs.lemmas.Bool.{cases_Bool}
 use Rattle.jp_reading.specs.Texts.{Text}
 use Rattle.jp_reading.specs.declared.reader.Stop.{Stop}
-use Rattle.jp_reading.specs.Outcome.{State, Outcome, took, stuck, deep, ◌>>=◌, head, first_of, past, passes, is, is_at, take_passing, take_if, expect}
+use Rattle.jp_reading.specs.Outcome.{State, Outcome, took, stuck, deep, ◌>>=◌, head, first_of, past}
+use Rattle.jp_reading.specs.Outcome.{passes, is, is_at, take_passing, take_if, expect}
 use Rattle.jp_reading.specs.Numbers.{is_digit}
 use Rattle.jp_reading.specs.Views.{Fails, by}
 use Rattle.jp_reading.specs.RuleReading.{Inner, read}
@@ -12,10 +14,14 @@ use Rattle.jp_reading.proofs.Loops.{each-on, each-off, round}
 use Rattle.jp_reading.proofs.Folds.{fails-then}
 use Rattle.jp_reading.proofs.Progress.{moves-take_if}
 use Rattle.jp_reading.proofs.Steps.{take_if-takes, head-is}
-use Rattle.jp_query.specs.Tree.{exists, call_test, literal, call_value, CallTree, call, arguments, LiteralTree, true_literal, false_literal, null_literal}
+use Rattle.jp_query.specs.Tree.{exists, call_test, literal, call_value, CallTree, call, arguments}
+use Rattle.jp_query.specs.Tree.{LiteralTree, true_literal, false_literal, null_literal}
 use Rattle.jp_query.specs.Characters.{opening_parenthesis, letter_t, letter_f, letter_n}
 use Rattle.jp_query.specs.Names.{is_function_first, is_function_char}
-use Rattle.jp_query.specs.Private.Rules.{nesting, name_from, name_on, opens, is_among, only_this, CallRest, call_rest, call_with, run, after_parenthesis, any_call, named_call, opened, word, word_of, word_from, subject, query_within}
+use Rattle.jp_query.specs.Private.Rules.{nesting, name_from, name_on, opens, is_among, only_this}
+use Rattle.jp_query.specs.Private.Rules.{CallRest, call_rest, call_with, run, after_parenthesis}
+use Rattle.jp_query.specs.Private.Rules.{any_call, named_call, opened, word, word_of, word_from}
+use Rattle.jp_query.specs.Private.Rules.{subject, query_within}
 use Rattle.jp_query.specs.Private.Parts.{rest_of_call}
 use Rattle.jp_query.specs.Private.Reading.{inside, call_inside, read_flat, read_inside}
 use Rattle.jp_query.proofs.Forms.FunctionNames.{and-left, passed, from-letter}

@@ -1,8 +1,10 @@
 -- The loops over selectors, and over the parts of an expression.
-use Rattle.std.proofs.Common.{◌≡◌, ℕ, ◌<◌, ◌≤◌, Bool, true, false, List, [], ◌∷◌, ◌++◌, length, map, refl, sym, ap, ◌∙◌, arith}
+use Rattle.std.proofs.Common.{◌≡◌, ℕ, ◌<◌, ◌≤◌, Bool, true, false, List, [], ◌∷◌, ◌++◌, length, map}
+use Rattle.std.proofs.Common.{refl, sym, ap, ◌∙◌, arith}
 use Rattle.std.proofs.lemmas.List.{map-append}
 use Rattle.jp_reading.specs.declared.reader.Stop.{Stop}
-use Rattle.jp_reading.specs.Outcome.{State, Outcome, took, stuck, deep, ◌>>=◌, past, skip, after_blank, passes, is, is_at, expect}
+use Rattle.jp_reading.specs.Outcome.{State, Outcome, took, stuck, deep, ◌>>=◌, past, skip}
+use Rattle.jp_reading.specs.Outcome.{after_blank, passes, is, is_at, expect}
 use Rattle.jp_reading.specs.Views.{Fails, by, with_front}
 use Rattle.jp_reading.specs.Rule.{here, beyond, blanks, the, some, made, ◌>>◌, seq}
 use Rattle.jp_reading.specs.RuleReading.{Inner, read}
@@ -10,10 +12,12 @@ use Rattle.jp_reading.proofs.Loops.{each-off}
 use Rattle.jp_reading.proofs.Folds.{fails-then}
 use Rattle.jp_reading.proofs.Rules.Rounds as loops
 use Rattle.jp_reading.proofs.Steps.{take_if-takes, head-is}
-use Rattle.jp_query.specs.Tree.{SelectorTree, segment, selectors, ExprTree, ExprTrees, exprs, ArgumentTree}
+use Rattle.jp_query.specs.Tree.{SelectorTree, segment, selectors, ExprTree, ExprTrees, exprs}
+use Rattle.jp_query.specs.Tree.{ArgumentTree}
 use Rattle.jp_query.specs.Characters.{comma, opening_bracket, closing_bracket}
 use Rattle.jp_query.specs.Grammar.{joined}
-use Rattle.jp_query.specs.Private.Rules.{nesting, QueryRule, selector, entry, entries, bracket, joint, part, other_parts, argument, next_argument}
+use Rattle.jp_query.specs.Private.Rules.{nesting, QueryRule, selector, entry, entries, bracket}
+use Rattle.jp_query.specs.Private.Rules.{joint, part, other_parts, argument, next_argument}
 use Rattle.jp_query.specs.declared.expressions.Connective.{Connective}
 use Rattle.jp_query.specs.Private.Parts.{next_entry, mark_of, part_of, several}
 use Rattle.jp_query.specs.Private.Reading.{inside, read_flat, read_inside}

@@ -1,12 +1,14 @@
 -- Reading a query looks at its text from its beginning on, and what comes after the text that it
 -- looks at changes nothing.
-use Rattle.std.proofs.Common.{◌≡◌, ℕ, zero, suc, ◌≤◌, false, if◌then◌else◌, [], ◌∷◌, ◌++◌, ◌==◌, length, inl, inr, arith}
+use Rattle.std.proofs.Common.{◌≡◌, ℕ, zero, suc, ◌≤◌, false, if◌then◌else◌, [], ◌∷◌, ◌++◌, ◌==◌}
+use Rattle.std.proofs.Common.{length, inl, inr, arith}
 use Rattle.std.proofs.lemmas.Bool.{cases_Bool, eqb-true}
 use Rattle.jp_reading.specs.Texts.{Text, Spans}
 use Rattle.jp_reading.specs.Outcome.{State, Outcome, took, stuck, skip, is_end}
 use Rattle.jp_reading.specs.RuleReading.{read}
 use Rattle.jp_reading.proofs.Chars.{skip-shorter}
-use Rattle.jp_reading.proofs.Locality.{all, unblanked, Ends, Agrees, ended, Local, local-then, local-deep, local-stuck, local-skip, unblanked-skip}
+use Rattle.jp_reading.proofs.Locality.{all, unblanked, Ends, Agrees, ended, Local, local-then}
+use Rattle.jp_reading.proofs.Locality.{local-deep, local-stuck, local-skip, unblanked-skip}
 use Rattle.jp_reading.proofs.Rules.Locality.{local-rule}
 use Rattle.jp_query.specs.Private.Rules.{Opening, opened, query}
 use Rattle.jp_query.specs.Private.Reading.{inside, query_at}

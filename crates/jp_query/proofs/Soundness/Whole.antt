@@ -1,5 +1,6 @@
 -- Whole texts: what is read to its end spells a tree, and what is read before a stop began one.
-use Rattle.std.proofs.Common.{◌≡◌, ℕ, suc, Bool, true, false, if◌then◌else◌, List, [], ◌∷◌, ◌++◌, length, refl, ◌==◌, arith}
+use Rattle.std.proofs.Common.{◌≡◌, ℕ, suc, Bool, true, false, if◌then◌else◌, List, [], ◌∷◌, ◌++◌}
+use Rattle.std.proofs.Common.{length, refl, ◌==◌, arith}
 use Rattle.std.specs.Prelude.{codes}
 use Rattle.std.proofs.lemmas.Bool.{eqb-true}
 use Rattle.jp_reading.specs.Texts.{Text, Spans}
@@ -7,7 +8,8 @@ use Rattle.jp_reading.specs.Forms.{Form, ◌⌢◌, word, Each, Blank}
 use Rattle.jp_reading.specs.Outcome.{State, Outcome, took, stuck, deep, ◌>>=◌, skip, is_end}
 use Rattle.jp_reading.specs.RuleReading.{read}
 use Rattle.jp_reading.proofs.Steps.{skip-way}
-use Rattle.jp_reading.proofs.Between.{Reads, Stops, Has, front-then, front-none, front-as, reads-is, joined-over, has-as}
+use Rattle.jp_reading.proofs.Between.{Reads, Stops, Has, front-then, front-none, front-as, reads-is}
+use Rattle.jp_reading.proofs.Between.{joined-over, has-as}
 use Rattle.jp_reading.proofs.Levels.{Made}
 use Rattle.jp_reading.proofs.Joining.{each-append, joined-assoc, after-within}
 use Rattle.jp_reading.proofs.Again.{start, whole-reads}

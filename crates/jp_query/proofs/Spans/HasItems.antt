@@ -1,5 +1,6 @@
 -- Forms whose texts have items, with their spans.
-use Rattle.std.proofs.Common.{◌≡◌, ℕ, ◌+◌, ◌<◌, ◌≤◌, List, [], ◌∷◌, ◌++◌, Some, refl, sym, ap, ◌∙◌, subst, arith, append-nil, append_assoc}
+use Rattle.std.proofs.Common.{◌≡◌, ℕ, ◌+◌, ◌<◌, ◌≤◌, List, [], ◌∷◌, ◌++◌, Some, refl, sym, ap, ◌∙◌}
+use Rattle.std.proofs.Common.{subst, arith, append-nil, append_assoc}
 use Rattle.jp_reading.specs.Texts.{Text, Spans, bytes}
 use Rattle.jp_reading.specs.Forms.{Form, ◌⌢◌, Each, Blank, Separated, Item}
 use Rattle.jp_reading.proofs.Bare.{Bare, bare-word}
@@ -7,7 +8,9 @@ use Rattle.jp_reading.proofs.Between.{bytes-append}
 use Rattle.jp_query.specs.Items.{QueryItem}
 use Rattle.jp_reading.specs.declared.span.Span.{Span}
 use Rattle.jp_query.specs.ItemSpans.{SpellsItem, IsSpanOf, EachSpanned, AllComeAfter, Rise}
-use Rattle.jp_query.proofs.Spans.RisingSpans.{StartWithin, within-wider, within-append, comes_after-within, after-sooner, after-append, rise-append}
+use Rattle.jp_query.proofs.Spans.RisingSpans.{StartWithin, within-wider, within-append}
+use Rattle.jp_query.proofs.Spans.RisingSpans.{comes_after-within, after-sooner, after-append}
+use Rattle.jp_query.proofs.Spans.RisingSpans.{rise-append}
 use Rattle.jp_query.proofs.Spans.Written.{Written}
 
 pub each_spanned-append : (text : Text) (xs ys : List QueryItem) (s t : Spans)

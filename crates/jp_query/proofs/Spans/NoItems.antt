@@ -7,9 +7,16 @@ use Rattle.jp_reading.specs.Numbers.{is_digit}
 use Rattle.jp_reading.proofs.Bare.{Bare, bare-word, bare-one, bare-joined, bare-each}
 use Rattle.jp_query.specs.Tree.{LiteralTree}
 use Rattle.jp_query.specs.Names.{is_name_first, is_name_char, Shorthand, shorthand}
-use Rattle.jp_query.specs.Strings.{is_escapable, is_hexdig, is_d, is_not_d, is_0_to_7, is_8_to_b, is_c_to_f, Unit, digits, Hexchar, not_d, below_surrogates, surrogates, Character, plain, escape, hex, Between, Quoted, in_double, in_single}
-use Rattle.jp_query.specs.Ints.{is_leading_digit, Unsigned, Int, zero_int, positive_int, negative_int}
-use Rattle.jp_query.specs.Literals.{Optional, left_out, written, DigitSequence, Decimals, decimals, is_e, is_sign, Exponent, unsigned, signed, Mantissa, whole, minus_zero, Number, number, Literal, of_number, of_text, of_true, of_false, of_null}
+use Rattle.jp_query.specs.Strings.{is_escapable, is_hexdig, is_d, is_not_d, is_0_to_7, is_8_to_b}
+use Rattle.jp_query.specs.Strings.{is_c_to_f, Unit, digits, Hexchar, not_d, below_surrogates}
+use Rattle.jp_query.specs.Strings.{surrogates, Character, plain, escape, hex, Between, Quoted}
+use Rattle.jp_query.specs.Strings.{in_double, in_single}
+use Rattle.jp_query.specs.Ints.{is_leading_digit, Unsigned, Int, zero_int, positive_int}
+use Rattle.jp_query.specs.Ints.{negative_int}
+use Rattle.jp_query.specs.Literals.{Optional, left_out, written, DigitSequence, Decimals, decimals}
+use Rattle.jp_query.specs.Literals.{is_e, is_sign, Exponent, unsigned, signed, Mantissa, whole}
+use Rattle.jp_query.specs.Literals.{minus_zero, Number, number, Literal, of_number, of_text}
+use Rattle.jp_query.specs.Literals.{of_true, of_false, of_null}
 use Rattle.jp_query.specs.Characters.{double_quote, single_quote}
 
 -- one after another

@@ -1,6 +1,7 @@
 -- What the definitions of spans refuse: the bounds of `$[0:9]` the other way around, and a bound
 -- without a span.
-use Rattle.std.proofs.Common.{◌≡◌, ◌+◌, ℕ, pos, true, [], ◌∷◌, ◌++◌, Some, None, arith, sym, ap, ◌∙◌, subst}
+use Rattle.std.proofs.Common.{◌≡◌, ◌+◌, ℕ, pos, true, [], ◌∷◌, ◌++◌, Some, None, arith, sym, ap}
+use Rattle.std.proofs.Common.{◌∙◌, subst}
 use Rattle.std.proofs.lemmas.Bool.{false≢true}
 use Rattle.std.proofs.lemmas.Str.{len_utf8_bounds}
 use Rattle.std.specs.Prelude.{codes}

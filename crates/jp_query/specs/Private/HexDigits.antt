@@ -1,7 +1,8 @@
 -- Kinds of hexadecimal digits (RFC 9535 section 2.3.1.1).
 use Rattle.std.specs.Prelude.{◌≡◌, ℕ, ◌/◌, ◌%◌, ◌<◌, Bool, true, not, ◌&&◌, nat_le, nat_lt, ◌==◌}
 use Rattle.jp_query.specs.declared.strings.HexDigit.{HexDigit}
-use Rattle.jp_query.specs.declared.strings.HexDigit.TheVariants.{Any, NotD, D, UpTo7, EightToB, FromC}
+use Rattle.jp_query.specs.declared.strings.HexDigit.TheVariants.{Any, NotD, D, UpTo7, EightToB}
+use Rattle.jp_query.specs.declared.strings.HexDigit.TheVariants.{FromC}
 use Rattle.jp_query.specs.Strings.{is_hexdig, is_not_d, is_d, is_0_to_7, is_8_to_b, is_c_to_f}
 
 -- whether a character is a digit of the kind

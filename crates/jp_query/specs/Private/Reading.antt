@@ -5,7 +5,8 @@ use Rattle.jp_reading.specs.Rule.{Mark}
 use Rattle.jp_reading.specs.RuleReading.{Inner, nothing, read}
 use Rattle.jp_query.specs.Tree.{QueryTree, ExprTree}
 use Rattle.jp_query.specs.Characters.{opening_parenthesis}
-use Rattle.jp_query.specs.Private.Rules.{nesting, QueryRule, mark, CallRest, any_call, closed, opened, query}
+use Rattle.jp_query.specs.Private.Rules.{nesting, QueryRule, mark, CallRest, any_call, closed}
+use Rattle.jp_query.specs.Private.Rules.{opened, query}
 
 -- how what opens a level is read inside n levels. With no level left, one more would be needed at
 -- the opening.

@@ -1,23 +1,41 @@
 -- The rules by which queries are read (RFC 9535 appendix A), so that the next character, or the
 -- next that is no blank, tells how a text goes on.
 use Rattle.std.specs.Char.{digit_value}
-use Rattle.std.specs.Prelude.{◌+◌, ◌*◌, ℕ, ◌||◌, ◌&&◌, not, Bool, true, false, List, [], ◌∷◌, ◌++◌, Option, Some, None, pos, codes}
+use Rattle.std.specs.Prelude.{◌+◌, ◌*◌, ℕ, ◌||◌, ◌&&◌, not, Bool, true, false, List, [], ◌∷◌, ◌++◌}
+use Rattle.std.specs.Prelude.{Option, Some, None, pos, codes}
 use Rattle.jp_reading.specs.Texts.{Text}
 use Rattle.jp_reading.specs.Outcome.{is}
 use Rattle.jp_reading.specs.Numbers.{is_digit, value_from}
-use Rattle.jp_reading.specs.Rule.{Mark, here, beyond, Nesting, the, blanks, Rule, value, character, made, look, upon, nested, item, item_where, omitted, some, relaxed, loose, until, flat, ◌>>=◌, ◌>>◌}
+use Rattle.jp_reading.specs.Rule.{Mark, here, beyond, Nesting, the, blanks, Rule, value, character}
+use Rattle.jp_reading.specs.Rule.{made, look, upon, nested, item, item_where, omitted, some}
+use Rattle.jp_reading.specs.Rule.{relaxed, loose, until, flat, ◌>>=◌, ◌>>◌}
 use Rattle.jp_query.specs.declared.tree.Numeral.{Numeral}
 use Rattle.jp_query.specs.declared.tree.Numeral.TheVariants.{Whole}
 use Rattle.jp_query.specs.declared.tree.Slice.{Slice}
 use Rattle.jp_query.specs.declared.tree.Op.{Op}
-use Rattle.jp_query.specs.declared.tree.Op.TheVariants.{Equal, Unequal, Less, LessEqual, Greater, GreaterEqual}
-use Rattle.jp_query.specs.Tree.{SelectorTree, name, wildcard, index, slice, filter, SegmentTree, QueryTree, query as query_tree, ExprTree, any_of, all_of, negation, comparison as comparison_tree, exists, call_test, OperandTree, literal as literal_operand, node_value, call_value, CallTree, call, ArgumentTree, literal_argument, query_argument, call_argument, logical_argument, LiteralTree, number as number_literal, text, true_literal, false_literal, null_literal, segment as segment_tree, selectors as selector_trees, segments as segment_trees, arguments as argument_trees}
-use Rattle.jp_query.specs.Characters.{double_quote, single_quote, exclamation_mark, dollar, ampersand, opening_parenthesis, closing_parenthesis, star, comma, minus, dot, digit_zero, colon, less_sign, equals_sign, greater_sign, question_mark, at_sign, opening_bracket, backslash, closing_bracket, letter_f, letter_n, letter_t, letter_u, bar}
+use Rattle.jp_query.specs.declared.tree.Op.TheVariants.{Equal, Unequal, Less, LessEqual, Greater}
+use Rattle.jp_query.specs.declared.tree.Op.TheVariants.{GreaterEqual}
+use Rattle.jp_query.specs.Tree.{SelectorTree, name, wildcard, index, slice, filter, SegmentTree}
+use Rattle.jp_query.specs.Tree.{QueryTree, query as query_tree, ExprTree, any_of, all_of, negation}
+use Rattle.jp_query.specs.Tree.{comparison as comparison_tree, exists, call_test, OperandTree}
+use Rattle.jp_query.specs.Tree.{literal as literal_operand, node_value, call_value, CallTree, call}
+use Rattle.jp_query.specs.Tree.{ArgumentTree, literal_argument, query_argument, call_argument}
+use Rattle.jp_query.specs.Tree.{logical_argument, LiteralTree, number as number_literal, text}
+use Rattle.jp_query.specs.Tree.{true_literal, false_literal, null_literal, segment as segment_tree}
+use Rattle.jp_query.specs.Tree.{selectors as selector_trees, segments as segment_trees}
+use Rattle.jp_query.specs.Tree.{arguments as argument_trees}
+use Rattle.jp_query.specs.Characters.{double_quote, single_quote, exclamation_mark, dollar}
+use Rattle.jp_query.specs.Characters.{ampersand, opening_parenthesis, closing_parenthesis, star}
+use Rattle.jp_query.specs.Characters.{comma, minus, dot, digit_zero, colon, less_sign, equals_sign}
+use Rattle.jp_query.specs.Characters.{greater_sign, question_mark, at_sign, opening_bracket}
+use Rattle.jp_query.specs.Characters.{backslash, closing_bracket, letter_f, letter_n, letter_t}
+use Rattle.jp_query.specs.Characters.{letter_u, bar}
 use Rattle.jp_query.specs.Grammar.{joined}
 use Rattle.jp_query.specs.Ints.{is_leading_digit, whole_of, negative_of}
 use Rattle.jp_query.specs.Literals.{is_e, is_sign, numeral}
 use Rattle.jp_query.specs.Names.{is_name_first, is_name_char, is_function_first, is_function_char}
-use Rattle.jp_query.specs.Strings.{is_plain, is_escapable, escaped, is_hexdig, is_d, is_not_d, is_0_to_7, is_8_to_b, is_c_to_f, scalar_of}
+use Rattle.jp_query.specs.Strings.{is_plain, is_escapable, escaped, is_hexdig, is_d, is_not_d}
+use Rattle.jp_query.specs.Strings.{is_0_to_7, is_8_to_b, is_c_to_f, scalar_of}
 
 -- what opens a level: the mark of an expression, the first letter of a function's name, which is
 -- none of some others, or what goes on with such a name or ends it, and not with another character

@@ -1,21 +1,29 @@
 -- What has the form of a value is read as that value, where each way of the rule is told from the
 -- others.
-use Rattle.std.proofs.Common.{◌≡◌, ℕ, ◌+◌, Bool, true, false, ◌||◌, if◌then◌else◌, List, [], ◌∷◌, ◌++◌, Option, Some, None, refl, sym, ap, ◌∙◌, subst, arith}
+use Rattle.std.proofs.Common.{◌≡◌, ℕ, ◌+◌, Bool, true, false, ◌||◌, if◌then◌else◌, List, [], ◌∷◌}
+use Rattle.std.proofs.Common.{◌++◌, Option, Some, None, refl, sym, ap, ◌∙◌, subst, arith}
 use Rattle.jp_reading.specs.Texts.{Text, bytes, is_blank}
 use Rattle.jp_reading.specs.Forms.{Form, ◌⌢◌, word, Blank, AllPassing, Each, Omitted}
-use Rattle.jp_reading.specs.Outcome.{State, Outcome, took, ◌>>=◌, head, first_of, past, after_blank, passes, is, is_at, each, omit}
+use Rattle.jp_reading.specs.Outcome.{State, Outcome, took, ◌>>=◌, head, first_of, past, after_blank}
+use Rattle.jp_reading.specs.Outcome.{passes, is, is_at, each, omit}
 use Rattle.jp_reading.specs.Views.{by}
-use Rattle.jp_reading.specs.Rule.{Mark, here, beyond, Nesting, Step, the, blanks, Rule, value, character, after, seq, made, look, upon, nested, item_where, omitted, some, relaxed, loose, until, flat}
+use Rattle.jp_reading.specs.Rule.{Mark, here, beyond, Nesting, Step, the, blanks, Rule, value}
+use Rattle.jp_reading.specs.Rule.{character, after, seq, made, look, upon, nested, item_where}
+use Rattle.jp_reading.specs.Rule.{omitted, some, relaxed, loose, until, flat}
 use Rattle.jp_reading.specs.RuleReading.{Inner, nothing, next, stepped, spanned_if, spanned, read}
 use Rattle.jp_reading.proofs.Between.{Reads, reads-is, state-same}
 use Rattle.jp_reading.proofs.Chars.{after_blank-same}
 use Rattle.jp_reading.proofs.Levels.{Only, Then}
 use Rattle.jp_reading.proofs.Progress.{Progress}
 use Rattle.jp_reading.proofs.Loops.{each-on, each-off}
-use Rattle.jp_reading.proofs.Again.{split, reads-none, one-first, again-take_if, again-expect, again-skip, again-round, at-word, past-word, inside}
+use Rattle.jp_reading.proofs.Again.{split, reads-none, one-first, again-take_if, again-expect}
+use Rattle.jp_reading.proofs.Again.{again-skip, again-round, at-word, past-word, inside}
 use Rattle.jp_reading.proofs.Rules.Progress.{goes}
-use Rattle.jp_reading.proofs.Rules.Form.{Either, left, right, ItemIf, Inside, none_inside, text_of, form, Alive, least}
-use Rattle.jp_reading.proofs.Rules.Follow.{Follow, Meets, any, beginning, blanked, either_of, stepping, begins, Passing, Under, Implies, or-left, or-right, Excludes, at, Repeats, Ends, Apart}
+use Rattle.jp_reading.proofs.Rules.Form.{Either, left, right, ItemIf, Inside, none_inside, text_of}
+use Rattle.jp_reading.proofs.Rules.Form.{form, Alive, least}
+use Rattle.jp_reading.proofs.Rules.Follow.{Follow, Meets, any, beginning, blanked, either_of}
+use Rattle.jp_reading.proofs.Rules.Follow.{stepping, begins, Passing, Under, Implies, or-left}
+use Rattle.jp_reading.proofs.Rules.Follow.{or-right, Excludes, at, Repeats, Ends, Apart}
 
 -- the rule took the value, and its text begins as the tests say
 pub record Done {A : Type 0} (B : Follow) (o : Outcome A) (x : A) (p q : State) : Type 0 where

@@ -4,7 +4,9 @@
 use Rattle.std.proofs.Common.{◌≡◌, ℕ, Bool, true, false, ◌||◌, Option, Some, None, refl}
 use Rattle.jp_reading.specs.Texts.{is_blank}
 use Rattle.jp_reading.specs.Outcome.{State, head, after_blank, passes, is}
-use Rattle.jp_reading.specs.Rule.{Mark, here, beyond, Nesting, Step, the, blanks, Rule, value, character, after, seq, made, look, upon, nested, item_where, omitted, some, relaxed, loose, until, flat}
+use Rattle.jp_reading.specs.Rule.{Mark, here, beyond, Nesting, Step, the, blanks, Rule, value}
+use Rattle.jp_reading.specs.Rule.{character, after, seq, made, look, upon, nested, item_where}
+use Rattle.jp_reading.specs.Rule.{omitted, some, relaxed, loose, until, flat}
 use Rattle.jp_reading.proofs.Rules.Form.{Alive, least}
 
 -- tests of the next character, and of the next that is no blank

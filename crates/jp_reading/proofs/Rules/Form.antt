@@ -3,9 +3,13 @@
 use Rattle.std.proofs.Common.{◌≡◌, ℕ, Bool, true, false, [], ◌∷◌, None, refl}
 use Rattle.jp_reading.specs.Texts.{Text, Spans}
 use Rattle.jp_reading.specs.Forms.{Form, ◌⌢◌, word, One, Blank, Each, Item, Omitted, Never}
-use Rattle.jp_reading.specs.Rule.{Mark, Nesting, Step, the, blanks, Rule, value, character, after, seq, made, look, upon, nested, item_where, omitted, some, relaxed, loose, until, flat}
+use Rattle.jp_reading.specs.Rule.{Mark, Nesting, Step, the, blanks, Rule, value, character, after}
+use Rattle.jp_reading.specs.Rule.{seq, made, look, upon, nested, item_where, omitted, some, relaxed}
+use Rattle.jp_reading.specs.Rule.{loose, until, flat}
 use Rattle.jp_reading.proofs.Between.{Has, Within, has-as}
-use Rattle.jp_reading.proofs.Levels.{Only, Then, Made, joined-lifts, joined-has, word-has, blank-has, then-lifts, then-has, item-lifts, item-has, each-lifts}
+use Rattle.jp_reading.proofs.Levels.{Only, Then, Made, joined-lifts, joined-has, word-has}
+use Rattle.jp_reading.proofs.Levels.{blank-has, then-lifts, then-has, item-lifts, item-has}
+use Rattle.jp_reading.proofs.Levels.{each-lifts}
 
 -- a text of one of two forms
 pub data Either (P Q : Form) (s : Spans) (o : ℕ) (t : Text) : Type 0 where

@@ -1,7 +1,10 @@
 -- Reading with one level more does the same, but where a level is missing.
 use Rattle.std.proofs.Common.{◌≡◌, ℕ, zero, suc, Bool, true, false, if◌then◌else◌, length, refl}
-use Rattle.jp_reading.specs.Outcome.{State, Outcome, took, stuck, deep, ◌>>=◌, head, past, skip, passes, is_at, expect, loop}
-use Rattle.jp_reading.specs.Rule.{Mark, Nesting, Step, the, blanks, Rule, value, character, after, seq, made, look, upon, nested, item_where, omitted, some, relaxed, loose, until, flat}
+use Rattle.jp_reading.specs.Outcome.{State, Outcome, took, stuck, deep, ◌>>=◌, head, past, skip}
+use Rattle.jp_reading.specs.Outcome.{passes, is_at, expect, loop}
+use Rattle.jp_reading.specs.Rule.{Mark, Nesting, Step, the, blanks, Rule, value, character, after}
+use Rattle.jp_reading.specs.Rule.{seq, made, look, upon, nested, item_where, omitted, some, relaxed}
+use Rattle.jp_reading.specs.Rule.{loose, until, flat}
 use Rattle.jp_reading.specs.RuleReading.{Inner, next, stepped, read}
 
 -- the second outcome is the first, or the first needs a level more

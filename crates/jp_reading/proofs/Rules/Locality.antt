@@ -3,11 +3,16 @@
 use Rattle.std.proofs.Common.{ℕ, Bool}
 use Rattle.jp_reading.specs.Texts.{Text}
 use Rattle.jp_reading.specs.Outcome.{State, Outcome, head, passes, is, expect}
-use Rattle.jp_reading.specs.Rule.{Mark, here, beyond, Nesting, Step, the, blanks, Rule, value, character, after, seq, made, look, upon, nested, item_where, omitted, some, relaxed, loose, until, flat}
+use Rattle.jp_reading.specs.Rule.{Mark, here, beyond, Nesting, Step, the, blanks, Rule, value}
+use Rattle.jp_reading.specs.Rule.{character, after, seq, made, look, upon, nested, item_where}
+use Rattle.jp_reading.specs.Rule.{omitted, some, relaxed, loose, until, flat}
 use Rattle.jp_reading.specs.RuleReading.{Inner, nothing, next, stepped, read}
 use Rattle.jp_reading.proofs.Progress.{Progress}
 use Rattle.jp_reading.proofs.Rules.Progress.{goes}
-use Rattle.jp_reading.proofs.Locality.{all, unblanked, Local, Tests, local-then, local-took, local-by, local-omit, local-spanned, local-stuck, local-if, tests-head, tests-after, local-past, local-take_if, local-skip, local-from, local-to, local-each}
+use Rattle.jp_reading.proofs.Locality.{all, unblanked, Local, Tests, local-then, local-took}
+use Rattle.jp_reading.proofs.Locality.{local-by, local-omit, local-spanned, local-stuck, local-if}
+use Rattle.jp_reading.proofs.Locality.{tests-head, tests-after, local-past, local-take_if}
+use Rattle.jp_reading.proofs.Locality.{local-skip, local-from, local-to, local-each}
 
 -- how much is left to be looked at from a mark on
 abbrev pub left : Mark → Text → ℕ

@@ -1,11 +1,16 @@
 -- A rule leaves no longer text, and a shorter one where it takes a character.
 use Rattle.std.proofs.Common.{◌≡◌, ℕ, Bool, true, false, ◌||◌, ◌&&◌, if◌then◌else◌, refl, arith}
-use Rattle.jp_reading.specs.Outcome.{State, Outcome, took, stuck, deep, ◌>>=◌, head, past, skip, passes, is, is_at, expect}
+use Rattle.jp_reading.specs.Outcome.{State, Outcome, took, stuck, deep, ◌>>=◌, head, past, skip}
+use Rattle.jp_reading.specs.Outcome.{passes, is, is_at, expect}
 use Rattle.jp_reading.specs.Views.{by}
-use Rattle.jp_reading.specs.Rule.{Mark, Nesting, Step, the, blanks, Rule, value, character, after, seq, made, look, upon, nested, item_where, omitted, some, relaxed, loose, until, flat}
+use Rattle.jp_reading.specs.Rule.{Mark, Nesting, Step, the, blanks, Rule, value, character, after}
+use Rattle.jp_reading.specs.Rule.{seq, made, look, upon, nested, item_where, omitted, some, relaxed}
+use Rattle.jp_reading.specs.Rule.{loose, until, flat}
 use Rattle.jp_reading.specs.RuleReading.{Inner, nothing, next, stepped, spanned_if, spanned, read}
 use Rattle.jp_reading.proofs.Chars.{past-shorter}
-use Rattle.jp_reading.proofs.Progress.{Moves, Keeps, Progress, keeps-from_moves, keeps-then, moves-then, moves-later, moves-skip, keeps-skip, moves-take_if, moves-by, keeps-by, keeps-each}
+use Rattle.jp_reading.proofs.Progress.{Moves, Keeps, Progress, keeps-from_moves, keeps-then}
+use Rattle.jp_reading.proofs.Progress.{moves-then, moves-later, moves-skip, keeps-skip}
+use Rattle.jp_reading.proofs.Progress.{moves-take_if, moves-by, keeps-by, keeps-each}
 
 -- whether it takes a character at least
 abbrev pub Goes : {A : Type 0} → Bool → State → Outcome A → Type 0

@@ -1,18 +1,25 @@
 -- What a rule reads is a text of the rule, and what it read where it stops begins one.
-use Rattle.std.proofs.Common.{◌≡◌, ℕ, zero, suc, ◌<◌, Bool, true, false, if◌then◌else◌, List, [], ◌∷◌, length, Option, Some, None, inl, inr, refl, ap, ◌∙◌, arith}
+use Rattle.std.proofs.Common.{◌≡◌, ℕ, zero, suc, ◌<◌, Bool, true, false, if◌then◌else◌, List, []}
+use Rattle.std.proofs.Common.{◌∷◌, length, Option, Some, None, inl, inr, refl, ap, ◌∙◌, arith}
 use Rattle.std.proofs.lemmas.Bool.{cases_Bool, eqb-true}
 use Rattle.jp_reading.specs.Forms.{Form, ◌⌢◌, word, One, Blank, Each, Omitted}
-use Rattle.jp_reading.specs.Outcome.{State, Outcome, took, stuck, deep, ◌>>=◌, head, past, skip, passes, is, is_at, take_passing, take_if, expect, loop, omit}
+use Rattle.jp_reading.specs.Outcome.{State, Outcome, took, stuck, deep, ◌>>=◌, head, past, skip}
+use Rattle.jp_reading.specs.Outcome.{passes, is, is_at, take_passing, take_if, expect, loop, omit}
 use Rattle.jp_reading.specs.Views.{by}
-use Rattle.jp_reading.specs.Rule.{Mark, Nesting, Step, the, blanks, Rule, value, character, after, seq, made, look, upon, nested, item_where, omitted, some, relaxed, loose, until, flat}
+use Rattle.jp_reading.specs.Rule.{Mark, Nesting, Step, the, blanks, Rule, value, character, after}
+use Rattle.jp_reading.specs.Rule.{seq, made, look, upon, nested, item_where, omitted, some, relaxed}
+use Rattle.jp_reading.specs.Rule.{loose, until, flat}
 use Rattle.jp_reading.specs.RuleReading.{Inner, nothing, next, stepped, spanned_if, spanned, read}
-use Rattle.jp_reading.proofs.Between.{Reads, Front, Stops, Passes, Has, Within, reads-then, front-then, front-none, reads-as}
+use Rattle.jp_reading.proofs.Between.{Reads, Front, Stops, Passes, Has, Within, reads-then}
+use Rattle.jp_reading.proofs.Between.{front-then, front-none, reads-as}
 use Rattle.jp_reading.proofs.Chars.{past-shorter}
 use Rattle.jp_reading.proofs.Steps.{skip-way, head-is}
 use Rattle.jp_reading.proofs.Fits.{reads-nothing, reads-one, reads-word}
 use Rattle.jp_reading.proofs.Levels.{Only, Then, Made, word-has, joined-has}
-use Rattle.jp_reading.proofs.Stopping.{stops-first, stops-then, stops-as, stops-made, front-item, reads-item}
-use Rattle.jp_reading.proofs.Rules.Form.{Either, left, right, ItemIf, Inside, none_inside, text_of, form, lifts, Alive, least, has}
+use Rattle.jp_reading.proofs.Stopping.{stops-first, stops-then, stops-as, stops-made, front-item}
+use Rattle.jp_reading.proofs.Stopping.{reads-item}
+use Rattle.jp_reading.proofs.Rules.Form.{Either, left, right, ItemIf, Inside, none_inside, text_of}
+use Rattle.jp_reading.proofs.Rules.Form.{form, lifts, Alive, least, has}
 
 -- what an outcome at p promises, where F says which texts a value has, and G which it has one level
 -- deeper: what was taken

@@ -1,5 +1,6 @@
 -- The nodes that a selector selects.
-use Rattle.std.proofs.Common.{◌≡◌, suc, List, [], ◌∷◌, Some, length, map, vec_len, Vec, Global, refl, ap, ◌∙◌, sym}
+use Rattle.std.proofs.Common.{◌≡◌, suc, List, [], ◌∷◌, Some, length, map, vec_len, Vec, Global}
+use Rattle.std.proofs.Common.{refl, ap, ◌∙◌, sym}
 use Rattle.jp_document.proofs.Values.{value_of-List}
 use Rattle.jp_document.specs.Value.{item_count, items_of, value_of}
 use Rattle.jp_document.specs.declared.value.Json.{Json, List as ListOf}

@@ -1,6 +1,7 @@
 -- How many values there are in one: what falls from a value to those in it.
 use Rattle.std.proofs.Common.{ℕ, suc, ◌+◌, Option, Some, None}
-use Rattle.jp_document.specs.Value.{Value, list, object, Items, no_items, item, Members, no_members, member}
+use Rattle.jp_document.specs.Value.{Value, list, object, Items, no_items, item, Members, no_members}
+use Rattle.jp_document.specs.Value.{member}
 
 abbrev mutual
   pub weight : Value → ℕ

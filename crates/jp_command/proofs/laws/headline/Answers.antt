@@ -1,4 +1,5 @@
-use Rattle.jp_command.proofs.Headline.{accepted-is_taken, answered-is_accepted, line-is_written, writes-nodelist}
+use Rattle.jp_command.proofs.Headline.{accepted-is_taken, answered-is_accepted, line-is_written}
+use Rattle.jp_command.proofs.Headline.{writes-nodelist}
 use Rattle.jp_command.specs.Canon.{canon_line}
 use Rattle.jp_command.specs.Check.{accepted_line}
 use Rattle.jp_command.proofs.laws.headline.Goals as goal

@@ -7,7 +7,8 @@ use Rattle.jp_iregexp.specs.Tree.{Tree, tree, branches, pieces}
 use Rattle.jp_iregexp.specs.Positions.{positions_of, copies}
 use Rattle.jp_iregexp.proofs.Trees.{tree_class, tree_either, tree_sequence, tree_repeat}
 use Rattle.jp_iregexp.proofs.position_count.+positions.Goals as goal
-use Rattle.jp_iregexp.proofs.position_count.+positions.Goals.{positions_of_all-in-Class, positions_of_all-in_default}
+use Rattle.jp_iregexp.proofs.position_count.+positions.Goals.{positions_of_all-in-Class}
+use Rattle.jp_iregexp.proofs.position_count.+positions.Goals.{positions_of_all-in_default}
 
 branches_as_pieces : (ts : List Tree) → positions_of (branches ts) ≡ positions_of (pieces ts)
 branches_as_pieces [] = refl

@@ -13,7 +13,8 @@ use Rattle.jp_match.proofs.Patterns.Items.{drop_item, drop_all}
 use Rattle.jp_match.proofs.Steps.StepParts.{step_nowhere}
 use Rattle.jp_match.proofs.Steps.Turns.{part_is, size_unrolled, ends_next_piece, ends_next_branch}
 use Rattle.jp_match.proofs.Steps.Turns.{ends_end_pieces, ends_end_branches, ends_between}
-use Rattle.jp_match.proofs.Steps.Turns.{ends_between_end, ends_at_least, ends_at_least_end, ends_star}
+use Rattle.jp_match.proofs.Steps.Turns.{ends_between_end, ends_at_least, ends_at_least_end}
+use Rattle.jp_match.proofs.Steps.Turns.{ends_star}
 use Rattle.jp_match.proofs.ending.+ends.Goals as goal
 
 pub ends-returns-then-not-is_any : goal.ends-returns-then-not-is_any

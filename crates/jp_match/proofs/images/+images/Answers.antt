@@ -1,4 +1,5 @@
-use Rattle.std.proofs.Common.{◌≡◌, ◌+◌, ◌-◌, suc, drop, map, length, inl, inr, sym, ap, ◌∙◌, subst, arith}
+use Rattle.std.proofs.Common.{◌≡◌, ◌+◌, ◌-◌, suc, drop, map, length, inl, inr, sym, ap, ◌∙◌, subst}
+use Rattle.std.proofs.Common.{arith}
 use Rattle.std.proofs.lemmas.Result.{on_ok_weaker}
 use Rattle.jp_iregexp.specs.Tree.{tree, branches, pieces}
 use Rattle.jp_iregexp.specs.Language.{Language, Power}
@@ -6,12 +7,17 @@ use Rattle.jp_iregexp.proofs.Trees.{tree_class, tree_either, tree_sequence, tree
 use Rattle.jp_match.specs.Private.Rows.{parts_of}
 use Rattle.jp_match.proofs.Patterns.Variants.{either_is, sequence_is, repeat_is}
 use Rattle.jp_match.proofs.Patterns.Items.{drop_item, drop_all}
-use Rattle.jp_match.proofs.Sets.Reaching.{Completes, Covers, completes_more, completes_all, covers_more}
+use Rattle.jp_match.proofs.Sets.Reaching.{Completes, Covers, completes_more, completes_all}
+use Rattle.jp_match.proofs.Sets.Reaching.{covers_more}
 use Rattle.jp_match.proofs.Sets.Repeats.{image_repeat, settled_ends}
 use Rattle.jp_match.proofs.Sets.Growing.{grows_more, grows_all, grows_last, absent_falls}
-use Rattle.jp_match.proofs.Sets.Rowwise.{parts_branches, parts_pieces, known_as, known_inner, rows_when_known, some_marks, image_rows}
+use Rattle.jp_match.proofs.Sets.Rowwise.{parts_branches, parts_pieces, known_as, known_inner}
+use Rattle.jp_match.proofs.Sets.Rowwise.{rows_when_known, some_marks, image_rows}
 use Rattle.jp_match.proofs.images.+images.Goals as goal
-use Rattle.jp_match.proofs.images.+images.Goals.{at_most_image-else-loop-left-test, at_most_image-then-loop-left-test+in_default, exactly_image-else-loop-test, exactly_image-then-loop-test+in_ok-part_image+then-is_settled}
+use Rattle.jp_match.proofs.images.+images.Goals.{at_most_image-else-loop-left-test}
+use Rattle.jp_match.proofs.images.+images.Goals.{at_most_image-then-loop-left-test+in_default}
+use Rattle.jp_match.proofs.images.+images.Goals.{exactly_image-else-loop-test}
+use Rattle.jp_match.proofs.images.+images.Goals.{exactly_image-then-loop-test+in_ok-part_image+then-is_settled}
 
 pub at_most_image-loop-left-smaller : goal.at_most_image-loop-left-smaller
 at_most_image-loop-left-smaller t c =

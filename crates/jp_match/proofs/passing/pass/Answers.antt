@@ -1,7 +1,9 @@
-use Rattle.std.proofs.Common.{◌≡◌, ◌<◌, ◌≤◌, ℕ, Bool, false, List, get_or, length, refl, ◌∙◌, subst, arith, add-one}
+use Rattle.std.proofs.Common.{◌≡◌, ◌<◌, ◌≤◌, ℕ, Bool, false, List, get_or, length, refl, ◌∙◌, subst}
+use Rattle.std.proofs.Common.{arith, add-one}
 use Rattle.std.proofs.lemmas.List.{get_or_default}
 use Rattle.jp_iregexp.specs.Tree.{Tree, tree}
-use Rattle.jp_match.proofs.Sets.Spans.{Carries, Passes, carries_first, carries_more, carries_ends, passes_first, passes_more, passes_all}
+use Rattle.jp_match.proofs.Sets.Spans.{Carries, Passes, carries_first, carries_more, carries_ends}
+use Rattle.jp_match.proofs.Sets.Spans.{passes_first, passes_more, passes_all}
 use Rattle.jp_match.proofs.passing.pass.Goals as goal
 
 -- a place that the loop has not come to is read as it was

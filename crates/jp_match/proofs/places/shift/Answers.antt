@@ -1,4 +1,5 @@
-use Rattle.std.proofs.Common.{◌≢◌, ◌<◌, length, arith, add-one, below_more, get_or-set_other, get_or-set_same}
+use Rattle.std.proofs.Common.{◌≢◌, ◌<◌, length, arith, add-one, below_more, get_or-set_other}
+use Rattle.std.proofs.Common.{get_or-set_same}
 use Rattle.std.proofs.lemmas.Grind.{common_steps}
 use Rattle.jp_match.proofs.places.shift.Goals as goal
 use Rattle.jp_match.proofs.places.shift.Goals.{then-leaves, else-leaves}

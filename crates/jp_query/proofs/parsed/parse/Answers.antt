@@ -5,7 +5,8 @@ use Rattle.jp_query.specs.Tree.{query_of}
 use Rattle.jp_query.specs.Grammar.{Spells}
 use Rattle.jp_query.specs.Private.Reading.{query_at}
 use Rattle.jp_query.proofs.Soundness.Whole.{read-spells}
-use Rattle.jp_query.proofs.Refusals.Refused.{refused-only, refused-kinds, refused-syntax, refused-deep}
+use Rattle.jp_query.proofs.Refusals.Refused.{refused-only, refused-kinds, refused-syntax}
+use Rattle.jp_query.proofs.Refusals.Refused.{refused-deep}
 use Rattle.jp_query.proofs.parsed.parse.Goals as goal
 
 pub returns-in-Ok-clause-found : goal.returns-in-Ok-clause-found
