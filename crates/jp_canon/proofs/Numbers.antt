@@ -36,7 +36,8 @@ has-no_sign n w (zero_text is shape) value = has-same (sym shape)
 has-no_sign n w (other_text d ds shape is all above) value =
     has-same (sym shape)
     (has-as (λ s o. positive_int d ds (ap whole_of (sym value ∙ ap (value_from 0) shape)))
-    (both (has-one is_leading_digit d (above_zero-leading d is above)) (has-each_passing is_digit ds all)))
+    (both (has-one is_leading_digit d (above_zero-leading d is above))
+    (has-each_passing is_digit ds all)))
 
 has-negative : (n : ℕ) (w : Text) → Begun n w → value_from 0 w ≡ n → 0 < n
     → Has (Int (negative_of n)) (45 ∷ w)
@@ -149,5 +150,6 @@ pub number-text : (i : Numeral) (s : Spans) (o : ℕ) (t : Text) → Number i s 
 number-text i s o t (number j false false is h) =
     has-equal_tree Number numeral_text is
     (has-plain j (mantissa j h.first_spans o h.first h.one))
-number-text i s o t (number j true has_exponent is h) = has-equal_tree Number numeral_text is has-fraction
+number-text i s o t (number j true has_exponent is h) =
+    has-equal_tree Number numeral_text is has-fraction
 number-text i s o t (number j false true is h) = has-equal_tree Number numeral_text is has-fraction

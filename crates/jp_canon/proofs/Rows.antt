@@ -42,8 +42,9 @@ relation = comparison (node_value (query false (segments []))) Equal
 
 -- in which expressions which parts stand in parentheses: in `||`, in `&&`, and after `!`
 abbrev grouped_parts : ℕ → List Bool
-grouped_parts outer = is_grouped outer (or_of test_a test_b) ∷ is_grouped outer
-    (and_of test_a test_b) ∷ is_grouped outer relation ∷ is_grouped outer (negation test_a) ∷ is_grouped outer test_a ∷ []
+grouped_parts outer =
+    is_grouped outer (or_of test_a test_b) ∷ is_grouped outer (and_of test_a test_b) ∷
+    is_grouped outer relation ∷ is_grouped outer (negation test_a) ∷ is_grouped outer test_a ∷ []
 
 in_or : grouped_parts 1 ≡ true ∷ false ∷ false ∷ false ∷ false ∷ []
 in_or = refl
@@ -99,8 +100,8 @@ call_arguments : call_row (codes "f((g()),g(),!g())") (codes "f")
 call_arguments = refl
 
 logical_arguments : call_row (codes "f(@['a']||@['b'],@['a']&&@['b'],!@['a'],@==1)") (codes "f")
-    (logical_argument (or_of test_a test_b) ∷ logical_argument (and_of test_a test_b) ∷ logical_argument
-    (negation test_a) ∷ logical_argument relation ∷ [])
+    (logical_argument (or_of test_a test_b) ∷ logical_argument (and_of test_a test_b) ∷
+    logical_argument (negation test_a) ∷ logical_argument relation ∷ [])
 unfolding spelling digits
 logical_arguments = refl
 

@@ -12,8 +12,8 @@ use Rattle.jp_document.specs.Spelling.{spelling}
 use Rattle.jp_document.proofs.Spellings.Encoded.{names-encode}
 
 -- a text with more bytes has the characters of which these are the UTF-8 as well
-characters-appended : {Z : Type 0} (old new : String Z) (before bs cs : List ℕ) → chars (string_bytes old)
-    ≡ before → string_bytes new ≡ string_bytes old ++ bs
+characters-appended : {Z : Type 0} (old new : String Z) (before bs cs : List ℕ)
+    → chars (string_bytes old) ≡ before → string_bytes new ≡ string_bytes old ++ bs
     → encode_utf8_all cs ≡ bs → chars (string_bytes new) ≡ before ++ cs
 characters-appended old new before bs cs seen wrote is =
     sym (chars_from_encodes (chars (string_bytes old) ++ cs) (string_bytes new)
@@ -27,7 +27,8 @@ pub pushed : {Z T E : Type 0} (old new : String Z) (before bs cs : List ℕ) (r 
     (string_bytes old) ≡ before
     → OnOk r (string_bytes new ≡ string_bytes old ++ bs) → encode_utf8_all cs ≡ bs
     → OnOk r (chars (string_bytes new) ≡ before ++ cs)
-pushed old new before bs cs (Ok x) seen wrote is = characters-appended old new before bs cs seen wrote is
+pushed old new before bs cs (Ok x) seen wrote is =
+    characters-appended old new before bs cs seen wrote is
 pushed old new before bs cs (Err e) seen wrote is = tt
 
 pub pushed_str : {Z T E : Type 0} (old new : String Z) (before bs cs : List ℕ) (r : Result T E)
@@ -35,7 +36,8 @@ pub pushed_str : {Z T E : Type 0} (old new : String Z) (before bs cs : List ℕ)
     → string_bytes new ≡ cond (is_ok r) (string_bytes old ++ bs) (string_bytes old)
     → encode_utf8_all cs ≡ bs
     → OnOk r (chars (string_bytes new) ≡ before ++ cs)
-pushed_str old new before bs cs (Ok x) seen wrote is = characters-appended old new before bs cs seen wrote is
+pushed_str old new before bs cs (Ok x) seen wrote is =
+    characters-appended old new before bs cs seen wrote is
 pushed_str old new before bs cs (Err e) seen wrote is = tt
 
 -- ASCII characters are their own bytes

@@ -91,7 +91,8 @@ impl<'d> Node<'d> {
         value: &'d Json,
     ) -> Result<Node<'d>, AllocError>
         requires { IsDocumentValue (value_of value.now) }
-        ensures location { IfOk result (λ n. n.location ≡ self.now.location ++ key_of step.entry ∷ []) }
+        ensures location { IfOk result
+            (λ n. n.location ≡ self.now.location ++ key_of step.entry ∷ []) }
         ensures value { IfOk result (λ n. n.value ≡ value.now) }
     {
         let steps = self.location();

@@ -46,9 +46,9 @@ joined : of_segments
 joined = refl
 
 -- $..[0]
-first_items_of_descendants : of_segments (segment true (selectors (index (Whole (pos 0)) ∷ [])) ∷ []) ≡
+below_a_first : of_segments (segment true (selectors (index (Whole (pos 0)) ∷ [])) ∷ []) ≡
     (key_a ∷ nth 0 ∷ []) ∷ (key_a ∷ nth 1 ∷ nth 0 ∷ []) ∷ []
-first_items_of_descendants = refl
+below_a_first = refl
 
 -- $..*: the children of each visited node stand together
 each_in_turn : of_segments (segment true (selectors (wildcard ∷ [])) ∷ [])

@@ -42,7 +42,8 @@ pub(crate) fn start<'d>(
 /// The value that a segment of a singular query selects at a value, None where it selects none.
 /// Other segments have None.
 fn single_value<'d>(segment: &Segment, value: DocumentValue<'d>) -> Option<DocumentValue<'d>>
-    ensures { option_map lent_value result ≡ single_value (segment_of segment.now) (lent_value value.entry) }
+    ensures { option_map lent_value result
+        ≡ single_value (segment_of segment.now) (lent_value value.entry) }
 {
     if segment.descendant || segment.selectors.len() != 1 {
         return None;

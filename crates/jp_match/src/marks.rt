@@ -65,7 +65,8 @@ fn accepts_whole(scan: &mut Scan<'_>, text: &str, tests: &mut Tests) -> bool
 /// Whether the scan accepts once it has taken some prefix of the text. It ends at the first one.
 fn accepts_prefix(scan: &mut Scan<'_>, text: &str, tests: &mut Tests) -> bool
     ensures accepted { IsTrue result
-        ↔ ((count : ℕ) × (count ≤ length (chars text.now)) × Left scan.old (take count (chars text.now))) }
+        ↔ ((count : ℕ) × (count ≤ length (chars text.now))
+        × Left scan.old (take count (chars text.now))) }
     ensures counted { tests.new ≤ tests.old + positions_of (tree_of scan.old) * length (chars
         text.now) }
     ensures kept { tests.old ≤ tests.new }

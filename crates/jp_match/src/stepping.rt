@@ -96,8 +96,8 @@ fn step_either(
     ended
 }
 
-/// The same for pieces: where one has ended, the next is entered. Where none is and no mark is left,
-/// the others have nothing to do.
+/// The same for pieces: where one has ended, the next is entered. Where none is and no mark is
+/// left, the others have nothing to do.
 #[cycle(step)]
 fn step_sequence(
     parts: &[Pattern],

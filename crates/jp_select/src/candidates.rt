@@ -41,7 +41,8 @@ pub fn single<'d>(
     selector: &Selector,
     value: DocumentValue<'d>,
 ) -> Option<(Step<'d>, DocumentValue<'d>)>
-    ensures { option_map lent_entry result ≡ single (selector_of selector.now) (lent_value value.entry) }
+    ensures { option_map lent_entry result
+        ≡ single (selector_of selector.now) (lent_value value.entry) }
 {
     match selector {
         Selector::Name(name) => value.member(name.as_str()),

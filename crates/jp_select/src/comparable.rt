@@ -95,7 +95,8 @@ fn same_items(lefts: &[Json], rights: &[Json]) -> bool
 #[cycle(equals)]
 fn same_members(members: &[Member], others: &[Member]) -> bool
     ensures { result
-        ≡ same_members (members_of (map member_of members.now)) (members_of (map member_of others.now)) }
+        ≡ same_members (members_of (map member_of members.now))
+        (members_of (map member_of others.now)) }
 {
     if members.len() != others.len() {
         return false;

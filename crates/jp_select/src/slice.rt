@@ -128,7 +128,8 @@ fn from_zero(length: u64, number: i128) -> u128
 
 /// A bound of a slice whose step is negative, held within -1 and the last index.
 fn from_minus_one(length: u64, number: i128) -> i128
-    ensures bound { result ≡ held_within (negsuc 0) (pos length -ℤ pos 1) (normalized length number) }
+    ensures bound { result
+        ≡ held_within (negsuc 0) (pos length -ℤ pos 1) (normalized length number) }
     ensures least { negsuc 0 ≤ℤ result }
     ensures most { result ≤ℤ (pos length -ℤ pos 1) }
 {
@@ -137,7 +138,8 @@ fn from_minus_one(length: u64, number: i128) -> i128
 
 /// One more than that bound.
 fn one_higher(length: u64, number: i128) -> u128
-    ensures bound { pos result ≡ held_within (negsuc 0) (pos length -ℤ pos 1) (normalized length number) +ℤ pos 1 }
+    ensures bound { pos result
+        ≡ held_within (negsuc 0) (pos length -ℤ pos 1) (normalized length number) +ℤ pos 1 }
     ensures within { result ≤ length }
 {
     (from_minus_one(length, number) + 1) as u128

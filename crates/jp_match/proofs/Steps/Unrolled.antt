@@ -52,8 +52,8 @@ at_least_of a (suc zero) zero w enough p = absurd (omega arith)
 at_least_of a (suc zero) (suc k) w enough p = (k, p)
 at_least_of a (suc (suc n)) zero w enough p = absurd (omega arith)
 at_least_of a (suc (suc n)) (suc k) w enough p =
-    joined_as (Words a) (Words a) (Power (Words a) k) (Words (at_least a (suc n))) (λ v l. l) (λ v q.
-    at_least_of a (suc n) k v (omega arith) q) w p
+    joined_as (Words a) (Words a) (Power (Words a) k) (Words (at_least a (suc n))) (λ v l. l)
+    (λ v q. at_least_of a (suc n) k v (omega arith) q) w p
 
 between_to : (a : Plain) (least most : ℕ) (w : List ℕ) → Words (between a least most) w →
     (k : ℕ) × (least ≤ k) × (k ≤ most) × Power (Words a) k w
@@ -83,13 +83,13 @@ between_of a zero zero zero w enough within p = p
 between_of a zero zero (suc k) w enough within p = absurd (omega arith)
 between_of a zero (suc most) zero w enough within p = inl p
 between_of a zero (suc most) (suc k) w enough within p =
-    inr (joined_as (Words a) (Words a) (Power (Words a) k) (Words (between a zero most)) (λ v l. l) (λ v q.
-    between_of a zero most k v (omega arith) (omega arith) q) w p)
+    inr (joined_as (Words a) (Words a) (Power (Words a) k) (Words (between a zero most)) (λ v l. l)
+    (λ v q. between_of a zero most k v (omega arith) (omega arith) q) w p)
 between_of a (suc least) most zero w enough within p = absurd (omega arith)
 between_of a (suc least) zero (suc k) w enough within p = absurd (omega arith)
 between_of a (suc least) (suc most) (suc k) w enough within p =
-    joined_as (Words a) (Words a) (Power (Words a) k) (Words (between a least most)) (λ v l. l) (λ v q.
-    between_of a least most k v (omega arith) (omega arith) q) w p
+    joined_as (Words a) (Words a) (Power (Words a) k) (Words (between a least most)) (λ v l. l)
+    (λ v q. between_of a least most k v (omega arith) (omega arith) q) w p
 
 unrolled_to : (t : Tree) (w : List ℕ) → Words (unrolled t) w → Language t w
 unfolding unrolled counted

@@ -78,7 +78,8 @@ chosen_nodes s d n ns plain stands is =
           ∙ sym (chosen-candidates s d n.value n.location plain stands.there);
       stand =
           All-same (StandsIn d) ns _ is
-          (nodes_below-stand d n.value n.location (candidates s n.value) stands.document stands.there
+          (nodes_below-stand d n.value n.location (candidates s n.value) stands.document
+          stands.there
           (candidates_stand s n.value here));
     }
 

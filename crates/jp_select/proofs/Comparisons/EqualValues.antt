@@ -64,7 +64,8 @@ none_before k f fs less rise =
 
 -- past a first entry at one key the others answer alike too
 found_after : (k : Key) (e f : Key × Value) (es fs : Entries) → e.0 ≡ f.0 → AllAbove e.0 es →
-    AllAbove f.0 fs → value_under k (e ∷ es) ≡ value_under k (f ∷ fs) → value_under k es ≡ value_under k fs
+    AllAbove f.0 fs → value_under k (e ∷ es) ≡ value_under k (f ∷ fs) →
+    value_under k es ≡ value_under k fs
 found_after k e f es fs key above over alike =
     elim (cases_Bool (is_eq (key_cmp k e.0))) [
       | inl h ↦
@@ -73,11 +74,13 @@ found_after k e f es fs key above over alike =
           ∙ sym (none_above k fs (subst (λ j. AllAbove j fs) (sym (here ∙ key)) over))
       | inr h ↦
           ap (λ b. cond b (Some e.1) (value_under k es)) (sym h) ∙ alike
-          ∙ ap (λ b. cond b (Some f.1) (value_under k fs)) (ap (λ j. is_eq (key_cmp k j)) (sym key) ∙ h)
+          ∙ ap (λ b. cond b (Some f.1) (value_under k fs))
+          (ap (λ j. is_eq (key_cmp k j)) (sym key) ∙ h)
     ]
 
 same_entries : (es fs : Entries) → IsStrictlySortedBy key_cmp (keys_of es) →
-    IsStrictlySortedBy key_cmp (keys_of fs) → ((k : Key) → value_under k es ≡ value_under k fs) → es ≡ fs
+    IsStrictlySortedBy key_cmp (keys_of fs) → ((k : Key) → value_under k es ≡ value_under k fs) →
+    es ≡ fs
 same_entries [] [] rise up alike = refl
 same_entries [] (f ∷ fs) rise up alike =
     let e : None ≡ Some f.1 = alike f.0 ∙ found_first f fs in absurd (cc)

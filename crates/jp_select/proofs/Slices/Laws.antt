@@ -28,7 +28,8 @@ use Rattle.jp_select.proofs.Slices.Indexes.{below_upper, not_below_upper, falls_
 
 range-above : (b a n : ℕ) → b < a → AllByRecursion (λ y. nat_cmp b y ≡ Less) (range_with_len a n)
 range-above b a zero less = tt
-range-above b a (suc n) less = (sym (nat_cmp_is b a Less less), range-above b (a + 1) n (omega arith))
+range-above b a (suc n) less =
+    (sym (nat_cmp_is b a Less less), range-above b (a + 1) n (omega arith))
 
 indexes_rise : (a n : ℕ) → IsStrictlySortedBy nat_cmp (range_with_len a n)
 unfolding IsStrictlySortedBy

@@ -24,4 +24,5 @@ returns g c =
       document = document;
       is = record { nodes = nodes; selected = c.nodes-selected.ensures.nodes; lines = refl };
     })
-    c.in_ok-bytes.ensures.ok.works c.write_lines-written.ensures.ok c.write_lines-written.ensures.stopped
+    c.in_ok-bytes.ensures.ok.works c.write_lines-written.ensures.ok
+    c.write_lines-written.ensures.stopped

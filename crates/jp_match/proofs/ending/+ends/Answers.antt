@@ -25,18 +25,24 @@ ends-returns-then-not-is_any t c =
 
 pub ends-ends_either-requires : goal.ends-ends_either-requires
 ends-ends_either-requires t c =
-    let is = either_is _ _ _ c.in-Either.is c.deref.ensures.value in
-    (omega (arith, c.decreases, is.smaller), (c.requires.sized ∙ ap positions_of is.same, c.requires.few))
+    let is = either_is _ _ _ c.in-Either.is c.deref.ensures.value in (
+      omega (arith, c.decreases, is.smaller),
+      (c.requires.sized ∙ ap positions_of is.same, c.requires.few),
+    )
 
 pub ends-ends_sequence-requires : goal.ends-ends_sequence-requires
 ends-ends_sequence-requires t c =
-    let is = sequence_is _ _ _ c.in-Sequence.is c.deref-in-Sequence.ensures.value in
-    (omega (arith, c.decreases, is.smaller), (c.requires.sized ∙ ap positions_of is.same, c.requires.few))
+    let is = sequence_is _ _ _ c.in-Sequence.is c.deref-in-Sequence.ensures.value in (
+      omega (arith, c.decreases, is.smaller),
+      (c.requires.sized ∙ ap positions_of is.same, c.requires.few),
+    )
 
 pub ends-ends_repeat-requires : goal.ends-ends_repeat-requires
 ends-ends_repeat-requires t c =
-    let is = repeat_is _ _ _ _ _ c.in-Repeat.is c.deref-in-Repeat.ensures in
-    (omega (arith, c.decreases, is.smaller), (c.requires.sized ∙ ap positions_of is.same, c.requires.few))
+    let is = repeat_is _ _ _ _ _ c.in-Repeat.is c.deref-in-Repeat.ensures in (
+      omega (arith, c.decreases, is.smaller),
+      (c.requires.sized ∙ ap positions_of is.same, c.requires.few),
+    )
 
 pub ends-bounds-row-0 : goal.ends-bounds-row-0
 ends-bounds-row-0 t c =

@@ -162,13 +162,20 @@ part_image-returns-clause-image t c =
 
 pub image-either_image-requires : goal.image-either_image-requires
 image-either_image-requires t c =
-    let is = either_is _ _ _ c.in-Either.is c.deref.ensures.value in
-    (omega (arith, c.decreases, is.smaller), (c.requires.sized, known_as _ _ _ _ (ap parts_of is.same ∙ parts_branches _) c.requires.known))
+    let is = either_is _ _ _ c.in-Either.is c.deref.ensures.value in (
+      omega (arith, c.decreases, is.smaller),
+      (
+        c.requires.sized,
+        known_as _ _ _ _ (ap parts_of is.same ∙ parts_branches _) c.requires.known,
+      ),
+    )
 
 pub image-sequence_image-requires : goal.image-sequence_image-requires
 image-sequence_image-requires t c =
-    let is = sequence_is _ _ _ c.in-Sequence.is c.deref-in-Sequence.ensures.value in
-    (omega (arith, c.decreases, is.smaller), (c.requires.sized, known_as _ _ _ _ (ap parts_of is.same ∙ parts_pieces _) c.requires.known))
+    let is = sequence_is _ _ _ c.in-Sequence.is c.deref-in-Sequence.ensures.value in (
+      omega (arith, c.decreases, is.smaller),
+      (c.requires.sized, known_as _ _ _ _ (ap parts_of is.same ∙ parts_pieces _) c.requires.known),
+    )
 
 pub image-repeat_image-requires : goal.image-repeat_image-requires
 image-repeat_image-requires t c =

@@ -34,18 +34,24 @@ step-returns-then-not-is_any-clause-step t c =
 
 pub step-step_either-requires : goal.step-step_either-requires
 step-step_either-requires t c =
-    let is = either_is _ _ _ c.in-Either.is c.deref.ensures.value in
-    (omega (arith, c.decreases, is.smaller), (c.requires.sized ∙ ap positions_of is.same, c.requires.few))
+    let is = either_is _ _ _ c.in-Either.is c.deref.ensures.value in (
+      omega (arith, c.decreases, is.smaller),
+      (c.requires.sized ∙ ap positions_of is.same, c.requires.few),
+    )
 
 pub step-step_sequence-requires : goal.step-step_sequence-requires
 step-step_sequence-requires t c =
-    let is = sequence_is _ _ _ c.in-Sequence.is c.deref-in-Sequence.ensures.value in
-    (omega (arith, c.decreases, is.smaller), (c.requires.sized ∙ ap positions_of is.same, c.requires.few))
+    let is = sequence_is _ _ _ c.in-Sequence.is c.deref-in-Sequence.ensures.value in (
+      omega (arith, c.decreases, is.smaller),
+      (c.requires.sized ∙ ap positions_of is.same, c.requires.few),
+    )
 
 pub step-step_repeat-requires : goal.step-step_repeat-requires
 step-step_repeat-requires t c =
-    let is = repeat_is _ _ _ _ _ c.in-Repeat.is c.deref-in-Repeat.ensures in
-    (omega (arith, c.decreases, is.smaller), (c.requires.sized ∙ ap positions_of is.same, c.requires.few))
+    let is = repeat_is _ _ _ _ _ c.in-Repeat.is c.deref-in-Repeat.ensures in (
+      omega (arith, c.decreases, is.smaller),
+      (c.requires.sized ∙ ap positions_of is.same, c.requires.few),
+    )
 
 pub step-step_class-requires : goal.step-step_class-requires
 step-step_class-requires t c = record {
@@ -103,8 +109,9 @@ step_either-loop-branch-preserved t c =
     c.loop-branch-test.true c.branch-item.is in
     let sized = rw item at c.loop-branch.invariant.sized in
     let part = part_is c.loop-branch.row c.loop-branch.at c.position_count.result in
-    let turn = part_turn (tree c.branch-item.result) c.loop-branch.row c.step-ended.new.row c.loop-branch.at
-    c.position_count.result c.position_count.ensures (omega (arith, sized)) (omega (
+    let turn = part_turn (tree c.branch-item.result) c.loop-branch.row c.step-ended.new.row
+    c.loop-branch.at c.position_count.result c.position_count.ensures (omega (arith, sized))
+    (omega (
       arith,
       c.requires.few,
       c.loop-branch.invariant.long,
@@ -142,8 +149,8 @@ step_sequence-loop-piece-preserved t c =
     c.loop-piece-test.true c.piece-item.is in
     let sized = rw item at c.loop-piece.invariant.sized in
     let part = part_is c.loop-piece.row c.loop-piece.at c.position_count.result in
-    let turn = part_turn (tree c.piece-item.result) c.loop-piece.row c.step-ended.new.row c.loop-piece.at
-    c.position_count.result c.position_count.ensures (omega (arith, sized)) (omega (
+    let turn = part_turn (tree c.piece-item.result) c.loop-piece.row c.step-ended.new.row
+    c.loop-piece.at c.position_count.result c.position_count.ensures (omega (arith, sized)) (omega (
       arith,
       c.requires.few,
       c.loop-piece.invariant.long,
@@ -172,8 +179,8 @@ step_sequence-returns-then-not-is_any-clause-step t c =
     c.loop-piece-test.true c.piece-item.is in
     let sized = rw item at c.loop-piece.invariant.sized in
     let part = part_is c.loop-piece.row c.loop-piece.at c.position_count.result in
-    let turn = part_turn (tree c.piece-item.result) c.loop-piece.row c.step-ended.new.row c.loop-piece.at
-    c.position_count.result c.position_count.ensures (omega (arith, sized)) (omega (
+    let turn = part_turn (tree c.piece-item.result) c.loop-piece.row c.step-ended.new.row
+    c.loop-piece.at c.position_count.result c.position_count.ensures (omega (arith, sized)) (omega (
       arith,
       c.requires.few,
       c.loop-piece.invariant.long,

@@ -29,9 +29,9 @@ abbrev pub invariant-step_between-loop-copies : goal.invariant-step_between-loop
 invariant-step_between-loop-copies l = record {
   long : length l.row ≡ length l.fn.row;
   sized : length l.row ≡ l.most;
-  so_far : StepsSoFar (between (unrolled (tree l.inner)) l.least l.most) (between (unrolled (tree
-      l.inner)) (l.least - l.copies) (l.most - l.copies)) l.fn.c l.entered l.through l.ended l.fn.row
-      l.row l.copies;
+  so_far : StepsSoFar (between (unrolled (tree l.inner)) l.least l.most)
+      (between (unrolled (tree l.inner)) (l.least - l.copies) (l.most - l.copies)) l.fn.c l.entered
+      l.through l.ended l.fn.row l.row l.copies;
 }
 
 abbrev pub invariant-step_copies-loop-copies : goal.invariant-step_copies-loop-copies
