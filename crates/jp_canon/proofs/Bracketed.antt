@@ -4,7 +4,7 @@ use Rattle.std.specs.List.{AllByRecursion}
 use Rattle.jp_reading.specs.Forms.{Blank, Form, word, ◌⌢◌}
 use Rattle.jp_reading.specs.Texts.{Spans, Text}
 use Rattle.jp_query.specs.Grammar.{Bracket, Member, Nested, Selector, any, member, named, star}
-use Rattle.jp_query.specs.Tree.{SelectorTree, selectors}
+use Rattle.jp_tree.specs.Tree.{SelectorTree, selectors}
 use Rattle.jp_canon.specs.Canon.{selector_text, selector_texts, separated}
 use Rattle.jp_canon.proofs.Forms.{Has, after-blank, before-blank, both}
 use Rattle.jp_canon.proofs.Forms.{has-as, has-equal_tree, has-same, has-separated, has-word}

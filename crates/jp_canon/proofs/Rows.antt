@@ -3,13 +3,13 @@ use Rattle.std.proofs.Common.{◌≡◌, ℕ, Bool, true, false, List, [], ◌�
 use Rattle.std.proofs.Common.{Some, None, pos, negsuc, codes, refl}
 use Rattle.std.specs.Fmt.{digits}
 use Rattle.jp_document.specs.Spelling.{spelling}
-use Rattle.jp_query.specs.declared.tree.Numeral.TheVariants.{Whole}
-use Rattle.jp_query.specs.declared.tree.Op.TheVariants.{Equal}
-use Rattle.jp_query.specs.Tree.{ArgumentTree, ExprTree, QueryTree, SelectorTree, all_of, any_of}
-use Rattle.jp_query.specs.Tree.{arguments, call, call_argument, call_test, call_value, comparison}
-use Rattle.jp_query.specs.Tree.{exists, exprs, filter, index, literal, literal_argument}
-use Rattle.jp_query.specs.Tree.{logical_argument, name, negation, node_value, number, query}
-use Rattle.jp_query.specs.Tree.{query_argument, segment, segments, selectors, slice, text, wildcard}
+use Rattle.jp_tree.specs.declared.tree.Numeral.TheVariants.{Whole}
+use Rattle.jp_tree.specs.declared.tree.Op.TheVariants.{Equal}
+use Rattle.jp_tree.specs.Tree.{ArgumentTree, ExprTree, QueryTree, SelectorTree, all_of, any_of}
+use Rattle.jp_tree.specs.Tree.{arguments, call, call_argument, call_test, call_value, comparison}
+use Rattle.jp_tree.specs.Tree.{exists, exprs, filter, index, literal, literal_argument}
+use Rattle.jp_tree.specs.Tree.{logical_argument, name, negation, node_value, number, query}
+use Rattle.jp_tree.specs.Tree.{query_argument, segment, segments, selectors, slice, text, wildcard}
 use Rattle.jp_canon.specs.Canon.{canon_of, expr_text, selector_text}
 use Rattle.jp_canon.specs.Precedence.{is_grouped}
 

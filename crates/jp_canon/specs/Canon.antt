@@ -7,19 +7,19 @@ use Rattle.std.specs.Fmt.{decimal, signed_decimal}
 use Rattle.std.specs.List.{join_by}
 use Rattle.jp_reading.specs.Texts.{Text}
 use Rattle.jp_document.specs.Path.{quoted}
-use Rattle.jp_query.specs.declared.tree.Numeral.{Numeral}
-use Rattle.jp_query.specs.declared.tree.Numeral.TheVariants.{Whole, Beyond, Fraction}
-use Rattle.jp_query.specs.declared.tree.Slice.{Slice}
+use Rattle.jp_tree.specs.declared.tree.Numeral.{Numeral}
+use Rattle.jp_tree.specs.declared.tree.Numeral.TheVariants.{Whole, Beyond, Fraction}
+use Rattle.jp_tree.specs.declared.tree.Slice.{Slice}
 use Rattle.jp_query.specs.Literals.{spelling}
-use Rattle.jp_query.specs.Tree.{SelectorTree, name, wildcard, index, slice, filter, SelectorTrees}
-use Rattle.jp_query.specs.Tree.{no_selectors, selector_then, SegmentTree, segment, SegmentTrees}
-use Rattle.jp_query.specs.Tree.{no_segments, segment_then, QueryTree, query, ExprTree, any_of}
-use Rattle.jp_query.specs.Tree.{all_of, negation, comparison, exists, call_test, ExprTrees}
-use Rattle.jp_query.specs.Tree.{no_exprs, expr_then, OperandTree, literal, node_value, call_value}
-use Rattle.jp_query.specs.Tree.{CallTree, call, ArgumentTree, literal_argument, query_argument}
-use Rattle.jp_query.specs.Tree.{call_argument, logical_argument, ArgumentTrees, no_arguments}
-use Rattle.jp_query.specs.Tree.{argument_then, LiteralTree, number, text, true_literal}
-use Rattle.jp_query.specs.Tree.{false_literal, null_literal}
+use Rattle.jp_tree.specs.Tree.{SelectorTree, name, wildcard, index, slice, filter, SelectorTrees}
+use Rattle.jp_tree.specs.Tree.{no_selectors, selector_then, SegmentTree, segment, SegmentTrees}
+use Rattle.jp_tree.specs.Tree.{no_segments, segment_then, QueryTree, query, ExprTree, any_of}
+use Rattle.jp_tree.specs.Tree.{all_of, negation, comparison, exists, call_test, ExprTrees}
+use Rattle.jp_tree.specs.Tree.{no_exprs, expr_then, OperandTree, literal, node_value, call_value}
+use Rattle.jp_tree.specs.Tree.{CallTree, call, ArgumentTree, literal_argument, query_argument}
+use Rattle.jp_tree.specs.Tree.{call_argument, logical_argument, ArgumentTrees, no_arguments}
+use Rattle.jp_tree.specs.Tree.{argument_then, LiteralTree, number, text, true_literal}
+use Rattle.jp_tree.specs.Tree.{false_literal, null_literal}
 use Rattle.jp_canon.specs.Precedence.{or_precedence, and_precedence}
 use Rattle.jp_canon.specs.Precedence.{not_precedence, is_grouped, is_test, grouped}
 

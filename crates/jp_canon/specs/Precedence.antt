@@ -1,7 +1,7 @@
 -- How tightly expressions bind, and where parentheses stand (RFC 9535 section 2.3.5.1, Table 10).
 use Rattle.std.specs.Prelude.{ℕ, Bool, true, false, nat_le, if◌then◌else◌, ◌++◌, codes}
 use Rattle.jp_reading.specs.Texts.{Text}
-use Rattle.jp_query.specs.Tree.{ExprTree, any_of, all_of, negation, comparison, exists, call_test}
+use Rattle.jp_tree.specs.Tree.{ExprTree, any_of, all_of, negation, comparison, exists, call_test}
 
 -- the precedences of `||`, of `&&` and of `!`, as the table numbers them
 abbrev pub or_precedence : ℕ

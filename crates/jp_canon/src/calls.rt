@@ -1,7 +1,7 @@
 //! Function expressions in canonical texts (RFC 9535 section 2.4).
 
 ghost use Rattle.std.specs.Prelude.{◌≡◌, ◌++◌, OnOk};
-ghost use Rattle.jp_query.specs.Tree.{argument_of, call_of, expr_of};
+ghost use Rattle.jp_tree.specs.Tree.{argument_of, call_of, expr_of};
 ghost use Rattle.jp_canon.specs.Canon.{argument_text, call_text};
 ghost use Rattle.jp_canon.specs.Precedence.{is_test};
 
@@ -9,7 +9,7 @@ use crate::expressions::write_expr;
 use crate::segments::write_query;
 use crate::values::write_literal;
 use crate::writer::Writer;
-use jp_query::{Argument, Call, Expr};
+use jp_tree::{Argument, Call, Expr};
 use std::alloc::AllocError;
 
 /// Writes a function expression: its name, then its arguments in parentheses, with commas between

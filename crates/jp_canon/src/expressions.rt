@@ -3,7 +3,7 @@
 ghost use Rattle.std.specs.Prelude.{◌≡◌, ◌++◌, map, true, OnOk};
 ghost use Rattle.std.specs.Char.{is_ascii};
 ghost use Rattle.std.specs.List.{list_all};
-ghost use Rattle.jp_query.specs.Tree.{expr_of, exprs, operand_of};
+ghost use Rattle.jp_tree.specs.Tree.{expr_of, exprs, operand_of};
 ghost use Rattle.jp_canon.specs.Canon.{expr_text, operand_text, part_texts, separated};
 ghost use Rattle.jp_canon.specs.Precedence.{is_grouped, precedence};
 
@@ -11,7 +11,7 @@ use crate::calls::write_call;
 use crate::segments::write_query;
 use crate::values::{write_literal, write_operator};
 use crate::writer::Writer;
-use jp_query::{Expr, Operand, Subject};
+use jp_tree::{Expr, Operand, Subject};
 use std::alloc::AllocError;
 
 /// The precedences of operators (RFC 9535 section 2.3.5.1, Table 10).

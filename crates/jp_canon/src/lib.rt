@@ -15,8 +15,6 @@ mod canonical;
 mod expressions;
 pub mod laws;
 mod segments;
-#[cfg(test)]
-mod tests;
 mod values;
 mod writer;
 

@@ -2,12 +2,12 @@
 
 ghost use Rattle.std.specs.Prelude.{◌≡◌, ◌++◌, OnOk};
 ghost use Rattle.jp_query.specs.Literals.{spelling};
-ghost use Rattle.jp_query.specs.Tree.{literal_of};
+ghost use Rattle.jp_tree.specs.Tree.{literal_of};
 ghost use Rattle.jp_canon.specs.Canon.{bound_text, is_one, literal_text, numeral_text, slice_text};
 ghost use Rattle.jp_canon.specs.Canon.{step_text};
 
 use crate::writer::Writer;
-use jp_query::{Literal, Numeral, Op, Slice};
+use jp_tree::{Literal, Numeral, Op, Slice};
 use std::alloc::AllocError;
 
 /// The least whole number above the range of 64 bits.

@@ -18,7 +18,7 @@ use Rattle.jp_query.specs.Levels.{level_limit}
 use Rattle.jp_query.specs.Laws.{OneReading, IsParseRefusal, OneRefusal}
 use Rattle.jp_query.specs.Spelled.{SpellsNothing}
 use Rattle.jp_query.specs.Refusal.{number_of}
-use Rattle.jp_query.specs.Tree.{QueryTree, call}
+use Rattle.jp_tree.specs.Tree.{QueryTree, call}
 use Rattle.jp_check.specs.Accepted.{IsAcceptedAs, IsNotAccepted}
 use Rattle.jp_check.specs.declared.functions.DataType.{DataType}
 use Rattle.jp_check.specs.Faults.{HasCallFault, HasFault}

@@ -6,10 +6,10 @@ use Rattle.std.specs.Slice.{IsItemAt}
 use Rattle.std.specs.Str.{chars}
 use Rattle.std.specs.String.{string_bytes}
 use Rattle.std.proofs.lemmas.Option.{slice_get_past, slice_get_read}
-use Rattle.jp_query.specs.declared.tree.Argument.{Argument}
-use Rattle.jp_query.specs.declared.tree.Call.{Call, out-Call}
+use Rattle.jp_tree.specs.declared.tree.Argument.{Argument}
+use Rattle.jp_tree.specs.declared.tree.Call.{Call, out-Call}
 use Rattle.jp_query.specs.Items.{count}
-use Rattle.jp_query.specs.Tree.{argument_of, arguments, call_of}
+use Rattle.jp_tree.specs.Tree.{argument_of, arguments, call_of}
 use Rattle.jp_check.specs.declared.functions.DataType.{DataType}
 use Rattle.jp_check.specs.Functions.{signature_named}
 use Rattle.jp_check.specs.Types.{wanted_of_arguments}

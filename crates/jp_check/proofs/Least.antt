@@ -9,7 +9,7 @@ use Rattle.jp_reading.specs.Texts.{Text, Spans}
 use Rattle.jp_reading.specs.declared.span.Span.{Span}
 use Rattle.jp_query.specs.declared.refusal.Refusal.{Refusal}
 use Rattle.jp_query.specs.declared.refusal.RefusalKind.{RefusalKind}
-use Rattle.jp_query.specs.declared.tree.Numeral.TheVariants.{Whole}
+use Rattle.jp_tree.specs.declared.tree.Numeral.TheVariants.{Whole}
 use Rattle.jp_query.specs.Items.{QueryItem, as_step, int}
 use Rattle.jp_query.specs.ItemSpans.{EachSpanned}
 use Rattle.jp_check.specs.Faults.{HasFault}

@@ -6,13 +6,13 @@ use Rattle.jp_query.specs.declared.refusal.RefusalKind.TheVariants.{NotWhole, Nu
 use Rattle.jp_query.specs.declared.refusal.RefusalKind.TheVariants.{IndexRange, UnknownFunction}
 use Rattle.jp_query.specs.declared.refusal.RefusalKind.TheVariants.{ArgumentCount, NotSingular}
 use Rattle.jp_query.specs.declared.refusal.RefusalKind.TheVariants.{IllTyped}
-use Rattle.jp_query.specs.declared.tree.Numeral.{Numeral}
-use Rattle.jp_query.specs.declared.tree.Numeral.TheVariants.{Whole, Beyond, Fraction}
+use Rattle.jp_tree.specs.declared.tree.Numeral.{Numeral}
+use Rattle.jp_tree.specs.declared.tree.Numeral.TheVariants.{Whole, Beyond, Fraction}
 use Rattle.jp_query.specs.Items.{QueryItem, Use, int, constant, inner, called, logical, count}
 use Rattle.jp_query.specs.Refusal.{number_of}
-use Rattle.jp_query.specs.Singular.{is_singular}
-use Rattle.jp_query.specs.Tree.{QueryTree, ExprTree, LiteralTree, number, text}
-use Rattle.jp_query.specs.Tree.{true_literal, false_literal, null_literal, call}
+use Rattle.jp_tree.specs.Singular.{is_singular}
+use Rattle.jp_tree.specs.Tree.{QueryTree, ExprTree, LiteralTree, number, text}
+use Rattle.jp_tree.specs.Tree.{true_literal, false_literal, null_literal, call}
 use Rattle.jp_check.specs.declared.functions.DataType.{DataType}
 use Rattle.jp_check.specs.declared.functions.DataType.TheVariants.{Value, Logical, Nodes}
 use Rattle.jp_check.specs.Faults.{HasCallFault, HasFault}

@@ -7,12 +7,12 @@ use Rattle.jp_query.specs.declared.refusal.RefusalKind.TheVariants.{NotWhole, Nu
 use Rattle.jp_query.specs.declared.refusal.RefusalKind.TheVariants.{IndexRange, UnknownFunction}
 use Rattle.jp_query.specs.declared.refusal.RefusalKind.TheVariants.{ArgumentCount, NotSingular}
 use Rattle.jp_query.specs.declared.refusal.RefusalKind.TheVariants.{IllTyped}
-use Rattle.jp_query.specs.declared.tree.Numeral.TheVariants.{Whole, Beyond, Fraction}
-use Rattle.jp_query.specs.declared.tree.Op.TheVariants.{Equal}
-use Rattle.jp_query.specs.Tree.{SelectorTree, name, wildcard, index, filter, segment, QueryTree}
-use Rattle.jp_query.specs.Tree.{query, ExprTree, all_of, comparison, literal, node_value, number}
-use Rattle.jp_query.specs.Tree.{text, CallTree, call, call_test, ArgumentTree, literal_argument}
-use Rattle.jp_query.specs.Tree.{query_argument, arguments, selectors, segments, exprs}
+use Rattle.jp_tree.specs.declared.tree.Numeral.TheVariants.{Whole, Beyond, Fraction}
+use Rattle.jp_tree.specs.declared.tree.Op.TheVariants.{Equal}
+use Rattle.jp_tree.specs.Tree.{SelectorTree, name, wildcard, index, filter, segment, QueryTree}
+use Rattle.jp_tree.specs.Tree.{query, ExprTree, all_of, comparison, literal, node_value, number}
+use Rattle.jp_tree.specs.Tree.{text, CallTree, call, call_test, ArgumentTree, literal_argument}
+use Rattle.jp_tree.specs.Tree.{query_argument, arguments, selectors, segments, exprs}
 use Rattle.jp_check.specs.declared.functions.DataType.TheVariants.{Value}
 use Rattle.jp_check.specs.Faults.{HasFault}
 use Rattle.jp_check.specs.First.{IsItemFault, IsNoLater, IsFirstFault}

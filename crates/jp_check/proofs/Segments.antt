@@ -1,10 +1,10 @@
 -- Singular segments.
 use Rattle.std.proofs.Common.{◌≡◌, ◌≤◌, Bool, true, false, List, [], ◌∷◌}
 use Rattle.std.proofs.Common.{length, map, refl, arith, sym, ap, ◌∙◌}
-use Rattle.jp_query.specs.Singular.{is_single_segment}
-use Rattle.jp_query.specs.Tree.{segment, segment_of, selector_of, selectors}
-use Rattle.jp_query.specs.declared.tree.Segment.{Segment, out-Segment}
-use Rattle.jp_query.specs.declared.tree.Selector.{Selector}
+use Rattle.jp_tree.specs.Singular.{is_single_segment}
+use Rattle.jp_tree.specs.Tree.{segment, segment_of, selector_of, selectors}
+use Rattle.jp_tree.specs.declared.tree.Segment.{Segment, out-Segment}
+use Rattle.jp_tree.specs.declared.tree.Selector.{Selector}
 use Rattle.jp_check.proofs.Trees.{segment_of-is}
 
 -- a segment with several selectors is not singular

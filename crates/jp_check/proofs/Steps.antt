@@ -3,17 +3,17 @@ use Rattle.std.proofs.Common.{◌≡◌, ◌<◌, ◌+◌, ℕ, suc, List, [], �
 use Rattle.std.proofs.Common.{length, get_or, drop, map, refl, sym, ap, ◌∙◌, arith}
 use Rattle.std.specs.List.{slice_get}
 use Rattle.std.proofs.lemmas.List.{drop_more}
-use Rattle.jp_query.specs.declared.tree.Argument.{Argument}
-use Rattle.jp_query.specs.declared.tree.Expr.{Expr}
-use Rattle.jp_query.specs.declared.tree.Expr.TheVariants.{Compare}
-use Rattle.jp_query.specs.declared.tree.Op.{Op}
-use Rattle.jp_query.specs.declared.tree.Operand.{Operand}
+use Rattle.jp_tree.specs.declared.tree.Argument.{Argument}
+use Rattle.jp_tree.specs.declared.tree.Expr.{Expr}
+use Rattle.jp_tree.specs.declared.tree.Expr.TheVariants.{Compare}
+use Rattle.jp_tree.specs.declared.tree.Op.{Op}
+use Rattle.jp_tree.specs.declared.tree.Operand.{Operand}
 use Rattle.jp_query.specs.Items.{QueryItem, Use, as_argument, argument_items, arguments_items}
 use Rattle.jp_query.specs.Items.{count, expr_items, exprs_items, operand_items, segment_items}
 use Rattle.jp_query.specs.Items.{segments_items, selector_items, selectors_items}
-use Rattle.jp_query.specs.Tree.{ArgumentTree, literal_argument, query_argument, call_argument}
-use Rattle.jp_query.specs.Tree.{logical_argument, CallTree, call, argument_of, arguments, expr_of}
-use Rattle.jp_query.specs.Tree.{exprs, operand_of, segment_of, segments, selector_of, selectors}
+use Rattle.jp_tree.specs.Tree.{ArgumentTree, literal_argument, query_argument, call_argument}
+use Rattle.jp_tree.specs.Tree.{logical_argument, CallTree, call, argument_of, arguments, expr_of}
+use Rattle.jp_tree.specs.Tree.{exprs, operand_of, segment_of, segments, selector_of, selectors}
 use Rattle.jp_check.specs.declared.functions.DataType.{DataType}
 use Rattle.jp_check.specs.Private.Calls.{arguments_from, wanted_of_call}
 use Rattle.jp_check.specs.Private.Walk.{Progress, fault_of, past_argument, past_item, steps}

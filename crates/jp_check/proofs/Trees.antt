@@ -2,14 +2,14 @@
 use Rattle.std.proofs.Common.{◌≡◌, map, rules}
 use Rattle.std.specs.Str.{chars}
 use Rattle.std.specs.String.{string_bytes}
-use Rattle.jp_query.specs.declared.tree.Call.{Call, out-Call}
-use Rattle.jp_query.specs.declared.tree.Expr.{the_lemmas}
-use Rattle.jp_query.specs.declared.tree.Expr.TheVariants.{Compare}
-use Rattle.jp_query.specs.declared.tree.Op.{Op}
-use Rattle.jp_query.specs.declared.tree.Operand.{Operand}
-use Rattle.jp_query.specs.declared.tree.Segment.{Segment, out-Segment}
-use Rattle.jp_query.specs.Tree.{argument_of, arguments, call, call_of, comparison, expr_of}
-use Rattle.jp_query.specs.Tree.{operand_of, segment, segment_of, selector_of, selectors}
+use Rattle.jp_tree.specs.declared.tree.Call.{Call, out-Call}
+use Rattle.jp_tree.specs.declared.tree.Expr.{the_lemmas}
+use Rattle.jp_tree.specs.declared.tree.Expr.TheVariants.{Compare}
+use Rattle.jp_tree.specs.declared.tree.Op.{Op}
+use Rattle.jp_tree.specs.declared.tree.Operand.{Operand}
+use Rattle.jp_tree.specs.declared.tree.Segment.{Segment, out-Segment}
+use Rattle.jp_tree.specs.Tree.{argument_of, arguments, call, call_of, comparison, expr_of}
+use Rattle.jp_tree.specs.Tree.{operand_of, segment, segment_of, selector_of, selectors}
 
 pub expr_of-Compare : (left right : Operand) (op : Op)
     → expr_of (Compare left op right) ≡ comparison (operand_of left) op (operand_of right)

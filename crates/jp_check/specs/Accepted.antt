@@ -2,7 +2,7 @@
 use Rattle.jp_reading.specs.Texts.{Text, Spans}
 use Rattle.jp_query.specs.Grammar.{Spells}
 use Rattle.jp_query.specs.Levels.{level_limit}
-use Rattle.jp_query.specs.Tree.{QueryTree}
+use Rattle.jp_tree.specs.Tree.{QueryTree}
 use Rattle.jp_check.specs.Faults.{IsFaultless}
 
 -- the text spells the tree within the limit of levels, and no item of the tree has a fault

@@ -1,5 +1,5 @@
 -- What is true of each checked query.
-use Rattle.jp_query.specs.Tree.{query_of}
+use Rattle.jp_tree.specs.Tree.{query_of}
 use Rattle.jp_check.specs.declared.checked.Checked.TheInside.{Inside}
 use Rattle.jp_check.specs.Accepted.{IsAccepted}
 

@@ -6,10 +6,10 @@ use Rattle.jp_query.specs.declared.refusal.RefusalKind.TheVariants.{NotWhole, Nu
 use Rattle.jp_query.specs.declared.refusal.RefusalKind.TheVariants.{IndexRange, UnknownFunction}
 use Rattle.jp_query.specs.declared.refusal.RefusalKind.TheVariants.{ArgumentCount, NotSingular}
 use Rattle.jp_query.specs.declared.refusal.RefusalKind.TheVariants.{IllTyped}
-use Rattle.jp_query.specs.declared.tree.Numeral.TheVariants.{Beyond, Fraction}
+use Rattle.jp_tree.specs.declared.tree.Numeral.TheVariants.{Beyond, Fraction}
 use Rattle.jp_query.specs.Items.{QueryItem, int, constant, inner, called, logical, count, items_of}
-use Rattle.jp_query.specs.Singular.{is_singular}
-use Rattle.jp_query.specs.Tree.{QueryTree, number, call}
+use Rattle.jp_tree.specs.Singular.{is_singular}
+use Rattle.jp_tree.specs.Tree.{QueryTree, number, call}
 use Rattle.jp_check.specs.declared.functions.DataType.{DataType}
 use Rattle.jp_check.specs.declared.functions.DataType.TheVariants.{Value, Logical}
 use Rattle.jp_check.specs.Functions.{Signature, signature_named}

@@ -6,7 +6,7 @@ use Rattle.jp_reading.specs.declared.span.Span.{Span}
 use Rattle.jp_query.specs.declared.refusal.Refusal.{Refusal}
 use Rattle.jp_query.specs.Items.{QueryItem, items_of}
 use Rattle.jp_query.specs.ItemSpans.{IsSpanOf}
-use Rattle.jp_query.specs.Tree.{QueryTree}
+use Rattle.jp_tree.specs.Tree.{QueryTree}
 use Rattle.jp_check.specs.Accepted.{IsAcceptedAs}
 use Rattle.jp_check.specs.Faults.{HasFault}
 use Rattle.jp_check.specs.Refused.{IsFaulty, IsRefusedForItself}

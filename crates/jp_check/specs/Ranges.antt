@@ -1,7 +1,7 @@
 -- Which whole numbers may be an index or a part of a slice (RFC 9535 section 2.1).
 use Rattle.std.specs.Prelude.{suc, ◌^◌, pos, negsuc, nat_lt, Bool, false}
-use Rattle.jp_query.specs.declared.tree.Numeral.{Numeral}
-use Rattle.jp_query.specs.declared.tree.Numeral.TheVariants.{Whole}
+use Rattle.jp_tree.specs.declared.tree.Numeral.{Numeral}
+use Rattle.jp_tree.specs.declared.tree.Numeral.TheVariants.{Whole}
 
 -- a whole number from -(2^53)+1 to (2^53)-1
 abbrev pub is_in_index_range : Numeral → Bool

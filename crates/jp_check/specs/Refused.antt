@@ -9,7 +9,7 @@ use Rattle.jp_query.specs.ViablePrefix.{IsSyntaxAt, IsTooDeepAt}
 use Rattle.jp_query.specs.Grammar.{Spells}
 use Rattle.jp_query.specs.Levels.{level_limit}
 use Rattle.jp_query.specs.Items.{items_of}
-use Rattle.jp_query.specs.Tree.{QueryTree}
+use Rattle.jp_tree.specs.Tree.{QueryTree}
 use Rattle.jp_check.specs.First.{IsFirstFault}
 
 -- the text spells a tree within the limit of levels, and this is the first fault of its items

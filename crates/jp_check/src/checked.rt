@@ -3,14 +3,15 @@
 ghost use Rattle.std.specs.Prelude.{◌≡◌, ◌⊎◌, IfOk, IfErr};
 ghost use Rattle.std.specs.Str.{chars};
 ghost use Rattle.jp_query.specs.Items.{items_of};
-ghost use Rattle.jp_query.specs.Tree.{query_of};
+ghost use Rattle.jp_tree.specs.Tree.{query_of};
 ghost use Rattle.jp_check.specs.Accepted.{IsAccepted, IsAcceptedAs, IsNotAccepted};
 ghost use Rattle.jp_check.specs.Faults.{IsFaultless};
 ghost use Rattle.jp_check.specs.First.{IsFirstFault};
 ghost use Rattle.jp_check.specs.Refused.{IsRefused};
 
 use crate::walk::first_fault;
-use jp_query::{Parsed, Query, Refusal, RefusalKind, parse};
+use jp_query::{Parsed, Refusal, RefusalKind, parse};
+use jp_tree::Query;
 use std::alloc::Global;
 use std::marker::Model;
 
@@ -21,8 +22,8 @@ pub struct Checked {
 }
 
 impl Model for Checked {
-    ghost use Rattle.jp_query.specs.declared.tree.Query.{Query};
-    ghost use Rattle.jp_query.specs.contracts.tree.Query as q;
+    ghost use Rattle.jp_tree.specs.declared.tree.Query.{Query};
+    ghost use Rattle.jp_tree.specs.contracts.tree.Query as q;
 
     ghost Value = { Query };
 

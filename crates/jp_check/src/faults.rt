@@ -1,14 +1,15 @@
 //! The faults of items, one by one.
 
 ghost use Rattle.std.specs.Prelude.{◌≡◌};
-ghost use Rattle.jp_query.specs.Tree.{call_of, literal_of, query_of};
+ghost use Rattle.jp_tree.specs.Tree.{call_of, literal_of, query_of};
 ghost use Rattle.jp_check.specs.Private.Walk.{fault_of_call, fault_of_int, fault_of_literal};
 ghost use Rattle.jp_check.specs.Private.Walk.{fault_of_logical, fault_of_query, ill_typed};
 
 use crate::functions::{DataType, signature_named};
 use crate::ranges::is_in_index_range;
 use crate::singular::is_singular;
-use jp_query::{Call, Literal, Numeral, Query, RefusalKind};
+use jp_query::RefusalKind;
+use jp_tree::{Call, Literal, Numeral, Query};
 
 /// The fault of an index or a part of a slice, if it is outside -(2^53)+1 to (2^53)-1 (RFC 9535
 /// section 2.1).

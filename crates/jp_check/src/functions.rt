@@ -2,13 +2,13 @@
 
 ghost use Rattle.std.specs.Prelude.{◌≡◌, option_map};
 ghost use Rattle.std.specs.Str.{chars};
-ghost use Rattle.jp_query.specs.Tree.{call_of};
+ghost use Rattle.jp_tree.specs.Tree.{call_of};
 ghost use Rattle.jp_check.specs.Functions.{function_named, signature, signature_named};
 ghost use Rattle.jp_check.specs.Private.Calls.{signature_of, wanted_of_call};
 ghost use Rattle.jp_check.specs.Types.{fits};
 
 use crate::functions::DataType::{Logical, Nodes, Value};
-use jp_query::Call;
+use jp_tree::Call;
 
 /// The type of a parameter or of a result (RFC 9535 section 2.4.1).
 #[derive(Debug, Clone, Copy, PartialEq, Eq)]

@@ -3,7 +3,7 @@
 ghost use Rattle.std.specs.Prelude.{◌≡◌};
 ghost use Rattle.jp_check.specs.Ranges.{is_in_index_range};
 
-use jp_query::Numeral;
+use jp_tree::Numeral;
 
 /// The greatest size of an index or a part of a slice, (2^53)-1 (RFC 9535 section 2.1).
 const MAX_SIZE: i128 = 9_007_199_254_740_991;

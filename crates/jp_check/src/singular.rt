@@ -1,10 +1,10 @@
 //! Singular queries (RFC 9535 section 2.3.5.1).
 
 ghost use Rattle.std.specs.Prelude.{◌≡◌};
-ghost use Rattle.jp_query.specs.Singular.{is_single, is_single_segment, is_singular};
-ghost use Rattle.jp_query.specs.Tree.{query_of, segment_of, selector_of};
+ghost use Rattle.jp_tree.specs.Singular.{is_single, is_single_segment, is_singular};
+ghost use Rattle.jp_tree.specs.Tree.{query_of, segment_of, selector_of};
 
-use jp_query::{Query, Segment, Selector};
+use jp_tree::{Query, Segment, Selector};
 
 /// Whether a query selects at most one node, whatever the document: it has singular segments alone.
 pub(crate) fn is_singular(query: &Query) -> bool

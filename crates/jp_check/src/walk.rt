@@ -4,8 +4,8 @@ ghost use Rattle.std.specs.Prelude.{◌≡◌, map, MatchOption, Option, None};
 ghost use Rattle.jp_query.specs.Items.{bound_items, call_items, expr_items, exprs_items, items_of};
 ghost use Rattle.jp_query.specs.Items.{operand_items, segment_items, selector_items};
 ghost use Rattle.jp_query.specs.Refusal.{number_of};
-ghost use Rattle.jp_query.specs.Tree.{argument_of, call_of, expr_of, exprs, operand_of, query_of};
-ghost use Rattle.jp_query.specs.Tree.{segment_of, selector_of, slice as slice_tree, subject_of};
+ghost use Rattle.jp_tree.specs.Tree.{argument_of, call_of, expr_of, exprs, operand_of, query_of};
+ghost use Rattle.jp_tree.specs.Tree.{segment_of, selector_of, slice as slice_tree, subject_of};
 ghost use Rattle.jp_check.specs.Faults.{IsFaultless};
 ghost use Rattle.jp_check.specs.First.{IsFirstFault};
 ghost use Rattle.jp_check.specs.Private.Walk.{earlier, fault_of_call, fault_of_int, fault_of_query};
@@ -15,10 +15,8 @@ use crate::faults::{
     fault_of_call, fault_of_int, fault_of_literal, fault_of_logical, fault_of_query,
 };
 use crate::functions::{DataType, wanted_of_arguments};
-use jp_query::{
-    Argument, Call, Expr, Numeral, Operand, Parsed, Query, Refusal, RefusalKind, Segment, Selector,
-    Slice, Span, Subject,
-};
+use jp_query::{Parsed, Refusal, RefusalKind, Span};
+use jp_tree::{Argument, Call, Expr, Numeral, Operand, Query, Segment, Selector, Slice, Subject};
 use std::marker::Model;
 
 /// The first fault of a query, if it has one.

@@ -12,7 +12,7 @@ use Rattle.jp_document.specs.Laws.{DocumentOrDefect}
 use Rattle.jp_document.specs.Value.{Value}
 use Rattle.jp_document.specs.declared.fault.DocumentFault.{DocumentFault}
 use Rattle.jp_document.specs.declared.fault.DocumentFault.TheVariants as document
-use Rattle.jp_query.specs.Tree.{QueryTree}
+use Rattle.jp_tree.specs.Tree.{QueryTree}
 use Rattle.jp_command.specs.Headline.{IsAcceptedPair, Runs, WritesLine, is_refusal}
 use Rattle.jp_command.specs.Input.{ReadsAll, ReadsTooMuch}
 use Rattle.jp_command.specs.Limits.{document_limit}

@@ -10,8 +10,8 @@ use Rattle.jp_document.specs.Node.{AreNodes, Node, StandsIn}
 use Rattle.jp_document.specs.Path.{index_text}
 use Rattle.jp_document.specs.Value.{Value, boolean, item, list, no_items, null}
 use Rattle.jp_evaluate.specs.Nodelist.{nodelist}
-use Rattle.jp_query.specs.Tree.{QueryTree, index, query, segment, segments, selectors}
-use Rattle.jp_query.specs.declared.tree.Numeral.TheVariants.{Whole}
+use Rattle.jp_tree.specs.Tree.{QueryTree, index, query, segment, segments, selectors}
+use Rattle.jp_tree.specs.declared.tree.Numeral.TheVariants.{Whole}
 use Rattle.jp_command.specs.declared.words.Task.TheVariants.{Check, Canon, Eval}
 
 both : asked (codes "jp" ∷ codes "both" ∷ codes "$" ∷ []) ≡ Some (Eval Both, codes "$")

@@ -2,7 +2,7 @@
 use Rattle.std.specs.Prelude.{ℕ, Bool, List, ◌++◌, Option, Result, codes}
 use Rattle.std.specs.Str.{encode_utf8_all}
 use Rattle.jp_canon.specs.Canon.{canon_of}
-use Rattle.jp_query.specs.Tree.{QueryTree}
+use Rattle.jp_tree.specs.Tree.{QueryTree}
 use Rattle.jp_command.specs.QueryLine.{RunsQueryLine}
 use Rattle.jp_command.specs.declared.fault.Fault.{Fault}
 

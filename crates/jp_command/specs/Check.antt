@@ -1,6 +1,6 @@
 -- What a run that tells whether a query is accepted says with its answer.
 use Rattle.std.specs.Prelude.{ℕ, Bool, List, Option, Result, codes}
-use Rattle.jp_query.specs.Tree.{QueryTree}
+use Rattle.jp_tree.specs.Tree.{QueryTree}
 use Rattle.jp_command.specs.QueryLine.{RunsQueryLine}
 use Rattle.jp_command.specs.declared.fault.Fault.{Fault}
 

@@ -11,7 +11,7 @@ use Rattle.jp_document.specs.Laws.{DocumentOrDefect, NodesDiffer}
 use Rattle.jp_document.specs.Value.{Value}
 use Rattle.jp_evaluate.specs.Laws.{PathSelectsItsNode}
 use Rattle.jp_query.specs.Laws.{OneRefusal}
-use Rattle.jp_query.specs.Tree.{QueryTree}
+use Rattle.jp_tree.specs.Tree.{QueryTree}
 use Rattle.jp_query.specs.declared.refusal.Refusal.{Refusal}
 use Rattle.jp_command.specs.Canon.{RunsCanon, canon_line}
 use Rattle.jp_command.specs.Check.{RunsCheck, accepted_line}

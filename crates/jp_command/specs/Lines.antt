@@ -6,7 +6,7 @@ use Rattle.jp_document.specs.Path.{path_of}
 use Rattle.jp_document.specs.Text.{text_of}
 use Rattle.jp_document.specs.Value.{Value}
 use Rattle.jp_evaluate.specs.Nodelist.{nodelist}
-use Rattle.jp_query.specs.Tree.{QueryTree}
+use Rattle.jp_tree.specs.Tree.{QueryTree}
 use Rattle.jp_command.specs.declared.lines.Form.{Form}
 use Rattle.jp_command.specs.declared.lines.Form.TheVariants.{Values, Paths, Both}
 

@@ -1,6 +1,6 @@
 -- What a run that writes one line for a query, and reads no document, says with its answer.
 use Rattle.std.specs.Prelude.{◌≡◌, ℕ, Bool, true, List, Option, Result, Ok, Err}
-use Rattle.jp_query.specs.Tree.{QueryTree}
+use Rattle.jp_tree.specs.Tree.{QueryTree}
 use Rattle.jp_command.specs.Output.{WritesOutput, WritesPrefix}
 use Rattle.jp_command.specs.Run.{IsAsked, RefusesQuery}
 use Rattle.jp_command.specs.declared.fault.Fault.{Fault}

@@ -8,7 +8,7 @@ use Rattle.jp_document.specs.Document.{IsDocument, IsDocumentFault}
 use Rattle.jp_document.specs.Value.{Value}
 use Rattle.jp_document.specs.declared.fault.DocumentFault.{DocumentFault}
 use Rattle.jp_document.specs.declared.fault.DocumentFault.TheVariants as document
-use Rattle.jp_query.specs.Tree.{QueryTree}
+use Rattle.jp_tree.specs.Tree.{QueryTree}
 use Rattle.jp_query.specs.declared.refusal.Refusal.{Refusal}
 use Rattle.jp_query.specs.declared.refusal.RefusalKind.TheVariants.{TextTooLong}
 use Rattle.jp_command.specs.Input.{FailsToRead, ReadsAll, ReadsTooMuch}

@@ -33,6 +33,3 @@ pub use fault::Fault;
 pub use limits::{DOCUMENT_LIMIT, QUERY_LIMIT};
 pub use line::run_line;
 pub use lines::Form;
-
-#[cfg(test)]
-mod tests;

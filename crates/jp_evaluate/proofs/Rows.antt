@@ -3,12 +3,12 @@ use Rattle.std.proofs.Common.{◌≡◌, ℕ, pos, negsuc, true, false, List, []
 use lib.Utf8.{encode}
 use Rattle.jp_document.specs.Location.{Key, Location, named, nth}
 use Rattle.jp_document.specs.Value.{Value, null, list, object, no_items, item, no_members, member}
-use Rattle.jp_query.specs.Tree.{ExprTree, QueryTree, SegmentTree, all_of, any_of}
-use Rattle.jp_query.specs.Tree.{comparison, exists, exprs, filter, index, literal}
-use Rattle.jp_query.specs.Tree.{name, negation, no_segments, node_value, null_literal}
-use Rattle.jp_query.specs.Tree.{query, segment, segments, selectors, wildcard}
-use Rattle.jp_query.specs.declared.tree.Numeral.TheVariants.{Whole}
-use Rattle.jp_query.specs.declared.tree.Op.TheVariants.{Equal}
+use Rattle.jp_tree.specs.Tree.{ExprTree, QueryTree, SegmentTree, all_of, any_of}
+use Rattle.jp_tree.specs.Tree.{comparison, exists, exprs, filter, index, literal}
+use Rattle.jp_tree.specs.Tree.{name, negation, no_segments, node_value, null_literal}
+use Rattle.jp_tree.specs.Tree.{query, segment, segments, selectors, wildcard}
+use Rattle.jp_tree.specs.declared.tree.Numeral.TheVariants.{Whole}
+use Rattle.jp_tree.specs.declared.tree.Op.TheVariants.{Equal}
 use Rattle.jp_evaluate.specs.Nodelist.{nodelist}
 
 -- {"a": [null, [null]], "b": null}

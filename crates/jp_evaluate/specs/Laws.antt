@@ -4,8 +4,8 @@ use Rattle.std.specs.Str.{chars}
 use Rattle.jp_document.specs.Location.{Location, value_at}
 use Rattle.jp_document.specs.Path.{path_of}
 use Rattle.jp_document.specs.Value.{IsDocumentValue, Value}
-use Rattle.jp_query.specs.Singular.{is_singular}
-use Rattle.jp_query.specs.Tree.{QueryTree}
+use Rattle.jp_tree.specs.Singular.{is_singular}
+use Rattle.jp_tree.specs.Tree.{QueryTree}
 use Rattle.jp_check.specs.Accepted.{IsAcceptedAs}
 use Rattle.jp_evaluate.specs.Nodelist.{nodelist, nodelist_at}
 

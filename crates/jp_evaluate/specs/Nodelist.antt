@@ -6,16 +6,16 @@ use Rattle.std.specs.Str.{encode_utf8_all}
 use Rattle.jp_document.specs.ChildNodes.{children_of}
 use Rattle.jp_document.specs.Location.{Location, value_at}
 use Rattle.jp_document.specs.Value.{Value, null, boolean, whole, text as text_value}
-use Rattle.jp_query.specs.Singular.{is_singular}
-use Rattle.jp_query.specs.Tree.{ArgumentTree, CallTree, ExprTree, ExprTrees, LiteralTree}
-use Rattle.jp_query.specs.Tree.{OperandTree, QueryTree, SegmentTree, SegmentTrees, SelectorTree}
-use Rattle.jp_query.specs.Tree.{SelectorTrees, all_of, any_of, argument_then, call, call_argument}
-use Rattle.jp_query.specs.Tree.{call_test, call_value, comparison, exists, expr_then, false_literal}
-use Rattle.jp_query.specs.Tree.{filter, index, literal, literal_argument, logical_argument, name}
-use Rattle.jp_query.specs.Tree.{negation, no_arguments, no_exprs, no_segments, no_selectors}
-use Rattle.jp_query.specs.Tree.{node_value, null_literal, number, query, query_argument, segment}
-use Rattle.jp_query.specs.Tree.{segment_then, selector_then, slice, text, true_literal, wildcard}
-use Rattle.jp_query.specs.declared.tree.Numeral.TheVariants.{Whole}
+use Rattle.jp_tree.specs.Singular.{is_singular}
+use Rattle.jp_tree.specs.Tree.{ArgumentTree, CallTree, ExprTree, ExprTrees, LiteralTree}
+use Rattle.jp_tree.specs.Tree.{OperandTree, QueryTree, SegmentTree, SegmentTrees, SelectorTree}
+use Rattle.jp_tree.specs.Tree.{SelectorTrees, all_of, any_of, argument_then, call, call_argument}
+use Rattle.jp_tree.specs.Tree.{call_test, call_value, comparison, exists, expr_then, false_literal}
+use Rattle.jp_tree.specs.Tree.{filter, index, literal, literal_argument, logical_argument, name}
+use Rattle.jp_tree.specs.Tree.{negation, no_arguments, no_exprs, no_segments, no_selectors}
+use Rattle.jp_tree.specs.Tree.{node_value, null_literal, number, query, query_argument, segment}
+use Rattle.jp_tree.specs.Tree.{segment_then, selector_then, slice, text, true_literal, wildcard}
+use Rattle.jp_tree.specs.declared.tree.Numeral.TheVariants.{Whole}
 use Rattle.jp_check.specs.Functions.{function_named}
 use Rattle.jp_select.specs.Subtree.{subtree}
 use Rattle.jp_select.specs.Comparison.{compared}

@@ -1,7 +1,7 @@
 //! The functions of filters (RFC 9535 section 2.4), over their arguments.
 ghost use Rattle.std.specs.Prelude.{◌≡◌, IfOk, length, option_map};
 ghost use Rattle.jp_document.specs.DocumentValue.{lent_value};
-ghost use Rattle.jp_query.specs.Tree.{argument_of, call_of, query_of};
+ghost use Rattle.jp_tree.specs.Tree.{argument_of, call_of, query_of};
 ghost use Rattle.jp_select.specs.Comparable.{comparable_of};
 ghost use Rattle.jp_evaluate.specs.Private.Reached.{argument_side, call_side, call_truth};
 ghost use Rattle.jp_evaluate.specs.Private.Reached.{query_reaches};
@@ -18,8 +18,8 @@ use crate::walk::Walk;
 use jp_check::Function;
 use jp_document::DocumentValue;
 use jp_match::Matching;
-use jp_query::{Argument, Call, Query};
 use jp_select::Comparable;
+use jp_tree::{Argument, Call, Query};
 use std::alloc::AllocError;
 
 /// The value that a function answers, Nothing where it answers none.

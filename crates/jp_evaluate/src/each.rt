@@ -11,7 +11,7 @@ use crate::pattern::Patterns;
 use crate::walk::Walk;
 use jp_document::Node;
 use jp_match::Matching;
-use jp_query::Segment;
+use jp_tree::Segment;
 use std::alloc::AllocError;
 
 /// The nodes that a query selects, one after another. What came so far is a prefix of the nodelist.

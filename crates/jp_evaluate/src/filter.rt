@@ -2,7 +2,7 @@
 //! it.
 ghost use Rattle.std.specs.Prelude.{◌≡◌, ◌∷◌, [], IfOk, MatchOption, map};
 ghost use Rattle.jp_document.specs.DocumentValue.{lent_value};
-ghost use Rattle.jp_query.specs.Tree.{expr_of, exprs, operand_of, query_of, subject_of};
+ghost use Rattle.jp_tree.specs.Tree.{expr_of, exprs, operand_of, query_of, subject_of};
 ghost use Rattle.jp_select.specs.Comparable.{comparable_of};
 ghost use Rattle.jp_evaluate.specs.Private.Reached.{all_true, any_true, is_reached, query_reaches};
 ghost use Rattle.jp_evaluate.specs.Private.Reached.{side, truth};
@@ -16,8 +16,8 @@ use crate::singular::{node_value, start};
 use crate::walk::{Place, Walk};
 use jp_document::DocumentValue;
 use jp_match::Matching;
-use jp_query::{Expr, Operand, Query, Segment, Subject};
 use jp_select::{Comparable, compare};
+use jp_tree::{Expr, Operand, Query, Segment, Subject};
 use std::alloc::AllocError;
 
 /// The next place that segments reach on a walk, None at the end. After an error nothing is said of

@@ -2,13 +2,13 @@
 ghost use Rattle.std.specs.Prelude.{◌≡◌, Some, option_map, pos};
 ghost use Rattle.jp_document.specs.DocumentValue.{lent_value};
 ghost use Rattle.jp_document.specs.Value.{whole};
-ghost use Rattle.jp_query.specs.Tree.{literal_of};
+ghost use Rattle.jp_tree.specs.Tree.{literal_of};
 ghost use Rattle.jp_select.specs.Comparable.{comparable_of};
 ghost use Rattle.jp_evaluate.specs.Nodelist.{literal_value};
 
 use jp_document::DocumentValue;
-use jp_query::{Literal, Numeral};
 use jp_select::Comparable;
+use jp_tree::{Literal, Numeral};
 
 /// The value of a literal; a number that is not whole, or beyond 64 bits, has none.
 pub(crate) fn literal_value(literal: &Literal) -> Comparable<'_>

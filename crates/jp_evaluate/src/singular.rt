@@ -1,14 +1,14 @@
 //! Singular queries (RFC 9535 section 2.3.5.1), followed from value to value. They take no memory.
 ghost use Rattle.std.specs.Prelude.{◌≡◌, option_map};
 ghost use Rattle.jp_document.specs.DocumentValue.{lent_value};
-ghost use Rattle.jp_query.specs.declared.tree.Query.{out-Query};
-ghost use Rattle.jp_query.specs.Tree.{query_of, segment_of};
+ghost use Rattle.jp_tree.specs.declared.tree.Query.{out-Query};
+ghost use Rattle.jp_tree.specs.Tree.{query_of, segment_of};
 ghost use Rattle.jp_evaluate.specs.Private.Reached.{begins, single_side};
 ghost use Rattle.jp_evaluate.specs.Private.Singular.{single_value};
 
 use jp_document::DocumentValue;
-use jp_query::{Query, Segment};
 use jp_select::single;
+use jp_tree::{Query, Segment};
 
 /// The value of the node that a singular query selects, None where it selects none. Other queries
 /// have None.

@@ -5,7 +5,7 @@ ghost use Rattle.std.specs.Prelude.{OnOk, OnSome, map, option_map, slice_get};
 ghost use Rattle.jp_document.specs.DocumentValue.{lent_entry, lent_value};
 ghost use Rattle.jp_document.specs.Location.{key_of};
 ghost use Rattle.jp_document.specs.Value.{value_of};
-ghost use Rattle.jp_query.specs.Tree.{expr_of, segment_of, segments as segment_trees, selector_of};
+ghost use Rattle.jp_tree.specs.Tree.{expr_of, segment_of, segments as segment_trees, selector_of};
 ghost use Rattle.jp_select.specs.Candidates.{candidates};
 ghost use Rattle.jp_evaluate.specs.Private.Sizes.{expr_size, segments_size, selector_size};
 ghost use Rattle.jp_evaluate.specs.Private.Walk.{choice_at, entered, frame_choices, offered};
@@ -14,8 +14,8 @@ ghost use Rattle.jp_evaluate.specs.Private.Walk.{test_of, turn_of, turn_selector
 ghost use Rattle.jp_evaluate.specs.Private.Walk.{walk_frames};
 
 use jp_document::{DocumentValue, Node, Step};
-use jp_query::{Expr, Segment, Selector};
 use jp_select::candidate;
+use jp_tree::{Expr, Segment, Selector};
 use std::alloc::{AllocError, Global};
 
 /// A value that segments led to.

@@ -31,6 +31,3 @@ pub use fault::PatternFault;
 pub use pattern::Pattern;
 pub use position_count::positions;
 pub use read::{GROUP_LIMIT, read_pattern};
-
-#[cfg(test)]
-mod tests;

@@ -34,6 +34,3 @@ pub use images::Images;
 pub use marks::Marks;
 pub use matching::Matching;
 pub use scan::Scan;
-
-#[cfg(test)]
-mod tests;

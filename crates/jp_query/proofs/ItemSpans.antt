@@ -2,20 +2,20 @@
 use Rattle.std.proofs.Common.{◌≡◌, ℕ, ◌+◌, zero, suc, pos, List, [], ◌∷◌, Option, refl, sym, ap}
 use Rattle.std.proofs.Common.{◌∙◌, subst, arith, append-nil, append_assoc}
 use Rattle.std.specs.Prelude.{codes}
-use Rattle.jp_query.specs.declared.tree.Numeral.{Numeral}
-use Rattle.jp_query.specs.declared.tree.Numeral.TheVariants.{Whole}
-use Rattle.jp_query.specs.declared.tree.Slice.{Slice}
-use Rattle.jp_query.specs.declared.tree.Op.{Op}
-use Rattle.jp_query.specs.declared.tree.Op.TheVariants.{Equal, Unequal, Less, LessEqual, Greater}
-use Rattle.jp_query.specs.declared.tree.Op.TheVariants.{GreaterEqual}
+use Rattle.jp_tree.specs.declared.tree.Numeral.{Numeral}
+use Rattle.jp_tree.specs.declared.tree.Numeral.TheVariants.{Whole}
+use Rattle.jp_tree.specs.declared.tree.Slice.{Slice}
+use Rattle.jp_tree.specs.declared.tree.Op.{Op}
+use Rattle.jp_tree.specs.declared.tree.Op.TheVariants.{Equal, Unequal, Less, LessEqual, Greater}
+use Rattle.jp_tree.specs.declared.tree.Op.TheVariants.{GreaterEqual}
 use Rattle.jp_query.specs.Names.{is_function_first, is_function_char, FunctionName, function_name}
 use Rattle.jp_reading.specs.Texts.{Text, bytes}
 use Rattle.jp_reading.specs.Forms.{Form, ◌⌢◌, word, One, Each, Blank, Separated, Item, Omitted}
 use Rattle.jp_reading.proofs.Bare.{Bare, bare-word}
 use Rattle.jp_reading.proofs.Between.{bytes-append}
-use Rattle.jp_query.specs.Tree.{SelectorTree, SegmentTree, QueryTree, ExprTree, ExprTrees}
-use Rattle.jp_query.specs.Tree.{OperandTree, CallTree, ArgumentTree, LiteralTree, segments}
-use Rattle.jp_query.specs.Tree.{selectors, exprs, arguments, slice, any_of, all_of, comparison}
+use Rattle.jp_tree.specs.Tree.{SelectorTree, SegmentTree, QueryTree, ExprTree, ExprTrees}
+use Rattle.jp_tree.specs.Tree.{OperandTree, CallTree, ArgumentTree, LiteralTree, segments}
+use Rattle.jp_tree.specs.Tree.{selectors, exprs, arguments, slice, any_of, all_of, comparison}
 use Rattle.jp_query.specs.Ints.{Int}
 use Rattle.jp_query.specs.Laws.{SpansOfItems}
 use Rattle.jp_query.specs.Literals.{Literal, spelling}

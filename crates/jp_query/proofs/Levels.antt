@@ -18,7 +18,7 @@ use Rattle.jp_reading.proofs.Rules.Form.{form, lifts, least, has}
 use Rattle.jp_reading.proofs.Rules.Soundness.{InnerIsSound, Opened, none_left, some_left, sound}
 use Rattle.jp_reading.proofs.Rules.Soundness.{sound-as}
 use Rattle.jp_reading.proofs.Rules.Completeness.{InnerIsComplete, done}
-use Rattle.jp_query.specs.Tree.{ExprTree, QueryTree}
+use Rattle.jp_tree.specs.Tree.{ExprTree, QueryTree}
 use Rattle.jp_query.specs.Characters.{opening_parenthesis}
 use Rattle.jp_query.specs.Names.{is_function_char}
 use Rattle.jp_query.specs.Grammar.{nested_expr, nested_arguments, without, Inside, Segments, Spells}

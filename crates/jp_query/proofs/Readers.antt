@@ -4,5 +4,4 @@ pub mod Exits
 pub mod HexKinds
 pub mod Openings
 pub mod Rounds
-pub mod Trees
 pub mod WordsAndDigits

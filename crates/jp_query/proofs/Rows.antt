@@ -1,14 +1,14 @@
 -- Worked rows: what the definitions say of small texts and filters.
 use Rattle.std.proofs.Common.{◌≡◌, true, false, [], ◌∷◌, Some, refl, None, ℕ, Option}
 use Rattle.std.specs.Prelude.{pos, negsuc, codes}
-use Rattle.jp_query.specs.declared.tree.Numeral.TheVariants.{Whole, Beyond, Fraction}
+use Rattle.jp_tree.specs.declared.tree.Numeral.TheVariants.{Whole, Beyond, Fraction}
 use Rattle.jp_reading.specs.Texts.{is_blank}
 use Rattle.jp_reading.specs.Outcome.{past_blanks, loop, stuck, deep}
 use Rattle.jp_reading.specs.Numbers.{is_digit}
 use Rattle.jp_reading.proofs.Again.{start, finish}
-use Rattle.jp_query.specs.Tree.{QueryTree, query, segments, segment, selectors, name, index}
-use Rattle.jp_query.specs.Tree.{wildcard, slice, ExprTree, filter, exprs, any_of, all_of, negation}
-use Rattle.jp_query.specs.Tree.{comparison, exists, literal, node_value, number}
+use Rattle.jp_tree.specs.Tree.{QueryTree, query, segments, segment, selectors, name, index}
+use Rattle.jp_tree.specs.Tree.{wildcard, slice, ExprTree, filter, exprs, any_of, all_of, negation}
+use Rattle.jp_tree.specs.Tree.{comparison, exists, literal, node_value, number}
 use Rattle.jp_query.specs.Names.{is_name_first, is_name_char}
 use Rattle.jp_query.specs.Strings.{is_plain, scalar_of, escaped, is_escapable}
 use Rattle.jp_query.specs.Ints.{whole_of, negative_of}
@@ -17,9 +17,9 @@ use Rattle.jp_query.specs.Grammar.{Spells}
 use Rattle.jp_query.specs.Private.Rules as rule
 use Rattle.jp_query.specs.Private.Reading.{query_at}
 use Rattle.jp_query.proofs.Soundness.Whole.{read-spells}
-use Rattle.jp_query.specs.declared.tree.Op.TheVariants.{Equal, LessEqual}
+use Rattle.jp_tree.specs.declared.tree.Op.TheVariants.{Equal, LessEqual}
 use Rattle.jp_reading.specs.declared.span.Span.{Span}
-use Rattle.jp_query.specs.Singular.{is_singular}
+use Rattle.jp_tree.specs.Singular.{is_singular}
 use Rattle.jp_query.specs.Characters.{backslash, digit_zero, double_quote, letter_a, letter_b}
 use Rattle.jp_query.specs.Characters.{low_line, single_quote, slash}
 

@@ -9,7 +9,7 @@ use Rattle.jp_reading.proofs.Again.{start, finish, reads-whole}
 use Rattle.jp_reading.proofs.Rules.Form.{form}
 use Rattle.jp_reading.proofs.Rules.Follow.{Meets}
 use Rattle.jp_reading.proofs.Rules.Completeness.{done}
-use Rattle.jp_query.specs.Tree.{QueryTree}
+use Rattle.jp_tree.specs.Tree.{QueryTree}
 use Rattle.jp_query.specs.Grammar.{Segments, Inside, Spells}
 use Rattle.jp_query.specs.Spelled.{SpellsNothing}
 use Rattle.jp_query.specs.Laws.{OneReading}

@@ -2,17 +2,17 @@
 -- A filter, a parenthesis and the arguments of a function are a level each; at most n levels stand
 -- inside one another.
 use Rattle.std.specs.Prelude.{◌≡◌, ℕ, zero, suc, true, false, List, [], ◌∷◌, codes}
-use Rattle.jp_query.specs.declared.tree.Numeral.{Numeral}
-use Rattle.jp_query.specs.declared.tree.Slice.{Slice}
-use Rattle.jp_query.specs.declared.tree.Op.{Op}
+use Rattle.jp_tree.specs.declared.tree.Numeral.{Numeral}
+use Rattle.jp_tree.specs.declared.tree.Slice.{Slice}
+use Rattle.jp_tree.specs.declared.tree.Op.{Op}
 use Rattle.jp_reading.specs.Texts.{Text, Spans}
 use Rattle.jp_reading.specs.Forms.{Form, word, ◌⌢◌, Blank, Each, Separated, Item, Never}
-use Rattle.jp_query.specs.Tree.{SelectorTree, name, wildcard, index, slice, filter, SegmentTree}
-use Rattle.jp_query.specs.Tree.{segment, QueryTree, query, ExprTree, ExprTrees, any_of, all_of}
-use Rattle.jp_query.specs.Tree.{negation, comparison, exists, call_test, OperandTree, literal}
-use Rattle.jp_query.specs.Tree.{node_value, call_value, CallTree, call, ArgumentTree}
-use Rattle.jp_query.specs.Tree.{literal_argument, query_argument, call_argument, logical_argument}
-use Rattle.jp_query.specs.Tree.{LiteralTree, selectors, segments, exprs, arguments}
+use Rattle.jp_tree.specs.Tree.{SelectorTree, name, wildcard, index, slice, filter, SegmentTree}
+use Rattle.jp_tree.specs.Tree.{segment, QueryTree, query, ExprTree, ExprTrees, any_of, all_of}
+use Rattle.jp_tree.specs.Tree.{negation, comparison, exists, call_test, OperandTree, literal}
+use Rattle.jp_tree.specs.Tree.{node_value, call_value, CallTree, call, ArgumentTree}
+use Rattle.jp_tree.specs.Tree.{literal_argument, query_argument, call_argument, logical_argument}
+use Rattle.jp_tree.specs.Tree.{LiteralTree, selectors, segments, exprs, arguments}
 use Rattle.jp_query.specs.Names.{Shorthand, FunctionName}
 use Rattle.jp_query.specs.Strings.{Quoted}
 use Rattle.jp_query.specs.Ints.{Int}

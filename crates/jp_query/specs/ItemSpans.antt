@@ -1,6 +1,6 @@
 -- Where the items of a query are in its text.
 use Rattle.std.specs.Prelude.{◌≡◌, ℕ, ◌+◌, ◌<◌, ◌⊎◌, pos, List, [], ◌∷◌, ◌++◌, Option, Some, None}
-use Rattle.jp_query.specs.declared.tree.Numeral.TheVariants.{Whole}
+use Rattle.jp_tree.specs.declared.tree.Numeral.TheVariants.{Whole}
 use Rattle.jp_reading.specs.Texts.{Text, Spans, bytes}
 use Rattle.jp_reading.specs.declared.span.Span.{Span}
 use Rattle.jp_query.specs.Grammar.{InnerQuery, FunctionCall, Logical, Inside, Spells}
@@ -8,7 +8,7 @@ use Rattle.jp_query.specs.Ints.{Int}
 use Rattle.jp_query.specs.Items.{QueryItem, as_step, int, constant, inner, called, logical}
 use Rattle.jp_query.specs.Items.{items_of}
 use Rattle.jp_query.specs.Literals.{Literal}
-use Rattle.jp_query.specs.Tree.{QueryTree}
+use Rattle.jp_tree.specs.Tree.{QueryTree}
 
 -- a text that starts at byte o spells the item: a number (RFC 9535 section 2.3.3.1), a literal, a
 -- query inside another, with its `$` or `@` (section 2.3.5.1), a function expression with its name,

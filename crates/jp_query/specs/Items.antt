@@ -1,14 +1,14 @@
 -- The items of a query's tree, in the order in which they begin in a text.
 use Rattle.std.specs.Prelude.{ℕ, zero, suc, Option, List, [], ◌∷◌, ◌++◌, Some, None}
-use Rattle.jp_query.specs.declared.tree.Numeral.{Numeral}
-use Rattle.jp_query.specs.Tree.{SelectorTree, name, wildcard, index, slice, filter, SelectorTrees}
-use Rattle.jp_query.specs.Tree.{no_selectors, selector_then, SegmentTree, segment, SegmentTrees}
-use Rattle.jp_query.specs.Tree.{no_segments, segment_then, QueryTree, query, ExprTree, any_of}
-use Rattle.jp_query.specs.Tree.{all_of, negation, comparison, exists, call_test, ExprTrees}
-use Rattle.jp_query.specs.Tree.{no_exprs, expr_then, OperandTree, literal, node_value, call_value}
-use Rattle.jp_query.specs.Tree.{CallTree, call, ArgumentTree, literal_argument, query_argument}
-use Rattle.jp_query.specs.Tree.{call_argument, logical_argument, ArgumentTrees, no_arguments}
-use Rattle.jp_query.specs.Tree.{argument_then, LiteralTree}
+use Rattle.jp_tree.specs.declared.tree.Numeral.{Numeral}
+use Rattle.jp_tree.specs.Tree.{SelectorTree, name, wildcard, index, slice, filter, SelectorTrees}
+use Rattle.jp_tree.specs.Tree.{no_selectors, selector_then, SegmentTree, segment, SegmentTrees}
+use Rattle.jp_tree.specs.Tree.{no_segments, segment_then, QueryTree, query, ExprTree, any_of}
+use Rattle.jp_tree.specs.Tree.{all_of, negation, comparison, exists, call_test, ExprTrees}
+use Rattle.jp_tree.specs.Tree.{no_exprs, expr_then, OperandTree, literal, node_value, call_value}
+use Rattle.jp_tree.specs.Tree.{CallTree, call, ArgumentTree, literal_argument, query_argument}
+use Rattle.jp_tree.specs.Tree.{call_argument, logical_argument, ArgumentTrees, no_arguments}
+use Rattle.jp_tree.specs.Tree.{argument_then, LiteralTree}
 
 -- what an item is there for: an index (RFC 9535 section 2.3.3), a bound or the step of a slice
 -- (section 2.3.4), a side of a comparison or a test (section 2.3.5), or an argument (section 2.4):

@@ -1,7 +1,7 @@
 -- Laws of the grammar (RFC 9535 section 2.1.1).
 use Rattle.std.specs.Prelude.{◌≡◌, ◌⊎◌, ℕ}
 use Rattle.jp_reading.specs.Texts.{Text, Spans}
-use Rattle.jp_query.specs.Tree.{QueryTree}
+use Rattle.jp_tree.specs.Tree.{QueryTree}
 use Rattle.jp_query.specs.Grammar.{Spells}
 use Rattle.jp_query.specs.Items.{items_of}
 use Rattle.jp_query.specs.ItemSpans.{AreSpansOf}

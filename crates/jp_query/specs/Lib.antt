@@ -9,9 +9,7 @@ pub mod Literals
 pub mod Names
 pub mod Private
 pub mod Refusal
-pub mod Singular
 pub mod Slices
 pub mod Spelled
 pub mod Strings
-pub mod Tree
 pub mod ViablePrefix

@@ -1,15 +1,15 @@
 -- Literals, and the operators of comparisons (RFC 9535 section 2.3.5.1).
 use Rattle.std.specs.Prelude.{◌≡◌, ℕ, Bool, true, false, ◌||◌, ◌==◌, if◌then◌else◌, [], codes}
-use Rattle.jp_query.specs.declared.tree.Numeral.{Numeral}
-use Rattle.jp_query.specs.declared.tree.Numeral.TheVariants.{Fraction}
-use Rattle.jp_query.specs.declared.tree.Op.{Op}
-use Rattle.jp_query.specs.declared.tree.Op.TheVariants.{Equal, Unequal, Less, LessEqual, Greater}
-use Rattle.jp_query.specs.declared.tree.Op.TheVariants.{GreaterEqual}
+use Rattle.jp_tree.specs.declared.tree.Numeral.{Numeral}
+use Rattle.jp_tree.specs.declared.tree.Numeral.TheVariants.{Fraction}
+use Rattle.jp_tree.specs.declared.tree.Op.{Op}
+use Rattle.jp_tree.specs.declared.tree.Op.TheVariants.{Equal, Unequal, Less, LessEqual, Greater}
+use Rattle.jp_tree.specs.declared.tree.Op.TheVariants.{GreaterEqual}
 use Rattle.jp_reading.specs.Texts.{Text, Spans}
 use Rattle.jp_reading.specs.Forms.{Form, word, One, ◌⌢◌, Each}
 use Rattle.jp_reading.specs.Numbers.{is_digit}
-use Rattle.jp_query.specs.Tree.{LiteralTree, number as number_literal, text, true_literal}
-use Rattle.jp_query.specs.Tree.{false_literal, null_literal}
+use Rattle.jp_tree.specs.Tree.{LiteralTree, number as number_literal, text, true_literal}
+use Rattle.jp_tree.specs.Tree.{false_literal, null_literal}
 use Rattle.jp_query.specs.Ints.{Int, whole_of}
 use Rattle.jp_query.specs.Strings.{Quoted}
 use Rattle.jp_query.specs.Characters.{plus, minus, letter_e, capital_e}

@@ -1,8 +1,8 @@
 -- Slices (RFC 9535 section 2.3.4.1).
 use Rattle.std.specs.Prelude.{◌≡◌, ℕ, pos, Option, Some, None, [], codes}
-use Rattle.jp_query.specs.declared.tree.Numeral.{Numeral}
-use Rattle.jp_query.specs.declared.tree.Numeral.TheVariants.{Whole}
-use Rattle.jp_query.specs.declared.tree.Slice.{Slice}
+use Rattle.jp_tree.specs.declared.tree.Numeral.{Numeral}
+use Rattle.jp_tree.specs.declared.tree.Numeral.TheVariants.{Whole}
+use Rattle.jp_tree.specs.declared.tree.Slice.{Slice}
 use Rattle.jp_reading.specs.Texts.{Text, Spans}
 use Rattle.jp_reading.specs.Forms.{Form, word, ◌⌢◌, Blank, Item, Omitted}
 use Rattle.jp_query.specs.Ints.{Int}

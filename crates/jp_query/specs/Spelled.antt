@@ -1,8 +1,8 @@
 -- What is kept of a query that was read, and what is said of texts that spell none.
 use Rattle.std.specs.Prelude.{ℕ}
 use Rattle.jp_reading.specs.Texts.{Text, Spans}
-use Rattle.jp_query.specs.declared.tree.Query.{Query}
-use Rattle.jp_query.specs.Tree.{QueryTree}
+use Rattle.jp_tree.specs.declared.tree.Query.{Query}
+use Rattle.jp_tree.specs.Tree.{QueryTree}
 use Rattle.jp_query.specs.Grammar.{Spells}
 
 -- a query and the spans of its items, in the items' order

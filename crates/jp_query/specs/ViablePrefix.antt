@@ -1,7 +1,7 @@
 -- Viable prefixes: beginnings of texts that spell a query (RFC 9535 section 2.1.1).
 use Rattle.std.specs.Prelude.{◌≡◌, ◌⊎◌, ℕ, suc, [], ◌∷◌, ◌++◌}
 use Rattle.jp_reading.specs.Texts.{Text, Spans, bytes}
-use Rattle.jp_query.specs.Tree.{QueryTree}
+use Rattle.jp_tree.specs.Tree.{QueryTree}
 use Rattle.jp_query.specs.Grammar.{Spells}
 use Rattle.jp_query.specs.Spelled.{SpellsNothing}
 

@@ -5,7 +5,7 @@ ghost use Rattle.std.specs.Str.{chars};
 ghost use Rattle.std.specs.String.{string_bytes};
 ghost use Rattle.jp_reading.specs.Outcome.{after_blank, passes};
 ghost use Rattle.jp_reading.specs.Views.{Gives, by};
-ghost use Rattle.jp_query.specs.Tree.{argument_of, call_of, expr_of, operand_of};
+ghost use Rattle.jp_tree.specs.Tree.{argument_of, call_of, expr_of, operand_of};
 ghost use Rattle.jp_query.specs.Private.Rules as rules;
 ghost use Rattle.jp_query.specs.Private.Rules.{is_logical};
 ghost use Rattle.jp_query.specs.Private.Parts.{begins_part, logical_at, rest_of_call};
@@ -16,8 +16,8 @@ use crate::lists::append;
 use crate::names::{NameCharacter, name_from};
 use crate::operators::is_before_operator;
 use crate::sides::side;
-use crate::tree::{Argument, Call, Expr, Operand, Subject};
 use jp_reading::{Reader, Stop};
+use jp_tree::{Argument, Call, Expr, Operand, Subject};
 
 /// A function expression.
 #[cycle(nested)]

@@ -3,7 +3,7 @@
 ghost use Rattle.std.specs.Prelude.{◌≡◌, map};
 ghost use Rattle.jp_reading.specs.Outcome.{after_blank, is, passes};
 ghost use Rattle.jp_reading.specs.Views.{Gives};
-ghost use Rattle.jp_query.specs.Tree.{expr_of, exprs, operand_of, subject_of};
+ghost use Rattle.jp_tree.specs.Tree.{expr_of, exprs, operand_of, subject_of};
 ghost use Rattle.jp_query.specs.Private.Parts.{joined_at, mark_of, part_of, several};
 ghost use Rattle.jp_query.specs.Private.Rules as rules;
 ghost use Rattle.jp_query.specs.Private.Reading.{inside, parenthesis_at, read_flat, read_inside};
@@ -13,8 +13,8 @@ use crate::lists::append;
 use crate::names::is_at_function;
 use crate::operators::{is_before_operator, operator};
 use crate::sides::{query_within, side};
-use crate::tree::{Expr, Operand, Subject};
 use jp_reading::{Reader, Stop};
+use jp_tree::{Expr, Operand, Subject};
 
 /// An expression after the mark that opens it, one level further in than the text around.
 #[cycle(nested)]

@@ -9,8 +9,8 @@ ghost use Rattle.jp_query.specs.Private.Rules.{begins_int};
 ghost use Rattle.jp_query.specs.Private.Reading.{read_flat};
 ghost use Rattle.jp_query.specs.Ints.{whole_of, negative_of, is_leading_digit};
 
-use crate::tree::Numeral;
 use jp_reading::{Reader, Stop, natural};
+use jp_tree::Numeral;
 
 /// A whole number, which is an item.
 pub(crate) fn int_item(reader: &mut Reader) -> Result<Numeral, Stop>

@@ -26,13 +26,10 @@ mod selectors;
 mod sides;
 mod slices;
 mod strings;
-#[cfg(test)]
-mod tests;
-mod tree;
 
 pub use jp_reading::Span;
-pub use parsed::{LEVEL_LIMIT, Parsed, parse};
-pub use refusal::{Refusal, RefusalKind};
-pub use tree::{
+pub use jp_tree::{
     Argument, Call, Expr, Literal, Numeral, Op, Operand, Query, Segment, Selector, Slice, Subject,
 };
+pub use parsed::{LEVEL_LIMIT, Parsed, parse};
+pub use refusal::{Refusal, RefusalKind};

@@ -2,14 +2,14 @@
 
 ghost use Rattle.std.specs.Prelude.{true};
 ghost use Rattle.jp_reading.specs.Views.{Gives};
-ghost use Rattle.jp_query.specs.Tree.{literal_of};
+ghost use Rattle.jp_tree.specs.Tree.{literal_of};
 ghost use Rattle.jp_query.specs.Private.Rules as rules;
 ghost use Rattle.jp_query.specs.Private.Reading.{read_flat};
 
 use crate::ints::{negative, size, unsigned};
 use crate::strings::quoted;
-use crate::tree::{Literal, Numeral};
 use jp_reading::{Reader, Stop, natural};
+use jp_tree::{Literal, Numeral};
 
 /// A literal that is no word: a string or a number.
 #[tactic(auto, unfolding(crate::specs::Private::Rules::plain_literal))]

@@ -7,8 +7,8 @@ ghost use Rattle.jp_query.specs.Private.Rules as rules;
 ghost use Rattle.jp_query.specs.Private.Rules.{begins_operator};
 ghost use Rattle.jp_query.specs.Private.Reading.{read_flat};
 
-use crate::tree::Op;
 use jp_reading::{Reader, Stop};
+use jp_tree::Op;
 
 /// An operator of a comparison.
 #[tactic(auto, unfolding(crate::specs::Private::Rules::operator))]

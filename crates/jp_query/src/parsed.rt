@@ -2,7 +2,7 @@
 
 ghost use Rattle.std.specs.Prelude.{◌≡◌, ◌⊎◌, IfOk, IfErr};
 ghost use Rattle.std.specs.Str.{chars};
-ghost use Rattle.jp_query.specs.Tree.{query_of};
+ghost use Rattle.jp_tree.specs.Tree.{query_of};
 ghost use Rattle.jp_query.specs.ItemSpans.{IsSpelledWithSpans};
 ghost use Rattle.jp_query.specs.Grammar.{Spells};
 ghost use Rattle.jp_query.specs.Spelled.{IsSpelled, SpellsNothing};
@@ -11,8 +11,8 @@ ghost use Rattle.jp_query.specs.ViablePrefix.{IsSyntaxAt, IsTooDeepAt};
 
 use crate::refusal::{Refusal, RefusalKind};
 use crate::segments::query;
-use crate::tree::Query;
 use jp_reading::{Reader, Span};
+use jp_tree::Query;
 use std::alloc::Global;
 use std::marker::Model;
 
@@ -28,7 +28,7 @@ pub struct Parsed {
 
 impl Model for Parsed {
     ghost use Rattle.jp_query.specs.Spelled.{Spanned};
-    ghost use Rattle.jp_query.specs.contracts.tree.Query as q;
+    ghost use Rattle.jp_tree.specs.contracts.tree.Query as q;
     ghost use Rattle.std.specs.Coded.{codes};
 
     ghost Value = { Spanned };

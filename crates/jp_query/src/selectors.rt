@@ -2,7 +2,7 @@
 
 ghost use Rattle.std.specs.Prelude.{◌≡◌, map};
 ghost use Rattle.jp_reading.specs.Views.{Gives};
-ghost use Rattle.jp_query.specs.Tree.{selector_of};
+ghost use Rattle.jp_tree.specs.Tree.{selector_of};
 ghost use Rattle.jp_query.specs.Private.Rules as rules;
 ghost use Rattle.jp_query.specs.Private.Parts.{next_entry};
 ghost use Rattle.jp_query.specs.Private.Reading.{read_flat, read_inside};
@@ -12,8 +12,8 @@ use crate::ints::int_item;
 use crate::lists::append;
 use crate::slices::slice;
 use crate::strings::quoted;
-use crate::tree::Selector;
 use jp_reading::{Reader, Stop};
+use jp_tree::Selector;
 
 /// Selectors with commas between them, and blank space around each. The reader stands before the
 /// first, and then past the blanks after the last.

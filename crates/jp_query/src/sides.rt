@@ -4,7 +4,7 @@ ghost use Rattle.std.specs.Prelude.{◌≡◌};
 ghost use Rattle.std.specs.Str.{chars};
 ghost use Rattle.std.specs.String.{string_bytes};
 ghost use Rattle.jp_reading.specs.Views.{Gives, by};
-ghost use Rattle.jp_query.specs.Tree.{call_value, literal_of, operand_of, query_of};
+ghost use Rattle.jp_tree.specs.Tree.{call_value, literal_of, operand_of, query_of};
 ghost use Rattle.jp_query.specs.Private.Rules as rules;
 ghost use Rattle.jp_query.specs.Private.Rules.{opens};
 ghost use Rattle.jp_query.specs.Private.Reading.{call_inside, read_flat, read_inside};
@@ -15,8 +15,8 @@ use crate::lists::append_char;
 use crate::literals::plain_literal;
 use crate::names::{goes_on, is_at_function};
 use crate::segments::segments;
-use crate::tree::{Literal, Operand, Query};
 use jp_reading::{Reader, Stop};
+use jp_tree::{Literal, Operand, Query};
 
 /// A side of a comparison, which is an item.
 #[cycle(nested)]

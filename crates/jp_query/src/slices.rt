@@ -6,8 +6,8 @@ ghost use Rattle.jp_query.specs.Private.Rules as rules;
 ghost use Rattle.jp_query.specs.Private.Reading.{read_flat};
 
 use crate::ints::{begins_int, int_item};
-use crate::tree::{Numeral, Slice};
 use jp_reading::{Reader, Stop};
+use jp_tree::{Numeral, Slice};
 
 /// A slice with that start, from its colon on.
 #[tactic(auto, unfolding(crate::specs::Private::Rules::slice_from))]

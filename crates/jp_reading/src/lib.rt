@@ -23,6 +23,3 @@ pub use character_class::CharacterClass;
 pub use numbers::{digit, is_at_digit, natural};
 pub use reader::{Reader, Stop, split_first};
 pub use span::Span;
-
-#[cfg(test)]
-mod tests;

@@ -17,8 +17,8 @@ use Rattle.jp_document.specs.Location.{Key, Location, child, entries, items_from
 use Rattle.jp_document.specs.Location.{key_cmp, named, nth, value_at}
 use Rattle.jp_document.specs.Value.{IsDocumentValue, Value, null, boolean, whole}
 use Rattle.jp_document.specs.Value.{text, list, object, Items, no_items, item}
-use Rattle.jp_query.specs.Tree.{SelectorTree, filter, index, name, slice, wildcard}
-use Rattle.jp_query.specs.declared.tree.Numeral.TheVariants.{Beyond, Fraction, Whole}
+use Rattle.jp_tree.specs.Tree.{SelectorTree, filter, index, name, slice, wildcard}
+use Rattle.jp_tree.specs.declared.tree.Numeral.TheVariants.{Beyond, Fraction, Whole}
 use Rattle.jp_select.specs.Candidates.{at_step, candidates, item_entry}
 use Rattle.jp_select.specs.Laws.{CandidatesAreChosen}
 use Rattle.jp_select.specs.Selectors.{chosen, indexes_chosen, item_at}

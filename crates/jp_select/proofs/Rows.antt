@@ -3,7 +3,7 @@ use Rattle.std.proofs.Common.{◌≡◌, true, false, pos, negsuc, [], ◌∷◌
 use Rattle.jp_document.specs.Location.{Location, named, nth}
 use Rattle.jp_document.specs.Value.{Value, null, boolean, whole, text, list}
 use Rattle.jp_document.specs.Value.{object, no_items, item, no_members, member}
-use Rattle.jp_query.specs.declared.tree.Op.TheVariants.{Equal, Less, LessEqual, Greater}
+use Rattle.jp_tree.specs.declared.tree.Op.TheVariants.{Equal, Less, LessEqual, Greater}
 use Rattle.jp_select.specs.Subtree.{subtree}
 use Rattle.jp_select.specs.Comparison.{compared, precedes}
 use Rattle.jp_select.specs.Selectors.{item_at}

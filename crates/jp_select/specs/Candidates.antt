@@ -6,8 +6,8 @@ use Rattle.std.specs.Option.{option_map_or}
 use Rattle.std.specs.Str.{encode_utf8_all}
 use Rattle.jp_document.specs.Location.{Key, child, entries, named}
 use Rattle.jp_document.specs.Value.{Value}
-use Rattle.jp_query.specs.Tree.{SelectorTree, name, wildcard, index, slice, filter}
-use Rattle.jp_query.specs.declared.tree.Numeral.TheVariants.{Whole}
+use Rattle.jp_tree.specs.Tree.{SelectorTree, name, wildcard, index, slice, filter}
+use Rattle.jp_tree.specs.declared.tree.Numeral.TheVariants.{Whole}
 use Rattle.jp_select.specs.Selectors.{indexes_chosen, item_at, list_length}
 
 -- a step with a value

@@ -5,9 +5,9 @@ use Rattle.std.specs.Ordering.{int_eq}
 use Rattle.std.specs.Str.{chars}
 use Rattle.jp_document.specs.Value.{Value, null, boolean, whole, text, list, object}
 use Rattle.jp_document.specs.Value.{Items, no_items, item, Members, no_members, member}
-use Rattle.jp_query.specs.declared.tree.Op.{Op}
-use Rattle.jp_query.specs.declared.tree.Op.TheVariants.{Equal, Unequal, Less, LessEqual}
-use Rattle.jp_query.specs.declared.tree.Op.TheVariants.{Greater, GreaterEqual}
+use Rattle.jp_tree.specs.declared.tree.Op.{Op}
+use Rattle.jp_tree.specs.declared.tree.Op.TheVariants.{Equal, Unequal, Less, LessEqual}
+use Rattle.jp_tree.specs.declared.tree.Op.TheVariants.{Greater, GreaterEqual}
 
 -- ---- equal
 

@@ -6,7 +6,7 @@ use Rattle.std.specs.Ordering.{nat_cmp}
 use Rattle.jp_document.specs.ChildNodes.{IsListOf, children_of}
 use Rattle.jp_document.specs.Location.{Key, Location, value_at}
 use Rattle.jp_document.specs.Value.{Value, IsDocumentValue}
-use Rattle.jp_query.specs.Tree.{SelectorTree, filter}
+use Rattle.jp_tree.specs.Tree.{SelectorTree, filter}
 use Rattle.jp_select.specs.Candidates.{candidates}
 use Rattle.jp_select.specs.Selectors.{chosen}
 use Rattle.jp_select.specs.Subtree.{subtree, IsInSubtree}

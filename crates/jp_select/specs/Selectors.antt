@@ -7,10 +7,10 @@ use Rattle.std.specs.Str.{encode_utf8_all}
 use Rattle.jp_document.specs.ChildNodes.{children_of}
 use Rattle.jp_document.specs.Location.{Key, Location, named, nth, value_at}
 use Rattle.jp_document.specs.Value.{Value, item_count, list}
-use Rattle.jp_query.specs.Tree.{SelectorTree, name, wildcard, index, slice, filter}
-use Rattle.jp_query.specs.declared.tree.Numeral.{Numeral}
-use Rattle.jp_query.specs.declared.tree.Numeral.TheVariants.{Whole}
-use Rattle.jp_query.specs.declared.tree.Slice.{Slice}
+use Rattle.jp_tree.specs.Tree.{SelectorTree, name, wildcard, index, slice, filter}
+use Rattle.jp_tree.specs.declared.tree.Numeral.{Numeral}
+use Rattle.jp_tree.specs.declared.tree.Numeral.TheVariants.{Whole}
+use Rattle.jp_tree.specs.declared.tree.Slice.{Slice}
 use Rattle.jp_select.specs.Slice.{slice_of}
 
 -- the location one step below l, if a value stands there

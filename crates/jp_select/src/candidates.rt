@@ -2,13 +2,13 @@
 ghost use Rattle.std.specs.Prelude.{◌≡◌, ◌<◌, OnSome, option_map, slice_get};
 ghost use Rattle.jp_document.specs.DocumentValue.{lent_entry, lent_value};
 ghost use Rattle.jp_document.specs.Value.{value_of};
-ghost use Rattle.jp_query.specs.Tree.{index as index_tree, selector_of, slice as slice_tree};
+ghost use Rattle.jp_tree.specs.Tree.{index as index_tree, selector_of, slice as slice_tree};
 ghost use Rattle.jp_select.specs.Candidates.{candidates, single};
 ghost use Rattle.jp_select.specs.Selectors.{item_at, list_length};
 
 use crate::slice::{slice_index, whole};
 use jp_document::{DocumentValue, Json, Step};
-use jp_query::{Numeral, Selector, Slice};
+use jp_tree::{Numeral, Selector, Slice};
 
 /// The value at this position, from 0, among those that a selector chooses from at a value, with
 /// its step; None where there are no more. A name has that member, an index that item, a slice its

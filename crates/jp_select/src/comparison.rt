@@ -5,7 +5,7 @@ ghost use Rattle.jp_select.specs.Comparison.{at_most, compared, equals, is_less}
 
 use crate::comparable::Comparable;
 use jp_document::Json;
-use jp_query::Op;
+use jp_tree::Op;
 
 /// Whether `left == right`, where None is Nothing: Nothing equals only Nothing, and values are
 /// equal where they are the same (RFC 9535 section 2.3.5.2.2).

@@ -4,12 +4,12 @@ ghost use Rattle.jp_document.specs.DocumentValue.{lent_value};
 ghost use Rattle.jp_document.specs.Location.{key_of};
 ghost use Rattle.jp_document.specs.Node.{AreNodes, StandsIn, node_of};
 ghost use Rattle.jp_document.specs.Value.{Value, value_of};
-ghost use Rattle.jp_query.specs.Tree.{selector_of};
+ghost use Rattle.jp_tree.specs.Tree.{selector_of};
 ghost use Rattle.jp_select.specs.Selectors.{chosen};
 
 use crate::candidates::candidate;
 use jp_document::{DocumentValue, Node, Step};
-use jp_query::Selector;
+use jp_tree::Selector;
 use std::alloc::{AllocError, Global};
 
 /// The nodes that a plain selector selects at a node; a filter is none, and gives no node here,

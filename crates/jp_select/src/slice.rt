@@ -5,7 +5,7 @@ ghost use Rattle.jp_select.specs.Selectors.{bound_of, indexes_chosen, whole_of};
 ghost use Rattle.jp_select.specs.Slice.{normalized, held_within, slice_of};
 ghost use Rattle.jp_select.specs.Slice.{falling_lower, falling_upper, rising_lower, rising_upper};
 
-use jp_query::{Numeral, Slice};
+use jp_tree::{Numeral, Slice};
 
 /// The index of the item at this position, from 0, among those that a slice of a list of this
 /// length selects, in its order; None where there are no more. A number that is not whole, or

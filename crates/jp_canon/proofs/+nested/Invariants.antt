@@ -1,6 +1,6 @@
 use Rattle.std.proofs.Common.{◌≡◌, ◌++◌, drop, map, codes}
-use Rattle.jp_query.specs.Tree.{argument_of, arguments, call_of, expr_of, exprs}
-use Rattle.jp_query.specs.Tree.{query_of, segment_of, segments, selector_of, selectors}
+use Rattle.jp_tree.specs.Tree.{argument_of, arguments, call_of, expr_of, exprs}
+use Rattle.jp_tree.specs.Tree.{query_of, segment_of, segments, selector_of, selectors}
 use Rattle.jp_canon.specs.Canon.{argument_texts, call_text, canon_of, part_texts}
 use Rattle.jp_canon.specs.Canon.{segment_text, segments_text, selector_texts, separated}
 use Rattle.jp_canon.proofs.Parts.{texts_from}

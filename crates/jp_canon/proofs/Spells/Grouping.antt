@@ -8,8 +8,8 @@ use Rattle.jp_query.specs.Grammar.{Parenthesis, Test, composed, conjunction, dis
 use Rattle.jp_query.specs.Grammar.{function_test, grouped as in_parentheses}
 use Rattle.jp_query.specs.Grammar.{nested_arguments, nested_expr, not_grouped, not_tested}
 use Rattle.jp_query.specs.Grammar.{one_part, parts_all, parts_any, query_test, tested}
-use Rattle.jp_query.specs.Tree.{CallTree, ExprTree, ExprTrees, QueryTree, all_of, any_of}
-use Rattle.jp_query.specs.Tree.{arguments, call_test, comparison, exists, exprs, negation}
+use Rattle.jp_tree.specs.Tree.{CallTree, ExprTree, ExprTrees, QueryTree, all_of, any_of}
+use Rattle.jp_tree.specs.Tree.{arguments, call_test, comparison, exists, exprs, negation}
 use Rattle.jp_canon.specs.Canon.{argument_texts, call_text, canon_of}
 use Rattle.jp_canon.specs.Canon.{expr_text, part_texts, separated}
 use Rattle.jp_canon.specs.Precedence.{and_precedence, grouped, is_grouped, is_test, or_precedence}

@@ -3,7 +3,7 @@ use Rattle.std.proofs.Common.{◌≡◌, ℕ, zero, suc, ◌≤◌, refl, sym, s
 use Rattle.jp_reading.specs.Texts.{Spans, Text}
 use Rattle.jp_query.specs.Grammar.{Inside, Nested, Segments, Spells}
 use Rattle.jp_query.specs.Laws.{OneReading}
-use Rattle.jp_query.specs.Tree.{QueryTree, segments}
+use Rattle.jp_tree.specs.Tree.{QueryTree, segments}
 use Rattle.jp_canon.specs.Canon.{canon_of, segments_text}
 use Rattle.jp_canon.specs.Laws.{CanonIsAccepted, CanonSpells, CanonTellsApart}
 use Rattle.jp_canon.proofs.Forms.{Has, both, has-word}

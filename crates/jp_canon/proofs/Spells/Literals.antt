@@ -3,14 +3,14 @@ use Rattle.std.proofs.Common.{◌≡◌, ℕ, ◌+◌, Bool, true, false, cond, 
 use Rattle.std.proofs.Common.{Option, pos, negsuc, refl, sym, ap, subst, codes}
 use Rattle.std.proofs.lemmas.Bool.{eqb-true}
 use Rattle.jp_reading.specs.Texts.{Spans, Text, bytes}
-use Rattle.jp_query.specs.declared.tree.Numeral.{Numeral}
-use Rattle.jp_query.specs.declared.tree.Numeral.TheVariants.{Beyond, Fraction, Whole}
-use Rattle.jp_query.specs.declared.tree.Slice.{Slice}
+use Rattle.jp_tree.specs.declared.tree.Numeral.{Numeral}
+use Rattle.jp_tree.specs.declared.tree.Numeral.TheVariants.{Beyond, Fraction, Whole}
+use Rattle.jp_tree.specs.declared.tree.Slice.{Slice}
 use Rattle.jp_query.specs.Ints.{Int}
 use Rattle.jp_query.specs.Literals.{Literal, of_false, of_null, of_number, of_text, of_true}
 use Rattle.jp_query.specs.Slices.{Bound, Sliced, Step, bound, empty_step}
 use Rattle.jp_query.specs.Slices.{given_step, no_bound, no_step}
-use Rattle.jp_query.specs.Tree.{LiteralTree}
+use Rattle.jp_tree.specs.Tree.{LiteralTree}
 use Rattle.jp_canon.specs.Canon.{bound_text, is_one, literal_text}
 use Rattle.jp_canon.specs.Canon.{numeral_text, slice_text, step_text}
 use Rattle.jp_canon.proofs.Forms.{Has, after-blank, before-blank, both}

@@ -3,7 +3,7 @@ use Rattle.std.proofs.Common.{◌≡◌, ℕ, ◌+◌, Bool, true, false, List, 
 use Rattle.std.proofs.Common.{◌∷◌, ◌++◌, map, refl, sym, ap, subst, codes}
 use Rattle.jp_reading.specs.Forms.{Blank, Form, Separated, word, ◌⌢◌}
 use Rattle.jp_reading.specs.Texts.{Spans, Text, bytes}
-use Rattle.jp_query.specs.declared.tree.Op.{Op}
+use Rattle.jp_tree.specs.declared.tree.Op.{Op}
 use Rattle.jp_query.specs.Grammar.{Argument, Arguments, Basic, Bracket, Comparison, Composed}
 use Rattle.jp_query.specs.Grammar.{Conjunction, Expression, FunctionCall, InnerQuery, Level}
 use Rattle.jp_query.specs.Grammar.{Logical, Nested, Segment, Segments, Selector, Side, Test}
@@ -16,9 +16,9 @@ use Rattle.jp_query.specs.Grammar.{nested_arguments, nested_expr, not_grouped, n
 use Rattle.jp_query.specs.Grammar.{one_part, parts_all, parts_any, query_alone, query_side}
 use Rattle.jp_query.specs.Grammar.{query_test, sliced, tested, with_some, without}
 use Rattle.jp_query.specs.Literals.{spelling}
-use Rattle.jp_query.specs.Tree.{ArgumentTree, CallTree, ExprTree, OperandTree, QueryTree}
-use Rattle.jp_query.specs.Tree.{SegmentTree, SelectorTree, all_of, any_of, arguments}
-use Rattle.jp_query.specs.Tree.{call_test, comparison, exists, exprs, negation, segments}
+use Rattle.jp_tree.specs.Tree.{ArgumentTree, CallTree, ExprTree, OperandTree, QueryTree}
+use Rattle.jp_tree.specs.Tree.{SegmentTree, SelectorTree, all_of, any_of, arguments}
+use Rattle.jp_tree.specs.Tree.{call_test, comparison, exists, exprs, negation, segments}
 use Rattle.jp_canon.specs.Canon.{argument_text, argument_texts, call_text}
 use Rattle.jp_canon.specs.Canon.{canon_of, expr_text, operand_text, segment_text}
 use Rattle.jp_canon.specs.Canon.{segments_text, selector_text, separated}

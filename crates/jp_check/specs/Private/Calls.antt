@@ -1,7 +1,7 @@
 -- Calls as the code goes through them.
 use Rattle.std.specs.Prelude.{ℕ, List}
 use Rattle.jp_query.specs.Items.{QueryItem, arguments_items, count}
-use Rattle.jp_query.specs.Tree.{ArgumentTree, CallTree, arguments, call}
+use Rattle.jp_tree.specs.Tree.{ArgumentTree, CallTree, arguments, call}
 use Rattle.jp_check.specs.declared.functions.DataType.{DataType}
 use Rattle.jp_check.specs.declared.functions.Signature as declared
 use Rattle.jp_check.specs.Functions.{Signature, signature_named}

@@ -11,11 +11,11 @@ use Rattle.jp_query.specs.declared.refusal.RefusalKind.TheVariants.{IllTyped}
 use Rattle.jp_query.specs.Items.{QueryItem, int, constant, inner, called, logical}
 use Rattle.jp_query.specs.Items.{count, items_of, expr_items, call_items}
 use Rattle.jp_query.specs.Refusal.{number_of}
-use Rattle.jp_query.specs.Singular.{is_singular}
-use Rattle.jp_query.specs.Tree.{LiteralTree, number, QueryTree, CallTree, call, ArgumentTree}
-use Rattle.jp_query.specs.Tree.{literal_argument, query_argument, call_argument, logical_argument}
-use Rattle.jp_query.specs.declared.tree.Numeral.{Numeral}
-use Rattle.jp_query.specs.declared.tree.Numeral.TheVariants.{Beyond, Fraction}
+use Rattle.jp_tree.specs.Singular.{is_singular}
+use Rattle.jp_tree.specs.Tree.{LiteralTree, number, QueryTree, CallTree, call, ArgumentTree}
+use Rattle.jp_tree.specs.Tree.{literal_argument, query_argument, call_argument, logical_argument}
+use Rattle.jp_tree.specs.declared.tree.Numeral.{Numeral}
+use Rattle.jp_tree.specs.declared.tree.Numeral.TheVariants.{Beyond, Fraction}
 use Rattle.jp_check.specs.declared.functions.DataType.{DataType}
 use Rattle.jp_check.specs.declared.functions.DataType.TheVariants.{Value, Logical}
 use Rattle.jp_check.specs.Functions.{Signature, signature_named}

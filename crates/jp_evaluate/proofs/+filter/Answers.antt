@@ -1,7 +1,7 @@
 use Rattle.std.proofs.Common.{◌≡◌, Option, Bor, option_map, ap, sym, ◌∙◌}
 use Rattle.jp_document.specs.DocumentValue.{lent_value}
-use Rattle.jp_query.specs.declared.tree.Expr.{Expr}
-use Rattle.jp_query.specs.Tree.{expr_of}
+use Rattle.jp_tree.specs.declared.tree.Expr.{Expr}
+use Rattle.jp_tree.specs.Tree.{expr_of}
 use Rattle.jp_evaluate.specs.Private.Walk.{offered, passes}
 use Rattle.jp_evaluate.proofs.Walks.Advances.{goes_on, goes_on_less, offer_less, passed_over}
 use Rattle.jp_evaluate.proofs.Parts.Sizes.{part_less}

@@ -1,10 +1,10 @@
 use Rattle.std.proofs.Common.{◌≡◌, ◌+◌, ℕ, Bool, List, drop, length, map}
 use Rattle.jp_document.specs.DocumentValue.{lent_value}
 use Rattle.jp_document.specs.Value.{Value}
-use Rattle.jp_query.specs.declared.tree.Expr.{Expr}
-use Rattle.jp_query.specs.declared.tree.Query.{out-Query}
-use Rattle.jp_query.specs.Tree.{ExprTrees, argument_of, call_of, expr_of, exprs}
-use Rattle.jp_query.specs.Tree.{operand_of, query_of, segment_of, segments}
+use Rattle.jp_tree.specs.declared.tree.Expr.{Expr}
+use Rattle.jp_tree.specs.declared.tree.Query.{out-Query}
+use Rattle.jp_tree.specs.Tree.{ExprTrees, argument_of, call_of, expr_of, exprs}
+use Rattle.jp_tree.specs.Tree.{operand_of, query_of, segment_of, segments}
 use Rattle.jp_evaluate.specs.Private.Reached.{all_true, any_true, query_reaches}
 use Rattle.jp_evaluate.specs.Private.Sizes.{argument_size, call_size, expr_size, exprs_size}
 use Rattle.jp_evaluate.specs.Private.Sizes.{operand_size, query_size, segments_size}

@@ -11,12 +11,12 @@ use Rattle.std.proofs.lemmas.Str.{encodes-chars}
 use Rattle.jp_document.proofs.Descent.Inside.{value_at-step}
 use Rattle.jp_document.specs.Location.{Key, Location, value_at}
 use Rattle.jp_document.specs.Value.{IsDocumentValue, Value}
-use Rattle.jp_query.specs.Singular.{are_single}
-use Rattle.jp_query.specs.Tree.{SegmentTrees, SelectorTree, filter, index, name, no_segments}
-use Rattle.jp_query.specs.Tree.{no_selectors, segment, segment_of, segment_then, segments}
-use Rattle.jp_query.specs.Tree.{selector_of, selector_then, selectors, slice, wildcard}
-use Rattle.jp_query.specs.declared.tree.Segment.{Segment, out-Segment}
-use Rattle.jp_query.specs.declared.tree.Selector.{Selector}
+use Rattle.jp_tree.specs.Singular.{are_single}
+use Rattle.jp_tree.specs.Tree.{SegmentTrees, SelectorTree, filter, index, name, no_segments}
+use Rattle.jp_tree.specs.Tree.{no_selectors, segment, segment_of, segment_then, segments}
+use Rattle.jp_tree.specs.Tree.{selector_of, selector_then, selectors, slice, wildcard}
+use Rattle.jp_tree.specs.declared.tree.Segment.{Segment, out-Segment}
+use Rattle.jp_tree.specs.declared.tree.Selector.{Selector}
 use Rattle.jp_select.proofs.Chosen.{IsPlain, StandsBelow, candidates_stand}
 use Rattle.jp_select.proofs.Chosen.{chosen-candidates, entry_location}
 use Rattle.jp_select.proofs.Locations.{IsDocumentValue-at}

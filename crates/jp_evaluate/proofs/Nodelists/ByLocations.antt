@@ -10,14 +10,14 @@ use Rattle.jp_document.proofs.Descent.Inside.{value_at-step}
 use Rattle.jp_document.specs.Location.{Key, Location, entries, value_at}
 use Rattle.jp_document.specs.Node.{AreNodes, Node, StandsIn, location_of, node_below, root_of}
 use Rattle.jp_document.specs.Value.{IsDocumentValue, Value, whole}
-use Rattle.jp_query.specs.Tree.{ArgumentTree, CallTree, ExprTree, ExprTrees, OperandTree}
-use Rattle.jp_query.specs.Tree.{QueryTree, SegmentTrees, SelectorTree, SelectorTrees}
-use Rattle.jp_query.specs.Tree.{all_of, any_of, argument_then, call, call_argument}
-use Rattle.jp_query.specs.Tree.{call_test, call_value, comparison, exists, expr_then}
-use Rattle.jp_query.specs.Tree.{filter, index, literal, literal_argument, logical_argument}
-use Rattle.jp_query.specs.Tree.{name, negation, no_arguments, no_exprs, no_segments}
-use Rattle.jp_query.specs.Tree.{no_selectors, node_value, query, query_argument, segment}
-use Rattle.jp_query.specs.Tree.{segment_then, selector_then, slice, wildcard}
+use Rattle.jp_tree.specs.Tree.{ArgumentTree, CallTree, ExprTree, ExprTrees, OperandTree}
+use Rattle.jp_tree.specs.Tree.{QueryTree, SegmentTrees, SelectorTree, SelectorTrees}
+use Rattle.jp_tree.specs.Tree.{all_of, any_of, argument_then, call, call_argument}
+use Rattle.jp_tree.specs.Tree.{call_test, call_value, comparison, exists, expr_then}
+use Rattle.jp_tree.specs.Tree.{filter, index, literal, literal_argument, logical_argument}
+use Rattle.jp_tree.specs.Tree.{name, negation, no_arguments, no_exprs, no_segments}
+use Rattle.jp_tree.specs.Tree.{no_selectors, node_value, query, query_argument, segment}
+use Rattle.jp_tree.specs.Tree.{segment_then, selector_then, slice, wildcard}
 use Rattle.jp_check.specs.Functions.{function_named}
 use Rattle.jp_check.specs.declared.functions.Function.{Function}
 use Rattle.jp_check.specs.declared.functions.Function.TheVariants.{Count, Length, Match}

@@ -13,11 +13,11 @@ use Rattle.jp_document.proofs.Descent.Exact.{children_exact}
 use Rattle.jp_document.specs.ChildNodes.{IsChild, IsListOf, children_of}
 use Rattle.jp_document.specs.Location.{Key, Location, named, value_at}
 use Rattle.jp_document.specs.Value.{IsDocumentValue, Value}
-use Rattle.jp_query.specs.Singular.{are_single, is_single, is_single_segment}
-use Rattle.jp_query.specs.Tree.{SegmentTree, SegmentTrees, SelectorTree, SelectorTrees}
-use Rattle.jp_query.specs.Tree.{filter, index, name, no_segments, no_selectors, query}
-use Rattle.jp_query.specs.Tree.{segment, segment_then, selector_then, slice, wildcard}
-use Rattle.jp_query.specs.declared.tree.Numeral.TheVariants.{Beyond, Fraction, Whole}
+use Rattle.jp_tree.specs.Singular.{are_single, is_single, is_single_segment}
+use Rattle.jp_tree.specs.Tree.{SegmentTree, SegmentTrees, SelectorTree, SelectorTrees}
+use Rattle.jp_tree.specs.Tree.{filter, index, name, no_segments, no_selectors, query}
+use Rattle.jp_tree.specs.Tree.{segment, segment_then, selector_then, slice, wildcard}
+use Rattle.jp_tree.specs.declared.tree.Numeral.TheVariants.{Beyond, Fraction, Whole}
 use Rattle.jp_select.proofs.Rising.{subtree_law}
 use Rattle.jp_select.specs.Selectors.{indexes_chosen, item_step, length_at, one_step}
 use Rattle.jp_select.specs.Subtree.{IsInSubtree, subtree}

@@ -4,9 +4,9 @@ use Rattle.std.proofs.Common.{map, string_bytes, refl, ap, ap₂, sym, ◌∙◌
 use Rattle.std.specs.List.{slice_get}
 use Rattle.std.specs.Str.{chars}
 use Rattle.std.proofs.lemmas.Option.{same_Some}
-use Rattle.jp_query.specs.Tree.{argument_of, arguments, call, call_of}
-use Rattle.jp_query.specs.declared.tree.Argument.{Argument}
-use Rattle.jp_query.specs.declared.tree.Call.{Call, out-Call}
+use Rattle.jp_tree.specs.Tree.{argument_of, arguments, call, call_of}
+use Rattle.jp_tree.specs.declared.tree.Argument.{Argument}
+use Rattle.jp_tree.specs.declared.tree.Call.{Call, out-Call}
 use Rattle.jp_check.specs.Functions.{function_named}
 use Rattle.jp_evaluate.specs.Private.Calls.{both_arguments, call_function, only_argument}
 use Rattle.jp_evaluate.proofs.Parts.Trees.{call_of-is}

@@ -1,10 +1,10 @@
 -- The parts of queries are smaller.
 use Rattle.std.proofs.Common.{◌≡◌, ℕ, zero, suc, ◌<◌, ◌≤◌, List, [], ◌∷◌}
 use Rattle.std.proofs.Common.{length, map, slice_index_or, ap, subst, arith}
-use Rattle.jp_query.specs.Tree.{expr_of, exprs, segment_of, segments, selector_of, selectors}
-use Rattle.jp_query.specs.declared.tree.Expr.{Expr}
-use Rattle.jp_query.specs.declared.tree.Segment.{Segment}
-use Rattle.jp_query.specs.declared.tree.Selector.{Selector}
+use Rattle.jp_tree.specs.Tree.{expr_of, exprs, segment_of, segments, selector_of, selectors}
+use Rattle.jp_tree.specs.declared.tree.Expr.{Expr}
+use Rattle.jp_tree.specs.declared.tree.Segment.{Segment}
+use Rattle.jp_tree.specs.declared.tree.Selector.{Selector}
 use Rattle.jp_evaluate.specs.Private.Sizes.{expr_size, exprs_size, segment_size}
 use Rattle.jp_evaluate.specs.Private.Sizes.{segments_size, selector_size, selectors_size}
 

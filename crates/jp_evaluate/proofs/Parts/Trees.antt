@@ -1,12 +1,12 @@
 -- The trees of the program's values, one layer at a time.
 use Rattle.std.proofs.Common.{◌≡◌, map, string_bytes, rules}
 use Rattle.std.specs.Str.{chars}
-use Rattle.jp_query.specs.declared.tree.Call.{Call, out-Call}
-use Rattle.jp_query.specs.declared.tree.Expr.{the_lemmas}
-use Rattle.jp_query.specs.declared.tree.Query.{Query, out-Query}
-use Rattle.jp_query.specs.declared.tree.Segment.{Segment, out-Segment}
-use Rattle.jp_query.specs.Tree.{argument_of, arguments, call, call_of, query, query_of}
-use Rattle.jp_query.specs.Tree.{segment, segment_of, segments, selector_of, selectors}
+use Rattle.jp_tree.specs.declared.tree.Call.{Call, out-Call}
+use Rattle.jp_tree.specs.declared.tree.Expr.{the_lemmas}
+use Rattle.jp_tree.specs.declared.tree.Query.{Query, out-Query}
+use Rattle.jp_tree.specs.declared.tree.Segment.{Segment, out-Segment}
+use Rattle.jp_tree.specs.Tree.{argument_of, arguments, call, call_of, query, query_of}
+use Rattle.jp_tree.specs.Tree.{segment, segment_of, segments, selector_of, selectors}
 
 pub query_of-is : (q : Query) →
     query_of q ≡

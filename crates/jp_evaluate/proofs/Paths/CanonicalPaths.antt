@@ -19,8 +19,8 @@ use Rattle.jp_document.proofs.Spellings.Characters.{by_itself, spelling_is}
 use Rattle.jp_query.specs.Grammar.{Inside, Nested, Segment, Segments, Selector, Spells, bracketed}
 use Rattle.jp_query.specs.Grammar.{indexed, named as by_name}
 use Rattle.jp_query.specs.Ints.{Int}
-use Rattle.jp_query.specs.Tree.{segments}
-use Rattle.jp_query.specs.declared.tree.Numeral.TheVariants.{Whole}
+use Rattle.jp_tree.specs.Tree.{segments}
+use Rattle.jp_tree.specs.declared.tree.Numeral.TheVariants.{Whole}
 use Rattle.jp_canon.specs.Canon.{canon_of, segment_text, segments_text, selector_text}
 use Rattle.jp_canon.proofs.Bracketed.{bracket-of}
 use Rattle.jp_canon.proofs.Forms.{Has, after-blank, before-blank, both, has-as, has-item, has-word}

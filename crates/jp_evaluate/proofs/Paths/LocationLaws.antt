@@ -16,14 +16,14 @@ use Rattle.jp_document.specs.Location.{Key, Location, child, named, nth, value_a
 use Rattle.jp_document.specs.Value.{IsDocumentValue, Items, Value, boolean, item, item_count}
 use Rattle.jp_document.specs.Value.{items_of, list, no_items, null, object, text, whole}
 use Rattle.jp_query.specs.Items.{segments_items}
-use Rattle.jp_query.specs.Tree.{segments}
+use Rattle.jp_tree.specs.Tree.{segments}
 use Rattle.jp_check.specs.Faults.{HasFault}
 use Rattle.jp_check.proofs.OwnFault.{int-fault}
 use Rattle.jp_check.specs.Ranges.{is_in_index_range}
 use Rattle.jp_query.specs.Levels.{level_limit}
 use Rattle.jp_query.specs.Items.{QueryItem, as_index, int}
 use Rattle.jp_query.specs.declared.refusal.RefusalKind.{RefusalKind}
-use Rattle.jp_query.specs.declared.tree.Numeral.TheVariants.{Whole}
+use Rattle.jp_tree.specs.declared.tree.Numeral.TheVariants.{Whole}
 use Rattle.jp_evaluate.specs.Laws.{PathSelectsItsNode}
 use Rattle.jp_evaluate.proofs.Paths.CanonicalPaths.{path-spells}
 use Rattle.jp_evaluate.proofs.Paths.PathTrees.{StepFits, StepsFit, path_tree, step_segment}

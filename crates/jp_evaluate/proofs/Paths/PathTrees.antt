@@ -2,9 +2,9 @@
 use Rattle.std.proofs.Common.{◌<◌, ◌^◌, IsUtf8, pos, true, false, [], ◌∷◌, map}
 use Rattle.std.specs.Str.{chars}
 use Rattle.jp_document.specs.Location.{Key, Location, named, nth}
-use Rattle.jp_query.specs.Tree.{QueryTree, SegmentTree, SelectorTree, index, name, query, segment}
-use Rattle.jp_query.specs.Tree.{segments, selectors}
-use Rattle.jp_query.specs.declared.tree.Numeral.TheVariants.{Whole}
+use Rattle.jp_tree.specs.Tree.{QueryTree, SegmentTree, SelectorTree, index, name, query, segment}
+use Rattle.jp_tree.specs.Tree.{segments, selectors}
+use Rattle.jp_tree.specs.declared.tree.Numeral.TheVariants.{Whole}
 
 -- a step as a selector, and as a child segment with that one
 abbrev pub step_selector : Key → SelectorTree

@@ -7,8 +7,8 @@ use Rattle.std.proofs.lemmas.Grind.{flat_map-append}
 use Rattle.std.proofs.lemmas.List.Sums.{sum_by-append, sum_by-cons}
 use Rattle.jp_document.specs.DocumentValue.{lent_value}
 use Rattle.jp_document.specs.Value.{Value}
-use Rattle.jp_query.specs.Tree.{segment_of, segment_then}
-use Rattle.jp_query.specs.declared.tree.Segment.{Segment}
+use Rattle.jp_tree.specs.Tree.{segment_of, segment_then}
+use Rattle.jp_tree.specs.declared.tree.Segment.{Segment}
 use Rattle.jp_evaluate.specs.Private.Reached.{reaches}
 use Rattle.jp_evaluate.specs.Private.Walk.{choice_at, chosen_node, choice_reaches}
 use Rattle.jp_evaluate.specs.Private.Walk.{choice_weight, choices_from, entered, frames_pending}

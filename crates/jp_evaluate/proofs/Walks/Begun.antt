@@ -7,9 +7,9 @@ use Rattle.jp_document.specs.DocumentValue.{lent_value}
 use Rattle.jp_document.specs.Node.{AreNodes, root_of}
 use Rattle.jp_document.specs.Value.{IsDocumentValue, Value}
 use Rattle.jp_document.specs.declared.document_value.DocumentValue.{DocumentValue}
-use Rattle.jp_query.specs.Tree.{SegmentTrees, query, query_of, segment_of, segments}
-use Rattle.jp_query.specs.declared.tree.Query.{Query, out-Query}
-use Rattle.jp_query.specs.declared.tree.Segment.{Segment}
+use Rattle.jp_tree.specs.Tree.{SegmentTrees, query, query_of, segment_of, segments}
+use Rattle.jp_tree.specs.declared.tree.Query.{Query, out-Query}
+use Rattle.jp_tree.specs.declared.tree.Segment.{Segment}
 use Rattle.jp_evaluate.specs.Nodelist.{nodelist, nodelist_at, result}
 use Rattle.jp_evaluate.specs.Private.Reached.{reaches}
 use Rattle.jp_evaluate.specs.Private.Walk.{choice_at, choice_reaches, frames_pending}

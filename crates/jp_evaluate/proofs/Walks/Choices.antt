@@ -7,8 +7,8 @@ use Rattle.std.proofs.lemmas.List.{append-nil}
 use Rattle.std.proofs.lemmas.Option.{slice_get-map}
 use Rattle.jp_document.specs.Location.{Key, Location}
 use Rattle.jp_document.specs.Value.{Value}
-use Rattle.jp_query.specs.Tree.{SegmentTrees, SelectorTree}
-use Rattle.jp_query.specs.declared.tree.Segment.{Segment}
+use Rattle.jp_tree.specs.Tree.{SegmentTrees, SelectorTree}
+use Rattle.jp_tree.specs.declared.tree.Segment.{Segment}
 use Rattle.jp_select.proofs.Walks.{drop_at, drop_past}
 use Rattle.jp_select.specs.Candidates.{candidates}
 use Rattle.jp_evaluate.specs.Private.Walk.{Choice, choice_at, choice_of, choices_from}

@@ -8,9 +8,9 @@ use Rattle.std.proofs.lemmas.List.Sums.{sum_by-append, sum_by-cons}
 use Rattle.jp_document.specs.Location.{Key, Location, entries}
 use Rattle.jp_document.specs.Node.{Node, node_below, root_of}
 use Rattle.jp_document.specs.Value.{Value}
-use Rattle.jp_query.specs.Tree.{SegmentTree, SegmentTrees, SelectorTree, SelectorTrees}
-use Rattle.jp_query.specs.Tree.{filter, index, name, no_segments, no_selectors}
-use Rattle.jp_query.specs.Tree.{segment, segment_then, selector_then, slice, wildcard}
+use Rattle.jp_tree.specs.Tree.{SegmentTree, SegmentTrees, SelectorTree, SelectorTrees}
+use Rattle.jp_tree.specs.Tree.{filter, index, name, no_segments, no_selectors}
+use Rattle.jp_tree.specs.Tree.{segment, segment_then, selector_then, slice, wildcard}
 use Rattle.jp_select.proofs.Locations.{inner, nodes_in-entries}
 use Rattle.jp_select.specs.Candidates.{candidates}
 use Rattle.jp_select.specs.Subtree.{after, beyond, nodes_in}

@@ -4,10 +4,10 @@ use Rattle.std.proofs.Common.{false, List, [], ◌∷◌, ◌++◌, Some, None, 
 use Rattle.std.proofs.Common.{length, map, slice_index_or, refl, ap, ap₂, sym, ◌∙◌, arith}
 use Rattle.std.specs.List.{slice_get}
 use Rattle.std.proofs.lemmas.Option.{same_Some}
-use Rattle.jp_query.specs.Tree.{SegmentTrees, SelectorTree, segment, segment_of}
-use Rattle.jp_query.specs.Tree.{segment_then, segments, selector_of, selectors, wildcard}
-use Rattle.jp_query.specs.declared.tree.Segment.{Segment, out-Segment}
-use Rattle.jp_query.specs.declared.tree.Selector.{Selector}
+use Rattle.jp_tree.specs.Tree.{SegmentTrees, SelectorTree, segment, segment_of}
+use Rattle.jp_tree.specs.Tree.{segment_then, segments, selector_of, selectors, wildcard}
+use Rattle.jp_tree.specs.declared.tree.Segment.{Segment, out-Segment}
+use Rattle.jp_tree.specs.declared.tree.Selector.{Selector}
 use Rattle.jp_evaluate.specs.Private.Sizes.{segment_size, segments_size, selector_size}
 use Rattle.jp_evaluate.specs.Private.Walk.{segments_left, selector_turns, turns}
 use Rattle.jp_evaluate.proofs.Parts.Sizes.{segment_part, selector_part}

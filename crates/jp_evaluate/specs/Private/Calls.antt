@@ -2,9 +2,9 @@
 use Rattle.std.specs.Prelude.{List, Option, Some, None, option_and_then}
 use Rattle.jp_document.specs.Node.{Node}
 use Rattle.jp_document.specs.Value.{Value}
-use Rattle.jp_query.specs.Tree.{ArgumentTree, CallTree, QueryTree, argument_then, call}
-use Rattle.jp_query.specs.Tree.{call_argument, literal_argument, logical_argument, no_arguments}
-use Rattle.jp_query.specs.Tree.{query_argument}
+use Rattle.jp_tree.specs.Tree.{ArgumentTree, CallTree, QueryTree, argument_then, call}
+use Rattle.jp_tree.specs.Tree.{call_argument, literal_argument, logical_argument, no_arguments}
+use Rattle.jp_tree.specs.Tree.{query_argument}
 use Rattle.jp_check.specs.Functions.{function_named}
 use Rattle.jp_check.specs.declared.functions.Function.{Function}
 use Rattle.jp_evaluate.specs.Functions.{only_one}

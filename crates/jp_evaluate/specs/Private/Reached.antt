@@ -6,14 +6,14 @@ use Rattle.std.specs.List.{flat_map}
 use Rattle.jp_document.specs.Location.{Key}
 use Rattle.jp_document.specs.Node.{Node, node_below, root_of}
 use Rattle.jp_document.specs.Value.{Value}
-use Rattle.jp_query.specs.Tree.{ArgumentTree, CallTree, ExprTree, ExprTrees, OperandTree, QueryTree}
-use Rattle.jp_query.specs.Tree.{SegmentTree, SegmentTrees, SelectorTree, SelectorTrees, all_of}
-use Rattle.jp_query.specs.Tree.{any_of, argument_then, call, call_argument, call_test, call_value}
-use Rattle.jp_query.specs.Tree.{comparison, exists, expr_then, filter, index, literal}
-use Rattle.jp_query.specs.Tree.{literal_argument, logical_argument, name, negation, no_arguments}
-use Rattle.jp_query.specs.Tree.{no_exprs, no_segments, no_selectors, node_value, query}
-use Rattle.jp_query.specs.Tree.{query_argument, segment, segment_then, selector_then, slice}
-use Rattle.jp_query.specs.Tree.{wildcard}
+use Rattle.jp_tree.specs.Tree.{ArgumentTree, CallTree, ExprTree, ExprTrees, OperandTree, QueryTree}
+use Rattle.jp_tree.specs.Tree.{SegmentTree, SegmentTrees, SelectorTree, SelectorTrees, all_of}
+use Rattle.jp_tree.specs.Tree.{any_of, argument_then, call, call_argument, call_test, call_value}
+use Rattle.jp_tree.specs.Tree.{comparison, exists, expr_then, filter, index, literal}
+use Rattle.jp_tree.specs.Tree.{literal_argument, logical_argument, name, negation, no_arguments}
+use Rattle.jp_tree.specs.Tree.{no_exprs, no_segments, no_selectors, node_value, query}
+use Rattle.jp_tree.specs.Tree.{query_argument, segment, segment_then, selector_then, slice}
+use Rattle.jp_tree.specs.Tree.{wildcard}
 use Rattle.jp_check.specs.Functions.{function_named}
 use Rattle.jp_select.specs.Candidates.{candidates}
 use Rattle.jp_select.specs.Comparison.{compared}

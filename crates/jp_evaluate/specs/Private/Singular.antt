@@ -1,8 +1,8 @@
 -- What a singular query selects (RFC 9535 section 2.3.5.1), followed from value to value.
 use Rattle.std.specs.Prelude.{false, Option, Some, None, option_and_then, option_map}
 use Rattle.jp_document.specs.Value.{Value}
-use Rattle.jp_query.specs.Tree.{SegmentTree, SegmentTrees, SelectorTree, no_segments, no_selectors}
-use Rattle.jp_query.specs.Tree.{segment, segment_then, selector_then}
+use Rattle.jp_tree.specs.Tree.{SegmentTree, SegmentTrees, SelectorTree, no_segments, no_selectors}
+use Rattle.jp_tree.specs.Tree.{segment, segment_then, selector_then}
 use Rattle.jp_select.specs.Candidates.{single}
 
 -- the value that a name or an index selects at v, if it is there; other selectors, those of no

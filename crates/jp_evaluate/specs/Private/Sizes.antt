@@ -1,13 +1,13 @@
 -- The sizes of queries, by which the evaluation of filters ends.
 use Rattle.std.specs.Prelude.{ℕ, suc, ◌+◌}
-use Rattle.jp_query.specs.Tree.{ArgumentTree, ArgumentTrees, CallTree, ExprTree, ExprTrees}
-use Rattle.jp_query.specs.Tree.{OperandTree, QueryTree, SegmentTree, SegmentTrees, SelectorTree}
-use Rattle.jp_query.specs.Tree.{SelectorTrees, all_of, any_of, argument_then, call, call_argument}
-use Rattle.jp_query.specs.Tree.{call_test, call_value, comparison, exists, expr_then, filter, index}
-use Rattle.jp_query.specs.Tree.{literal, literal_argument, logical_argument, name, negation}
-use Rattle.jp_query.specs.Tree.{no_arguments, no_exprs, no_segments, no_selectors, node_value}
-use Rattle.jp_query.specs.Tree.{query, query_argument, segment, segment_then, selector_then, slice}
-use Rattle.jp_query.specs.Tree.{wildcard}
+use Rattle.jp_tree.specs.Tree.{ArgumentTree, ArgumentTrees, CallTree, ExprTree, ExprTrees}
+use Rattle.jp_tree.specs.Tree.{OperandTree, QueryTree, SegmentTree, SegmentTrees, SelectorTree}
+use Rattle.jp_tree.specs.Tree.{SelectorTrees, all_of, any_of, argument_then, call, call_argument}
+use Rattle.jp_tree.specs.Tree.{call_test, call_value, comparison, exists, expr_then, filter, index}
+use Rattle.jp_tree.specs.Tree.{literal, literal_argument, logical_argument, name, negation}
+use Rattle.jp_tree.specs.Tree.{no_arguments, no_exprs, no_segments, no_selectors, node_value}
+use Rattle.jp_tree.specs.Tree.{query, query_argument, segment, segment_then, selector_then, slice}
+use Rattle.jp_tree.specs.Tree.{wildcard}
 
 abbrev mutual
   pub selector_size : SelectorTree → ℕ

@@ -9,10 +9,10 @@ use Rattle.jp_document.specs.Node.{Node}
 use Rattle.jp_document.specs.Value.{Value}
 use Rattle.jp_document.specs.declared.document_value.DocumentValue.{DocumentValue}
 use Rattle.jp_document.specs.declared.location.Step.{Step}
-use Rattle.jp_query.specs.Tree.{ExprTree, SegmentTrees, SelectorTree, SelectorTrees, expr_of}
-use Rattle.jp_query.specs.Tree.{filter, no_segments, no_selectors, segment, segment_of}
-use Rattle.jp_query.specs.Tree.{segment_then, segments, selector_of, selector_then, wildcard}
-use Rattle.jp_query.specs.declared.tree.Segment.{Segment}
+use Rattle.jp_tree.specs.Tree.{ExprTree, SegmentTrees, SelectorTree, SelectorTrees, expr_of}
+use Rattle.jp_tree.specs.Tree.{filter, no_segments, no_selectors, segment, segment_of}
+use Rattle.jp_tree.specs.Tree.{segment_then, segments, selector_of, selector_then, wildcard}
+use Rattle.jp_tree.specs.declared.tree.Segment.{Segment}
 use Rattle.jp_select.specs.Candidates.{candidates}
 use Rattle.jp_select.specs.Subtree.{nodes_in}
 use Rattle.jp_evaluate.specs.Private.Reached.{reaches, truth}

@@ -14,14 +14,14 @@ use Rattle.jp_reading.specs.RuleReading.{spanned_if}
 use Rattle.jp_reading.proofs.Chars.{chars_push}
 use Rattle.jp_reading.proofs.Folds.{fails-then}
 use Rattle.jp_reading.proofs.Rules.Rounds as loops
-use Rattle.jp_query.specs.declared.tree.Operand.TheVariants as operand
-use Rattle.jp_query.specs.declared.tree.Subject.{the_lemmas}
-use Rattle.jp_query.specs.declared.tree.Subject.TheVariants as subject
-use Rattle.jp_query.specs.Tree.{SegmentTree, SelectorTree, argument_of, call_of, expr_of}
-use Rattle.jp_query.specs.Tree.{literal_of, operand_of, selector_of, segment_of, query_of}
-use Rattle.jp_query.specs.Tree.{ArgumentTree, OperandTree, true_literal, false_literal}
-use Rattle.jp_query.specs.Tree.{null_literal, query_argument, call_argument, logical_argument}
-use Rattle.jp_query.specs.Tree.{exists, any_of, all_of, call_test, call_value}
+use Rattle.jp_tree.specs.declared.tree.Operand.TheVariants as operand
+use Rattle.jp_tree.specs.declared.tree.Subject.{the_lemmas}
+use Rattle.jp_tree.specs.declared.tree.Subject.TheVariants as subject
+use Rattle.jp_tree.specs.Tree.{SegmentTree, SelectorTree, argument_of, call_of, expr_of}
+use Rattle.jp_tree.specs.Tree.{literal_of, operand_of, selector_of, segment_of, query_of}
+use Rattle.jp_tree.specs.Tree.{ArgumentTree, OperandTree, true_literal, false_literal}
+use Rattle.jp_tree.specs.Tree.{null_literal, query_argument, call_argument, logical_argument}
+use Rattle.jp_tree.specs.Tree.{exists, any_of, all_of, call_test, call_value}
 use Rattle.jp_query.specs.Characters.{ampersand, bar, comma, closing_bracket, opening_parenthesis}
 use Rattle.jp_query.specs.Characters.{closing_parenthesis, letter_t, letter_f, letter_n}
 use Rattle.jp_query.specs.Names.{is_function_char}
@@ -35,9 +35,9 @@ use Rattle.jp_query.specs.Private.Rules.{word, word_from, word_of}
 use Rattle.jp_query.specs.Private.Parts.{next_entry, logical_at, mark_of, part_of, several}
 use Rattle.jp_query.specs.Private.Reading.{inside, call_inside, read_flat, read_inside}
 use Rattle.jp_query.proofs.Levels.{inside-progress, inside-entered}
-use Rattle.jp_query.proofs.Readers.Trees.{tree_segment, tree_call, tree_argument_query}
-use Rattle.jp_query.proofs.Readers.Trees.{tree_argument_call, tree_logical, tree_operand_literal}
-use Rattle.jp_query.proofs.Readers.Trees.{tree_subject_query, tree_subject_call, tree_test}
+use Rattle.jp_tree.proofs.Trees.{tree_segment, tree_call, tree_argument_query}
+use Rattle.jp_tree.proofs.Trees.{tree_argument_call, tree_logical, tree_operand_literal}
+use Rattle.jp_tree.proofs.Trees.{tree_subject_query, tree_subject_call, tree_test}
 use Rattle.jp_query.proofs.Readers.Exits.{err_is}
 use Rattle.jp_query.proofs.Readers.ArgumentParts as parts
 use Rattle.jp_query.proofs.Readers.Openings as openings

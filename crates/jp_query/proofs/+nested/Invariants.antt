@@ -3,7 +3,7 @@ use Rattle.std.specs.Str.{chars}
 use Rattle.std.specs.String.{string_bytes}
 use Rattle.jp_reading.specs.Outcome.{after_blank, passes, is}
 use Rattle.jp_reading.specs.Views.{by, with_front}
-use Rattle.jp_query.specs.Tree.{argument_of, expr_of, literal_of, selector_of, segment_of}
+use Rattle.jp_tree.specs.Tree.{argument_of, expr_of, literal_of, selector_of, segment_of}
 use Rattle.jp_reading.specs.Rule.{beyond, some}
 use Rattle.jp_query.specs.Characters.{comma}
 use Rattle.jp_query.specs.declared.expressions.Connective.{Connective}

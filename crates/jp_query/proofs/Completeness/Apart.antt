@@ -15,10 +15,10 @@ use Rattle.jp_reading.proofs.Rules.Follow.{Follow, any, beginning, either_of, bl
 use Rattle.jp_reading.proofs.Rules.Follow.{begins, at, Under, Implies, Excludes, Apart, under-same}
 use Rattle.jp_reading.proofs.Rules.Follow.{under-left, implies-same, apart-run}
 use Rattle.jp_query.specs.Names.{is_name_char, is_function_char}
-use Rattle.jp_query.specs.Tree.{LiteralTree, true_literal, false_literal, null_literal, OperandTree}
-use Rattle.jp_query.specs.Tree.{literal, node_value, call_value, ExprTree, exists, call_test}
-use Rattle.jp_query.specs.Tree.{ArgumentTree, literal_argument, query_argument, call_argument}
-use Rattle.jp_query.specs.Tree.{logical_argument}
+use Rattle.jp_tree.specs.Tree.{LiteralTree, true_literal, false_literal, null_literal, OperandTree}
+use Rattle.jp_tree.specs.Tree.{literal, node_value, call_value, ExprTree, exists, call_test}
+use Rattle.jp_tree.specs.Tree.{ArgumentTree, literal_argument, query_argument, call_argument}
+use Rattle.jp_tree.specs.Tree.{logical_argument}
 use Rattle.jp_query.specs.Characters.{comma, closing_bracket, closing_parenthesis, exclamation_mark}
 use Rattle.jp_query.specs.Characters.{less_sign, equals_sign, greater_sign, opening_parenthesis}
 use Rattle.jp_query.specs.Characters.{ampersand, bar, dot, double_quote, letter_a, opening_bracket}

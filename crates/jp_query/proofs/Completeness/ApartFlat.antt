@@ -7,7 +7,7 @@ use Rattle.jp_reading.specs.Outcome.{passes, is}
 use Rattle.jp_reading.specs.Numbers.{is_digit}
 use Rattle.jp_reading.proofs.Rules.Follow.{Follow, beginning, Excludes, Apart, under-same}
 use Rattle.jp_reading.proofs.Rules.Follow.{under-left, implies-same, apart-run}
-use Rattle.jp_query.specs.declared.tree.Numeral.{Numeral}
+use Rattle.jp_tree.specs.declared.tree.Numeral.{Numeral}
 use Rattle.jp_query.specs.Names.{is_name_char}
 use Rattle.jp_query.specs.Strings.{is_plain, is_hexdig, is_d, is_not_d, is_0_to_7, is_8_to_b}
 use Rattle.jp_query.specs.Strings.{is_c_to_f}

@@ -21,8 +21,8 @@ use Rattle.jp_reading.proofs.Same.{then-made, then-made_out, then-of_made, then-
 use Rattle.jp_reading.proofs.Same.{some, some-either, some-only, some-made, then-some, Given}
 use Rattle.jp_reading.proofs.Same.{word-on, passing-word}
 use Rattle.jp_reading.proofs.Rules.Form.{Either, left, right, ItemIf, form}
-use Rattle.jp_query.specs.Tree.{ExprTree, any_of, all_of, exists, call_test, exprs, ArgumentTree}
-use Rattle.jp_query.specs.Tree.{literal_argument, query_argument, call_argument, logical_argument}
+use Rattle.jp_tree.specs.Tree.{ExprTree, any_of, all_of, exists, call_test, exprs, ArgumentTree}
+use Rattle.jp_tree.specs.Tree.{literal_argument, query_argument, call_argument, logical_argument}
 use Rattle.jp_query.specs.Characters.{ampersand, bar, opening_parenthesis}
 use Rattle.jp_query.specs.Literals.{Literal}
 use Rattle.jp_query.specs.Names.{is_function_char}

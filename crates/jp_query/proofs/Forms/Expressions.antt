@@ -11,11 +11,11 @@ use Rattle.jp_reading.proofs.Same.{either-swap, or-never, after-made, after-only
 use Rattle.jp_reading.proofs.Same.{made-either, made-made, made-same, then-only, then-value}
 use Rattle.jp_reading.proofs.Same.{then-made, then-either, item-either, item-made, separated}
 use Rattle.jp_reading.proofs.Rules.Form.{Either, left, right, form}
-use Rattle.jp_query.specs.declared.tree.Op.{Op}
+use Rattle.jp_tree.specs.declared.tree.Op.{Op}
 use Rattle.jp_query.specs.Characters.{ampersand, bar, opening_parenthesis}
-use Rattle.jp_query.specs.Tree.{QueryTree, ExprTree, negation, comparison, exists, call_test}
-use Rattle.jp_query.specs.Tree.{OperandTree, literal, node_value, call_value, CallTree, LiteralTree}
-use Rattle.jp_query.specs.Tree.{text, number as number_literal}
+use Rattle.jp_tree.specs.Tree.{QueryTree, ExprTree, negation, comparison, exists, call_test}
+use Rattle.jp_tree.specs.Tree.{OperandTree, literal, node_value, call_value, CallTree, LiteralTree}
+use Rattle.jp_tree.specs.Tree.{text, number as number_literal}
 use Rattle.jp_query.specs.Strings.{Quoted}
 use Rattle.jp_query.specs.Literals.{Literal, of_number, of_text, of_true, of_false, of_null, Number}
 use Rattle.jp_query.specs.Grammar.{Nested, InnerQuery, FunctionCall, function_call, Side}

@@ -10,11 +10,11 @@ use Rattle.jp_reading.proofs.Same.{Same, same, ways, ◌⨾◌, after, joined, e
 use Rattle.jp_reading.proofs.Same.{words, after-either, either-assoc, after-made, after-only}
 use Rattle.jp_reading.proofs.Same.{after-value, made-made, then-made, then-either}
 use Rattle.jp_reading.proofs.Rules.Form.{Either, left, right, Inside, form}
-use Rattle.jp_query.specs.declared.tree.Numeral.{Numeral}
-use Rattle.jp_query.specs.declared.tree.Op.{Op}
-use Rattle.jp_query.specs.declared.tree.Op.TheVariants.{Equal, Unequal, Less, LessEqual, Greater}
-use Rattle.jp_query.specs.declared.tree.Op.TheVariants.{GreaterEqual}
-use Rattle.jp_query.specs.Tree.{LiteralTree, text, number as number_literal}
+use Rattle.jp_tree.specs.declared.tree.Numeral.{Numeral}
+use Rattle.jp_tree.specs.declared.tree.Op.{Op}
+use Rattle.jp_tree.specs.declared.tree.Op.TheVariants.{Equal, Unequal, Less, LessEqual, Greater}
+use Rattle.jp_tree.specs.declared.tree.Op.TheVariants.{GreaterEqual}
+use Rattle.jp_tree.specs.Tree.{LiteralTree, text, number as number_literal}
 use Rattle.jp_query.specs.Characters.{double_quote, single_quote}
 use Rattle.jp_query.specs.Strings.{Quoted, in_double, in_single}
 use Rattle.jp_query.specs.Ints.{Unsigned, Int, zero_int, positive_int, negative_int}

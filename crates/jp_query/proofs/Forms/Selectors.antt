@@ -13,9 +13,9 @@ use Rattle.jp_reading.proofs.Same.{in-second, after-only, only-before, after-mad
 use Rattle.jp_reading.proofs.Same.{made-before, made-same, made-either, then-only, then-value}
 use Rattle.jp_reading.proofs.Same.{then-made, then-either, then-before, separated}
 use Rattle.jp_reading.proofs.Rules.Form.{Either, left, right, Inside, none_inside, form}
-use Rattle.jp_query.specs.declared.tree.Slice.{Slice}
-use Rattle.jp_query.specs.Tree.{SelectorTree, slice, SegmentTree, segment, QueryTree, query}
-use Rattle.jp_query.specs.Tree.{ArgumentTree, selectors, segments}
+use Rattle.jp_tree.specs.declared.tree.Slice.{Slice}
+use Rattle.jp_tree.specs.Tree.{SelectorTree, slice, SegmentTree, segment, QueryTree, query}
+use Rattle.jp_tree.specs.Tree.{ArgumentTree, selectors, segments}
 use Rattle.jp_query.specs.Characters.{double_quote, single_quote}
 use Rattle.jp_query.specs.Ints.{Int}
 use Rattle.jp_query.specs.Names.{is_function_char}

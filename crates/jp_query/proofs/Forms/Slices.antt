@@ -10,9 +10,9 @@ use Rattle.jp_reading.proofs.Same.{Same, same, back, ways, ◌⨾◌, after, bef
 use Rattle.jp_reading.proofs.Same.{item, assoc, nothing-before, after-either, either-before}
 use Rattle.jp_reading.proofs.Same.{after-only, only-before, after-value, made-before, then-made}
 use Rattle.jp_reading.proofs.Rules.Form.{Either, left, right, Inside, form}
-use Rattle.jp_query.specs.declared.tree.Numeral.{Numeral}
-use Rattle.jp_query.specs.declared.tree.Numeral.TheVariants.{Whole}
-use Rattle.jp_query.specs.declared.tree.Slice.{Slice}
+use Rattle.jp_tree.specs.declared.tree.Numeral.{Numeral}
+use Rattle.jp_tree.specs.declared.tree.Numeral.TheVariants.{Whole}
+use Rattle.jp_tree.specs.declared.tree.Slice.{Slice}
 use Rattle.jp_query.specs.Ints.{Int}
 use Rattle.jp_query.specs.Slices.{Bound, no_bound, bound, Step, no_step, empty_step, given_step}
 use Rattle.jp_query.specs.Private.Rules.{nesting, slice_of}

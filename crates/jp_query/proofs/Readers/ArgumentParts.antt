@@ -11,9 +11,9 @@ use Rattle.jp_reading.specs.RuleReading.{Inner, read, spanned, spanned_if}
 use Rattle.jp_reading.proofs.Loops.{each-on, round}
 use Rattle.jp_reading.proofs.Progress.{Progress}
 use Rattle.jp_reading.proofs.Rules.Progress.{goes}
-use Rattle.jp_query.specs.Tree.{ExprTree, any_of, all_of, exists, call_test, OperandTree, literal}
-use Rattle.jp_query.specs.Tree.{node_value, call_value, ArgumentTree, literal_argument}
-use Rattle.jp_query.specs.Tree.{query_argument, call_argument, logical_argument}
+use Rattle.jp_tree.specs.Tree.{ExprTree, any_of, all_of, exists, call_test, OperandTree, literal}
+use Rattle.jp_tree.specs.Tree.{node_value, call_value, ArgumentTree, literal_argument}
+use Rattle.jp_tree.specs.Tree.{query_argument, call_argument, logical_argument}
 use Rattle.jp_query.specs.Characters.{ampersand, bar, comma, closing_parenthesis}
 use Rattle.jp_query.specs.Grammar.{joined}
 use Rattle.jp_query.specs.Private.Rules.{nesting, QueryRule, Opening, basic, conjunction, part}

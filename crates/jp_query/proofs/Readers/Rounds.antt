@@ -12,8 +12,8 @@ use Rattle.jp_reading.proofs.Loops.{each-off}
 use Rattle.jp_reading.proofs.Folds.{fails-then}
 use Rattle.jp_reading.proofs.Rules.Rounds as loops
 use Rattle.jp_reading.proofs.Steps.{take_if-takes, head-is}
-use Rattle.jp_query.specs.Tree.{SelectorTree, segment, selectors, ExprTree, ExprTrees, exprs}
-use Rattle.jp_query.specs.Tree.{ArgumentTree}
+use Rattle.jp_tree.specs.Tree.{SelectorTree, segment, selectors, ExprTree, ExprTrees, exprs}
+use Rattle.jp_tree.specs.Tree.{ArgumentTree}
 use Rattle.jp_query.specs.Characters.{comma, opening_bracket, closing_bracket}
 use Rattle.jp_query.specs.Grammar.{joined}
 use Rattle.jp_query.specs.Private.Rules.{nesting, QueryRule, selector, entry, entries, bracket}

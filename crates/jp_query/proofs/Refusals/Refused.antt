@@ -7,7 +7,7 @@ use Rattle.jp_reading.specs.Outcome.{State, Outcome, took, stuck, deep}
 use Rattle.jp_reading.specs.Views.{Fails}
 use Rattle.jp_reading.proofs.Again.{start}
 use Rattle.jp_query.specs.declared.refusal.RefusalKind.TheVariants.{Syntax, TooDeep, NoMemory}
-use Rattle.jp_query.specs.Tree.{QueryTree}
+use Rattle.jp_tree.specs.Tree.{QueryTree}
 use Rattle.jp_query.specs.Private.Reading.{query_at}
 use Rattle.jp_query.specs.Spelled.{SpellsNothing}
 use Rattle.jp_query.specs.ViablePrefix.{IsSyntaxAt, IsTooDeepAt}

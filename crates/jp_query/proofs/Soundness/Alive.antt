@@ -4,12 +4,12 @@ use Rattle.std.specs.Prelude.{codes}
 use Rattle.jp_reading.specs.Texts.{Text}
 use Rattle.jp_reading.specs.Numbers.{is_digit}
 use Rattle.jp_reading.proofs.Rules.Form.{Alive}
-use Rattle.jp_query.specs.declared.tree.Numeral.{Numeral}
+use Rattle.jp_tree.specs.declared.tree.Numeral.{Numeral}
 use Rattle.jp_query.specs.Strings.{is_plain, is_hexdig, is_d, is_not_d, is_0_to_7, is_8_to_b}
 use Rattle.jp_query.specs.Strings.{is_c_to_f}
-use Rattle.jp_query.specs.Tree.{LiteralTree, true_literal, false_literal, null_literal, OperandTree}
-use Rattle.jp_query.specs.Tree.{literal, node_value, call_value, ExprTree, ArgumentTree}
-use Rattle.jp_query.specs.Tree.{literal_argument, query_argument, call_argument, logical_argument}
+use Rattle.jp_tree.specs.Tree.{LiteralTree, true_literal, false_literal, null_literal, OperandTree}
+use Rattle.jp_tree.specs.Tree.{literal, node_value, call_value, ExprTree, ArgumentTree}
+use Rattle.jp_tree.specs.Tree.{literal_argument, query_argument, call_argument, logical_argument}
 use Rattle.jp_query.specs.Private.Rules as rule
 use Rattle.jp_query.specs.Characters.{digit_one, digit_zero, double_quote, letter_a, letter_b}
 use Rattle.jp_query.specs.Characters.{letter_e, plus, single_quote}

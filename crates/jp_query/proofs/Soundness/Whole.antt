@@ -15,7 +15,7 @@ use Rattle.jp_reading.proofs.Joining.{each-append, joined-assoc, after-within}
 use Rattle.jp_reading.proofs.Again.{start, whole-reads}
 use Rattle.jp_reading.proofs.Rules.Form.{form, least, has}
 use Rattle.jp_reading.proofs.Rules.Soundness.{IsSound, sound, sound-as}
-use Rattle.jp_query.specs.Tree.{SegmentTree, QueryTree, query, segments}
+use Rattle.jp_tree.specs.Tree.{SegmentTree, QueryTree, query, segments}
 use Rattle.jp_query.specs.Grammar.{Segment, Segments, Inside, Spells}
 use Rattle.jp_query.specs.Private.Rules as rule
 use Rattle.jp_query.specs.Private.Reading.{inside, query_at}

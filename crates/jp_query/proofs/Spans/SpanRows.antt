@@ -5,7 +5,7 @@ use Rattle.std.proofs.Common.{◌∙◌, subst}
 use Rattle.std.proofs.lemmas.Bool.{false≢true}
 use Rattle.std.proofs.lemmas.Str.{len_utf8_bounds}
 use Rattle.std.specs.Prelude.{codes}
-use Rattle.jp_query.specs.declared.tree.Numeral.TheVariants.{Whole}
+use Rattle.jp_tree.specs.declared.tree.Numeral.TheVariants.{Whole}
 use Rattle.jp_reading.specs.Texts.{Text, Spans, bytes}
 use Rattle.jp_query.specs.Ints.{Int, is_leading_digit, zero_int, positive_int, negative_int}
 use Rattle.jp_query.specs.Items.{QueryItem, as_bound, as_step, int}

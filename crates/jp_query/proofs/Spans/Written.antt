@@ -2,11 +2,11 @@
 use Rattle.std.proofs.Common.{Bool, ℕ, ◌<◌, [], ◌∷◌, ap, ◌∙◌, arith}
 use Rattle.std.specs.Prelude.{codes}
 use Rattle.std.proofs.lemmas.Str.{len_utf8_bounds}
-use Rattle.jp_query.specs.declared.tree.Numeral.{Numeral}
+use Rattle.jp_tree.specs.declared.tree.Numeral.{Numeral}
 use Rattle.jp_reading.specs.Texts.{Text, Spans, bytes}
 use Rattle.jp_reading.specs.Forms.{Form, ◌⌢◌, word, One}
 use Rattle.jp_reading.proofs.Between.{bytes-append}
-use Rattle.jp_query.specs.Tree.{LiteralTree}
+use Rattle.jp_tree.specs.Tree.{LiteralTree}
 use Rattle.jp_query.specs.Ints.{Int, is_leading_digit, Unsigned, zero_int, positive_int}
 use Rattle.jp_query.specs.Ints.{negative_int}
 use Rattle.jp_query.specs.Literals.{Literal, Number, Mantissa, whole, minus_zero, number, of_number}

@@ -7,8 +7,8 @@ use Rattle.jp_reading.specs.Rule.{here, beyond, the, blanks, ◌>>◌}
 use Rattle.jp_reading.specs.Views.{by}
 use Rattle.jp_query.specs.declared.expressions.Connective.{Connective}
 use Rattle.jp_query.specs.declared.expressions.Connective.TheVariants.{Or, And}
-use Rattle.jp_query.specs.Tree.{SelectorTree, ExprTree, ExprTrees, any_of, all_of, CallTree, call}
-use Rattle.jp_query.specs.Tree.{arguments, ArgumentTree, logical_argument}
+use Rattle.jp_tree.specs.Tree.{SelectorTree, ExprTree, ExprTrees, any_of, all_of, CallTree, call}
+use Rattle.jp_tree.specs.Tree.{arguments, ArgumentTree, logical_argument}
 use Rattle.jp_query.specs.Characters.{ampersand, bar, comma, opening_parenthesis}
 use Rattle.jp_query.specs.Names.{is_function_char}
 use Rattle.jp_query.specs.Grammar.{joined}

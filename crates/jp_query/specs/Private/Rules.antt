@@ -9,21 +9,21 @@ use Rattle.jp_reading.specs.Numbers.{is_digit, value_from}
 use Rattle.jp_reading.specs.Rule.{Mark, here, beyond, Nesting, the, blanks, Rule, value, character}
 use Rattle.jp_reading.specs.Rule.{made, look, upon, nested, item, item_where, omitted, some}
 use Rattle.jp_reading.specs.Rule.{relaxed, loose, until, flat, ◌>>=◌, ◌>>◌}
-use Rattle.jp_query.specs.declared.tree.Numeral.{Numeral}
-use Rattle.jp_query.specs.declared.tree.Numeral.TheVariants.{Whole}
-use Rattle.jp_query.specs.declared.tree.Slice.{Slice}
-use Rattle.jp_query.specs.declared.tree.Op.{Op}
-use Rattle.jp_query.specs.declared.tree.Op.TheVariants.{Equal, Unequal, Less, LessEqual, Greater}
-use Rattle.jp_query.specs.declared.tree.Op.TheVariants.{GreaterEqual}
-use Rattle.jp_query.specs.Tree.{SelectorTree, name, wildcard, index, slice, filter, SegmentTree}
-use Rattle.jp_query.specs.Tree.{QueryTree, query as query_tree, ExprTree, any_of, all_of, negation}
-use Rattle.jp_query.specs.Tree.{comparison as comparison_tree, exists, call_test, OperandTree}
-use Rattle.jp_query.specs.Tree.{literal as literal_operand, node_value, call_value, CallTree, call}
-use Rattle.jp_query.specs.Tree.{ArgumentTree, literal_argument, query_argument, call_argument}
-use Rattle.jp_query.specs.Tree.{logical_argument, LiteralTree, number as number_literal, text}
-use Rattle.jp_query.specs.Tree.{true_literal, false_literal, null_literal, segment as segment_tree}
-use Rattle.jp_query.specs.Tree.{selectors as selector_trees, segments as segment_trees}
-use Rattle.jp_query.specs.Tree.{arguments as argument_trees}
+use Rattle.jp_tree.specs.declared.tree.Numeral.{Numeral}
+use Rattle.jp_tree.specs.declared.tree.Numeral.TheVariants.{Whole}
+use Rattle.jp_tree.specs.declared.tree.Slice.{Slice}
+use Rattle.jp_tree.specs.declared.tree.Op.{Op}
+use Rattle.jp_tree.specs.declared.tree.Op.TheVariants.{Equal, Unequal, Less, LessEqual, Greater}
+use Rattle.jp_tree.specs.declared.tree.Op.TheVariants.{GreaterEqual}
+use Rattle.jp_tree.specs.Tree.{SelectorTree, name, wildcard, index, slice, filter, SegmentTree}
+use Rattle.jp_tree.specs.Tree.{QueryTree, query as query_tree, ExprTree, any_of, all_of, negation}
+use Rattle.jp_tree.specs.Tree.{comparison as comparison_tree, exists, call_test, OperandTree}
+use Rattle.jp_tree.specs.Tree.{literal as literal_operand, node_value, call_value, CallTree, call}
+use Rattle.jp_tree.specs.Tree.{ArgumentTree, literal_argument, query_argument, call_argument}
+use Rattle.jp_tree.specs.Tree.{logical_argument, LiteralTree, number as number_literal, text}
+use Rattle.jp_tree.specs.Tree.{true_literal, false_literal, null_literal, segment as segment_tree}
+use Rattle.jp_tree.specs.Tree.{selectors as selector_trees, segments as segment_trees}
+use Rattle.jp_tree.specs.Tree.{arguments as argument_trees}
 use Rattle.jp_query.specs.Characters.{double_quote, single_quote, exclamation_mark, dollar}
 use Rattle.jp_query.specs.Characters.{ampersand, opening_parenthesis, closing_parenthesis, star}
 use Rattle.jp_query.specs.Characters.{comma, minus, dot, digit_zero, colon, less_sign, equals_sign}

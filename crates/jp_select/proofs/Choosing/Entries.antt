@@ -10,10 +10,10 @@ use Rattle.std.proofs.lemmas.Str.{encodes-chars}
 use Rattle.jp_document.specs.Location.{Key, child, entries, items_from, named, nth}
 use Rattle.jp_document.specs.Value.{Value, null, boolean, whole, text, list}
 use Rattle.jp_document.specs.Value.{object, Items, no_items, item, item_count}
-use Rattle.jp_query.specs.Tree.{name, selector_of, slice}
-use Rattle.jp_query.specs.declared.tree.Expr.{the_lemmas}
-use Rattle.jp_query.specs.declared.tree.Selector.{Name}
-use Rattle.jp_query.specs.declared.tree.Slice.{Slice}
+use Rattle.jp_tree.specs.Tree.{name, selector_of, slice}
+use Rattle.jp_tree.specs.declared.tree.Expr.{the_lemmas}
+use Rattle.jp_tree.specs.declared.tree.Selector.{Name}
+use Rattle.jp_tree.specs.declared.tree.Slice.{Slice}
 use Rattle.jp_select.specs.Candidates.{at_step, candidates, item_entry, single}
 use Rattle.jp_select.specs.Selectors.{indexes_chosen, indexes_of, bound_of, whole_of, list_length}
 use Rattle.jp_select.proofs.Slices.Items.{slice_within}

@@ -11,10 +11,10 @@ use Rattle.jp_document.specs.Location.{Key, Location, value_at}
 use Rattle.jp_document.specs.Node.{AreNodes, Located, Node, StandsIn}
 use Rattle.jp_document.specs.Node.{location_of, node_below, node_of}
 use Rattle.jp_document.specs.Value.{IsDocumentValue, Value}
-use Rattle.jp_query.specs.Tree.{SelectorTree, index, name, selector_of, slice, wildcard}
-use Rattle.jp_query.specs.declared.tree.Expr.{Expr, the_lemmas}
-use Rattle.jp_query.specs.declared.tree.Selector.{Selector}
-use Rattle.jp_query.specs.declared.tree.Selector.TheVariants as one
+use Rattle.jp_tree.specs.Tree.{SelectorTree, index, name, selector_of, slice, wildcard}
+use Rattle.jp_tree.specs.declared.tree.Expr.{Expr, the_lemmas}
+use Rattle.jp_tree.specs.declared.tree.Selector.{Selector}
+use Rattle.jp_tree.specs.declared.tree.Selector.TheVariants as one
 use Rattle.jp_select.proofs.Chosen.{IsPlain, StandsBelow, candidates_stand}
 use Rattle.jp_select.proofs.Chosen.{chosen-candidates, entry_location}
 use Rattle.jp_select.proofs.Locations.{IsDocumentValue-at}

@@ -1,6 +1,6 @@
 use Rattle.std.proofs.Common.{refl}
 use Rattle.jp_query.specs.Items.{items_of}
-use Rattle.jp_query.specs.Tree.{query_of}
+use Rattle.jp_tree.specs.Tree.{query_of}
 use Rattle.jp_check.proofs.Least.{found}
 use Rattle.jp_check.proofs.walk.first_fault.Goals as goal
 

@@ -1,7 +1,7 @@
 use Rattle.std.proofs.Common.{◌≡◌, refl, rules}
 use Rattle.jp_document.specs.Document.{IsDocument, document_of}
 use Rattle.jp_evaluate.specs.Rest.{rest_of}
-use Rattle.jp_query.specs.Tree.{query_of}
+use Rattle.jp_tree.specs.Tree.{query_of}
 use Rattle.jp_command.specs.Lines.{lines_of}
 use Rattle.jp_command.proofs.Runs.{run-ends}
 use Rattle.jp_command.proofs.eval.run_eval.Goals as goal

@@ -2,7 +2,7 @@ use Rattle.std.proofs.Common.{◌++◌, map, sym, subst, ap, ◌∙◌}
 use Rattle.std.proofs.lemmas.List.{append-nil}
 use Rattle.jp_document.specs.Document.{document_of}
 use Rattle.jp_document.specs.Node.{AreNodes, node_of}
-use Rattle.jp_query.specs.Tree.{query_of}
+use Rattle.jp_tree.specs.Tree.{query_of}
 use Rattle.jp_evaluate.specs.Nodelist.{nodelist}
 use Rattle.jp_evaluate.proofs.evaluation.evaluate.Goals as goal
 

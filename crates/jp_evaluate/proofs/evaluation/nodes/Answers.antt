@@ -1,8 +1,8 @@
 use Rattle.std.proofs.Common.{sym, subst, ap, ◌∙◌}
 use Rattle.jp_document.specs.Document.{document_of}
 use Rattle.jp_document.specs.Node.{AreNodes}
-use Rattle.jp_query.specs.Tree.{query_of}
-use Rattle.jp_query.specs.declared.tree.Query.{Query, out-Query}
+use Rattle.jp_tree.specs.Tree.{query_of}
+use Rattle.jp_tree.specs.declared.tree.Query.{Query, out-Query}
 use Rattle.jp_evaluate.specs.Nodelist.{nodelist}
 use Rattle.jp_evaluate.specs.Private.Walk.{walk_reaches}
 use Rattle.jp_evaluate.proofs.Walks.Begun.{begun_nodelist}

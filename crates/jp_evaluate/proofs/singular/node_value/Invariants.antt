@@ -1,6 +1,6 @@
 use Rattle.std.proofs.Common.{◌≡◌, drop}
 use Rattle.jp_document.specs.DocumentValue.{lent_value}
-use Rattle.jp_query.specs.Tree.{query_of}
+use Rattle.jp_tree.specs.Tree.{query_of}
 use Rattle.jp_evaluate.specs.Private.Reached.{single_side}
 use Rattle.jp_evaluate.specs.Private.Singular.{values_along}
 use Rattle.jp_evaluate.proofs.Nodelists.Along.{of_segments}

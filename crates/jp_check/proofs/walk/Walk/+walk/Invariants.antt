@@ -1,8 +1,8 @@
 use Rattle.std.proofs.Common.{◌≡◌, drop, map}
 use Rattle.jp_query.specs.Items.{call_items, exprs_items, items_of}
 use Rattle.jp_query.specs.Items.{segment_items, segments_items, selectors_items}
-use Rattle.jp_query.specs.Tree.{argument_of, call_of, expr_of, exprs, query_of}
-use Rattle.jp_query.specs.Tree.{segment_of, segments, selector_of, selectors}
+use Rattle.jp_tree.specs.Tree.{argument_of, call_of, expr_of, exprs, query_of}
+use Rattle.jp_tree.specs.Tree.{segment_of, segments, selector_of, selectors}
 use Rattle.jp_check.specs.Private.Calls.{arguments_from, wanted_of_call}
 use Rattle.jp_check.specs.Private.Walk.{steps}
 use Rattle.jp_check.proofs.walk.Walk.+walk.Given as goal

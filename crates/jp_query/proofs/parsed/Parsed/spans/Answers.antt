@@ -1,5 +1,5 @@
 use Rattle.jp_query.specs.Levels.{level_limit}
-use Rattle.jp_query.specs.Tree.{query_of}
+use Rattle.jp_tree.specs.Tree.{query_of}
 use Rattle.jp_query.proofs.ItemSpans.{spans-of_items}
 use Rattle.jp_query.proofs.parsed.Parsed.spans.Goals as goal
 

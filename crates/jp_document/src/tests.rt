@@ -1,4 +1,0 @@
-//! Rows of documents, nodes and paths.
-mod direct;
-mod documents;
-mod paths;

@@ -1,0 +1,139 @@
+//! The limits: of a query's length, of a document's, and of levels in a query.
+
+use super::devices::Blanks;
+use super::rows::ended;
+use super::runs::written;
+use jp_check::read_query;
+use jp_command::{Device, Fault, Form, run_canon, run_check, run_eval};
+use jp_query::{Refusal, RefusalKind};
+use std::alloc::{AllocError, Global};
+use std::test::Fail;
+
+const TOO_LONG: Fault = Fault::Query(Refusal {
+    kind: RefusalKind::TextTooLong,
+    place: 0,
+});
+
+/// A text with a part of it repeated on each side of the middle.
+fn nested(
+    alloc: Global,
+    (start, opening, count, middle): (&str, &str, u32, &str),
+    (closing, end): (&str, &str),
+) -> Result<String, AllocError> {
+    let mut text = String::from_str(alloc, start)?;
+    for _ in 0..count {
+        text.push_str(opening)?;
+    }
+    text.push_str(middle)?;
+    for _ in 0..count {
+        text.push_str(closing)?;
+    }
+    text.push_str(end)?;
+    Ok(text)
+}
+
+#[test]
+fn looks_at_the_length_of_a_query_first(rt: HostRuntime) -> Result<(), Fail> {
+    let alloc = rt.alloc();
+    let rows = [
+        (("$", ".a", 524_287, ""), true),
+        (("$", "                ", 65_535, "             .a"), true),
+        (("$", "                ", 65_535, "             .ab"), false),
+        (("$", ".a", 524_288, ""), false),
+    ];
+    for (text, accepted) in rows {
+        let query = nested(alloc, text, ("", ""))?;
+        let mut line = Vec::new(alloc);
+        let ended = run_check(alloc, query.as_str(), &mut Device::new(&mut line));
+        assert!(rt; ended.is_ok() == accepted);
+        if accepted {
+            assert_eq!(rt; line.as_slice(), b"accepted\n".as_slice());
+            continue;
+        }
+        assert!(rt; ended.err() == Some(TOO_LONG));
+        assert!(rt; line.is_empty());
+        assert!(rt; written(alloc, query.as_str(), "1").err() == Some(TOO_LONG));
+        let canonical = run_canon(alloc, query.as_str(), &mut Device::new(Vec::new(alloc)));
+        assert!(rt; canonical.err() == Some(TOO_LONG));
+        assert!(rt; read_query(alloc, query.as_str()).is_ok());
+    }
+    Ok(())
+}
+
+#[test]
+fn reads_documents_up_to_the_limit(rt: HostRuntime) {
+    let alloc = rt.alloc();
+    let mut bytes = Vec::new(alloc);
+    let run = run_eval(
+        alloc,
+        "$",
+        Form::Both,
+        &mut Device::new(Blanks(16_777_215)),
+        &mut Device::new(&mut bytes),
+    );
+    assert!(rt; run.is_ok());
+    assert_eq!(rt; bytes.as_slice(), b"$\t1\n".as_slice());
+}
+
+#[test]
+fn refuses_a_document_beyond_the_limit(rt: HostRuntime) -> Result<(), Fail> {
+    let alloc = rt.alloc();
+    let blanks = Blanks(16_777_216);
+    let (status, output, faults) = ended(alloc, &["jp", "both", "$"], blanks)?;
+    assert_eq!(rt; status, 3);
+    assert!(rt; output.is_empty());
+    assert_eq!(rt;
+        faults.as_slice(),
+        b"document refused: DocumentTooLarge\n".as_slice()
+    );
+    Ok(())
+}
+
+#[test]
+fn nests_filters_parentheses_and_calls_64_deep(rt: HostRuntime) -> Result<(), Fail> {
+    let alloc = rt.alloc();
+    let parentheses = |count| ("$[?", "(", count, "@.a");
+    let rows = [
+        (parentheses(63), (")", "]"), None),
+        (
+            parentheses(64),
+            (")", "]"),
+            Some((RefusalKind::TooDeep, 66)),
+        ),
+        (("$", "[?@", 64, ""), ("]", ""), None),
+        (
+            ("$", "[?@", 65, ""),
+            ("]", ""),
+            Some((RefusalKind::TooDeep, 194)),
+        ),
+        (
+            ("$[?", "g(", 63, "1"),
+            (")", "]"),
+            Some((RefusalKind::UnknownFunction, 3)),
+        ),
+        (
+            ("$[?", "g(", 64, "1"),
+            (")", "]"),
+            Some((RefusalKind::TooDeep, 129)),
+        ),
+        (
+            ("$[?", "f(", 64, "1"),
+            (")", "]"),
+            Some((RefusalKind::TooDeep, 130)),
+        ),
+    ];
+    for (start, end, expected) in rows {
+        let query = nested(alloc, start, end)?;
+        let refused = match read_query(alloc, query.as_str()) {
+            Ok(_) => None,
+            Err(refusal) => Some((refusal.kind, refusal.place)),
+        };
+        assert!(rt; refused == expected, "{query}");
+    }
+    let query = nested(alloc, parentheses(63), (")", "]"))?;
+    let mut line = Vec::new(alloc);
+    let run = run_canon(alloc, query.as_str(), &mut Device::new(&mut line));
+    assert!(rt; run.is_ok());
+    assert_eq!(rt; line.as_slice(), b"$[?@['a']]\n".as_slice());
+    Ok(())
+}

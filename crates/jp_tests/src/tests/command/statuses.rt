@@ -1,0 +1,152 @@
+//! Each status of `run_line`, with its line.
+
+use super::devices::{Broken, Narrow};
+use super::rows::{ended, words};
+use jp_command::{Device, run_line};
+use std::test::Fail;
+
+#[test]
+fn refuses_a_document_that_is_no_utf8(rt: HostRuntime) -> Result<(), Fail> {
+    let document = b"\"\xff\"".as_slice();
+    let (status, _, faults) = ended(rt.alloc(), &["jp", "both", "$"], document)?;
+    assert_eq!(rt; status, 3);
+    assert_eq!(rt;
+        faults.as_slice(),
+        b"document refused: NotJson\n".as_slice()
+    );
+    Ok(())
+}
+
+#[test]
+fn writes_the_form_of_its_subcommand(rt: HostRuntime) -> Result<(), Fail> {
+    let alloc = rt.alloc();
+    let names = (r#"{"o":{"j j":{"k.k":3}},"'":{"@":2}}"#, r#"$["'"]["@"]"#);
+    let escaped = (r#"{"\u001f\n'\\":1}"#, "$.*");
+    let rows = [
+        ("check", names, "accepted\n"),
+        ("canon", names, "$['\\'']['@']\n"),
+        ("eval", names, "2\n"),
+        ("paths", names, "$['\\'']['@']\n"),
+        ("both", names, "$['\\'']['@']\t2\n"),
+        ("paths", escaped, "$['\\u001f\\n\\'\\\\']\n"),
+    ];
+    for (subcommand, (document, query), text) in rows {
+        let line = ["jp", subcommand, query];
+        let (status, output, faults) = ended(alloc, &line, document.as_bytes())?;
+        assert_eq!(rt; status, 0, "{subcommand}");
+        assert_eq!(rt; output.as_slice(), text.as_bytes(), "{subcommand}");
+        assert!(rt; faults.is_empty(), "{subcommand}");
+    }
+    Ok(())
+}
+
+#[test]
+fn leaves_the_input_of_a_refused_query_unread(rt: HostRuntime) -> Result<(), Fail> {
+    let alloc = rt.alloc();
+    let mut document: &[u8] = b"[1]";
+    let ended = run_line(
+        alloc,
+        words(alloc, &["jp", "both", "$["])?,
+        &mut Device::new(&mut document),
+        &mut Device::new(Vec::new(alloc)),
+        &mut Device::new(Vec::new(alloc)),
+    );
+    assert_eq!(rt; ended, 1);
+    assert_eq!(rt; document, b"[1]".as_slice());
+    Ok(())
+}
+
+#[test]
+fn refuses_words_that_it_does_not_take(rt: HostRuntime) -> Result<(), Fail> {
+    let alloc = rt.alloc();
+    let lines: [&[&str]; 9] = [
+        &[],
+        &["jp"],
+        &["jp", "both"],
+        &["jp", "both", "$", "$"],
+        &["jp", "value", "$"],
+        &["jp", "help"],
+        &["jp", "--help"],
+        &["jp", "--version"],
+        &["jp", "both", "--help"],
+    ];
+    for line in lines {
+        let (status, output, faults) = ended(alloc, line, b"[1]".as_slice())?;
+        assert_eq!(rt; status, 2, "{line:?}");
+        assert!(rt; !faults.is_empty(), "{line:?}");
+        assert!(rt; output.is_empty(), "{line:?}");
+    }
+    Ok(())
+}
+
+#[test]
+fn tells_of_each_subcommand_and_status_in_its_help(rt: HostRuntime) -> Result<(), Fail> {
+    let alloc = rt.alloc();
+    let (status, _, faults) = ended(alloc, &["jp", "--help"], b"[1]".as_slice())?;
+    assert_eq!(rt; status, 2);
+    let help = str::from_utf8(faults.as_slice())?;
+    for part in [
+        "\n  check ",
+        "\n  canon ",
+        "\n  eval ",
+        "\n  paths ",
+        "\n  both ",
+        "QUERY",
+        "jp eval '$[-1]'",
+        "0 done",
+        "1 query refused",
+        "2 usage or help",
+        "3 document refused",
+        "4 want of memory",
+        "5 read or write fault",
+    ] {
+        assert!(rt; help.contains(part), "{part}");
+    }
+    Ok(())
+}
+
+#[test]
+fn tells_failures_of_its_streams(rt: HostRuntime) -> Result<(), Fail> {
+    let alloc = rt.alloc();
+    let line = words(alloc, &["jp", "both", "$"])?;
+    let mut faults = Vec::new(alloc);
+    let mut reports = Device::new(&mut faults);
+    let mut output = Device::new(Narrow::new(alloc, 99, true));
+    let ended = run_line(
+        alloc,
+        line,
+        &mut Device::new(Broken(b"[1")),
+        &mut output,
+        &mut reports,
+    );
+    assert_eq!(rt; ended, 5);
+    let mut output = Device::new(Narrow::new(alloc, 3, true));
+    let line = words(alloc, &["jp", "both", "$"])?;
+    let mut input = Device::new(b"[1]".as_slice());
+    let ended = run_line(alloc, line, &mut input, &mut output, &mut reports);
+    assert_eq!(rt; ended, 5);
+    let mut output = Device::new(Narrow::new(alloc, 99, false));
+    let line = words(alloc, &["jp", "both", "$"])?;
+    let mut input = Device::new(b"[1]".as_slice());
+    let ended = run_line(alloc, line, &mut input, &mut output, &mut reports);
+    assert_eq!(rt; ended, 5);
+    let text = b"read fault\nwrite fault\nwrite fault\n".as_slice();
+    assert_eq!(rt; faults.as_slice(), text);
+    Ok(())
+}
+
+#[test]
+fn keeps_its_status_where_its_line_cannot_be_written(rt: HostRuntime) -> Result<(), Fail> {
+    let alloc = rt.alloc();
+    for (query, status) in [("$", 3), ("$[", 1)] {
+        let ended = run_line(
+            alloc,
+            words(alloc, &["jp", "both", query])?,
+            &mut Device::new(b"".as_slice()),
+            &mut Device::new(Narrow::new(alloc, 99, true)),
+            &mut Device::new(Narrow::new(alloc, 7, true)),
+        );
+        assert_eq!(rt; ended, status);
+    }
+    Ok(())
+}

@@ -1,0 +1,97 @@
+//! Texts of RFC 9485 that conform, and texts that do not.
+
+use super::repeated;
+use jp_iregexp::{PatternFault, read_pattern};
+use std::test::Fail;
+
+const CONFORMING: [&str; 22] = [
+    "[-]",
+    "[--]",
+    "[a-]",
+    "[-a]",
+    "[^^]",
+    "[a^]",
+    r"[\p{L}-]",
+    r"\-",
+    "a{007}",
+    "a{999999999}",
+    "a{0}",
+    "a{2,}",
+    "a{0,999999999}",
+    r"[+-\-]",
+    r"\^",
+    "^a$",
+    "a,b",
+    "a-b",
+    "(a|ab)(c|bcd)",
+    "a||",
+    "()",
+    r"\n\r\t\(\)\*\+\.\?\[\\\]\{\|\}",
+];
+
+const NOT_CONFORMING: [&str; 34] = [
+    "[]",
+    "[^]",
+    "[a-b-c]",
+    "[--a]",
+    "[b-a]",
+    "a**",
+    "a{,2}",
+    "a{2,1}",
+    "a{1000000000}",
+    r"\d",
+    r"\$",
+    r"\p{Cs}",
+    "(a",
+    "a)",
+    "]",
+    "}",
+    "*",
+    "a|*",
+    "(",
+    ")",
+    "[",
+    "{",
+    r"\",
+    r"\p",
+    r"\p{Lu",
+    r"\p{LC}",
+    r"\p{Luu}",
+    r"\p{}",
+    r"[a-\p{L}]",
+    "[a--]",
+    "[---]",
+    r"\/",
+    "(?:a)",
+    "a{1,1000000000}",
+];
+
+#[test]
+fn reads_what_conforms(rt: HostRuntime) {
+    for text in CONFORMING {
+        assert!(rt; read_pattern(rt.alloc(), text).is_ok(), "{text}");
+    }
+}
+
+#[test]
+fn refuses_what_does_not(rt: HostRuntime) {
+    for text in NOT_CONFORMING {
+        let fault = read_pattern(rt.alloc(), text).err();
+        assert_eq!(rt; fault, Some(PatternFault::NotConforming), "{text}");
+    }
+    assert_eq!(rt; PatternFault::NotConforming.number(), 1);
+    assert_eq!(rt; PatternFault::NoMemory.number(), 2);
+}
+
+#[test]
+fn reads_64_groups_and_not_65(rt: HostRuntime) -> Result<(), Fail> {
+    for (groups, conforms) in [(64, true), (65, false)] {
+        let mut text = repeated(rt.alloc(), "(", groups)?;
+        text.push('a')?;
+        let ends = repeated(rt.alloc(), ")", groups)?;
+        text.push_str(ends.as_str())?;
+        let is_read = read_pattern(rt.alloc(), text.as_str()).is_ok();
+        assert_eq!(rt; is_read, conforms, "{groups}");
+    }
+    Ok(())
+}

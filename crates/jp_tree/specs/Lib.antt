@@ -1,0 +1,2 @@
+pub mod Singular
+pub mod Tree
