@@ -188,9 +188,9 @@ fn negated(reader: &mut Reader, levels: u32) -> Result<Expr, Stop>
 
 /// A test, which is an item: a function, or a query.
 #[cycle(nested)]
-#[tactic(auto, unfolding(crate::specs::Private::Rules::test))]
+#[tactic(auto, unfolding(crate::specs::Private::Rules::test_expr))]
 fn test(reader: &mut Reader, levels: u32) -> Result<Expr, Stop>
-    ensures { Gives expr_of result reader.new (read_inside levels rules.test reader.old) }
+    ensures { Gives expr_of result reader.new (read_inside levels rules.test_expr reader.old) }
 {
     let start = reader.place();
     let before = reader.items();

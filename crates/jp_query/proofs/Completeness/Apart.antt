@@ -393,8 +393,8 @@ closed-closes e K = record {
   far = record { end = λ h. h; next = λ c h. grind (arith, nat_tests) };
 }
 
-test-apart : Apart {N = nesting} closes rule.test test-alive after_basic
-unfolding rule.test rule.subject rule.query_within rule.identifier
+test-apart : Apart {N = nesting} closes rule.test_expr test-alive after_basic
+unfolding rule.test_expr rule.subject rule.query_within rule.identifier
 test-apart = (
   λ c h. grind (arith, nat_tests),
   λ r. under-any after_basic,
@@ -403,7 +403,7 @@ test-apart = (
 )
 
 negated-apart : Apart {N = nesting} closes rule.negated negated-alive after_basic
-unfolding rule.negated rule.test rule.subject rule.query_within rule.identifier
+unfolding rule.negated rule.test_expr rule.subject rule.query_within rule.identifier
 negated-apart = (
   λ c h. grind (arith, nat_tests),
   λ e. closed-closes e after_basic,
@@ -412,7 +412,7 @@ negated-apart = (
 )
 
 negation_on-apart : Apart {N = nesting} closes rule.negation_on negation_on-alive after_basic
-unfolding rule.negation_on rule.negated rule.test rule.subject rule.query_within rule.identifier
+unfolding rule.negation_on rule.negated rule.test_expr rule.subject rule.query_within rule.identifier
     is_blank
 negation_on-apart = (λ c h. grind (arith, nat_tests), negated-apart)
 

@@ -184,8 +184,8 @@ module _ (I : Nested → Form) where
       ⨾ after assoc
 
   -- a test, which is an item
-  test-same : (e : ExprTree) → Same (form (marked I) rule.test e) (Test I e)
-  unfolding rule.test rule.subject
+  test-same : (e : ExprTree) → Same (form (marked I) rule.test_expr e) (Test I e)
+  unfolding rule.test_expr rule.subject
   test-same e =
       item-either
       ⨾ either (item (then-value ⨾ made (whole-same I)) ⨾ item-made ⨾ back made-made

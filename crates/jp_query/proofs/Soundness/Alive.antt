@@ -248,8 +248,8 @@ abbrev pub subject-alive : Alive rule.subject
 unfolding rule.subject
 subject-alive = (λ r. tt, query_within-alive)
 
-abbrev pub test-alive : Alive rule.test
-unfolding rule.test
+abbrev pub test-alive : Alive rule.test_expr
+unfolding rule.test_expr
 test-alive = subject-alive
 
 abbrev pub negated-alive : Alive rule.negated

@@ -409,12 +409,12 @@ subject =
     (made exists query_within)
 
 -- test-expr, which is an item
-unfoldable pub test : QueryRule true here beyond ExprTree
-test = item subject
+unfoldable pub test_expr : QueryRule true here beyond ExprTree
+test_expr = item subject
 
 -- what comes after a `!`
 unfoldable pub negated : QueryRule true here beyond ExprTree
-negated = nested (mark opening_parenthesis) closed test
+negated = nested (mark opening_parenthesis) closed test_expr
 
 -- what goes on from the first side: a literal has to be compared, all else may be a test
 abbrev pub compared_or_test : OperandTree → QueryRule false beyond beyond ExprTree
