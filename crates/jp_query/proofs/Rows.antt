@@ -139,8 +139,9 @@ filter-rows : Spells 1 test (at_bytes 3 4 ∷ []) (codes "$[?@]")
     (codes "$[?-0<=@.a&&@==1.0]")
 unfolding query_at rule.query rule.segments rule.segment rule.bracket rule.entries rule.entry
     rule.selector rule.member rule.selection rule.shorthand rule.query_within rule.identifier
-    rule.side rule.side_within rule.word rule.comparison_with rule.subject rule.test_expr rule.closed
-    rule.negated rule.negation_on rule.basic rule.inside_mark rule.conjunction rule.expression
+    rule.side rule.side_within rule.word rule.comparison_with rule.subject rule.test_expr
+    rule.closed rule.negated rule.negation_on rule.basic rule.inside_mark rule.conjunction
+    rule.expression
     rule.operator rule.plain_literal rule.number rule.mantissa rule.decimals rule.exponent
     rule.power rule.digits rule.int rule.unsigned rule.size past_blanks loop is_blank is_digit
 filter-rows = (
@@ -182,8 +183,9 @@ refused_filter-rows : (query_at 0 (start (codes "$[?@]")) ≡ deep (record {
 }))
 unfolding query_at rule.query rule.segments rule.segment rule.bracket rule.entries rule.entry
     rule.selector rule.member rule.selection rule.shorthand rule.query_within rule.identifier
-    rule.side rule.side_within rule.word rule.comparison_with rule.subject rule.test_expr rule.closed
-    rule.negated rule.negation_on rule.basic rule.inside_mark rule.conjunction rule.expression
+    rule.side rule.side_within rule.word rule.comparison_with rule.subject rule.test_expr
+    rule.closed rule.negated rule.negation_on rule.basic rule.inside_mark rule.conjunction
+    rule.expression
     rule.operator rule.plain_literal rule.number rule.mantissa rule.decimals rule.exponent
     rule.power rule.digits rule.int rule.unsigned rule.size past_blanks loop is_blank is_digit
 refused_filter-rows = (refl, refl, refl, refl, refl, refl)

@@ -412,8 +412,8 @@ negated-apart = (
 )
 
 negation_on-apart : Apart {N = nesting} closes rule.negation_on negation_on-alive after_basic
-unfolding rule.negation_on rule.negated rule.test_expr rule.subject rule.query_within rule.identifier
-    is_blank
+unfolding rule.negation_on rule.negated rule.test_expr rule.subject rule.query_within
+    rule.identifier is_blank
 negation_on-apart = (λ c h. grind (arith, nat_tests), negated-apart)
 
 basic-apart : Apart {N = nesting} closes rule.basic basic-alive after_basic
