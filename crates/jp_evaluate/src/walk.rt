@@ -94,27 +94,27 @@ impl<'d> Walk<'d> {
                 test: None,
             });
         }
-        while let Some(mut frame) = self.last_frame() {
-            if let Some(offer) = frame_offer(segments, &mut frame) {
-                self.top = Some(frame);
+        loop {
+            self.take_up();
+            let Some(frame) = &mut self.top else {
+                return None;
+            };
+            if let Some(offer) = frame_offer(segments, frame) {
                 return Some(offer);
             }
             self.top = None;
         }
-        None
     }
 
-    /// The last frame, None where there is none.
-    fn last_frame(&mut self) -> Option<Frame<'d>>
+    /// Takes up the last frame of those below where none stands apart.
+    fn take_up(&mut self)
         ensures first { self.new.first ≡ self.old.first }
         ensures frames { walk_frames self.new ≡ walk_frames self.old }
-        ensures last { self.new.top ≡ result }
-        ensures none { IfNone result (walk_frames self.new ≡ []) }
+        ensures none { IfNone self.new.top (walk_frames self.new ≡ []) }
     {
         if self.top.is_none() {
             self.top = self.below.pop();
         }
-        self.top
     }
 
     /// Goes on from a place.

@@ -21,7 +21,7 @@ use jp_tree::{Argument, Call, Expr, Operand, Subject};
 
 /// A function expression.
 #[cycle(nested)]
-pub fn call(reader: &mut Reader, levels: u32) -> Result<Call, Stop>
+pub(crate) fn call(reader: &mut Reader, levels: u32) -> Result<Call, Stop>
     ensures { Gives
         call_of
         result
@@ -34,7 +34,7 @@ pub fn call(reader: &mut Reader, levels: u32) -> Result<Call, Stop>
 
 /// A function expression, of whose name these characters were read.
 #[cycle(nested)]
-pub fn call_from(reader: &mut Reader, levels: u32, name: String) -> Result<Call, Stop>
+pub(crate) fn call_from(reader: &mut Reader, levels: u32, name: String) -> Result<Call, Stop>
     ensures { Gives
         call_of
         result

@@ -19,7 +19,7 @@ use jp_tree::{Expr, Operand, Subject};
 /// An expression after the mark that opens it, one level further in than the text around.
 #[cycle(nested)]
 #[tactic(auto, unfolding(crate::specs::Private::Rules::inside_mark))]
-pub fn inside(reader: &mut Reader, mark: char, levels: u32) -> Result<Expr, Stop>
+pub(crate) fn inside(reader: &mut Reader, mark: char, levels: u32) -> Result<Expr, Stop>
     ensures { Gives expr_of result reader.new (inside levels (rules.mark mark) reader.old) }
 {
     if levels == 0 {
@@ -32,7 +32,7 @@ pub fn inside(reader: &mut Reader, mark: char, levels: u32) -> Result<Expr, Stop
 
 /// What joins the parts of an expression: `||` joins conjunctions, `&&` basic expressions.
 #[derive(Clone, Copy)]
-pub enum Connective {
+pub(crate) enum Connective {
     Or,
     And,
 }
@@ -81,7 +81,7 @@ fn conjunction(reader: &mut Reader, levels: u32) -> Result<Expr, Stop>
 
 /// A part and those after it, each after the connective; a single one stands for itself.
 #[cycle(nested)]
-pub fn joined_from(
+pub(crate) fn joined_from(
     reader: &mut Reader,
     levels: u32,
     connective: Connective,
@@ -163,7 +163,7 @@ fn basic(reader: &mut Reader, levels: u32) -> Result<Expr, Stop>
 /// A negation after its `!`.
 #[cycle(nested)]
 #[tactic(auto, unfolding(crate::specs::Private::Rules::negation_on))]
-pub fn negation(reader: &mut Reader, levels: u32) -> Result<Expr, Stop>
+pub(crate) fn negation(reader: &mut Reader, levels: u32) -> Result<Expr, Stop>
     ensures { Gives expr_of result reader.new (read_inside levels rules.negation_on reader.old) }
 {
     reader.skip();
@@ -213,7 +213,7 @@ fn subject(reader: &mut Reader, levels: u32) -> Result<Subject, Stop>
 /// An expression in parentheses.
 #[cycle(nested)]
 #[tactic(auto, unfolding(crate::specs::Private::Rules::closed))]
-pub fn parenthesis(reader: &mut Reader, levels: u32) -> Result<Expr, Stop>
+pub(crate) fn parenthesis(reader: &mut Reader, levels: u32) -> Result<Expr, Stop>
     ensures { Gives expr_of result reader.new (parenthesis_at levels reader.old) }
 {
     let expr = inside(reader, '(', levels)?;
@@ -248,7 +248,7 @@ fn compared_or_test(reader: &mut Reader, levels: u32, first: Operand) -> Result<
 /// An operator and the second side of a comparison, after the first.
 #[cycle(nested)]
 #[tactic(auto, unfolding(crate::specs::Private::Rules::comparison_with))]
-pub fn comparison(reader: &mut Reader, levels: u32, left: Operand) -> Result<Expr, Stop>
+pub(crate) fn comparison(reader: &mut Reader, levels: u32, left: Operand) -> Result<Expr, Stop>
     ensures { Gives
         expr_of
         result

@@ -13,7 +13,7 @@ use jp_tree::{Literal, Numeral};
 
 /// A literal that is no word: a string or a number.
 #[tactic(auto, unfolding(crate::specs::Private::Rules::plain_literal))]
-pub fn plain_literal(reader: &mut Reader) -> Result<Literal, Stop>
+pub(crate) fn plain_literal(reader: &mut Reader) -> Result<Literal, Stop>
     ensures { Gives literal_of result reader.new (read_flat rules.plain_literal reader.old) }
 {
     match reader.peek() {

@@ -18,7 +18,7 @@ use jp_reading::{CharacterClass, Reader, Stop};
 
 /// Classes of characters in names.
 #[derive(Clone, Copy)]
-pub enum NameCharacter {
+pub(crate) enum NameCharacter {
     /// What begins a member's name (name-first).
     First,
     /// What goes on with a member's name (name-char).
@@ -55,7 +55,11 @@ pub(crate) fn shorthand(reader: &mut Reader) -> Result<String, Stop>
 }
 
 /// A name with the characters of the class after it that stand next, as many as there are.
-pub fn name_from(reader: &mut Reader, class: NameCharacter, name: String) -> Result<String, Stop>
+pub(crate) fn name_from(
+    reader: &mut Reader,
+    class: NameCharacter,
+    name: String,
+) -> Result<String, Stop>
     ensures { Gives
         (λ s. chars (string_bytes s))
         result
@@ -96,14 +100,14 @@ fn is_function_char(c: char) -> bool
 }
 
 /// Whether a function's name begins here (function-name-first).
-pub fn is_at_function(reader: &Reader) -> bool
+pub(crate) fn is_at_function(reader: &Reader) -> bool
     ensures { result ≡ passes is_function_first (head reader.now) }
 {
     matches!(reader.peek(), Some('a'..='z'))
 }
 
 /// Whether a function's name goes on with that character or ends with it, and it is not the other.
-pub fn goes_on(next: char, other: Option<char>) -> bool
+pub(crate) fn goes_on(next: char, other: Option<char>) -> bool
     ensures { result ≡ opens (rules.name_on other) next }
 {
     if next == '(' {

@@ -21,7 +21,7 @@ use jp_tree::{Literal, Operand, Query};
 /// A side of a comparison, which is an item.
 #[cycle(nested)]
 #[tactic(auto, unfolding(crate::specs::Private::Rules::side))]
-pub fn side(reader: &mut Reader, levels: u32) -> Result<Operand, Stop>
+pub(crate) fn side(reader: &mut Reader, levels: u32) -> Result<Operand, Stop>
     ensures { Gives operand_of result reader.new (read_inside levels rules.side reader.old) }
 {
     let start = reader.place();
@@ -47,7 +47,7 @@ fn side_within(reader: &mut Reader, levels: u32) -> Result<Operand, Stop>
 /// A query inside another.
 #[cycle(nested)]
 #[tactic(auto, unfolding(crate::specs::Private::Rules::query_within))]
-pub fn query_within(reader: &mut Reader, levels: u32) -> Result<Query, Stop>
+pub(crate) fn query_within(reader: &mut Reader, levels: u32) -> Result<Query, Stop>
     ensures { Gives query_of result reader.new (read_inside levels rules.query_within reader.old) }
 {
     let absolute = is_absolute(reader)?;

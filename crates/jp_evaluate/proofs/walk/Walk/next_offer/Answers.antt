@@ -4,35 +4,35 @@ use Rattle.jp_evaluate.specs.declared.walk.Walk.{Walk}
 use Rattle.jp_evaluate.proofs.Walks.Choices.{frame_left, frame_next, frames_alone}
 use Rattle.jp_evaluate.proofs.walk.Walk.next_offer.Goals as goal
 
-pub loop-frame-preserved : goal.loop-frame-preserved
-loop-frame-preserved c =
+pub loop-self-preserved : goal.loop-self-preserved
+loop-self-preserved c =
     let all = c.args.segments.now in
-    let w = c.last_frame.new.self in
-    let f = c.in-Some-last_frame.frame in
-    let begun = c.last_frame.ensures.first ∙ c.loop-frame.invariant.begun in
+    let w = c.take_up.new.self in
+    let f = c.in-Some-top.frame in
+    let begun = c.take_up.ensures.first ∙ c.loop-self.invariant.begun in
     let rest : pending all w ≡ pending all c.args.self.now =
-    frames_alone all w c.loop-frame.self begun c.loop-frame.invariant.begun
-    c.last_frame.ensures.frames ∙ c.loop-frame.invariant.same in
+    frames_alone all w c.loop-self.self begun c.loop-self.invariant.begun
+    c.take_up.ensures.frames ∙ c.loop-self.invariant.same in
     let v : Walk = record { first = w.first; top = None; below = w.below } in
     record {
       begun = begun;
       same =
           frame_left all _ w v f begun begun rest
-          (c.last_frame.ensures.last ∙ c.in-Some-last_frame.is) refl refl
+          c.in-Some-top.is refl refl
           c.in_default-frame_offer.ensures.gives;
     }
 
 pub returns-in-Some-frame_offer-clause-gives : goal.returns-in-Some-frame_offer-clause-gives
 returns-in-Some-frame_offer-clause-gives c =
     let all = c.args.segments.now in
-    let w = c.last_frame.new.self in
-    let f = c.in-Some-last_frame.frame in
+    let w = c.take_up.new.self in
+    let f = c.in-Some-top.frame in
     let g = c.frame_offer.new.frame in
-    let begun = c.last_frame.ensures.first ∙ c.loop-frame.invariant.begun in
+    let begun = c.take_up.ensures.first ∙ c.loop-self.invariant.begun in
     let rest : pending all w ≡ pending all c.args.self.now =
-    frames_alone all w c.loop-frame.self begun c.loop-frame.invariant.begun
-    c.last_frame.ensures.frames ∙ c.loop-frame.invariant.same in
+    frames_alone all w c.loop-self.self begun c.loop-self.invariant.begun
+    c.take_up.ensures.frames ∙ c.loop-self.invariant.same in
     let v : Walk = record { first = w.first; top = Some g; below = w.below } in
     frame_next all _ w v f g (offered all c.in-Some-frame_offer.offer) begun begun rest
-    (c.last_frame.ensures.last ∙ c.in-Some-last_frame.is) refl refl
+    c.in-Some-top.is refl refl
     c.frame_offer.ensures.place c.in-Some-frame_offer.ensures.gives

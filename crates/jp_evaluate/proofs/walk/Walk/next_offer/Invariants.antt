@@ -3,11 +3,11 @@ use Rattle.jp_evaluate.specs.Private.Walk.{pending, walk_frames}
 use Rattle.jp_evaluate.proofs.walk.Walk.next_offer.Given as goal
 
 -- the frames that were taken off had no more choices
-abbrev pub invariant-loop-frame : goal.invariant-loop-frame
-invariant-loop-frame l = record {
+abbrev pub invariant-loop-self : goal.invariant-loop-self
+invariant-loop-self l = record {
   begun : l.self.first ≡ None;
   same : pending l.segments l.self ≡ pending l.segments l.fn.self;
 }
 
-abbrev pub decreases-loop-frame : goal.decreases-loop-frame
-decreases-loop-frame l = length (walk_frames l.self)
+abbrev pub decreases-loop-self : goal.decreases-loop-self
+decreases-loop-self l = length (walk_frames l.self)
