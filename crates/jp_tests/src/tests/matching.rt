@@ -286,24 +286,35 @@ fn made_text(alloc: Global, seed: &mut u64) -> Result<String, AllocError> {
     Ok(text)
 }
 
+/// What the matcher by images, which has no bound, answers for the text of a pattern.
+fn answers_by_images(alloc: Global, pattern: &str, word: &str) -> Result<(bool, bool), Fail> {
+    let pattern = read_pattern(alloc, pattern)?;
+    let mut tests = Tests::new();
+    let whole = Images.whole(alloc, &pattern, word, &mut tests)?;
+    let part = Images.part(alloc, &pattern, word, &mut tests)?;
+    Ok((whole, part))
+}
+
 #[test]
 fn both_matchers_agree(rt: HostRuntime) -> Result<(), Fail> {
+    let alloc = rt.alloc();
     let mut seed = 1;
     for _ in 0..3_000 {
-        let text = made_pattern(rt.alloc(), &mut seed)?;
-        let pattern = read_pattern(rt.alloc(), text.as_str())?;
-        let word = made_text(rt.alloc(), &mut seed)?;
-        let mut tests = Tests::new();
-        let whole = Images.whole(rt.alloc(), &pattern, word.as_str(), &mut tests)?;
-        let part = Images.part(rt.alloc(), &pattern, word.as_str(), &mut tests)?;
-        let answer = answers(&Marks, rt.alloc(), &pattern, word.as_str())?;
-        assert_eq!(rt; answer, (whole, part), "{text} {word}");
+        let text = made_pattern(alloc, &mut seed)?;
+        let word = made_text(alloc, &mut seed)?;
+        let answer = answers(&Marks, alloc, &read_pattern(alloc, &text)?, &word)?;
+        assert_eq!(rt;
+            answer,
+            answers_by_images(alloc, &text, &word)?,
+            "{text} {word}"
+        );
         // On a text without x each group has the same words, and too many positions for a scan.
-        let large = text.as_str().replace(rt.alloc(), "(", "(x{5000}|")?;
-        let pattern = read_pattern(rt.alloc(), large.as_str())?;
-        let whole = Images.whole(rt.alloc(), &pattern, word.as_str(), &mut tests)?;
-        let part = Images.part(rt.alloc(), &pattern, word.as_str(), &mut tests)?;
-        assert_eq!(rt; answer, (whole, part), "{large} {word}");
+        let large = text.as_str().replace(alloc, "(", "(x{5000}|")?;
+        assert_eq!(rt;
+            answer,
+            answers_by_images(alloc, &large, &word)?,
+            "{large} {word}"
+        );
     }
     Ok(())
 }

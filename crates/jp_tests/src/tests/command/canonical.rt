@@ -4,6 +4,8 @@ use super::devices::Narrow;
 use super::rows::words;
 use jp_command::{Device, Fault, run_canon, run_line};
 use jp_query::{Refusal, RefusalKind};
+use std::alloc::Global;
+use std::process::Abort;
 use std::test::Fail;
 
 #[test]
@@ -22,22 +24,27 @@ fn writes_canonical_texts_that_are_their_own(rt: HostRuntime) -> Result<(), Fail
         ("$[?match( @.b , \"[jk]\" )]", "$[?match(@['b'],'[jk]')]"),
     ] {
         let line = format!(in alloc; "{canonical}\n")?;
-        for text in [query, canonical] {
-            let mut document: &[u8] = b"[1]";
-            let mut output = Narrow::new(alloc, 999, true);
-            let ended = run_line(
-                alloc,
-                words(alloc, &["jp", "canon", text])?,
-                &mut Device::new(&mut document),
-                &mut Device::new(&mut output),
-                &mut Device::new(Vec::new(alloc)),
-            );
-            assert_eq!(rt; ended, 0, "{text}");
-            assert_eq!(rt; output.taken.as_slice(), line.as_bytes(), "{text}");
-            assert_eq!(rt; output.flush_count, 1, "{text}");
-            assert_eq!(rt; document, b"[1]".as_slice(), "{text}");
-        }
+        assert_canonical(&rt, alloc, query, line.as_bytes())?;
+        assert_canonical(&rt, alloc, canonical, line.as_bytes())?;
     }
+    Ok(())
+}
+
+/// Asserts that a query's canonical text is this line, and that no document is read for it.
+fn assert_canonical(rt: &impl Abort, alloc: Global, query: &str, line: &[u8]) -> Result<(), Fail> {
+    let mut document: &[u8] = b"[1]";
+    let mut output = Narrow::new(alloc, 999, true);
+    let ended = run_line(
+        alloc,
+        words(alloc, &["jp", "canon", query])?,
+        &mut Device::new(&mut document),
+        &mut Device::new(&mut output),
+        &mut Device::new(Vec::new(alloc)),
+    );
+    assert_eq!(rt; ended, 0, "{query}");
+    assert_eq!(rt; output.taken.as_slice(), line, "{query}");
+    assert_eq!(rt; output.flush_count, 1, "{query}");
+    assert_eq!(rt; document, b"[1]".as_slice(), "{query}");
     Ok(())
 }
 

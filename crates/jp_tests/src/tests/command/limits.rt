@@ -7,6 +7,7 @@ use jp_check::read_query;
 use jp_command::{Device, Fault, Form, run_canon, run_check, run_eval};
 use jp_query::{Refusal, RefusalKind};
 use std::alloc::{AllocError, Global};
+use std::process::Abort;
 use std::test::Fail;
 
 const TOO_LONG: Fault = Fault::Query(Refusal {
@@ -43,21 +44,26 @@ fn looks_at_the_length_of_a_query_first(rt: HostRuntime) -> Result<(), Fail> {
     ];
     for (text, accepted) in rows {
         let query = nested(alloc, text, ("", ""))?;
-        let mut line = Vec::new(alloc);
-        let ended = run_check(alloc, query.as_str(), &mut Device::new(&mut line));
-        assert!(rt; ended.is_ok() == accepted);
-        if accepted {
-            assert_eq!(rt; line.as_slice(), b"accepted\n".as_slice());
-            continue;
-        }
-        assert!(rt; ended.err() == Some(TOO_LONG));
-        assert!(rt; line.is_empty());
-        assert!(rt; written(alloc, query.as_str(), "1").err() == Some(TOO_LONG));
-        let canonical = run_canon(alloc, query.as_str(), &mut Device::new(Vec::new(alloc)));
-        assert!(rt; canonical.err() == Some(TOO_LONG));
         assert!(rt; read_query(alloc, query.as_str()).is_ok());
+        let mut line = Vec::new(alloc);
+        let checked = run_check(alloc, query.as_str(), &mut Device::new(&mut line));
+        if accepted {
+            assert!(rt; checked.is_ok());
+            assert_eq!(rt; line.as_slice(), b"accepted\n".as_slice());
+        } else {
+            assert!(rt; checked == Err(TOO_LONG));
+            assert!(rt; line.is_empty());
+            assert_too_long(&rt, alloc, query.as_str());
+        }
     }
     Ok(())
+}
+
+/// Asserts that no run takes a query, for its length.
+fn assert_too_long(rt: &impl Abort, alloc: Global, query: &str) {
+    assert!(rt; written(alloc, query, "1").err() == Some(TOO_LONG));
+    let canonical = run_canon(alloc, query, &mut Device::new(Vec::new(alloc)));
+    assert!(rt; canonical == Err(TOO_LONG));
 }
 
 #[test]
@@ -130,7 +136,13 @@ fn nests_filters_parentheses_and_calls_64_deep(rt: HostRuntime) -> Result<(), Fa
         };
         assert!(rt; refused == expected, "{query}");
     }
-    let query = nested(alloc, parentheses(63), (")", "]"))?;
+    Ok(())
+}
+
+#[test]
+fn leaves_63_parentheses_out_of_the_canonical_text(rt: HostRuntime) -> Result<(), Fail> {
+    let alloc = rt.alloc();
+    let query = nested(alloc, ("$[?", "(", 63, "@.a"), (")", "]"))?;
     let mut line = Vec::new(alloc);
     let run = run_canon(alloc, query.as_str(), &mut Device::new(&mut line));
     assert!(rt; run.is_ok());

@@ -3,6 +3,9 @@
 use super::devices::{Broken, Narrow};
 use super::rows::{ended, words};
 use jp_command::{Device, run_line};
+use std::alloc::Global;
+use std::io::Read;
+use std::process::Abort;
 use std::test::Fail;
 
 #[test]
@@ -105,34 +108,37 @@ fn tells_of_each_subcommand_and_status_in_its_help(rt: HostRuntime) -> Result<()
     Ok(())
 }
 
+/// Asserts that a run from this input to this output ends with status 5 and this line.
+fn assert_fault<R: Read + Drop>(
+    rt: &impl Abort,
+    alloc: Global,
+    input: R,
+    output: Narrow,
+    line: &[u8],
+) -> Result<(), Fail> {
+    let mut faults = Vec::new(alloc);
+    let ended = run_line(
+        alloc,
+        words(alloc, &["jp", "both", "$"])?,
+        &mut Device::new(input),
+        &mut Device::new(output),
+        &mut Device::new(&mut faults),
+    );
+    assert_eq!(rt; ended, 5);
+    assert_eq!(rt; faults.as_slice(), line);
+    Ok(())
+}
+
 #[test]
 fn tells_failures_of_its_streams(rt: HostRuntime) -> Result<(), Fail> {
     let alloc = rt.alloc();
-    let line = words(alloc, &["jp", "both", "$"])?;
-    let mut faults = Vec::new(alloc);
-    let mut reports = Device::new(&mut faults);
-    let mut output = Device::new(Narrow::new(alloc, 99, true));
-    let ended = run_line(
-        alloc,
-        line,
-        &mut Device::new(Broken(b"[1")),
-        &mut output,
-        &mut reports,
-    );
-    assert_eq!(rt; ended, 5);
-    let mut output = Device::new(Narrow::new(alloc, 3, true));
-    let line = words(alloc, &["jp", "both", "$"])?;
-    let mut input = Device::new(b"[1]".as_slice());
-    let ended = run_line(alloc, line, &mut input, &mut output, &mut reports);
-    assert_eq!(rt; ended, 5);
-    let mut output = Device::new(Narrow::new(alloc, 99, false));
-    let line = words(alloc, &["jp", "both", "$"])?;
-    let mut input = Device::new(b"[1]".as_slice());
-    let ended = run_line(alloc, line, &mut input, &mut output, &mut reports);
-    assert_eq!(rt; ended, 5);
-    let text = b"read fault\nwrite fault\nwrite fault\n".as_slice();
-    assert_eq!(rt; faults.as_slice(), text);
-    Ok(())
+    let document = b"[1]".as_slice();
+    let wide = Narrow::new(alloc, 99, true);
+    assert_fault(&rt, alloc, Broken(b"[1"), wide, b"read fault\n")?;
+    let narrow = Narrow::new(alloc, 3, true);
+    assert_fault(&rt, alloc, document, narrow, b"write fault\n")?;
+    let unflushed = Narrow::new(alloc, 99, false);
+    assert_fault(&rt, alloc, document, unflushed, b"write fault\n")
 }
 
 #[test]

@@ -1,8 +1,23 @@
 //! Rows of documents, their nodes, and texts of both.
 use jp_document::{
-    Document, DocumentFault, Step, child_at, child_named, children, path_text, quote, value_text,
+    Document, DocumentFault, Node, Step, child_at, child_named, children, path_text, quote,
+    value_text,
 };
+use std::alloc::Global;
+use std::process::Abort;
 use std::test::Fail;
+
+/// Asserts where a node stands, and the compact text of its value.
+fn assert_node(
+    rt: &impl Abort,
+    alloc: Global,
+    node: &Node,
+    (path, value): (&str, &str),
+) -> Result<(), Fail> {
+    assert_eq!(rt; path_text(alloc, node.location())?.as_str(), path);
+    assert_eq!(rt; value_text(alloc, node.value())?.as_str(), value);
+    Ok(())
+}
 
 #[test]
 fn children_by_name(rt: HostRuntime) -> Result<(), Fail> {
@@ -10,21 +25,23 @@ fn children_by_name(rt: HostRuntime) -> Result<(), Fail> {
     let document = Document::read(alloc, br#"{"o":{"j j":{"k.k":3}},"'":{"@":2}}"#)?;
     let root = document.root(alloc);
     let o = child_named(alloc, &root, "o")?.ok_or("no member")?;
-    assert_eq!(rt; path_text(alloc, o.location())?.as_str(), "$['o']");
-    assert_eq!(rt;
-        value_text(alloc, o.value())?.as_str(),
-        r#"{"j j":{"k.k":3}}"#
-    );
+    assert_node(&rt, alloc, &o, ("$['o']", r#"{"j j":{"k.k":3}}"#))?;
     assert!(rt; child_named(alloc, &root, "x")?.is_none());
-    assert_eq!(rt; root.copy(alloc)?.location().len(), 0);
+    Ok(())
+}
+
+#[test]
+fn values(rt: HostRuntime) -> Result<(), Fail> {
+    let alloc = rt.alloc();
+    let document = Document::read(alloc, br#"{"o":{"j j":{"k.k":3}},"'":{"@":2}}"#)?;
+    let root = document.root(alloc).copy(alloc)?;
+    let whole = r#"{"'":{"@":2},"o":{"j j":{"k.k":3}}}"#;
+    assert_node(&rt, alloc, &root, ("$", whole))?;
+    assert_eq!(rt; value_text(alloc, document.json())?.as_str(), whole);
     let at = document
         .at(&[Step::Name("'"), Step::Name("@")])
         .ok_or("no value")?;
     assert_eq!(rt; value_text(alloc, at)?.as_str(), "2");
-    assert_eq!(rt;
-        value_text(alloc, document.json())?.as_str(),
-        r#"{"'":{"@":2},"o":{"j j":{"k.k":3}}}"#
-    );
     Ok(())
 }
 
@@ -34,8 +51,7 @@ fn children_by_index(rt: HostRuntime) -> Result<(), Fail> {
     let document = Document::read(alloc, br#"["a","b"]"#)?;
     let root = document.root(alloc);
     let second = child_at(alloc, &root, 1)?.ok_or("no item")?;
-    assert_eq!(rt; path_text(alloc, second.location())?.as_str(), "$[1]");
-    assert_eq!(rt; value_text(alloc, second.value())?.as_str(), r#""b""#);
+    assert_node(&rt, alloc, &second, ("$[1]", r#""b""#))?;
     assert!(rt; child_at(alloc, &root, 2)?.is_none());
     Ok(())
 }
@@ -46,13 +62,14 @@ fn children_in_document_order(rt: HostRuntime) -> Result<(), Fail> {
     let text = br#"{"o":{"j":1,"k":2},"a":[5,3,[{"j":4},{"k":6}]]}"#;
     let document = Document::read(alloc, text)?;
     let nodes = children(alloc, &document.root(alloc))?;
-    assert_eq!(rt; nodes.len(), 2);
-    assert_eq!(rt; path_text(alloc, nodes[0].location())?.as_str(), "$['a']");
-    assert_eq!(rt; path_text(alloc, nodes[1].location())?.as_str(), "$['o']");
-    assert_eq!(rt;
-        value_text(alloc, nodes[1].value())?.as_str(),
-        r#"{"j":1,"k":2}"#
-    );
+    let rows = [
+        ("$['a']", r#"[5,3,[{"j":4},{"k":6}]]"#),
+        ("$['o']", r#"{"j":1,"k":2}"#),
+    ];
+    assert_eq!(rt; nodes.len(), rows.len());
+    for (node, row) in nodes.iter().zip(rows) {
+        assert_node(&rt, alloc, node, row)?;
+    }
     Ok(())
 }
 
@@ -83,23 +100,19 @@ fn faults(rt: HostRuntime) -> Result<(), Fail> {
         Document::read(alloc, br#"{"b":1.5,"a":[0,2.5]}"#).err(),
         Some(first)
     );
-    assert_eq!(rt;
-        Document::read(alloc, b"").err(),
-        Some(DocumentFault::NotJson)
-    );
-    assert_eq!(rt;
-        Document::read(alloc, b"[1").err(),
-        Some(DocumentFault::NotJson)
-    );
-    assert_eq!(rt;
-        Document::read(alloc, b"1 2").err(),
-        Some(DocumentFault::NotJson)
-    );
-    assert_eq!(rt;
-        Document::read(alloc, b"\"\xff\"").err(),
-        Some(DocumentFault::NotJson)
-    );
     Ok(())
+}
+
+#[test]
+fn no_json(rt: HostRuntime) {
+    let alloc = rt.alloc();
+    let rows: [&[u8]; 4] = [b"", b"[1", b"1 2", b"\"\xff\""];
+    for bytes in rows {
+        assert_eq!(rt;
+            Document::read(alloc, bytes).err(),
+            Some(DocumentFault::NotJson)
+        );
+    }
 }
 
 #[test]

@@ -1,32 +1,43 @@
 //! Rows of normalized paths that are read.
 use jp_document::{Document, OwnedStep, PathFault, read_path, value_text};
+use std::alloc::Global;
+use std::process::Abort;
 use std::test::Fail;
 
+/// Asserts that a path leads to the members of these names, one in another.
+fn assert_names(rt: &impl Abort, alloc: Global, path: &str, names: &[&str]) -> Result<(), Fail> {
+    let location = read_path(alloc, path)?;
+    assert_eq!(rt; location.steps().len(), names.len(), "{path}");
+    for (step, name) in location.steps().iter().zip(names) {
+        assert!(rt;
+            matches!(step, OwnedStep::Name(text) if text.as_str() == *name),
+            "{path}"
+        );
+    }
+    Ok(())
+}
+
 #[test]
-fn paths(rt: HostRuntime) -> Result<(), Fail> {
+fn names(rt: HostRuntime) -> Result<(), Fail> {
     let alloc = rt.alloc();
-    assert_eq!(rt;
-        read_path(alloc, "$").map(|l| l.steps().len()).ok(),
-        Some(0)
-    );
-    let location = read_path(alloc, "$['a'][0]")?;
-    assert!(rt;
-        matches!(
-        location.steps(),
-        [OwnedStep::Name(name), OwnedStep::Index(0)] if name.as_str() == "a"
+    assert_names(&rt, alloc, "$", &[])?;
+    assert_names(&rt, alloc, "$['']", &[""])?;
+    assert_names(&rt, alloc, "$['a']['b']", &["a", "b"])?;
+    assert_names(
+        &rt,
+        alloc,
+        r"$['\b\t\n\f\r\'\\\u001f\u0000é😀/']",
+        &["\u{8}\t\n\u{c}\r'\\\u{1f}\0é😀/"],
     )
-    );
-    let empty = read_path(alloc, "$['']")?;
-    assert!(rt; matches!(empty.steps(), [OwnedStep::Name(name)] if name.as_str() == ""));
+}
+
+#[test]
+fn indexes(rt: HostRuntime) -> Result<(), Fail> {
+    let alloc = rt.alloc();
+    let first = read_path(alloc, "$['a'][0]")?;
+    assert!(rt; matches!(first.steps(), [OwnedStep::Name(_), OwnedStep::Index(0)]));
     let largest = read_path(alloc, "$[9007199254740991]")?;
     assert!(rt; matches!(largest.steps(), [OwnedStep::Index(9007199254740991)]));
-    let spelled = read_path(alloc, r"$['\b\t\n\f\r\'\\\u001f\u0000é😀/']")?;
-    assert!(rt;
-        matches!(
-        spelled.steps(),
-        [OwnedStep::Name(name)] if name.as_str() == "\u{8}\t\n\u{c}\r'\\\u{1f}\0é😀/"
-    )
-    );
     Ok(())
 }
 

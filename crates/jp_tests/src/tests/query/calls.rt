@@ -55,33 +55,23 @@ fn refusal_inside(
 fn functions_are_levels(rt: HostRuntime) -> Result<(), Fail> {
     let alloc = rt.alloc();
     let too_deep = RefusalKind::TooDeep;
-    assert_eq!(rt; refusal_inside(alloc, "g(", 63, "1")?, None);
-    assert_eq!(rt;
-        refusal_inside(alloc, "g(", 64, "1")?,
-        Some((too_deep, 129))
-    );
-    assert_eq!(rt;
-        refusal_inside(alloc, "f(", 64, "1")?,
-        Some((too_deep, 130))
-    );
-    assert_eq!(rt; refusal_inside(alloc, "(", 62, "f()")?, None);
-    assert_eq!(rt;
-        refusal_inside(alloc, "(", 63, "f()")?,
-        Some((too_deep, 67))
-    );
-    assert_eq!(rt;
-        refusal_inside(alloc, "(", 63, "!f()")?,
-        Some((too_deep, 67))
-    );
-    assert_eq!(rt;
-        refusal_inside(alloc, "(", 63, "true()")?,
-        Some((too_deep, 70))
-    );
-    assert_eq!(rt;
-        refusal_inside(alloc, "(", 63, "tru)")?,
-        Some((RefusalKind::Syntax, 69))
-    );
-    assert_eq!(rt; refusal_inside(alloc, "(", 63, "@==true")?, None);
+    for (open, count, inside, refusal) in [
+        ("g(", 63, "1", None),
+        ("g(", 64, "1", Some((too_deep, 129))),
+        ("f(", 64, "1", Some((too_deep, 130))),
+        ("(", 62, "f()", None),
+        ("(", 63, "f()", Some((too_deep, 67))),
+        ("(", 63, "!f()", Some((too_deep, 67))),
+        ("(", 63, "true()", Some((too_deep, 70))),
+        ("(", 63, "tru)", Some((RefusalKind::Syntax, 69))),
+        ("(", 63, "@==true", None),
+    ] {
+        assert_eq!(rt;
+            refusal_inside(alloc, open, count, inside)?,
+            refusal,
+            "{open} {inside}"
+        );
+    }
     Ok(())
 }
 

@@ -3,6 +3,7 @@ use jp_document::{Document, Node, path_text};
 use jp_select::{descend, descend_each, select_plain};
 use jp_tree::{Numeral, Selector, Slice};
 use std::alloc::{AllocError, Global};
+use std::process::Abort;
 use std::test::Fail;
 
 const LETTERS: &[u8] = br#"["a","b","c","d","e","f","g"]"#;
@@ -19,11 +20,18 @@ fn paths(alloc: Global, nodes: &[Node]) -> Result<String, AllocError> {
     Ok(paths)
 }
 
-/// The paths of what a selector selects at the root of a document.
-fn selected(alloc: Global, bytes: &[u8], selector: &Selector) -> Result<String, Fail> {
+/// Asserts that a selector selects these paths at the root of a document.
+fn assert_selects(
+    rt: &impl Abort,
+    alloc: Global,
+    bytes: &[u8],
+    selector: &Selector,
+    expected: &str,
+) -> Result<(), Fail> {
     let document = Document::read(alloc, bytes)?;
     let nodes = select_plain(alloc, &document.root(alloc), selector)?;
-    Ok(paths(alloc, &nodes)?)
+    assert_eq!(rt; paths(alloc, &nodes)?.as_str(), expected);
+    Ok(())
 }
 
 fn slice(start: Option<i128>, end: Option<i128>, step: i128) -> Selector {
@@ -38,11 +46,6 @@ fn slice(start: Option<i128>, end: Option<i128>, step: i128) -> Selector {
 fn descendants(rt: HostRuntime) -> Result<(), Fail> {
     let alloc = rt.alloc();
     let document = Document::read(alloc, NESTED)?;
-    let mut walk = descend_each(alloc, document.root(alloc));
-    let root = walk.next().ok_or("no node")??;
-    let first = walk.next().ok_or("no node")??;
-    assert_eq!(rt; path_text(alloc, root.location())?.as_str(), "$");
-    assert_eq!(rt; path_text(alloc, first.location())?.as_str(), "$['a']");
     let nodes = descend(alloc, document.root(alloc))?;
     assert_eq!(rt;
         paths(alloc, &nodes)?.as_str(),
@@ -52,15 +55,34 @@ fn descendants(rt: HostRuntime) -> Result<(), Fail> {
 }
 
 #[test]
-fn names_wildcards_and_indexes(rt: HostRuntime) -> Result<(), Fail> {
+fn descendants_one_at_a_time(rt: HostRuntime) -> Result<(), Fail> {
+    let alloc = rt.alloc();
+    let document = Document::read(alloc, NESTED)?;
+    let mut walk = descend_each(alloc, document.root(alloc));
+    for path in ["$", "$['a']"] {
+        let node = walk.next().ok_or("no node")??;
+        assert_eq!(rt; path_text(alloc, node.location())?.as_str(), path);
+    }
+    Ok(())
+}
+
+#[test]
+fn names(rt: HostRuntime) -> Result<(), Fail> {
     let alloc = rt.alloc();
     let name = Selector::Name(String::from_str(alloc, "o")?);
-    assert_eq!(rt; selected(alloc, NESTED, &name)?.as_str(), " $['o']");
-    assert_eq!(rt; selected(alloc, LETTERS, &name)?.as_str(), "");
-    assert_eq!(rt;
-        selected(alloc, NESTED, &Selector::Wildcard)?.as_str(),
-        " $['a'] $['o']"
-    );
+    assert_selects(&rt, alloc, NESTED, &name, " $['o']")?;
+    assert_selects(&rt, alloc, LETTERS, &name, "")
+}
+
+#[test]
+fn wildcards(rt: HostRuntime) -> Result<(), Fail> {
+    let alloc = rt.alloc();
+    assert_selects(&rt, alloc, NESTED, &Selector::Wildcard, " $['a'] $['o']")
+}
+
+#[test]
+fn indexes(rt: HostRuntime) -> Result<(), Fail> {
+    let alloc = rt.alloc();
     for (index, path) in [
         (1, " $[1]"),
         (-1, " $[6]"),
@@ -69,7 +91,7 @@ fn names_wildcards_and_indexes(rt: HostRuntime) -> Result<(), Fail> {
         (-8, ""),
     ] {
         let index = Selector::Index(Numeral::Whole(index));
-        assert_eq!(rt; selected(alloc, LETTERS, &index)?.as_str(), path);
+        assert_selects(&rt, alloc, LETTERS, &index, path)?;
     }
     Ok(())
 }
@@ -91,12 +113,7 @@ fn slices(rt: HostRuntime) -> Result<(), Fail> {
         (Some(1), Some(-100), -1, " $[1] $[0]"),
         (Some(-most), Some(most), 3, " $[0] $[3] $[6]"),
     ] {
-        let slice = slice(start, end, step);
-        assert_eq!(rt; selected(alloc, LETTERS, &slice)?.as_str(), expected);
+        assert_selects(&rt, alloc, LETTERS, &slice(start, end, step), expected)?;
     }
-    assert_eq!(rt;
-        selected(alloc, NESTED, &slice(None, None, 1))?.as_str(),
-        ""
-    );
-    Ok(())
+    assert_selects(&rt, alloc, NESTED, &slice(None, None, 1), "")
 }
