@@ -12,3 +12,4 @@ mod matching;
 mod query;
 mod reading;
 mod select;
+mod texts;

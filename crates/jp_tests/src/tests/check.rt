@@ -2,6 +2,7 @@
 
 mod calls;
 
+use crate::tests::texts::nested;
 use jp_check::{check, laws, read_query};
 use jp_query::{RefusalKind, parse};
 use jp_tree::{Numeral, Query, Segment, Selector};
@@ -104,25 +105,15 @@ fn texts_are_refused_with_their_first_faults(rt: HostRuntime) -> Result<(), Fail
     Ok(())
 }
 
-/// The front, half a million shorthand segments, and the back.
-fn with_segments(alloc: Global, front: &str, back: &str) -> Result<String, AllocError> {
-    let mut text = String::from_str(alloc, front)?;
-    for _ in 0..524_288 {
-        text.push_str(".a")?;
-    }
-    text.push_str(back)?;
-    Ok(text)
-}
-
 #[test]
 fn half_a_million_segments_are_accepted(rt: HostRuntime) -> Result<(), Fail> {
     let alloc = rt.alloc();
-    let text = with_segments(alloc, "$", "")?;
+    let text = nested(alloc, ("$", ".a", 524_288, ""), ("", ""))?;
     let Ok(checked) = read_query(alloc, &text) else {
         panic!(rt; "refused");
     };
     assert_eq!(rt; checked.query().segments.len(), 524_288);
-    let side = with_segments(alloc, "$[?@", "==1]")?;
+    let side = nested(alloc, ("$[?@", ".a", 524_288, "==1]"), ("", ""))?;
     assert!(rt; read_query(alloc, &side).is_ok());
     Ok(())
 }

@@ -1,4 +1,5 @@
 //! Nodelists by rows.
+use crate::tests::texts::nested;
 use jp_check::read_query;
 use jp_document::{Document, path_text};
 use jp_evaluate::{evaluate, nodes};
@@ -115,16 +116,9 @@ fn no_nodes(rt: HostRuntime) -> Result<(), Fail> {
 #[test]
 fn half_a_million_segments(rt: HostRuntime) -> Result<(), Fail> {
     let alloc = rt.alloc();
-    let mut query = String::from_str(alloc, "$")?;
-    for _ in 0..524_287 {
-        query.push_str(".a")?;
-    }
+    let query = nested(alloc, ("$", ".a", 524_287, ""), ("", ""))?;
     assert_eq!(rt; nodelist(alloc, NESTED, &query)?.as_str(), "");
-    let mut filter = String::from_str(alloc, "$[?@")?;
-    for _ in 0..524_287 {
-        filter.push_str(".*")?;
-    }
-    filter.push_str("]")?;
+    let filter = nested(alloc, ("$[?@", ".*", 524_287, "]"), ("", ""))?;
     assert_eq!(rt; nodelist(alloc, NESTED, &filter)?.as_str(), "");
     Ok(())
 }

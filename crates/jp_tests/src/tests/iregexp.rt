@@ -1,7 +1,7 @@
 //! Texts that spell patterns and texts that spell none.
 
 use jp_iregexp::{CharClass, Pattern, read_pattern};
-use std::alloc::{AllocError, Global};
+use std::alloc::Global;
 use std::process::Abort;
 
 mod categories;
@@ -9,15 +9,6 @@ mod conforming;
 mod hostile;
 mod position_counts;
 mod trees;
-
-/// A text that is so many times the part.
-fn repeated(alloc: Global, part: &str, times: usize) -> Result<String, AllocError> {
-    let mut text = String::new(alloc);
-    for _ in 0..times {
-        text.push_str(part)?;
-    }
-    Ok(text)
-}
 
 /// The class that is the whole pattern, if it is one.
 fn only_class(pattern: &Pattern) -> Option<&CharClass> {

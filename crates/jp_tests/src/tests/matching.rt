@@ -1,5 +1,6 @@
 //! Patterns on texts, by both matchers.
 
+use crate::tests::texts::nested;
 use jp_iregexp::{Pattern, read_pattern};
 use jp_match::{Images, Marks, Matching, Scan, Tests};
 use std::alloc::{AllocError, Global};
@@ -75,10 +76,7 @@ fn answers_patterns_that_no_text_spells(rt: HostRuntime) -> Result<(), Fail> {
 
 #[test]
 fn answers_on_ten_thousand_characters(rt: HostRuntime) -> Result<(), Fail> {
-    let mut text = String::new(rt.alloc());
-    for _ in 0..5_000 {
-        text.push_str("aé")?;
-    }
+    let text = "aé".repeat(rt.alloc(), 5_000)?;
     for (pattern, whole, part) in [
         ("(a|é)*", true, true),
         ("(aé){5000}", true, true),
@@ -104,15 +102,6 @@ fn counts_class_tests(rt: HostRuntime) -> Result<(), Fail> {
     Ok(())
 }
 
-/// The text, so many times.
-fn repeated(alloc: Global, text: &str, times: usize) -> Result<String, AllocError> {
-    let mut all = String::new(alloc);
-    for _ in 0..times {
-        all.push_str(text)?;
-    }
-    Ok(all)
-}
-
 fn assert_within<M: Matching>(
     rt: &impl Abort,
     alloc: Global,
@@ -135,10 +124,9 @@ fn assert_within<M: Matching>(
 
 #[test]
 fn tests_each_position_at_most_once_a_character(rt: HostRuntime) -> Result<(), Fail> {
-    let mut many = repeated(rt.alloc(), "a", 10_000)?;
-    many.push_str("b")?;
-    let long = repeated(rt.alloc(), "a", 4_096)?;
-    let longer = repeated(rt.alloc(), "a", 4_097)?;
+    let many = nested(rt.alloc(), ("", "a", 10_000, "b"), ("", ""))?;
+    let long = "a".repeat(rt.alloc(), 4_096)?;
+    let longer = "a".repeat(rt.alloc(), 4_097)?;
     for (pattern, text, whole, part, most) in [
         ("((a*)*)*", many.as_str(), false, true, 10_001),
         ("(a?){2,5}", "aaa", true, true, 15),
@@ -216,7 +204,7 @@ fn nested_repeats(alloc: Global, first: &str, depth: u32) -> Result<String, Allo
 
 #[test]
 fn answers_repeats_in_repeats(rt: HostRuntime) -> Result<(), Fail> {
-    let text = repeated(rt.alloc(), "a", 50)?;
+    let text = "a".repeat(rt.alloc(), 50)?;
     for first in ["a*", "(a|x{5000})*", "(a|x{5000}){0,40}"] {
         let pattern = nested_repeats(rt.alloc(), first, 10)?;
         let pattern = format!(in rt.alloc(); "x{{5000}}|{pattern}y")?;

@@ -1,9 +1,9 @@
 //! Function expressions: the types that fit, and first faults at their places.
 
 use super::is_refused;
+use crate::tests::texts::nested;
 use jp_check::{Function, read_query};
 use jp_query::RefusalKind;
-use std::alloc::{AllocError, Global};
 use std::test::Fail;
 
 #[test]
@@ -73,20 +73,14 @@ fn calls_are_refused_with_their_first_faults(rt: HostRuntime) -> Result<(), Fail
     Ok(())
 }
 
-/// A filter: so many times `open`, then `inner`, then as many `)`.
-fn nested(alloc: Global, count: usize, open: &str, inner: &str) -> Result<String, AllocError> {
-    let (opened, closed) = (open.repeat(alloc, count)?, ")".repeat(alloc, count)?);
-    format!(in alloc; "$[?{opened}{inner}{closed}]")
-}
-
 #[test]
 fn calls_at_the_last_level_are_read(rt: HostRuntime) -> Result<(), Fail> {
     let alloc = rt.alloc();
-    let text = nested(alloc, 63, "g(", "1")?;
+    let text = nested(alloc, ("$[?", "g(", 63, "1"), (")", "]"))?;
     assert!(rt; is_refused(alloc, &text, RefusalKind::UnknownFunction, 3));
-    let text = nested(alloc, 62, "(", "f()")?;
+    let text = nested(alloc, ("$[?", "(", 62, "f()"), (")", "]"))?;
     assert!(rt; is_refused(alloc, &text, RefusalKind::UnknownFunction, 65));
-    let text = nested(alloc, 63, "(", "f()")?;
+    let text = nested(alloc, ("$[?", "(", 63, "f()"), (")", "]"))?;
     assert!(rt; is_refused(alloc, &text, RefusalKind::TooDeep, 67));
     Ok(())
 }

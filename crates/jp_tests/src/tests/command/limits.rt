@@ -3,10 +3,11 @@
 use super::devices::Blanks;
 use super::rows::ended;
 use super::runs::written;
+use crate::tests::texts::nested;
 use jp_check::read_query;
 use jp_command::{Device, Fault, Form, run_canon, run_check, run_eval};
 use jp_query::{Refusal, RefusalKind};
-use std::alloc::{AllocError, Global};
+use std::alloc::Global;
 use std::process::Abort;
 use std::test::Fail;
 
@@ -14,24 +15,6 @@ const TOO_LONG: Fault = Fault::Query(Refusal {
     kind: RefusalKind::TextTooLong,
     place: 0,
 });
-
-/// A text with a part of it repeated on each side of the middle.
-fn nested(
-    alloc: Global,
-    (start, opening, count, middle): (&str, &str, u32, &str),
-    (closing, end): (&str, &str),
-) -> Result<String, AllocError> {
-    let mut text = String::from_str(alloc, start)?;
-    for _ in 0..count {
-        text.push_str(opening)?;
-    }
-    text.push_str(middle)?;
-    for _ in 0..count {
-        text.push_str(closing)?;
-    }
-    text.push_str(end)?;
-    Ok(text)
-}
 
 #[test]
 fn looks_at_the_length_of_a_query_first(rt: HostRuntime) -> Result<(), Fail> {

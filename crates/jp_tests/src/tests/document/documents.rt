@@ -1,4 +1,5 @@
 //! Rows of documents, their nodes, and texts of both.
+use crate::tests::texts::nested;
 use jp_document::{
     Document, DocumentFault, Node, Step, child_at, child_named, children, path_text, quote,
     value_text,
@@ -118,15 +119,9 @@ fn no_json(rt: HostRuntime) {
 #[test]
 fn nesting(rt: HostRuntime) -> Result<(), Fail> {
     let alloc = rt.alloc();
-    let mut text = String::new(alloc);
-    for _ in 0..127u8 {
-        text.push('[')?;
-    }
-    for _ in 0..127u8 {
-        text.push(']')?;
-    }
+    let text = nested(alloc, ("", "[", 127, ""), ("]", ""))?;
     assert!(rt; Document::read(alloc, text.as_bytes()).is_ok());
-    let deeper = format!(in alloc; "[{text}]")?;
+    let deeper = nested(alloc, ("", "[", 128, ""), ("]", ""))?;
     assert_eq!(rt;
         Document::read(alloc, deeper.as_bytes()).err(),
         Some(DocumentFault::NotJson)

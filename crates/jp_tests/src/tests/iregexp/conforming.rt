@@ -1,6 +1,6 @@
 //! Texts of RFC 9485 that conform, and texts that do not.
 
-use super::repeated;
+use crate::tests::texts::nested;
 use jp_iregexp::{PatternFault, read_pattern};
 use std::test::Fail;
 
@@ -86,10 +86,7 @@ fn refuses_what_does_not(rt: HostRuntime) {
 #[test]
 fn reads_64_groups_and_not_65(rt: HostRuntime) -> Result<(), Fail> {
     for (groups, conforms) in [(64, true), (65, false)] {
-        let mut text = repeated(rt.alloc(), "(", groups)?;
-        text.push('a')?;
-        let ends = repeated(rt.alloc(), ")", groups)?;
-        text.push_str(ends.as_str())?;
+        let text = nested(rt.alloc(), ("", "(", groups, "a"), (")", ""))?;
         let is_read = read_pattern(rt.alloc(), text.as_str()).is_ok();
         assert_eq!(rt; is_read, conforms, "{groups}");
     }

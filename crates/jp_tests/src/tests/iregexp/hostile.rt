@@ -1,12 +1,13 @@
 //! Long and deep texts.
 
-use super::{only_class, repeated};
+use super::only_class;
+use crate::tests::texts::nested;
 use jp_iregexp::{PatternFault, read_pattern};
 use std::test::Fail;
 
 #[test]
 fn answers_open_parentheses(rt: HostRuntime) -> Result<(), Fail> {
-    let text = repeated(rt.alloc(), "(", 100_000)?;
+    let text = "(".repeat(rt.alloc(), 100_000)?;
     let fault = read_pattern(rt.alloc(), text.as_str()).err();
     assert_eq!(rt; fault, Some(PatternFault::NotConforming));
     Ok(())
@@ -14,10 +15,7 @@ fn answers_open_parentheses(rt: HostRuntime) -> Result<(), Fail> {
 
 #[test]
 fn answers_a_class_of_a_million_items(rt: HostRuntime) -> Result<(), Fail> {
-    let mut text = String::from_str(rt.alloc(), "[")?;
-    let items = repeated(rt.alloc(), "a", 1_000_000)?;
-    text.push_str(items.as_str())?;
-    text.push(']')?;
+    let text = nested(rt.alloc(), ("[", "a", 1_000_000, "]"), ("", ""))?;
     let pattern = read_pattern(rt.alloc(), text.as_str()).expect(&rt, "a pattern");
     let class = only_class(&pattern).expect(&rt, "a class");
     assert_eq!(rt; class.items.len(), 1_000_000);
@@ -27,10 +25,7 @@ fn answers_a_class_of_a_million_items(rt: HostRuntime) -> Result<(), Fail> {
 #[test]
 fn answers_quantifiers_of_a_million_digits(rt: HostRuntime) -> Result<(), Fail> {
     for (digit, conforms) in [("9", false), ("0", true)] {
-        let mut text = String::from_str(rt.alloc(), "a{")?;
-        let digits = repeated(rt.alloc(), digit, 1_000_000)?;
-        text.push_str(digits.as_str())?;
-        text.push('}')?;
+        let text = nested(rt.alloc(), ("a{", digit, 1_000_000, "}"), ("", ""))?;
         let is_read = read_pattern(rt.alloc(), text.as_str()).is_ok();
         assert_eq!(rt; is_read, conforms, "{digit}");
     }

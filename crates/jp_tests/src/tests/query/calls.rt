@@ -1,5 +1,6 @@
 //! Functions of RFC 9535 read, and texts refused in them with their places.
 
+use crate::tests::texts::nested;
 use jp_query::{RefusalKind, Span, parse};
 use std::alloc::Global;
 use std::test::Fail;
@@ -36,15 +37,7 @@ fn refusal_inside(
     count: usize,
     inside: &str,
 ) -> Result<Option<(RefusalKind, usize)>, Fail> {
-    let mut text = String::from_str(alloc, "$[?")?;
-    for _ in 0..count {
-        text.push_str(open)?;
-    }
-    text.push_str(inside)?;
-    for _ in 0..count {
-        text.push(')')?;
-    }
-    text.push(']')?;
+    let text = nested(alloc, ("$[?", open, count, inside), (")", "]"))?;
     match parse(alloc, &text) {
         Ok(_) => Ok(None),
         Err(refusal) => Ok(Some((refusal.kind, refusal.place))),

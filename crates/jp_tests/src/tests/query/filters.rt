@@ -1,6 +1,7 @@
 //! Filters of RFC 9535 read, and texts refused in them with their places.
 
 use super::is_of;
+use crate::tests::texts::nested;
 use jp_query::{
     Expr, Literal, Numeral, Op, Operand, Query, RefusalKind, Segment, Selector, Span, Subject,
     parse,
@@ -167,38 +168,16 @@ fn filters_are_refused_at_their_places(rt: HostRuntime) -> Result<(), Fail> {
     Ok(())
 }
 
-/// The text with `open` and `close` so many times around it, between `front` and `back`.
-fn nested(
-    alloc: Global,
-    front: &str,
-    open: &str,
-    times: usize,
-    inner: &str,
-    close: &str,
-    back: &str,
-) -> Result<String, AllocError> {
-    let mut text = String::from_str(alloc, front)?;
-    for _ in 0..times {
-        text.push_str(open)?;
-    }
-    text.push_str(inner)?;
-    for _ in 0..times {
-        text.push_str(close)?;
-    }
-    text.push_str(back)?;
-    Ok(text)
-}
-
 #[test]
 fn levels_end_at_64(rt: HostRuntime) -> Result<(), Fail> {
     let alloc = rt.alloc();
-    let parentheses = nested(alloc, "$[?", "(", 63, "@.a", ")", "]")?;
+    let parentheses = nested(alloc, ("$[?", "(", 63, "@.a"), (")", "]"))?;
     assert!(rt; parse(alloc, parentheses.as_str()).is_ok());
-    let parentheses = nested(alloc, "$[?", "(", 64, "@.a", ")", "]")?;
+    let parentheses = nested(alloc, ("$[?", "(", 64, "@.a"), (")", "]"))?;
     assert!(rt; is_refused(alloc, parentheses.as_str(), RefusalKind::TooDeep, 66));
-    let filters = nested(alloc, "$", "[?@", 64, "", "]", "")?;
+    let filters = nested(alloc, ("$", "[?@", 64, ""), ("]", ""))?;
     assert!(rt; parse(alloc, filters.as_str()).is_ok());
-    let filters = nested(alloc, "$", "[?@", 65, "", "]", "")?;
+    let filters = nested(alloc, ("$", "[?@", 65, ""), ("]", ""))?;
     assert!(rt; is_refused(alloc, filters.as_str(), RefusalKind::TooDeep, 194));
     Ok(())
 }
