@@ -19,7 +19,7 @@ impl CharacterClass for Letter {
 #[test]
 fn looks_at_characters(rt: HostRuntime) {
     assert_eq!(rt; split_first("é["), Some(('é', "[")));
-    let mut reader = Reader::new(rt.alloc(), "é [");
+    let mut reader = Reader::new(rt.alloc(), "é \t\r\n[");
     assert_eq!(rt; reader.peek(), Some('é'));
     assert_eq!(rt; reader.peek_second(), Some(' '));
     assert_eq!(rt; reader.bump(), Some('é'));

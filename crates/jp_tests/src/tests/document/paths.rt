@@ -35,7 +35,12 @@ fn names(rt: HostRuntime) -> Result<(), Fail> {
 fn indexes(rt: HostRuntime) -> Result<(), Fail> {
     let alloc = rt.alloc();
     let first = read_path(alloc, "$['a'][0]")?;
-    assert!(rt; matches!(first.steps(), [OwnedStep::Name(_), OwnedStep::Index(0)]));
+    assert!(rt;
+        matches!(
+        first.steps(),
+        [OwnedStep::Name(name), OwnedStep::Index(0)] if name.as_str() == "a"
+    )
+    );
     let largest = read_path(alloc, "$[9007199254740991]")?;
     assert!(rt; matches!(largest.steps(), [OwnedStep::Index(9007199254740991)]));
     Ok(())
