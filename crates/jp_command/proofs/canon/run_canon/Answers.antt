@@ -1,0 +1,14 @@
+use Rattle.std.proofs.Common.{◌≡◌, rules}
+use Rattle.jp_tree.specs.Tree.{query_of}
+use Rattle.jp_command.specs.Canon.{canon_line}
+use Rattle.jp_command.proofs.canon.run_canon.Goals as goal
+
+pub returns : goal.returns
+returns g c =
+    let q = query_of c.in_ok-query.query in
+    let line : c.as_bytes.result.now ≡ canon_line q = search rules in
+    record {
+      output = c.as_bytes.result.now;
+      is = record { q = q; asked = c.in_ok-query.ensures.asked; is = line };
+      writes = c.in-Ok.ensures.ok;
+    }
