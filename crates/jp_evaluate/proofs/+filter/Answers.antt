@@ -1,4 +1,4 @@
-use Rattle.std.proofs.Common.{◌≡◌, Option, Bor, option_map, ap, sym, ◌∙◌}
+use Rattle.std.proofs.Common.{◌≡◌, Option, Bor, option_map, ap, sym, ◌∙◌, rules}
 use Rattle.jp_document.specs.DocumentValue.{lent_value}
 use Rattle.jp_tree.specs.declared.tree.Expr.{Expr}
 use Rattle.jp_tree.specs.Tree.{expr_of}
@@ -24,6 +24,11 @@ filter::all_hold-holds-requires g t c κs within = (
       c.part-item.is c.decreases,
   within,
 )
+
+-- ---- calls
+
+pub calls::node_count-returns : goal.calls::node_count-returns
+calls::node_count-returns g t c = search rules
 
 -- ---- the walk
 

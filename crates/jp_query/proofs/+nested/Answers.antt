@@ -31,7 +31,7 @@ use Rattle.jp_query.specs.Private.Rules.{segments, begins_segment, selector, ent
 use Rattle.jp_query.specs.Private.Rules.{conjunction, other_parts, run, call_with}
 use Rattle.jp_query.specs.Private.Rules.{after_parenthesis, argument, argument_start, argument_on}
 use Rattle.jp_query.specs.Private.Rules.{next_argument, some_arguments, is_logical, query_within}
-use Rattle.jp_query.specs.Private.Rules.{word, word_from, word_of}
+use Rattle.jp_query.specs.Private.Rules.{inside_mark, side, word, word_from, word_of}
 use Rattle.jp_query.specs.Private.Parts.{next_entry, logical_at, mark_of, part_of, several}
 use Rattle.jp_query.specs.Private.Reading.{inside, call_inside, read_flat, read_inside}
 use Rattle.jp_query.proofs.Levels.{inside-progress, inside-entered}
@@ -213,6 +213,10 @@ expressions::joined_from-returns t c =
     ∙ ap (λ e. took e c.parts.reader) (sym c.join.ensures)
 
 -- ---- levels and brackets
+
+pub expressions::inside-returns-then-levels-eq0 : goal.expressions::inside-returns-then-levels-eq0
+unfolding inside_mark
+expressions::inside-returns-then-levels-eq0 t c = search rules
 
 pub expressions::inside-returns : goal.expressions::inside-returns
 expressions::inside-returns t c =
@@ -466,6 +470,10 @@ expressions::compared_or_test-returns-then-is_before_operator t c =
           (sym c.is_before_operator.ensures ∙ c.if-is_before_operator.true),
       ← c.skip.ensures,
     ) c.comparison.ensures
+
+pub sides::side-returns : goal.sides::side-returns
+unfolding side
+sides::side-returns t c = search rules
 
 pub sides::word-returns-then-is_at : goal.sides::word-returns-then-is_at
 sides::word-returns-then-is_at t c =

@@ -1,5 +1,5 @@
 use Rattle.std.proofs.Common.{◌≡◌, ◌+◌, ◌-◌, suc, drop, map, length, inl, inr, sym, ap, ◌∙◌, subst}
-use Rattle.std.proofs.Common.{arith}
+use Rattle.std.proofs.Common.{arith, rules}
 use Rattle.std.proofs.lemmas.Result.{on_ok_weaker}
 use Rattle.jp_iregexp.specs.Tree.{tree, branches, pieces}
 use Rattle.jp_iregexp.specs.Language.{Language, Power}
@@ -69,6 +69,9 @@ either_image-loop-i-preserved t c =
           (rw start at c.in_ok-part_image.ensures.image) both;
       counted = omega arith;
     }
+
+pub exactly_image-loop-init : goal.exactly_image-loop-init
+exactly_image-loop-init t c = search rules
 
 pub exactly_image-loop-preserved : goal.exactly_image-loop-preserved
 exactly_image-loop-preserved t c =

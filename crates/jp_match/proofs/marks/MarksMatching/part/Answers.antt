@@ -1,3 +1,4 @@
+use Rattle.std.proofs.Common.{rules}
 use Rattle.std.specs.Str.{chars}
 use Rattle.jp_iregexp.specs.Tree.{tree}
 use Rattle.jp_iregexp.specs.Language.{Language}
@@ -13,3 +14,6 @@ returns-in-Some-clause-exact c =
       λ h. let (count, within, suffix) = part.1 h in
           c.accepts_prefix.ensures.accepted.1 (count, within, (begins.1.left _).1 suffix),
     )
+
+pub returns-in-None-clause-exact : goal.returns-in-None-clause-exact
+returns-in-None-clause-exact c = search rules
