@@ -6,12 +6,14 @@ mod sizes;
 use jp_canon::{canon, laws};
 use jp_check::read_query;
 use std::alloc::Global;
+use std::process::Abort;
 use std::test::Fail;
 
-/// The canonical text of the query that a text spells.
-fn canon_text(alloc: Global, text: &str) -> Result<String, Fail> {
+/// Asserts the canonical text of the query that a text spells.
+fn assert_canon(rt: &impl Abort, alloc: Global, text: &str, canonical: &str) -> Result<(), Fail> {
     let query = read_query(alloc, text).ok().ok_or("refused")?;
-    Ok(canon(alloc, &query)?)
+    assert_eq!(rt; canon(alloc, &query)?.as_str(), canonical);
+    Ok(())
 }
 
 #[test]

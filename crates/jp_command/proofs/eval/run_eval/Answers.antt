@@ -6,6 +6,9 @@ use Rattle.jp_command.specs.Lines.{lines_of}
 use Rattle.jp_command.proofs.Runs.{run-ends}
 use Rattle.jp_command.proofs.eval.run_eval.Goals as goal
 
+pub returns-in_err-query : goal.returns-in_err-query
+returns-in_err-query g c = search rules
+
 pub returns : goal.returns
 returns g c =
     let d = document_of c.in_ok-document.document in

@@ -1,7 +1,7 @@
 //! Rows by the sections of RFC 9535: a query and its canonical text. A new row goes to its section,
 //! and nowhere else.
 
-use super::canon_text;
+use super::assert_canon;
 use std::alloc::Global;
 use std::process::Abort;
 use std::test::Fail;
@@ -93,8 +93,8 @@ fn calls_rows(rt: HostRuntime) -> Result<(), Fail> {
 /// Each query has its canonical text, which is its own.
 fn gives_each(rt: &impl Abort, alloc: Global, rows: &[Row]) -> Result<(), Fail> {
     for (text, canonical) in rows {
-        assert_eq!(rt; canon_text(alloc, text)?.as_str(), *canonical);
-        assert_eq!(rt; canon_text(alloc, canonical)?.as_str(), *canonical);
+        assert_canon(rt, alloc, text, canonical)?;
+        assert_canon(rt, alloc, canonical, canonical)?;
     }
     Ok(())
 }

@@ -41,10 +41,11 @@ fn assert_canonical(rt: &impl Abort, alloc: Global, query: &str, line: &[u8]) ->
         &mut Device::new(&mut output),
         &mut Device::new(Vec::new(alloc)),
     );
-    assert_eq!(rt; ended, 0, "{query}");
-    assert_eq!(rt; output.taken.as_slice(), line, "{query}");
-    assert_eq!(rt; output.flush_count, 1, "{query}");
-    assert_eq!(rt; document, b"[1]".as_slice(), "{query}");
+    assert_eq!(rt;
+        (ended, output.taken.as_slice(), output.flush_count, document),
+        (0, line, 1, b"[1]".as_slice()),
+        "{query}"
+    );
     Ok(())
 }
 

@@ -86,11 +86,27 @@ fn refusals(rt: HostRuntime) -> Result<(), Fail> {
 fn finds(rt: HostRuntime) -> Result<(), Fail> {
     let alloc = rt.alloc();
     let document = Document::read(alloc, br#"{"a":[{"'":true},"b"]}"#)?;
-    let value = document
-        .find(&read_path(alloc, r"$['a'][0]['\'']")?)
-        .ok_or("no value")?;
-    assert_eq!(rt; value_text(alloc, value)?.as_str(), "true");
-    assert!(rt; document.find(&read_path(alloc, "$['a'][2]")?).is_none());
-    assert!(rt; document.find(&read_path(alloc, "$[0]")?).is_none());
+    for (path, found) in [
+        (r"$['a'][0]['\'']", Some("true")),
+        ("$['a'][2]", None),
+        ("$[0]", None),
+    ] {
+        assert_finds(&rt, alloc, &document, path, found)?;
+    }
+    Ok(())
+}
+
+/// Asserts the compact text of the value that a normalized path leads to, None where it leads to
+/// none.
+fn assert_finds(
+    rt: &impl Abort,
+    alloc: Global,
+    document: &Document,
+    path: &str,
+    found: Option<&str>,
+) -> Result<(), Fail> {
+    let value = document.find(&read_path(alloc, path)?);
+    let text = value.map(|value| value_text(alloc, value)).transpose()?;
+    assert_eq!(rt; text.as_deref(), found, "{path}");
     Ok(())
 }

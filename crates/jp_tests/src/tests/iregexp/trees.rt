@@ -2,6 +2,7 @@
 
 use jp_iregexp::{CharClass, ClassItem, Pattern, read_pattern};
 use std::alloc::{AllocError, Global};
+use std::process::Abort;
 use std::test::Fail;
 
 fn range(first: char, last: char) -> ClassItem {
@@ -17,34 +18,32 @@ fn one_class(alloc: Global, negated: bool, items: &[ClassItem]) -> Result<Patter
     Ok(Pattern::Sequence(vec![in alloc; Pattern::Class(class)]?))
 }
 
+/// Asserts that a text is a pattern of these branches.
+fn assert_branches(rt: &impl Abort, alloc: Global, text: &str, branches: Vec<Pattern>) {
+    let pattern = read_pattern(alloc, text).expect(rt, "a pattern");
+    assert_eq!(rt; pattern, Pattern::Either(branches), "{text}");
+}
+
 #[test]
-fn gives_the_trees_of_the_grammar(rt: HostRuntime) -> Result<(), Fail> {
+fn gives_the_trees_of_branches(rt: HostRuntime) -> Result<(), Fail> {
     let alloc = rt.alloc();
-    let rows = [
-        (
-            "a",
-            vec![in alloc; one_class(alloc, false, &[range('a', 'a')])?]?,
-        ),
-        ("", vec![in alloc; Pattern::Sequence(Vec::new(alloc))]?),
-        (
-            "a|",
-            vec![in alloc;
-                one_class(alloc, false, &[range('a', 'a')])?,
-                Pattern::Sequence(Vec::new(alloc)),
-            ]?,
-        ),
-        (
-            "[a-]",
-            vec![in alloc; one_class(alloc, false, &[range('a', 'a'), range('-', '-')])?]?,
-        ),
-        (
-            "[^^]",
-            vec![in alloc; one_class(alloc, true, &[range('^', '^')])?]?,
-        ),
-    ];
-    for (text, branches) in rows {
-        let pattern = read_pattern(alloc, text).expect(&rt, "a pattern");
-        assert_eq!(rt; pattern, Pattern::Either(branches), "{text}");
+    let empty = Pattern::Sequence(Vec::new(alloc));
+    assert_branches(&rt, alloc, "", vec![in alloc; empty]?);
+    let letter = one_class(alloc, false, &[range('a', 'a')])?;
+    let empty = Pattern::Sequence(Vec::new(alloc));
+    assert_branches(&rt, alloc, "a|", vec![in alloc; letter, empty]?);
+    Ok(())
+}
+
+#[test]
+fn gives_the_trees_of_classes(rt: HostRuntime) -> Result<(), Fail> {
+    for (text, negated, items) in [
+        ("a", false, [range('a', 'a')].as_slice()),
+        ("[a-]", false, &[range('a', 'a'), range('-', '-')]),
+        ("[^^]", true, &[range('^', '^')]),
+    ] {
+        let class = one_class(rt.alloc(), negated, items)?;
+        assert_branches(&rt, rt.alloc(), text, vec![in rt.alloc(); class]?);
     }
     Ok(())
 }
@@ -71,8 +70,7 @@ fn gives_counts_of_quantifiers(rt: HostRuntime) -> Result<(), Fail> {
             most,
         };
         let branch = Pattern::Sequence(vec![in alloc; repeat]?);
-        let pattern = read_pattern(alloc, text).expect(&rt, "a pattern");
-        assert_eq!(rt; pattern, Pattern::Either(vec![in alloc; branch]?), "{text}");
+        assert_branches(&rt, alloc, text, vec![in alloc; branch]?);
     }
     Ok(())
 }
