@@ -50,12 +50,22 @@ fn answers<M: Matching>(
     Ok((whole, part))
 }
 
+/// Asserts whether a text, and whether some part of it, matches the pattern that another spells.
+fn assert_answers(
+    rt: &impl Abort,
+    alloc: Global,
+    (pattern, text): (&str, &str),
+    expected: (bool, bool),
+) -> Result<(), Fail> {
+    let read = read_pattern(alloc, pattern)?;
+    assert_eq!(rt; answers(&Marks, alloc, &read, text)?, expected, "{pattern}");
+    Ok(())
+}
+
 #[test]
 fn answers_each_row(rt: HostRuntime) -> Result<(), Fail> {
     for (pattern, text, whole, part) in ROWS {
-        let read = read_pattern(rt.alloc(), pattern)?;
-        let answer = answers(&Marks, rt.alloc(), &read, text)?;
-        assert_eq!(rt; answer, (whole, part), "{pattern} {text}");
+        assert_answers(&rt, rt.alloc(), (pattern, text), (whole, part))?;
     }
     Ok(())
 }
@@ -83,9 +93,7 @@ fn answers_on_ten_thousand_characters(rt: HostRuntime) -> Result<(), Fail> {
         ("(aé){4999}", false, true),
         ("éé", false, false),
     ] {
-        let read = read_pattern(rt.alloc(), pattern)?;
-        let answer = answers(&Marks, rt.alloc(), &read, text.as_str())?;
-        assert_eq!(rt; answer, (whole, part), "{pattern}");
+        assert_answers(&rt, rt.alloc(), (pattern, text.as_str()), (whole, part))?;
     }
     Ok(())
 }
