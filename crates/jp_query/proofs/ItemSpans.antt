@@ -10,7 +10,7 @@ use Rattle.jp_tree.specs.declared.tree.Op.TheVariants.{Equal, Unequal, Less, Les
 use Rattle.jp_tree.specs.declared.tree.Op.TheVariants.{GreaterEqual}
 use Rattle.jp_query.specs.Names.{is_function_first, is_function_char, FunctionName, function_name}
 use Rattle.jp_reading.specs.Texts.{Text, bytes}
-use Rattle.jp_reading.specs.Forms.{Form, ◌⌢◌, word, One, Each, Blank, Separated, Item, Omitted}
+use Rattle.jp_reading.specs.Forms.{Form, ◌⌢◌, word, Each, Blank, Separated, Item, Omitted}
 use Rattle.jp_reading.proofs.Bare.{Bare, bare-word}
 use Rattle.jp_reading.proofs.Between.{bytes-append}
 use Rattle.jp_tree.specs.Tree.{SelectorTree, SegmentTree, QueryTree, ExprTree, ExprTrees}

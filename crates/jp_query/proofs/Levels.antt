@@ -9,13 +9,12 @@ use Rattle.jp_reading.proofs.Between.{Reads, Within, Has, Stops, front-as, front
 use Rattle.jp_reading.proofs.Between.{front-none, reads-as, has-as}
 use Rattle.jp_reading.proofs.Joining.{after-within, nothing-before, word-joined}
 use Rattle.jp_reading.proofs.Again.{split, at-word}
-use Rattle.jp_reading.proofs.Rules.Follow.{Meets}
 use Rattle.jp_reading.proofs.Levels.{word-has, blank-has, joined-has}
 use Rattle.jp_reading.proofs.Fits.{reads-word}
 use Rattle.jp_reading.proofs.Progress.{Progress}
 use Rattle.jp_reading.proofs.Rules.Progress.{goes}
 use Rattle.jp_reading.proofs.Rules.Form.{form, lifts, least, has}
-use Rattle.jp_reading.proofs.Rules.Soundness.{InnerIsSound, Opened, none_left, some_left, sound}
+use Rattle.jp_reading.proofs.Rules.Soundness.{InnerIsSound, none_left, some_left, sound}
 use Rattle.jp_reading.proofs.Rules.Soundness.{sound-as}
 use Rattle.jp_reading.proofs.Rules.Completeness.{InnerIsComplete, done}
 use Rattle.jp_tree.specs.Tree.{ExprTree, QueryTree}

@@ -3,14 +3,10 @@
 use Rattle.std.proofs.Common.{◌≡◌, map, rules, Bool, Vec, String, string_bytes, chars, Global}
 use Rattle.jp_tree.specs.declared.tree.Subject.{the_lemmas}
 use Rattle.jp_tree.specs.declared.tree.Expr.{Expr}
-use Rattle.jp_tree.specs.declared.tree.Argument.TheOpen as one
 use Rattle.jp_tree.specs.declared.tree.Argument.TheViews.{roll-Segment, roll-Call}
 use Rattle.jp_tree.specs.declared.tree.Selector.{Selector}
 use Rattle.jp_tree.specs.declared.tree.Expr.TheVariants as expr
 use Rattle.jp_tree.specs.declared.tree.Expr.TheVariants.{rolls-AnyOf, rolls-AllOf}
-use Rattle.jp_tree.specs.declared.tree.Argument.TheFolds.{fold-roll-Argument, fold-roll-Call}
-use Rattle.jp_tree.specs.declared.tree.Argument.TheFolds.{fold-roll-Expr, fold-roll-Operand}
-use Rattle.jp_tree.specs.declared.tree.Argument.TheFolds.{fold-roll-Segment, fold-roll-Subject}
 use Rattle.jp_tree.specs.declared.tree.Argument.{Argument}
 use Rattle.jp_tree.specs.declared.tree.Argument.TheVariants as argument
 use Rattle.jp_tree.specs.declared.tree.Call.{Call}
@@ -19,13 +15,11 @@ use Rattle.jp_tree.specs.declared.tree.Operand.TheVariants as operand
 use Rattle.jp_tree.specs.declared.tree.Query.{Query}
 use Rattle.jp_tree.specs.declared.tree.Subject.{Subject}
 use Rattle.jp_tree.specs.declared.tree.Subject.TheVariants as subject
-use Rattle.jp_tree.specs.Tree.{ArgumentTree, argument_of, arguments, call, call_of, call_test}
-use Rattle.jp_tree.specs.Tree.{call_argument, call_value, exists, literal, literal_of}
+use Rattle.jp_tree.specs.Tree.{argument_of, arguments, call, call_of, call_test}
+use Rattle.jp_tree.specs.Tree.{call_argument, exists, literal, literal_of}
 use Rattle.jp_tree.specs.Tree.{logical_argument, operand_of, query_argument, query_of, subject_of}
-use Rattle.jp_tree.specs.Tree.{argument_step, CallTree, call_step, ExprTree, OperandTree}
-use Rattle.jp_tree.specs.Tree.{SelectorTree, QueryTree, SegmentTree, any_of, all_of, exprs}
-use Rattle.jp_tree.specs.Tree.{expr_of, expr_step, operand_step, selector_step, subject_step}
-use Rattle.jp_tree.specs.Tree.{query_step, segment_step, segment, segment_of, selectors}
+use Rattle.jp_tree.specs.Tree.{expr_of}
+use Rattle.jp_tree.specs.Tree.{segment, segment_of, selectors}
 use Rattle.jp_tree.specs.Tree.{selector_of}
 
 pub tree_segment : (descendant : Bool) (all : Vec Selector Global) → segment_of

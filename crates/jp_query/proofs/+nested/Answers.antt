@@ -1,41 +1,38 @@
-use Rattle.std.proofs.Common.{◌≡◌, ℕ, ◌+◌, ◌-◌, ◌<◌, ◌≤◌, ◌++◌, ◌∷◌, [], true, false, true≢false}
+use Rattle.std.proofs.Common.{◌≡◌, ℕ, ◌+◌, ◌<◌, ◌≤◌, ◌++◌, ◌∷◌, [], true, false, true≢false}
 use Rattle.std.proofs.Common.{length, get_or, drop, map, rules, refl, sym, ap, subst, ◌∙◌, arith}
-use Rattle.std.specs.Char.{IsScalar}
 use Rattle.std.specs.Str.{chars}
 use Rattle.std.specs.String.{string_bytes}
-use Rattle.std.proofs.lemmas.Str.{chars-nil, IsUtf8-string_bytes}
+use Rattle.std.proofs.lemmas.Str.{chars-nil}
 use Rattle.std.proofs.lemmas.List.{length-map, length-append, drop_more, drop_all}
 use Rattle.jp_reading.specs.Texts.{Text}
-use Rattle.jp_reading.specs.Outcome.{State, Outcome, took, ◌>>=◌, past, skip, expect, passes, is}
+use Rattle.jp_reading.specs.Outcome.{State, Outcome, took, ◌>>=◌, skip, expect, passes, is}
 use Rattle.jp_reading.specs.Outcome.{after_blank, item_since}
 use Rattle.jp_reading.specs.Views.{Fails, Gives, by}
-use Rattle.jp_reading.specs.Rule.{here, beyond, the, blanks, relaxed, ◌>>◌}
+use Rattle.jp_reading.specs.Rule.{here, beyond, blanks, relaxed, ◌>>◌}
 use Rattle.jp_reading.specs.RuleReading.{spanned_if}
-use Rattle.jp_reading.proofs.Chars.{chars_push}
 use Rattle.jp_reading.proofs.Folds.{fails-then}
 use Rattle.jp_reading.proofs.Rules.Rounds as loops
 use Rattle.jp_tree.specs.declared.tree.Operand.TheVariants as operand
 use Rattle.jp_tree.specs.declared.tree.Subject.{the_lemmas}
 use Rattle.jp_tree.specs.declared.tree.Subject.TheVariants as subject
-use Rattle.jp_tree.specs.Tree.{SegmentTree, SelectorTree, argument_of, call_of, expr_of}
+use Rattle.jp_tree.specs.Tree.{SegmentTree, argument_of, call_of, expr_of}
 use Rattle.jp_tree.specs.Tree.{literal_of, operand_of, selector_of, segment_of, query_of}
 use Rattle.jp_tree.specs.Tree.{ArgumentTree, OperandTree, true_literal, false_literal}
 use Rattle.jp_tree.specs.Tree.{null_literal, query_argument, call_argument, logical_argument}
-use Rattle.jp_tree.specs.Tree.{exists, any_of, all_of, call_test, call_value}
-use Rattle.jp_query.specs.Characters.{ampersand, bar, comma, closing_bracket, opening_parenthesis}
+use Rattle.jp_tree.specs.Tree.{exists, any_of, all_of, call_test}
+use Rattle.jp_query.specs.Characters.{ampersand, bar, comma}
 use Rattle.jp_query.specs.Characters.{closing_parenthesis, letter_t, letter_f, letter_n}
-use Rattle.jp_query.specs.Names.{is_function_char}
 use Rattle.jp_query.specs.Grammar.{joined}
 use Rattle.jp_query.specs.Private.Rules.{QueryRule, bracket, in_brackets, entries, segment}
-use Rattle.jp_query.specs.Private.Rules.{segments, begins_segment, selector, entry, basic}
-use Rattle.jp_query.specs.Private.Rules.{conjunction, other_parts, run, call_with}
-use Rattle.jp_query.specs.Private.Rules.{after_parenthesis, argument, argument_start, argument_on}
+use Rattle.jp_query.specs.Private.Rules.{segments, begins_segment, entry, basic}
+use Rattle.jp_query.specs.Private.Rules.{conjunction, other_parts, call_with}
+use Rattle.jp_query.specs.Private.Rules.{argument, argument_start, argument_on}
 use Rattle.jp_query.specs.Private.Rules.{next_argument, some_arguments, is_logical, query_within}
-use Rattle.jp_query.specs.Private.Rules.{inside_mark, side, word, word_from, word_of}
+use Rattle.jp_query.specs.Private.Rules.{inside_mark, side, word_from, word_of}
 use Rattle.jp_query.specs.Private.Parts.{next_entry, logical_at, mark_of, part_of, several}
-use Rattle.jp_query.specs.Private.Reading.{inside, call_inside, read_flat, read_inside}
+use Rattle.jp_query.specs.Private.Reading.{inside, call_inside, read_inside}
 use Rattle.jp_query.proofs.Levels.{inside-progress, inside-entered}
-use Rattle.jp_tree.proofs.Trees.{tree_segment, tree_call, tree_argument_query}
+use Rattle.jp_tree.proofs.Trees.{tree_argument_query}
 use Rattle.jp_tree.proofs.Trees.{tree_argument_call, tree_logical, tree_operand_literal}
 use Rattle.jp_tree.proofs.Trees.{tree_subject_query, tree_subject_call, tree_test}
 use Rattle.jp_query.proofs.Readers.Exits.{err_is}

@@ -14,7 +14,7 @@ use Rattle.jp_reading.proofs.Loops.{each-on, each-off, round}
 use Rattle.jp_reading.proofs.Folds.{fails-then}
 use Rattle.jp_reading.proofs.Progress.{moves-take_if}
 use Rattle.jp_reading.proofs.Steps.{take_if-takes, head-is}
-use Rattle.jp_tree.specs.Tree.{exists, call_test, literal, call_value, CallTree, call, arguments}
+use Rattle.jp_tree.specs.Tree.{exists, call_test, literal, call_value, call, arguments}
 use Rattle.jp_tree.specs.Tree.{LiteralTree, true_literal, false_literal, null_literal}
 use Rattle.jp_query.specs.Characters.{opening_parenthesis, letter_t, letter_f, letter_n}
 use Rattle.jp_query.specs.Names.{is_function_first, is_function_char}

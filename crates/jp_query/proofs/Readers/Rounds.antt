@@ -1,22 +1,21 @@
 -- The loops over selectors, and over the parts of an expression.
-use Rattle.std.proofs.Common.{◌≡◌, ℕ, ◌<◌, ◌≤◌, Bool, true, false, List, [], ◌∷◌, ◌++◌, length, map}
+use Rattle.std.proofs.Common.{◌≡◌, ℕ, ◌<◌, ◌≤◌, true, false, List, [], ◌∷◌, ◌++◌, length, map}
 use Rattle.std.proofs.Common.{refl, sym, ap, ◌∙◌, arith}
 use Rattle.std.proofs.lemmas.List.{map-append}
 use Rattle.jp_reading.specs.declared.reader.Stop.{Stop}
-use Rattle.jp_reading.specs.Outcome.{State, Outcome, took, stuck, deep, ◌>>=◌, past, skip}
-use Rattle.jp_reading.specs.Outcome.{after_blank, passes, is, is_at, expect}
+use Rattle.jp_reading.specs.Outcome.{State, Outcome, took, stuck, deep, ◌>>=◌, skip}
+use Rattle.jp_reading.specs.Outcome.{after_blank, passes, is, expect}
 use Rattle.jp_reading.specs.Views.{Fails, by, with_front}
-use Rattle.jp_reading.specs.Rule.{here, beyond, blanks, the, some, made, ◌>>◌, seq}
+use Rattle.jp_reading.specs.Rule.{here, beyond, some, made, seq}
 use Rattle.jp_reading.specs.RuleReading.{Inner, read}
 use Rattle.jp_reading.proofs.Loops.{each-off}
 use Rattle.jp_reading.proofs.Folds.{fails-then}
 use Rattle.jp_reading.proofs.Rules.Rounds as loops
-use Rattle.jp_reading.proofs.Steps.{take_if-takes, head-is}
-use Rattle.jp_tree.specs.Tree.{SelectorTree, segment, selectors, ExprTree, ExprTrees, exprs}
+use Rattle.jp_tree.specs.Tree.{SelectorTree, ExprTree, ExprTrees, exprs}
 use Rattle.jp_tree.specs.Tree.{ArgumentTree}
-use Rattle.jp_query.specs.Characters.{comma, opening_bracket, closing_bracket}
+use Rattle.jp_query.specs.Characters.{comma}
 use Rattle.jp_query.specs.Grammar.{joined}
-use Rattle.jp_query.specs.Private.Rules.{nesting, QueryRule, selector, entry, entries, bracket}
+use Rattle.jp_query.specs.Private.Rules.{nesting, QueryRule}
 use Rattle.jp_query.specs.Private.Rules.{joint, part, other_parts, argument, next_argument}
 use Rattle.jp_query.specs.declared.expressions.Connective.{Connective}
 use Rattle.jp_query.specs.Private.Parts.{next_entry, mark_of, part_of, several}

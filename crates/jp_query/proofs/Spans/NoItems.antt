@@ -2,7 +2,7 @@
 use Rattle.std.proofs.Common.{ℕ, Bool, [], ◌∷◌, codes}
 use Rattle.jp_tree.specs.declared.tree.Numeral.{Numeral}
 use Rattle.jp_reading.specs.Texts.{Text}
-use Rattle.jp_reading.specs.Forms.{Form, ◌⌢◌, word, One, Each}
+use Rattle.jp_reading.specs.Forms.{Form, ◌⌢◌, One, Each}
 use Rattle.jp_reading.specs.Numbers.{is_digit}
 use Rattle.jp_reading.proofs.Bare.{Bare, bare-word, bare-one, bare-joined, bare-each}
 use Rattle.jp_tree.specs.Tree.{LiteralTree}
@@ -11,9 +11,9 @@ use Rattle.jp_query.specs.Strings.{is_escapable, is_hexdig, is_d, is_not_d, is_0
 use Rattle.jp_query.specs.Strings.{is_c_to_f, Unit, digits, Hexchar, not_d, below_surrogates}
 use Rattle.jp_query.specs.Strings.{surrogates, Character, plain, escape, hex, Between, Quoted}
 use Rattle.jp_query.specs.Strings.{in_double, in_single}
-use Rattle.jp_query.specs.Ints.{is_leading_digit, Unsigned, Int, zero_int, positive_int}
+use Rattle.jp_query.specs.Ints.{is_leading_digit, Int, zero_int, positive_int}
 use Rattle.jp_query.specs.Ints.{negative_int}
-use Rattle.jp_query.specs.Literals.{Optional, left_out, written, DigitSequence, Decimals, decimals}
+use Rattle.jp_query.specs.Literals.{Optional, left_out, written, Decimals, decimals}
 use Rattle.jp_query.specs.Literals.{is_e, is_sign, Exponent, unsigned, signed, Mantissa, whole}
 use Rattle.jp_query.specs.Literals.{minus_zero, Number, number, Literal, of_number, of_text}
 use Rattle.jp_query.specs.Literals.{of_true, of_false, of_null}

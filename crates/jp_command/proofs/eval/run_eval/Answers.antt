@@ -1,4 +1,4 @@
-use Rattle.std.proofs.Common.{◌≡◌, refl, rules}
+use Rattle.std.proofs.Common.{refl, rules}
 use Rattle.jp_document.specs.Document.{IsDocument, document_of}
 use Rattle.jp_evaluate.specs.Rest.{rest_of}
 use Rattle.jp_tree.specs.Tree.{query_of}
