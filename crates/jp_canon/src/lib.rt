@@ -15,6 +15,8 @@ mod canonical;
 mod expressions;
 pub mod laws;
 mod segments;
+#[cfg(test)]
+mod tests;
 mod values;
 mod writer;
 

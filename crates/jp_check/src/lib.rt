@@ -20,6 +20,8 @@ mod functions;
 pub mod laws;
 mod ranges;
 mod singular;
+#[cfg(test)]
+mod tests;
 mod walk;
 
 pub use checked::{Checked, check, read_query};

@@ -23,6 +23,8 @@ mod limits;
 mod line;
 mod lines;
 mod output;
+#[cfg(test)]
+mod tests;
 mod words;
 
 pub use canon::run_canon;

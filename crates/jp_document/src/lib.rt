@@ -34,6 +34,8 @@ mod path_fault;
 mod path_reader;
 mod reading;
 mod spelling;
+#[cfg(test)]
+mod tests;
 mod text;
 mod value;
 mod value_fault;

@@ -24,6 +24,8 @@ mod length;
 mod operand;
 mod pattern;
 mod singular;
+#[cfg(test)]
+mod tests;
 mod walk;
 
 pub use each::Nodes;

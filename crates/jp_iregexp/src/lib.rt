@@ -24,6 +24,8 @@ mod pattern;
 mod position_count;
 mod quantifiers;
 mod read;
+#[cfg(test)]
+mod tests;
 
 pub use category::Category;
 pub use class::{CharClass, ClassItem};

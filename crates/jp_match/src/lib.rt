@@ -28,6 +28,8 @@ mod relations;
 mod rows;
 mod scan;
 mod stepping;
+#[cfg(test)]
+mod tests;
 
 pub use class_tests::Tests;
 pub use images::Images;

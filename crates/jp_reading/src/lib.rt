@@ -18,6 +18,8 @@ mod character_class;
 mod numbers;
 mod reader;
 mod span;
+#[cfg(test)]
+mod tests;
 
 pub use character_class::CharacterClass;
 pub use numbers::{digit, is_at_digit, natural};

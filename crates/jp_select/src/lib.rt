@@ -25,6 +25,8 @@ mod descent;
 pub mod laws;
 mod selector;
 mod slice;
+#[cfg(test)]
+mod tests;
 
 pub use candidates::{candidate, single};
 pub use comparable::Comparable;

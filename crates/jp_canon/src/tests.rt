@@ -1,0 +1,26 @@
+//! Canonical texts of queries. Other rows are in jp_command's table.
+
+use crate::{canon, laws};
+use jp_check::read_query;
+use std::test::Fail;
+
+#[test]
+fn canonical_texts(rt: HostRuntime) -> Result<(), Fail> {
+    for (text, canonical) in [
+        ("$.a [ 1: ]", "$['a'][1:]"),
+        (
+            "$[?( !(@.b) ) && ('c'>-0||@ ['d'])]",
+            "$[?!@['b']&&('c'>0||@['d'])]",
+        ),
+    ] {
+        let query = read_query(rt.alloc(), text).ok().ok_or("refused")?;
+        assert_eq!(rt; canon(rt.alloc(), &query)?.as_str(), canonical);
+    }
+    Ok(())
+}
+
+#[test]
+fn laws_can_be_called() {
+    laws::canon_spells();
+    laws::canon_tells_apart();
+}

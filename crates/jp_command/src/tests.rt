@@ -1,0 +1,10 @@
+//! The rows of the table, and what runs do at the limits and where reads and writes fail.
+
+mod devices;
+mod failures;
+mod limits;
+mod prefixes;
+mod rows;
+mod statuses;
+mod table;
+mod texts;

@@ -1,0 +1,147 @@
+//! Running the rows of the table.
+
+use super::devices::{Drip, Trickle};
+use super::prefixes;
+use crate::{Device, run_line};
+use std::alloc::{AllocError, Global};
+use std::io::Read;
+use std::process::Abort;
+use std::test::Fail;
+
+/// A document, a query, and what they give.
+pub type Row = (&'static str, &'static str, Answer);
+
+/// What `jp both` gives, or `jp canon` for a canonical text.
+#[derive(Debug, Clone, Copy)]
+pub enum Answer {
+    /// Status 0 with a line for each node: its normalized path, a tab and its value.
+    Nodes(&'static [(&'static str, &'static str)]),
+    /// Status 0 with this canonical text, which is its own, and no document is read.
+    Canonical(&'static str),
+    /// Status 1 with this kind and place after `query refused: `, and no document is read.
+    Query(&'static str),
+    /// Status 3 with this name after `document refused: `.
+    Document(&'static str),
+}
+
+/// Runs each row. Where one gives nodes, no prefix of its query is refused but at its end, and no
+/// proper prefix of its document is a document.
+pub fn gives_each(rt: &impl Abort, alloc: Global, rows: &[Row]) -> Result<(), Fail> {
+    for (document, query, answer) in rows {
+        gives_in_pieces(rt, alloc, (document, query, *answer))?;
+        match answer {
+            Answer::Nodes(_) => {
+                prefixes::are_accepted_or_end(rt, alloc, query);
+                prefixes::are_no_documents(rt, alloc, document);
+            }
+            Answer::Canonical(text) => gives_in_pieces(rt, alloc, (document, text, *answer))?,
+            Answer::Query(_) | Answer::Document(_) => {}
+        }
+    }
+    Ok(())
+}
+
+/// Runs a row with a few bytes a read and a write, and with many.
+fn gives_in_pieces(rt: &impl Abort, alloc: Global, row: Row) -> Result<(), Fail> {
+    for size in [1, 2, 3, 7, 999] {
+        assert_gives(rt, alloc, row, size)?;
+    }
+    Ok(())
+}
+
+/// Asserts the status of a row and what is written to either output at most so many bytes a call;
+/// that the output is flushed once after a run that is done, and else not; and whether the document
+/// is read.
+fn assert_gives(
+    rt: &impl Abort,
+    alloc: Global,
+    (document, query, answer): Row,
+    size: usize,
+) -> Result<(), Fail> {
+    let (subcommand, status, lines, fault) = told(alloc, &answer)?;
+    let is_read = matches!(answer, Answer::Nodes(_) | Answer::Document(_));
+    let mut input = Trickle::new(document.as_bytes(), size);
+    let mut output = Drip::new(alloc, size);
+    let mut faults = Vec::new(alloc);
+    let ended = run_line(
+        alloc,
+        words(alloc, &["jp", subcommand, query])?,
+        &mut Device::new(&mut input),
+        &mut Device::new(&mut output),
+        &mut Device::new(&mut faults),
+    );
+    assert_eq!(rt;
+        (
+            ended,
+            output.taken.as_slice(),
+            faults.as_slice(),
+            output.flush_count,
+            input.calls > 0
+        ),
+        (
+            status,
+            lines.as_bytes(),
+            fault.as_bytes(),
+            u8::from(status == 0),
+            is_read
+        ),
+        "{query}"
+    );
+    Ok(())
+}
+
+/// The subcommand of an answer, its status, what is written to the output, and the fault's line.
+fn told(alloc: Global, answer: &Answer) -> Result<(&'static str, u8, String, String), AllocError> {
+    let mut lines = String::new(alloc);
+    let mut fault = String::new(alloc);
+    let mut subcommand = "both";
+    let status = match answer {
+        Answer::Nodes(nodes) => {
+            for (path, value) in *nodes {
+                write!(lines, "{path}\t{value}\n")?;
+            }
+            0
+        }
+        Answer::Canonical(text) => {
+            subcommand = "canon";
+            write!(lines, "{text}\n")?;
+            0
+        }
+        Answer::Query(refusal) => {
+            write!(fault, "query refused: {refusal}\n")?;
+            1
+        }
+        Answer::Document(name) => {
+            write!(fault, "document refused: {name}\n")?;
+            3
+        }
+    };
+    Ok((subcommand, status, lines, fault))
+}
+
+/// What a line of words gives over an input: the status, and what is written to either output.
+pub fn ended<R: Read + Drop>(
+    alloc: Global,
+    line: &[&str],
+    input: R,
+) -> Result<(u8, Vec<u8>, Vec<u8>), AllocError> {
+    let mut output = Vec::new(alloc);
+    let mut faults = Vec::new(alloc);
+    let status = run_line(
+        alloc,
+        words(alloc, line)?,
+        &mut Device::new(input),
+        &mut Device::new(&mut output),
+        &mut Device::new(&mut faults),
+    );
+    Ok((status, output, faults))
+}
+
+/// A line of words, the program's name first.
+pub fn words(alloc: Global, line: &[&str]) -> Result<Vec<String>, AllocError> {
+    let mut words = Vec::new(alloc);
+    for word in line {
+        words.push(String::from_str(alloc, word)?)?;
+    }
+    Ok(words)
+}

@@ -1,0 +1,140 @@
+//! Each status of `run_line`, with its line.
+
+use super::devices::{Broken, Narrow};
+use super::rows::{ended, words};
+use super::table::names::{IN_QUOTES, NAMES};
+use crate::{Device, run_line};
+use std::alloc::Global;
+use std::io::Read;
+use std::process::Abort;
+use std::test::Fail;
+
+#[test]
+fn refuses_a_document_that_is_no_utf8(rt: HostRuntime) -> Result<(), Fail> {
+    let document = b"\"\xff\"".as_slice();
+    let (status, _, faults) = ended(rt.alloc(), &["jp", "both", "$"], document)?;
+    assert_eq!(rt; status, 3);
+    assert_eq!(rt;
+        faults.as_slice(),
+        b"document refused: NotJson\n".as_slice()
+    );
+    Ok(())
+}
+
+#[test]
+fn writes_the_form_of_its_subcommand(rt: HostRuntime) -> Result<(), Fail> {
+    let alloc = rt.alloc();
+    let rows = [
+        ("check", "accepted\n"),
+        ("canon", "$['\\'']['@']\n"),
+        ("eval", "2\n"),
+        ("paths", "$['\\'']['@']\n"),
+        ("both", "$['\\'']['@']\t2\n"),
+    ];
+    for (subcommand, text) in rows {
+        let line = ["jp", subcommand, IN_QUOTES];
+        let (status, output, faults) = ended(alloc, &line, NAMES.as_bytes())?;
+        assert_eq!(rt; status, 0, "{subcommand}");
+        assert_eq!(rt; output.as_slice(), text.as_bytes(), "{subcommand}");
+        assert!(rt; faults.is_empty(), "{subcommand}");
+    }
+    Ok(())
+}
+
+#[test]
+fn refuses_words_that_it_does_not_take(rt: HostRuntime) -> Result<(), Fail> {
+    let alloc = rt.alloc();
+    let lines: [&[&str]; 9] = [
+        &[],
+        &["jp"],
+        &["jp", "both"],
+        &["jp", "both", "$", "$"],
+        &["jp", "value", "$"],
+        &["jp", "help"],
+        &["jp", "--help"],
+        &["jp", "--version"],
+        &["jp", "both", "--help"],
+    ];
+    for line in lines {
+        let (status, output, faults) = ended(alloc, line, b"[1]".as_slice())?;
+        assert_eq!(rt; status, 2, "{line:?}");
+        assert!(rt; !faults.is_empty(), "{line:?}");
+        assert!(rt; output.is_empty(), "{line:?}");
+    }
+    Ok(())
+}
+
+#[test]
+fn tells_of_each_subcommand_and_status_in_its_help(rt: HostRuntime) -> Result<(), Fail> {
+    let alloc = rt.alloc();
+    let (status, _, faults) = ended(alloc, &["jp", "--help"], b"[1]".as_slice())?;
+    assert_eq!(rt; status, 2);
+    let help = str::from_utf8(faults.as_slice())?;
+    for part in [
+        "\n  check ",
+        "\n  canon ",
+        "\n  eval ",
+        "\n  paths ",
+        "\n  both ",
+        "QUERY",
+        "jp eval '$[-1]'",
+        "0 done",
+        "1 query refused",
+        "2 usage or help",
+        "3 document refused",
+        "4 want of memory",
+        "5 read or write fault",
+    ] {
+        assert!(rt; help.contains(part), "{part}");
+    }
+    Ok(())
+}
+
+/// Asserts that a run from this input to this output ends with status 5 and this line.
+fn assert_fault<R: Read + Drop>(
+    rt: &impl Abort,
+    alloc: Global,
+    input: R,
+    output: Narrow,
+    line: &[u8],
+) -> Result<(), Fail> {
+    let mut faults = Vec::new(alloc);
+    let ended = run_line(
+        alloc,
+        words(alloc, &["jp", "both", "$"])?,
+        &mut Device::new(input),
+        &mut Device::new(output),
+        &mut Device::new(&mut faults),
+    );
+    assert_eq!(rt; ended, 5);
+    assert_eq!(rt; faults.as_slice(), line);
+    Ok(())
+}
+
+#[test]
+fn tells_failures_of_its_streams(rt: HostRuntime) -> Result<(), Fail> {
+    let alloc = rt.alloc();
+    let document = b"[1]".as_slice();
+    let wide = Narrow::new(alloc, 99, true);
+    assert_fault(&rt, alloc, Broken(b"[1"), wide, b"read fault\n")?;
+    let narrow = Narrow::new(alloc, 3, true);
+    assert_fault(&rt, alloc, document, narrow, b"write fault\n")?;
+    let unflushed = Narrow::new(alloc, 99, false);
+    assert_fault(&rt, alloc, document, unflushed, b"write fault\n")
+}
+
+#[test]
+fn keeps_its_status_where_its_line_cannot_be_written(rt: HostRuntime) -> Result<(), Fail> {
+    let alloc = rt.alloc();
+    for (query, status) in [("$", 3), ("$[", 1)] {
+        let ended = run_line(
+            alloc,
+            words(alloc, &["jp", "both", query])?,
+            &mut Device::new(b"".as_slice()),
+            &mut Device::new(Narrow::new(alloc, 99, true)),
+            &mut Device::new(Narrow::new(alloc, 7, true)),
+        );
+        assert_eq!(rt; ended, status);
+    }
+    Ok(())
+}

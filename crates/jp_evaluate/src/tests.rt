@@ -1,0 +1,60 @@
+//! Nodelists, and nodes one at a time. Other rows are in jp_command's table.
+use crate::{evaluate, nodes};
+use jp_check::read_query;
+use jp_document::{Document, path_text};
+use jp_match::Marks;
+use std::alloc::Global;
+use std::test::Fail;
+
+const NESTED: &[u8] = br#"{"o":{"j":1,"k":2},"a":[5,3,[{"j":4},{"k":6}]]}"#;
+
+/// The paths of the nodelist, each with a blank before it.
+fn nodelist(alloc: Global, bytes: &[u8], query: &str) -> Result<String, Fail> {
+    let query = read_query(alloc, query).ok().ok_or("refused")?;
+    let document = Document::read(alloc, bytes)?;
+    let mut paths = String::new(alloc);
+    for node in &evaluate(alloc, &document, &query, &Marks)? {
+        paths.push_str(" ")?;
+        paths.push_str(path_text(alloc, node.location())?.as_str())?;
+    }
+    Ok(paths)
+}
+
+#[test]
+fn nodelists(rt: HostRuntime) -> Result<(), Fail> {
+    let alloc = rt.alloc();
+    for (document, query, paths) in [
+        (
+            NESTED,
+            "$[*][*]",
+            " $['a'][0] $['a'][1] $['a'][2] $['o']['j'] $['o']['k']",
+        ),
+        (b"[[[3],[4]],[[5]],6]", "$[?@..[?@==5]]", " $[1]"),
+    ] {
+        assert_eq!(rt; nodelist(alloc, document, query)?.as_str(), paths);
+    }
+    Ok(())
+}
+
+#[test]
+fn nodes_one_at_a_time(rt: HostRuntime) -> Result<(), Fail> {
+    let alloc = rt.alloc();
+    let document = Document::read(alloc, NESTED)?;
+    let query = read_query(alloc, "$..*").ok().ok_or("refused")?;
+    let mut some = nodes(alloc, &document, &query, &Marks);
+    for path in ["$['a']", "$['o']", "$['a'][0]"] {
+        let node = some.next().ok_or("no node")??;
+        assert_eq!(rt; path_text(alloc, node.location())?.as_str(), path);
+    }
+    Ok(())
+}
+
+#[test]
+fn no_nodes(rt: HostRuntime) -> Result<(), Fail> {
+    let alloc = rt.alloc();
+    let document = Document::read(alloc, b"[{}]")?;
+    let query = read_query(alloc, "$[?@.x]").ok().ok_or("refused")?;
+    let mut none = nodes(alloc, &document, &query, &Marks);
+    assert!(rt; none.next().is_none() && none.next().is_none() && !none.failed());
+    Ok(())
+}

@@ -1,0 +1,36 @@
+//! Texts that are refused, and the kinds of refusals.
+
+use crate::{RefusalKind, parse};
+use std::alloc::Global;
+use std::process::Abort;
+use std::test::Fail;
+
+/// Asserts that a text is refused in that kind at that byte.
+fn assert_refused(rt: &impl Abort, alloc: Global, text: &str, kind: RefusalKind, place: usize) {
+    let refused = match parse(alloc, text) {
+        Ok(_) => None,
+        Err(refusal) => Some((refusal.kind, refusal.place)),
+    };
+    assert_eq!(rt; refused, Some((kind, place)), "{text}");
+}
+
+#[test]
+fn texts_are_refused_at_their_places(rt: HostRuntime) {
+    assert_refused(&rt, rt.alloc(), "$.é[0 1]", RefusalKind::Syntax, 7);
+    assert_refused(&rt, rt.alloc(), "$.é[", RefusalKind::Syntax, 5);
+}
+
+#[test]
+fn a_65th_level_is_refused(rt: HostRuntime) -> Result<(), Fail> {
+    let text = "[?(@".repeat(rt.alloc(), 33)?;
+    let text = format!(in rt.alloc(); "${text}")?;
+    assert_refused(&rt, rt.alloc(), &text, RefusalKind::TooDeep, 130);
+    Ok(())
+}
+
+#[test]
+fn kinds_have_numbers_and_names(rt: HostRuntime) {
+    assert_eq!(rt; RefusalKind::Syntax.number(), 1);
+    assert_eq!(rt; RefusalKind::TextTooLong.number(), 11);
+    assert_eq!(rt; RefusalKind::IndexRange.name(), "IndexRange");
+}

@@ -1,0 +1,103 @@
+//! Rows of selectors and descendants.
+use crate::{descend, descend_each, select_plain};
+use jp_document::{Document, Node, path_text};
+use jp_tree::{Numeral, Selector, Slice};
+use std::alloc::{AllocError, Global};
+use std::process::Abort;
+use std::test::Fail;
+
+const LETTERS: &[u8] = br#"["a","b","c","d","e","f","g"]"#;
+
+const NESTED: &[u8] = br#"{"o":{"j":1,"k":2},"a":[5,3,[{"j":4},{"k":6}]]}"#;
+
+/// The paths of the nodes, each with a blank before it.
+fn paths(alloc: Global, nodes: &[Node]) -> Result<String, AllocError> {
+    let mut paths = String::new(alloc);
+    for node in nodes {
+        paths.push_str(" ")?;
+        paths.push_str(path_text(alloc, node.location())?.as_str())?;
+    }
+    Ok(paths)
+}
+
+/// Asserts that a selector selects these paths at the root of a document.
+fn assert_selects(
+    rt: &impl Abort,
+    alloc: Global,
+    bytes: &[u8],
+    selector: &Selector,
+    expected: &str,
+) -> Result<(), Fail> {
+    let document = Document::read(alloc, bytes)?;
+    let nodes = select_plain(alloc, &document.root(alloc), selector)?;
+    assert_eq!(rt; paths(alloc, &nodes)?.as_str(), expected);
+    Ok(())
+}
+
+fn slice(start: Option<i128>, end: Option<i128>, step: i128) -> Selector {
+    Selector::Slice(Slice {
+        start: start.map(Numeral::Whole),
+        end: end.map(Numeral::Whole),
+        step: Numeral::Whole(step),
+    })
+}
+
+#[test]
+fn descendants(rt: HostRuntime) -> Result<(), Fail> {
+    let alloc = rt.alloc();
+    let document = Document::read(alloc, NESTED)?;
+    let nodes = descend(alloc, document.root(alloc))?;
+    assert_eq!(rt;
+        paths(alloc, &nodes)?.as_str(),
+        " $ $['a'] $['a'][0] $['a'][1] $['a'][2] $['a'][2][0] $['a'][2][0]['j'] $['a'][2][1] $['a'][2][1]['k'] $['o'] $['o']['j'] $['o']['k']"
+    );
+    Ok(())
+}
+
+#[test]
+fn descendants_one_at_a_time(rt: HostRuntime) -> Result<(), Fail> {
+    let alloc = rt.alloc();
+    let document = Document::read(alloc, NESTED)?;
+    let mut walk = descend_each(alloc, document.root(alloc));
+    for path in ["$", "$['a']"] {
+        let node = walk.next().ok_or("no node")??;
+        assert_eq!(rt; path_text(alloc, node.location())?.as_str(), path);
+    }
+    Ok(())
+}
+
+#[test]
+fn names(rt: HostRuntime) -> Result<(), Fail> {
+    let alloc = rt.alloc();
+    let name = Selector::Name(String::from_str(alloc, "o")?);
+    assert_selects(&rt, alloc, NESTED, &name, " $['o']")?;
+    assert_selects(&rt, alloc, LETTERS, &name, "")
+}
+
+#[test]
+fn wildcards(rt: HostRuntime) -> Result<(), Fail> {
+    let alloc = rt.alloc();
+    assert_selects(&rt, alloc, NESTED, &Selector::Wildcard, " $['a'] $['o']")
+}
+
+#[test]
+fn indexes(rt: HostRuntime) -> Result<(), Fail> {
+    let alloc = rt.alloc();
+    for (index, path) in [(-7, " $[0]"), (7, "")] {
+        let index = Selector::Index(Numeral::Whole(index));
+        assert_selects(&rt, alloc, LETTERS, &index, path)?;
+    }
+    Ok(())
+}
+
+#[test]
+fn slices(rt: HostRuntime) -> Result<(), Fail> {
+    let alloc = rt.alloc();
+    for (start, end, step, expected) in [
+        (Some(5), Some(1), -2, " $[5] $[3]"),
+        (None, Some(2), 1, " $[0] $[1]"),
+    ] {
+        assert_selects(&rt, alloc, LETTERS, &slice(start, end, step), expected)?;
+    }
+    Ok(())
+}
