@@ -1,43 +1,42 @@
 //! Queries at the ends of the range of indexes, first faults, and the functions' names. Each other
 //! query is a row of jp_command's table.
 
-use crate::{Function, check, laws, read_query};
+use crate::{Checked, Function, check, laws, read_query};
 use jp_query::{RefusalKind, parse};
-use jp_tree::{Numeral, Query, Segment, Selector};
-use std::alloc::{AllocError, Global};
+use std::alloc::Global;
 use std::process::Abort;
 use std::test::Fail;
-
-/// The query of one segment with that index.
-fn query_of_index(alloc: Global, index: i128) -> Result<Query, AllocError> {
-    let segment = Segment {
-        descendant: false,
-        selectors: vec![in alloc; Selector::Index(Numeral::Whole(index))]?,
-    };
-    Ok(Query {
-        absolute: true,
-        segments: vec![in alloc; segment]?,
-    })
-}
 
 #[test]
 fn queries_without_faults_are_accepted(rt: HostRuntime) -> Result<(), Fail> {
     let alloc = rt.alloc();
-    let Ok(read) = read_query(alloc, "$[9007199254740991]") else {
-        panic!(rt; "refused");
-    };
-    let greatest = query_of_index(alloc, 9007199254740991)?;
-    assert!(rt; *read.query() == greatest);
-    let Ok(parsed) = parse(alloc, "$[-9007199254740991]") else {
-        panic!(rt; "refused");
-    };
-    let Ok(checked) = check(parsed) else {
-        panic!(rt; "refused");
-    };
-    let least = query_of_index(alloc, -9007199254740991)?;
-    assert!(rt; *checked.query() == least);
+    let read = read_query(alloc, "$[9007199254740991]")
+        .ok()
+        .ok_or("refused")?;
+    assert_indexes(&rt, alloc, &read, 9007199254740991)?;
+    let parsed = parse(alloc, "$[-9007199254740991]").ok().ok_or("refused")?;
+    let checked = check(parsed).ok().ok_or("refused")?;
+    assert_indexes(&rt, alloc, &checked, -9007199254740991)?;
     laws::one_answer();
     laws::fault_at_its_item();
+    Ok(())
+}
+
+/// Asserts that a query has one segment, with that index.
+fn assert_indexes(
+    rt: &impl Abort,
+    alloc: Global,
+    checked: &Checked,
+    index: i64,
+) -> Result<(), Fail> {
+    let segment = format!(in alloc;
+        "Segment {{ descendant: false, selectors: [Index(Whole({index}))] }}"
+    )?;
+    let query = checked.query();
+    assert_eq!(rt;
+        format!(in alloc; "{query:?}")?,
+        format!(in alloc; "Query {{ absolute: true, segments: [{segment}] }}")?
+    );
     Ok(())
 }
 

@@ -37,15 +37,11 @@ const ROWS: [(&str, &str, bool, bool); 27] = [
     ("(ab|c)*", "abcab", true, true),
 ];
 
-fn answers<M: Matching>(
-    matcher: &M,
-    alloc: Global,
-    pattern: &Pattern,
-    text: &str,
-) -> Result<(bool, bool), AllocError> {
+/// Whether a text is in the pattern's language, and whether some part of it is.
+fn answers(alloc: Global, pattern: &Pattern, text: &str) -> Result<(bool, bool), AllocError> {
     let mut tests = Tests::new();
-    let whole = matcher.whole(alloc, pattern, text, &mut tests)?;
-    let part = matcher.part(alloc, pattern, text, &mut tests)?;
+    let whole = Marks.whole(alloc, pattern, text, &mut tests)?;
+    let part = Marks.part(alloc, pattern, text, &mut tests)?;
     Ok((whole, part))
 }
 
@@ -57,29 +53,39 @@ fn assert_answers(
     expected: (bool, bool),
 ) -> Result<(), Fail> {
     let read = read_pattern(alloc, pattern)?;
-    assert_eq!(rt; answers(&Marks, alloc, &read, text)?, expected, "{pattern}");
+    assert_eq!(rt; answers(alloc, &read, text)?, expected, "{pattern}");
     Ok(())
 }
 
 #[test]
 fn answers_each_row(rt: HostRuntime) -> Result<(), Fail> {
-    for (pattern, text, whole, part) in ROWS {
-        assert_answers(&rt, rt.alloc(), (pattern, text), (whole, part))?;
+    for (pattern, text, whole, part) in &ROWS {
+        assert_answers(&rt, rt.alloc(), (pattern, text), (*whole, *part))?;
     }
     Ok(())
 }
 
 #[test]
-fn answers_patterns_that_no_text_spells(rt: HostRuntime) -> Result<(), Fail> {
-    let nothing = Pattern::Either(vec![in rt.alloc()]?);
-    assert_eq!(rt; answers(&Marks, rt.alloc(), &nothing, "")?, (false, false));
-    let inner = Box::new(rt.alloc(), Pattern::Sequence(vec![in rt.alloc()]?))?;
-    let repeat = Pattern::Repeat {
-        inner,
-        least: 3,
-        most: Some(2),
-    };
-    assert_eq!(rt; answers(&Marks, rt.alloc(), &repeat, "")?, (false, false));
+fn answers_no_branch(rt: HostRuntime) -> Result<(), Fail> {
+    let nothing = Pattern::Either(Vec::new(rt.alloc()));
+    assert_eq!(rt; answers(rt.alloc(), &nothing, "")?, (false, false));
+    Ok(())
+}
+
+/// The empty word, at least and at most so many times.
+fn repeat(alloc: Global, least: u32, most: u32) -> Result<Pattern, AllocError> {
+    let empty = Pattern::Sequence(Vec::new(alloc));
+    Ok(Pattern::Repeat {
+        inner: Box::new(alloc, empty).map_err(AllocError::from)?,
+        least,
+        most: Some(most),
+    })
+}
+
+#[test]
+fn answers_a_repeat_that_no_count_fits(rt: HostRuntime) -> Result<(), Fail> {
+    let repeat = repeat(rt.alloc(), 3, 2)?;
+    assert_eq!(rt; answers(rt.alloc(), &repeat, "")?, (false, false));
     Ok(())
 }
 
@@ -97,35 +103,40 @@ fn answers_on_ten_thousand_characters(rt: HostRuntime) -> Result<(), Fail> {
     Ok(())
 }
 
+/// What a matcher answers, each with the number of its class tests.
+fn counted_answers(
+    alloc: Global,
+    pattern: &str,
+    text: &str,
+) -> Result<((bool, u64), (bool, u64)), Fail> {
+    let pattern = read_pattern(alloc, pattern)?;
+    let mut of_whole = Tests::new();
+    let whole = Marks.whole(alloc, &pattern, text, &mut of_whole)?;
+    let mut of_part = Tests::new();
+    let part = Marks.part(alloc, &pattern, text, &mut of_part)?;
+    Ok(((whole, of_whole.count()), (part, of_part.count())))
+}
+
 #[test]
 fn counts_class_tests(rt: HostRuntime) -> Result<(), Fail> {
-    let mut tests = Tests::new();
-    assert_eq!(rt; tests.count(), 0);
-    let pattern = read_pattern(rt.alloc(), "a")?;
-    assert!(rt; !Marks.whole(rt.alloc(), &pattern, "ba", &mut tests)?);
-    assert_eq!(rt; tests.count(), 1);
-    assert!(rt; Marks.part(rt.alloc(), &pattern, "ba", &mut tests)?);
-    assert_eq!(rt; tests.count(), 3);
+    let answers = counted_answers(rt.alloc(), "a", "ba")?;
+    assert_eq!(rt; answers, ((false, 1), (true, 2)));
+    let answers = counted_answers(rt.alloc(), "()", "ba")?;
+    assert_eq!(rt; answers, ((false, 0), (true, 0)));
     Ok(())
 }
 
-fn assert_within<M: Matching>(
+/// Asserts what is answered, and that neither answer takes more class tests.
+fn assert_within(
     rt: &impl Abort,
     alloc: Global,
-    matcher: &M,
     (pattern, text): (&str, &str),
-    (whole, part): (bool, bool),
+    expected: (bool, bool),
     most: u64,
 ) -> Result<(), Fail> {
-    let read = read_pattern(alloc, pattern)?;
-    let mut tests = Tests::new();
-    let answer = matcher.whole(alloc, &read, text, &mut tests)?;
-    assert_eq!(rt; answer, whole, "{pattern}");
-    assert!(rt; tests.count() <= most, "{pattern}");
-    tests = Tests::new();
-    let answer = matcher.part(alloc, &read, text, &mut tests)?;
-    assert_eq!(rt; answer, part, "{pattern}");
-    assert!(rt; tests.count() <= most, "{pattern}");
+    let (whole, part) = counted_answers(alloc, pattern, text)?;
+    assert_eq!(rt; (whole.0, part.0), expected, "{pattern}");
+    assert!(rt; whole.1 <= most && part.1 <= most, "{pattern}");
     Ok(())
 }
 
@@ -145,62 +156,43 @@ fn tests_each_position_at_most_once_a_character(rt: HostRuntime) -> Result<(), F
         ("(a{2,}b?){2}", "aabaa", true, true, 30),
         ("(a{2,}b?){2}", "aaba", false, false, 24),
     ] {
-        assert_within(
-            &rt,
-            rt.alloc(),
-            &Marks,
-            (pattern, text),
-            (whole, part),
-            most,
-        )?;
+        assert_within(&rt, rt.alloc(), (pattern, text), (whole, part), most)?;
     }
     Ok(())
 }
 
-/// What a scan accepts at first and after each character.
-fn assert_accepts(
-    rt: &impl Abort,
+/// Whether a scan accepts so at first, and after each character.
+fn accepts_so(
     alloc: Global,
     (pattern, anywhere): (&str, bool),
     text: &str,
     first: bool,
     accepted: &[bool],
-) -> Result<(), Fail> {
+) -> Result<bool, Fail> {
     let read = read_pattern(alloc, pattern)?;
-    let mut scan = Scan::new(alloc, &read, anywhere)?.expect(rt, "a scan");
+    let mut scan = Scan::new(alloc, &read, anywhere)?.ok_or("no scan")?;
     let mut tests = Tests::new();
-    assert_eq!(rt; scan.accepts(), first, "{pattern}");
+    let mut is_so = scan.accepts() == first;
     for (c, accepts) in text.chars().zip(accepted) {
         scan.step(c, &mut tests);
-        assert_eq!(rt; scan.accepts(), *accepts, "{pattern} after {c}");
+        is_so = is_so && scan.accepts() == *accepts;
     }
-    Ok(())
+    Ok(is_so)
 }
 
 #[test]
 fn scans_a_character_at_a_time(rt: HostRuntime) -> Result<(), Fail> {
-    assert_accepts(
-        &rt,
-        rt.alloc(),
-        ("ab*", false),
-        "abc",
-        false,
-        &[true, true, false],
-    )?;
-    assert_accepts(
-        &rt,
-        rt.alloc(),
-        ("ab?", true),
-        "cabb",
-        false,
-        &[false, true, true, false],
-    )?;
+    let alloc = rt.alloc();
+    let whole = ("ab*", false);
+    assert!(rt; accepts_so(alloc, whole, "abc", false, &[true, true, false])?);
+    let part = ("ab?", true);
+    assert!(rt; accepts_so(alloc, part, "cabb", false, &[false, true, true, false])?);
     let many = read_pattern(rt.alloc(), "a{4097}")?;
     assert!(rt; Scan::new(rt.alloc(), &many, false)?.is_none());
     Ok(())
 }
 
-/// The pattern `a*` in so many more repeats, each of what is before it.
+/// The first pattern in so many repeats, each of what is before it.
 fn nested_repeats(alloc: Global, first: &str, depth: u32) -> Result<String, AllocError> {
     let mut pattern = String::new(alloc);
     pattern.push_str(first)?;
@@ -216,14 +208,8 @@ fn answers_repeats_in_repeats(rt: HostRuntime) -> Result<(), Fail> {
     for first in ["a*", "(a|x{5000})*", "(a|x{5000}){0,40}"] {
         let pattern = nested_repeats(rt.alloc(), first, 10)?;
         let pattern = format!(in rt.alloc(); "x{{5000}}|{pattern}y")?;
-        assert_within(
-            &rt,
-            rt.alloc(),
-            &Marks,
-            (pattern.as_str(), text.as_str()),
-            (false, false),
-            100_000,
-        )?;
+        let row = (pattern.as_str(), text.as_str());
+        assert_within(&rt, rt.alloc(), row, (false, false), 100_000)?;
     }
     Ok(())
 }
@@ -231,7 +217,7 @@ fn answers_repeats_in_repeats(rt: HostRuntime) -> Result<(), Fail> {
 #[test]
 fn keeps_no_text(rt: HostRuntime) -> Result<(), Fail> {
     let pattern = read_pattern(rt.alloc(), "(ab)*")?;
-    let mut scan = Scan::new(rt.alloc(), &pattern, false)?.expect(&rt, "a scan");
+    let mut scan = Scan::new(rt.alloc(), &pattern, false)?.ok_or("no scan")?;
     let mut tests = Tests::new();
     for _ in 0..100_000 {
         scan.step('a', &mut tests);
@@ -262,16 +248,21 @@ fn one_of<'a>(seed: &mut u64, texts: &'a [&'a str]) -> &'a str {
 fn made_pattern(alloc: Global, seed: &mut u64) -> Result<String, AllocError> {
     let mut pattern = String::new(alloc);
     for _ in 0..below(seed, 7) {
-        let atom = one_of(seed, &ATOMS);
-        let quantifier = one_of(seed, &QUANTIFIERS);
-        pattern = match below(seed, 4) {
-            0 => format!(in alloc; "({pattern}|{atom}){quantifier}")?,
-            1 => format!(in alloc; "({pattern}){quantifier}{atom}")?,
-            2 => format!(in alloc; "{atom}{quantifier}{pattern}")?,
-            _ => format!(in alloc; "{pattern}|{atom}{quantifier}")?,
-        };
+        pattern = with_atom(alloc, seed, &pattern)?;
     }
     Ok(pattern)
+}
+
+/// A pattern and an atom, one of them repeated.
+fn with_atom(alloc: Global, seed: &mut u64, pattern: &str) -> Result<String, AllocError> {
+    let atom = one_of(seed, &ATOMS);
+    let quantifier = one_of(seed, &QUANTIFIERS);
+    match below(seed, 4) {
+        0 => format!(in alloc; "({pattern}|{atom}){quantifier}"),
+        1 => format!(in alloc; "({pattern}){quantifier}{atom}"),
+        2 => format!(in alloc; "{atom}{quantifier}{pattern}"),
+        _ => format!(in alloc; "{pattern}|{atom}{quantifier}"),
+    }
 }
 
 fn made_text(alloc: Global, seed: &mut u64) -> Result<String, AllocError> {
@@ -291,26 +282,25 @@ fn answers_by_images(alloc: Global, pattern: &str, word: &str) -> Result<(bool, 
     Ok((whole, part))
 }
 
+/// Whether both matchers answer the same for a pattern and a text.
+fn agree(alloc: Global, pattern: &str, word: &str) -> Result<bool, Fail> {
+    let read = read_pattern(alloc, pattern)?;
+    let answer = answers(alloc, &read, word)?;
+    // On a text without x each group has the same words, and too many positions for a scan.
+    let large = pattern.replace(alloc, "(", "(x{5000}|")?;
+    Ok(
+        answer == answers_by_images(alloc, pattern, word)?
+            && answer == answers_by_images(alloc, &large, word)?,
+    )
+}
+
 #[test]
 fn both_matchers_agree(rt: HostRuntime) -> Result<(), Fail> {
-    let alloc = rt.alloc();
     let mut seed = 1;
     for _ in 0..3_000 {
-        let text = made_pattern(alloc, &mut seed)?;
-        let word = made_text(alloc, &mut seed)?;
-        let answer = answers(&Marks, alloc, &read_pattern(alloc, &text)?, &word)?;
-        assert_eq!(rt;
-            answer,
-            answers_by_images(alloc, &text, &word)?,
-            "{text} {word}"
-        );
-        // On a text without x each group has the same words, and too many positions for a scan.
-        let large = text.as_str().replace(alloc, "(", "(x{5000}|")?;
-        assert_eq!(rt;
-            answer,
-            answers_by_images(alloc, &large, &word)?,
-            "{large} {word}"
-        );
+        let pattern = made_pattern(rt.alloc(), &mut seed)?;
+        let word = made_text(rt.alloc(), &mut seed)?;
+        assert!(rt; agree(rt.alloc(), &pattern, &word)?, "{pattern} {word}");
     }
     Ok(())
 }

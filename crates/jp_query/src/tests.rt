@@ -4,14 +4,21 @@ mod filters;
 mod queries;
 mod refusals;
 
-use crate::Parsed;
-use jp_tree::{Query, Segment};
+use crate::{Span, parse};
+use std::alloc::Global;
+use std::process::Abort;
+use std::test::Fail;
 
-/// Whether the query has these segments, from the root.
-fn is_of(parsed: Parsed, segments: Vec<Segment>) -> bool {
-    parsed.into_query()
-        == Query {
-            absolute: true,
-            segments,
-        }
+/// A query, its tree as `Debug` writes it, and the spans of its items.
+type Row = (&'static str, &'static str, &'static [Option<Span>]);
+
+/// Asserts the tree of each query and the spans of its items.
+fn assert_trees(rt: &impl Abort, alloc: Global, rows: &[Row]) -> Result<(), Fail> {
+    for (text, tree, spans) in rows {
+        let parsed = parse(alloc, text).ok().ok_or("refused")?;
+        assert_eq!(rt; parsed.spans(), *spans);
+        let query = parsed.into_query();
+        assert_eq!(rt; format!(in alloc; "{query:?}")?.as_str(), *tree);
+    }
+    Ok(())
 }

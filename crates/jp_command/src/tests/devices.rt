@@ -1,4 +1,4 @@
-//! Readers and writers that fail on purpose.
+//! Readers and writers that go on long, give or take little at a time, or fail on purpose.
 
 use std::alloc::Global;
 use std::io::{Error, ErrorKind, Read, Result, Write};

@@ -2,7 +2,7 @@
 
 use super::devices::{Blanks, Drip, Narrow, Trickle};
 use super::table::names::{IN_QUOTES, NAMES};
-use crate::{Device, Fault, Form, Output, Source, run_canon, run_eval};
+use crate::{Device, Fault, Form, Output, Source, run_canon, run_check, run_eval};
 use jp_query::{Refusal, RefusalKind};
 
 /// What `IN_QUOTES` gives over `NAMES`.
@@ -19,13 +19,9 @@ fn tells_each_write_that_fails(rt: HostRuntime) {
             let mut output = Device::new(&mut drip);
             let mut input = Device::new(NAMES.as_bytes());
             let run = run_eval(alloc, IN_QUOTES, Form::Both, &mut input, &mut output);
-            assert!(rt; run == Err(Fault::Write), "{taken}");
-            assert!(rt; output.failed(), "{taken}");
-            assert!(rt; !input.failed(), "{taken}");
-            assert!(rt;
-                LINE.as_bytes().get(..taken) == Some(drip.taken.as_slice()),
-                "{taken}"
-            );
+            let failed = (input.failed(), output.failed());
+            assert_eq!(rt; (run, failed), (Err(Fault::Write), (false, true)));
+            assert!(rt; LINE.as_bytes().get(..taken) == Some(drip.taken.as_slice()));
         }
     }
 }
@@ -40,11 +36,11 @@ fn tells_each_read_that_fails(rt: HostRuntime) {
         let mut input = Device::new(&mut trickle);
         let mut output = Device::new(&mut written);
         let run = run_eval(alloc, IN_QUOTES, Form::Both, &mut input, &mut output);
-        assert!(rt; run == Err(Fault::Read), "{given}");
-        assert!(rt; input.failed(), "{given}");
-        assert!(rt; !output.failed(), "{given}");
-        assert!(rt; written.is_empty(), "{given}");
-        assert_eq!(rt; trickle.calls, given.saturating_add(1));
+        let failed = (input.failed(), output.failed());
+        assert_eq!(rt;
+            (run, failed, written.len(), trickle.calls),
+            (Err(Fault::Read), (true, false), 0, given.saturating_add(1))
+        );
     }
 }
 
@@ -55,9 +51,11 @@ fn stops_reading_an_input_that_never_ends(rt: HostRuntime) {
     let mut input = Device::new(Blanks(usize::MAX - 1));
     let mut output = Device::new(&mut written);
     let run = run_eval(alloc, "$", Form::Both, &mut input, &mut output);
-    assert!(rt; run == Err(Fault::DocumentTooLarge));
-    assert!(rt; !input.failed() && !output.failed());
-    assert!(rt; written.is_empty());
+    let failed = (input.failed(), output.failed());
+    assert_eq!(rt;
+        (run, failed, written.len()),
+        (Err(Fault::DocumentTooLarge), (false, false), 0)
+    );
 }
 
 #[test]
@@ -77,23 +75,40 @@ fn keeps_what_was_written_before_a_failing_write(rt: HostRuntime) {
             &mut Device::new(document.as_bytes()),
             &mut Device::new(&mut narrow),
         );
-        assert!(rt; run == Err(Fault::Write), "{query}");
-        assert_eq!(rt; narrow.taken.as_slice(), prefix.as_bytes(), "{query}");
+        assert_eq!(rt;
+            (run, narrow.taken.as_slice()),
+            (Err(Fault::Write), prefix.as_bytes())
+        );
     }
 }
 
 #[test]
 fn tells_why_no_canonical_text_is_written(rt: HostRuntime) {
-    let alloc = rt.alloc();
-    let mut bytes = Vec::new(alloc);
-    let refused = Fault::Query(Refusal {
+    let mut bytes = Vec::new(rt.alloc());
+    let run = run_canon(rt.alloc(), "$.a[", &mut Device::new(&mut bytes));
+    let refusal = Refusal {
         kind: RefusalKind::Syntax,
         place: 4,
-    });
-    assert!(rt; run_canon(alloc, "$.a[", &mut Device::new(&mut bytes)) == Err(refused));
-    assert!(rt; bytes.is_empty());
-    let mut narrow = Narrow::new(alloc, 6, true);
-    let run = run_canon(alloc, "$.ab.c", &mut Device::new(&mut narrow));
-    assert!(rt; run == Err(Fault::Write));
-    assert_eq!(rt; narrow.taken.as_slice(), b"$['ab'".as_slice());
+    };
+    assert_eq!(rt; (run, bytes.len()), (Err(Fault::Query(refusal)), 0));
+}
+
+#[test]
+fn keeps_the_beginning_of_a_canonical_text(rt: HostRuntime) {
+    let mut narrow = Narrow::new(rt.alloc(), 6, true);
+    let run = run_canon(rt.alloc(), "$.ab.c", &mut Device::new(&mut narrow));
+    assert_eq!(rt;
+        (run, narrow.taken.as_slice()),
+        (Err(Fault::Write), b"$['ab'".as_slice())
+    );
+}
+
+#[test]
+fn keeps_the_beginning_of_the_word_accepted(rt: HostRuntime) {
+    let mut narrow = Narrow::new(rt.alloc(), 6, true);
+    let run = run_check(rt.alloc(), "$.ab.c", &mut Device::new(&mut narrow));
+    assert_eq!(rt;
+        (run, narrow.taken.as_slice()),
+        (Err(Fault::Write), b"accept".as_slice())
+    );
 }

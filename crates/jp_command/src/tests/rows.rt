@@ -28,13 +28,13 @@ pub enum Answer {
 /// proper prefix of its document is a document.
 pub fn gives_each(rt: &impl Abort, alloc: Global, rows: &[Row]) -> Result<(), Fail> {
     for (document, query, answer) in rows {
-        gives_in_pieces(rt, alloc, (document, query, *answer))?;
+        gives_in_pieces(rt, alloc, (document, query), *answer)?;
         match answer {
             Answer::Nodes(_) => {
                 prefixes::are_accepted_or_end(rt, alloc, query);
                 prefixes::are_no_documents(rt, alloc, document);
             }
-            Answer::Canonical(text) => gives_in_pieces(rt, alloc, (document, text, *answer))?,
+            Answer::Canonical(text) => gives_in_pieces(rt, alloc, (document, text), *answer)?,
             Answer::Query(_) | Answer::Document(_) => {}
         }
     }
@@ -42,23 +42,33 @@ pub fn gives_each(rt: &impl Abort, alloc: Global, rows: &[Row]) -> Result<(), Fa
 }
 
 /// Runs a row with a few bytes a read and a write, and with many.
-fn gives_in_pieces(rt: &impl Abort, alloc: Global, row: Row) -> Result<(), Fail> {
+fn gives_in_pieces(
+    rt: &impl Abort,
+    alloc: Global,
+    asked: (&str, &str),
+    answer: Answer,
+) -> Result<(), Fail> {
     for size in [1, 2, 3, 7, 999] {
-        assert_gives(rt, alloc, row, size)?;
+        assert_gives(rt, alloc, asked, answer, size)?;
     }
     Ok(())
 }
 
-/// Asserts the status of a row and what is written to either output at most so many bytes a call;
-/// that the output is flushed once after a run that is done, and else not; and whether the document
-/// is read.
-fn assert_gives(
+/// Asserts the status of a query over a document, and what is written to either output at most so
+/// many bytes a call; that the output is flushed once after a run that is done, and else not; and
+/// whether the document is read.
+pub fn assert_gives(
     rt: &impl Abort,
     alloc: Global,
-    (document, query, answer): Row,
+    (document, query): (&str, &str),
+    answer: Answer,
     size: usize,
 ) -> Result<(), Fail> {
-    let (subcommand, status, lines, fault) = told(alloc, &answer)?;
+    let (status, lines, fault) = expected(alloc, &answer)?;
+    let subcommand = match answer {
+        Answer::Canonical(_) => "canon",
+        Answer::Nodes(_) | Answer::Query(_) | Answer::Document(_) => "both",
+    };
     let is_read = matches!(answer, Answer::Nodes(_) | Answer::Document(_));
     let mut input = Trickle::new(document.as_bytes(), size);
     let mut output = Drip::new(alloc, size);
@@ -90,11 +100,10 @@ fn assert_gives(
     Ok(())
 }
 
-/// The subcommand of an answer, its status, what is written to the output, and the fault's line.
-fn told(alloc: Global, answer: &Answer) -> Result<(&'static str, u8, String, String), AllocError> {
+/// The status of an answer, what is written to the output, and the fault's line.
+fn expected(alloc: Global, answer: &Answer) -> Result<(u8, String, String), AllocError> {
     let mut lines = String::new(alloc);
     let mut fault = String::new(alloc);
-    let mut subcommand = "both";
     let status = match answer {
         Answer::Nodes(nodes) => {
             for (path, value) in *nodes {
@@ -103,7 +112,6 @@ fn told(alloc: Global, answer: &Answer) -> Result<(&'static str, u8, String, Str
             0
         }
         Answer::Canonical(text) => {
-            subcommand = "canon";
             write!(lines, "{text}\n")?;
             0
         }
@@ -116,7 +124,24 @@ fn told(alloc: Global, answer: &Answer) -> Result<(&'static str, u8, String, Str
             3
         }
     };
-    Ok((subcommand, status, lines, fault))
+    Ok((status, lines, fault))
+}
+
+/// Asserts what a line of words gives over an input: the status, and what is written to either
+/// output.
+pub fn assert_ended<R: Read + Drop>(
+    rt: &impl Abort,
+    alloc: Global,
+    line: &[&str],
+    input: R,
+    (status, output, fault): (u8, &str, &str),
+) -> Result<(), Fail> {
+    let ended = ended(alloc, line, input)?;
+    assert_eq!(rt;
+        (ended.0, ended.1.as_slice(), ended.2.as_slice()),
+        (status, output.as_bytes(), fault.as_bytes())
+    );
+    Ok(())
 }
 
 /// What a line of words gives over an input: the status, and what is written to either output.

@@ -1,7 +1,7 @@
 //! Each status of `run_line`, with its line.
 
 use super::devices::{Broken, Narrow};
-use super::rows::{ended, words};
+use super::rows::{assert_ended, ended, words};
 use super::table::names::{IN_QUOTES, NAMES};
 use crate::{Device, run_line};
 use std::alloc::Global;
@@ -11,39 +11,28 @@ use std::test::Fail;
 
 #[test]
 fn refuses_a_document_that_is_no_utf8(rt: HostRuntime) -> Result<(), Fail> {
-    let document = b"\"\xff\"".as_slice();
-    let (status, _, faults) = ended(rt.alloc(), &["jp", "both", "$"], document)?;
-    assert_eq!(rt; status, 3);
-    assert_eq!(rt;
-        faults.as_slice(),
-        b"document refused: NotJson\n".as_slice()
-    );
-    Ok(())
+    let line = ["jp", "both", "$"];
+    let refused = (3, "", "document refused: NotJson\n");
+    assert_ended(&rt, rt.alloc(), &line, b"\"\xff\"".as_slice(), refused)
 }
 
 #[test]
 fn writes_the_form_of_its_subcommand(rt: HostRuntime) -> Result<(), Fail> {
-    let alloc = rt.alloc();
-    let rows = [
+    for (subcommand, text) in [
         ("check", "accepted\n"),
         ("canon", "$['\\'']['@']\n"),
         ("eval", "2\n"),
         ("paths", "$['\\'']['@']\n"),
         ("both", "$['\\'']['@']\t2\n"),
-    ];
-    for (subcommand, text) in rows {
+    ] {
         let line = ["jp", subcommand, IN_QUOTES];
-        let (status, output, faults) = ended(alloc, &line, NAMES.as_bytes())?;
-        assert_eq!(rt; status, 0, "{subcommand}");
-        assert_eq!(rt; output.as_slice(), text.as_bytes(), "{subcommand}");
-        assert!(rt; faults.is_empty(), "{subcommand}");
+        assert_ended(&rt, rt.alloc(), &line, NAMES.as_bytes(), (0, text, ""))?;
     }
     Ok(())
 }
 
 #[test]
 fn refuses_words_that_it_does_not_take(rt: HostRuntime) -> Result<(), Fail> {
-    let alloc = rt.alloc();
     let lines: [&[&str]; 9] = [
         &[],
         &["jp"],
@@ -56,10 +45,8 @@ fn refuses_words_that_it_does_not_take(rt: HostRuntime) -> Result<(), Fail> {
         &["jp", "both", "--help"],
     ];
     for line in lines {
-        let (status, output, faults) = ended(alloc, line, b"[1]".as_slice())?;
-        assert_eq!(rt; status, 2, "{line:?}");
-        assert!(rt; !faults.is_empty(), "{line:?}");
-        assert!(rt; output.is_empty(), "{line:?}");
+        let (status, output, faults) = ended(rt.alloc(), line, b"[1]".as_slice())?;
+        assert_eq!(rt; (status, output.len(), faults.is_empty()), (2, 0, false));
     }
     Ok(())
 }
@@ -106,8 +93,7 @@ fn assert_fault<R: Read + Drop>(
         &mut Device::new(output),
         &mut Device::new(&mut faults),
     );
-    assert_eq!(rt; ended, 5);
-    assert_eq!(rt; faults.as_slice(), line);
+    assert_eq!(rt; (ended, faults.as_slice()), (5, line));
     Ok(())
 }
 

@@ -4,119 +4,140 @@ use crate::{
     value_text,
 };
 use std::alloc::{AllocError, Global};
-use std::process::Abort;
 use std::test::Fail;
 
-/// Asserts where a node stands, and the compact text of its value.
-fn assert_node(
-    rt: &impl Abort,
-    alloc: Global,
-    node: &Node,
-    (path, value): (&str, &str),
-) -> Result<(), Fail> {
-    assert_eq!(rt; path_text(alloc, node.location())?.as_str(), path);
-    assert_eq!(rt; value_text(alloc, node.value())?.as_str(), value);
-    Ok(())
+const MEMBERS: &[u8] = br#"{"o":{"j j":{"k.k":3}},"'":{"@":2}}"#;
+
+/// The normalized path of a node, a blank, and the compact text of its value.
+fn node_text(alloc: Global, node: &Node) -> Result<String, AllocError> {
+    let path = path_text(alloc, node.location())?;
+    let value = value_text(alloc, node.value())?;
+    format!(in alloc; "{path} {value}")
+}
+
+/// The child of a document's root at a step, if there is one.
+fn child(alloc: Global, bytes: &[u8], step: Step) -> Result<Option<String>, Fail> {
+    let document = Document::read(alloc, bytes)?;
+    let root = document.root(alloc);
+    let child = match step {
+        Step::Name(name) => child_named(alloc, &root, name)?,
+        Step::Index(index) => child_at(alloc, &root, index)?,
+    };
+    Ok(child.map(|child| node_text(alloc, &child)).transpose()?)
 }
 
 #[test]
 fn children_by_name(rt: HostRuntime) -> Result<(), Fail> {
-    let alloc = rt.alloc();
-    let document = Document::read(alloc, br#"{"o":{"j j":{"k.k":3}},"'":{"@":2}}"#)?;
-    let root = document.root(alloc);
-    let o = child_named(alloc, &root, "o")?.ok_or("no member")?;
-    assert_node(&rt, alloc, &o, ("$['o']", r#"{"j j":{"k.k":3}}"#))?;
-    assert!(rt; child_named(alloc, &root, "x")?.is_none());
-    Ok(())
-}
-
-#[test]
-fn values(rt: HostRuntime) -> Result<(), Fail> {
-    let alloc = rt.alloc();
-    let document = Document::read(alloc, br#"{"o":{"j j":{"k.k":3}},"'":{"@":2}}"#)?;
-    let root = document.root(alloc).copy(alloc)?;
-    let whole = r#"{"'":{"@":2},"o":{"j j":{"k.k":3}}}"#;
-    assert_node(&rt, alloc, &root, ("$", whole))?;
-    assert_eq!(rt; value_text(alloc, document.json())?.as_str(), whole);
-    Ok(())
-}
-
-#[test]
-fn values_inside(rt: HostRuntime) -> Result<(), Fail> {
-    let document = Document::read(rt.alloc(), br#"{"o":3,"'":{"@":2}}"#)?;
-    let steps = [Step::Name("'"), Step::Name("@")];
-    let value = document.at(&steps).ok_or("no value")?;
-    assert_eq!(rt; value_text(rt.alloc(), value)?.as_str(), "2");
+    let o = child(rt.alloc(), MEMBERS, Step::Name("o"))?;
+    assert_eq!(rt; o.as_deref(), Some(r#"$['o'] {"j j":{"k.k":3}}"#));
+    assert_eq!(rt; child(rt.alloc(), MEMBERS, Step::Name("x"))?, None);
     Ok(())
 }
 
 #[test]
 fn children_by_index(rt: HostRuntime) -> Result<(), Fail> {
-    let alloc = rt.alloc();
-    let document = Document::read(alloc, br#"["a","b"]"#)?;
-    let root = document.root(alloc);
-    let second = child_at(alloc, &root, 1)?.ok_or("no item")?;
-    assert_node(&rt, alloc, &second, ("$[1]", r#""b""#))?;
-    assert!(rt; child_at(alloc, &root, 2)?.is_none());
+    let second = child(rt.alloc(), br#"["a","b"]"#, Step::Index(1))?;
+    assert_eq!(rt; second.as_deref(), Some(r#"$[1] "b""#));
+    assert_eq!(rt; child(rt.alloc(), br#"["a","b"]"#, Step::Index(2))?, None);
     Ok(())
+}
+
+#[test]
+fn roots(rt: HostRuntime) -> Result<(), Fail> {
+    let document = Document::read(rt.alloc(), MEMBERS)?;
+    let root = document.root(rt.alloc()).copy(rt.alloc())?;
+    assert_eq!(rt;
+        node_text(rt.alloc(), &root)?.as_str(),
+        r#"$ {"'":{"@":2},"o":{"j j":{"k.k":3}}}"#
+    );
+    Ok(())
+}
+
+#[test]
+fn values_inside(rt: HostRuntime) -> Result<(), Fail> {
+    let document = Document::read(rt.alloc(), MEMBERS)?;
+    let value = document
+        .at(&[Step::Name("'"), Step::Name("@")])
+        .ok_or("no value")?;
+    assert_eq!(rt; value_text(rt.alloc(), value)?.as_str(), "2");
+    Ok(())
+}
+
+/// The children of a document's root, each on a line.
+fn all_children(alloc: Global, bytes: &[u8]) -> Result<String, Fail> {
+    let document = Document::read(alloc, bytes)?;
+    let mut lines = String::new(alloc);
+    for node in &children(alloc, &document.root(alloc))? {
+        lines.push_str(node_text(alloc, node)?.as_str())?;
+        lines.push_str("\n")?;
+    }
+    Ok(lines)
 }
 
 #[test]
 fn children_in_document_order(rt: HostRuntime) -> Result<(), Fail> {
-    let alloc = rt.alloc();
     let text = br#"{"o":{"j":1,"k":2},"a":[5,3,[{"j":4},{"k":6}]]}"#;
-    let document = Document::read(alloc, text)?;
-    let nodes = children(alloc, &document.root(alloc))?;
-    let rows = [
-        ("$['a']", r#"[5,3,[{"j":4},{"k":6}]]"#),
-        ("$['o']", r#"{"j":1,"k":2}"#),
-    ];
-    assert_eq!(rt; nodes.len(), rows.len());
-    for (node, row) in nodes.iter().zip(rows) {
-        assert_node(&rt, alloc, node, row)?;
-    }
+    assert_eq!(rt;
+        all_children(rt.alloc(), text)?.as_str(),
+        "$['a'] [5,3,[{\"j\":4},{\"k\":6}]]\n$['o'] {\"j\":1,\"k\":2}\n"
+    );
     Ok(())
 }
 
 #[test]
-fn spellings(rt: HostRuntime) -> Result<(), Fail> {
-    let alloc = rt.alloc();
-    assert_eq!(rt; quote(alloc, "'")?.as_str(), r"'\''");
-    let path = path_text(alloc, &[Step::Name("\u{1f}\n'\\"), Step::Index(10)])?;
+fn paths(rt: HostRuntime) -> Result<(), Fail> {
+    assert_eq!(rt; quote(rt.alloc(), "'")?.as_str(), r"'\''");
+    let path = path_text(rt.alloc(), &[Step::Name("\u{1f}\n'\\"), Step::Index(10)])?;
     assert_eq!(rt; path.as_str(), r"$['\u001f\n\'\\'][10]");
-    let text = r#"[-9223372036854775808,18446744073709551615,"\u0001\/é",null,true,[],{}]"#;
+    Ok(())
+}
+
+/// The compact text of the value that a document holds.
+pub fn compact(alloc: Global, text: &str) -> Result<String, Fail> {
     let document = Document::read(alloc, text.as_bytes())?;
+    Ok(value_text(alloc, document.json())?)
+}
+
+#[test]
+fn compact_texts(rt: HostRuntime) -> Result<(), Fail> {
     assert_eq!(rt;
-        value_text(alloc, document.json())?.as_str(),
+        compact(
+            rt.alloc(),
+            r#"[ -9223372036854775808,18446744073709551615,"\u0001\/é",null,true,[],{}]"#
+        )?
+        .as_str(),
         r#"[-9223372036854775808,18446744073709551615,"\u0001/é",null,true,[],{}]"#
     );
     Ok(())
 }
 
+/// Why bytes are no document.
+fn fault(alloc: Global, bytes: &[u8]) -> Option<DocumentFault> {
+    Document::read(alloc, bytes).err()
+}
+
+/// The fault of a document whose first number that is not whole has this path.
+fn not_whole(alloc: Global, path: &str) -> Result<Option<DocumentFault>, AllocError> {
+    Ok(Some(DocumentFault::NotWhole(String::from_str(alloc, path)?)))
+}
+
+const STORE: &[u8] =
+    br#"{"store":{"bicycle":{"color":"red","price":399},"book":[{"title":"A","price":8.95}]}}"#;
+
 #[test]
-fn faults(rt: HostRuntime) -> Result<(), Fail> {
-    let alloc = rt.alloc();
-    let store =
-        br#"{"store":{"bicycle":{"color":"red","price":399},"book":[{"title":"A","price":8.95}]}}"#;
-    let price = DocumentFault::NotWhole(String::from_str(alloc, "$['store']['book'][0]['price']")?);
-    assert_eq!(rt; Document::read(alloc, store).err(), Some(price));
-    let first = DocumentFault::NotWhole(String::from_str(alloc, "$['a'][1]")?);
-    assert_eq!(rt;
-        Document::read(alloc, br#"{"b":1.5,"a":[0,2.5]}"#).err(),
-        Some(first)
-    );
+fn first_numbers_that_are_not_whole(rt: HostRuntime) -> Result<(), Fail> {
+    let price = not_whole(rt.alloc(), "$['store']['book'][0]['price']")?;
+    assert!(rt; fault(rt.alloc(), STORE) == price);
+    let first = not_whole(rt.alloc(), "$['a'][1]")?;
+    assert!(rt; fault(rt.alloc(), br#"{"b":1.5,"a":[0,2.5]}"#) == first);
     Ok(())
 }
 
 #[test]
 fn no_json(rt: HostRuntime) {
-    let alloc = rt.alloc();
     let rows: [&[u8]; 2] = [b"[1,]", b"\"\xff\""];
     for bytes in rows {
-        assert_eq!(rt;
-            Document::read(alloc, bytes).err(),
-            Some(DocumentFault::NotJson)
-        );
+        assert_eq!(rt; fault(rt.alloc(), bytes), Some(DocumentFault::NotJson));
     }
 }
 
@@ -128,13 +149,9 @@ fn lists(alloc: Global, count: usize) -> Result<String, AllocError> {
 
 #[test]
 fn nesting(rt: HostRuntime) -> Result<(), Fail> {
-    let alloc = rt.alloc();
-    let text = lists(alloc, 127)?;
-    assert!(rt; Document::read(alloc, text.as_bytes()).is_ok());
-    let deeper = lists(alloc, 128)?;
-    assert_eq!(rt;
-        Document::read(alloc, deeper.as_bytes()).err(),
-        Some(DocumentFault::NotJson)
-    );
+    for (count, expected) in [(127, None), (128, Some(DocumentFault::NotJson))] {
+        let text = lists(rt.alloc(), count)?;
+        assert_eq!(rt; fault(rt.alloc(), text.as_bytes()), expected);
+    }
     Ok(())
 }

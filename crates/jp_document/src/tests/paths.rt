@@ -1,112 +1,108 @@
-//! Rows of normalized paths that are read.
+//! Texts that are normalized paths or none, and the values that paths lead to.
 use crate::{Document, OwnedStep, PathFault, read_path, value_text};
 use std::alloc::Global;
-use std::process::Abort;
 use std::test::Fail;
 
-/// Asserts that a path leads to the members of these names, one in another.
-fn assert_names(rt: &impl Abort, alloc: Global, path: &str, names: &[&str]) -> Result<(), Fail> {
+/// Whether a path leads to the members of these names, one in another.
+fn has_names(alloc: Global, path: &str, names: &[&str]) -> Result<bool, Fail> {
     let location = read_path(alloc, path)?;
-    assert_eq!(rt; location.steps().len(), names.len(), "{path}");
+    let mut is_same = location.steps().len() == names.len();
     for (step, name) in location.steps().iter().zip(names) {
-        assert!(rt;
-            matches!(step, OwnedStep::Name(text) if text.as_str() == *name),
-            "{path}"
-        );
+        is_same = is_same && matches!(step, OwnedStep::Name(text) if text.as_str() == *name);
     }
-    Ok(())
+    Ok(is_same)
 }
 
 #[test]
 fn names(rt: HostRuntime) -> Result<(), Fail> {
-    let alloc = rt.alloc();
-    assert_names(&rt, alloc, "$", &[])?;
-    assert_names(&rt, alloc, "$['']", &[""])?;
-    assert_names(&rt, alloc, "$['a']['b']", &["a", "b"])?;
-    assert_names(
-        &rt,
-        alloc,
-        r"$['\b\t\n\f\r\'\\\u001f\u0000é😀/']",
-        &["\u{8}\t\n\u{c}\r'\\\u{1f}\0é😀/"],
-    )
+    let rows: [(&str, &[&str]); 4] = [
+        ("$", &[]),
+        ("$['']", &[""]),
+        ("$['a']['b']", &["a", "b"]),
+        (
+            r"$['\b\t\n\f\r\'\\\u001f\u0000é😀/']",
+            &["\u{8}\t\n\u{c}\r'\\\u{1f}\0é😀/"],
+        ),
+    ];
+    for (path, names) in rows {
+        assert!(rt; has_names(rt.alloc(), path, names)?, "{path}");
+    }
+    Ok(())
+}
+
+/// The indexes on the way of a path, in which None stands for a name.
+fn indexes_of(alloc: Global, path: &str) -> Result<Vec<Option<u64>>, Fail> {
+    let location = read_path(alloc, path)?;
+    let mut indexes = Vec::new(alloc);
+    for step in location.steps() {
+        indexes.push(match step {
+            OwnedStep::Name(_) => None,
+            OwnedStep::Index(index) => Some(*index),
+        })?;
+    }
+    Ok(indexes)
 }
 
 #[test]
 fn indexes(rt: HostRuntime) -> Result<(), Fail> {
-    let alloc = rt.alloc();
-    let first = read_path(alloc, "$['a'][0]")?;
-    assert!(rt;
-        matches!(
-        first.steps(),
-        [OwnedStep::Name(name), OwnedStep::Index(0)] if name.as_str() == "a"
-    )
-    );
-    let largest = read_path(alloc, "$[9007199254740991]")?;
-    assert!(rt; matches!(largest.steps(), [OwnedStep::Index(9007199254740991)]));
+    let first = indexes_of(rt.alloc(), "$['a'][0]")?;
+    assert_eq!(rt; first.as_slice(), [None, Some(0)].as_slice());
+    let largest = indexes_of(rt.alloc(), "$[9007199254740991]")?;
+    assert_eq!(rt; largest.as_slice(), [Some(9007199254740991)].as_slice());
     Ok(())
 }
 
+const NOT_NORMALIZED: &[&str] = &[
+    "",
+    r#"$["a"]"#,
+    "$[01]",
+    r"$['\u000B']",
+    r"$['\u000a']",
+    r"$['\u0008']",
+    r"$['\u0041']",
+    r"$['\/']",
+    "$['a'] ",
+    "$['a'].b",
+    "$[-1]",
+    "$['a",
+    "$[ 0]",
+    "a",
+];
+
 #[test]
-fn refusals(rt: HostRuntime) -> Result<(), Fail> {
-    let alloc = rt.alloc();
-    let refused = [
-        "",
-        r#"$["a"]"#,
-        "$[01]",
-        r"$['\u000B']",
-        r"$['\u000a']",
-        r"$['\u0008']",
-        r"$['\u0041']",
-        r"$['\/']",
-        "$['a'] ",
-        "$['a'].b",
-        "$[-1]",
-        "$['a",
-        "$[ 0]",
-        "a",
-    ];
-    for text in refused {
-        assert_eq!(rt;
-            read_path(alloc, text).err(),
-            Some(PathFault::NotNormalized),
-            "{text}"
-        );
+fn texts_that_are_no_paths(rt: HostRuntime) {
+    for text in NOT_NORMALIZED {
+        let fault = read_path(rt.alloc(), text).err();
+        assert_eq!(rt; fault, Some(PathFault::NotNormalized), "{text}");
     }
+}
+
+#[test]
+fn paths_with_large_indexes(rt: HostRuntime) {
     for text in ["$[9007199254740992]", "$[99999999999999999999]['a'][0]"] {
-        assert_eq!(rt;
-            read_path(alloc, text).err(),
-            Some(PathFault::IndexRange),
-            "{text}"
-        );
+        let fault = read_path(rt.alloc(), text).err();
+        assert_eq!(rt; fault, Some(PathFault::IndexRange), "{text}");
     }
-    Ok(())
+}
+
+/// The compact text of the value that a normalized path leads to in a document, if there is one.
+fn found(alloc: Global, bytes: &[u8], path: &str) -> Result<Option<String>, Fail> {
+    let document = Document::read(alloc, bytes)?;
+    match document.find(&read_path(alloc, path)?) {
+        Some(value) => Ok(Some(value_text(alloc, value)?)),
+        None => Ok(None),
+    }
 }
 
 #[test]
 fn finds(rt: HostRuntime) -> Result<(), Fail> {
-    let alloc = rt.alloc();
-    let document = Document::read(alloc, br#"{"a":[{"'":true},"b"]}"#)?;
-    for (path, found) in [
+    for (path, text) in [
         (r"$['a'][0]['\'']", Some("true")),
         ("$['a'][2]", None),
         ("$[0]", None),
     ] {
-        assert_finds(&rt, alloc, &document, path, found)?;
+        let found = found(rt.alloc(), br#"{"a":[{"'":true},"b"]}"#, path)?;
+        assert_eq!(rt; found.as_deref(), text, "{path}");
     }
-    Ok(())
-}
-
-/// Asserts the compact text of the value that a normalized path leads to, None where it leads to
-/// none.
-fn assert_finds(
-    rt: &impl Abort,
-    alloc: Global,
-    document: &Document,
-    path: &str,
-    found: Option<&str>,
-) -> Result<(), Fail> {
-    let value = document.find(&read_path(alloc, path)?);
-    let text = value.map(|value| value_text(alloc, value)).transpose()?;
-    assert_eq!(rt; text.as_deref(), found, "{path}");
     Ok(())
 }

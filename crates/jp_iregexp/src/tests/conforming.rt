@@ -1,4 +1,4 @@
-//! Texts of RFC 9485 that conform, and texts that do not.
+//! Texts that conform to RFC 9485 and to the limits of this crate, and texts that do not.
 
 use crate::{PatternFault, read_pattern};
 use std::alloc::{AllocError, Global};
