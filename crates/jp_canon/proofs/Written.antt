@@ -1,4 +1,4 @@
--- Pieces that are characters-appended after a text, as characters.
+-- Pieces that are appended to a text, as characters.
 use Rattle.std.proofs.Common.{◌≡◌, ℕ, true, List, [], ◌∷◌, ◌++◌, cond, String, Result, Ok}
 use Rattle.std.proofs.Common.{Err, OnOk, is_ok, string_bytes, refl, ap, ap₂, sym, ◌∙◌, codes}
 use Rattle.std.specs.Char.{is_ascii}

@@ -48,13 +48,13 @@ children n = map (node_below n.location) (entries n.value)
 
 -- ---- what the code's values stand for
 
--- what a `Node` of the code shows
-pub record Located : Type 0 where
+-- the view of a `Node` of the code: its location, and the `Json` that stands for its value
+pub record NodeView : Type 0 where
   pub location : Location
   pub value : Json
 
 -- the node that it is
-abbrev pub node_of : Located → Node
+abbrev pub node_of : NodeView → Node
 node_of n = record { location = n.location; value = value_of n.value }
 
 -- the step and the value that a step with a value show

@@ -7,7 +7,8 @@ use std::alloc::AllocError;
 /// Why bytes are no document, numbered from 1 in this order.
 #[derive(Debug, PartialEq, Drop)]
 pub enum DocumentFault {
-    /// They hold no JSON value, or more than one, or are no UTF-8, or nest deeper than 127 levels.
+    /// They hold no JSON value, or more than one, or a number too large for a float of 64 bits, or
+    /// are no UTF-8, or nest deeper than 127 levels.
     NotJson,
     /// Some number is not a whole one of 64 bits. It holds the normalized path of the first such
     /// number, in document order.

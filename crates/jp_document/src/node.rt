@@ -24,10 +24,10 @@ impl<'d> Model for Node<'d> {
     ghost use Rattle.jp_document.specs.contracts.value.Json as json;
     ghost use Rattle.std.specs.Coded.{codes};
     ghost use Rattle.jp_document.specs.Location.{key_of};
-    ghost use Rattle.jp_document.specs.Node.{Located};
+    ghost use Rattle.jp_document.specs.Node.{NodeView};
     ghost use Rattle.jp_document.specs.Value.{IsDocumentValue, value_of};
 
-    ghost Value = { Located };
+    ghost Value = { NodeView };
 
     ghost coded = { Prim.hlevel (codes, json.the_row.coded) };
 
@@ -73,7 +73,7 @@ impl<'d> Node<'d> {
         DocumentValue::of(self.value)
     }
 
-    /// The same node.
+    /// The same node. The only error is want of memory.
     pub fn copy(&self, alloc: Global) -> Result<Node<'d>, AllocError>
         ensures { IfOk result (λ n. n ≡ self.now) }
     {
@@ -116,7 +116,7 @@ pub(crate) fn root_of(alloc: Global, value: &Json) -> Node<'_>
 }
 
 /// The member of this name of the node's object, None where there is none (RFC 9535 section 2.3.1).
-/// Its step borrows the name from the document.
+/// Its step borrows the name from the document. The only error is want of memory.
 pub fn child_named<'d>(
     alloc: Global,
     node: &Node<'d>,
@@ -138,6 +138,7 @@ pub fn child_named<'d>(
 }
 
 /// The item at this index of the node's list, None where there is none (RFC 9535 section 2.3.3).
+/// The only error is want of memory.
 pub fn child_at<'d>(
     alloc: Global,
     node: &Node<'d>,

@@ -17,7 +17,7 @@ use std::alloc::{AllocError, Global};
 /// The location whose normalized path the text is (RFC 9535 section 2.7). Refused are: a text that
 /// is the path of no list of steps (`NotNormalized`), so each other spelling of a step, as `["a"]`
 /// or `[01]`, and each text that goes on after its path; a path with an index above (2^53)-1
-/// (`IndexRange`).
+/// (`IndexRange`). `NoMemory` says nothing of the text.
 pub fn read_path(alloc: Global, text: &str) -> Result<OwnedLocation, PathFault>
     ensures path { IfOk result (λ l. text.now ≡ path_of l) }
     ensures small { IfOk result (λ l. list_any is_large l ≡ false) }

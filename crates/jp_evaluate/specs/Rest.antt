@@ -2,7 +2,7 @@
 use Rattle.std.specs.Prelude.{◌≡◌, List, [], ◌∷◌, true, false, Option, Some, None, Result, Ok, Err}
 use Rattle.std.specs.declared.alloc.AllocError.{AllocError}
 use Rattle.jp_document.specs.DocumentValue.{lent_value}
-use Rattle.jp_document.specs.Node.{Located, Node, node_of}
+use Rattle.jp_document.specs.Node.{Node, NodeView, node_of}
 use Rattle.jp_evaluate.specs.Private.Walk.{walk_reaches}
 use Rattle.jp_evaluate.specs.declared.each.Nodes.{Nodes}
 
@@ -12,7 +12,7 @@ rest_of v = walk_reaches v.segments.now (lent_value v.evaluation.root) v.walk
 
 -- what one call of `next` does: a node is the first of those left, an error ends the nodes for
 -- good, and where it gives none without a fault there were none left
-abbrev pub GivesNext : {M : Type 0} → Nodes M → Option (Result Located AllocError) → Nodes M →
+abbrev pub GivesNext : {M : Type 0} → Nodes M → Option (Result NodeView AllocError) → Nodes M →
     Type 0
 GivesNext v (Some (Ok n)) w =
     (v.failed ≡ false) × (w.failed ≡ false) × (rest_of v ≡ node_of n ∷ rest_of w)

@@ -27,9 +27,9 @@ use std::mem;
 /// its counts.
 ///
 /// For a pattern of m characters and a text of n the time is bounded by a constant times `m n^4`,
-/// however deep repeats stand inside one another. Where they stand more than two deep, what each
-/// of them repeats is gone over once from each single place, and a round puts these images
-/// together. They take a block of `n^2` bytes for each such part of the pattern.
+/// however deep repeats stand inside one another. Where they stand more than two deep, each part in
+/// which they still stand two deep is gone over once from each single place, and a round puts these
+/// images together. They take a block of `n^2` bytes for each such part of the pattern.
 #[derive(Clone, Copy, Debug, Default)]
 pub struct Images;
 

@@ -1,4 +1,4 @@
--- How deep filters and parentheses may be inside one another.
+-- How deep filters, parentheses and calls may be inside one another.
 use Rattle.std.specs.Prelude.{ℕ}
 
 -- the greatest number of levels in a query that is read

@@ -1,4 +1,5 @@
-//! Queries of JSONPath (RFC 9535): their trees, and the reader of their texts.
+//! Queries of JSONPath (RFC 9535): the reader of their texts, which gives trees of `jp_tree` and
+//! the spans of their items.
 //!
 //! ```text
 //! let parsed = parse(alloc, "$.store['book'][0]")?;
@@ -7,8 +8,8 @@
 //! ```
 //!
 //! The contract for the crates above: `parse` answers a query exactly for the texts that spell one
-//! by the grammar of `specs/Grammar.antt`, with its tree and the spans of its items; and no text
-//! spells two.
+//! within `LEVEL_LIMIT` levels by the grammar of `specs/Grammar.antt`, with its tree and the spans
+//! of its items; and no text spells two.
 #![tactic(auto)]
 
 mod calls;

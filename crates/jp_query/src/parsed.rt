@@ -16,7 +16,7 @@ use jp_tree::Query;
 use std::alloc::Global;
 use std::marker::Model;
 
-/// How many filters and parentheses may be inside one another at most.
+/// How many filters, parentheses and calls may be inside one another at most.
 pub const LEVEL_LIMIT: u32 = 64;
 
 /// A query and the spans of its items, as some text spells them.
@@ -42,13 +42,13 @@ impl Model for Parsed {
     ghost invariant = { IsSpelledInside };
 }
 
-/// Reads the text of a query (RFC 9535 section 2.1), in which at most [`LEVEL_LIMIT`] filters and
-/// parentheses are inside one another.
+/// Reads the text of a query (RFC 9535 section 2.1), in which at most [`LEVEL_LIMIT`] filters,
+/// parentheses and calls are inside one another.
 ///
 /// A text that spells no query is refused at the first byte with whose character it can go on to no
 /// query, or at its end: as `TooDeep` where one level more would let that character stand, which is
-/// then the mark `?` or `(` of the level too many, else as `Syntax`. `NoMemory`, at place 0, says
-/// nothing of the text.
+/// then the `?` or `(` of the level too many or the character by which a word can only be a
+/// function's name, else as `Syntax`. `NoMemory`, at place 0, says nothing of the text.
 pub fn parse(alloc: Global, text: &str) -> Result<Parsed, Refusal>
     ensures found { IfOk
         result
@@ -87,7 +87,8 @@ impl Parsed {
         &self.query
     }
 
-    /// Where each item of the query begins and ends in the text, in the items' order.
+    /// From which byte to which each item of the query stands in the text, in the items' order; None
+    /// for a step of a slice that is left out.
     pub fn spans(&self) -> &[Option<Span>]
         ensures same { result.now ≡ self.now.spans }
         ensures each { IsSpelledWithSpans level_limit (query_of self.now.query) result.now }

@@ -18,21 +18,22 @@ pub struct Refusal {
 pub enum RefusalKind {
     /// The text is no query: at the end of its longest viable prefix, or at its end.
     Syntax,
-    /// More filters and parentheses are inside one another than `LEVEL_LIMIT`.
+    /// More filters, parentheses and calls are inside one another than `LEVEL_LIMIT`: at the `?` or
+    /// `(` of the level too many, or at the character by which a word is a function's name.
     TooDeep,
     /// A literal with a fraction or an exponent.
     NotWhole,
     /// A whole literal outside -(2^63) to (2^64)-1.
     NumberRange,
-    /// An index or a part of a slice outside -(2^53)+1 to (2^53)-1.
+    /// An index or a part of a slice outside -(2^53)+1 to (2^53)-1 (RFC 9535 section 2.1).
     IndexRange,
-    /// A call of a function that is none of RFC 9535 section 2.4; none is read yet.
+    /// A call of a function that is none of RFC 9535 section 2.4.
     UnknownFunction,
-    /// A call with a wrong number of arguments; none is read yet.
+    /// A call with another number of arguments than the function has parameters (section 2.4.3).
     ArgumentCount,
     /// A query that stands for one value and is not singular (section 2.3.5.1).
     NotSingular,
-    /// A call or an argument of the wrong type (section 2.4.3); none is read yet.
+    /// A call or an argument that does not fit the type that is wanted there (section 2.4.3).
     IllTyped,
     /// Memory ran out, at place 0.
     NoMemory,

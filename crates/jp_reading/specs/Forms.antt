@@ -52,7 +52,7 @@ Each P (x ∷ xs) = P x ⌢ Each P xs
 abbrev pub Never : Form
 Never s o t = ⊥
 
--- the same with a text of the form w between two neighbours; there is at least one
+-- one text after another, with a text of the form w between two neighbours; there is at least one
 abbrev pub Separated : {A : Type 0} → Form → (A → Form) → List A → Form
 Separated w P [] = Never
 Separated w P (x ∷ xs) = P x ⌢ Each (λ y. w ⌢ P y) xs

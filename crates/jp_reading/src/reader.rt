@@ -159,8 +159,8 @@ impl<'t> Reader<'t> {
         }
     }
 
-    /// Takes the next character, which has to be of this class: else the answer is `Syntax` at its
-    /// byte.
+    /// Takes the next character, which has to be of this class: else, also at the text's end, the
+    /// answer is `Syntax` at the byte where the reader stands.
     pub fn take_one_of<C: CharacterClass>(&mut self, class: C) -> Result<char, Stop>
         ensures taken { Gives (λ c. c) result self.new (take_if (C.holds class) self.old) }
         ensures member { IfOk result (λ c. C.holds class c ≡ true) }
@@ -210,7 +210,8 @@ impl<'t> Reader<'t> {
     }
 
     /// Ends an item here that began at the byte `start`, when the reader had passed `before` items:
-    /// its span goes in before the spans of the items inside it.
+    /// its span goes in before the spans of the items inside it. Where memory runs out the reader
+    /// stays as it was.
     pub fn add_item(&mut self, start: usize, before: usize) -> Result<(), AllocError>
         ensures added { OnOk result (self.new ≡ item_since start before self.old) }
         ensures refused { OnErr result (self.new ≡ self.old) }
@@ -227,7 +228,8 @@ impl<'t> Reader<'t> {
         Ok(())
     }
 
-    /// Counts an item that the text omits: it has no span.
+    /// Counts an item that the text omits: it has no span. Where memory runs out the reader stays as
+    /// it was.
     pub fn omit_item(&mut self) -> Result<(), AllocError>
         ensures added { OnOk result (self.new ≡ omit self.old) }
         ensures refused { OnErr result (self.new ≡ self.old) }

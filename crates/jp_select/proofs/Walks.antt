@@ -7,7 +7,7 @@ use Rattle.std.proofs.lemmas.List.{append-nil, map-append}
 use Rattle.std.proofs.lemmas.Option.{same_Some}
 use Rattle.jp_document.specs.Location.{Key, named, nth, Location}
 use Rattle.jp_document.specs.Location.{items_from, members_by_name, entries}
-use Rattle.jp_document.specs.Node.{Located, Node, children, node_below, node_of}
+use Rattle.jp_document.specs.Node.{Node, NodeView, children, node_below, node_of}
 use Rattle.jp_document.specs.Value.{Value, null, boolean, whole, text, list, object, Items}
 use Rattle.jp_document.specs.Value.{no_items, item, Members, no_members, member}
 use Rattle.jp_select.specs.Subtree.{after, beyond, subtree_of, nodes_in}
@@ -100,8 +100,8 @@ given-push (g ∷ fs) f =
 -- ---- steps of a walk
 
 -- the first step gives the node that the walk begins with
-pub first_gives : (f g : Option Located) (n : Located) (fs gs : List Frame) → Some n ≡ f → g ≡ None
-    → given_by gs ≡ child_subtrees (node_of n) 0 ++ given_by fs
+pub first_gives : (f g : Option NodeView) (n : NodeView) (fs gs : List Frame) → Some n ≡ f
+    → g ≡ None → given_by gs ≡ child_subtrees (node_of n) 0 ++ given_by fs
     → begun_by f ++ given_by fs ≡ node_of n ∷ (begun_by g ++ given_by gs)
 first_gives f g n fs gs first none frames =
     ap (λ o. begun_by o ++ given_by fs) (sym first)
@@ -109,9 +109,9 @@ first_gives f g n fs gs first none frames =
     ∙ ap (λ t. node_of n ∷ t) (sym frames ∙ ap (λ o. begun_by o ++ given_by gs) (sym none))
 
 -- a later one gives the next child of the last frame
-pub child_gives : (before : List Node) (f g : Option Located)
-    (frames popped pushed entered : List Frame) (fr : Frame) (m : Located) (j : ℕ)
-    (o : Option Located) → f ≡ None → begun_by f ++ given_by frames ≡ before →
+pub child_gives : (before : List Node) (f g : Option NodeView)
+    (frames popped pushed entered : List Frame) (fr : Frame) (m : NodeView) (j : ℕ)
+    (o : Option NodeView) → f ≡ None → begun_by f ++ given_by frames ≡ before →
     frames ≡ popped ++ fr ∷ [] → o ≡ Some m →
     option_map node_of o ≡ slice_get (children (node_of fr.node)) fr.next → j ≡ fr.next + 1 →
     pushed ≡ popped ++ record { node = fr.node; next = j } ∷ [] → g ≡ f →
@@ -133,8 +133,8 @@ child_gives before f g frames popped pushed entered fr m j o none rest pop some 
     (sym enter ∙ ap (λ x. begun_by x ++ given_by entered) (sym (same ∙ none)))
 
 -- a frame without a next child gives nothing
-pub frame_ends : (f : Option Located) (frames popped : List Frame) (fr : Frame) (o : Option Located)
-    → frames ≡ popped ++ fr ∷ [] → o ≡ None
+pub frame_ends : (f : Option NodeView) (frames popped : List Frame) (fr : Frame)
+    (o : Option NodeView) → frames ≡ popped ++ fr ∷ [] → o ≡ None
     → option_map node_of o ≡ slice_get (children (node_of fr.node)) fr.next
     → begun_by f ++ given_by popped ≡ begun_by f ++ given_by frames
 frame_ends f frames popped fr o pop none is =

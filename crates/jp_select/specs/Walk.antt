@@ -3,7 +3,7 @@ use Rattle.std.specs.Prelude.{◌≡◌, ℕ, List, [], ◌∷◌, ◌++◌, tru
 use Rattle.std.specs.Prelude.{None, Result, Ok, Err, map, drop, option_to_list}
 use Rattle.std.specs.List.{flat_map}
 use Rattle.std.specs.declared.alloc.AllocError.{AllocError}
-use Rattle.jp_document.specs.Node.{Located, Node, children, node_of}
+use Rattle.jp_document.specs.Node.{Node, NodeView, children, node_of}
 use Rattle.jp_select.specs.Subtree.{subtree_of}
 use Rattle.jp_select.specs.declared.descent.Descent.{Descent}
 use Rattle.jp_select.specs.declared.descent.Frame.{Frame}
@@ -18,7 +18,7 @@ given_by [] = []
 given_by (f ∷ fs) = given_by fs ++ child_subtrees (node_of f.node) f.next
 
 -- what the node that a walk begins with gives, while it has not been given
-abbrev pub begun_by : Option Located → List Node
+abbrev pub begun_by : Option NodeView → List Node
 begun_by o = flat_map subtree_of (map node_of (option_to_list o))
 
 -- what a walk still gives
@@ -26,12 +26,12 @@ abbrev pub rest_of : Descent → List Node
 rest_of w = begun_by w.first ++ given_by w.frames.items
 
 -- a step from one rest to the next gives a node, or none
-abbrev pub Yields : List Node → Option Located → List Node → Type 0
+abbrev pub Yields : List Node → Option NodeView → List Node → Type 0
 Yields before o rest = (before ≡ map node_of (option_to_list o) ++ rest)
 
 -- what one call of `next` does: a node is the first of those left, an error ends the walk for good,
 -- and where it gives none without a fault there were none left
-abbrev pub GivesNext : Descent → Option (Result Located AllocError) → Descent → Type 0
+abbrev pub GivesNext : Descent → Option (Result NodeView AllocError) → Descent → Type 0
 GivesNext v (Some (Ok n)) w =
     (v.failed ≡ false) × (w.failed ≡ false) × (rest_of v ≡ node_of n ∷ rest_of w)
 GivesNext v (Some (Err e)) w = (v.failed ≡ false) × (w.failed ≡ true)

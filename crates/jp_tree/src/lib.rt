@@ -1,5 +1,5 @@
-//! The tree of a query (RFC 9535 sections 2.1 to 2.5): what a text spells, and what the crates above
-//! check, write and evaluate.
+//! The tree of a query (RFC 9535 sections 2.1 to 2.5): what a text spells, and what the crates
+//! above check, write and evaluate.
 //!
 //! ```text
 //! // $.a[-1]

@@ -11,7 +11,7 @@ use Rattle.jp_document.specs.ChildNodes.{steps_below}
 use Rattle.jp_document.specs.ChildNodes.{children_of}
 use Rattle.jp_document.specs.Location.{Key, Location}
 use Rattle.jp_document.specs.Location.{entries, child, value_at}
-use Rattle.jp_document.specs.Node.{AreNodes, Located, Node, StandsIn}
+use Rattle.jp_document.specs.Node.{AreNodes, Node, NodeView, StandsIn}
 use Rattle.jp_document.specs.Node.{children, location_of, node_below, node_of}
 use Rattle.jp_document.specs.Value.{Value, IsDocumentValue}
 use Rattle.jp_document.proofs.Descent.Inside.{IsDocumentValue-child, value_at-step}
@@ -34,14 +34,14 @@ no_more [] (suc i) is = refl
 no_more (x ∷ xs) zero is = cc
 no_more (x ∷ xs) (suc i) is = ap (λ ys. x ∷ ys) (no_more xs i is)
 
-pub grown : (ns : List Located) (n : Located) (all : List Node)
+pub grown : (ns : List NodeView) (n : NodeView) (all : List Node)
     → map node_of ns ≡ take (length ns) all → Some (node_of n) ≡ slice_get all (length ns)
     → map node_of (ns ++ n ∷ []) ≡ take (length (ns ++ n ∷ [])) all
 grown ns n all so is =
     map-append node_of ns (n ∷ []) ∙ ap (λ ps. ps ++ node_of n ∷ []) so
     ∙ sym (one_more all (length ns) (node_of n) is) ∙ ap (λ k. take k all) (sym (length_push ns n))
 
-pub finished : (ns : List Located) (all : List Node) → map node_of ns ≡ take (length ns) all
+pub finished : (ns : List NodeView) (all : List Node) → map node_of ns ≡ take (length ns) all
     → None ≡ slice_get all (length ns) → map node_of ns ≡ all
 finished ns all so is = so ∙ no_more all (length ns) is
 

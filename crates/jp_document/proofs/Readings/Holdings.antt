@@ -88,7 +88,7 @@ First d = (l : Location) × IsFirstFraction d l
 abbrev FirstIn : Entries → Type 0
 FirstIn es = (l : Location) × IsFirstIn es l
 
--- the first of some members_read is in their first, or among those after it
+-- the first fraction of some entries is in their first, or among those after it
 first_entry : (k : Key) (d : Data) (es : Entries) (o : Option Value) → IsAbove k es →
     value_of_data d ≡ o → (value_of_data d ≡ None → First d) →
     ((v : Value) → value_of_data d ≡ Some v → FirstIn es) → FirstIn ((k, d) ∷ es)

@@ -84,7 +84,7 @@ four_digits a b c d u is =
       small = let sum = both.1 in omega arith;
     }
 
--- ---- characters that an escape_text writes
+-- ---- characters that an escape writes
 
 surrogate : (u : ℕ) → u < 65536 → is_high_surrogate u ≡ false → is_low_surrogate u ≡ false →
     IsScalar u
@@ -133,7 +133,7 @@ prepended : (bs : List ℕ) (o : Option (List ℕ)) (s : List ℕ) → prepend b
 prepended bs None s is = absurd (cc)
 prepended bs (Some t) s is = (t, refl, same_Some (bs ++ t) s is)
 
--- a character that an escape_text writes, and what comes after it
+-- a character that an escape writes, and what comes after it
 after_character : (n : ℕ) (bs xs p s : List ℕ) → Shorter n → length xs < n → IsUtf8 p → IsUtf8 bs →
     IsUtf8 xs → prepend bs (content plain xs) ≡ Some s → IsUtf8 (p ++ s)
 after_character n bs xs p s each short before here later is =
@@ -222,7 +222,7 @@ escaped_text n [] p s each short before utf8 is = absurd (cc)
 escaped_text n (x ∷ xs) p s each short before utf8 is =
     escape_text (x == 117) n x xs p s each (omega arith) refl before utf8 is
 
--- the byte itself_text, and what comes after it
+-- the byte itself, and what comes after it
 itself_text : (t : Bool) (n x : ℕ) (xs p s : List ℕ) → Shorter n → length xs < n →
     IsUtf8 (p ++ x ∷ xs) → cond t None (prepend (x ∷ []) (content plain xs)) ≡ Some s →
     IsUtf8 (p ++ s)

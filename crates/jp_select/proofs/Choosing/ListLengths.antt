@@ -1,4 +1,4 @@
--- The nodes that a selector selects.
+-- How many items a list has, in code and in the definitions.
 use Rattle.std.proofs.Common.{◌≡◌, suc, List, [], ◌∷◌, Some, length, map, vec_len, Vec, Global}
 use Rattle.std.proofs.Common.{refl, ap, ◌∙◌, sym}
 use Rattle.jp_document.proofs.Values.{value_of-List}

@@ -8,7 +8,7 @@ use Rattle.std.proofs.lemmas.List.Elements.{All-map, All-same, All-weaker}
 use Rattle.std.specs.Str.{chars}
 use Rattle.jp_document.proofs.Descent.Inside.{value_at-step}
 use Rattle.jp_document.specs.Location.{Key, Location, value_at}
-use Rattle.jp_document.specs.Node.{AreNodes, Located, Node, StandsIn}
+use Rattle.jp_document.specs.Node.{AreNodes, Node, NodeView, StandsIn}
 use Rattle.jp_document.specs.Node.{location_of, node_below, node_of}
 use Rattle.jp_document.specs.Value.{IsDocumentValue, Value}
 use Rattle.jp_tree.specs.Tree.{SelectorTree, index, name, selector_of, slice, wildcard}
@@ -24,7 +24,7 @@ use Rattle.jp_select.specs.Selectors.{chosen}
 
 -- one node more
 pub next_chosen : (l : Location) (cs : List (Key × Value)) (all : List Node)
-    (nodes new : List Located) (n : Located) (e : Key × Value) (i : ℕ) → i ≡ length nodes →
+    (nodes new : List NodeView) (n : NodeView) (e : Key × Value) (i : ℕ) → i ≡ length nodes →
     slice_get cs i ≡ Some e → node_of n ≡ node_below l e → new ≡ nodes ++ n ∷ [] →
     map node_of nodes ++ map (node_below l) (drop (length nodes) cs) ≡ all →
     map node_of new ++ map (node_below l) (drop (length new) cs) ≡ all
@@ -40,7 +40,7 @@ next_chosen l cs all nodes new n e i at entry is more before =
     ∙ ap (λ k. map node_of nodes ++ map f (drop k cs)) at
     ∙ before
 
-pub all_chosen : (l : Location) (cs : List (Key × Value)) (nodes : List Located) (i : ℕ)
+pub all_chosen : (l : Location) (cs : List (Key × Value)) (nodes : List NodeView) (i : ℕ)
     → i ≡ length nodes → slice_get cs i ≡ None
     → map node_of nodes ++ map (node_below l) (drop (length nodes) cs) ≡ map (node_below l) cs
     → map node_of nodes ≡ map (node_below l) cs
