@@ -4,6 +4,7 @@ use Rattle.std.proofs.lemmas.Bool.{lt-ltb}
 use Rattle.std.proofs.lemmas.Bool.Decides.{nat_tests}
 use Rattle.std.specs.Char.{digit_value}
 use Rattle.std.specs.List.{AllByRecursion}
+use Rattle.jp_reading.specs.Characters as char
 use Rattle.jp_reading.specs.Texts.{Text}
 use Rattle.jp_document.specs.Path.{quoted}
 use Rattle.jp_document.specs.Private.PathRules.{is_letter, is_plain as is_bare, meant}
@@ -25,28 +26,31 @@ unfolding is_hexdig
 hex_digit-hexdig n small = rw (hex_digit-value n small) (lt-ltb n 16 small)
 
 -- `0`, as the first digit and as another
-zero-digit : (is_not_d 48 ≡ true) × (is_hexdig 48 ≡ true)
+zero-digit : (is_not_d char.digit_zero ≡ true) × (is_hexdig char.digit_zero ≡ true)
 unfolding is_not_d is_hexdig
 zero-digit = (refl, refl)
 
-control-unit : (c : ℕ) → c < 32 → c ≡ unit_of 48 48 (hex_digit (c / 16)) (hex_digit (c % 16))
+control-unit : (c : ℕ) → c < 32 → c
+    ≡ unit_of char.digit_zero char.digit_zero (hex_digit (c / 16)) (hex_digit (c % 16))
 control-unit c small =
     let high : c / 16 < 16 = omega arith in
     let low : c % 16 < 16 = omega arith in
     rw (hex_digit-value (c / 16) high, hex_digit-value (c % 16) low) (omega arith)
 
 has-control : (c : ℕ) → c < 32
-    → Has (FourDigits is_not_d is_hexdig c) (48 ∷ 48 ∷ hex_digit (c / 16) ∷ hex_digit (c % 16) ∷ [])
+    → Has (FourDigits is_not_d is_hexdig c)
+    (char.digit_zero ∷ char.digit_zero ∷ hex_digit (c / 16) ∷ hex_digit (c % 16) ∷ [])
 has-control c small =
-    has-as (λ s o. digits 48 48 (hex_digit (c / 16)) (hex_digit (c % 16)) (control-unit c small))
-    (both (has-one is_not_d 48 zero-digit.0)
-    (both (has-one is_hexdig 48 zero-digit.1)
+    has-as (λ s o. digits char.digit_zero char.digit_zero (hex_digit (c / 16)) (hex_digit (c % 16))
+    (control-unit c small))
+    (both (has-one is_not_d char.digit_zero zero-digit.0)
+    (both (has-one is_hexdig char.digit_zero zero-digit.1)
     (both (has-one is_hexdig (hex_digit (c / 16)) (hex_digit-hexdig (c / 16) (omega arith)))
     (has-one is_hexdig (hex_digit (c % 16)) (hex_digit-hexdig (c % 16) (omega arith))))))
 
 -- ---- characters
 
-letter-escapable : (e : ℕ) → is_letter e ≡ true → is_escapable 39 e ≡ true
+letter-escapable : (e : ℕ) → is_letter e ≡ true → is_escapable char.single_quote e ≡ true
 unfolding is_letter
 letter-escapable e is = grind (arith, nat_tests)
 
@@ -54,30 +58,33 @@ letter-meant : (e : ℕ) → meant e ≡ escaped e
 unfolding meant
 letter-meant e = grind (arith, nat_tests)
 
-bare-plain : (c : ℕ) → is_bare c ≡ true → is_plain 39 c ≡ true
+bare-plain : (c : ℕ) → is_bare c ≡ true → is_plain char.single_quote c ≡ true
 unfolding is_bare
 bare-plain c is = grind (arith, nat_tests)
 
-character : (c : ℕ) (t : Text) → Spelled c t → Has (Character 39 c) t
+character : (c : ℕ) (t : Text) → Spelled c t → Has (Character char.single_quote c) t
 character c t (by_letter e is means shape) =
     has-same (sym shape)
     (has-as (λ s o. escape e (means ∙ letter-meant e))
-    (both (has-word (codes "\\")) (has-one (is_escapable 39) e (letter-escapable e is))))
+    (both (has-word (codes "\\")) (has-one (is_escapable char.single_quote) e
+    (letter-escapable e is))))
 character c t (by_number small none shape) =
     has-same (sym shape)
     (has-as (λ s o. hex)
     (both (has-word (codes "\\"))
     (both (has-word (codes "u")) (has-as (λ s o. not_d) (has-control c small)))))
 character c t (by_itself is shape) = has-same (sym shape)
-    (has-as (λ s o. plain) (has-one (is_plain 39) c (bare-plain c is)))
+    (has-as (λ s o. plain) (has-one (is_plain char.single_quote) c (bare-plain c is)))
 
-characters : (cs : Text) → AllByRecursion (λ c. Has (Character 39 c) (spelling 39 c)) cs
+characters : (cs : Text) → AllByRecursion
+    (λ c. Has (Character char.single_quote c) (spelling char.single_quote c)) cs
 characters [] = tt
-characters (c ∷ cs) = (character c (spelling 39 c) (spelled c), characters cs)
+characters (c ∷ cs) = (character c (spelling char.single_quote c) (spelled c), characters cs)
 
 -- the quoted name spells the name
 pub has-quoted : (cs : Text) → Has (Quoted cs) (quoted cs)
 has-quoted cs =
     has-as (λ s o. in_single)
     (both (has-word (codes "'"))
-    (both (has-each (Character 39) (spelling 39) cs (characters cs)) (has-word (codes "'"))))
+    (both (has-each (Character char.single_quote) (spelling char.single_quote) cs (characters cs))
+    (has-word (codes "'"))))

@@ -7,6 +7,7 @@ use Rattle.std.specs.Fmt.{digits as fmt_digits}
 use Rattle.std.specs.List.{list_all}
 use Rattle.std.proofs.lemmas.Bool.{and_parts, cases_Bool, leb-true, ltb-true}
 use Rattle.std.proofs.lemmas.Bool.Decides.{nat_tests}
+use Rattle.jp_reading.specs.Characters as char
 use Rattle.jp_reading.specs.Forms.{AllPassing, Form}
 use Rattle.jp_reading.specs.Numbers.{is_digit, value_from}
 use Rattle.jp_reading.specs.Texts.{Spans, Text}
@@ -26,13 +27,13 @@ use Rattle.jp_canon.proofs.Forms.{has-same, has-word}
 
 -- ---- whole numbers, by their digits
 
-above_zero-leading : (d : ℕ) → is_digit d ≡ true → 48 < d → is_leading_digit d ≡ true
+above_zero-leading : (d : ℕ) → is_digit d ≡ true → char.digit_zero < d → is_leading_digit d ≡ true
 unfolding is_digit
 above_zero-leading d is above = grind (arith, nat_tests)
 
 has-no_sign : (n : ℕ) (w : Text) → Begun n w → value_from 0 w ≡ n → Has (Int (whole_of n)) w
 has-no_sign n w (zero_text is shape) value = has-same (sym shape)
-    (has-as (λ s o. zero_int (ap whole_of is)) (has-word (48 ∷ [])))
+    (has-as (λ s o. zero_int (ap whole_of is)) (has-word (char.digit_zero ∷ [])))
 has-no_sign n w (other_text d ds shape is all above) value =
     has-same (sym shape)
     (has-as (λ s o. positive_int d ds (ap whole_of (sym value ∙ ap (value_from 0) shape)))
@@ -40,12 +41,12 @@ has-no_sign n w (other_text d ds shape is all above) value =
     (has-each_passing is_digit ds all)))
 
 has-negative : (n : ℕ) (w : Text) → Begun n w → value_from 0 w ≡ n → 0 < n
-    → Has (Int (negative_of n)) (45 ∷ w)
+    → Has (Int (negative_of n)) (char.minus ∷ w)
 has-negative n w (zero_text is shape) value some = absurd (omega arith)
 has-negative n w (other_text d ds shape is all above) value some =
-    has-same (ap (λ t. 45 ∷ t) (sym shape))
+    has-same (ap (λ t. char.minus ∷ t) (sym shape))
     (has-as (λ s o. negative_int d ds (ap negative_of (sym value ∙ ap (value_from 0) shape)))
-    (both (has-word (45 ∷ []))
+    (both (has-word (char.minus ∷ []))
     (both (has-one is_leading_digit d (above_zero-leading d is above))
     (has-each_passing is_digit ds all))))
 
@@ -55,7 +56,7 @@ has-decimal n fits = has-same (sym (decimal-index_text n fits))
 
 -- ---- beyond the range
 
-beyond-digits : decimal (2 ^ 64) ≡ 49 ∷ codes "8446744073709551616"
+beyond-digits : decimal (2 ^ 64) ≡ char.digit_one ∷ codes "8446744073709551616"
 unfolding fmt_digits
 beyond-digits = refl
 
@@ -69,8 +70,8 @@ unfolding is_digit
 has-beyond =
     let more : Text = codes "8446744073709551616" in
     has-same (sym beyond-digits)
-    (has-as (λ s o. positive_int 49 more refl)
-    (both (has-one is_leading_digit 49 refl)
+    (has-as (λ s o. positive_int char.digit_one more refl)
+    (both (has-one is_leading_digit char.digit_one refl)
     (has-each_passing is_digit more (all-passing is_digit more refl))))
 
 -- ---- every int
@@ -94,8 +95,8 @@ has-negative_of (suc m) some =
           let small : suc m ≤ 2 ^ 63 = leb-true (suc m) (2 ^ 63) fits in
           let text = decimal-index_text (suc m) (omega arith) in
           has-equal_tree Int numeral_text is
-          (subst (λ i. Has (Int i) (45 ∷ decimal (suc m))) is
-          (has-same (ap (λ t. 45 ∷ t) (sym text))
+          (subst (λ i. Has (Int i) (char.minus ∷ decimal (suc m))) is
+          (has-same (ap (λ t. char.minus ∷ t) (sym text))
           (has-negative (suc m) (index_text (suc m)) (begun (suc m))
           (value_from-index_text (suc m)) some)))
       | inr large ↦ has-equal_tree Int numeral_text {y = Beyond} (rw large refl) has-beyond
@@ -103,8 +104,8 @@ has-negative_of (suc m) some =
 
 value-some : (c : ℕ) (more : Text) → is_leading_digit c ≡ true → 0 < value_from 0 (c ∷ more)
 value-some c more is =
-    let above : 49 ≤ c = grind (arith, nat_tests) in
-    omega (arith, value_from-least (0 * 10 + (c - 48)) more)
+    let above : char.digit_one ≤ c = grind (arith, nat_tests) in
+    omega (arith, value_from-least (0 * 10 + (c - char.digit_zero)) more)
 
 -- the canonical text of what some text spells as an int
 pub int : (i : Numeral) (s : Spans) (o : ℕ) (t : Text) → Int i s o t → Has (Int i) (numeral_text i)
@@ -135,12 +136,13 @@ has-plain i h =
 has-fraction : Has (Number Fraction) (codes "0.5")
 unfolding is_digit
 has-fraction =
-    let digits : Has (DigitSequence 53 []) (53 ∷ []) =
-    both (has-one is_digit 53 refl) (has-word []) in
-    let zero_text : Has (Int (whole_of 0)) (48 ∷ []) = has-as (λ s o. zero_int refl)
-    (has-word (48 ∷ [])) in
-    let half : Has Decimals (46 ∷ 53 ∷ []) = has-as (λ s o. decimals 53 [])
-    (both (has-word (46 ∷ [])) digits) in
+    let digits : Has (DigitSequence char.digit_five []) (char.digit_five ∷ []) =
+    both (has-one is_digit char.digit_five refl) (has-word []) in
+    let zero_text : Has (Int (whole_of 0)) (char.digit_zero ∷ []) = has-as (λ s o. zero_int refl)
+    (has-word (char.digit_zero ∷ [])) in
+    let half : Has Decimals (char.dot ∷ char.digit_five ∷ []) = has-as
+    (λ s o. decimals char.digit_five [])
+    (both (has-word (char.dot ∷ [])) digits) in
     has-as (λ s o. number (whole_of 0) true false refl)
     (both (has-as (λ s o. whole) zero_text)
     (both (has-as (λ s o. written refl) half) (has-left_out Exponent)))

@@ -2,6 +2,7 @@
 use Rattle.std.proofs.Common.{◌≡◌, ℕ, Bool, true, false, List, [], ◌∷◌}
 use Rattle.std.proofs.Common.{Some, None, pos, negsuc, codes, refl}
 use Rattle.std.specs.Fmt.{digits}
+use Rattle.jp_reading.specs.Characters as char
 use Rattle.jp_document.specs.Spelling.{spelling}
 use Rattle.jp_tree.specs.declared.tree.Numeral.TheVariants.{Whole}
 use Rattle.jp_tree.specs.declared.tree.Op.TheVariants.{Equal}
@@ -21,13 +22,13 @@ abbrev child_test : ℕ → ExprTree
 child_test c = exists (child c)
 
 abbrev test_a : ExprTree
-test_a = child_test 97
+test_a = child_test char.letter_a
 
 abbrev test_b : ExprTree
-test_b = child_test 98
+test_b = child_test char.letter_b
 
 abbrev test_c : ExprTree
-test_c = child_test 99
+test_c = child_test char.letter_c
 
 abbrev or_of : ExprTree → ExprTree → ExprTree
 or_of e f = any_of (exprs (e ∷ f ∷ []))
@@ -84,12 +85,12 @@ without_arguments : call_row (codes "f()") (codes "f") []
 without_arguments = refl
 
 matched : call_row (codes "match(@['b'],'[jk]')") (codes "match")
-    (query_argument (child 98) ∷ literal_argument (text (codes "[jk]")) ∷ [])
+    (query_argument (child char.letter_b) ∷ literal_argument (text (codes "[jk]")) ∷ [])
 unfolding spelling
 matched = refl
 
 test_argument : call_row (codes "f((@['a']),@['a'])") (codes "f")
-    (logical_argument test_a ∷ query_argument (child 97) ∷ [])
+    (logical_argument test_a ∷ query_argument (child char.letter_a) ∷ [])
 unfolding spelling
 test_argument = refl
 
@@ -106,7 +107,8 @@ unfolding spelling digits
 logical_arguments = refl
 
 compared_call : expr_text
-    (comparison (call_value (call (codes "count") (arguments (query_argument (child 97) ∷ []))))
+    (comparison (call_value (call (codes "count")
+    (arguments (query_argument (child char.letter_a) ∷ []))))
     Equal (literal (number (Whole (pos 1))))) ≡ codes "count(@['a'])==1"
 unfolding spelling digits
 compared_call = refl
@@ -145,7 +147,8 @@ two_segments : canon_of
 unfolding spelling digits
 two_segments = refl
 
-escaped : selector_text (name (39 ∷ 92 ∷ 31 ∷ 10 ∷ 34 ∷ 233 ∷ [])) ≡ codes "'\\'\\\\\\u001f\\n\"é'"
+escaped : selector_text (name (char.single_quote ∷ char.backslash ∷ 31 ∷ char.line_feed ∷
+    char.double_quote ∷ 233 ∷ [])) ≡ codes "'\\'\\\\\\u001f\\n\"é'"
 unfolding spelling
 escaped = refl
 

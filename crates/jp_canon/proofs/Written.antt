@@ -7,6 +7,7 @@ use Rattle.std.specs.Str.{chars, encode_utf8_all}
 use Rattle.std.proofs.lemmas.Bool.{and_parts, ltb-true}
 use Rattle.std.proofs.lemmas.Str.{IsUtf8-string_bytes, chars_from_encodes}
 use Rattle.std.proofs.lemmas.Str.{encode_ascii, encodes-append, encodes-chars}
+use Rattle.jp_reading.specs.Characters as char
 use Rattle.jp_document.specs.Path.{quoted}
 use Rattle.jp_document.specs.Spelling.{spelling}
 use Rattle.jp_document.proofs.Spellings.Encoded.{names-encode}
@@ -51,7 +52,7 @@ ascii-encode (c ∷ cs) all =
 pub quoted-encode : (cs : List ℕ) → encode_utf8_all (quoted cs) ≡ quoted (encode_utf8_all cs)
 quoted-encode cs =
     let quote : encode_utf8_all (codes "'") ≡ codes "'" = ascii-encode (codes "'") refl in
-    encodes-append (codes "'") (flat_map (spelling 39) cs ++ codes "'")
+    encodes-append (codes "'") (flat_map (spelling char.single_quote) cs ++ codes "'")
     ∙ ap₂ (λ x y. x ++ y) quote
-    (encodes-append (flat_map (spelling 39) cs) (codes "'") ∙ ap₂ (λ x y. x ++ y)
+    (encodes-append (flat_map (spelling char.single_quote) cs) (codes "'") ∙ ap₂ (λ x y. x ++ y)
     (names-encode cs) quote)

@@ -101,7 +101,7 @@ row-current : HasFault (inner (query false (segments [])) as_side) NotSingular �
 row-current h = cc (h.1)
 
 -- `@.a`
-row-single : HasFault (inner (at_current (name (97 ∷ []) ∷ [])) as_side) NotSingular → ⊥
+row-single : HasFault (inner (at_current (name (codes "a") ∷ [])) as_side) NotSingular → ⊥
 unfolding at_current
 row-single h = cc (h.1)
 
@@ -123,7 +123,7 @@ row-several = (refl, refl)
 -- `@..a`
 row-descendant : HasFault
     (inner (query false
-    (segments (segment true (selectors (name (97 ∷ []) ∷ [])) ∷ []))) as_side) NotSingular
+    (segments (segment true (selectors (name (codes "a") ∷ [])) ∷ []))) as_side) NotSingular
 row-descendant = (refl, refl)
 
 -- ---- functions
@@ -154,7 +154,7 @@ row-literal-nodes = refl
 -- `length(@.a==1)`
 row-logical-value : HasFault
     (logical
-    (comparison (node_value (at_current (name (97 ∷ []) ∷ []))) Equal
+    (comparison (node_value (at_current (name (codes "a") ∷ []))) Equal
     (literal (number (Whole (pos 1))))) (as_argument (codes "length") 0 1))
     IllTyped
 row-logical-value = refl
@@ -213,7 +213,7 @@ row-query-first = found-fault _ _ (record { kind = NotSingular; place = 3 }) ref
 -- `$[?@.a==1.0&&@.*==2]`: of two faults the literal's stands first, at 8
 row-literal-first : IsFirstFault
     (items_of (filter_query (all_of (exprs (
-    comparison (node_value (at_current (name (97 ∷ []) ∷ []))) Equal (literal (number Fraction))
+    comparison (node_value (at_current (name (codes "a") ∷ []))) Equal (literal (number Fraction))
     ∷ comparison (node_value (at_current (wildcard ∷ []))) Equal (literal (number (Whole (pos 2))))
     ∷ [])))))
     (Some (record { start = 3; end = 6 }) ∷ Some (record { start = 8; end = 11 }) ∷ Some

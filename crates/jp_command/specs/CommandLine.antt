@@ -29,10 +29,10 @@ jp = on_top (λ top. record top { subcommand_required = true; has_version = true
 abbrev pub task_called : Text → Option Task
 task_called name =
     if bytes_eq name (codes "check") then Some Check
-    else (if bytes_eq name (codes "canon") then Some Canon
-    else (if bytes_eq name (codes "eval") then Some (Eval Values)
-    else (if bytes_eq name (codes "paths") then Some (Eval Paths)
-    else (if bytes_eq name (codes "both") then Some (Eval Both) else None))))
+    else if bytes_eq name (codes "canon") then Some Canon
+    else if bytes_eq name (codes "eval") then Some (Eval Values)
+    else if bytes_eq name (codes "paths") then Some (Eval Paths)
+    else if bytes_eq name (codes "both") then Some (Eval Both) else None
 
 -- the task and the query of the subcommand that the words name
 abbrev pub task_and_query : Text × List Row → Option (Task × Text)

@@ -1,5 +1,5 @@
 -- What is written of a nodelist: a line for each node, in one of three forms. `Run` cites it.
-use Rattle.std.specs.Prelude.{◌≡◌, ℕ, List, [], ◌∷◌, ◌++◌}
+use Rattle.std.specs.Prelude.{◌≡◌, ℕ, List, ◌++◌, codes}
 use Rattle.std.specs.List.{flat_map}
 use Rattle.jp_document.specs.Node.{AreNodes, Node}
 use Rattle.jp_document.specs.Path.{path_of}
@@ -15,11 +15,11 @@ use Rattle.jp_command.specs.declared.lines.Form.TheVariants.{Values, Paths, Both
 abbrev pub text_in_line : Form → Node → List ℕ
 text_in_line Values n = text_of n.value
 text_in_line Paths n = path_of n.location
-text_in_line Both n = path_of n.location ++ 9 ∷ text_of n.value
+text_in_line Both n = path_of n.location ++ codes "\t" ++ text_of n.value
 
 -- the line of a node, which a newline ends
 abbrev pub line_of : Form → Node → List ℕ
-line_of form n = text_in_line form n ++ 10 ∷ []
+line_of form n = text_in_line form n ++ codes "\n"
 
 -- a line for each node
 abbrev pub lines_of : Form → List Node → List ℕ

@@ -1,6 +1,7 @@
 -- Rows of the definitions, computed: for a reader who checks them by examples.
 use Rattle.std.proofs.Common.{◌≡◌, pos, negsuc, true, false, [], ◌∷◌, Some, None, Less, refl, codes}
 use Rattle.std.specs.Fmt.{digits}
+use Rattle.jp_reading.specs.Characters as char
 use Rattle.jp_document.specs.Location.{named, nth, location_cmp, value_at}
 use Rattle.jp_document.specs.Path.{path_of, index_text}
 use Rattle.jp_document.specs.Spelling.{spelling}
@@ -15,11 +16,14 @@ quote_path : path_of (named (codes "'") ∷ named (codes "@") ∷ []) ≡ codes 
 unfolding spelling
 quote_path = refl
 
-control_path : path_of (named (31 ∷ 10 ∷ 39 ∷ 92 ∷ []) ∷ []) ≡ codes "$['\\u001f\\n\\'\\\\']"
+control_path : path_of (named (31 ∷ char.line_feed ∷ char.single_quote ∷ char.backslash ∷ []) ∷ [])
+    ≡ codes "$['\\u001f\\n\\'\\\\']"
 unfolding spelling
 control_path = refl
 
-plain_path : path_of (named (34 ∷ 47 ∷ 127 ∷ []) ∷ []) ≡ 36 ∷ 91 ∷ 39 ∷ 34 ∷ 47 ∷ 127 ∷ 39 ∷ 93 ∷ []
+plain_path : path_of (named (char.double_quote ∷ char.slash ∷ 127 ∷ []) ∷ [])
+    ≡ char.dollar ∷ char.opening_bracket ∷ char.single_quote ∷ char.double_quote ∷ char.slash ∷ 127
+    ∷ char.single_quote ∷ char.closing_bracket ∷ []
 unfolding spelling
 plain_path = refl
 

@@ -55,7 +55,7 @@ pub record IsDocument (bytes : List ℕ) (v : Value) : Type 0 where
   pub holds : value_of_data reading ≡ Some v
   pub valid : IsDocumentValue v
 
--- ---- the first number that is no whole one
+-- ---- the first number that is not whole
 
 abbrev pub data_items_from : ℕ → parsed.Items → List (Key × Data)
 data_items_from i parsed.no_items = []
@@ -85,7 +85,7 @@ pub record IsFirstFraction (d : Data) (l : Location) : Type 0 where
   pub there : IsFraction d l
   pub least : (m : Location) → IsFraction d m → location_cmp m l ≢ Less
 
--- the bytes have a reading, and the path is that of the first number in it that is no whole one
+-- the bytes have a reading, and the path is that of the first number in it that is not whole
 pub record HasFraction (bytes path : List ℕ) : Type 0 where
   pub reading : Data
   pub reads : IsReading bytes reading
@@ -103,7 +103,7 @@ pub record HasLongList (bytes : List ℕ) : Type 0 where
 
 -- ---- what is wrong with bytes
 
--- What is wrong with bytes that are no document: no reading, a first number that is no whole one,
+-- What is wrong with bytes that are no document: no reading, a first number that is not whole,
 -- at this path, or a list that is too long.
 pub data Defect : Type 0 where
   not_json : Defect

@@ -9,7 +9,7 @@ use crate::nth::{child_count, nth_child};
 use std::alloc::{AllocError, Global};
 
 /// The children of a node in document order: a list's items, an object's members by the bytes of
-/// their names, none of other values. The only error is want of memory.
+/// their names, none of other values. The only error is that memory ran out.
 pub fn children<'d>(alloc: Global, node: &Node<'d>) -> Result<Vec<Node<'d>>, AllocError>
     ensures children { IfOk result (λ ns. map node_of ns.items ≡ children (node_of node.now)) }
     ensures nodes { (d : Value) → StandsIn d (node_of node.now)

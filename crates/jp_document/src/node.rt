@@ -73,7 +73,7 @@ impl<'d> Node<'d> {
         DocumentValue::of(self.value)
     }
 
-    /// The same node. The only error is want of memory.
+    /// The same node. The only error is that memory ran out.
     pub fn copy(&self, alloc: Global) -> Result<Node<'d>, AllocError>
         ensures { IfOk result (λ n. n ≡ self.now) }
     {
@@ -116,7 +116,7 @@ pub(crate) fn root_of(alloc: Global, value: &Json) -> Node<'_>
 }
 
 /// The member of this name of the node's object, None where there is none (RFC 9535 section 2.3.1).
-/// Its step borrows the name from the document. The only error is want of memory.
+/// Its step borrows the name from the document. The only error is that memory ran out.
 pub fn child_named<'d>(
     alloc: Global,
     node: &Node<'d>,
@@ -138,7 +138,7 @@ pub fn child_named<'d>(
 }
 
 /// The item at this index of the node's list, None where there is none (RFC 9535 section 2.3.3).
-/// The only error is want of memory.
+/// The only error is that memory ran out.
 pub fn child_at<'d>(
     alloc: Global,
     node: &Node<'d>,

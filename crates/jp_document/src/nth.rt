@@ -23,7 +23,7 @@ pub fn child_count(node: &Node) -> usize
 }
 
 /// The child at this position in document order, from 0, None where the node has no more children.
-/// The only error is want of memory.
+/// The only error is that memory ran out.
 pub fn nth_child<'d>(
     alloc: Global,
     node: &Node<'d>,

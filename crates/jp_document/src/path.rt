@@ -8,7 +8,7 @@ use crate::spelling::push_quoted;
 use itoa::Buffer;
 use std::alloc::{AllocError, Global};
 
-/// The normalized path of a location (RFC 9535 section 2.7). The only error is want of memory.
+/// The normalized path of a location (RFC 9535 section 2.7). The only error is that memory ran out.
 pub fn path_text(alloc: Global, location: &[Step]) -> Result<String, AllocError>
     ensures { IfOk result (λ s. string_bytes s ≡ path_of (map key_of location.now)) }
 {
@@ -17,8 +17,8 @@ pub fn path_text(alloc: Global, location: &[Step]) -> Result<String, AllocError>
     Ok(text)
 }
 
-/// A text between single quotes, spelled as a name in a normalized path. The only error is want of
-/// memory.
+/// A text between single quotes, spelled as a name in a normalized path. The only error is that
+/// memory ran out.
 pub fn quote(alloc: Global, text: &str) -> Result<String, AllocError>
     ensures { IfOk result (λ s. string_bytes s ≡ quoted text.now) }
 {

@@ -11,7 +11,7 @@ use crate::value::{Json, Member};
 use itoa::Buffer;
 use std::alloc::{AllocError, Global};
 
-/// The compact text of a value. The only error is want of memory.
+/// The compact text of a value. The only error is that memory ran out.
 pub fn value_text(alloc: Global, json: &Json) -> Result<String, AllocError>
     ensures { IfOk result (λ s. string_bytes s ≡ text_of (value_of json.now)) }
 {

@@ -7,10 +7,10 @@ use crate::location::OwnedStep;
 use crate::path::owned_path_text;
 use std::alloc::{AllocError, Global};
 
-/// Why a reading has no value: a number in it is no whole one, or memory ran out.
+/// Why a reading has no value: a number in it is not whole, or memory ran out.
 #[derive(Drop)]
 pub(crate) enum ValueFault {
-    /// The first number that is no whole one stands here; the last step comes first.
+    /// The first number that is not whole stands here; the last step comes first.
     Fraction(Vec<OwnedStep>),
     NoMemory,
 }

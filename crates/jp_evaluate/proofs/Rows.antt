@@ -1,5 +1,5 @@
 -- Worked rows of the definitions.
-use Rattle.std.proofs.Common.{◌≡◌, ℕ, pos, negsuc, true, false, List, [], ◌∷◌, refl}
+use Rattle.std.proofs.Common.{◌≡◌, ℕ, pos, negsuc, true, false, List, [], ◌∷◌, codes, refl}
 use lib.Utf8.{encode}
 use Rattle.jp_document.specs.Location.{Key, Location, named, nth}
 use Rattle.jp_document.specs.Value.{Value, null, list, object, no_items, item, no_members, member}
@@ -15,14 +15,14 @@ use Rattle.jp_evaluate.specs.Nodelist.{nodelist}
 abbrev nested_lists : Value
 nested_lists =
     object
-    (member (97 ∷ []) (list (item null (item (list (item null no_items)) no_items)))
-    (member (98 ∷ []) null no_members))
+    (member (codes "a") (list (item null (item (list (item null no_items)) no_items)))
+    (member (codes "b") null no_members))
 
 abbrev key_a : Key
-key_a = named (97 ∷ [])
+key_a = named (codes "a")
 
 abbrev key_b : Key
-key_b = named (98 ∷ [])
+key_b = named (codes "b")
 
 abbrev of_segments : List SegmentTree → List Location
 of_segments ss = nodelist (query true (segments ss)) nested_lists
@@ -81,7 +81,7 @@ abbrev current : QueryTree
 current = query false no_segments
 
 abbrev root_b : QueryTree
-root_b = query true (segments (segment false (selectors (name (98 ∷ []) ∷ [])) ∷ []))
+root_b = query true (segments (segment false (selectors (name (codes "b") ∷ [])) ∷ []))
 
 abbrev children : QueryTree
 children = query false (segments (segment false (selectors (wildcard ∷ [])) ∷ []))
@@ -101,13 +101,13 @@ equal_null = refl
 
 -- $[?@.x==null]: no value is not null
 missing_null : kept_by
-    (comparison (node_value (member_of_current (120 ∷ []))) Equal (literal null_literal)) ≡ []
+    (comparison (node_value (member_of_current (codes "x"))) Equal (literal null_literal)) ≡ []
 missing_null = refl
 
 -- $[?@.x==@.y]: no value equals no value
 both_missing : kept_by
-    (comparison (node_value (member_of_current (120 ∷ []))) Equal
-    (node_value (member_of_current (121 ∷ [])))) ≡
+    (comparison (node_value (member_of_current (codes "x"))) Equal
+    (node_value (member_of_current (codes "y")))) ≡
     (key_a ∷ []) ∷ (key_b ∷ []) ∷ []
 both_missing = refl
 

@@ -25,7 +25,7 @@ pub struct Nodes<'d, 'q, M> {
 }
 
 impl<'d: 'q, 'q, M: Matching> Nodes<'d, 'q, M> {
-    /// Whether a node could not be given for want of memory. No more are given then.
+    /// Whether a node could not be given because memory ran out. No more are given then.
     pub fn failed(&self) -> bool
         ensures { result ≡ self.now.failed }
     {

@@ -46,8 +46,8 @@ pub fn nodes<'d: 'q, 'q, M: Matching>(
 
 /// The nodes that a query selects in a document (RFC 9535 section 2.1.2), in the nodelist's order;
 /// a node that is selected twice stands there twice. The matcher answers `match` and `search`. The
-/// nodes borrow from the document and copy nothing of it. The only error is want of memory, also
-/// where `count` finds more nodes than 64 bits count.
+/// nodes borrow from the document and copy nothing of it. The only error is that memory ran out,
+/// also where `count` finds more nodes than 64 bits count.
 pub fn evaluate<'d, M: Matching>(
     alloc: Global,
     document: &'d Document,

@@ -4,6 +4,7 @@ use Rattle.std.proofs.Common.{Option, Some, None, inl, inr, refl, ap, subst}
 use Rattle.std.proofs.lemmas.Bool.{and_parts, cases_Bool, eqb-true}
 use Rattle.std.specs.Prelude.{find}
 use Rattle.std.specs.Char.{is_ascii_alphabetic}
+use Rattle.jp_reading.specs.Characters as char
 use Rattle.jp_reading.specs.Texts.{Text}
 use Rattle.jp_iregexp.specs.declared.category.Category.{Category}
 use Rattle.jp_iregexp.specs.declared.category.Category.TheVariants.{L, M, N, P, Z, S, C}
@@ -76,11 +77,11 @@ two_letters k a b are first second found = record {
 
 pub lettered : (k : Category) → Lettered k
 unfolding letters code_of
-lettered L = one_letter L 76 refl refl refl
-lettered M = one_letter M 77 refl refl refl
-lettered N = one_letter N 78 refl refl refl
-lettered P = one_letter P 80 refl refl refl
-lettered Z = one_letter Z 90 refl refl refl
-lettered S = one_letter S 83 refl refl refl
-lettered C = one_letter C 67 refl refl refl
+lettered L = one_letter L char.capital_l refl refl refl
+lettered M = one_letter M char.capital_m refl refl refl
+lettered N = one_letter N char.capital_n refl refl refl
+lettered P = one_letter P char.capital_p refl refl refl
+lettered Z = one_letter Z char.capital_z refl refl refl
+lettered S = one_letter S char.capital_s refl refl refl
+lettered C = one_letter C char.capital_c refl refl refl
 lettered k = two_letters k (get_or (letters k) 0 0) (get_or (letters k) 1 0) refl refl refl refl

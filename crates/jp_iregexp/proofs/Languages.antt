@@ -39,8 +39,8 @@ to_cut : (ps : List Tree) (word : List ℕ) → Language (pieces ps) word →
     (words : List (List ℕ)) × (word ≡ concat words) × AllZip Language ps words
 to_cut [] word h = ([], h, tt)
 to_cut (p ∷ ps) word h =
-    let (words, is, each) = to_cut ps h.back h.second in
-    (h.front ∷ words, h.is ∙ ap (λ w. h.front ++ w) is, (h.first, each))
+    let (words, is, each) = to_cut ps h.suffix h.second in
+    (h.prefix ∷ words, h.is ∙ ap (λ w. h.prefix ++ w) is, (h.first, each))
 
 of_cut : (ps : List Tree) (words : List (List ℕ)) → AllZip Language ps words →
     Language (pieces ps) (concat words)
@@ -48,8 +48,8 @@ of_cut [] [] each = refl
 of_cut [] (w ∷ words) each = absurd each
 of_cut (p ∷ ps) [] each = absurd each
 of_cut (p ∷ ps) (w ∷ words) each = record {
-  front = w;
-  back = concat words;
+  prefix = w;
+  suffix = concat words;
   is = refl;
   first = each.0;
   second = of_cut ps words each.1;
@@ -63,19 +63,19 @@ to_power : (a : Tree) (k : ℕ) (word : List ℕ) → Power (Language a) k word 
     (words : List (List ℕ)) × (word ≡ concat words) × (length words ≡ k) × All (Language a) words
 to_power a zero word h = ([], h, refl, All-nil (Language a))
 to_power a (suc k) word h =
-    let (words, is, long, each) = to_power a k h.back h.second in (
-      h.front ∷ words,
-      h.is ∙ ap (λ w. h.front ++ w) is,
+    let (words, is, long, each) = to_power a k h.suffix h.second in (
+      h.prefix ∷ words,
+      h.is ∙ ap (λ w. h.prefix ++ w) is,
       ap suc long,
-      All-cons (Language a) h.front words h.first each,
+      All-cons (Language a) h.prefix words h.first each,
     )
 
 of_power : (a : Tree) (words : List (List ℕ)) → All (Language a) words →
     Power (Language a) (length words) (concat words)
 of_power a [] each = refl
 of_power a (w ∷ words) each = record {
-  front = w;
-  back = concat words;
+  prefix = w;
+  suffix = concat words;
   is = refl;
   first = each 0 w (omega arith);
   second = of_power a words (λ k d below. each (suc k) d (omega arith));

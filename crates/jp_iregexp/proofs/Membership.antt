@@ -98,27 +98,27 @@ module _ (f g : List ℕ → Bool) (A B : List ℕ → Type 0) (one : Tells f A)
       let (k, from, here) = passing_number (cut_passes word) 0 (length word + 1) h in
       let sides = and_parts (f (take k word)) (g (drop k word)) here in
       record {
-        front = take k word;
-        back = drop k word;
+        prefix = take k word;
+        suffix = drop k word;
         is = sym (take-append-drop k word);
         first = one.sound (take k word) sides.0;
         second = two.sound (drop k word) sides.1;
       }
 
-  cut_passed : (front back : List ℕ) → A front → B back →
-      is_concatenation f g (front ++ back) ≡ true
-  cut_passed front back first second =
-      let long = length-append front back in
-      let here = ap f (take_at front back (length front) refl) ∙ one.whole front first in
-      let there = ap g (drop_at front back (length front) refl) ∙ two.whole back second in
-      passed (cut_passes (front ++ back)) 0 (length (front ++ back) + 1) (length front)
+  cut_passed : (prefix suffix : List ℕ) → A prefix → B suffix →
+      is_concatenation f g (prefix ++ suffix) ≡ true
+  cut_passed prefix suffix first second =
+      let long = length-append prefix suffix in
+      let here = ap f (take_at prefix suffix (length prefix) refl) ∙ one.whole prefix first in
+      let there = ap g (drop_at prefix suffix (length prefix) refl) ∙ two.whole suffix second in
+      passed (cut_passes (prefix ++ suffix)) 0 (length (prefix ++ suffix) + 1) (length prefix)
       (omega arith) (omega (arith, long)) (and_from _ _ here there)
 
   concatenation_told : Tells (is_concatenation f g) (Concatenation A B)
   concatenation_told = record {
     sound = cut_found;
     whole = λ word h.
-        ap (is_concatenation f g) h.is ∙ cut_passed h.front h.back h.first h.second;
+        ap (is_concatenation f g) h.is ∙ cut_passed h.prefix h.suffix h.first h.second;
   }
 
 -- ---- repeats
@@ -138,18 +138,18 @@ at_most_below (Some most) k m below within = omega arith
 
 module _ (L : List ℕ → Type 0) where
   -- of more words than characters one is empty, and is left out
-  without_first : (k : ℕ) (front back : List ℕ) → length (front ++ back) ≤ suc k →
+  without_first : (k : ℕ) (prefix suffix : List ℕ) → length (prefix ++ suffix) ≤ suc k →
       ((word : List ℕ) → length word ≤ k → Power L (suc k) word → Power L k word) →
-      L front → Power L (suc k) back → Power L (suc k) (front ++ back)
-  without_first k [] back short fewer first second = second
-  without_first k (c ∷ front) back short fewer first second =
-      let long = length-append front back in
+      L prefix → Power L (suc k) suffix → Power L (suc k) (prefix ++ suffix)
+  without_first k [] suffix short fewer first second = second
+  without_first k (c ∷ prefix) suffix short fewer first second =
+      let long = length-append prefix suffix in
       record {
-        front = c ∷ front;
-        back = back;
+        prefix = c ∷ prefix;
+        suffix = suffix;
         is = refl;
         first = first;
-        second = fewer back (omega (arith, long)) second;
+        second = fewer suffix (omega (arith, long)) second;
       }
 
   one_fewer : (k : ℕ) (word : List ℕ) → length word ≤ k → Power L (suc k) word → Power L k word
@@ -157,7 +157,7 @@ module _ (L : List ℕ → Type 0) where
   one_fewer zero (c ∷ word) short h = absurd (omega arith)
   one_fewer (suc k) word short h =
       let short_parts = subst (λ w. length w ≤ suc k) h.is short in
-      let parts = without_first k h.front h.back short_parts (one_fewer k) h.first h.second in
+      let parts = without_first k h.prefix h.suffix short_parts (one_fewer k) h.first h.second in
       subst (Power L (suc k)) (sym h.is) parts
 
   fewer : (more k : ℕ) (word : List ℕ) → length word ≤ k → Power L (more + k) word → Power L k word
@@ -235,20 +235,20 @@ around_told a =
 
 part_around : (a : Tree) (text : List ℕ) → Around a text → HasPart (Language a) text
 part_around a text h = record {
-  before = h.front;
-  part = h.second.front;
-  after = h.second.back;
-  is = h.is ∙ ap (λ rest. h.front ++ rest) h.second.is;
+  before = h.prefix;
+  part = h.second.prefix;
+  after = h.second.suffix;
+  is = h.is ∙ ap (λ rest. h.prefix ++ rest) h.second.is;
   holds = h.second.first;
 }
 
 around_part : (a : Tree) (text : List ℕ) → HasPart (Language a) text → Around a text
 around_part a text h = record {
-  front = h.before;
-  back = h.part ++ h.after;
+  prefix = h.before;
+  suffix = h.part ++ h.after;
   is = h.is;
   first = tt;
-  second = record { front = h.part; back = h.after; is = refl; first = h.holds; second = tt };
+  second = record { prefix = h.part; suffix = h.after; is = refl; first = h.holds; second = tt };
 }
 
 pub parts_are_tested : PartsAreTested

@@ -1,9 +1,10 @@
 -- The rules of patterns leave shorter texts: for the loops over pieces, branches and elements.
 use Rattle.std.proofs.Common.{◌≡◌, ℕ, zero, suc, ◌<◌, ◌≤◌, true, false}
 use Rattle.std.proofs.Common.{[], ◌∷◌, length, Option, Some, None, arith}
+use Rattle.jp_reading.specs.Characters as char
 use Rattle.jp_reading.specs.Outcome.{State, Outcome, took, stuck, deep, ◌>>=◌}
 use Rattle.jp_reading.specs.Outcome.{past, is, is_at, take_if, expect, each}
-use Rattle.jp_reading.specs.Views.{by, with_front}
+use Rattle.jp_reading.specs.Views.{by, with_prefix}
 use Rattle.jp_reading.specs.Numbers.{digits_at, digit_at, is_at_digit, capped}
 use Rattle.jp_reading.proofs.Chars.{past-shorter}
 use Rattle.jp_reading.proofs.Digits.{digit_at-progress}
@@ -34,13 +35,13 @@ moves-escaped p = moves-by meant p (take_if is_escaped p) (moves-take_if is_esca
 moves-character : Progress character_at
 unfolding character_at
 moves-character p =
-    moves-if (is_at 92 p) p (escaped_at (past p)) (take_if is_plain p)
+    moves-if (is_at char.backslash p) p (escaped_at (past p)) (take_if is_plain p)
     (λ h. moves-after p (past p) (escaped_at (past p)) (past-keeps p) (moves-escaped (past p)))
     (λ h. moves-take_if is_plain p)
 
 keeps-second : (p : State) → Keeps p (second_at p)
 keeps-second p =
-    keeps-if (is_at 125 p) p (took None p) (by Some (take_if _ p)) (omega arith)
+    keeps-if (is_at char.closing_brace p) p (took None p) (by Some (take_if _ p)) (omega arith)
     (keeps-by Some p (take_if _ p) (keeps-take_if _ p))
 
 keeps-code : (p : State) → Keeps p (code_at p)
@@ -53,9 +54,10 @@ moves-category : Progress category_at
 unfolding category_at
 moves-category p =
     moves-then p (take_if is_category_sign p) _ (moves-take_if is_category_sign p)
-    (λ c q. keeps-then q (expect 123 q) _ (keeps-take_if (is 123) q)
+    (λ c q. keeps-then q (expect char.opening_brace q) _ (keeps-take_if (is char.opening_brace) q)
     (λ x q. keeps-then q (code_at q) _ (keeps-code q)
-    (λ k q. keeps-then q (expect 125 q) _ (keeps-take_if (is 125) q) (λ y q. omega arith))))
+    (λ k q. keeps-then q (expect char.closing_brace q) _ (keeps-take_if (is char.closing_brace) q)
+    (λ y q. omega arith))))
 
 keeps-range : (c : ℕ) (p : State) → Keeps p (range_at c p)
 unfolding range_at
@@ -77,7 +79,8 @@ moves-element p =
     (λ c q. keeps-range c q))
 
 keeps-hyphen : (p : State) → Keeps p (hyphen_at p)
-keeps-hyphen p = keeps-then p (expect 45 p) _ (keeps-take_if (is 45) p) (λ x q. omega arith)
+keeps-hyphen p = keeps-then p (expect char.hyphen p) _ (keeps-take_if (is char.hyphen) p)
+    (λ x q. omega arith)
 
 keeps-element : (p : State) → Keeps p (element_at p)
 keeps-element p = keeps-from_moves p (element_at p) (moves-element p)
@@ -86,20 +89,23 @@ keeps-items : (p : State) → Keeps p (items_at p)
 unfolding items_at
 keeps-items p =
     keeps-then p (first_at p) _
-    (keeps-if (is_at 45 p) p (hyphen_at p) (element_at p) (keeps-hyphen p) (keeps-element p))
-    (λ x q. keeps-then q (with_front (x ∷ []) (elements_at q)) _
+    (keeps-if (is_at char.hyphen p) p (hyphen_at p) (element_at p) (keeps-hyphen p)
+    (keeps-element p))
+    (λ x q. keeps-then q (with_prefix (x ∷ []) (elements_at q)) _
     (keeps-by _ q (elements_at q) (keeps-each _ element_at moves-element q))
-    (λ xs q. keeps-if (is_at 45 q) q (by _ (hyphen_at q)) (took xs q)
+    (λ xs q. keeps-if (is_at char.hyphen q) q (by _ (hyphen_at q)) (took xs q)
     (keeps-by _ q (hyphen_at q) (keeps-hyphen q)) (omega arith)))
 
 moves-class : Progress class_at
 unfolding class_at
 moves-class p =
-    moves-then p (expect 91 p) _ (moves-take_if (is 91) p)
+    moves-then p (expect char.opening_bracket p) _ (moves-take_if (is char.opening_bracket) p)
     (λ x q. keeps-then q (negation_at q) _
-    (keeps-if (is_at 94 q) q (took true (past q)) (took false q) (past-keeps q) (omega arith))
+    (keeps-if (is_at char.caret q) q (took true (past q)) (took false q) (past-keeps q)
+    (omega arith))
     (λ b q. keeps-then q (items_at q) _ (keeps-items q)
-    (λ xs q. keeps-then q (expect 93 q) _ (keeps-take_if (is 93) q) (λ y q. omega arith))))
+    (λ xs q. keeps-then q (expect char.closing_bracket q) _
+    (keeps-take_if (is char.closing_bracket) q) (λ y q. omega arith))))
 
 keeps-number : (p : State) → Keeps p (number_at p)
 unfolding number_at digits_at
@@ -114,22 +120,24 @@ keeps-number p =
 keeps-most : (n : ℕ) (p : State) → Keeps p (most_at n p)
 unfolding most_at
 keeps-most n p =
-    keeps-if (is_at 125 p) p (took (Some n) p) (expect 44 p >>= _) (omega arith)
-    (keeps-then p (expect 44 p) _ (keeps-take_if (is 44) p)
-    (λ x q. keeps-if (is_at 125 q) q (took None q) (number_at q >>= _) (omega arith)
+    keeps-if (is_at char.closing_brace p) p (took (Some n) p) (expect char.comma p >>= _)
+    (omega arith)
+    (keeps-then p (expect char.comma p) _ (keeps-take_if (is char.comma) p)
+    (λ x q. keeps-if (is_at char.closing_brace q) q (took None q) (number_at q >>= _) (omega arith)
     (keeps-then q (number_at q) _ (keeps-number q)
     (λ m r. keeps-if _ r (stuck r) (took (Some m) r) tt (omega arith)))))
 
 keeps-quantifier : (p : State) → Keeps p (quantifier_at p)
 unfolding quantifier_at braces_at
 keeps-quantifier p =
-    keeps-if (is_at 42 p) p _ _ (past-keeps p)
-    (keeps-if (is_at 43 p) p _ _ (past-keeps p)
-    (keeps-if (is_at 63 p) p _ _ (past-keeps p)
-    (keeps-then p (expect 123 p) _ (keeps-take_if (is 123) p)
+    keeps-if (is_at char.star p) p _ _ (past-keeps p)
+    (keeps-if (is_at char.plus p) p _ _ (past-keeps p)
+    (keeps-if (is_at char.question_mark p) p _ _ (past-keeps p)
+    (keeps-then p (expect char.opening_brace p) _ (keeps-take_if (is char.opening_brace) p)
     (λ x q. keeps-then q (number_at q) _ (keeps-number q)
     (λ n q. keeps-then q (most_at n q) _ (keeps-most n q)
-    (λ m q. keeps-then q (expect 125 q) _ (keeps-take_if (is 125) q) (λ y q. omega arith)))))))
+    (λ m q. keeps-then q (expect char.closing_brace q) _ (keeps-take_if (is char.closing_brace) q)
+    (λ y q. omega arith)))))))
 
 keeps-escape : (p : State) → Keeps p (escape_at p)
 unfolding escape_at
@@ -142,30 +150,32 @@ module _ (inside : State → Outcome Tree) (keeps : (p : State) → Keeps p (ins
   moves-group : Progress (group_at inside)
   unfolding group_at
   moves-group p =
-      moves-then p (expect 40 p) _ (moves-take_if (is 40) p)
+      moves-then p (expect char.opening_parenthesis p) _
+      (moves-take_if (is char.opening_parenthesis) p)
       (λ x q. keeps-then q (inside q) _ (keeps q)
-      (λ y q. keeps-then q (expect 41 q) _ (keeps-take_if (is 41) q) (λ z q. omega arith)))
+      (λ y q. keeps-then q (expect char.closing_parenthesis q) _
+      (keeps-take_if (is char.closing_parenthesis) q) (λ z q. omega arith)))
 
   moves-past : {A : Type 0} (c : ℕ) (p : State) (o : Outcome A) → is_at c p ≡ true →
       Keeps (past p) o → Moves p o
-  moves-past c p o at h = moves-behind p (past p) o (past-shorter (is c) p at) h
+  moves-past c p o at h = moves-beyond p (past p) o (past-shorter (is c) p at) h
     where
-      moves-behind : {A : Type 0} (p q : State) (o : Outcome A) → length q.rest < length p.rest →
+      moves-beyond : {A : Type 0} (p q : State) (o : Outcome A) → length q.rest < length p.rest →
           Keeps q o → Moves p o
-      moves-behind p q (took x r) less h = omega arith
-      moves-behind p q (stuck r) less h = tt
-      moves-behind p q (deep r) less h = tt
+      moves-beyond p q (took x r) less h = omega arith
+      moves-beyond p q (stuck r) less h = tt
+      moves-beyond p q (deep r) less h = tt
 
   moves-atom : Progress (atom_at inside)
   unfolding atom_at
   moves-atom p =
-      moves-if (is_at 40 p) p (group_at inside p) _ (λ h. moves-group p)
-      (λ h. moves-if (is_at 91 p) p (class_at p) _ (λ h. moves-class p)
-      (λ h. moves-if (is_at 46 p) p (took dot (past p)) _
-      (λ at. moves-past 46 p (took dot (past p)) at
+      moves-if (is_at char.opening_parenthesis p) p (group_at inside p) _ (λ h. moves-group p)
+      (λ h. moves-if (is_at char.opening_bracket p) p (class_at p) _ (λ h. moves-class p)
+      (λ h. moves-if (is_at char.dot p) p (took dot (past p)) _
+      (λ at. moves-past char.dot p (took dot (past p)) at
       (let still : length (past p).rest ≤ length (past p).rest = omega arith in still))
-      (λ h. moves-if (is_at 92 p) p (escape_at (past p)) _
-      (λ at. moves-past 92 p (escape_at (past p)) at (keeps-escape (past p)))
+      (λ h. moves-if (is_at char.backslash p) p (escape_at (past p)) _
+      (λ at. moves-past char.backslash p (escape_at (past p)) at (keeps-escape (past p)))
       (λ h. moves-by _ p (take_if is_normal p) (moves-take_if is_normal p)))))
 
   -- a piece moves
@@ -184,14 +194,14 @@ module _ (inside : State → Outcome Tree) (keeps : (p : State) → Keeps p (ins
   pub moves-next_branch : Progress (next_branch_at inside)
   unfolding next_branch_at
   moves-next_branch p =
-      moves-then p (expect 124 p) _ (moves-take_if (is 124) p) (λ x q. keeps-branch q)
+      moves-then p (expect char.bar p) _ (moves-take_if (is char.bar) p) (λ x q. keeps-branch q)
 
   keeps-branches : (p : State) → Keeps p (branches_at inside p)
   unfolding branches_at
   keeps-branches p =
       keeps-then p (branch_at inside p) _ (keeps-branch p)
-      (λ x q. keeps-by _ q (each (is_at 124) (next_branch_at inside) q)
-      (keeps-each (is_at 124) (next_branch_at inside) moves-next_branch q))
+      (λ x q. keeps-by _ q (each (is_at char.bar) (next_branch_at inside) q)
+      (keeps-each (is_at char.bar) (next_branch_at inside) moves-next_branch q))
 
 -- what stands in a group leaves no longer text
 pub keeps-inside : (n : ℕ) (p : State) → Keeps p (inside_at n p)

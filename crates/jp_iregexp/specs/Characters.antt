@@ -1,6 +1,8 @@
 -- The characters of patterns, alone and after `\`.
 use Rattle.std.specs.Prelude.{◌≡◌, ℕ, Bool, ◌==◌, not, if◌then◌else◌, codes}
 use Rattle.std.specs.List.{list_any}
+use Rattle.jp_reading.specs.Characters.{carriage_return, letter_n, letter_r, letter_t, line_feed}
+use Rattle.jp_reading.specs.Characters.{tab}
 use Rattle.jp_reading.specs.Texts.{Text, Spans}
 use Rattle.jp_reading.specs.Forms.{Form, word, One, ◌⌢◌}
 
@@ -23,7 +25,11 @@ is_escaped e = is_among (codes "()*+-.?[\\]^nrt{|}") e
 -- what it stands for there: n, r and t for line feed, carriage return and tab, each other for
 -- itself
 unfoldable pub meant : ℕ → ℕ
-meant e = if e == 110 then 10 else (if e == 114 then 13 else (if e == 116 then 9 else e))
+meant e =
+    if e == letter_n then line_feed
+    else if e == letter_r then carriage_return
+    else if e == letter_t then tab
+    else e
 
 -- SingleCharEsc: `\` and the character e after it, which stand for what `meant` says (RFC 9485
 -- section 3)

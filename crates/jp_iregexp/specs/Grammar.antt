@@ -1,6 +1,7 @@
 -- Which text spells which pattern (RFC 9485 section 3), with at most n groups inside one another.
 use Rattle.std.specs.Prelude.{◌≡◌, ◌≢◌, ℕ, zero, suc, ◌≤◌, true, false, List}
 use Rattle.std.specs.Prelude.{[], ◌∷◌, ◌++◌, Option, Some, None, codes}
+use Rattle.jp_reading.specs.Characters.{caret, carriage_return, hyphen, line_feed}
 use Rattle.jp_reading.specs.Texts.{Text, Spans}
 use Rattle.jp_reading.specs.Forms.{Form, word, ◌⌢◌, Each, Separated, Never}
 use Rattle.jp_reading.specs.Numbers.{Digits, value_from}
@@ -21,7 +22,7 @@ pub data ClassEscape (x : ClassItem) (s : Spans) (o : ℕ) (t : Text) : Type 0 w
 
 -- a `-` that stands for itself
 pub record Hyphen (x : ClassItem) (s : Spans) (o : ℕ) (t : Text) : Type 0 where
-  pub item : x ≡ item.Range 45 45
+  pub item : x ≡ item.Range hyphen hyphen
   pub is : word (codes "-") s o t
 
 -- CCE1: a character, a range that does not end below its start, or an escape
@@ -52,7 +53,7 @@ pub record Items (xs : List ClassItem) (s : Spans) (o : ℕ) (t : Text) : Type 0
 
 -- the same, not beginning with `^`
 pub record NotAtCaret (xs : List ClassItem) (s : Spans) (o : ℕ) (t : Text) : Type 0 where
-  pub begins : first_of t ≢ Some 94
+  pub begins : first_of t ≢ Some caret
   pub is : Items xs s o t
 
 -- charClassExpr: `^` right after `[` is always the negation
@@ -69,7 +70,7 @@ pub record Number (n : ℕ) (s : Spans) (o : ℕ) (t : Text) : Type 0 where
   pub small : n ≤ 999999999
   pub is : Digits digits s o t
 
--- how often at most, behind how often at least: as often, with no upper end, or up to another
+-- how often at most, after how often at least: as often, with no upper end, or up to another
 -- number
 pub data Most (least : ℕ) (most : Option ℕ) (s : Spans) (o : ℕ) (t : Text) : Type 0 where
   exactly : most ≡ Some least → word [] s o t → Most least most s o t
@@ -91,7 +92,9 @@ one c = class false (item.Range c c ∷ [])
 
 -- all characters but line feed and carriage return
 abbrev pub dot : Tree
-dot = class true (item.Range 10 10 ∷ item.Range 13 13 ∷ [])
+dot =
+    class true
+    (item.Range line_feed line_feed ∷ item.Range carriage_return carriage_return ∷ [])
 
 module _ (Group : Tree → Form) where
   -- atom: a character, a dot, an escape, a class, or a pattern in parentheses

@@ -7,11 +7,11 @@ use Rattle.jp_iregexp.specs.Tree.{Tree, class, nothing, either, empty, sequence,
 -- the concatenation of two languages: a word of two parts, the first in the one and the second in
 -- the other
 pub record Concatenation (First Second : List ℕ → Type 0) (word : List ℕ) : Type 0 where
-  pub front : List ℕ
-  pub back : List ℕ
-  pub is : word ≡ front ++ back
-  pub first : First front
-  pub second : Second back
+  pub prefix : List ℕ
+  pub suffix : List ℕ
+  pub is : word ≡ prefix ++ suffix
+  pub first : First prefix
+  pub second : Second suffix
 
 -- k words of a language one after another
 abbrev pub Power : (List ℕ → Type 0) → ℕ → List ℕ → Type 0

@@ -2,7 +2,7 @@
 
 ghost use Rattle.std.specs.Prelude.{◌≡◌, IfOk};
 ghost use Rattle.jp_reading.specs.Outcome.{took};
-ghost use Rattle.jp_reading.specs.Views.{Gives, with_front};
+ghost use Rattle.jp_reading.specs.Views.{Gives, with_prefix};
 ghost use Rattle.jp_iregexp.specs.Tree.{class};
 ghost use Rattle.jp_iregexp.specs.Private.Reading.{category_at, code_at, second_at, class_at};
 ghost use Rattle.jp_iregexp.specs.Private.Reading.{negation_at, items_at, elements_at};
@@ -91,7 +91,7 @@ fn items(reader: &mut Reader) -> Result<Vec<ClassItem>, Stop>
 /// These items, and item after item as long as another begins.
 fn elements(reader: &mut Reader, mut items: Vec<ClassItem>) -> Result<Vec<ClassItem>, Stop>
     ensures { Gives (λ v. v.items) result reader.new
-        (with_front items.items (elements_at reader.old)) }
+        (with_prefix items.items (elements_at reader.old)) }
 {
     'elements: while reader.is_at_one_of(Characters::Element) {
         let next = element(reader)?;

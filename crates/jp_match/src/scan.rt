@@ -27,7 +27,7 @@ pub struct Scan<'p> {
 impl<'p> Scan<'p> {
     /// A scan that has taken no character; None exactly where the pattern has more than 4,096
     /// positions. It accepts the words of the pattern's language, and with `anywhere` the texts
-    /// that end in one. The only error is want of memory.
+    /// that end in one. The only error is that memory ran out.
     pub fn new(
         alloc: Global,
         pattern: &'p Pattern,

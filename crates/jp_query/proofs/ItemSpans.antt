@@ -46,9 +46,9 @@ use Rattle.jp_query.proofs.Spans.HasItems.{joined-has_items, after-bare, before-
 use Rattle.jp_query.proofs.Spans.HasItems.{each-has_items, separated-has_items, leaf-has_items}
 use Rattle.jp_query.proofs.Spans.Written.{Written, joined-written, one-written, word-written}
 use Rattle.jp_query.proofs.Spans.Written.{int-written, literal-written}
-use Rattle.jp_query.specs.Characters.{ampersand, at_sign, bar, dollar, equals_sign}
-use Rattle.jp_query.specs.Characters.{exclamation_mark, greater_sign, less_sign}
-use Rattle.jp_query.specs.Characters.{opening_parenthesis}
+use Rattle.jp_reading.specs.Characters.{ampersand, at_sign, bar, dollar, equals_sign}
+use Rattle.jp_reading.specs.Characters.{exclamation_mark, greater_sign, less_sign}
+use Rattle.jp_reading.specs.Characters.{opening_parenthesis}
 
 -- ---- items
 

@@ -5,8 +5,8 @@ use Rattle.jp_reading.specs.Texts.{Text, Spans}
 use Rattle.jp_reading.specs.Forms.{Form, ◌⌢◌, word, Blank}
 use Rattle.jp_reading.specs.Outcome.{State, Outcome, took, ◌>>=◌, head, past, skip, passes, is}
 use Rattle.jp_reading.specs.Outcome.{expect}
-use Rattle.jp_reading.proofs.Between.{Reads, Within, Has, Stops, front-as, front-then, reads-is}
-use Rattle.jp_reading.proofs.Between.{front-none, reads-as, has-as}
+use Rattle.jp_reading.proofs.Between.{Reads, Within, Has, Stops, prefix-as, prefix-then, reads-is}
+use Rattle.jp_reading.proofs.Between.{prefix-none, reads-as, has-as}
 use Rattle.jp_reading.proofs.Joining.{after-within, nothing-before, word-joined}
 use Rattle.jp_reading.proofs.Again.{split, at-word}
 use Rattle.jp_reading.proofs.Levels.{word-has, blank-has, joined-has}
@@ -18,7 +18,7 @@ use Rattle.jp_reading.proofs.Rules.Soundness.{InnerIsSound, none_left, some_left
 use Rattle.jp_reading.proofs.Rules.Soundness.{sound-as}
 use Rattle.jp_reading.proofs.Rules.Completeness.{InnerIsComplete, done}
 use Rattle.jp_tree.specs.Tree.{ExprTree, QueryTree}
-use Rattle.jp_query.specs.Characters.{opening_parenthesis}
+use Rattle.jp_reading.specs.Characters.{opening_parenthesis}
 use Rattle.jp_query.specs.Names.{is_function_char}
 use Rattle.jp_query.specs.Grammar.{nested_expr, nested_arguments, without, Inside, Segments, Spells}
 use Rattle.jp_query.specs.Private.Rules.{nesting, opens, opened, inside_mark, expression, segments}
@@ -99,11 +99,11 @@ named-deeper : (ok : ℕ → Bool) (c : ℕ) (p : State) → head p ≡ Some c �
     → ok c ≡ true → Stops (λ r. CallFrom ok (Inside (suc zero)) r) p (past p)
 named-deeper ok c p e letter first = record {
   value = record { rest = c ∷ []; arguments = [] };
-  front = front-as (word (c ∷ []) ⌢ Parentheses (Inside (suc zero)) []) _ p (past p)
+  prefix = prefix-as (word (c ∷ []) ⌢ Parentheses (Inside (suc zero)) []) _ p (past p)
       (λ s i t g. record { letters = (letter, tt); first = first; is = g })
-      (front-then (word (c ∷ [])) (Parentheses (Inside (suc zero)) []) p (past p) (past p)
+      (prefix-then (word (c ∷ [])) (Parentheses (Inside (suc zero)) []) p (past p) (past p)
       (reads-word p c e)
-      (front-none (Parentheses (Inside (suc zero)) []) (past p) parentheses-has));
+      (prefix-none (Parentheses (Inside (suc zero)) []) (past p) parentheses-has));
 }
 
 pub or-second : (a b : Bool) → a ≡ false → (a || b) ≡ true → b ≡ true
@@ -115,9 +115,10 @@ opened-deeper : (o : rule.Opening) (c : ℕ) (p : State) → head p ≡ Some c �
     → Stops (marked (Inside (suc zero)) o) p (past p)
 opened-deeper (rule.mark m) c p e h = record {
   value = x;
-  front = front-then (word (m ∷ [])) (Blank ⌢ Inside (suc zero) (nested_expr x)) p (past p) (past p)
+  prefix = prefix-then (word (m ∷ [])) (Blank ⌢ Inside (suc zero) (nested_expr x)) p (past p)
+      (past p)
       (reads-word p m (e ∙ ap Some (eqb-true c m h)))
-      (front-none (Blank ⌢ Inside (suc zero) (nested_expr x)) (past p)
+      (prefix-none (Blank ⌢ Inside (suc zero) (nested_expr x)) (past p)
       (joined-has Blank (Inside (suc zero) (nested_expr x)) blank-has
       (has-as (form (marked (Inside zero)) expression x) (Inside (suc zero) (nested_expr x))
       (expression-same (Inside zero) x).to
@@ -141,13 +142,13 @@ opened-deeper (rule.name_on other) c p e h = way (cases_Bool (is opening_parenth
         → Stops (λ r. CallFrom ok (Inside (suc zero)) r) p (past p)
     way (inl same) = record {
       value = record { rest = []; arguments = [] };
-      front = front-as (Parentheses (Inside (suc zero)) []) _ p (past p) (λ s i t g. record {
+      prefix = prefix-as (Parentheses (Inside (suc zero)) []) _ p (past p) (λ s i t g. record {
         letters = tt;
         first = refl;
         is = nothing-before (Parentheses (Inside (suc zero)) []) s i t g;
-      }) (front-then (word (codes "(")) Empty p (past p) (past p)
+      }) (prefix-then (word (codes "(")) Empty p (past p) (past p)
           (reads-word p opening_parenthesis (e ∙ ap Some (eqb-true c opening_parenthesis same)))
-          (front-none Empty (past p) empty-has));
+          (prefix-none Empty (past p) empty-has));
     }
     way (inr letter) = named-deeper ok c p e (letter-of letter h) h
 

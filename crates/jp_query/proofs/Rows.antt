@@ -20,8 +20,8 @@ use Rattle.jp_query.proofs.Soundness.Whole.{read-spells}
 use Rattle.jp_tree.specs.declared.tree.Op.TheVariants.{Equal, LessEqual}
 use Rattle.jp_reading.specs.declared.span.Span.{Span}
 use Rattle.jp_tree.specs.Singular.{is_singular}
-use Rattle.jp_query.specs.Characters.{backslash, digit_zero, double_quote, letter_a, letter_b}
-use Rattle.jp_query.specs.Characters.{low_line, single_quote, slash}
+use Rattle.jp_reading.specs.Characters.{backslash, digit_zero, double_quote, letter_a, letter_b}
+use Rattle.jp_reading.specs.Characters.{backspace, low_line, single_quote, slash}
 
 -- a letter, a letter above ASCII and `_` begin a shorthand; a digit only goes on with one
 shorthand-rows : (is_name_first letter_a ≡ true) × (is_name_first 233 ≡ true) × (is_name_first
@@ -92,7 +92,8 @@ unfolding query_at rule.query rule.segments rule.segment rule.bracket rule.entri
 refused-rows = (refl, refl)
 
 -- the pair D83D, DE00 is U+1F600; `\b` is U+0008, and `\/` a slash
-escape-rows : (scalar_of 55357 56832 ≡ 128512) × (escaped letter_b ≡ 8) × (escaped slash ≡ 47)
+escape-rows : (scalar_of 55357 56832 ≡ 128512) × (escaped letter_b ≡ backspace)
+    × (escaped slash ≡ slash)
     × (is_escapable double_quote single_quote ≡ false) × (is_escapable single_quote
     single_quote ≡ true)
 escape-rows = (refl, refl, refl, refl, refl)

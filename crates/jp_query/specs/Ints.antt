@@ -6,7 +6,7 @@ use Rattle.jp_tree.specs.declared.tree.Numeral.TheVariants.{Whole, Beyond}
 use Rattle.jp_reading.specs.Texts.{Text, Spans}
 use Rattle.jp_reading.specs.Forms.{Form, word, One, ◌⌢◌, Each}
 use Rattle.jp_reading.specs.Numbers.{is_digit, value_from}
-use Rattle.jp_query.specs.Characters.{digit_one, digit_nine}
+use Rattle.jp_reading.specs.Characters.{digit_one, digit_nine}
 
 -- the whole number of that size, or that it is outside -(2^63) to (2^64)-1
 abbrev pub whole_of : ℕ → Numeral

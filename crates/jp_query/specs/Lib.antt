@@ -1,4 +1,3 @@
-pub mod Characters
 pub mod Grammar
 pub mod Ints
 pub mod ItemSpans

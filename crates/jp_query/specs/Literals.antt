@@ -12,7 +12,7 @@ use Rattle.jp_tree.specs.Tree.{LiteralTree, number as number_literal, text, true
 use Rattle.jp_tree.specs.Tree.{false_literal, null_literal}
 use Rattle.jp_query.specs.Ints.{Int, whole_of}
 use Rattle.jp_query.specs.Strings.{Quoted}
-use Rattle.jp_query.specs.Characters.{plus, minus, letter_e, capital_e}
+use Rattle.jp_reading.specs.Characters.{plus, minus, letter_e, capital_e}
 
 -- a text of the form, or no text (RFC 5234 section 3.8)
 pub data Optional (P : Form) (there : Bool) (s : Spans) (o : ℕ) (t : Text) : Type 0 where

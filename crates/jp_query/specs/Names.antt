@@ -3,7 +3,7 @@ use Rattle.std.specs.Prelude.{◌≡◌, ℕ, Bool, ◌&&◌, ◌||◌, nat_le, 
 use Rattle.jp_reading.specs.Texts.{Text, Spans}
 use Rattle.jp_reading.specs.Forms.{One, ◌⌢◌, Each}
 use Rattle.jp_reading.specs.Numbers.{is_digit}
-use Rattle.jp_query.specs.Characters.{capital_a, capital_z, low_line, letter_a, letter_z}
+use Rattle.jp_reading.specs.Characters.{capital_a, capital_z, low_line, letter_a, letter_z}
 
 -- name-first (section 2.5.1.1): a letter, `_`, or any scalar value from U+0080 up
 abbrev pub is_name_first : ℕ → Bool

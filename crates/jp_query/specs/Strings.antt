@@ -4,8 +4,10 @@ use Rattle.std.specs.Prelude.{if◌then◌else◌, [], ◌∷◌, codes}
 use Rattle.std.specs.Char.{digit_value}
 use Rattle.jp_reading.specs.Texts.{Text, Spans}
 use Rattle.jp_reading.specs.Forms.{Form, word, One, ◌⌢◌, Each}
-use Rattle.jp_query.specs.Characters.{space, double_quote, single_quote, backslash, slash, letter_b}
-use Rattle.jp_query.specs.Characters.{letter_f, letter_n, letter_r, letter_t}
+use Rattle.jp_reading.specs.Characters.{space, double_quote, single_quote, backslash, slash}
+use Rattle.jp_reading.specs.Characters.{letter_b}
+use Rattle.jp_reading.specs.Characters.{backspace, carriage_return, form_feed, letter_f, letter_n}
+use Rattle.jp_reading.specs.Characters.{letter_r, letter_t, line_feed, tab}
 
 -- a character that stands for itself: from U+0020 up, and neither the quotation mark around it nor
 -- a backslash (unescaped, and the other quotation mark)
@@ -22,11 +24,11 @@ is_escapable quote c =
 -- what it then stands for: U+0008, U+000C, U+000A, U+000D, U+0009, or itself
 abbrev pub escaped : ℕ → ℕ
 escaped c =
-    if c == letter_b then 8
-    else if c == letter_f then 12
-    else if c == letter_n then 10
-    else if c == letter_r then 13
-    else if c == letter_t then 9
+    if c == letter_b then backspace
+    else if c == letter_f then form_feed
+    else if c == letter_n then line_feed
+    else if c == letter_r then carriage_return
+    else if c == letter_t then tab
     else c
 
 -- HEXDIG, in either case; and one that is D, none, 0 to 7, 8 to B, and C to F

@@ -219,7 +219,7 @@ again-each F Follows begins rule moves again starts (x ∷ xs) p q h off follow 
     (again x p m parts.one (each-follows F Follows begins starts xs m q parts.two follow))
     (again-each F Follows begins rule moves again starts xs m q parts.two off follow)
 
--- a first value, and others behind a separator each
+-- a first value, and others after a separator each
 pub again-separated : {A : Type 0} (w : Form) (F : A → Form) (Follows : Text → Type 0)
     (begins : State → Bool)
     (first next : State → Outcome A) → Progress next → Again F Follows first

@@ -18,8 +18,8 @@ pub record Reads (P : Form) (p q : State) : Type 0 where
   pub way : Between p spans text q
   pub is : P spans p.at text
 
--- what stands between p and r is a front of some text of the form: with more it is one
-pub record Front (P : Form) (p r : State) : Type 0 where
+-- what stands between p and r is a prefix of some text of the form: with more it is one
+pub record Prefix (P : Form) (p r : State) : Type 0 where
   pub read : Text
   pub more : Text
   pub spans : Spans
@@ -30,9 +30,9 @@ pub record Front (P : Form) (p r : State) : Type 0 where
 -- the same for some value
 pub record Stops {A : Type 0} (F : A → Form) (p r : State) : Type 0 where
   pub value : A
-  pub front : Front (F value) p r
+  pub prefix : Prefix (F value) p r
 
--- at r stands a character, and past it stands a front of some text
+-- at r stands a character, and past it stands a prefix of some text
 pub record Passes {A : Type 0} (F : A → Form) (p r : State) : Type 0 where
   pub next : 0 < length r.rest
   pub stops : Stops F p (past r)
@@ -95,9 +95,9 @@ reads-then P Q p q r h g = record {
   };
 }
 
--- a part, and a front of the next
-pub front-then : (P Q : Form) (p q r : State) → Reads P p q → Front Q q r → Front (P ⌢ Q) p r
-front-then P Q p q r h g = record {
+-- a part, and a prefix of the next
+pub prefix-then : (P Q : Form) (p q r : State) → Reads P p q → Prefix Q q r → Prefix (P ⌢ Q) p r
+prefix-then P Q p q r h g = record {
   read = h.text ++ g.read;
   more = g.more;
   spans = h.spans ++ g.spans;
@@ -115,9 +115,9 @@ front-then P Q p q r h g = record {
   };
 }
 
--- a front of the first part, where the next has some text
-pub front-first : (P Q : Form) (p r : State) → Front P p r → Has Q → Front (P ⌢ Q) p r
-front-first P Q p r h has =
+-- a prefix of the first part, where the next has some text
+pub prefix-first : (P Q : Form) (p r : State) → Prefix P p r → Has Q → Prefix (P ⌢ Q) p r
+prefix-first P Q p r h has =
     let next = has (p.at + bytes (h.read ++ h.more)) in
     record {
       read = h.read;
@@ -150,8 +150,8 @@ reads-as P Q p q w h = record {
 pub reads-is : (P Q : Form) (p q : State) (h : Reads P p q) → Q h.spans p.at h.text → Reads Q p q
 reads-is P Q p q h is = record { spans = h.spans; text = h.text; way = h.way; is = is }
 
-pub front-as : (P Q : Form) (p r : State) → Within P Q → Front P p r → Front Q p r
-front-as P Q p r w h = record {
+pub prefix-as : (P Q : Form) (p r : State) → Within P Q → Prefix P p r → Prefix Q p r
+prefix-as P Q p r w h = record {
   read = h.read;
   more = h.more;
   spans = h.spans;
@@ -163,9 +163,9 @@ front-as P Q p r w h = record {
 pub has-as : (P Q : Form) → Within P Q → Has P → Has Q
 has-as P Q w h o = let text = h o in (text.0, text.1, w text.0 o text.1 text.2)
 
--- nothing read is a front wherever the form has a text
-pub front-none : (P : Form) (p : State) → Has P → Front P p p
-front-none P p has =
+-- nothing read is a prefix wherever the form has a text
+pub prefix-none : (P : Form) (p : State) → Has P → Prefix P p p
+prefix-none P p has =
     let text = has p.at in
     record { read = []; more = text.1; spans = text.0; rest = refl; at = omega arith; is = text.2 }
 

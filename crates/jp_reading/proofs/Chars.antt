@@ -39,7 +39,7 @@ past_blanks-off at found (c ∷ t) h = rw h refl
 pub skip-none : (p : State) → passes is_blank (head p) ≡ false → skip p ≡ p
 skip-none p h = past_blanks-off p.at p.found p.rest h
 
--- what stands behind the blanks does not hang on where they stand
+-- what stands after the blanks does not hang on where they stand
 pub past_blanks-rest : (at place : ℕ) (found spans : Spans) (t : Text)
     → (past_blanks at found t).rest ≡ (past_blanks place spans t).rest
 unfolding past_blanks

@@ -2,6 +2,7 @@
 use Rattle.std.proofs.Common.{◌≡◌, ℕ, ◌+◌, ◌-◌, ◌*◌, ◌≤◌, min, [], ◌∷◌, inl, inr, refl, sym, ap}
 use Rattle.std.proofs.Common.{◌∙◌, arith}
 use Rattle.std.proofs.lemmas.Bool.{cases_lt}
+use Rattle.jp_reading.specs.Characters as char
 use Rattle.jp_reading.specs.declared.reader.Stop.{Stop}
 use Rattle.jp_reading.specs.Texts.{Text}
 use Rattle.jp_reading.specs.Outcome.{State, Outcome, took, stuck, deep, ◌>>=◌, each}
@@ -15,11 +16,12 @@ pub digit_at-progress : Progress digit_at
 digit_at-progress p = moves-take_if is_digit p
 
 -- one more digit, by its value
-pub capped-digit : (most n d : ℕ) (ds : Text) → capped most n ((48 + d) ∷ ds) ≡ capped most
+pub capped-digit : (most n d : ℕ) (ds : Text) → capped most n ((char.digit_zero + d) ∷ ds)
+    ≡ capped most
     (min (n * 10 + d) most) ds
 capped-digit most n d ds =
     ap (λ (x : ℕ). capped most (min (n * 10 + x) most) ds)
-    (let e : 48 + d - 48 ≡ d = omega arith in e)
+    (let e : char.digit_zero + d - char.digit_zero ≡ d = omega arith in e)
 
 -- the first digit
 pub digits_at-first : {B : Type 0} (f g : Text → B) (p q : State) (c : ℕ) → digit_at p ≡ took c q
@@ -51,7 +53,8 @@ saturated n d most limit h = omega arith
 -- digits write no less than what stands before them
 pub value_from-least : (n : ℕ) (ds : Text) → n ≤ value_from n ds
 value_from-least n [] = omega arith
-value_from-least n (d ∷ ds) = let h = value_from-least (n * 10 + (d - 48)) ds in omega arith
+value_from-least n (d ∷ ds) = let h = value_from-least (n * 10 + (d - char.digit_zero)) ds in omega
+    arith
 
 -- what stands before them may be capped first
 value_from-capped : (most n : ℕ) (ds : Text) → min (value_from (min n most) ds) most ≡ min
@@ -71,8 +74,8 @@ pub capped-is_min : (most n : ℕ) (ds : Text) → n ≤ most
     → capped most n ds ≡ min (value_from n ds) most
 capped-is_min most n [] h = omega arith
 capped-is_min most n (d ∷ ds) h =
-    capped-is_min most (min (n * 10 + (d - 48)) most) ds (omega arith)
-    ∙ value_from-capped most (n * 10 + (d - 48)) ds
+    capped-is_min most (min (n * 10 + (d - char.digit_zero)) most) ds (omega arith)
+    ∙ value_from-capped most (n * 10 + (d - char.digit_zero)) ds
 
 -- no digits write more than the cap
 pub capped-took : (most n : ℕ) (o : Outcome Text) (q : State) → by (capped most 0) o ≡ took n q

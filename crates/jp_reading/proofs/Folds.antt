@@ -5,7 +5,7 @@ use Rattle.std.proofs.Common.{append_assoc, append-nil}
 use Rattle.jp_reading.specs.declared.reader.Stop.{Stop}
 use Rattle.jp_reading.specs.declared.reader.Stop.TheVariants.{Memory, Syntax, TooDeep}
 use Rattle.jp_reading.specs.Outcome.{State, Outcome, took, stuck, deep, ◌>>=◌, each}
-use Rattle.jp_reading.specs.Views.{Fails, by, with_front}
+use Rattle.jp_reading.specs.Views.{Fails, by, with_prefix}
 use Rattle.jp_reading.proofs.Progress.{Progress}
 use Rattle.jp_reading.proofs.Loops.{each-on, each-off, round}
 
@@ -49,24 +49,24 @@ folds_fail begins rule h f p e on failed =
     rw (each-on begins rule h p on)
     (fails-then e (round (rule p) (each begins rule)) _ (fails-then e (rule p) _ failed))
 
--- nothing in front changes nothing
-pub with_front-nil : {A : Type 0} (o : Outcome (List A)) → with_front [] o ≡ o
-with_front-nil (took xs q) = refl
-with_front-nil (stuck q) = refl
-with_front-nil (deep q) = refl
+-- nothing in prefix changes nothing
+pub with_prefix-nil : {A : Type 0} (o : Outcome (List A)) → with_prefix [] o ≡ o
+with_prefix-nil (took xs q) = refl
+with_prefix-nil (stuck q) = refl
+with_prefix-nil (deep q) = refl
 
 -- a loop that pushes each value to a list: a round more, and its end
 pub pushes_on : {A : Type 0} (begins : State → Bool) (rule : State → Outcome A) → Progress rule
     → (xs : List A)
     (p q : State) (x : A) → begins p ≡ true → rule p ≡ took x q
-    → with_front xs (each begins rule p) ≡ with_front (xs ++ x ∷ []) (each begins rule q)
+    → with_prefix xs (each begins rule p) ≡ with_prefix (xs ++ x ∷ []) (each begins rule q)
 pushes_on begins rule h xs p q x on e =
     folds_on begins rule h (λ ys. xs ++ ys) (λ ys. (xs ++ x ∷ []) ++ ys) p q x on e
     (λ ys. sym (append_assoc xs (x ∷ []) ys))
 
 pub pushes_end : {A : Type 0} (begins : State → Bool) (rule : State → Outcome A) (xs : List A)
     (p : State)
-    → begins p ≡ false → with_front xs (each begins rule p) ≡ took xs p
+    → begins p ≡ false → with_prefix xs (each begins rule p) ≡ took xs p
 pushes_end begins rule xs p off = folds_end begins rule (λ ys. xs ++ ys) p off
     ∙ ap (λ ys. took ys p) (append-nil xs)
 

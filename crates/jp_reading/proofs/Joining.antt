@@ -91,8 +91,8 @@ joined-word P s o t h =
     let text : t ≡ h.first = h.is ∙ ap (λ u. h.first ++ u) h.two.is ∙ append-nil h.first in
     rw (spans, text) h.one
 
-pub word-behind : (P : Form) → Within P (P ⌢ word [])
-word-behind P s o t h = record {
+pub word-after : (P : Form) → Within P (P ⌢ word [])
+word-after P s o t h = record {
   first_spans = s;
   second_spans = [];
   first = t;
@@ -106,7 +106,7 @@ word-behind P s o t h = record {
 -- one more at the end
 pub each-append : {A : Type 0} (F : A → Form) (xs : List A) (y : A)
     → Within (Each F xs ⌢ F y) (Each F (xs ++ y ∷ []))
-each-append F [] y s o t h = word-behind (F y) s o t (word-joined (F y) s o t h)
+each-append F [] y s o t h = word-after (F y) s o t (word-joined (F y) s o t h)
 each-append F (x ∷ xs) y s o t h =
     joined-lifts (F x) (F x) (Each F xs ⌢ F y) (Each F (xs ++ y ∷ [])) (λ r i u g. g)
     (each-append F xs y) s o t
@@ -128,9 +128,9 @@ joined-only P y x s o t h = (
 -- a value, after a text
 pub only-after : {A : Type 0} (P : Form) (y : A) → Within P (P ⌢ Only y (word []) y)
 only-after P y s o t h =
-    joined-both P P (word []) (Only y (word []) y) s o t (word-behind P s o t h)
-    (word-behind P s o t h).one
-    (record { same = refl; is = (word-behind P s o t h).two })
+    joined-both P P (word []) (Only y (word []) y) s o t (word-after P s o t h)
+    (word-after P s o t h).one
+    (record { same = refl; is = (word-after P s o t h).two })
 
 -- a part, and a text after it
 pub ends-within : {A B : Type 0} (F : A → Form) (P : Form) (f : A → B) (y : B)

@@ -1,4 +1,4 @@
--- Reading a text, and reading it with more behind it: the same happens, unless reading comes to the
+-- Reading a text, and reading it with more after it: the same happens, unless reading comes to the
 -- end of the shorter text.
 use Rattle.std.proofs.Common.{◌≡◌, ℕ, zero, suc, ◌+◌, ◌≤◌, Bool, true, false, if◌then◌else◌, []}
 use Rattle.std.proofs.Common.{◌∷◌, ◌++◌, length, Option, Some, None, inl, inr, refl, ap}
@@ -15,17 +15,17 @@ use Rattle.jp_reading.proofs.Chars.{past_blanks-rest, skip-shorter}
 use Rattle.jp_reading.proofs.Progress.{Progress, past-keeps}
 use Rattle.jp_reading.proofs.Loops.{loop-same}
 
--- a reader with more text behind its own
+-- a reader with more text after its own
 abbrev pub longer : Text → State → State
 longer u p = record { at = p.at; rest = p.rest ++ u; found = p.found }
 
--- the same outcome, with more text behind
+-- the same outcome, with more text after
 abbrev pub extended : {A : Type 0} → Text → Outcome A → Outcome A
 extended u (took x q) = took x (longer u q)
 extended u (stuck q) = stuck (longer u q)
 extended u (deep q) = deep (longer u q)
 
--- how many characters are to be looked at yet: all, or those behind the blanks that stand next
+-- how many characters are to be looked at yet: all, or those after the blanks that stand next
 abbrev pub all : Text → ℕ
 all t = length t
 
@@ -38,15 +38,15 @@ Ends left m (took x q) = left q.rest ≤ m
 Ends left m (stuck q) = length q.rest ≤ m
 Ends left m (deep q) = length q.rest ≤ m
 
--- two outcomes, the second with the text u behind: the same, or the first came to the end of its
+-- two outcomes, the second with the text u after: the same, or the first came to the end of its
 -- text and the second to u
 pub data Agrees {A : Type 0} (left : Text → ℕ) (u : Text) (o v : Outcome A) : Type 0 where
   same : v ≡ extended u o → Agrees left u o v
   ended : Ends left 0 o → Ends left (length u) v → Agrees left u o v
 
--- a rule looks at a text from its front on: where `before` says how much is left as it begins, and
+-- a rule looks at a text from its prefix on: where `before` says how much is left as it begins, and
 -- `after` as it ends,
--- it never goes back, and what stands behind the text that it looks at changes nothing
+-- it never goes back, and what stands after the text that it looks at changes nothing
 pub record Local {A : Type 0} (before after : Text → ℕ) (rule : State → Outcome A) : Type 0 where
   pub ends : (m : ℕ) (p : State) → before p.rest ≤ m → Ends after m (rule p)
   pub agrees : (u : Text) (p : State) → Agrees after u (rule p) (rule (longer u p))
@@ -197,7 +197,7 @@ local-take_if ok = record {
     longer-taken u at found (c ∷ t) =
         elim (cases_Bool (ok c)) [ inl on ↦ rw on (same refl) | inr off ↦ rw off (same refl) ]
 
--- blanks are skipped alike, unless there is nothing behind them
+-- blanks are skipped alike, unless there is nothing after them
 data Skips (u : Text) (at : ℕ) (found : Spans) (t : Text) : Type 0 where
   alike : past_blanks at found (t ++ u) ≡ longer u (past_blanks at found t) → Skips u at found t
   none_behind : (past_blanks at found t).rest ≡ []
@@ -216,7 +216,7 @@ skips u at found (c ∷ t) =
     on blank (alike e) = alike (rw blank e)
     on blank (none_behind e k) = none_behind (rw blank e) (rw blank k)
 
--- behind blanks there is as much wherever they stand
+-- after blanks there is as much wherever they stand
 pub unblanked-skip : (p : State) → unblanked p.rest ≡ length (skip p).rest
 unblanked-skip p = ap length (past_blanks-rest 0 p.at [] p.found p.rest)
 

@@ -1,19 +1,20 @@
 -- The definitions at work.
-use Rattle.std.proofs.Common.{◌≡◌, ℕ, true, false, [], ◌∷◌, Some, refl}
+use Rattle.std.proofs.Common.{◌≡◌, ℕ, true, false, [], ◌∷◌, Some, codes, refl}
+use Rattle.jp_reading.specs.Characters as char
 use Rattle.jp_reading.specs.Texts.{bytes, is_blank}
 use Rattle.jp_reading.specs.Outcome.{took, stuck, deep, past_blanks, skip, expect, loop, item_since}
 use Rattle.jp_reading.specs.Outcome.{enter}
 use Rattle.jp_reading.specs.Numbers.{is_digit, digits_at, value_from, capped}
 
 -- `é[` takes three bytes, `😀` four
-bytes-row : bytes (233 ∷ 91 ∷ []) ≡ 3
+bytes-row : bytes (233 ∷ char.opening_bracket ∷ []) ≡ 3
 bytes-row = refl
 
 bytes-astral_row : bytes (128512 ∷ []) ≡ 4
 bytes-astral_row = refl
 
 -- a tab is blank; U+000B, U+000C and U+00A0 are not
-tab-row : is_blank 9 ≡ true
+tab-row : is_blank char.tab ≡ true
 unfolding is_blank
 tab-row = refl
 
@@ -21,7 +22,7 @@ vertical_tab-row : is_blank 11 ≡ false
 unfolding is_blank
 vertical_tab-row = refl
 
-form_feed-row : is_blank 12 ≡ false
+form_feed-row : is_blank char.form_feed ≡ false
 unfolding is_blank
 form_feed-row = refl
 
@@ -37,34 +38,36 @@ arabic_zero-row = refl
 -- from byte 2 past a space and a line feed
 skip-row : skip (record {
   at = 2;
-  rest = 32 ∷ 10 ∷ 91 ∷ 32 ∷ [];
+  rest = codes " \n[ ";
   found = [];
-}) ≡ record { at = 4; rest = 91 ∷ 32 ∷ []; found = [] }
+}) ≡ record { at = 4; rest = codes "[ "; found = [] }
 unfolding past_blanks is_blank
 skip-row = refl
 
 -- a quotation mark, where one stands and where none does
-expect-row : expect 39 (record { at = 1; rest = 39 ∷ 93 ∷ []; found = [] }) ≡ took 39
-    (record { at = 2; rest = 93 ∷ []; found = [] })
+expect-row : expect char.single_quote (record { at = 1; rest = codes "']"; found = [] })
+    ≡ took char.single_quote
+    (record { at = 2; rest = codes "]"; found = [] })
 expect-row = refl
 
-expect-stuck_row : expect 39 (record { at = 1; rest = 93 ∷ []; found = [] }) ≡ stuck
-    (record { at = 1; rest = 93 ∷ []; found = [] })
+expect-stuck_row : expect char.single_quote (record { at = 1; rest = codes "]"; found = [] })
+    ≡ stuck
+    (record { at = 1; rest = codes "]"; found = [] })
 expect-stuck_row = refl
 
 -- the digits of `340]`, what they write, and what they write up to 53
-digits-row : digits_at (record { at = 1; rest = 51 ∷ 52 ∷ 48 ∷ 93 ∷ []; found = [] })
-    ≡ took (51 ∷ 52 ∷ 48 ∷ []) (record { at = 4; rest = 93 ∷ []; found = [] })
+digits-row : digits_at (record { at = 1; rest = codes "340]"; found = [] })
+    ≡ took (codes "340") (record { at = 4; rest = codes "]"; found = [] })
 unfolding digits_at loop is_digit
 digits-row = refl
 
-value-row : value_from 0 (51 ∷ 52 ∷ 48 ∷ []) ≡ 340
+value-row : value_from 0 (codes "340") ≡ 340
 value-row = refl
 
-capped-row : capped 53 0 (51 ∷ 52 ∷ 48 ∷ []) ≡ 53
+capped-row : capped 53 0 (codes "340") ≡ 53
 capped-row = refl
 
--- an item from byte 0 to byte 4, round one from 1 to 3
+-- an item from byte 0 to byte 4, around one from 1 to 3
 item-row : item_since 0 0 (record {
   at = 4;
   rest = [];
@@ -78,7 +81,7 @@ item-row : item_since 0 0 (record {
 item-row = refl
 
 -- with no level left nothing is entered
-enter-row : enter {A = ℕ} 0 (record { at = 7; rest = 40 ∷ []; found = [] })
+enter-row : enter {A = ℕ} 0 (record { at = 7; rest = codes "("; found = [] })
     (λ n. took n (record { at = 8; rest = []; found = [] }))
-    ≡ deep (record { at = 7; rest = 40 ∷ []; found = [] })
+    ≡ deep (record { at = 7; rest = codes "("; found = [] })
 enter-row = refl

@@ -90,7 +90,7 @@ pub nothing-before : {P : Form} → Same (word [] ⌢ P) P
 nothing-before {P} = record { to = text.word-joined P; from = text.nothing-before P }
 
 pub nothing-after : {P : Form} → Same (P ⌢ word []) P
-nothing-after {P} = record { to = text.joined-word P; from = text.word-behind P }
+nothing-after {P} = record { to = text.joined-word P; from = text.word-after P }
 
 pub words : (v w : Text) → Same (word v ⌢ word w) (word (v ++ w))
 words v w = record { to = words-join v w; from = words-apart v w }
@@ -133,7 +133,7 @@ either-flip = record {
   from = ways (λ s o t. right) (λ s o t. left);
 }
 
--- two ways of two, the other way round
+-- two ways of two, the other way around
 pub either-cross : {P Q R S : Form}
     → Same (Either (Either P Q) (Either R S)) (Either (Either P R) (Either Q S))
 either-cross = record {

@@ -6,11 +6,11 @@ use Rattle.jp_reading.specs.declared.span.Span.{Span}
 use Rattle.jp_reading.specs.Texts.{Spans, bytes}
 use Rattle.jp_reading.specs.Forms.{Form, ◌⌢◌, Item}
 use Rattle.jp_reading.specs.Outcome.{State, item_since}
-use Rattle.jp_reading.proofs.Between.{Front, Reads, Stops, Has, Within, front-then, front-first}
-use Rattle.jp_reading.proofs.Between.{front-as}
+use Rattle.jp_reading.proofs.Between.{Prefix, Reads, Stops, Has, Within, prefix-then, prefix-first}
+use Rattle.jp_reading.proofs.Between.{prefix-as}
 use Rattle.jp_reading.proofs.Levels.{Then, Made}
 
--- a front of the first part is one of the whole, where what goes on from each value has some text
+-- a prefix of the first part is one of the whole, where what goes on from each value has some text
 pub stops-first : {A B : Type 0} (F : A → Form) (H : A → B → Form) (p r : State)
     → ((x : A) → (y : B) × Has (H x y)) → Stops F p r → Stops (Then F H) p r
 stops-first F H p r next h =
@@ -18,40 +18,40 @@ stops-first F H p r next h =
     let y = next x in
     record {
       value = y.0;
-      front = front-as (F x ⌢ H x y.0) (Then F H y.0) p r (λ s o t g. record { part = x; is = g })
-          (front-first (F x) (H x y.0) p r h.front y.1);
+      prefix = prefix-as (F x ⌢ H x y.0) (Then F H y.0) p r (λ s o t g. record { part = x; is = g })
+          (prefix-first (F x) (H x y.0) p r h.prefix y.1);
     }
 
--- so is the first part with a front of what goes on
+-- so is the first part with a prefix of what goes on
 pub stops-then : {A B : Type 0} (F : A → Form) (H : A → B → Form) (x : A) (p q r : State)
     → Reads (F x) p q → Stops (H x) q r → Stops (Then F H) p r
 stops-then F H x p q r h g = record {
   value = g.value;
-  front = front-as (F x ⌢ H x g.value) (Then F H g.value) p r
+  prefix = prefix-as (F x ⌢ H x g.value) (Then F H g.value) p r
       (λ s o t k. record { part = x; is = k })
-      (front-then (F x) (H x g.value) p q r h g.front);
+      (prefix-then (F x) (H x g.value) p q r h g.prefix);
 }
 
 pub stops-as : {A : Type 0} (F G : A → Form) (p r : State) → ((x : A) → Within (F x) (G x))
     → Stops F p r → Stops G p r
 stops-as F G p r w h = record {
   value = h.value;
-  front = front-as (F h.value) (G h.value) p r (w h.value) h.front;
+  prefix = prefix-as (F h.value) (G h.value) p r (w h.value) h.prefix;
 }
 
 pub stops-made : {A B : Type 0} (f : A → B) (F : A → Form) (p r : State) → Stops F p r
     → Stops (Made f F) p r
 stops-made f F p r h = record {
   value = f h.value;
-  front = front-as (F h.value) (Made f F (f h.value)) p r (λ s o t g. record {
+  prefix = prefix-as (F h.value) (Made f F (f h.value)) p r (λ s o t g. record {
     part = h.value;
     same = refl;
     is = g;
-  }) h.front;
+  }) h.prefix;
 }
 
-pub front-item : (P : Form) (p r : State) → Front P p r → Front (Item P) p r
-front-item P p r h = record {
+pub prefix-item : (P : Form) (p r : State) → Prefix P p r → Prefix (Item P) p r
+prefix-item P p r h = record {
   read = h.read;
   more = h.more;
   spans = Some (record { start = p.at; end = p.at + bytes (h.read ++ h.more) }) ∷ h.spans;

@@ -1,3 +1,4 @@
+pub mod Characters
 pub mod Forms
 pub mod Numbers
 pub mod Outcome

@@ -34,5 +34,5 @@ abbrev pub by : {A B : Type 0} → (A → B) → Outcome A → Outcome B
 by f o = o >>= λ x p. took (f x) p
 
 -- the rule's list after another
-abbrev pub with_front : {A : Type 0} → List A → Outcome (List A) → Outcome (List A)
-with_front xs o = by (λ ys. xs ++ ys) o
+abbrev pub with_prefix : {A : Type 0} → List A → Outcome (List A) → Outcome (List A)
+with_prefix xs o = by (λ ys. xs ++ ys) o

@@ -1,5 +1,5 @@
 -- Worked rows of the definitions.
-use Rattle.std.proofs.Common.{◌≡◌, true, false, pos, negsuc, [], ◌∷◌, Some, None, refl}
+use Rattle.std.proofs.Common.{◌≡◌, true, false, pos, negsuc, [], ◌∷◌, Some, None, codes, refl}
 use Rattle.jp_document.specs.Location.{Location, named, nth}
 use Rattle.jp_document.specs.Value.{Value, null, boolean, whole, text, list}
 use Rattle.jp_document.specs.Value.{object, no_items, item, no_members, member}
@@ -46,18 +46,18 @@ before_the_first = refl
 abbrev nested_nulls : Value
 nested_nulls =
     object
-    (member (97 ∷ []) (list (item null (item (list (item null no_items)) no_items)))
-    (member (98 ∷ []) null no_members))
+    (member (codes "a") (list (item null (item (list (item null no_items)) no_items)))
+    (member (codes "b") null no_members))
 
 abbrev at_a : Location
-at_a = named (97 ∷ []) ∷ []
+at_a = named (codes "a") ∷ []
 
 subtree_root : subtree nested_nulls [] ≡
-    [] ∷ at_a ∷ (named (97 ∷ []) ∷ nth 0 ∷ []) ∷ (named (97 ∷ []) ∷ nth 1 ∷ []) ∷ (named
-    (97 ∷ []) ∷ nth 1 ∷ nth 0 ∷ []) ∷ (named (98 ∷ []) ∷ []) ∷ []
+    [] ∷ at_a ∷ (named (codes "a") ∷ nth 0 ∷ []) ∷ (named (codes "a") ∷ nth 1 ∷ []) ∷ (named
+    (codes "a") ∷ nth 1 ∷ nth 0 ∷ []) ∷ (named (codes "b") ∷ []) ∷ []
 subtree_root = refl
 
-subtree_leaf : subtree nested_nulls (named (98 ∷ []) ∷ []) ≡ (named (98 ∷ []) ∷ []) ∷ []
+subtree_leaf : subtree nested_nulls (named (codes "b") ∷ []) ≡ (named (codes "b") ∷ []) ∷ []
 subtree_leaf = refl
 
 subtree_nothing : subtree nested_nulls (nth 3 ∷ []) ≡ []
@@ -71,7 +71,7 @@ nothing_is_nothing = refl
 nothing_is_not_null : compared Equal None (Some null) ≡ false
 nothing_is_not_null = refl
 
-number_is_no_text : compared Equal (Some (whole (pos 13))) (Some (text (49 ∷ 51 ∷ []))) ≡ false
+number_is_no_text : compared Equal (Some (whole (pos 13))) (Some (text (codes "13"))) ≡ false
 number_is_no_text = refl
 
 object_at_most_itself : compared LessEqual (Some nested_nulls) (Some nested_nulls) ≡ true
@@ -91,5 +91,5 @@ true_at_most_true = refl
 higher_scalar : precedes (0xffff ∷ []) (0x1f600 ∷ []) ≡ true
 higher_scalar = refl
 
-longer_text : precedes (97 ∷ []) (97 ∷ 97 ∷ []) ≡ true
+longer_text : precedes (codes "a") (codes "aa") ≡ true
 longer_text = refl

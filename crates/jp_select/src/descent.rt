@@ -11,8 +11,8 @@ use jp_document::{Node, child_count, nth_child};
 use std::alloc::{AllocError, Global};
 
 /// The node and all its descendants, in document order: each node before its descendants, siblings
-/// in the order of their parent's children (RFC 9535 section 2.5.2.2). The only error is want of
-/// memory.
+/// in the order of their parent's children (RFC 9535 section 2.5.2.2). The only error is that
+/// memory ran out.
 pub fn descend<'d>(alloc: Global, node: Node<'d>) -> Result<Vec<Node<'d>>, AllocError>
     ensures { (d : Value) → StandsIn d (node_of node.entry) → IfOk result
         (λ nodes. AreNodes d (map node_of nodes.items) (subtree d node.entry.location)) }

@@ -17,8 +17,8 @@ use std::alloc::{AllocError, Global};
 ///
 /// In the selector's order (section 2.3): of an object the member of that name; of any value all
 /// children; of a list the item at that index, or the items of that slice. An index or a slice with
-/// a number that is not whole, or beyond 64 bits, selects nothing. The only error is want of
-/// memory.
+/// a number that is not whole, or beyond 64 bits, selects nothing. The only error is that
+/// memory ran out.
 pub fn select_plain<'d>(
     alloc: Global,
     node: &Node<'d>,

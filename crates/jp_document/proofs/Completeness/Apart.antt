@@ -1,6 +1,7 @@
 -- Each rule of paths tells its ways, and what follows it, by the next character: for completeness.
 use Rattle.std.proofs.Common.{ℕ, Bool, true, false, Option, Some, None, refl, arith}
 use Rattle.std.proofs.lemmas.Bool.Decides.{nat_tests}
+use Rattle.jp_reading.specs.Characters as char
 use Rattle.jp_reading.specs.Numbers.{is_digit}
 use Rattle.jp_reading.specs.Outcome.{is}
 use Rattle.jp_reading.proofs.Rules.Follow.{Follow, anything, any, beginning, either_of}
@@ -40,7 +41,7 @@ name-apart K = (
   (
     (
       record {
-        again = under-left (beginning (is 39));
+        again = under-left (beginning (is char.single_quote));
         on = record { end = refl; next = λ c h. grind (arith, nat_tests) };
         off = λ c h. grind (arith, nat_tests);
       },
@@ -57,7 +58,7 @@ unfolding rule.index rule.size is_digit
 index-apart K off = (
   λ c h. grind (arith, nat_tests),
   tt,
-  (tt, λ d. under-same, λ d. apart-run nesting (λ o. any) is_digit (48, refl) K off),
+  (tt, λ d. under-same, λ d. apart-run nesting (λ o. any) is_digit (char.digit_zero, refl) K off),
 )
 
 step-apart : (K : Follow) → Apart {N = nesting} (λ o. any) rule.step step-alive K
@@ -68,9 +69,9 @@ step-apart K = (
     (
       implies-same,
       λ c h. grind (arith, nat_tests),
-      name-apart (beginning (is 93)),
+      name-apart (beginning (is char.closing_bracket)),
       index-apart
-          (beginning (is 93)) (λ c h. grind (arith, nat_tests)),
+          (beginning (is char.closing_bracket)) (λ c h. grind (arith, nat_tests)),
     ),
     λ k. under-same,
     λ k. (tt, tt),

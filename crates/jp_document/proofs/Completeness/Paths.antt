@@ -6,6 +6,7 @@ use Rattle.std.proofs.lemmas.Str.{length-encode, len_utf8_bounds}
 use Rattle.std.specs.Char.{encode_utf8}
 use Rattle.std.specs.List.{flat_map}
 use Rattle.std.specs.Str.{encode_utf8_all}
+use Rattle.jp_reading.specs.Characters as char
 use Rattle.jp_reading.specs.Texts.{Text}
 use Rattle.jp_reading.specs.Forms.{Each}
 use Rattle.jp_reading.specs.Numbers.{is_digit, value_from}
@@ -26,7 +27,7 @@ use Rattle.jp_document.specs.Private.PathRules as rule
 use Rattle.jp_document.proofs.Paths.Alive.{path-alive}
 use Rattle.jp_document.proofs.Completeness.Apart.{at_end, path-apart}
 use Rattle.jp_document.proofs.Completeness.Names.{Begins, enclosed-has, name-begins}
-use Rattle.jp_document.proofs.Spellings.Encoded.{front-ascii, first-ascii, digits-ascii}
+use Rattle.jp_document.proofs.Spellings.Encoded.{prefix-ascii, first-ascii, digits-ascii}
 use Rattle.jp_document.proofs.Spellings.Indexes.{value_from-index_text, digits-index_text}
 use Rattle.jp_document.proofs.Spellings.Indexes.{Begun, zero_text, other_text, begun}
 use Rattle.jp_document.proofs.Paths.LargeIndexes.{capped_key}
@@ -35,7 +36,8 @@ use Rattle.jp_document.proofs.Soundness.Names.{form_of}
 
 -- ---- steps
 
-is_leading_digit-above_zero : (d : ℕ) → is_digit d ≡ true → 48 < d → is_leading_digit d ≡ true
+is_leading_digit-above_zero : (d : ℕ) → is_digit d ≡ true → char.digit_zero < d → is_leading_digit d
+    ≡ true
 unfolding is_digit
 is_leading_digit-above_zero d digit above = grind (arith, nat_tests)
 
@@ -44,7 +46,7 @@ index-has : (n : ℕ) (w : Text) → Begun n w → w ≡ index_text n
 unfolding rule.index rule.size
 index-has n w (zero_text z is) text =
     has-same (sym is) (has-as (λ s o h. left h)
-    (both (has-word (48 ∷ [])) (has-as (λ s o h. record { same = omega arith; is = h })
+    (both (has-word (char.digit_zero ∷ [])) (has-as (λ s o h. record { same = omega arith; is = h })
     (has-word []))))
 index-has n w (other_text d ds is digit all above) text =
     let value : min n 9007199254740992 ≡ _ =
@@ -60,30 +62,33 @@ key-begins : (k : Key) (t : Text) (w : List ℕ) → encode_utf8_all t ≡ step_
     → Begins (form_of rule.step (capped_key k)) t w
 unfolding rule.step rule.key
 key-begins (named s) t w h =
-    let bracket = first-ascii 91 t _ (omega arith) (h ∙ step-named s w) in
-    let name = name-begins s bracket.0 (93 ∷ w) bracket.2 in
-    let end = first-ascii 93 name.rest w (omega arith) name.leaves in
+    let bracket = first-ascii char.opening_bracket t _ (omega arith) (h ∙ step-named s w) in
+    let name = name-begins s bracket.0 (char.closing_bracket ∷ w) bracket.2 in
+    let end = first-ascii char.closing_bracket name.rest w (omega arith) name.leaves in
     record {
-      text = 91 ∷ (name.text ++ 93 ∷ []);
+      text = char.opening_bracket ∷ (name.text ++ char.closing_bracket ∷ []);
       rest = end.0;
-      is = bracket.1 ∙ ap (λ x. 91 ∷ x)
-          (name.is ∙ ap (λ x. name.text ++ x) end.1 ∙ sym (append_assoc name.text (93 ∷ []) end.0));
-      has = enclosed-has (form_of rule.key) 91 93 (named s) name.text
+      is = bracket.1 ∙ ap (λ x. char.opening_bracket ∷ x)
+          (name.is ∙ ap (λ x. name.text ++ x) end.1
+          ∙ sym (append_assoc name.text (char.closing_bracket ∷ []) end.0));
+      has = enclosed-has (form_of rule.key) char.opening_bracket char.closing_bracket (named s)
+          name.text
           (has-as (λ s o g. left (record { part = _; same = refl; is = g })) name.has);
       leaves = end.2;
     }
 key-begins (nth n) t w h =
-    let bracket = first-ascii 91 t _ (omega arith) (h ∙ step-nth n w) in
-    let index = front-ascii (index_text n) bracket.0 (93 ∷ w)
+    let bracket = first-ascii char.opening_bracket t _ (omega arith) (h ∙ step-nth n w) in
+    let index = prefix-ascii (index_text n) bracket.0 (char.closing_bracket ∷ w)
     (digits-ascii (index_text n) (digits-index_text n)) bracket.2 in
-    let end = first-ascii 93 index.0 w (omega arith) index.2 in
+    let end = first-ascii char.closing_bracket index.0 w (omega arith) index.2 in
     record {
-      text = 91 ∷ (index_text n ++ 93 ∷ []);
+      text = char.opening_bracket ∷ (index_text n ++ char.closing_bracket ∷ []);
       rest = end.0;
-      is = bracket.1 ∙ ap (λ x. 91 ∷ x)
+      is = bracket.1 ∙ ap (λ x. char.opening_bracket ∷ x)
           (index.1 ∙ ap (λ x. index_text n ++ x) end.1
-          ∙ sym (append_assoc (index_text n) (93 ∷ []) end.0));
-      has = enclosed-has (form_of rule.key) 91 93 (nth (min n 9007199254740992)) (index_text n)
+          ∙ sym (append_assoc (index_text n) (char.closing_bracket ∷ []) end.0));
+      has = enclosed-has (form_of rule.key) char.opening_bracket char.closing_bracket
+          (nth (min n 9007199254740992)) (index_text n)
           (has-as (λ s o g. right (record { part = _; same = refl; is = g }))
           (index-has n (index_text n) (begun n) refl));
       leaves = end.2;
@@ -108,8 +113,8 @@ path-has : (t : Text) (l : Location) → encode_utf8_all t ≡ path_of l
     → HasForm (form_of rule.path (map capped_key l)) t
 unfolding rule.path rule.steps
 path-has t l h =
-    let dollar = first-ascii 36 t (flat_map step_text l) (omega arith) h in
-    has-same (sym dollar.1) (both (has-word (36 ∷ [])) (steps-has l dollar.0 dollar.2))
+    let dollar = first-ascii char.dollar t (flat_map step_text l) (omega arith) h in
+    has-same (sym dollar.1) (both (has-word (char.dollar ∷ [])) (steps-has l dollar.0 dollar.2))
 
 -- the path of each list of steps is read
 pub path-complete : (t : Text) (l : Location) → encode_utf8_all t ≡ path_of l

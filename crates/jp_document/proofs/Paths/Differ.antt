@@ -3,6 +3,7 @@
 use Rattle.std.proofs.Common.{◌≡◌, ℕ, ◌/◌, ◌%◌, ◌<◌, true, false, List, [], ◌∷◌, ◌++◌}
 use Rattle.std.proofs.Common.{get_or, Some, refl, sym, ap, ◌∙◌, append_assoc, arith}
 use Rattle.std.specs.List.{flat_map}
+use Rattle.jp_reading.specs.Characters as char
 use Rattle.jp_reading.specs.Forms.{AllPassing}
 use Rattle.jp_reading.specs.Numbers.{is_digit, value_from}
 use Rattle.jp_document.specs.Laws.{PathsDiffer, NodesDiffer}
@@ -17,36 +18,37 @@ use Rattle.jp_document.proofs.Spellings.Indexes.{Begun, zero_text, other_text, b
 use Rattle.jp_document.proofs.Spellings.Characters.{Spelled, by_letter, by_number}
 use Rattle.jp_document.proofs.Spellings.Characters.{by_itself, spelled, hex_digit_is}
 
--- the front and the rest of two equal texts
+-- the prefix and the rest of two equal texts
 abbrev Same : {A : Type 0} → A → A → List ℕ → List ℕ → Type 0
 Same a b x y = (a ≡ b) × (x ≡ y)
 
 hex-same : (m n : ℕ) → m < 16 → n < 16 → hex_digit m ≡ hex_digit n → m ≡ n
 hex-same m n a b e = sym (hex_digit_is m a).1 ∙ ap hex_value e ∙ (hex_digit_is n b).1
 
--- what follows two equal fronts, with the fronts as they are spelled
+-- what follows two equal prefixes, with the prefixes as they are spelled
 spelled-same : {v w a b : List ℕ} (x y : List ℕ) → v ≡ a → w ≡ b → v ++ x ≡ w ++ y →
     a ++ x ≡ b ++ y
 spelled-same x y is was h = ap (λ t. t ++ x) (sym is) ∙ h ∙ ap (λ t. t ++ y) was
 
-plain-no_slash : (c : ℕ) (x y : List ℕ) → is_plain c ≡ true → 92 ∷ x ≡ c ∷ y → ⊥
+plain-no_slash : (c : ℕ) (x y : List ℕ) → is_plain c ≡ true → char.backslash ∷ x ≡ c ∷ y → ⊥
 unfolding is_plain
 plain-no_slash c x y plain same =
-    let slash : c ≡ 92 = cc in
+    let slash : c ≡ char.backslash = cc in
     let no : true ≡ false = sym plain ∙ ap is_plain slash in
     cc
 
-letter-no_u : (e : ℕ) (x y : List ℕ) → is_letter e ≡ true → 92 ∷ e ∷ x ≡ 92 ∷ 117 ∷ y → ⊥
+letter-no_u : (e : ℕ) (x y : List ℕ) → is_letter e ≡ true → char.backslash ∷ e ∷ x
+    ≡ char.backslash ∷ char.letter_u ∷ y → ⊥
 unfolding is_letter
 letter-no_u e x y letter same =
-    let u : e ≡ 117 = cc in
+    let u : e ≡ char.letter_u = cc in
     let no : true ≡ false = sym letter ∙ ap is_letter u in
     cc
 
 -- no character's spelling begins another's
 cancel : (c d : ℕ) (v w x y : List ℕ) → Spelled c v → Spelled d w → v ++ x ≡ w ++ y → Same c d x y
 cancel c d v w x y (by_letter e l m is) (by_letter f k n was) h =
-    let same : 92 ∷ e ∷ x ≡ 92 ∷ f ∷ y = spelled-same x y is was h in
+    let same : char.backslash ∷ e ∷ x ≡ char.backslash ∷ f ∷ y = spelled-same x y is was h in
     let letters : e ≡ f = cc in
     (m ∙ ap meant letters ∙ sym n, cc)
 cancel c d v w x y (by_letter e l m is) (by_number low o was) h =
@@ -73,30 +75,37 @@ cancel c d v w x y (by_itself p is) (by_itself q was) h =
     (cc, cc)
 
 -- none begins with the quote
-no_quote : (c : ℕ) (w x y : List ℕ) → Spelled c w → 39 ∷ x ≡ w ++ y → ⊥
+no_quote : (c : ℕ) (w x y : List ℕ) → Spelled c w → char.single_quote ∷ x ≡ w ++ y → ⊥
 unfolding is_plain
 no_quote c w x y (by_letter e l m is) h =
-    let at : ◌≡◌ {A = ℕ} 39 92 = ap (λ t. get_or t 0 0) (h ∙ ap (λ t. t ++ y) is) in omega arith
+    let at : ◌≡◌ {A = ℕ} char.single_quote char.backslash = ap (λ t. get_or t 0 0)
+    (h ∙ ap (λ t. t ++ y) is) in omega arith
 no_quote c w x y (by_number low o is) h =
-    let at : ◌≡◌ {A = ℕ} 39 92 = ap (λ t. get_or t 0 0) (h ∙ ap (λ t. t ++ y) is) in omega arith
+    let at : ◌≡◌ {A = ℕ} char.single_quote char.backslash = ap (λ t. get_or t 0 0)
+    (h ∙ ap (λ t. t ++ y) is) in omega arith
 no_quote c w x y (by_itself p is) h =
-    let at : c ≡ 39 = sym (ap (λ t. get_or t 0 0) (h ∙ ap (λ t. t ++ y) is)) in
+    let at : c ≡ char.single_quote = sym (ap (λ t. get_or t 0 0) (h ∙ ap (λ t. t ++ y) is)) in
     let no : true ≡ false = sym p ∙ ap is_plain at in
     cc
 
 -- the characters of names, up to the quote
 names-cancel : (s t x y : List ℕ) →
-    flat_map (spelling 39) s ++ 39 ∷ x ≡ flat_map (spelling 39) t ++ 39 ∷ y → Same s t x y
+    flat_map (spelling char.single_quote) s ++ char.single_quote ∷ x
+    ≡ flat_map (spelling char.single_quote) t ++ char.single_quote ∷ y → Same s t x y
 names-cancel [] [] x y h = (refl, cc)
 names-cancel [] (d ∷ t) x y h =
-    absurd (no_quote d (spelling 39 d) x _ (spelled d) (h ∙ append_assoc (spelling 39 d) _ _))
+    absurd (no_quote d (spelling char.single_quote d) x _ (spelled d)
+    (h ∙ append_assoc (spelling char.single_quote d) _ _))
 names-cancel (c ∷ s) [] x y h =
-    absurd (no_quote c (spelling 39 c) y _ (spelled c) (sym h ∙ append_assoc (spelling 39 c) _ _))
+    absurd (no_quote c (spelling char.single_quote c) y _ (spelled c)
+    (sym h ∙ append_assoc (spelling char.single_quote c) _ _))
 names-cancel (c ∷ s) (d ∷ t) x y h =
     let one =
-    cancel c d (spelling 39 c) (spelling 39 d) (flat_map (spelling 39) s ++ 39 ∷ x)
-    (flat_map (spelling 39) t ++ 39 ∷ y) (spelled c) (spelled d)
-    (sym (append_assoc (spelling 39 c) _ _) ∙ h ∙ append_assoc (spelling 39 d) _ _) in
+    cancel c d (spelling char.single_quote c) (spelling char.single_quote d)
+    (flat_map (spelling char.single_quote) s ++ char.single_quote ∷ x)
+    (flat_map (spelling char.single_quote) t ++ char.single_quote ∷ y) (spelled c) (spelled d)
+    (sym (append_assoc (spelling char.single_quote c) _ _) ∙ h
+    ∙ append_assoc (spelling char.single_quote d) _ _) in
     let more = names-cancel s t x y one.1 in
     (ap (λ n. n ∷ s) one.0 ∙ ap (λ n. d ∷ n) more.0, more.1)
 
@@ -114,55 +123,76 @@ digits-cancel c (d ∷ v) (e ∷ w) x y off a b h =
     digits-cancel c v w x y off a.1 b.1 (let rest : v ++ c ∷ x ≡ w ++ c ∷ y = cc in rest) in
     (ap (λ n. n ∷ v) at ∙ ap (λ n. e ∷ n) more.0, more.1)
 
-bracket : is_digit 93 ≡ false
+bracket : is_digit char.closing_bracket ≡ false
 unfolding is_digit
 bracket = refl
 
 -- an index's text begins with no quote
-no_index : (i : ℕ) (w x y : List ℕ) → Begun i w → 39 ∷ x ≡ w ++ y → ⊥
+no_index : (i : ℕ) (w x y : List ℕ) → Begun i w → char.single_quote ∷ x ≡ w ++ y → ⊥
 no_index i w x y (zero_text z is) h =
-    let at : ◌≡◌ {A = ℕ} 39 48 = ap (λ t. get_or t 0 0) (h ∙ ap (λ t. t ++ y) is) in omega arith
+    let at : ◌≡◌ {A = ℕ} char.single_quote char.digit_zero = ap (λ t. get_or t 0 0)
+    (h ∙ ap (λ t. t ++ y) is) in omega arith
 no_index i w x y (other_text d ds is digit all above) h =
-    let at : 39 ≡ d = ap (λ t. get_or t 0 0) (h ∙ ap (λ t. t ++ y) is) in omega arith
+    let at : char.single_quote ≡ d = ap (λ t. get_or t 0 0) (h ∙ ap (λ t. t ++ y) is) in omega arith
 
 -- a step and what follows
 pub step-named : (s x : List ℕ) →
-    step_text (named s) ++ x ≡ 91 ∷ 39 ∷ (flat_map (spelling 39) s ++ 39 ∷ 93 ∷ x)
+    step_text (named s) ++ x ≡ char.opening_bracket ∷ char.single_quote ∷
+    (flat_map (spelling char.single_quote) s ++ char.single_quote ∷ char.closing_bracket ∷ x)
 step-named s x =
-    ap (λ t. 91 ∷ 39 ∷ t)
-    (append_assoc (flat_map (spelling 39) s ++ 39 ∷ []) (93 ∷ []) x
-    ∙ append_assoc (flat_map (spelling 39) s) (39 ∷ []) (93 ∷ x))
+    ap (λ t. char.opening_bracket ∷ char.single_quote ∷ t)
+    (append_assoc (flat_map (spelling char.single_quote) s ++ char.single_quote ∷ [])
+    (char.closing_bracket ∷ []) x
+    ∙ append_assoc (flat_map (spelling char.single_quote) s) (char.single_quote ∷ [])
+    (char.closing_bracket ∷ x))
 
-pub step-nth : (i : ℕ) (x : List ℕ) → step_text (nth i) ++ x ≡ 91 ∷ (index_text i ++ 93 ∷ x)
-step-nth i x = ap (λ t. 91 ∷ t) (append_assoc (index_text i) (93 ∷ []) x)
+pub step-nth : (i : ℕ) (x : List ℕ) → step_text (nth i) ++ x
+    ≡ char.opening_bracket ∷ (index_text i ++ char.closing_bracket ∷ x)
+step-nth i x = ap (λ t. char.opening_bracket ∷ t)
+    (append_assoc (index_text i) (char.closing_bracket ∷ []) x)
 
 -- no step's text begins another's
 steps-cancel : (k j : Key) (x y : List ℕ) → step_text k ++ x ≡ step_text j ++ y → Same k j x y
 steps-cancel (named s) (named t) x y h =
-    let same : 91 ∷ 39 ∷ (flat_map (spelling 39) s ++ 39 ∷ 93 ∷ x) ≡
-    91 ∷ 39 ∷ (flat_map (spelling 39) t ++ 39 ∷ 93 ∷ y) =
+    let same : char.opening_bracket ∷ char.single_quote ∷
+    (flat_map (spelling char.single_quote) s ++ char.single_quote ∷ char.closing_bracket ∷ x) ≡
+    char.opening_bracket ∷ char.single_quote ∷
+    (flat_map (spelling char.single_quote) t ++ char.single_quote ∷ char.closing_bracket ∷ y) =
     sym (step-named s x) ∙ h ∙ step-named t y in
-    let inner : flat_map (spelling 39) s ++ 39 ∷ 93 ∷ x ≡ flat_map (spelling 39) t ++ 39 ∷ 93 ∷ y =
+    let inner : flat_map (spelling char.single_quote) s
+    ++ char.single_quote ∷ char.closing_bracket ∷ x ≡ flat_map (spelling char.single_quote) t
+    ++ char.single_quote ∷ char.closing_bracket ∷ y =
     cc in
-    let both = names-cancel s t (93 ∷ x) (93 ∷ y) inner in
-    let after : 93 ∷ x ≡ 93 ∷ y = both.1 in
+    let both = names-cancel s t (char.closing_bracket ∷ x) (char.closing_bracket ∷ y) inner in
+    let after : char.closing_bracket ∷ x ≡ char.closing_bracket ∷ y = both.1 in
     (ap named both.0, cc)
 steps-cancel (named s) (nth j) x y h =
-    let same : 91 ∷ 39 ∷ (flat_map (spelling 39) s ++ 39 ∷ 93 ∷ x) ≡ 91 ∷ (index_text j ++ 93 ∷ y) =
+    let same : char.opening_bracket ∷ char.single_quote ∷
+    (flat_map (spelling char.single_quote) s ++ char.single_quote ∷ char.closing_bracket ∷ x)
+    ≡ char.opening_bracket ∷ (index_text j ++ char.closing_bracket ∷ y) =
     sym (step-named s x) ∙ h ∙ step-nth j y in
-    let inner : 39 ∷ (flat_map (spelling 39) s ++ 39 ∷ 93 ∷ x) ≡ index_text j ++ 93 ∷ y = cc in
-    absurd (no_index j (index_text j) _ (93 ∷ y) (begun j) inner)
+    let inner : char.single_quote ∷
+    (flat_map (spelling char.single_quote) s ++ char.single_quote ∷ char.closing_bracket ∷ x)
+    ≡ index_text j ++ char.closing_bracket ∷ y = cc in
+    absurd (no_index j (index_text j) _ (char.closing_bracket ∷ y) (begun j) inner)
 steps-cancel (nth i) (named t) x y h =
-    let same : 91 ∷ (index_text i ++ 93 ∷ x) ≡ 91 ∷ 39 ∷ (flat_map (spelling 39) t ++ 39 ∷ 93 ∷ y) =
+    let same : char.opening_bracket ∷ (index_text i ++ char.closing_bracket ∷ x)
+    ≡ char.opening_bracket ∷ char.single_quote ∷
+    (flat_map (spelling char.single_quote) t ++ char.single_quote ∷ char.closing_bracket ∷ y) =
     sym (step-nth i x) ∙ h ∙ step-named t y in
-    let inner : 39 ∷ (flat_map (spelling 39) t ++ 39 ∷ 93 ∷ y) ≡ index_text i ++ 93 ∷ x = cc in
-    absurd (no_index i (index_text i) _ (93 ∷ x) (begun i) inner)
+    let inner : char.single_quote ∷
+    (flat_map (spelling char.single_quote) t ++ char.single_quote ∷ char.closing_bracket ∷ y)
+    ≡ index_text i ++ char.closing_bracket ∷ x = cc in
+    absurd (no_index i (index_text i) _ (char.closing_bracket ∷ x) (begun i) inner)
 steps-cancel (nth i) (nth j) x y h =
-    let same : 91 ∷ (index_text i ++ 93 ∷ x) ≡ 91 ∷ (index_text j ++ 93 ∷ y) =
+    let same : char.opening_bracket ∷ (index_text i ++ char.closing_bracket ∷ x)
+    ≡ char.opening_bracket ∷ (index_text j ++ char.closing_bracket ∷ y) =
     sym (step-nth i x) ∙ h ∙ step-nth j y in
-    let inner : index_text i ++ 93 ∷ x ≡ index_text j ++ 93 ∷ y = cc in
+    let inner : index_text i ++ char.closing_bracket ∷ x ≡ index_text j
+    ++ char.closing_bracket ∷ y = cc in
     let both =
-    digits-cancel 93 (index_text i) (index_text j) x y bracket (digits-index_text i)
+    digits-cancel char.closing_bracket (index_text i) (index_text j) x y bracket
+    (digits-index_text i)
     (digits-index_text j) inner in (
       ap nth (sym (value_from-index_text i) ∙ ap (value_from 0) both.0 ∙ value_from-index_text j),
       both.1,
@@ -171,8 +201,11 @@ steps-cancel (nth i) (nth j) x y h =
 -- a step's text is not empty
 no_step : (k : Key) (x : List ℕ) → [] ≡ step_text k ++ x → ⊥
 no_step (named s) x h =
-    let e : [] ≡ 91 ∷ 39 ∷ (flat_map (spelling 39) s ++ 39 ∷ 93 ∷ x) = h ∙ step-named s x in cc
-no_step (nth i) x h = let e : [] ≡ 91 ∷ (index_text i ++ 93 ∷ x) = h ∙ step-nth i x in cc
+    let e : [] ≡ char.opening_bracket ∷ char.single_quote ∷
+    (flat_map (spelling char.single_quote) s ++ char.single_quote ∷ char.closing_bracket ∷ x) =
+    h ∙ step-named s x in cc
+no_step (nth i) x h = let e : []
+    ≡ char.opening_bracket ∷ (index_text i ++ char.closing_bracket ∷ x) = h ∙ step-nth i x in cc
 
 texts-cancel : (l m : Location) → flat_map step_text l ≡ flat_map step_text m → l ≡ m
 texts-cancel [] [] h = refl

@@ -1,6 +1,7 @@
 -- An index that does not begin with zero is read as any digits are: for the function `index`.
 use Rattle.std.proofs.Common.{◌≡◌, ℕ, false, ◌∷◌, Option, Some, None, refl, sym, arith}
 use Rattle.std.proofs.lemmas.Bool.Decides.{nat_tests}
+use Rattle.jp_reading.specs.Characters as char
 use Rattle.jp_reading.specs.Outcome.{State, Outcome, took, stuck, deep, ◌>>=◌, head}
 use Rattle.jp_reading.specs.Outcome.{passes, is, is_at, take_passing, take_if, each}
 use Rattle.jp_reading.specs.Texts.{Text}
@@ -10,20 +11,21 @@ use Rattle.jp_reading.proofs.Folds.{by-by}
 use Rattle.jp_document.specs.Private.PathReading.{read_rule}
 use Rattle.jp_document.specs.Private.PathRules.{is_leading_digit, index, size}
 
-leading-digit : (c : ℕ) → is 48 c ≡ false → is_leading_digit c ≡ is_digit c
+leading-digit : (c : ℕ) → is char.digit_zero c ≡ false → is_leading_digit c ≡ is_digit c
 unfolding is_digit
 leading-digit c off = grind (arith, nat_tests)
 
-first-digit : (p : State) → is_at 48 p ≡ false → take_if is_leading_digit p ≡ take_if is_digit p
+first-digit : (p : State) → is_at char.digit_zero p ≡ false → take_if is_leading_digit p
+    ≡ take_if is_digit p
 first-digit p off = taken (head p) off
   where
-    taken : (o : Option ℕ) → passes (is 48) o ≡ false
+    taken : (o : Option ℕ) → passes (is char.digit_zero) o ≡ false
         → take_passing is_leading_digit p o ≡ take_passing is_digit p o
     taken None h = refl
     taken (Some c) h = rw (leading-digit c h) refl
 
 -- the index as `natural` reads it
-pub index-natural : (p : State) → is_at 48 p ≡ false
+pub index-natural : (p : State) → is_at char.digit_zero p ≡ false
     → read_rule index p ≡ by (capped 9007199254740992 0) (digits_at p)
 unfolding index size digits_at
 index-natural p off = rw (off, first-digit p off) (along (digit_at p))

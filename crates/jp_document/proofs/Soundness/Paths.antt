@@ -8,6 +8,7 @@ use Rattle.std.proofs.lemmas.List.{nil_from_length}
 use Rattle.std.proofs.lemmas.Str.{encodes-append}
 use Rattle.std.specs.List.{flat_map}
 use Rattle.std.specs.Str.{encode_utf8_all}
+use Rattle.jp_reading.specs.Characters as char
 use Rattle.jp_reading.specs.Texts.{Text, Spans}
 use Rattle.jp_reading.specs.Forms.{◌⌢◌, word, Each}
 use Rattle.jp_reading.specs.Numbers.{is_digit, value_from}
@@ -39,18 +40,20 @@ record Indexed (n : ℕ) (s : Spans) (o : ℕ) (t : Text) : Type 0 where
   read : min index 9007199254740992 ≡ n
   is : encode_utf8_all t ≡ index_text index
 
-leading-is : (d : ℕ) → is_leading_digit d ≡ true → (is_digit d ≡ true) × (eqb d 48 ≡ false)
+leading-is : (d : ℕ) → is_leading_digit d ≡ true → (is_digit d ≡ true)
+    × (eqb d char.digit_zero ≡ false)
 unfolding is_digit
 leading-is d h = (grind (arith, nat_tests), grind (arith, nat_tests))
 
 index-within : (n : ℕ) → Within (form_of rule.index n) (Indexed n)
 unfolding rule.index rule.size
 index-within n s o t (left h) =
-    let text : t ≡ 48 ∷ [] = rw (h.is, h.one.is, h.two.is.is) refl in
+    let text : t ≡ char.digit_zero ∷ [] = rw (h.is, h.one.is, h.two.is.is) refl in
     record {
       index = 0;
       read = sym h.two.same;
-      is = ap encode_utf8_all text ∙ encode-ascii (48 ∷ []) (omega arith, tt) ∙ index_text-zero;
+      is = ap encode_utf8_all text ∙ encode-ascii (char.digit_zero ∷ []) (omega arith, tt)
+          ∙ index_text-zero;
     }
 index-within n s o t (right h) =
     let d = h.part in
@@ -72,18 +75,23 @@ record Stepped (k : Key) (s : Spans) (o : ℕ) (t : Text) : Type 0 where
   read : capped_key key ≡ k
   is : encode_utf8_all t ≡ step_text key
 
-key-within : (k : Key) → Within (word (91 ∷ []) ⌢ form_of rule.key k ⌢ word (93 ∷ [])) (Stepped k)
+key-within : (k : Key) → Within
+    (word (char.opening_bracket ∷ []) ⌢ form_of rule.key k ⌢ word (char.closing_bracket ∷ []))
+    (Stepped k)
 unfolding rule.key
 key-within k s o t h = way _ h.two.one
   where
     bracketed : (w : List ℕ) → encode_utf8_all h.two.first ≡ w
-        → encode_utf8_all t ≡ 91 ∷ (w ++ 93 ∷ [])
+        → encode_utf8_all t ≡ char.opening_bracket ∷ (w ++ char.closing_bracket ∷ [])
     bracketed w e =
-        (enclosed 91 93 (λ s o u. u ≡ h.two.first) w (omega arith) (omega arith)
+        (enclosed char.opening_bracket char.closing_bracket (λ s o u. u ≡ h.two.first) w
+        (omega arith) (omega arith)
         (λ s o u same. record { is = ap encode_utf8_all same ∙ e }) s o t
-        (joined-both (word (91 ∷ [])) (word (91 ∷ [])) _ _ s o t h h.one
-        (joined-both (form_of rule.key k) (λ s o u. u ≡ h.two.first) (word (93 ∷ []))
-        (word (93 ∷ [])) h.second_spans _ h.second h.two refl h.two.two))).is
+        (joined-both (word (char.opening_bracket ∷ [])) (word (char.opening_bracket ∷ [])) _ _ s o t
+        h h.one
+        (joined-both (form_of rule.key k) (λ s o u. u ≡ h.two.first)
+        (word (char.closing_bracket ∷ []))
+        (word (char.closing_bracket ∷ [])) h.second_spans _ h.second h.two refl h.two.two))).is
 
     way : (i : ℕ) → form_of rule.key k h.two.first_spans i h.two.first → Stepped k s o t
     way i (left g) = record {
@@ -102,7 +110,8 @@ key-within k s o t h = way _ h.two.one
 
 step-within : (k : Key) → Within (form_of rule.step k) (Stepped k)
 unfolding rule.step
-step-within k s o t h = key-within k s o t (enclosed-is (form_of rule.key) 91 93 k s o t h)
+step-within k s o t h = key-within k s o t
+    (enclosed-is (form_of rule.key) char.opening_bracket char.closing_bracket k s o t h)
 
 -- ---- whole paths
 
@@ -156,6 +165,6 @@ path-sound t q l e =
       steps.read,
       ap encode_utf8_all h.is ∙ encodes-append h.first h.second
           ∙ ap (λ x. x ++ encode_utf8_all h.second)
-          (ap encode_utf8_all h.one.is ∙ encode-ascii (36 ∷ []) (omega arith, tt))
-          ∙ ap (λ x. 36 ∷ x) steps.is,
+          (ap encode_utf8_all h.one.is ∙ encode-ascii (char.dollar ∷ []) (omega arith, tt))
+          ∙ ap (λ x. char.dollar ∷ x) steps.is,
     )

@@ -4,41 +4,47 @@ use Rattle.std.proofs.Common.{◌≡◌, ℕ, ◌<◌, ◌==◌, eqb, nat_lt, Bo
 use Rattle.std.proofs.Common.{List, [], ◌∷◌, inl, inr, refl, sym, ap, subst, ◌∙◌, arith}
 use Rattle.std.proofs.lemmas.Bool.{cases_Bool, eqb-true, not-true, or_parts}
 use Rattle.std.proofs.lemmas.Bool.Decides.{nat_tests}
+use Rattle.jp_reading.specs.Characters as char
 use Rattle.jp_document.specs.Spelling.{spelling, control, hex_digit}
 use Rattle.jp_document.specs.Private.PathRules.{is_plain, is_letter, meant}
 use Rattle.jp_document.specs.Private.PathRules.{is_low_digit, is_hex_digit, hex_value}
 
 -- whether a character below U+0020 has a letter
 unfoldable pub has_letter : ℕ → Bool
-has_letter c = c == 8 || c == 9 || c == 10 || c == 12 || c == 13
+has_letter c = c == char.backspace || c == char.tab || c == char.line_feed || c == char.form_feed
+    || c == char.carriage_return
 
 pub data Spelled (c : ℕ) (w : List ℕ) : Type 0 where
-  by_letter : (e : ℕ) → is_letter e ≡ true → c ≡ meant e → w ≡ 92 ∷ e ∷ [] → Spelled c w
+  by_letter : (e : ℕ) → is_letter e ≡ true → c ≡ meant e → w ≡ char.backslash ∷ e ∷ [] → Spelled c w
   by_number : c < 32 → has_letter c ≡ false → w ≡ control c → Spelled c w
   by_itself : is_plain c ≡ true → w ≡ c ∷ [] → Spelled c w
 
 -- each character is spelled in one of the three ways
-pub spelled : (c : ℕ) → Spelled c (spelling 39 c)
+pub spelled : (c : ℕ) → Spelled c (spelling char.single_quote c)
 unfolding spelling is_letter meant has_letter is_plain
 spelled c =
-    elim (cases_Bool (eqb c 8)) [
-      | inl e ↦ by_letter 98 refl (eqb-true c 8 e) (rw e refl)
-      | inr a ↦ elim (cases_Bool (eqb c 9)) [
-        | inl e ↦ by_letter 116 refl (eqb-true c 9 e) (rw (a, e) refl)
-        | inr b ↦ elim (cases_Bool (eqb c 10)) [
-          | inl e ↦ by_letter 110 refl (eqb-true c 10 e) (rw (a, b, e) refl)
-          | inr d ↦ elim (cases_Bool (eqb c 12)) [
-            | inl e ↦ by_letter 102 refl (eqb-true c 12 e) (rw (a, b, d, e) refl)
-            | inr f ↦ elim (cases_Bool (eqb c 13)) [
-              | inl e ↦ by_letter 114 refl (eqb-true c 13 e) (rw (a, b, d, f, e) refl)
-              | inr g ↦ elim (cases_Bool (eqb c 39)) [
+    elim (cases_Bool (eqb c char.backspace)) [
+      | inl e ↦ by_letter char.letter_b refl (eqb-true c char.backspace e) (rw e refl)
+      | inr a ↦ elim (cases_Bool (eqb c char.tab)) [
+        | inl e ↦ by_letter char.letter_t refl (eqb-true c char.tab e) (rw (a, e) refl)
+        | inr b ↦ elim (cases_Bool (eqb c char.line_feed)) [
+          | inl e ↦ by_letter char.letter_n refl (eqb-true c char.line_feed e) (rw (a, b, e) refl)
+          | inr d ↦ elim (cases_Bool (eqb c char.form_feed)) [
+            | inl e ↦ by_letter char.letter_f refl (eqb-true c char.form_feed e)
+                (rw (a, b, d, e) refl)
+            | inr f ↦ elim (cases_Bool (eqb c char.carriage_return)) [
+              | inl e ↦ by_letter char.letter_r refl (eqb-true c char.carriage_return e)
+                  (rw (a, b, d, f, e) refl)
+              | inr g ↦ elim (cases_Bool (eqb c char.single_quote)) [
                 | inl e ↦
-                    by_letter 39 refl (eqb-true c 39 e)
-                    (rw (a, b, d, f, g, e) (ap (λ x. 92 ∷ x ∷ []) (eqb-true c 39 e)))
-                | inr h ↦ elim (cases_Bool (eqb c 92)) [
+                    by_letter char.single_quote refl (eqb-true c char.single_quote e)
+                    (rw (a, b, d, f, g, e) (ap (λ x. char.backslash ∷ x ∷ [])
+                    (eqb-true c char.single_quote e)))
+                | inr h ↦ elim (cases_Bool (eqb c char.backslash)) [
                   | inl e ↦
-                      by_letter 92 refl (eqb-true c 92 e)
-                      (rw (a, b, d, f, g, h, e) (ap (λ x. 92 ∷ x ∷ []) (eqb-true c 92 e)))
+                      by_letter char.backslash refl (eqb-true c char.backslash e)
+                      (rw (a, b, d, f, g, h, e) (ap (λ x. char.backslash ∷ x ∷ [])
+                      (eqb-true c char.backslash e)))
                   | inr k ↦ elim (cases_Bool (nat_lt c 32)) [
                     | inl e ↦
                         by_number (grind (arith, nat_tests)) (rw (a, b, d, f, g) refl)
@@ -59,44 +65,49 @@ one_of : (P : ℕ → Type 0) (e a : ℕ) (before : Bool) → P a → (before �
 one_of P e a true here earlier is = earlier refl
 one_of P e a false here earlier is = subst P (sym (eqb-true e a is)) here
 
-letter : (e : ℕ) → is_letter e ≡ true → spelling 39 (meant e) ≡ 92 ∷ e ∷ []
+letter : (e : ℕ) → is_letter e ≡ true → spelling char.single_quote (meant e)
+    ≡ char.backslash ∷ e ∷ []
 unfolding spelling is_letter meant
 letter e =
-    let P : ℕ → Type 0 = λ x. spelling 39 (meant x) ≡ 92 ∷ x ∷ [] in
-    one_of P e 92 _ refl (one_of P e 39 _ refl (one_of P e 114 _ refl (one_of P e 102 _ refl
-    (one_of P e 110 _ refl (one_of P e 116 _ refl
-    (λ first. subst P (sym (eqb-true e 98 first)) refl))))))
+    let P : ℕ → Type 0 = λ x. spelling char.single_quote (meant x) ≡ char.backslash ∷ x ∷ [] in
+    one_of P e char.backslash _ refl
+    (one_of P e char.single_quote _ refl
+    (one_of P e char.letter_r _ refl (one_of P e char.letter_f _ refl
+    (one_of P e char.letter_n _ refl (one_of P e char.letter_t _ refl
+    (λ first. subst P (sym (eqb-true e char.letter_b first)) refl))))))
 
-numbered : (c : ℕ) → c < 32 → has_letter c ≡ false → spelling 39 c ≡ control c
+numbered : (c : ℕ) → c < 32 → has_letter c ≡ false → spelling char.single_quote c ≡ control c
 unfolding spelling has_letter
 numbered c low none =
-    let p = or_parts (eqb c 8 || eqb c 9 || eqb c 10 || eqb c 12) (eqb c 13) none in
-    let q = or_parts (eqb c 8 || eqb c 9 || eqb c 10) (eqb c 12) p.0 in
-    let r = or_parts (eqb c 8 || eqb c 9) (eqb c 10) q.0 in
-    let s = or_parts (eqb c 8) (eqb c 9) r.0 in
+    let p = or_parts (eqb c char.backspace || eqb c char.tab || eqb c char.line_feed
+    || eqb c char.form_feed) (eqb c char.carriage_return) none in
+    let q = or_parts (eqb c char.backspace || eqb c char.tab || eqb c char.line_feed)
+    (eqb c char.form_feed) p.0 in
+    let r = or_parts (eqb c char.backspace || eqb c char.tab) (eqb c char.line_feed) q.0 in
+    let s = or_parts (eqb c char.backspace) (eqb c char.tab) r.0 in
     let below : nat_lt c 32 ≡ true = grind (arith, nat_tests) in
-    let quote : eqb c 39 ≡ false = grind (arith, nat_tests) in
-    let slash : eqb c 92 ≡ false = grind (arith, nat_tests) in
+    let quote : eqb c char.single_quote ≡ false = grind (arith, nat_tests) in
+    let slash : eqb c char.backslash ≡ false = grind (arith, nat_tests) in
     rw (s.0, s.1, r.1, q.1, p.1, quote, slash, below) refl
 
-itself : (c : ℕ) → is_plain c ≡ true → spelling 39 c ≡ c ∷ []
+itself : (c : ℕ) → is_plain c ≡ true → spelling char.single_quote c ≡ c ∷ []
 unfolding spelling is_plain
 itself c plain =
     let p =
-    or_parts (nat_lt c 32 || eqb c 39) (eqb c 92)
-    (not-true (nat_lt c 32 || eqb c 39 || eqb c 92) plain) in
-    let q = or_parts (nat_lt c 32) (eqb c 39) p.0 in
+    or_parts (nat_lt c 32 || eqb c char.single_quote) (eqb c char.backslash)
+    (not-true (nat_lt c 32 || eqb c char.single_quote || eqb c char.backslash) plain) in
+    let q = or_parts (nat_lt c 32) (eqb c char.single_quote) p.0 in
     let above = q.0 in
-    let a : eqb c 8 ≡ false = grind (arith, nat_tests) in
-    let b : eqb c 9 ≡ false = grind (arith, nat_tests) in
-    let d : eqb c 10 ≡ false = grind (arith, nat_tests) in
-    let e : eqb c 12 ≡ false = grind (arith, nat_tests) in
-    let f : eqb c 13 ≡ false = grind (arith, nat_tests) in
+    let a : eqb c char.backspace ≡ false = grind (arith, nat_tests) in
+    let b : eqb c char.tab ≡ false = grind (arith, nat_tests) in
+    let d : eqb c char.line_feed ≡ false = grind (arith, nat_tests) in
+    let e : eqb c char.form_feed ≡ false = grind (arith, nat_tests) in
+    let f : eqb c char.carriage_return ≡ false = grind (arith, nat_tests) in
     rw (a, b, d, e, f, q.1, p.1, above) refl
 
 -- and what is so is its spelling
-pub spelling_is : (c : ℕ) (w : List ℕ) → Spelled c w → spelling 39 c ≡ w
-spelling_is c w (by_letter e l m is) = ap (spelling 39) m ∙ letter e l ∙ sym is
+pub spelling_is : (c : ℕ) (w : List ℕ) → Spelled c w → spelling char.single_quote c ≡ w
+spelling_is c w (by_letter e l m is) = ap (spelling char.single_quote) m ∙ letter e l ∙ sym is
 spelling_is c w (by_number low none is) = numbered c low none ∙ sym is
 spelling_is c w (by_itself plain is) = itself c plain ∙ sym is
 

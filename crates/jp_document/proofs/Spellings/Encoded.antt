@@ -9,6 +9,7 @@ use Rattle.std.proofs.lemmas.Str.{encode_ascii, encodes-append, cons_from_encode
 use Rattle.std.specs.Char.{encode_utf8}
 use Rattle.std.specs.List.{flat_map}
 use Rattle.std.specs.Str.{encode_utf8_all}
+use Rattle.jp_reading.specs.Characters as char
 use Rattle.jp_reading.specs.Forms.{AllPassing}
 use Rattle.jp_reading.specs.Numbers.{is_digit}
 use Rattle.jp_document.specs.Private.PathRules.{is_plain, is_letter}
@@ -33,12 +34,12 @@ first-ascii c t w low is =
     cons_from_encodes t w c (is ∙ ap (λ v. v ++ w) (sym (encode_ascii c low)))
 
 -- and one whose first bytes are such characters begins with them
-pub front-ascii : (v t w : List ℕ) → Ascii v → encode_utf8_all t ≡ v ++ w →
+pub prefix-ascii : (v t w : List ℕ) → Ascii v → encode_utf8_all t ≡ v ++ w →
     (u : List ℕ) × (t ≡ v ++ u) × (encode_utf8_all u ≡ w)
-front-ascii [] t w low is = (t, refl, is)
-front-ascii (c ∷ v) t w low is =
+prefix-ascii [] t w low is = (t, refl, is)
+prefix-ascii (c ∷ v) t w low is =
     let one = first-ascii c t (v ++ w) low.0 is in
-    let more = front-ascii v one.0 w low.1 one.2 in
+    let more = prefix-ascii v one.0 w low.1 one.2 in
     (more.0, one.1 ∙ ap (λ x. c ∷ x) more.1, more.2)
 
 pub digits-ascii : (ds : List ℕ) → AllPassing is_digit ds → Ascii ds
@@ -68,10 +69,12 @@ plain-bytes c plain = all-plain (encode_utf8 c) (λ k within.
       | inr high ↦ high-plain (get_or (encode_utf8 c) k 0) high
     ])
 
-pub flat_map-plain : (bs : List ℕ) → AllPassing is_plain bs → flat_map (spelling 39) bs ≡ bs
+pub flat_map-plain : (bs : List ℕ) → AllPassing is_plain bs
+    → flat_map (spelling char.single_quote) bs ≡ bs
 flat_map-plain [] h = refl
 flat_map-plain (b ∷ bs) h =
-    ap (λ t. t ++ flat_map (spelling 39) bs) (spelling_is b (b ∷ []) (by_itself h.0 refl))
+    ap (λ t. t ++ flat_map (spelling char.single_quote) bs)
+    (spelling_is b (b ∷ []) (by_itself h.0 refl))
     ∙ ap (λ t. b ∷ t) (flat_map-plain bs h.1)
 
 -- ---- spelled characters
@@ -105,16 +108,18 @@ spelled-low c w low (by_number small none is) =
     )
 spelled-low c w low (by_itself plain is) = subst Ascii (sym is) (low, tt)
 
-pub spelling-low : (c : ℕ) → c < 128 → Ascii (spelling 39 c)
-spelling-low c low = spelled-low c (spelling 39 c) low (spelled c)
+pub spelling-low : (c : ℕ) → c < 128 → Ascii (spelling char.single_quote c)
+spelling-low c low = spelled-low c (spelling char.single_quote c) low (spelled c)
 
 -- a character is spelled as its bytes are
-spelling-encode : (c : ℕ) → encode_utf8_all (spelling 39 c) ≡ flat_map (spelling 39) (encode_utf8 c)
+spelling-encode : (c : ℕ) → encode_utf8_all (spelling char.single_quote c)
+    ≡ flat_map (spelling char.single_quote) (encode_utf8 c)
 spelling-encode c =
     elim (cases_lt c 128) [
       | inl low ↦
-          encode-ascii (spelling 39 c) (spelling-low c low) ∙ sym (append-nil (spelling 39 c))
-          ∙ ap (flat_map (spelling 39)) (sym (encode_ascii c low))
+          encode-ascii (spelling char.single_quote c) (spelling-low c low)
+          ∙ sym (append-nil (spelling char.single_quote c))
+          ∙ ap (flat_map (spelling char.single_quote)) (sym (encode_ascii c low))
       | inr high ↦
           let plain = high-plain c high in
           ap encode_utf8_all (spelling_is c (c ∷ []) (by_itself plain refl))
@@ -124,40 +129,46 @@ spelling-encode c =
 
 -- and so is a text
 pub names-encode : (cs : List ℕ) →
-    encode_utf8_all (flat_map (spelling 39) cs) ≡ flat_map (spelling 39) (encode_utf8_all cs)
+    encode_utf8_all (flat_map (spelling char.single_quote) cs)
+    ≡ flat_map (spelling char.single_quote) (encode_utf8_all cs)
 names-encode [] = refl
 names-encode (c ∷ cs) =
-    encodes-append (spelling 39 c) (flat_map (spelling 39) cs)
-    ∙ ap (λ t. t ++ encode_utf8_all (flat_map (spelling 39) cs)) (spelling-encode c)
-    ∙ ap (λ t. flat_map (spelling 39) (encode_utf8 c) ++ t) (names-encode cs)
-    ∙ sym (flat_map-append (spelling 39) (encode_utf8 c) (encode_utf8_all cs))
+    encodes-append (spelling char.single_quote c) (flat_map (spelling char.single_quote) cs)
+    ∙ ap (λ t. t ++ encode_utf8_all (flat_map (spelling char.single_quote) cs)) (spelling-encode c)
+    ∙ ap (λ t. flat_map (spelling char.single_quote) (encode_utf8 c) ++ t) (names-encode cs)
+    ∙ sym (flat_map-append (spelling char.single_quote) (encode_utf8 c) (encode_utf8_all cs))
 
 -- ---- from bytes back to characters
 
 -- bytes that stand for themselves, before the text of other bytes up to a quote
 pub peel : (v s x w : List ℕ) → ((k : ℕ) → k < length v → 128 ≤ get_or v k 0) →
-    v ++ x ≡ flat_map (spelling 39) s ++ 39 ∷ w →
-    (r : List ℕ) × (s ≡ v ++ r) × (x ≡ flat_map (spelling 39) r ++ 39 ∷ w)
+    v ++ x ≡ flat_map (spelling char.single_quote) s ++ char.single_quote ∷ w →
+    (r : List ℕ) × (s ≡ v ++ r) × (x ≡ flat_map (spelling char.single_quote) r
+    ++ char.single_quote ∷ w)
 peel [] s x w high is = (s, refl, is)
 peel (b ∷ v) [] x w high is =
     absurd
-    (let first : b ≡ 39 = ap (λ t. get_or t 0 0) is in
+    (let first : b ≡ char.single_quote = ap (λ t. get_or t 0 0) is in
     let h = high 0 (omega arith) in omega arith)
 peel (b ∷ v) (c ∷ s) x w high is =
     let first : 128 ≤ b = high 0 (omega arith) in
     let same =
-    high_first b c (v ++ x) (flat_map (spelling 39) s ++ 39 ∷ w) (spelling 39 c) first
+    high_first b c (v ++ x) (flat_map (spelling char.single_quote) s ++ char.single_quote ∷ w)
+    (spelling char.single_quote c) first
     (spelled c)
-    (is ∙ append_assoc (spelling 39 c) (flat_map (spelling 39) s) (39 ∷ w)) in
+    (is ∙ append_assoc (spelling char.single_quote c) (flat_map (spelling char.single_quote) s)
+    (char.single_quote ∷ w)) in
     let more = peel v s x w (λ k within. high (suc k) (omega arith)) same.1 in
     (more.0, ap (λ n. n ∷ s) (sym same.0) ∙ ap (λ t. b ∷ t) more.1, more.2)
   where
     high_first : (b c : ℕ) (x y w : List ℕ) → 128 ≤ b → Spelled c w → b ∷ x ≡ w ++ y →
         (b ≡ c) × (x ≡ y)
     high_first b c x y w high (by_letter e l m is) h =
-        absurd (let at : b ≡ 92 = ap (λ t. get_or t 0 0) (h ∙ ap (λ t. t ++ y) is) in omega arith)
+        absurd (let at : b ≡ char.backslash = ap (λ t. get_or t 0 0) (h ∙ ap (λ t. t ++ y) is) in
+        omega arith)
     high_first b c x y w high (by_number low none is) h =
-        absurd (let at : b ≡ 92 = ap (λ t. get_or t 0 0) (h ∙ ap (λ t. t ++ y) is) in omega arith)
+        absurd (let at : b ≡ char.backslash = ap (λ t. get_or t 0 0) (h ∙ ap (λ t. t ++ y) is) in
+        omega arith)
     high_first b c x y w high (by_itself plain is) h =
         let same : b ∷ x ≡ c ∷ y = h ∙ ap (λ t. t ++ y) is in (cc, cc)
 

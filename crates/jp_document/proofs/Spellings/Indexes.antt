@@ -11,6 +11,7 @@ use Rattle.std.specs.Int.Digits.{digits_of, number_from_digits_after, AllBelowBa
 use Rattle.std.proofs.Math.Dec.{eqb-suc-zero}
 use Rattle.std.proofs.lemmas.Fmt.{decimal_digit, decimal-digits_of}
 use Rattle.std.specs.Fmt.{decimal}
+use Rattle.jp_reading.specs.Characters as char
 use Rattle.jp_reading.specs.Forms.{AllPassing}
 use Rattle.jp_reading.specs.Numbers.{is_digit, value_from}
 use Rattle.jp_reading.proofs.Digits.{value_from-least}
@@ -18,14 +19,15 @@ use Rattle.jp_document.specs.Path.{index_text}
 
 -- the character of a digit
 abbrev digit_text : ℕ → ℕ
-digit_text d = 48 + d
+digit_text d = char.digit_zero + d
 
 value_from-digit_texts : (n : ℕ) (ds : List ℕ) →
     value_from n (map digit_text ds) ≡ number_from_digits_after 10 n ds
 value_from-digit_texts n [] = refl
 value_from-digit_texts n (d ∷ ds) =
     ap (λ (x : ℕ). value_from (n * 10 + x) (map digit_text ds))
-    (let e : 48 + d - 48 ≡ d = omega arith in e) ∙ value_from-digit_texts (n * 10 + d) ds
+    (let e : char.digit_zero + d - char.digit_zero ≡ d = omega arith in e)
+    ∙ value_from-digit_texts (n * 10 + d) ds
 
 all_digits : (ds : List ℕ) → AllBelowBase 10 ds → AllPassing is_digit (map digit_text ds)
 unfolding is_digit
@@ -53,16 +55,16 @@ digits-index_text n =
 
 -- a first digit, and the others
 pub data Begun (n : ℕ) (w : List ℕ) : Type 0 where
-  zero_text : n ≡ 0 → w ≡ 48 ∷ [] → Begun n w
+  zero_text : n ≡ 0 → w ≡ char.digit_zero ∷ [] → Begun n w
   other_text : (d : ℕ) (ds : List ℕ) → w ≡ d ∷ ds → is_digit d ≡ true → AllPassing is_digit ds →
-      48 < d → Begun n w
+      char.digit_zero < d → Begun n w
 
 begun_by : (n : ℕ) (ds : List ℕ) → 0 < get_or ds 0 0 → AllBelowBase 10 ds →
     Begun n (map digit_text ds)
 unfolding is_digit
 begun_by n [] first h = absurd (omega arith)
 begun_by n (d ∷ ds) first h =
-    other_text (48 + d) (map digit_text ds) refl
+    other_text (char.digit_zero + d) (map digit_text ds) refl
     (let small : d < 10 = h.0 in grind (arith, nat_tests)) (all_digits ds h.1) (omega arith)
 
 -- only the text of 0 begins with a zero
@@ -81,7 +83,7 @@ begun n =
 -- ---- from digits to the index that they write
 
 abbrev digit_of : ℕ → ℕ
-digit_of c = c - 48
+digit_of c = c - char.digit_zero
 
 digits_of_more : (m d : ℕ) → 0 < m → d < 10 → digits_of 10 (m * 10 + d) ≡ digits_of 10 m ++ d ∷ []
 digits_of_more m d above small =
@@ -91,7 +93,7 @@ digits_of_more m d above small =
     ∙ ap (λ n. digits_of 10 n ++ (m * 10 + d) % 10 ∷ []) whole
     ∙ ap (λ n. digits_of 10 m ++ n ∷ []) rest
 
-digit-small : (c : ℕ) → is_digit c ≡ true → (48 ≤ c) × (c - 48 < 10)
+digit-small : (c : ℕ) → is_digit c ≡ true → (char.digit_zero ≤ c) × (c - char.digit_zero < 10)
 unfolding is_digit
 digit-small c h = (grind (arith, nat_tests), grind (arith, nat_tests))
 
@@ -99,9 +101,10 @@ digits_of-value : (m : ℕ) (ds : List ℕ) → 0 < m → AllPassing is_digit ds
     digits_of 10 (value_from m ds) ≡ digits_of 10 m ++ map digit_of ds
 digits_of-value m [] above h = sym (append-nil (digits_of 10 m))
 digits_of-value m (d ∷ ds) above h =
-    digits_of-value (m * 10 + (d - 48)) ds (omega arith) h.1
-    ∙ ap (λ t. t ++ map digit_of ds) (digits_of_more m (d - 48) above (digit-small d h.0).1)
-    ∙ append_assoc (digits_of 10 m) ((d - 48) ∷ []) (map digit_of ds)
+    digits_of-value (m * 10 + (d - char.digit_zero)) ds (omega arith) h.1
+    ∙ ap (λ t. t ++ map digit_of ds)
+    (digits_of_more m (d - char.digit_zero) above (digit-small d h.0).1)
+    ∙ append_assoc (digits_of 10 m) ((d - char.digit_zero) ∷ []) (map digit_of ds)
 
 one_digit : (m : ℕ) → 0 < m → m < 10 → digits_of 10 m ≡ m ∷ []
 one_digit m above small =
@@ -114,33 +117,38 @@ texts : (ds : List ℕ) → AllPassing is_digit ds → map digit_text (map digit
 texts [] h = refl
 texts (d ∷ ds) h =
     let low = (digit-small d h.0).0 in
-    let same : 48 + (d - 48) ≡ d = omega arith in
+    let same : char.digit_zero + (d - char.digit_zero) ≡ d = omega arith in
     ap (λ c. c ∷ map digit_text (map digit_of ds)) same ∙ ap (λ t. d ∷ t) (texts ds h.1)
 
 -- digits without a leading zero are the text of the index that they write
-pub index_text-value : (d : ℕ) (ds : List ℕ) → AllPassing is_digit (d ∷ ds) → eqb d 48 ≡ false →
+pub index_text-value : (d : ℕ) (ds : List ℕ) → AllPassing is_digit (d ∷ ds) → eqb d char.digit_zero
+    ≡ false →
     index_text (value_from 0 (d ∷ ds)) ≡ d ∷ ds
 unfolding index_text
 index_text-value d ds h other =
     let small = digit-small d h.0 in
-    let start : 0 * 10 + (d - 48) ≡ d - 48 = omega arith in
-    let above : 0 < d - 48 = grind (arith, nat_tests) in
-    let value : value_from 0 (d ∷ ds) ≡ value_from (d - 48) ds =
+    let start : 0 * 10 + (d - char.digit_zero) ≡ d - char.digit_zero = omega arith in
+    let above : 0 < d - char.digit_zero = grind (arith, nat_tests) in
+    let value : value_from 0 (d ∷ ds) ≡ value_from (d - char.digit_zero) ds =
     ap (λ (n : ℕ). value_from n ds) start in
-    let least = value_from-least (d - 48) ds in
-    let other_than : eqb (value_from (d - 48) ds) 0 ≡ false = grind (arith, nat_tests) in
+    let least = value_from-least (d - char.digit_zero) ds in
+    let other_than : eqb (value_from (d - char.digit_zero) ds) 0
+    ≡ false = grind (arith, nat_tests) in
     rw (value, other_than)
     (ap (map digit_text)
-    (digits_of-value (d - 48) ds above h.1
-    ∙ ap (λ t. t ++ map digit_of ds) (one_digit (d - 48) above small.1)) ∙ texts (d ∷ ds) h)
+    (digits_of-value (d - char.digit_zero) ds above h.1
+    ∙ ap (λ t. t ++ map digit_of ds) (one_digit (d - char.digit_zero) above small.1))
+    ∙ texts (d ∷ ds) h)
 
 -- ---- as `itoa` prints them
 
-index_text-above : (n : ℕ) → eqb n 0 ≡ false → index_text n ≡ map (λ d. 48 + d) (digits_of 10 n)
+index_text-above : (n : ℕ) → eqb n 0 ≡ false → index_text n
+    ≡ map (λ d. char.digit_zero + d) (digits_of 10 n)
 unfolding index_text
-index_text-above n above = ap (λ b. cond b (48 ∷ []) (map (λ d. 48 + d) (digits_of 10 n))) above
+index_text-above n above = ap (λ b. cond b (char.digit_zero ∷ [])
+    (map (λ d. char.digit_zero + d) (digits_of 10 n))) above
 
-pub index_text-zero : 48 ∷ [] ≡ index_text 0
+pub index_text-zero : char.digit_zero ∷ [] ≡ index_text 0
 unfolding index_text
 index_text-zero = refl
 

@@ -11,6 +11,7 @@ use Rattle.std.proofs.lemmas.Bool.Decides.{nat_tests}
 use Rattle.std.proofs.lemmas.Option.{cond_some, none-some, same_Some}
 use Rattle.std.proofs.lemmas.Str.{IsCharBoundary-after_ascii, IsUtf8-append}
 use Rattle.std.proofs.lemmas.Str.{IsUtf8-drop, IsUtf8-encode, IsUtf8-take, encode_ascii}
+use Rattle.jp_reading.specs.Characters as char
 use lib.Utf8.{low_scalar}
 use Rattle.jp_document.proofs.Options.{some_from_if, some_from_then}
 use Rattle.json.specs.Text.{after_backslash, after_high, after_u, code_unit}
@@ -111,10 +112,10 @@ short_low : (x : ℕ) → x < 128 → Low (short_escape x)
 unfolding short_escape
 short_low x low =
     low_if _ x _ low
-    (low_if _ 8 _ (omega arith)
-    (low_if _ 12 _ (omega arith)
-    (low_if _ 10 _ (omega arith)
-    (low_if _ 13 _ (omega arith) (low_if _ 9 _ (omega arith) low_none)))))
+    (low_if _ char.backspace _ (omega arith)
+    (low_if _ char.form_feed _ (omega arith)
+    (low_if _ char.line_feed _ (omega arith)
+    (low_if _ char.carriage_return _ (omega arith) (low_if _ char.tab _ (omega arith) low_none)))))
 
 short_high : (x : ℕ) → 128 ≤ x → short_escape x ≡ None
 unfolding short_escape
@@ -154,8 +155,8 @@ high_half : (n h : ℕ) (xs p s : List ℕ) → Shorter n → length xs < n → 
     IsUtf8 p → IsUtf8 xs → content (after_high h) xs ≡ Some s → IsUtf8 (p ++ s)
 unfolding content
 high_half n h (x ∷ y ∷ a ∷ b ∷ c ∷ d ∷ xs) p s each short high before utf8 is =
-    let marks = some_from_if ((x == 92) && (y == 117)) _ s is in
-    let both = and_parts (x == 92) (y == 117) marks.0 in
+    let marks = some_from_if ((x == char.backslash) && (y == char.letter_u)) _ s is in
+    let both = and_parts (x == char.backslash) (y == char.letter_u) marks.0 in
     let first : x < 128 = let e = both.0 in grind (arith, nat_tests) in
     let second : y < 128 = let e = both.1 in grind (arith, nat_tests) in
     let unit = some_from_then _ (code_unit a b c d) s marks.1 in
@@ -204,7 +205,8 @@ lettered_text n x xs p s each short before utf8 is =
           absurd (none-some letter.0 (sym (short_high x high) ∙ letter.1))
     ]
 
-escape_text : (t : Bool) (n x : ℕ) (xs p s : List ℕ) → Shorter n → length xs < n → (x == 117) ≡ t →
+escape_text : (t : Bool) (n x : ℕ) (xs p s : List ℕ) → Shorter n → length xs < n
+    → (x == char.letter_u) ≡ t →
     IsUtf8 p → IsUtf8 (x ∷ xs) →
     cond t (content after_u xs)
     (option_and_then (λ c. prepend (c ∷ []) (content plain xs)) (short_escape x)) ≡ Some s →
@@ -220,7 +222,7 @@ escaped_text : (n : ℕ) (xs p s : List ℕ) → Shorter n → length xs < n →
 unfolding content
 escaped_text n [] p s each short before utf8 is = absurd (cc)
 escaped_text n (x ∷ xs) p s each short before utf8 is =
-    escape_text (x == 117) n x xs p s each (omega arith) refl before utf8 is
+    escape_text (x == char.letter_u) n x xs p s each (omega arith) refl before utf8 is
 
 -- the byte itself, and what comes after it
 itself_text : (t : Bool) (n x : ℕ) (xs p s : List ℕ) → Shorter n → length xs < n →
@@ -232,8 +234,9 @@ itself_text false n x xs p s each short utf8 is =
     subst (λ y. IsUtf8 (p ++ y)) t.2
     (rw append_assoc at (each (p ++ x ∷ []) xs t.0 short (text_moved p x xs utf8) t.1))
 
-by_byte : (t w : Bool) (n x : ℕ) (xs p s : List ℕ) → Shorter n → length xs < n → (x == 34) ≡ t →
-    (x == 92) ≡ w → IsUtf8 (p ++ x ∷ xs) →
+by_byte : (t w : Bool) (n x : ℕ) (xs p s : List ℕ) → Shorter n → length xs < n
+    → (x == char.double_quote) ≡ t →
+    (x == char.backslash) ≡ w → IsUtf8 (p ++ x ∷ xs) →
     cond t (Some [])
     (cond w (content after_backslash xs)
     (cond (nat_lt x 32) None (prepend (x ∷ []) (content plain xs)))) ≡ Some s → IsUtf8 (p ++ s)
@@ -251,7 +254,8 @@ unfolding content
 contents zero p xs s short utf8 is = absurd (omega arith)
 contents (suc n) p [] s short utf8 is = absurd (cc)
 contents (suc n) p (x ∷ xs) s short utf8 is =
-    by_byte (x == 34) (x == 92) n x xs p s (contents n) (omega arith) refl refl utf8 is
+    by_byte (x == char.double_quote) (x == char.backslash) n x xs p s (contents n) (omega arith)
+    refl refl utf8 is
 
 -- the content of a string that begins a text is a text
 pub content-IsUtf8 : (xs s : List ℕ) → IsUtf8 xs → content plain xs ≡ Some s → IsUtf8 s

@@ -6,6 +6,7 @@ use Rattle.std.specs.Str.{is_utf8}
 use Rattle.std.proofs.lemmas.Bool.{and_from}
 use Rattle.std.proofs.lemmas.Bool.Decides.{nat_tests}
 use Rattle.std.proofs.lemmas.Str.{is_utf8-from_IsUtf8}
+use Rattle.jp_reading.specs.Characters as char
 use Rattle.json.specs.Ascii as ascii
 use Rattle.json.specs.Lex.{Class, Lexeme, Mode, Place, after_comma, after_key, after_value}
 use Rattle.json.specs.Lex.{backslash, begins_colon, between, class, colon, comma, fresh}
@@ -114,7 +115,8 @@ quote_by true s u w is = refl
 quote_by false s u w is = absurd (not_quote s u w is)
 
 quote_low : (x : ℕ) → class x ≡ quote → x < 128
-quote_low x is = let mark : (x == 34) ≡ true = quote_by _ _ _ _ is in grind (arith, nat_tests)
+quote_low x is = let mark : (x == char.double_quote)
+    ≡ true = quote_by _ _ _ _ is in grind (arith, nat_tests)
 
 lexemes_are_texts : (p xs : List ℕ) (m : Mode) → IsUtf8 (p ++ xs) → LexemesAreTexts (lex m xs)
 unfolding lex

@@ -3,6 +3,7 @@
 use Rattle.std.specs.Prelude.{ℕ, ◌+◌, ◌-◌, ◌==◌, ◌||◌, ◌&&◌, not, nat_le, nat_lt}
 use Rattle.std.specs.Prelude.{Bool, true, false, if◌then◌else◌, List, ◌∷◌}
 use Rattle.std.specs.Str.{encode_utf8_all}
+use Rattle.jp_reading.specs.Characters as char
 use Rattle.jp_reading.specs.Outcome.{is}
 use Rattle.jp_reading.specs.Numbers.{is_digit, capped}
 use Rattle.jp_reading.specs.Rule.{here, Nesting, the, Rule, value, character}
@@ -15,36 +16,39 @@ use Rattle.jp_document.specs.Location.{Key, named, nth, Location}
 
 -- normal-unescaped: a character that stands for itself
 unfoldable pub is_plain : ℕ → Bool
-is_plain c = not (nat_lt c 32 || c == 39 || c == 92)
+is_plain c = not (nat_lt c 32 || c == char.single_quote || c == char.backslash)
 
 -- normal-escapable: a letter that stands for a character after `\`
 unfoldable pub is_letter : ℕ → Bool
-is_letter e = e == 98 || e == 116 || e == 110 || e == 102 || e == 114 || e == 39 || e == 92
+is_letter e = e == char.letter_b || e == char.letter_t || e == char.letter_n || e == char.letter_f
+    || e == char.letter_r || e == char.single_quote || e == char.backslash
 
 -- what it stands for there
 unfoldable pub meant : ℕ → ℕ
 meant e =
-    if e == 98 then 8
-    else (if e == 116 then 9
-    else (if e == 110 then 10
-    else (if e == 102 then 12
-    else (if e == 114 then 13
-    else e))))
+    if e == char.letter_b then char.backspace
+    else if e == char.letter_t then char.tab
+    else if e == char.letter_n then char.line_feed
+    else if e == char.letter_f then char.form_feed
+    else if e == char.letter_r then char.carriage_return
+    else e
 
 -- normal-HEXDIG: a lower case hexadecimal digit, and what it writes
 unfoldable pub is_hex_digit : ℕ → Bool
-is_hex_digit d = nat_le 48 d && nat_le d 57 || nat_le 97 d && nat_le d 102
+is_hex_digit d = nat_le char.digit_zero d && nat_le d char.digit_nine || nat_le char.letter_a d
+    && nat_le d char.letter_f
 
 unfoldable pub hex_value : ℕ → ℕ
-hex_value d = if nat_lt d 97 then d - 48 else d - 87
+hex_value d = if nat_lt d char.letter_a then d - char.digit_zero else d - (char.letter_a - 10)
 
 -- one that writes a number below 16 whose character has no letter
 unfoldable pub is_low_digit : ℕ → Bool
-is_low_digit d = nat_le 48 d && nat_le d 55 || d == 98 || d == 101 || d == 102
+is_low_digit d = nat_le char.digit_zero d && nat_le d char.digit_seven || d == char.letter_b
+    || d == char.letter_e || d == char.letter_f
 
 -- whether a character does not end the name
 abbrev pub is_inside : ℕ → Bool
-is_inside c = not (c == 39)
+is_inside c = not (c == char.single_quote)
 
 -- whether a character is one of these
 abbrev pub is_one_of : Characters → ℕ → Bool
@@ -67,18 +71,18 @@ PathRule u = Rule nesting u here here
 -- normal-hexchar, after `u`
 unfoldable pub hexchar : PathRule true ℕ
 hexchar = do
-  the 48
-  the 48
-  upon 48 (made hex_value (character is_low_digit))
-      (the 49 >> made (λ d. 16 + hex_value d) (character is_hex_digit))
+  the char.digit_zero
+  the char.digit_zero
+  upon char.digit_zero (made hex_value (character is_low_digit))
+      (the char.digit_one >> made (λ d. 16 + hex_value d) (character is_hex_digit))
 
 -- what comes after `\`
 unfoldable pub escape : PathRule true ℕ
-escape = upon 117 hexchar (made meant (character is_letter))
+escape = upon char.letter_u hexchar (made meant (character is_letter))
 
 -- normal-single-quoted
 unfoldable pub name_character : PathRule true ℕ
-name_character = upon 92 escape (character is_plain)
+name_character = upon char.backslash escape (character is_plain)
 
 -- the characters up to the quote, in bytes
 unfoldable pub name_characters : PathRule false (List ℕ)
@@ -87,14 +91,14 @@ name_characters = made encode_utf8_all (some here is_inside name_character)
 -- normal-name-selector
 unfoldable pub name : PathRule true (List ℕ)
 name = do
-  the 39
+  the char.single_quote
   s ← name_characters
-  the 39
+  the char.single_quote
   value {m = here} s
 
 -- DIGIT1: a digit other than zero
 abbrev pub is_leading_digit : ℕ → Bool
-is_leading_digit c = nat_le 49 c && nat_le c 57
+is_leading_digit c = nat_le char.digit_one c && nat_le c char.digit_nine
 
 -- digits without a leading zero: what they write, or 2^53 where it is larger
 unfoldable pub size : PathRule true ℕ
@@ -104,24 +108,24 @@ size = do
 
 -- normal-index-selector
 unfoldable pub index : PathRule true ℕ
-index = upon 48 (value {m = here} 0) size
+index = upon char.digit_zero (value {m = here} 0) size
 
 -- normal-selector
 unfoldable pub key : PathRule true Key
-key = look here (is 39) (made named name) (made nth index)
+key = look here (is char.single_quote) (made named name) (made nth index)
 
 -- normal-index-segment
 unfoldable pub step : PathRule true Key
 step = do
-  the 91
+  the char.opening_bracket
   k ← key
-  the 93
+  the char.closing_bracket
   value {m = here} k
 
 -- the steps, as long as another begins
 unfoldable pub steps : PathRule false Location
-steps = some here (is 91) step
+steps = some here (is char.opening_bracket) step
 
 -- normalized-path
 unfoldable pub path : PathRule true Location
-path = the 36 >> steps
+path = the char.dollar >> steps

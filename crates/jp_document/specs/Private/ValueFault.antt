@@ -1,4 +1,4 @@
--- Why a reading has no value: its first number that is no whole one. A `ValueFault` has the last
+-- Why a reading has no value: its first number that is not whole. A `ValueFault` has the last
 -- step first.
 use Rattle.std.specs.Prelude.{◌≡◌, [], ◌∷◌, ◌++◌, map, reverse, string_bytes}
 use Rattle.serde_json.specs.Data.{Data}

@@ -1,6 +1,6 @@
 //! The two ways to read a document, beside each other. A document is read from its tokens, and only
-//! what that way leaves by `serde_json`: an object, say, that has a fraction under a name that comes
-//! again, and with it the whole document.
+//! what that way leaves by `serde_json`: an object, say, that has a fraction under a name that
+//! comes again, and with it the whole document.
 use super::documents::compact;
 use crate::{Document, Step, value_text};
 use std::alloc::{AllocError, Global};

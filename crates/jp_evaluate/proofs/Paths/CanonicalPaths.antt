@@ -6,6 +6,7 @@ use Rattle.std.proofs.lemmas.Str.{chars-encodes, encodes-append, encodes-chars, 
 use Rattle.std.specs.Fmt.{decimal}
 use Rattle.std.specs.List.{flat_map}
 use Rattle.std.specs.Str.{chars, encode_utf8_all}
+use Rattle.jp_reading.specs.Characters as char
 use lib.Utf8.{low_scalar, scalar, scalars}
 use Rattle.jp_reading.specs.Forms.{Form}
 use Rattle.jp_reading.specs.Texts.{Spans, Text}
@@ -88,24 +89,26 @@ encoded-ascii cs all = (scalars-ascii cs all, encode-ascii cs all)
 encoded-mark : (c : ℕ) → c < 128 → Encoded (c ∷ []) (c ∷ [])
 encoded-mark c low = encoded-ascii (c ∷ []) (low, tt)
 
-scalars-spelling : (c : ℕ) → scalar c ≡ true → scalars (spelling 39 c) ≡ true
+scalars-spelling : (c : ℕ) → scalar c ≡ true → scalars (spelling char.single_quote c) ≡ true
 scalars-spelling c is = elim (cases_lt c 128) [
-  | inl low ↦ scalars-ascii (spelling 39 c) (spelling-low c low)
+  | inl low ↦ scalars-ascii (spelling char.single_quote c) (spelling-low c low)
   | inr high ↦
       ap scalars (spelling_is c (c ∷ []) (by_itself (high-plain c high) refl))
       ∙ ap (λ b. b && true) is
 ]
 
-scalars-spellings : (cs : Text) → scalars cs ≡ true → scalars (flat_map (spelling 39) cs) ≡ true
+scalars-spellings : (cs : Text) → scalars cs ≡ true
+    → scalars (flat_map (spelling char.single_quote) cs) ≡ true
 scalars-spellings [] all = refl
 scalars-spellings (c ∷ cs) all =
     let parts = and_parts (scalar c) (scalars cs) all in
-    scalars-append (spelling 39 c) (flat_map (spelling 39) cs) (scalars-spelling c parts.0)
+    scalars-append (spelling char.single_quote c) (flat_map (spelling char.single_quote) cs)
+    (scalars-spelling c parts.0)
     (scalars-spellings cs parts.1)
 
 encoded-name : (s : List ℕ) → IsUtf8 s → Encoded (quoted (chars s)) (quoted s)
 encoded-name s utf8 = (
-  scalars-append (flat_map (spelling 39) (chars s)) (codes "'")
+  scalars-append (flat_map (spelling char.single_quote) (chars s)) (codes "'")
       (scalars-spellings (chars s) (scalars-chars s utf8)) refl,
   quoted-encode (chars s) ∙ ap quoted (encodes-chars s utf8),
 )
@@ -122,8 +125,9 @@ encoded-bracket t bs is =
     subst (λ x. Encoded (codes "[" ++ (x ++ codes "]")) (codes "[" ++ (bs ++ codes "]")))
     (sym (append-nil t))
     (encoded-append (codes "[") (t ++ codes "]") (codes "[") (bs ++ codes "]")
-    (encoded-mark 91 (omega arith))
-    (encoded-append t (codes "]") bs (codes "]") is (encoded-mark 93 (omega arith))))
+    (encoded-mark char.opening_bracket (omega arith))
+    (encoded-append t (codes "]") bs (codes "]") is
+    (encoded-mark char.closing_bracket (omega arith))))
 
 encoded-steps : (l : Location) → StepsFit l
     → Encoded (segments_text (segments (map step_segment l))) (flat_map step_text l)
@@ -141,7 +145,7 @@ path-canonical : (l : Location) → StepsFit l
     → chars (path_of l) ≡ canon_of (path_tree l)
 path-canonical l fit =
     let all = encoded-append (codes "$") _ (codes "$") (flat_map step_text l)
-    (encoded-mark 36 (omega arith)) (encoded-steps l fit) in
+    (encoded-mark char.dollar (omega arith)) (encoded-steps l fit) in
     ap chars (sym all.1) ∙ chars-encodes (canon_of (path_tree l)) all.0
 
 -- so the path spells the tree

@@ -4,6 +4,7 @@ use Rattle.std.proofs.Common.{◌++◌, Some, inl, inr, refl, sym, ap, ◌∙◌
 use Rattle.std.specs.Prelude.{codes}
 use Rattle.std.proofs.lemmas.Bool.{cases_Bool, eqb-true}
 use Rattle.std.proofs.lemmas.Bool.Decides.{nat_tests}
+use Rattle.jp_reading.specs.Characters as char
 use Rattle.jp_reading.specs.Texts.{Text, Spans}
 use Rattle.jp_reading.specs.Forms.{◌⌢◌, word, One, Each}
 use Rattle.jp_reading.specs.Outcome.{State, took, head, first_of, past}
@@ -28,31 +29,38 @@ use Rattle.jp_iregexp.proofs.Completeness.Characters.{plain-element, plain-no-ba
 use Rattle.jp_iregexp.proofs.Completeness.Characters.{escaped-no-sign}
 use Rattle.jp_iregexp.proofs.Completeness.Characters.{again-character, again-escape, Escaped}
 
--- the text behind the first character
-abbrev behind : Text → Text
-behind [] = []
-behind (c ∷ t) = t
+-- the text after the first character
+abbrev after_first : Text → Text
+after_first [] = []
+after_first (c ∷ t) = t
 
 -- whether a `-` stands next that does not end the class
 abbrev is_inner_hyphen : Text → Bool
-is_inner_hyphen t = passes (is 45) (first_of t) && not (passes (is 93) (first_of (behind t)))
+is_inner_hyphen t = passes (is char.hyphen) (first_of t)
+    && not (passes (is char.closing_bracket) (first_of (after_first t)))
 
-past-behind : (at : ℕ) (found : Spans) (t : Text) → (past_first at found t).rest ≡ behind t
-past-behind at found [] = refl
-past-behind at found (c ∷ t) = refl
+past-after_first : (at : ℕ) (found : Spans) (t : Text) → (past_first at found t).rest
+    ≡ after_first t
+past-after_first at found [] = refl
+past-after_first at found (c ∷ t) = refl
 
 -- what may follow an item
 record AfterElement (t : Text) : Type 0 where
   none : is_inner_hyphen t ≡ false
 
-range-off : (q : State) → AfterElement q.rest → (is_at 45 q && not (is_at 93 (past q))) ≡ false
+range-off : (q : State) → AfterElement q.rest
+    → (is_at char.hyphen q && not (is_at char.closing_bracket (past q))) ≡ false
 range-off q h =
-    ap (λ t. is_at 45 q && not (passes (is 93) (first_of t))) (past-behind q.at q.found q.rest)
+    ap (λ t. is_at char.hyphen q && not (passes (is char.closing_bracket) (first_of t)))
+    (past-after_first q.at q.found q.rest)
     ∙ h.none
 
 -- where the first character is no `-` nothing goes on
-no-hyphen : (t : Text) → passes (is 45) (first_of t) ≡ false → AfterElement t
-no-hyphen t h = record { none = ap (λ b. b && not (passes (is 93) (first_of (behind t)))) h }
+no-hyphen : (t : Text) → passes (is char.hyphen) (first_of t) ≡ false → AfterElement t
+no-hyphen t h = record {
+  none = ap
+      (λ b. b && not (passes (is char.closing_bracket) (first_of (after_first t)))) h;
+}
 
 -- where an item begins
 record Begins (p : State) : Type 0 where
@@ -77,7 +85,11 @@ begins-character c p q h = elim h.is [
 
     backslash : {e : ℕ} → Split (word (codes "\\")) (One is_escaped e) p q → Begins p
     backslash parts =
-        record { first = 92; at = word-first 92 [] p parts.middle parts.one; is = refl }
+        record {
+          first = char.backslash;
+          at = word-first char.backslash [] p parts.middle parts.one;
+          is = refl;
+        }
 
 -- a character is no category
 no-category : (c : ℕ) (p q : State) → Reads (Character is_plain c) p q → is_at_category p ≡ false
@@ -95,12 +107,16 @@ no-category c p q h = elim h.is [
     plain-none : head p ≡ Some c → is_plain c ≡ true → is_at_category p ≡ false
     plain-none e passing =
         ap (λ b. b && passes is_category_sign (head (past p)))
-        (ap (passes (is 92)) e ∙ plain-no-backslash c passing)
+        (ap (passes (is char.backslash)) e ∙ plain-no-backslash c passing)
 
     escaped-none : (e : ℕ) → Split (word (codes "\\")) (One is_escaped e) p q →
         is_at_category p ≡ false
     escaped-none e parts =
-        rw (at-word 92 [] p parts.middle parts.one, past-word 92 p parts.middle parts.one)
+        rw (
+          at-word char.backslash [] p parts.middle parts.one,
+          past-word char.backslash p
+              parts.middle parts.one,
+        )
         (ap (passes is_category_sign) (one-first is_escaped e parts.middle q parts.two)
         ∙ escaped-no-sign e parts.two.is.passes)
 
@@ -117,9 +133,9 @@ range-to c d p q order h =
     let begins = begins-character d m q parts.two in
     let low : nat_lt d c ≡ false = grind (arith, nat_tests) in
     rw (
-      at-word 45 [] p m parts.one,
-      past-word 45 p m parts.one,
-      is_at-other begins_element begins.first 93 m begins.at begins.is refl,
+      at-word char.hyphen [] p m parts.one,
+      past-word char.hyphen p m parts.one,
+      is_at-other begins_element begins.first char.closing_bracket m begins.at begins.is refl,
       again-character d m q parts.two,
       low,
     ) refl
@@ -162,14 +178,15 @@ begins-element x p q h = elim h.is [
       begins-character c p parts.middle parts.one)
   | grammar.class_escape g ↦
       (let escape = again-escape x p q (reads-is (Element x) (ClassEscape x) p q h g) in
-      record { first = 92; at = head-is 92 p escape.at; is = refl })
+      record { first = char.backslash; at = head-is char.backslash p escape.at; is = refl })
 ]
 
 starts-element : Starts Element AfterElement (λ q. passes begins_element (head q))
 starts-element x p q h =
     let begins = begins-element x p q h in (
       ap (passes begins_element) begins.at ∙ begins.is,
-      no-hyphen p.rest (is_at-other begins_element begins.first 45 p begins.at begins.is refl),
+      no-hyphen p.rest (is_at-other begins_element begins.first char.hyphen p begins.at begins.is
+          refl),
     )
 
 again-elements : (xs : List ClassItem) (p q : State) → Reads (Each Element xs) p q →
@@ -187,43 +204,50 @@ each-after (x ∷ xs) p q h after =
     let parts = split (Element x) (Each Element xs) p q h in
     (starts-element x p parts.middle parts.one).1
 
--- the end of a class, behind these items
+-- the end of a class, after these items
 record LastRead (xs ys : List ClassItem) (p q : State) : Type 0 where
   ends : passes begins_element (head p) ≡ false
   after : AfterElement p.rest
   is : last_at xs p ≡ took (xs ++ ys) q
 
 hyphen-read : (x : ClassItem) (p q : State) → Reads (Hyphen x) p q →
-    (is_at 45 p ≡ true) × (past p ≡ q) × (hyphen_at p ≡ took x q)
+    (is_at char.hyphen p ≡ true) × (past p ≡ q) × (hyphen_at p ≡ took x q)
 hyphen-read x p q h =
-    let w = reads-is (Hyphen x) (word (codes "-")) p q h h.is.is in
-    (at-word 45 [] p q w, past-word 45 p q w, rw (again-expect 45 p q w, h.is.item) refl)
+    let w = reads-is (Hyphen x) (word (codes "-")) p q h h.is.is in (
+      at-word char.hyphen [] p q w,
+      past-word char.hyphen p q w,
+      rw
+          (again-expect char.hyphen p q w, h.is.item) refl,
+    )
 
-last-none : (xs : List ClassItem) (p : State) → is_at 93 p ≡ true → LastRead xs [] p p
+last-none : (xs : List ClassItem) (p : State) → is_at char.closing_bracket p ≡ true
+    → LastRead xs [] p p
 last-none xs p at =
-    let e = head-is 93 p at in
+    let e = head-is char.closing_bracket p at in
     record {
       ends = ap (passes begins_element) e;
-      after = no-hyphen p.rest (ap (passes (is 45)) e);
-      is = rw (ap (passes (is 45)) e, append-nil xs) refl;
+      after = no-hyphen p.rest (ap (passes (is char.hyphen)) e);
+      is = rw (ap (passes (is char.hyphen)) e, append-nil xs) refl;
     }
 
 last-one : (xs : List ClassItem) (x : ClassItem) (p q : State) → Reads (Hyphen x) p q →
-    is_at 93 q ≡ true → LastRead xs (x ∷ []) p q
+    is_at char.closing_bracket q ≡ true → LastRead xs (x ∷ []) p q
 last-one xs x p q h at =
     let (hyphen, behind_it, read) = hyphen-read x p q h in
     record {
-      ends = ap (passes begins_element) (head-is 45 p hyphen);
+      ends = ap (passes begins_element) (head-is char.hyphen p hyphen);
       after = record {
         none =
             rw hyphen
-            (ap (λ t. not (passes (is 93) (first_of t))) (sym (past-behind p.at p.found p.rest))
-            ∙ ap (λ (r : State). not (is_at 93 r)) behind_it ∙ ap not at);
+            (ap (λ t. not (passes (is char.closing_bracket) (first_of t)))
+            (sym (past-after_first p.at p.found p.rest))
+            ∙ ap (λ (r : State). not (is_at char.closing_bracket r)) behind_it ∙ ap not at);
       };
       is = rw (hyphen, read) refl;
     }
 
-again-last : (xs ys : List ClassItem) (p q : State) → Reads (Last ys) p q → is_at 93 q ≡ true →
+again-last : (xs ys : List ClassItem) (p q : State) → Reads (Last ys) p q
+    → is_at char.closing_bracket q ≡ true →
     LastRead xs ys p q
 again-last xs ys p q h at = elim h.is [
   | grammar.no_hyphen e g ↦
@@ -244,11 +268,12 @@ again-first x p q h after = elim h.is [
   | grammar.first_element g ↦
       (let element = reads-is (First x) (Element x) p q h g in
       let begins = begins-element x p q element in
-      rw (is_at-other begins_element begins.first 45 p begins.at begins.is refl)
+      rw (is_at-other begins_element begins.first char.hyphen p begins.at begins.is refl)
       (again-element x p q element after))
 ]
 
-again-items : (zs : List ClassItem) (p q : State) → Reads (Items zs) p q → is_at 93 q ≡ true →
+again-items : (zs : List ClassItem) (p q : State) → Reads (Items zs) p q
+    → is_at char.closing_bracket q ≡ true →
     items_at p ≡ took zs q
 unfolding items_at
 again-items zs p q h at =
@@ -270,7 +295,8 @@ again-items zs p q h at =
     ) refl
 
 -- items before the end of the class, where the class begins at p
-class-rest : (b : Bool) (xs : List ClassItem) (p m r q : State) → expect 91 p ≡ took 91 m →
+class-rest : (b : Bool) (xs : List ClassItem) (p m r q : State) → expect char.opening_bracket p
+    ≡ took char.opening_bracket m →
     negation_at m ≡ took b r → Reads (Items xs ⌢ word (codes "]")) r q →
     class_at p ≡ took (class b xs) q
 unfolding class_at
@@ -279,19 +305,21 @@ class-rest b xs p m r q opening negation h =
     rw (
       opening,
       negation,
-      again-items xs r parts.middle parts.one (at-word 93 [] parts.middle q parts.two),
-      again-expect 93 parts.middle q parts.two,
+      again-items xs r parts.middle parts.one
+          (at-word char.closing_bracket [] parts.middle q parts.two),
+      again-expect char.closing_bracket parts.middle q parts.two,
     ) refl
 
 -- items that do not begin with `^` before a `]` do not stand at a `^`
-not-caret : (t : Text) (m r : State) → m.rest ≡ t ++ r.rest → first_of t ≢ Some 94 →
-    is_at 93 r ≡ true → is_at 94 m ≡ false
+not-caret : (t : Text) (m r : State) → m.rest ≡ t ++ r.rest → first_of t ≢ Some char.caret →
+    is_at char.closing_bracket r ≡ true → is_at char.caret m ≡ false
 not-caret [] m r e begins at =
-    ap (λ u. passes (is 94) (first_of u)) e ∙ ap (passes (is 94)) (head-is 93 r at)
+    ap (λ u. passes (is char.caret) (first_of u)) e
+    ∙ ap (passes (is char.caret)) (head-is char.closing_bracket r at)
 not-caret (c ∷ t) m r e begins at =
-    ap (λ u. passes (is 94) (first_of u)) e
-    ∙ elim (cases_Bool (is 94 c)) as (λ z. is 94 c ≡ false) [
-      | inl same ↦ absurd (begins (ap Some (eqb-true c 94 same)))
+    ap (λ u. passes (is char.caret) (first_of u)) e
+    ∙ elim (cases_Bool (is char.caret c)) as (λ z. is char.caret c ≡ false) [
+      | inl same ↦ absurd (begins (ap Some (eqb-true c char.caret same)))
       | inr apart ↦ apart
     ]
 
@@ -306,8 +334,8 @@ again-class x p q h = elim h.is [
       let items = tail.one in
       let none =
       not-caret items.text m tail.middle items.way.rest items.is.begins
-      (at-word 93 [] tail.middle q tail.two) in
-      class-rest false xs p m m q (again-expect 91 p m parts.one) (rw none refl)
+      (at-word char.closing_bracket [] tail.middle q tail.two) in
+      class-rest false xs p m m q (again-expect char.opening_bracket p m parts.one) (rw none refl)
       (reads-then (Items xs) (word (codes "]")) m tail.middle q
       (reads-is (NotAtCaret xs) (Items xs) m tail.middle items items.is.is) tail.two)
       ∙ ap (λ y. took y q) (sym e))
@@ -315,10 +343,14 @@ again-class x p q h = elim h.is [
       (let parts =
       split (word (codes "[^")) (Items xs ⌢ word (codes "]")) p q
       (reads-is (Class x) (word (codes "[^") ⌢ Items xs ⌢ word (codes "]")) p q h g) in
-      let front = split-word 91 (codes "^") p parts.middle parts.one in
-      let m = front.middle in
-      class-rest true xs p m parts.middle q (again-expect 91 p m front.one)
-      (rw (at-word 94 [] m parts.middle front.two, past-word 94 m parts.middle front.two) refl)
+      let prefix = split-word char.opening_bracket (codes "^") p parts.middle parts.one in
+      let m = prefix.middle in
+      class-rest true xs p m parts.middle q (again-expect char.opening_bracket p m prefix.one)
+      (rw (
+        at-word char.caret [] m parts.middle prefix.two,
+        past-word char.caret m parts.middle
+            prefix.two,
+      ) refl)
       parts.two
       ∙ ap (λ y. took y q) (sym e))
 ]

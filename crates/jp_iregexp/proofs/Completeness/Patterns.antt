@@ -3,6 +3,7 @@ use Rattle.std.proofs.Common.{◌≡◌, ℕ, zero, suc, true, false, ◌==◌, 
 use Rattle.std.proofs.Common.{Option, Some, None, inl, inr, refl, sym, ap, ◌∙◌, subst}
 use Rattle.std.specs.Prelude.{codes}
 use Rattle.std.proofs.lemmas.Bool.{cases_Bool, eqb-true}
+use Rattle.jp_reading.specs.Characters as char
 use Rattle.jp_reading.specs.Texts.{Text}
 use Rattle.jp_reading.specs.Forms.{Form, ◌⌢◌, word, One, Each, Separated}
 use Rattle.jp_reading.specs.Outcome.{State, Outcome, took, stuck, deep, ◌>>=◌}
@@ -33,16 +34,20 @@ use Rattle.jp_iregexp.proofs.Completeness.Quantifiers.{again-quantifier, Quantif
 -- a character that stands for itself begins a piece and no quantifier
 normal-piece : (c : ℕ) → is_normal c ≡ true → begins_piece c ≡ true
 unfolding is_normal
-normal-piece c h = rw (is-other is_normal c 124 h refl, is-other is_normal c 41 h refl) refl
+normal-piece c h = rw (
+  is-other is_normal c char.bar h refl,
+  is-other is_normal c
+      char.closing_parenthesis h refl,
+) refl
 
 normal-quantifier : (c : ℕ) → is_normal c ≡ true → begins_quantifier c ≡ false
 unfolding is_normal
 normal-quantifier c h =
     rw (
-      is-other is_normal c 42 h refl,
-      is-other is_normal c 43 h refl,
-      is-other is_normal c 63 h refl,
-      is-other is_normal c 123 h refl,
+      is-other is_normal c char.star h refl,
+      is-other is_normal c char.plus h refl,
+      is-other is_normal c char.question_mark h refl,
+      is-other is_normal c char.opening_brace h refl,
     ) refl
 
 -- what may follow a piece, a branch and branches
@@ -54,33 +59,33 @@ record AfterBranch (t : Text) : Type 0 where
 
 record AfterBranches (t : Text) : Type 0 where
   branch : AfterBranch t
-  bar : passes (is 124) (first_of t) ≡ false
+  bar : passes (is char.bar) (first_of t) ≡ false
 
 branch-quantifier : (o : Option ℕ) → passes begins_piece o ≡ false →
     passes begins_quantifier o ≡ false
 branch-quantifier None h = refl
 branch-quantifier (Some c) h =
-    elim (cases_Bool (is 124 c)) [
-      | inl bar ↦ rw (eqb-true c 124 bar) refl
-      | inr none ↦ elim (cases_Bool (is 41 c)) [
-        | inl paren ↦ rw (eqb-true c 41 paren) refl
+    elim (cases_Bool (is char.bar c)) [
+      | inl bar ↦ rw (eqb-true c char.bar bar) refl
+      | inr none ↦ elim (cases_Bool (is char.closing_parenthesis c)) [
+        | inl paren ↦ rw (eqb-true c char.closing_parenthesis paren) refl
         | inr nor ↦ absurd (let e : begins_piece c ≡ true = rw (none, nor) refl in cc)
       ]
     ]
 
 -- a class begins with `[`
-class-first : (x : Tree) (p q : State) → Reads (Class x) p q → head p ≡ Some 91
+class-first : (x : Tree) (p q : State) → Reads (Class x) p q → head p ≡ Some char.opening_bracket
 class-first x p q h = elim h.is [
   | grammar.plain xs e g ↦
       (let parts =
       split (word (codes "[")) (NotAtCaret xs ⌢ word (codes "]")) p q
       (reads-is (Class x) (word (codes "[") ⌢ NotAtCaret xs ⌢ word (codes "]")) p q h g) in
-      word-first 91 [] p parts.middle parts.one)
+      word-first char.opening_bracket [] p parts.middle parts.one)
   | grammar.negated xs e g ↦
       (let parts =
       split (word (codes "[^")) (Items xs ⌢ word (codes "]")) p q
       (reads-is (Class x) (word (codes "[^") ⌢ Items xs ⌢ word (codes "]")) p q h g) in
-      word-first 91 (codes "^") p parts.middle parts.one)
+      word-first char.opening_bracket (codes "^") p parts.middle parts.one)
 ]
 
 -- branches as a list of one or more
@@ -97,7 +102,8 @@ branches-round (stuck q) f = refl
 branches-round (deep q) f = refl
 
 module _ (Group : Tree → Form) (inside : State → Outcome Tree)
-    (again : (x : Tree) (p q : State) → Reads (Group x) p q → is_at 41 q ≡ true →
+    (again : (x : Tree) (p q : State) → Reads (Group x) p q → is_at char.closing_parenthesis q
+    ≡ true →
     inside p ≡ took x q)
     (keeps : (p : State) → Keeps p (inside p)) where
   -- an atom is read where it begins
@@ -119,26 +125,34 @@ module _ (Group : Tree → Form) (inside : State → Outcome Tree)
         piece = normal-piece c passing;
         none = normal-quantifier c passing;
         is = rw (
-          is_at-other is_normal c 40 p e passing refl,
-          is_at-other is_normal c 91 p e passing refl,
-          is_at-other is_normal c 46 p e passing refl,
-          is_at-other is_normal c 92 p e passing refl,
+          is_at-other is_normal c char.opening_parenthesis p e passing refl,
+          is_at-other is_normal c char.opening_bracket p e passing refl,
+          is_at-other is_normal c char.dot p e passing refl,
+          is_at-other is_normal c char.backslash p e passing refl,
           again-take_if is_normal c p q h,
         ) refl;
       }
 
-  -- behind a `\`
-  atom-behind : (x : Tree) (p q : State) → is_at 92 p ≡ true → escape_at (past p) ≡ took x q →
+  -- after a `\`
+  atom-after_backslash : (x : Tree) (p q : State) → is_at char.backslash p ≡ true
+      → escape_at (past p)
+      ≡ took x q →
       AtomRead x p q
   unfolding atom_at
-  atom-behind x p q at read =
-      let e = head-is 92 p at in
+  atom-after_backslash x p q at read =
+      let e = head-is char.backslash p at in
       record {
-        first = 92;
+        first = char.backslash;
         at = e;
         piece = refl;
         none = refl;
-        is = rw (ap (passes (is 40)) e, ap (passes (is 91)) e, ap (passes (is 46)) e, at) read;
+        is = rw (
+          ap (passes (is char.opening_parenthesis)) e,
+          ap (passes (is char.opening_bracket))
+              e,
+          ap (passes (is char.dot)) e,
+          at,
+        ) read;
       }
 
   atom-escaped : (c e : ℕ) (p q : State) → c ≡ meant e →
@@ -147,9 +161,9 @@ module _ (Group : Tree → Form) (inside : State → Outcome Tree)
   atom-escaped c e p q is_meant h =
       let parts = split (word (codes "\\")) (One is_escaped e) p q h in
       let m = parts.middle in
-      atom-behind (one c) p q (at-word 92 [] p m parts.one)
+      atom-after_backslash (one c) p q (at-word char.backslash [] p m parts.one)
       (rw (
-        past-word 92 p m parts.one,
+        past-word char.backslash p m parts.one,
         ap (passes is_category_sign) (one-first is_escaped e m q parts.two)
             ∙ escaped-no-sign e parts.two.is.passes,
         again-escaped e m q parts.two,
@@ -159,29 +173,38 @@ module _ (Group : Tree → Form) (inside : State → Outcome Tree)
   atom-category : (i : ClassItem) (p q : State) → Escaped i p q →
       AtomRead (class false (i ∷ [])) p q
   unfolding escape_at
-  atom-category i p q h = atom-behind (class false (i ∷ [])) p q h.at (rw (h.sign, h.is) refl)
+  atom-category i p q h = atom-after_backslash (class false (i ∷ [])) p q h.at
+      (rw (h.sign, h.is) refl)
 
   atom-dot : (p q : State) → Reads (word (codes ".")) p q → AtomRead dot p q
   unfolding atom_at
   atom-dot p q h =
-      let e = word-first 46 [] p q h in
-      let after = past-word 46 p q h in
+      let e = word-first char.dot [] p q h in
+      let after = past-word char.dot p q h in
       record {
-        first = 46;
+        first = char.dot;
         at = e;
         piece = refl;
         none = refl;
-        is = rw (ap (passes (is 40)) e, ap (passes (is 91)) e, ap (passes (is 46)) e, after) refl;
+        is = rw (
+          ap (passes (is char.opening_parenthesis)) e,
+          ap (passes (is char.opening_bracket))
+              e,
+          ap (passes (is char.dot)) e,
+          after,
+        ) refl;
       }
 
-  atom-class : (x : Tree) (p q : State) → head p ≡ Some 91 → Reads (Class x) p q → AtomRead x p q
+  atom-class : (x : Tree) (p q : State) → head p ≡ Some char.opening_bracket → Reads (Class x) p q
+      → AtomRead x p q
   unfolding atom_at
   atom-class x p q e h = record {
-    first = 91;
+    first = char.opening_bracket;
     at = e;
     piece = refl;
     none = refl;
-    is = rw (ap (passes (is 40)) e, ap (passes (is 91)) e) (again-class x p q h);
+    is = rw (ap (passes (is char.opening_parenthesis)) e, ap (passes (is char.opening_bracket)) e)
+        (again-class x p q h);
   }
 
   atom-group : (x : Tree) (p q : State) →
@@ -193,16 +216,16 @@ module _ (Group : Tree → Form) (inside : State → Outcome Tree)
       let tail = split (Group x) (word (codes ")")) m q parts.two in
       let r = tail.middle in
       record {
-        first = 40;
-        at = word-first 40 [] p m parts.one;
+        first = char.opening_parenthesis;
+        at = word-first char.opening_parenthesis [] p m parts.one;
         piece = refl;
         none = refl;
         is =
             rw (
-              at-word 40 [] p m parts.one,
-              again-expect 40 p m parts.one,
-              again x m r tail.one (at-word 41 [] r q tail.two),
-              again-expect 41 r q tail.two,
+              at-word char.opening_parenthesis [] p m parts.one,
+              again-expect char.opening_parenthesis p m parts.one,
+              again x m r tail.one (at-word char.closing_parenthesis [] r q tail.two),
+              again-expect char.closing_parenthesis r q tail.two,
             ) refl;
       }
 
@@ -293,35 +316,41 @@ module _ (Group : Tree → Form) (inside : State → Outcome Tree)
   unfolding next_branch_at
   again-next_branch x p q h after =
       let parts = split (word (codes "|")) (Branch Group x) p q h in
-      rw (again-expect 124 p parts.middle parts.one) (again-branch x parts.middle q parts.two after)
+      rw (again-expect char.bar p parts.middle parts.one)
+      (again-branch x parts.middle q parts.two after)
 
-  starts-next_branch : Starts (λ x. word (codes "|") ⌢ Branch Group x) AfterBranch (is_at 124)
+  starts-next_branch : Starts (λ x. word (codes "|") ⌢ Branch Group x) AfterBranch (is_at char.bar)
   starts-next_branch x p q h =
       let parts = split (word (codes "|")) (Branch Group x) p q h in
-      let e = word-first 124 [] p parts.middle parts.one in
-      (ap (passes (is 124)) e, record { none = ap (passes begins_piece) e })
+      let e = word-first char.bar [] p parts.middle parts.one in
+      (ap (passes (is char.bar)) e, record { none = ap (passes begins_piece) e })
 
   again-branches : Again (Branches Group) AfterBranches (branches_at inside)
   unfolding branches_at
   again-branches x p q h after =
       let parts = h.is.parts in
-      branches-round (branch_at inside p) (each (is_at 124) (next_branch_at inside))
+      branches-round (branch_at inside p) (each (is_at char.bar) (next_branch_at inside))
       ∙ ap (by branches)
-      (again-separated (word (codes "|")) (Branch Group) AfterBranch (is_at 124)
+      (again-separated (word (codes "|")) (Branch Group) AfterBranch (is_at char.bar)
       (branch_at inside) (next_branch_at inside) (moves-next_branch inside keeps) again-branch
       again-next_branch starts-next_branch parts p q
       (reads-is (Branches Group x) (Separated (word (codes "|")) (Branch Group) parts) p q h
       h.is.is) after.bar after.branch)
       ∙ ap (λ y. took y q) (sym h.is.tree)
 
-again-inside : (n : ℕ) (x : Tree) (p q : State) → Reads (Inside n x) p q → is_at 41 q ≡ true →
+again-inside : (n : ℕ) (x : Tree) (p q : State) → Reads (Inside n x) p q
+    → is_at char.closing_parenthesis q ≡ true →
     inside_at n p ≡ took x q
 unfolding inside_at
 again-inside zero x p q h at = elim h.is [ ]
 again-inside (suc n) x p q h at =
-    let e = head-is 41 q at in
+    let e = head-is char.closing_parenthesis q at in
     again-branches (Inside n) (inside_at n) (again-inside n) (keeps-inside n) x p q h
-    (record { branch = record { none = ap (passes begins_piece) e }; bar = ap (passes (is 124)) e })
+    (record {
+      branch = record { none = ap (passes begins_piece) e };
+      bar = ap (passes (is char.bar))
+          e;
+    })
 
 -- a whole pattern
 pub again-pattern : (n : ℕ) (x : Tree) (p q : State) → Reads (Branches (Inside n) x) p q →
@@ -330,7 +359,7 @@ unfolding pattern_at
 again-pattern n x p q h e =
     let after : AfterBranches q.rest = record {
       branch = record { none = ap (λ t. passes begins_piece (first_of t)) e };
-      bar = ap (λ t. passes (is 124) (first_of t)) e;
+      bar = ap (λ t. passes (is char.bar) (first_of t)) e;
     } in
     rw (
       again-branches (Inside n) (inside_at n) (again-inside n) (keeps-inside n) x p q h after,

@@ -3,6 +3,7 @@ use Rattle.std.proofs.Common.{◌≡◌, ℕ, ◌≤◌, true, false, nat_lt, []
 use Rattle.std.proofs.Common.{Some, None, refl, sym, ap, subst, arith}
 use Rattle.std.specs.Prelude.{codes}
 use Rattle.std.proofs.lemmas.Bool.Decides.{nat_tests}
+use Rattle.jp_reading.specs.Characters as char
 use Rattle.jp_reading.specs.Forms.{◌⌢◌, word}
 use Rattle.jp_reading.specs.Numbers.{Digits, is_at_digit, is_digit, capped}
 use Rattle.jp_reading.specs.Outcome.{State, took, head, passes, is, is_at}
@@ -42,40 +43,46 @@ record MostRead (n : ℕ) (m : Option ℕ) (p q : State) : Type 0 where
   ends : is_at_digit p ≡ false
   is : most_at n p ≡ took m q
 
-most-exactly : (n : ℕ) (p : State) → is_at 125 p ≡ true → MostRead n (Some n) p p
+most-exactly : (n : ℕ) (p : State) → is_at char.closing_brace p ≡ true → MostRead n (Some n) p p
 unfolding most_at is_digit
-most-exactly n p at = record { ends = ap (passes is_digit) (head-is 125 p at); is = rw at refl }
+most-exactly n p at = record {
+  ends = ap (passes is_digit) (head-is char.closing_brace p at);
+  is =
+      rw at refl;
+}
 
-most-from : (n : ℕ) (p q : State) → Reads (word (codes ",")) p q → is_at 125 q ≡ true →
+most-from : (n : ℕ) (p q : State) → Reads (word (codes ",")) p q → is_at char.closing_brace q ≡ true
+    →
     MostRead n None p q
 unfolding most_at is_digit
 most-from n p q h at =
-    let e = word-first 44 [] p q h in
+    let e = word-first char.comma [] p q h in
     record {
       ends = ap (passes is_digit) e;
-      is = rw (ap (passes (is 125)) e, again-expect 44 p q h, at) refl;
+      is = rw (ap (passes (is char.closing_brace)) e, again-expect char.comma p q h, at) refl;
     }
 
 most-to : (n k : ℕ) (p q : State) → n ≤ k → Reads (word (codes ",") ⌢ Number k) p q →
-    is_at 125 q ≡ true → MostRead n (Some k) p q
+    is_at char.closing_brace q ≡ true → MostRead n (Some k) p q
 unfolding most_at is_digit
 most-to n k p q order h at =
     let parts = split (word (codes ",")) (Number k) p q h in
     let m = parts.middle in
-    let e = word-first 44 [] p m parts.one in
+    let e = word-first char.comma [] p m parts.one in
     let low : nat_lt k n ≡ false = grind (arith, nat_tests) in
     record {
       ends = ap (passes is_digit) e;
       is = rw (
-        ap (passes (is 125)) e,
-        again-expect 44 p m parts.one,
-        digit-off 125 (head m) (number-first k m q parts.two) refl,
-        again-number k m q parts.two (ap (passes is_digit) (head-is 125 q at)),
+        ap (passes (is char.closing_brace)) e,
+        again-expect char.comma p m parts.one,
+        digit-off char.closing_brace (head m) (number-first k m q parts.two) refl,
+        again-number k m q parts.two (ap (passes is_digit) (head-is char.closing_brace q at)),
         low,
       ) refl;
     }
 
-again-most : (n : ℕ) (m : Option ℕ) (p q : State) → Reads (Most n m) p q → is_at 125 q ≡ true →
+again-most : (n : ℕ) (m : Option ℕ) (p q : State) → Reads (Most n m) p q
+    → is_at char.closing_brace q ≡ true →
     MostRead n m p q
 again-most n m p q h at = elim h.is [
   | grammar.exactly e g ↦
@@ -98,33 +105,38 @@ pub record QuantifierRead (least : ℕ) (most : Option ℕ) (p q : State) : Type
 quantifier-any : (p q : State) → Reads (word (codes "*")) p q → QuantifierRead 0 None p q
 unfolding quantifier_at
 quantifier-any p q h =
-    let e = word-first 42 [] p q h in
+    let e = word-first char.star [] p q h in
     record {
       begins = ap (passes begins_quantifier) e;
-      is = rw (ap (passes (is 42)) e, past-word 42 p q h) refl;
+      is = rw (ap (passes (is char.star)) e, past-word char.star p q h) refl;
     }
 
 quantifier-some : (p q : State) → Reads (word (codes "+")) p q → QuantifierRead 1 None p q
 unfolding quantifier_at
 quantifier-some p q h =
-    let e = word-first 43 [] p q h in
+    let e = word-first char.plus [] p q h in
     record {
       begins = ap (passes begins_quantifier) e;
-      is = rw (ap (passes (is 42)) e, ap (passes (is 43)) e, past-word 43 p q h) refl;
+      is = rw (
+        ap (passes (is char.star)) e,
+        ap (passes (is char.plus)) e,
+        past-word char.plus p q
+            h,
+      ) refl;
     }
 
 quantifier-optional : (p q : State) → Reads (word (codes "?")) p q → QuantifierRead 0 (Some 1) p q
 unfolding quantifier_at
 quantifier-optional p q h =
-    let e = word-first 63 [] p q h in
+    let e = word-first char.question_mark [] p q h in
     record {
       begins = ap (passes begins_quantifier) e;
       is =
           rw (
-            ap (passes (is 42)) e,
-            ap (passes (is 43)) e,
-            ap (passes (is 63)) e,
-            past-word 63 p q h,
+            ap (passes (is char.star)) e,
+            ap (passes (is char.plus)) e,
+            ap (passes (is char.question_mark)) e,
+            past-word char.question_mark p q h,
           ) refl;
     }
 
@@ -138,18 +150,18 @@ quantifier-braces n m p q h =
     let b = numbers.middle in
     let ends = split (Most n m) (word (codes "}")) b q numbers.two in
     let c = ends.middle in
-    let most = again-most n m b c ends.one (at-word 125 [] c q ends.two) in
-    let e = word-first 123 [] p a parts.one in
+    let most = again-most n m b c ends.one (at-word char.closing_brace [] c q ends.two) in
+    let e = word-first char.opening_brace [] p a parts.one in
     record {
       begins = ap (passes begins_quantifier) e;
       is = rw (
-        ap (passes (is 42)) e,
-        ap (passes (is 43)) e,
-        ap (passes (is 63)) e,
-        again-expect 123 p a parts.one,
+        ap (passes (is char.star)) e,
+        ap (passes (is char.plus)) e,
+        ap (passes (is char.question_mark)) e,
+        again-expect char.opening_brace p a parts.one,
         again-number n a b numbers.one most.ends,
         most.is,
-        again-expect 125 c q ends.two,
+        again-expect char.closing_brace c q ends.two,
       ) refl;
     }
 

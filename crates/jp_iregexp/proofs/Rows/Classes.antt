@@ -1,5 +1,6 @@
 -- What classes hold.
 use Rattle.std.proofs.Common.{◌≡◌, true, false, [], ◌∷◌, refl}
+use Rattle.jp_reading.specs.Characters as char
 use Rattle.jp_iregexp.specs.Category.{stands_for}
 use Rattle.jp_iregexp.specs.Class.{class_holds, item_holds}
 use Rattle.jp_iregexp.specs.declared.class.ClassItem.TheVariants.{Range}
@@ -11,21 +12,23 @@ use Rattle.unicode.specs.declared.properties.GeneralCategory.TheVariants.{Nonspa
 
 -- a range holds its first character and its last, and none past it; a range whose last character is
 -- below its first holds none
-ranges : (class_holds false (Range 97 99 ∷ []) 97 ≡ true) ×
-    (class_holds false (Range 97 99 ∷ []) 99 ≡ true) ×
-    (class_holds false (Range 97 99 ∷ []) 100 ≡ false) ×
-    (class_holds false (Range 99 97 ∷ []) 98 ≡ false)
+ranges : (class_holds false (Range char.letter_a char.letter_c ∷ []) char.letter_a ≡ true) ×
+    (class_holds false (Range char.letter_a char.letter_c ∷ []) char.letter_c ≡ true) ×
+    (class_holds false (Range char.letter_a char.letter_c ∷ []) char.letter_d ≡ false) ×
+    (class_holds false (Range char.letter_c char.letter_a ∷ []) char.letter_b ≡ false)
 unfolding class_holds item_holds
 ranges = (refl, refl, refl, refl)
 
 -- the class of no items holds nothing, and its negation all
-no_items : (class_holds false [] 97 ≡ false) × (class_holds true [] 97 ≡ true)
+no_items : (class_holds false [] char.letter_a ≡ false) × (class_holds true [] char.letter_a ≡ true)
 unfolding class_holds
 no_items = (refl, refl)
 
 -- `.` holds U+0085, and neither U+000A nor U+000D
-dots : (class_holds true (Range 10 10 ∷ Range 13 13 ∷ []) 0x85 ≡ true) ×
-    (class_holds true (Range 10 10 ∷ Range 13 13 ∷ []) 10 ≡ false)
+dots : (class_holds true (Range char.line_feed char.line_feed ∷ Range char.carriage_return
+    char.carriage_return ∷ []) 0x85 ≡ true) ×
+    (class_holds true (Range char.line_feed char.line_feed ∷ Range char.carriage_return
+    char.carriage_return ∷ []) char.line_feed ≡ false)
 unfolding class_holds item_holds
 dots = (refl, refl)
 

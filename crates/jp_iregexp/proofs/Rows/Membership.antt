@@ -1,6 +1,7 @@
 -- Words, others and parts.
 use Rattle.std.proofs.Common.{◌≡◌, true, false, [], ◌∷◌, Some, None, refl}
 use Rattle.std.specs.Prelude.{codes}
+use Rattle.jp_reading.specs.Characters as char
 use Rattle.jp_iregexp.specs.declared.class.ClassItem.TheVariants.{Range}
 use Rattle.jp_iregexp.specs.Class.{class_holds, item_holds}
 use Rattle.jp_iregexp.specs.Grammar.{one}
@@ -9,15 +10,15 @@ use Rattle.jp_iregexp.specs.Tree.{Tree, class, nothing, repeat, branches, pieces
 
 -- `a?`
 abbrev a_or_empty : Tree
-a_or_empty = repeat (one 97) 0 (Some 1)
+a_or_empty = repeat (one char.letter_a) 0 (Some 1)
 
 -- `[jk]`
 abbrev j_or_k : Tree
-j_or_k = class false (Range 106 106 ∷ Range 107 107 ∷ [])
+j_or_k = class false (Range char.letter_j char.letter_j ∷ Range char.letter_k char.letter_k ∷ [])
 
 -- `ab|`
 abbrev ab_or_empty : Tree
-ab_or_empty = branches (pieces (one 97 ∷ one 98 ∷ []) ∷ pieces [] ∷ [])
+ab_or_empty = branches (pieces (one char.letter_a ∷ one char.letter_b ∷ []) ∷ pieces [] ∷ [])
 
 -- `(a?){2,5}` has the empty word and `aaa`, and not `b`
 repeats_of_empty : (is_word (repeat a_or_empty 2 (Some 5)) (codes "") ≡ true) ×
@@ -33,15 +34,15 @@ unfolding has_word is_word class_holds item_holds
 words_and_parts = (refl, refl, refl, refl)
 
 -- `a{2,3}` has `aa`, and neither `a` nor `aaaa`
-counts : (is_word (repeat (one 97) 2 (Some 3)) (codes "aa") ≡ true) ×
-    (is_word (repeat (one 97) 2 (Some 3)) (codes "a") ≡ false) ×
-    (is_word (repeat (one 97) 2 (Some 3)) (codes "aaaa") ≡ false)
+counts : (is_word (repeat (one char.letter_a) 2 (Some 3)) (codes "aa") ≡ true) ×
+    (is_word (repeat (one char.letter_a) 2 (Some 3)) (codes "a") ≡ false) ×
+    (is_word (repeat (one char.letter_a) 2 (Some 3)) (codes "aaaa") ≡ false)
 unfolding is_word class_holds item_holds
 counts = (refl, refl, refl)
 
 -- `a{0}` has the empty word alone
-no_times : (is_word (repeat (one 97) 0 (Some 0)) (codes "") ≡ true) ×
-    (is_word (repeat (one 97) 0 (Some 0)) (codes "a") ≡ false)
+no_times : (is_word (repeat (one char.letter_a) 0 (Some 0)) (codes "") ≡ true) ×
+    (is_word (repeat (one char.letter_a) 0 (Some 0)) (codes "a") ≡ false)
 unfolding is_word class_holds item_holds
 no_times = (refl, refl)
 
@@ -52,7 +53,7 @@ unfolding is_word
 repeats_of_none = (refl, refl)
 
 -- a repeat whose least is above its most has no word
-least_above_most : is_word (repeat (one 97) 2 (Some 1)) (codes "a") ≡ false
+least_above_most : is_word (repeat (one char.letter_a) 2 (Some 1)) (codes "a") ≡ false
 unfolding is_word class_holds item_holds
 least_above_most = refl
 

@@ -1,6 +1,7 @@
 -- The patterns of texts.
 use Rattle.std.proofs.Common.{◌≡◌, true, [], ◌∷◌, Some, None, refl}
 use Rattle.std.specs.Prelude.{codes}
+use Rattle.jp_reading.specs.Characters as char
 use Rattle.jp_reading.specs.Outcome.{loop}
 use Rattle.jp_iregexp.specs.declared.class.ClassItem.TheVariants.{Range}
 use Rattle.jp_iregexp.specs.Characters.{is_plain}
@@ -11,7 +12,8 @@ use Rattle.jp_iregexp.specs.Tree.{class, branches, pieces}
 
 -- `[^-a]` is the class of all but `-` and `a`, and `[^]` is no pattern
 negated_classes : (pattern_of (codes "[^-a]") ≡
-    Some (branches (pieces (class true (Range 45 45 ∷ Range 97 97 ∷ []) ∷ []) ∷ []))) ×
+    Some (branches (pieces (class true
+    (Range char.hyphen char.hyphen ∷ Range char.letter_a char.letter_a ∷ []) ∷ []) ∷ []))) ×
     (pattern_of (codes "[^]") ≡ None)
 unfolding pattern_of pattern_at branches_at branch_at piece_at atom_at class_at items_at
     element_at range_at character_at loop is_plain

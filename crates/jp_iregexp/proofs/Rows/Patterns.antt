@@ -1,6 +1,7 @@
 -- What texts spell.
 use Rattle.std.proofs.Common.{◌≡◌, ℕ, true, false, List, [], ◌∷◌, Some, refl}
 use Rattle.std.specs.Prelude.{codes}
+use Rattle.jp_reading.specs.Characters as char
 use Rattle.jp_reading.specs.Texts.{Text}
 use Rattle.jp_reading.specs.Outcome.{loop, took}
 use Rattle.jp_reading.specs.Numbers.{digits_at, is_digit}
@@ -32,13 +33,15 @@ spells n x t is = read-spelt n x t (finish t []) is
 -- `a|` spells two branches, the second one empty; the empty text one empty branch; `[a-]` the
 -- ranges of `a` and `-`; `[^^]` the negated class of `^`; `.a{2,3}` a dot and a repeat; `(\^)` a
 -- group of the character `^`; `\P{Lu}` all characters that are no upper case letters
-spelt : SpellsPattern 0 (branches (pieces (one 97 ∷ []) ∷ pieces [] ∷ [])) (codes "a|") ×
+spelt : SpellsPattern 0 (branches (pieces (one char.letter_a ∷ []) ∷ pieces [] ∷ [])) (codes "a|") ×
     SpellsPattern 0 (branch []) (codes "") ×
-    SpellsPattern 0 (branch (class false (item.Range 97 97 ∷ item.Range 45 45 ∷ []) ∷ []))
+    SpellsPattern 0 (branch (class false
+    (item.Range char.letter_a char.letter_a ∷ item.Range char.hyphen char.hyphen ∷ []) ∷ []))
     (codes "[a-]") ×
-    SpellsPattern 0 (branch (class true (item.Range 94 94 ∷ []) ∷ [])) (codes "[^^]") ×
-    SpellsPattern 0 (branch (dot ∷ repeat (one 97) 2 (Some 3) ∷ [])) (codes ".a{2,3}") ×
-    SpellsPattern 1 (branch (branch (one 94 ∷ []) ∷ [])) (codes "(\\^)") ×
+    SpellsPattern 0 (branch (class true (item.Range char.caret char.caret ∷ []) ∷ []))
+    (codes "[^^]") ×
+    SpellsPattern 0 (branch (dot ∷ repeat (one char.letter_a) 2 (Some 3) ∷ [])) (codes ".a{2,3}") ×
+    SpellsPattern 1 (branch (branch (one char.caret ∷ []) ∷ [])) (codes "(\\^)") ×
     SpellsPattern 0 (branch (class false (item.Category Lu true ∷ []) ∷ [])) (codes "\\P{Lu}")
 unfolding pattern_at branches_at branch_at next_branch_at piece_at atom_at group_at inside_at
     escape_at class_at items_at element_at range_at character_at escaped_at category_at code_at

@@ -6,6 +6,7 @@ use Rattle.std.specs.Prelude.{codes}
 use Rattle.std.specs.Char.{is_ascii_alphabetic}
 use Rattle.std.proofs.lemmas.Bool.{cases_Bool, eqb-true}
 use Rattle.std.proofs.lemmas.Bool.Decides.{nat_tests}
+use Rattle.jp_reading.specs.Characters as char
 use Rattle.jp_reading.specs.Texts.{Text}
 use Rattle.jp_reading.specs.Forms.{◌⌢◌, word, One}
 use Rattle.jp_reading.specs.Outcome.{State, took, past, passes, is, is_at, take_if, expect}
@@ -29,18 +30,19 @@ use Rattle.jp_iregexp.proofs.CategoryCodes.{code_of-letters}
 pub fits-escaped : (plain : ℕ → Bool) (p q : State) → Reads (word (codes "\\")) p q →
     Fits (Character plain) p (escaped_at q)
 unfolding escaped_at
-fits-escaped plain p q behind =
+fits-escaped plain p q beyond =
     fits-then (One is_escaped) (Character plain) p q (take_if is_escaped q)
     (λ e r. took (meant e) r) (fits-take_if is_escaped q)
     (λ e r h. reads-as (word (codes "\\") ⌢ One is_escaped e) (Character plain (meant e)) p r
     (λ s o t k. escaped e refl k)
-    (reads-then (word (codes "\\")) (One is_escaped e) p q r behind h))
+    (reads-then (word (codes "\\")) (One is_escaped e) p q r beyond h))
 
 pub fits-character : (p : State) → Fits (Character is_plain) p (character_at p)
 unfolding character_at
 fits-character p =
-    fits-if (Character is_plain) (is_at 92 p) p (escaped_at (past p)) (take_if is_plain p)
-    (λ h. fits-escaped is_plain p (past p) (reads-next 92 p h))
+    fits-if (Character is_plain) (is_at char.backslash p) p (escaped_at (past p))
+    (take_if is_plain p)
+    (λ h. fits-escaped is_plain p (past p) (reads-next char.backslash p h))
     (λ h. fits-as (One is_plain) (Character is_plain) p (take_if is_plain p) (λ c s o t k. itself k)
     (fits-take_if is_plain p))
 
@@ -51,7 +53,7 @@ second (Some b) = b ∷ []
 
 fits-second : (p : State) → Fits (λ b. word (second b)) p (second_at p)
 fits-second p =
-    fits-if (λ b. word (second b)) (is_at 125 p) p (took None p)
+    fits-if (λ b. word (second b)) (is_at char.closing_brace p) p (took None p)
     (by Some (take_if is_ascii_alphabetic p))
     (λ h. reads-nothing p)
     (λ h. fits-by Some (One is_ascii_alphabetic) (λ b. word (second b)) p p
@@ -84,29 +86,31 @@ fits-code p =
     found a b p r None e h = tt
     found a b p r (Some k) e h = rw (code_of-letters a b k e, pair-second a b) h
 
-sign-is : (c : ℕ) → is_category_sign c ≡ true → is 80 c ≡ false → c ≡ 112
+sign-is : (c : ℕ) → is_category_sign c ≡ true → is char.capital_p c ≡ false → c ≡ char.letter_p
 sign-is c h e = grind (arith, nat_tests)
 
 pub fits-category : (p q : State) → Reads (word (codes "\\")) p q →
     Fits ClassEscape p (category_at q)
 unfolding category_at
-fits-category p q behind =
+fits-category p q beyond =
     fits-then (One is_category_sign) ClassEscape p q (take_if is_category_sign q) _
     (fits-take_if is_category_sign q)
-    (λ c q1 sign. fits-then (λ x. word (codes "{")) ClassEscape p q1 (expect 123 q1) _
-    (fits-expect 123 q1)
+    (λ c q1 sign. fits-then (λ x. word (codes "{")) ClassEscape p q1 (expect char.opening_brace q1)
+    _
+    (fits-expect char.opening_brace q1)
     (λ x q2 brace. fits-then (λ k. word (letters k)) ClassEscape p q2 (code_at q2) _ (fits-code q2)
-    (λ k q3 code. fits-then (λ x. word (codes "}")) ClassEscape p q3 (expect 125 q3) _
-    (fits-expect 125 q3)
-    (λ y q4 last. escape c k p q1 q2 q3 q4 (sign_of c p q q1 behind sign).0
-    (sign_of c p q q1 behind sign).1 brace code last))))
+    (λ k q3 code. fits-then (λ x. word (codes "}")) ClassEscape p q3 (expect char.closing_brace q3)
+    _
+    (fits-expect char.closing_brace q3)
+    (λ y q4 last. escape c k p q1 q2 q3 q4 (sign_of c p q q1 beyond sign).0
+    (sign_of c p q q1 beyond sign).1 brace code last))))
   where
     sign_of : (c : ℕ) (p q q1 : State) → Reads (word (codes "\\")) p q →
         Reads (One is_category_sign c) q q1 →
-        (is_category_sign c ≡ true) × Reads (word (92 ∷ c ∷ [])) p q1
+        (is_category_sign c ≡ true) × Reads (word (char.backslash ∷ c ∷ [])) p q1
     sign_of c p q q1 h g = (
       g.is.passes,
-      reads-words (92 ∷ []) (c ∷ []) p q q1 h
+      reads-words (char.backslash ∷ []) (c ∷ []) p q q1 h
           (reads-as (One is_category_sign c) (word (c ∷ [])) q q1 (λ s o t k. record {
             none = k.none;
             is = k.is;
@@ -114,18 +118,19 @@ fits-category p q behind =
     )
 
     escape : (c : ℕ) (k : Category) (p q1 q2 q3 q4 : State) → is_category_sign c ≡ true →
-        Reads (word (92 ∷ c ∷ [])) p q1 → Reads (word (codes "{")) q1 q2 →
+        Reads (word (char.backslash ∷ c ∷ [])) p q1 → Reads (word (codes "{")) q1 q2 →
         Reads (word (letters k)) q2 q3 → Reads (word (codes "}")) q3 q4 →
-        Reads (ClassEscape (item.Category k (is 80 c))) p q4
+        Reads (ClassEscape (item.Category k (is char.capital_p c))) p q4
     escape c k p q1 q2 q3 q4 passes sign brace code last =
-        elim (cases_Bool (is 80 c)) [
+        elim (cases_Bool (is char.capital_p c)) [
           | inl h ↦
               rw h
               (reads-as (word (codes "\\P{") ⌢ word (letters k) ⌢ word (codes "}"))
               (ClassEscape (item.Category k true)) p q4 (λ s o t g. grammar.outside k refl g)
               (reads-then (word (codes "\\P{")) (word (letters k) ⌢ word (codes "}")) p q2 q4
               (reads-words (codes "\\P") (codes "{") p q1 q2
-              (subst (λ d. Reads (word (92 ∷ d ∷ [])) p q1) (eqb-true c 80 h) sign) brace)
+              (subst (λ d. Reads (word (char.backslash ∷ d ∷ [])) p q1)
+              (eqb-true c char.capital_p h) sign) brace)
               (reads-then (word (letters k)) (word (codes "}")) q2 q3 q4 code last)))
           | inr h ↦
               rw h
@@ -133,6 +138,7 @@ fits-category p q behind =
               (ClassEscape (item.Category k false)) p q4 (λ s o t g. grammar.within k refl g)
               (reads-then (word (codes "\\p{")) (word (letters k) ⌢ word (codes "}")) p q2 q4
               (reads-words (codes "\\p") (codes "{") p q1 q2
-              (subst (λ d. Reads (word (92 ∷ d ∷ [])) p q1) (sign-is c passes h) sign) brace)
+              (subst (λ d. Reads (word (char.backslash ∷ d ∷ [])) p q1) (sign-is c passes h) sign)
+              brace)
               (reads-then (word (letters k)) (word (codes "}")) q2 q3 q4 code last)))
         ]

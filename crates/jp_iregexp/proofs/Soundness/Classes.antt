@@ -5,11 +5,12 @@ use Rattle.std.proofs.Common.{refl, sym, ap, ◌∙◌, subst, append-nil, arith
 use Rattle.std.specs.Prelude.{codes}
 use Rattle.std.proofs.lemmas.Bool.{and_parts, cases_Bool}
 use Rattle.std.proofs.lemmas.Bool.Decides.{nat_tests}
+use Rattle.jp_reading.specs.Characters as char
 use Rattle.jp_reading.specs.Texts.{Text, Spans}
 use Rattle.jp_reading.specs.Forms.{◌⌢◌, word, Each}
 use Rattle.jp_reading.specs.Outcome.{State, took, stuck, ◌>>=◌, head, first_of}
 use Rattle.jp_reading.specs.Outcome.{past, passes, is, is_at, expect}
-use Rattle.jp_reading.specs.Views.{by, with_front}
+use Rattle.jp_reading.specs.Views.{by, with_prefix}
 use Rattle.jp_reading.proofs.Between.{Reads, reads-then, reads-as}
 use Rattle.jp_reading.proofs.Fits.{reads-words, reads-next, Fits, fits-then, fits-if}
 use Rattle.jp_reading.proofs.Fits.{fits-by, fits-as, reads-nothing, fits-expect, fits-each}
@@ -31,8 +32,10 @@ fits-range : (c : ℕ) (p q : State) → Reads (Character is_plain c) p q →
     Fits Element p (range_at c q)
 unfolding range_at
 fits-range c p q first =
-    fits-if Element (is_at 45 q && not (is_at 93 (past q))) p _ (took (item.Range c c) q)
-    (λ h. let behind = reads-next 45 q (and_parts (is_at 45 q) (not (is_at 93 (past q))) h).0 in
+    fits-if Element (is_at char.hyphen q && not (is_at char.closing_bracket (past q))) p _
+    (took (item.Range c c) q)
+    (λ h. let beyond = reads-next char.hyphen q
+    (and_parts (is_at char.hyphen q) (not (is_at char.closing_bracket (past q))) h).0 in
     fits-then (Character is_plain) Element p (past q) (character_at (past q)) _
     (fits-character (past q))
     (λ d r two. fits-if Element (nat_lt d c) p (stuck r) (took (item.Range c d) r) (λ less. tt)
@@ -40,7 +43,7 @@ fits-range c p q first =
     (Element (item.Range c d)) p r
     (λ s o t g. grammar.range c d refl (grind (arith, nat_tests)) g)
     (reads-then (Character is_plain c) (word (codes "-") ⌢ Character is_plain d) p q r first
-    (reads-then (word (codes "-")) (Character is_plain d) q (past q) r behind two)))))
+    (reads-then (word (codes "-")) (Character is_plain d) q (past q) r beyond two)))))
     (λ h. reads-as (Character is_plain c) (Element (item.Range c c)) p q
     (λ s o t g. grammar.single c refl g) first)
 
@@ -51,21 +54,24 @@ fits-element p =
     (character_at p >>= λ c q. range_at c q)
     (λ h. fits-as ClassEscape Element p (category_at (past p)) (λ x s o t g. grammar.class_escape g)
     (fits-category p (past p)
-    (reads-next 92 p (and_parts (is_at 92 p) (passes is_category_sign (head (past p))) h).0)))
+    (reads-next char.backslash p (and_parts (is_at char.backslash p)
+    (passes is_category_sign (head (past p))) h).0)))
     (λ h. fits-then (Character is_plain) Element p p (character_at p) (λ c q. range_at c q)
     (fits-character p) (λ c q one. fits-range c p q one))
 
 fits-hyphen : (p : State) → Fits Hyphen p (hyphen_at p)
 fits-hyphen p =
-    fits-then (λ x. word (codes "-")) Hyphen p p (expect 45 p) _ (fits-expect 45 p)
-    (λ x q h. reads-as (word (codes "-")) (Hyphen (item.Range 45 45)) p q (λ s o t g. record {
+    fits-then (λ x. word (codes "-")) Hyphen p p (expect char.hyphen p) _
+    (fits-expect char.hyphen p)
+    (λ x q h. reads-as (word (codes "-")) (Hyphen (item.Range char.hyphen char.hyphen)) p q
+    (λ s o t g. record {
       item = refl;
       is = g;
     }) h)
 
 fits-first : (p : State) → Fits First p (first_at p)
 fits-first p =
-    fits-if First (is_at 45 p) p (hyphen_at p) (element_at p)
+    fits-if First (is_at char.hyphen p) p (hyphen_at p) (element_at p)
     (λ h. fits-as Hyphen First p (hyphen_at p) (λ x s o t g. grammar.first_hyphen g)
     (fits-hyphen p))
     (λ h. fits-as Element First p (element_at p) (λ x s o t g. grammar.first_element g)
@@ -81,21 +87,22 @@ reads-items zs x xs ys p q r u e a b c =
     (reads-then (First x) (Each Element xs ⌢ Last ys) p q u a
     (reads-then (Each Element xs) (Last ys) q r u b c))
 
--- items behind a first one
-record Behind (x : ClassItem) (zs : List ClassItem) (s : Spans) (o : ℕ) (t : Text) : Type 0 where
-  others : List ClassItem
-  are : zs ≡ x ∷ others
-  is : Each Element others s o t
+-- items after a first one
+record AfterFirst (x : ClassItem) (zs : List ClassItem) (s : Spans) (o : ℕ) (t : Text) : Type 0
+  where
+    others : List ClassItem
+    are : zs ≡ x ∷ others
+    is : Each Element others s o t
 
 fits-items : (p : State) → Fits Items p (items_at p)
 unfolding items_at
 fits-items p =
     fits-then First Items p p (first_at p) _ (fits-first p)
-    (λ x q a. fits-then (Behind x) Items p q (with_front (x ∷ []) (elements_at q))
+    (λ x q a. fits-then (AfterFirst x) Items p q (with_prefix (x ∷ []) (elements_at q))
     (λ zs r. last_at zs r)
-    (fits-by (λ xs. x ∷ xs) (Each Element) (Behind x) q q (elements_at q)
+    (fits-by (λ xs. x ∷ xs) (Each Element) (AfterFirst x) q q (elements_at q)
     (fits-each Element (λ m. passes begins_element (head m)) element_at fits-element q)
-    (λ xs r h. reads-as (Each Element xs) (Behind x (x ∷ xs)) q r (λ s o t g. record {
+    (λ xs r h. reads-as (Each Element xs) (AfterFirst x (x ∷ xs)) q r (λ s o t g. record {
       others = xs;
       are = refl;
       is = g;
@@ -103,7 +110,7 @@ fits-items p =
     (λ zs r b. (let xs = b.is.others in
     let each : Reads (Each Element xs) q r =
     record { spans = b.spans; text = b.text; way = b.way; is = b.is.is } in
-    fits-if Items (is_at 45 r) p (by (λ y. zs ++ y ∷ []) (hyphen_at r)) (took zs r)
+    fits-if Items (is_at char.hyphen r) p (by (λ y. zs ++ y ∷ []) (hyphen_at r)) (took zs r)
     (λ h. fits-by (λ y. zs ++ y ∷ []) Hyphen Items p r (hyphen_at r) (fits-hyphen r)
     (λ y u c. reads-items (zs ++ y ∷ []) x xs (y ∷ []) p q r u (ap (λ l. l ++ y ∷ []) b.is.are) a
     each (reads-as (Hyphen y) (Last (y ∷ [])) r u (λ s o t g. grammar.last_hyphen y refl g) c)))
@@ -120,22 +127,25 @@ begins-not c (d ∷ t) u h e =
 fits-class-rest : (b : Bool) (p q r : State) →
     ((xs : List ClassItem) (u : State) → Reads (Items xs) r u → (m : State) →
     Reads (word (codes "]")) u m → Reads (Class (class b xs)) p m) →
-    Fits Class p (items_at r >>= λ xs u. expect 93 u >>= λ _ m. took (class b xs) m)
+    Fits Class p (items_at r >>= λ xs u. expect char.closing_bracket u
+    >>= λ _ m. took (class b xs) m)
 fits-class-rest b p q r build =
     fits-then Items Class p r (items_at r) _ (fits-items r)
-    (λ xs u items. fits-then (λ x. word (codes "]")) Class p u (expect 93 u) _ (fits-expect 93 u)
+    (λ xs u items. fits-then (λ x. word (codes "]")) Class p u (expect char.closing_bracket u) _
+    (fits-expect char.closing_bracket u)
     (λ y m end. build xs u items m end))
 
 pub fits-class : (p : State) → Fits Class p (class_at p)
 unfolding class_at
 fits-class p =
-    fits-then (λ x. word (codes "[")) Class p p (expect 91 p) _ (fits-expect 91 p)
-    (λ x q opening. (elim (cases_Bool (is_at 94 q)) [
+    fits-then (λ x. word (codes "[")) Class p p (expect char.opening_bracket p) _
+    (fits-expect char.opening_bracket p)
+    (λ x q opening. (elim (cases_Bool (is_at char.caret q)) [
       | inl caret ↦ rw caret (fits-class-rest true p q (past q) (λ xs u items m end.
           reads-as (word (codes "[^") ⌢ Items xs ⌢ word (codes "]")) (Class (class true xs)) p m
           (λ s o t g. grammar.negated xs refl g)
           (reads-then (word (codes "[^")) (Items xs ⌢ word (codes "]")) p (past q) m
-          (reads-words (codes "[") (codes "^") p q (past q) opening (reads-next 94 q caret))
+          (reads-words (codes "[") (codes "^") p q (past q) opening (reads-next char.caret q caret))
           (reads-then (Items xs) (word (codes "]")) (past q) u m items end))))
       | inr none ↦ rw none (fits-class-rest false p q q (λ xs u items m end.
           reads-as (word (codes "[") ⌢ NotAtCaret xs ⌢ word (codes "]")) (Class (class false xs)) p
@@ -148,8 +158,8 @@ fits-class p =
             way = items.way;
             is = record {
               begins =
-                  begins-not 94 items.text u.rest
-                  (subst (λ t. passes (is 94) (first_of t) ≡ false) items.way.rest none);
+                  begins-not char.caret items.text u.rest
+                  (subst (λ t. passes (is char.caret) (first_of t) ≡ false) items.way.rest none);
               is = items.is;
             };
           })

@@ -3,6 +3,7 @@ use Rattle.std.proofs.Common.{◌≡◌, ℕ, zero, suc, true, false, cond, ◌=
 use Rattle.std.proofs.Common.{[], ◌∷◌, length, inl, inr, refl, subst, arith}
 use Rattle.std.specs.Prelude.{codes}
 use Rattle.std.proofs.lemmas.Bool.{cases_Bool, eqb-true}
+use Rattle.jp_reading.specs.Characters as char
 use Rattle.jp_reading.specs.Texts.{Text}
 use Rattle.jp_reading.specs.Forms.{Form, ◌⌢◌, word, One, Each, Separated}
 use Rattle.jp_reading.specs.Outcome.{State, Outcome, took, stuck, deep, ◌>>=◌, head}
@@ -28,24 +29,26 @@ module _ (Group : Tree → Form) (inside : State → Outcome Tree)
     (fits : (p : State) → Fits Group p (inside p)) where
   fits-escape : (p q : State) → Reads (word (codes "\\")) p q → Fits (Atom Group) p (escape_at q)
   unfolding escape_at
-  fits-escape p q behind =
+  fits-escape p q beyond =
       fits-if (Atom Group) (passes is_category_sign (head q)) p _ _
       (λ h. fits-by (λ i. class false (i ∷ [])) ClassEscape (Atom Group) p p (category_at q)
-      (fits-category p q behind)
+      (fits-category p q beyond)
       (λ i r g. reads-as (ClassEscape i) (Atom Group (class false (i ∷ []))) p r
       (λ s o t k. grammar.category i refl k) g))
       (λ h. fits-by one (Character is_normal) (Atom Group) p p (escaped_at q)
-      (fits-escaped is_normal p q behind)
+      (fits-escaped is_normal p q beyond)
       (λ c r g. reads-as (Character is_normal c) (Atom Group (one c)) p r
       (λ s o t k. grammar.character c refl k) g))
 
   fits-group : (p : State) → Fits (Atom Group) p (group_at inside p)
   unfolding group_at
   fits-group p =
-      fits-then (λ x. word (codes "(")) (Atom Group) p p (expect 40 p) _ (fits-expect 40 p)
+      fits-then (λ x. word (codes "(")) (Atom Group) p p (expect char.opening_parenthesis p) _
+      (fits-expect char.opening_parenthesis p)
       (λ x q opening. fits-then Group (Atom Group) p q (inside q) _ (fits q)
-      (λ a r group. fits-then (λ x. word (codes ")")) (Atom Group) p r (expect 41 r) _
-      (fits-expect 41 r)
+      (λ a r group. fits-then (λ x. word (codes ")")) (Atom Group) p r
+      (expect char.closing_parenthesis r) _
+      (fits-expect char.closing_parenthesis r)
       (λ y u closing. reads-as (word (codes "(") ⌢ Group a ⌢ word (codes ")")) (Atom Group a) p u
       (λ s o t g. grammar.group g)
       (reads-then (word (codes "(")) (Group a ⌢ word (codes ")")) p q u opening
@@ -54,15 +57,16 @@ module _ (Group : Tree → Form) (inside : State → Outcome Tree)
   fits-atom : (p : State) → Fits (Atom Group) p (atom_at inside p)
   unfolding atom_at
   fits-atom p =
-      fits-if (Atom Group) (is_at 40 p) p (group_at inside p) _ (λ h. fits-group p)
-      (λ h. fits-if (Atom Group) (is_at 91 p) p (class_at p) _
+      fits-if (Atom Group) (is_at char.opening_parenthesis p) p (group_at inside p) _
+      (λ h. fits-group p)
+      (λ h. fits-if (Atom Group) (is_at char.opening_bracket p) p (class_at p) _
       (λ h. fits-as Class (Atom Group) p (class_at p) (λ x s o t g. grammar.brackets g)
       (fits-class p))
-      (λ h. fits-if (Atom Group) (is_at 46 p) p (took dot (past p)) _
+      (λ h. fits-if (Atom Group) (is_at char.dot p) p (took dot (past p)) _
       (λ h. reads-as (word (codes ".")) (Atom Group dot) p (past p)
-      (λ s o t g. grammar.anything refl g) (reads-next 46 p h))
-      (λ h. fits-if (Atom Group) (is_at 92 p) p (escape_at (past p)) _
-      (λ h. fits-escape p (past p) (reads-next 92 p h))
+      (λ s o t g. grammar.anything refl g) (reads-next char.dot p h))
+      (λ h. fits-if (Atom Group) (is_at char.backslash p) p (escape_at (past p)) _
+      (λ h. fits-escape p (past p) (reads-next char.backslash p h))
       (λ h. fits-by one (One is_normal) (Atom Group) p p (take_if is_normal p)
       (fits-take_if is_normal p)
       (λ c q g. reads-as (One is_normal c) (Atom Group (one c)) p q
@@ -97,8 +101,9 @@ module _ (Group : Tree → Form) (inside : State → Outcome Tree)
       Fits (λ x. word (codes "|") ⌢ Branch Group x) p (next_branch_at inside p)
   unfolding next_branch_at
   fits-next_branch p =
-      fits-then (λ x. word (codes "|")) (λ x. word (codes "|") ⌢ Branch Group x) p p (expect 124 p)
-      (λ y q. branch_at inside q) (fits-expect 124 p)
+      fits-then (λ x. word (codes "|")) (λ x. word (codes "|") ⌢ Branch Group x) p p
+      (expect char.bar p)
+      (λ y q. branch_at inside q) (fits-expect char.bar p)
       (λ y q bar. along p q (branch_at inside q) bar (fits-branch q))
     where
       along : (p q : State) (o : Outcome Tree) → Reads (word (codes "|")) p q →
@@ -113,8 +118,8 @@ module _ (Group : Tree → Form) (inside : State → Outcome Tree)
       fits-then (Branch Group) (Branches Group) p p (branch_at inside p) _ (fits-branch p)
       (λ x q first. fits-by (λ xs. branches (x ∷ xs))
       (Each (λ y. word (codes "|") ⌢ Branch Group y)) (Branches Group) p q
-      (each (is_at 124) (next_branch_at inside) q)
-      (fits-each (λ y. word (codes "|") ⌢ Branch Group y) (is_at 124)
+      (each (is_at char.bar) (next_branch_at inside) q)
+      (fits-each (λ y. word (codes "|") ⌢ Branch Group y) (is_at char.bar)
       (next_branch_at inside) fits-next_branch q)
       (λ xs r more. reads-as (Separated (word (codes "|")) (Branch Group) (x ∷ xs))
       (Branches Group (branches (x ∷ xs))) p r (λ s o t g. record {

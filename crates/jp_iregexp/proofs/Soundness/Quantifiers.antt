@@ -2,6 +2,7 @@
 use Rattle.std.proofs.Common.{◌≡◌, ℕ, ◌≤◌, nat_lt, [], Some, None, refl, arith}
 use Rattle.std.specs.Prelude.{codes}
 use Rattle.std.proofs.lemmas.Bool.Decides.{nat_tests}
+use Rattle.jp_reading.specs.Characters as char
 use Rattle.jp_reading.specs.Texts.{Text, Spans}
 use Rattle.jp_reading.specs.Forms.{Form, ◌⌢◌, word}
 use Rattle.jp_reading.specs.Numbers.{Digits, digits_at, value_from, capped}
@@ -55,11 +56,12 @@ fits-number p =
 fits-most : (n : ℕ) (p : State) → Fits (Most n) p (most_at n p)
 unfolding most_at
 fits-most n p =
-    fits-if (Most n) (is_at 125 p) p (took (Some n) p) _
+    fits-if (Most n) (is_at char.closing_brace p) p (took (Some n) p) _
     (λ h. reads-as (word []) (Most n (Some n)) p p (λ s o t g. grammar.exactly refl g)
     (reads-nothing p))
-    (λ h. fits-then (λ x. word (codes ",")) (Most n) p p (expect 44 p) _ (fits-expect 44 p)
-    (λ x q comma. fits-if (Most n) (is_at 125 q) p (took None q) _
+    (λ h. fits-then (λ x. word (codes ",")) (Most n) p p (expect char.comma p) _
+    (fits-expect char.comma p)
+    (λ x q comma. fits-if (Most n) (is_at char.closing_brace q) p (took None q) _
     (λ h. reads-as (word (codes ",")) (Most n None) p q (λ s o t g. grammar.from refl g) comma)
     (λ h. fits-then Number (Most n) p q (number_at q) _ (fits-number q)
     (λ m r number. fits-if (Most n) (nat_lt m n) p (stuck r) (took (Some m) r) (λ less. tt)
@@ -74,19 +76,21 @@ Counted k = Quantifier k.least k.most
 pub fits-quantifier : (p : State) → Fits Counted p (quantifier_at p)
 unfolding quantifier_at braces_at
 fits-quantifier p =
-    fits-if Counted (is_at 42 p) p _ _
+    fits-if Counted (is_at char.star p) p _ _
     (λ h. reads-as (word (codes "*")) (Quantifier 0 None) p (past p)
-    (λ s o t g. grammar.any refl refl g) (reads-next 42 p h))
-    (λ h. fits-if Counted (is_at 43 p) p _ _
+    (λ s o t g. grammar.any refl refl g) (reads-next char.star p h))
+    (λ h. fits-if Counted (is_at char.plus p) p _ _
     (λ h. reads-as (word (codes "+")) (Quantifier 1 None) p (past p)
-    (λ s o t g. grammar.some refl refl g) (reads-next 43 p h))
-    (λ h. fits-if Counted (is_at 63 p) p _ _
+    (λ s o t g. grammar.some refl refl g) (reads-next char.plus p h))
+    (λ h. fits-if Counted (is_at char.question_mark p) p _ _
     (λ h. reads-as (word (codes "?")) (Quantifier 0 (Some 1)) p (past p)
-    (λ s o t g. grammar.optional refl refl g) (reads-next 63 p h))
-    (λ h. fits-then (λ x. word (codes "{")) Counted p p (expect 123 p) _ (fits-expect 123 p)
+    (λ s o t g. grammar.optional refl refl g) (reads-next char.question_mark p h))
+    (λ h. fits-then (λ x. word (codes "{")) Counted p p (expect char.opening_brace p) _
+    (fits-expect char.opening_brace p)
     (λ x q opening. fits-then Number Counted p q (number_at q) _ (fits-number q)
     (λ n r number. fits-then (Most n) Counted p r (most_at n r) _ (fits-most n r)
-    (λ m u most. fits-then (λ x. word (codes "}")) Counted p u (expect 125 u) _ (fits-expect 125 u)
+    (λ m u most. fits-then (λ x. word (codes "}")) Counted p u (expect char.closing_brace u) _
+    (fits-expect char.closing_brace u)
     (λ y v closing. reads-as (word (codes "{") ⌢ Number n ⌢ Most n m ⌢ word (codes "}"))
     (Quantifier n m) p v (λ s o t g. grammar.braces g)
     (reads-then (word (codes "{")) (Number n ⌢ Most n m ⌢ word (codes "}")) p q v opening

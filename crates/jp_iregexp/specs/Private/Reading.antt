@@ -2,10 +2,11 @@
 use Rattle.std.specs.Prelude.{ℕ, zero, suc, ◌||◌, ◌&&◌, not, nat_lt, Bool, true, false}
 use Rattle.std.specs.Prelude.{if◌then◌else◌, List, [], ◌∷◌, ◌++◌, Option, Some, None}
 use Rattle.std.specs.Char.{is_ascii_alphabetic}
+use Rattle.jp_reading.specs.Characters as char
 use Rattle.jp_reading.specs.Outcome.{State, Outcome, took, stuck, deep, ◌>>=◌, head, past}
 use Rattle.jp_reading.specs.Outcome.{passes, is, is_at, is_end, take_if, expect, each}
 use Rattle.jp_reading.specs.Numbers.{digits_at, capped}
-use Rattle.jp_reading.specs.Views.{by, with_front}
+use Rattle.jp_reading.specs.Views.{by, with_prefix}
 use Rattle.jp_iregexp.specs.declared.category.Category.{Category}
 use Rattle.jp_iregexp.specs.declared.class.ClassItem.{ClassItem}
 use Rattle.jp_iregexp.specs.declared.class.ClassItem.TheVariants as item
@@ -22,21 +23,22 @@ abbrev pub there : {A : Type 0} → Option A → State → Outcome A
 there None p = stuck p
 there (Some x) p = took x p
 
--- whether a character begins a category behind `\`
+-- whether a character begins a category after `\`
 abbrev pub is_category_sign : ℕ → Bool
-is_category_sign c = is 112 c || is 80 c
+is_category_sign c = is char.letter_p c || is char.capital_p c
 
--- whether a character begins an item behind the first one of a class
+-- whether a character begins an item after the first one of a class
 abbrev pub begins_element : ℕ → Bool
-begins_element c = not (is 45 c || is 93 c)
+begins_element c = not (is char.hyphen c || is char.closing_bracket c)
 
 -- whether a character begins a quantifier
 abbrev pub begins_quantifier : ℕ → Bool
-begins_quantifier c = is 42 c || (is 43 c || (is 63 c || is 123 c))
+begins_quantifier c = is char.star c
+    || (is char.plus c || (is char.question_mark c || is char.opening_brace c))
 
 -- whether a character begins a piece
 abbrev pub begins_piece : ℕ → Bool
-begins_piece c = not (is 124 c || is 41 c)
+begins_piece c = not (is char.bar c || is char.closing_parenthesis c)
 
 -- whether a character is one of these
 abbrev pub is_one_of : Characters → ℕ → Bool
@@ -49,41 +51,43 @@ is_one_of characters.Element = begins_element
 is_one_of characters.Quantifier = begins_quantifier
 is_one_of characters.Piece = begins_piece
 
--- behind `\`: a character
+-- after `\`: a character
 unfoldable pub escaped_at : State → Outcome ℕ
 escaped_at p = take_if is_escaped p >>= λ e q. took (meant e) q
 
 -- a character of a class
 unfoldable pub character_at : State → Outcome ℕ
-character_at p = if is_at 92 p then escaped_at (past p) else take_if is_plain p
+character_at p = if is_at char.backslash p then escaped_at (past p) else take_if is_plain p
 
--- the letters of a code, up to the brace behind it
+-- the letters of a code, up to the brace after it
 abbrev pub second_at : State → Outcome (Option ℕ)
-second_at p = if is_at 125 p then took None p else by Some (take_if is_ascii_alphabetic p)
+second_at p = if is_at char.closing_brace p then took None p else by Some
+    (take_if is_ascii_alphabetic p)
 
 -- the code of a category
 unfoldable pub code_at : State → Outcome Category
 code_at p = take_if is_ascii_alphabetic p >>= λ a q. second_at q >>= λ b r. there (code_of a b) r
 
--- behind `\`: a category, or what is outside it
+-- after `\`: a category, or what is outside it
 unfoldable pub category_at : State → Outcome ClassItem
 category_at p =
-    take_if is_category_sign p >>= λ c q. expect 123 q >>= λ _ q. code_at q >>= λ k q. expect 125 q
-    >>= λ _ q. took (item.Category k (is 80 c)) q
+    take_if is_category_sign p >>= λ c q. expect char.opening_brace q >>= λ _ q. code_at q
+    >>= λ k q. expect char.closing_brace q
+    >>= λ _ q. took (item.Category k (is char.capital_p c)) q
 
 -- the range that begins with a character: of that character alone, unless a `-` stands next that
 -- does not end the class
 unfoldable pub range_at : ℕ → State → Outcome ClassItem
 range_at c p =
-    if is_at 45 p
-    && not (is_at 93 (past p)) then
+    if is_at char.hyphen p
+    && not (is_at char.closing_bracket (past p)) then
     (character_at (past p)
     >>= λ d q. if nat_lt d c then stuck q else took (item.Range c d) q) else took
     (item.Range c c) p
 
 -- whether a category begins
 abbrev pub is_at_category : State → Bool
-is_at_category p = is_at 92 p && passes is_category_sign (head (past p))
+is_at_category p = is_at char.backslash p && passes is_category_sign (head (past p))
 
 -- an item of a class
 unfoldable pub element_at : State → Outcome ClassItem
@@ -92,32 +96,33 @@ element_at p =
 
 -- a `-` that stands for itself
 abbrev pub hyphen_at : State → Outcome ClassItem
-hyphen_at p = expect 45 p >>= λ _ q. took (item.Range 45 45) q
+hyphen_at p = expect char.hyphen p >>= λ _ q. took (item.Range char.hyphen char.hyphen) q
 
 -- the first item of a class
 abbrev pub first_at : State → Outcome ClassItem
-first_at p = if is_at 45 p then hyphen_at p else element_at p
+first_at p = if is_at char.hyphen p then hyphen_at p else element_at p
 
 -- item after item, as long as another begins
 abbrev pub elements_at : State → Outcome (List ClassItem)
 elements_at = each (λ q. passes begins_element (head q)) element_at
 
--- the end of a class, behind these items
+-- the end of a class, after these items
 abbrev pub last_at : List ClassItem → State → Outcome (List ClassItem)
-last_at xs p = if is_at 45 p then by (λ x. xs ++ x ∷ []) (hyphen_at p) else took xs p
+last_at xs p = if is_at char.hyphen p then by (λ x. xs ++ x ∷ []) (hyphen_at p) else took xs p
 
 -- the items of a class
 unfoldable pub items_at : State → Outcome (List ClassItem)
-items_at p = first_at p >>= λ x q. with_front (x ∷ []) (elements_at q) >>= λ xs q. last_at xs q
+items_at p = first_at p >>= λ x q. with_prefix (x ∷ []) (elements_at q) >>= λ xs q. last_at xs q
 
 -- whether a class is negated
 abbrev pub negation_at : State → Outcome Bool
-negation_at p = if is_at 94 p then took true (past p) else took false p
+negation_at p = if is_at char.caret p then took true (past p) else took false p
 
 -- a class
 unfoldable pub class_at : State → Outcome Tree
 class_at p =
-    expect 91 p >>= λ _ q. negation_at q >>= λ b q. items_at q >>= λ xs q. expect 93 q
+    expect char.opening_bracket p >>= λ _ q. negation_at q >>= λ b q. items_at q
+    >>= λ xs q. expect char.closing_bracket q
     >>= λ _ q. took (class b xs) q
 
 -- a number of a quantifier
@@ -126,19 +131,20 @@ number_at p =
     by (capped 1000000000 0) (digits_at p)
     >>= λ n q. if nat_lt 999999999 n then stuck q else took n q
 
--- behind the least number of a quantifier: its most
+-- after the least number of a quantifier: its most
 unfoldable pub most_at : ℕ → State → Outcome (Option ℕ)
 most_at n p =
-    if is_at 125 p then took (Some n) p
+    if is_at char.closing_brace p then took (Some n) p
     else
-    (expect 44 p
-    >>= λ _ q. if is_at 125 q then took None q else
+    (expect char.comma p
+    >>= λ _ q. if is_at char.closing_brace q then took None q else
     (number_at q >>= λ m r. if nat_lt m n then stuck r else took (Some m) r))
 
 -- the numbers of a quantifier, between braces
 unfoldable pub braces_at : State → Outcome Count
 braces_at p =
-    expect 123 p >>= λ _ q. number_at q >>= λ n q. most_at n q >>= λ m q. expect 125 q
+    expect char.opening_brace p >>= λ _ q. number_at q >>= λ n q. most_at n q
+    >>= λ m q. expect char.closing_brace q
     >>= λ _ q. took (record {
       least = n;
       most = m;
@@ -147,12 +153,12 @@ braces_at p =
 -- a quantifier
 unfoldable pub quantifier_at : State → Outcome Count
 quantifier_at p =
-    if is_at 42 p then took (record { least = 0; most = None }) (past p)
-    else (if is_at 43 p then took (record { least = 1; most = None }) (past p)
-    else (if is_at 63 p then took (record { least = 0; most = Some 1 }) (past p)
-    else braces_at p))
+    if is_at char.star p then took (record { least = 0; most = None }) (past p)
+    else if is_at char.plus p then took (record { least = 1; most = None }) (past p)
+    else if is_at char.question_mark p then took (record { least = 0; most = Some 1 }) (past p)
+    else braces_at p
 
--- behind `\` outside a class: a category or a character
+-- after `\` outside a class: a category or a character
 unfoldable pub escape_at : State → Outcome Tree
 escape_at p =
     if passes is_category_sign (head p) then by (λ i. class false (i ∷ []))
@@ -161,16 +167,17 @@ escape_at p =
 module _ (inside : State → Outcome Tree) where
   -- a pattern in parentheses
   unfoldable pub group_at : State → Outcome Tree
-  group_at p = expect 40 p >>= λ _ q. inside q >>= λ x q. expect 41 q >>= λ _ q. took x q
+  group_at p = expect char.opening_parenthesis p >>= λ _ q. inside q
+      >>= λ x q. expect char.closing_parenthesis q >>= λ _ q. took x q
 
   -- an atom
   unfoldable pub atom_at : State → Outcome Tree
   atom_at p =
-      if is_at 40 p then group_at p
-      else (if is_at 91 p then class_at p
-      else (if is_at 46 p then took dot (past p)
-      else (if is_at 92 p then escape_at (past p)
-      else by one (take_if is_normal p))))
+      if is_at char.opening_parenthesis p then group_at p
+      else if is_at char.opening_bracket p then class_at p
+      else if is_at char.dot p then took dot (past p)
+      else if is_at char.backslash p then escape_at (past p)
+      else by one (take_if is_normal p)
 
   -- a piece
   unfoldable pub piece_at : State → Outcome Tree
@@ -187,20 +194,20 @@ module _ (inside : State → Outcome Tree) where
   unfoldable pub branch_at : State → Outcome Tree
   branch_at p = by pieces (pieces_at p)
 
-  -- a `|` and the branch behind it
+  -- a `|` and the branch after it
   unfoldable pub next_branch_at : State → Outcome Tree
-  next_branch_at p = expect 124 p >>= λ _ q. branch_at q
+  next_branch_at p = expect char.bar p >>= λ _ q. branch_at q
 
   -- branches
   unfoldable pub branches_at : State → Outcome Tree
   branches_at p =
-      branch_at p >>= λ x q. by (λ xs. branches (x ∷ xs)) (each (is_at 124) next_branch_at q)
+      branch_at p >>= λ x q. by (λ xs. branches (x ∷ xs)) (each (is_at char.bar) next_branch_at q)
 
 -- the pattern of a group; with no level left it would need one more
 unfoldable pub inside_at : ℕ → State → Outcome Tree
 inside_at zero p = deep p
 inside_at (suc n) p = branches_at (inside_at n) p
 
--- a whole pattern: the text ends behind it
+-- a whole pattern: the text ends after it
 unfoldable pub pattern_at : ℕ → State → Outcome Tree
 pattern_at n p = branches_at (inside_at n) p >>= λ x q. if is_end q then took x q else stuck q

@@ -84,8 +84,8 @@ by_one_more L text now stepped next left fewer place h step within r =
       suc k,
       subst (IsAtMost left) count ((at_most_after left 1 fewer k h).0 few),
       record {
-        front = cut.front;
-        back = cut.back;
+        prefix = cut.prefix;
+        suffix = cut.suffix;
         is = cut.is;
         first = cut.first;
         second = words;

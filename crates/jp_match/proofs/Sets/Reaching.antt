@@ -70,30 +70,30 @@ pub halfway : (L M : List ℕ → Type 0) (text : List ℕ) (from : List Bool) (
     Reached (Concatenation L M) text from place → Halfway L M text from place
 halfway L M text from place r =
     let cut = r.holds in
-    let first : Reached L text from (length (r.before ++ cut.front)) = record {
+    let first : Reached L text from (length (r.before ++ cut.prefix)) = record {
       before = r.before;
-      word = cut.front;
-      after = cut.back ++ r.after;
+      word = cut.prefix;
+      after = cut.suffix ++ r.after;
       is = r.is ∙ ap (λ w. r.before ++ w) (ap (λ w. w ++ r.after) cut.is ∙
-          append_assoc cut.front cut.back r.after);
+          append_assoc cut.prefix cut.suffix r.after);
       begins = r.begins;
       holds = cut.first;
-      ends = sym (length-append r.before cut.front);
+      ends = sym (length-append r.before cut.prefix);
     } in
     record {
-      middle = length (r.before ++ cut.front);
+      middle = length (r.before ++ cut.prefix);
       first = first;
       second = λ places marked. record {
-        before = r.before ++ cut.front;
-        word = cut.back;
+        before = r.before ++ cut.prefix;
+        word = cut.suffix;
         after = r.after;
-        is = first.is ∙ sym (append_assoc r.before cut.front (cut.back ++ r.after));
+        is = first.is ∙ sym (append_assoc r.before cut.prefix (cut.suffix ++ r.after));
         begins = marked;
         holds = cut.second;
         ends = omega (
           arith,
-          length-append r.before cut.front,
-          length-append cut.front cut.back,
+          length-append r.before cut.prefix,
+          length-append cut.prefix cut.suffix,
           ap length cut.is,
           r.ends,
         );
@@ -116,8 +116,8 @@ onward L M text from through place second first =
           sym (append_assoc first.word second.word second.after));
       begins = first.begins;
       holds = record {
-        front = first.word;
-        back = second.word;
+        prefix = first.word;
+        suffix = second.word;
         is = refl;
         first = first.holds;
         second = second.holds;

@@ -13,8 +13,8 @@ use Rattle.jp_match.proofs.Sets.Reaching.{image_joined, image_still}
 pub power_split : (L : List ℕ → Type 0) (m n s : ℕ) (w : List ℕ) → s ≡ m + n → Power L s w →
     Concatenation (Power L m) (Power L n) w
 power_split L zero n s w e h = record {
-  front = [];
-  back = w;
+  prefix = [];
+  suffix = w;
   is = refl;
   first = refl;
   second =
@@ -22,14 +22,15 @@ power_split L zero n s w e h = record {
 }
 power_split L (suc m) n zero w e h = absurd (omega (arith, e))
 power_split L (suc m) n (suc s) w e h =
-    let rest = power_split L m n s h.back (omega (arith, e)) h.second in
+    let rest = power_split L m n s h.suffix (omega (arith, e)) h.second in
     record {
-      front = h.front ++ rest.front;
-      back = rest.back;
-      is = h.is ∙ ap (λ w. h.front ++ w) rest.is ∙ sym (append_assoc h.front rest.front rest.back);
+      prefix = h.prefix ++ rest.prefix;
+      suffix = rest.suffix;
+      is = h.is ∙ ap (λ w. h.prefix ++ w) rest.is
+          ∙ sym (append_assoc h.prefix rest.prefix rest.suffix);
       first = record {
-        front = h.front;
-        back = rest.front;
+        prefix = h.prefix;
+        suffix = rest.prefix;
         is = refl;
         first = h.first;
         second =
@@ -41,21 +42,22 @@ power_split L (suc m) n (suc s) w e h =
 pub power_join : (L : List ℕ → Type 0) (m n s : ℕ) (w : List ℕ) → s ≡ m + n →
     Concatenation (Power L m) (Power L n) w → Power L s w
 power_join L zero n s w e h =
-    let whole : h.back ≡ w = sym (h.is ∙ ap (λ x. x ++ h.back) h.first) in
+    let whole : h.suffix ≡ w = sym (h.is ∙ ap (λ x. x ++ h.suffix) h.first) in
     let count : n ≡ s = omega (arith, e) in
     subst (λ k. Power L k w) count (subst (Power L n) whole h.second)
 power_join L (suc m) n zero w e h = absurd (omega (arith, e))
 power_join L (suc m) n (suc s) w e h = record {
-  front = h.first.front;
-  back = h.first.back ++ h.back;
-  is = h.is ∙ ap (λ x. x ++ h.back) h.first.is ∙ append_assoc h.first.front h.first.back h.back;
+  prefix = h.first.prefix;
+  suffix = h.first.suffix ++ h.suffix;
+  is = h.is ∙ ap (λ x. x ++ h.suffix) h.first.is
+      ∙ append_assoc h.first.prefix h.first.suffix h.suffix;
   first = h.first.first;
-  second = power_join L m n s (h.first.back ++ h.back) (omega (
+  second = power_join L m n s (h.first.suffix ++ h.suffix) (omega (
     arith,
     e,
   )) (record {
-    front = h.first.back;
-    back = h.back;
+    prefix = h.first.suffix;
+    suffix = h.suffix;
     is = refl;
     first = h.first.second;
     second
@@ -103,9 +105,9 @@ image_repeat a least most after text x y z h first second =
             omega arith,
             (at_most_after most least after k h).0 within,
             power_join (Language a) least k (least + k) w refl (record {
-              front = j.front;
-              back =
-                  j.back;
+              prefix = j.prefix;
+              suffix =
+                  j.suffix;
               is = j.is;
               first = j.first;
               second = more;
@@ -116,8 +118,8 @@ image_repeat a least most after text x y z h first second =
           let more : s ≡ least + (s - least) = omega arith in
           let j = power_split (Language a) least (s - least) s w more all in
           record {
-            front = j.front;
-            back = j.back;
+            prefix = j.prefix;
+            suffix = j.suffix;
             is = j.is;
             first = j.first;
             second = (

@@ -96,7 +96,7 @@ reached_by_span : (L : List ℕ → Type 0) (text : List ℕ) (from : List Bool)
     start ≤ place → place ≤ length text → Marked from start → L (span text start place) →
     Reached L text from place
 reached_by_span L text from start place before within begins holds =
-    let front = take-append-drop start (take place text) in
+    let prefix = take-append-drop start (take place text) in
     let long : length (take start (take place text)) ≡ start = omega (
       arith,
       length-take start (take
@@ -107,14 +107,14 @@ reached_by_span L text from start place before within begins holds =
       before = take start (take place text);
       word = span text start place;
       after = drop place text;
-      is = sym (take-append-drop place text) ∙ ap (λ t. t ++ drop place text) (sym front) ∙
+      is = sym (take-append-drop place text) ∙ ap (λ t. t ++ drop place text) (sym prefix) ∙
           append_assoc (take start (take place text)) (span text start place) (drop place text);
       begins = subst (Marked from) (sym long) begins;
       holds = holds;
       ends = omega (
         arith,
         long,
-        ap length front,
+        ap length prefix,
         length-append (take start (take place text)) (span
             text start place),
         length-take place text,

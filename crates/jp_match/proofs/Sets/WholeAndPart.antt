@@ -15,7 +15,7 @@ pub whole_reached : (L : List ℕ → Type 0) (text : List ℕ) (from to : List 
 whole_reached L text from to first image = (
   λ marked.
       let r = (image.reached (length text)).0 marked in
-      let front : r.before ≡ [] = no_length r.before ((first (length r.before)).0 r.begins) in
+      let prefix : r.before ≡ [] = no_length r.before ((first (length r.before)).0 r.begins) in
       let none : r.after ≡ [] = no_length r.after (omega (
         arith,
         r.ends,
@@ -23,7 +23,7 @@ whole_reached L text from to first image = (
         length-append r.before (r.word ++ r.after),
         length-append r.word r.after,
       )) in
-      let is : r.word ≡ text = sym (r.is ∙ ap (λ w. w ++ (r.word ++ r.after)) front ∙
+      let is : r.word ≡ text = sym (r.is ∙ ap (λ w. w ++ (r.word ++ r.after)) prefix ∙
       ap (λ w. r.word ++ w) none ∙ append-nil r.word) in
       subst L is r.holds,
   λ holds. (image.reached (length text)).1 (record {

@@ -10,15 +10,15 @@ use Rattle.jp_match.proofs.Bools.{or_is}
 
 -- parts of the empty word are empty
 pub joined_nil : (L M : List ℕ → Type 0) → Concatenation L M [] → L [] × M []
-joined_nil L M j = parts j.front j.back j.is j.first j.second where
-  parts : (front back : List ℕ) → [] ≡ front ++ back → L front → M back → L [] × M []
-  parts [] back is first second = (first, subst M (sym is) second)
-  parts (x ∷ front) back is first second = absurd (cc)
+joined_nil L M j = parts j.prefix j.suffix j.is j.first j.second where
+  parts : (prefix suffix : List ℕ) → [] ≡ prefix ++ suffix → L prefix → M suffix → L [] × M []
+  parts [] suffix is first second = (first, subst M (sym is) second)
+  parts (x ∷ prefix) suffix is first second = absurd (cc)
 
 pub nil_before : (L M : List ℕ → Type 0) (w : List ℕ) → L [] → M w → Concatenation L M w
 nil_before L M w first second = record {
-  front = [];
-  back = w;
+  prefix = [];
+  suffix = w;
   is = refl;
   first = first;
   second = second;

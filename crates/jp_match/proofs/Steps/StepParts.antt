@@ -18,18 +18,18 @@ use Rattle.jp_match.proofs.Steps.EndParts.{ends_sequence, ends_plus, nil_before}
 -- a word that begins with a character is joined so that the first part is empty or begins with it
 pub joined_cons : (L M : List ℕ → Type 0) (c : ℕ) (w : List ℕ) → Concatenation L M (c ∷ w) →
     (L [] × M (c ∷ w)) ⊎ Concatenation (λ v. L (c ∷ v)) M w
-joined_cons L M c w j = parts j.front j.back j.is j.first j.second where
-  parts : (front back : List ℕ) → c ∷ w ≡ front ++ back → L front → M back →
+joined_cons L M c w j = parts j.prefix j.suffix j.is j.first j.second where
+  parts : (prefix suffix : List ℕ) → c ∷ w ≡ prefix ++ suffix → L prefix → M suffix →
       (L [] × M (c ∷ w)) ⊎ Concatenation (λ v. L (c ∷ v)) M w
-  parts [] back is first second = inl (first, subst M (sym is) second)
-  parts (x ∷ front) back is first second =
+  parts [] suffix is first second = inl (first, subst M (sym is) second)
+  parts (x ∷ prefix) suffix is first second =
       let head : c ≡ x = cc in
-      let tail : w ≡ front ++ back = cc in
+      let tail : w ≡ prefix ++ suffix = cc in
       inr (record {
-        front = front;
-        back = back;
+        prefix = prefix;
+        suffix = suffix;
         is = tail;
-        first = subst (λ d. L (d ∷ front)) (sym
+        first = subst (λ d. L (d ∷ prefix)) (sym
             head) first;
         second = second;
       })
@@ -37,8 +37,8 @@ joined_cons L M c w j = parts j.front j.back j.is j.first j.second where
 pub cons_joined : (L M : List ℕ → Type 0) (c : ℕ) (w : List ℕ) →
     Concatenation (λ v. L (c ∷ v)) M w → Concatenation L M (c ∷ w)
 cons_joined L M c w j = record {
-  front = c ∷ j.front;
-  back = j.back;
+  prefix = c ∷ j.prefix;
+  suffix = j.suffix;
   is = ap (λ v. c ∷ v) j.is;
   first = j.first;
   second = j.second;
@@ -51,8 +51,8 @@ power_cons L zero c w h = absurd (cc)
 power_cons L (suc k) c w h = elim (joined_cons L (Power L k) c w h) [
   | inl none ↦ power_cons L k c w none.1
   | inr j ↦ record {
-    front = j.front;
-    back = j.back;
+    prefix = j.prefix;
+    suffix = j.suffix;
     is = j.is;
     first = j.first;
     second = (
@@ -156,10 +156,10 @@ pub step_sequence : (a b : Plain) (c : ℕ) (entered : Bool) (before x y : List 
 step_sequence a b c entered before x y p q long ha hb = let at = beside a x y long in record {
   left = λ word. (
     λ h. elim h [
-      | inl j ↦ elim ((ha.left j.front).0 (rw at.first at j.first)) [
+      | inl j ↦ elim ((ha.left j.prefix).0 (rw at.first at j.first)) [
         | inl s ↦ inl (inl (cons_joined (Rest a (take (size a) before)) (Words b) c word (record {
-          front = j.front;
-          back = j.back;
+          prefix = j.prefix;
+          suffix = j.suffix;
           is = j.is;
           first = s;
           second = j.second;
@@ -167,9 +167,9 @@ step_sequence a b c entered before x y p q long ha hb = let at = beside a x y lo
         | inr w ↦ inr (
           w.0,
           cons_joined (Words a) (Words b) c word (record {
-            front = j.front;
-            back
-                = j.back;
+            prefix = j.prefix;
+            suffix
+                = j.suffix;
             is = j.is;
             first = w.1;
             second = j.second;
@@ -190,11 +190,11 @@ step_sequence a b c entered before x y p q long ha hb = let at = beside a x y lo
         | inl j ↦ elim (joined_cons (Rest a (take (size a) before)) (Words b) c word j) [
           | inl n ↦ inr (rw at.second ((hb.left word).1 (inr (ha.ends.is.1 (inl n.0), n.1))))
           | inr k ↦ inl (record {
-            front = k.front;
-            back = k.back;
+            prefix = k.prefix;
+            suffix = k.suffix;
             is = k.is;
             first = rw at.first
-                ((ha.left k.front).1 (inl k.first));
+                ((ha.left k.prefix).1 (inl k.first));
             second = k.second;
           })
         ]
@@ -203,11 +203,11 @@ step_sequence a b c entered before x y p q long ha hb = let at = beside a x y lo
       | inr w ↦ elim (joined_cons (Words a) (Words b) c word w.1) [
         | inl n ↦ inr (rw at.second ((hb.left word).1 (inr (ha.ends.is.1 (inr (w.0, n.0)), n.1))))
         | inr k ↦ inl (record {
-          front = k.front;
-          back = k.back;
+          prefix = k.prefix;
+          suffix = k.suffix;
           is = k.is;
           first = rw at.first
-              ((ha.left k.front).1 (inr (w.0, k.first)));
+              ((ha.left k.prefix).1 (inr (w.0, k.first)));
           second = k.second;
         })
       ]
@@ -222,10 +222,10 @@ pub step_plus : (a : Plain) (c : ℕ) (entered again : Bool) (before after : Lis
     Steps a c (entered || again) before after p → Steps (plus a) c entered before after p
 step_plus a c entered again before after p probe ha = record {
   left = λ word. (
-    λ j. elim ((ha.left j.front).0 j.first) [
+    λ j. elim ((ha.left j.prefix).0 j.first) [
       | inl s ↦ inl (cons_joined (Rest a before) (Star (Words a)) c word (record {
-        front = j.front;
-        back = j.back;
+        prefix = j.prefix;
+        suffix = j.suffix;
         is = j.is;
         first = s;
         second = j.second;
@@ -233,8 +233,8 @@ step_plus a c entered again before after p probe ha = record {
       | inr w ↦
           let (k, more) = j.second in
           let words = cons_joined (Words a) (Power (Words a) k) c word (record {
-            front = j.front;
-            back = j.back;
+            prefix = j.prefix;
+            suffix = j.suffix;
             is = j.is;
             first = w.1;
             second = more;
@@ -251,10 +251,10 @@ step_plus a c entered again before after p probe ha = record {
       | inl j ↦ elim (joined_cons (Rest a before) (Star (Words a)) c word j) [
         | inl n ↦ round word ((or_is entered again).1 (inr (probe.is.1 (inl n.0)))) n.1.0 n.1.1
         | inr k ↦ record {
-          front = k.front;
-          back = k.back;
+          prefix = k.prefix;
+          suffix = k.suffix;
           is = k.is;
-          first = (ha.left k.front).1
+          first = (ha.left k.prefix).1
               (inl k.first);
           second = k.second;
         }
@@ -272,10 +272,10 @@ step_plus a c entered again before after p probe ha = record {
   round word e k words =
       let j = power_cons (Words a) k c word words in
       record {
-        front = j.front;
-        back = j.back;
+        prefix = j.prefix;
+        suffix = j.suffix;
         is = j.is;
-        first = (ha.left j.front).1 (inr (
+        first = (ha.left j.prefix).1 (inr (
           e,
           j.first,
         ));
@@ -326,11 +326,11 @@ rest_none (either a b) marks word none (inl r) = rest_none a (take (size a) mark
 rest_none (either a b) marks word none (inr r) = rest_none b (drop (size a) marks) word
     (none_dropped (size a) marks none) r
 rest_none empty marks word none r = r
-rest_none (sequence a b) marks word none (inl r) = rest_none a (take (size a) marks) r.front
+rest_none (sequence a b) marks word none (inl r) = rest_none a (take (size a) marks) r.prefix
     (none_taken (size a) marks none) r.first
 rest_none (sequence a b) marks word none (inr r) = rest_none b (drop (size a) marks) word
     (none_dropped (size a) marks none) r
-rest_none (plus a) marks word none r = rest_none a marks r.front none r.first
+rest_none (plus a) marks word none r = rest_none a marks r.prefix none r.first
 
 -- where no mark is and the pattern is not entered, nothing happens
 pub step_nowhere : (a : Plain) (c : ℕ) (marks : List Bool) → ((k : ℕ) →
@@ -362,8 +362,8 @@ no_sum m n h = (omega arith, omega arith)
 power_of_nil : (L : List ℕ → Type 0) → ((w : List ℕ) → L w → w ≡ []) → (k : ℕ) (w : List ℕ) →
     Power L k w → w ≡ []
 power_of_nil L only zero w h = h
-power_of_nil L only (suc k) w h = h.is ∙ ap (λ v. v ++ h.back) (only h.front h.first) ∙
-    power_of_nil L only k h.back h.second
+power_of_nil L only (suc k) w h = h.is ∙ ap (λ v. v ++ h.suffix) (only h.prefix h.first) ∙
+    power_of_nil L only k h.suffix h.second
 
 -- without positions there is no word but the empty one
 pub only_nil : (a : Plain) → size a ≡ 0 → (w : List ℕ) → Words a w → w ≡ []
@@ -373,8 +373,8 @@ only_nil (either a b) none w (inl h) = only_nil a (no_sum (size a) (size b) none
 only_nil (either a b) none w (inr h) = only_nil b (no_sum (size a) (size b) none).1 w h
 only_nil empty none w h = h
 only_nil (sequence a b) none w h =
-    h.is ∙ ap (λ v. v ++ h.back) (only_nil a (no_sum (size a) (size b) none).0 h.front h.first) ∙
-    only_nil b (no_sum (size a) (size b) none).1 h.back h.second
+    h.is ∙ ap (λ v. v ++ h.suffix) (only_nil a (no_sum (size a) (size b) none).0 h.prefix h.first) ∙
+    only_nil b (no_sum (size a) (size b) none).1 h.suffix h.second
 only_nil (plus a) none w h = power_of_nil (Words a) (only_nil a none) (suc h.0) w h.1
 
 -- without positions a step takes nothing, and the end is reached by the empty word alone

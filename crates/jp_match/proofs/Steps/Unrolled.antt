@@ -9,12 +9,12 @@ use Rattle.jp_match.specs.Private.Plain.{Plain, Words, at_least, between, counte
 joined_as : (L L' M M' : List ℕ → Type 0) → ((w : List ℕ) → L w → L' w) → ((w : List ℕ) → M w →
     M' w) → (w : List ℕ) → Concatenation L M w → Concatenation L' M' w
 joined_as L L' M M' first second w j = record {
-  front = j.front;
-  back = j.back;
+  prefix = j.prefix;
+  suffix = j.suffix;
   is = j.is;
   first =
-      first j.front j.first;
-  second = second j.back j.second;
+      first j.prefix j.first;
+  second = second j.suffix j.second;
 }
 
 power_as : (L L' : List ℕ → Type 0) → ((w : List ℕ) → L w → L' w) → (k : ℕ) (w : List ℕ) →
@@ -30,12 +30,12 @@ at_least_to a zero w (inl none) = (0, omega arith, none)
 at_least_to a zero w (inr some) = (suc some.0, omega arith, some.1)
 at_least_to a (suc zero) w h = (suc h.0, omega arith, h.1)
 at_least_to a (suc (suc n)) w h =
-    let (k, enough, words) = at_least_to a (suc n) h.back h.second in (
+    let (k, enough, words) = at_least_to a (suc n) h.suffix h.second in (
       suc k,
       omega (arith, enough),
       record {
-        front = h.front;
-        back = h.back;
+        prefix = h.prefix;
+        suffix = h.suffix;
         is = h.is;
         first =
             h.first;
@@ -61,19 +61,19 @@ unfolding between
 between_to a zero zero w h = (0, omega arith, omega arith, h)
 between_to a zero (suc most) w (inl none) = (0, omega arith, omega arith, none)
 between_to a zero (suc most) w (inr j) =
-    let (k, enough, within, words) = between_to a zero most j.back j.second in (
+    let (k, enough, within, words) = between_to a zero most j.suffix j.second in (
       suc k,
       omega arith,
       omega (arith, within),
-      record { front = j.front; back = j.back; is = j.is; first = j.first; second = words },
+      record { prefix = j.prefix; suffix = j.suffix; is = j.is; first = j.first; second = words },
     )
 between_to a (suc least) zero w h = absurd h
 between_to a (suc least) (suc most) w j =
-    let (k, enough, within, words) = between_to a least most j.back j.second in (
+    let (k, enough, within, words) = between_to a least most j.suffix j.second in (
       suc k,
       omega (arith, enough),
       omega (arith, within),
-      record { front = j.front; back = j.back; is = j.is; first = j.first; second = words },
+      record { prefix = j.prefix; suffix = j.suffix; is = j.is; first = j.first; second = words },
     )
 
 between_of : (a : Plain) (least most k : ℕ) (w : List ℕ) → least ≤ k → k ≤ most →

@@ -10,7 +10,7 @@ use Rattle.jp_match.specs.Private.Marks.{Rest, Ends, Steps}
 use Rattle.jp_match.proofs.Steps.StepParts.{rest_none}
 use Rattle.jp_match.proofs.Steps.Unrolled.{unrolled-words}
 
--- a suffix of a word is the word, or one of what is behind its first character
+-- a suffix of a word is the word, or one of what is after its first character
 suffix_cons : (L : List ℕ → Type 0) (c : ℕ) (w : List ℕ) → HasSuffix L (c ∷ w) →
     L (c ∷ w) ⊎ HasSuffix L w
 suffix_cons L c w h = parts h.before h.suffix h.is h.holds where

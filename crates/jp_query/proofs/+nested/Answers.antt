@@ -20,8 +20,8 @@ use Rattle.jp_tree.specs.Tree.{literal_of, operand_of, selector_of, segment_of, 
 use Rattle.jp_tree.specs.Tree.{ArgumentTree, OperandTree, true_literal, false_literal}
 use Rattle.jp_tree.specs.Tree.{null_literal, query_argument, call_argument, logical_argument}
 use Rattle.jp_tree.specs.Tree.{exists, any_of, all_of, call_test}
-use Rattle.jp_query.specs.Characters.{ampersand, bar, comma}
-use Rattle.jp_query.specs.Characters.{closing_parenthesis, letter_t, letter_f, letter_n}
+use Rattle.jp_reading.specs.Characters.{ampersand, bar, comma}
+use Rattle.jp_reading.specs.Characters.{closing_parenthesis, letter_t, letter_f, letter_n}
 use Rattle.jp_query.specs.Grammar.{joined}
 use Rattle.jp_query.specs.Private.Rules.{QueryRule, bracket, in_brackets, entries, segment}
 use Rattle.jp_query.specs.Private.Rules.{segments, begins_segment, entry, basic}

@@ -2,10 +2,10 @@ use Rattle.std.proofs.Common.{◌≡◌, ℕ, ◌+◌, ◌*◌, ◌≤◌, ◌�
 use Rattle.std.specs.Str.{chars}
 use Rattle.std.specs.String.{string_bytes}
 use Rattle.jp_reading.specs.Outcome.{after_blank, passes, is}
-use Rattle.jp_reading.specs.Views.{by, with_front}
+use Rattle.jp_reading.specs.Views.{by, with_prefix}
 use Rattle.jp_tree.specs.Tree.{argument_of, expr_of, literal_of, selector_of, segment_of}
 use Rattle.jp_reading.specs.Rule.{beyond, some}
-use Rattle.jp_query.specs.Characters.{comma}
+use Rattle.jp_reading.specs.Characters.{comma}
 use Rattle.jp_query.specs.declared.expressions.Connective.{Connective}
 use Rattle.jp_query.specs.declared.expressions.Connective.TheVariants.{Or, And}
 use Rattle.jp_query.specs.Private.Parts.{mark_of, part_of}
@@ -136,7 +136,7 @@ decreases-calls::arguments l = l.levels * 32 + 32
 
 abbrev pub invariant-segments::segments-segments : goal.invariant-segments::segments-segments
 invariant-segments::segments-segments l =
-    with_front (map segment_of l.segments.items)
+    with_prefix (map segment_of l.segments.items)
     (read_inside l.levels segments l.reader) ≡ read_inside l.levels segments l.initial.reader
 
 abbrev pub decreases-segments::segments-segments : goal.decreases-segments::segments-segments
@@ -144,7 +144,7 @@ decreases-segments::segments-segments l = length l.reader.rest
 
 abbrev pub invariant-selectors::entries-entries : goal.invariant-selectors::entries-entries
 invariant-selectors::entries-entries l =
-    with_front (map selector_of l.selectors.items)
+    with_prefix (map selector_of l.selectors.items)
     (read_inside l.levels other_entries l.reader) ≡ read_inside l.levels entries l.fn.reader
 
 abbrev pub decreases-selectors::entries-entries : goal.decreases-selectors::entries-entries
@@ -152,7 +152,7 @@ decreases-selectors::entries-entries l = length l.reader.rest
 
 abbrev pub invariant-expressions::joined_from-parts : goal.invariant-expressions::joined_from-parts
 invariant-expressions::joined_from-parts l = record {
-  total : with_front (map expr_of l.parts.items)
+  total : with_prefix (map expr_of l.parts.items)
       (read_inside l.levels (other_parts (mark_of l.connective) (part_of l.connective)) l.reader)
       ≡ by (λ es. expr_of l.fn.first ∷ es)
       (read_inside l.levels (other_parts (mark_of l.connective)
@@ -168,7 +168,7 @@ decreases-expressions::joined_from-parts l = length l.reader.rest
 abbrev pub invariant-calls::some_arguments-arguments :
     goal.invariant-calls::some_arguments-arguments
 invariant-calls::some_arguments-arguments l =
-    with_front (map argument_of l.arguments.items)
+    with_prefix (map argument_of l.arguments.items)
     (read_inside l.levels (some beyond (is comma) next_argument) l.reader)
     ≡ read_inside l.levels listed l.fn.reader
 

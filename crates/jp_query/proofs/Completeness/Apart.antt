@@ -5,6 +5,7 @@ use Rattle.std.proofs.Common.{None, inl, inr, refl, sym, arith}
 use Rattle.std.specs.Prelude.{codes}
 use Rattle.std.proofs.lemmas.Bool.{cases_Bool, eqb-true}
 use Rattle.std.proofs.lemmas.Bool.Decides.{nat_tests}
+use Rattle.jp_reading.specs.Characters as char
 use Rattle.jp_reading.specs.Texts.{Text, is_blank}
 use Rattle.jp_reading.specs.Forms.{AllPassing}
 use Rattle.jp_reading.specs.Rule.{beyond, blanks}
@@ -19,10 +20,12 @@ use Rattle.jp_tree.specs.Tree.{LiteralTree, true_literal, false_literal, null_li
 use Rattle.jp_tree.specs.Tree.{literal, node_value, call_value, ExprTree, exists, call_test}
 use Rattle.jp_tree.specs.Tree.{ArgumentTree, literal_argument, query_argument, call_argument}
 use Rattle.jp_tree.specs.Tree.{logical_argument}
-use Rattle.jp_query.specs.Characters.{comma, closing_bracket, closing_parenthesis, exclamation_mark}
-use Rattle.jp_query.specs.Characters.{less_sign, equals_sign, greater_sign, opening_parenthesis}
-use Rattle.jp_query.specs.Characters.{ampersand, bar, dot, double_quote, letter_a, opening_bracket}
-use Rattle.jp_query.specs.Characters.{single_quote}
+use Rattle.jp_reading.specs.Characters.{comma, closing_bracket, closing_parenthesis}
+use Rattle.jp_reading.specs.Characters.{exclamation_mark}
+use Rattle.jp_reading.specs.Characters.{less_sign, equals_sign, greater_sign, opening_parenthesis}
+use Rattle.jp_reading.specs.Characters.{ampersand, bar, dot, double_quote, letter_a}
+use Rattle.jp_reading.specs.Characters.{opening_bracket}
+use Rattle.jp_reading.specs.Characters.{single_quote}
 use Rattle.jp_query.specs.Private.Rules.{nesting, opens, begins_int, begins_operator}
 use Rattle.jp_query.specs.Private.Rules.{begins_segment, begins_query, is_closing}
 use Rattle.jp_query.specs.Private.Rules as rule
@@ -605,9 +608,13 @@ abbrev pub passed-on : (other : Option ℕ)
     → (c : ℕ) × ((is_function_char c && not (rule.is_among (rule.only_this other) c)) ≡ true)
 passed-on None = (letter_a, refl)
 passed-on (Some d) =
-    elim (cases_Bool (is d 97)) [
-      | inl e ↦ (98, let same : 97 ≡ d = eqb-true 97 d e in rw (← same) refl)
-      | inr e ↦ (97, rw e refl)
+    elim (cases_Bool (is d char.letter_a)) [
+      | inl e ↦ (
+        char.letter_b,
+        let same : char.letter_a
+            ≡ d = eqb-true char.letter_a d e in rw (← same) refl,
+      )
+      | inr e ↦ (char.letter_a, rw e refl)
     ]
 
 abbrev pub opened-alive : (o : rule.Opening) (c : ℕ) → opens o c ≡ true → Alive (rule.opened o)

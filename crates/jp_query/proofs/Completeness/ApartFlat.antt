@@ -25,8 +25,8 @@ use Rattle.jp_query.proofs.Soundness.Alive.{digits-alive, decimals-alive, power-
 use Rattle.jp_query.proofs.Soundness.Alive.{exponent-alive, number-alive, plain_literal-alive}
 use Rattle.jp_query.proofs.Soundness.Alive.{operator-alive, bound-alive, later_step-alive}
 use Rattle.jp_query.proofs.Soundness.Alive.{step-alive, slice-alive, number_selector-alive}
-use Rattle.jp_query.specs.Characters.{backslash, colon, dot, double_quote, equals_sign, letter_a}
-use Rattle.jp_query.specs.Characters.{single_quote}
+use Rattle.jp_reading.specs.Characters.{backslash, colon, dot, double_quote, equals_sign, letter_a}
+use Rattle.jp_reading.specs.Characters.{single_quote}
 
 -- what follows a number goes on with none of its parts
 pub record EndsNumber (K : Follow) : Type 0 where

@@ -23,7 +23,7 @@ use Rattle.jp_reading.proofs.Same.{word-on, passing-word}
 use Rattle.jp_reading.proofs.Rules.Form.{Either, left, right, ItemIf, form}
 use Rattle.jp_tree.specs.Tree.{ExprTree, any_of, all_of, exists, call_test, exprs, ArgumentTree}
 use Rattle.jp_tree.specs.Tree.{literal_argument, query_argument, call_argument, logical_argument}
-use Rattle.jp_query.specs.Characters.{ampersand, bar, opening_parenthesis}
+use Rattle.jp_reading.specs.Characters.{ampersand, bar, opening_parenthesis}
 use Rattle.jp_query.specs.Literals.{Literal}
 use Rattle.jp_query.specs.Names.{is_function_char}
 use Rattle.jp_query.specs.Grammar.{joined as joined_parts, Nested, InnerQuery, FunctionCall}

@@ -12,7 +12,7 @@ use Rattle.jp_reading.proofs.Same.{made-either, made-made, made-same, then-only,
 use Rattle.jp_reading.proofs.Same.{then-made, then-either, item-either, item-made, separated}
 use Rattle.jp_reading.proofs.Rules.Form.{Either, left, right, form}
 use Rattle.jp_tree.specs.declared.tree.Op.{Op}
-use Rattle.jp_query.specs.Characters.{ampersand, bar, opening_parenthesis}
+use Rattle.jp_reading.specs.Characters.{ampersand, bar, opening_parenthesis}
 use Rattle.jp_tree.specs.Tree.{QueryTree, ExprTree, negation, comparison, exists, call_test}
 use Rattle.jp_tree.specs.Tree.{OperandTree, literal, node_value, call_value, CallTree, LiteralTree}
 use Rattle.jp_tree.specs.Tree.{text, number as number_literal}

@@ -18,7 +18,7 @@ use Rattle.jp_reading.proofs.Same.{made-only, made-either, then-value, Given, wo
 use Rattle.jp_reading.proofs.Rules.Form.{Either, left, right, form}
 use Rattle.jp_tree.specs.Tree.{OperandTree, literal, call_value, call, ArgumentTree, arguments}
 use Rattle.jp_tree.specs.Tree.{LiteralTree, true_literal, false_literal, null_literal}
-use Rattle.jp_query.specs.Characters.{opening_parenthesis, letter_t, letter_f, letter_n}
+use Rattle.jp_reading.specs.Characters.{opening_parenthesis, letter_t, letter_f, letter_n}
 use Rattle.jp_query.specs.Names.{is_function_first, is_function_char, FunctionName, function_name}
 use Rattle.jp_query.specs.Grammar.{Nested}
 use Rattle.jp_query.specs.Private.Rules.{opens, CallRest, is_among}

@@ -15,7 +15,7 @@ use Rattle.jp_tree.specs.declared.tree.Op.{Op}
 use Rattle.jp_tree.specs.declared.tree.Op.TheVariants.{Equal, Unequal, Less, LessEqual, Greater}
 use Rattle.jp_tree.specs.declared.tree.Op.TheVariants.{GreaterEqual}
 use Rattle.jp_tree.specs.Tree.{LiteralTree, text, number as number_literal}
-use Rattle.jp_query.specs.Characters.{double_quote, single_quote}
+use Rattle.jp_reading.specs.Characters.{double_quote, single_quote}
 use Rattle.jp_query.specs.Strings.{Quoted, in_double, in_single}
 use Rattle.jp_query.specs.Ints.{Unsigned, Int, zero_int, positive_int, negative_int}
 use Rattle.jp_query.specs.Literals.{Optional, left_out, written, DigitSequence, Decimals, decimals}

@@ -16,7 +16,7 @@ use Rattle.jp_reading.proofs.Rules.Form.{Either, left, right, Inside, none_insid
 use Rattle.jp_tree.specs.declared.tree.Slice.{Slice}
 use Rattle.jp_tree.specs.Tree.{SelectorTree, slice, SegmentTree, segment, QueryTree, query}
 use Rattle.jp_tree.specs.Tree.{ArgumentTree, selectors, segments}
-use Rattle.jp_query.specs.Characters.{double_quote, single_quote}
+use Rattle.jp_reading.specs.Characters.{double_quote, single_quote}
 use Rattle.jp_query.specs.Ints.{Int}
 use Rattle.jp_query.specs.Names.{is_function_char}
 use Rattle.jp_query.specs.Strings.{in_double, in_single}

@@ -14,7 +14,7 @@ use Rattle.jp_reading.proofs.Rules.Progress.{goes}
 use Rattle.jp_tree.specs.Tree.{ExprTree, any_of, all_of, exists, call_test, OperandTree, literal}
 use Rattle.jp_tree.specs.Tree.{node_value, call_value, ArgumentTree, literal_argument}
 use Rattle.jp_tree.specs.Tree.{query_argument, call_argument, logical_argument}
-use Rattle.jp_query.specs.Characters.{ampersand, bar, comma, closing_parenthesis}
+use Rattle.jp_reading.specs.Characters.{ampersand, bar, comma, closing_parenthesis}
 use Rattle.jp_query.specs.Grammar.{joined}
 use Rattle.jp_query.specs.Private.Rules.{nesting, QueryRule, Opening, basic, conjunction, part}
 use Rattle.jp_query.specs.Private.Rules.{other_parts, argument_start, argument_on}

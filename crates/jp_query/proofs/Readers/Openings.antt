@@ -16,7 +16,7 @@ use Rattle.jp_reading.proofs.Progress.{moves-take_if}
 use Rattle.jp_reading.proofs.Steps.{take_if-takes, head-is}
 use Rattle.jp_tree.specs.Tree.{exists, call_test, literal, call_value, call, arguments}
 use Rattle.jp_tree.specs.Tree.{LiteralTree, true_literal, false_literal, null_literal}
-use Rattle.jp_query.specs.Characters.{opening_parenthesis, letter_t, letter_f, letter_n}
+use Rattle.jp_reading.specs.Characters.{opening_parenthesis, letter_t, letter_f, letter_n}
 use Rattle.jp_query.specs.Names.{is_function_first, is_function_char}
 use Rattle.jp_query.specs.Private.Rules.{nesting, name_from, name_on, opens, is_among, only_this}
 use Rattle.jp_query.specs.Private.Rules.{CallRest, call_rest, call_with, run, after_parenthesis}

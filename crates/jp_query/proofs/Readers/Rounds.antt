@@ -5,7 +5,7 @@ use Rattle.std.proofs.lemmas.List.{map-append}
 use Rattle.jp_reading.specs.declared.reader.Stop.{Stop}
 use Rattle.jp_reading.specs.Outcome.{State, Outcome, took, stuck, deep, ◌>>=◌, skip}
 use Rattle.jp_reading.specs.Outcome.{after_blank, passes, is, expect}
-use Rattle.jp_reading.specs.Views.{Fails, by, with_front}
+use Rattle.jp_reading.specs.Views.{Fails, by, with_prefix}
 use Rattle.jp_reading.specs.Rule.{here, beyond, some, made, seq}
 use Rattle.jp_reading.specs.RuleReading.{Inner, read}
 use Rattle.jp_reading.proofs.Loops.{each-off}
@@ -13,7 +13,7 @@ use Rattle.jp_reading.proofs.Folds.{fails-then}
 use Rattle.jp_reading.proofs.Rules.Rounds as loops
 use Rattle.jp_tree.specs.Tree.{SelectorTree, ExprTree, ExprTrees, exprs}
 use Rattle.jp_tree.specs.Tree.{ArgumentTree}
-use Rattle.jp_query.specs.Characters.{comma}
+use Rattle.jp_reading.specs.Characters.{comma}
 use Rattle.jp_query.specs.Grammar.{joined}
 use Rattle.jp_query.specs.Private.Rules.{nesting, QueryRule}
 use Rattle.jp_query.specs.Private.Rules.{joint, part, other_parts, argument, next_argument}
@@ -106,7 +106,7 @@ module _ (n : ℕ) (j : Connective) (first : ExprTree) (from : State) where
   -- the loop goes on from p with these parts
   abbrev pub StillMakes : List ExprTree → State → Type 0
   StillMakes xs p =
-      with_front xs (read_inside n others p)
+      with_prefix xs (read_inside n others p)
       ≡ by (λ es. first ∷ es) (read_inside n others from)
 
   -- a part that fails

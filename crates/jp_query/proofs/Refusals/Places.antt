@@ -28,7 +28,7 @@ Takes (took x q) = Unit {0}
 Takes (stuck q) = ⊥
 Takes (deep q) = ⊥
 
--- what is left before the character at the end of the text, is not left behind it
+-- what is left before the character at the end of the text, is not left after it
 too-long : (c : ℕ) (u t : Text) → t ≡ c ∷ u → length t ≤ length u → ⊥
 too-long c u t e h = let f : length t ≡ length (c ∷ u) = ap length e in absurd (omega arith)
 
@@ -37,7 +37,7 @@ too-short c u q e h =
     let f : length (q.rest ++ u) ≡ length
     (c ∷ u) = ap length e in let g = length-append q.rest u in absurd (omega arith)
 
--- no reading stops at the last character of a text and, with another text behind, takes a value
+-- no reading stops at the last character of a text and, with another text after, takes a value
 apart : {A : Type 0} (c : ℕ) (u t : Text) (o v w : Outcome A) → Agrees all u o v → Agrees all t o w
     → StopsAt (c ∷ u) v → Takes w → ⊥
 apart c u t o (took x q) w f g stops takes = stops
@@ -55,45 +55,45 @@ apart c u t (deep q) (deep r) w (same e) (ended g k) stops takes =
     let f : r ≡ longer u q = cc in too-short c u q (ap (λ (p : State). p.rest) (sym f) ∙ stops) g
 
 -- through the character at which reading a query stops no text goes on to one
-pub no-further : (n : ℕ) (before behind : Text) (mark : ℕ)
-    → StopsAt (mark ∷ behind) (query_at n (start (before ++ mark ∷ behind)))
+pub no-further : (n : ℕ) (before after : Text) (mark : ℕ)
+    → StopsAt (mark ∷ after) (query_at n (start (before ++ mark ∷ after)))
     → IsNoViablePrefix n (before ++ mark ∷ [])
-no-further n before behind mark stops spelled =
+no-further n before after mark stops spelled =
     let through = before ++ mark ∷ [] in
     let alike = (local-query n).agrees in
     let read = spells-read n spelled.1 spelled.2 (through ++ spelled.0) spelled.3 in
-    apart mark behind spelled.0 (query_at n (start through))
-    (query_at n (start (through ++ behind))) (query_at n (start (through ++ spelled.0)))
-    (alike behind (start through)) (alike spelled.0 (start through))
-    (rw (append_assoc before (mark ∷ []) behind) stops) (rw read tt)
+    apart mark after spelled.0 (query_at n (start through))
+    (query_at n (start (through ++ after))) (query_at n (start (through ++ spelled.0)))
+    (alike after (start through)) (alike spelled.0 (start through))
+    (rw (append_assoc before (mark ∷ []) after) stops) (rw read tt)
 
 -- ---- places
 
 -- what stands before a stop begins a text that spells a query
 prefix-of : (n : ℕ) (text : Text) (r : State) (h : Stops (whole n) (start text) r)
-    → IsViablePrefix n h.front.read
+    → IsViablePrefix n h.prefix.read
 prefix-of n text r h = (
-  h.front.more,
+  h.prefix.more,
   h.value,
-  h.front.spans,
-  spells-of n h.value h.front.spans (h.front.read ++ h.front.more) h.front.is,
+  h.prefix.spans,
+  spells-of n h.value h.prefix.spans (h.prefix.read ++ h.prefix.more) h.prefix.is,
 )
 
 place-of : (n : ℕ) (text : Text) (r : State) (h : Stops (whole n) (start text) r)
-    → bytes h.front.read ≡ r.at
-place-of n text r h = sym (h.front.at ∙ omega arith)
+    → bytes h.prefix.read ≡ r.at
+place-of n text r h = sym (h.prefix.at ∙ omega arith)
 
 -- a stop before a character with which nothing goes on
-abbrev ends-at : (n : ℕ) (text : Text) (at mark : ℕ) (behind : Text) (found : Spans)
-    (h : Stops (whole n) (start text) (record { at = at; rest = mark ∷ behind; found = found }))
-    → IsNoViablePrefix n (h.front.read ++ mark ∷ []) → EndsViablePrefix n text at
-ends-at n text at mark behind found h halts = record {
-  before = h.front.read;
+abbrev ends-at : (n : ℕ) (text : Text) (at mark : ℕ) (after : Text) (found : Spans)
+    (h : Stops (whole n) (start text) (record { at = at; rest = mark ∷ after; found = found }))
+    → IsNoViablePrefix n (h.prefix.read ++ mark ∷ []) → EndsViablePrefix n text at
+ends-at n text at mark after found h halts = record {
+  before = h.prefix.read;
   mark = mark;
-  after = behind;
-  parts = h.front.rest;
-  place_is = place-of n text (record { at = at; rest = mark ∷ behind; found = found }) h;
-  is_viable = prefix-of n text (record { at = at; rest = mark ∷ behind; found = found }) h;
+  after = after;
+  parts = h.prefix.rest;
+  place_is = place-of n text (record { at = at; rest = mark ∷ after; found = found }) h;
+  is_viable = prefix-of n text (record { at = at; rest = mark ∷ after; found = found }) h;
   is_not_viable = halts;
 }
 
@@ -103,18 +103,18 @@ syntax-parts : (n : ℕ) (text : Text) (at : ℕ) (rest : Text) (found : Spans)
     → IsSyntaxAt n text at
 syntax-parts n text at [] found e h =
     let r : State = record { at = at; rest = []; found = found } in
-    let all_read : h.front.read ≡ text = sym (h.front.rest ∙ append-nil h.front.read) in
+    let all_read : h.prefix.read ≡ text = sym (h.prefix.rest ∙ append-nil h.prefix.read) in
     inl (record {
       place_is = subst (λ (t : Text). bytes t ≡ at) all_read (place-of n text r h);
       is_viable = subst (IsViablePrefix n) all_read (prefix-of n text r h);
       nothing = unread-spells_nothing n text r e;
     })
-syntax-parts n text at (mark ∷ behind) found e h =
-    let r : State = record { at = at; rest = mark ∷ behind; found = found } in
-    let stops = λ (k : ℕ) (f : query_at k (start text) ≡ stuck r). no-further k h.front.read behind
-    mark (rw (sym h.front.rest, f) refl) in
+syntax-parts n text at (mark ∷ after) found e h =
+    let r : State = record { at = at; rest = mark ∷ after; found = found } in
+    let stops = λ (k : ℕ) (f : query_at k (start text) ≡ stuck r). no-further k h.prefix.read after
+    mark (rw (sym h.prefix.rest, f) refl) in
     inr (record {
-      end = ends-at n text at mark behind found h (stops n e);
+      end = ends-at n text at mark after found h (stops n e);
       none_deeper = stops (suc n) (stuck-deeper n (start text) r e);
     })
 
@@ -131,16 +131,16 @@ deep-parts : (n : ℕ) (text : Text) (at : ℕ) (rest : Text) (found : Spans)
     → Passes (whole (suc n)) (start text) (record { at = at; rest = rest; found = found })
     → IsTooDeepAt n text at
 deep-parts n text at [] found e h g = absurd (let none = g.next in omega arith)
-deep-parts n text at (mark ∷ behind) found e h g =
-    let r : State = record { at = at; rest = mark ∷ behind; found = found } in
-    let before = h.front.read in
-    let through = g.stops.front in
+deep-parts n text at (mark ∷ after) found e h g =
+    let r : State = record { at = at; rest = mark ∷ after; found = found } in
+    let before = h.prefix.read in
+    let through = g.stops.prefix in
     let same_text : through.read ≡ before ++ mark ∷ [] =
-    append_cancel_right through.read (before ++ mark ∷ []) behind
-    (sym through.rest ∙ h.front.rest ∙ sym (append_assoc before (mark ∷ []) behind)) in
+    append_cancel_right through.read (before ++ mark ∷ []) after
+    (sym through.rest ∙ h.prefix.rest ∙ sym (append_assoc before (mark ∷ []) after)) in
     record {
-      end = ends-at n text at mark behind found h
-          (no-further n before behind mark (rw (sym h.front.rest, e) refl));
+      end = ends-at n text at mark after found h
+          (no-further n before after mark (rw (sym h.prefix.rest, e) refl));
       deeper = subst (IsViablePrefix (suc n)) same_text (prefix-of (suc n) text (past r) g.stops);
     }
 

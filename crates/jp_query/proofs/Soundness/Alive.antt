@@ -1,6 +1,7 @@
 -- Each rule takes a text: characters that its classes have.
 use Rattle.std.proofs.Common.{◌≡◌, ℕ, Bool, true, false, refl, [], ◌∷◌, ◌++◌, Option, Some, None}
 use Rattle.std.specs.Prelude.{codes}
+use Rattle.jp_reading.specs.Characters as char
 use Rattle.jp_reading.specs.Texts.{Text}
 use Rattle.jp_reading.specs.Numbers.{is_digit}
 use Rattle.jp_reading.proofs.Rules.Form.{Alive}
@@ -11,8 +12,8 @@ use Rattle.jp_tree.specs.Tree.{LiteralTree, true_literal, false_literal, null_li
 use Rattle.jp_tree.specs.Tree.{literal, node_value, call_value, ExprTree, ArgumentTree}
 use Rattle.jp_tree.specs.Tree.{literal_argument, query_argument, call_argument, logical_argument}
 use Rattle.jp_query.specs.Private.Rules as rule
-use Rattle.jp_query.specs.Characters.{digit_one, digit_zero, double_quote, letter_a, letter_b}
-use Rattle.jp_query.specs.Characters.{letter_e, plus, single_quote}
+use Rattle.jp_reading.specs.Characters.{digit_one, digit_zero, double_quote, letter_a, letter_b}
+use Rattle.jp_reading.specs.Characters.{letter_e, plus, single_quote}
 
 -- the test passes some character
 abbrev pub Passed : (ℕ → Bool) → Type 0
@@ -28,7 +29,7 @@ hexdig-passed = (digit_zero, refl)
 
 pub d-passed : Passed is_d
 unfolding is_d
-d-passed = (68, refl)
+d-passed = (char.capital_d, refl)
 
 pub not_d-passed : Passed is_not_d
 unfolding is_not_d
@@ -40,11 +41,11 @@ low-passed = (digit_zero, refl)
 
 pub high-passed : Passed is_8_to_b
 unfolding is_8_to_b
-high-passed = (56, refl)
+high-passed = (char.digit_eight, refl)
 
 pub from_c-passed : Passed is_c_to_f
 unfolding is_c_to_f
-from_c-passed = (67, refl)
+from_c-passed = (char.capital_c, refl)
 
 pub digit-passed : Passed is_digit
 unfolding is_digit
@@ -82,7 +83,7 @@ escape-alive quote = (hexchar-alive, (letter_b, refl))
 abbrev pub character-alive : (quote : ℕ) → is_plain quote letter_a ≡ true
     → Alive (rule.string_character quote)
 unfolding rule.string_character
-character-alive quote plain = (escape-alive quote, (97, plain))
+character-alive quote plain = (escape-alive quote, (char.letter_a, plain))
 
 abbrev pub characters-alive : (quote : ℕ) → is_plain quote letter_a ≡ true
     → Alive (rule.characters quote)

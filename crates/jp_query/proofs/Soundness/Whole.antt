@@ -8,7 +8,8 @@ use Rattle.jp_reading.specs.Forms.{Form, ◌⌢◌, word, Each, Blank}
 use Rattle.jp_reading.specs.Outcome.{State, Outcome, took, stuck, deep, ◌>>=◌, skip, is_end}
 use Rattle.jp_reading.specs.RuleReading.{read}
 use Rattle.jp_reading.proofs.Steps.{skip-way}
-use Rattle.jp_reading.proofs.Between.{Reads, Stops, Has, front-then, front-none, front-as, reads-is}
+use Rattle.jp_reading.proofs.Between.{Reads, Stops, Has, prefix-then, prefix-none, prefix-as}
+use Rattle.jp_reading.proofs.Between.{reads-is}
 use Rattle.jp_reading.proofs.Between.{joined-over, has-as}
 use Rattle.jp_reading.proofs.Levels.{Made}
 use Rattle.jp_reading.proofs.Joining.{each-append, joined-assoc, after-within}
@@ -38,8 +39,8 @@ another-segment : (n : ℕ) (x : QueryTree) (p r : State) → Reads (whole n x) 
     → Stops (whole n) p (skip r)
 another-segment n x p r h = record {
   value = query_of_parts (xs ++ y ∷ []);
-  front =
-      front-as ((word (codes "$") ⌢ Each F xs) ⌢ F y) (whole n (query_of_parts (xs ++ y ∷ []))) p
+  prefix =
+      prefix-as ((word (codes "$") ⌢ Each F xs) ⌢ F y) (whole n (query_of_parts (xs ++ y ∷ []))) p
       (skip r) (λ s o t g. after-within (word (codes "$")) (Each F xs ⌢ F y)
       (Made query_of_parts (Segments (Inside n)) (query_of_parts (xs ++ y ∷ [])))
       (λ v i u k. record {
@@ -47,11 +48,11 @@ another-segment n x p r h = record {
         same = refl;
         is = each-append F xs y v i u k;
       }) s o t (joined-assoc (word (codes "$")) (Each F xs) (F y) s o t g))
-      (front-then (word (codes "$") ⌢ Each F xs) (F y) p r (skip r)
+      (prefix-then (word (codes "$") ⌢ Each F xs) (F y) p r (skip r)
       (reads-is (whole n x) (word (codes "$") ⌢ Each F xs) p r h
       (joined-over (word (codes "$")) _ (Each F xs) h.spans p.at h.text h.is h.is.two.is))
-      (front-then Blank (Segment (Inside n) y) r (skip r) (skip r) (skip-way r)
-      (front-none (Segment (Inside n) y) (skip r) some)));
+      (prefix-then Blank (Segment (Inside n) y) r (skip r) (skip r) (skip-way r)
+      (prefix-none (Segment (Inside n) y) (skip r) some)));
 }
   where
     xs : List SegmentTree

@@ -17,7 +17,7 @@ use Rattle.jp_query.specs.Literals.{Optional, left_out, written, Decimals, decim
 use Rattle.jp_query.specs.Literals.{is_e, is_sign, Exponent, unsigned, signed, Mantissa, whole}
 use Rattle.jp_query.specs.Literals.{minus_zero, Number, number, Literal, of_number, of_text}
 use Rattle.jp_query.specs.Literals.{of_true, of_false, of_null}
-use Rattle.jp_query.specs.Characters.{double_quote, single_quote}
+use Rattle.jp_reading.specs.Characters.{double_quote, single_quote}
 
 -- one after another
 pub then-bare : {P Q : Form} → Bare P → Bare Q → Bare (P ⌢ Q)

@@ -5,12 +5,13 @@ use Rattle.std.proofs.Common.{◌∙◌, subst}
 use Rattle.std.proofs.lemmas.Bool.{false≢true}
 use Rattle.std.proofs.lemmas.Str.{len_utf8_bounds}
 use Rattle.std.specs.Prelude.{codes}
+use Rattle.jp_reading.specs.Characters as char
 use Rattle.jp_tree.specs.declared.tree.Numeral.TheVariants.{Whole}
 use Rattle.jp_reading.specs.Texts.{Text, Spans, bytes}
 use Rattle.jp_query.specs.Ints.{Int, is_leading_digit, zero_int, positive_int, negative_int}
 use Rattle.jp_query.specs.Items.{QueryItem, as_bound, as_step, int}
 use Rattle.jp_query.specs.ItemSpans.{AreSpansOf}
-use Rattle.jp_query.specs.Characters.{digit_zero}
+use Rattle.jp_reading.specs.Characters.{digit_zero}
 
 -- of 0, 9, and the omitted step
 spans : Spans
@@ -26,17 +27,18 @@ step_item : QueryItem
 step_item = int (Whole (pos 1)) as_step
 
 -- no text that begins with 0 spells 9
-not-nine : (o : ℕ) (t : Text) → Int (Whole (pos 9)) [] o (48 ∷ t) → ⊥
+not-nine : (o : ℕ) (t : Text) → Int (Whole (pos 9)) [] o (char.digit_zero ∷ t) → ⊥
 not-nine o t (zero_int e h) = absurd cc
 not-nine o t (positive_int c more e h) =
-    let begins : 48 ∷ t ≡ c ∷ h.second = h.is ∙ ap (λ u. u ++ h.second) h.one.is in
-    let same : 48 ≡ c = cc in
+    let begins : char.digit_zero ∷ t ≡ c ∷ h.second = h.is ∙ ap (λ u. u ++ h.second) h.one.is in
+    let same : char.digit_zero ≡ c = cc in
     let leads : is_leading_digit digit_zero ≡ true =
     subst (λ d. is_leading_digit d ≡ true) (sym same) h.one.passes in
     absurd (false≢true leads)
 not-nine o t (negative_int c more e h) =
-    let begins : 48 ∷ t ≡ 45 ∷ h.second = h.is ∙ ap (λ u. u ++ h.second) h.one.is in
-    let same : ◌≡◌ {A = ℕ} 48 45 = cc in
+    let begins : char.digit_zero ∷ t ≡ char.minus ∷ h.second = h.is
+    ∙ ap (λ u. u ++ h.second) h.one.is in
+    let same : ◌≡◌ {A = ℕ} char.digit_zero char.minus = cc in
     absurd (omega (arith, same))
 
 -- after two bytes of `$[0:9]` no text spells 9
@@ -44,12 +46,12 @@ after-two : (before own after : Text) → codes "$[0:9]" ≡ before ++ own ++ af
     → 3 ≡ 2 + bytes own → Int (Whole (pos 9)) [] 2 own → ⊥
 after-two [] own after e two three h = absurd (omega (arith, two))
 after-two (a ∷ []) own after e two three h =
-    let same : 36 ≡ a = cc in
+    let same : char.dollar ≡ a = cc in
     let one : ◌≡◌ {A = ℕ} 2 1 = subst (λ d. 2 ≡ bytes (d ∷ [])) (sym same) two in
     absurd (omega (arith, one))
 after-two (a ∷ b ∷ []) [] after e two three h = absurd (omega (arith, three))
 after-two (a ∷ b ∷ []) (c ∷ own) after e two three h =
-    let same : 48 ≡ c = cc in
+    let same : char.digit_zero ≡ c = cc in
     not-nine 2 own (subst (λ d. Int (Whole (pos 9)) [] 2 (d ∷ own)) (sym same) h)
 after-two (a ∷ b ∷ c ∷ before) own after e two three h =
     let first = (len_utf8_bounds a).0 in

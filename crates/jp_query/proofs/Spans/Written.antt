@@ -12,8 +12,9 @@ use Rattle.jp_query.specs.Ints.{negative_int}
 use Rattle.jp_query.specs.Literals.{Literal, Number, Mantissa, whole, minus_zero, number, of_number}
 use Rattle.jp_query.specs.Literals.{of_text, of_true, of_false, of_null}
 use Rattle.jp_query.specs.Strings.{Between, Quoted, in_double, in_single}
-use Rattle.jp_query.specs.Characters.{digit_zero, double_quote, letter_f, letter_n, letter_t, minus}
-use Rattle.jp_query.specs.Characters.{single_quote}
+use Rattle.jp_reading.specs.Characters.{digit_zero, double_quote, letter_f, letter_n, letter_t}
+use Rattle.jp_reading.specs.Characters.{minus}
+use Rattle.jp_reading.specs.Characters.{single_quote}
 
 -- each text of the form takes a byte at least
 abbrev pub Written : Form → Type 0

@@ -9,7 +9,7 @@ use Rattle.jp_query.specs.declared.expressions.Connective.{Connective}
 use Rattle.jp_query.specs.declared.expressions.Connective.TheVariants.{Or, And}
 use Rattle.jp_tree.specs.Tree.{SelectorTree, ExprTree, ExprTrees, any_of, all_of, CallTree, call}
 use Rattle.jp_tree.specs.Tree.{arguments, ArgumentTree, logical_argument}
-use Rattle.jp_query.specs.Characters.{ampersand, bar, comma, opening_parenthesis}
+use Rattle.jp_reading.specs.Characters.{ampersand, bar, comma, opening_parenthesis}
 use Rattle.jp_query.specs.Names.{is_function_char}
 use Rattle.jp_query.specs.Grammar.{joined}
 use Rattle.jp_query.specs.Private.Rules.{QueryRule, entry, basic, conjunction, other_parts, run}

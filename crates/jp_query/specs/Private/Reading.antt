@@ -4,7 +4,7 @@ use Rattle.jp_reading.specs.Outcome.{State, Outcome, took, stuck, deep, â—Œ>>=â—
 use Rattle.jp_reading.specs.Rule.{Mark}
 use Rattle.jp_reading.specs.RuleReading.{Inner, nothing, read}
 use Rattle.jp_tree.specs.Tree.{QueryTree, ExprTree}
-use Rattle.jp_query.specs.Characters.{opening_parenthesis}
+use Rattle.jp_reading.specs.Characters.{opening_parenthesis}
 use Rattle.jp_query.specs.Private.Rules.{nesting, QueryRule, mark, CallRest, any_call, closed}
 use Rattle.jp_query.specs.Private.Rules.{opened, query}
 

@@ -24,12 +24,13 @@ use Rattle.jp_tree.specs.Tree.{logical_argument, LiteralTree, number as number_l
 use Rattle.jp_tree.specs.Tree.{true_literal, false_literal, null_literal, segment as segment_tree}
 use Rattle.jp_tree.specs.Tree.{selectors as selector_trees, segments as segment_trees}
 use Rattle.jp_tree.specs.Tree.{arguments as argument_trees}
-use Rattle.jp_query.specs.Characters.{double_quote, single_quote, exclamation_mark, dollar}
-use Rattle.jp_query.specs.Characters.{ampersand, opening_parenthesis, closing_parenthesis, star}
-use Rattle.jp_query.specs.Characters.{comma, minus, dot, digit_zero, colon, less_sign, equals_sign}
-use Rattle.jp_query.specs.Characters.{greater_sign, question_mark, at_sign, opening_bracket}
-use Rattle.jp_query.specs.Characters.{backslash, closing_bracket, letter_f, letter_n, letter_t}
-use Rattle.jp_query.specs.Characters.{letter_u, bar}
+use Rattle.jp_reading.specs.Characters.{double_quote, single_quote, exclamation_mark, dollar}
+use Rattle.jp_reading.specs.Characters.{ampersand, opening_parenthesis, closing_parenthesis, star}
+use Rattle.jp_reading.specs.Characters.{comma, minus, dot, digit_zero, colon, less_sign}
+use Rattle.jp_reading.specs.Characters.{equals_sign}
+use Rattle.jp_reading.specs.Characters.{greater_sign, question_mark, at_sign, opening_bracket}
+use Rattle.jp_reading.specs.Characters.{backslash, closing_bracket, letter_f, letter_n, letter_t}
+use Rattle.jp_reading.specs.Characters.{letter_u, bar}
 use Rattle.jp_query.specs.Grammar.{joined}
 use Rattle.jp_query.specs.Ints.{is_leading_digit, whole_of, negative_of}
 use Rattle.jp_query.specs.Literals.{is_e, is_sign, numeral}

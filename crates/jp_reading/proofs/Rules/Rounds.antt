@@ -2,7 +2,7 @@
 use Rattle.std.proofs.Common.{◌≡◌, ℕ, ◌<◌, true, false, List, [], ◌∷◌, ◌++◌, length, Bool}
 use Rattle.jp_reading.specs.declared.reader.Stop.{Stop}
 use Rattle.jp_reading.specs.Outcome.{State, took, passes}
-use Rattle.jp_reading.specs.Views.{Fails, with_front}
+use Rattle.jp_reading.specs.Views.{Fails, with_prefix}
 use Rattle.jp_reading.specs.Rule.{Mark, Nesting, Rule, some}
 use Rattle.jp_reading.specs.RuleReading.{Inner, next, read}
 use Rattle.jp_reading.proofs.Progress.{Progress, moved}
@@ -14,7 +14,7 @@ module _ {N : Nesting} {A : Type 0} (inner : Inner N) (moves : (o : N.Opening) �
   -- another value
   pub some_on : (p q : State) (xs : List A) (x : A) → passes ok (next m p) ≡ true
       → read inner r p ≡ took x q
-      → with_front xs (read inner (some m ok r) p) ≡ with_front (xs ++ x ∷ [])
+      → with_prefix xs (read inner (some m ok r) p) ≡ with_prefix (xs ++ x ∷ [])
       (read inner (some m ok r) q)
   some_on p q xs x on e =
       pushes_on (λ s. passes ok (next m s)) (λ s. read inner r s) (λ s. goes inner moves r s) xs p q
@@ -22,13 +22,13 @@ module _ {N : Nesting} {A : Type 0} (inner : Inner N) (moves : (o : N.Opening) �
 
   -- no value more
   pub some_end : (p : State) (xs : List A) → passes ok (next m p) ≡ false
-      → with_front xs (read inner (some m ok r) p) ≡ took xs p
+      → with_prefix xs (read inner (some m ok r) p) ≡ took xs p
   some_end p xs off = pushes_end (λ s. passes ok (next m s)) (λ s. read inner r s) xs p off
 
   -- another that fails
   pub some_fail : (p : State) (xs : List A) (e : Stop) → passes ok (next m p) ≡ true
       → Fails e (read inner r p)
-      → Fails e (with_front xs (read inner (some m ok r) p))
+      → Fails e (with_prefix xs (read inner (some m ok r) p))
   some_fail p xs e on failed =
       folds_fail (λ s. passes ok (next m s)) (λ s. read inner r s) (λ s. goes inner moves r s)
       (λ ys. xs ++ ys) p e on failed

@@ -10,13 +10,13 @@ use Rattle.jp_reading.specs.Rule.{Mark, Nesting, Step, the, blanks, Rule, value,
 use Rattle.jp_reading.specs.Rule.{seq, made, look, upon, nested, item_where, omitted, some, relaxed}
 use Rattle.jp_reading.specs.Rule.{loose, until, flat}
 use Rattle.jp_reading.specs.RuleReading.{Inner, nothing, next, stepped, spanned_if, spanned, read}
-use Rattle.jp_reading.proofs.Between.{Reads, Front, Stops, Passes, Has, Within, reads-then}
-use Rattle.jp_reading.proofs.Between.{front-then, front-none, reads-as}
+use Rattle.jp_reading.proofs.Between.{Reads, Prefix, Stops, Passes, Has, Within, reads-then}
+use Rattle.jp_reading.proofs.Between.{prefix-then, prefix-none, reads-as}
 use Rattle.jp_reading.proofs.Chars.{past-shorter}
 use Rattle.jp_reading.proofs.Steps.{skip-way, head-is}
 use Rattle.jp_reading.proofs.Fits.{reads-nothing, reads-one, reads-word}
 use Rattle.jp_reading.proofs.Levels.{Only, Then, Made, word-has, joined-has}
-use Rattle.jp_reading.proofs.Stopping.{stops-first, stops-then, stops-as, stops-made, front-item}
+use Rattle.jp_reading.proofs.Stopping.{stops-first, stops-then, stops-as, stops-made, prefix-item}
 use Rattle.jp_reading.proofs.Stopping.{reads-item}
 use Rattle.jp_reading.proofs.Rules.Form.{Either, left, right, ItemIf, Inside, none_inside, text_of}
 use Rattle.jp_reading.proofs.Rules.Form.{form, lifts, Alive, least, has}
@@ -54,7 +54,7 @@ sound-as F G H K p (deep r) f g h = record {
 -- nothing is read
 sound-stuck : {A : Type 0} (F G : A → Form) (p : State) (x : A) → Has (F x)
     → IsSound F G p (stuck p)
-sound-stuck F G p x h = record { is = record { value = x; front = front-none (F x) p h } }
+sound-stuck F G p x h = record { is = record { value = x; prefix = prefix-none (F x) p h } }
 
 -- a rule after a text that was read
 pub sound-after : {A : Type 0} (P : Form) (F G : A → Form) (p q : State) (o : Outcome A)
@@ -62,16 +62,16 @@ pub sound-after : {A : Type 0} (P : Form) (F G : A → Form) (p q : State) (o : 
     → IsSound (λ x. P ⌢ F x) (λ x. P ⌢ G x) p o
 sound-after P F G p q (took x r) h g = record { is = reads-then P (F x) p q r h g.is }
 sound-after P F G p q (stuck r) h g = record {
-  is = record { value = g.is.value; front = front-then P (F g.is.value) p q r h g.is.front };
+  is = record { value = g.is.value; prefix = prefix-then P (F g.is.value) p q r h g.is.prefix };
 }
 sound-after P F G p q (deep r) h g = record {
   is = (
-    record { value = g.is.0.value; front = front-then P (F g.is.0.value) p q r h g.is.0.front },
+    record { value = g.is.0.value; prefix = prefix-then P (F g.is.0.value) p q r h g.is.0.prefix },
     record {
       next = g.is.1.next;
       stops = record {
         value = g.is.1.stops.value;
-        front = front-then P (G g.is.1.stops.value) p q (past r) h g.is.1.stops.front;
+        prefix = prefix-then P (G g.is.1.stops.value) p q (past r) h g.is.1.stops.prefix;
       };
     },
   );
@@ -142,12 +142,12 @@ sound-spanned {A} ok F G p o h = way o h
     taken true P q g = reads-item P p q g
     taken false P q g = g
 
-    stopped : (b : Bool) (P : Form) (r : State) → Front P p r → Front (ItemIf b P) p r
-    stopped true P r g = front-item P p r g
+    stopped : (b : Bool) (P : Form) (r : State) → Prefix P p r → Prefix (ItemIf b P) p r
+    stopped true P r g = prefix-item P p r g
     stopped false P r g = g
 
     stops : (H : A → Form) (r : State) → Stops H p r → Stops (λ x. ItemIf (ok x) (H x)) p r
-    stops H r g = record { value = g.value; front = stopped (ok g.value) (H g.value) r g.front }
+    stops H r g = record { value = g.value; prefix = stopped (ok g.value) (H g.value) r g.prefix }
 
     way : (o : Outcome A) → IsSound F G p o
         → IsSound (λ x. ItemIf (ok x) (F x)) (λ x. ItemIf (ok x) (G x)) p (spanned ok p o)
@@ -295,7 +295,7 @@ sound-nested F G H K S T p o k more w f g z has_z (none_left e stops) i = rw e (
   is = (
     record {
       value = z;
-      front = front-none (Either (Then F H z) (S z)) p
+      prefix = prefix-none (Either (Then F H z) (S z)) p
           (λ n. (let t = has_z n in (t.0, t.1, right t.2)));
     },
     record {

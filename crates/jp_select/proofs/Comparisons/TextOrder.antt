@@ -27,9 +27,9 @@ same_first : (a b : ℕ) (x y : List ℕ) → a ≡ b → bytes_cmp (a ∷ x) (b
 same_first a b x y same =
     ap (λ o. ordering_then o (bytes_cmp x y)) (sym (nat_cmp_is a b Equal same))
 
-same_front : (bs x y : List ℕ) → bytes_cmp (bs ++ x) (bs ++ y) ≡ bytes_cmp x y
-same_front [] x y = refl
-same_front (b ∷ bs) x y = same_first b b (bs ++ x) (bs ++ y) refl ∙ same_front bs x y
+same_prefix : (bs x y : List ℕ) → bytes_cmp (bs ++ x) (bs ++ y) ≡ bytes_cmp x y
+same_prefix [] x y = refl
+same_prefix (b ∷ bs) x y = same_first b b (bs ++ x) (bs ++ y) refl ∙ same_prefix bs x y
 
 -- ---- numbers by their last six bits and what is before them
 
@@ -208,7 +208,7 @@ encoded (c ∷ cs) (d ∷ ds) =
         | inr down ↦
             let same : c ≡ d = omega arith in
             ap (λ e. is_lt (bytes_cmp (encode_utf8 c ++ x) (encode_utf8 e ++ y))) (sym same)
-            ∙ ap is_lt (same_front (encode_utf8 c) x y) ∙ encoded cs ds
+            ∙ ap is_lt (same_prefix (encode_utf8 c) x y) ∙ encoded cs ds
             ∙ sym (precedes-same c d cs ds same)
       ]
     ]

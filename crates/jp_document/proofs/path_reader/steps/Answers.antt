@@ -1,6 +1,7 @@
 use Rattle.std.proofs.Common.{◌≡◌, ◌++◌, ◌∷◌, [], map, rules, sym, ◌∙◌}
 use Rattle.std.proofs.lemmas.Result.{err_from_is_err_and}
 use Rattle.std.proofs.lemmas.List.{map-append}
+use Rattle.jp_reading.specs.Characters as char
 use Rattle.jp_reading.specs.Outcome.{is_at}
 use Rattle.jp_reading.proofs.Folds.{pushes_on, pushes_end, folds_fail}
 use Rattle.jp_reading.proofs.Progress.{moved}
@@ -15,7 +16,7 @@ unfolding steps
 returns-in_err-next c =
     let p = err_from_is_err_and c.from_residual.result c.from_residual.ensures.1 in
     rw (p.1, p.2, c.steps.invariant)
-    (folds_fail (is_at 91) (read_rule step) (path_rule-progress step)
+    (folds_fail (is_at char.opening_bracket) (read_rule step) (path_rule-progress step)
     (λ ks. map owned_key c.steps.steps.items ++ ks)
     c.steps.reader c.in_err-next.field-0.0 (sym c.is_at.ensures ∙ c.steps-test.true)
     c.in_err-next.ensures)
@@ -33,7 +34,7 @@ steps-preserved c =
     search rules in
     rw (pushed, map-append owned_key c.steps.steps.items (c.in_ok-next.next ∷ []))
     (c.steps.invariant
-    ∙ pushes_on (is_at 91) (read_rule step) (path_rule-progress step)
+    ∙ pushes_on (is_at char.opening_bracket) (read_rule step) (path_rule-progress step)
     (map owned_key c.steps.steps.items)
     c.steps.reader c.step.new.reader
     (owned_key c.in_ok-next.next) (sym c.is_at.ensures ∙ c.steps-test.true) c.in_ok-next.ensures)
@@ -42,5 +43,6 @@ pub returns : goal.returns
 unfolding steps
 returns c =
     c.steps.invariant
-    ∙ pushes_end (is_at 91) (read_rule step) (map owned_key c.steps.steps.items) c.steps.reader
+    ∙ pushes_end (is_at char.opening_bracket) (read_rule step) (map owned_key c.steps.steps.items)
+    c.steps.reader
     (sym c.is_at.ensures ∙ c.steps-test.false)

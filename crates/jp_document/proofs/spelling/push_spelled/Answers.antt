@@ -37,9 +37,9 @@ runs-preserved c =
     c.plain_len.ensures.ascii in
     let is = c.in-Some.ensures.item.4 (omega arith) 0 ∙ ap (λ xs. get_or xs 0 0) same in
     let tail = c.split_at-in-runs.ensures.back in
-    let front = c.split_at.ensures.front ∙ ap (take c.plain_len.result) (sym all) in
+    let prefix = c.split_at.ensures.front ∙ ap (take c.plain_len.result) (sym all) in
     let plain =
-    ap (flat_map (spelling c.args.quote)) front ∙ c.plain_len.ensures.plain ∙ sym front in
+    ap (flat_map (spelling c.args.quote)) prefix ∙ c.plain_len.ensures.plain ∙ sym prefix in
     let cut : rest ≡ run ++ first ∷ c.split_at-in-runs.result.1.now =
     sym (take-append-drop c.plain_len.result rest)
     ∙ ap (λ xs. xs ++ drop c.plain_len.result rest) (sym c.split_at.ensures.front)

@@ -1,6 +1,7 @@
 use Rattle.std.proofs.Common.{◌≡◌, ℕ, Bool, true, List, sym, ◌∙◌, ap, rules, map, append-nil, ◌++◌}
 use Rattle.std.proofs.Common.{◌∷◌, []}
 use Rattle.std.proofs.lemmas.Result.{err_from_is_err_and}
+use Rattle.jp_reading.specs.Characters as char
 use Rattle.jp_reading.specs.Outcome.{State, Outcome, each, took, is_at, passes, head}
 use Rattle.jp_reading.specs.Views.{by}
 use Rattle.jp_reading.proofs.Folds.{folds_on, folds_end, folds_fail}
@@ -67,7 +68,7 @@ branches-returns-in_err-next t c =
     err_from_is_err_and c.from_residual-in_err-next.result
     c.from_residual-in_err-next.ensures.1 in
     rw (p.1, p.2, c.branches.invariant)
-    (folds_fail (is_at 124) (next_branch_at (inside_at c.args.groups))
+    (folds_fail (is_at char.bar) (next_branch_at (inside_at c.args.groups))
     (next_branch-moves c.args.groups)
     (λ xs. branches (map tree c.branches.branches.items ++ xs)) c.branches.reader
     c.in_err-next.field-0.0 (sym c.is_at.ensures ∙ c.branches-test.true) c.in_err-next.ensures)
@@ -80,7 +81,7 @@ branches-branches-smaller t c =
 pub branches-branches-preserved : goal.branches-branches-preserved
 branches-branches-preserved t c =
     c.branches.invariant
-    ∙ pushed_on (is_at 124) (next_branch_at (inside_at c.args.groups))
+    ∙ pushed_on (is_at char.bar) (next_branch_at (inside_at c.args.groups))
     (next_branch-moves c.args.groups) branches c.branches.branches.items
     c.push-in-branches.new.self.items c.in_ok-next.next c.branches.reader
     c.next_branch.new.reader (sym c.is_at.ensures ∙ c.branches-test.true) c.in_ok-next.ensures
@@ -89,7 +90,7 @@ branches-branches-preserved t c =
 pub branches-returns : goal.branches-returns
 branches-returns t c =
     c.branches.invariant
-    ∙ folds_end (is_at 124) (next_branch_at (inside_at c.args.groups))
+    ∙ folds_end (is_at char.bar) (next_branch_at (inside_at c.args.groups))
     (λ xs. branches (map tree c.branches.branches.items ++ xs)) c.branches.reader
     (sym c.is_at.ensures ∙ c.branches-test.false)
     ∙ ap (λ x. took x c.branches.reader)

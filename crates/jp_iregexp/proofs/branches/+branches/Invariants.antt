@@ -1,4 +1,5 @@
 use Rattle.std.proofs.Common.{◌≡◌, ◌+◌, ◌*◌, ◌++◌, length, map}
+use Rattle.jp_reading.specs.Characters as char
 use Rattle.jp_reading.specs.Outcome.{is_at, each}
 use Rattle.jp_reading.specs.Views.{by}
 use Rattle.jp_iregexp.specs.Tree.{tree, branches, pieces}
@@ -36,7 +37,7 @@ abbrev pub invariant-branches-branches : goal.invariant-branches-branches
 invariant-branches-branches l =
     branches_at (inside_at l.groups) l.fn.reader ≡
     by (λ xs. branches (map tree l.branches.items ++ xs))
-    (each (is_at 124) (next_branch_at (inside_at l.groups)) l.reader)
+    (each (is_at char.bar) (next_branch_at (inside_at l.groups)) l.reader)
 
 abbrev pub decreases-branches-branches : goal.decreases-branches-branches
 decreases-branches-branches l = length l.reader.rest

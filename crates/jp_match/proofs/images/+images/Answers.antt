@@ -17,6 +17,8 @@ use Rattle.jp_match.proofs.images.+images.Goals as goal
 use Rattle.jp_match.proofs.images.+images.Goals.{at_most_image-else-loop-left-test}
 use Rattle.jp_match.proofs.images.+images.Goals.{at_most_image-then-loop-left-test+in_default}
 use Rattle.jp_match.proofs.images.+images.Goals.{exactly_image-else-loop-test}
+use Rattle.jp_match.proofs.images.+images.Goals.{}
+use Rattle.jp_match.proofs.images.+images.Goals.{}
 use Rattle.jp_match.proofs.images.+images.Goals.{exactly_image-then-loop-test+in_ok-part_image+then-is_settled}
 
 pub at_most_image-loop-left-smaller : goal.at_most_image-loop-left-smaller

@@ -4,9 +4,9 @@ use Rattle.std.specs.String.{string_bytes}
 use Rattle.std.proofs.lemmas.Str.{chars-nil}
 use Rattle.jp_query.proofs.Readers.Exits.{err_is}
 use Rattle.jp_reading.specs.Outcome.{passes, head}
-use Rattle.jp_reading.specs.Views.{with_front}
+use Rattle.jp_reading.specs.Views.{with_prefix}
 use Rattle.jp_reading.proofs.Progress.{moved}
-use Rattle.jp_reading.proofs.Folds.{with_front-nil, pushes_on, pushes_end, folds_fail}
+use Rattle.jp_reading.proofs.Folds.{with_prefix-nil, pushes_on, pushes_end, folds_fail}
 use Rattle.jp_query.specs.Private.Rules.{nesting, characters, string_character, begins_character}
 use Rattle.jp_query.specs.Private.Reading.{read_flat}
 use Rattle.jp_reading.specs.RuleReading.{nothing}
@@ -20,9 +20,9 @@ character-progress quote p = goes (nothing nesting) (λ o q. tt) (string_charact
 
 pub characters-init : goal.characters-init
 characters-init c =
-    ap (λ t. with_front t (read_flat (characters c.args.quote) c.args.reader.now))
+    ap (λ t. with_prefix t (read_flat (characters c.args.quote) c.args.reader.now))
     (ap chars c.new-text.ensures.bytes ∙ chars-nil)
-    ∙ with_front-nil (read_flat (characters c.args.quote) c.args.reader.now)
+    ∙ with_prefix-nil (read_flat (characters c.args.quote) c.args.reader.now)
 
 pub returns-in_err-next : goal.returns-in_err-next
 unfolding characters

@@ -1,5 +1,6 @@
 use Rattle.std.proofs.Common.{◌≡◌, ◌+◌, ◌-◌, ◌*◌, ◌^◌, min, sym, ◌∙◌, ap, arith}
 use Rattle.std.proofs.lemmas.Result.{err_from_is_err_and}
+use Rattle.jp_reading.specs.Characters as char
 use Rattle.jp_reading.specs.Numbers.{capped, digit_at, is_at_digit}
 use Rattle.jp_reading.proofs.Digits.{digit_at-progress, digits_at-first, digits_at-fails}
 use Rattle.jp_reading.proofs.Digits.{capped-digit, saturated}
@@ -16,7 +17,7 @@ pub digits-init : goal.digits-init
 digits-init c =
     digits_at-first (capped c.args.cap 0) (capped c.args.cap c.min-number.result) c.args.reader.now
     c.digit.new.reader
-    (48 + c.in_ok-digit.field-0) c.in_ok-digit.ensures.taken
+    (char.digit_zero + c.in_ok-digit.field-0) c.in_ok-digit.ensures.taken
     (λ ds. capped-digit c.args.cap 0 c.in_ok-digit.field-0 ds ∙ ap (λ n. capped c.args.cap n ds)
     (let e : min (0 * 10 + c.in_ok-digit.field-0) c.args.cap ≡ c.min-number.result =
     rw (c.min-number.ensures, c.from.ensures) (omega arith) in e))
@@ -31,7 +32,7 @@ digits-preserved c =
     c.digits.invariant
     ∙ folds_on is_at_digit digit_at digit_at-progress (capped c.args.cap c.digits.number)
     (capped c.args.cap c.min-number-in-digits.result)
-    c.digits.reader c.digit-in-digits.new.reader (48 + next)
+    c.digits.reader c.digit-in-digits.new.reader (char.digit_zero + next)
     (sym c.is_at_digit.ensures ∙ c.digits-test.true) c.in_ok-next.ensures.taken
     (λ ds. capped-digit c.args.cap c.digits.number next ds ∙ ap (λ n. capped c.args.cap n ds) more)
 
