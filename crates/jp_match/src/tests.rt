@@ -126,6 +126,16 @@ fn counts_class_tests(rt: HostRuntime) -> Result<(), Fail> {
     Ok(())
 }
 
+#[test]
+fn counts_go_on_from_call_to_call(rt: HostRuntime) -> Result<(), Fail> {
+    let pattern = read_pattern(rt.alloc(), "a")?;
+    let mut tests = Tests::new();
+    let whole = Marks.whole(rt.alloc(), &pattern, "ba", &mut tests)?;
+    let part = Marks.part(rt.alloc(), &pattern, "ba", &mut tests)?;
+    assert_eq!(rt; (whole, part, tests.count()), (false, true, 3));
+    Ok(())
+}
+
 /// Asserts what is answered, and that neither answer takes more class tests.
 fn assert_within(
     rt: &impl Abort,

@@ -4,10 +4,9 @@ use Rattle.std.specs.Prelude.{if◌then◌else◌, [], ◌∷◌, codes}
 use Rattle.std.specs.Char.{digit_value}
 use Rattle.jp_reading.specs.Texts.{Text, Spans}
 use Rattle.jp_reading.specs.Forms.{Form, word, One, ◌⌢◌, Each}
-use Rattle.jp_reading.specs.Characters.{space, double_quote, single_quote, backslash, slash}
-use Rattle.jp_reading.specs.Characters.{letter_b}
-use Rattle.jp_reading.specs.Characters.{backspace, carriage_return, form_feed, letter_f, letter_n}
-use Rattle.jp_reading.specs.Characters.{letter_r, letter_t, line_feed, tab}
+use Rattle.jp_reading.specs.Characters.{backslash, backspace, carriage_return, double_quote}
+use Rattle.jp_reading.specs.Characters.{form_feed, letter_b, letter_f, letter_n, letter_r, letter_t}
+use Rattle.jp_reading.specs.Characters.{line_feed, single_quote, slash, space, tab}
 
 -- a character that stands for itself: from U+0020 up, and neither the quotation mark around it nor
 -- a backslash (unescaped, and the other quotation mark)

@@ -29,8 +29,7 @@ pub plain-element : (c : ℕ) → is_plain c ≡ true → begins_element c ≡ t
 unfolding is_plain
 plain-element c h = rw (
   is-other is_plain c char.hyphen h refl,
-  is-other is_plain c
-      char.closing_bracket h refl,
+  is-other is_plain c char.closing_bracket h refl,
 ) refl
 
 -- and is no `\`
@@ -43,8 +42,7 @@ pub escaped-no-sign : (e : ℕ) → is_escaped e ≡ true → is_category_sign e
 unfolding is_escaped
 escaped-no-sign e h = rw (
   is-other is_escaped e char.letter_p h refl,
-  is-other is_escaped e
-      char.capital_p h refl,
+  is-other is_escaped e char.capital_p h refl,
 ) refl
 
 -- after the `\`
@@ -66,8 +64,7 @@ character-escaped c e p q is h =
     let parts = split (word (codes "\\")) (One is_escaped e) p q h in
     rw (
       at-word char.backslash [] p parts.middle parts.one,
-      past-word char.backslash p parts.middle
-          parts.one,
+      past-word char.backslash p parts.middle parts.one,
       is,
     )
     (again-escaped e parts.middle q parts.two)

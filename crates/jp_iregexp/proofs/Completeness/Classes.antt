@@ -114,8 +114,7 @@ no-category c p q h = elim h.is [
     escaped-none e parts =
         rw (
           at-word char.backslash [] p parts.middle parts.one,
-          past-word char.backslash p
-              parts.middle parts.one,
+          past-word char.backslash p parts.middle parts.one,
         )
         (ap (passes is_category_sign) (one-first is_escaped e parts.middle q parts.two)
         ∙ escaped-no-sign e parts.two.is.passes)
@@ -348,8 +347,7 @@ again-class x p q h = elim h.is [
       class-rest true xs p m parts.middle q (again-expect char.opening_bracket p m prefix.one)
       (rw (
         at-word char.caret [] m parts.middle prefix.two,
-        past-word char.caret m parts.middle
-            prefix.two,
+        past-word char.caret m parts.middle prefix.two,
       ) refl)
       parts.two
       ∙ ap (λ y. took y q) (sym e))

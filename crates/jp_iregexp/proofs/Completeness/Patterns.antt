@@ -148,8 +148,7 @@ module _ (Group : Tree → Form) (inside : State → Outcome Tree)
         none = refl;
         is = rw (
           ap (passes (is char.opening_parenthesis)) e,
-          ap (passes (is char.opening_bracket))
-              e,
+          ap (passes (is char.opening_bracket)) e,
           ap (passes (is char.dot)) e,
           at,
         ) read;
@@ -188,8 +187,7 @@ module _ (Group : Tree → Form) (inside : State → Outcome Tree)
         none = refl;
         is = rw (
           ap (passes (is char.opening_parenthesis)) e,
-          ap (passes (is char.opening_bracket))
-              e,
+          ap (passes (is char.opening_bracket)) e,
           ap (passes (is char.dot)) e,
           after,
         ) refl;
@@ -348,8 +346,7 @@ again-inside (suc n) x p q h at =
     again-branches (Inside n) (inside_at n) (again-inside n) (keeps-inside n) x p q h
     (record {
       branch = record { none = ap (passes begins_piece) e };
-      bar = ap (passes (is char.bar))
-          e;
+      bar = ap (passes (is char.bar)) e;
     })
 
 -- a whole pattern

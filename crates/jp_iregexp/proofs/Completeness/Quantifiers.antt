@@ -120,8 +120,7 @@ quantifier-some p q h =
       is = rw (
         ap (passes (is char.star)) e,
         ap (passes (is char.plus)) e,
-        past-word char.plus p q
-            h,
+        past-word char.plus p q h,
       ) refl;
     }
 
