@@ -78,3 +78,6 @@ filter::advance-loop-offer-preserved-in-Continue-branch-2 g t c =
     c.in-Some.ensures.begun (found ∙ c.if-passes.true)
     c.if-offer-segments.false c.enter.ensures.first c.in_ok-enter.ensures.frames
     ∙ c.loop-offer.invariant
+
+pub calls::node_count-loop-walk-preserved : goal.calls::node_count-loop-walk-preserved
+calls::node_count-loop-walk-preserved g t c = search rules

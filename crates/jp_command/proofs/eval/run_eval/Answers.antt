@@ -29,3 +29,9 @@ returns g c =
     })
     c.in_ok-bytes.ensures.ok.works c.write_lines-written.ensures.ok
     c.write_lines-written.ensures.stopped
+
+pub returns-in_err-bytes : goal.returns-in_err-bytes
+returns-in_err-bytes g c = search rules
+
+pub returns-in_err-document : goal.returns-in_err-document
+returns-in_err-document g c = search rules

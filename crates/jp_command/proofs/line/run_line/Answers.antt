@@ -21,3 +21,6 @@ returns-in-Ok g c = fault c.in-Err-run_and_flush.fault c.status.ensures
       runs = c.in-Err-run_and_flush.ensures;
     })
     c.report.ensures
+
+pub returns : goal.returns
+returns g c = search rules
