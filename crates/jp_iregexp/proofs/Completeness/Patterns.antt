@@ -133,6 +133,13 @@ module _ (Group : Tree → Form) (inside : State → Outcome Tree)
         ) refl;
       }
 
+  -- an atom that begins with a sign: neither a plain character nor a quantifier does
+  atom-sign : (sign : ℕ) (x : Tree) (p q : State) → head p ≡ Some sign →
+      begins_piece sign ≡ true → begins_quantifier sign ≡ false → atom_at inside p ≡ took x q →
+      AtomRead x p q
+  atom-sign sign x p q at piece none is =
+      record { first = sign; at = at; piece = piece; none = none; is = is }
+
   -- after a `\`
   atom-after_backslash : (x : Tree) (p q : State) → is_at char.backslash p ≡ true
       → escape_at (past p)
@@ -141,18 +148,13 @@ module _ (Group : Tree → Form) (inside : State → Outcome Tree)
   unfolding atom_at
   atom-after_backslash x p q at read =
       let e = head-is char.backslash p at in
-      record {
-        first = char.backslash;
-        at = e;
-        piece = refl;
-        none = refl;
-        is = rw (
-          ap (passes (is char.opening_parenthesis)) e,
-          ap (passes (is char.opening_bracket)) e,
-          ap (passes (is char.dot)) e,
-          at,
-        ) read;
-      }
+      atom-sign char.backslash x p q e refl refl
+      (rw (
+        ap (passes (is char.opening_parenthesis)) e,
+        ap (passes (is char.opening_bracket)) e,
+        ap (passes (is char.dot)) e,
+        at,
+      ) read)
 
   atom-escaped : (c e : ℕ) (p q : State) → c ≡ meant e →
       Reads (word (codes "\\") ⌢ One is_escaped e) p q → AtomRead (one c) p q
@@ -179,31 +181,20 @@ module _ (Group : Tree → Form) (inside : State → Outcome Tree)
   unfolding atom_at
   atom-dot p q h =
       let e = word-first char.dot [] p q h in
-      let after = past-word char.dot p q h in
-      record {
-        first = char.dot;
-        at = e;
-        piece = refl;
-        none = refl;
-        is = rw (
-          ap (passes (is char.opening_parenthesis)) e,
-          ap (passes (is char.opening_bracket)) e,
-          ap (passes (is char.dot)) e,
-          after,
-        ) refl;
-      }
+      atom-sign char.dot dot p q e refl refl
+      (rw (
+        ap (passes (is char.opening_parenthesis)) e,
+        ap (passes (is char.opening_bracket)) e,
+        ap (passes (is char.dot)) e,
+        past-word char.dot p q h,
+      ) refl)
 
   atom-class : (x : Tree) (p q : State) → head p ≡ Some char.opening_bracket → Reads (Class x) p q
       → AtomRead x p q
   unfolding atom_at
-  atom-class x p q e h = record {
-    first = char.opening_bracket;
-    at = e;
-    piece = refl;
-    none = refl;
-    is = rw (ap (passes (is char.opening_parenthesis)) e, ap (passes (is char.opening_bracket)) e)
-        (again-class x p q h);
-  }
+  atom-class x p q e h = atom-sign char.opening_bracket x p q e refl refl
+      (rw (ap (passes (is char.opening_parenthesis)) e, ap (passes (is char.opening_bracket)) e)
+      (again-class x p q h))
 
   atom-group : (x : Tree) (p q : State) →
       Reads (word (codes "(") ⌢ Group x ⌢ word (codes ")")) p q → AtomRead x p q
@@ -213,19 +204,14 @@ module _ (Group : Tree → Form) (inside : State → Outcome Tree)
       let m = parts.middle in
       let tail = split (Group x) (word (codes ")")) m q parts.two in
       let r = tail.middle in
-      record {
-        first = char.opening_parenthesis;
-        at = word-first char.opening_parenthesis [] p m parts.one;
-        piece = refl;
-        none = refl;
-        is =
-            rw (
-              at-word char.opening_parenthesis [] p m parts.one,
-              again-expect char.opening_parenthesis p m parts.one,
-              again x m r tail.one (at-word char.closing_parenthesis [] r q tail.two),
-              again-expect char.closing_parenthesis r q tail.two,
-            ) refl;
-      }
+      atom-sign char.opening_parenthesis x p q
+      (word-first char.opening_parenthesis [] p m parts.one) refl refl
+      (rw (
+        at-word char.opening_parenthesis [] p m parts.one,
+        again-expect char.opening_parenthesis p m parts.one,
+        again x m r tail.one (at-word char.closing_parenthesis [] r q tail.two),
+        again-expect char.closing_parenthesis r q tail.two,
+      ) refl)
 
   again-atom : (x : Tree) (p q : State) → Reads (Atom Group x) p q → AtomRead x p q
   again-atom x p q h = elim h.is [
