@@ -54,15 +54,6 @@ module _ {W : Type 0} (contents : W → Option (List ℕ)) (has_failed : W → B
         part.prefix before.written part.written;
   }
 
-  -- a node is given and nothing of its line is written
-  pub given_last : (all rest more : List Node) (n : Node) (o p : W) → Given all rest o p
-      → rest ≡ n ∷ more → Given all (n ∷ more) o p
-  given_last all rest more n o p before next = record {
-    given = before.given;
-    nodes = before.nodes ∙ ap (λ t. before.given ++ t) next;
-    written = before.written;
-  }
-
   -- what was written is a prefix of all the lines
   pub given-is_prefix : (all rest : List Node) (o p : W) → Given all rest o p
       → AppendsPrefix (contents o) (contents p) (lines_of form all)
@@ -86,16 +77,6 @@ module _ {W : Type 0} (contents : W → Option (List ℕ)) (has_failed : W → B
         ∙ append_assoc at.prefix at.left (lines_of form rest))
         ∙ sym (append_assoc (lines_of form at.given) at.prefix (at.left ++ lines_of form rest));
     written = at.written;
-  }
-
-  -- at the end all the lines are written
-  pub given-is_all : (all rest : List Node) (o p : W) → Given all rest o p → rest ≡ []
-      → has_failed p ≡ has_failed o → WritesAll contents has_failed o p (lines_of form all)
-  given-is_all all rest o p before end works = record {
-    written = subst (λ t. Appends (contents o) (contents p) (lines_of form t))
-        (sym (before.nodes ∙ ap (λ t. before.given ++ t) end ∙ append-nil before.given))
-        before.written;
-    works = works;
   }
 
   -- memory ran out between two lines

@@ -129,11 +129,6 @@ moves-by f p (took x q) h = h
 moves-by f p (stuck q) h = tt
 moves-by f p (deep q) h = tt
 
-pub moves-item : {A : Type 0} (p : State) (o : Outcome A) → Moves p o → Moves p (item p o)
-moves-item p (took x q) h = h
-moves-item p (stuck q) h = tt
-moves-item p (deep q) h = tt
-
 -- a loop keeps, where each round does
 pub keeps-loop : {A : Type 0} (n : ℕ) (begins : State → Bool) (rule : State → Outcome A)
     → ((p : State) → Keeps p (rule p)) → (p : State) → Keeps p (loop n begins rule p)

@@ -29,17 +29,6 @@ pub record Grows (L : List ℕ → Type 0) (text : List ℕ) (first : List Bool)
   pub closed : (place : ℕ) → Reached L text reached place → Marked reached place ⊎ Marked now place
   pub apart : (place : ℕ) → Marked now place → Marked reached place → ⊥
 
-pub grows_first : (L : List ℕ → Type 0) (text : List ℕ) (first : List Bool) (most : Option ℕ)
-    (reached : List Bool) → length first ≡ suc (length text) → length reached ≡ suc (length text) →
-    ((place : ℕ) → Marked reached place → ⊥) → Grows L text first most most reached first
-grows_first L text first most reached first_long reached_long none = record {
-  reached_length = reached_long;
-  now_length = first_long;
-  each = λ place. (λ h. elim h [ inl marked ↦ absurd (none place marked) | inr r ↦ r ], λ r. inr r);
-  closed = λ place r. absurd (none (length r.before) r.begins);
-  apart = λ place new old. none place old;
-}
-
 -- by any number of words: to what is reached, or on from a new place by not more words
 pub record LeadsOn (L : List ℕ → Type 0) (text : List ℕ) (now : List Bool) (k place : ℕ) : Type 0
   where

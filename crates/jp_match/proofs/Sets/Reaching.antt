@@ -163,22 +163,10 @@ image_by L M text a b same image = record {
   );
 }
 
--- a language without words reaches nothing
-pub image_none : (L : List ℕ → Type 0) (text : List ℕ) (a b : List Bool) → length b ≡ length a →
-    ((place : ℕ) → Marked b place → ⊥) → ((w : List ℕ) → L w → ⊥) → IsImage L text a b
-image_none L text a b long none never = record {
-  same_length = long;
-  reached = λ place. (λ marked. absurd (none place marked), λ r. absurd (never r.word r.holds));
-}
-
 -- whatever the rest reaches from the set, the whole reaches from the first set
 pub record Completes (whole rest : List ℕ →
     Type 0) (text : List ℕ) (first now : List Bool) : Type 0 where
   pub ends : (to : List Bool) → IsImage rest text now to → IsImage whole text first to
-
-pub completes_first : (L : List ℕ → Type 0) (text : List ℕ) (first : List Bool) →
-    Completes L L text first first
-completes_first L text first = record { ends = λ to image. image }
 
 pub completes_more : (whole L M : List ℕ → Type 0) (text : List ℕ) (first now next : List Bool) →
     Completes whole (Concatenation L M) text first now → IsImage L text now next →
@@ -198,12 +186,6 @@ pub record Covers (whole rest : List ℕ →
     Type 0) (text : List ℕ) (from reached : List Bool) : Type 0 where
   pub each : (place : ℕ) → (Marked reached place ⊎ Reached rest text from place) ↔ Reached whole
       text from place
-
-pub covers_first : (L : List ℕ → Type 0) (text : List ℕ) (from reached : List Bool) →
-    ((place : ℕ) → Marked reached place → ⊥) → Covers L L text from reached
-covers_first L text from reached none = record {
-  each = λ place. (λ h. elim h [ inl marked ↦ absurd (none place marked) | inr r ↦ r ], λ r. inr r);
-}
 
 pub covers_more : (whole L M : List ℕ →
     Type 0) (text : List ℕ) (from reached now next : List Bool) →
@@ -227,21 +209,6 @@ covers_more whole L M text from reached now next so_far step both = record {
             text from place r l))))
         | inr m ↦ inr (reached_as (λ w. L w ⊎ M w) M text from place r m)
       ]
-    ],
-  );
-}
-
-pub covers_all : (whole rest : List ℕ → Type 0) (text : List ℕ) (from reached : List Bool) →
-    length reached ≡ length from → ((w : List ℕ) → rest w → ⊥) →
-    Covers whole rest text from reached → IsImage whole text from reached
-covers_all whole rest text from reached long never so_far = record {
-  same_length = long;
-  reached = λ place. (
-    λ marked. (so_far.each place).0 (inl marked),
-    λ r. elim ((so_far.each place).1 r) [
-      | inl marked ↦ marked
-      | inr r ↦ absurd (never r.word
-          r.holds)
     ],
   );
 }

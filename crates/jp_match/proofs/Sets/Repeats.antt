@@ -6,7 +6,7 @@ use Rattle.jp_iregexp.specs.Language.{Concatenation, Power, IsAtMost, Language}
 use Rattle.jp_iregexp.specs.Tree.{Tree, repeat}
 use Rattle.jp_match.specs.Private.Counts.{Times, IsMostAfter}
 use Rattle.jp_match.specs.Private.Place.{Marked, IsImage}
-use Rattle.jp_match.proofs.Sets.Reaching.{Completes, completes_more, image_by, image_none}
+use Rattle.jp_match.proofs.Sets.Reaching.{Completes, completes_more, image_by}
 use Rattle.jp_match.proofs.Sets.Reaching.{image_joined, image_still}
 
 -- so many words are first some of them and then the others
@@ -131,14 +131,6 @@ image_repeat a least most after text x y z h first second =
           },
     ))
     (image_joined (Power (Language a) least) (Times (Language a) after) text x y z first second)
-
--- a repeat whose counts exclude each other has no word
-pub image_no_repeat : (a : Tree) (least : ℕ) (most : Option ℕ) (text : List ℕ) (x z : List Bool) →
-    IsMostAfter most least None → length z ≡ length x → ((place : ℕ) → Marked z place → ⊥) →
-    IsImage (Language (repeat a least most)) text x z
-image_no_repeat a least most text x z h long none =
-    image_none (Language (repeat a least most)) text x z long none (λ w r. not_at_most most least
-    r.0 h r.1 r.2)
 
 -- a set without places leads nowhere
 image_of_none : (L : List ℕ → Type 0) (text : List ℕ) (a : List Bool) → ((place : ℕ) →

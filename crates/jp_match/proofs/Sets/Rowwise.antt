@@ -1,18 +1,16 @@
 -- What is reached from each place alone, put together.
 use Rattle.std.proofs.Common.{◌≡◌, ◌↔◌, ◌⊎◌, inl, inr, ℕ, zero, suc, ◌≤◌, ◌<◌, Bool, false, List}
-use Rattle.std.proofs.Common.{[], ◌∷◌, ◌++◌, Option, Box, Vec, Global, nat_eq, length, map, get_or}
+use Rattle.std.proofs.Common.{[], ◌∷◌, Option, Box, Vec, Global, nat_eq, length, map, get_or}
 use Rattle.std.proofs.Common.{refl, sym, ap, ◌∙◌, subst, arith}
 use Rattle.std.proofs.lemmas.Bool.{cases_lt}
-use Rattle.std.proofs.lemmas.List.{length-map, length-append, map-append, get_or_append_left}
 use Rattle.std.proofs.lemmas.List.{get_or-map}
-use Rattle.std.proofs.Math.Seq.{get_or-append_seam}
 use Rattle.jp_iregexp.specs.Tree.{Tree, tree, nothing, branches, pieces}
 use Rattle.jp_iregexp.specs.Language.{Language}
 use Rattle.jp_iregexp.specs.declared.pattern.Pattern.{Pattern}
 use Rattle.jp_iregexp.specs.declared.pattern.Pattern.TheVariants as pattern
 use Rattle.jp_iregexp.proofs.Trees.{tree_repeat}
 use Rattle.jp_match.specs.Private.Place.{Marked, IsImage}
-use Rattle.jp_match.specs.Private.Rows.{marks_of, rows_of, IsOnly, IsRow, AreRows, AreKnown}
+use Rattle.jp_match.specs.Private.Rows.{marks_of, IsRow, AreRows, AreKnown}
 use Rattle.jp_match.specs.Private.Rows.{EachKnown, IsUnion, parts_of}
 use Rattle.jp_match.proofs.Patterns.Variants.{either_is, sequence_is}
 use Rattle.jp_match.proofs.Sets.Cuts.{marked_below}
@@ -29,16 +27,6 @@ pub record Unites (rows : List (List Bool)) (from now : List Bool) (count : ℕ)
   pub same_length : length now ≡ length from
   pub each : (place : ℕ) → Marked now place ↔ ((start : ℕ) × (start < count) × Marked from start ×
       Marked (get_or rows start []) place)
-
-pub unites_first : (rows : List (List Bool)) (from now : List Bool) → length now ≡ length from →
-    ((place : ℕ) → Marked now place → ⊥) → Unites rows from now 0
-unites_first rows from now long none = record {
-  same_length = long;
-  each = λ place. (
-    λ marked. absurd (none place marked),
-    λ h. absurd (let below = h.1 in omega arith),
-  );
-}
 
 pub unites_more : (rows : List (List Bool)) (from now next : List Bool) (count : ℕ) →
     Marked from count → length next ≡ length now → ((place : ℕ) → Marked next place ↔ (Marked now
@@ -126,15 +114,6 @@ image_rows L text rows from to long are union = record {
   );
 }
 
--- each row is as long as the text has places
-pub row_length : (L : List ℕ → Type 0) (text : List ℕ) (rows : List (List Bool)) →
-    AreRows L text rows → (start : ℕ) → start < length rows →
-    length (get_or rows start []) ≡ suc (length text)
-row_length L text rows are start below =
-    let count = are.count in
-    let row = are.each start (omega arith) in
-    row.image.same_length ∙ row.long
-
 -- where there is a row, the rows are known
 pub rows_when_known : (L : List ℕ → Type 0) (text : List ℕ) (rows : List (List Bool)) →
     AreKnown L text rows → (rows ≡ [] → ⊥) → AreRows L text rows
@@ -142,12 +121,6 @@ rows_when_known L text rows known some = elim known.known [
   | inl none ↦ absurd (some none)
   | inr are ↦ are
 ]
-
-pub unknown : (L : List ℕ → Type 0) (text : List ℕ) → AreKnown L text []
-unknown L text = record { known = inl refl }
-
-pub each_unknown : (ts : List Tree) (text : List ℕ) → EachKnown ts text []
-each_unknown ts text = record { each = λ i below. unknown (Language (get_or ts i nothing)) text }
 
 -- the parts of branches and pieces are those of the list
 pub parts_branches : (ts : List Tree) → parts_of (branches ts) ≡ ts
@@ -157,16 +130,6 @@ parts_branches (t ∷ ts) = ap (λ us. t ∷ us) (parts_branches ts)
 pub parts_pieces : (ts : List Tree) → parts_of (pieces ts) ≡ ts
 parts_pieces [] = refl
 parts_pieces (t ∷ ts) = ap (λ us. t ∷ us) (parts_pieces ts)
-
--- what is known of one pattern of a list
-pub known_at : (ps : List Pattern) (text : List ℕ) (known : List (List (List Bool))) (i : ℕ) (p :
-    Pattern) → EachKnown (map tree ps) text known → i < length ps → p ≡ get_or ps i p →
-    AreKnown (Language (tree p)) text (get_or known i [])
-known_at ps text known i p each below is =
-    let at : get_or (map tree ps) i nothing ≡ tree p = get_or-map tree ps i p nothing below ∙ ap
-    tree (sym is) in
-    let inside : i < length (map tree ps) = omega (arith, length-map ps tree) in
-    subst (λ t. AreKnown (Language t) text (get_or known i [])) at (each.each i inside)
 
 -- a list that is not empty has marks
 pub some_marks : (sets : List (Vec Bool Global)) → false ≡ nat_eq (length sets) 0 →
@@ -213,38 +176,6 @@ pub record KnownTo (ps : List Pattern) (text : List ℕ) (known : List (List (Li
   pub each : (i : ℕ) → i < count → AreKnown (Language (get_or (map tree ps) i nothing)) text (get_or
       known i [])
 
-pub known_to_none : (ps : List Pattern) (text : List ℕ) → KnownTo ps text [] 0
-known_to_none ps text = record { long = refl; each = λ i below. absurd (omega arith) }
-
-pub known_to_more : (ps : List Pattern) (text : List ℕ) (known : List (List (List Bool))) (count :
-    ℕ) (p : Pattern) (rows : List (List Bool)) → count < length ps → p ≡ get_or ps count p →
-    AreKnown (Language (tree p)) text rows → KnownTo ps text known count →
-    KnownTo ps text (known ++ rows ∷ []) (suc count)
-known_to_more ps text known count p rows below is here so_far = record {
-  long = length-append known (rows ∷ []) ∙ omega (arith, so_far.long);
-  each = λ i under. elim (cases_lt i count) [
-    | inl earlier ↦
-        let inside : i < length known = omega (arith, so_far.long) in
-        subst (AreKnown (Language (get_or (map tree ps) i nothing)) text) (sym (get_or_append_left
-        known (rows ∷ []) [] i inside)) (so_far.each i earlier)
-    | inr last ↦
-        let at : length known ≡ i = omega (arith, so_far.long) in
-        let count_is : count ≡ i = omega arith in
-        let tree_is : tree p ≡ get_or (map tree ps) i nothing = sym (get_or-map tree ps count p
-        nothing below ∙ ap tree (sym is)) ∙ ap (λ j. get_or (map tree ps) j nothing) count_is in
-        let rows_is : rows ≡ get_or (known ++ rows ∷ []) i [] = sym (get_or-append_seam known rows
-        [] []) ∙ ap (λ j. get_or (known ++ rows ∷ []) j []) at in
-        subst (AreKnown (Language (get_or (map tree ps) i nothing)) text) rows_is (subst (λ t.
-        AreKnown (Language t) text rows) tree_is here)
-  ];
-}
-
-pub known_to_all : (ps : List Pattern) (text : List ℕ) (known : List (List (List Bool))) (count :
-    ℕ) → length ps ≤ count → KnownTo ps text known count → EachKnown (map tree ps) text known
-known_to_all ps text known count all so_far = record {
-  each = λ i below. so_far.each i (omega (arith, length-map ps tree));
-}
-
 only_known : (a : Tree) (text : List ℕ) (rows : List (List Bool)) (i : ℕ) → i < 1 →
     AreKnown (Language a) text rows →
     AreKnown (Language (get_or (a ∷ []) i nothing)) text (get_or (rows ∷ []) i [])
@@ -269,47 +200,3 @@ pub record RowsTo (L : List ℕ → Type 0) (text : List ℕ) (rows : List (List
     Type 0 where
   pub long : length rows ≡ count
   pub each : (start : ℕ) → start < count → IsRow L text start (get_or rows start [])
-
-pub rows_to_none : (L : List ℕ → Type 0) (text : List ℕ) → RowsTo L text [] 0
-rows_to_none L text = record { long = refl; each = λ start below. absurd (omega arith) }
-
-pub rows_to_more : (L : List ℕ → Type 0) (text : List ℕ) (rows : List (List Bool)) (count : ℕ) (from
-    row : List Bool) → length from ≡ suc (length text) → IsOnly from count →
-    IsImage L text from row → RowsTo L text rows count →
-    RowsTo L text (rows ++ row ∷ []) (suc count)
-rows_to_more L text rows count from row long only image so_far = record {
-  long = length-append rows (row ∷ []) ∙ omega (arith, so_far.long);
-  each = λ start under. elim (cases_lt start count) [
-    | inl earlier ↦
-        let inside : start < length rows = omega (arith, so_far.long) in
-        subst (IsRow L text start) (sym (get_or_append_left rows (row ∷ []) [] start inside))
-        (so_far.each start earlier)
-    | inr last ↦
-        let at : length rows ≡ start = omega (arith, so_far.long) in
-        let count_is : count ≡ start = omega arith in
-        let row_is : row ≡ get_or (rows ++ row ∷ []) start [] = sym (get_or-append_seam rows row []
-        []) ∙ ap (λ j. get_or (rows ++ row ∷ []) j []) at in
-        subst (IsRow L text start) row_is (subst (λ j. IsRow L text j row) count_is (record {
-          from = from;
-          long = long;
-          only = only;
-          image = image;
-        }))
-  ];
-}
-
-pub rows_to_all : (L : List ℕ → Type 0) (text : List ℕ) (rows : List (List Bool)) (count : ℕ) →
-    count ≡ suc (length text) → RowsTo L text rows count → AreRows L text rows
-rows_to_all L text rows count all so_far = record {
-  count = so_far.long ∙ all;
-  each = λ start within. so_far.each start (omega arith);
-}
-
--- a set more at the end of a list
-pub marks_push : (sets : List (Vec Bool Global)) (set : Vec Bool Global) →
-    marks_of (sets ++ set ∷ []) ≡ marks_of sets ++ set.items ∷ []
-marks_push sets set = map-append (λ s. s.items) sets (set ∷ [])
-
-pub rows_push : (known : List (Vec (Vec Bool Global) Global)) (rows : Vec (Vec Bool Global) Global)
-    → rows_of (known ++ rows ∷ []) ≡ rows_of known ++ marks_of rows.items ∷ []
-rows_push known rows = map-append (λ r. marks_of r.items) known (rows ∷ [])

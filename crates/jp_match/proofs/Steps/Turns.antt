@@ -115,10 +115,6 @@ pub record StepsSoFar (whole todo : Plain) (c : ℕ) (begin entered ended : Bool
   pub completes : (tail : List Bool) (p : Bool) → Steps todo c entered (drop at row) tail p →
       Steps whole c begin first (take at row ++ tail) (ended || p)
 
-pub steps_first : (whole : Plain) (c : ℕ) (begin : Bool) (row : List Bool) →
-    StepsSoFar whole whole c begin begin false row row 0
-steps_first whole c begin row = record { completes = λ tail p h. h }
-
 pub steps_sequence : (whole a b : Plain) (c : ℕ) (begin entered ended through : Bool) (first row
     part next : List Bool) (at n : ℕ) →
     size a ≡ n → length part ≡ n → Written row part next at n →
@@ -382,10 +378,6 @@ steps_star a c entered p before after h =
 pub record EndsSoFar (whole todo : Plain) (begin entered ended : Bool) (row : List Bool) (at : ℕ) :
     Type 0 where
   pub completes : (p : Bool) → Ends todo entered (drop at row) p → Ends whole begin row (ended || p)
-
-pub ends_first : (whole : Plain) (begin : Bool) (row : List Bool) →
-    EndsSoFar whole whole begin begin false row 0
-ends_first whole begin row = record { completes = λ p h. h }
 
 pub ends_turn : (whole a b : Plain) (begin entered ended through : Bool) (row : List Bool) (at n :
     ℕ) → size a ≡ n →
