@@ -8,7 +8,7 @@ use Rattle.jp_iregexp.specs.declared.class.ClassItem.{ClassItem}
 use Rattle.jp_iregexp.specs.Characters.{Character, itself, escaped}
 use Rattle.jp_iregexp.specs.Tree.{Tree}
 use Rattle.jp_iregexp.specs.Grammar as grammar
-use Rattle.jp_iregexp.specs.Grammar.{ClassEscape, Hyphen, Element, First, Last}
+use Rattle.jp_iregexp.specs.Grammar.{ClassEscape, Element, First, Last}
 use Rattle.jp_iregexp.specs.Grammar.{Items, Class, Number, Most, Quantifier}
 use Rattle.jp_iregexp.specs.Grammar.{Atom, Piece, Branch, Branches, Inside}
 

@@ -4,7 +4,7 @@ use Rattle.std.proofs.Common.{◌∷◌, length, Option, Some, None, inl, inr, r
 use Rattle.jp_reading.specs.Texts.{Text, Spans}
 use Rattle.std.proofs.lemmas.Bool.{cases_Bool}
 use Rattle.jp_reading.specs.Outcome.{State, Outcome, took, stuck, deep, ◌>>=◌, head, past}
-use Rattle.jp_reading.specs.Outcome.{past_first, skip, take_passing, take_if, loop, each, item}
+use Rattle.jp_reading.specs.Outcome.{past_first, skip, take_passing, take_if, loop, each}
 use Rattle.jp_reading.specs.Views.{by}
 use Rattle.jp_reading.proofs.Chars.{past-shorter, skip-shorter}
 

@@ -15,7 +15,7 @@ use Rattle.jp_reading.proofs.HasForm.{HasForm, has-word, has-one, both, has-as, 
 use Rattle.jp_reading.proofs.Joining.{ends-spelt}
 use Rattle.jp_reading.proofs.Levels.{Only, Then}
 use Rattle.jp_reading.proofs.Rules.Form.{left, right}
-use Rattle.jp_document.specs.Private.PathRules.{is_letter, is_low_digit, is_hex_digit, hex_value}
+use Rattle.jp_document.specs.Private.PathRules.{is_letter, is_low_digit, is_hex_digit}
 use Rattle.jp_document.specs.Private.PathRules as rule
 use Rattle.jp_document.specs.Spelling.{spelling, hex_digit}
 use Rattle.jp_document.proofs.Spellings.Encoded.{first-ascii, prefix-ascii, high-plain}

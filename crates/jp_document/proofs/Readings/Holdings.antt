@@ -6,7 +6,7 @@ use Rattle.std.specs.Map.{keys_of}
 use Rattle.std.proofs.lemmas.Bool.{and_from}
 use Rattle.std.proofs.lemmas.Option.{same_Some}
 use Rattle.serde_json.specs.Data as parsed
-use Rattle.serde_json.specs.Data.{Data, Num, float, negative, unsigned}
+use Rattle.serde_json.specs.Data.{Data, float}
 use Rattle.jp_document.specs.Document.{IsFirstFraction, data_items_from, data_members}
 use Rattle.jp_document.specs.Document.{items_of_data, members_of_data, value_of_data}
 use Rattle.jp_document.specs.Location.{Key, Location, named, nth}

@@ -13,7 +13,7 @@ use Rattle.jp_reading.proofs.Between.{Within}
 use Rattle.jp_reading.proofs.Joining.{after-within, ends-within}
 use Rattle.jp_reading.proofs.Levels.{Only, Then, Made}
 use Rattle.jp_reading.proofs.Rules.Form.{Either, left, right, none_inside, form}
-use Rattle.jp_document.specs.Private.PathRules.{nesting, PathRule, is_letter, meant}
+use Rattle.jp_document.specs.Private.PathRules.{nesting, PathRule}
 use Rattle.jp_document.specs.Private.PathRules.{is_low_digit, is_hex_digit, hex_value}
 use Rattle.jp_document.specs.Private.PathRules as rule
 use Rattle.jp_document.specs.Spelling.{spelling, control, hex_digit}

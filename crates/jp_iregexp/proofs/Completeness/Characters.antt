@@ -17,9 +17,8 @@ use Rattle.jp_iregexp.specs.Characters.{Character, itself, escaped, is_plain, is
 use Rattle.jp_iregexp.specs.Codes.{letters}
 use Rattle.jp_iregexp.specs.Private.CodeReading.{pair, code_of}
 use Rattle.jp_iregexp.specs.Grammar as grammar
-use Rattle.jp_iregexp.specs.Grammar.{ClassEscape, Hyphen, Element, First, Last, Items}
-use Rattle.jp_iregexp.specs.Grammar.{NotAtCaret, Class, Number, Most, Quantifier, one, dot}
-use Rattle.jp_iregexp.specs.Grammar.{Atom, Piece, Branch, Branches, Inside, SpellsPattern}
+use Rattle.jp_iregexp.specs.Grammar.{ClassEscape}
+use Rattle.jp_iregexp.specs.Grammar.{Class, one}
 use Rattle.jp_iregexp.specs.Private.Reading.{escaped_at, character_at, is_category_sign}
 use Rattle.jp_iregexp.specs.Private.Reading.{code_at, category_at, begins_element}
 use Rattle.jp_iregexp.proofs.CategoryCodes.{lettered, AreLetters}

@@ -19,8 +19,7 @@ use Rattle.jp_iregexp.specs.Characters.{Character, itself, escaped, is_plain, is
 use Rattle.jp_iregexp.specs.Tree.{Tree, class}
 use Rattle.jp_iregexp.specs.Grammar as grammar
 use Rattle.jp_iregexp.specs.Grammar.{ClassEscape, Hyphen, Element, First, Last, Items}
-use Rattle.jp_iregexp.specs.Grammar.{NotAtCaret, Class, Number, Most, Quantifier, one, dot}
-use Rattle.jp_iregexp.specs.Grammar.{Atom, Piece, Branch, Branches, Inside, SpellsPattern}
+use Rattle.jp_iregexp.specs.Grammar.{NotAtCaret, Class, one}
 use Rattle.jp_iregexp.specs.Private.Reading.{is_category_sign, is_at_category, range_at}
 use Rattle.jp_iregexp.specs.Private.Reading.{element_at, begins_element, elements_at, hyphen_at}
 use Rattle.jp_iregexp.specs.Private.Reading.{first_at, last_at, items_at, negation_at, class_at}

@@ -19,9 +19,9 @@ use Rattle.jp_iregexp.specs.declared.class.ClassItem.{ClassItem}
 use Rattle.jp_iregexp.specs.Characters.{Character, itself, escaped, is_normal, is_escaped, meant}
 use Rattle.jp_iregexp.specs.Tree.{Tree, class, repeat, branches}
 use Rattle.jp_iregexp.specs.Grammar as grammar
-use Rattle.jp_iregexp.specs.Grammar.{ClassEscape, Hyphen, Element, First, Last, Items}
-use Rattle.jp_iregexp.specs.Grammar.{NotAtCaret, Class, Number, Most, Quantifier, one, dot}
-use Rattle.jp_iregexp.specs.Grammar.{Atom, Piece, Branch, Branches, Inside, SpellsPattern}
+use Rattle.jp_iregexp.specs.Grammar.{ClassEscape, Items}
+use Rattle.jp_iregexp.specs.Grammar.{NotAtCaret, Class, Quantifier, one, dot}
+use Rattle.jp_iregexp.specs.Grammar.{Atom, Piece, Branch, Branches, Inside}
 use Rattle.jp_iregexp.specs.Private.Reading.{is_category_sign, escape_at, group_at, atom_at}
 use Rattle.jp_iregexp.specs.Private.Reading.{piece_at, branch_at, next_branch_at, branches_at}
 use Rattle.jp_iregexp.specs.Private.Reading.{inside_at, pattern_at, begins_piece, begins_quantifier}

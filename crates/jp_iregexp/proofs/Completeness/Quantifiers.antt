@@ -13,9 +13,7 @@ use Rattle.jp_reading.proofs.Digits.{capped-is_min}
 use Rattle.jp_reading.proofs.Again.{split, reads-none, word-first, again-expect, at-word, past-word}
 use Rattle.jp_reading.proofs.Runs.{again-digits, digits-first}
 use Rattle.jp_iregexp.specs.Grammar as grammar
-use Rattle.jp_iregexp.specs.Grammar.{ClassEscape, Hyphen, Element, First, Last, Items}
-use Rattle.jp_iregexp.specs.Grammar.{NotAtCaret, Class, Number, Most, Quantifier, one, dot}
-use Rattle.jp_iregexp.specs.Grammar.{Atom, Piece, Branch, Branches, Inside, SpellsPattern}
+use Rattle.jp_iregexp.specs.Grammar.{Number, Most, Quantifier, one}
 use Rattle.jp_iregexp.specs.Private.Reading.{number_at, most_at, braces_at}
 use Rattle.jp_iregexp.specs.Private.Reading.{quantifier_at, begins_quantifier}
 

@@ -20,9 +20,8 @@ use Rattle.jp_iregexp.specs.Characters.{Character, itself, escaped, is_plain, is
 use Rattle.jp_iregexp.specs.Codes.{letters}
 use Rattle.jp_iregexp.specs.Private.CodeReading.{pair, code_of}
 use Rattle.jp_iregexp.specs.Grammar as grammar
-use Rattle.jp_iregexp.specs.Grammar.{ClassEscape, Hyphen, Element, First, Last, Items}
-use Rattle.jp_iregexp.specs.Grammar.{NotAtCaret, Class, Number, Most, Quantifier, one, dot}
-use Rattle.jp_iregexp.specs.Grammar.{Atom, Piece, Branch, Branches, Inside, SpellsPattern}
+use Rattle.jp_iregexp.specs.Grammar.{ClassEscape}
+use Rattle.jp_iregexp.specs.Grammar.{Class, one}
 use Rattle.jp_iregexp.specs.Private.Reading.{there, escaped_at, character_at, is_category_sign}
 use Rattle.jp_iregexp.specs.Private.Reading.{second_at, code_at, category_at}
 use Rattle.jp_iregexp.proofs.CategoryCodes.{code_of-letters}

@@ -20,8 +20,7 @@ use Rattle.jp_iregexp.specs.Characters.{Character, is_plain}
 use Rattle.jp_iregexp.specs.Tree.{class}
 use Rattle.jp_iregexp.specs.Grammar as grammar
 use Rattle.jp_iregexp.specs.Grammar.{ClassEscape, Hyphen, Element, First, Last, Items}
-use Rattle.jp_iregexp.specs.Grammar.{NotAtCaret, Class, Number, Most, Quantifier, one, dot}
-use Rattle.jp_iregexp.specs.Grammar.{Atom, Piece, Branch, Branches, Inside, SpellsPattern}
+use Rattle.jp_iregexp.specs.Grammar.{NotAtCaret, Class, one}
 use Rattle.jp_iregexp.specs.Private.Reading.{character_at, is_category_sign, category_at}
 use Rattle.jp_iregexp.specs.Private.Reading.{is_at_category, range_at, element_at}
 use Rattle.jp_iregexp.specs.Private.Reading.{begins_element, elements_at, hyphen_at}

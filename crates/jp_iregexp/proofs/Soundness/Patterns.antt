@@ -14,9 +14,9 @@ use Rattle.jp_reading.proofs.Fits.{fits-as, fits-take_if, fits-expect, fits-each
 use Rattle.jp_iregexp.specs.Characters.{Character, itself, is_normal}
 use Rattle.jp_iregexp.specs.Tree.{Tree, class, repeat, branches, pieces}
 use Rattle.jp_iregexp.specs.Grammar as grammar
-use Rattle.jp_iregexp.specs.Grammar.{ClassEscape, Hyphen, Element, First, Last, Items}
-use Rattle.jp_iregexp.specs.Grammar.{NotAtCaret, Class, Number, Most, Quantifier, one, dot}
-use Rattle.jp_iregexp.specs.Grammar.{Atom, Piece, Branch, Branches, Inside, SpellsPattern}
+use Rattle.jp_iregexp.specs.Grammar.{ClassEscape}
+use Rattle.jp_iregexp.specs.Grammar.{Class, Quantifier, one, dot}
+use Rattle.jp_iregexp.specs.Grammar.{Atom, Piece, Branch, Branches, Inside}
 use Rattle.jp_iregexp.specs.Private.Reading.{escaped_at, is_category_sign, category_at, class_at}
 use Rattle.jp_iregexp.specs.Private.Reading.{quantifier_at, escape_at, group_at, atom_at, piece_at}
 use Rattle.jp_iregexp.specs.Private.Reading.{pieces_at, branch_at, next_branch_at, branches_at}

@@ -14,9 +14,7 @@ use Rattle.jp_reading.proofs.Fits.{reads-next, Fits, fits-then, fits-if, fits-by
 use Rattle.jp_reading.proofs.Fits.{reads-nothing, fits-expect, fits-digits}
 use Rattle.jp_iregexp.specs.declared.quantifiers.Count.{Count}
 use Rattle.jp_iregexp.specs.Grammar as grammar
-use Rattle.jp_iregexp.specs.Grammar.{ClassEscape, Hyphen, Element, First, Last, Items}
-use Rattle.jp_iregexp.specs.Grammar.{NotAtCaret, Class, Number, Most, Quantifier, one, dot}
-use Rattle.jp_iregexp.specs.Grammar.{Atom, Piece, Branch, Branches, Inside, SpellsPattern}
+use Rattle.jp_iregexp.specs.Grammar.{Number, Most, Quantifier, one}
 use Rattle.jp_iregexp.specs.Private.Reading.{number_at, most_at, braces_at, quantifier_at}
 
 -- a number as it is read, capped

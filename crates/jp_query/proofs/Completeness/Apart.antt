@@ -26,8 +26,8 @@ use Rattle.jp_reading.specs.Characters.{less_sign, equals_sign, greater_sign, op
 use Rattle.jp_reading.specs.Characters.{ampersand, bar, dot, double_quote, letter_a}
 use Rattle.jp_reading.specs.Characters.{opening_bracket}
 use Rattle.jp_reading.specs.Characters.{single_quote}
-use Rattle.jp_query.specs.Private.Rules.{nesting, opens, begins_int, begins_operator}
-use Rattle.jp_query.specs.Private.Rules.{begins_segment, begins_query, is_closing}
+use Rattle.jp_query.specs.Private.Rules.{nesting, opens, begins_operator}
+use Rattle.jp_query.specs.Private.Rules.{begins_segment, is_closing}
 use Rattle.jp_query.specs.Private.Rules as rule
 use Rattle.jp_query.proofs.Soundness.Alive.{selector-alive, entry-alive, entries-alive}
 use Rattle.jp_query.proofs.Soundness.Alive.{bracket-alive, member-alive, selection-alive}

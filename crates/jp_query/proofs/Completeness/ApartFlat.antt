@@ -12,8 +12,7 @@ use Rattle.jp_query.specs.Names.{is_name_char}
 use Rattle.jp_query.specs.Strings.{is_plain, is_hexdig, is_d, is_not_d, is_0_to_7, is_8_to_b}
 use Rattle.jp_query.specs.Strings.{is_c_to_f}
 use Rattle.jp_query.specs.Literals.{is_e}
-use Rattle.jp_query.specs.Private.Rules.{nesting, begins_character, begins_int, begins_operator}
-use Rattle.jp_query.specs.Private.Rules.{begins_segment, begins_query}
+use Rattle.jp_query.specs.Private.Rules.{nesting, begins_int}
 use Rattle.jp_query.specs.Private.Rules as rule
 use Rattle.jp_query.proofs.Soundness.Alive.{Passed, shorthand-alive, hexdig-passed, d-passed}
 use Rattle.jp_query.proofs.Soundness.Alive.{not_d-passed, low-passed, high-passed, from_c-passed}

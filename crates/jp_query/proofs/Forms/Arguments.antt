@@ -30,7 +30,7 @@ use Rattle.jp_query.specs.Grammar.{joined as joined_parts, Nested, InnerQuery, F
 use Rattle.jp_query.specs.Grammar.{Composed, Basic, Conjunction, conjunction, Logical, one_part}
 use Rattle.jp_query.specs.Grammar.{parts_all, parts_any, Argument, literal_alone, query_alone}
 use Rattle.jp_query.specs.Grammar.{call_alone, logical_expr, Arguments, without, with_some, Level}
-use Rattle.jp_query.specs.Private.Rules.{opens, CallRest, part, other_parts, argument_of_parts}
+use Rattle.jp_query.specs.Private.Rules.{opens, CallRest, part, argument_of_parts}
 use Rattle.jp_query.specs.Private.Rules.{is_among, only_this}
 use Rattle.jp_query.specs.Private.Rules as rule
 use Rattle.jp_query.proofs.Forms.Slices.{all-append, blank-before}

@@ -23,7 +23,6 @@ use Rattle.jp_query.specs.Grammar.{literal_side, query_side, call_side, Parenthe
 use Rattle.jp_query.specs.Grammar.{Test, query_test, function_test, Composed, grouped, not_grouped}
 use Rattle.jp_query.specs.Grammar.{compared, not_tested, Basic, composed, tested, Conjunction}
 use Rattle.jp_query.specs.Grammar.{conjunction, Expression, disjunction}
-use Rattle.jp_query.specs.Private.Rules.{nesting, opens, CallRest}
 use Rattle.jp_query.specs.Private.Rules as rule
 use Rattle.jp_query.proofs.Forms.Numbers.{plain_literal-same, operator-same}
 use Rattle.jp_query.proofs.Forms.FunctionNames.{Word, Whole, whole-same, word-same}
