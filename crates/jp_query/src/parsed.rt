@@ -87,8 +87,8 @@ impl Parsed {
         &self.query
     }
 
-    /// From which byte to which each item of the query stands in the text, in the items' order; None
-    /// for a step of a slice that is left out.
+    /// From which byte to which each item of the query stands in the text, in the items' order;
+    /// None for a step of a slice that is left out.
     pub fn spans(&self) -> &[Option<Span>]
         ensures same { result.now ≡ self.now.spans }
         ensures each { IsSpelledWithSpans level_limit (query_of self.now.query) result.now }

@@ -228,8 +228,8 @@ impl<'t> Reader<'t> {
         Ok(())
     }
 
-    /// Counts an item that the text omits: it has no span. Where memory runs out the reader stays as
-    /// it was.
+    /// Counts an item that the text omits: it has no span. Where memory runs out the reader stays
+    /// as it was.
     pub fn omit_item(&mut self) -> Result<(), AllocError>
         ensures added { OnOk result (self.new ≡ omit self.old) }
         ensures refused { OnErr result (self.new ≡ self.old) }

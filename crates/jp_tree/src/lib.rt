@@ -5,7 +5,10 @@
 //! // $.a[-1]
 //! let segments = vec![in alloc;
 //!     Segment { descendant: false, selectors: vec![in alloc; Selector::Name(a)]? },
-//!     Segment { descendant: false, selectors: vec![in alloc; Selector::Index(Numeral::Whole(-1))]? },
+//!     Segment {
+//!         descendant: false,
+//!         selectors: vec![in alloc; Selector::Index(Numeral::Whole(-1))]?,
+//!     },
 //! ]?;
 //! let query = Query { absolute: true, segments };
 //! ```

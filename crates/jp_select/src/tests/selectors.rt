@@ -49,7 +49,8 @@ fn descendants(rt: HostRuntime) -> Result<(), Fail> {
     let nodes = descend(alloc, document.root(alloc))?;
     assert_eq!(rt;
         paths(alloc, &nodes)?.as_str(),
-        " $ $['a'] $['a'][0] $['a'][1] $['a'][2] $['a'][2][0] $['a'][2][0]['j'] $['a'][2][1] $['a'][2][1]['k'] $['o'] $['o']['j'] $['o']['k']"
+        " $ $['a'] $['a'][0] $['a'][1] $['a'][2] $['a'][2][0] $['a'][2][0]['j'] \
+            $['a'][2][1] $['a'][2][1]['k'] $['o'] $['o']['j'] $['o']['k']"
     );
     Ok(())
 }
