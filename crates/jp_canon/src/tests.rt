@@ -1,6 +1,6 @@
 //! Canonical texts of queries. Other rows are in jp_command's table.
 
-use crate::{canon, laws};
+use crate::canon;
 use jp_check::read_query;
 use std::test::Fail;
 
@@ -17,10 +17,4 @@ fn canonical_texts(rt: HostRuntime) -> Result<(), Fail> {
         assert_eq!(rt; canon(rt.alloc(), &query)?.as_str(), canonical);
     }
     Ok(())
-}
-
-#[test]
-fn laws_can_be_called() {
-    laws::canon_spells();
-    laws::canon_tells_apart();
 }

@@ -1,7 +1,7 @@
 //! Queries at the ends of the range of indexes, first faults, and the functions' names. Each other
 //! query is a row of jp_command's table.
 
-use crate::{Checked, Function, check, laws, read_query};
+use crate::{Checked, Function, check, read_query};
 use jp_query::{RefusalKind, parse};
 use std::alloc::Global;
 use std::process::Abort;
@@ -17,8 +17,6 @@ fn queries_without_faults_are_accepted(rt: HostRuntime) -> Result<(), Fail> {
     let parsed = parse(alloc, "$[-9007199254740991]").ok().ok_or("refused")?;
     let checked = check(parsed).ok().ok_or("refused")?;
     assert_indexes(&rt, alloc, &checked, -9007199254740991)?;
-    laws::one_answer();
-    laws::fault_at_its_item();
     Ok(())
 }
 

@@ -3,7 +3,6 @@
 ghost use Rattle.std.specs.Prelude.{◌≡◌, map, MatchOption, Option, None};
 ghost use Rattle.jp_query.specs.Items.{bound_items, call_items, expr_items, exprs_items, items_of};
 ghost use Rattle.jp_query.specs.Items.{operand_items, segment_items, selector_items};
-ghost use Rattle.jp_query.specs.Refusal.{number_of};
 ghost use Rattle.jp_tree.specs.Tree.{argument_of, call_of, expr_of, exprs, operand_of, query_of};
 ghost use Rattle.jp_tree.specs.Tree.{segment_of, selector_of, slice as slice_tree, subject_of};
 ghost use Rattle.jp_check.specs.Faults.{IsFaultless};

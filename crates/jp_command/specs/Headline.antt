@@ -1,6 +1,7 @@
 -- The headline of jp, sentence by sentence: of documents, queries, nodelists, paths, canonical
 -- texts and refusals, and of what runs answer and write. What is said of an input's bytes has the
--- premise that the input tells them.
+-- premise that the input tells them; what is said of an output's bytes is said where the output
+-- tells them.
 use Rattle.std.specs.Prelude.{◌≡◌, ℕ, ◌≤◌, Bool, true, false, List}
 use Rattle.std.specs.Prelude.{length, Option, Some, Result, Ok, Err}
 use Rattle.std.specs.Io.KnownBytes.{Appends}

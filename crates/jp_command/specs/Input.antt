@@ -22,7 +22,8 @@ module _ {R : Type 0} (remaining : R → Option (List ℕ)) (has_failed : R → 
     pub end : length bytes ≤ document_limit + chunk_size
     pub works : has_failed j ≡ has_failed i
 
-  -- a read failed, and before it came no more bytes than a document may have
+  -- a read failed (the input tells so, and where it told of no failure before, the read is of this
+  -- run), and before it came no more bytes than a document may have
   pub record FailsToRead (i j : R) : Type 0 where
     pub bytes : List ℕ
     pub came : Consumes (remaining i) (remaining j) bytes

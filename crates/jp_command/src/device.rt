@@ -23,7 +23,7 @@ pub trait Source {
     ghost ends_process: { Self → Bool };
 
     /// Reads some bytes to the start of `buffer` and answers how many; 0 only at the end of the
-    /// bytes or for a buffer without room.
+    /// bytes or for a buffer without room. `Failed` where they can't be read.
     fn read(&mut self, buffer: &mut [u8]) -> Result<usize, Failed>
         ensures bound { IfOk result (λ count. count ≤ length buffer.new) }
         ensures bytes { ReadConsumes (remaining self.old) (remaining self.new) result buffer.new }
@@ -48,7 +48,7 @@ pub trait Output {
     ghost has_failed: { Self → Bool };
 
     /// Writes some bytes from the start of `bytes` and answers how many, at least one if there are
-    /// any.
+    /// any. `Failed` where none can be written.
     fn write(&mut self, bytes: &[u8]) -> Result<usize, Failed>
         ensures bound { IfOk result (λ count. count ≤ length bytes.now) }
         ensures some { IfOk result (λ count. 0 < length bytes.now → 0 < count) }
@@ -56,7 +56,7 @@ pub trait Output {
         ensures works { OnOk result (has_failed self.new ≡ has_failed self.old) }
         ensures fails { OnErr result (has_failed self.new ≡ true) };
 
-    /// Hands on what a buffer still holds.
+    /// Hands on what a buffer still holds. `Failed` where it can't be written.
     fn flush(&mut self) -> Result<(), Failed>
         ensures bytes { Keeps (contents self.old) (contents self.new) }
         ensures works { OnOk result (has_failed self.new ≡ has_failed self.old) }

@@ -26,9 +26,9 @@ use std::mem;
 /// before the next node is looked for. `Query` says that the query has more than `QUERY_LIMIT`
 /// bytes (`TextTooLong`) or is refused, `Document` that what was read is no document,
 /// `DocumentTooLarge` that more than `DOCUMENT_LIMIT` bytes came, `Read` and `Write` that the input
-/// or the output failed: a call that fails is not tried again. After `Write` and `NoMemory` a
-/// prefix of the output is written. The document is freed at the end, unless the input is the last
-/// of its process (`Device::last`).
+/// or the output failed: a call that fails is not tried again. `NoMemory` says that memory ran out,
+/// at whatever step. After `Write` and `NoMemory` a prefix of the output is written. The document
+/// is freed at the end, unless the input is the last of its process (`Device::last`).
 pub fn run_eval<R: Source, W: Output>(
     alloc: Global,
     query: &str,

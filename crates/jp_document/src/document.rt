@@ -28,9 +28,9 @@ impl Document {
 
     /// The document that these bytes are. Refused are: bytes that `serde_json` reads no value from,
     /// bytes that are no UTF-8 and deeper nesting than 127 levels among them (`NotJson`); a number
-    /// that is not a whole one of 64 bits (`NotWhole`, with the path of the first in document
-    /// order); where there is none, a list of more than (2^53)-1 items (`ListTooLong`). `NoMemory`
-    /// says nothing of the bytes.
+    /// of that value that is not a whole one of 64 bits (`NotWhole`, with the path of the first in
+    /// document order); where there is none, a list of more than (2^53)-1 items (`ListTooLong`).
+    /// `NoMemory` says nothing of the bytes.
     pub fn read(alloc: Global, bytes: &[u8]) -> Result<Document, DocumentFault>
         ensures ok { IfOk result (λ d. IsDocument bytes.now (document_of d)) }
         ensures fault { IfErr result (IsDocumentFault bytes.now) }

@@ -8,10 +8,10 @@ use std::alloc::AllocError;
 #[derive(Debug, PartialEq, Drop)]
 pub enum DocumentFault {
     /// They hold no JSON value, or more than one, or a number too large for a float of 64 bits, or
-    /// are no UTF-8, or nest deeper than 127 levels.
+    /// the escape of half a surrogate pair, or are no UTF-8, or nest deeper than 127 levels.
     NotJson,
-    /// Some number is not a whole one of 64 bits. It holds the normalized path of the first such
-    /// number, in document order.
+    /// Some number of the value is not a whole one of 64 bits. It holds the normalized path of the
+    /// first such number, in document order.
     NotWhole(String),
     /// Every number is whole, and some list has more than (2^53)-1 items.
     ListTooLong,

@@ -12,8 +12,8 @@
 //!
 //! For the layer above: `read` accepts exactly the documents and names the first number that is no
 //! whole one; each node that these calls give stands in its document, with the document's own
-//! value; paths and texts are exact, and `read_path` accepts exactly the normalized paths, of which
-//! no two locations have the same.
+//! value; paths and texts are exact, and `read_path` accepts exactly the normalized paths without
+//! an index above (2^53)-1, of which no two locations have the same.
 #![tactic(auto)]
 
 mod characters;

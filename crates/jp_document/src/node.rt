@@ -1,6 +1,6 @@
 //! Nodes (RFC 9535 section 1.1): a location with the value that stands there, both borrowed from
 //! the document.
-ghost use Rattle.std.specs.Prelude.{◌≡◌, ℕ, [], ◌∷◌, ◌++◌, map, option_map, IfOk};
+ghost use Rattle.std.specs.Prelude.{◌≡◌, [], ◌∷◌, ◌++◌, map, option_map, IfOk};
 ghost use Rattle.jp_document.specs.Location.{named, nth};
 ghost use Rattle.jp_document.specs.Node.{IsNodeAt, StandsIn, child_of, node_of};
 ghost use Rattle.jp_document.specs.Value.{Value, IsDocumentValue, value_of};

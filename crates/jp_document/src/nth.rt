@@ -1,5 +1,5 @@
 //! Child nodes by their positions in document order.
-ghost use Rattle.std.specs.Prelude.{◌≡◌, ℕ, ◌<◌, Some, IfOk, IfSome, OnSome};
+ghost use Rattle.std.specs.Prelude.{◌≡◌, ◌<◌, Some, IfOk, IfSome, OnSome};
 ghost use Rattle.std.specs.Prelude.{length, map, option_map, slice_get};
 ghost use Rattle.jp_document.specs.Location.{entries};
 ghost use Rattle.jp_document.specs.Node.{StandsIn, children, entry_of, node_of};
@@ -11,7 +11,8 @@ use crate::node::Node;
 use crate::value::{Json, Member};
 use std::alloc::{AllocError, Global};
 
-/// How many children the node has: a list has its items, an object its members, other values none.
+/// How many children the node has (RFC 9535 section 1.1): a list has its items, an object its
+/// members, other values none.
 pub fn child_count(node: &Node) -> usize
     ensures { result ≡ length (children (node_of node.now)) }
 {
@@ -22,8 +23,8 @@ pub fn child_count(node: &Node) -> usize
     }
 }
 
-/// The child at this position in document order, from 0, None where the node has no more children.
-/// The only error is that memory ran out.
+/// The child at this position in document order (RFC 9535 section 1.1), from 0, None where the node
+/// has no more children. The only error is that memory ran out.
 pub fn nth_child<'d>(
     alloc: Global,
     node: &Node<'d>,

@@ -17,8 +17,8 @@ pub fn path_text(alloc: Global, location: &[Step]) -> Result<String, AllocError>
     Ok(text)
 }
 
-/// A text between single quotes, spelled as a name in a normalized path. The only error is that
-/// memory ran out.
+/// A text between single quotes, spelled as a name in a normalized path (RFC 9535 section 2.7). The
+/// only error is that memory ran out.
 pub fn quote(alloc: Global, text: &str) -> Result<String, AllocError>
     ensures { IfOk result (λ s. string_bytes s ≡ quoted text.now) }
 {
@@ -27,15 +27,16 @@ pub fn quote(alloc: Global, text: &str) -> Result<String, AllocError>
     Ok(quoted)
 }
 
-/// Appends a text between single quotes, spelled as a name in a normalized path. Where memory runs
-/// out, a part of it may stand there.
+/// Appends a text between single quotes, spelled as a name in a normalized path (RFC 9535 section
+/// 2.7). Where memory runs out, a part of it may stand there.
 pub fn push_quote(out: &mut String, text: &str) -> Result<(), AllocError>
     ensures { OnOk result (string_bytes out.new ≡ string_bytes out.old ++ quoted text.now) }
 {
     push_quoted(out, text, b'\'')
 }
 
-/// Appends the normalized path of a location. Where memory runs out, a part of it may stand there.
+/// Appends the normalized path of a location (RFC 9535 section 2.7). Where memory runs out, a part
+/// of it may stand there.
 pub fn push_path(out: &mut String, location: &[Step]) -> Result<(), AllocError>
     ensures { OnOk result
         (string_bytes out.new ≡ string_bytes out.old ++ path_of (map key_of location.now)) }
@@ -59,7 +60,7 @@ pub(crate) fn owned_path_text(alloc: Global, location: &[OwnedStep]) -> Result<S
 }
 
 /// Appends one step of a normalized path.
-pub(crate) fn push_step(out: &mut String, step: Step) -> Result<(), AllocError>
+fn push_step(out: &mut String, step: Step) -> Result<(), AllocError>
     ensures { OnOk result
         (string_bytes out.new ≡ string_bytes out.old ++ step_text (key_of step.entry)) }
 {

@@ -1,6 +1,6 @@
 //! How texts are spelled between quotes.
 ghost use Rattle.std.specs.Prelude.{◌≡◌, ◌<◌, ◌≤◌, ◌++◌, ◌∷◌, [], true, false, length};
-ghost use Rattle.std.specs.Prelude.{take, slice_index, string_bytes, IsTrue, OnOk};
+ghost use Rattle.std.specs.Prelude.{take, slice_index, string_bytes, OnOk};
 ghost use Rattle.std.specs.List.{flat_map};
 ghost use Rattle.jp_document.specs.Spelling.{spelling, quoted_in, hex_digit, control};
 

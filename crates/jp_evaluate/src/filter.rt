@@ -2,7 +2,7 @@
 //! it.
 ghost use Rattle.std.specs.Prelude.{◌≡◌, ◌∷◌, [], IfOk, MatchOption, map};
 ghost use Rattle.jp_document.specs.DocumentValue.{lent_value};
-ghost use Rattle.jp_tree.specs.Tree.{expr_of, exprs, operand_of, query_of, subject_of};
+ghost use Rattle.jp_tree.specs.Tree.{expr_of, exprs, operand_of, query_of};
 ghost use Rattle.jp_select.specs.Comparable.{comparable_of};
 ghost use Rattle.jp_evaluate.specs.Private.Reached.{all_true, any_true, is_reached, query_reaches};
 ghost use Rattle.jp_evaluate.specs.Private.Reached.{side, truth};

@@ -1,7 +1,7 @@
 //! Nodelists, and nodes one at a time. Other rows are in jp_command's table.
 use crate::{evaluate, nodes};
 use jp_check::read_query;
-use jp_document::{Document, path_text};
+use jp_document::{Document, path_text, value_text};
 use jp_match::Marks;
 use std::alloc::Global;
 use std::test::Fail;
@@ -30,6 +30,12 @@ fn nodelists(rt: HostRuntime) -> Result<(), Fail> {
             " $['a'][0] $['a'][1] $['a'][2] $['o']['j'] $['o']['k']",
         ),
         (b"[[[3],[4]],[[5]],6]", "$[?@..[?@==5]]", " $[1]"),
+        (
+            NESTED,
+            "$..*",
+            " $['a'] $['o'] $['a'][0] $['a'][1] $['a'][2] $['a'][2][0] $['a'][2][1] \
+                $['a'][2][0]['j'] $['a'][2][1]['k'] $['o']['j'] $['o']['k']",
+        ),
     ] {
         assert_eq!(rt; nodelist(alloc, document, query)?.as_str(), paths);
     }
@@ -46,6 +52,13 @@ fn nodes_one_at_a_time(rt: HostRuntime) -> Result<(), Fail> {
         let node = some.next().ok_or("no node")??;
         assert_eq!(rt; path_text(alloc, node.location())?.as_str(), path);
     }
+    drop(some);
+    let root = document.root(alloc);
+    let whole = value_text(alloc, root.value())?;
+    assert_eq!(rt;
+        whole.as_str(),
+        r#"{"a":[5,3,[{"j":4},{"k":6}]],"o":{"j":1,"k":2}}"#
+    );
     Ok(())
 }
 

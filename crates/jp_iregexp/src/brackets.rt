@@ -1,6 +1,6 @@
 //! Categories and classes as texts (RFC 9485, section 3).
 
-ghost use Rattle.std.specs.Prelude.{◌≡◌, IfOk};
+ghost use Rattle.std.specs.Prelude.{◌≡◌};
 ghost use Rattle.jp_reading.specs.Outcome.{took};
 ghost use Rattle.jp_reading.specs.Views.{Gives, with_prefix};
 ghost use Rattle.jp_iregexp.specs.Tree.{class};

@@ -37,6 +37,9 @@ fn ends_either(parts: &[Pattern], row: &[bool], entered: bool) -> bool
     requires few { length row.now ≤ 4096 }
     ensures { Ends (unrolled (branches (map tree parts.now))) entered row.now result }
 {
+    if let [only] = parts {
+        return ends(only, row, entered);
+    }
     let mut ended = false;
     let mut at = 0;
     for branch in parts {
@@ -54,6 +57,9 @@ fn ends_sequence(parts: &[Pattern], row: &[bool], entered: bool) -> bool
     requires few { length row.now ≤ 4096 }
     ensures { Ends (unrolled (pieces (map tree parts.now))) entered row.now result }
 {
+    if let [only] = parts {
+        return ends(only, row, entered);
+    }
     let mut through = entered;
     let mut at = 0;
     for piece in parts {

@@ -1,6 +1,6 @@
 //! What is known of the parts of a pattern before its places are followed.
 
-ghost use Rattle.std.specs.Prelude.{◌≡◌, ◌≤◌, IfOk, map};
+ghost use Rattle.std.specs.Prelude.{◌≤◌, IfOk, map};
 ghost use Rattle.jp_iregexp.specs.Tree.{tree};
 ghost use Rattle.jp_iregexp.specs.Language.{Language};
 ghost use Rattle.jp_match.specs.Private.Rows.{AreRows, AreKnown, EachKnown, marks_of, rows_of};

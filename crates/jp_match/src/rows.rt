@@ -1,6 +1,6 @@
 //! What is reached from each place alone.
 
-ghost use Rattle.std.specs.Prelude.{◌≡◌, ◌≤◌, ◌<◌, ℕ, [], OnOk, length, get_or};
+ghost use Rattle.std.specs.Prelude.{◌≡◌, ◌<◌, ℕ, [], OnOk, length, get_or};
 ghost use Rattle.jp_match.specs.Private.Rows.{IsUnion, marks_of, rows_of};
 
 use crate::places::{Places, clear, copy_of, unite};

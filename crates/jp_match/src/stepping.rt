@@ -1,6 +1,6 @@
 //! A step of a scan over one character.
 
-ghost use Rattle.std.specs.Prelude.{◌≡◌, ◌↔◌, ℕ, ◌+◌, ◌*◌, ◌/◌, ◌≤◌, ◌<◌, IsTrue, length, map};
+ghost use Rattle.std.specs.Prelude.{◌≡◌, ◌+◌, ◌*◌, ◌/◌, ◌≤◌, ◌<◌, length, map};
 ghost use Rattle.std.specs.Prelude.{Some, None, false};
 ghost use Rattle.jp_iregexp.specs.Tree.{tree, branches, pieces, repeat};
 ghost use Rattle.jp_iregexp.specs.Positions.{positions_of};
@@ -273,6 +273,6 @@ fn step_plus(inner: &Pattern, row: &mut [bool], entered: bool, c: char, tests: &
     ensures counted { tests.new ≤ tests.old + length row.old }
     ensures kept { tests.old ≤ tests.new }
 {
-    let again = ends(inner, row, false);
-    step(inner, row, entered | again, c, tests)
+    let again = entered || ends(inner, row, false);
+    step(inner, row, again, c, tests)
 }

@@ -102,8 +102,8 @@ module _ (Inner : Nested → Form) where
     query_test : (q : QueryTree) → e ≡ exists q → InnerQuery q s o t → Test e s o t
     function_test : (c : CallTree) → e ≡ call_test c → FunctionCall c s o t → Test e s o t
 
-  -- basic-expr (section 2.3.5.1) that is no test without a `!`: an expression in parentheses, a
-  -- comparison, or a test; only the first and the last may have a `!`
+  -- basic-expr (section 2.3.5.1) that is no test without a `!`: an expression in parentheses, which
+  -- may have a `!`, a comparison, or a test with a `!`
   pub data Composed (e : ExprTree) (s : Spans) (o : ℕ) (t : Text) : Type 0 where
     grouped : Parenthesis e s o t → Composed e s o t
     not_grouped : (inner : ExprTree) → e ≡ negation inner

@@ -32,7 +32,7 @@ pub(crate) fn begins_int(next: Option<char>) -> bool
 
 /// A whole number (RFC 9535 section 2.3.3.1, int).
 #[tactic(auto, using(crate::proofs::CappedIntegers::sizes), unfolding(crate::specs::Private::Rules::int))]
-pub(crate) fn int(reader: &mut Reader) -> Result<Numeral, Stop>
+fn int(reader: &mut Reader) -> Result<Numeral, Stop>
     ensures { Gives (λ x. x) result reader.new (read_flat rules.int reader.old) }
 {
     if reader.is_at('-') {

@@ -1,6 +1,6 @@
 //! Why a query is refused, and where.
 
-ghost use Rattle.std.specs.Prelude.{◌≡◌, codes};
+ghost use Rattle.std.specs.Prelude.{◌≡◌};
 ghost use Rattle.jp_query.specs.Refusal.{number_of, name_of};
 
 use jp_reading::Stop;

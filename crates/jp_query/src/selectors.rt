@@ -1,6 +1,6 @@
 //! Selectors (RFC 9535 section 2.3), and what stands between brackets (section 2.5.1.1).
 
-ghost use Rattle.std.specs.Prelude.{◌≡◌, map};
+ghost use Rattle.std.specs.Prelude.{map};
 ghost use Rattle.jp_reading.specs.Views.{Gives};
 ghost use Rattle.jp_tree.specs.Tree.{selector_of};
 ghost use Rattle.jp_query.specs.Private.Rules as rules;

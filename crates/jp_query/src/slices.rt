@@ -1,6 +1,5 @@
 //! Slices (RFC 9535 section 2.3.4).
 
-ghost use Rattle.std.specs.Prelude.{◌≡◌};
 ghost use Rattle.jp_reading.specs.Views.{Gives};
 ghost use Rattle.jp_query.specs.Private.Rules as rules;
 ghost use Rattle.jp_query.specs.Private.Reading.{read_flat};

@@ -1,7 +1,6 @@
 //! Digits and the numbers that they write.
 
 ghost use Rattle.std.specs.Prelude.{◌≡◌, ◌+◌, ◌≤◌, IfOk, IfErr, IsTrue};
-ghost use Rattle.jp_reading.specs.Outcome.{head, passes};
 ghost use Rattle.jp_reading.specs.Numbers.{is_digit, is_at_digit, digit_at, digits_at, capped};
 ghost use Rattle.jp_reading.specs.Views.{Gives, by};
 

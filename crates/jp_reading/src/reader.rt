@@ -60,7 +60,7 @@ pub struct Reader<'t> {
 }
 
 impl<'t> Model for Reader<'t> {
-    ghost use Rattle.std.specs.Prelude.{ℕ, ◌+◌, ◌^◌, ◌<◌, length};
+    ghost use Rattle.std.specs.Prelude.{◌+◌, ◌^◌, ◌<◌, length};
     ghost use Rattle.std.specs.Str.{chars};
     ghost use Rattle.jp_reading.specs.Outcome.{State};
 
@@ -160,10 +160,12 @@ impl<'t> Reader<'t> {
     }
 
     /// Takes the next character, which has to be of this class: else, also at the text's end, the
-    /// answer is `Syntax` at the byte where the reader stands.
+    /// answer is `Syntax` at the byte where the reader stands, and it stays.
     pub fn take_one_of<C: CharacterClass>(&mut self, class: C) -> Result<char, Stop>
         ensures taken { Gives (λ c. c) result self.new (take_if (C.holds class) self.old) }
         ensures member { IfOk result (λ c. C.holds class c ≡ true) }
+        ensures refused { IfErr result
+            (λ stop. (stop ≡ Stop.Syntax self.old.at) × (self.new ≡ self.old)) }
     {
         match self.peek() {
             Some(next) if class.contains(next) => {

@@ -8,7 +8,8 @@ use jp_document::Json;
 use jp_tree::Op;
 
 /// Whether `left == right`, where None is Nothing: Nothing equals only Nothing, and values are
-/// equal where they are the same (RFC 9535 section 2.3.5.2.2).
+/// equal where they are the same (RFC 9535 section 2.3.5.2.2). Members are compared in order: their
+/// names rise, as in every document.
 pub fn equal(left: Option<&Json>, right: Option<&Json>) -> bool
     ensures value { result ≡ equals (side_of left.entry) (side_of right.entry) }
     ensures same { IsTrue result ↔ (side_of left.entry ≡ side_of right.entry) }
@@ -24,7 +25,8 @@ pub fn less(left: Option<&Json>, right: Option<&Json>) -> bool
     Comparable::of(left).is_less(Comparable::of(right))
 }
 
-/// Whether the comparison `left op right` is true (RFC 9535 section 2.3.5.2.2).
+/// Whether the comparison `left op right` is true (RFC 9535 section 2.3.5.2.2). The members of both
+/// stand in the order of their names, as in every document.
 pub fn compare(op: Op, left: Comparable, right: Comparable) -> bool
     ensures { result ≡ compared op (comparable_of left.entry) (comparable_of right.entry) }
 {

@@ -25,7 +25,8 @@ pub fn descend<'d>(alloc: Global, node: Node<'d>) -> Result<Vec<Node<'d>>, Alloc
 }
 
 /// A walk over a node and its descendants in document order, to be taken node by node. It takes no
-/// memory before the first node is asked for, and its own memory follows the depth of the walk.
+/// memory before the first node is asked for. It keeps the nodes on the way to the one given last,
+/// each with a location of its own, so its memory follows the square of the depth.
 pub fn descend_each<'d>(alloc: Global, node: Node<'d>) -> Descent<'d>
     ensures working { result.failed ≡ false }
     ensures values { rest_of result ≡ subtree_of (node_of node.entry) }
@@ -108,6 +109,8 @@ impl<'d> Iterator for Descent<'d> {
 
     ghost remaining = { λ descent. at_most (if descent.failed then 0 else length (rest_of descent) + 1) };
 
+    /// The next node in document order, or an error where there is no memory for it, after which
+    /// there are no more; None at the end.
     fn next(&mut self) -> Option<Result<Node<'d>, AllocError>> {
         if self.failed {
             return None;

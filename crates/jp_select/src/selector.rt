@@ -1,5 +1,5 @@
 //! What a plain selector selects at a node (RFC 9535 section 2.3).
-ghost use Rattle.std.specs.Prelude.{◌≡◌, IfOk, OnOk, map, ◌++◌, ◌∷◌, []};
+ghost use Rattle.std.specs.Prelude.{◌≡◌, IfOk, map, ◌++◌, ◌∷◌, []};
 ghost use Rattle.jp_document.specs.DocumentValue.{lent_value};
 ghost use Rattle.jp_document.specs.Location.{key_of};
 ghost use Rattle.jp_document.specs.Node.{AreNodes, StandsIn, node_of};

@@ -4,26 +4,44 @@ use super::devices::{Blanks, Drip, Narrow, Trickle};
 use super::table::names::{IN_QUOTES, NAMES};
 use crate::{Device, Fault, Form, Output, Source, run_canon, run_check, run_eval};
 use jp_query::{Refusal, RefusalKind};
+use std::alloc::Global;
+use std::process::Abort;
 
 /// What `IN_QUOTES` gives over `NAMES`.
 const LINE: &str = "$['\\'']['@']\t2\n";
 
 #[test]
+fn tells_no_failure_where_none_came(rt: HostRuntime) {
+    let mut trickle = Trickle::new(NAMES.as_bytes(), 1);
+    let mut drip = Drip::new(rt.alloc(), 1);
+    let mut input = Device::new(&mut trickle);
+    let mut output = Device::new(&mut drip);
+    let run = run_eval(rt.alloc(), IN_QUOTES, Form::Both, &mut input, &mut output);
+    let failed = (input.failed(), output.failed());
+    assert_eq!(rt; (run, failed), (Ok(()), (false, false)));
+    assert_eq!(rt; drip.taken.as_slice(), LINE.as_bytes());
+}
+
+#[test]
 fn tells_each_write_that_fails(rt: HostRuntime) {
-    let alloc = rt.alloc();
     for taken in 0..LINE.len() {
-        for takes_none in [false, true] {
-            let mut drip = Drip::new(alloc, 1);
-            drip.failing = taken.saturating_add(1);
-            drip.takes_none = takes_none;
-            let mut output = Device::new(&mut drip);
-            let mut input = Device::new(NAMES.as_bytes());
-            let run = run_eval(alloc, IN_QUOTES, Form::Both, &mut input, &mut output);
-            let failed = (input.failed(), output.failed());
-            assert_eq!(rt; (run, failed), (Err(Fault::Write), (false, true)));
-            assert!(rt; LINE.as_bytes().get(..taken) == Some(drip.taken.as_slice()));
-        }
+        assert_write_fails(&rt, rt.alloc(), taken, false);
+        assert_write_fails(&rt, rt.alloc(), taken, true);
     }
+}
+
+/// Asserts that a run whose output has taken so many bytes, and whose next write fails or takes
+/// none, tells so and leaves these bytes.
+fn assert_write_fails(rt: &impl Abort, alloc: Global, taken: usize, takes_none: bool) {
+    let mut drip = Drip::new(alloc, 1);
+    drip.failing = taken.saturating_add(1);
+    drip.takes_none = takes_none;
+    let mut output = Device::new(&mut drip);
+    let mut input = Device::new(NAMES.as_bytes());
+    let run = run_eval(alloc, IN_QUOTES, Form::Both, &mut input, &mut output);
+    let failed = (input.failed(), output.failed());
+    assert_eq!(rt; (run, failed), (Err(Fault::Write), (false, true)));
+    assert!(rt; LINE.as_bytes().get(..taken) == Some(drip.taken.as_slice()));
 }
 
 #[test]

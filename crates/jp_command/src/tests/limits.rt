@@ -1,6 +1,7 @@
 //! The limits: of a query's length, of a document's, and of levels in a query.
 
 use super::devices::Blanks;
+use super::prefixes;
 use super::rows::Answer::{Canonical, Nodes, Query};
 use super::rows::{Answer, assert_ended, assert_gives};
 use super::texts::nested;
@@ -118,6 +119,9 @@ fn nests_parentheses_and_calls_64_deep(rt: HostRuntime) -> Result<(), Fail> {
     for (opening, count, inside, answer) in NESTED {
         let query = nested(alloc, ("$[?", opening, *count, inside), (")", "]"))?;
         assert_gives(&rt, alloc, ("[]", query.as_str()), *answer, 999)?;
+        if let Nodes(_) = answer {
+            prefixes::are_accepted_or_end(&rt, alloc, query.as_str());
+        }
     }
     Ok(())
 }

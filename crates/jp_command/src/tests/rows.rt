@@ -24,8 +24,8 @@ pub enum Answer {
     Document(&'static str),
 }
 
-/// Runs each row. Where one gives nodes, no prefix of its query is refused but at its end, and no
-/// proper prefix of its document is a document.
+/// Runs each row. No prefix of a query that is accepted is refused but at its end, and where a row
+/// gives nodes, no proper prefix of its document is a document.
 pub fn gives_each(rt: &impl Abort, alloc: Global, rows: &[Row]) -> Result<(), Fail> {
     for (document, query, answer) in rows {
         gives_in_pieces(rt, alloc, (document, query), *answer)?;
@@ -34,7 +34,11 @@ pub fn gives_each(rt: &impl Abort, alloc: Global, rows: &[Row]) -> Result<(), Fa
                 prefixes::are_accepted_or_end(rt, alloc, query);
                 prefixes::are_no_documents(rt, alloc, document);
             }
-            Answer::Canonical(text) => gives_in_pieces(rt, alloc, (document, text), *answer)?,
+            Answer::Canonical(text) => {
+                prefixes::are_accepted_or_end(rt, alloc, query);
+                prefixes::are_accepted_or_end(rt, alloc, text);
+                gives_in_pieces(rt, alloc, (document, text), *answer)?;
+            }
             Answer::Query(_) | Answer::Document(_) => {}
         }
     }

@@ -141,6 +141,14 @@ fn no_json(rt: HostRuntime) {
     }
 }
 
+#[test]
+fn fault_numbers(rt: HostRuntime) {
+    for (bytes, number) in [(b"[1,]".as_slice(), 1), (b"[1.5]", 2)] {
+        let fault = fault(rt.alloc(), bytes);
+        assert_eq!(rt; fault.map(|fault| fault.number()), Some(number));
+    }
+}
+
 /// A list in a list, so many in all.
 fn lists(alloc: Global, count: usize) -> Result<String, AllocError> {
     let (opened, closed) = ("[".repeat(alloc, count)?, "]".repeat(alloc, count)?);

@@ -82,6 +82,7 @@ fn paths_with_large_indexes(rt: HostRuntime) {
     for text in ["$[9007199254740992]", "$[99999999999999999999]['a'][0]"] {
         let fault = read_path(rt.alloc(), text).err();
         assert_eq!(rt; fault, Some(PathFault::IndexRange), "{text}");
+        assert_eq!(rt; fault.map(|fault| fault.number()), Some(2));
     }
 }
 

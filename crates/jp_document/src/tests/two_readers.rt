@@ -2,7 +2,7 @@
 //! what that way leaves by `serde_json`: an object, say, that has a fraction under a name that
 //! comes again, and with it the whole document.
 use super::documents::compact;
-use crate::{Document, Step, value_text};
+use crate::{Document, DocumentFault, Step, value_text};
 use std::alloc::{AllocError, Global};
 use std::test::Fail;
 
@@ -55,8 +55,10 @@ fn names_that_fall(rt: HostRuntime) -> Result<(), Fail> {
 #[test]
 fn no_documents_by_either_way(rt: HostRuntime) -> Result<(), Fail> {
     for text in ["-0", "1e3", "18446744073709551616", "-9223372036854775809"] {
-        assert!(rt;
-            Document::read(rt.alloc(), text.as_bytes()).is_err(),
+        let root = DocumentFault::NotWhole(String::from_str(rt.alloc(), "$")?);
+        assert_eq!(rt;
+            Document::read(rt.alloc(), text.as_bytes()).err(),
+            Some(root),
             "{text}"
         );
     }

@@ -216,11 +216,19 @@ step_sequence a b c entered before x y p q long ha hb = let at = beside a x y lo
   ends = ends_sequence a b entered before p q ha.ends hb.ends;
 }
 
+-- where the repeat is not entered, a round may begin where one has ended
+pub by_round : (a : Plain) (entered again : Bool) (before : List Bool) → entered ≡ false →
+    Ends a false before again → IsTrue again ↔ (IsTrue entered ⊎ Rest a before [])
+by_round a entered again before e probe = (
+  λ h. elim (probe.is.0 h) [ inl r ↦ inr r | inr w ↦ absurd (let f = w.0 in cc) ],
+  λ h. elim h [ inl f ↦ absurd (cc) | inr r ↦ probe.is.1 (inl r) ],
+)
+
 -- a round may begin where the repeat is entered or where a round has ended
 pub step_plus : (a : Plain) (c : ℕ) (entered again : Bool) (before after : List Bool) (p : Bool) →
-    Ends a false before again →
-    Steps a c (entered || again) before after p → Steps (plus a) c entered before after p
-step_plus a c entered again before after p probe ha = record {
+    IsTrue again ↔ (IsTrue entered ⊎ Rest a before []) → Steps a c again before after p →
+    Steps (plus a) c entered before after p
+step_plus a c entered again before after p may ha = record {
   left = λ word. (
     λ j. elim ((ha.left j.prefix).0 j.first) [
       | inl s ↦ inl (cons_joined (Rest a before) (Star (Words a)) c word (record {
@@ -239,9 +247,9 @@ step_plus a c entered again before after p probe ha = record {
             first = w.1;
             second = more;
           }) in
-          elim ((or_is entered again).0 w.0) [
+          elim (may.0 w.0) [
             | inl e ↦ inr (e, (k, words))
-            | inr e ↦ inl (nil_before (Rest a before) (Star (Words a)) (c ∷ word) (ended e) (
+            | inr r ↦ inl (nil_before (Rest a before) (Star (Words a)) (c ∷ word) r (
               suc k,
               words,
             ))
@@ -249,7 +257,7 @@ step_plus a c entered again before after p probe ha = record {
     ],
     λ h. elim h [
       | inl j ↦ elim (joined_cons (Rest a before) (Star (Words a)) c word j) [
-        | inl n ↦ round word ((or_is entered again).1 (inr (probe.is.1 (inl n.0)))) n.1.0 n.1.1
+        | inl n ↦ round word (may.1 (inr n.0)) n.1.0 n.1.1
         | inr k ↦ record {
           prefix = k.prefix;
           suffix = k.suffix;
@@ -259,15 +267,12 @@ step_plus a c entered again before after p probe ha = record {
           second = k.second;
         }
       ]
-      | inr w ↦ round word ((or_is entered again).1 (inl w.0)) (suc w.1.0) w.1.1
+      | inr w ↦ round word (may.1 (inl w.0)) (suc w.1.0) w.1.1
     ],
   );
   ends = plus_ends;
 } where
-  ended : IsTrue again → Rest a before []
-  ended e = elim (probe.is.0 e) [ inl r ↦ r | inr w ↦ absurd (let f = w.0 in cc) ]
-
-  round : (word : List ℕ) → IsTrue (entered || again) → (k : ℕ) → Power (Words a) k (c ∷ word) →
+  round : (word : List ℕ) → IsTrue again → (k : ℕ) → Power (Words a) k (c ∷ word) →
       Rest (plus a) after word
   round word e k words =
       let j = power_cons (Words a) k c word words in
@@ -287,18 +292,18 @@ step_plus a c entered again before after p probe ha = record {
     is = (
       λ t. elim (ha.ends.is.0 t) [
         | inl r ↦ inl r
-        | inr w ↦ elim ((or_is entered again).0 w.0) [
+        | inr w ↦ elim (may.0 w.0) [
           | inl e ↦ inr (
             e,
             w.1,
           )
-          | inr e ↦ inl (ended e)
+          | inr r ↦ inl r
         ]
       ],
       λ t. ha.ends.is.1 (elim t [
         | inl r ↦ inl r
         | inr w ↦ inr (
-          (or_is entered again).1 (inl w.0),
+          may.1 (inl w.0),
           w.1,
         )
       ]),

@@ -589,3 +589,22 @@ steps_only_piece a c entered p before after sized long step =
       arith,
       size_unrolled a,
     )) here (step_empty c p (drop (size (unrolled a)) before) []))
+
+pub ends_only_branch : (a : Tree) (entered p : Bool) (row : List Bool) →
+    length row ≡ positions_of a → Ends (unrolled a) entered row p →
+    Ends (unrolled (branches (a ∷ []))) entered row p
+unfolding unrolled
+ends_only_branch a entered p row sized h =
+    let all = take_all (size (unrolled a)) row (omega (arith, size_unrolled a)) in
+    subst (λ q. Ends (either (unrolled a) nothing) entered row q) (or_false p)
+    (ends_either (unrolled a) nothing entered row p false (rw all h) (ends_nothing entered
+    (drop (size (unrolled a)) row)))
+
+pub ends_only_piece : (a : Tree) (entered p : Bool) (row : List Bool) →
+    length row ≡ positions_of a → Ends (unrolled a) entered row p →
+    Ends (unrolled (pieces (a ∷ []))) entered row p
+unfolding unrolled
+ends_only_piece a entered p row sized h =
+    let all = take_all (size (unrolled a)) row (omega (arith, size_unrolled a)) in
+    ends_sequence (unrolled a) empty entered row p p (rw all h) (ends_empty p (drop (size (unrolled
+    a)) row))

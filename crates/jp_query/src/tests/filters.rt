@@ -72,3 +72,15 @@ fn functions_and_their_arguments_have_spans(rt: HostRuntime) -> Result<(), Fail>
     assert_eq!(rt; parsed.spans(), spans.as_slice());
     Ok(())
 }
+
+#[test]
+fn parentheses_are_kept_in_trees(rt: HostRuntime) -> Result<(), Fail> {
+    let grouped = parse(rt.alloc(), "$[?(@.a||@.b)||@.c]")
+        .ok()
+        .ok_or("refused")?;
+    let flat = parse(rt.alloc(), "$[?@.a||@.b||@.c]")
+        .ok()
+        .ok_or("refused")?;
+    assert!(rt; grouped.into_query() != flat.into_query());
+    Ok(())
+}

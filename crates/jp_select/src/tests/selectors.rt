@@ -42,16 +42,16 @@ fn slice(start: Option<i128>, end: Option<i128>, step: i128) -> Selector {
     })
 }
 
+/// The paths of `NESTED`, in document order.
+const PATHS: &str = " $ $['a'] $['a'][0] $['a'][1] $['a'][2] $['a'][2][0] $['a'][2][0]['j'] \
+    $['a'][2][1] $['a'][2][1]['k'] $['o'] $['o']['j'] $['o']['k']";
+
 #[test]
 fn descendants(rt: HostRuntime) -> Result<(), Fail> {
     let alloc = rt.alloc();
     let document = Document::read(alloc, NESTED)?;
     let nodes = descend(alloc, document.root(alloc))?;
-    assert_eq!(rt;
-        paths(alloc, &nodes)?.as_str(),
-        " $ $['a'] $['a'][0] $['a'][1] $['a'][2] $['a'][2][0] $['a'][2][0]['j'] \
-            $['a'][2][1] $['a'][2][1]['k'] $['o'] $['o']['j'] $['o']['k']"
-    );
+    assert_eq!(rt; paths(alloc, &nodes)?.as_str(), PATHS);
     Ok(())
 }
 
@@ -60,10 +60,14 @@ fn descendants_one_at_a_time(rt: HostRuntime) -> Result<(), Fail> {
     let alloc = rt.alloc();
     let document = Document::read(alloc, NESTED)?;
     let mut walk = descend_each(alloc, document.root(alloc));
-    for path in ["$", "$['a']"] {
-        let node = walk.next().ok_or("no node")??;
-        assert_eq!(rt; path_text(alloc, node.location())?.as_str(), path);
+    let mut nodes = Vec::new(alloc);
+    while let Some(node) = walk.next() {
+        nodes.push(node?)?;
     }
+    assert_eq!(rt;
+        (paths(alloc, &nodes)?.as_str(), walk.failed()),
+        (PATHS, false)
+    );
     Ok(())
 }
 

@@ -16,6 +16,11 @@ const QUERIES: &[Row] = &[
     ("[1", "$", Document("NotJson")),
     ("1 2", "$", Document("NotJson")),
     ("[8.95]", "$", Document("NotWhole")),
+    (
+        r#"{"store":{"bicycle":{"color":"red","price":399},"book":[{"title":"A","price":8.95}]}}"#,
+        "$",
+        Document("NotWhole"),
+    ),
     ("[1e2]", "$[0]", Document("NotWhole")),
     ("[1.5]", "$", Document("NotWhole")),
     ("1", "$.a x", Query("Syntax at 4")),

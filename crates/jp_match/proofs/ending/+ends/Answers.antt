@@ -9,12 +9,12 @@ use Rattle.jp_match.specs.Private.Plain.{unrolled, counted}
 use Rattle.jp_match.proofs.Patterns.Variants.{either_is, sequence_is, repeat_is}
 use Rattle.jp_match.proofs.Steps.EmptyWords.{step_empty_row, by_entered, not_entered}
 use Rattle.jp_match.proofs.Steps.EndParts.{ends_class}
-use Rattle.jp_match.proofs.Patterns.Items.{drop_item, drop_all}
+use Rattle.jp_match.proofs.Patterns.Items.{drop_item, drop_all, only_item}
 use Rattle.jp_match.proofs.Steps.StepParts.{step_nowhere}
 use Rattle.jp_match.proofs.Steps.Turns.{part_is, size_unrolled, ends_next_piece, ends_next_branch}
 use Rattle.jp_match.proofs.Steps.Turns.{ends_end_pieces, ends_end_branches, ends_between}
 use Rattle.jp_match.proofs.Steps.Turns.{ends_between_end, ends_at_least, ends_at_least_end}
-use Rattle.jp_match.proofs.Steps.Turns.{ends_star}
+use Rattle.jp_match.proofs.Steps.Turns.{ends_star, ends_only_branch, ends_only_piece}
 use Rattle.jp_match.proofs.ending.+ends.Goals as goal
 
 pub ends-returns-then-not-is_any : goal.ends-returns-then-not-is_any
@@ -196,3 +196,17 @@ ends_at_least-returns t c =
     (arith, length-drop c.loop.at c.args.row.now)) in
     ends_at_least_end _ _ _ _ _ c.args.least c.loop.counter _ _ c.loop-test.false
     c.loop.invariant.so_far (rw all at c.ends.ensures)
+
+pub ends_either-returns-in-len1 : goal.ends_either-returns-in-len1
+ends_either-returns-in-len1 t c =
+    let only = only_item c.args.parts.now c.only-item.result c.in-len1.len_at_least
+    c.in-len1.len_below c.only-item.is in
+    let sized = rw only at c.requires.sized in
+    rw only (ends_only_branch (tree c.only-item.result) _ _ _ (omega (arith, sized)) c.ends.ensures)
+
+pub ends_sequence-returns-in-len1 : goal.ends_sequence-returns-in-len1
+ends_sequence-returns-in-len1 t c =
+    let only = only_item c.args.parts.now c.only-item.result c.in-len1.len_at_least
+    c.in-len1.len_below c.only-item.is in
+    let sized = rw only at c.requires.sized in
+    rw only (ends_only_piece (tree c.only-item.result) _ _ _ (omega (arith, sized)) c.ends.ensures)

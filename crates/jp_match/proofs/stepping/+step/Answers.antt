@@ -1,5 +1,5 @@
 use Rattle.std.proofs.Common.{ℕ, Bool, min, List, [], ◌∷◌, Vec, Global, ◌≡◌, ◌+◌, ◌-◌, ◌*◌, ◌≤◌}
-use Rattle.std.proofs.Common.{suc, false}
+use Rattle.std.proofs.Common.{suc, false, inl}
 use Rattle.std.proofs.Common.{map, take, drop, get_or, ◌<◌, ◌&&◌, length, refl, sym, ap, ◌∙◌, arith}
 use Rattle.std.proofs.Common.{rules}
 use Rattle.std.proofs.lemmas.List.{length-take, length-drop, length-set}
@@ -18,13 +18,14 @@ use Rattle.jp_match.proofs.Patterns.Variants.{either_is, sequence_is, repeat_is}
 use Rattle.jp_match.proofs.Steps.EmptyWords.{step_empty_row, by_entered, not_entered}
 use Rattle.jp_match.proofs.Patterns.Items.{drop_item, drop_all, only_item}
 use Rattle.jp_match.proofs.Steps.OneClass.{mark_taken, mark_written}
-use Rattle.jp_match.proofs.Steps.StepParts.{step_nowhere, step_plus}
+use Rattle.jp_match.proofs.Steps.StepParts.{step_nowhere, step_plus, by_round}
 use Rattle.jp_match.proofs.Steps.Turns.{Turned, part_is, put_long, turned, size_unrolled}
 use Rattle.jp_match.proofs.Steps.Turns.{steps_next_piece, steps_next_branch, steps_end_pieces}
 use Rattle.jp_match.proofs.Steps.Turns.{steps_end_branches, steps_stop, steps_copy}
 use Rattle.jp_match.proofs.Steps.Turns.{steps_copies_end, steps_at_least, steps_at_least_end}
 use Rattle.jp_match.proofs.Steps.Turns.{steps_star, steps_only_branch, steps_only_piece}
 use Rattle.jp_match.proofs.stepping.+step.Goals as goal
+use Rattle.jp_match.proofs.stepping.+step.Goals.{step_plus-then-entered, step_plus-else-entered}
 
 pub step-returns-then-not-is_any-clause-step : goal.step-returns-then-not-is_any-clause-step
 step-returns-then-not-is_any-clause-step t c =
@@ -350,7 +351,14 @@ step_at_least-returns-clause-step t c =
     arith) long) refl c.loop.invariant.so_far c.step_plus.ensures.step
 
 pub step_plus-returns-clause-step : goal.step_plus-returns-clause-step
-step_plus-returns-clause-step t c = step_plus _ _ _ _ _ _ _ c.ends-again.ensures c.step.ensures.step
+step_plus-returns-clause-step t c = elim c.if-entered.branch [
+  | step_plus-then-entered w ↦ step_plus _ _ _ _ _ _ _ (
+    λ h. inl w.if-entered.true,
+    λ h. w.again-is ∙ w.if-entered.true,
+  ) c.step.ensures.step
+  | step_plus-else-entered w ↦ step_plus _ _ _ _ _ _ _ (rw w.again-is (by_round _ _ _ _
+      w.if-entered.false w.ends-again.ensures)) c.step.ensures.step
+]
 
 -- the only branch is these pieces
 only_pieces : (ps : List Pattern) (p : Pattern) (v : Vec Pattern Global) (qs : List Pattern) →

@@ -1,0 +1,80 @@
+//! Calls that the program `jp` does not make, for `hostile/run`, which refuses them memory.
+//!
+//! Its word is the task for each line of the standard input. `paths` reads the line as a normalized
+//! path and writes its steps or why it is none; `steps` and `no-steps` read it as a pattern and
+//! write whether a scan accepts 100,000 times `ab`, or the empty text.
+#![tactic(auto)]
+
+use jp_document::{OwnedStep, PathFault, read_path};
+use jp_iregexp::{PatternFault, read_pattern};
+use jp_match::{Scan, Tests};
+use std::alloc::Global;
+use std::io::{Error, ErrorKind};
+use std::process::ExitCode;
+use std::{env, io};
+
+fn main(rt: HostRuntime) -> ExitCode {
+    match run(&rt) {
+        Ok(()) => ExitCode::from(0),
+        Err(_) => {
+            let _ = eprintln!(rt; "want of memory");
+            ExitCode::from(4)
+        }
+    }
+}
+
+fn run(rt: &HostRuntime) -> io::Result<()> {
+    let alloc = rt.alloc();
+    let words: Vec<String> = env::args(rt)?.collect(alloc)?;
+    let task = match words.last() {
+        Some(word) => word.as_str(),
+        None => "",
+    };
+    for line in rt.lines(alloc) {
+        let line = line?;
+        let told = match task {
+            "steps" => scanned(alloc, line.as_str(), 100_000)?,
+            "no-steps" => scanned(alloc, line.as_str(), 0)?,
+            _ => steps_of(alloc, line.as_str())?,
+        };
+        println!(rt; "{told}")?;
+    }
+    Ok(())
+}
+
+/// The steps of the path that a text is, or why it is none.
+fn steps_of(alloc: Global, path: &str) -> io::Result<String> {
+    let location = match read_path(alloc, path) {
+        Ok(location) => location,
+        Err(PathFault::NotNormalized) => return Ok(String::from_str(alloc, "NotNormalized")?),
+        Err(PathFault::IndexRange) => return Ok(String::from_str(alloc, "IndexRange")?),
+        Err(PathFault::NoMemory) => return Err(Error::from(ErrorKind::OutOfMemory)),
+    };
+    let mut text = String::from_str(alloc, "steps")?;
+    for step in location.steps() {
+        match step {
+            OwnedStep::Name(name) => write!(text, " {name}")?,
+            OwnedStep::Index(index) => write!(text, " {index}")?,
+        }
+    }
+    Ok(text)
+}
+
+/// Whether a scan of the pattern that a text is accepts so many times `ab`.
+fn scanned(alloc: Global, pattern: &str, count: u32) -> io::Result<String> {
+    let pattern = match read_pattern(alloc, pattern) {
+        Ok(pattern) => pattern,
+        Err(PatternFault::NotConforming) => return Ok(String::from_str(alloc, "NotConforming")?),
+        Err(PatternFault::NoMemory) => return Err(Error::from(ErrorKind::OutOfMemory)),
+    };
+    let Some(mut scan) = Scan::new(alloc, &pattern, false)? else {
+        return Ok(String::from_str(alloc, "no scan")?);
+    };
+    let mut tests = Tests::new();
+    for _ in 0..count {
+        scan.step('a', &mut tests);
+        scan.step('b', &mut tests);
+    }
+    let told = if scan.accepts() { "accepts" } else { "refuses" };
+    Ok(String::from_str(alloc, told)?)
+}
