@@ -59,15 +59,13 @@ fn descendants(rt: HostRuntime) -> Result<(), Fail> {
 fn descendants_one_at_a_time(rt: HostRuntime) -> Result<(), Fail> {
     let alloc = rt.alloc();
     let document = Document::read(alloc, NESTED)?;
-    let mut walk = descend_each(alloc, document.root(alloc));
     let mut nodes = Vec::new(alloc);
-    while let Some(node) = walk.next() {
+    for node in descend_each(alloc, document.root(alloc)) {
         nodes.push(node?)?;
     }
-    assert_eq!(rt;
-        (paths(alloc, &nodes)?.as_str(), walk.failed()),
-        (PATHS, false)
-    );
+    assert_eq!(rt; paths(alloc, &nodes)?.as_str(), PATHS);
+    let mut walk = descend_each(alloc, document.root(alloc));
+    assert!(rt; walk.next().is_some() && !walk.failed());
     Ok(())
 }
 
