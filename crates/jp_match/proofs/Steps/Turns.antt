@@ -553,13 +553,15 @@ ends_star a entered p row h =
     (ends_either empty (plus a) entered row entered p (ends_empty entered []) (ends_plus a entered
     row p h))
 
--- a part takes all marks where they are as many as its positions
+-- a part has all marks where they are as many as its positions
+all_marks : (a : Tree) (row : List Bool) → length row ≡ positions_of a →
+    take (size (unrolled a)) row ≡ row
+all_marks a row sized = take_all (size (unrolled a)) row (omega (arith, size_unrolled a))
+
 all_taken : (a : Tree) (c : ℕ) (entered p : Bool) (before after : List Bool) →
     length before ≡ positions_of a → Steps (unrolled a) c entered before after p →
     Steps (unrolled a) c entered (take (size (unrolled a)) before) after p
-all_taken a c entered p before after sized step =
-    let all = take_all (size (unrolled a)) before (omega (arith, size_unrolled a)) in
-    rw all step
+all_taken a c entered p before after sized step = rw (all_marks a before sized) step
 
 -- the only part takes all the marks
 pub steps_only_branch : (a : Tree) (c : ℕ) (entered p : Bool) (before after : List Bool) →
@@ -594,17 +596,13 @@ pub ends_only_branch : (a : Tree) (entered p : Bool) (row : List Bool) →
     length row ≡ positions_of a → Ends (unrolled a) entered row p →
     Ends (unrolled (branches (a ∷ []))) entered row p
 unfolding unrolled
-ends_only_branch a entered p row sized h =
-    let all = take_all (size (unrolled a)) row (omega (arith, size_unrolled a)) in
-    subst (λ q. Ends (either (unrolled a) nothing) entered row q) (or_false p)
-    (ends_either (unrolled a) nothing entered row p false (rw all h) (ends_nothing entered
-    (drop (size (unrolled a)) row)))
+ends_only_branch a entered p row sized h = subst (λ q. Ends (either (unrolled a) nothing) entered
+    row q) (or_false p) (ends_either (unrolled a) nothing entered row p false (rw (all_marks a row
+    sized) h) (ends_nothing entered (drop (size (unrolled a)) row)))
 
 pub ends_only_piece : (a : Tree) (entered p : Bool) (row : List Bool) →
     length row ≡ positions_of a → Ends (unrolled a) entered row p →
     Ends (unrolled (pieces (a ∷ []))) entered row p
 unfolding unrolled
-ends_only_piece a entered p row sized h =
-    let all = take_all (size (unrolled a)) row (omega (arith, size_unrolled a)) in
-    ends_sequence (unrolled a) empty entered row p p (rw all h) (ends_empty p (drop (size (unrolled
-    a)) row))
+ends_only_piece a entered p row sized h = ends_sequence (unrolled a) empty entered row p p (rw
+    (all_marks a row sized) h) (ends_empty p (drop (size (unrolled a)) row))
