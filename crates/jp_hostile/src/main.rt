@@ -2,7 +2,8 @@
 //!
 //! Its word is the task for each line of the standard input. `paths` reads the line as a normalized
 //! path and writes its steps or why it is none; `steps` and `no-steps` read it as a pattern and
-//! write whether a scan accepts 100,000 times `ab`, or the empty text.
+//! write whether a scan accepts 100,000 times `ab`, or the empty text. The status is 0, 4 where
+//! memory ran out, and 5 where a read or a write failed otherwise.
 #![tactic(auto)]
 
 use jp_document::{OwnedStep, PathFault, read_path};
@@ -16,10 +17,11 @@ use std::{env, io};
 fn main(rt: HostRuntime) -> ExitCode {
     match run(&rt) {
         Ok(()) => ExitCode::from(0),
-        Err(_) => {
+        Err(error) if error.kind() == ErrorKind::OutOfMemory => {
             let _ = eprintln!(rt; "want of memory");
             ExitCode::from(4)
         }
+        Err(_) => ExitCode::from(5),
     }
 }
 
