@@ -4,7 +4,7 @@ use Rattle.jp_document.specs.Document.{Defect, HasDefect, IsDocument}
 use Rattle.jp_document.specs.Location.{Location}
 use Rattle.jp_document.specs.Node.{Node, StandsIn}
 use Rattle.jp_document.specs.Path.{path_of}
-use Rattle.jp_document.specs.Value.{Value}
+use Rattle.jp_document.specs.Value.{IsDocumentValue, NamesRise, Value}
 
 -- two lists of steps have one path exactly if they are equal (RFC 9535 section 2.7)
 abbrev pub PathsDiffer : Type 0
@@ -26,3 +26,7 @@ pub record IsDocumentOrDefect (bytes : List ℕ) : Type 0 where
 -- whatever the bytes
 abbrev pub DocumentOrDefect : Type 0
 DocumentOrDefect = (bytes : List ℕ) → IsDocumentOrDefect bytes
+
+-- names rise in each document's value
+abbrev pub DocumentNamesRise : Type 0
+DocumentNamesRise = (v : Value) → IsDocumentValue v → NamesRise v

@@ -89,6 +89,15 @@ is_allowed (object ms) = names_fit (names_of ms)
 abbrev pub IsDocumentValue : Value → Type 0
 IsDocumentValue v = everywhere is_allowed v ≡ true
 
+-- the names of an object rise; other values have none
+abbrev pub has_rising_names : Value → Bool
+has_rising_names (object ms) = names_rise (names_of ms)
+has_rising_names _ = true
+
+-- names rise in v and in every value inside it
+abbrev pub NamesRise : Value → Type 0
+NamesRise v = everywhere has_rising_names v ≡ true
+
 -- ---- the value that a `Json` stands for
 
 abbrev pub items_of : List Value → Items

@@ -1,6 +1,7 @@
 //! Laws about the definitions, each the contract of a function that does nothing.
 ghost use Rattle.jp_document.specs.ChildNodes.{ChildrenAreExact};
-ghost use Rattle.jp_document.specs.Laws.{DocumentOrDefect, PathsDiffer, NodesDiffer};
+ghost use Rattle.jp_document.specs.Laws.{DocumentNamesRise, DocumentOrDefect, PathsDiffer};
+ghost use Rattle.jp_document.specs.Laws.{NodesDiffer};
 
 /// The children of a node are exactly the nodes one step longer, rising in document order (RFC 9535
 /// section 1.1).
@@ -19,4 +20,10 @@ pub fn paths_differ()
 /// both.
 pub fn document_or_defect()
     ensures { DocumentOrDefect }
+{}
+
+/// The names of an object's members rise by bytes, in a document's value and in each value inside
+/// it.
+pub fn document_names_rise()
+    ensures { DocumentNamesRise }
 {}

@@ -17,8 +17,10 @@ use Rattle.jp_document.specs.Node.{node_below}
 use Rattle.jp_document.specs.Value.{Value, list, object, Items}
 use Rattle.jp_document.specs.Value.{no_items, item, Members, no_members, member, items_of}
 use Rattle.jp_document.specs.Value.{members_of, names_of, everywhere, everywhere_in_items}
-use Rattle.jp_document.specs.Value.{everywhere_in_members, IsDocumentValue}
+use Rattle.jp_document.specs.Value.{everywhere_in_members, has_rising_names, is_allowed}
+use Rattle.jp_document.specs.Value.{IsDocumentValue, NamesRise}
 use Rattle.jp_document.proofs.Members.ByName.{bytes_cmp, sorted_from_rise}
+use Rattle.jp_document.proofs.Descent.Inside.{everywhere-weaker}
 use Rattle.jp_document.proofs.Descent.Keys.{key_cmp_total}
 use Rattle.jp_document.proofs.Conjunctions.{and-left, and-right}
 
@@ -112,13 +114,24 @@ unfolding IsStrictlySortedBy
 members-rise no_members h = tt
 members-rise (member n v ms) h = (named_above n ms h.0, members-rise ms h.1)
 
-pub entries-rise : (v : Value) → IsDocumentValue v
+pub entries-rise_by_names : (v : Value) → NamesRise v
     → IsStrictlySortedBy key_cmp (keys_of (entries v))
 unfolding IsStrictlySortedBy
-entries-rise (list vs) document = items-rise 0 vs
-entries-rise (object ms) document =
-    members-rise ms (sorted_from_rise (names_of ms) (and-left _ _ (and-left _ _ document)))
-entries-rise v document = tt
+entries-rise_by_names (list vs) rise = items-rise 0 vs
+entries-rise_by_names (object ms) rise =
+    members-rise ms (sorted_from_rise (names_of ms) (and-left _ _ rise))
+entries-rise_by_names v rise = tt
+
+allowed-rising : (v : Value) → is_allowed v ≡ true → has_rising_names v ≡ true
+allowed-rising (object ms) allowed = and-left _ _ allowed
+allowed-rising v allowed = refl
+
+pub document-names_rise : (v : Value) → IsDocumentValue v → NamesRise v
+document-names_rise = everywhere-weaker is_allowed has_rising_names allowed-rising
+
+pub entries-rise : (v : Value) → IsDocumentValue v
+    → IsStrictlySortedBy key_cmp (keys_of (entries v))
+entries-rise v document = entries-rise_by_names v (document-names_rise v document)
 
 -- the value one step inside at an entry's step is the entry's
 pub child-entry : (v : Value) (i : ℕ) (k : Key) (w : Value) → IsDocumentValue v

@@ -13,14 +13,14 @@ use Rattle.std.specs.Option.{option_map, option_and_then}
 use Rattle.jp_document.specs.Location.{Key, key_cmp, Location, items_from}
 use Rattle.jp_document.specs.Location.{members_by_name, child, value_at}
 use Rattle.jp_document.specs.Node.{IsNodeAt, Node, StandsIn, child_of, node_below}
-use Rattle.jp_document.specs.Value.{Value, list, object, Items}
+use Rattle.jp_document.specs.Value.{Value, null, boolean, whole, text, list, object, Items}
 use Rattle.jp_document.specs.Value.{no_items, item, Members, no_members, member}
 use Rattle.jp_document.specs.Value.{items_of, members_of}
 use Rattle.jp_document.specs.Value.{everywhere, everywhere_in_items, everywhere_in_members}
 use Rattle.jp_document.specs.Value.{is_allowed, IsDocumentValue, value_of}
 use Rattle.jp_document.specs.declared.value.Json.{Json, Null, Bool as Truth, Whole, Text}
 use Rattle.jp_document.specs.declared.value.Json.{the_lemmas}
-use Rattle.jp_document.proofs.Conjunctions.{and-left, and-right}
+use Rattle.jp_document.proofs.Conjunctions.{and-both, and-left, and-right}
 
 everywhere-first_or_rest : (p : Value → Bool) (b : Bool) (v w : Value) (rest : Option Value) →
     cond b (Some v) rest ≡ Some w → everywhere p v ≡ true →
@@ -52,6 +52,35 @@ everywhere-child p (list vs) w k all is =
 everywhere-child p (object ms) w k all is =
     among_members p (is_at (key_cmp k)) ms w (and-right _ _ all) is
 everywhere-child p v w k all is = cc
+
+-- what follows from a test everywhere holds everywhere
+mutual
+  pub everywhere-weaker : (p q : Value → Bool) → ((v : Value) → p v ≡ true → q v ≡ true)
+      → (v : Value) → everywhere p v ≡ true → everywhere q v ≡ true
+  everywhere-weaker p q follows (list vs) all =
+      and-both _ _ (follows (list vs) (and-left _ _ all))
+      (items-weaker p q follows vs (and-right _ _ all))
+  everywhere-weaker p q follows (object ms) all =
+      and-both _ _ (follows (object ms) (and-left _ _ all))
+      (members-weaker p q follows ms (and-right _ _ all))
+  everywhere-weaker p q follows null all = follows null all
+  everywhere-weaker p q follows (boolean b) all = follows (boolean b) all
+  everywhere-weaker p q follows (whole z) all = follows (whole z) all
+  everywhere-weaker p q follows (text s) all = follows (text s) all
+
+  items-weaker : (p q : Value → Bool) → ((v : Value) → p v ≡ true → q v ≡ true)
+      → (vs : Items) → everywhere_in_items p vs ≡ true → everywhere_in_items q vs ≡ true
+  items-weaker p q follows no_items all = refl
+  items-weaker p q follows (item v vs) all =
+      and-both _ _ (everywhere-weaker p q follows v (and-left _ _ all))
+      (items-weaker p q follows vs (and-right _ _ all))
+
+  members-weaker : (p q : Value → Bool) → ((v : Value) → p v ≡ true → q v ≡ true)
+      → (ms : Members) → everywhere_in_members p ms ≡ true → everywhere_in_members q ms ≡ true
+  members-weaker p q follows no_members all = refl
+  members-weaker p q follows (member n v ms) all =
+      and-both _ _ (everywhere-weaker p q follows v (and-left _ _ all))
+      (members-weaker p q follows ms (and-right _ _ all))
 
 pub IsDocumentValue-child : (v w : Value) (k : Key) → IsDocumentValue v → child v k ≡ Some w →
     IsDocumentValue w
