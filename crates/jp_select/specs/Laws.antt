@@ -5,7 +5,7 @@ use Rattle.std.specs.List.Sorted.{IsStrictlySortedBy}
 use Rattle.std.specs.Ordering.{nat_cmp}
 use Rattle.jp_document.specs.ChildNodes.{IsListOf, children_of}
 use Rattle.jp_document.specs.Location.{Key, Location, value_at}
-use Rattle.jp_document.specs.Value.{Value, IsDocumentValue}
+use Rattle.jp_document.specs.Value.{Value, IsDocumentValue, NamesRise}
 use Rattle.jp_tree.specs.Tree.{SelectorTree, filter}
 use Rattle.jp_select.specs.Candidates.{candidates}
 use Rattle.jp_select.specs.Selectors.{chosen}
@@ -59,8 +59,9 @@ pub record SlicesAreExact : Type 0 where
       (slice_of n start end (negsuc k))
   pub nowhere : (n : ℕ) (start end : Option ℤ) → slice_of n start end (pos 0) ≡ []
 
--- `==` is true of two documents' values exactly where they are equal (RFC 9535 section 2.3.5.2.2)
+-- `==` is true of two values in which names rise exactly where they are equal (RFC 9535 section
+-- 2.3.5.2.2)
 abbrev pub EqualsIsExact : Type 0
 EqualsIsExact =
-    (v w : Value) → IsDocumentValue v → IsDocumentValue w →
+    (v w : Value) → NamesRise v → NamesRise w →
     (equals (Some v) (Some w) ≡ true) ↔ IsEqual v w

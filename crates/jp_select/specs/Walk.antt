@@ -1,5 +1,5 @@
 -- What a walk over a node and its descendants still has to give.
-use Rattle.std.specs.Prelude.{◌≡◌, ℕ, List, [], ◌∷◌, ◌++◌, true, false, Option, Some}
+use Rattle.std.specs.Prelude.{◌≡◌, ℕ, List, [], ◌∷◌, ◌++◌, Bool, true, false, Option, Some}
 use Rattle.std.specs.Prelude.{None, Result, Ok, Err, map, drop, option_to_list}
 use Rattle.std.specs.List.{flat_map}
 use Rattle.std.specs.declared.alloc.AllocError.{AllocError}
@@ -25,6 +25,10 @@ begun_by o = flat_map subtree_of (map node_of (option_to_list o))
 abbrev pub rest_of : Descent → List Node
 rest_of w = begun_by w.first ++ given_by w.frames.items
 
+-- memory ran out for a node, so that no more are given
+abbrev pub has_failed : Descent → Bool
+has_failed w = w.failed
+
 -- a step from one rest to the next gives a node, or none
 abbrev pub Yields : List Node → Option NodeView → List Node → Type 0
 Yields before o rest = (before ≡ map node_of (option_to_list o) ++ rest)
@@ -33,7 +37,7 @@ Yields before o rest = (before ≡ map node_of (option_to_list o) ++ rest)
 -- and where it gives none without a fault there were none left
 abbrev pub GivesNext : Descent → Option (Result NodeView AllocError) → Descent → Type 0
 GivesNext v (Some (Ok n)) w =
-    (v.failed ≡ false) × (w.failed ≡ false) × (rest_of v ≡ node_of n ∷ rest_of w)
-GivesNext v (Some (Err e)) w = (v.failed ≡ false) × (w.failed ≡ true)
+    (has_failed v ≡ false) × (has_failed w ≡ false) × (rest_of v ≡ node_of n ∷ rest_of w)
+GivesNext v (Some (Err e)) w = (has_failed v ≡ false) × (has_failed w ≡ true)
 GivesNext v None w =
-    (w.failed ≡ v.failed) × (v.failed ≡ false → (rest_of v ≡ []) × (rest_of w ≡ []))
+    (has_failed w ≡ has_failed v) × (has_failed v ≡ false → (rest_of v ≡ []) × (rest_of w ≡ []))

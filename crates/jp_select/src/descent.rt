@@ -5,7 +5,8 @@ ghost use Rattle.std.specs.Iterator.{at_most};
 ghost use Rattle.jp_document.specs.Node.{AreNodes, StandsIn, node_of};
 ghost use Rattle.jp_document.specs.Value.{Value};
 ghost use Rattle.jp_select.specs.Subtree.{subtree_of, subtree};
-ghost use Rattle.jp_select.specs.Walk.{GivesNext, Yields, given_by, child_subtrees, rest_of};
+ghost use Rattle.jp_select.specs.Walk.{GivesNext, Yields, given_by, child_subtrees, has_failed};
+ghost use Rattle.jp_select.specs.Walk.{rest_of};
 
 use jp_document::{Node, child_count, nth_child};
 use std::alloc::{AllocError, Global};
@@ -28,7 +29,7 @@ pub fn descend<'d>(alloc: Global, node: Node<'d>) -> Result<Vec<Node<'d>>, Alloc
 /// memory before the first node is asked for. It keeps the nodes on the way to the one given last,
 /// each with a location of its own, so its memory follows the square of the depth.
 pub fn descend_each<'d>(alloc: Global, node: Node<'d>) -> Descent<'d>
-    ensures working { result.failed ≡ false }
+    ensures working { has_failed result ≡ false }
     ensures values { rest_of result ≡ subtree_of (node_of node.entry) }
     ensures nodes { (d : Value) → StandsIn d (node_of node.entry)
         → AreNodes d (rest_of result) (subtree d node.entry.location) }
@@ -61,7 +62,7 @@ pub struct Descent<'d> {
 impl<'d> Descent<'d> {
     /// Whether a node could not be given because memory ran out. No more are given then.
     pub fn failed(&self) -> bool
-        ensures { result ≡ self.now.failed }
+        ensures { result ≡ has_failed self.now }
     {
         self.failed
     }
@@ -70,7 +71,7 @@ impl<'d> Descent<'d> {
     fn advance(&mut self) -> Result<Option<Node<'d>>, AllocError>
         ensures gives { IfOk result (λ o. Yields (rest_of self.old) o (rest_of self.new)) }
         ensures end { IfOk result (λ o. IfNone o (rest_of self.new ≡ [])) }
-        ensures failed { self.new.failed ≡ self.old.failed }
+        ensures failed { has_failed self.new ≡ has_failed self.old }
     {
         if let Some(node) = self.first.take() {
             self.enter(&node)?;
@@ -90,7 +91,7 @@ impl<'d> Descent<'d> {
     /// Puts the children of a node before all that was still to be given.
     fn enter(&mut self, node: &Node<'d>) -> Result<(), AllocError>
         ensures first { self.new.first ≡ self.old.first }
-        ensures failed { self.new.failed ≡ self.old.failed }
+        ensures failed { has_failed self.new ≡ has_failed self.old }
         ensures frames { OnOk result (given_by self.new.frames.items
             ≡ child_subtrees (node_of node.now) 0 ++ given_by self.old.frames.items) }
     {
@@ -107,7 +108,7 @@ impl<'d> Iterator for Descent<'d> {
 
     ghost next_gives = { GivesNext };
 
-    ghost remaining = { λ descent. at_most (if descent.failed then 0 else length (rest_of descent) + 1) };
+    ghost remaining = { λ descent. at_most (if has_failed descent then 0 else length (rest_of descent) + 1) };
 
     /// The next node in document order, or an error where there is no memory for it, after which
     /// there are no more; None at the end.

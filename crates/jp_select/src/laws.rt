@@ -14,9 +14,9 @@ pub fn slices_are_exact()
     ensures { SlicesAreExact }
 {}
 
-/// `==` holds between the values of documents exactly where they are equal as the standard has it:
-/// lists item by item, objects by the same names with equal values, in whatever order (RFC 9535
-/// section 2.3.5.2.2).
+/// `==` holds between values whose members stand in the order of their names, as those of documents
+/// do, exactly where they are equal as the standard has it: lists item by item, objects by the same
+/// names with equal values, in whatever order (RFC 9535 section 2.3.5.2.2).
 pub fn equals_is_exact()
     ensures { EqualsIsExact }
 {}

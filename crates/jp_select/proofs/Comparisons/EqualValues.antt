@@ -1,4 +1,4 @@
--- Values of documents that are equal are the same.
+-- Values in which names rise are equal where they are the same.
 use Rattle.std.proofs.Common.{◌≡◌, ◌↔◌, ℕ, zero, suc, List, [], ◌∷◌, length, Option, Some}
 use Rattle.std.proofs.Common.{None, Ordering, Less, Equal, Greater, Bool, true, false}
 use Rattle.std.proofs.Common.{is_eq, cond, inl, inr, refl, sym, ap, subst, ◌∙◌, arith}
@@ -17,10 +17,10 @@ use Rattle.jp_document.specs.Location.{Key, named, nth, key_cmp, items_from}
 use Rattle.jp_document.specs.Location.{members_by_name, entries, child}
 use Rattle.jp_document.specs.Value.{Value, null, boolean, whole, text, list, object}
 use Rattle.jp_document.specs.Value.{Items, no_items, item, item_count, Members}
-use Rattle.jp_document.specs.Value.{no_members, member, items_of, IsDocumentValue}
-use Rattle.jp_document.proofs.Descent.Inside.{IsDocumentValue-child}
+use Rattle.jp_document.specs.Value.{no_members, member, items_of, has_rising_names, NamesRise}
+use Rattle.jp_document.proofs.Descent.Inside.{everywhere-child}
 use Rattle.jp_document.proofs.Descent.Keys.{key_cmp_total}
-use Rattle.jp_document.proofs.Descent.Entries.{entries-rise}
+use Rattle.jp_document.proofs.Descent.Entries.{entries-rise_by_names}
 use Rattle.jp_document.proofs.Descent.Items.{child-nth}
 use Rattle.jp_document.proofs.Members.ByName.{child-list_named, child-object_nth}
 use Rattle.jp_select.specs.Comparison.{equals}
@@ -135,25 +135,26 @@ members_back-by_name (member n v ms) = ap (member n v) (members_back-by_name ms)
 abbrev Alike : Value → Value → Type 0
 Alike v w = (k : Key) → child v k ≡ child w k
 
-entries-alike : (v w : Value) → IsDocumentValue v → IsDocumentValue w → Alike v w
+entries-alike : (v w : Value) → NamesRise v → NamesRise w → Alike v w
     → entries v ≡ entries w
-entries-alike v w document other alike =
-    same_entries (entries v) (entries w) (entries-rise v document) (entries-rise w other) alike
+entries-alike v w rise up alike =
+    same_entries (entries v) (entries w) (entries-rise_by_names v rise)
+    (entries-rise_by_names w up) alike
 
-same_list : (vs ws : Items) → IsDocumentValue (list vs) → IsDocumentValue (list ws) →
+same_list : (vs ws : Items) → NamesRise (list vs) → NamesRise (list ws) →
     Alike (list vs) (list ws) → list vs ≡ list ws
-same_list vs ws document other alike =
+same_list vs ws rise up alike =
     ap list
     (sym (items_back-from 0 vs)
-    ∙ ap items_back (entries-alike (list vs) (list ws) document other alike)
+    ∙ ap items_back (entries-alike (list vs) (list ws) rise up alike)
     ∙ items_back-from 0 ws)
 
-same_object : (ms ns : Members) → IsDocumentValue (object ms) → IsDocumentValue (object ns) →
+same_object : (ms ns : Members) → NamesRise (object ms) → NamesRise (object ns) →
     Alike (object ms) (object ns) → object ms ≡ object ns
-same_object ms ns document other alike =
+same_object ms ns rise up alike =
     ap object
     (sym (members_back-by_name ms)
-    ∙ ap members_back (entries-alike (object ms) (object ns) document other alike)
+    ∙ ap members_back (entries-alike (object ms) (object ns) rise up alike)
     ∙ members_back-by_name ns)
 
 -- ---- children at one step
@@ -202,7 +203,7 @@ Bool-from_both true b h = sym (h.0 refl)
 Bool-from_both false true h = h.1 refl
 Bool-from_both false false h = refl
 
--- ---- equal values of documents are the same
+-- ---- equal values are the same
 
 by_child : (P : Value → Type 0) →
     ((v : Value) → ((k : Key) (w : Value) → child v k ≡ Some w → P w) → P v) → (v : Value) → P v
@@ -211,47 +212,47 @@ by_child P step = by_children P (λ v each. step v (λ k w is.
     each at.0 at.1 w at.2))
 
 abbrev IsOnly : Value → Type 0
-IsOnly v = (w : Value) → IsDocumentValue v → IsDocumentValue w → IsEqual v w → v ≡ w
+IsOnly v = (w : Value) → NamesRise v → NamesRise w → IsEqual v w → v ≡ w
 
 abbrev ChildrenAreOnly : Value → Type 0
 ChildrenAreOnly v = (k : Key) (u : Value) → child v k ≡ Some u → IsOnly u
 
-only_child : (v w a b : Value) (k : Key) → ChildrenAreOnly v → IsDocumentValue v →
-    IsDocumentValue w → child v k ≡ Some a → child w k ≡ Some b → IsEqual a b → a ≡ b
-only_child v w a b k each document other first second =
-    each k a first b (IsDocumentValue-child v a k document first)
-    (IsDocumentValue-child w b k other second)
+only_child : (v w a b : Value) (k : Key) → ChildrenAreOnly v → NamesRise v →
+    NamesRise w → child v k ≡ Some a → child w k ≡ Some b → IsEqual a b → a ≡ b
+only_child v w a b k each rise up first second =
+    each k a first b (everywhere-child has_rising_names v a k rise first)
+    (everywhere-child has_rising_names w b k up second)
 
-only_from_children : (v w : Value) → IsEqual v w → ChildrenAreOnly v → IsDocumentValue v →
-    IsDocumentValue w → v ≡ w
-only_from_children _ _ nulls each document other = refl
-only_from_children _ _ (truths b) each document other = refl
-only_from_children _ _ (numbers z) each document other = refl
-only_from_children _ _ (texts s) each document other = refl
-only_from_children _ _ (lists vs ws count items) each document other =
-    same_list vs ws document other alike
+only_from_children : (v w : Value) → IsEqual v w → ChildrenAreOnly v → NamesRise v →
+    NamesRise w → v ≡ w
+only_from_children _ _ nulls each rise up = refl
+only_from_children _ _ (truths b) each rise up = refl
+only_from_children _ _ (numbers z) each rise up = refl
+only_from_children _ _ (texts s) each rise up = refl
+only_from_children _ _ (lists vs ws count items) each rise up =
+    same_list vs ws rise up alike
   where
     alike : Alike (list vs) (list ws)
     alike (named n) = child-list_named n vs ∙ sym (child-list_named n ws)
     alike (nth i) =
         alike_options (child (list vs) (nth i)) (child (list ws) (nth i)) (item_alike vs ws i count)
-        (λ a b first second. only_child (list vs) (list ws) a b (nth i) each document other first
+        (λ a b first second. only_child (list vs) (list ws) a b (nth i) each rise up first
         second (items i a b first second))
-only_from_children _ _ (objects ms ns names values) each document other =
-    same_object ms ns document other alike
+only_from_children _ _ (objects ms ns names values) each rise up =
+    same_object ms ns rise up alike
   where
     alike : Alike (object ms) (object ns)
     alike (named n) =
         alike_options (child (object ms) (named n)) (child (object ns) (named n))
         (Bool-from_both _ _ (names n))
-        (λ a b first second. only_child (object ms) (object ns) a b (named n) each document other
+        (λ a b first second. only_child (object ms) (object ns) a b (named n) each rise up
         first second (values n a b first second))
     alike (nth i) = child-object_nth i ms ∙ sym (child-object_nth i ns)
 
 is_only : (v : Value) → IsOnly v
 is_only =
     by_child IsOnly
-    (λ v each w document other equal. only_from_children v w equal each document other)
+    (λ v each w rise up equal. only_from_children v w equal each rise up)
 
 -- ---- and each value is equal to itself
 
@@ -274,8 +275,8 @@ equal_itself = by_child (λ v. IsEqual v v) from_children
         (each (named n) v first))
 
 pub equality_law : EqualsIsExact
-equality_law v w document other = (
+equality_law v w rise up = (
   λ h. subst (IsEqual v) (same_Some v w (equals_is (Some v) (Some w) h)) (equal_itself v),
-  λ h. ap (λ u. equals (Some v) (Some u)) (sym (is_only v w document other h))
+  λ h. ap (λ u. equals (Some v) (Some u)) (sym (is_only v w rise up h))
       ∙ equals_itself (Some v),
 )

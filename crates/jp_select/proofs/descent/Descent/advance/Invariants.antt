@@ -1,5 +1,5 @@
 use Rattle.std.proofs.Common.{◌≡◌, None, length}
-use Rattle.jp_select.specs.Walk.{rest_of}
+use Rattle.jp_select.specs.Walk.{has_failed, rest_of}
 use Rattle.jp_select.proofs.descent.Descent.advance.Given as goal
 
 -- the frames that were taken off had nothing to give
@@ -7,7 +7,7 @@ abbrev pub invariant-loop-frame : goal.invariant-loop-frame
 invariant-loop-frame l = record {
   begun : l.self.first ≡ None;
   rest : rest_of l.self ≡ rest_of l.fn.self;
-  same : l.self.failed ≡ l.fn.self.failed;
+  same : has_failed l.self ≡ has_failed l.fn.self;
 }
 
 abbrev pub decreases-loop-frame : goal.decreases-loop-frame
