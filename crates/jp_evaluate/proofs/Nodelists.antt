@@ -3,3 +3,4 @@ pub mod Along
 pub mod ByLocations
 pub mod Elements
 pub mod NodelistNodes
+pub mod Sides

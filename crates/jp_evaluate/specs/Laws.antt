@@ -1,13 +1,13 @@
 -- Laws of nodes and queries.
-use Rattle.std.specs.Prelude.{◌≡◌, ◌≤◌, [], ◌∷◌, length, true, All, IsSome}
+use Rattle.std.specs.Prelude.{◌≡◌, ◌≤◌, [], ◌∷◌, length, true, All, IsSome, Some}
 use Rattle.std.specs.Str.{chars}
 use Rattle.jp_document.specs.Location.{Location, value_at}
 use Rattle.jp_document.specs.Path.{path_of}
-use Rattle.jp_document.specs.Value.{IsDocumentValue, Value}
+use Rattle.jp_document.specs.Value.{IsDocumentValue, NamesRise, Value}
 use Rattle.jp_tree.specs.Singular.{is_singular}
-use Rattle.jp_tree.specs.Tree.{QueryTree}
+use Rattle.jp_tree.specs.Tree.{OperandTree, QueryTree}
 use Rattle.jp_check.specs.Accepted.{IsAcceptedAs}
-use Rattle.jp_evaluate.specs.Nodelist.{nodelist, nodelist_at}
+use Rattle.jp_evaluate.specs.Nodelist.{nodelist, nodelist_at, operand_value}
 
 -- the normalized path of a node of a document, read as a query, is accepted and selects that node
 -- alone (RFC 9535 section 2.7)
@@ -27,3 +27,10 @@ abbrev pub SingularSelectsOne : Type 0
 SingularSelectsOne =
     (q : QueryTree) (d : Value) (c : Location) → is_singular q ≡ true →
     length (nodelist_at q d c) ≤ 1
+
+-- names rise in the value of each side of a comparison over a document, if it has one, so that `==`
+-- is equality there (sections 2.3.5.1 and 2.3.5.2.2)
+abbrev pub NamesRiseInSides : Type 0
+NamesRiseInSides =
+    (x : OperandTree) (d : Value) (c : Location) (v : Value) → IsDocumentValue d →
+    operand_value x d c ≡ Some v → NamesRise v

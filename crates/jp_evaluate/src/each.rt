@@ -3,7 +3,7 @@ ghost use Rattle.std.specs.Prelude.{◌≡◌, ◌+◌, ◌++◌, IfNone, IfOk, 
 ghost use Rattle.std.specs.Prelude.{option_to_list};
 ghost use Rattle.std.specs.Iterator.{at_most};
 ghost use Rattle.jp_document.specs.Node.{node_of};
-ghost use Rattle.jp_evaluate.specs.Rest.{GivesNext, rest_of};
+ghost use Rattle.jp_evaluate.specs.Rest.{GivesNext, has_failed, rest_of};
 
 use crate::evaluating::Evaluation;
 use crate::filter::advance;
@@ -27,7 +27,7 @@ pub struct Nodes<'d, 'q, M> {
 impl<'d: 'q, 'q, M: Matching> Nodes<'d, 'q, M> {
     /// Whether a node could not be given because memory ran out. No more are given then.
     pub fn failed(&self) -> bool
-        ensures { result ≡ self.now.failed }
+        ensures { result ≡ has_failed self.now }
     {
         self.failed
     }
@@ -37,7 +37,7 @@ impl<'d: 'q, 'q, M: Matching> Nodes<'d, 'q, M> {
         ensures gives { IfOk result (λ o. rest_of self.old
             ≡ map node_of (option_to_list o) ++ rest_of self.new) }
         ensures end { IfOk result (λ o. IfNone o (rest_of self.new ≡ [])) }
-        ensures failed { self.new.failed ≡ self.old.failed }
+        ensures failed { has_failed self.new ≡ has_failed self.old }
     {
         match advance(
             &self.evaluation,
@@ -56,7 +56,7 @@ impl<'d: 'q, 'q, M: Matching> Iterator for Nodes<'d, 'q, M> {
 
     ghost next_gives = { GivesNext };
 
-    ghost remaining = { λ nodes. at_most (if nodes.failed then 0 else length (rest_of nodes) + 1) };
+    ghost remaining = { λ nodes. at_most (if has_failed nodes then 0 else length (rest_of nodes) + 1) };
 
     /// The next node, or an error where there is no memory for it, after which there are no more;
     /// None at the end of the nodelist.

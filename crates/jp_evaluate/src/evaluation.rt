@@ -4,7 +4,7 @@ ghost use Rattle.jp_document.specs.Document.{document_of};
 ghost use Rattle.jp_document.specs.Node.{AreNodes, node_of};
 ghost use Rattle.jp_tree.specs.Tree.{query_of};
 ghost use Rattle.jp_evaluate.specs.Nodelist.{nodelist};
-ghost use Rattle.jp_evaluate.specs.Rest.{rest_of};
+ghost use Rattle.jp_evaluate.specs.Rest.{has_failed, rest_of};
 
 use crate::each::Nodes;
 use crate::evaluating::Evaluation;
@@ -26,7 +26,7 @@ pub fn nodes<'d: 'q, 'q, M: Matching>(
     query: &'q Checked,
     matcher: &'q M,
 ) -> Nodes<'d, 'q, M>
-    ensures working { result.failed ≡ false }
+    ensures working { has_failed result ≡ false }
     ensures nodes { AreNodes (document_of document.now) (rest_of result)
         (nodelist (query_of query.now) (document_of document.now)) }
 {

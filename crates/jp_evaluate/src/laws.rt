@@ -1,6 +1,7 @@
 //! Laws over the definitions.
 
-ghost use Rattle.jp_evaluate.specs.Laws.{PathSelectsItsNode, SelectsNodesAlone, SingularSelectsOne};
+ghost use Rattle.jp_evaluate.specs.Laws.{NamesRiseInSides, PathSelectsItsNode, SelectsNodesAlone};
+ghost use Rattle.jp_evaluate.specs.Laws.{SingularSelectsOne};
 
 /// The normalized path of a node of a document, read as a query, is accepted and selects that node
 /// alone (RFC 9535 section 2.7).
@@ -16,4 +17,11 @@ pub fn selects_nodes_alone()
 /// A singular query selects at most one node, whatever the document (section 2.3.5.1).
 pub fn singular_selects_one()
     ensures { SingularSelectsOne }
+{}
+
+/// The value of a side of a comparison, over a document, has its members in the order of their
+/// names, so that `==` is the standard's equality there, by the law `equals_is_exact` of jp_select
+/// (sections 2.3.5.1 and 2.3.5.2.2).
+pub fn names_rise_in_sides()
+    ensures { NamesRiseInSides }
 {}
