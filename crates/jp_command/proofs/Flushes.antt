@@ -32,9 +32,10 @@ module _ {W : Type 0} (contents : W → Option (List ℕ)) (has_failed : W → B
   }
 
 module _ {R W : Type 0} (remaining : R → Option (List ℕ)) (has_failed : R → Bool)
-    (contents : W → Option (List ℕ)) (writes_failed : W → Bool) where
+    (read_gives : R → Option (List ℕ) → R → Type 0) (contents : W → Option (List ℕ))
+    (writes_failed : W → Bool) where
   abbrev Runs : Task → List ℕ → R → R → W → W → Result (Unit {0}) Fault → Type 0
-  Runs = RunsTask remaining has_failed contents writes_failed
+  Runs = RunsTask remaining has_failed read_gives contents writes_failed
 
   -- after one that fails a prefix is written
   pub flush-fails : (task : Task) (query : List ℕ) (i j : R) (o p q : W)

@@ -57,16 +57,17 @@ document-is_taken law bytes d document.ListTooLong is has known =
 document-is_taken law bytes d document.NoMemory is has known = known refl
 
 module _ {R W : Type 0} (remaining : R → Option (List ℕ)) (has_failed : R → Bool)
-    (contents : W → Option (List ℕ)) (writes_failed : W → Bool) where
+    (read_gives : R → Option (List ℕ) → R → Type 0) (contents : W → Option (List ℕ))
+    (writes_failed : W → Bool) where
   abbrev Accepted : List ℕ → R → QueryTree → Value → Type 0
-  Accepted = IsAcceptedPair remaining has_failed contents writes_failed
+  Accepted = IsAcceptedPair remaining has_failed read_gives contents writes_failed
 
   abbrev Ran : Form → List ℕ → R → R → W → W → Result (Unit {0}) Fault → Type 0
-  Ran = Runs remaining has_failed contents writes_failed
+  Ran = Runs remaining has_failed read_gives contents writes_failed
 
   -- the bytes that a run has read are those that its input told
   read-all : (i j : R) (bytes came : List ℕ) → remaining i ≡ Some bytes
-      → ReadsAll remaining has_failed i j came → came ≡ bytes
+      → ReadsAll remaining has_failed read_gives i j came → came ≡ bytes
   read-all i j bytes came tells reads =
       came-all bytes came (remaining j)
       (subst (λ a. Consumes a (remaining j) came) tells reads.came) reads.ended
@@ -84,10 +85,11 @@ module _ {R W : Type 0} (remaining : R → Option (List ℕ)) (has_failed : R �
       absurd (document-is_taken law is.bytes d f is.document
       (subst (λ b. IsDocumentFault b f) same run.0.fault) run.0.known)
   accepted-is_taken law form text i j o p q d DocumentTooLarge is run =
-      let much : ReadsTooMuch remaining has_failed i j = run.1 in
-      let within : length much.bytes ≤ length is.bytes =
-      came-within is.bytes much.bytes (remaining j)
-      (subst (λ a. Consumes a (remaining j) much.bytes) is.tells much.came) in
+      let much : ReadsTooMuch remaining has_failed read_gives i j = run.1 in
+      let bytes = much.before ++ much.rest in
+      let within : length bytes ≤ length is.bytes =
+      came-within is.bytes bytes (remaining j)
+      (subst (λ a. Consumes a (remaining j) bytes) is.tells much.came) in
       absurd (omega (arith, within, is.few, much.many))
   accepted-is_taken law form text i j o p q d NoMemory is run = refl
   accepted-is_taken law form text i j o p q d Read is run = refl
@@ -134,7 +136,7 @@ module _ {R W : Type 0} (remaining : R → Option (List ℕ)) (has_failed : R �
   -- a run that writes one line for a query writes that of an accepted one
   pub line-is_written : (line_of : QueryTree → List ℕ) (text : List ℕ) (o p : W)
       → RunsQueryLine line_of contents writes_failed text o p (Ok (tt {0}))
-      → WritesLine remaining has_failed contents writes_failed line_of text o p
+      → WritesLine remaining has_failed read_gives contents writes_failed line_of text o p
   line-is_written line_of text o p run = record {
     q = run.is.q;
     asked = run.is.asked;

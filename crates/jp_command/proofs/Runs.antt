@@ -8,15 +8,16 @@ use Rattle.jp_command.specs.declared.fault.Fault.TheVariants.{NoMemory, Read, Wr
 use Rattle.jp_command.specs.declared.lines.Form.{Form}
 
 module _ {R W : Type 0} (remaining : R → Option (List ℕ)) (has_failed : R → Bool)
-    (contents : W → Option (List ℕ)) (writes_failed : W → Bool) where
+    (read_gives : R → Option (List ℕ) → R → Type 0) (contents : W → Option (List ℕ))
+    (writes_failed : W → Bool) where
   -- with the output of the one over the other, written to its end or not
   pub run-ends : {X : Type 0} (form : Form) (text : List ℕ) (i j : R) (o p : W) (output : List ℕ)
       (r : Result X Fault)
-      → IsOutput remaining has_failed contents writes_failed form text i j output
+      → IsOutput remaining has_failed read_gives contents writes_failed form text i j output
       → has_failed j ≡ has_failed i
       → OnOk r (WritesAll contents writes_failed o p output)
       → IfErr r (StopsWriting contents writes_failed o p output)
-      → RunsEval remaining has_failed contents writes_failed form text i j o p r
+      → RunsEval remaining has_failed read_gives contents writes_failed form text i j o p r
   run-ends form text i j o p output (Ok x) is works written stopped =
       record { output = output; is = is; writes = written }
   run-ends form text i j o p output (Err NoMemory) is works written stopped =

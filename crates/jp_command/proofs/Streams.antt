@@ -1,9 +1,10 @@
--- What is written in two steps.
-use Rattle.std.proofs.Common.{◌≡◌, ℕ, ◌-◌, List, [], ◌++◌, length, take, drop, Option, Some, None}
-use Rattle.std.proofs.Common.{Result, Ok, Err, OnErr, OnOk, sym, ◌∙◌, ap, append_assoc}
-use Rattle.std.proofs.lemmas.List.{append-nil, take-append-drop, take_rest}
+-- What is written in two steps, and what comes by one read more.
+use Rattle.std.proofs.Common.{◌≡◌, ℕ, ◌-◌, ◌<◌, ◌≤◌, List, [], ◌++◌, length, take, drop, Option}
+use Rattle.std.proofs.Common.{Some, None, subst, Result, Ok, Err, OnErr, OnOk, sym, ◌∙◌, ap, append_assoc}
+use Rattle.std.proofs.lemmas.List.{append-nil, length-take-le, take-append-drop, take_rest}
 use Rattle.std.specs.Io.KnownBytes.{Appends, Keeps}
 use Rattle.jp_command.specs.Output.{AppendsPrefix}
+use Rattle.jp_command.specs.Reads.{ComeByReads, none, one_more}
 
 pub Appends-twice : (a b c : Option (List ℕ)) (x y : List ℕ)
     → Appends a b x → Appends b c y → Appends a c (x ++ y)
@@ -50,3 +51,16 @@ pub prefix-either : {T E : Type 0} (a b : Option (List ℕ)) (text : List ℕ) (
     → OnOk r (Appends a b text) → OnErr r (AppendsPrefix a b text) → AppendsPrefix a b text
 prefix-either a b text (Ok x) whole prefix = prefix-whole a b text whole
 prefix-either a b text (Err e) whole prefix = prefix
+
+module _ {R : Type 0} (read_gives : R → Option (List ℕ) → R → Type 0) (i : R) where
+  pub come-none : (bytes : List ℕ) → bytes ≡ [] → ComeByReads read_gives i i bytes
+  come-none bytes is = subst (ComeByReads read_gives i i) (sym is) none
+
+  -- the part of a buffer that a read has filled came too
+  pub come-more : (k j : R) (before bytes buffer : List ℕ) (n : ℕ)
+      → ComeByReads read_gives i k before → read_gives k (Some (take n buffer)) j
+      → n ≤ length buffer → 0 < n → bytes ≡ before ++ take n buffer
+      → ComeByReads read_gives i j bytes
+  come-more k j before bytes buffer n come gives within some is =
+      one_more k j before (take n buffer) bytes come gives
+      (rw (length-take-le n buffer within) some) is

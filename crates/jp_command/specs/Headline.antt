@@ -32,7 +32,8 @@ is_refusal _ = false
 
 -- i and j are the input before and after a run, o and p the output
 module _ {R W : Type 0} (remaining : R → Option (List ℕ)) (has_failed : R → Bool)
-    (contents : W → Option (List ℕ)) (writes_failed : W → Bool) where
+    (read_gives : R → Option (List ℕ) → R → Type 0) (contents : W → Option (List ℕ))
+    (writes_failed : W → Bool) where
   -- the text is asked as the query q, and what the input tells is a document, not too large, of the
   -- value d
   pub record IsAcceptedPair (text : List ℕ) (i : R) (q : QueryTree) (d : Value) : Type 0 where
@@ -44,7 +45,7 @@ module _ {R W : Type 0} (remaining : R → Option (List ℕ)) (has_failed : R �
 
   -- a run of the query ended with this answer
   abbrev pub Runs : Form → List ℕ → R → R → W → W → Result (Unit {0}) Fault → Type 0
-  Runs = RunsEval remaining has_failed contents writes_failed
+  Runs = RunsEval remaining has_failed read_gives contents writes_failed
 
   -- a run that wrote the line of an accepted query
   pub record WritesLine (line_of : QueryTree → List ℕ) (text : List ℕ) (o p : W) : Type 0 where

@@ -1,5 +1,6 @@
 pub mod Limits
 pub mod Device
+pub mod Reads
 pub mod Input
 pub mod Output
 pub mod CommandLine

@@ -48,13 +48,14 @@ fault_line f = fault_text f ++ codes "\n"
 -- what is said of a run of the program: i and j are the input before and after it, o and p the
 -- output
 module _ {R W : Type 0} (remaining : R → Option (List ℕ)) (has_failed : R → Bool)
-    (contents : W → Option (List ℕ)) (writes_failed : W → Bool) where
+    (read_gives : R → Option (List ℕ) → R → Type 0) (contents : W → Option (List ℕ))
+    (writes_failed : W → Bool) where
   -- a task with its query ended with this answer
   abbrev pub RunsTask : {X : Type 0} → Task → List ℕ → R → R → W → W → Result X Fault → Type 0
   RunsTask Check query i j o p answer = (j ≡ i) × RunsCheck contents writes_failed query o p answer
   RunsTask Canon query i j o p answer = (j ≡ i) × RunsCanon contents writes_failed query o p answer
   RunsTask (Eval form) query i j o p answer =
-      RunsEval remaining has_failed contents writes_failed form query i j o p answer
+      RunsEval remaining has_failed read_gives contents writes_failed form query i j o p answer
 
   -- the task that the words ask for ended with this answer
   pub record RunsWords {X : Type 0} (words : List (List ℕ)) (i j : R) (o p : W)

@@ -35,7 +35,8 @@ pub data RefusesQuery (text : List ℕ) (r : Refusal) : Type 0 where
 
 -- i and j are the input before and after a run, o and p the output
 module _ {R W : Type 0} (remaining : R → Option (List ℕ)) (has_failed : R → Bool)
-    (contents : W → Option (List ℕ)) (writes_failed : W → Bool) where
+    (read_gives : R → Option (List ℕ) → R → Type 0) (contents : W → Option (List ℕ))
+    (writes_failed : W → Bool) where
   -- the query is asked, the input was read to its end and is a document, and this is the output of
   -- the one over the other
   pub record IsOutput (form : Form) (text : List ℕ) (i j : R) (output : List ℕ) : Type 0 where
@@ -43,7 +44,7 @@ module _ {R W : Type 0} (remaining : R → Option (List ℕ)) (has_failed : R �
     pub bytes : List ℕ
     pub d : Value
     pub asked : IsAsked text q
-    pub reads : ReadsAll remaining has_failed i j bytes
+    pub reads : ReadsAll remaining has_failed read_gives i j bytes
     pub document : IsDocument bytes d
     pub is : IsOutputOf form q d output
 
@@ -53,7 +54,7 @@ module _ {R W : Type 0} (remaining : R → Option (List ℕ)) (has_failed : R �
     pub q : QueryTree
     pub bytes : List ℕ
     pub asked : IsAsked text q
-    pub reads : ReadsAll remaining has_failed i j bytes
+    pub reads : ReadsAll remaining has_failed read_gives i j bytes
     pub fault : IsDocumentFault bytes f
     pub known : f ≢ document.NoMemory
 
@@ -64,11 +65,13 @@ module _ {R W : Type 0} (remaining : R → Option (List ℕ)) (has_failed : R �
   RunsEval form text i j o p (Err (Query r)) = RefusesQuery text r × (j ≡ i) × (p ≡ o)
   RunsEval form text i j o p (Err (Document f)) = RefusesDocument text i j f × (p ≡ o)
   RunsEval form text i j o p (Err DocumentTooLarge) =
-      ((q : QueryTree) × IsAsked text q) × ReadsTooMuch remaining has_failed i j × (p ≡ o)
+      ((q : QueryTree) × IsAsked text q) × ReadsTooMuch remaining has_failed read_gives i j
+      × (p ≡ o)
   RunsEval form text i j o p (Err NoMemory) =
       (has_failed j ≡ has_failed i) × (writes_failed p ≡ writes_failed o)
       × ((p ≡ o) ⊎ WritesPrefix contents writes_failed (IsOutput form text i j) o p)
   RunsEval form text i j o p (Err Read) =
-      ((q : QueryTree) × IsAsked text q) × FailsToRead remaining has_failed i j × (p ≡ o)
+      ((q : QueryTree) × IsAsked text q) × FailsToRead remaining has_failed read_gives i j
+      × (p ≡ o)
   RunsEval form text i j o p (Err Write) =
       WritesPrefix contents writes_failed (IsOutput form text i j) o p × (writes_failed p ≡ true)

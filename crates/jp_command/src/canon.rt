@@ -4,7 +4,7 @@ ghost use Rattle.std.specs.Prelude.{◌≡◌, IfOk, string_bytes};
 ghost use Rattle.jp_tree.specs.Tree.{query_of};
 ghost use Rattle.jp_command.specs.Canon.{RunsCanon, canon_line};
 
-use crate::device::Output;
+use crate::device::Writer;
 use crate::eval::read_within_limit;
 use crate::fault::Fault;
 use crate::output::write_all;
@@ -18,7 +18,7 @@ use std::alloc::{AllocError, Global};
 /// `NoMemory` that the memory did not suffice; after both nothing is written. `Write` says that the
 /// output failed: that call is not tried again, and a prefix of the line is written. No other fault
 /// is answered.
-pub fn run_canon<W: Output>(alloc: Global, query: &str, output: &mut W) -> Result<(), Fault>
+pub fn run_canon<W: Writer>(alloc: Global, query: &str, output: &mut W) -> Result<(), Fault>
     ensures { RunsCanon W.contents W.has_failed query.now output.old output.new result }
 {
     let query = read_within_limit(alloc, query)?;

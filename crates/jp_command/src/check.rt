@@ -2,7 +2,7 @@
 
 ghost use Rattle.jp_command.specs.Check.{RunsCheck};
 
-use crate::device::Output;
+use crate::device::Writer;
 use crate::eval::read_within_limit;
 use crate::fault::Fault;
 use crate::output::write_all;
@@ -14,7 +14,7 @@ use std::alloc::Global;
 /// `NoMemory` that the memory did not suffice; after both nothing is written. `Write` says that the
 /// output failed: that call is not tried again, and a prefix of the line is written. No other fault
 /// is answered.
-pub fn run_check<W: Output>(alloc: Global, query: &str, output: &mut W) -> Result<(), Fault>
+pub fn run_check<W: Writer>(alloc: Global, query: &str, output: &mut W) -> Result<(), Fault>
     ensures { RunsCheck W.contents W.has_failed query.now output.old output.new result }
 {
     read_within_limit(alloc, query)?;

@@ -1,9 +1,10 @@
 //! Where the bytes come from and where they go.
 
 ghost use Rattle.std.specs.Prelude.{◌≡◌, ℕ, ◌<◌, ◌≤◌, Bool, List, Option, true, false, IfOk, IsErr};
-ghost use Rattle.std.specs.Prelude.{OnOk, OnErr, length};
+ghost use Rattle.std.specs.Prelude.{IsTrue, OnOk, OnErr, length, ⊤};
 ghost use Rattle.std.specs.Io.KnownBytes.{ReadConsumes, WriteAppends, Keeps};
 ghost use Rattle.jp_command.specs.Device.{carried, carrier_failed, carrier_is_last};
+ghost use Rattle.jp_command.specs.Reads.{given_by};
 
 use std::io::{Read, Write};
 
@@ -19,8 +20,12 @@ pub trait Source {
     // Whether a call failed.
     ghost has_failed: { Self → Bool };
 
+    // What leads from one state to the next where a read gave these bytes, or failed (None): so a
+    // contract can speak of each call.
+    ghost read_gives: { Self → Option (List ℕ) → Self → Type 0 } = { λ _ _ _. ⊤ };
+
     // Whether the process ends with what is read here.
-    ghost ends_process: { Self → Bool };
+    ghost ends_process: { Self → Bool } = { λ _. false };
 
     /// Reads some bytes to the start of `buffer` and answers how many; 0 only at the end of the
     /// bytes or for a buffer without room. `Failed` where they can't be read.
@@ -28,19 +33,24 @@ pub trait Source {
         ensures bound { IfOk result (λ count. count ≤ length buffer.new) }
         ensures bytes { ReadConsumes (remaining self.old) (remaining self.new) result buffer.new }
         ensures works { OnOk result (has_failed self.new ≡ has_failed self.old) }
-        ensures fails { OnErr result (has_failed self.new ≡ true) };
+        ensures fails { OnErr result (has_failed self.new ≡ true) }
+        ensures call { read_gives self.old (given_by result buffer.new) self.new };
 
     /// Whether a call failed.
     fn failed(&self) -> bool
         ensures { result ≡ has_failed self.now };
 
-    /// Whether the process ends with what is read here, so that memory is left to its end.
+    /// Whether the process ends with what is read here, so that memory is left to its end. Where a
+    /// source does not say so, it does not.
     fn is_last(&self) -> bool
-        ensures { result ≡ ends_process self.now };
+        ensures { IsTrue result → ends_process self.now ≡ true }
+    {
+        false
+    }
 }
 
 /// What bytes are written to. It tells its bytes as std's writers do.
-pub trait Output {
+pub trait Writer {
     // The bytes that were written, where they are known.
     ghost contents: { Self → Option (List ℕ) };
 
@@ -56,15 +66,19 @@ pub trait Output {
         ensures works { OnOk result (has_failed self.new ≡ has_failed self.old) }
         ensures fails { OnErr result (has_failed self.new ≡ true) };
 
-    /// Hands on what a buffer still holds. `Failed` where it can't be written.
-    fn flush(&mut self) -> Result<(), Failed>
-        ensures bytes { Keeps (contents self.old) (contents self.new) }
-        ensures works { OnOk result (has_failed self.new ≡ has_failed self.old) }
-        ensures fails { OnErr result (has_failed self.new ≡ true) };
-
     /// Whether a call failed.
     fn failed(&self) -> bool
         ensures { result ≡ has_failed self.now };
+}
+
+/// What bytes are written to and handed on from. Only the whole program flushes (`run_line`); a run
+/// takes a `Writer`, and so it can't.
+pub trait Output: Writer {
+    /// Hands on what a buffer still holds. `Failed` where it can't be written.
+    fn flush(&mut self) -> Result<(), Failed>
+        ensures bytes { Keeps (Self.contents self.old) (Self.contents self.new) }
+        ensures works { OnOk result (Self.has_failed self.new ≡ Self.has_failed self.old) }
+        ensures fails { OnErr result (Self.has_failed self.new ≡ true) };
 }
 
 /// Carries any reader or writer of std and keeps whether a call of it failed. A write that takes
@@ -131,12 +145,14 @@ impl<T: Read> Source for Device<T> {
         self.failed
     }
 
-    fn is_last(&self) -> bool {
+    fn is_last(&self) -> bool
+        ensures { result ≡ carrier_is_last self.now }
+    {
         self.last
     }
 }
 
-impl<T: Write> Output for Device<T> {
+impl<T: Write> Writer for Device<T> {
     ghost contents = { λ device. T.Write.contents (carried device) };
 
     ghost has_failed = { carrier_failed };
@@ -148,14 +164,16 @@ impl<T: Write> Output for Device<T> {
         }
     }
 
+    fn failed(&self) -> bool {
+        self.failed
+    }
+}
+
+impl<T: Write> Output for Device<T> {
     fn flush(&mut self) -> Result<(), Failed> {
         match self.inner.flush() {
             Ok(()) => Ok(()),
             Err(_) => self.fail(),
         }
-    }
-
-    fn failed(&self) -> bool {
-        self.failed
     }
 }

@@ -5,7 +5,7 @@ ghost use Rattle.jp_tree.specs.Tree.{query_of};
 ghost use Rattle.jp_query.specs.declared.refusal.RefusalKind.TheVariants.{NoMemory};
 ghost use Rattle.jp_command.specs.Run.{IsAsked, RefusesQuery, RunsEval};
 
-use crate::device::{Output, Source};
+use crate::device::{Source, Writer};
 use crate::fault::Fault;
 use crate::input::read_all;
 use crate::limits::QUERY_LIMIT;
@@ -29,14 +29,14 @@ use std::mem;
 /// or the output failed: a call that fails is not tried again. `NoMemory` says that memory ran out,
 /// at whatever step. After `Write` and `NoMemory` a prefix of the output is written. The document
 /// is freed at the end, unless the input is the last of its process (`Device::last`).
-pub fn run_eval<R: Source, W: Output>(
+pub fn run_eval<R: Source, W: Writer>(
     alloc: Global,
     query: &str,
     form: Form,
     input: &mut R,
     output: &mut W,
 ) -> Result<(), Fault>
-    ensures { RunsEval R.remaining R.has_failed W.contents W.has_failed
+    ensures { RunsEval R.remaining R.has_failed R.read_gives W.contents W.has_failed
         form query.now input.old input.new output.old output.new result }
 {
     let query = read_within_limit(alloc, query)?;

@@ -17,24 +17,26 @@ fn chunk_buffer(alloc: Global) -> Result<Vec<u8>, AllocError>
     vec![in alloc; 0; CHUNK_SIZE]
 }
 
-/// Reads `input` to its end. `DocumentTooLarge` once more than `DOCUMENT_LIMIT` bytes have come,
-/// `Read` at the first read that fails.
+/// Reads `input` to its end, which the first read without a byte tells. `DocumentTooLarge` at the
+/// read by which more than `DOCUMENT_LIMIT` bytes have come, `Read` at the first read that fails.
 pub(crate) fn read_all<R: Source>(alloc: Global, input: &mut R) -> Result<Vec<u8>, Fault>
     ensures ok { IfOk result (λ bytes.
-        ReadsAll R.remaining R.has_failed input.old input.new bytes.items) }
+        ReadsAll R.remaining R.has_failed R.read_gives input.old input.new bytes.items) }
     ensures stopped { IfErr result
-        (StopsReading R.remaining R.has_failed input.old input.new) }
+        (StopsReading R.remaining R.has_failed R.read_gives input.old input.new) }
 {
     let mut bytes = Vec::new(alloc);
     let mut chunk = chunk_buffer(alloc)?;
-    while bytes.len() <= DOCUMENT_LIMIT {
+    'chunks: loop {
         let Ok(count) = input.read(chunk.as_mut_slice()) else {
             return Err(Fault::Read);
         };
         if count == 0 {
             return Ok(bytes);
         }
+        if count > DOCUMENT_LIMIT - bytes.len() {
+            return Err(Fault::DocumentTooLarge);
+        }
         bytes.extend_from_slice(&chunk[..count])?;
     }
-    Err(Fault::DocumentTooLarge)
 }

@@ -2,7 +2,7 @@
 
 ghost use Rattle.jp_command.specs.Headline.{Headline};
 
-use crate::device::{Output, Source};
+use crate::device::{Source, Writer};
 use jp_canon::laws::canon_tells_apart;
 use jp_check::laws::{fault_at_its_item, one_answer};
 use jp_document::laws::{document_or_defect, paths_differ};
@@ -14,8 +14,8 @@ use jp_query::laws::one_refusal;
 /// definitions; two nodes of a document have equal normalized paths exactly if they are the same
 /// node, and each path read as a query selects that node alone; two accepted queries have equal
 /// canonical texts exactly if their trees are equal; and a refusal stands at its place.
-pub fn headline<R: Source, W: Output>()
-    ensures { Headline R.remaining R.has_failed W.contents W.has_failed }
+pub fn headline<R: Source, W: Writer>()
+    ensures { Headline R.remaining R.has_failed R.read_gives W.contents W.has_failed }
 {
     document_or_defect();
     one_answer();

@@ -29,7 +29,7 @@ mod words;
 
 pub use canon::run_canon;
 pub use check::run_check;
-pub use device::{Device, Failed, Output, Source};
+pub use device::{Device, Failed, Output, Source, Writer};
 pub use eval::run_eval;
 pub use fault::Fault;
 pub use limits::{DOCUMENT_LIMIT, QUERY_LIMIT};

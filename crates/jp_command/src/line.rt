@@ -9,7 +9,7 @@ ghost use Rattle.jp_command.specs.Output.{AppendsPrefix, AppendsSome};
 
 use crate::canon::run_canon;
 use crate::check::run_check;
-use crate::device::{Output, Source};
+use crate::device::{Output, Source, Writer};
 use crate::eval::run_eval;
 use crate::fault::Fault;
 use crate::output::write_all;
@@ -26,14 +26,14 @@ use std::borrow::CowStr;
 /// input or the output failed. Every status but 0 has its line in `faults`, if it can be written
 /// there; with status 2 that is clap's own text. The output is flushed once, after a run that is
 /// done.
-pub fn run_line<R: Source, W: Output, E: Output>(
+pub fn run_line<R: Source, W: Output, E: Writer>(
     alloc: Global,
     words: Vec<String>,
     input: &mut R,
     output: &mut W,
     faults: &mut E,
 ) -> u8
-    ensures { RunsLine R.remaining R.has_failed W.contents W.has_failed E.contents
+    ensures { RunsLine R.remaining R.has_failed R.read_gives W.contents W.has_failed E.contents
         (map string_bytes words.items) input.old input.new output.old output.new
         faults.old faults.new result }
 {
@@ -57,7 +57,7 @@ fn run_and_flush<R: Source, W: Output>(
     input: &mut R,
     output: &mut W,
 ) -> Result<(), Fault>
-    ensures { RunsTask R.remaining R.has_failed W.contents W.has_failed
+    ensures { RunsTask R.remaining R.has_failed R.read_gives W.contents W.has_failed
         task query.now input.old input.new output.old output.new result }
 {
     run_task(alloc, task, query, input, output)?;
@@ -68,14 +68,14 @@ fn run_and_flush<R: Source, W: Output>(
 }
 
 /// Runs a task.
-fn run_task<R: Source, W: Output>(
+fn run_task<R: Source, W: Writer>(
     alloc: Global,
     task: Task,
     query: &str,
     input: &mut R,
     output: &mut W,
 ) -> Result<(), Fault>
-    ensures { RunsTask R.remaining R.has_failed W.contents W.has_failed
+    ensures { RunsTask R.remaining R.has_failed R.read_gives W.contents W.has_failed
         task query.now input.old input.new output.old output.new result }
 {
     match task {
@@ -98,7 +98,7 @@ fn status(fault: &Fault) -> u8
 }
 
 /// Writes the line of a fault. One that cannot be written is left out.
-fn report<E: Output>(alloc: Global, fault: &Fault, faults: &mut E)
+fn report<E: Writer>(alloc: Global, fault: &Fault, faults: &mut E)
     ensures { AppendsPrefix (E.contents faults.old) (E.contents faults.new) (fault_line fault.now) }
 {
     if let Ok(line) = line_of(alloc, fault) {
@@ -140,7 +140,7 @@ fn document_fault_name(fault: &DocumentFault) -> &'static str
 }
 
 /// Writes the text of clap's error, and answers its status.
-fn refuse_words<E: Output>(alloc: Global, error: &Error, faults: &mut E) -> u8
+fn refuse_words<E: Writer>(alloc: Global, error: &Error, faults: &mut E) -> u8
     ensures memory { kind_of error.now ≡ ErrorKind.OutOfMemory → result ≡ 4 }
     ensures memory_line { kind_of error.now ≡ ErrorKind.OutOfMemory
         → AppendsPrefix (E.contents faults.old) (E.contents faults.new)

@@ -5,9 +5,9 @@ ghost use Rattle.jp_command.specs.Lines.{line_of, lines_of};
 ghost use Rattle.jp_command.specs.Output.{StopsWriting, WritesAll};
 ghost use Rattle.jp_command.specs.Private.ByTurns.{WritesByTurns};
 ghost use Rattle.jp_document.specs.Node.{node_of};
-ghost use Rattle.jp_evaluate.specs.Rest.{rest_of};
+ghost use Rattle.jp_evaluate.specs.Rest.{has_failed, rest_of};
 
-use crate::device::Output;
+use crate::device::Writer;
 use crate::fault::Fault;
 use crate::output::write_all;
 use jp_document::{Node, push_path, push_value};
@@ -45,13 +45,13 @@ fn push_line(form: Form, node: &Node, line: &mut String) -> Result<(), AllocErro
 
 /// Writes the line of each node before it asks for the next. After a fault a prefix of the lines is
 /// written: those of the nodes that were given, the last of them perhaps in part or not at all.
-pub(crate) fn write_lines<'d: 'q, 'q, W: Output>(
+pub(crate) fn write_lines<'d: 'q, 'q, W: Writer>(
     alloc: Global,
     form: Form,
     nodes: &mut Nodes<'d, 'q, Marks>,
     output: &mut W,
 ) -> Result<(), Fault>
-    requires { nodes.now.failed ≡ false }
+    requires { has_failed nodes.now ≡ false }
     ensures ok { OnOk result (WritesAll W.contents W.has_failed output.old output.new
         (lines_of form (rest_of nodes.old))) }
     ensures stopped { IfErr result (StopsWriting W.contents W.has_failed output.old output.new

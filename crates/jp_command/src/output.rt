@@ -3,10 +3,10 @@
 ghost use Rattle.std.specs.Prelude.{◌≡◌, true, OnOk, OnErr};
 ghost use Rattle.jp_command.specs.Output.{AppendsPrefix, WritesAll};
 
-use crate::device::{Failed, Output};
+use crate::device::{Failed, Writer};
 
 /// Writes all of `bytes`. Where a write fails, what was written is a prefix of them.
-pub(crate) fn write_all<W: Output>(output: &mut W, bytes: &[u8]) -> Result<(), Failed>
+pub(crate) fn write_all<W: Writer>(output: &mut W, bytes: &[u8]) -> Result<(), Failed>
     ensures ok { OnOk result (WritesAll W.contents W.has_failed output.old output.new bytes.now) }
     ensures prefix { OnErr result
         (AppendsPrefix (W.contents output.old) (W.contents output.new) bytes.now) }

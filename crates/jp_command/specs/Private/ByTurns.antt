@@ -4,7 +4,7 @@ use Rattle.std.specs.Prelude.{◌≡◌, ◌⊎◌, ℕ, true, false, List, [], 
 use Rattle.std.specs.Prelude.{Err}
 use Rattle.std.specs.Io.KnownBytes.{Appends}
 use Rattle.jp_document.specs.Node.{Node}
-use Rattle.jp_evaluate.specs.Rest.{rest_of}
+use Rattle.jp_evaluate.specs.Rest.{has_failed, rest_of}
 use Rattle.jp_evaluate.specs.declared.each.Nodes.{Nodes}
 use Rattle.jp_command.specs.Lines.{line_of, lines_of}
 use Rattle.jp_command.specs.declared.fault.Fault.{Fault}
@@ -35,8 +35,8 @@ module _ {W : Type 0} (contents : W → Option (List ℕ)) (form : Form) where
   abbrev pub WritesByTurns : {M X : Type 0} → Nodes M → Nodes M → W → W → Result X Fault → Type 0
   WritesByTurns v w o p (Ok x) = (rest_of w ≡ []) × WritesGiven (rest_of v) (rest_of w) o p
   WritesByTurns v w o p (Err NoMemory) =
-      ((w.failed ≡ false) × (last : Node) × WritesGiven (rest_of v) (last ∷ rest_of w) o p)
-      ⊎ ((w.failed ≡ true) × (rest : List Node) × WritesGiven (rest_of v) rest o p)
+      ((has_failed w ≡ false) × (last : Node) × WritesGiven (rest_of v) (last ∷ rest_of w) o p)
+      ⊎ ((has_failed w ≡ true) × (rest : List Node) × WritesGiven (rest_of v) rest o p)
   WritesByTurns v w o p (Err Write) =
-      (w.failed ≡ false) × WritesPart (rest_of v) (rest_of w) o p
+      (has_failed w ≡ false) × WritesPart (rest_of v) (rest_of w) o p
   WritesByTurns v w o p (Err _) = ⊥

@@ -1,16 +1,18 @@
-use Rattle.std.proofs.Common.{◌≡◌, ◌≤◌, ◌+◌, ◌-◌, vec_len}
+use Rattle.std.proofs.Common.{◌≡◌, ◌≤◌, ◌-◌, vec_len}
 use Rattle.std.specs.Io.KnownBytes.{Consumes}
 use Rattle.jp_command.specs.Limits.{chunk_size, document_limit}
+use Rattle.jp_command.specs.Reads.{ComeByReads}
 use Rattle.jp_command.proofs.input.read_all.Given as goal
 
--- the bytes are those that came, not more than the last read could give beyond the limit
-abbrev pub invariant-loop-input : goal.invariant-loop-input
-invariant-loop-input g l = record {
+-- the bytes are those that came, not more than a document may have
+abbrev pub invariant-chunks : goal.invariant-chunks
+invariant-chunks g l = record {
   came : Consumes (g.R.Source.remaining l.fn.input) (g.R.Source.remaining l.input) l.bytes.items;
-  end : vec_len l.bytes ≤ document_limit + chunk_size;
+  few : vec_len l.bytes ≤ document_limit;
+  calls : ComeByReads g.R.Source.read_gives l.fn.input l.input l.bytes.items;
   room : vec_len l.chunk ≡ chunk_size;
   works : g.R.Source.has_failed l.input ≡ g.R.Source.has_failed l.fn.input;
 }
 
-abbrev pub decreases-loop-input : goal.decreases-loop-input
-decreases-loop-input g l = document_limit + 1 - vec_len l.bytes
+abbrev pub decreases-chunks : goal.decreases-chunks
+decreases-chunks g l = document_limit - vec_len l.bytes

@@ -8,16 +8,16 @@ pub returns : goal.returns
 returns g c = record {
   documents = c.document_or_defect.ensures;
   queries = c.one_answer.ensures;
-  accepted = accepted-is_taken _ _ _ _ c.document_or_defect.ensures;
-  no_other = answered-is_accepted _ _ _ _;
+  accepted = accepted-is_taken _ _ _ _ _ c.document_or_defect.ensures;
+  no_other = answered-is_accepted _ _ _ _ _;
   asked = λ form text i j o p run. (run.is.q, run.is.asked);
   refused = λ form text i j o p r run. run;
-  nodelist = writes-nodelist _ _ _ _ c.document_or_defect.ensures c.one_answer.ensures;
+  nodelist = writes-nodelist _ _ _ _ _ c.document_or_defect.ensures c.one_answer.ensures;
   paths = c.paths_differ.ensures.nodes;
   path_selects = c.path_selects_its_node.ensures;
   canonical_texts = c.canon_tells_apart.ensures;
-  canonical_lines = line-is_written _ _ _ _ canon_line;
-  checked_lines = line-is_written _ _ _ _ accepted_line;
+  canonical_lines = line-is_written _ _ _ _ _ canon_line;
+  checked_lines = line-is_written _ _ _ _ _ accepted_line;
   syntax_places = c.one_refusal.ensures;
   fault_places = c.fault_at_its_item.ensures;
 }

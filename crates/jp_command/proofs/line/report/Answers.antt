@@ -7,8 +7,8 @@ use Rattle.jp_command.proofs.line.report.Goals as goal
 pub returns-in-Ok : goal.returns-in-Ok
 returns-in-Ok g c =
     let line : c.as_bytes.result.now ≡ fault_line c.args.fault.now = search rules in
-    let before = g.E.Output.contents c.args.faults.now in
-    let after = g.E.Output.contents c.write_all.new.output in
+    let before = g.E.Writer.contents c.args.faults.now in
+    let after = g.E.Writer.contents c.write_all.new.output in
     subst (λ text. AppendsPrefix before after text) line
     (prefix-either _ _ c.as_bytes.result.now c.write_all.result (search rules)
     c.write_all.ensures.prefix)

@@ -6,12 +6,12 @@ use Rattle.jp_command.proofs.lines.write_lines.Goals as goal
 
 pub returns-in_err-node-clause-stopped : goal.returns-in_err-node-clause-stopped
 returns-in_err-node-clause-stopped g c =
-    stops-for_memory g.W.Output.contents g.W.Output.has_failed c.args.form _ _ _ _ _
+    stops-for_memory g.W.Writer.contents g.W.Writer.has_failed c.args.form _ _ _ _ _
     c.loop-next.invariant.written c.loop-next.invariant.works c.from_residual.ensures.1
 
 pub returns-in_err-push_line-clause-stopped : goal.returns-in_err-push_line-clause-stopped
 returns-in_err-push_line-clause-stopped g c =
-    stops-for_memory g.W.Output.contents g.W.Output.has_failed c.args.form _ _ _ _ _
+    stops-for_memory g.W.Writer.contents g.W.Writer.has_failed c.args.form _ _ _ _ _
     c.loop-next.invariant.written c.loop-next.invariant.works
     c.from_residual-in_err-push_line.ensures.1
 
@@ -21,8 +21,8 @@ returns-in_default-write_all-clause-stopped g c =
     let n = c.in_ok-node.node in
     let steps = rw (c.in-Some.is, c.in_ok-node.was) at c.next.ensures.steps in
     let line : c.as_bytes.result.now ≡ line_of form (node_of n) = search rules in (
-      part-is_prefix g.W.Output.contents g.W.Output.has_failed form _ _ _ _
-          (given_part g.W.Output.contents g.W.Output.has_failed form _ _ _ (node_of n) _ _ _
+      part-is_prefix g.W.Writer.contents g.W.Writer.has_failed form _ _ _ _
+          (given_part g.W.Writer.contents g.W.Writer.has_failed form _ _ _ (node_of n) _ _ _
           c.loop-next.invariant.written steps.2 (rw line at c.in_default-write_all.ensures.prefix)),
       c.in_default-write_all.ensures.failed,
     )
@@ -35,7 +35,7 @@ returns-in_default-write_all-clause-by_turns g c =
     let steps = rw (c.in-Some.is, c.in_ok-node.was) at c.next.ensures.steps in
     let line : c.as_bytes.result.now ≡ line_of form (node_of n) = search rules in (
       steps.1,
-      given_part g.W.Output.contents g.W.Output.has_failed form _ _ _ (node_of n) _ _ _
+      given_part g.W.Writer.contents g.W.Writer.has_failed form _ _ _ (node_of n) _ _ _
           c.loop-next.invariant.written steps.2 (rw line at c.in_default-write_all.ensures.prefix),
     )
 
@@ -47,7 +47,7 @@ loop-next-preserved g c =
     let line : c.as_bytes.result.now ≡ line_of form (node_of n) = search rules in
     record {
       working = steps.1;
-      written = given_more g.W.Output.contents g.W.Output.has_failed form _ _ _ (node_of n) _ _ _
+      written = given_more g.W.Writer.contents g.W.Writer.has_failed form _ _ _ (node_of n) _ _ _
           c.loop-next.invariant.written steps.2 (rw line at c.in-Ok.ensures.ok);
       works = search rules;
     }

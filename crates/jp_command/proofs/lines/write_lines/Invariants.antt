@@ -1,15 +1,15 @@
 use Rattle.std.proofs.Common.{◌≡◌, false, length}
-use Rattle.jp_evaluate.specs.Rest.{rest_of}
+use Rattle.jp_evaluate.specs.Rest.{has_failed, rest_of}
 use Rattle.jp_command.specs.Private.ByTurns.{WritesGiven}
 use Rattle.jp_command.proofs.lines.write_lines.Given as goal
 
 -- the lines of the nodes so far are written
 abbrev pub invariant-loop-next : goal.invariant-loop-next
 invariant-loop-next g l = record {
-  working : l.nodes.failed ≡ false;
-  written : WritesGiven g.W.Output.contents l.form (rest_of l.fn.nodes) (rest_of l.nodes)
+  working : has_failed l.nodes ≡ false;
+  written : WritesGiven g.W.Writer.contents l.form (rest_of l.fn.nodes) (rest_of l.nodes)
       l.fn.output l.output;
-  works : g.W.Output.has_failed l.output ≡ g.W.Output.has_failed l.fn.output;
+  works : g.W.Writer.has_failed l.output ≡ g.W.Writer.has_failed l.fn.output;
 }
 
 abbrev pub decreases-loop-next : goal.decreases-loop-next

@@ -6,8 +6,8 @@ use Rattle.jp_command.proofs.output.write_all.Given as goal
 abbrev pub invariant-loop-rest : goal.invariant-loop-rest
 invariant-loop-rest g l = record {
   split : (prefix : List ℕ) × (l.fn.bytes ≡ prefix ++ l.rest)
-      × Appends (g.W.Output.contents l.fn.output) (g.W.Output.contents l.output) prefix;
-  works : g.W.Output.has_failed l.output ≡ g.W.Output.has_failed l.fn.output;
+      × Appends (g.W.Writer.contents l.fn.output) (g.W.Writer.contents l.output) prefix;
+  works : g.W.Writer.has_failed l.output ≡ g.W.Writer.has_failed l.fn.output;
 }
 
 abbrev pub decreases-loop-rest : goal.decreases-loop-rest
