@@ -5,6 +5,7 @@ mod failures;
 mod limits;
 mod prefixes;
 mod rows;
+mod sources;
 mod statuses;
 mod table;
 mod texts;

@@ -42,19 +42,20 @@ impl Read for Blanks {
     }
 }
 
-/// Gives at most so many bytes a call; the call of this number, from 1, fails.
+/// Gives at most so many bytes a call of what another reader gives; the call of this number, from
+/// 1, fails.
 #[derive(Drop)]
-pub struct Trickle<'b> {
-    pub bytes: &'b [u8],
+pub struct Trickle<R> {
+    pub inner: R,
     pub size: usize,
     pub failing: usize,
     pub calls: usize,
 }
 
-impl<'b> Trickle<'b> {
-    pub fn new(bytes: &'b [u8], size: usize) -> Trickle<'b> {
+impl<R: Read> Trickle<R> {
+    pub fn new(inner: R, size: usize) -> Trickle<R> {
         Trickle {
-            bytes,
+            inner,
             size,
             failing: 0,
             calls: 0,
@@ -62,18 +63,19 @@ impl<'b> Trickle<'b> {
     }
 }
 
-impl Read for Trickle<'_> {
+impl<R: Read> Read for Trickle<R> {
     fn read(&mut self, buffer: &mut [u8]) -> Result<usize> {
         self.calls = self.calls.saturating_add(1);
         if self.calls == self.failing {
             return Err(Error::from(ErrorKind::TimedOut));
         }
         let size = self.size.min(buffer.len());
-        self.bytes.read(&mut buffer[..size])
+        self.inner.read(&mut buffer[..size])
     }
 }
 
-/// Takes at most so many bytes a call; the call of this number, from 1, fails or takes none.
+/// Takes at most so many bytes a call; the call of this number, from 1, fails or takes none, and so
+/// does the flush of this number.
 #[derive(Drop)]
 pub struct Drip {
     pub taken: Vec<u8>,
@@ -81,6 +83,7 @@ pub struct Drip {
     pub failing: usize,
     pub takes_none: bool,
     pub calls: usize,
+    pub failing_flush: u8,
     pub flush_count: u8,
 }
 
@@ -92,6 +95,7 @@ impl Drip {
             failing: 0,
             takes_none: false,
             calls: 0,
+            failing_flush: 0,
             flush_count: 0,
         }
     }
@@ -113,6 +117,9 @@ impl Write for Drip {
 
     fn flush(&mut self) -> Result<()> {
         self.flush_count = self.flush_count.saturating_add(1);
+        if self.flush_count == self.failing_flush {
+            return Err(Error::from(ErrorKind::BrokenPipe));
+        }
         Ok(())
     }
 }

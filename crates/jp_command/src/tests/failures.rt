@@ -2,10 +2,12 @@
 
 use super::devices::{Blanks, Drip, Narrow, Trickle};
 use super::table::names::{IN_QUOTES, NAMES};
-use crate::{Device, Fault, Form, Output, Source, run_canon, run_check, run_eval};
+use super::texts::nested;
+use crate::{Device, Fault, Form, Source, Writer, run_canon, run_check, run_eval};
 use jp_query::{Refusal, RefusalKind};
 use std::alloc::Global;
 use std::process::Abort;
+use std::test::Fail;
 
 /// What `IN_QUOTES` gives over `NAMES`.
 const LINE: &str = "$['\\'']['@']\t2\n";
@@ -19,7 +21,10 @@ fn tells_no_failure_where_none_came(rt: HostRuntime) {
     let run = run_eval(rt.alloc(), IN_QUOTES, Form::Both, &mut input, &mut output);
     let failed = (input.failed(), output.failed());
     assert_eq!(rt; (run, failed), (Ok(()), (false, false)));
-    assert_eq!(rt; drip.taken.as_slice(), LINE.as_bytes());
+    assert_eq!(rt;
+        (drip.taken.as_slice(), trickle.calls),
+        (LINE.as_bytes(), NAMES.len().saturating_add(1))
+    );
 }
 
 #[test]
@@ -65,15 +70,35 @@ fn tells_each_read_that_fails(rt: HostRuntime) {
 #[test]
 fn stops_reading_an_input_that_never_ends(rt: HostRuntime) {
     let alloc = rt.alloc();
-    let mut written = Vec::new(alloc);
-    let mut input = Device::new(Blanks(usize::MAX - 1));
-    let mut output = Device::new(&mut written);
-    let run = run_eval(alloc, "$", Form::Both, &mut input, &mut output);
-    let failed = (input.failed(), output.failed());
-    assert_eq!(rt;
-        (run, failed, written.len()),
-        (Err(Fault::DocumentTooLarge), (false, false), 0)
+    for (size, calls) in [(usize::MAX, 257), (1, 16_777_217)] {
+        let mut blanks = Trickle::new(Blanks(usize::MAX - 1), size);
+        let mut written = Vec::new(alloc);
+        let mut input = Device::new(&mut blanks);
+        let mut output = Device::new(&mut written);
+        let run = run_eval(alloc, "$", Form::Both, &mut input, &mut output);
+        let failed = (input.failed(), output.failed());
+        assert_eq!(rt;
+            (run, failed, written.len(), blanks.calls),
+            (Err(Fault::DocumentTooLarge), (false, false), 0, calls)
+        );
+    }
+}
+
+#[test]
+fn writes_a_line_before_it_looks_for_the_next_node(rt: HostRuntime) -> Result<(), Fail> {
+    let alloc = rt.alloc();
+    let document = nested(alloc, ("", "[", 60, "1"), ("]", ""))?;
+    let each_item_twice = nested(alloc, ("$", "[0,0]", 60, ""), ("", ""))?;
+    let mut narrow = Narrow::new(alloc, 0, true);
+    let run = run_eval(
+        alloc,
+        each_item_twice.as_str(),
+        Form::Values,
+        &mut Device::new(document.as_bytes()),
+        &mut Device::new(&mut narrow),
     );
+    assert_eq!(rt; (run, narrow.taken.len()), (Err(Fault::Write), 0));
+    Ok(())
 }
 
 #[test]

@@ -1,6 +1,6 @@
 //! Each status of `run_line`, with its line.
 
-use super::devices::{Broken, Narrow};
+use super::devices::{Broken, Drip, Narrow};
 use super::rows::{assert_ended, ended, words};
 use super::table::names::{IN_QUOTES, NAMES};
 use crate::{Device, run_line};
@@ -14,6 +14,14 @@ fn refuses_a_document_that_is_no_utf8(rt: HostRuntime) -> Result<(), Fail> {
     let line = ["jp", "both", "$"];
     let refused = (3, "", "document refused: NotJson\n");
     assert_ended(&rt, rt.alloc(), &line, b"\"\xff\"".as_slice(), refused)
+}
+
+#[test]
+fn writes_a_path_with_each_kind_of_spelling(rt: HostRuntime) -> Result<(), Fail> {
+    let line = ["jp", "paths", "$.*"];
+    let document = br#"{"\u001f\n'\\":1}"#.as_slice();
+    let paths = (0, "$['\\u001f\\n\\'\\\\']\n", "");
+    assert_ended(&rt, rt.alloc(), &line, document, paths)
 }
 
 #[test]
@@ -107,6 +115,25 @@ fn tells_failures_of_its_streams(rt: HostRuntime) -> Result<(), Fail> {
     assert_fault(&rt, alloc, document, narrow, b"write fault\n")?;
     let unflushed = Narrow::new(alloc, 99, false);
     assert_fault(&rt, alloc, document, unflushed, b"write fault\n")
+}
+
+#[test]
+fn flushes_only_an_output_that_took_all_and_only_once(rt: HostRuntime) -> Result<(), Fail> {
+    let alloc = rt.alloc();
+    for (failing, failing_flush, flush_count) in [(2, 0, 0), (0, 1, 1)] {
+        let mut drip = Drip::new(alloc, 1);
+        drip.failing = failing;
+        drip.failing_flush = failing_flush;
+        let ended = run_line(
+            alloc,
+            words(alloc, &["jp", "both", "$"])?,
+            &mut Device::new(b"[1]".as_slice()),
+            &mut Device::new(&mut drip),
+            &mut Device::new(Narrow::new(alloc, 99, true)),
+        );
+        assert_eq!(rt; (ended, drip.flush_count), (5, flush_count));
+    }
+    Ok(())
 }
 
 #[test]

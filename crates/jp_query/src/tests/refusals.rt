@@ -22,9 +22,11 @@ fn texts_are_refused_at_their_places(rt: HostRuntime) {
 
 #[test]
 fn a_65th_level_is_refused(rt: HostRuntime) -> Result<(), Fail> {
-    let text = "[?(@".repeat(rt.alloc(), 33)?;
-    let text = format!(in rt.alloc(); "${text}")?;
-    assert_refused(&rt, rt.alloc(), &text, RefusalKind::TooDeep, 130);
+    for (start, levels, count, place) in [("$", "[?(@", 33, 130), ("$[?", "(", 100_000, 66)] {
+        let levels = levels.repeat(rt.alloc(), count)?;
+        let text = format!(in rt.alloc(); "{start}{levels}")?;
+        assert_refused(&rt, rt.alloc(), &text, RefusalKind::TooDeep, place);
+    }
     Ok(())
 }
 

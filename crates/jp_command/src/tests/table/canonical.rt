@@ -18,6 +18,7 @@ const SEGMENTS: &[Row] = &[
         r#"$["\/\u0022\u000B", '\u001F\'\\\b\t\n\f\r']"#,
         Canonical(r#"$['/"\u000b','\u001f\'\\\b\t\n\f\r']"#),
     ),
+    ("", r#"$["\/\u0022\u000B"]"#, Canonical(r#"$['/"\u000b']"#)),
     ("", r#"$["\uD83D\uDE00"]"#, Canonical("$['😀']")),
     (
         "",

@@ -22,6 +22,16 @@ const DESCENDANTS: &[(&str, &str)] = &[
     ("$['o']['k']", "2"),
 ];
 
+/// The first two of `LETTERS` and the sixth.
+const SLICE_AND_INDEX: &[(&str, &str)] = &[
+    ("$[0]", r#""a""#),
+    ("$[1]", r#""b""#),
+    ("$[5]", r#""f""#),
+];
+
+/// The first of `LETTERS`, twice.
+const FIRST_TWICE: &[(&str, &str)] = &[("$[0]", r#""a""#), ("$[0]", r#""a""#)];
+
 /// Section 2.5.1: child segments.
 const CHILD_SEGMENTS: &[Row] = &[
     (
@@ -29,16 +39,10 @@ const CHILD_SEGMENTS: &[Row] = &[
         "$[0, 3]",
         Nodes(&[("$[0]", r#""a""#), ("$[3]", r#""d""#)]),
     ),
-    (
-        LETTERS,
-        "$[0:2, 5]",
-        Nodes(&[("$[0]", r#""a""#), ("$[1]", r#""b""#), ("$[5]", r#""f""#)]),
-    ),
-    (
-        LETTERS,
-        "$[0, 0]",
-        Nodes(&[("$[0]", r#""a""#), ("$[0]", r#""a""#)]),
-    ),
+    (LETTERS, "$[0:2, 5]", Nodes(SLICE_AND_INDEX)),
+    (LETTERS, "$[0:2,5]", Nodes(SLICE_AND_INDEX)),
+    (LETTERS, "$[0, 0]", Nodes(FIRST_TWICE)),
+    (LETTERS, "$[0,0]", Nodes(FIRST_TWICE)),
     (
         LETTERS,
         "$[*,0]",
