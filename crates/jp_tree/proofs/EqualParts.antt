@@ -1,6 +1,6 @@
--- What `==` says of the parts of a query that hold no query: numbers, slices, operators, texts and
--- literals; and of lists, by what it says of their items.
-use Rattle.std.proofs.Common.{◌≡◌, refl, ap, sym, ◌∙◌, rules, Bool, true, false, List, [], ◌∷◌, map, Option}
+-- `==` of the parts of a query that hold no query says whether their trees are equal; and `==` of
+-- lists, where that of their items does.
+use Rattle.std.proofs.Common.{◌≡◌, ℕ, refl, ap, sym, ◌∙◌, rules, Bool, List, [], ◌∷◌, map, Option}
 use Rattle.std.proofs.Common.{None, Some, String, string_bytes, chars, Global, Decides}
 use Rattle.std.proofs.lemmas.Bool.Decides.{Decides-and, Decides-int_eq, Decides-like}
 use Rattle.std.proofs.lemmas.Slice.Eq.{bytes_eq-Decides}
@@ -9,7 +9,6 @@ use Rattle.std.specs.Option.{option_eq}
 use Rattle.std.specs.Str.{encode_utf8_all}
 use Rattle.std.specs.String.{string_eq}
 use denote.Enum.Bare.{same_true, true_same}
-use mathlib.Core.Bool.{beq}
 use lib.Pointwise.{pointwise}
 use Rattle.jp_tree.specs.contracts.tree.LiteralPartialEq.TheImpl as literals
 use Rattle.jp_tree.specs.contracts.tree.NumeralPartialEq.TheImpl as numerals
@@ -23,12 +22,8 @@ use Rattle.jp_tree.specs.declared.tree.Numeral.TheVariants.{Whole, Beyond, Fract
 use Rattle.jp_tree.specs.declared.tree.Op.{Op}
 use Rattle.jp_tree.specs.declared.tree.Slice.{Slice}
 use Rattle.jp_tree.specs.Tree.{ExprTree, ArgumentTree, SegmentTree, SelectorTree, literal_of}
-use Rattle.jp_tree.specs.Tree.{arguments, exprs, segments, selectors}
-
-pub Decides-bool : (a b : Bool) → Decides (beq a b) (a ≡ b)
-Decides-bool true true = (λ h. refl, λ e. refl)
-Decides-bool false false = (λ h. refl, λ e. refl)
-Decides-bool _ _ = (λ h. cc, λ e. cc)
+use Rattle.jp_tree.specs.Tree.{all_of, any_of, arguments, call, exprs, query, segment, segments}
+use Rattle.jp_tree.specs.Tree.{selectors}
 
 pub Decides-numeral : (s t : Numeral) → Decides (numerals.ghosts.eq s t) (s ≡ t)
 Decides-numeral (Whole m) (Whole n) =
@@ -40,16 +35,17 @@ Decides-numeral _ _ = (λ h. cc, λ e. cc)
 Decides-option : {A : Type 0} (E : A → A → Bool) → ((x y : A) → Decides (E x y) (x ≡ y))
     → (x y : Option A) → Decides (option_eq E x y) (x ≡ y)
 Decides-option E each None None = (λ h. refl, λ e. refl)
-Decides-option E each None (Some y) = (λ h. cc, λ e. cc)
-Decides-option E each (Some x) None = (λ h. cc, λ e. cc)
-Decides-option E each (Some x) (Some y) =
-    Decides-like _ (λ e. ap Some e) (λ e. cc) (each x y)
+Decides-option E each (Some x) (Some y) = Decides-like _ (λ e. ap Some e) (λ e. cc) (each x y)
+Decides-option E each _ _ = (λ h. cc, λ e. cc)
 
 pub Decides-slice : (s t : Slice) → Decides (slices.ghosts.eq s t) (s ≡ t)
 Decides-slice s t =
     Decides-like _
     (λ e. λ i. record { start = e.0 i; end = e.1.0 i; step = e.1.1 i })
-    (λ e. (ap (λ (x : Slice). x.start) e, (ap (λ (x : Slice). x.end) e, ap (λ (x : Slice). x.step) e)))
+    (λ e. (
+      ap (λ (x : Slice). x.start) e,
+      (ap (λ (x : Slice). x.end) e, ap (λ (x : Slice). x.step) e),
+    ))
     (Decides-and _ _
     (Decides-option numerals.ghosts.eq Decides-numeral s.start t.start)
     (Decides-and _ _
@@ -68,7 +64,8 @@ Decides-text s t =
     ∙ encodes-chars (string_bytes t) (IsUtf8-string_bytes t))
     (bytes_eq-Decides (string_bytes s) (string_bytes t))
 
-pub Decides-literal : (s t : Literal) → Decides (literals.ghosts.eq s t) (literal_of s ≡ literal_of t)
+pub Decides-literal : (s t : Literal)
+    → Decides (literals.ghosts.eq s t) (literal_of s ≡ literal_of t)
 Decides-literal (Number m) (Number n) =
     Decides-like _ (λ e. cc) (λ e. cc) (Decides-numeral m n)
 Decides-literal (Text m) (Text n) =
@@ -83,36 +80,51 @@ pub Decides-items : {A B : Type 0} (E : A → A → Bool) (f : A → B)
     (xs : List ((x : A) × ((y : A) → Decides (E x y) (f x ≡ f y)))) (ys : List A)
     → Decides (pointwise E (map (λ k. k.0) xs) ys) (map f (map (λ k. k.0) xs) ≡ map f ys)
 Decides-items E f [] [] = (λ h. refl, λ e. refl)
-Decides-items E f [] (y ∷ ys) = (λ h. cc, λ e. cc)
-Decides-items E f (x ∷ xs) [] = (λ h. cc, λ e. cc)
 Decides-items E f (x ∷ xs) (y ∷ ys) =
     Decides-like _ (λ e. cc) (λ e. (cc, cc))
     (Decides-and _ _ (x.1 y) (Decides-items E f xs ys))
+Decides-items E f _ _ = (λ h. cc, λ e. cc)
 
-pub arguments-injective : (xs ys : List ArgumentTree) → arguments xs ≡ arguments ys → xs ≡ ys
+-- ---- what two equal trees have in common
+
+arguments-injective : (xs ys : List ArgumentTree) → arguments xs ≡ arguments ys → xs ≡ ys
 arguments-injective [] [] e = refl
-arguments-injective [] (y ∷ ys) e = cc
-arguments-injective (x ∷ xs) [] e = cc
 arguments-injective (x ∷ xs) (y ∷ ys) e =
     let rest : xs ≡ ys = arguments-injective xs ys cc in cc
+arguments-injective _ _ e = cc
 
-pub exprs-injective : (xs ys : List ExprTree) → exprs xs ≡ exprs ys → xs ≡ ys
+pub call-injective : (m n : List ℕ) (xs ys : List ArgumentTree)
+    → call m (arguments xs) ≡ call n (arguments ys) → (m ≡ n) × (xs ≡ ys)
+call-injective m n xs ys e = (cc, arguments-injective xs ys cc)
+
+exprs-injective : (xs ys : List ExprTree) → exprs xs ≡ exprs ys → xs ≡ ys
 exprs-injective [] [] e = refl
-exprs-injective [] (y ∷ ys) e = cc
-exprs-injective (x ∷ xs) [] e = cc
 exprs-injective (x ∷ xs) (y ∷ ys) e =
     let rest : xs ≡ ys = exprs-injective xs ys cc in cc
+exprs-injective _ _ e = cc
 
-pub segments-injective : (xs ys : List SegmentTree) → segments xs ≡ segments ys → xs ≡ ys
-segments-injective [] [] e = refl
-segments-injective [] (y ∷ ys) e = cc
-segments-injective (x ∷ xs) [] e = cc
-segments-injective (x ∷ xs) (y ∷ ys) e =
-    let rest : xs ≡ ys = segments-injective xs ys cc in cc
+pub any_of-injective : (xs ys : List ExprTree) → any_of (exprs xs) ≡ any_of (exprs ys) → xs ≡ ys
+any_of-injective xs ys e = exprs-injective xs ys cc
 
-pub selectors-injective : (xs ys : List SelectorTree) → selectors xs ≡ selectors ys → xs ≡ ys
+pub all_of-injective : (xs ys : List ExprTree) → all_of (exprs xs) ≡ all_of (exprs ys) → xs ≡ ys
+all_of-injective xs ys e = exprs-injective xs ys cc
+
+selectors-injective : (xs ys : List SelectorTree) → selectors xs ≡ selectors ys → xs ≡ ys
 selectors-injective [] [] e = refl
-selectors-injective [] (y ∷ ys) e = cc
-selectors-injective (x ∷ xs) [] e = cc
 selectors-injective (x ∷ xs) (y ∷ ys) e =
     let rest : xs ≡ ys = selectors-injective xs ys cc in cc
+selectors-injective _ _ e = cc
+
+pub segment-injective : (a b : Bool) (xs ys : List SelectorTree)
+    → segment a (selectors xs) ≡ segment b (selectors ys) → (a ≡ b) × (xs ≡ ys)
+segment-injective a b xs ys e = (cc, selectors-injective xs ys cc)
+
+segments-injective : (xs ys : List SegmentTree) → segments xs ≡ segments ys → xs ≡ ys
+segments-injective [] [] e = refl
+segments-injective (x ∷ xs) (y ∷ ys) e =
+    let rest : xs ≡ ys = segments-injective xs ys cc in cc
+segments-injective _ _ e = cc
+
+pub query-injective : (a b : Bool) (xs ys : List SegmentTree)
+    → query a (segments xs) ≡ query b (segments ys) → (a ≡ b) × (xs ≡ ys)
+query-injective a b xs ys e = (cc, segments-injective xs ys cc)
