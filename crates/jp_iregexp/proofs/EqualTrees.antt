@@ -1,12 +1,11 @@
 -- `==` of two patterns says whether their trees are equal, by induction over the first.
-use Rattle.std.proofs.Common.{◌≡◌, ℕ, ◌==◌, ◌&&◌, Bool, true, false, Decides, Option, None, Some}
+use Rattle.std.proofs.Common.{◌≡◌, ℕ, ◌==◌, Bool, true, false, Decides, Option, None, Some}
 use Rattle.std.proofs.Common.{List, [], ◌∷◌, map, refl, sym, ap, subst, ◌∙◌, arith, rules}
-use Rattle.std.proofs.lemmas.Bool.Decides.{Decides-and, Decides-at, Decides-eqb, Decides-like}
+use Rattle.std.proofs.lemmas.Bool.Decides.{Decides-and, Decides-eqb, Decides-like}
 use Rattle.std.specs.Cmp.{booleans_Decides}
 use Rattle.std.specs.Option.{option_eq}
 use denote.Enum.Bare.{same_true, true_same}
 use denote.Hole.Compared.{compared, compared_is}
-use mathlib.Core.Bool.{beq}
 use lib.Pointwise.{pointwise}
 use Rattle.jp_iregexp.specs.contracts.category.Category.{the_type}
 use Rattle.jp_iregexp.specs.contracts.class.ClassItemPartialEq.TheImpl as items
@@ -134,39 +133,38 @@ Decides-patterns (p ∷ ps) (q ∷ qs) =
     Decides-like _ (λ e. cc) (λ e. (cc, cc)) (Decides-and _ _ (p.1 q) (Decides-patterns ps qs))
 Decides-patterns _ _ = (λ h. cc, λ e. cc)
 
+-- a `Bool` says whether a fact holds, where an equal one says it of an equivalent fact
+said : {P Q : Type 0} {r t : Bool} → Decides t P → (P → Q) → (Q → P) → r ≡ t → Decides r Q
+said d f g e = (λ h. f (d.0 (sym e ∙ h)), λ q. e ∙ d.1 (g q))
+
+-- a `Bool` that is false says whether a fact holds that can't
+unlike : {Q : Type 0} {r : Bool} → (Q → ⊥) → r ≡ false → Decides r Q
+unlike f e = (λ h. cc, λ q. absurd (f q))
+
 Decides-layers : (x : Pattern-F Decided) (y : Pattern-F Pattern)
     → Decides (patterns.the_step equal member-Pattern (roll-Pattern (layer_of x)) (roll-Pattern y))
     (tree_of (layer_of x) ≡ tree_of y)
 Decides-layers (Pattern-F.Either ps) (Pattern-F.Either qs) =
-    Decides-at _ (pointwise patterns.ghosts.eq (patterns_of ps.items) qs.items)
+    said (Decides-patterns ps.items qs.items) (λ e. ap branches e) (branches-injective _ _)
     (simp out-roll-Pattern)
-    (Decides-like _ (λ e. ap branches e) (branches-injective _ _)
-    (Decides-patterns ps.items qs.items))
 Decides-layers (Pattern-F.Sequence ps) (Pattern-F.Sequence qs) =
-    Decides-at _ (pointwise patterns.ghosts.eq (patterns_of ps.items) qs.items)
+    said (Decides-patterns ps.items qs.items) (λ e. ap pieces e) (pieces-injective _ _)
     (simp out-roll-Pattern)
-    (Decides-like _ (λ e. ap pieces e) (pieces-injective _ _) (Decides-patterns ps.items qs.items))
 Decides-layers (Pattern-F.Repeat p least most) (Pattern-F.Repeat q from upto) =
-    Decides-at _
-    (patterns.ghosts.eq p.value.0 q.value
-    && ((least == from) && option_eq (λ x y. x == y) most upto))
-    (simp out-roll-Pattern)
-    (Decides-like _ (λ e. cc) (λ e. (cc, (cc, cc)))
+    said
     (Decides-and _ _ (p.value.1 q.value)
-    (Decides-and _ _ (Decides-eqb least from) (Decides-most most upto))))
+    (Decides-and _ _ (Decides-eqb least from) (Decides-most most upto)))
+    (λ e. cc) (λ e. (cc, (cc, cc))) (simp out-roll-Pattern)
 Decides-layers (Pattern-F.Class c) (Pattern-F.Class d) =
-    Decides-at _ (beq c.negated d.negated && pointwise items.ghosts.eq c.items.items d.items.items)
-    (simp out-roll-Pattern)
-    (Decides-like _ (λ e. cc) (λ e. (cc, cc))
+    said
     (Decides-and _ _ (booleans_Decides c.negated d.negated)
-    (Decides-class_items c.items.items d.items.items)))
+    (Decides-class_items c.items.items d.items.items))
+    (λ e. cc) (λ e. (cc, cc)) (simp out-roll-Pattern)
 Decides-layers x y =
-    Decides-at _ false (simp out-roll-Pattern) (
-      λ h. cc,
-      λ e.
-          let same : variant (layer_of x) ≡ variant y = same_variant (layer_of x) y e in
-          absurd (omega arith),
-    )
+    unlike
+    (λ e.
+    let same : variant (layer_of x) ≡ variant y = same_variant (layer_of x) y e in omega arith)
+    (simp out-roll-Pattern)
 
 Decides-rolled : (x : Pattern-F Decided) (y : Pattern-F Pattern)
     → Decides (patterns.ghosts.eq (roll-Pattern (layer_of x)) (roll-Pattern y))
