@@ -1,6 +1,7 @@
 mod Rows
 pub mod CategoryCodes
 pub mod Completeness
+pub mod EqualTrees
 pub mod Languages
 pub mod Levels
 pub mod Matches

@@ -1,1 +1,3 @@
+pub mod EqualParts
+pub mod EqualTrees
 pub mod Trees

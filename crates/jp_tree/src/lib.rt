@@ -18,6 +18,7 @@
 //! the ranges of the standard.
 #![tactic(auto)]
 
+pub mod laws;
 mod tree;
 
 pub use tree::{
