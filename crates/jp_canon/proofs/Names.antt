@@ -1,5 +1,5 @@
 -- A name between quotes, as it is spelled in a normalized path, spells the name.
-use Rattle.std.proofs.Common.{◌≡◌, ℕ, ◌/◌, ◌%◌, ◌<◌, true, [], ◌∷◌, refl, sym, ◌∙◌, arith, codes}
+use Rattle.std.proofs.Common.{◌≡◌, ◌≢◌, ℕ, ◌/◌, ◌%◌, ◌<◌, ◌≤◌, true, [], ◌∷◌, refl, arith, codes}
 use Rattle.std.proofs.lemmas.Bool.{lt-ltb}
 use Rattle.std.proofs.lemmas.Bool.Decides.{nat_tests}
 use Rattle.std.specs.Char.{digit_value}
@@ -7,14 +7,12 @@ use Rattle.std.specs.List.{AllByRecursion}
 use Rattle.jp_reading.specs.Characters as char
 use Rattle.jp_reading.specs.Texts.{Text}
 use Rattle.jp_document.specs.Path.{quoted}
-use Rattle.jp_document.specs.Private.PathRules.{is_letter, is_plain as is_bare, meant}
-use Rattle.jp_document.specs.Spelling.{hex_digit, spelling}
-use Rattle.jp_document.proofs.Spellings.Characters.{Spelled, by_itself, by_letter, by_number}
-use Rattle.jp_document.proofs.Spellings.Characters.{spelled}
+use Rattle.jp_document.specs.Spelling.{control, hex_digit, spelling}
+use Rattle.jp_document.proofs.Spellings.Characters.{each_spelling}
 use Rattle.jp_query.specs.Strings.{Character, Quoted, Unit as FourDigits, digits}
 use Rattle.jp_query.specs.Strings.{escape, escaped, hex, in_single, is_escapable}
 use Rattle.jp_query.specs.Strings.{is_hexdig, is_not_d, is_plain, not_d, plain, unit_of}
-use Rattle.jp_canon.proofs.Forms.{Has, both, has-as, has-each, has-one, has-same, has-word}
+use Rattle.jp_canon.proofs.Forms.{Has, both, has-as, has-each, has-one, has-word}
 
 -- ---- control characters, by number
 
@@ -50,36 +48,38 @@ has-control c small =
 
 -- ---- characters
 
-letter-escapable : (e : ℕ) → is_letter e ≡ true → is_escapable char.single_quote e ≡ true
-unfolding is_letter
-letter-escapable e is = grind (arith, nat_tests)
+by_letter : (c e : ℕ) → c ≡ escaped e → is_escapable char.single_quote e ≡ true →
+    Has (Character char.single_quote c) (char.backslash ∷ e ∷ [])
+by_letter c e means escapable =
+    has-as (λ s o. escape e means)
+    (both (has-word (codes "\\")) (has-one (is_escapable char.single_quote) e escapable))
 
-letter-meant : (e : ℕ) → meant e ≡ escaped e
-unfolding meant
-letter-meant e = grind (arith, nat_tests)
-
-bare-plain : (c : ℕ) → is_bare c ≡ true → is_plain char.single_quote c ≡ true
-unfolding is_bare
-bare-plain c is = grind (arith, nat_tests)
-
-character : (c : ℕ) (t : Text) → Spelled c t → Has (Character char.single_quote c) t
-character c t (by_letter e is means shape) =
-    has-same (sym shape)
-    (has-as (λ s o. escape e (means ∙ letter-meant e))
-    (both (has-word (codes "\\")) (has-one (is_escapable char.single_quote) e
-    (letter-escapable e is))))
-character c t (by_number small none shape) =
-    has-same (sym shape)
-    (has-as (λ s o. hex)
+by_number : (c : ℕ) → c < 32 → Has (Character char.single_quote c) (control c)
+by_number c small =
+    has-as (λ s o. hex)
     (both (has-word (codes "\\"))
-    (both (has-word (codes "u")) (has-as (λ s o. not_d) (has-control c small)))))
-character c t (by_itself is shape) = has-same (sym shape)
-    (has-as (λ s o. plain) (has-one (is_plain char.single_quote) c (bare-plain c is)))
+    (both (has-word (codes "u")) (has-as (λ s o. not_d) (has-control c small))))
+
+by_itself : (c : ℕ) → 32 ≤ c → c ≢ char.single_quote → c ≢ char.backslash →
+    Has (Character char.single_quote c) (c ∷ [])
+by_itself c high quote slash =
+    let is : is_plain char.single_quote c ≡ true = grind (arith, nat_tests) in
+    has-as (λ s o. plain) (has-one (is_plain char.single_quote) c is)
+
+character : (c : ℕ) → Has (Character char.single_quote c) (spelling char.single_quote c)
+character =
+    each_spelling (λ c t. Has (Character char.single_quote c) t)
+    (by_letter char.backspace char.letter_b refl refl) (by_letter char.tab char.letter_t refl refl)
+    (by_letter char.line_feed char.letter_n refl refl)
+    (by_letter char.form_feed char.letter_f refl refl)
+    (by_letter char.carriage_return char.letter_r refl refl)
+    (by_letter char.single_quote char.single_quote refl refl)
+    (by_letter char.backslash char.backslash refl refl) (λ c low none. by_number c low) by_itself
 
 characters : (cs : Text) → AllByRecursion
     (λ c. Has (Character char.single_quote c) (spelling char.single_quote c)) cs
 characters [] = tt
-characters (c ∷ cs) = (character c (spelling char.single_quote c) (spelled c), characters cs)
+characters (c ∷ cs) = (character c, characters cs)
 
 -- the quoted name spells the name
 pub has-quoted : (cs : Text) → Has (Quoted cs) (quoted cs)

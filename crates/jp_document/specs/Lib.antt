@@ -1,3 +1,4 @@
+pub mod Appending
 pub mod ChildNodes
 pub mod Document
 pub mod DocumentValue

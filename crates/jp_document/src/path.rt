@@ -1,5 +1,6 @@
 //! Normalized paths (RFC 9535 section 2.7).
 ghost use Rattle.std.specs.Prelude.{◌≡◌, ◌++◌, map, string_bytes, IfOk, OnOk};
+ghost use Rattle.jp_document.specs.Appending.{IsPartAppended};
 ghost use Rattle.jp_document.specs.Location.{key_of, owned_key};
 ghost use Rattle.jp_document.specs.Path.{path_of, quoted, step_text, index_text};
 
@@ -28,18 +29,22 @@ pub fn quote(alloc: Global, text: &str) -> Result<String, AllocError>
 }
 
 /// Appends a text between single quotes, spelled as a name in a normalized path (RFC 9535 section
-/// 2.7). Where memory runs out, a part of it may stand there.
+/// 2.7). Where memory runs out, the text still begins with what it held, and only a beginning of
+/// what was to come stands after it.
 pub fn push_quote(out: &mut String, text: &str) -> Result<(), AllocError>
-    ensures { OnOk result (string_bytes out.new ≡ string_bytes out.old ++ quoted text.now) }
+    ensures ok { OnOk result (string_bytes out.new ≡ string_bytes out.old ++ quoted text.now) }
+    ensures kept { IsPartAppended (string_bytes out.old) (quoted text.now) (string_bytes out.new) }
 {
     push_quoted(out, text, b'\'')
 }
 
-/// Appends the normalized path of a location (RFC 9535 section 2.7). Where memory runs out, a part
-/// of it may stand there.
+/// Appends the normalized path of a location (RFC 9535 section 2.7). Where memory runs out, the
+/// text still begins with what it held, and only a beginning of the path stands after it.
 pub fn push_path(out: &mut String, location: &[Step]) -> Result<(), AllocError>
-    ensures { OnOk result
+    ensures ok { OnOk result
         (string_bytes out.new ≡ string_bytes out.old ++ path_of (map key_of location.now)) }
+    ensures kept { IsPartAppended (string_bytes out.old) (path_of (map key_of location.now))
+        (string_bytes out.new) }
 {
     out.push('$')?;
     for step in location {
@@ -61,8 +66,10 @@ pub(crate) fn owned_path_text(alloc: Global, location: &[OwnedStep]) -> Result<S
 
 /// Appends one step of a normalized path.
 fn push_step(out: &mut String, step: Step) -> Result<(), AllocError>
-    ensures { OnOk result
+    ensures ok { OnOk result
         (string_bytes out.new ≡ string_bytes out.old ++ step_text (key_of step.entry)) }
+    ensures kept { IsPartAppended (string_bytes out.old) (step_text (key_of step.entry))
+        (string_bytes out.new) }
 {
     out.push('[')?;
     match step {
@@ -73,7 +80,8 @@ fn push_step(out: &mut String, step: Step) -> Result<(), AllocError>
 }
 
 fn push_index(out: &mut String, index: u64) -> Result<(), AllocError>
-    ensures { OnOk result (string_bytes out.new ≡ string_bytes out.old ++ index_text index) }
+    ensures ok { OnOk result (string_bytes out.new ≡ string_bytes out.old ++ index_text index) }
+    ensures kept { IsPartAppended (string_bytes out.old) (index_text index) (string_bytes out.new) }
 {
     out.push_str(Buffer::new().format(index))
 }

@@ -2,6 +2,7 @@
 ghost use Rattle.std.specs.Prelude.{◌≡◌, ◌<◌, ◌≤◌, ◌++◌, ◌∷◌, [], true, false, length};
 ghost use Rattle.std.specs.Prelude.{take, slice_index, string_bytes, OnOk};
 ghost use Rattle.std.specs.List.{flat_map};
+ghost use Rattle.jp_document.specs.Appending.{IsPartAppended};
 ghost use Rattle.jp_document.specs.Spelling.{spelling, quoted_in, hex_digit, control};
 
 use std::alloc::AllocError;
@@ -10,8 +11,10 @@ use std::alloc::AllocError;
 /// no spelling of its own is copied in whole runs.
 pub(crate) fn push_quoted(out: &mut String, text: &str, quote: u8) -> Result<(), AllocError>
     requires { quote < 128 }
-    ensures { OnOk result
+    ensures ok { OnOk result
         (string_bytes out.new ≡ string_bytes out.old ++ quoted_in quote text.now) }
+    ensures kept { IsPartAppended (string_bytes out.old) (quoted_in quote text.now)
+        (string_bytes out.new) }
 {
     out.push(char::from(quote))?;
     push_spelled(out, text, quote)?;
@@ -20,8 +23,10 @@ pub(crate) fn push_quoted(out: &mut String, text: &str, quote: u8) -> Result<(),
 
 fn push_spelled(out: &mut String, text: &str, quote: u8) -> Result<(), AllocError>
     requires { quote < 128 }
-    ensures { OnOk result
+    ensures ok { OnOk result
         (string_bytes out.new ≡ string_bytes out.old ++ flat_map (spelling quote) text.now) }
+    ensures kept { IsPartAppended (string_bytes out.old) (flat_map (spelling quote) text.now)
+        (string_bytes out.new) }
 {
     let mut rest = text;
     'runs: loop {
@@ -64,7 +69,9 @@ fn is_marked(byte: u8, quote: u8) -> bool
 #[tactic(auto, unfolding(crate::specs::Spelling::spelling))]
 fn push_marked(out: &mut String, byte: u8, quote: u8) -> Result<(), AllocError>
     requires { byte < 128 }
-    ensures { OnOk result (string_bytes out.new ≡ string_bytes out.old ++ spelling quote byte) }
+    ensures ok { OnOk result (string_bytes out.new ≡ string_bytes out.old ++ spelling quote byte) }
+    ensures kept { IsPartAppended (string_bytes out.old) (spelling quote byte)
+        (string_bytes out.new) }
 {
     match byte {
         0x08 => out.push_str("\\b"),
@@ -81,7 +88,8 @@ fn push_marked(out: &mut String, byte: u8, quote: u8) -> Result<(), AllocError>
 /// Appends a control character by its number.
 fn push_control(out: &mut String, byte: u8) -> Result<(), AllocError>
     requires { byte < 32 }
-    ensures { OnOk result (string_bytes out.new ≡ string_bytes out.old ++ control byte) }
+    ensures ok { OnOk result (string_bytes out.new ≡ string_bytes out.old ++ control byte) }
+    ensures kept { IsPartAppended (string_bytes out.old) (control byte) (string_bytes out.new) }
 {
     out.push_str("\\u00")?;
     push_two(out, hex_digit_of(byte / 16), hex_digit_of(byte % 16))
@@ -90,7 +98,9 @@ fn push_control(out: &mut String, byte: u8) -> Result<(), AllocError>
 fn push_two(out: &mut String, first: u8, second: u8) -> Result<(), AllocError>
     requires first { first < 128 }
     requires second { second < 128 }
-    ensures { OnOk result (string_bytes out.new ≡ string_bytes out.old ++ first ∷ second ∷ []) }
+    ensures ok { OnOk result (string_bytes out.new ≡ string_bytes out.old ++ first ∷ second ∷ []) }
+    ensures kept { IsPartAppended (string_bytes out.old) (first ∷ second ∷ [])
+        (string_bytes out.new) }
 {
     out.push(char::from(first))?;
     out.push(char::from(second))

@@ -3,6 +3,7 @@ ghost use Rattle.std.specs.Prelude.{◌≡◌, ◌==◌, [], ◌∷◌, ◌++◌
 ghost use Rattle.std.specs.Prelude.{map, string_bytes, IfOk, OnOk};
 ghost use Rattle.std.specs.Fmt.{signed_decimal};
 ghost use Rattle.std.specs.List.{join_with_byte};
+ghost use Rattle.jp_document.specs.Appending.{IsPartAppended};
 ghost use Rattle.jp_document.specs.Text.{text_of, item_texts, member_texts};
 ghost use Rattle.jp_document.specs.Value.{value_of, items_of, members_of, member_of};
 
@@ -20,11 +21,14 @@ pub fn value_text(alloc: Global, json: &Json) -> Result<String, AllocError>
     Ok(text)
 }
 
-/// Appends the compact text of a value. Where memory runs out, a part of it may stand there.
+/// Appends the compact text of a value. Where memory runs out, the text still begins with what it
+/// held, and only a beginning of the value's text stands after it.
 #[cycle(text)]
 pub fn push_value(out: &mut String, json: &Json) -> Result<(), AllocError>
-    ensures { OnOk result
+    ensures ok { OnOk result
         (string_bytes out.new ≡ string_bytes out.old ++ text_of (value_of json.now)) }
+    ensures kept { IsPartAppended (string_bytes out.old) (text_of (value_of json.now))
+        (string_bytes out.new) }
 {
     match json {
         Json::Null => out.push_str("null"),
@@ -47,9 +51,12 @@ pub fn push_value(out: &mut String, json: &Json) -> Result<(), AllocError>
 
 #[cycle(text)]
 fn push_items(out: &mut String, items: &[Json]) -> Result<(), AllocError>
-    ensures { OnOk result (string_bytes out.new
+    ensures ok { OnOk result (string_bytes out.new
         ≡ string_bytes out.old
         ++ join_with_byte 44 (item_texts (items_of (map value_of items.now)))) }
+    ensures kept { IsPartAppended (string_bytes out.old)
+        (join_with_byte 44 (item_texts (items_of (map value_of items.now))))
+        (string_bytes out.new) }
 {
     for (i, item) in items.iter().enumerate() {
         push_comma(out, i)?;
@@ -60,8 +67,11 @@ fn push_items(out: &mut String, items: &[Json]) -> Result<(), AllocError>
 
 #[cycle(text)]
 fn push_members(out: &mut String, members: &[Member]) -> Result<(), AllocError>
-    ensures { OnOk result (string_bytes out.new ≡ string_bytes out.old
+    ensures ok { OnOk result (string_bytes out.new ≡ string_bytes out.old
         ++ join_with_byte 44 (member_texts (members_of (map member_of members.now)))) }
+    ensures kept { IsPartAppended (string_bytes out.old)
+        (join_with_byte 44 (member_texts (members_of (map member_of members.now))))
+        (string_bytes out.new) }
 {
     for (i, member) in members.iter().enumerate() {
         push_comma(out, i)?;
@@ -74,7 +84,10 @@ fn push_members(out: &mut String, members: &[Member]) -> Result<(), AllocError>
 
 /// Appends a whole number in decimal; numbers of 64 bits are the quick ones to print.
 fn push_integer(out: &mut String, number: i128) -> Result<(), AllocError>
-    ensures { OnOk result (string_bytes out.new ≡ string_bytes out.old ++ signed_decimal number) }
+    ensures ok { OnOk result
+        (string_bytes out.new ≡ string_bytes out.old ++ signed_decimal number) }
+    ensures kept { IsPartAppended (string_bytes out.old) (signed_decimal number)
+        (string_bytes out.new) }
 {
     let mut buffer = Buffer::new();
     match i64::try_from(number) {
@@ -85,8 +98,10 @@ fn push_integer(out: &mut String, number: i128) -> Result<(), AllocError>
 
 /// Appends the comma before the part at this index: none before the first.
 fn push_comma(out: &mut String, index: usize) -> Result<(), AllocError>
-    ensures { OnOk result (string_bytes out.new
+    ensures ok { OnOk result (string_bytes out.new
         ≡ string_bytes out.old ++ (if index == 0 then [] else 44 ∷ [])) }
+    ensures kept { IsPartAppended (string_bytes out.old) (if index == 0 then [] else 44 ∷ [])
+        (string_bytes out.new) }
 {
     if index > 0 { out.push(',') } else { Ok(()) }
 }

@@ -1,8 +1,8 @@
 -- A character of a name is spelled by a letter after `\`, by its number, or by itself: for paths
 -- and for what spells names elsewhere.
-use Rattle.std.proofs.Common.{◌≡◌, ℕ, ◌<◌, ◌==◌, eqb, nat_lt, Bool, true, false, ◌||◌}
+use Rattle.std.proofs.Common.{◌≡◌, ◌≢◌, ℕ, ◌<◌, ◌≤◌, ◌==◌, eqb, nat_lt, Bool, true, false, ◌||◌}
 use Rattle.std.proofs.Common.{List, [], ◌∷◌, inl, inr, refl, sym, ap, subst, ◌∙◌, arith}
-use Rattle.std.proofs.lemmas.Bool.{cases_Bool, eqb-true, not-true, or_parts}
+use Rattle.std.proofs.lemmas.Bool.{cases_Bool, eqb-false, eqb-true, not-true, or_parts}
 use Rattle.std.proofs.lemmas.Bool.Decides.{nat_tests}
 use Rattle.jp_reading.specs.Characters as char
 use Rattle.jp_document.specs.Spelling.{spelling, control, hex_digit}
@@ -19,37 +19,45 @@ pub data Spelled (c : ℕ) (w : List ℕ) : Type 0 where
   by_number : c < 32 → has_letter c ≡ false → w ≡ control c → Spelled c w
   by_itself : is_plain c ≡ true → w ≡ c ∷ [] → Spelled c w
 
--- each character is spelled in one of the three ways
-pub spelled : (c : ℕ) → Spelled c (spelling char.single_quote c)
-unfolding spelling is_letter meant has_letter is_plain
-spelled c =
+-- What holds of each character with a letter, of the quote and of `\` after a `\`, of the other
+-- characters below U+0020 by their number, and of all others by themselves, holds of every
+-- character as it is spelled.
+pub each_spelling : (P : ℕ → List ℕ → Type 0) →
+    P char.backspace (char.backslash ∷ char.letter_b ∷ []) →
+    P char.tab (char.backslash ∷ char.letter_t ∷ []) →
+    P char.line_feed (char.backslash ∷ char.letter_n ∷ []) →
+    P char.form_feed (char.backslash ∷ char.letter_f ∷ []) →
+    P char.carriage_return (char.backslash ∷ char.letter_r ∷ []) →
+    P char.single_quote (char.backslash ∷ char.single_quote ∷ []) →
+    P char.backslash (char.backslash ∷ char.backslash ∷ []) →
+    ((c : ℕ) → c < 32 → has_letter c ≡ false → P c (control c)) →
+    ((c : ℕ) → 32 ≤ c → c ≢ char.single_quote → c ≢ char.backslash → P c (c ∷ [])) →
+    (c : ℕ) → P c (spelling char.single_quote c)
+unfolding spelling has_letter
+each_spelling P backspace tab line feed return quote slash number itself c =
+    let Q : ℕ → Type 0 = λ x. P x (spelling char.single_quote x) in
     elim (cases_Bool (eqb c char.backspace)) [
-      | inl e ↦ by_letter char.letter_b refl (eqb-true c char.backspace e) (rw e refl)
+      | inl e ↦ subst Q (sym (eqb-true c char.backspace e)) backspace
       | inr a ↦ elim (cases_Bool (eqb c char.tab)) [
-        | inl e ↦ by_letter char.letter_t refl (eqb-true c char.tab e) (rw (a, e) refl)
+        | inl e ↦ subst Q (sym (eqb-true c char.tab e)) tab
         | inr b ↦ elim (cases_Bool (eqb c char.line_feed)) [
-          | inl e ↦ by_letter char.letter_n refl (eqb-true c char.line_feed e) (rw (a, b, e) refl)
+          | inl e ↦ subst Q (sym (eqb-true c char.line_feed e)) line
           | inr d ↦ elim (cases_Bool (eqb c char.form_feed)) [
-            | inl e ↦ by_letter char.letter_f refl (eqb-true c char.form_feed e)
-                (rw (a, b, d, e) refl)
+            | inl e ↦ subst Q (sym (eqb-true c char.form_feed e)) feed
             | inr f ↦ elim (cases_Bool (eqb c char.carriage_return)) [
-              | inl e ↦ by_letter char.letter_r refl (eqb-true c char.carriage_return e)
-                  (rw (a, b, d, f, e) refl)
+              | inl e ↦ subst Q (sym (eqb-true c char.carriage_return e)) return
               | inr g ↦ elim (cases_Bool (eqb c char.single_quote)) [
-                | inl e ↦
-                    by_letter char.single_quote refl (eqb-true c char.single_quote e)
-                    (rw (a, b, d, f, g, e) (ap (λ x. char.backslash ∷ x ∷ [])
-                    (eqb-true c char.single_quote e)))
+                | inl e ↦ subst Q (sym (eqb-true c char.single_quote e)) quote
                 | inr h ↦ elim (cases_Bool (eqb c char.backslash)) [
-                  | inl e ↦
-                      by_letter char.backslash refl (eqb-true c char.backslash e)
-                      (rw (a, b, d, f, g, h, e) (ap (λ x. char.backslash ∷ x ∷ [])
-                      (eqb-true c char.backslash e)))
+                  | inl e ↦ subst Q (sym (eqb-true c char.backslash e)) slash
                   | inr k ↦ elim (cases_Bool (nat_lt c 32)) [
                     | inl e ↦
-                        by_number (grind (arith, nat_tests)) (rw (a, b, d, f, g) refl)
-                        (rw (a, b, d, f, g, h, k, e) refl)
-                    | inr e ↦ by_itself (rw (e, h, k) refl) (rw (a, b, d, f, g, h, k, e) refl)
+                        subst (P c) (sym (rw (a, b, d, f, g, h, k, e) refl))
+                        (number c (grind (arith, nat_tests)) (rw (a, b, d, f, g) refl))
+                    | inr e ↦
+                        subst (P c) (sym (rw (a, b, d, f, g, h, k, e) refl))
+                        (itself c (grind (arith, nat_tests)) (eqb-false c char.single_quote h)
+                        (eqb-false c char.backslash k))
                   ]
                 ]
               ]
@@ -58,6 +66,21 @@ spelled c =
         ]
       ]
     ]
+
+plain : (c : ℕ) → 32 ≤ c → c ≢ char.single_quote → c ≢ char.backslash → is_plain c ≡ true
+unfolding is_plain
+plain c high quote slash = grind (arith, nat_tests)
+
+-- each character is spelled in one of the three ways
+pub spelled : (c : ℕ) → Spelled c (spelling char.single_quote c)
+unfolding is_letter meant
+spelled =
+    each_spelling (λ c w. Spelled c w) (by_letter char.letter_b refl refl refl)
+    (by_letter char.letter_t refl refl refl) (by_letter char.letter_n refl refl refl)
+    (by_letter char.letter_f refl refl refl) (by_letter char.letter_r refl refl refl)
+    (by_letter char.single_quote refl refl refl) (by_letter char.backslash refl refl refl)
+    (λ c low none. by_number low none refl)
+    (λ c high quote slash. by_itself (plain c high quote slash) refl)
 
 -- what holds of a character and of those before it in a row of tests holds where one test passes
 one_of : (P : ℕ → Type 0) (e a : ℕ) (before : Bool) → P a → (before ≡ true → P e) →

@@ -4,6 +4,8 @@ use Rattle.std.proofs.Common.{◌++◌, refl, sym, ap, ◌∙◌, append_assoc, 
 use Rattle.std.proofs.Math.Dec.{eqb-suc-zero}
 use Rattle.std.specs.List.{flat_map, join_with_byte}
 use Rattle.jp_reading.specs.Characters as char
+use Rattle.jp_document.specs.Appending.{IsPartAppended}
+use Rattle.jp_document.proofs.Writing.Appended.{on}
 
 abbrev commas_before : List (List ℕ) → List ℕ
 commas_before = flat_map (λ t. char.comma ∷ t)
@@ -39,6 +41,19 @@ joined_more now after part all rest more i next wrote before =
     ∙ append_assoc now (cond (eqb i 0) [] (char.comma ∷ [])) (part ++ commas_before more)
     ∙ ap (λ xs. now ++ xs) (sym (parts_step (eqb i 0) part more) ∙ ap (parts_from i) (sym next))
     ∙ before
+
+-- and with a part of the next part written
+pub part_more : (before whole now part after : List ℕ) (rest more : List (List ℕ)) (i : ℕ) →
+    rest ≡ part ∷ more → IsPartAppended before whole now → now ++ parts_from i rest ≡ before
+    ++ whole → IsPartAppended now (cond (eqb i 0) [] (char.comma ∷ []) ++ part) after →
+    IsPartAppended before whole after
+part_more before whole now part after rest more i next kept begun wrote =
+    let comma = cond (eqb i 0) [] (char.comma ∷ []) in
+    on before whole now (comma ++ part) (commas_before more) after kept
+    (ap (λ xs. now ++ xs)
+    (append_assoc comma part (commas_before more) ∙ sym (parts_step (eqb i 0) part more)
+    ∙ ap (parts_from i) (sym next)) ∙ begun)
+    wrote
 
 -- a name, a colon and a value, written one after another
 pub wrote_member : (before named coloned after name value : List ℕ) → named ≡ before ++ name →

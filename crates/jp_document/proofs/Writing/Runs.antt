@@ -1,8 +1,8 @@
 -- Runs of characters that stand for themselves: for the loop of `push_spelled`.
-use Rattle.std.proofs.Common.{◌≡◌, ℕ, ◌<◌, List, [], ◌∷◌, ◌++◌, length, get_or, drop}
+use Rattle.std.proofs.Common.{◌≡◌, ℕ, ◌<◌, List, [], ◌∷◌, ◌++◌, length, get_or, drop, take}
 use Rattle.std.proofs.Common.{ap, sym, subst, ◌∙◌, append_assoc, arith, length-drop}
 use Rattle.std.specs.Str.{IsUtf8}
-use Rattle.std.proofs.lemmas.List.{get_or-drop}
+use Rattle.std.proofs.lemmas.List.{get_or-drop, take-append-drop}
 use Rattle.std.proofs.lemmas.Str.{IsUtf8-drop, IsCharBoundary-after_ascii}
 use Rattle.std.proofs.lemmas.Grind.{flat_map-append}
 use Rattle.std.specs.List.{flat_map}
@@ -22,6 +22,27 @@ moved f old now after run rest tail all c cut plain wrote before =
     ap (λ xs. xs ++ flat_map f tail) wrote ∙ append_assoc (now ++ run) (f c) (flat_map f tail)
     ∙ append_assoc now run (f c ++ flat_map f tail)
     ∙ ap (λ xs. now ++ xs) (sym (flat_map-run f rest run tail c cut plain)) ∙ before
+
+-- before they are moved
+pub moving : (f : ℕ → List ℕ) (old now run rest tail all : List ℕ) (c : ℕ) →
+    rest ≡ run ++ c ∷ tail → flat_map f run ≡ run → now ++ flat_map f rest ≡ old ++ all →
+    now ++ ((run ++ f c) ++ flat_map f tail) ≡ old ++ all
+moving f old now run rest tail all c cut plain before =
+    ap (λ xs. now ++ xs)
+    (append_assoc run (f c) (flat_map f tail) ∙ sym (flat_map-run f rest run tail c cut plain))
+    ∙ before
+
+-- where the rest is cut: a run that stands for itself, and what begins with another character
+pub cut_at : (f : ℕ → List ℕ) (text rest run marked : List ℕ) (n c : ℕ) → text ≡ rest →
+    run ≡ take n rest → marked ≡ drop n rest → flat_map f (take n text) ≡ take n text →
+    marked ≡ c ∷ drop 1 marked →
+    (rest ≡ run ++ c ∷ drop 1 marked) × (flat_map f run ≡ run)
+cut_at f text rest run marked n c same front back plain head = (
+  sym (take-append-drop n rest) ∙ ap (λ xs. xs ++ drop n rest) (sym front)
+      ∙ ap (λ xs. run ++ xs) (sym back ∙ head),
+  ap (flat_map f) (front ∙ ap (take n) (sym same)) ∙ plain
+      ∙ sym (front ∙ ap (take n) (sym same)),
+)
 
 pub first_and_rest : (xs : List ℕ) (c : ℕ) → 0 < length xs → c ≡ get_or xs 0 0 → xs ≡ c ∷ drop 1 xs
 first_and_rest [] c some is = absurd (omega arith)
