@@ -105,7 +105,7 @@ impl<T> Device<T> {
     }
 
     /// The same, for the last input of a process: what is made of it is not freed, since the
-    /// process then ends, which frees it faster.
+    /// process then ends, which frees all that it has at once.
     pub fn last(inner: T) -> Device<T>
         ensures carries { carried result ≡ inner }
         ensures fresh { carrier_failed result ≡ false }

@@ -17,8 +17,8 @@ use std::alloc::Global;
 pub const GROUP_LIMIT: u32 = 64;
 
 /// The pattern that a text spells (RFC 9485, section 3), with at most [`GROUP_LIMIT`] groups inside
-/// one another. `NotConforming` says that it spells none so, `NoMemory` nothing of the text. The
-/// time taken is linear in the text's length.
+/// one another. `NotConforming` says that it spells none so, `NoMemory` nothing of the text. It goes
+/// over the text once.
 pub fn read_pattern(alloc: Global, text: &str) -> Result<Pattern, PatternFault>
     ensures found { IfOk result (λ p. SpellsPattern group_limit (tree p) (chars text.now)) }
     ensures only { IfErr result

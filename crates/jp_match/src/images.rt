@@ -26,10 +26,9 @@ use std::mem;
 /// its set changes, so it ends after about as many rounds as the text has characters, however large
 /// its counts.
 ///
-/// For a pattern of m characters and a text of n the time is bounded by a constant times `m n^4`,
-/// however deep repeats stand inside one another. Where they stand more than two deep, each part in
-/// which they still stand two deep is gone over once from each single place, and a round puts these
-/// images together. They take a block of `n^2` bytes for each such part of the pattern.
+/// Where repeats stand more than two deep inside one another, each part in which they still stand
+/// two deep is gone over once from each single place, and a round puts these images together. For a
+/// text of n characters they take a block of `n^2` bytes for each such part of the pattern.
 #[derive(Clone, Copy, Debug, Default)]
 pub struct Images;
 
