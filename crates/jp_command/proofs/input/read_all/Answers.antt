@@ -1,9 +1,9 @@
-use Rattle.std.proofs.Common.{◌≡◌, ◌+◌, ◌<◌, ◌≤◌, ◌++◌, arith, length, rules, sym, take}
+use Rattle.std.proofs.Common.{◌≡◌, ◌≤◌, ◌++◌, arith, length, rules, sym, take}
 use Rattle.std.proofs.Common.{vec_len}
 use Rattle.std.proofs.KnownBytes.{Consumes-trans}
 use Rattle.std.proofs.lemmas.Grind.{common_steps}
 use Rattle.std.proofs.lemmas.List.{length-append, length-take-le}
-use Rattle.jp_command.specs.Limits.{chunk_size, document_limit}
+use Rattle.jp_command.specs.Limits.{chunk_size}
 use Rattle.jp_command.proofs.Streams.{come-more, come-none}
 use Rattle.jp_command.proofs.input.read_all.Goals as goal
 
