@@ -1,9 +1,12 @@
 //! Sources: the last one of a process, and one that says no more than it must.
 
+ghost use Rattle.std.specs.Prelude.{None, false};
+
 use super::table::names::{IN_QUOTES, NAMES};
 use crate::{Device, Failed, Fault, Form, Source, run_eval};
 use jp_document::DocumentFault;
 use std::alloc::Global;
+use std::process::Abort;
 
 /// What a run of `$` or of a query in `NAMES` answers, and what it writes.
 fn ran<R: Source>(alloc: Global, input: &mut R) -> (Result<(), Fault>, Vec<u8>) {
@@ -18,15 +21,18 @@ fn ran<R: Source>(alloc: Global, input: &mut R) -> (Result<(), Fault>, Vec<u8>) 
     (run, written)
 }
 
+/// Asserts that a run over `NAMES` writes its node, and whether its input is the last.
+fn assert_read<R: Source>(rt: &impl Abort, alloc: Global, input: &mut R, last: bool) {
+    let (run, written) = ran(alloc, input);
+    assert_eq!(rt; (run, written.as_slice()), (Ok(()), b"2\n".as_slice()));
+    assert!(rt; input.is_last() == last);
+}
+
 #[test]
 fn the_last_device_of_a_process_is_read_like_any_other(rt: HostRuntime) {
-    let mut last = Device::last(NAMES.as_bytes());
-    let mut other = Device::new(NAMES.as_bytes());
-    assert!(rt; last.is_last() && !other.is_last());
-    for input in [&mut last, &mut other] {
-        let (run, written) = ran(rt.alloc(), input);
-        assert_eq!(rt; (run, written.as_slice()), (Ok(()), b"2\n".as_slice()));
-    }
+    let alloc = rt.alloc();
+    assert_read(&rt, alloc, &mut Device::last(NAMES.as_bytes()), true);
+    assert_read(&rt, alloc, &mut Device::new(NAMES.as_bytes()), false);
 }
 
 /// An input of no bytes.
