@@ -1,7 +1,7 @@
 -- Why a run over an accepted query and an accepted document is not refused, and writes the lines of
 -- their nodelist.
 use Rattle.std.proofs.Common.{◌≡◌, ◌≢◌, ℕ, ◌+◌, ◌≤◌, Bool, false, List, ◌++◌, length, Option, Some}
-use Rattle.std.proofs.Common.{None, Result, Ok, Err, refl, sym, ◌∙◌, ap, subst, arith, string_bytes}
+use Rattle.std.proofs.Common.{None, Result, Ok, Err, refl, sym, ◌∙◌, ap, ap₂, subst, arith, string_bytes}
 use Rattle.std.proofs.lemmas.List.{append-nil, length-append}
 use Rattle.std.specs.Io.KnownBytes.{Appends, Consumes, IsAtEnd}
 use Rattle.std.specs.Str.{chars}
@@ -16,7 +16,7 @@ use Rattle.jp_tree.specs.Tree.{QueryTree}
 use Rattle.jp_command.specs.Headline.{IsAcceptedPair, Runs, WritesLine, is_refusal}
 use Rattle.jp_command.specs.Input.{ReadsAll, ReadsTooMuch}
 use Rattle.jp_command.specs.Limits.{document_limit}
-use Rattle.jp_command.specs.Lines.{IsOutputOf}
+use Rattle.jp_command.specs.Lines.{output_of}
 use Rattle.jp_command.specs.QueryLine.{RunsQueryLine}
 use Rattle.jp_command.specs.Run.{IsAsked, RefusesQuery, refused, too_long}
 use Rattle.jp_command.specs.declared.fault.Fault.{Fault}
@@ -119,7 +119,7 @@ module _ {R W : Type 0} (remaining : R → Option (List ℕ)) (has_failed : R �
       (text : List ℕ) (i j : R) (o p : W) (q : QueryTree) (d : Value)
       → Accepted text i q d
       → Ran form text i j o p (Ok tt)
-      → (output : List ℕ) × IsOutputOf form q d output × Appends (contents o) (contents p) output
+      → Appends (contents o) (contents p) (output_of form q d)
   writes-nodelist documents queries form text i j o p q d is run =
       let given = run.is in
       let same : given.bytes ≡ is.bytes = read-all i j is.bytes given.bytes is.tells given.reads in
@@ -128,10 +128,8 @@ module _ {R W : Type 0} (remaining : R → Option (List ℕ)) (has_failed : R �
       let value : given.d ≡ d =
       (documents is.bytes).one_value given.d d
       (subst (λ b. IsDocument b given.d) same given.document) is.document in
-      let is_output : IsOutputOf form q d run.output =
-      subst (λ v. IsOutputOf form q v run.output) value
-      (subst (λ t. IsOutputOf form t given.d run.output) tree given.is) in
-      (run.output, is_output, run.writes.written)
+      subst (Appends (contents o) (contents p))
+      (given.is ∙ ap₂ (output_of form) tree value) run.writes.written
 
   -- a run that writes one line for a query writes that of an accepted one
   pub line-is_written : (line_of : QueryTree → List ℕ) (text : List ℕ) (o p : W)

@@ -10,14 +10,14 @@ use Rattle.jp_check.specs.Laws.{FaultAtItsItem, OneAnswer}
 use Rattle.jp_document.specs.Document.{IsDocument}
 use Rattle.jp_document.specs.Laws.{DocumentOrDefect, NodesDiffer}
 use Rattle.jp_document.specs.Value.{Value}
-use Rattle.jp_evaluate.specs.Laws.{PathSelectsItsNode}
+use Rattle.jp_evaluate.specs.Laws.{PathSelectsItsNode, SelectsNodesAlone}
 use Rattle.jp_query.specs.Laws.{OneRefusal}
 use Rattle.jp_tree.specs.Tree.{QueryTree}
 use Rattle.jp_query.specs.declared.refusal.Refusal.{Refusal}
 use Rattle.jp_command.specs.Canon.{RunsCanon, canon_line}
 use Rattle.jp_command.specs.Check.{RunsCheck, accepted_line}
 use Rattle.jp_command.specs.Limits.{document_limit}
-use Rattle.jp_command.specs.Lines.{IsOutputOf}
+use Rattle.jp_command.specs.Lines.{output_of}
 use Rattle.jp_command.specs.Run.{IsAsked, RefusesQuery, RunsEval}
 use Rattle.jp_command.specs.declared.fault.Fault.{Fault}
 use Rattle.jp_command.specs.declared.fault.Fault.TheVariants.{Query, Document, DocumentTooLarge}
@@ -86,7 +86,9 @@ module _ {R W : Type 0} (remaining : R → Option (List ℕ)) (has_failed : R �
     pub nodelist : (form : Form) (text : List ℕ) (i j : R) (o p : W) (q : QueryTree) (d : Value)
         → IsAcceptedPair text i q d
         → Runs form text i j o p (Ok tt)
-        → (output : List ℕ) × IsOutputOf form q d output × Appends (contents o) (contents p) output
+        → Appends (contents o) (contents p) (output_of form q d)
+    -- It has nodes of the document alone, each with the value that stands at its location.
+    pub own_nodes : SelectsNodesAlone
     -- Two nodes of a document have equal normalized paths exactly if they are the same node
     -- (section 2.7),
     pub paths : NodesDiffer

@@ -1,7 +1,7 @@
 -- What is written of a nodelist: a line for each node, in one of three forms. `Run` cites it.
-use Rattle.std.specs.Prelude.{◌≡◌, ℕ, List, ◌++◌, codes}
+use Rattle.std.specs.Prelude.{ℕ, List, ◌++◌, codes}
 use Rattle.std.specs.List.{flat_map}
-use Rattle.jp_document.specs.Node.{AreNodes, Node}
+use Rattle.jp_document.specs.Node.{Node}
 use Rattle.jp_document.specs.Path.{path_of}
 use Rattle.jp_document.specs.Text.{text_of}
 use Rattle.jp_document.specs.Value.{Value}
@@ -25,9 +25,6 @@ line_of form n = text_in_line form n ++ codes "\n"
 abbrev pub lines_of : Form → List Node → List ℕ
 lines_of form ns = flat_map (line_of form) ns
 
--- the output of a query over a document: the lines of the document's nodes at the locations of the
--- nodelist, in order
-pub record IsOutputOf (form : Form) (q : QueryTree) (d : Value) (output : List ℕ) : Type 0 where
-  pub nodes : List Node
-  pub selected : AreNodes d nodes (nodelist q d)
-  pub lines : output ≡ lines_of form nodes
+-- the output of a query over a document: the lines of its nodelist, in order
+abbrev pub output_of : Form → QueryTree → Value → List ℕ
+output_of form q d = lines_of form (nodelist q d)

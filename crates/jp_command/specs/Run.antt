@@ -13,7 +13,7 @@ use Rattle.jp_query.specs.declared.refusal.Refusal.{Refusal}
 use Rattle.jp_query.specs.declared.refusal.RefusalKind.TheVariants.{TextTooLong}
 use Rattle.jp_command.specs.Input.{FailsToRead, ReadsAll, ReadsTooMuch}
 use Rattle.jp_command.specs.Limits.{query_limit}
-use Rattle.jp_command.specs.Lines.{IsOutputOf}
+use Rattle.jp_command.specs.Lines.{output_of}
 use Rattle.jp_command.specs.Output.{WritesOutput, WritesPrefix}
 use Rattle.jp_command.specs.declared.fault.Fault.{Fault}
 use Rattle.jp_command.specs.declared.fault.Fault.TheVariants.{Query, Document, DocumentTooLarge}
@@ -46,7 +46,7 @@ module _ {R W : Type 0} (remaining : R → Option (List ℕ)) (has_failed : R �
     pub asked : IsAsked text q
     pub reads : ReadsAll remaining has_failed read_gives i j bytes
     pub document : IsDocument bytes d
-    pub is : IsOutputOf form q d output
+    pub is : output ≡ output_of form q d
 
   -- the query is asked, and what was read is no document, with the fault f, which is not that
   -- memory ran out

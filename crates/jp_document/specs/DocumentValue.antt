@@ -8,6 +8,6 @@ use Rattle.jp_document.specs.declared.location.Step.{Step}
 abbrev pub lent_value : DocumentValue → Value
 lent_value v = value_of v.json.now
 
--- the step and the value that a step with a value lend
+-- the step and the value that a step with a value lends
 abbrev pub lent_entry : Step × DocumentValue → Key × Value
 lent_entry e = (key_of e.0, lent_value e.1)

@@ -1,5 +1,6 @@
 -- Locations, their order, and the value that stands at one (RFC 9535 section 1.1).
-use Rattle.std.specs.Prelude.{ℕ, suc, List, [], ◌∷◌, Option, Some, option_and_then, string_bytes}
+use Rattle.std.specs.Prelude.{ℕ, suc, List, [], ◌∷◌, Option, Some, option_and_then, option_map}
+use Rattle.std.specs.Prelude.{string_bytes}
 use Rattle.std.specs.BTreeMap.{is_at}
 use Rattle.std.specs.Cmp.Lexicographic.{slice_cmp}
 use Rattle.std.specs.Map.{lookup}
@@ -59,6 +60,10 @@ entries _ = []
 -- the value one step inside v, if there is one
 abbrev pub child : Value → Key → Option Value
 child v k = lookup (is_at (key_cmp k)) (entries v)
+
+-- the value one step inside v, with its step, if there is one
+abbrev pub child_entry : Value → Key → Option (Key × Value)
+child_entry v k = option_map (λ w. (k, w)) (child v k)
 
 -- the value that stands at a location in v, if there is one
 abbrev pub value_at : Value → Location → Option Value

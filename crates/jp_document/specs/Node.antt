@@ -1,17 +1,18 @@
 -- Nodes (RFC 9535 section 1.1): a location with the value that stands there.
 use Rattle.std.specs.Prelude.{◌≡◌, List, [], ◌∷◌, ◌++◌, Option, Some}
 use Rattle.std.specs.Prelude.{None, MatchOption, map, option_map}
-use Rattle.std.specs.Borrow.{Bor}
-use Rattle.std.specs.List.{All}
-use Rattle.jp_document.specs.declared.location.Step.{Step}
 use Rattle.jp_document.specs.declared.value.Json.{Json}
-use Rattle.jp_document.specs.Location.{Key, Location, child, entries, key_of, value_at}
+use Rattle.jp_document.specs.Location.{Key, Location, child, entries, value_at}
 use Rattle.jp_document.specs.Value.{Value, IsDocumentValue, value_of}
 
 -- a node: a location and a value
 pub record Node : Type 0 where
   pub location : Location
   pub value : Value
+
+-- the node of a value at a location
+abbrev pub node_at : Location → Value → Node
+node_at l v = record { location = l; value = v }
 
 abbrev pub location_of : Node → Location
 location_of n = n.location
@@ -21,22 +22,17 @@ pub record StandsIn (d : Value) (n : Node) : Type 0 where
   pub document : IsDocumentValue d
   pub there : value_at d n.location ≡ Some n.value
 
--- ns are the nodes of d at the locations ls, one by one
-pub record AreNodes (d : Value) (ns : List Node) (ls : List Location) : Type 0 where
-  pub locations : map location_of ns ≡ ls
-  pub stand : All (StandsIn d) ns
-
 -- the node of d at l, or None where d has no value there
 abbrev pub IsNodeAt : Value → Location → Option Node → Type 0
 IsNodeAt d l o = MatchOption o (value_at d l ≡ None) (λ n. (n.location ≡ l) × StandsIn d n)
 
 -- the root of the document d
 abbrev pub root_of : Value → Node
-root_of d = record { location = []; value = d }
+root_of d = node_at [] d
 
 -- the node one step below l, at the step e.0 with the value e.1
 abbrev pub node_below : Location → Key × Value → Node
-node_below l e = record { location = l ++ e.0 ∷ []; value = e.1 }
+node_below l e = node_at (l ++ e.0 ∷ []) e.1
 
 -- the child of a node at a step, if there is one
 abbrev pub child_of : Node → Key → Option Node
@@ -55,8 +51,4 @@ pub record NodeView : Type 0 where
 
 -- the node that it is
 abbrev pub node_of : NodeView → Node
-node_of n = record { location = n.location; value = value_of n.value }
-
--- the step and the value that a step with a value show
-abbrev pub entry_of : Step × Bor Json → Key × Value
-entry_of e = (key_of e.0, value_of e.1.now)
+node_of n = node_at n.location (value_of n.value)

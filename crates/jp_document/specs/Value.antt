@@ -1,6 +1,7 @@
 -- JSON values whose numbers are whole (RFC 9535 section 1.1).
 use Rattle.std.specs.Prelude.{ℕ, suc, ℤ, pos, negsuc, Bool, true, ◌&&◌, nat_lt}
-use Rattle.std.specs.Prelude.{nat_le, ◌-◌, ◌^◌, ◌≡◌, List, [], ◌∷◌, string_bytes}
+use Rattle.std.specs.Prelude.{nat_le, ◌-◌, ◌^◌, ◌≡◌, List, [], ◌∷◌, Option, Some, None}
+use Rattle.std.specs.Prelude.{string_bytes}
 use Rattle.std.specs.Cmp.Lexicographic.{slice_cmp}
 use Rattle.std.specs.List.{list_all}
 use Rattle.std.specs.Ordering.{is_lt, nat_cmp}
@@ -32,6 +33,11 @@ mutual
 abbrev pub item_count : Items → ℕ
 item_count no_items = 0
 item_count (item v vs) = suc (item_count vs)
+
+-- how many items a value has, if it is a list
+abbrev pub list_length : Value → Option ℕ
+list_length (list items) = Some (item_count items)
+list_length _ = None
 
 -- the names, in the members' order
 abbrev pub names_of : Members → List (List ℕ)

@@ -6,8 +6,7 @@ use crate::direct::direct_value;
 use crate::document_value::DocumentValue;
 use crate::fault::DocumentFault;
 use crate::location::{OwnedLocation, Step};
-use crate::lookup::child_value;
-use crate::node::{Node, root_of};
+use crate::node::Node;
 use crate::reading::parsed_value;
 use crate::value::Json;
 use std::alloc::Global;
@@ -63,7 +62,7 @@ impl Document {
         ensures root { node_of result ≡ root_of (document_of self.now) }
         ensures stands { StandsIn (document_of self.now) (node_of result) }
     {
-        root_of(alloc, self.json())
+        Node::of(Vec::new(alloc), self.value())
     }
 
     /// The value at a location, None where there is none (RFC 9535 section 1.1).
@@ -71,11 +70,11 @@ impl Document {
         ensures { option_map (λ j. value_of j.now) result
             ≡ value_at (document_of self.now) (map key_of location.now) }
     {
-        let mut json = self.json();
+        let mut value = self.value();
         for step in location {
-            json = child_value(json, *step)?;
+            value = value.at_step(*step)?;
         }
-        Some(json)
+        Some(value.json())
     }
 
     /// The value at a location that borrows nothing, None where there is none.
@@ -83,10 +82,10 @@ impl Document {
         ensures { option_map (λ j. value_of j.now) result
             ≡ value_at (document_of self.now) location.now }
     {
-        let mut value = self.json();
+        let mut found = self.value();
         for step in location.steps() {
-            value = child_value(value, step.as_step())?;
+            found = found.at_step(step.as_step())?;
         }
-        Some(value)
+        Some(found.json())
     }
 }

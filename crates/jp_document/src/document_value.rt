@@ -1,11 +1,12 @@
 //! Values of documents, wherever they stand.
 ghost use Rattle.std.specs.Prelude.{◌≡◌, ◌<◌, OnSome, option_map, slice_get};
-ghost use Rattle.jp_document.specs.Value.{IsDocumentValue, value_of};
+ghost use Rattle.std.specs.Cmp.Lexicographic.{slice_cmp};
+ghost use Rattle.std.specs.Ordering.{nat_cmp};
+ghost use Rattle.jp_document.specs.Value.{IsDocumentValue, list_length, member_of, value_of};
 
 use crate::location::Step;
-use crate::lookup::member_named;
-use crate::nth::entry_at;
-use crate::value::Json;
+use crate::value::{Json, Member};
+use std::cmp::Ordering;
 
 /// A value of a document: the document's own, or one that stands inside it. It copies nothing of
 /// it.
@@ -17,7 +18,7 @@ pub struct DocumentValue<'d> {
 
 impl<'d> DocumentValue<'d> {
     ghost use Rattle.jp_document.specs.DocumentValue.{lent_entry, lent_value};
-    ghost use Rattle.jp_document.specs.Location.{child, entries, named};
+    ghost use Rattle.jp_document.specs.Location.{child, child_entry, entries, key_of, named, nth};
 
     /// The value of a document.
     pub(crate) fn of(json: &'d Json) -> DocumentValue<'d>
@@ -35,6 +36,16 @@ impl<'d> DocumentValue<'d> {
         self.json
     }
 
+    /// How many items a list has, None of another value.
+    pub fn list_length(self) -> Option<u64>
+        ensures { result ≡ list_length (lent_value self.entry) }
+    {
+        match self.json {
+            Json::List(items) => Some(items.len() as u64),
+            Json::Null | Json::Bool(_) | Json::Whole(_) | Json::Text(_) | Json::Members(_) => None,
+        }
+    }
+
     /// The value at this position one step inside, from 0, with its step; None where there are no
     /// more. A list has its items, an object its members by the bytes of their names (RFC 9535
     /// section 1.1).
@@ -43,19 +54,64 @@ impl<'d> DocumentValue<'d> {
             ≡ slice_get (entries (lent_value self.entry)) position }
         ensures more { OnSome result (position < usize.MAX) }
     {
-        let (step, json) = entry_at(self.json, position)?;
-        Some((step, DocumentValue { json }))
+        match self.json {
+            Json::List(items) => {
+                let json = items.get(position)?;
+                Some((Step::Index(position as u64), DocumentValue { json }))
+            }
+            Json::Members(members) => {
+                let member = members.get(position)?;
+                let json = &member.value;
+                Some((Step::Name(member.name.as_str()), DocumentValue { json }))
+            }
+            Json::Null | Json::Bool(_) | Json::Whole(_) | Json::Text(_) => None,
+        }
+    }
+
+    /// The item at this index of a list, with its step; None where there is none (RFC 9535 section
+    /// 2.3.3).
+    pub fn item(self, index: u64) -> Option<(Step<'d>, DocumentValue<'d>)>
+        ensures { option_map lent_entry result
+            ≡ child_entry (lent_value self.entry) (nth index) }
+    {
+        match self.json {
+            Json::List(_) => self.child(index as usize),
+            Json::Null | Json::Bool(_) | Json::Whole(_) | Json::Text(_) | Json::Members(_) => None,
+        }
     }
 
     /// The member of this name of an object, with its step; None where there is none (RFC 9535
     /// section 2.3.1).
     pub fn member(self, name: &str) -> Option<(Step<'d>, DocumentValue<'d>)>
         ensures { option_map lent_entry result
-            ≡ option_map (λ v. (named name.now, v))
-            (child (lent_value self.entry) (named name.now)) }
+            ≡ child_entry (lent_value self.entry) (named name.now) }
     {
-        let member = member_named(self.json, name)?;
-        let json = &member.value;
-        Some((Step::Name(member.name.as_str()), DocumentValue { json }))
+        match self.json {
+            Json::Members(members) => {
+                match members.binary_search_by(|member| name_order(member, name)) {
+                    Ok(place) => self.child(place),
+                    Err(_) => None,
+                }
+            }
+            Json::Null | Json::Bool(_) | Json::Whole(_) | Json::Text(_) | Json::List(_) => None,
+        }
     }
+
+    /// The value at this step inside, None where there is none.
+    pub(crate) fn at_step(self, step: Step) -> Option<DocumentValue<'d>>
+        ensures { option_map lent_value result ≡ child (lent_value self.entry) (key_of step.entry) }
+    {
+        match step {
+            Step::Name(name) => Some(self.member(name)?.1),
+            Step::Index(index) => Some(self.item(index)?.1),
+        }
+    }
+}
+
+/// The order of the member's name beside another, by their bytes.
+#[tactic(auto, using(crate::proofs::Values::member_of_is))]
+pub(crate) fn name_order(member: &Member, name: &str) -> Ordering
+    ensures { result ≡ slice_cmp nat_cmp (member_of member.now).0 name.now }
+{
+    member.name.as_str().cmp(name)
 }

@@ -3,7 +3,8 @@ ghost use Rattle.jp_document.specs.ChildNodes.{ChildrenAreExact};
 ghost use Rattle.jp_document.specs.Laws.{DocumentNamesRise, DocumentOrDefect, PathsDiffer};
 ghost use Rattle.jp_document.specs.Laws.{NodesDiffer};
 
-/// The children of a node are exactly the nodes one step longer, rising in document order (RFC 9535
+/// The children of a node are exactly the nodes one step further on, rising in document order; each
+/// is a node of the document, and the child at a step is the node there, if there is one (RFC 9535
 /// section 1.1).
 pub fn children_are_exact()
     ensures { ChildrenAreExact }

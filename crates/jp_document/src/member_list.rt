@@ -5,7 +5,7 @@ ghost use Rattle.jp_document.specs.Private.Direct.{IsPlace};
 ghost use Rattle.jp_document.specs.Private.MemberList.{names_cmp, entries_of, map_entry};
 ghost use Rattle.jp_document.specs.Value.{member_of, members_of, names_of, names_rise, value_of};
 
-use crate::lookup::name_order;
+use crate::document_value::name_order;
 use crate::value::{Json, Member};
 use std::alloc::Global;
 use std::cmp::Ordering;

@@ -1,13 +1,11 @@
 //! Nodes (RFC 9535 section 1.1): a location with the value that stands there, both borrowed from
 //! the document.
-ghost use Rattle.std.specs.Prelude.{◌≡◌, [], ◌∷◌, ◌++◌, map, option_map, IfOk};
+ghost use Rattle.std.specs.Prelude.{◌≡◌, option_map, IfOk};
 ghost use Rattle.jp_document.specs.Location.{named, nth};
-ghost use Rattle.jp_document.specs.Node.{IsNodeAt, StandsIn, child_of, node_of};
-ghost use Rattle.jp_document.specs.Value.{Value, IsDocumentValue, value_of};
+ghost use Rattle.jp_document.specs.Node.{child_of, node_of};
 
 use crate::document_value::DocumentValue;
 use crate::location::Step;
-use crate::lookup::{item_at, member_named};
 use crate::value::Json;
 use std::alloc::{AllocError, Global};
 use std::marker::Model;
@@ -16,7 +14,7 @@ use std::marker::Model;
 #[derive(Drop)]
 pub struct Node<'d> {
     location: Vec<Step<'d>>,
-    value: &'d Json,
+    value: DocumentValue<'d>,
 }
 
 impl<'d> Model for Node<'d> {
@@ -25,52 +23,48 @@ impl<'d> Model for Node<'d> {
     ghost use Rattle.std.specs.Coded.{codes};
     ghost use Rattle.jp_document.specs.Location.{key_of};
     ghost use Rattle.jp_document.specs.Node.{NodeView};
-    ghost use Rattle.jp_document.specs.Value.{IsDocumentValue, value_of};
 
     ghost Value = { NodeView };
 
     ghost coded = { Prim.hlevel (codes, json.the_row.coded) };
 
-    ghost view = { λ n. record { location = map key_of n.location.items; value = n.value.now } };
-
-    ghost invariant = { λ n. IsDocumentValue (value_of n.value.now) };
+    ghost view = { λ n. record { location = map key_of n.location.items; value = n.value.json.now } };
 }
 
 impl<'d> Node<'d> {
-    ghost use Rattle.jp_document.specs.DocumentValue.{lent_value};
+    ghost use Rattle.std.specs.Prelude.{map};
+    ghost use Rattle.jp_document.specs.DocumentValue.{lent_entry, lent_value};
     ghost use Rattle.jp_document.specs.Location.{key_of};
+    ghost use Rattle.jp_document.specs.Node.{node_at, node_below, node_of};
+    ghost use Rattle.jp_document.specs.Value.{IsDocumentValue, value_of};
 
     /// The node of these steps, where this value stands.
     pub fn of(location: Vec<Step<'d>>, value: DocumentValue<'d>) -> Node<'d>
-        ensures location { result.location ≡ map key_of location.entry.items }
-        ensures value { value_of result.value ≡ lent_value value.entry }
+        ensures { node_of result ≡ node_at (map key_of location.entry.items) (lent_value value.entry) }
     {
-        Node {
-            location,
-            value: value.json(),
-        }
+        Node { location, value }
     }
 
     /// The steps from the root to this node.
     pub fn location(&self) -> &[Step<'d>]
-        ensures { map key_of result.now ≡ self.now.location }
+        ensures { map key_of result.now ≡ (node_of self.now).location }
     {
         &self.location
     }
 
     /// The value that stands there.
     pub fn value(&self) -> &'d Json
-        ensures value { result.now ≡ self.now.value }
-        ensures sound { IsDocumentValue (value_of self.now.value) }
+        ensures value { value_of result.now ≡ (node_of self.now).value }
+        ensures sound { IsDocumentValue (node_of self.now).value }
     {
-        self.value
+        self.document_value().json()
     }
 
     /// The value that stands there, to go on from.
     pub fn document_value(&self) -> DocumentValue<'d>
-        ensures { lent_value result ≡ value_of self.now.value }
+        ensures { lent_value result ≡ (node_of self.now).value }
     {
-        DocumentValue::of(self.value)
+        self.value
     }
 
     /// The same node. The only error is that memory ran out.
@@ -83,35 +77,21 @@ impl<'d> Node<'d> {
         })
     }
 
-    /// The node one step further, where this value stands.
-    pub(crate) fn extended(
+    /// The node one step below, where this value stands. The only error is that memory ran out.
+    pub fn below(
         &self,
         alloc: Global,
         step: Step<'d>,
-        value: &'d Json,
+        value: DocumentValue<'d>,
     ) -> Result<Node<'d>, AllocError>
-        requires { IsDocumentValue (value_of value.now) }
-        ensures location { IfOk result
-            (λ n. n.location ≡ self.now.location ++ key_of step.entry ∷ []) }
-        ensures value { IfOk result (λ n. n.value ≡ value.now) }
+        ensures { IfOk result (λ n. node_of n
+            ≡ node_below (node_of self.now).location (key_of step.entry, lent_value value.entry)) }
     {
         let steps = self.location();
         let mut location = Vec::with_capacity(alloc, steps.len() + 1)?;
         location.extend_from_slice(steps)?;
         location.push(step)?;
-        Ok(Node { location, value })
-    }
-}
-
-/// The node of the empty location, with this value.
-pub(crate) fn root_of(alloc: Global, value: &Json) -> Node<'_>
-    requires { IsDocumentValue (value_of value.now) }
-    ensures location { result.location ≡ [] }
-    ensures value { result.value ≡ value.now }
-{
-    Node {
-        location: Vec::new(alloc),
-        value,
+        Ok(Node::of(location, value))
     }
 }
 
@@ -122,17 +102,11 @@ pub fn child_named<'d>(
     node: &Node<'d>,
     name: &str,
 ) -> Result<Option<Node<'d>>, AllocError>
-    ensures child { IfOk result
+    ensures { IfOk result
         (λ o. option_map node_of o ≡ child_of (node_of node.now) (named name.now)) }
-    ensures stands { (d : Value) → StandsIn d (node_of node.now) → IfOk result
-        (λ o. IsNodeAt d (node.now.location ++ named name.now ∷ []) (option_map node_of o)) }
 {
-    match member_named(node.value, name) {
-        Some(member) => Ok(Some(node.extended(
-            alloc,
-            Step::Name(member.name.as_str()),
-            &member.value,
-        )?)),
+    match node.value.member(name) {
+        Some((step, value)) => Ok(Some(node.below(alloc, step, value)?)),
         None => Ok(None),
     }
 }
@@ -144,13 +118,10 @@ pub fn child_at<'d>(
     node: &Node<'d>,
     index: u64,
 ) -> Result<Option<Node<'d>>, AllocError>
-    ensures child { IfOk result
-        (λ o. option_map node_of o ≡ child_of (node_of node.now) (nth index)) }
-    ensures stands { (d : Value) → StandsIn d (node_of node.now) → IfOk result
-        (λ o. IsNodeAt d (node.now.location ++ nth index ∷ []) (option_map node_of o)) }
+    ensures { IfOk result (λ o. option_map node_of o ≡ child_of (node_of node.now) (nth index)) }
 {
-    match item_at(node.value, index) {
-        Some(item) => Ok(Some(node.extended(alloc, Step::Index(index), item)?)),
+    match node.value.item(index) {
+        Some((step, value)) => Ok(Some(node.below(alloc, step, value)?)),
         None => Ok(None),
     }
 }

@@ -1,6 +1,7 @@
--- What nodelists hold, by values and by locations.
+-- What nodelists hold.
 pub mod Along
-pub mod ByLocations
+pub mod Anywhere
 pub mod Elements
-pub mod NodelistNodes
+pub mod Joined
 pub mod Sides
+pub mod Standing

@@ -1,7 +1,8 @@
 -- Worked rows of the definitions.
-use Rattle.std.proofs.Common.{◌≡◌, ℕ, pos, negsuc, true, false, List, [], ◌∷◌, codes, refl}
+use Rattle.std.proofs.Common.{◌≡◌, ℕ, pos, negsuc, true, false, List, [], ◌∷◌, codes, map, refl}
 use lib.Utf8.{encode}
 use Rattle.jp_document.specs.Location.{Key, Location, named, nth}
+use Rattle.jp_document.specs.Node.{location_of}
 use Rattle.jp_document.specs.Value.{Value, null, list, object, no_items, item, no_members, member}
 use Rattle.jp_tree.specs.Tree.{ExprTree, QueryTree, SegmentTree, all_of, any_of}
 use Rattle.jp_tree.specs.Tree.{comparison, exists, exprs, filter, index, literal}
@@ -25,7 +26,7 @@ abbrev key_b : Key
 key_b = named (codes "b")
 
 abbrev of_segments : List SegmentTree → List Location
-of_segments ss = nodelist (query true (segments ss)) nested_lists
+of_segments ss = map location_of (nodelist (query true (segments ss)) nested_lists)
 
 -- $
 root_alone : of_segments [] ≡ [] ∷ []

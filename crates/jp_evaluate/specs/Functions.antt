@@ -3,6 +3,7 @@
 use Rattle.std.specs.Prelude.{ℕ, pos, Bool, false, List, [], ◌∷◌, length}
 use Rattle.std.specs.Prelude.{Option, Some, None, option_and_then, option_map}
 use Rattle.std.specs.Str.{chars}
+use Rattle.jp_document.specs.Node.{Node}
 use Rattle.jp_document.specs.Value.{Value, item_count, list, names_of, object, text, whole}
 use Rattle.jp_iregexp.specs.Matches.{has_match, is_match}
 use Rattle.jp_check.specs.declared.functions.Function.{Function}
@@ -21,13 +22,13 @@ abbrev pub length_of : Option Value → Option Value
 length_of v = option_map (λ n. whole (pos n)) (size_of v)
 
 -- count: how many nodes a list has (section 2.4.5)
-abbrev pub count_of : {A : Type 0} → List A → Option Value
+abbrev pub count_of : List Node → Option Value
 count_of ns = Some (whole (pos (length ns)))
 
--- the only one of a list
-abbrev pub only_one : {A : Type 0} → List A → Option A
-only_one (n ∷ []) = Some n
-only_one _ = None
+-- value: the value of the only node of a list; other lists have none (section 2.4.8)
+abbrev pub only_value : List Node → Option Value
+only_value (n ∷ []) = Some n.value
+only_value _ = None
 
 -- match: whether a text, the whole of it, matches a pattern; not so where the pattern does not
 -- conform, or one of both is no text (section 2.4.6)
@@ -40,17 +41,16 @@ abbrev pub is_found : Option Value → Option Value → Bool
 is_found (Some (text s)) (Some (text p)) = has_match (chars s) (chars p)
 is_found _ _ = false
 
--- the value that a function answers for its only argument: for its value v, or its nodes ns, of
--- which each has a value; a function that answers no value has none, and neither has one of nodes
--- for an argument that is no query
-abbrev pub value_answer : {A : Type 0} →
-    (A → Option Value) → Option Function → Option Value → Option (List A) → Option Value
-value_answer value (Some Length) v ns = length_of v
-value_answer value (Some Count) v ns = option_and_then count_of ns
-value_answer value (Some ValueOf) v ns = option_and_then value (option_and_then only_one ns)
-value_answer value _ v ns = None
+-- what a function of one argument answers: `length` for its value v, `count` and `value` for its
+-- nodes ns, which an argument that is no query does not have; other functions answer no value
+abbrev pub value_answer : Option Function → Option Value → Option (List Node) → Option Value
+value_answer (Some Length) v ns = length_of v
+value_answer (Some Count) v ns = option_and_then count_of ns
+value_answer (Some ValueOf) v ns = option_and_then only_value ns
+value_answer _ v ns = None
 
--- the truth that a function answers for the values of its two arguments; others have none
+-- whether `match` or `search` is true of the values of its two arguments; other functions are false
+-- here
 abbrev pub logical_answer : Option Function → Option Value → Option Value → Bool
 logical_answer (Some Match) v p = is_matched v p
 logical_answer (Some Search) v p = is_found v p

@@ -1,53 +1,49 @@
--- The nodelist of a query (RFC 9535 section 2.1.2), as the locations of its nodes.
+-- The nodelist of a query (RFC 9535 section 2.1.2).
 use Rattle.std.specs.Prelude.{Bool, true, false, not, ◌&&◌, ◌||◌, if◌then◌else◌, List}
 use Rattle.std.specs.Prelude.{[], ◌∷◌, ◌++◌, filter as those_of, Option, Some, None}
 use Rattle.std.specs.List.{flat_map}
 use Rattle.std.specs.Str.{encode_utf8_all}
-use Rattle.jp_document.specs.ChildNodes.{children_of}
-use Rattle.jp_document.specs.Location.{Location, value_at}
+use Rattle.jp_document.specs.Node.{Node, children, root_of}
 use Rattle.jp_document.specs.Value.{Value, null, boolean, whole, text as text_value}
 use Rattle.jp_tree.specs.Singular.{is_singular}
 use Rattle.jp_tree.specs.Tree.{ArgumentTree, CallTree, ExprTree, ExprTrees, LiteralTree}
 use Rattle.jp_tree.specs.Tree.{OperandTree, QueryTree, SegmentTree, SegmentTrees, SelectorTree}
 use Rattle.jp_tree.specs.Tree.{SelectorTrees, all_of, any_of, argument_then, call, call_argument}
 use Rattle.jp_tree.specs.Tree.{call_test, call_value, comparison, exists, expr_then, false_literal}
-use Rattle.jp_tree.specs.Tree.{filter, index, literal, literal_argument, logical_argument, name}
-use Rattle.jp_tree.specs.Tree.{negation, no_arguments, no_exprs, no_segments, no_selectors}
-use Rattle.jp_tree.specs.Tree.{node_value, null_literal, number, query, query_argument, segment}
-use Rattle.jp_tree.specs.Tree.{segment_then, selector_then, slice, text, true_literal, wildcard}
+use Rattle.jp_tree.specs.Tree.{filter, literal, literal_argument, logical_argument, negation}
+use Rattle.jp_tree.specs.Tree.{no_arguments, no_exprs, no_segments, no_selectors, node_value}
+use Rattle.jp_tree.specs.Tree.{null_literal, number, query, query_argument, segment, segment_then}
+use Rattle.jp_tree.specs.Tree.{selector_then, text, true_literal}
 use Rattle.jp_tree.specs.declared.tree.Numeral.TheVariants.{Whole}
 use Rattle.jp_check.specs.Functions.{function_named}
-use Rattle.jp_select.specs.Subtree.{subtree}
+use Rattle.jp_select.specs.Subtree.{subtree_of}
 use Rattle.jp_select.specs.Comparison.{compared}
 use Rattle.jp_select.specs.Selectors.{chosen}
-use Rattle.jp_evaluate.specs.Functions.{logical_answer, value_answer}
+use Rattle.jp_evaluate.specs.Functions.{logical_answer, only_value, value_answer}
 
 -- the nodes at which a segment applies its selectors: a child segment at the nodes themselves
 -- (section 2.5.1.2), a descendant segment at each node and its descendants (section 2.5.2.2)
-abbrev pub visited : Bool → Value → List Location → List Location
-visited false d ls = ls
-visited true d ls = flat_map (subtree d) ls
+abbrev pub visited : Bool → List Node → List Node
+visited false ns = ns
+visited true ns = flat_map subtree_of ns
 
--- where a query begins: at the root, or, with `@`, at the current node c (section 2.3.5.1)
-abbrev pub start_of : Bool → Location → Location
-start_of true c = []
-start_of false c = c
+-- where a query begins: at the root, or, with `@`, at the current node c (sections 2.2.2 and 2.3.5)
+abbrev pub start_of : Bool → Value → Node → Node
+start_of true d c = root_of d
+start_of false d c = c
 
--- there is a node in the list
-abbrev pub has_node : List Location → Bool
+-- there is a node in the list (section 2.3.5.2.1)
+abbrev pub has_node : List Node → Bool
 has_node [] = false
-has_node (l ∷ ls) = true
+has_node (n ∷ ns) = true
 
--- the value of the node of a list of at most one; Nothing where it has none
-abbrev pub value_of_node : Value → List Location → Option Value
-value_of_node d [] = None
-value_of_node d (l ∷ ls) = value_at d l
+-- the value of the node of a singular query's nodelist, Nothing where that is empty; other queries
+-- have none (section 2.3.5.1)
+abbrev pub single_node_value : QueryTree → List Node → Option Value
+single_node_value q ns = if is_singular q then only_value ns else None
 
--- the value of the node of a singular query's nodelist; other queries have none (section 2.3.5.1)
-abbrev pub single_node_value : QueryTree → Value → List Location → Option Value
-single_node_value q d ls = if is_singular q then value_of_node d ls else None
-
--- the value of a literal; a number that is not whole, or beyond 64 bits, has none here
+-- the value of a literal (section 2.3.5.1); a number that is not whole, or beyond 64 bits, has none
+-- here
 abbrev pub literal_value : LiteralTree → Option Value
 literal_value (number (Whole z)) = Some (whole z)
 literal_value (number _) = None
@@ -56,39 +52,37 @@ literal_value true_literal = Some (boolean true)
 literal_value false_literal = Some (boolean false)
 literal_value null_literal = Some null
 
--- d is the document's value throughout; l, c and the members of ls are locations in it
+-- d is the document's value throughout, c the current node
 abbrev mutual
-  -- what a selector selects at l: a filter the children of which its expression is true, in their
-  -- order (section 2.3.5.2), any other what is chosen by itself
-  pub selection : SelectorTree → Value → Location → List Location
-  selection (name cs) d l = chosen d (name cs) l
-  selection wildcard d l = chosen d wildcard l
-  selection (index i) d l = chosen d (index i) l
-  selection (slice s) d l = chosen d (slice s) l
-  selection (filter e) d l = those_of (holds e d) (children_of d l)
+  -- what a selector selects at n: a filter the children of which its expression is true, in their
+  -- order (section 2.3.5.2), any other selector what it chooses by itself
+  pub selection : SelectorTree → Value → Node → List Node
+  selection (filter e) d n = those_of (holds e d) (children n)
+  selection s d n = chosen s n
 
-  -- what selectors select at l: what each selects, in their order (section 2.5.1.2)
-  pub selected : SelectorTrees → Value → Location → List Location
-  selected no_selectors d l = []
-  selected (selector_then s rest) d l = selection s d l ++ selected rest d l
+  -- what selectors select at n: what each selects, in their order (section 2.5.1.2)
+  pub selected : SelectorTrees → Value → Node → List Node
+  selected no_selectors d n = []
+  selected (selector_then s rest) d n = selection s d n ++ selected rest d n
 
   -- what a segment gives from a list of nodes: what it selects at each node that it visits, joined
   -- in their order (section 2.5)
-  pub segment_result : SegmentTree → Value → List Location → List Location
-  segment_result (segment descendant ss) d ls = flat_map (selected ss d) (visited descendant d ls)
+  pub segment_result : SegmentTree → Value → List Node → List Node
+  segment_result (segment descendant ss) d ns = flat_map (selected ss d) (visited descendant ns)
 
   -- what segments give from a list of nodes: each takes the list that the one before it gave
   -- (section 2.1.2)
-  pub result : SegmentTrees → Value → List Location → List Location
-  result no_segments d ls = ls
-  result (segment_then s rest) d ls = result rest d (segment_result s d ls)
+  pub result : SegmentTrees → Value → List Node → List Node
+  result no_segments d ns = ns
+  result (segment_then s rest) d ns = result rest d (segment_result s d ns)
 
-  -- the nodelist of a query, where c is the current node
-  pub nodelist_at : QueryTree → Value → Location → List Location
-  nodelist_at (query absolute all) d c = result all d (start_of absolute c ∷ [])
+  -- the nodelist of a query: what its segments give from the node at which it begins (section
+  -- 2.1.2)
+  pub nodelist_at : QueryTree → Value → Node → List Node
+  nodelist_at (query absolute all) d c = result all d (start_of absolute d c ∷ [])
 
-  -- whether an expression is true where c is the current node (section 2.3.5.2)
-  pub holds : ExprTree → Value → Location → Bool
+  -- whether an expression is true (section 2.3.5.2)
+  pub holds : ExprTree → Value → Node → Bool
   holds (any_of es) d c = any_holds es d c
   holds (all_of es) d c = all_hold es d c
   holds (negation e) d c = not (holds e d c)
@@ -97,49 +91,51 @@ abbrev mutual
   holds (exists q) d c = has_node (nodelist_at q d c)
   holds (call_test f) d c = call_holds f d c
 
-  -- some of the expressions is true
-  pub any_holds : ExprTrees → Value → Location → Bool
+  -- one of the expressions is true
+  pub any_holds : ExprTrees → Value → Node → Bool
   any_holds no_exprs d c = false
   any_holds (expr_then e rest) d c = holds e d c || any_holds rest d c
 
   -- all of the expressions are true
-  pub all_hold : ExprTrees → Value → Location → Bool
+  pub all_hold : ExprTrees → Value → Node → Bool
   all_hold no_exprs d c = true
   all_hold (expr_then e rest) d c = holds e d c && all_hold rest d c
 
   -- the value of a side of a comparison: that of the literal, of a singular query's node, or what
   -- the function answers (section 2.3.5.2.2); other queries have none
-  pub operand_value : OperandTree → Value → Location → Option Value
+  pub operand_value : OperandTree → Value → Node → Option Value
   operand_value (literal x) d c = literal_value x
-  operand_value (node_value q) d c = single_node_value q d (nodelist_at q d c)
+  operand_value (node_value q) d c = single_node_value q (nodelist_at q d c)
   operand_value (call_value f) d c = call_answer f d c
 
-  -- the value that a function answers (section 2.4); a call that is not typed so has none
-  pub call_answer : CallTree → Value → Location → Option Value
+  -- the value that a function answers (section 2.4); a call that is not well-typed as a value has
+  -- none
+  pub call_answer : CallTree → Value → Node → Option Value
   call_answer (call cs (argument_then x no_arguments)) d c =
-      value_answer (value_at d) (function_named cs) (argument_value x d c) (argument_nodes x d c)
+      value_answer (function_named cs) (argument_value x d c) (argument_nodes x d c)
   call_answer (call cs _) d c = None
 
-  -- the truth that a function answers (section 2.4); a call that is not typed so has none
-  pub call_holds : CallTree → Value → Location → Bool
+  -- whether a function answers true (section 2.4); a call that is not well-typed as a test is false
+  -- here
+  pub call_holds : CallTree → Value → Node → Bool
   call_holds (call cs (argument_then x (argument_then y no_arguments))) d c =
       logical_answer (function_named cs) (argument_value x d c) (argument_value y d c)
   call_holds (call cs _) d c = false
 
-  -- the value that an argument stands for (section 2.4.1)
-  pub argument_value : ArgumentTree → Value → Location → Option Value
+  -- the value that an argument stands for (section 2.4.3)
+  pub argument_value : ArgumentTree → Value → Node → Option Value
   argument_value (literal_argument x) d c = literal_value x
-  argument_value (query_argument q) d c = single_node_value q d (nodelist_at q d c)
+  argument_value (query_argument q) d c = single_node_value q (nodelist_at q d c)
   argument_value (call_argument f) d c = call_answer f d c
   argument_value (logical_argument e) d c = None
 
-  -- the nodes that an argument stands for (section 2.4.1), where it is a query
-  pub argument_nodes : ArgumentTree → Value → Location → Option (List Location)
+  -- the nodes that an argument stands for (section 2.4.3), where it is a query
+  pub argument_nodes : ArgumentTree → Value → Node → Option (List Node)
   argument_nodes (query_argument q) d c = Some (nodelist_at q d c)
   argument_nodes (literal_argument x) d c = None
   argument_nodes (call_argument f) d c = None
   argument_nodes (logical_argument e) d c = None
 
--- the nodelist of a query over the value d: what its segments give from the root
-abbrev pub nodelist : QueryTree → Value → List Location
-nodelist q d = nodelist_at q d []
+-- the nodelist of a whole query over the document's value d: it begins at the root (section 2.2.2)
+abbrev pub nodelist : QueryTree → Value → List Node
+nodelist q d = nodelist_at q d (root_of d)

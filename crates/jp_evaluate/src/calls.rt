@@ -3,17 +3,17 @@ ghost use Rattle.std.specs.Prelude.{◌≡◌, IfOk, length, option_map};
 ghost use Rattle.jp_document.specs.DocumentValue.{lent_value};
 ghost use Rattle.jp_tree.specs.Tree.{argument_of, call_of, query_of};
 ghost use Rattle.jp_select.specs.Comparable.{comparable_of};
-ghost use Rattle.jp_evaluate.specs.Private.Reached.{argument_side, call_side, call_truth};
-ghost use Rattle.jp_evaluate.specs.Private.Reached.{query_reaches};
+ghost use Rattle.jp_evaluate.specs.Functions.{only_value};
+ghost use Rattle.jp_evaluate.specs.Nodelist.{argument_value, call_answer, call_holds, nodelist_at};
+ghost use Rattle.jp_evaluate.specs.Private.Asked.{asked};
 ghost use Rattle.jp_evaluate.specs.Private.Calls.{argument_query, both_arguments, call_function};
-ghost use Rattle.jp_evaluate.specs.Private.Calls.{only_argument, only_reached};
+ghost use Rattle.jp_evaluate.specs.Private.Calls.{only_argument};
 
-use crate::evaluating::{Evaluation, logical_answer};
-use crate::filter::advance;
+use crate::evaluating::logical_answer;
+use crate::filter::Asking;
 use crate::length::length_of;
 use crate::operand::{comparable, literal_value, whole};
 use crate::pattern::Patterns;
-use crate::singular::{node_value, start};
 use crate::walk::Walk;
 use jp_check::Function;
 use jp_document::DocumentValue;
@@ -22,112 +22,105 @@ use jp_select::Comparable;
 use jp_tree::{Argument, Call, Query};
 use std::alloc::AllocError;
 
-/// The value that a function answers, Nothing where it answers none.
-#[cycle(filter)]
-pub(crate) fn call_value<'q, M: Matching>(
-    evaluation: &Evaluation<'q, M>,
-    patterns: &mut Patterns<'q>,
-    call: &'q Call,
-    current: DocumentValue<'q>,
-) -> Result<Comparable<'q>, AllocError>
-    ensures { IfOk result (λ value. comparable_of value ≡ call_side (call_of call.now)
-        (lent_value evaluation.now.root) (lent_value current.entry)) }
-{
-    let Some(argument) = only_argument(call) else {
-        return Ok(Comparable::Nothing);
-    };
-    match function_of(call) {
-        Some(Function::Length) => Ok(length_of(argument_value(
-            evaluation, patterns, argument, current,
-        )?)),
-        Some(Function::Count) => match argument_query(argument) {
-            Some(query) => Ok(whole(node_count(evaluation, patterns, query, current)?)),
-            None => Ok(Comparable::Nothing),
-        },
-        Some(Function::ValueOf) => match argument_query(argument) {
-            Some(query) => Ok(comparable(only_value(evaluation, patterns, query, current)?)),
-            None => Ok(Comparable::Nothing),
-        },
-        Some(Function::Match) | Some(Function::Search) | None => Ok(Comparable::Nothing),
+impl<'a, 'q, M: Matching> Asking<'a, 'q, M> {
+    /// The value that a function answers, Nothing where it answers none.
+    #[cycle(filter)]
+    pub(crate) fn call_value(
+        &self,
+        patterns: &mut Patterns<'q>,
+        call: &'q Call,
+    ) -> Result<Comparable<'q>, AllocError>
+        ensures { IfOk result
+            (λ value. comparable_of value ≡ asked self.now (call_answer (call_of call.now))) }
+    {
+        let Some(argument) = only_argument(call) else {
+            return Ok(Comparable::Nothing);
+        };
+        match function_of(call) {
+            Some(Function::Length) => Ok(length_of(self.argument_value(patterns, argument)?)),
+            Some(Function::Count) => match argument_query(argument) {
+                Some(query) => Ok(whole(self.node_count(patterns, query)?)),
+                None => Ok(Comparable::Nothing),
+            },
+            Some(Function::ValueOf) => match argument_query(argument) {
+                Some(query) => Ok(comparable(self.only_value(patterns, query)?)),
+                None => Ok(Comparable::Nothing),
+            },
+            Some(Function::Match) | Some(Function::Search) | None => Ok(Comparable::Nothing),
+        }
     }
-}
 
-/// The truth that a function answers, false where it answers none.
-#[cycle(filter)]
-pub(crate) fn call_holds<'q, M: Matching>(
-    evaluation: &Evaluation<'q, M>,
-    patterns: &mut Patterns<'q>,
-    call: &'q Call,
-    current: DocumentValue<'q>,
-) -> Result<bool, AllocError>
-    ensures { IfOk result (λ answer. answer ≡ call_truth (call_of call.now)
-        (lent_value evaluation.now.root) (lent_value current.entry)) }
-{
-    let Some((first, second)) = both_arguments(call) else {
-        return Ok(false);
-    };
-    let value = argument_value(evaluation, patterns, first, current)?;
-    let pattern = argument_value(evaluation, patterns, second, current)?;
-    logical_answer(evaluation, patterns, function_of(call), value, pattern)
-}
-
-/// The value that an argument stands for, Nothing where it stands for none.
-#[cycle(filter)]
-fn argument_value<'q, M: Matching>(
-    evaluation: &Evaluation<'q, M>,
-    patterns: &mut Patterns<'q>,
-    argument: &'q Argument,
-    current: DocumentValue<'q>,
-) -> Result<Comparable<'q>, AllocError>
-    ensures { IfOk result (λ value. comparable_of value ≡ argument_side (argument_of argument.now)
-        (lent_value evaluation.now.root) (lent_value current.entry)) }
-{
-    match argument {
-        Argument::Literal(literal) => Ok(literal_value(literal)),
-        Argument::Query(query) => Ok(comparable(node_value(query, evaluation.root, current))),
-        Argument::Call(call) => call_value(evaluation, patterns, call, current),
-        Argument::Logical(_) => Ok(Comparable::Nothing),
+    /// The truth that a function answers, false where it answers none.
+    #[cycle(filter)]
+    pub(crate) fn call_holds(
+        &self,
+        patterns: &mut Patterns<'q>,
+        call: &'q Call,
+    ) -> Result<bool, AllocError>
+        ensures { IfOk result (λ answer. answer ≡ asked self.now (call_holds (call_of call.now))) }
+    {
+        let Some((first, second)) = both_arguments(call) else {
+            return Ok(false);
+        };
+        let value = self.argument_value(patterns, first)?;
+        let pattern = self.argument_value(patterns, second)?;
+        logical_answer(self.evaluation, patterns, function_of(call), value, pattern)
     }
-}
 
-/// How many nodes a query selects, repeats counted.
-#[cycle(filter)]
-fn node_count<'q, M: Matching>(
-    evaluation: &Evaluation<'q, M>,
-    patterns: &mut Patterns<'q>,
-    query: &'q Query,
-    current: DocumentValue<'q>,
-) -> Result<u64, AllocError>
-    ensures { IfOk result (λ count. count ≡ length (query_reaches (query_of query.now)
-        (lent_value evaluation.now.root) (lent_value current.entry))) }
-{
-    let mut walk = Walk::from(evaluation.alloc, start(query, evaluation.root, current));
-    let mut count: u64 = 0;
-    while advance(evaluation, patterns, &query.segments, &mut walk)?.is_some() {
-        count = count.checked_add(1).ok_or(AllocError)?;
+    /// The value that an argument stands for, Nothing where it stands for none.
+    #[cycle(filter)]
+    fn argument_value(
+        &self,
+        patterns: &mut Patterns<'q>,
+        argument: &'q Argument,
+    ) -> Result<Comparable<'q>, AllocError>
+        ensures { IfOk result (λ value. comparable_of value
+            ≡ asked self.now (argument_value (argument_of argument.now))) }
+    {
+        match argument {
+            Argument::Literal(literal) => Ok(literal_value(literal)),
+            Argument::Query(query) => Ok(comparable(self.node_value(query))),
+            Argument::Call(call) => self.call_value(patterns, call),
+            Argument::Logical(_) => Ok(Comparable::Nothing),
+        }
     }
-    Ok(count)
-}
 
-/// The value of the only node that a query selects, None where it selects none or several; the walk
-/// ends at the second.
-#[cycle(filter)]
-fn only_value<'q, M: Matching>(
-    evaluation: &Evaluation<'q, M>,
-    patterns: &mut Patterns<'q>,
-    query: &'q Query,
-    current: DocumentValue<'q>,
-) -> Result<Option<DocumentValue<'q>>, AllocError>
-    ensures { IfOk result (λ value. option_map lent_value value ≡ only_reached (query_reaches
-        (query_of query.now) (lent_value evaluation.now.root) (lent_value current.entry))) }
-{
-    let mut walk = Walk::from(evaluation.alloc, start(query, evaluation.root, current));
-    let Some(place) = advance(evaluation, patterns, &query.segments, &mut walk)? else {
-        return Ok(None);
-    };
-    match advance(evaluation, patterns, &query.segments, &mut walk)? {
-        Some(_) => Ok(None),
-        None => Ok(Some(place.value)),
+    /// How many nodes a query selects, repeats counted.
+    #[cycle(filter)]
+    fn node_count(&self, patterns: &mut Patterns<'q>, query: &'q Query) -> Result<u64, AllocError>
+        ensures { IfOk result
+            (λ count. count ≡ length (asked self.now (nodelist_at (query_of query.now)))) }
+    {
+        let mut walk = Walk::from(self.evaluation.alloc, self.start(query));
+        let mut count: u64 = 0;
+        while walk
+            .advance(self.evaluation, patterns, &query.segments)?
+            .is_some()
+        {
+            count = count.checked_add(1).ok_or(AllocError)?;
+        }
+        Ok(count)
+    }
+
+    /// The value of the only node that a query selects, None where it selects none or several; the
+    /// walk ends at the second.
+    #[cycle(filter)]
+    fn only_value(
+        &self,
+        patterns: &mut Patterns<'q>,
+        query: &'q Query,
+    ) -> Result<Option<DocumentValue<'q>>, AllocError>
+        ensures { IfOk result (λ value. option_map lent_value value
+            ≡ only_value (asked self.now (nodelist_at (query_of query.now)))) }
+    {
+        let mut walk = Walk::from(self.evaluation.alloc, self.start(query));
+        let Some(place) = walk.advance(self.evaluation, patterns, &query.segments)? else {
+            return Ok(None);
+        };
+        match walk.advance(self.evaluation, patterns, &query.segments)? {
+            Some(_) => Ok(None),
+            None => Ok(Some(place.value)),
+        }
     }
 }
 

@@ -3,10 +3,10 @@ ghost use Rattle.std.specs.Prelude.{◌≡◌, ◌+◌, ◌++◌, IfNone, IfOk, 
 ghost use Rattle.std.specs.Prelude.{option_to_list};
 ghost use Rattle.std.specs.Iterator.{at_most};
 ghost use Rattle.jp_document.specs.Node.{node_of};
-ghost use Rattle.jp_evaluate.specs.Rest.{GivesNext, has_failed, rest_of};
+ghost use Rattle.jp_select.specs.Giving.{GivesNext};
+ghost use Rattle.jp_evaluate.specs.Rest.{has_failed, rest_of};
 
 use crate::evaluating::Evaluation;
-use crate::filter::advance;
 use crate::pattern::Patterns;
 use crate::walk::Walk;
 use jp_document::Node;
@@ -39,12 +39,10 @@ impl<'d: 'q, 'q, M: Matching> Nodes<'d, 'q, M> {
         ensures end { IfOk result (λ o. IfNone o (rest_of self.new ≡ [])) }
         ensures failed { has_failed self.new ≡ has_failed self.old }
     {
-        match advance(
-            &self.evaluation,
-            &mut self.patterns,
-            self.segments,
-            &mut self.walk,
-        )? {
+        match self
+            .walk
+            .advance(&self.evaluation, &mut self.patterns, self.segments)?
+        {
             Some(place) => Ok(Some(self.walk.node_at(self.evaluation.alloc, place)?)),
             None => Ok(None),
         }
@@ -54,7 +52,7 @@ impl<'d: 'q, 'q, M: Matching> Nodes<'d, 'q, M> {
 impl<'d: 'q, 'q, M: Matching> Iterator for Nodes<'d, 'q, M> {
     type Item = Result<Node<'d>, AllocError>;
 
-    ghost next_gives = { GivesNext };
+    ghost next_gives = { GivesNext rest_of has_failed };
 
     ghost remaining = { λ nodes. at_most (if has_failed nodes then 0 else length (rest_of nodes) + 1) };
 

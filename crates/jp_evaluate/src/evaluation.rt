@@ -1,7 +1,7 @@
 //! The evaluation of a query, node by node.
 ghost use Rattle.std.specs.Prelude.{◌≡◌, IfOk, false, map};
 ghost use Rattle.jp_document.specs.Document.{document_of};
-ghost use Rattle.jp_document.specs.Node.{AreNodes, node_of};
+ghost use Rattle.jp_document.specs.Node.{node_of};
 ghost use Rattle.jp_tree.specs.Tree.{query_of};
 ghost use Rattle.jp_evaluate.specs.Nodelist.{nodelist};
 ghost use Rattle.jp_evaluate.specs.Rest.{has_failed, rest_of};
@@ -27,8 +27,7 @@ pub fn nodes<'d: 'q, 'q, M: Matching>(
     matcher: &'q M,
 ) -> Nodes<'d, 'q, M>
     ensures working { has_failed result ≡ false }
-    ensures nodes { AreNodes (document_of document.now) (rest_of result)
-        (nodelist (query_of query.now) (document_of document.now)) }
+    ensures nodes { rest_of result ≡ nodelist (query_of query.now) (document_of document.now) }
 {
     let root = document.value();
     Nodes {
@@ -54,8 +53,8 @@ pub fn evaluate<'d, M: Matching>(
     query: &Checked,
     matcher: &M,
 ) -> Result<Vec<Node<'d>>, AllocError>
-    ensures { IfOk result (λ nodes. AreNodes (document_of document.now)
-        (map node_of nodes.items) (nodelist (query_of query.now) (document_of document.now))) }
+    ensures { IfOk result (λ nodes. map node_of nodes.items
+        ≡ nodelist (query_of query.now) (document_of document.now)) }
 {
     let mut selected = Vec::new(alloc);
     for next in nodes(alloc, document, query, matcher) {

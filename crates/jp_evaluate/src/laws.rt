@@ -9,7 +9,8 @@ pub fn path_selects_its_node()
     ensures { PathSelectsItsNode }
 {}
 
-/// Each location of a nodelist is that of a node of the document (section 2.1.2).
+/// A nodelist has nodes of the document alone, each with the value that stands at its location
+/// (section 2.1.2).
 pub fn selects_nodes_alone()
     ensures { SelectsNodesAlone }
 {}

@@ -4,16 +4,21 @@ ghost use Rattle.std.specs.Prelude.{◌≡◌, ◌<◌, ◌++◌, ◌∷◌, [],
 ghost use Rattle.std.specs.Prelude.{OnOk, OnSome, map, option_map, slice_get};
 ghost use Rattle.jp_document.specs.DocumentValue.{lent_entry, lent_value};
 ghost use Rattle.jp_document.specs.Location.{key_of};
-ghost use Rattle.jp_document.specs.Value.{value_of};
+ghost use Rattle.jp_document.specs.Node.{node_of, root_of};
 ghost use Rattle.jp_tree.specs.Tree.{expr_of, segment_of, segments as segment_trees, selector_of};
-ghost use Rattle.jp_select.specs.Candidates.{candidates};
+ghost use Rattle.jp_select.specs.Selectors.{candidates};
 ghost use Rattle.jp_evaluate.specs.Private.Sizes.{expr_size, segments_size, selector_size};
 ghost use Rattle.jp_evaluate.specs.Private.Walk.{choice_at, entered, frame_choices, offered};
-ghost use Rattle.jp_evaluate.specs.Private.Walk.{pending, reached_at, segments_left, steps_of};
+ghost use Rattle.jp_evaluate.specs.Private.Walk.{passes, pending, reached_at, reached_place};
+ghost use Rattle.jp_evaluate.specs.Private.Walk.{segments_left, steps_of, walk_reaches};
 ghost use Rattle.jp_evaluate.specs.Private.Walk.{test_of, turn_of, turn_selector, turns};
 ghost use Rattle.jp_evaluate.specs.Private.Walk.{walk_frames};
 
+use crate::evaluating::Evaluation;
+use crate::filter::Asking;
+use crate::pattern::Patterns;
 use jp_document::{DocumentValue, Node, Step};
+use jp_match::Matching;
 use jp_select::candidate;
 use jp_tree::{Expr, Segment, Selector};
 use std::alloc::{AllocError, Global};
@@ -22,7 +27,7 @@ use std::alloc::{AllocError, Global};
 #[derive(Clone, Copy)]
 pub(crate) struct Place<'d> {
     /// How many segments are before it.
-    pub(crate) done: usize,
+    done: usize,
     /// The step to it from the frame before it, None where the walk begins.
     step: Option<Step<'d>>,
     pub(crate) value: DocumentValue<'d>,
@@ -38,9 +43,9 @@ struct Frame<'d> {
 
 /// A place to go on from, where the test is passed.
 #[derive(Clone, Copy)]
-pub(crate) struct Offer<'q, 'd> {
-    pub(crate) place: Place<'d>,
-    pub(crate) test: Option<&'q Expr>,
+struct Offer<'q, 'd> {
+    place: Place<'d>,
+    test: Option<&'q Expr>,
 }
 
 /// What a segment chooses by: one of its selectors, or, in a descendant segment, all children, at
@@ -73,8 +78,35 @@ impl<'d> Walk<'d> {
         }
     }
 
+    /// The next place that segments reach, None at the end. After an error nothing is said of what
+    /// is left.
+    #[cycle(filter)]
+    pub(crate) fn advance<'q, M: Matching>(
+        &mut self,
+        evaluation: &Evaluation<'q, M>,
+        patterns: &mut Patterns<'q>,
+        segments: &'q [Segment],
+    ) -> Result<Option<Place<'d>>, AllocError>
+    where
+        'd: 'q,
+        ensures { IfOk result (λ o. let left = walk_reaches segments.now
+            (lent_value evaluation.now.root) in MatchOption o
+            ((left self.old ≡ []) × (left self.new ≡ []))
+            (λ p. left self.old ≡ reached_place self.new p ∷ left self.new)) }
+    {
+        while let Some(offer) = self.next_offer(segments) {
+            if offer.passes(evaluation, patterns)? {
+                if offer.place.done >= segments.len() {
+                    return Ok(Some(offer.place));
+                }
+                self.enter(offer.place)?;
+            }
+        }
+        Ok(None)
+    }
+
     /// The next choice, None at the end.
-    pub(crate) fn next_offer<'q>(&mut self, segments: &'q [Segment]) -> Option<Offer<'q, 'd>>
+    fn next_offer<'q>(&mut self, segments: &'q [Segment]) -> Option<Offer<'q, 'd>>
         ensures gives { MatchOption result
             ((pending segments.now self.old ≡ []) × (pending segments.now self.new ≡ []))
             (λ o. pending segments.now self.old
@@ -118,7 +150,7 @@ impl<'d> Walk<'d> {
     }
 
     /// Goes on from a place.
-    pub(crate) fn enter(&mut self, place: Place<'d>) -> Result<(), AllocError>
+    fn enter(&mut self, place: Place<'d>) -> Result<(), AllocError>
         ensures first { self.new.first ≡ self.old.first }
         ensures frames { OnOk result
             (walk_frames self.new ≡ walk_frames self.old ++ entered place.entry ∷ []) }
@@ -136,17 +168,13 @@ impl<'d> Walk<'d> {
 
     /// The node at a place that the last frame led to.
     pub(crate) fn node_at(&self, alloc: Global, place: Place<'d>) -> Result<Node<'d>, AllocError>
-        ensures location { IfOk result (λ n. n.location
-            ≡ reached_at [] (walk_frames self.now) ++ steps_of place.entry.step) }
-        ensures value { IfOk result (λ n. value_of n.value ≡ lent_value place.entry.value) }
+        ensures { IfOk result (λ n. node_of n ≡ reached_place self.now place.entry) }
     {
         let mut location = Vec::with_capacity(alloc, self.below.len() + 2)?;
         for frame in &self.below {
             push_step(&mut location, frame.place.step)?;
         }
-        if let Some(frame) = self.top {
-            push_step(&mut location, frame.place.step)?;
-        }
+        push_step(&mut location, self.top.and_then(|frame| frame.place.step))?;
         push_step(&mut location, place.step)?;
         Ok(Node::of(location, place.value))
     }
@@ -213,6 +241,31 @@ fn turn_at<'q>(segments: &'q [Segment], done: usize, number: usize) -> Option<Tu
             }
             None
         }
+    }
+}
+
+impl<'q, 'd> Offer<'q, 'd> {
+    /// Whether the test is passed; without one it is.
+    #[cycle(filter)]
+    fn passes<M: Matching>(
+        self,
+        evaluation: &Evaluation<'q, M>,
+        patterns: &mut Patterns<'q>,
+    ) -> Result<bool, AllocError>
+    where
+        'd: 'q,
+        ensures { IfOk result (λ answer. answer
+            ≡ passes (option_map (λ e. expr_of e.now) self.entry.test)
+            (lent_value evaluation.now.root) (root_of (lent_value self.entry.place.value))) }
+    {
+        let Some(expr) = self.test else {
+            return Ok(true);
+        };
+        let asking = Asking {
+            evaluation,
+            current: self.place.value,
+        };
+        asking.holds(patterns, expr)
     }
 }
 

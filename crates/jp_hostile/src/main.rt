@@ -2,13 +2,15 @@
 //!
 //! Its word is the task for each line of the standard input. `paths` reads the line as a normalized
 //! path and writes its steps or why it is none; `steps` and `no-steps` read it as a pattern and
-//! write whether a scan accepts 100,000 times `ab`, or the empty text. The status is 0, 4 where
-//! memory ran out, and 5 where a read or a write failed otherwise.
+//! write whether a scan accepts 100,000 times `ab`, or the empty text; `descend` reads it as a
+//! document and writes how many nodes it has. The status is 0, 4 where memory ran out, and 5 where a
+//! read or a write failed otherwise.
 #![tactic(auto)]
 
-use jp_document::{OwnedStep, PathFault, read_path};
+use jp_document::{Document, DocumentFault, OwnedStep, PathFault, read_path};
 use jp_iregexp::{PatternFault, read_pattern};
 use jp_match::{Scan, Tests};
+use jp_select::descend_each;
 use std::alloc::Global;
 use std::io::{Error, ErrorKind};
 use std::process::ExitCode;
@@ -37,6 +39,7 @@ fn run(rt: &HostRuntime) -> io::Result<()> {
         let told = match task {
             "steps" => scanned(alloc, line.as_str(), 100_000)?,
             "no-steps" => scanned(alloc, line.as_str(), 0)?,
+            "descend" => nodes_of(alloc, line.as_str())?,
             _ => steps_of(alloc, line.as_str())?,
         };
         println!(rt; "{told}")?;
@@ -60,6 +63,23 @@ fn steps_of(alloc: Global, path: &str) -> io::Result<String> {
         }
     }
     Ok(text)
+}
+
+/// How many nodes the document that a text is has.
+fn nodes_of(alloc: Global, text: &str) -> io::Result<String> {
+    let document = match Document::read(alloc, text.as_bytes()) {
+        Ok(document) => document,
+        Err(DocumentFault::NoMemory) => return Err(Error::from(ErrorKind::OutOfMemory)),
+        Err(_) => return Ok(String::from_str(alloc, "no document")?),
+    };
+    let mut count: u64 = 0;
+    for node in descend_each(alloc, document.root(alloc)) {
+        node?;
+        count = count.saturating_add(1);
+    }
+    let mut told = String::new(alloc);
+    write!(told, "{count} nodes")?;
+    Ok(told)
 }
 
 /// Whether a scan of the pattern that a text is accepts so many times `ab`.

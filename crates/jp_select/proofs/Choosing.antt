@@ -1,4 +1,3 @@
 -- What selectors choose from, and the nodes that they select.
 pub mod Entries
-pub mod ListLengths
 pub mod Nodes

@@ -1,6 +1,7 @@
 pub mod Choosing
 pub mod Chosen
 pub mod Comparisons
+pub mod Items
 pub mod Locations
 pub mod Rising
 pub mod Rows

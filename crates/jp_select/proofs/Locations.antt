@@ -1,59 +1,35 @@
 -- Values and their locations: what stands in a value, and where.
 use Rattle.std.proofs.Common.{◌≡◌, ℕ, zero, suc, List, [], ◌∷◌, ◌++◌, map, Option}
-use Rattle.std.proofs.Common.{Some, None, refl, sym, ap, subst, ◌∙◌}
+use Rattle.std.proofs.Common.{Some, None, refl, sym, ap, ap₂, subst, ◌∙◌, append_assoc}
 use Rattle.std.specs.List.{All, flat_map, slice_get}
-use Rattle.std.specs.Option.{option_and_then, option_map_or}
+use Rattle.std.specs.Option.{option_and_then}
+use Rattle.std.proofs.lemmas.List.{append-nil, map-append}
 use Rattle.std.proofs.lemmas.List.Elements.{All-cons, All-nil, All-append, All-map, All-weaker}
 use Rattle.std.proofs.lemmas.Option.{same_Some}
 use Rattle.jp_document.specs.Location.{Key, named, nth, Location, items_from}
 use Rattle.jp_document.specs.Location.{members_by_name, entries, child, value_at}
-use Rattle.jp_document.specs.Node.{AreNodes, Node, StandsIn, location_of, root_of}
+use Rattle.jp_document.specs.Node.{Node, StandsIn, node_at, node_below, root_of}
 use Rattle.jp_document.specs.Value.{Value, null, boolean, whole, text, list, object, Items}
 use Rattle.jp_document.specs.Value.{no_items, item, Members, no_members, member, IsDocumentValue}
 use Rattle.jp_document.proofs.Descent.Inside.{IsDocumentValue-child}
 use Rattle.jp_document.proofs.Descent.Entries.{child-entry}
-use Rattle.jp_select.specs.Subtree.{after, beyond, location_beyond, subtree_of}
-use Rattle.jp_select.specs.Subtree.{nodes_in, nodes_in_items, nodes_in_members, subtree}
-
--- the node of a value at a location
-abbrev pub node_at : Location → Value → Node
-node_at l v = record { location = l; value = v }
+use Rattle.jp_document.proofs.Descent.Nodes.{IsDocumentValue-at}
+use Rattle.jp_select.specs.Subtree.{after, beyond, nodes_in, nodes_in_items}
+use Rattle.jp_select.specs.Subtree.{nodes_in_members, subtree_of}
 
 -- ---- values at longer locations
-
-further : (o : Option Value) (l : Location) (t : Location) →
-    option_and_then (λ w. value_at w t) (option_and_then (λ w. value_at w l) o) ≡
-    option_and_then (λ w. option_and_then (λ x. value_at x t) (value_at w l)) o
-further None l t = refl
-further (Some w) l t = refl
 
 append_inside : (o : Option Value) (l t : Location) →
     ((w : Value) → value_at w (l ++ t) ≡ option_and_then (λ x. value_at x t) (value_at w l)) →
     option_and_then (λ w. value_at w (l ++ t)) o ≡
-    option_and_then (λ w. option_and_then (λ x. value_at x t) (value_at w l)) o
+    option_and_then (λ x. value_at x t) (option_and_then (λ w. value_at w l) o)
 append_inside None l t each = refl
 append_inside (Some w) l t each = each w
 
 pub value_at-append : (d : Value) (l t : Location) →
     value_at d (l ++ t) ≡ option_and_then (λ w. value_at w t) (value_at d l)
 value_at-append d [] t = refl
-value_at-append d (k ∷ l) t =
-    append_inside (child d k) l t (λ w. value_at-append w l t) ∙ sym (further (child d k) l t)
-
-document_inside : (d v : Value) (k : Key) (l : Location) (o : Option Value) →
-    ((w : Value) → IsDocumentValue w → value_at w l ≡ Some v → IsDocumentValue v) →
-    IsDocumentValue d → child d k ≡ o → option_and_then (λ w. value_at w l) o ≡ Some v →
-    IsDocumentValue v
-document_inside d v k l None each document at is = absurd (cc)
-document_inside d v k l (Some w) each document at is =
-    each w (IsDocumentValue-child d w k document at) is
-
--- a value in a document's value is one
-pub IsDocumentValue-at : (d v : Value) (l : Location) → IsDocumentValue d → value_at d l ≡ Some v →
-    IsDocumentValue v
-IsDocumentValue-at d v [] document is = subst IsDocumentValue (same_Some d v is) document
-IsDocumentValue-at d v (k ∷ l) document is =
-    document_inside d v k l (child d k) (λ w. IsDocumentValue-at w v l) document refl is
+value_at-append d (k ∷ l) t = append_inside (child d k) l t (λ w. value_at-append w l t)
 
 -- ---- a value and its children
 
@@ -77,11 +53,13 @@ nodes_in-entries (text s) = refl
 nodes_in-entries (list vs) = ap (λ t. root_of (list vs) ∷ t) (items-inner 0 vs)
 nodes_in-entries (object ms) = ap (λ t. root_of (object ms) ∷ t) (members-inner ms)
 
+abbrev pub HoldsUnder : (Value → Type 0) → List (Key × Value) → Type 0
+HoldsUnder P es = (i : ℕ) (k : Key) (w : Value) → slice_get es i ≡ Some (k, w) → P w
+
 -- what holds of a value where it holds of its children holds of all values
 mutual
-  pub by_children : (P : Value → Type 0) →
-      ((v : Value) → ((i : ℕ) (k : Key) (w : Value) → slice_get (entries v) i ≡ Some (k, w) → P w) →
-      P v) → (v : Value) → P v
+  pub by_children : (P : Value → Type 0) → ((v : Value) → HoldsUnder P (entries v) → P v) →
+      (v : Value) → P v
   by_children P step null = step null (λ i k w is. absurd (cc))
   by_children P step (boolean b) = step (boolean b) (λ i k w is. absurd (cc))
   by_children P step (whole z) = step (whole z) (λ i k w is. absurd (cc))
@@ -89,19 +67,15 @@ mutual
   by_children P step (list vs) = step (list vs) (by_items P step vs 0)
   by_children P step (object ms) = step (object ms) (by_members P step ms)
 
-  by_items : (P : Value → Type 0) →
-      ((v : Value) → ((i : ℕ) (k : Key) (w : Value) → slice_get (entries v) i ≡ Some (k, w) → P w) →
-      P v) → (vs : Items) (n : ℕ) → (i : ℕ) (k : Key) (w : Value) →
-      slice_get (items_from n vs) i ≡ Some (k, w) → P w
+  by_items : (P : Value → Type 0) → ((v : Value) → HoldsUnder P (entries v) → P v) →
+      (vs : Items) (n : ℕ) → HoldsUnder P (items_from n vs)
   by_items P step no_items n i k w is = absurd (cc)
   by_items P step (item v vs) n zero k w is =
       subst P (ap (λ e. e.1) (same_Some (nth n, v) (k, w) is)) (by_children P step v)
   by_items P step (item v vs) n (suc i) k w is = by_items P step vs (suc n) i k w is
 
-  by_members : (P : Value → Type 0) →
-      ((v : Value) → ((i : ℕ) (k : Key) (w : Value) → slice_get (entries v) i ≡ Some (k, w) → P w) →
-      P v) → (ms : Members) → (i : ℕ) (k : Key) (w : Value) →
-      slice_get (members_by_name ms) i ≡ Some (k, w) → P w
+  by_members : (P : Value → Type 0) → ((v : Value) → HoldsUnder P (entries v) → P v) →
+      (ms : Members) → HoldsUnder P (members_by_name ms)
   by_members P step no_members i k w is = absurd (cc)
   by_members P step (member n v ms) zero k w is =
       subst P (ap (λ e. e.1) (same_Some (named n, v) (k, w) is)) (by_children P step v)
@@ -136,33 +110,36 @@ nodes_stand = by_children (λ v. IsDocumentValue v → All (Stands v) (nodes_in 
 
 -- ---- a node and its descendants
 
-beyond_stand : (d v : Value) (l : Location) (ns : List Node) → IsDocumentValue d
-    → value_at d l ≡ Some v → All (Stands v) ns → All (StandsIn d) (map (beyond l) ns)
-beyond_stand d v l ns document at all =
-    All-map (StandsIn d) (beyond l) ns
-    (All-weaker (Stands v) (λ n. StandsIn d (beyond l n)) (λ n there. record {
-      document = document;
+-- each is a node of the document in which the first stands
+pub subtree-stands : (d : Value) (n : Node) → StandsIn d n → All (StandsIn d) (subtree_of n)
+subtree-stands d n stands =
+    All-map (StandsIn d) (beyond n.location) (nodes_in n.value)
+    (All-weaker (Stands n.value) (λ m. StandsIn d (beyond n.location m)) (λ m there. record {
+      document = stands.document;
       there =
-          value_at-append d l n.location ∙ ap (option_and_then (λ w. value_at w n.location)) at
-          ∙ there;
-    }) ns all)
+          value_at-append d n.location m.location
+          ∙ ap (option_and_then (λ w. value_at w m.location)) stands.there ∙ there;
+    }) (nodes_in n.value)
+    (nodes_stand n.value
+    (IsDocumentValue-at d n.value n.location stands.document stands.there)))
 
-locations-beyond : (l : Location) (ns : List Node)
-    → map location_of (map (beyond l) ns) ≡ map (location_beyond l) ns
-locations-beyond l [] = refl
-locations-beyond l (n ∷ ns) = ap (λ ls. (l ++ n.location) ∷ ls) (locations-beyond l ns)
+beyond-after : (l : Location) (k : Key) (ns : List Node)
+    → map (beyond l) (map (after k) ns) ≡ map (beyond (l ++ k ∷ [])) ns
+beyond-after l k [] = refl
+beyond-after l k (n ∷ ns) =
+    ap₂ (λ m t. node_at m n.value ∷ t) (sym (append_assoc l (k ∷ []) n.location))
+    (beyond-after l k ns)
 
-pub subtree-nodes : (d : Value) (n : Node) → StandsIn d n
-    → AreNodes d (subtree_of n) (subtree d n.location)
-subtree-nodes d n stands =
-    let here = IsDocumentValue-at d n.value n.location stands.document stands.there in
-    record {
-      locations =
-          locations-beyond n.location (nodes_in n.value)
-          ∙ sym
-          (ap (λ o. option_map_or (λ w. map (location_beyond n.location) (nodes_in w)) o [])
-          stands.there);
-      stand =
-          beyond_stand d n.value n.location (nodes_in n.value) stands.document stands.there
-          (nodes_stand n.value here);
-    }
+beyond-inner : (l : Location) (es : List (Key × Value))
+    → map (beyond l) (flat_map inner es) ≡ flat_map subtree_of (map (node_below l) es)
+beyond-inner l [] = refl
+beyond-inner l (e ∷ es) =
+    map-append (beyond l) (inner e) (flat_map inner es)
+    ∙ ap₂ (λ s t. s ++ t) (beyond-after l e.0 (nodes_in e.1)) (beyond-inner l es)
+
+-- a node comes before what its children give
+pub nodes-children : (l : Location) (v : Value)
+    → subtree_of (node_at l v) ≡ node_at l v ∷ flat_map subtree_of (map (node_below l) (entries v))
+nodes-children l v =
+    ap (map (beyond l)) (nodes_in-entries v)
+    ∙ ap₂ (λ m t. node_at m v ∷ t) (append-nil l) (beyond-inner l (entries v))

@@ -1,10 +1,11 @@
 -- Worked rows of the definitions.
-use Rattle.std.proofs.Common.{◌≡◌, true, false, pos, negsuc, [], ◌∷◌, Some, None, codes, refl}
+use Rattle.std.proofs.Common.{◌≡◌, true, false, pos, negsuc, [], ◌∷◌, Some, None, codes, map, refl}
 use Rattle.jp_document.specs.Location.{Location, named, nth}
+use Rattle.jp_document.specs.Node.{location_of, root_of}
 use Rattle.jp_document.specs.Value.{Value, null, boolean, whole, text, list}
 use Rattle.jp_document.specs.Value.{object, no_items, item, no_members, member}
 use Rattle.jp_tree.specs.declared.tree.Op.TheVariants.{Equal, Less, LessEqual, Greater}
-use Rattle.jp_select.specs.Subtree.{subtree}
+use Rattle.jp_select.specs.Subtree.{subtree_of}
 use Rattle.jp_select.specs.Comparison.{compared, precedes}
 use Rattle.jp_select.specs.Selectors.{item_at}
 use Rattle.jp_select.specs.Slice.{slice_of}
@@ -52,16 +53,16 @@ nested_nulls =
 abbrev at_a : Location
 at_a = named (codes "a") ∷ []
 
-subtree_root : subtree nested_nulls [] ≡
+subtree_root : map location_of (subtree_of (root_of nested_nulls)) ≡
     [] ∷ at_a ∷ (named (codes "a") ∷ nth 0 ∷ []) ∷ (named (codes "a") ∷ nth 1 ∷ []) ∷ (named
     (codes "a") ∷ nth 1 ∷ nth 0 ∷ []) ∷ (named (codes "b") ∷ []) ∷ []
 subtree_root = refl
 
-subtree_leaf : subtree nested_nulls (named (codes "b") ∷ []) ≡ (named (codes "b") ∷ []) ∷ []
+subtree_leaf : subtree_of (record { location = at_a; value = null }) ≡ record {
+  location = at_a;
+  value = null;
+} ∷ []
 subtree_leaf = refl
-
-subtree_nothing : subtree nested_nulls (nth 3 ∷ []) ≡ []
-subtree_nothing = refl
 
 -- ---- comparisons (section 2.3.5.3)
 

@@ -1,69 +1,24 @@
 -- How a walk goes on: by frames, child by child.
-use Rattle.std.proofs.Common.{◌≡◌, ℕ, zero, suc, ◌+◌, List, [], ◌∷◌, ◌++◌, map, drop, Option}
-use Rattle.std.proofs.Common.{Some, None, refl, sym, ap, ap₂, ◌∙◌, append_assoc, arith}
+use Rattle.std.proofs.Common.{◌≡◌, ℕ, zero, suc, ◌+◌, ◌-◌, List, [], ◌∷◌, ◌++◌, drop, map, length}
+use Rattle.std.proofs.Common.{take, reverse, Option, Some, None, refl, sym, ap, ap₂, ◌∙◌}
+use Rattle.std.proofs.Common.{append_assoc, arith}
 use Rattle.std.specs.List.{flat_map, slice_get}
-use Rattle.std.specs.Option.{option_map}
-use Rattle.std.proofs.lemmas.List.{append-nil, map-append}
-use Rattle.std.proofs.lemmas.Option.{same_Some}
-use Rattle.jp_document.specs.Location.{Key, named, nth, Location}
-use Rattle.jp_document.specs.Location.{items_from, members_by_name, entries}
-use Rattle.jp_document.specs.Node.{Node, NodeView, children, node_below, node_of}
-use Rattle.jp_document.specs.Value.{Value, null, boolean, whole, text, list, object, Items}
-use Rattle.jp_document.specs.Value.{no_items, item, Members, no_members, member}
-use Rattle.jp_select.specs.Subtree.{after, beyond, subtree_of, nodes_in}
-use Rattle.jp_select.specs.Subtree.{nodes_in_items, nodes_in_members}
-use Rattle.jp_select.specs.Walk.{begun_by, given_by, child_subtrees}
+use Rattle.std.specs.Option.{option_map, option_map_or}
+use Rattle.std.proofs.lemmas.List.{length-map, length_push, map-append, reverse-append, take-map}
+use Rattle.std.proofs.Math.Seq.{take-append_seam}
+use Rattle.std.proofs.lemmas.Option.{same_Some, slice_get-map}
+use Rattle.jp_document.specs.DocumentValue.{lent_entry, lent_value}
+use Rattle.jp_document.specs.Location.{Key, Location, entries, key_of}
+use Rattle.jp_document.specs.Node.{Node, NodeView, children, node_at, node_below, node_of}
+use Rattle.jp_document.specs.Value.{Value}
+use Rattle.jp_document.specs.declared.document_value.DocumentValue.{DocumentValue}
+use Rattle.jp_document.specs.declared.location.Step.{Step}
+use Rattle.jp_select.specs.Subtree.{subtree_of}
+use Rattle.jp_select.specs.Walk.{child_subtrees, frame_node, frames_give, given_by, parent}
 use Rattle.jp_select.specs.declared.descent.Frame.{Frame}
-use Rattle.jp_select.proofs.Locations.{node_at}
+use Rattle.jp_select.proofs.Locations.{nodes-children}
 
--- ---- a value and its children
-
-nodes_after : (l : Location) (k : Key) (es : List Node)
-    → map (beyond l) (map (after k) es) ≡ map (beyond (l ++ k ∷ [])) es
-nodes_after l k [] = refl
-nodes_after l k (e ∷ es) =
-    ap₂ (λ m t. record {
-      location = m;
-      value = e.value;
-    } ∷ t) (sym (append_assoc l (k ∷ []) e.location)) (nodes_after l k es)
-
-child_and_more : (l : Location) (k : Key) (v : Value) (more : List Node) (rest : List Node)
-    → map (beyond l) more ≡ rest
-    → map (beyond l) (map (after k) (nodes_in v) ++ more) ≡ subtree_of (node_below l (k, v)) ++ rest
-child_and_more l k v more rest is =
-    map-append (beyond l) (map (after k) (nodes_in v)) more
-    ∙ ap₂ (λ s t. s ++ t) (nodes_after l k (nodes_in v)) is
-
-subtree_of_items : (l : Location) (i : ℕ) (vs : Items) →
-    map (beyond l) (nodes_in_items i vs) ≡
-    flat_map subtree_of (map (node_below l) (items_from i vs))
-subtree_of_items l i no_items = refl
-subtree_of_items l i (item v vs) =
-    child_and_more l (nth i) v (nodes_in_items (suc i) vs) _ (subtree_of_items l (suc i) vs)
-
-subtree_of_members : (l : Location) (ms : Members) →
-    map (beyond l) (nodes_in_members ms) ≡
-    flat_map subtree_of (map (node_below l) (members_by_name ms))
-subtree_of_members l no_members = refl
-subtree_of_members l (member n v ms) =
-    child_and_more l (named n) v (nodes_in_members ms) _ (subtree_of_members l ms)
-
-nodes-children : (l : Location) (v : Value)
-    → subtree_of (node_at l v) ≡ node_at l v ∷ flat_map subtree_of (map (node_below l) (entries v))
-nodes-children l null = ap (λ m. node_at m null ∷ []) (append-nil l)
-nodes-children l (boolean b) = ap (λ m. node_at m (boolean b) ∷ []) (append-nil l)
-nodes-children l (whole z) = ap (λ m. node_at m (whole z) ∷ []) (append-nil l)
-nodes-children l (text s) = ap (λ m. node_at m (text s) ∷ []) (append-nil l)
-nodes-children l (list vs) =
-    ap₂ (λ m t. node_at m (list vs) ∷ t) (append-nil l) (subtree_of_items l 0 vs)
-nodes-children l (object ms) =
-    ap₂ (λ m t. node_at m (object ms) ∷ t) (append-nil l) (subtree_of_members l ms)
-
--- a node comes before what its children give
-pub nodes-first : (n : Node) → subtree_of n ≡ n ∷ child_subtrees n 0
-nodes-first n = nodes-children n.location n.value
-
--- ---- frames
+-- ---- children by their positions
 
 pub drop_at : {X : Type 0} (xs : List X) (i : ℕ) (x : X) → slice_get xs i ≡ Some x
     → drop i xs ≡ x ∷ drop (suc i) xs
@@ -77,74 +32,77 @@ drop_past [] (suc i) is = refl
 drop_past (y ∷ ys) zero is = cc
 drop_past (y ∷ ys) (suc i) is = drop_past ys i is
 
--- the child at a position, then those after it
-pub nodes-next : (n m : Node) (i j : ℕ) → Some m ≡ slice_get (children n) i → j ≡ i + 1
-    → child_subtrees n i ≡ subtree_of m ++ child_subtrees n j
-nodes-next n m i j is next =
-    let same : suc i ≡ j = omega arith in
-    ap (flat_map subtree_of) (drop_at (children n) i m (sym is))
-    ∙ ap (λ k. subtree_of m ++ child_subtrees n k) same
+child_there : (n : Node) (i : ℕ) (o : Option (Key × Value)) → o ≡ slice_get (entries n.value) i
+    → slice_get (children n) i ≡ option_map (node_below n.location) o
+child_there n i o is =
+    slice_get-map (node_below n.location) (entries n.value) i
+    ∙ ap (option_map (node_below n.location)) (sym is)
 
-pub nodes-end : (n : Node) (i : ℕ) → None ≡ slice_get (children n) i → child_subtrees n i ≡ []
-nodes-end n i is = ap (flat_map subtree_of) (drop_past (children n) i (sym is))
+-- ---- frames
 
--- the last frame gives first
-pub given-push : (fs : List Frame) (f : Frame)
-    → given_by (fs ++ f ∷ []) ≡ child_subtrees (node_of f.node) f.next ++ given_by fs
-given-push [] f = sym (append-nil (child_subtrees (node_of f.node) f.next))
-given-push (g ∷ fs) f =
-    ap (λ t. t ++ child_subtrees (node_of g.node) g.next) (given-push fs f)
-    ∙ append_assoc (child_subtrees (node_of f.node) f.next) (given_by fs)
-    (child_subtrees (node_of g.node) g.next)
+parent-push : (l : Location) (k : Key) → parent (l ++ k ∷ []) ≡ l
+parent-push l k =
+    let longer = length_push l k in
+    let same : length (l ++ k ∷ []) - 1 ≡ length l = omega arith in
+    ap (λ n. take n (l ++ k ∷ [])) same ∙ take-append_seam l (k ∷ [])
 
--- ---- steps of a walk
+abbrev pub entered : DocumentValue → Frame
+entered v = record { value = v; next = 0 }
 
--- the first step gives the node that the walk begins with
-pub first_gives : (f g : Option NodeView) (n : NodeView) (fs gs : List Frame) → Some n ≡ f
-    → g ≡ None → given_by gs ≡ child_subtrees (node_of n) 0 ++ given_by fs
-    → begun_by f ++ given_by fs ≡ node_of n ∷ (begun_by g ++ given_by gs)
-first_gives f g n fs gs first none frames =
-    ap (λ o. begun_by o ++ given_by fs) (sym first)
-    ∙ ap (λ t. t ++ given_by fs) (append-nil (subtree_of (node_of n)) ∙ nodes-first (node_of n))
-    ∙ ap (λ t. node_of n ∷ t) (sym frames ∙ ap (λ o. begun_by o ++ given_by gs) (sym none))
+abbrev pub advanced : Frame → Frame
+advanced f = record { value = f.value; next = f.next + 1 }
 
--- a later one gives the next child of the last frame
-pub child_gives : (before : List Node) (f g : Option NodeView)
-    (frames popped pushed entered : List Frame) (fr : Frame) (m : NodeView) (j : ℕ)
-    (o : Option NodeView) → f ≡ None → begun_by f ++ given_by frames ≡ before →
-    frames ≡ popped ++ fr ∷ [] → o ≡ Some m →
-    option_map node_of o ≡ slice_get (children (node_of fr.node)) fr.next → j ≡ fr.next + 1 →
-    pushed ≡ popped ++ record { node = fr.node; next = j } ∷ [] → g ≡ f →
-    given_by entered ≡ child_subtrees (node_of m) 0 ++ given_by pushed →
-    before ≡ node_of m ∷ (begun_by g ++ given_by entered)
-child_gives before f g frames popped pushed entered fr m j o none rest pop some is next push
-    same enter =
-    let more : Frame = record { node = fr.node; next = j } in
-    let at : option_map node_of (Some m) ≡ slice_get (children (node_of fr.node)) fr.next =
-    ap (option_map node_of) (sym some) ∙ is in
-    sym rest
-    ∙ ap (λ x. begun_by x ++ given_by frames) none
-    ∙ ap given_by pop ∙ given-push popped fr
-    ∙ ap (λ t. t ++ given_by popped) (nodes-next (node_of fr.node) (node_of m) fr.next j at next)
-    ∙ append_assoc (subtree_of (node_of m)) (child_subtrees (node_of fr.node) j) (given_by popped)
-    ∙ ap (λ t. subtree_of (node_of m) ++ t) (sym (ap given_by push ∙ given-push popped more))
-    ∙ ap (λ t. t ++ given_by pushed) (nodes-first (node_of m))
-    ∙ ap (λ t. node_of m ∷ t)
-    (sym enter ∙ ap (λ x. begun_by x ++ given_by entered) (sym (same ∙ none)))
+-- the last frame gives its next child, and goes on with what is in it
+pub child_gives : (was : List Step) (fs : List Frame) (f : Frame) (s : Step) (v : DocumentValue) →
+    Some (lent_entry (s, v)) ≡ slice_get (entries (lent_value f.value)) f.next →
+    frames_give was (fs ++ f ∷ []) ≡
+    node_at (map key_of (was ++ s ∷ [])) (lent_value v)
+    ∷ frames_give (was ++ s ∷ []) ((fs ++ advanced f ∷ []) ++ entered v ∷ [])
+child_gives was fs f s v is =
+    let l = map key_of was in
+    let n = frame_node l f in
+    let m = node_at (l ++ key_of s ∷ []) (lent_value v) in
+    let same : suc f.next ≡ f.next + 1 = omega arith in
+    let more = child_subtrees n (f.next + 1) in
+    let rest = given_by (parent l) (reverse fs) in
+    rw (
+      map-append key_of was (s ∷ []),
+      reverse-append fs (f ∷ []),
+      reverse-append (fs ++ advanced f ∷ []) (entered v ∷ []),
+      reverse-append fs (advanced f ∷ []),
+      parent-push l (key_of s),
+    )
+    (ap (λ ns. flat_map subtree_of ns ++ rest)
+    (drop_at (children n) f.next m (child_there n f.next (Some (lent_entry (s, v))) is))
+    ∙ ap (λ i. (subtree_of m ++ child_subtrees n i) ++ rest) same
+    ∙ append_assoc (subtree_of m) more rest
+    ∙ ap (λ ns. ns ++ (more ++ rest)) (nodes-children m.location m.value))
 
--- a frame without a next child gives nothing
-pub frame_ends : (f : Option NodeView) (frames popped : List Frame) (fr : Frame)
-    (o : Option NodeView) → frames ≡ popped ++ fr ∷ [] → o ≡ None
-    → option_map node_of o ≡ slice_get (children (node_of fr.node)) fr.next
-    → begun_by f ++ given_by popped ≡ begun_by f ++ given_by frames
-frame_ends f frames popped fr o pop none is =
-    let at : option_map node_of None ≡ slice_get (children (node_of fr.node)) fr.next =
-    ap (option_map node_of) (sym none) ∙ is in
-    ap (λ t. begun_by f ++ t)
-    (sym
-    (ap given_by pop ∙ given-push popped fr
-    ∙ ap (λ t. t ++ given_by popped) (nodes-end (node_of fr.node) fr.next at)))
+-- a last frame without a next child gives nothing
+pub frame_ends : (n : ℕ) (was is : List Step) (fs : List Frame) (f : Frame) → n ≡ length was →
+    is ≡ take (n - 1) was → None ≡ slice_get (entries (lent_value f.value)) f.next →
+    frames_give is fs ≡ frames_give was (fs ++ f ∷ [])
+frame_ends n was is fs f long rest end =
+    let l = map key_of was in
+    let up : map key_of is ≡ parent l =
+    ap (map key_of) rest ∙ sym (take-map key_of (n - 1) was)
+    ∙ ap (λ m. take (m - 1) l) (long ∙ sym (length-map was key_of)) in
+    let m = frame_node l f in
+    ap (λ t. given_by t (reverse fs)) up
+    ∙ sym
+    (ap (given_by l) (reverse-append fs (f ∷ []))
+    ∙ ap (λ ns. flat_map subtree_of ns ++ given_by (parent l) (reverse fs))
+    (drop_past (children m) f.next (child_there m f.next None end)))
 
--- at the end all has been given
-pub all_given : (done all rest : List Node) → done ++ rest ≡ all → rest ≡ [] → done ≡ all
-all_given done all rest is end = sym (append-nil done) ∙ ap (λ t. done ++ t) (sym end) ∙ is
+-- ---- walks
+
+pub node_left : (o : Option NodeView) (n : NodeView) (ns : List Node) → Some n ≡ o →
+    option_map_or (λ m. subtree_of (node_of m)) o ns ≡ subtree_of (node_of n)
+node_left o n ns is = ap (λ x. option_map_or (λ m. subtree_of (node_of m)) x ns) (sym is)
+
+pub frames_left : (o : Option NodeView) (was is : List Step) (fs gs : List Frame) → o ≡ None →
+    was ≡ is → fs ≡ gs →
+    option_map_or (λ n. subtree_of (node_of n)) o (frames_give was fs) ≡ frames_give is gs
+frames_left o was is fs gs first location frames =
+    ap (λ x. option_map_or (λ n. subtree_of (node_of n)) x (frames_give was fs)) first
+    ∙ ap₂ frames_give location frames

@@ -34,10 +34,6 @@ abbrev mutual
       bytes_eq m n && same_value v w && same_members ms ns
   same_members _ _ = false
 
--- members of one name with the same value
-abbrev pub same_member : List ℕ × Value → List ℕ × Value → Bool
-same_member m n = bytes_eq m.0 n.0 && same_value m.1 n.1
-
 -- `==`: Nothing equals only Nothing
 abbrev pub equals : Option Value → Option Value → Bool
 equals None None = true
@@ -60,7 +56,7 @@ value_less (whole x) (whole y) = int_lt x y
 value_less (text s) (text t) = precedes (chars s) (chars t)
 value_less _ _ = false
 
--- `<`: nothing is less with Nothing
+-- `<`: false where a side is Nothing
 abbrev pub is_less : Option Value → Option Value → Bool
 is_less (Some v) (Some w) = value_less v w
 is_less _ _ = false

@@ -1,41 +1,33 @@
 -- What is true of the definitions, in the standard's words.
 use Rattle.std.specs.Prelude.{◌≡◌, ◌↔◌, ℕ, suc, ◌*◌, ℤ, pos, negsuc, ◌+ℤ◌, ◌<ℤ◌}
-use Rattle.std.specs.Prelude.{List, [], ◌∷◌, ◌++◌, map, reverse, Contains, Option, Some, true}
+use Rattle.std.specs.Prelude.{List, [], map, reverse, Contains, Option, Some, true}
+use Rattle.std.specs.List.{All}
 use Rattle.std.specs.List.Sorted.{IsStrictlySortedBy}
 use Rattle.std.specs.Ordering.{nat_cmp}
-use Rattle.jp_document.specs.ChildNodes.{IsListOf, children_of}
-use Rattle.jp_document.specs.Location.{Key, Location, value_at}
-use Rattle.jp_document.specs.Value.{Value, IsDocumentValue, NamesRise}
-use Rattle.jp_tree.specs.Tree.{SelectorTree, filter}
-use Rattle.jp_select.specs.Candidates.{candidates}
+use Rattle.jp_document.specs.ChildNodes.{IsListOf}
+use Rattle.jp_document.specs.Node.{Node, StandsIn, location_of}
+use Rattle.jp_document.specs.Value.{Value, NamesRise}
+use Rattle.jp_tree.specs.Tree.{SelectorTree}
 use Rattle.jp_select.specs.Selectors.{chosen}
-use Rattle.jp_select.specs.Subtree.{subtree, IsInSubtree}
+use Rattle.jp_select.specs.Subtree.{subtree_of, IsInSubtree}
 use Rattle.jp_select.specs.Comparison.{equals}
 use Rattle.jp_select.specs.Equality.{IsEqual}
 use Rattle.jp_select.specs.Slice.{rising_lower, rising_upper}
 use Rattle.jp_select.specs.Slice.{falling_lower, falling_upper, slice_of}
 
--- a node and its descendants are exactly the nodes whose locations begin with its own, in document
--- order (RFC 9535 section 2.5.2.2)
-abbrev pub SubtreeRises : Type 0
-SubtreeRises =
-    (d : Value) (l : Location) → IsDocumentValue d → IsListOf (IsInSubtree d l) (subtree d l)
+-- a node n of the document d and its descendants (RFC 9535 section 2.5.2.2)
+pub record SubtreeRises : Type 0 where
+  -- they are exactly the nodes whose locations begin with that of n, in document order
+  pub listed : (d : Value) (n : Node) → StandsIn d n →
+      IsListOf (IsInSubtree d n.location) (map location_of (subtree_of n))
+  -- each is a node of d, with the value that d has at its location
+  pub stand : (d : Value) (n : Node) → StandsIn d n → All (StandsIn d) (subtree_of n)
 
--- where the entry of a value at l stands
-abbrev pub entry_location : Location → Key × Value → Location
-entry_location l e = l ++ e.0 ∷ []
-
--- where a selector chooses at l: a filter among all children, any other what it selects
-abbrev pub choices : Value → SelectorTree → Location → List Location
-choices d (filter e) l = children_of d l
-choices d s l = chosen d s l
-
--- the candidates at the value of a node stand, from the node on, where the selector chooses, in the
--- same order (RFC 9535 section 2.3)
-abbrev pub CandidatesAreChosen : Type 0
-CandidatesAreChosen =
-    (d v : Value) (l : Location) (s : SelectorTree) → value_at d l ≡ Some v →
-    map (entry_location l) (candidates s v) ≡ choices d s l
+-- a plain selector selects, at a node of d, nodes of d alone, each with the value that stands at its
+-- location (RFC 9535 section 2.3)
+abbrev pub ChoosesNodesAlone : Type 0
+ChoosesNodesAlone =
+    (d : Value) (n : Node) (s : SelectorTree) → StandsIn d n → All (StandsIn d) (chosen s n)
 
 -- the indexes rise, and are exactly lower, lower + step, lower + 2 * step .. below upper
 pub record IsRisingSlice (lower upper : ℤ) (step : ℕ) (is : List ℕ) : Type 0 where

@@ -1,8 +1,8 @@
-pub mod Candidates
 pub mod Subtree
 pub mod Comparable
 pub mod Comparison
 pub mod Equality
+pub mod Giving
 pub mod Laws
 pub mod Selectors
 pub mod Slice

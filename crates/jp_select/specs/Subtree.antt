@@ -1,6 +1,5 @@
 -- A node and its descendants in document order (RFC 9535 section 2.5.2.2).
 use Rattle.std.specs.Prelude.{◌≡◌, ℕ, suc, List, [], ◌∷◌, ◌++◌, map, IsSome}
-use Rattle.std.specs.Option.{option_map_or}
 use Rattle.jp_document.specs.Location.{Key, named, nth, Location, value_at}
 use Rattle.jp_document.specs.Node.{Node, root_of}
 use Rattle.jp_document.specs.Value.{Value, null, boolean, whole, text, list, object, Items}
@@ -35,14 +34,6 @@ beyond l n = record { location = l ++ n.location; value = n.value }
 -- a node and its descendants, in document order
 abbrev pub subtree_of : Node → List Node
 subtree_of n = map (beyond n.location) (nodes_in n.value)
-
--- where a node in the value at l stands
-abbrev pub location_beyond : Location → Node → Location
-location_beyond l n = l ++ n.location
-
--- the locations of the node of d at l and of its descendants, in document order
-abbrev pub subtree : Value → Location → List Location
-subtree d l = option_map_or (λ v. map (location_beyond l) (nodes_in v)) (value_at d l) []
 
 -- m is the location of a node of d, and begins with l
 pub record IsInSubtree (d : Value) (l m : Location) : Type 0 where

@@ -1,13 +1,11 @@
 //! The values that a selector chooses from, one by one (RFC 9535 section 2.3).
 ghost use Rattle.std.specs.Prelude.{◌≡◌, ◌<◌, OnSome, option_map, slice_get};
 ghost use Rattle.jp_document.specs.DocumentValue.{lent_entry, lent_value};
-ghost use Rattle.jp_document.specs.Value.{value_of};
 ghost use Rattle.jp_tree.specs.Tree.{index as index_tree, selector_of, slice as slice_tree};
-ghost use Rattle.jp_select.specs.Candidates.{candidates, single};
-ghost use Rattle.jp_select.specs.Selectors.{item_at, list_length};
+ghost use Rattle.jp_select.specs.Selectors.{candidates, item_at, single};
 
 use crate::slice::{slice_index, whole};
-use jp_document::{DocumentValue, Json, Step};
+use jp_document::{DocumentValue, Step};
 use jp_tree::{Numeral, Selector, Slice};
 
 /// The value at this position, from 0, among those that a selector chooses from at a value, with
@@ -55,8 +53,7 @@ pub fn single<'d>(
 fn item<'d>(value: DocumentValue<'d>, index: Numeral) -> Option<(Step<'d>, DocumentValue<'d>)>
     ensures { option_map lent_entry result ≡ single (index_tree index) (lent_value value.entry) }
 {
-    let item = item_at(list_length(value.json())?, whole(index)?)?;
-    value.child(item as usize)
+    value.item(item_at(value.list_length()?, whole(index)?)?)
 }
 
 /// The item of a list at a position among those that a slice selects (section 2.3.4.2).
@@ -69,11 +66,10 @@ fn slice_item<'d>(
         ≡ slice_get (candidates (slice_tree slice) (lent_value value.entry)) position }
     ensures more { OnSome result (position < usize.MAX) }
 {
-    let item = slice_index(list_length(value.json())?, slice, position as u64)?;
-    value.child(item as usize)
+    value.item(slice_index(value.list_length()?, slice, position as u64)?)
 }
 
-/// Which of `length` items an index stands for, counted from the end where it is negative.
+/// Which of `length` items an index selects, counted from the end where it is negative.
 fn item_at(length: u64, index: i128) -> Option<u64>
     ensures { result ≡ item_at length index }
 {
@@ -86,15 +82,5 @@ fn item_at(length: u64, index: i128) -> Option<u64>
         Some(item as u64)
     } else {
         None
-    }
-}
-
-/// How many items a list has, None of another value.
-fn list_length(value: &Json) -> Option<u64>
-    ensures { result ≡ list_length (value_of value.now) }
-{
-    match value {
-        Json::List(items) => Some(items.len() as u64),
-        Json::Null | Json::Bool(_) | Json::Whole(_) | Json::Text(_) | Json::Members(_) => None,
     }
 }

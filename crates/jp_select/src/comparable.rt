@@ -1,8 +1,8 @@
 //! The sides of comparisons (RFC 9535 section 2.3.5.1), and how two of them compare.
-ghost use Rattle.std.specs.Prelude.{◌≡◌, ◌↔◌, IsTrue, map, chars};
+ghost use Rattle.std.specs.Prelude.{◌≡◌, ◌↔◌, ◌&&◌, IsTrue, bytes_eq, map, chars};
 ghost use Rattle.jp_document.specs.Value.{value_of, items_of, members_of, member_of};
 ghost use Rattle.jp_select.specs.Comparable.{comparable_of, side_of};
-ghost use Rattle.jp_select.specs.Comparison.{equals, is_less, precedes, same_items, same_member};
+ghost use Rattle.jp_select.specs.Comparison.{equals, is_less, precedes, same_items, same_value};
 ghost use Rattle.jp_select.specs.Comparison.{same_members};
 
 use jp_document::{Json, Member};
@@ -112,7 +112,8 @@ fn same_members(members: &[Member], others: &[Member]) -> bool
 /// Whether two members have one name and the same value.
 #[cycle(equals)]
 fn same_member(member: &Member, other: &Member) -> bool
-    ensures { result ≡ same_member (member_of member.now) (member_of other.now) }
+    ensures { let m = member_of member.now in let n = member_of other.now in
+        result ≡ (bytes_eq m.0 n.0 && same_value m.1 n.1) }
 {
     member.name.as_str() == other.name.as_str()
         && Comparable::of(Some(&member.value)).equals(Comparable::of(Some(&other.value)))

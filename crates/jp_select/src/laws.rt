@@ -1,9 +1,9 @@
 //! What is true of the definitions that the calls cite: functions without a body, each for one law.
-ghost use Rattle.jp_select.specs.Laws.{CandidatesAreChosen, EqualsIsExact, SlicesAreExact};
+ghost use Rattle.jp_select.specs.Laws.{ChoosesNodesAlone, EqualsIsExact, SlicesAreExact};
 ghost use Rattle.jp_select.specs.Laws.{SubtreeRises};
 
 /// A node and its descendants are exactly the nodes whose locations begin with its own, in document
-/// order (RFC 9535 section 2.5.2.2).
+/// order, each with the value that stands there (RFC 9535 section 2.5.2.2).
 pub fn subtree_rises()
     ensures { SubtreeRises }
 {}
@@ -21,8 +21,8 @@ pub fn equals_is_exact()
     ensures { EqualsIsExact }
 {}
 
-/// The candidates of a name, an index, a slice or a wildcard at a node are what it selects there,
-/// in the same order, and those of a filter are all children (RFC 9535 section 2.3).
-pub fn candidates_are_chosen()
-    ensures { CandidatesAreChosen }
+/// A name, a wildcard, an index or a slice selects nodes of the document alone, each with the value
+/// that stands at its location (RFC 9535 section 2.3).
+pub fn chooses_nodes_alone()
+    ensures { ChoosesNodesAlone }
 {}

@@ -10,9 +10,10 @@
 //! compare(Op::Less, Comparable::Whole(3), five);      // true
 //! ```
 //!
-//! For the layer above: in each document in which the node stands, `select_plain` gives the nodes
-//! at the locations that the standard has for the selector, in its order, and `descend` those of
-//! the node and all its descendants, in document order; `descend_each` gives these one by one.
+//! For the layer above: `select_plain` gives the nodes that the standard has for the selector at a
+//! node, in its order, and `descend` the node and all its descendants, in document order;
+//! `descend_each` gives these one by one. By `laws` they are nodes of each document in which the
+//! node stands.
 //! `candidate` is what a selector chooses from at a value, position by position, without a list.
 //! `compare` answers what the standard has for an operator between two values, or Nothing, and
 //! takes no memory.

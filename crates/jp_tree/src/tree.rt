@@ -78,7 +78,7 @@ pub enum Expr {
 pub enum Subject {
     /// Whether the query selects a node.
     Query(Query),
-    /// Whether the function's answer is true, or selects a node.
+    /// Whether the function's answer is true, or has a node.
     Call(Call),
 }
 

@@ -1,7 +1,8 @@
--- The entries of a value by their positions, and that their steps rise: for `nth_child` and for
--- walks in document order.
+-- The entries of a value by their positions, and that their steps rise: for
+-- `DocumentValue::child` and for walks in document order.
 use Rattle.std.proofs.Common.{◌≡◌, ℕ, zero, suc, ◌+◌, ◌<◌, Bool, true, List, [], ◌∷◌, length}
-use Rattle.std.proofs.Common.{map, Option, Some, Less, refl, sym, ap, subst, ◌∙◌, arith}
+use Rattle.std.proofs.Common.{map, Option, Some, Less, refl, sym, ap, ap₂, subst, ◌∙◌, arith}
+use Rattle.std.proofs.Common.{string_bytes}
 use Rattle.std.specs.Cmp.{nat_cmp_is}
 use Rattle.std.specs.List.{slice_get, AllByRecursion}
 use Rattle.std.specs.List.Sorted.{IsStrictlySortedBy}
@@ -18,17 +19,16 @@ use Rattle.jp_document.specs.Value.{Value, list, object, Items}
 use Rattle.jp_document.specs.Value.{no_items, item, Members, no_members, member, items_of}
 use Rattle.jp_document.specs.Value.{members_of, names_of, everywhere, everywhere_in_items}
 use Rattle.jp_document.specs.Value.{everywhere_in_members, has_rising_names, is_allowed}
-use Rattle.jp_document.specs.Value.{IsDocumentValue, NamesRise}
+use Rattle.jp_document.specs.Value.{IsDocumentValue, NamesRise, member_of, value_of}
+use Rattle.jp_document.specs.declared.value.Member.{Member}
+use Rattle.jp_document.proofs.Values.{member_of_is}
 use Rattle.jp_document.proofs.Members.ByName.{bytes_cmp, sorted_from_rise}
-use Rattle.jp_document.proofs.Descent.Inside.{everywhere-weaker}
+use Rattle.jp_document.proofs.Descent.Inside.{IsDocumentValue-child, everywhere-weaker}
 use Rattle.jp_document.proofs.Descent.Keys.{key_cmp_total}
 use Rattle.jp_document.proofs.Conjunctions.{and-left, and-right}
 
 abbrev pub at_index : ℕ → Value → Key × Value
 at_index i v = (nth i, v)
-
-abbrev pub at_name : List ℕ × Value → Key × Value
-at_name p = (named p.0, p.1)
 
 -- ---- by positions
 
@@ -43,52 +43,21 @@ pub item_entry : (i : ℕ) (vs : List Value)
     → slice_get (items_from 0 (items_of vs)) i ≡ option_map (at_index i) (slice_get vs i)
 item_entry i vs = entry_of_item i 0 i vs (omega arith)
 
-pub length-items_from : (k : ℕ) (vs : List Value) → length (items_from k (items_of vs)) ≡ length vs
-length-items_from k [] = refl
-length-items_from k (v ∷ vs) = ap suc (length-items_from (suc k) vs)
+-- the entry of a member
+abbrev pub entry_of : Member → Key × Value
+entry_of m = (named (string_bytes m.name), value_of m.value)
 
-pub members-entries : (ps : List (List ℕ × Value))
-    → members_by_name (members_of ps) ≡ map at_name ps
+pub members-entries : (ms : List Member)
+    → members_by_name (members_of (map member_of ms)) ≡ map entry_of ms
 members-entries [] = refl
-members-entries (p ∷ ps) = ap (λ es. at_name p ∷ es) (members-entries ps)
-
-pub member_entry : (i : ℕ) (ps : List (List ℕ × Value))
-    → slice_get (members_by_name (members_of ps)) i ≡ option_map at_name (slice_get ps i)
-member_entry i ps = ap (λ es. slice_get es i) (members-entries ps) ∙ slice_get-map at_name ps i
+members-entries (m ∷ ms) =
+    ap₂ (λ p es. (named p.0, p.1) ∷ es) (member_of_is m) (members-entries ms)
 
 -- the child at a position, beside the entry
 pub child_at_position : (l : Location) (es : List (Key × Value)) (i : ℕ) (o : Option (Key × Value))
     → o ≡ slice_get es i → option_map (node_below l) o ≡ slice_get (map (node_below l) es) i
 child_at_position l es i o is =
     ap (option_map (node_below l)) is ∙ sym (slice_get-map (node_below l) es i)
-
--- ---- what holds everywhere
-
-first_passes : (p : Value → Bool) (k : Key) (v : Value) (e : Key × Value) → Some (k, v) ≡ Some e →
-    everywhere p v ≡ true → everywhere p e.1 ≡ true
-first_passes p k v e is there =
-    let same : (k, v) ≡ e = same_Some _ _ is in
-    subst (λ x. everywhere p x ≡ true) (ap (λ x. x.1) same) there
-
-item_passes : (p : Value → Bool) (k : ℕ) (vs : Items) (i : ℕ) (e : Key × Value) →
-    everywhere_in_items p vs ≡ true → slice_get (items_from k vs) i ≡ Some e →
-    everywhere p e.1 ≡ true
-item_passes p k no_items i e all is = cc
-item_passes p k (item v vs) zero e all is = first_passes p (nth k) v e is (and-left _ _ all)
-item_passes p k (item v vs) (suc i) e all is = item_passes p (suc k) vs i e (and-right _ _ all) is
-
-member_passes : (p : Value → Bool) (ms : Members) (i : ℕ) (e : Key × Value) →
-    everywhere_in_members p ms ≡ true → slice_get (members_by_name ms) i ≡ Some e →
-    everywhere p e.1 ≡ true
-member_passes p no_members i e all is = cc
-member_passes p (member n v ms) zero e all is = first_passes p (named n) v e is (and-left _ _ all)
-member_passes p (member n v ms) (suc i) e all is = member_passes p ms i e (and-right _ _ all) is
-
-pub everywhere-entry : (p : Value → Bool) (v : Value) (i : ℕ) (e : Key × Value)
-    → everywhere p v ≡ true → slice_get (entries v) i ≡ Some e → everywhere p e.1 ≡ true
-everywhere-entry p (list vs) i e all is = item_passes p 0 vs i e (and-right _ _ all) is
-everywhere-entry p (object ms) i e all is = member_passes p ms i e (and-right _ _ all) is
-everywhere-entry p v i e all is = cc
 
 -- ---- the steps rise
 
@@ -139,3 +108,8 @@ pub child-entry : (v : Value) (i : ℕ) (k : Key) (w : Value) → IsDocumentValu
 child-entry v i k w document is =
     lookup_from_place (eq_by_cmp_equiv key_cmp_total) (entries v) i k w
     (IsDistinct-from_sorted key_cmp (keys_of (entries v)) (entries-rise v document)) is
+
+pub IsDocumentValue-entry : (v : Value) (i : ℕ) (e : Key × Value) → IsDocumentValue v
+    → slice_get (entries v) i ≡ Some e → IsDocumentValue e.1
+IsDocumentValue-entry v i e document is =
+    IsDocumentValue-child v e.1 e.0 document (child-entry v i e.0 e.1 document is)

@@ -12,7 +12,6 @@ use Rattle.std.proofs.lemmas.Option.{same_Some}
 use Rattle.std.specs.Option.{option_map, option_and_then}
 use Rattle.jp_document.specs.Location.{Key, key_cmp, Location, items_from}
 use Rattle.jp_document.specs.Location.{members_by_name, child, value_at}
-use Rattle.jp_document.specs.Node.{IsNodeAt, Node, StandsIn, child_of, node_below}
 use Rattle.jp_document.specs.Value.{Value, null, boolean, whole, text, list, object, Items}
 use Rattle.jp_document.specs.Value.{no_items, item, Members, no_members, member}
 use Rattle.jp_document.specs.Value.{items_of, members_of}
@@ -128,30 +127,6 @@ pub value_at-step : (d v : Value) (l : Location) (k : Key) → value_at d l ≡ 
 value_at-step d v [] k is =
     let same : d ≡ v = cc in and_then-Some (child d k) ∙ ap (λ x. child x k) same
 value_at-step d v (j ∷ l) k is = value_at-below (child d j) v l k (λ w. value_at-step w v l k) is
-
-child_stands_by : (d : Value) (n : Node) (k : Key) (o : Option Value)
-    → value_at d (n.location ++ k ∷ []) ≡ o → StandsIn d n
-    → IsNodeAt d (n.location ++ k ∷ []) (option_map (λ v. node_below n.location (k, v)) o)
-child_stands_by d n k None at stands = at
-child_stands_by d n k (Some v) at stands = (refl, record { document = stands.document; there = at })
-
--- the child of a node that stands in d stands there too
-pub child_stands : (d : Value) (n : Node) (k : Key) (o : Option Node) → o ≡ child_of n k
-    → StandsIn d n → IsNodeAt d (n.location ++ k ∷ []) o
-child_stands d n k o is stands =
-    subst (IsNodeAt d (n.location ++ k ∷ [])) (sym is)
-    (child_stands_by d n k (child n.value k) (value_at-step d n.value n.location k stands.there)
-    stands)
-
-abbrev with_name : List ℕ → Value → List ℕ × Value
-with_name n v = (n, v)
-
--- what a look-up by name found is the child's value
-pub value_from_pair : (n : List ℕ) (p : List ℕ × Value) (o : Option Value) →
-    Some p ≡ option_map (with_name n) o → o ≡ Some p.1
-value_from_pair n p None is = cc
-value_from_pair n p (Some v) is =
-    let same : p ≡ (n, v) = same_Some _ _ is in ap Some (sym (ap (λ q. q.1) same))
 
 -- one step of a walk along a location: on to a value, or to none
 pub walked : {S : Type 0} (key : S → Key) (steps : List S) (i : ℕ) (e : S) (v : Value)

@@ -1,18 +1,17 @@
--- The nodes that a loop over the children of a node makes, and where they stand: for `children`.
+-- The nodes that a loop over the children of a node makes, and where children stand: for `children`
+-- and the law `children_are_exact`.
 use Rattle.std.proofs.Common.{◌≡◌, ℕ, zero, suc, ◌+◌, List}
-use Rattle.std.proofs.Common.{[], ◌∷◌, ◌++◌, length, take, map, Some, None}
-use Rattle.std.proofs.Common.{unwrap_or, refl, sym, ap, subst, ◌∙◌}
+use Rattle.std.proofs.Common.{[], ◌∷◌, ◌++◌, length, get_or, take, map, Option, Some, None}
+use Rattle.std.proofs.Common.{refl, sym, ap, subst, ◌∙◌}
 use Rattle.std.specs.List.{All, slice_get}
 use Rattle.std.specs.Option.{option_map, option_and_then}
 use Rattle.std.proofs.lemmas.List.{length_push, map-append, take_more}
-use Rattle.std.proofs.lemmas.List.Elements.{All-cons, All-nil}
+use Rattle.std.proofs.lemmas.List.Elements.{All-map}
 use Rattle.std.proofs.lemmas.Option.{slice_get-get_or, slice_get_within, same_Some}
-use Rattle.jp_document.specs.ChildNodes.{steps_below}
-use Rattle.jp_document.specs.ChildNodes.{children_of}
 use Rattle.jp_document.specs.Location.{Key, Location}
 use Rattle.jp_document.specs.Location.{entries, child, value_at}
-use Rattle.jp_document.specs.Node.{AreNodes, Node, NodeView, StandsIn}
-use Rattle.jp_document.specs.Node.{children, location_of, node_below, node_of}
+use Rattle.jp_document.specs.Node.{IsNodeAt, Node, NodeView, StandsIn}
+use Rattle.jp_document.specs.Node.{child_of, children, node_below, node_of}
 use Rattle.jp_document.specs.Value.{Value, IsDocumentValue}
 use Rattle.jp_document.proofs.Descent.Inside.{IsDocumentValue-child, value_at-step}
 use Rattle.jp_document.proofs.Options.{some_from_then}
@@ -56,44 +55,31 @@ IsDocumentValue-at d v (k ∷ l) document is =
     (sym (ap (option_and_then (λ x. value_at x l)) w.1) ∙ is)
 
 -- the value of the document at a child's location
-pub child_there : (d v : Value) (l : Location) (i : ℕ) (e : Key × Value) → IsDocumentValue v
-    → value_at d l ≡ Some v → slice_get (entries v) i ≡ Some e
-    → value_at d (l ++ e.0 ∷ []) ≡ Some e.1
-child_there d v l i e document there is =
-    value_at-step d v l e.0 there ∙ child-entry v i e.0 e.1 document is
+pub child_there : (d : Value) (n : Node) (i : ℕ) (e : Key × Value) → StandsIn d n
+    → slice_get (entries n.value) i ≡ Some e → value_at d (n.location ++ e.0 ∷ []) ≡ Some e.1
+child_there d n i e stands is =
+    value_at-step d n.value n.location e.0 stands.there
+    ∙ child-entry n.value i e.0 e.1
+    (IsDocumentValue-at d n.value n.location stands.document stands.there) is
 
-children_of-there : (d v : Value) (l : Location) → value_at d l ≡ Some v →
-    children_of d l ≡ steps_below l v
-children_of-there d v l there = ap (λ o. unwrap_or (option_map (steps_below l) o) []) there
-
-below_stand : (d : Value) (l : Location) (es : List (Key × Value)) → IsDocumentValue d
-    → ((i : ℕ) (e : Key × Value) → slice_get es i ≡ Some e → value_at d (l ++ e.0 ∷ []) ≡ Some e.1)
-    → All (StandsIn d) (map (node_below l) es)
-below_stand d l [] document each = All-nil (StandsIn d)
-below_stand d l (e ∷ es) document each =
-    All-cons (StandsIn d) (node_below l e) (map (node_below l) es) (record {
-      document = document;
-      there = each 0 e refl;
+-- the children of a node that stands in d stand there too
+pub children-stand : (d : Value) (n : Node) → StandsIn d n → All (StandsIn d) (children n)
+children-stand d n stands =
+    let es = entries n.value in
+    All-map (StandsIn d) (node_below n.location) es (λ i e within. record {
+      document = stands.document;
+      there = child_there d n i (get_or es i e) stands (slice_get-get_or es i e within);
     })
-    (below_stand d l es document (λ i x is. each (suc i) x is))
 
-pub map-location_of-node_below : (l : Location) (es : List (Key × Value))
-    → map location_of (map (node_below l) es) ≡ map (λ e. l ++ e.0 ∷ []) es
-map-location_of-node_below l [] = refl
-map-location_of-node_below l (e ∷ es) =
-    ap (λ ls. (l ++ e.0 ∷ []) ∷ ls) (map-location_of-node_below l es)
+child_stands_by : (d : Value) (n : Node) (k : Key) (o : Option Value)
+    → value_at d (n.location ++ k ∷ []) ≡ o → StandsIn d n
+    → IsNodeAt d (n.location ++ k ∷ []) (option_map (λ v. node_below n.location (k, v)) o)
+child_stands_by d n k None at stands = at
+child_stands_by d n k (Some v) at stands = (refl, record { document = stands.document; there = at })
 
--- the children of a node of d are d's nodes at their locations
-pub AreNodes-children : (d : Value) (n : Node) → StandsIn d n
-    → AreNodes d (children n) (children_of d n.location)
-AreNodes-children d n stands =
-    let v = n.value in
-    let l = n.location in
-    let document = IsDocumentValue-at d v l stands.document stands.there in
-    record {
-      locations =
-          map-location_of-node_below l (entries v) ∙ sym (children_of-there d v l stands.there);
-      stand =
-          below_stand d l (entries v) stands.document
-          (λ i e at. child_there d v l i e document stands.there at);
-    }
+-- the child at a step stands there too, or there is none
+pub child-stands : (d : Value) (n : Node) (k : Key) → StandsIn d n
+    → IsNodeAt d (n.location ++ k ∷ []) (child_of n k)
+child-stands d n k stands =
+    child_stands_by d n k (child n.value k) (value_at-step d n.value n.location k stands.there)
+    stands

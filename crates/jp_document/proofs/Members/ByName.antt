@@ -21,9 +21,6 @@ use Rattle.jp_document.specs.Value.{Value, list, object, Items, no_items, item, 
 use Rattle.jp_document.specs.Value.{no_members, member, members_of, names_of, names_rise}
 use Rattle.jp_document.proofs.Conjunctions.{and-left, and-right}
 
-abbrev named_with : {V : Type 0} → List ℕ → V → List ℕ × V
-named_with q v = (q, v)
-
 abbrev pub bytes_cmp : List ℕ → List ℕ → Ordering
 bytes_cmp = slice_cmp nat_cmp
 
@@ -63,19 +60,6 @@ absent f q [] other = refl
 absent f q (x ∷ xs) other =
     rw (other 0 x (omega arith)) (absent f q xs (λ k d within. other (suc k) d (omega arith)))
 
--- a name that the member at i has
-lookup-name_at : {X V : Type 0} (f : X → List ℕ × V) (q : List ℕ) (xs : List X) (i : ℕ) (d : X) →
-    IsStrictlySortedBy bytes_cmp (keys_of (map f xs)) → i < length xs → (f (get_or xs i d)).0 ≡ q →
-    lookup (eq_by_cmp bytes_cmp q) (map f xs) ≡ Some (f (get_or xs i d)).1
-lookup-name_at f q xs i d sorted within is =
-    let v = (f (get_or xs i d)).1 in
-    lookup-from_Contains (eq_by_cmp_equiv nat_list_cmp_total) q v (map f xs)
-    (IsDistinct-from_sorted bytes_cmp (keys_of (map f xs)) sorted) (
-      i,
-      subst (λ n. i < n) (sym (length-map xs f)) within,
-      get_or-map f xs i d (q, v) within ∙ ap (λ n. (n, v)) is,
-    )
-
 not_less : (a b : List ℕ) → bytes_cmp a b ≡ Less → is_lt (bytes_cmp b a) ≡ false
 not_less a b less = ap is_lt (nat_list_cmp_total.antisymm b a ∙ ap ordering_reverse less)
 
@@ -106,30 +90,17 @@ names_apart : (q n : List ℕ) (o : Ordering) → bytes_cmp n q ≡ o →
 names_apart q n o is other =
     ap is_eq (nat_list_cmp_total.antisymm q n ∙ ap ordering_reverse is) ∙ other
 
--- what a bisection among rising names says: the name's member, or that no member has the name
-pub searched_name : {X V : Type 0} (f : X → List ℕ × V) (q : List ℕ) (xs : List X)
-    (r : Result ℕ ℕ) → IsStrictlySortedBy bytes_cmp (keys_of (map f xs)) →
-    IsBinarySearchResult (λ x. bytes_cmp (f x).0 q) xs r →
-    MatchResult r
-    (λ i. (d : X) → i < length xs →
-    ((f (get_or xs i d)).0 ≡ q)
-    × (lookup (eq_by_cmp bytes_cmp q) (map f xs) ≡ Some (f (get_or xs i d)).1))
-    (λ i. lookup (eq_by_cmp bytes_cmp q) (map f xs) ≡ None)
-searched_name f q xs (Ok i) sorted h = λ d within.
-    let is = exact_bytes (f (get_or xs i d)).0 q (h d) in
-    (is, lookup-name_at f q xs i d sorted within is)
-searched_name f q xs (Err i) sorted h =
+-- a name that a bisection among rising names did not find
+pub absent_name : {X V : Type 0} (f : X → List ℕ × V) (q : List ℕ) (xs : List X) (i : ℕ) →
+    IsStrictlySortedBy bytes_cmp (keys_of (map f xs)) →
+    IsBinarySearchResult (λ x. bytes_cmp (f x).0 q) xs (Err i) →
+    lookup (eq_by_cmp bytes_cmp q) (map f xs) ≡ None
+absent_name f q xs i sorted h =
     let parts = h (searchable f q xs sorted) in
     absent f q xs (λ k d within. elim (cases_lt k i) [
       | inl below ↦ names_apart q (f (get_or xs k d)).0 Less (parts.0 k d (omega arith) below) refl
       | inr above ↦ names_apart q (f (get_or xs k d)).0 Greater (parts.1 k d above within) refl
     ])
-
--- what a `bytes_cmp` search among members of a value says of its child
-pub child_at_name : (v : Value) (q : List ℕ) (ps : List (List ℕ × Value)) (r : Option Value) →
-    child v (named q) ≡ child (object (members_of ps)) (named q) →
-    lookup (eq_by_cmp bytes_cmp q) ps ≡ r → child v (named q) ≡ r
-child_at_name v q ps r same is = same ∙ child-named q ps ∙ is
 
 pub sorted_members : (ps : List (List ℕ × Value)) → names_rise (names_of (members_of ps)) ≡ true →
     IsStrictlySortedBy bytes_cmp (keys_of ps)
@@ -148,10 +119,3 @@ child-list_named q vs = no_name_among q 0 vs
 pub child-object_nth : (i : ℕ) (ms : Members) → child (object ms) (nth i) ≡ None
 child-object_nth i no_members = refl
 child-object_nth i (member n v ms) = child-object_nth i ms
-
--- the member that a bisection found, beside what a look-up by its name gives
-pub found_pair : {X V : Type 0} (f : X → List ℕ × V) (q : List ℕ) (x y : X) (o : Option V) → x ≡ y →
-    (f y).0 ≡ q → o ≡ Some (f y).1 → Some (f x) ≡ option_map (named_with q) o
-found_pair f q x y o is name here =
-    ap Some (ap f is ∙ ap (λ n. named_with n (f y).1) name)
-    ∙ ap (option_map (named_with q)) (sym here)

@@ -63,6 +63,35 @@ fn values_inside(rt: HostRuntime) -> Result<(), Fail> {
     Ok(())
 }
 
+/// An item of a member of the root, reached step by step, and how many items are there.
+fn item_inside(alloc: Global, bytes: &[u8], name: &str, index: u64) -> Result<String, Fail> {
+    let document = Document::read(alloc, bytes)?;
+    let root = document.root(alloc);
+    let (step, list) = root.document_value().member(name).ok_or("no member")?;
+    let node = root.below(alloc, step, list)?;
+    let (step, item) = list.item(index).ok_or("no item")?;
+    let told = node_text(alloc, &node.below(alloc, step, item)?)?;
+    let items = list.list_length().ok_or("no list")?;
+    Ok(format!(in alloc; "{told} of {items}")?)
+}
+
+/// The child of a document's root at a position.
+fn child_inside(alloc: Global, bytes: &[u8], position: usize) -> Result<String, Fail> {
+    let document = Document::read(alloc, bytes)?;
+    let root = document.root(alloc);
+    let (step, value) = root.document_value().child(position).ok_or("no child")?;
+    Ok(node_text(alloc, &root.below(alloc, step, value)?)?)
+}
+
+#[test]
+fn steps_inside(rt: HostRuntime) -> Result<(), Fail> {
+    let item = item_inside(rt.alloc(), br#"{"a":[5,3]}"#, "a", 1)?;
+    assert_eq!(rt; item.as_str(), "$['a'][1] 3 of 2");
+    let child = child_inside(rt.alloc(), br#"{"b":1,"a":2}"#, 1)?;
+    assert_eq!(rt; child.as_str(), "$['b'] 1");
+    Ok(())
+}
+
 /// The children of a document's root, each on a line.
 fn all_children(alloc: Global, bytes: &[u8]) -> Result<String, Fail> {
     let document = Document::read(alloc, bytes)?;

@@ -3,28 +3,26 @@ use Rattle.std.proofs.Common.{◌≡◌, ◌≢◌, ℕ, Bool, true, false, if�
 use Rattle.std.proofs.Common.{List, [], ◌∷◌, ◌++◌, Option, Some, None}
 use Rattle.std.proofs.Common.{length, map, option_map, option_to_list}
 use Rattle.std.proofs.Common.{option_and_then, IsUtf8, refl, ap, sym, ◌∙◌, subst, arith}
-use Rattle.std.specs.List.{All, slice_get}
+use Rattle.std.specs.List.{slice_get}
 use Rattle.std.specs.Str.{chars, encode_utf8_all}
-use Rattle.std.proofs.lemmas.List.Elements.{All-head}
 use Rattle.std.proofs.lemmas.Option.{same_Some}
 use Rattle.std.proofs.lemmas.Str.{encodes-chars}
-use Rattle.jp_document.proofs.Descent.Inside.{value_at-step}
-use Rattle.jp_document.specs.Location.{Key, Location, value_at}
-use Rattle.jp_document.specs.Value.{IsDocumentValue, Value}
+use Rattle.jp_document.specs.Location.{Key, Location}
+use Rattle.jp_document.specs.Node.{Node, node_below, root_of}
+use Rattle.jp_document.specs.Value.{Value}
 use Rattle.jp_tree.specs.Singular.{are_single}
 use Rattle.jp_tree.specs.Tree.{SegmentTrees, SelectorTree, filter, index, name, no_segments}
-use Rattle.jp_tree.specs.Tree.{no_selectors, segment, segment_of, segment_then, segments}
+use Rattle.jp_tree.specs.Tree.{no_selectors, query_of, segment, segment_of, segment_then, segments}
 use Rattle.jp_tree.specs.Tree.{selector_of, selector_then, selectors, slice, wildcard}
+use Rattle.jp_tree.specs.declared.tree.Query.{Query, out-Query}
 use Rattle.jp_tree.specs.declared.tree.Segment.{Segment, out-Segment}
 use Rattle.jp_tree.specs.declared.tree.Selector.{Selector}
-use Rattle.jp_select.proofs.Chosen.{IsPlain, StandsBelow, candidates_stand}
-use Rattle.jp_select.proofs.Chosen.{chosen-candidates, entry_location}
-use Rattle.jp_select.proofs.Locations.{IsDocumentValue-at}
-use Rattle.jp_select.specs.Candidates.{candidates, single as single_entry}
-use Rattle.jp_select.specs.Selectors.{chosen}
-use Rattle.jp_evaluate.specs.Nodelist.{result, value_of_node}
+use Rattle.jp_select.specs.Selectors.{single as single_entry}
+use Rattle.jp_evaluate.specs.Nodelist.{nodelist_at, result, single_node_value, start_of}
+use Rattle.jp_evaluate.specs.Functions.{only_value}
 use Rattle.jp_evaluate.specs.Private.Singular.{chosen_value, single_value, values_along}
-use Rattle.jp_evaluate.proofs.Parts.Trees.{segment_of-is}
+use Rattle.jp_evaluate.proofs.Nodelists.Joined.{result-none}
+use Rattle.jp_evaluate.proofs.Parts.Trees.{query_of-is, segment_of-is}
 
 -- the characters of a text spell its bytes
 pub text-spelled : (bytes text : List ℕ) → IsUtf8 bytes → bytes ≡ text →
@@ -85,79 +83,54 @@ of_segments xs = segments (map segment_of xs)
 
 -- ---- what the standard has for it
 
--- the value v stands at l in the document d
-pub record StandsAt (d v : Value) (l : Location) : Type 0 where
-  pub document : IsDocumentValue d
-  pub there : value_at d l ≡ Some v
-
-abbrev pub singular_value : SegmentTrees → Value → Location → Option Value
-singular_value all d l = if are_single all then value_of_node d (result all d (l ∷ [])) else None
+abbrev pub singular_value : SegmentTrees → Value → Node → Option Value
+singular_value all d n = if are_single all then only_value (result all d (n ∷ [])) else None
 
 none_if : (b : Bool) → let none : Option Value = None in none ≡ (if b then none else none)
 none_if true = refl
 none_if false = refl
 
-result-none : (all : SegmentTrees) (d : Value) → result all d [] ≡ []
-result-none no_segments d = refl
-result-none (segment_then (segment false ss) rest) d = result-none rest d
-result-none (segment_then (segment true ss) rest) d = result-none rest d
-
 -- at the one value that a selector chose, or at none
-along_entry : (rest : SegmentTrees) (d v : Value) (l : Location) (o : Option (Key × Value))
-    → StandsAt d v l → All (StandsBelow v) (option_to_list o)
-    →
-    ((k : Key) (w : Value) → StandsAt d w (l ++ k ∷ []) →
-    values_along rest w ≡ singular_value rest d (l ++ k ∷ []))
+along_entry : (rest : SegmentTrees) (d : Value) (l : Location) (o : Option (Key × Value))
+    → ((n : Node) → values_along rest n.value ≡ singular_value rest d n)
     → option_and_then (values_along rest) (option_map (λ e. e.1) o)
     ≡
-    (if are_single rest then value_of_node d
-    (result rest d ((map (entry_location l) (option_to_list o) ++ []) ++ [])) else None)
-along_entry rest d v l None at all each =
+    (if are_single rest then only_value
+    (result rest d ((map (node_below l) (option_to_list o) ++ []) ++ [])) else None)
+along_entry rest d l None each =
     none_if (are_single rest)
-    ∙ ap (λ ls. if are_single rest then value_of_node d ls else None) (sym (result-none rest d))
-along_entry rest d v l (Some e) at all each =
-    each e.0 e.1 (record {
-      document = at.document;
-      there = value_at-step d v l e.0 at.there ∙ All-head (StandsBelow v) e [] all;
-    })
+    ∙ ap (λ ns. if are_single rest then only_value ns else None) (sym (result-none rest d))
+along_entry rest d l (Some e) each = each (node_below l e)
 
-along_chosen : (x : SelectorTree) (rest : SegmentTrees) (d v : Value) (l : Location) → IsPlain x
-    → candidates x v ≡ option_to_list (single_entry x v) → StandsAt d v l
-    →
-    ((k : Key) (w : Value) → StandsAt d w (l ++ k ∷ []) →
-    values_along rest w ≡ singular_value rest d (l ++ k ∷ []))
-    → option_and_then (values_along rest) (chosen_value x v)
-    ≡
-    (if are_single rest then value_of_node d (result rest d ((chosen d x l ++ []) ++ [])) else
-    None)
-along_chosen x rest d v l plain one at each =
-    let stand =
-    subst (All (StandsBelow v)) one
-    (candidates_stand x v (IsDocumentValue-at d v l at.document at.there)) in
-    let same : map (entry_location l) (option_to_list (single_entry x v)) ≡ chosen d x l =
-    sym (chosen-candidates x d v l plain at.there ∙ ap (map (entry_location l)) one) in
-    along_entry rest d v l (single_entry x v) at stand each
-    ∙ ap
-    (λ ls. if are_single rest then value_of_node d (result rest d ((ls ++ []) ++ [])) else None)
-    same
-
-along_one : (x : SelectorTree) (rest : SegmentTrees) (d v : Value) (l : Location) → StandsAt d v l →
-    ((k : Key) (w : Value) → StandsAt d w (l ++ k ∷ []) →
-    values_along rest w ≡ singular_value rest d (l ++ k ∷ [])) →
-    option_and_then (values_along rest) (chosen_value x v) ≡
-    singular_value (segment_then (segment false (selector_then x no_selectors)) rest) d l
-along_one (name cs) rest d v l at each = along_chosen (name cs) rest d v l tt refl at each
-along_one (index i) rest d v l at each = along_chosen (index i) rest d v l tt refl at each
-along_one wildcard rest d v l at each = refl
-along_one (slice s) rest d v l at each = refl
-along_one (filter e) rest d v l at each = refl
+along_one : (x : SelectorTree) (rest : SegmentTrees) (d : Value) (n : Node) →
+    ((m : Node) → values_along rest m.value ≡ singular_value rest d m) →
+    option_and_then (values_along rest) (chosen_value x n.value) ≡
+    singular_value (segment_then (segment false (selector_then x no_selectors)) rest) d n
+along_one (name cs) rest d n each =
+    along_entry rest d n.location (single_entry (name cs) n.value) each
+along_one (index i) rest d n each =
+    along_entry rest d n.location (single_entry (index i) n.value) each
+along_one wildcard rest d n each = refl
+along_one (slice s) rest d n each = refl
+along_one (filter e) rest d n each = refl
 
 -- the segments of a singular query lead to the value of its node, others to none
-pub along : (all : SegmentTrees) (d v : Value) (l : Location) → StandsAt d v l →
-    values_along all v ≡ singular_value all d l
-along no_segments d v l at = sym at.there
-along (segment_then (segment true ss) rest) d v l at = refl
-along (segment_then (segment false no_selectors) rest) d v l at = refl
-along (segment_then (segment false (selector_then x no_selectors)) rest) d v l at =
-    along_one x rest d v l at (λ k w there. along rest d w (l ++ k ∷ []) there)
-along (segment_then (segment false (selector_then x (selector_then y more))) rest) d v l at = refl
+pub along : (all : SegmentTrees) (d : Value) (n : Node) →
+    values_along all n.value ≡ singular_value all d n
+along no_segments d n = refl
+along (segment_then (segment true ss) rest) d n = refl
+along (segment_then (segment false no_selectors) rest) d n = refl
+along (segment_then (segment false (selector_then x no_selectors)) rest) d n =
+    along_one x rest d n (λ m. along rest d m)
+along (segment_then (segment false (selector_then x (selector_then y more))) rest) d n = refl
+
+-- from where a query begins they lead to the value of its node
+pub along_query : (q : Query) (d v : Value) (c : Node)
+    → root_of v ≡ start_of (out-Query q).absolute d c
+    → values_along (of_segments (out-Query q).segments.items) v
+    ≡ single_node_value (query_of q) (nodelist_at (query_of q) d c)
+along_query q d v c starts =
+    let all = of_segments (out-Query q).segments.items in
+    along all d (root_of v)
+    ∙ ap (singular_value all d) starts
+    ∙ sym (ap (λ t. single_node_value t (nodelist_at t d c)) (query_of-is q))

@@ -1,23 +1,27 @@
 -- The steps of a walk.
-use Rattle.std.proofs.Common.{◌≡◌, ℕ, zero, suc, ◌+◌, ◌<◌, true, false, if◌then◌else◌}
-use Rattle.std.proofs.Common.{List, [], ◌∷◌, ◌++◌, None, length, map, slice_index_or}
-use Rattle.std.proofs.Common.{option_to_list, refl, ap, ap₂, sym, ◌∙◌, arith}
+use Rattle.std.proofs.Common.{◌≡◌, ℕ, zero, suc, ◌+◌, ◌<◌, ◌≤◌, true, false, if◌then◌else◌}
+use Rattle.std.proofs.Common.{List, [], ◌∷◌, ◌++◌, Option, Some, None, length, map}
+use Rattle.std.proofs.Common.{slice_index_or, option_to_list, refl, ap, ap₂, sym, ◌∙◌, arith}
 use Rattle.std.specs.List.{flat_map, sum_by}
 use Rattle.std.proofs.lemmas.Grind.{flat_map-append}
 use Rattle.std.proofs.lemmas.List.Sums.{sum_by-append, sum_by-cons}
 use Rattle.jp_document.specs.DocumentValue.{lent_value}
+use Rattle.jp_document.specs.Node.{Node, node_at, root_of}
 use Rattle.jp_document.specs.Value.{Value}
-use Rattle.jp_tree.specs.Tree.{segment_of, segment_then}
+use Rattle.jp_tree.specs.Tree.{ExprTree, segment_of, segment_then, segments}
 use Rattle.jp_tree.specs.declared.tree.Segment.{Segment}
-use Rattle.jp_evaluate.specs.Private.Reached.{reaches}
+use Rattle.jp_select.proofs.Walks.{drop_past}
+use Rattle.std.proofs.lemmas.Option.{slice_get_past}
 use Rattle.jp_evaluate.specs.Private.Walk.{choice_at, chosen_node, choice_reaches}
 use Rattle.jp_evaluate.specs.Private.Walk.{choice_weight, choices_from, entered, frames_pending}
-use Rattle.jp_evaluate.specs.Private.Walk.{offered, passes, pending, reached_at}
+use Rattle.jp_evaluate.specs.Private.Walk.{offered, passes, pending, reached_at, reached_place}
+use Rattle.jp_evaluate.specs.Private.Walk.{reaches}
 use Rattle.jp_evaluate.specs.Private.Walk.{segments_left, start_choice, steps_of, turns}
 use Rattle.jp_evaluate.specs.Private.Walk.{walk_frames, walk_reaches, walk_weight}
 use Rattle.jp_evaluate.specs.declared.walk.Offer.{Offer}
 use Rattle.jp_evaluate.specs.declared.walk.Place.{Place}
 use Rattle.jp_evaluate.specs.declared.walk.Walk.{Walk}
+use Rattle.jp_evaluate.proofs.Nodelists.Anywhere.{holds-anywhere}
 use Rattle.jp_evaluate.proofs.Walks.Choices.{drop_none, pending-push}
 use Rattle.jp_evaluate.proofs.Walks.Reaching.{choice-weighs, enters, enters_less}
 use Rattle.jp_evaluate.proofs.Walks.Turns.{segments_left-next}
@@ -27,18 +31,22 @@ abbrev pub Offers : List Segment → Walk → Offer → Walk → Type 0
 Offers all w o v =
     pending all w ≡ choice_at (reached_at [] (walk_frames v)) (offered all o) ∷ pending all v
 
+-- a test is asked of the value alone
+passes-anywhere : (t : Option ExprTree) (d : Value) (n : Node)
+    → passes t d n ≡ passes t d (root_of n.value)
+passes-anywhere None d n = refl
+passes-anywhere (Some e) d n = holds-anywhere e d n
+
 -- ---- a choice that does not pass
 
 pub passed_over : (all : List Segment) (d : Value) (w v : Walk) (o : Offer) → Offers all w o v
-    → passes (offered all o).test d (offered all o).value ≡ false
+    → passes (offered all o).test d (root_of (offered all o).value) ≡ false
     → walk_reaches all d v ≡ walk_reaches all d w
 passed_over all d w v o gives fails =
+    let n = chosen_node (choice_at (reached_at [] (walk_frames v)) (offered all o)) in
     sym (ap (flat_map (choice_reaches d)) gives
-    ∙ ap
-    (λ b.
-    (if b then reaches (offered all o).left d
-    (chosen_node (choice_at (reached_at [] (walk_frames v)) (offered all o))) else [])
-    ++ walk_reaches all d v) fails)
+    ∙ ap (λ b. (if b then reaches (offered all o).left d n else []) ++ walk_reaches all d v)
+    (passes-anywhere (offered all o).test d n ∙ fails))
 
 pub offer_less : (all : List Segment) (w v : Walk) (o : Offer) → Offers all w o v
     → walk_weight all v < walk_weight all w
@@ -47,6 +55,20 @@ offer_less all w v o gives =
     let sum = ap (sum_by choice_weight) gives ∙ sum_by-cons choice_weight c (pending all v) in
     let some = choice-weighs c in
     omega arith
+
+-- ---- a choice where no segment is left
+
+pub ends_at : (all : List Segment) (d : Value) (w v : Walk) (o : Offer) → Offers all w o v
+    → passes (offered all o).test d (root_of (offered all o).value) ≡ true
+    → length all ≤ o.place.done
+    → walk_reaches all d w ≡ reached_place v o.place ∷ walk_reaches all d v
+ends_at all d w v o gives passed past =
+    let n = reached_place v o.place in
+    ap (flat_map (choice_reaches d)) gives
+    ∙ ap (λ b. (if b then reaches (offered all o).left d n else []) ++ walk_reaches all d v)
+    (passes-anywhere (offered all o).test d n ∙ passed)
+    ∙ ap (λ xs. reaches (segments (map segment_of xs)) d n ++ walk_reaches all d v)
+    (drop_past all o.place.done (slice_get_past all o.place.done past))
 
 -- ---- a choice to go on from
 
@@ -92,7 +114,7 @@ there (x ∷ xs) i within = (
     again (z ∷ ys) (suc j) y h = again ys j y (omega arith)
 
 pub goes_on : (all : List Segment) (d : Value) (w v u : Walk) (o : Offer) → Offers all w o v
-    → v.first ≡ None → passes (offered all o).test d (offered all o).value ≡ true
+    → v.first ≡ None → passes (offered all o).test d (root_of (offered all o).value) ≡ true
     → o.place.done < length all → u.first ≡ v.first
     → walk_frames u ≡ walk_frames v ++ entered o.place ∷ []
     → walk_reaches all d u ≡ walk_reaches all d w
@@ -108,10 +130,11 @@ goes_on all d w v u o gives begun passed more same frames =
     (sym
     (enters (segment_of next.0) (segments_left all (p.done + 1)) left d
     (lent_value p.value) l next.1))
-    ∙ sym (ap (flat_map (choice_reaches d)) gives ∙ ap (λ b. (if b then reaches left d (record {
-      location = l;
-      value = lent_value p.value;
-    }) else []) ++ walk_reaches all d v) passed)
+    ∙ sym (ap (flat_map (choice_reaches d)) gives
+    ∙ ap
+    (λ b. (if b then reaches left d (node_at l (lent_value p.value)) else [])
+    ++ walk_reaches all d v)
+    (passes-anywhere (offered all o).test d (node_at l (lent_value p.value)) ∙ passed))
 
 pub goes_on_less : (all : List Segment) (w v u : Walk) (o : Offer) → Offers all w o v
     → v.first ≡ None

@@ -1,6 +1,6 @@
 -- The choices of a turn after another.
 use Rattle.std.proofs.Common.{◌≡◌, ℕ, suc, ◌+◌, List, [], ◌∷◌, ◌++◌, Option, Some}
-use Rattle.std.proofs.Common.{None, drop, map, option_map, option_to_list, Vec}
+use Rattle.std.proofs.Common.{None, drop, map, option_and_then, option_map, option_to_list, Vec}
 use Rattle.std.proofs.Common.{Global, refl, ap, ap₂, sym, ◌∙◌, append_assoc, arith}
 use Rattle.std.specs.List.{flat_map, slice_get}
 use Rattle.std.proofs.lemmas.List.{append-nil}
@@ -10,7 +10,7 @@ use Rattle.jp_document.specs.Value.{Value}
 use Rattle.jp_tree.specs.Tree.{SegmentTrees, SelectorTree}
 use Rattle.jp_tree.specs.declared.tree.Segment.{Segment}
 use Rattle.jp_select.proofs.Walks.{drop_at, drop_past}
-use Rattle.jp_select.specs.Candidates.{candidates}
+use Rattle.jp_select.specs.Selectors.{candidates}
 use Rattle.jp_evaluate.specs.Private.Walk.{Choice, choice_at, choice_of, choices_from}
 use Rattle.jp_evaluate.specs.Private.Walk.{frame_choices, frames_pending, pending, reached_at}
 use Rattle.jp_evaluate.specs.Private.Walk.{start_choice, steps_of, turn_choices, walk_frames}
@@ -78,6 +78,13 @@ pub reached-push : (l : Location) (fs : List Frame) (f : Frame)
     → reached_at l (fs ++ f ∷ []) ≡ reached_at l fs ++ steps_of f.place.step
 reached-push l [] f = refl
 reached-push l (g ∷ fs) f = reached-push (l ++ steps_of g.place.step) fs f
+
+-- a last frame that stands apart
+pub reached-top : (l : Location) (fs : List Frame) (o : Option Frame) →
+    reached_at l (fs ++ option_to_list o) ≡
+    reached_at l fs ++ steps_of (option_and_then (λ f. f.place.step) o)
+reached-top l fs None = ap (reached_at l) (append-nil fs) ∙ sym (append-nil (reached_at l fs))
+reached-top l fs (Some f) = reached-push l fs f
 
 -- the last frame's choices come first
 pub pending-push : (all : List Segment) (l : Location) (fs : List Frame) (f : Frame) →

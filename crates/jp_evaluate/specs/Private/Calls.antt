@@ -1,14 +1,10 @@
--- The arguments of calls, and what is asked of a list of what is reached.
-use Rattle.std.specs.Prelude.{List, Option, Some, None, option_and_then}
-use Rattle.jp_document.specs.Node.{Node}
-use Rattle.jp_document.specs.Value.{Value}
+-- The arguments of calls.
+use Rattle.std.specs.Prelude.{Option, Some, None}
 use Rattle.jp_tree.specs.Tree.{ArgumentTree, CallTree, QueryTree, argument_then, call}
 use Rattle.jp_tree.specs.Tree.{call_argument, literal_argument, logical_argument, no_arguments}
 use Rattle.jp_tree.specs.Tree.{query_argument}
 use Rattle.jp_check.specs.Functions.{function_named}
 use Rattle.jp_check.specs.declared.functions.Function.{Function}
-use Rattle.jp_evaluate.specs.Functions.{only_one}
-use Rattle.jp_evaluate.specs.Private.Reached.{value_reached}
 
 -- the function that a call names
 abbrev pub call_function : CallTree → Option Function
@@ -30,7 +26,3 @@ only_argument (call cs _) = None
 abbrev pub both_arguments : CallTree → Option (ArgumentTree × ArgumentTree)
 both_arguments (call cs (argument_then x (argument_then y no_arguments))) = Some (x, y)
 both_arguments (call cs _) = None
-
--- the value of the only one that is reached
-abbrev pub only_reached : List Node → Option Value
-only_reached ns = option_and_then value_reached (only_one ns)

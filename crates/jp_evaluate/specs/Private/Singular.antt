@@ -3,7 +3,7 @@ use Rattle.std.specs.Prelude.{false, Option, Some, None, option_and_then, option
 use Rattle.jp_document.specs.Value.{Value}
 use Rattle.jp_tree.specs.Tree.{SegmentTree, SegmentTrees, SelectorTree, no_segments, no_selectors}
 use Rattle.jp_tree.specs.Tree.{segment, segment_then, selector_then}
-use Rattle.jp_select.specs.Candidates.{single}
+use Rattle.jp_select.specs.Selectors.{single}
 
 -- the value that a name or an index selects at v, if it is there; other selectors, those of no
 -- singular query, have none

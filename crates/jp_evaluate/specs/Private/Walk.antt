@@ -13,9 +13,9 @@ use Rattle.jp_tree.specs.Tree.{ExprTree, SegmentTrees, SelectorTree, SelectorTre
 use Rattle.jp_tree.specs.Tree.{filter, no_segments, no_selectors, segment, segment_of}
 use Rattle.jp_tree.specs.Tree.{segment_then, segments, selector_of, selector_then, wildcard}
 use Rattle.jp_tree.specs.declared.tree.Segment.{Segment}
-use Rattle.jp_select.specs.Candidates.{candidates}
+use Rattle.jp_select.specs.Selectors.{candidates}
 use Rattle.jp_select.specs.Subtree.{nodes_in}
-use Rattle.jp_evaluate.specs.Private.Reached.{reaches, truth}
+use Rattle.jp_evaluate.specs.Nodelist.{holds, result}
 use Rattle.jp_evaluate.specs.declared.walk.Frame.{Frame}
 use Rattle.jp_evaluate.specs.declared.walk.Offer.{Offer}
 use Rattle.jp_evaluate.specs.declared.walk.Place.{Place}
@@ -126,9 +126,13 @@ pending all w =
 
 -- ---- what choices lead to
 
-abbrev pub passes : Option ExprTree → Value → Value → Bool
-passes None d v = true
-passes (Some e) d v = truth e d v
+-- what segments reach from one node
+abbrev pub reaches : SegmentTrees → Value → Node → List Node
+reaches all d n = result all d (n ∷ [])
+
+abbrev pub passes : Option ExprTree → Value → Node → Bool
+passes None d n = true
+passes (Some e) d n = holds e d n
 
 -- the node that a choice of a frame is, where the frame stands at c.0
 abbrev pub chosen_node : Location × Choice → Node
@@ -136,7 +140,8 @@ chosen_node c = record { location = c.0 ++ c.1.step; value = c.1.value }
 
 -- what a choice of a frame that stands at l reaches, in a document of value d
 abbrev pub choice_reaches : Value → Location × Choice → List Node
-choice_reaches d c = if passes c.1.test d c.1.value then reaches c.1.left d (chosen_node c) else []
+choice_reaches d c =
+    if passes c.1.test d (chosen_node c) then reaches c.1.left d (chosen_node c) else []
 
 -- what a walk still reaches
 abbrev pub walk_reaches : List Segment → Value → Walk → List Node

@@ -1,21 +1,22 @@
 -- What selectors choose from, value by value.
 use Rattle.std.proofs.Common.{◌≡◌, ℕ, zero, suc, ◌<◌, ℤ, List, [], ◌∷◌, ◌++◌, Option, Some}
-use Rattle.std.proofs.Common.{None, Global, String, IsUtf8, string_bytes, length, option_map}
-use Rattle.std.proofs.Common.{option_and_then, option_to_list, rules, refl, ap, sym, ◌∙◌, subst}
+use Rattle.std.proofs.Common.{None, true, Global, String, IsUtf8, string_bytes, option_map}
+use Rattle.std.proofs.Common.{option_and_then, option_to_list, rules, refl, ap, ◌∙◌, subst}
 use Rattle.std.specs.List.{All, flat_map, slice_get}
+use Rattle.std.specs.Option.{is_some}
 use Rattle.std.specs.Str.{chars, encode_utf8_all}
-use Rattle.std.proofs.lemmas.List.Elements.{All-head, All-nil, All-tail}
-use Rattle.std.proofs.lemmas.Option.{same_Some, slice_get-get_or}
+use Rattle.std.proofs.lemmas.List.Elements.{All-head, All-nil, All-tail, All-weaker}
 use Rattle.std.proofs.lemmas.Str.{encodes-chars}
-use Rattle.jp_document.specs.Location.{Key, child, entries, items_from, named, nth}
-use Rattle.jp_document.specs.Value.{Value, null, boolean, whole, text, list}
-use Rattle.jp_document.specs.Value.{object, Items, no_items, item, item_count}
+use Rattle.jp_document.specs.Location.{Key, child, child_entry, named, nth}
+use Rattle.jp_document.specs.Value.{Value}
 use Rattle.jp_tree.specs.Tree.{name, selector_of, slice}
 use Rattle.jp_tree.specs.declared.tree.Expr.{the_lemmas}
 use Rattle.jp_tree.specs.declared.tree.Selector.{Name}
 use Rattle.jp_tree.specs.declared.tree.Slice.{Slice}
-use Rattle.jp_select.specs.Candidates.{at_step, candidates, item_entry, single}
-use Rattle.jp_select.specs.Selectors.{indexes_chosen, indexes_of, bound_of, whole_of, list_length}
+use Rattle.jp_select.specs.Selectors.{candidates, item_entry, item_of, single}
+use Rattle.jp_select.specs.Selectors.{indexes_chosen, indexes_of, bound_of, whole_of}
+use Rattle.jp_document.specs.Value.{list_length}
+use Rattle.jp_select.proofs.Items.{item-there}
 use Rattle.jp_select.proofs.Slices.Items.{slice_within}
 
 -- ---- names
@@ -23,55 +24,46 @@ use Rattle.jp_select.proofs.Slices.Items.{slice_within}
 -- the member of a name is that of the name's bytes
 pub single-name : (v : Value) (s : String Global) (bytes : List ℕ) → IsUtf8 bytes
     → bytes ≡ string_bytes s
-    → single (selector_of (Name s)) v ≡ option_map (at_step (named bytes)) (child v (named bytes))
+    → single (selector_of (Name s)) v ≡ child_entry v (named bytes)
 single-name v s bytes utf8 same =
     let tree : selector_of (Name s) ≡ name (chars (string_bytes s)) = search (rules, the_lemmas) in
     let P : List ℕ → Type 0 = λ b. encode_utf8_all (chars b) ≡ bytes in
     let spelled : encode_utf8_all (chars (string_bytes s)) ≡ bytes =
     subst P same (encodes-chars bytes utf8) in
-    ap (λ t. single t v) tree ∙ ap (λ b. option_map (at_step (named b)) (child v (named b))) spelled
+    ap (λ t. single t v) tree ∙ ap (λ b. child_entry v (named b)) spelled
 
 -- ---- slices
 
-count-entries : (i : ℕ) (vs : Items) → length (items_from i vs) ≡ item_count vs
-count-entries i no_items = refl
-count-entries i (item v vs) = ap suc (count-entries (suc i) vs)
+-- an item is there
+abbrev IsThere : Value → ℕ → Type 0
+IsThere v i = is_some (item_of v i) ≡ true
 
--- a list holds its items
-pub length-entries : (v : Value) (n : ℕ) → list_length v ≡ Some n → length (entries v) ≡ n
-length-entries null n is = absurd (cc)
-length-entries (boolean b) n is = absurd (cc)
-length-entries (whole z) n is = absurd (cc)
-length-entries (text s) n is = absurd (cc)
-length-entries (list vs) n is = count-entries 0 vs ∙ same_Some _ _ is
-length-entries (object ms) n is = absurd (cc)
-
-entry-first : (v : Value) (i : ℕ) (more : List (Key × Value)) (o : Option (Key × Value))
-    → slice_get (entries v) i ≡ o → i < length (entries v)
+item-first : (o : Option (Key × Value)) (more : List (Key × Value)) → is_some o ≡ true
     → slice_get (option_to_list o ++ more) 0 ≡ o
-entry-first v i more None at within =
-    let there = slice_get-get_or (entries v) i (nth 0, v) within in absurd (cc)
-entry-first v i more (Some e) at within = refl
+item-first None more there = absurd (cc)
+item-first (Some e) more there = refl
 
-entry-later : (v : Value) (i p : ℕ) (more : List (Key × Value)) (o : Option (Key × Value))
-    → slice_get (entries v) i ≡ o → i < length (entries v)
+item-later : (o : Option (Key × Value)) (p : ℕ) (more : List (Key × Value)) → is_some o ≡ true
     → slice_get (option_to_list o ++ more) (suc p) ≡ slice_get more p
-entry-later v i p more None at within =
-    let there = slice_get-get_or (entries v) i (nth 0, v) within in absurd (cc)
-entry-later v i p more (Some e) at within = refl
+item-later None p more there = absurd (cc)
+item-later (Some e) p more there = refl
 
--- the entries of items that are there, by their positions
-entries-at : (v : Value) (is : List ℕ) (p : ℕ) → All (λ i. i < length (entries v)) is →
-    slice_get (flat_map (item_entry v) is) p ≡
-    option_and_then (slice_get (entries v)) (slice_get is p)
-entries-at v [] p all = refl
-entries-at v (i ∷ is) zero all =
-    entry-first v i (flat_map (item_entry v) is) (slice_get (entries v) i) refl
-    (All-head (λ j. j < length (entries v)) i is all)
-entries-at v (i ∷ is) (suc p) all =
-    entry-later v i p (flat_map (item_entry v) is) (slice_get (entries v) i) refl
-    (All-head (λ j. j < length (entries v)) i is all)
-    ∙ entries-at v is p (All-tail (λ j. j < length (entries v)) i is all)
+-- items that are there, by their positions
+items-at : (v : Value) (is : List ℕ) (p : ℕ) → All (IsThere v) is →
+    slice_get (flat_map (item_entry v) is) p ≡ option_and_then (item_of v) (slice_get is p)
+items-at v [] p all = refl
+items-at v (i ∷ is) zero all =
+    item-first (item_of v i) (flat_map (item_entry v) is) (All-head (IsThere v) i is all)
+items-at v (i ∷ is) (suc p) all =
+    item-later (item_of v i) p (flat_map (item_entry v) is) (All-head (IsThere v) i is all)
+    ∙ items-at v is p (All-tail (IsThere v) i is all)
+
+abbrev with_key : Key → Value → Key × Value
+with_key k w = (k, w)
+
+is_some-entry : (k : Key) (o : Option Value) → is_some (option_map (with_key k) o) ≡ is_some o
+is_some-entry k None = refl
+is_some-entry k (Some w) = refl
 
 chosen-within : (n : ℕ) (start end : Option (Option ℤ)) (step : Option ℤ)
     → All (λ i. i < n) (indexes_of n start end step)
@@ -83,9 +75,10 @@ chosen-within n (Some a) (Some b) (Some k) = slice_within n a b k
 -- what a slice selects at a position is the item with the index at that position
 pub slice-entry : (v : Value) (s : Slice) (p n : ℕ) → list_length v ≡ Some n →
     slice_get (candidates (slice s) v) p ≡
-    option_and_then (slice_get (entries v)) (slice_get (indexes_chosen s n) p)
+    option_and_then (item_of v) (slice_get (indexes_chosen s n) p)
 slice-entry v s p n is =
-    let within : All (λ i. i < length (entries v)) (indexes_chosen s n) =
-    subst (λ m. All (λ i. i < m) (indexes_chosen s n)) (sym (length-entries v n is))
-    (chosen-within n (bound_of s.start) (bound_of s.end) (whole_of s.step)) in
-    rw is (entries-at v (indexes_chosen s n) p within)
+    let within = chosen-within n (bound_of s.start) (bound_of s.end) (whole_of s.step) in
+    let there : All (IsThere v) (indexes_chosen s n) =
+    All-weaker (λ i. i < n) (IsThere v)
+    (λ i less. is_some-entry (nth i) (child v (nth i)) ∙ item-there v n i is less)
+    (indexes_chosen s n) within in rw is (items-at v (indexes_chosen s n) p there)

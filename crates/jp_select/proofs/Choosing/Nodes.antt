@@ -1,26 +1,24 @@
 -- The nodes of what a selector chooses, one after another.
 use Rattle.std.proofs.Common.{◌≡◌, ℕ, suc, List, [], ◌∷◌, ◌++◌, Some}
 use Rattle.std.proofs.Common.{None, string_bytes, length, drop, map, rules, refl}
-use Rattle.std.proofs.Common.{ap, ap₂, sym, subst, ◌∙◌, append_assoc, arith}
+use Rattle.std.proofs.Common.{ap, ap₂, sym, ◌∙◌, append_assoc, arith}
 use Rattle.std.specs.List.{All, slice_get}
 use Rattle.std.proofs.lemmas.List.{append-nil, length_push, map-append}
-use Rattle.std.proofs.lemmas.List.Elements.{All-map, All-same, All-weaker}
+use Rattle.std.proofs.lemmas.List.Elements.{All-map, All-nil, All-weaker}
 use Rattle.std.specs.Str.{chars}
 use Rattle.jp_document.proofs.Descent.Inside.{value_at-step}
 use Rattle.jp_document.specs.Location.{Key, Location, value_at}
-use Rattle.jp_document.specs.Node.{AreNodes, Node, NodeView, StandsIn}
-use Rattle.jp_document.specs.Node.{location_of, node_below, node_of}
+use Rattle.jp_document.specs.Node.{Node, NodeView, StandsIn, node_below, node_of}
 use Rattle.jp_document.specs.Value.{IsDocumentValue, Value}
-use Rattle.jp_tree.specs.Tree.{SelectorTree, index, name, selector_of, slice, wildcard}
+use Rattle.jp_tree.specs.Tree.{SelectorTree, filter, index, name, selector_of, slice, wildcard}
 use Rattle.jp_tree.specs.declared.tree.Expr.{Expr, the_lemmas}
 use Rattle.jp_tree.specs.declared.tree.Selector.{Selector}
 use Rattle.jp_tree.specs.declared.tree.Selector.TheVariants as one
-use Rattle.jp_select.proofs.Chosen.{IsPlain, StandsBelow, candidates_stand}
-use Rattle.jp_select.proofs.Chosen.{chosen-candidates, entry_location}
-use Rattle.jp_select.proofs.Locations.{IsDocumentValue-at}
+use Rattle.jp_select.proofs.Chosen.{StandsBelow, candidates_stand}
+use Rattle.jp_document.proofs.Descent.Nodes.{IsDocumentValue-at}
 use Rattle.jp_select.proofs.Walks.{drop_at, drop_past}
-use Rattle.jp_select.specs.Candidates.{candidates}
-use Rattle.jp_select.specs.Selectors.{chosen}
+use Rattle.jp_select.specs.Laws.{ChoosesNodesAlone}
+use Rattle.jp_select.specs.Selectors.{candidates, chosen}
 
 -- one node more
 pub next_chosen : (l : Location) (cs : List (Key × Value)) (all : List Node)
@@ -60,41 +58,28 @@ nodes_below-stand d v l es document at all =
       there = value_at-step d v l e.0 at ∙ there;
     }) es all)
 
-location_of-node_below : (l : Location) (es : List (Key × Value))
-    → map location_of (map (node_below l) es) ≡ map (entry_location l) es
-location_of-node_below l [] = refl
-location_of-node_below l (e ∷ es) = ap (λ ls. entry_location l e ∷ ls) (location_of-node_below l es)
+-- what a selector chooses from at a node of d are nodes of d
+pub candidates_below : (d : Value) (n : Node) (s : SelectorTree) → StandsIn d n
+    → All (StandsIn d) (map (node_below n.location) (candidates s n.value))
+candidates_below d n s stands =
+    nodes_below-stand d n.value n.location (candidates s n.value) stands.document stands.there
+    (candidates_stand s n.value
+    (IsDocumentValue-at d n.value n.location stands.document stands.there))
 
--- the nodes are the document's own, at what the selector selects
-pub chosen_nodes : (s : SelectorTree) (d : Value) (n : Node) (ns : List Node) → IsPlain s
-    → StandsIn d n
-    → ns ≡ map (node_below n.location) (candidates s n.value)
-    → AreNodes d ns (chosen d s n.location)
-chosen_nodes s d n ns plain stands is =
-    let here = IsDocumentValue-at d n.value n.location stands.document stands.there in
-    record {
-      locations =
-          ap (map location_of) is ∙ location_of-node_below n.location (candidates s n.value)
-          ∙ sym (chosen-candidates s d n.value n.location plain stands.there);
-      stand =
-          All-same (StandsIn d) ns _ is
-          (nodes_below-stand d n.value n.location (candidates s n.value) stands.document
-          stands.there
-          (candidates_stand s n.value here));
-    }
+pub choosing_law : ChoosesNodesAlone
+choosing_law d n (filter e) stands = All-nil (StandsIn d)
+choosing_law d n s stands = candidates_below d n s stands
 
 -- a selector that is no filter is plain
-pub is_plain : (s : Selector) → ((e : Expr) → s ≡ one.Filter e → ⊥) → IsPlain (selector_of s)
-is_plain (one.Name s) not =
+pub plain_chosen : (s : Selector) (n : Node) → ((e : Expr) → s ≡ one.Filter e → ⊥)
+    → map (node_below n.location) (candidates (selector_of s) n.value) ≡ chosen (selector_of s) n
+plain_chosen (one.Name s) n not =
     let tree : selector_of (one.Name s) ≡ name (chars (string_bytes s)) =
-    search (rules, the_lemmas) in subst IsPlain (sym tree) tt
-is_plain one.Wildcard not =
-    let tree : selector_of one.Wildcard ≡ wildcard = search (rules, the_lemmas) in
-    subst IsPlain (sym tree) tt
-is_plain (one.Index i) not =
-    let tree : selector_of (one.Index i) ≡ index i = search (rules, the_lemmas) in
-    subst IsPlain (sym tree) tt
-is_plain (one.Slice s) not =
-    let tree : selector_of (one.Slice s) ≡ slice s = search (rules, the_lemmas) in
-    subst IsPlain (sym tree) tt
-is_plain (one.Filter e) not = absurd (not e refl)
+    search (rules, the_lemmas) in rw tree refl
+plain_chosen one.Wildcard n not =
+    let tree : selector_of one.Wildcard ≡ wildcard = search (rules, the_lemmas) in rw tree refl
+plain_chosen (one.Index i) n not =
+    let tree : selector_of (one.Index i) ≡ index i = search (rules, the_lemmas) in rw tree refl
+plain_chosen (one.Slice s) n not =
+    let tree : selector_of (one.Slice s) ≡ slice s = search (rules, the_lemmas) in rw tree refl
+plain_chosen (one.Filter e) n not = absurd (not e refl)

@@ -12,22 +12,22 @@ use Rattle.std.proofs.lemmas.Bool.{cases_Bool}
 use Rattle.std.proofs.lemmas.Cmp.{tied_itself}
 use Rattle.std.proofs.lemmas.Map.Entries.{place_from_lookup}
 use Rattle.std.proofs.lemmas.Map.Keys.{sorted_head, sorted_tail}
+use Rattle.std.proofs.lemmas.Map.Views.{tells_apart}
 use Rattle.std.proofs.lemmas.Option.{same_Some}
 use Rattle.jp_document.specs.Location.{Key, named, nth, key_cmp, items_from}
 use Rattle.jp_document.specs.Location.{members_by_name, entries, child}
 use Rattle.jp_document.specs.Value.{Value, null, boolean, whole, text, list, object}
 use Rattle.jp_document.specs.Value.{Items, no_items, item, item_count, Members}
-use Rattle.jp_document.specs.Value.{no_members, member, items_of, has_rising_names, NamesRise}
+use Rattle.jp_document.specs.Value.{no_members, member, has_rising_names, NamesRise}
 use Rattle.jp_document.proofs.Descent.Inside.{everywhere-child}
-use Rattle.jp_document.proofs.Descent.Keys.{key_cmp_total}
+use Rattle.jp_document.proofs.Descent.Keys.{key_cmp_total, key_exact}
 use Rattle.jp_document.proofs.Descent.Entries.{entries-rise_by_names}
-use Rattle.jp_document.proofs.Descent.Items.{child-nth}
 use Rattle.jp_document.proofs.Members.ByName.{child-list_named, child-object_nth}
 use Rattle.jp_select.specs.Comparison.{equals}
 use Rattle.jp_select.specs.Equality.{IsEqual, nulls, truths, numbers, texts, lists, objects}
 use Rattle.jp_select.specs.Laws.{EqualsIsExact}
+use Rattle.jp_select.proofs.Items.{child-item, item_list, length-item_list}
 use Rattle.jp_select.proofs.Locations.{by_children}
-use Rattle.jp_select.proofs.Rising.{exact_step}
 use Rattle.jp_select.proofs.Comparisons.Sameness.{equals_is, equals_itself}
 
 -- ---- entries whose keys rise are the same where they answer alike
@@ -69,7 +69,7 @@ found_after : (k : Key) (e f : Key × Value) (es fs : Entries) → e.0 ≡ f.0 �
 found_after k e f es fs key above over alike =
     elim (cases_Bool (is_eq (key_cmp k e.0))) [
       | inl h ↦
-          let here : k ≡ e.0 = exact_step k e.0 h in
+          let here : k ≡ e.0 = tells_apart key_exact k e.0 h in
           none_above k es (subst (λ j. AllAbove j es) (sym here) above)
           ∙ sym (none_above k fs (subst (λ j. AllAbove j fs) (sym (here ∙ key)) over))
       | inr h ↦
@@ -98,7 +98,7 @@ same_entries (e ∷ es) (f ∷ fs) rise up alike =
           sym (none_before f.0 e es less rise) ∙ alike f.0 ∙ found_first f fs in
           absurd (cc)
       | Equal ↦ λ is.
-          let key : e.0 ≡ f.0 = exact_step e.0 f.0 (ap is_eq is) in
+          let key : e.0 ≡ f.0 = key_exact e.0 f.0 is in
           let value : e.1 ≡ f.1 =
           same_Some _ _ (sym (found_first e es) ∙ alike e.0 ∙ found_by Equal f fs e.0 is) in
           let above = sorted_head key_cmp e.0 (keys_of es) rise in
@@ -165,22 +165,6 @@ alike_options None None same each = refl
 alike_options None (Some w) same each = absurd (cc)
 alike_options (Some v) None same each = absurd (cc)
 alike_options (Some v) (Some w) same each = ap Some (each v w refl refl)
-
-abbrev item_list : Items → List Value
-item_list no_items = []
-item_list (item v vs) = v ∷ item_list vs
-
-items_of-item_list : (vs : Items) → items_of (item_list vs) ≡ vs
-items_of-item_list no_items = refl
-items_of-item_list (item v vs) = ap (item v) (items_of-item_list vs)
-
-length-item_list : (vs : Items) → length (item_list vs) ≡ item_count vs
-length-item_list no_items = refl
-length-item_list (item v vs) = ap suc (length-item_list vs)
-
-child-item : (vs : Items) (i : ℕ) → child (list vs) (nth i) ≡ slice_get (item_list vs) i
-child-item vs i =
-    ap (λ l. child (list l) (nth i)) (sym (items_of-item_list vs)) ∙ child-nth i (item_list vs)
 
 get_alike : (xs ys : List Value) (i : ℕ) → length xs ≡ length ys →
     is_some (slice_get xs i) ≡ is_some (slice_get ys i)

@@ -2,7 +2,7 @@
 use Rattle.std.proofs.Common.{◌≡◌, ℕ, zero, suc, ◌+◌, ◌-◌, ◌*◌, ◌/◌, ◌<◌, ◌≤◌, ◌%◌}
 use Rattle.std.proofs.Common.{Bool, true, false, ◌&&◌, cond, leb, ltb, nat_eq, Less}
 use Rattle.std.proofs.Common.{nat_cmp, ℤ, pos, negsuc, ◌+ℤ◌, ◌-ℤ◌, ◌≤ℤ◌, ◌<ℤ◌, int_le}
-use Rattle.std.proofs.Common.{int_lt, unsigned_abs, List, ◌∷◌, reverse, unwrap_or}
+use Rattle.std.proofs.Common.{int_lt, unsigned_abs, List, [], ◌∷◌, reverse, unwrap_or}
 use Rattle.std.proofs.Common.{zero-add, refl, sym, ap, ap₂, subst, ◌∙◌, inl, inr, arith}
 use Rattle.std.specs.Cmp.{nat_cmp_is}
 use Rattle.std.specs.List.{AllByRecursion, Contains, filter, range_with_len}
@@ -10,7 +10,8 @@ use Rattle.std.specs.List.Sorted.{IsStrictlySortedBy}
 use Rattle.std.proofs.lemmas.Bool.{cases_lt, leb-true, ltb-true, le-leb, lt-ltb, eqb-true}
 use Rattle.std.proofs.lemmas.Int.{ints, clamps}
 use Rattle.std.proofs.lemmas.List.{reverse-reverse}
-use Rattle.std.proofs.lemmas.List.Elements.{All-contains, filter_passes}
+use Rattle.std.proofs.lemmas.List.Elements.{All-contains, Contains-append_right}
+use Rattle.std.proofs.lemmas.List.Elements.{filter_passes}
 use Rattle.std.proofs.lemmas.List.Kept.{IsStrictlySortedBy-filter}
 use Rattle.std.proofs.lemmas.List.Sorted.{Contains-permutation}
 use Rattle.std.proofs.lemmas.List.Sorted.{IsPermutation-reverse, IsPermutation-sym}
@@ -20,7 +21,6 @@ use Rattle.jp_document.proofs.Conjunctions.{and-left, and-right}
 use Rattle.jp_select.specs.Laws.{IsRisingSlice, IsFallingSlice, SlicesAreExact}
 use Rattle.jp_select.specs.Slice.{normalized, held_within, rising_lower, rising_upper}
 use Rattle.jp_select.specs.Slice.{falling_lower, falling_upper, is_rising, is_falling, indexes}
-use Rattle.jp_select.proofs.Rising.{contained_head, contained_tail}
 use Rattle.jp_select.proofs.Slices.Indexes.{distance, distance_down, above_lower, not_above_lower}
 use Rattle.jp_select.proofs.Slices.Indexes.{below_upper, not_below_upper, falls_between}
 
@@ -40,11 +40,11 @@ filter_rises : (p : ℕ → Bool) (n : ℕ) → IsStrictlySortedBy nat_cmp (filt
 filter_rises p n = IsStrictlySortedBy-filter nat_cmp p (indexes n) (indexes_rise 0 n)
 
 kept : (b : Bool) (a i : ℕ) (xs : List ℕ) → Contains xs i → Contains (cond b (a ∷ xs) xs) i
-kept true a i xs h = contained_tail a i xs h
+kept true a i xs h = Contains-append_right (a ∷ []) xs i h
 kept false a i xs h = h
 
 kept_first : (b : Bool) (a i : ℕ) (xs : List ℕ) → b ≡ true → i ≡ a → Contains (cond b (a ∷ xs) xs) i
-kept_first true a i xs passes at = subst (Contains (a ∷ xs)) (sym at) (contained_head a xs)
+kept_first true a i xs passes at = subst (Contains (a ∷ xs)) (sym at) (0, omega arith, refl)
 kept_first false a i xs passes at = absurd (cc)
 
 filter_has : (p : ℕ → Bool) (i a n : ℕ) → a ≤ i → i < a + n → p i ≡ true →

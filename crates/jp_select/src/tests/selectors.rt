@@ -69,6 +69,39 @@ fn descendants_one_at_a_time(rt: HostRuntime) -> Result<(), Fail> {
     Ok(())
 }
 
+/// The path of the list at this depth in lists that are each the first item of another.
+fn chain_path(alloc: Global, depth: usize) -> Result<String, AllocError> {
+    let mut path = String::from_str(alloc, "$")?;
+    for _ in 0..depth {
+        path.push_str("[0]")?;
+    }
+    Ok(path)
+}
+
+/// 100 lists, each but the last one of the next list and 0.
+#[test]
+fn descendants_in_depth(rt: HostRuntime) -> Result<(), Fail> {
+    let alloc = rt.alloc();
+    let mut bytes = String::new(alloc);
+    let mut expected = String::new(alloc);
+    for depth in 0..100 {
+        bytes.push_str("[")?;
+        expected.push_str(" ")?;
+        expected.push_str(chain_path(alloc, depth)?.as_str())?;
+    }
+    bytes.push_str("]")?;
+    for depth in (0..99).rev() {
+        bytes.push_str(",0]")?;
+        expected.push_str(" ")?;
+        expected.push_str(chain_path(alloc, depth)?.as_str())?;
+        expected.push_str("[1]")?;
+    }
+    let document = Document::read(alloc, bytes.as_bytes())?;
+    let nodes = descend(alloc, document.root(alloc))?;
+    assert_eq!(rt; paths(alloc, &nodes)?.as_str(), expected.as_str());
+    Ok(())
+}
+
 #[test]
 fn names(rt: HostRuntime) -> Result<(), Fail> {
     let alloc = rt.alloc();

@@ -1,4 +1,4 @@
-use Rattle.std.proofs.Common.{refl, rules}
+use Rattle.std.proofs.Common.{ap, rules}
 use Rattle.jp_document.specs.Document.{IsDocument, document_of}
 use Rattle.jp_evaluate.specs.Rest.{rest_of}
 use Rattle.jp_tree.specs.Tree.{query_of}
@@ -25,7 +25,7 @@ returns g c =
       asked = c.in_ok-query.ensures.asked;
       reads = c.in_ok-bytes.ensures.ok;
       document = document;
-      is = record { nodes = nodes; selected = c.nodes-selected.ensures.nodes; lines = refl };
+      is = ap (lines_of c.args.form) c.nodes-selected.ensures.nodes;
     })
     c.in_ok-bytes.ensures.ok.works c.write_lines-written.ensures.ok
     c.write_lines-written.ensures.stopped

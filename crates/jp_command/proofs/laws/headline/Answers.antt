@@ -13,6 +13,7 @@ returns g c = record {
   asked = λ form text i j o p run. (run.is.q, run.is.asked);
   refused = λ form text i j o p r run. run;
   nodelist = writes-nodelist _ _ _ _ _ c.document_or_defect.ensures c.one_answer.ensures;
+  own_nodes = c.selects_nodes_alone.ensures;
   paths = c.paths_differ.ensures.nodes;
   path_selects = c.path_selects_its_node.ensures;
   canonical_texts = c.canon_tells_apart.ensures;

@@ -1,6 +1,6 @@
 use Rattle.std.proofs.Common.{◌≡◌, ◌++◌, false, map}
 use Rattle.jp_document.specs.Document.{document_of}
-use Rattle.jp_document.specs.Node.{AreNodes, node_of}
+use Rattle.jp_document.specs.Node.{node_of}
 use Rattle.jp_tree.specs.Tree.{query_of}
 use Rattle.jp_evaluate.specs.Nodelist.{nodelist}
 use Rattle.jp_evaluate.specs.Rest.{has_failed, rest_of}
@@ -10,6 +10,6 @@ use Rattle.jp_evaluate.proofs.evaluation.evaluate.Given as goal
 abbrev pub invariant-loop-next : goal.invariant-loop-next
 invariant-loop-next g l = record {
   working : has_failed l.next-iterator ≡ false;
-  all : AreNodes (document_of l.document) (map node_of l.selected.items ++ rest_of l.next-iterator)
-      (nodelist (query_of l.query) (document_of l.document));
+  all : map node_of l.selected.items ++ rest_of l.next-iterator
+      ≡ nodelist (query_of l.query) (document_of l.document);
 }

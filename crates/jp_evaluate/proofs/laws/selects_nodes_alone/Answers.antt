@@ -1,4 +1,4 @@
-use Rattle.jp_evaluate.proofs.Nodelists.NodelistNodes.{selects_nodes_alone}
+use Rattle.jp_evaluate.proofs.Nodelists.Standing.{selects_nodes_alone}
 use Rattle.jp_evaluate.proofs.laws.selects_nodes_alone.Goals as goal
 
 pub returns : goal.returns

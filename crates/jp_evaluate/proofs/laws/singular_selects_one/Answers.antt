@@ -1,4 +1,4 @@
-use Rattle.jp_evaluate.proofs.Nodelists.NodelistNodes.{singular_selects_one}
+use Rattle.jp_evaluate.proofs.Nodelists.Standing.{singular_selects_one}
 use Rattle.jp_evaluate.proofs.laws.singular_selects_one.Goals as goal
 
 pub returns : goal.returns

@@ -1,7 +1,7 @@
 use Rattle.std.proofs.Common.{sym, ap, ◌∙◌}
 use Rattle.jp_document.specs.DocumentValue.{lent_value}
 use Rattle.jp_tree.specs.Tree.{selector_of}
-use Rattle.jp_select.specs.Candidates.{single}
+use Rattle.jp_select.specs.Selectors.{single}
 use Rattle.jp_select.proofs.Choosing.Entries.{single-name}
 use Rattle.jp_select.proofs.candidates.single.Goals as goal
 

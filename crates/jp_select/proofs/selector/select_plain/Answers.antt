@@ -1,13 +1,13 @@
-use Rattle.std.proofs.Common.{◌≡◌, ◌+◌, ◌<◌, arith, length, map, Some, None, ap, ap₂, sym, ◌∙◌}
+use Rattle.std.proofs.Common.{◌≡◌, ◌+◌, ◌<◌, arith, length, Some, None, ap, sym, ◌∙◌}
 use Rattle.std.specs.List.{slice_get}
 use Rattle.std.proofs.lemmas.List.{length_push}
 use Rattle.std.proofs.lemmas.Option.{slice_get_within}
 use Rattle.jp_document.specs.DocumentValue.{lent_entry}
-use Rattle.jp_document.specs.Node.{node_below, node_of}
+use Rattle.jp_document.specs.Node.{node_of}
 use Rattle.jp_document.specs.Value.{value_of}
 use Rattle.jp_tree.specs.Tree.{selector_of}
-use Rattle.jp_select.specs.Candidates.{candidates}
-use Rattle.jp_select.proofs.Choosing.Nodes.{all_chosen, chosen_nodes, is_plain, next_chosen}
+use Rattle.jp_select.specs.Selectors.{candidates}
+use Rattle.jp_select.proofs.Choosing.Nodes.{all_chosen, next_chosen, plain_chosen}
 use Rattle.jp_select.proofs.selector.select_plain.Goals as goal
 
 pub loop-step-preserved : goal.loop-step-preserved
@@ -20,14 +20,9 @@ loop-step-preserved c =
     let entry : slice_get (candidates s (value_of n.value)) i ≡ Some e =
     ap (λ v. slice_get (candidates s v) i) (sym c.document_value.ensures)
     ∙ sym c.in-Some.ensures.entry in
-    let is : node_of c.in_ok-below.field-0 ≡ node_below n.location e =
-    ap₂ (λ l v. record {
-      location = l;
-      value = v;
-    }) c.in_ok-below.ensures.location c.in_ok-below.ensures.value in
     next_chosen n.location (candidates s (value_of n.value)) _ nodes c.push.new.self.items
     c.in_ok-below.field-0 e i
-    (c.len.ensures ∙ c.loop-step.nodes.ok.0) entry is c.in_ok-push.ensures.items
+    (c.len.ensures ∙ c.loop-step.nodes.ok.0) entry c.in_ok-below.ensures c.in_ok-push.ensures.items
     c.loop-step.invariant
 
 pub loop-step-smaller : goal.loop-step-smaller
@@ -48,14 +43,13 @@ loop-step-smaller c =
     omega arith
 
 pub returns : goal.returns
-returns c = λ d stands.
+returns c =
     let s = selector_of c.args.selector.now in
     let n = c.args.node.now in
     let i = c.len.result in
     let past : slice_get (candidates s (value_of n.value)) i ≡ None =
     ap (λ v. slice_get (candidates s v) i) (sym c.document_value.ensures)
     ∙ sym c.in_default-candidate.ensures.entry in
-    chosen_nodes s d (node_of n) (map node_of c.loop-step.nodes.items)
-    (is_plain c.args.selector.now c.in_default.not-Filter) stands
-    (all_chosen n.location (candidates s (value_of n.value)) c.loop-step.nodes.items i
-    (c.len.ensures ∙ c.loop-step.nodes.ok.0) past c.loop-step.invariant)
+    all_chosen n.location (candidates s (value_of n.value)) c.loop-step.nodes.items i
+    (c.len.ensures ∙ c.loop-step.nodes.ok.0) past c.loop-step.invariant
+    ∙ plain_chosen c.args.selector.now (node_of n) c.in_default.not-Filter

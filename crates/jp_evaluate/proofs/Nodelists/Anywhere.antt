@@ -1,0 +1,215 @@
+-- What is asked at a node depends on its value alone, and not on where it stands.
+use Rattle.std.proofs.Common.{◌≡◌, Bool, true, false, not, ◌&&◌, ◌||◌, if◌then◌else◌}
+use Rattle.std.proofs.Common.{List, [], ◌∷◌, ◌++◌, Option, Some, None, map, pos}
+use Rattle.std.proofs.Common.{refl, ap, ap₂, sym, ◌∙◌, append_assoc}
+use Rattle.std.specs.List.{filter as those_of, flat_map}
+use Rattle.std.proofs.lemmas.List.{append-nil, length-map, map-append}
+use Rattle.jp_document.specs.Location.{Key, Location, entries}
+use Rattle.jp_document.specs.Node.{Node, children, node_at, node_below, root_of}
+use Rattle.jp_document.specs.Value.{Value, whole}
+use Rattle.jp_tree.specs.Singular.{is_singular}
+use Rattle.jp_tree.specs.Tree.{ArgumentTree, CallTree, ExprTree, ExprTrees, OperandTree, QueryTree}
+use Rattle.jp_tree.specs.Tree.{SegmentTree, SegmentTrees, SelectorTree, SelectorTrees, all_of}
+use Rattle.jp_tree.specs.Tree.{any_of, argument_then, call, call_argument, call_test, call_value}
+use Rattle.jp_tree.specs.Tree.{comparison, exists, expr_then, filter, literal}
+use Rattle.jp_tree.specs.Tree.{literal_argument, logical_argument, negation, no_arguments}
+use Rattle.jp_tree.specs.Tree.{no_exprs, no_segments, no_selectors, node_value, query}
+use Rattle.jp_tree.specs.Tree.{query_argument, segment, segment_then, selector_then}
+use Rattle.jp_check.specs.Functions.{function_named}
+use Rattle.jp_check.specs.declared.functions.Function.{Function}
+use Rattle.jp_check.specs.declared.functions.Function.TheVariants.{Count, Length, Match}
+use Rattle.jp_check.specs.declared.functions.Function.TheVariants.{Search, ValueOf}
+use Rattle.jp_select.specs.Comparison.{compared}
+use Rattle.jp_select.specs.Selectors.{candidates}
+use Rattle.jp_select.specs.Subtree.{beyond, nodes_in, subtree_of}
+use Rattle.jp_evaluate.specs.Functions.{logical_answer, only_value, value_answer}
+use Rattle.jp_evaluate.specs.Nodelist.{all_hold, any_holds, argument_nodes, argument_value}
+use Rattle.jp_evaluate.specs.Nodelist.{call_answer, call_holds, has_node, holds, nodelist_at}
+use Rattle.jp_evaluate.specs.Nodelist.{operand_value, result, segment_result, selected, selection}
+use Rattle.jp_evaluate.specs.Nodelist.{single_node_value, visited}
+
+-- ---- lists of nodes further on
+
+nodes_below-beyond : (l m : Location) (es : List (Key × Value))
+    → map (node_below (l ++ m)) es ≡ map (beyond l) (map (node_below m) es)
+nodes_below-beyond l m [] = refl
+nodes_below-beyond l m (e ∷ es) =
+    ap₂ (λ k ns. node_at k e.1 ∷ ns) (append_assoc l m (e.0 ∷ [])) (nodes_below-beyond l m es)
+
+beyond-beyond : (l m : Location) (ns : List Node)
+    → map (beyond (l ++ m)) ns ≡ map (beyond l) (map (beyond m) ns)
+beyond-beyond l m [] = refl
+beyond-beyond l m (n ∷ ns) =
+    ap₂ (λ k xs. node_at k n.value ∷ xs) (append_assoc l m n.location) (beyond-beyond l m ns)
+
+beyond-nothing : (ns : List Node) → ns ≡ map (beyond []) ns
+beyond-nothing [] = refl
+beyond-nothing (n ∷ ns) = ap (λ xs. n ∷ xs) (beyond-nothing ns)
+
+flat_map-beyond : (l : Location) (f : Node → List Node) (ns : List Node)
+    → ((n : Node) → f (beyond l n) ≡ map (beyond l) (f n))
+    → flat_map f (map (beyond l) ns) ≡ map (beyond l) (flat_map f ns)
+flat_map-beyond l f [] each = refl
+flat_map-beyond l f (n ∷ ns) each =
+    ap₂ (λ xs ys. xs ++ ys) (each n) (flat_map-beyond l f ns each)
+    ∙ sym (map-append (beyond l) (f n) (flat_map f ns))
+
+those_of-beyond : (l : Location) (p : Node → Bool) (ns : List Node)
+    → ((n : Node) → p (beyond l n) ≡ p n)
+    → those_of p (map (beyond l) ns) ≡ map (beyond l) (those_of p ns)
+those_of-beyond l p [] same = refl
+those_of-beyond l p (n ∷ ns) same =
+    ap₂ (λ b xs. if b then beyond l n ∷ xs else xs) (same n) (those_of-beyond l p ns same)
+    ∙ kept (p n)
+  where
+    kept : (b : Bool) →
+        (if b then beyond l n ∷ map (beyond l) (those_of p ns)
+        else map (beyond l) (those_of p ns)) ≡
+        map (beyond l) (if b then n ∷ those_of p ns else those_of p ns)
+    kept true = refl
+    kept false = refl
+
+visited-beyond : (b : Bool) (l : Location) (ns : List Node)
+    → visited b (map (beyond l) ns) ≡ map (beyond l) (visited b ns)
+visited-beyond false l ns = refl
+visited-beyond true l ns =
+    flat_map-beyond l subtree_of ns (λ n. beyond-beyond l n.location (nodes_in n.value))
+
+-- ---- what is asked of values alone
+
+has_node-beyond : (l : Location) (ns : List Node) → has_node (map (beyond l) ns) ≡ has_node ns
+has_node-beyond l [] = refl
+has_node-beyond l (n ∷ ns) = refl
+
+only-beyond : (l : Location) (ns : List Node) → only_value (map (beyond l) ns) ≡ only_value ns
+only-beyond l [] = refl
+only-beyond l (n ∷ []) = refl
+only-beyond l (n ∷ m ∷ ns) = refl
+
+single-beyond : (q : QueryTree) (l : Location) (ns : List Node)
+    → single_node_value q (map (beyond l) ns) ≡ single_node_value q ns
+single-beyond q l ns = ap (λ v. if is_singular q then v else None) (only-beyond l ns)
+
+answer-beyond : (f : Option Function) (v : Option Value) (l : Location) (ns : List Node)
+    → value_answer f v (Some (map (beyond l) ns)) ≡ value_answer f v (Some ns)
+answer-beyond None v l ns = refl
+answer-beyond (Some Length) v l ns = refl
+answer-beyond (Some Count) v l ns = ap (λ n. Some (whole (pos n))) (length-map ns (beyond l))
+answer-beyond (Some Match) v l ns = refl
+answer-beyond (Some Search) v l ns = refl
+answer-beyond (Some ValueOf) v l ns = only-beyond l ns
+
+-- ---- the evaluation
+
+-- how far on a query's nodes are: as far as the current node, but from the root nowhere
+abbrev further : QueryTree → Location → Location
+further (query true all) l = []
+further (query false all) l = l
+
+mutual
+  holds-beyond : (e : ExprTree) (d : Value) (l : Location) (n : Node)
+      → holds e d (beyond l n) ≡ holds e d n
+  holds-beyond (any_of es) d l n = any_holds-beyond es d l n
+  holds-beyond (all_of es) d l n = all_hold-beyond es d l n
+  holds-beyond (negation e) d l n = ap not (holds-beyond e d l n)
+  holds-beyond (comparison left op right) d l n =
+      ap₂ (compared op) (operand-beyond left d l n) (operand-beyond right d l n)
+  holds-beyond (exists q) d l n =
+      ap has_node (query-beyond q d l n) ∙ has_node-beyond (further q l) (nodelist_at q d n)
+  holds-beyond (call_test f) d l n = call_holds-beyond f d l n
+
+  any_holds-beyond : (es : ExprTrees) (d : Value) (l : Location) (n : Node)
+      → any_holds es d (beyond l n) ≡ any_holds es d n
+  any_holds-beyond no_exprs d l n = refl
+  any_holds-beyond (expr_then e es) d l n =
+      ap₂ (λ a b. a || b) (holds-beyond e d l n) (any_holds-beyond es d l n)
+
+  all_hold-beyond : (es : ExprTrees) (d : Value) (l : Location) (n : Node)
+      → all_hold es d (beyond l n) ≡ all_hold es d n
+  all_hold-beyond no_exprs d l n = refl
+  all_hold-beyond (expr_then e es) d l n =
+      ap₂ (λ a b. a && b) (holds-beyond e d l n) (all_hold-beyond es d l n)
+
+  operand-beyond : (x : OperandTree) (d : Value) (l : Location) (n : Node)
+      → operand_value x d (beyond l n) ≡ operand_value x d n
+  operand-beyond (literal x) d l n = refl
+  operand-beyond (node_value q) d l n =
+      ap (single_node_value q) (query-beyond q d l n)
+      ∙ single-beyond q (further q l) (nodelist_at q d n)
+  operand-beyond (call_value f) d l n = call_answer-beyond f d l n
+
+  call_answer-beyond : (f : CallTree) (d : Value) (l : Location) (n : Node)
+      → call_answer f d (beyond l n) ≡ call_answer f d n
+  call_answer-beyond (call cs no_arguments) d l n = refl
+  call_answer-beyond (call cs (argument_then x no_arguments)) d l n =
+      ap (λ v. value_answer (function_named cs) v (argument_nodes x d (beyond l n)))
+      (argument_value-beyond x d l n)
+      ∙ argument_nodes-beyond (function_named cs) (argument_value x d n) x d l n
+  call_answer-beyond (call cs (argument_then x (argument_then y rest))) d l n = refl
+
+  call_holds-beyond : (f : CallTree) (d : Value) (l : Location) (n : Node)
+      → call_holds f d (beyond l n) ≡ call_holds f d n
+  call_holds-beyond (call cs no_arguments) d l n = refl
+  call_holds-beyond (call cs (argument_then x no_arguments)) d l n = refl
+  call_holds-beyond (call cs (argument_then x (argument_then y no_arguments))) d l n =
+      ap₂ (logical_answer (function_named cs)) (argument_value-beyond x d l n)
+      (argument_value-beyond y d l n)
+  call_holds-beyond (call cs (argument_then x (argument_then y (argument_then z rest)))) d l n =
+      refl
+
+  argument_value-beyond : (x : ArgumentTree) (d : Value) (l : Location) (n : Node)
+      → argument_value x d (beyond l n) ≡ argument_value x d n
+  argument_value-beyond (literal_argument x) d l n = refl
+  argument_value-beyond (query_argument q) d l n =
+      ap (single_node_value q) (query-beyond q d l n)
+      ∙ single-beyond q (further q l) (nodelist_at q d n)
+  argument_value-beyond (call_argument f) d l n = call_answer-beyond f d l n
+  argument_value-beyond (logical_argument e) d l n = refl
+
+  argument_nodes-beyond : (f : Option Function) (v : Option Value) (x : ArgumentTree) (d : Value)
+      (l : Location) (n : Node) →
+      value_answer f v (argument_nodes x d (beyond l n)) ≡
+      value_answer f v (argument_nodes x d n)
+  argument_nodes-beyond f v (query_argument q) d l n =
+      ap (λ ns. value_answer f v (Some ns)) (query-beyond q d l n)
+      ∙ answer-beyond f v (further q l) (nodelist_at q d n)
+  argument_nodes-beyond f v (literal_argument x) d l n = refl
+  argument_nodes-beyond f v (call_argument x) d l n = refl
+  argument_nodes-beyond f v (logical_argument e) d l n = refl
+
+  query-beyond : (q : QueryTree) (d : Value) (l : Location) (n : Node)
+      → nodelist_at q d (beyond l n) ≡ map (beyond (further q l)) (nodelist_at q d n)
+  query-beyond (query true all) d l n = beyond-nothing (result all d (root_of d ∷ []))
+  query-beyond (query false all) d l n = result-beyond all d l (n ∷ [])
+
+  result-beyond : (all : SegmentTrees) (d : Value) (l : Location) (ns : List Node)
+      → result all d (map (beyond l) ns) ≡ map (beyond l) (result all d ns)
+  result-beyond no_segments d l ns = refl
+  result-beyond (segment_then s rest) d l ns =
+      ap (result rest d) (segment-beyond s d l ns) ∙ result-beyond rest d l (segment_result s d ns)
+
+  segment-beyond : (s : SegmentTree) (d : Value) (l : Location) (ns : List Node)
+      → segment_result s d (map (beyond l) ns) ≡ map (beyond l) (segment_result s d ns)
+  segment-beyond (segment b ss) d l ns =
+      ap (flat_map (selected ss d)) (visited-beyond b l ns)
+      ∙ flat_map-beyond l (selected ss d) (visited b ns) (λ n. selected-beyond ss d l n)
+
+  selected-beyond : (ss : SelectorTrees) (d : Value) (l : Location) (n : Node)
+      → selected ss d (beyond l n) ≡ map (beyond l) (selected ss d n)
+  selected-beyond no_selectors d l n = refl
+  selected-beyond (selector_then s ss) d l n =
+      ap₂ (λ xs ys. xs ++ ys) (selection-beyond s d l n) (selected-beyond ss d l n)
+      ∙ sym (map-append (beyond l) (selection s d n) (selected ss d n))
+
+  selection-beyond : (s : SelectorTree) (d : Value) (l : Location) (n : Node)
+      → selection s d (beyond l n) ≡ map (beyond l) (selection s d n)
+  selection-beyond (filter e) d l n =
+      ap (those_of (holds e d)) (nodes_below-beyond l n.location (entries n.value))
+      ∙ those_of-beyond l (holds e d) (children n) (λ m. holds-beyond e d l m)
+  selection-beyond s d l n = nodes_below-beyond l n.location (candidates s n.value)
+
+-- an expression is true of a node where it is true of its value alone
+pub holds-anywhere : (e : ExprTree) (d : Value) (n : Node) → holds e d n ≡ holds e d (root_of n.value)
+holds-anywhere e d n =
+    ap (λ l. holds e d (node_at l n.value)) (sym (append-nil n.location))
+    ∙ holds-beyond e d n.location (root_of n.value)
