@@ -9,8 +9,9 @@
 //!
 //! The contract for the crates above: `nodes` gives the nodes of the query's nodelist, by
 //! `specs/Nodelist.antt` and, for what functions answer, `specs/Functions.antt`, in order and with
-//! repeats, one at a time, and `evaluate` collects them. By `laws` the normalized path of a node of a document, read as a query, selects that node alone,
-//! a query selects nodes of the document alone, and a singular one at most one.
+//! repeats, one at a time, and `evaluate` collects them. By `laws` the normalized path of a node of
+//! a document, read as a query, selects that node alone, a query selects nodes of the document
+//! alone, and a singular one at most one.
 #![tactic(auto)]
 
 mod calls;

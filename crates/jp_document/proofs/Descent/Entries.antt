@@ -1,7 +1,7 @@
 -- The entries of a value by their positions, and that their steps rise: for
 -- `DocumentValue::child` and for walks in document order.
-use Rattle.std.proofs.Common.{◌≡◌, ℕ, zero, suc, ◌+◌, ◌<◌, Bool, true, List, [], ◌∷◌, length}
-use Rattle.std.proofs.Common.{map, Option, Some, Less, refl, sym, ap, ap₂, subst, ◌∙◌, arith}
+use Rattle.std.proofs.Common.{◌≡◌, ℕ, zero, suc, ◌+◌, ◌<◌, true, List, [], ◌∷◌}
+use Rattle.std.proofs.Common.{map, Option, Some, Less, refl, sym, ap, ap₂, ◌∙◌, arith}
 use Rattle.std.proofs.Common.{string_bytes}
 use Rattle.std.specs.Cmp.{nat_cmp_is}
 use Rattle.std.specs.List.{slice_get, AllByRecursion}
@@ -11,21 +11,21 @@ use Rattle.std.specs.Option.{option_map}
 use Rattle.std.proofs.lemmas.Cmp.{eq_by_cmp_equiv}
 use Rattle.std.proofs.lemmas.Map.Entries.{lookup_from_place}
 use Rattle.std.proofs.lemmas.Map.Keys.{IsDistinct-from_sorted}
-use Rattle.std.proofs.lemmas.Option.{slice_get-map, same_Some}
+use Rattle.std.proofs.lemmas.Option.{slice_get-map}
 use Rattle.jp_document.specs.Location.{Key, named, nth, key_cmp, Location}
 use Rattle.jp_document.specs.Location.{items_from, members_by_name, entries, child}
 use Rattle.jp_document.specs.Node.{node_below}
 use Rattle.jp_document.specs.Value.{Value, list, object, Items}
 use Rattle.jp_document.specs.Value.{no_items, item, Members, no_members, member, items_of}
-use Rattle.jp_document.specs.Value.{members_of, names_of, everywhere, everywhere_in_items}
-use Rattle.jp_document.specs.Value.{everywhere_in_members, has_rising_names, is_allowed}
+use Rattle.jp_document.specs.Value.{members_of, names_of}
+use Rattle.jp_document.specs.Value.{has_rising_names, is_allowed}
 use Rattle.jp_document.specs.Value.{IsDocumentValue, NamesRise, member_of, value_of}
 use Rattle.jp_document.specs.declared.value.Member.{Member}
 use Rattle.jp_document.proofs.Values.{member_of_is}
 use Rattle.jp_document.proofs.Members.ByName.{bytes_cmp, sorted_from_rise}
 use Rattle.jp_document.proofs.Descent.Inside.{IsDocumentValue-child, everywhere-weaker}
 use Rattle.jp_document.proofs.Descent.Keys.{key_cmp_total}
-use Rattle.jp_document.proofs.Conjunctions.{and-left, and-right}
+use Rattle.jp_document.proofs.Conjunctions.{and-left}
 
 abbrev pub at_index : ℕ → Value → Key × Value
 at_index i v = (nth i, v)

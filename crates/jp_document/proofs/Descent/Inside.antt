@@ -8,8 +8,7 @@ use Rattle.std.specs.BTreeMap.{is_at}
 use Rattle.std.specs.List.{list_all}
 use Rattle.std.specs.Map.{lookup}
 use Rattle.std.proofs.lemmas.List.{drop_more}
-use Rattle.std.proofs.lemmas.Option.{same_Some}
-use Rattle.std.specs.Option.{option_map, option_and_then}
+use Rattle.std.specs.Option.{option_and_then}
 use Rattle.jp_document.specs.Location.{Key, key_cmp, Location, items_from}
 use Rattle.jp_document.specs.Location.{members_by_name, child, value_at}
 use Rattle.jp_document.specs.Value.{Value, null, boolean, whole, text, list, object, Items}

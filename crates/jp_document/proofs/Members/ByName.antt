@@ -1,20 +1,18 @@
 -- Members found by their names, which rise: for `child_named` and each look-up by a name.
 use Rattle.std.proofs.Common.{◌≡◌, ℕ, suc, ◌+◌, ◌<◌, true, false, List, [], ◌∷◌}
-use Rattle.std.proofs.Common.{length, get_or, map, Option, Some, None, option_map, Result}
-use Rattle.std.proofs.Common.{Ok, Err, Ordering, Less, Equal, Greater, is_eq, is_lt, nat_cmp}
-use Rattle.std.proofs.Common.{cond, refl, sym, ap, subst, ◌∙◌, arith, inl, inr, MatchResult}
+use Rattle.std.proofs.Common.{length, get_or, map, Some, None}
+use Rattle.std.proofs.Common.{Err, Ordering, Less, Equal, Greater, is_eq, is_lt, nat_cmp}
+use Rattle.std.proofs.Common.{cond, refl, ap, subst, ◌∙◌, arith, inl, inr}
 use Rattle.std.specs.Cmp.Lexicographic.{slice_cmp}
 use Rattle.std.specs.List.{list_all, AllByRecursion}
 use Rattle.std.specs.List.Sorted.{IsStrictlySortedBy, IsNonDecreasingBy, IsBinarySearchResult}
 use Rattle.std.specs.Map.{lookup, keys_of}
 use Rattle.std.specs.Ordering.{eq_by_cmp, ordering_index, ordering_reverse}
 use Rattle.std.proofs.lemmas.Bool.{cases_lt}
-use Rattle.std.proofs.lemmas.Cmp.{nat_list_cmp_total, eq_by_cmp_equiv}
+use Rattle.std.proofs.lemmas.Cmp.{nat_list_cmp_total}
 use Rattle.std.proofs.lemmas.List.{get_or-map, length-map}
 use Rattle.std.proofs.lemmas.List.Sorted.{searchable_from_sorted}
-use Rattle.std.proofs.lemmas.Map.Keys.{IsDistinct-from_sorted, Less-from_sorted}
-use Rattle.std.proofs.lemmas.Map.Lookups.{exact_bytes}
-use Rattle.std.proofs.lemmas.Map.Views.{lookup-from_Contains}
+use Rattle.std.proofs.lemmas.Map.Keys.{Less-from_sorted}
 use Rattle.std.specs.BTreeMap.{is_at}
 use Rattle.jp_document.specs.Location.{named, nth, key_cmp, items_from, child}
 use Rattle.jp_document.specs.Value.{Value, list, object, Items, no_items, item, Members}

@@ -1,4 +1,4 @@
-use Rattle.std.proofs.Common.{◌≡◌, [], ◌∷◌, ◌++◌, length, map, take, option_map}
+use Rattle.std.proofs.Common.{◌≡◌, [], ◌∷◌, ◌++◌, length, map, take}
 use Rattle.std.proofs.Common.{Some, None, sym, ap, ap₂, ◌∙◌, subst, rules}
 use Rattle.std.specs.List.{slice_get}
 use Rattle.jp_document.specs.Location.{entries}

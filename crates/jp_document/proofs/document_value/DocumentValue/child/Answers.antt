@@ -1,4 +1,4 @@
-use Rattle.std.proofs.Common.{Some, None, option_map, string_bytes, sym, ap, ◌∙◌}
+use Rattle.std.proofs.Common.{Some, option_map, sym, ap, ◌∙◌}
 use Rattle.jp_document.specs.DocumentValue.{lent_entry}
 use Rattle.jp_document.specs.Location.{named, nth}
 use Rattle.jp_document.specs.Value.{value_of}
