@@ -89,6 +89,11 @@ matched : call_row (codes "match(@['b'],'[jk]')") (codes "match")
 unfolding spelling
 matched = refl
 
+distinct : call_row (codes "distinct(@['a'])") (codes "distinct")
+    (query_argument (child char.letter_a) ∷ [])
+unfolding spelling
+distinct = refl
+
 test_argument : call_row (codes "f((@['a']),@['a'])") (codes "f")
     (logical_argument test_a ∷ query_argument (child char.letter_a) ∷ [])
 unfolding spelling

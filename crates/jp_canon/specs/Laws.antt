@@ -3,6 +3,8 @@ use Rattle.std.specs.Prelude.{◌≡◌, ◌↔◌, ℕ}
 use Rattle.jp_reading.specs.Texts.{Text, Spans}
 use Rattle.jp_query.specs.Grammar.{Spells}
 use Rattle.jp_tree.specs.Tree.{QueryTree}
+use Rattle.jp_check.specs.declared.profile.Profile.{Profile}
+use Rattle.jp_check.specs.declared.profile.Profile.TheVariants.{Extended}
 use Rattle.jp_check.specs.Accepted.{IsAccepted, IsAcceptedAs}
 use Rattle.jp_canon.specs.Canon.{canon_of}
 
@@ -13,11 +15,14 @@ CanonSpells =
     (n : ℕ) (q : QueryTree) (s : Spans) (text : Text) → Spells n q s text
     → (u : Spans) × Spells n q u (canon_of q)
 
--- so that of an accepted tree is accepted as that tree
+-- so that of a tree that is accepted in a profile is accepted in it as that tree
 abbrev pub CanonIsAccepted : Type 0
-CanonIsAccepted = (q : QueryTree) → IsAccepted q → IsAcceptedAs (canon_of q) q
+CanonIsAccepted =
+    (profile : Profile) (q : QueryTree) → IsAccepted profile q
+    → IsAcceptedAs profile (canon_of q) q
 
--- accepted trees have one canonical text exactly if they are equal
+-- trees that are accepted in `Extended` have one canonical text exactly if they are equal
 abbrev pub CanonTellsApart : Type 0
 CanonTellsApart =
-    (q u : QueryTree) → IsAccepted q → IsAccepted u → (canon_of q ≡ canon_of u) ↔ (q ≡ u)
+    (q u : QueryTree) → IsAccepted Extended q → IsAccepted Extended u
+    → (canon_of q ≡ canon_of u) ↔ (q ≡ u)

@@ -11,10 +11,10 @@ use jp_check::Checked;
 use std::alloc::{AllocError, Global};
 
 /// The canonical text of a query: of all its spellings the one without blank space and without a
-/// choice (RFC 9535 sections 2.1 to 2.5). It goes over the tree once. The only error is that memory
-/// ran out.
+/// choice (RFC 9535 sections 2.1 to 2.5). It is the same in either profile. It goes over the tree
+/// once. The only error is that memory ran out.
 pub fn canon(alloc: Global, query: &Checked) -> Result<String, AllocError>
-    ensures { IfOk result (λ s. chars (string_bytes s) ≡ canon_of (query_of query.now)) }
+    ensures { IfOk result (λ s. chars (string_bytes s) ≡ canon_of (query_of query.now.query)) }
 {
     let mut out = Writer::new(alloc);
     write_query(&mut out, query.query())?;

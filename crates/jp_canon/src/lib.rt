@@ -1,12 +1,13 @@
 //! Canonical texts of queries (RFC 9535): one spelling for each query.
 //!
 //! ```text
-//! let query = read_query(alloc, "$ .a [ ?(@.b==-0) ]")?;
+//! let query = read_query(alloc, "$ .a [ ?(@.b==-0) ]", Standard)?;
 //! canon(alloc, &query);    // $['a'][?@['b']==0]
 //! ```
 //!
 //! The contract for the crates above: `canon` gives the text that `specs/Canon.antt` gives the
-//! query's tree. Read as a query, that text is accepted as the same tree, and two accepted trees
+//! query's tree, in whichever profile it was checked. Read in that profile, the text is accepted as
+//! the same tree, and two trees that are accepted in `Extended`, as are all that are in `Standard`,
 //! have one canonical text exactly if they are equal (`laws`).
 #![tactic(auto)]
 

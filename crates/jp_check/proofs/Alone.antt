@@ -21,6 +21,7 @@ use Rattle.jp_query.specs.Refusal.{number_of}
 use Rattle.jp_tree.specs.Tree.{QueryTree, call}
 use Rattle.jp_check.specs.Accepted.{IsAcceptedAs, IsNotAccepted}
 use Rattle.jp_check.specs.declared.functions.DataType.{DataType}
+use Rattle.jp_check.specs.declared.profile.Profile.{Profile}
 use Rattle.jp_check.specs.Faults.{HasCallFault, HasFault}
 use Rattle.jp_check.specs.First.{IsItemFault, IsNoLater, IsFirstFault}
 use Rattle.jp_check.specs.Functions.{Signature, signature_named}
@@ -28,7 +29,7 @@ use Rattle.jp_check.specs.Types.{wanted}
 use Rattle.jp_check.specs.Laws.{OneAnswer}
 use Rattle.jp_check.specs.Refused.{IsFaulty, RefusalSays, IsRefused, IsRefusedForItself}
 use Rattle.jp_check.proofs.Least.{NoFault, of-cons, of-item, of-none, found}
-use Rattle.jp_check.specs.Private.Walk.{steps}
+use Rattle.jp_check.specs.Private.Walk.{Progress, steps}
 use Rattle.jp_query.proofs.ItemSpans.{spans-of_items}
 
 -- ---- kinds have numbers of their own
@@ -77,88 +78,100 @@ no_later-both r f (inr a) (inl b) = absurd (omega arith)
 no_later-both r f (inr a) (inr b) =
     same-refusal r f (number_of-injective r.kind f.kind (omega arith)) a.0
 
-first-alone : (items : List QueryItem) (spans : Spans) (r f : Refusal) → IsFirstFault items spans r
-    → IsFirstFault items spans f → r ≡ f
-first-alone items spans r f h g = no_later-both r f (h.first f g.is) (g.first r h.is)
+first-alone : (profile : Profile) (items : List QueryItem) (spans : Spans) (r f : Refusal)
+    → IsFirstFault profile items spans r
+    → IsFirstFault profile items spans f → r ≡ f
+first-alone profile items spans r f h g = no_later-both r f (h.first f g.is) (g.first r h.is)
 
 -- ---- no fault without faults
 
-no_fault : (items : List QueryItem) (spans : Spans) (f : Refusal) → All NoFault items
-    → IsItemFault items spans f → ⊥
-no_fault [] spans f all h = of-none [] spans f refl h
-no_fault (x ∷ xs) [] f all h = of-none (x ∷ xs) [] f refl h
-no_fault (x ∷ xs) (span ∷ spans) f all h =
-    elim (of-cons x xs span spans f h) as (λ _. ⊥) [
-      | inl q ↦ All-head NoFault x xs all f.kind (rw (of-item x span f q).0 q.kind)
-      | inr q ↦ no_fault xs spans f (All-tail NoFault x xs all) q
+no_fault : (profile : Profile) (items : List QueryItem) (spans : Spans) (f : Refusal)
+    → All (NoFault profile) items
+    → IsItemFault profile items spans f → ⊥
+no_fault profile [] spans f all h = of-none profile [] spans f refl h
+no_fault profile (x ∷ xs) [] f all h = of-none profile (x ∷ xs) [] f refl h
+no_fault profile (x ∷ xs) (span ∷ spans) f all h =
+    elim (of-cons profile x xs span spans f h) as (λ _. ⊥) [
+      | inl q ↦ All-head (NoFault profile) x xs all f.kind
+          (rw (of-item profile x span f q).0 q.kind)
+      | inr q ↦ no_fault profile xs spans f (All-tail (NoFault profile) x xs all) q
     ]
 
 -- ---- refusals exclude each other
 
-faults-same : OneReading → (text : Text) (r f : Refusal) → IsFaulty text r → IsFaulty text f → r ≡ f
-faults-same one text r f a b =
+faults-same : (profile : Profile) → OneReading → (text : Text) (r f : Refusal)
+    → IsFaulty profile text r → IsFaulty profile text f → r ≡ f
+faults-same profile one text r f a b =
     let same = one level_limit level_limit a.tree b.tree a.spans b.spans text a.spelled b.spelled in
-    first-alone (items_of a.tree) a.spans r f a.first (rw (same.0, same.1) b.first)
+    first-alone profile (items_of a.tree) a.spans r f a.first (rw (same.0, same.1) b.first)
 
-not-faulty : OneReading → (text : Text) (q : QueryTree) (r : Refusal) → IsAcceptedAs text q
-    → IsFaulty text r → ⊥
-not-faulty one text q r a b =
+not-faulty : (profile : Profile) → OneReading → (text : Text) (q : QueryTree) (r : Refusal)
+    → IsAcceptedAs profile text q
+    → IsFaulty profile text r → ⊥
+not-faulty profile one text q r a b =
     let same = one level_limit level_limit q b.tree a.spans b.spans text a.spelled b.spelled in
-    no_fault (items_of q) a.spans r a.faultless (rw (same.0, same.1) b.first.is)
+    no_fault profile (items_of q) a.spans r a.faultless (rw (same.0, same.1) b.first.is)
 
 -- why a text is refused: out of memory, that it is no query, or a fault
-data Why (text : Text) (r : Refusal) : Type 0 where
-  memory : r.kind ≡ NoMemory → Why text r
-  no_query : IsParseRefusal level_limit text r.kind r.place → Why text r
-  faulty : IsFaulty text r → Why text r
+data Why (profile : Profile) (text : Text) (r : Refusal) : Type 0 where
+  memory : r.kind ≡ NoMemory → Why profile text r
+  no_query : IsParseRefusal level_limit text r.kind r.place → Why profile text r
+  faulty : IsFaulty profile text r → Why profile text r
 
-why : (text : Text) (kind : RefusalKind) (place : ℕ) → RefusalSays text kind place
-    → Why text (record { kind = kind; place = place })
-why text NoMemory place h = memory refl
-why text Syntax place h = no_query (inl (refl, h))
-why text TooDeep place h = no_query (inr (refl, h))
-why text TextTooLong place h = absurd h
-why text kind place h = faulty h
+why : (profile : Profile) (text : Text) (kind : RefusalKind) (place : ℕ)
+    → RefusalSays profile text kind place
+    → Why profile text (record { kind = kind; place = place })
+why profile text NoMemory place h = memory refl
+why profile text Syntax place h = no_query (inl (refl, h))
+why profile text TooDeep place h = no_query (inr (refl, h))
+why profile text TextTooLong place h = absurd h
+why profile text kind place h = faulty h
 
 -- a text that the parser refuses spells nothing
 unspelled : OneRefusal → (text : Text) (r : Refusal)
     → IsParseRefusal level_limit text r.kind r.place → SpellsNothing level_limit text
 unspelled once text r at = (once level_limit text).only r.kind r.place at
 
-not-refused : OneReading → OneRefusal → (text : Text) (q : QueryTree) (r : Refusal)
-    → IsAcceptedAs text q → Why text r → ¬ (r.kind ≡ NoMemory) → ⊥
-not-refused one once text q r a (memory e) told = told e
-not-refused one once text q r a (no_query at) told = unspelled once text r at q a.spans a.spelled
-not-refused one once text q r a (faulty h) told = not-faulty one text q r a h
+not-refused : (profile : Profile) → OneReading → OneRefusal
+    → (text : Text) (q : QueryTree) (r : Refusal)
+    → IsAcceptedAs profile text q → Why profile text r → ¬ (r.kind ≡ NoMemory) → ⊥
+not-refused profile one once text q r a (memory e) told = told e
+not-refused profile one once text q r a (no_query at) told =
+    unspelled once text r at q a.spans a.spelled
+not-refused profile one once text q r a (faulty h) told = not-faulty profile one text q r a h
 
-refusals-same : OneReading → OneRefusal → (text : Text) (r f : Refusal) → Why text r → Why text f
+refusals-same : (profile : Profile) → OneReading → OneRefusal → (text : Text) (r f : Refusal)
+    → Why profile text r → Why profile text f
     → ¬ (r.kind ≡ NoMemory) → ¬ (f.kind ≡ NoMemory) → r ≡ f
-refusals-same one once text r f (memory e) h told too = absurd (told e)
-refusals-same one once text r f (no_query at) (memory e) told too = absurd (too e)
-refusals-same one once text r f (faulty g) (memory e) told too = absurd (too e)
-refusals-same one once text r f (no_query at) (no_query elsewhere) told too =
+refusals-same profile one once text r f (memory e) h told too = absurd (told e)
+refusals-same profile one once text r f (no_query at) (memory e) told too = absurd (too e)
+refusals-same profile one once text r f (faulty g) (memory e) told too = absurd (too e)
+refusals-same profile one once text r f (no_query at) (no_query elsewhere) told too =
     let same =
     (once level_limit text).once r.kind f.kind r.place f.place at elsewhere in same-refusal r f
     same.0 same.1
-refusals-same one once text r f (no_query at) (faulty h) told too =
+refusals-same profile one once text r f (no_query at) (faulty h) told too =
     absurd (unspelled once text r at h.tree h.spans h.spelled)
-refusals-same one once text r f (faulty h) (no_query at) told too =
+refusals-same profile one once text r f (faulty h) (no_query at) told too =
     absurd (unspelled once text f at h.tree h.spans h.spelled)
-refusals-same one once text r f (faulty h) (faulty g) told too = faults-same one text r f h g
+refusals-same profile one once text r f (faulty h) (faulty g) told too =
+    faults-same profile one text r f h g
 
 -- what is refused is not accepted
-refused-only : OneReading → OneRefusal → (text : Text) (r : Refusal) → Why text r
-    → (r.kind ≡ NoMemory) ⊎ IsNotAccepted text
-refused-only one once text r (memory e) = inl e
-refused-only one once text r (no_query at) =
+refused-only : (profile : Profile) → OneReading → OneRefusal → (text : Text) (r : Refusal)
+    → Why profile text r
+    → (r.kind ≡ NoMemory) ⊎ IsNotAccepted profile text
+refused-only profile one once text r (memory e) = inl e
+refused-only profile one once text r (no_query at) =
     inr (λ q a. unspelled once text r at q a.spans a.spelled)
-refused-only one once text r (faulty h) = inr (λ q a. not-faulty one text q r a h)
+refused-only profile one once text r (faulty h) = inr (λ q a. not-faulty profile one text q r a h)
 
-pub refused-result : {T : Type 0} → OneReading → OneRefusal
-    → (text : Text) (result : Result T Refusal) → IfErr result (IsRefused text)
-    → IfErr result (λ r. (r.kind ≡ NoMemory) ⊎ IsNotAccepted text)
-refused-result one once text (Ok x) h = tt
-refused-result one once text (Err r) h = refused-only one once text r (why text r.kind r.place h)
+pub refused-result : {T : Type 0} (profile : Profile) → OneReading → OneRefusal
+    → (text : Text) (result : Result T Refusal) → IfErr result (IsRefused profile text)
+    → IfErr result (λ r. (r.kind ≡ NoMemory) ⊎ IsNotAccepted profile text)
+refused-result profile one once text (Ok x) h = tt
+refused-result profile one once text (Err r) h =
+    refused-only profile one once text r (why profile text r.kind r.place h)
 
 -- ---- a first fault refuses the text
 
@@ -171,85 +184,102 @@ call-none : (function : Option Signature) (given : ℕ) (want : Option DataType)
 call-none None given want = (λ h. h, λ h. h, λ h. h, λ h. h)
 call-none (Some function) given want = (λ h. h, λ h. h, λ h. h, λ h. h)
 
-item-none : (x : QueryItem) → HasNone (HasFault x)
-item-none (int n role) = (λ h. h, λ h. h, λ h. h, λ h. h)
-item-none (constant l role) = (λ h. h, λ h. h, λ h. h, λ h. h)
-item-none (inner q role) = (λ h. h, λ h. h, λ h. h, λ h. h)
-item-none (called (call name all) role) =
-    call-none (signature_named name) (count all) (wanted role)
-item-none (logical e role) = (λ h. h, λ h. h, λ h. h, λ h. h)
+item-none : (profile : Profile) (x : QueryItem) → HasNone (HasFault profile x)
+item-none profile (int n role) = (λ h. h, λ h. h, λ h. h, λ h. h)
+item-none profile (constant l role) = (λ h. h, λ h. h, λ h. h, λ h. h)
+item-none profile (inner q role) = (λ h. h, λ h. h, λ h. h, λ h. h)
+item-none profile (called (call name all) role) =
+    call-none (signature_named profile name) (count all) (wanted profile role)
+item-none profile (logical e role) = (λ h. h, λ h. h, λ h. h, λ h. h)
 
-faulty-refused : (text : Text) (kind : RefusalKind) (place : ℕ)
-    → IsFaulty text (record { kind = kind; place = place }) → RefusalSays text kind place
-faulty-refused text Syntax place h = absurd ((item-none h.first.is.item).0 h.first.is.kind)
-faulty-refused text TooDeep place h = absurd ((item-none h.first.is.item).1 h.first.is.kind)
-faulty-refused text NoMemory place h = absurd ((item-none h.first.is.item).2 h.first.is.kind)
-faulty-refused text TextTooLong place h = absurd ((item-none h.first.is.item).3 h.first.is.kind)
-faulty-refused text kind place h = h
+faulty-refused : (profile : Profile) (text : Text) (kind : RefusalKind) (place : ℕ)
+    → IsFaulty profile text (record { kind = kind; place = place })
+    → RefusalSays profile text kind place
+faulty-refused profile text Syntax place h =
+    absurd ((item-none profile h.first.is.item).0 h.first.is.kind)
+faulty-refused profile text TooDeep place h =
+    absurd ((item-none profile h.first.is.item).1 h.first.is.kind)
+faulty-refused profile text NoMemory place h =
+    absurd ((item-none profile h.first.is.item).2 h.first.is.kind)
+faulty-refused profile text TextTooLong place h =
+    absurd ((item-none profile h.first.is.item).3 h.first.is.kind)
+faulty-refused profile text kind place h = h
 
-refused-for_itself : (text : Text) (kind : RefusalKind) (place : ℕ)
-    → IsFaulty text (record { kind = kind; place = place })
-    → IsRefusedForItself text (record { kind = kind; place = place })
-refused-for_itself text kind place h = (
-  faulty-refused text kind place h,
-  λ e. (item-none h.first.is.item).2 (subst (HasFault h.first.is.item) e h.first.is.kind),
+refused-for_itself : (profile : Profile) (text : Text) (kind : RefusalKind) (place : ℕ)
+    → IsFaulty profile text (record { kind = kind; place = place })
+    → IsRefusedForItself profile text (record { kind = kind; place = place })
+refused-for_itself profile text kind place h = (
+  faulty-refused profile text kind place h,
+  λ e. (item-none profile h.first.is.item).2
+      (subst (HasFault profile h.first.is.item) e h.first.is.kind),
 )
 
-pub first-refused : {T : Type 0} (text : Text) (q : QueryTree) (spans : Spans)
+pub first-refused : {T : Type 0} (profile : Profile) (text : Text) (q : QueryTree) (spans : Spans)
     (result : Result T Refusal) → Spells level_limit q spans text
-    → IfErr result (IsFirstFault (items_of q) spans) → IfErr result (IsRefused text)
-first-refused text q spans (Ok x) h e = tt
-first-refused text q spans (Err r) h e =
-    faulty-refused text r.kind r.place (record { tree = q; spans = spans; spelled = h; first = e })
+    → IfErr result (IsFirstFault profile (items_of q) spans) → IfErr result (IsRefused profile text)
+first-refused profile text q spans (Ok x) h e = tt
+first-refused profile text q spans (Err r) h e =
+    faulty-refused profile text r.kind r.place
+    (record { tree = q; spans = spans; spelled = h; first = e })
 
 -- ---- each text has one answer
 
 -- what spells a tree is accepted as it, or has a first fault
-spelled-answered : (text : Text) (q : QueryTree) (spans : Spans) → Spells level_limit q spans text
-    → ((u : QueryTree) × IsAcceptedAs text u) ⊎ ((r : Refusal) × IsRefusedForItself text r)
-spelled-answered text q spans h =
-    let first = (steps (items_of q) (record { spans = spans; first = None })).first in
+spelled-answered : (profile : Profile) (text : Text) (q : QueryTree) (spans : Spans)
+    → Spells level_limit q spans text
+    → ((u : QueryTree) × IsAcceptedAs profile text u) ⊎
+    ((r : Refusal) × IsRefusedForItself profile text r)
+spelled-answered profile text q spans h =
+    let start : Progress = record { profile = profile; spans = spans; first = None } in
+    let first = (steps (items_of q) start).first in
     told first
-    (found text (items_of q) spans first (spans-of_items level_limit q spans text h).each refl)
+    (found profile text (items_of q) spans first
+    (spans-of_items level_limit q spans text h).each refl)
   where
     told : (o : Option Refusal)
-        → MatchOption o (All NoFault (items_of q)) (IsFirstFault (items_of q) spans)
-        → ((u : QueryTree) × IsAcceptedAs text u) ⊎ ((r : Refusal) × IsRefusedForItself text r)
+        → MatchOption o (All (NoFault profile) (items_of q))
+        (IsFirstFault profile (items_of q) spans)
+        → ((u : QueryTree) × IsAcceptedAs profile text u) ⊎
+        ((r : Refusal) × IsRefusedForItself profile text r)
     told None all = inl (q, record { spans = spans; spelled = h; faultless = all })
     told (Some r) e =
         inr (
           r,
-          refused-for_itself text r.kind r.place
+          refused-for_itself profile text r.kind r.place
               (record { tree = q; spans = spans; spelled = h; first = e }),
         )
 
 -- what spells none is refused as the parser refuses it
-unspelled-refused : (text : Text) (kind : RefusalKind) (place : ℕ)
+unspelled-refused : (profile : Profile) (text : Text) (kind : RefusalKind) (place : ℕ)
     → IsParseRefusal level_limit text kind place
-    → IsRefusedForItself text (record { kind = kind; place = place })
-unspelled-refused text kind place (inl (e, at)) = rw e (at, λ memory. cc)
-unspelled-refused text kind place (inr (e, at)) = rw e (at, λ memory. cc)
+    → IsRefusedForItself profile text (record { kind = kind; place = place })
+unspelled-refused profile text kind place (inl (e, at)) = rw e (at, λ memory. cc)
+unspelled-refused profile text kind place (inr (e, at)) = rw e (at, λ memory. cc)
 
-accepted-or_refused : OneRefusal → (text : Text)
-    → ((q : QueryTree) × IsAcceptedAs text q) ⊎ ((r : Refusal) × IsRefusedForItself text r)
-accepted-or_refused once text = told ((once level_limit text).answered)
+accepted-or_refused : (profile : Profile) → OneRefusal → (text : Text)
+    → ((q : QueryTree) × IsAcceptedAs profile text q) ⊎
+    ((r : Refusal) × IsRefusedForItself profile text r)
+accepted-or_refused profile once text = told ((once level_limit text).answered)
   where
     told : ((q : QueryTree) × (s : Spans) × Spells level_limit q s text) ⊎
         ((kind : RefusalKind) × (place : ℕ) × IsParseRefusal level_limit text kind place)
-        → ((q : QueryTree) × IsAcceptedAs text q) ⊎ ((r : Refusal) × IsRefusedForItself text r)
-    told (inl (q, s, h)) = spelled-answered text q s h
+        → ((q : QueryTree) × IsAcceptedAs profile text q) ⊎
+        ((r : Refusal) × IsRefusedForItself profile text r)
+    told (inl (q, s, h)) = spelled-answered profile text q s h
     told (inr (kind, place, at)) =
-        inr (record { kind = kind; place = place }, unspelled-refused text kind place at)
+        inr (record { kind = kind; place = place }, unspelled-refused profile text kind place at)
 
-pub one-answer : OneReading → OneRefusal → (text : Text) → OneAnswer text
-one-answer one once text = record {
-  answered = accepted-or_refused once text;
+pub one-answer : (profile : Profile) → OneReading → OneRefusal → (text : Text)
+    → OneAnswer profile text
+one-answer profile one once text = record {
+  answered = accepted-or_refused profile once text;
   one_tree =
       λ q u a b. (one level_limit level_limit q u a.spans b.spans text a.spelled b.spelled).0;
-  one_fault = faults-same one text;
+  one_fault = faults-same profile one text;
   one_refusal =
-      λ r f a b. refusals-same one once text r f (why text r.kind r.place a.0)
-      (why text f.kind f.place b.0) a.1 b.1;
-  not_faulty = not-faulty one text;
-  not_both = λ q r a b. not-refused one once text q r a (why text r.kind r.place b.0) b.1;
+      λ r f a b. refusals-same profile one once text r f (why profile text r.kind r.place a.0)
+      (why profile text f.kind f.place b.0) a.1 b.1;
+  not_faulty = not-faulty profile one text;
+  not_both = λ q r a b. not-refused profile one once text q r a
+      (why profile text r.kind r.place b.0) b.1;
 }

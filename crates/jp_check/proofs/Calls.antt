@@ -11,6 +11,7 @@ use Rattle.jp_tree.specs.declared.tree.Call.{Call, out-Call}
 use Rattle.jp_query.specs.Items.{count}
 use Rattle.jp_tree.specs.Tree.{argument_of, arguments, call_of}
 use Rattle.jp_check.specs.declared.functions.DataType.{DataType}
+use Rattle.jp_check.specs.declared.profile.Profile.{Profile}
 use Rattle.jp_check.specs.Functions.{signature_named}
 use Rattle.jp_check.specs.Types.{wanted_of_arguments}
 use Rattle.jp_check.specs.Private.Calls.{wanted_of_call}
@@ -21,22 +22,23 @@ count-arguments : (xs : List Argument) → count (arguments (map argument_of xs)
 count-arguments [] = refl
 count-arguments (x ∷ xs) = ap suc (count-arguments xs)
 
-pub fault_of_call_is : (c : Call) (want : Option DataType)
-    → fault_of_call (call_of c) want
-    ≡ fault_of_called (signature_named (chars (string_bytes (out-Call c).name)))
+pub fault_of_call_is : (profile : Profile) (c : Call) (want : Option DataType)
+    → fault_of_call profile (call_of c) want
+    ≡ fault_of_called (signature_named profile (chars (string_bytes (out-Call c).name)))
     (length (out-Call c).arguments.items) want
-fault_of_call_is c want =
-    ap (λ t. fault_of_call t want) (call_of-is c)
-    ∙ ap (λ n. fault_of_called (signature_named (chars (string_bytes (out-Call c).name))) n want)
+fault_of_call_is profile c want =
+    ap (λ t. fault_of_call profile t want) (call_of-is c)
+    ∙ ap (λ n.
+    fault_of_called (signature_named profile (chars (string_bytes (out-Call c).name))) n want)
     (count-arguments (out-Call c).arguments.items)
 
-pub wanted_of_call_is : (c : Call)
-    → wanted_of_call (call_of c)
-    ≡ wanted_of_arguments (signature_named (chars (string_bytes (out-Call c).name)))
+pub wanted_of_call_is : (profile : Profile) (c : Call)
+    → wanted_of_call profile (call_of c)
+    ≡ wanted_of_arguments (signature_named profile (chars (string_bytes (out-Call c).name)))
     (length (out-Call c).arguments.items)
-wanted_of_call_is c =
-    ap wanted_of_call (call_of-is c)
-    ∙ ap (wanted_of_arguments (signature_named (chars (string_bytes (out-Call c).name))))
+wanted_of_call_is profile c =
+    ap (wanted_of_call profile) (call_of-is c)
+    ∙ ap (wanted_of_arguments (signature_named profile (chars (string_bytes (out-Call c).name))))
     (count-arguments (out-Call c).arguments.items)
 
 -- what is copied of an item that a list has, or has not, at that place

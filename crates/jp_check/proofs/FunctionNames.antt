@@ -1,5 +1,6 @@
 -- A function is found by the bytes of its name.
-use Rattle.std.proofs.Common.{◌≡◌, cond, ℕ, List, [], ◌∷◌, Some, refl, sym, ap, ◌∙◌}
+use Rattle.std.proofs.Common.{◌≡◌, cond, Bool, true, false, codes, ℕ, List, [], ◌∷◌}
+use Rattle.std.proofs.Common.{Some, None, refl, sym, ap, ◌∙◌}
 use Rattle.std.specs.Bool.{Decides}
 use Rattle.std.specs.Map.{lookup}
 use Rattle.std.specs.Str.{IsUtf8, bytes_eq, chars}
@@ -8,7 +9,10 @@ use Rattle.std.proofs.Math.Utf8.{encodes}
 use Rattle.std.proofs.lemmas.Bool.Decides.{same_from_decides}
 use Rattle.std.proofs.lemmas.Slice.Eq.{bytes_eq-Decides}
 use Rattle.std.proofs.lemmas.Str.{chars_from_encodes, encodes-chars}
-use Rattle.jp_check.specs.Functions.{function_named, functions}
+use Rattle.jp_check.specs.declared.functions.Function.TheVariants.{Distinct}
+use Rattle.jp_check.specs.declared.profile.Profile.{Profile}
+use Rattle.jp_check.specs.declared.profile.Profile.TheVariants.{Standard, Extended}
+use Rattle.jp_check.specs.Functions.{added_functions, function_named, functions}
 
 -- the bytes are the word, which is ASCII, exactly if their characters are
 same-test : (bs word : List ℕ) → IsUtf8 bs → encodes word ≡ word
@@ -39,8 +43,21 @@ same-lookup bs (e ∷ es) utf8 ascii =
     (same-test bs e.0 utf8 ascii.0)
     ∙ ap (cond (bytes_eq bs e.0) (Some e.1)) (same-lookup bs es utf8 ascii.1)
 
-pub function_named_bytes : (bs : List ℕ) → IsUtf8 bs
-    → function_named (chars bs) ≡ lookup (bytes_eq bs) functions
+pub function_named_bytes : (profile : Profile) (bs : List ℕ) → IsUtf8 bs
+    → function_named profile (chars bs) ≡ lookup (bytes_eq bs) (functions profile)
 unfolding encode
-function_named_bytes bs utf8 =
-    same-lookup bs functions utf8 (refl, (refl, (refl, (refl, (refl, tt)))))
+function_named_bytes Standard bs utf8 =
+    same-lookup bs (functions Standard) utf8 (refl, (refl, (refl, (refl, (refl, tt)))))
+function_named_bytes Extended bs utf8 =
+    same-lookup bs (functions Extended) utf8 (refl, (refl, (refl, (refl, (refl, (refl, tt))))))
+
+-- another name than `distinct` is that of no function that a profile adds
+pub added-none : (profile : Profile) (bs : List ℕ) → (bs ≡ codes "distinct" → ⊥)
+    → lookup (bytes_eq bs) (added_functions profile) ≡ None
+added-none Standard bs other = refl
+added-none Extended bs other =
+    decided (bytes_eq bs (codes "distinct")) (bytes_eq-Decides bs (codes "distinct"))
+  where
+    decided : (b : Bool) → Decides b (bs ≡ codes "distinct") → cond b (Some Distinct) None ≡ None
+    decided true decides = absurd (other (decides.0 refl))
+    decided false decides = refl

@@ -12,9 +12,10 @@ use Rattle.jp_query.specs.declared.refusal.RefusalKind.{RefusalKind}
 use Rattle.jp_tree.specs.declared.tree.Numeral.TheVariants.{Whole}
 use Rattle.jp_query.specs.Items.{QueryItem, as_step, int}
 use Rattle.jp_query.specs.ItemSpans.{EachSpanned}
+use Rattle.jp_check.specs.declared.profile.Profile.{Profile}
 use Rattle.jp_check.specs.Faults.{HasFault}
 use Rattle.jp_check.specs.First.{IsItemFault, IsNoLater, IsFirstFault}
-use Rattle.jp_check.specs.Private.Walk.{Progress, fault_of, is_before, earlier, past_item, steps}
+use Rattle.jp_check.specs.Private.Walk.{fault_of, first_past, is_before, earlier, steps}
 use Rattle.std.proofs.lemmas.Bool.Decides.{nat_tests}
 use Rattle.jp_check.proofs.OwnFault.{IsOwn, int-fault, own-fault}
 
@@ -84,24 +85,27 @@ least-alone P Q o none =
 -- ---- the faults of items with their spans
 
 -- one item with its span
-abbrev pub OfItem : QueryItem → Option Span → Refusal → Type 0
-OfItem x span = IsItemFault (x ∷ []) (span ∷ [])
+abbrev pub OfItem : Profile → QueryItem → Option Span → Refusal → Type 0
+OfItem profile x span = IsItemFault profile (x ∷ []) (span ∷ [])
 
 -- a fault of one item is its own
-pub of-item : (x : QueryItem) (span : Option Span) (f : Refusal) (h : OfItem x span f)
+pub of-item : (profile : Profile) (x : QueryItem) (span : Option Span) (f : Refusal)
+    (h : OfItem profile x span f)
     → (x ≡ h.item) × (span ≡ Some h.span)
-of-item x span f h =
+of-item profile x span f h =
     elim (Contains-push_cases [] (x, span) (h.item, Some h.span) h.among) as
     (λ _. (x ≡ h.item) × (span ≡ Some h.span))
     [ inl a ↦ absurd (omega (arith, a.1)) | inr e ↦ (ap (λ p. p.0) e, ap (λ p. p.1) e) ]
 
 -- of the first item or of the others
-pub of-cons : (x : QueryItem) (xs : List QueryItem) (span : Option Span) (spans : Spans)
+pub of-cons : (profile : Profile) (x : QueryItem) (xs : List QueryItem) (span : Option Span)
+    (spans : Spans)
     (f : Refusal)
-    → IsItemFault (x ∷ xs) (span ∷ spans) f → OfItem x span f ⊎ IsItemFault xs spans f
-of-cons x xs span spans f h =
+    → IsItemFault profile (x ∷ xs) (span ∷ spans) f
+    → OfItem profile x span f ⊎ IsItemFault profile xs spans f
+of-cons profile x xs span spans f h =
     elim (Contains-append_cases ((x, span) ∷ []) (zip xs spans) (h.item, Some h.span) h.among) as
-    (λ _. OfItem x span f ⊎ IsItemFault xs spans f) [
+    (λ _. OfItem profile x span f ⊎ IsItemFault profile xs spans f) [
       | inl a ↦ inl
           (record { item = h.item; span = h.span; among = a; kind = h.kind; place = h.place })
       | inr a ↦ inr
@@ -109,10 +113,10 @@ of-cons x xs span spans f h =
     ]
 
 -- and of more items, with what comes among them
-of-more : (items others : List QueryItem) (spans more : Spans) (f : Refusal) →
+of-more : (profile : Profile) (items others : List QueryItem) (spans more : Spans) (f : Refusal) →
     ((e : QueryItem × Option Span) → Contains (zip items spans) e → Contains (zip others more) e) →
-    IsItemFault items spans f → IsItemFault others more f
-of-more items others spans more f among h = record {
+    IsItemFault profile items spans f → IsItemFault profile others more f
+of-more profile items others spans more f among h = record {
   item = h.item;
   span = h.span;
   among = among (h.item, Some h.span) h.among;
@@ -120,36 +124,43 @@ of-more items others spans more f among h = record {
   place = h.place;
 }
 
-of-head : (x : QueryItem) (xs : List QueryItem) (span : Option Span) (spans : Spans) (f : Refusal) →
-    OfItem x span f → IsItemFault (x ∷ xs) (span ∷ spans) f
-of-head x xs span spans f =
-    of-more (x ∷ []) (x ∷ xs) (span ∷ []) (span ∷ spans) f
+of-head : (profile : Profile) (x : QueryItem) (xs : List QueryItem) (span : Option Span)
+    (spans : Spans) (f : Refusal) →
+    OfItem profile x span f → IsItemFault profile (x ∷ xs) (span ∷ spans) f
+of-head profile x xs span spans f =
+    of-more profile (x ∷ []) (x ∷ xs) (span ∷ []) (span ∷ spans) f
     (Contains-append_left ((x, span) ∷ []) (zip xs spans))
 
-of-tail : (x : QueryItem) (xs : List QueryItem) (span : Option Span) (spans : Spans) (f : Refusal) →
-    IsItemFault xs spans f → IsItemFault (x ∷ xs) (span ∷ spans) f
-of-tail x xs span spans f =
-    of-more xs (x ∷ xs) spans (span ∷ spans) f
+of-tail : (profile : Profile) (x : QueryItem) (xs : List QueryItem) (span : Option Span)
+    (spans : Spans) (f : Refusal) →
+    IsItemFault profile xs spans f → IsItemFault profile (x ∷ xs) (span ∷ spans) f
+of-tail profile x xs span spans f =
+    of-more profile xs (x ∷ xs) spans (span ∷ spans) f
     (Contains-append_right ((x, span) ∷ []) (zip xs spans))
 
 -- without items or without spans there is none
-pub of-none : (items : List QueryItem) (spans : Spans) (f : Refusal) → zip items spans ≡ []
-    → IsItemFault items spans f → ⊥
-of-none items spans f e h = absurd (omega (arith, ap length e, h.among.1))
+pub of-none : (profile : Profile) (items : List QueryItem) (spans : Spans) (f : Refusal)
+    → zip items spans ≡ []
+    → IsItemFault profile items spans f → ⊥
+of-none profile items spans f e h = absurd (omega (arith, ap length e, h.among.1))
 
 -- ---- the walk
 
 -- past one item
-past-least : (P : Refusal → Type 0) (x : QueryItem) (o : Option RefusalKind) (span : Option Span)
+past-least : (profile : Profile) (P : Refusal → Type 0) (x : QueryItem) (o : Option RefusalKind)
+    (span : Option Span)
     (rest : Spans) (first : Option Refusal)
-    → IsOwn x o → IsLeast P first
-    → IsLeast (λ f. P f ⊎ OfItem x span f) (past_item o (span ∷ rest) first).first
-past-least P x None span rest first own h =
-    least-alone P (OfItem x span) first (λ f q. own f.kind (rw (of-item x span f q).0 q.kind)) h
-past-least P x (Some kind) None rest first own h =
-    least-alone P (OfItem x None) first (λ f q. let e = of-item x None f q in cc (e.1)) h
-past-least P x (Some kind) (Some span) rest first own h =
-    least-earlier P (OfItem x (Some span)) first (record { kind = kind; place = span.start }) h (
+    → IsOwn profile x o → IsLeast P first
+    → IsLeast (λ f. P f ⊎ OfItem profile x span f) (first_past o (span ∷ rest) first)
+past-least profile P x None span rest first own h =
+    least-alone P (OfItem profile x span) first
+    (λ f q. own f.kind (rw (of-item profile x span f q).0 q.kind)) h
+past-least profile P x (Some kind) None rest first own h =
+    least-alone P (OfItem profile x None) first
+    (λ f q. let e = of-item profile x None f q in cc (e.1)) h
+past-least profile P x (Some kind) (Some span) rest first own h =
+    least-earlier P (OfItem profile x (Some span)) first
+    (record { kind = kind; place = span.start }) h (
       record {
         item = x;
         span = span;
@@ -159,48 +170,46 @@ past-least P x (Some kind) (Some span) rest first own h =
         place = refl;
       },
       λ f q.
-          let its = of-item x (Some span) f q in
+          let its = of-item profile x (Some span) f q in
           let same : span ≡ q.span = cc (its.1) in
           inr (rw same (sym q.place), own.1 f.kind (rw its.0 q.kind)),
     )
 
-past-spans : (o : Option RefusalKind) (span : Option Span) (rest : Spans) (first : Option Refusal)
-    → (past_item o (span ∷ rest) first).spans ≡ rest
-past-spans None span rest first = refl
-past-spans (Some kind) None rest first = refl
-past-spans (Some kind) (Some span) rest first = refl
-
 -- the faults so far, of one item and of the others are those so far and of the items
-least-cons : (P : Refusal → Type 0) (x : QueryItem) (xs : List QueryItem) (span : Option Span)
+least-cons : (profile : Profile) (P : Refusal → Type 0) (x : QueryItem) (xs : List QueryItem)
+    (span : Option Span)
     (spans : Spans) (o : Option Refusal)
-    → IsLeast (λ f. (P f ⊎ OfItem x span f) ⊎ IsItemFault xs spans f) o
-    → IsLeast (λ f. P f ⊎ IsItemFault (x ∷ xs) (span ∷ spans) f) o
-least-cons P x xs span spans o =
-    least-same (λ f. (P f ⊎ OfItem x span f) ⊎ IsItemFault xs spans f)
-    (λ f. P f ⊎ IsItemFault (x ∷ xs) (span ∷ spans) f) o there back
+    → IsLeast (λ f. (P f ⊎ OfItem profile x span f) ⊎ IsItemFault profile xs spans f) o
+    → IsLeast (λ f. P f ⊎ IsItemFault profile (x ∷ xs) (span ∷ spans) f) o
+least-cons profile P x xs span spans o =
+    least-same (λ f. (P f ⊎ OfItem profile x span f) ⊎ IsItemFault profile xs spans f)
+    (λ f. P f ⊎ IsItemFault profile (x ∷ xs) (span ∷ spans) f) o there back
   where
-    there : (f : Refusal) → (P f ⊎ OfItem x span f) ⊎ IsItemFault xs spans f
-        → P f ⊎ IsItemFault (x ∷ xs) (span ∷ spans) f
+    there : (f : Refusal) → (P f ⊎ OfItem profile x span f) ⊎ IsItemFault profile xs spans f
+        → P f ⊎ IsItemFault profile (x ∷ xs) (span ∷ spans) f
     there f (inl (inl p)) = inl p
-    there f (inl (inr q)) = inr (of-head x xs span spans f q)
-    there f (inr q) = inr (of-tail x xs span spans f q)
+    there f (inl (inr q)) = inr (of-head profile x xs span spans f q)
+    there f (inr q) = inr (of-tail profile x xs span spans f q)
 
-    back : (f : Refusal) → P f ⊎ IsItemFault (x ∷ xs) (span ∷ spans) f
-        → (P f ⊎ OfItem x span f) ⊎ IsItemFault xs spans f
+    back : (f : Refusal) → P f ⊎ IsItemFault profile (x ∷ xs) (span ∷ spans) f
+        → (P f ⊎ OfItem profile x span f) ⊎ IsItemFault profile xs spans f
     back f (inl p) = inl (inl p)
     back f (inr q) =
-        elim (of-cons x xs span spans f q) as
-        (λ _. (P f ⊎ OfItem x span f) ⊎ IsItemFault xs spans f) [
+        elim (of-cons profile x xs span spans f q) as
+        (λ _. (P f ⊎ OfItem profile x span f) ⊎ IsItemFault profile xs spans f) [
           | inl a ↦ inl
               (inr a)
           | inr a ↦ inr a
         ]
 
 -- where spans are missing, the items have no faults
-least-unspanned : (P : Refusal → Type 0) (x : QueryItem) (xs : List QueryItem) (o : Option Refusal)
-    → IsLeast (λ f. P f ⊎ IsItemFault xs [] f) o → IsLeast (λ f. P f ⊎ IsItemFault (x ∷ xs) [] f) o
-least-unspanned P x xs o =
-    least-same (λ f. P f ⊎ IsItemFault xs [] f) (λ f. P f ⊎ IsItemFault (x ∷ xs) [] f) o there back
+least-unspanned : (profile : Profile) (P : Refusal → Type 0) (x : QueryItem) (xs : List QueryItem)
+    (o : Option Refusal)
+    → IsLeast (λ f. P f ⊎ IsItemFault profile xs [] f) o
+    → IsLeast (λ f. P f ⊎ IsItemFault profile (x ∷ xs) [] f) o
+least-unspanned profile P x xs o =
+    least-same (λ f. P f ⊎ IsItemFault profile xs [] f)
+    (λ f. P f ⊎ IsItemFault profile (x ∷ xs) [] f) o there back
   where
     unspanned : Spans
     unspanned = []
@@ -209,53 +218,57 @@ least-unspanned P x xs o =
     zip-none [] = refl
     zip-none (y ∷ ys) = refl
 
-    there : (f : Refusal) → P f ⊎ IsItemFault xs [] f → P f ⊎ IsItemFault (x ∷ xs) [] f
+    there : (f : Refusal) → P f ⊎ IsItemFault profile xs [] f
+        → P f ⊎ IsItemFault profile (x ∷ xs) [] f
     there f (inl p) = inl p
-    there f (inr q) = absurd (of-none xs [] f (zip-none xs) q)
+    there f (inr q) = absurd (of-none profile xs [] f (zip-none xs) q)
 
-    back : (f : Refusal) → P f ⊎ IsItemFault (x ∷ xs) [] f → P f ⊎ IsItemFault xs [] f
+    back : (f : Refusal) → P f ⊎ IsItemFault profile (x ∷ xs) [] f
+        → P f ⊎ IsItemFault profile xs [] f
     back f (inl p) = inl p
-    back f (inr q) = absurd (of-none (x ∷ xs) [] f refl q)
+    back f (inr q) = absurd (of-none profile (x ∷ xs) [] f refl q)
 
-steps-least : (P : Refusal → Type 0) (items : List QueryItem) (spans : Spans)
+steps-least : (profile : Profile) (P : Refusal → Type 0) (items : List QueryItem) (spans : Spans)
     (first : Option Refusal)
     → IsLeast P first
-    → IsLeast (λ f. P f ⊎ IsItemFault items spans f)
-    (steps items (record { spans = spans; first = first })).first
-steps-least P [] spans first h =
-    least-alone P (IsItemFault [] spans) first (λ f. of-none [] spans f refl) h
-steps-least P (x ∷ xs) [] first h = least-unspanned P x xs _ (steps-least P xs [] first h)
-steps-least P (x ∷ xs) (span ∷ spans) first h =
-    let next : Progress = past_item (fault_of x) (span ∷ spans) first in
-    let later = steps-least (λ f. P f ⊎ OfItem x span f) xs next.spans next.first
-    (past-least P x (fault_of x) span spans first (own-fault x) h) in
-    least-cons P x xs span spans (steps xs next).first
-    (subst (λ (s : Spans). IsLeast (λ f. (P f ⊎ OfItem x span f) ⊎ IsItemFault xs s f)
-    (steps xs next).first) (past-spans (fault_of x) span spans first) later)
+    → IsLeast (λ f. P f ⊎ IsItemFault profile items spans f)
+    (steps items (record { profile = profile; spans = spans; first = first })).first
+steps-least profile P [] spans first h =
+    least-alone P (IsItemFault profile [] spans) first (λ f. of-none profile [] spans f refl) h
+steps-least profile P (x ∷ xs) [] first h =
+    least-unspanned profile P x xs _ (steps-least profile P xs [] first h)
+steps-least profile P (x ∷ xs) (span ∷ spans) first h =
+    least-cons profile P x xs span spans _
+    (steps-least profile (λ f. P f ⊎ OfItem profile x span f) xs spans
+    (first_past (fault_of profile x) (span ∷ spans) first)
+    (past-least profile P x (fault_of profile x) span spans first (own-fault profile x) h))
 
 -- ---- from the start
 
 -- an item without faults
-abbrev pub NoFault : QueryItem → Type 0
-NoFault item = (kind : RefusalKind) → HasFault item kind → ⊥
+abbrev pub NoFault : Profile → QueryItem → Type 0
+NoFault profile item = (kind : RefusalKind) → HasFault profile item kind → ⊥
 
 -- an omitted step, which is 1, has none
-omitted_faultless : (x : QueryItem) → x ≡ int (Whole (pos 1)) as_step → NoFault x
-omitted_faultless x e kind h =
-    let is = int-fault (Whole (pos 1)) as_step kind (subst (λ y. HasFault y kind) e h) in
+omitted_faultless : (profile : Profile) (x : QueryItem) → x ≡ int (Whole (pos 1)) as_step
+    → NoFault profile x
+omitted_faultless profile x e kind h =
+    let is = int-fault profile (Whole (pos 1)) as_step kind
+    (subst (λ y. HasFault profile y kind) e h) in
     cc (is.1)
 
 -- no item of a query has a fault where none of those with a span has
-faultless : (text : Text) (items : List QueryItem) (spans : Spans) → EachSpanned text items spans
-    → ((f : Refusal) → IsItemFault items spans f → ⊥)
-    → All NoFault items
-faultless text [] spans each none = All-nil _
-faultless text (x ∷ xs) [] each none = absurd each
-faultless text (x ∷ xs) (None ∷ spans) each none =
-    All-cons NoFault x xs (omitted_faultless x each.0)
-    (faultless text xs spans each.1 (λ f h. none f (of-tail x xs None spans f h)))
-faultless text (x ∷ xs) (Some span ∷ spans) each none =
-    All-cons NoFault x xs
+faultless : (profile : Profile) (text : Text) (items : List QueryItem) (spans : Spans)
+    → EachSpanned text items spans
+    → ((f : Refusal) → IsItemFault profile items spans f → ⊥)
+    → All (NoFault profile) items
+faultless profile text [] spans each none = All-nil _
+faultless profile text (x ∷ xs) [] each none = absurd each
+faultless profile text (x ∷ xs) (None ∷ spans) each none =
+    All-cons (NoFault profile) x xs (omitted_faultless profile x each.0)
+    (faultless profile text xs spans each.1 (λ f h. none f (of-tail profile x xs None spans f h)))
+faultless profile text (x ∷ xs) (Some span ∷ spans) each none =
+    All-cons (NoFault profile) x xs
     (λ kind h. none (record { kind = kind; place = span.start })
     (record {
       item = x;
@@ -266,30 +279,34 @@ faultless text (x ∷ xs) (Some span ∷ spans) each none =
           h;
       place = refl;
     }))
-    (faultless text xs spans each.1 (λ f h. none f (of-tail x xs (Some span) spans f h)))
+    (faultless profile text xs spans each.1
+    (λ f h. none f (of-tail profile x xs (Some span) spans f h)))
 
 -- what the walk finds from the start
-least-found : (items : List QueryItem) (spans : Spans) (o : Option Refusal)
-    → o ≡ (steps items (record { spans = spans; first = None })).first
-    → IsLeast (λ f. ⊥ ⊎ IsItemFault items spans f) o
-least-found items spans o e = rw e (steps-least (λ f. ⊥) items spans None (λ f h. h))
+least-found : (profile : Profile) (items : List QueryItem) (spans : Spans) (o : Option Refusal)
+    → o ≡ (steps items (record { profile = profile; spans = spans; first = None })).first
+    → IsLeast (λ f. ⊥ ⊎ IsItemFault profile items spans f) o
+least-found profile items spans o e =
+    rw e (steps-least profile (λ f. ⊥) items spans None (λ f h. h))
 
-pub found-fault : (items : List QueryItem) (spans : Spans) (r : Refusal)
-    → Some r ≡ (steps items (record { spans = spans; first = None })).first
-    → IsFirstFault items spans r
-found-fault items spans r e =
-    let h = least-found items spans (Some r) e in
+pub found-fault : (profile : Profile) (items : List QueryItem) (spans : Spans) (r : Refusal)
+    → Some r ≡ (steps items (record { profile = profile; spans = spans; first = None })).first
+    → IsFirstFault profile items spans r
+found-fault profile items spans r e =
+    let h = least-found profile items spans (Some r) e in
     record {
       is = elim h.0 as
-          (λ _. IsItemFault items spans r) [ inl p ↦ absurd p | inr q ↦ q ];
+          (λ _. IsItemFault profile items spans r) [ inl p ↦ absurd p | inr q ↦ q ];
       first =
           λ f q. h.1 f (inr q);
     }
 
-pub found : (text : Text) (items : List QueryItem) (spans : Spans) (o : Option Refusal)
+pub found : (profile : Profile) (text : Text) (items : List QueryItem) (spans : Spans)
+    (o : Option Refusal)
     → EachSpanned text items spans
-    → o ≡ (steps items (record { spans = spans; first = None })).first
-    → MatchOption o (All NoFault items) (IsFirstFault items spans)
-found text items spans None each e =
-    let h = least-found items spans None e in faultless text items spans each (λ f q. h f (inr q))
-found text items spans (Some r) each e = found-fault items spans r e
+    → o ≡ (steps items (record { profile = profile; spans = spans; first = None })).first
+    → MatchOption o (All (NoFault profile) items) (IsFirstFault profile items spans)
+found profile text items spans None each e =
+    let h = least-found profile items spans None e in
+    faultless profile text items spans each (λ f q. h f (inr q))
+found profile text items spans (Some r) each e = found-fault profile items spans r e

@@ -1,5 +1,6 @@
 pub mod Alone
 pub mod Calls
+pub mod Extended
 pub mod FunctionNames
 pub mod Least
 pub mod OwnFault

@@ -15,6 +15,7 @@ use Rattle.jp_tree.specs.Tree.{QueryTree, ExprTree, LiteralTree, number, text}
 use Rattle.jp_tree.specs.Tree.{true_literal, false_literal, null_literal, call}
 use Rattle.jp_check.specs.declared.functions.DataType.{DataType}
 use Rattle.jp_check.specs.declared.functions.DataType.TheVariants.{Value, Logical, Nodes}
+use Rattle.jp_check.specs.declared.profile.Profile.{Profile}
 use Rattle.jp_check.specs.Faults.{HasCallFault, HasFault}
 use Rattle.jp_check.specs.Functions.{Signature, signature_named}
 use Rattle.jp_check.specs.Ranges.{is_in_index_range}
@@ -29,19 +30,21 @@ IsLeastKind P (Some kind) =
     P kind × ((other : RefusalKind) → P other → number_of kind ≤ number_of other)
 
 -- of the kinds of the item's faults
-abbrev pub IsOwn : QueryItem → Option RefusalKind → Type 0
-IsOwn x = IsLeastKind (HasFault x)
+abbrev pub IsOwn : Profile → QueryItem → Option RefusalKind → Type 0
+IsOwn profile x = IsLeastKind (HasFault profile x)
 
 -- an int has no fault but its range
-pub int-fault : (n : Numeral) (role : Use) (kind : RefusalKind) → HasFault (int n role) kind
+pub int-fault : (profile : Profile) (n : Numeral) (role : Use) (kind : RefusalKind)
+    → HasFault profile (int n role) kind
     → (kind ≡ IndexRange) × (is_in_index_range n ≡ false)
-int-fault n role IndexRange h = (refl, h)
-int-fault n role _ h = absurd h
+int-fault profile n role IndexRange h = (refl, h)
+int-fault profile n role _ h = absurd h
 
-own-int : (n : Numeral) (role : Use) (b : Bool) → is_in_index_range n ≡ b
-    → IsOwn (int n role) (cond b None (Some IndexRange))
-own-int n role true e = λ kind h. let is = int-fault n role kind h in cc (is.1)
-own-int n role false e = (e, λ other h. rw (int-fault n role other h).0 (omega arith))
+own-int : (profile : Profile) (n : Numeral) (role : Use) (b : Bool) → is_in_index_range n ≡ b
+    → IsOwn profile (int n role) (cond b None (Some IndexRange))
+own-int profile n role true e = λ kind h. let is = int-fault profile n role kind h in cc (is.1)
+own-int profile n role false e =
+    (e, λ other h. rw (int-fault profile n role other h).0 (omega arith))
 
 -- what has no fault but that it doesn't fit
 own-type : (P : RefusalKind → Type 0) (own : DataType) (want : Option DataType)
@@ -56,64 +59,71 @@ own-type P own (Some other) only is = decided (fits own other) refl
     decided false e = (is e, λ kind h. rw (only kind h).0 (omega arith))
 
 -- a literal that is no such number has none but that
-literal-fault : (l : LiteralTree) (role : Use) → (l ≡ number Fraction → ⊥)
+literal-fault : (profile : Profile) (l : LiteralTree) (role : Use) → (l ≡ number Fraction → ⊥)
     → (l ≡ number Beyond → ⊥)
-    → (kind : RefusalKind) → HasFault (constant l role) kind
-    → (kind ≡ IllTyped) × IsMisfit Value (wanted role)
-literal-fault l role whole within NotWhole h = absurd (whole h)
-literal-fault l role whole within NumberRange h = absurd (within h)
-literal-fault l role whole within IllTyped h = (refl, h)
-literal-fault l role whole within _ h = absurd h
+    → (kind : RefusalKind) → HasFault profile (constant l role) kind
+    → (kind ≡ IllTyped) × IsMisfit Value (wanted profile role)
+literal-fault profile l role whole within NotWhole h = absurd (whole h)
+literal-fault profile l role whole within NumberRange h = absurd (within h)
+literal-fault profile l role whole within IllTyped h = (refl, h)
+literal-fault profile l role whole within _ h = absurd h
 
-plain-literal : (l : LiteralTree) (role : Use) → (l ≡ number Fraction → ⊥)
+plain-literal : (profile : Profile) (l : LiteralTree) (role : Use) → (l ≡ number Fraction → ⊥)
     → (l ≡ number Beyond → ⊥)
-    → IsOwn (constant l role) (ill_typed Value (wanted role))
-plain-literal l role whole within =
-    own-type (HasFault (constant l role)) Value (wanted role) (literal-fault l role whole within)
+    → IsOwn profile (constant l role) (ill_typed Value (wanted profile role))
+plain-literal profile l role whole within =
+    own-type (HasFault profile (constant l role)) Value (wanted profile role)
+    (literal-fault profile l role whole within)
     (λ misfit. misfit)
 
-own-literal : (l : LiteralTree) (role : Use)
-    → IsOwn (constant l role) (fault_of_literal l (wanted role))
-own-literal (number Fraction) role = (refl, least-kind)
+own-literal : (profile : Profile) (l : LiteralTree) (role : Use)
+    → IsOwn profile (constant l role) (fault_of_literal l (wanted profile role))
+own-literal profile (number Fraction) role = (refl, least-kind)
   where
-    least-kind : (other : RefusalKind) → HasFault (constant (number Fraction) role) other
+    least-kind : (other : RefusalKind) → HasFault profile (constant (number Fraction) role) other
         → number_of NotWhole ≤ number_of other
     least-kind NotWhole h = omega arith
     least-kind NumberRange h = omega arith
     least-kind IllTyped h = omega arith
     least-kind _ h = absurd h
-own-literal (number Beyond) role = (refl, least-kind)
+own-literal profile (number Beyond) role = (refl, least-kind)
   where
-    least-kind : (other : RefusalKind) → HasFault (constant (number Beyond) role) other
+    least-kind : (other : RefusalKind) → HasFault profile (constant (number Beyond) role) other
         → number_of NumberRange ≤ number_of other
     least-kind NotWhole h = cc
     least-kind NumberRange h = omega arith
     least-kind IllTyped h = omega arith
     least-kind _ h = absurd h
-own-literal (number (Whole n)) role = plain-literal (number (Whole n)) role (λ e. cc) (λ e. cc)
-own-literal (text cs) role = plain-literal (text cs) role (λ e. cc) (λ e. cc)
-own-literal true_literal role = plain-literal true_literal role (λ e. cc) (λ e. cc)
-own-literal false_literal role = plain-literal false_literal role (λ e. cc) (λ e. cc)
-own-literal null_literal role = plain-literal null_literal role (λ e. cc) (λ e. cc)
+own-literal profile (number (Whole n)) role =
+    plain-literal profile (number (Whole n)) role (λ e. cc) (λ e. cc)
+own-literal profile (text cs) role = plain-literal profile (text cs) role (λ e. cc) (λ e. cc)
+own-literal profile true_literal role = plain-literal profile true_literal role (λ e. cc) (λ e. cc)
+own-literal profile false_literal role =
+    plain-literal profile false_literal role (λ e. cc) (λ e. cc)
+own-literal profile null_literal role = plain-literal profile null_literal role (λ e. cc) (λ e. cc)
 
 -- a query has none but that it is not singular where a value is wanted
-query-fault : (q : QueryTree) (role : Use) (kind : RefusalKind) → HasFault (inner q role) kind
-    → (kind ≡ NotSingular) × (wanted role ≡ Some Value) × (is_singular q ≡ false)
-query-fault q role NotSingular h = (refl, h.0, h.1)
-query-fault q role _ h = absurd h
+query-fault : (profile : Profile) (q : QueryTree) (role : Use) (kind : RefusalKind)
+    → HasFault profile (inner q role) kind
+    → (kind ≡ NotSingular) × (wanted profile role ≡ Some Value) × (is_singular q ≡ false)
+query-fault profile q role NotSingular h = (refl, h.0, h.1)
+query-fault profile q role _ h = absurd h
 
-own-query : (q : QueryTree) (role : Use) (want : Option DataType) → wanted role ≡ want
-    → IsOwn (inner q role) (fault_of_query q want)
-own-query q role None e = λ kind h. let is = query-fault q role kind h in cc (is.1)
-own-query q role (Some Logical) e = λ kind h. let is = query-fault q role kind h in cc (is.1)
-own-query q role (Some Nodes) e = λ kind h. let is = query-fault q role kind h in cc (is.1)
-own-query q role (Some Value) e = decided (is_singular q) refl
+own-query : (profile : Profile) (q : QueryTree) (role : Use) (want : Option DataType)
+    → wanted profile role ≡ want
+    → IsOwn profile (inner q role) (fault_of_query q want)
+own-query profile q role None e = λ kind h. let is = query-fault profile q role kind h in cc (is.1)
+own-query profile q role (Some Logical) e =
+    λ kind h. let is = query-fault profile q role kind h in cc (is.1)
+own-query profile q role (Some Nodes) e =
+    λ kind h. let is = query-fault profile q role kind h in cc (is.1)
+own-query profile q role (Some Value) e = decided (is_singular q) refl
   where
     decided : (b : Bool) → is_singular q ≡ b
-        → IsOwn (inner q role) (cond b None (Some NotSingular))
-    decided true single = λ kind h. let is = query-fault q role kind h in cc (is.2)
+        → IsOwn profile (inner q role) (cond b None (Some NotSingular))
+    decided true single = λ kind h. let is = query-fault profile q role kind h in cc (is.2)
     decided false several =
-        ((e, several), λ other h. rw (query-fault q role other h).0 (omega arith))
+        ((e, several), λ other h. rw (query-fault profile q role other h).0 (omega arith))
 
 -- the faults of a call
 own-call : (function : Option Signature) (given : ℕ) (want : Option DataType)
@@ -147,17 +157,20 @@ own-call (Some function) given want = decided (length function.parameters == giv
         least-kind _ h = absurd h
 
 -- a logical expression has none but that it doesn't fit
-logical-fault : (e : ExprTree) (role : Use) (kind : RefusalKind) → HasFault (logical e role) kind
-    → (kind ≡ IllTyped) × IsMisfit Logical (wanted role)
-logical-fault e role IllTyped h = (refl, h)
-logical-fault e role _ h = absurd h
+logical-fault : (profile : Profile) (e : ExprTree) (role : Use) (kind : RefusalKind)
+    → HasFault profile (logical e role) kind
+    → (kind ≡ IllTyped) × IsMisfit Logical (wanted profile role)
+logical-fault profile e role IllTyped h = (refl, h)
+logical-fault profile e role _ h = absurd h
 
 -- the fault of an item is its own
-pub own-fault : (x : QueryItem) → IsOwn x (fault_of x)
-own-fault (int n role) = own-int n role (is_in_index_range n) refl
-own-fault (constant l role) = own-literal l role
-own-fault (inner q role) = own-query q role (wanted role) refl
-own-fault (called (call name all) role) = own-call (signature_named name) (count all) (wanted role)
-own-fault (logical e role) =
-    own-type (HasFault (logical e role)) Logical (wanted role) (logical-fault e role)
+pub own-fault : (profile : Profile) (x : QueryItem) → IsOwn profile x (fault_of profile x)
+own-fault profile (int n role) = own-int profile n role (is_in_index_range n) refl
+own-fault profile (constant l role) = own-literal profile l role
+own-fault profile (inner q role) = own-query profile q role (wanted profile role) refl
+own-fault profile (called (call name all) role) =
+    own-call (signature_named profile name) (count all) (wanted profile role)
+own-fault profile (logical e role) =
+    own-type (HasFault profile (logical e role)) Logical (wanted profile role)
+    (logical-fault profile e role)
     (λ misfit. misfit)

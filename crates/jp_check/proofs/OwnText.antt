@@ -10,6 +10,7 @@ use Rattle.jp_query.specs.Items.{QueryItem, items_of}
 use Rattle.jp_query.specs.ItemSpans.{IsSpanOf, IsPlaceOf, EachSpanned}
 use Rattle.jp_query.specs.Laws.{SpansOfItems}
 use Rattle.jp_query.specs.Levels.{level_limit}
+use Rattle.jp_check.specs.declared.profile.Profile.{Profile}
 use Rattle.jp_check.specs.Laws.{FaultAtItsItem}
 
 -- a pair is the first one, or one of the others
@@ -45,8 +46,8 @@ spanned-item text (x ∷ xs) (place ∷ spans) item span each h =
           (Contains-append_right (x ∷ []) xs item there.0, there.1)
     ]
 
-pub fault-at_its_item : SpansOfItems → FaultAtItsItem
-fault-at_its_item law text fault faulty =
+pub fault-at_its_item : (profile : Profile) → SpansOfItems → FaultAtItsItem profile
+fault-at_its_item profile law text fault faulty =
     let is = faulty.first.is in
     let spans = law level_limit faulty.tree faulty.spans text faulty.spelled in
     let own =

@@ -9,14 +9,16 @@ use Rattle.jp_tree.specs.declared.tree.Expr.TheVariants.{Compare}
 use Rattle.jp_tree.specs.declared.tree.Op.{Op}
 use Rattle.jp_tree.specs.declared.tree.Operand.{Operand}
 use Rattle.jp_query.specs.Items.{QueryItem, Use, as_argument, argument_items, arguments_items}
-use Rattle.jp_query.specs.Items.{count, expr_items, exprs_items, operand_items, segment_items}
+use Rattle.jp_query.specs.Items.{call_items, count, expr_items, exprs_items, items_of}
+use Rattle.jp_query.specs.Items.{operand_items, segment_items}
 use Rattle.jp_query.specs.Items.{segments_items, selector_items, selectors_items}
 use Rattle.jp_tree.specs.Tree.{ArgumentTree, literal_argument, query_argument, call_argument}
 use Rattle.jp_tree.specs.Tree.{logical_argument, CallTree, call, argument_of, arguments, expr_of}
 use Rattle.jp_tree.specs.Tree.{exprs, operand_of, segment_of, segments, selector_of, selectors}
 use Rattle.jp_check.specs.declared.functions.DataType.{DataType}
 use Rattle.jp_check.specs.Private.Calls.{arguments_from, wanted_of_call}
-use Rattle.jp_check.specs.Private.Walk.{Progress, fault_of, past_argument, past_item, steps}
+use Rattle.jp_check.specs.Private.Walk.{Progress, fault_of, fault_of_call, fault_of_logical}
+use Rattle.jp_check.specs.Private.Walk.{fault_of_query, past_argument, past_item, steps}
 use Rattle.jp_check.specs.Types.{wanted}
 use Rattle.jp_check.proofs.Trees.{expr_of-Compare}
 
@@ -24,7 +26,7 @@ use Rattle.jp_check.proofs.Trees.{expr_of-Compare}
 pub steps_append : (xs ys : List QueryItem) (p : Progress)
     → steps (xs ++ ys) p ≡ steps ys (steps xs p)
 steps_append [] ys p = refl
-steps_append (x ∷ xs) ys p = steps_append xs ys (past_item (fault_of x) p.spans p.first)
+steps_append (x ∷ xs) ys p = steps_append xs ys (past_item (fault_of p.profile x) p)
 
 -- past one more part of a list, whose parts' items come one after another
 abbrev GoesOn : {A : Type 0} → (A → List QueryItem) → (List A → List QueryItem) → Type 0
@@ -72,9 +74,33 @@ sides-on e left right op before between after is past_left past_right =
     ∙ sym (steps_append (operand_items (operand_of left)) (operand_items (operand_of right)) before)
     ∙ ap (λ x. steps (expr_items x) before) (sym (ap expr_of is ∙ expr_of-Compare left right op))
 
+-- the walk stays in its profile
+steps-profile : (xs : List QueryItem) (p : Progress) → (steps xs p).profile ≡ p.profile
+steps-profile [] p = refl
+steps-profile (x ∷ xs) p = steps-profile xs (past_item (fault_of p.profile x) p)
+
+argument-profile : (want : Option DataType) (x : ArgumentTree) (p : Progress)
+    → (past_argument want x p).profile ≡ p.profile
+argument-profile want (literal_argument l) p = refl
+argument-profile want (query_argument q) p =
+    steps-profile (items_of q) (past_item (fault_of_query q want) p)
+argument-profile want (call_argument c) p =
+    steps-profile (call_items c) (past_item (fault_of_call p.profile c want) p)
+argument-profile want (logical_argument e) p =
+    steps-profile (expr_items e) (past_item (fault_of_logical want) p)
+
+-- past an argument the same types are wanted of the call's others
+pub types-kept : (c : CallTree) (types : List DataType) (want : Option DataType)
+    (x : ArgumentTree) (before after : Progress) → types ≡ wanted_of_call before.profile c
+    → after ≡ past_argument want x before → types ≡ wanted_of_call after.profile c
+types-kept c types want x before after are past =
+    are
+    ∙ ap (λ profile. wanted_of_call profile c)
+    (sym (ap (λ p. p.profile) past ∙ argument-profile want x before))
+
 -- past an argument
 argument-steps : (role : Use) (x : ArgumentTree) (p : Progress)
-    → past_argument (wanted role) x p ≡ steps (argument_items role x) p
+    → past_argument (wanted p.profile role) x p ≡ steps (argument_items role x) p
 argument-steps role (literal_argument l) p = refl
 argument-steps role (query_argument q) p = refl
 argument-steps role (call_argument c) p = refl
@@ -83,7 +109,7 @@ argument-steps role (logical_argument e) p = refl
 -- past the next of a call's arguments
 pub arguments-on : (c : CallTree) (types : List DataType) (want : Option DataType)
     (xs : List Argument) (i : ℕ) (x : Argument) (end before after : Progress)
-    → types ≡ wanted_of_call c → want ≡ slice_get types i
+    → types ≡ wanted_of_call before.profile c → want ≡ slice_get types i
     → end ≡ steps (arguments_from c i (map argument_of (drop i xs))) before → i < length xs
     → x ≡ get_or xs i x → after ≡ past_argument want (argument_of x) before
     → end ≡ steps (arguments_from c (i + 1) (map argument_of (drop (i + 1) xs))) after

@@ -1,20 +1,21 @@
--- Which queries are accepted (RFC 9535 sections 2.1 and 2.1.1).
+-- Which queries are accepted in a profile (RFC 9535 sections 2.1 and 2.1.1).
 use Rattle.jp_reading.specs.Texts.{Text, Spans}
 use Rattle.jp_query.specs.Grammar.{Spells}
 use Rattle.jp_query.specs.Levels.{level_limit}
 use Rattle.jp_tree.specs.Tree.{QueryTree}
+use Rattle.jp_check.specs.declared.profile.Profile.{Profile}
 use Rattle.jp_check.specs.Faults.{IsFaultless}
 
 -- the text spells the tree within the limit of levels, and no item of the tree has a fault
-pub record IsAcceptedAs (text : Text) (q : QueryTree) : Type 0 where
+pub record IsAcceptedAs (profile : Profile) (text : Text) (q : QueryTree) : Type 0 where
   pub spans : Spans
   pub spelled : Spells level_limit q spans text
-  pub faultless : IsFaultless q
+  pub faultless : IsFaultless profile q
 
 -- some text is accepted as the tree
-abbrev pub IsAccepted : QueryTree → Type 0
-IsAccepted q = (text : Text) × IsAcceptedAs text q
+abbrev pub IsAccepted : Profile → QueryTree → Type 0
+IsAccepted profile q = (text : Text) × IsAcceptedAs profile text q
 
 -- the text is accepted as no tree
-abbrev pub IsNotAccepted : Text → Type 0
-IsNotAccepted text = (q : QueryTree) → ¬ IsAcceptedAs text q
+abbrev pub IsNotAccepted : Profile → Text → Type 0
+IsNotAccepted profile text = (q : QueryTree) → ¬ IsAcceptedAs profile text q

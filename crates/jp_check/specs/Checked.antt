@@ -1,8 +1,8 @@
--- What is true of each checked query.
-use Rattle.jp_tree.specs.Tree.{query_of}
-use Rattle.jp_check.specs.declared.checked.Checked.TheInside.{Inside}
-use Rattle.jp_check.specs.Accepted.{IsAccepted}
+-- What is kept of a checked query.
+use Rattle.jp_tree.specs.declared.tree.Query.{Query}
+use Rattle.jp_check.specs.declared.profile.Profile.{Profile}
 
--- some text is accepted as the tree
-abbrev pub IsAcceptedInside : Inside → Type 0
-IsAcceptedInside c = IsAccepted (query_of c.query)
+-- a query and the profile that it was checked with
+pub record Profiled : Type 0 where
+  pub query : Query
+  pub profile : Profile

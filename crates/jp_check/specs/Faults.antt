@@ -12,6 +12,7 @@ use Rattle.jp_tree.specs.Singular.{is_singular}
 use Rattle.jp_tree.specs.Tree.{QueryTree, number, call}
 use Rattle.jp_check.specs.declared.functions.DataType.{DataType}
 use Rattle.jp_check.specs.declared.functions.DataType.TheVariants.{Value, Logical}
+use Rattle.jp_check.specs.declared.profile.Profile.{Profile}
 use Rattle.jp_check.specs.Functions.{Signature, signature_named}
 use Rattle.jp_check.specs.Ranges.{is_in_index_range}
 use Rattle.jp_check.specs.Types.{IsMisfit, wanted}
@@ -25,21 +26,24 @@ HasCallFault (Some function) given want ArgumentCount =
 HasCallFault (Some function) given want IllTyped = IsMisfit function.result want
 HasCallFault _ _ _ _ = ⊥
 
--- the item has a fault of that kind: a literal is a number with a fraction or an exponent, or a
--- whole number outside -(2^63) to (2^64)-1; an index or a part of a slice is out of range (section
--- 2.1); a query that is not singular is where a value is wanted (section 2.3.5.1); a literal or a
--- logical expression doesn't fit what is wanted (section 2.4.3); or it is a fault of a call
-abbrev pub HasFault : QueryItem → RefusalKind → Type 0
-HasFault (constant l _) NotWhole = l ≡ number Fraction
-HasFault (constant l _) NumberRange = l ≡ number Beyond
-HasFault (constant _ role) IllTyped = IsMisfit Value (wanted role)
-HasFault (int n _) IndexRange = is_in_index_range n ≡ false
-HasFault (inner q role) NotSingular = (wanted role ≡ Some Value) × (is_singular q ≡ false)
-HasFault (called (call name all) role) kind =
-    HasCallFault (signature_named name) (count all) (wanted role) kind
-HasFault (logical _ role) IllTyped = IsMisfit Logical (wanted role)
-HasFault _ _ = ⊥
+-- in that profile the item has a fault of that kind: a literal is a number with a fraction or an
+-- exponent, or a whole number outside -(2^63) to (2^64)-1; an index or a part of a slice is out of
+-- range (section 2.1); a query that is not singular is where a value is wanted (section 2.3.5.1); a
+-- literal or a logical expression doesn't fit what is wanted (section 2.4.3); or it is a fault of a
+-- call
+abbrev pub HasFault : Profile → QueryItem → RefusalKind → Type 0
+HasFault profile (constant l _) NotWhole = l ≡ number Fraction
+HasFault profile (constant l _) NumberRange = l ≡ number Beyond
+HasFault profile (constant _ role) IllTyped = IsMisfit Value (wanted profile role)
+HasFault profile (int n _) IndexRange = is_in_index_range n ≡ false
+HasFault profile (inner q role) NotSingular =
+    (wanted profile role ≡ Some Value) × (is_singular q ≡ false)
+HasFault profile (called (call name all) role) kind =
+    HasCallFault (signature_named profile name) (count all) (wanted profile role) kind
+HasFault profile (logical _ role) IllTyped = IsMisfit Logical (wanted profile role)
+HasFault profile _ _ = ⊥
 
 -- no item of the query has a fault
-abbrev pub IsFaultless : QueryTree → Type 0
-IsFaultless q = All (λ item. (kind : RefusalKind) → ¬ HasFault item kind) (items_of q)
+abbrev pub IsFaultless : Profile → QueryTree → Type 0
+IsFaultless profile q =
+    All (λ item. (kind : RefusalKind) → ¬ HasFault profile item kind) (items_of q)

@@ -7,14 +7,16 @@ use Rattle.jp_reading.specs.declared.span.Span.{Span}
 use Rattle.jp_query.specs.declared.refusal.Refusal.{Refusal}
 use Rattle.jp_query.specs.Items.{QueryItem}
 use Rattle.jp_query.specs.Refusal.{number_of}
+use Rattle.jp_check.specs.declared.profile.Profile.{Profile}
 use Rattle.jp_check.specs.Faults.{HasFault}
 
--- one of the items has a fault of that kind, and its span starts at that place
-pub record IsItemFault (items : List QueryItem) (spans : Spans) (fault : Refusal) : Type 0 where
+-- in that profile one of the items has a fault of that kind, and its span starts at that place
+pub record IsItemFault (profile : Profile) (items : List QueryItem) (spans : Spans)
+    (fault : Refusal) : Type 0 where
   pub item : QueryItem
   pub span : Span
   pub among : Contains (zip items spans) (item, Some span)
-  pub kind : HasFault item fault.kind
+  pub kind : HasFault profile item fault.kind
   pub place : fault.place ≡ span.start
 
 -- the one stands at a smaller place, or at the same place with a number that is no greater
@@ -24,6 +26,7 @@ IsNoLater one other =
     ⊎ ((one.place ≡ other.place) × (number_of one.kind ≤ number_of other.kind))
 
 -- the fault of one of the items, and none is before it
-pub record IsFirstFault (items : List QueryItem) (spans : Spans) (fault : Refusal) : Type 0 where
-  pub is : IsItemFault items spans fault
-  pub first : (other : Refusal) → IsItemFault items spans other → IsNoLater fault other
+pub record IsFirstFault (profile : Profile) (items : List QueryItem) (spans : Spans)
+    (fault : Refusal) : Type 0 where
+  pub is : IsItemFault profile items spans fault
+  pub first : (other : Refusal) → IsItemFault profile items spans other → IsNoLater fault other

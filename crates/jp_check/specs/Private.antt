@@ -1,4 +1,5 @@
--- How the walk over the items of a query finds the first fault: what the contracts of private
--- functions cite.
+-- What is true of each checked query, and how the walk over the items of a query finds the first
+-- fault: what private contracts cite.
 pub mod Calls
+pub mod Checked
 pub mod Walk

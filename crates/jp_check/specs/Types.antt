@@ -5,6 +5,7 @@ use Rattle.std.specs.List.{slice_get}
 use Rattle.jp_query.specs.Items.{Use, as_side, as_test, as_argument}
 use Rattle.jp_check.specs.declared.functions.DataType.{DataType}
 use Rattle.jp_check.specs.declared.functions.DataType.TheVariants.{Value, Logical, Nodes}
+use Rattle.jp_check.specs.declared.profile.Profile.{Profile}
 use Rattle.jp_check.specs.Functions.{Signature, signature_named}
 
 -- whether what has the first type fits where the second is wanted: nodes also stand for whether
@@ -25,12 +26,12 @@ wanted_of_arguments (Some function) in_all =
 
 -- the type that is wanted where an item is, if one is: a value as a side of a comparison, a logical
 -- value as a test (section 2.3.5.1), and as an argument the type of the parameter
-abbrev pub wanted : Use → Option DataType
-wanted as_side = Some Value
-wanted as_test = Some Logical
-wanted (as_argument name before in_all) =
-    slice_get (wanted_of_arguments (signature_named name) in_all) before
-wanted _ = None
+abbrev pub wanted : Profile → Use → Option DataType
+wanted profile as_side = Some Value
+wanted profile as_test = Some Logical
+wanted profile (as_argument name before in_all) =
+    slice_get (wanted_of_arguments (signature_named profile name) in_all) before
+wanted profile _ = None
 
 -- a type is wanted, and what has the first type doesn't fit
 abbrev pub IsMisfit : DataType → Option DataType → Type 0

@@ -9,29 +9,33 @@ ghost use Rattle.jp_check.specs.Faults.{IsFaultless};
 ghost use Rattle.jp_check.specs.First.{IsFirstFault};
 ghost use Rattle.jp_check.specs.Refused.{IsRefused};
 
+use crate::profile::Profile;
 use crate::walk::first_fault;
 use jp_query::{Parsed, Refusal, RefusalKind, parse};
 use jp_tree::Query;
 use std::alloc::Global;
 use std::marker::Model;
 
-/// The tree of a query that is accepted (RFC 9535 sections 2.1, 2.3.5.1 and 2.4.3).
+/// The tree of a query that is accepted (RFC 9535 sections 2.1, 2.3.5.1 and 2.4.3), and the profile
+/// in which it is.
 #[derive(Debug, Drop)]
 pub struct Checked {
     query: Query,
+    profile: Profile,
 }
 
 impl Model for Checked {
-    ghost use Rattle.jp_tree.specs.declared.tree.Query.{Query};
+    ghost use Rattle.jp_check.specs.Checked.{Profiled};
     ghost use Rattle.jp_tree.specs.contracts.tree.Query as q;
+    ghost use Rattle.std.specs.Coded.{codes};
 
-    ghost Value = { Query };
+    ghost Value = { Profiled };
 
-    ghost coded = { q.the_row.coded };
+    ghost coded = { Prim.hlevel (codes, q.the_row.coded) };
 
-    ghost use Rattle.jp_check.specs.Checked.{IsAcceptedInside};
+    ghost use Rattle.jp_check.specs.Private.Checked.{profiled, IsAcceptedInside};
 
-    ghost view = { λ c. c.query };
+    ghost view = { profiled };
 
     ghost invariant = { IsAcceptedInside };
 }
@@ -39,48 +43,63 @@ impl Model for Checked {
 impl Checked {
     /// The tree of the query.
     pub fn query(&self) -> &Query
-        ensures same { result.now ≡ self.now }
-        ensures accepted { IsAccepted (query_of self.now) }
+        ensures same { result.now ≡ self.now.query }
+        ensures accepted { IsAccepted self.now.profile (query_of self.now.query) }
     {
         &self.query
     }
+
+    /// The profile that the query was checked with.
+    pub fn profile(&self) -> Profile
+        ensures { result ≡ self.now.profile }
+    {
+        self.profile
+    }
 }
 
-/// Checks the numbers and the types of a query (RFC 9535 sections 2.1, 2.3.5.1 and 2.4.3).
+/// Checks the numbers and the types of a query in a profile (RFC 9535 sections 2.1, 2.3.5.1 and
+/// 2.4.3).
 ///
 /// The refusal is its first fault: the one with the least place, and of several there the one with
 /// the least number. A literal with a fraction or an exponent is `NotWhole`, a whole one outside
 /// -(2^63) to (2^64)-1 is `NumberRange`, at the literal; an index or a part of a slice outside
 /// -(2^53)+1 to (2^53)-1 is `IndexRange`, at that number. A call is `UnknownFunction` where no
-/// function has its name, and `ArgumentCount` where it has not as many arguments as the function
-/// has parameters. Where a value is wanted, as a side of a comparison or as an argument, a query
-/// that is not singular is `NotSingular`. Else a call or an argument that doesn't fit what is
-/// wanted is `IllTyped`. The place is where that call, query or argument starts. It takes no
-/// memory.
-pub fn check(parsed: Parsed) -> Result<Checked, Refusal>
-    ensures same { IfOk result (λ query. query ≡ parsed.query) }
-    ensures faultless { IfOk result (λ query. IsFaultless (query_of query)) }
-    ensures first { IfErr result (IsFirstFault (items_of (query_of parsed.query)) parsed.spans) }
+/// function of the profile has its name, and `ArgumentCount` where it has not as many arguments as
+/// the function has parameters. Where a value is wanted, as a side of a comparison or as an
+/// argument, a query that is not singular is `NotSingular`. Else a call or an argument that doesn't
+/// fit what is wanted is `IllTyped`. The place is where that call, query or argument starts. It
+/// takes no memory.
+pub fn check(parsed: Parsed, profile: Profile) -> Result<Checked, Refusal>
+    ensures same { IfOk result (λ c. c.query ≡ parsed.query) }
+    ensures profile { IfOk result (λ c. c.profile ≡ profile) }
+    ensures faultless { IfOk result (λ c. IsFaultless profile (query_of c.query)) }
+    ensures first { IfErr
+        result
+        (IsFirstFault profile (items_of (query_of parsed.query)) parsed.spans) }
 {
-    match first_fault(&parsed) {
+    match first_fault(&parsed, profile) {
         Some(fault) => Err(fault),
         None => Ok(Checked {
             query: parsed.into_query(),
+            profile,
         }),
     }
 }
 
-/// Reads a query: parses the text, then checks what it spells.
+/// Reads a query: parses the text, then checks what it spells in the profile.
 ///
 /// It is refused as `parse` refuses it (`Syntax`, `TooDeep`, or `NoMemory` at place 0, which says
 /// nothing of the text), or else as `check` does, with its first fault.
-pub fn read_query(alloc: Global, text: &str) -> Result<Checked, Refusal>
-    ensures accepted { IfOk result (λ query. IsAcceptedAs (chars text.now) (query_of query)) }
-    ensures refused { IfErr result (IsRefused (chars text.now)) }
+pub fn read_query(alloc: Global, text: &str, profile: Profile) -> Result<Checked, Refusal>
+    ensures accepted { IfOk
+        result
+        (λ c. IsAcceptedAs profile (chars text.now) (query_of c.query)) }
+    ensures profile { IfOk result (λ c. c.profile ≡ profile) }
+    ensures refused { IfErr result (IsRefused profile (chars text.now)) }
     ensures only { IfErr
         result
-        (λ r. (r.kind ≡ RefusalKind.NoMemory) ⊎ IsNotAccepted (chars text.now)) }
+        (λ r. (r.kind ≡ RefusalKind.NoMemory) ⊎ IsNotAccepted profile (chars text.now)) }
 {
     let parsed = parse(alloc, text)?;
-    check(parsed)
+    check(parsed, profile)
 }

@@ -6,6 +6,7 @@ ghost use Rattle.jp_check.specs.Private.Walk.{fault_of_call, fault_of_int, fault
 ghost use Rattle.jp_check.specs.Private.Walk.{fault_of_logical, fault_of_query, ill_typed};
 
 use crate::functions::{DataType, signature_named};
+use crate::profile::Profile;
 use crate::ranges::is_in_index_range;
 use crate::singular::is_singular;
 use jp_query::RefusalKind;
@@ -60,13 +61,17 @@ pub(crate) fn fault_of_query(query: &Query, wanted: Option<DataType>) -> Option<
     }
 }
 
-/// The fault of a call, if there is no function of that name, if it has another number of
+/// The fault of a call, if the profile has no function of that name, if it has another number of
 /// parameters, or if its answer doesn't fit what is wanted there (section 2.4.3).
 #[tactic(auto, using(crate::proofs::Calls::fault_of_call_is))]
-pub(crate) fn fault_of_call(call: &Call, wanted: Option<DataType>) -> Option<RefusalKind>
-    ensures { result ≡ fault_of_call (call_of call.now) wanted }
+pub(crate) fn fault_of_call(
+    call: &Call,
+    wanted: Option<DataType>,
+    profile: Profile,
+) -> Option<RefusalKind>
+    ensures { result ≡ fault_of_call profile (call_of call.now) wanted }
 {
-    match signature_named(&call.name) {
+    match signature_named(&call.name, profile) {
         None => Some(RefusalKind::UnknownFunction),
         Some(function) if function.parameters.len() != call.arguments.len() => {
             Some(RefusalKind::ArgumentCount)

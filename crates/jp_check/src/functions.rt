@@ -1,4 +1,4 @@
-//! The functions of JSONPath and their types (RFC 9535 sections 2.4.1 and 2.4.4 to 2.4.8).
+//! The functions of each profile and their types (RFC 9535 sections 2.4.1 and 2.4.4 to 2.4.8).
 
 ghost use Rattle.std.specs.Prelude.{◌≡◌, option_map};
 ghost use Rattle.std.specs.Str.{chars};
@@ -8,6 +8,7 @@ ghost use Rattle.jp_check.specs.Private.Calls.{signature_of, wanted_of_call};
 ghost use Rattle.jp_check.specs.Types.{fits};
 
 use crate::functions::DataType::{Logical, Nodes, Value};
+use crate::profile::Profile;
 use jp_tree::Call;
 
 /// The type of a parameter or of a result (RFC 9535 section 2.4.1).
@@ -41,13 +42,16 @@ pub enum Function {
     Search,
     /// `value` (section 2.4.8).
     ValueOf,
+    /// `distinct`, an extension as section 2.4 provides for: the nodes of its argument, each once,
+    /// where it is first.
+    Distinct,
 }
 
 impl Function {
-    /// The function of that name, if there is one.
+    /// The function of that name, if the profile has one.
     #[tactic(auto, using(crate::proofs::FunctionNames::function_named_bytes))]
-    pub fn named(name: &str) -> Option<Function>
-        ensures { result ≡ function_named (chars name.now) }
+    pub fn named(name: &str, profile: Profile) -> Option<Function>
+        ensures { result ≡ function_named profile (chars name.now) }
     {
         match name {
             "length" => Some(Function::Length),
@@ -55,6 +59,10 @@ impl Function {
             "match" => Some(Function::Match),
             "search" => Some(Function::Search),
             "value" => Some(Function::ValueOf),
+            "distinct" => match profile {
+                Profile::Standard => None,
+                Profile::Extended => Some(Function::Distinct),
+            },
             _ => None,
         }
     }
@@ -69,6 +77,7 @@ impl Function {
             Function::Match => types(&[Value, Value], Logical),
             Function::Search => types(&[Value, Value], Logical),
             Function::ValueOf => types(&[Nodes], Value),
+            Function::Distinct => types(&[Nodes], Nodes),
         }
     }
 }
@@ -80,11 +89,11 @@ fn types(parameters: &'static [DataType], answer: DataType) -> Signature
     Signature { parameters, answer }
 }
 
-/// The types of the function of that name, if there is one.
-pub(crate) fn signature_named(name: &str) -> Option<Signature>
-    ensures { option_map signature_of result ≡ signature_named (chars name.now) }
+/// The types of the function of that name, if the profile has one.
+pub(crate) fn signature_named(name: &str, profile: Profile) -> Option<Signature>
+    ensures { option_map signature_of result ≡ signature_named profile (chars name.now) }
 {
-    match Function::named(name) {
+    match Function::named(name, profile) {
         Some(function) => Some(function.signature()),
         None => None,
     }
@@ -100,13 +109,13 @@ impl DataType {
     }
 }
 
-/// The types that are wanted of a call's arguments: those of the function's parameters, if there is
-/// such a function and it has as many parameters as the call has arguments.
+/// The types that are wanted of a call's arguments: those of the function's parameters, if the
+/// profile has such a function and it has as many parameters as the call has arguments.
 #[tactic(auto, using(crate::proofs::Calls::wanted_of_call_is))]
-pub(crate) fn wanted_of_arguments(call: &Call) -> &'static [DataType]
-    ensures { result.now ≡ wanted_of_call (call_of call.now) }
+pub(crate) fn wanted_of_arguments(call: &Call, profile: Profile) -> &'static [DataType]
+    ensures { result.now ≡ wanted_of_call profile (call_of call.now) }
 {
-    match signature_named(&call.name) {
+    match signature_named(&call.name, profile) {
         Some(function) if function.parameters.len() == call.arguments.len() => function.parameters,
         _ => &[],
     }

@@ -1,14 +1,15 @@
 //! Laws of acceptance, each the contract of a function that does nothing.
 
 ghost use Rattle.jp_reading.specs.Texts.{Text};
-ghost use Rattle.jp_check.specs.Laws.{FaultAtItsItem, OneAnswer};
+ghost use Rattle.jp_check.specs.Laws.{FaultAtItsItem, OneAnswer, StandardIsExtended};
+ghost use Rattle.jp_check.specs.declared.profile.Profile.{Profile};
 
 use jp_query::laws::{one_reading, one_refusal, spans_of_items};
 
-/// Each text is accepted as one tree, or is refused in one way, with its first fault or as no
-/// query, at one place; and not both, running out of memory aside.
+/// In each profile a text is accepted as one tree, or is refused in one way, with its first fault
+/// or as no query, at one place; and not both, running out of memory aside.
 pub fn one_answer()
-    ensures { (text : Text) → OneAnswer text }
+    ensures { (profile : Profile) (text : Text) → OneAnswer profile text }
 {
     one_reading();
     one_refusal();
@@ -17,7 +18,12 @@ pub fn one_answer()
 /// A fault is that of one of the query's items, and its place is the byte where the text of that
 /// item starts.
 pub fn fault_at_its_item()
-    ensures { FaultAtItsItem }
+    ensures { (profile : Profile) → FaultAtItsItem profile }
 {
     spans_of_items();
 }
+
+/// What is accepted in `Standard` is accepted in `Extended` as the same tree.
+pub fn standard_is_extended()
+    ensures { StandardIsExtended }
+{}

@@ -1,23 +1,29 @@
-//! Which queries are accepted: those without a fault of numbers or types (RFC 9535 sections 2.1,
-//! 2.3.5.1 and 2.4.3).
+//! Which queries are accepted in a profile, `Standard` or `Extended`: those without a fault of
+//! numbers or types (RFC 9535 sections 2.1, 2.3.5.1 and 2.4.3). The profile says which functions
+//! there are.
 //!
 //! ```text
-//! let checked = read_query(alloc, "$.store['book'][0]")?;
-//! checked.query();                        // the query's tree
-//! read_query(alloc, "$[9007199254740992]")  // refused: IndexRange at 2
-//! read_query(alloc, "$[?@.*==1]")           // refused: NotSingular at 3
-//! read_query(alloc, "$[?value(@..color)]")  // refused: IllTyped at 3
+//! let checked = read_query(alloc, "$.store['book'][0]", Standard)?;
+//! checked.query();                                    // the query's tree
+//! checked.profile();                                  // Standard
+//! read_query(alloc, "$[9007199254740992]", Standard)  // refused: IndexRange at 2
+//! read_query(alloc, "$[?@.*==1]", Standard)           // refused: NotSingular at 3
+//! read_query(alloc, "$[?value(@..color)]", Standard)  // refused: IllTyped at 3
+//! read_query(alloc, "$[?distinct(@.*)]", Standard)    // refused: UnknownFunction at 3
+//! read_query(alloc, "$[?distinct(@.*)]", Extended)    // accepted
 //! ```
 //!
 //! The contract for the crates above: `read_query` answers a tree exactly for the texts that are
-//! accepted as it, by `specs/Accepted.antt`; each other text is refused as the parser refuses it,
-//! or with its first fault.
+//! accepted as it in the profile, by `specs/Accepted.antt`; each other text is refused as the
+//! parser refuses it, or with its first fault. What is accepted in `Standard` is accepted in
+//! `Extended`.
 #![tactic(auto)]
 
 mod checked;
 mod faults;
 mod functions;
 pub mod laws;
+mod profile;
 mod ranges;
 mod singular;
 #[cfg(test)]
@@ -26,3 +32,4 @@ mod walk;
 
 pub use checked::{Checked, check, read_query};
 pub use functions::Function;
+pub use profile::Profile;

@@ -14,17 +14,18 @@ use crate::faults::{
     fault_of_call, fault_of_int, fault_of_literal, fault_of_logical, fault_of_query,
 };
 use crate::functions::{DataType, wanted_of_arguments};
+use crate::profile::Profile;
 use jp_query::{Parsed, Refusal, RefusalKind, Span};
 use jp_tree::{Argument, Call, Expr, Numeral, Operand, Query, Segment, Selector, Slice, Subject};
 use std::marker::Model;
 
-/// The first fault of a query, if it has one.
-pub(crate) fn first_fault(parsed: &Parsed) -> Option<Refusal>
+/// The first fault of a query in a profile, if it has one.
+pub(crate) fn first_fault(parsed: &Parsed, profile: Profile) -> Option<Refusal>
     ensures { MatchOption result
-        (IsFaultless (query_of parsed.now.query))
-        (IsFirstFault (items_of (query_of parsed.now.query)) parsed.now.spans) }
+        (IsFaultless profile (query_of parsed.now.query))
+        (IsFirstFault profile (items_of (query_of parsed.now.query)) parsed.now.spans) }
 {
-    let mut walk = Walk::new(parsed.spans());
+    let mut walk = Walk::new(parsed.spans(), profile);
     walk.query(parsed.query());
     walk.first()
 }
@@ -32,6 +33,8 @@ pub(crate) fn first_fault(parsed: &Parsed) -> Option<Refusal>
 /// A walk over the items of a query, with their spans.
 #[derive(Drop)]
 struct Walk<'s> {
+    /// The profile, which has the functions that may be called.
+    profile: Profile,
     /// The spans of the items that are still to come.
     spans: &'s [Option<Span>],
     /// The first fault of the items that were.
@@ -43,15 +46,19 @@ impl<'s> Model for Walk<'s> {
 
     ghost Value = { Progress };
 
-    ghost view = { λ w. record { spans = w.spans.now; first = w.first } };
+    ghost view = { λ w. record { profile = w.profile; spans = w.spans.now; first = w.first } };
 }
 
 impl<'s> Walk<'s> {
     /// A walk with all items to come.
-    fn new(spans: &'s [Option<Span>]) -> Walk<'s>
-        ensures { result ≡ record { spans = spans.now; first = None } }
+    fn new(spans: &'s [Option<Span>], profile: Profile) -> Walk<'s>
+        ensures { result ≡ record { profile = profile; spans = spans.now; first = None } }
     {
-        Walk { spans, first: None }
+        Walk {
+            profile,
+            spans,
+            first: None,
+        }
     }
 
     /// The first fault so far.
@@ -150,7 +157,7 @@ impl<'s> Walk<'s> {
         ensures { self.new
             ≡ steps
             (items_of (query_of query.now))
-            (past_item (fault_of_query (query_of query.now) wanted) self.old.spans self.old.first) }
+            (past_item (fault_of_query (query_of query.now) wanted) self.old) }
     {
         self.pass(fault_of_query(query, wanted));
         self.query(query);
@@ -162,10 +169,10 @@ impl<'s> Walk<'s> {
         ensures { self.new
             ≡ steps
             (call_items (call_of call.now))
-            (past_item (fault_of_call (call_of call.now) wanted) self.old.spans self.old.first) }
+            (past_item (fault_of_call self.old.profile (call_of call.now) wanted) self.old) }
     {
-        self.pass(fault_of_call(call, wanted));
-        let types = wanted_of_arguments(call);
+        self.pass(fault_of_call(call, wanted, self.profile));
+        let types = wanted_of_arguments(call, self.profile);
         for (index, argument) in call.arguments.iter().enumerate() {
             self.argument(argument, types.get(index).copied());
         }
@@ -208,14 +215,14 @@ impl<'s> Walk<'s> {
 
     /// Passes an index or a part of a slice.
     fn int(&mut self, number: Numeral)
-        ensures { self.new ≡ past_item (fault_of_int number) self.old.spans self.old.first }
+        ensures { self.new ≡ past_item (fault_of_int number) self.old }
     {
         self.pass(fault_of_int(number));
     }
 
     /// Passes the next item, which has that fault or none.
     fn pass(&mut self, fault: Option<RefusalKind>)
-        ensures { self.new ≡ past_item fault self.old.spans self.old.first }
+        ensures { self.new ≡ past_item fault self.old }
     {
         let Some((span, rest)) = self.spans.split_first() else {
             return;
@@ -231,6 +238,7 @@ impl<'s> Walk<'s> {
 
     /// Keeps the fault if it is the first so far.
     fn note(&mut self, fault: Refusal)
+        ensures profile { self.new.profile ≡ self.old.profile }
         ensures spans { self.new.spans ≡ self.old.spans }
         ensures first { self.new.first ≡ earlier self.old.first fault }
     {

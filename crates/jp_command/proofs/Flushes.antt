@@ -1,6 +1,7 @@
 -- The flush after a run: it leaves what was written.
 use Rattle.std.proofs.Common.{◌≡◌, ℕ, List, Option, Bool, true, Result, Ok, Err, ◌∙◌}
 use Rattle.std.specs.Io.KnownBytes.{Keeps}
+use Rattle.jp_check.specs.declared.profile.Profile.{Profile}
 use Rattle.jp_command.specs.Line.{RunsTask}
 use Rattle.jp_command.specs.Output.{WritesOutput, WritesPrefix}
 use Rattle.jp_command.specs.declared.fault.Fault.{Fault}
@@ -31,11 +32,11 @@ module _ {W : Type 0} (contents : W → Option (List ℕ)) (has_failed : W → B
     };
   }
 
-module _ {R W : Type 0} (remaining : R → Option (List ℕ)) (has_failed : R → Bool)
-    (read_gives : R → Option (List ℕ) → R → Type 0) (contents : W → Option (List ℕ))
-    (writes_failed : W → Bool) where
+module _ (profile : Profile) {R W : Type 0} (remaining : R → Option (List ℕ))
+    (has_failed : R → Bool) (read_gives : R → Option (List ℕ) → R → Type 0)
+    (contents : W → Option (List ℕ)) (writes_failed : W → Bool) where
   abbrev Runs : Task → List ℕ → R → R → W → W → Result (Unit {0}) Fault → Type 0
-  Runs = RunsTask remaining has_failed read_gives contents writes_failed
+  Runs = RunsTask profile remaining has_failed read_gives contents writes_failed
 
   -- after one that fails a prefix is written
   pub flush-fails : (task : Task) (query : List ℕ) (i j : R) (o p q : W)

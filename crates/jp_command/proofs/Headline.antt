@@ -1,11 +1,13 @@
 -- Why a run over an accepted query and an accepted document is not refused, and writes the lines of
 -- their nodelist.
 use Rattle.std.proofs.Common.{◌≡◌, ◌≢◌, ℕ, ◌+◌, ◌≤◌, Bool, false, List, ◌++◌, length, Option, Some}
-use Rattle.std.proofs.Common.{None, Result, Ok, Err, refl, sym, ◌∙◌, ap, ap₂, subst, arith, string_bytes}
+use Rattle.std.proofs.Common.{None, Result, Ok, Err, refl, sym, ◌∙◌, ap, ap₂, subst, arith}
+use Rattle.std.proofs.Common.{string_bytes}
 use Rattle.std.proofs.lemmas.List.{append-nil, length-append}
 use Rattle.std.specs.Io.KnownBytes.{Appends, Consumes, IsAtEnd}
 use Rattle.std.specs.Str.{chars}
 use Rattle.jp_check.specs.Laws.{OneAnswer}
+use Rattle.jp_check.specs.declared.profile.Profile.{Profile}
 use Rattle.jp_document.specs.Document.{IsDocument, IsDocumentFault, list_too_long, not_json}
 use Rattle.jp_document.specs.Document.{not_whole}
 use Rattle.jp_document.specs.Laws.{DocumentOrDefect}
@@ -41,9 +43,10 @@ came-within bytes came (Some rest) consumed =
     omega (arith, whole)
 
 -- a query that is asked is not refused
-asked-is_taken : (text : List ℕ) (q : QueryTree) (r : _) → IsAsked text q → RefusesQuery text r → ⊥
-asked-is_taken text q r asked (too_long long is) = omega (arith, asked.short, long)
-asked-is_taken text q r asked (refused short none own) = none q asked.accepted
+asked-is_taken : (profile : Profile) (text : List ℕ) (q : QueryTree) (r : _)
+    → IsAsked profile text q → RefusesQuery profile text r → ⊥
+asked-is_taken profile text q r asked (too_long long is) = omega (arith, asked.short, long)
+asked-is_taken profile text q r asked (refused short none own) = none q asked.accepted
 
 -- a document has no fault
 document-is_taken : DocumentOrDefect → (bytes : List ℕ) (d : Value) (f : DocumentFault)
@@ -56,14 +59,14 @@ document-is_taken law bytes d document.ListTooLong is has known =
     (law bytes).not_both d list_too_long is has
 document-is_taken law bytes d document.NoMemory is has known = known refl
 
-module _ {R W : Type 0} (remaining : R → Option (List ℕ)) (has_failed : R → Bool)
-    (read_gives : R → Option (List ℕ) → R → Type 0) (contents : W → Option (List ℕ))
-    (writes_failed : W → Bool) where
+module _ (profile : Profile) {R W : Type 0} (remaining : R → Option (List ℕ))
+    (has_failed : R → Bool) (read_gives : R → Option (List ℕ) → R → Type 0)
+    (contents : W → Option (List ℕ)) (writes_failed : W → Bool) where
   abbrev Accepted : List ℕ → R → QueryTree → Value → Type 0
-  Accepted = IsAcceptedPair remaining has_failed read_gives contents writes_failed
+  Accepted = IsAcceptedPair profile remaining has_failed read_gives contents writes_failed
 
   abbrev Ran : Form → List ℕ → R → R → W → W → Result (Unit {0}) Fault → Type 0
-  Ran = Runs remaining has_failed read_gives contents writes_failed
+  Ran = Runs profile remaining has_failed read_gives contents writes_failed
 
   -- the bytes that a run has read are those that its input told
   read-all : (i j : R) (bytes came : List ℕ) → remaining i ≡ Some bytes
@@ -79,7 +82,7 @@ module _ {R W : Type 0} (remaining : R → Option (List ℕ)) (has_failed : R �
       → Ran form text i j o p (Err f)
       → is_refusal f ≡ false
   accepted-is_taken law form text i j o p q d (Query r) is run =
-      absurd (asked-is_taken text q r is.asked run.0)
+      absurd (asked-is_taken profile text q r is.asked run.0)
   accepted-is_taken law form text i j o p q d (Document f) is run =
       let same : run.0.bytes ≡ is.bytes = read-all i j is.bytes run.0.bytes is.tells run.0.reads in
       absurd (document-is_taken law is.bytes d f is.document
@@ -115,8 +118,8 @@ module _ {R W : Type 0} (remaining : R → Option (List ℕ)) (has_failed : R �
       )
 
   -- and its nodelist is written
-  pub writes-nodelist : DocumentOrDefect → ((text : List ℕ) → OneAnswer text) → (form : Form)
-      (text : List ℕ) (i j : R) (o p : W) (q : QueryTree) (d : Value)
+  pub writes-nodelist : DocumentOrDefect → ((text : List ℕ) → OneAnswer profile text)
+      → (form : Form) (text : List ℕ) (i j : R) (o p : W) (q : QueryTree) (d : Value)
       → Accepted text i q d
       → Ran form text i j o p (Ok tt)
       → Appends (contents o) (contents p) (output_of form q d)
@@ -133,8 +136,8 @@ module _ {R W : Type 0} (remaining : R → Option (List ℕ)) (has_failed : R �
 
   -- a run that writes one line for a query writes that of an accepted one
   pub line-is_written : (line_of : QueryTree → List ℕ) (text : List ℕ) (o p : W)
-      → RunsQueryLine line_of contents writes_failed text o p (Ok (tt {0}))
-      → WritesLine remaining has_failed read_gives contents writes_failed line_of text o p
+      → RunsQueryLine profile line_of contents writes_failed text o p (Ok (tt {0}))
+      → WritesLine profile remaining has_failed read_gives contents writes_failed line_of text o p
   line-is_written line_of text o p run = record {
     q = run.is.q;
     asked = run.is.asked;

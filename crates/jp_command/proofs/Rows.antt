@@ -1,6 +1,7 @@
 -- What some command lines ask for, and what a run writes.
 use Rattle.std.proofs.Common.{◌≡◌, [], ◌∷◌, ◌++◌, true, false, negsuc, Some, None, codes, refl}
 use Rattle.clap.proofs.OnLiterals.{clap_on_literals}
+use Rattle.jp_check.specs.declared.profile.Profile.TheVariants.{Standard, Extended}
 use Rattle.jp_command.specs.CommandLine.{asked, query_app, jp}
 use Rattle.jp_command.specs.declared.lines.Form.TheVariants.{Values, Paths, Both}
 use Rattle.jp_command.specs.Lines.{output_of}
@@ -10,21 +11,55 @@ use Rattle.jp_tree.specs.Tree.{QueryTree, index, query, segment, segments, selec
 use Rattle.jp_tree.specs.declared.tree.Numeral.TheVariants.{Whole}
 use Rattle.jp_command.specs.declared.words.Task.TheVariants.{Check, Canon, Eval}
 
-both : asked (codes "jp" ∷ codes "both" ∷ codes "$" ∷ []) ≡ Some (Eval Both, codes "$")
+both : asked (codes "jp" ∷ codes "both" ∷ codes "$" ∷ [])
+    ≡ Some (Eval Both, codes "$", Standard)
 unfolding clap_on_literals jp query_app
 both = refl
 
-values : asked (codes "jp" ∷ codes "eval" ∷ codes "$" ∷ []) ≡ Some (Eval Values, codes "$")
+values : asked (codes "jp" ∷ codes "eval" ∷ codes "$" ∷ [])
+    ≡ Some (Eval Values, codes "$", Standard)
 unfolding clap_on_literals jp query_app
 values = refl
 
-canonical : asked (codes "jp" ∷ codes "canon" ∷ codes "$" ∷ []) ≡ Some (Canon, codes "$")
+canonical : asked (codes "jp" ∷ codes "canon" ∷ codes "$" ∷ []) ≡ Some (Canon, codes "$", Standard)
 unfolding clap_on_literals jp query_app
 canonical = refl
 
-checked : asked (codes "jp" ∷ codes "check" ∷ codes "$" ∷ []) ≡ Some (Check, codes "$")
+checked : asked (codes "jp" ∷ codes "check" ∷ codes "$" ∷ []) ≡ Some (Check, codes "$", Standard)
 unfolding clap_on_literals jp query_app
 checked = refl
+
+flag_first : asked (codes "jp" ∷ codes "paths" ∷ codes "--extended" ∷ codes "$" ∷ [])
+    ≡ Some (Eval Paths, codes "$", Extended)
+unfolding clap_on_literals jp query_app
+flag_first = refl
+
+flag_last : asked (codes "jp" ∷ codes "check" ∷ codes "$" ∷ codes "--extended" ∷ [])
+    ≡ Some (Check, codes "$", Extended)
+unfolding clap_on_literals jp query_app
+flag_last = refl
+
+flag_as_query : asked (codes "jp" ∷ codes "canon" ∷ codes "--" ∷ codes "--extended" ∷ [])
+    ≡ Some (Canon, codes "--extended", Standard)
+unfolding clap_on_literals jp query_app
+flag_as_query = refl
+
+flag_before_dashes :
+    asked (codes "jp" ∷ codes "eval" ∷ codes "--extended" ∷ codes "--" ∷ codes "-" ∷ [])
+    ≡ Some (Eval Values, codes "-", Extended)
+unfolding clap_on_literals jp query_app
+flag_before_dashes = refl
+
+flag_twice :
+    asked (codes "jp" ∷ codes "both" ∷ codes "--extended" ∷ codes "$" ∷ codes "--extended" ∷ [])
+    ≡ None
+unfolding clap_on_literals jp query_app
+flag_twice = refl
+
+flag_before_the_subcommand :
+    asked (codes "jp" ∷ codes "--extended" ∷ codes "both" ∷ codes "$" ∷ []) ≡ None
+unfolding clap_on_literals jp query_app
+flag_before_the_subcommand = refl
 
 no_query : asked (codes "jp" ∷ codes "both" ∷ []) ≡ None
 unfolding clap_on_literals jp query_app

@@ -1,19 +1,29 @@
--- What the words of a command line ask for: the command line as clap reads it, and the task and the
--- query that it finds in the words. `Line` cites it.
-use Rattle.std.specs.Prelude.{true, List, Option, Some, None, codes, if◌then◌else◌, option_and_then}
-use Rattle.std.specs.Prelude.{option_map}
+-- What the words of a command line ask for: the command line as clap reads it, and the task, the
+-- query and the profile that it finds in the words. `Line` cites it.
+use Rattle.std.specs.Prelude.{true, false, List, Option, Some, None, codes, if◌then◌else◌}
+use Rattle.std.specs.Prelude.{option_and_then, option_map}
+use Rattle.std.specs.Option.{option_map_or}
 use Rattle.std.specs.Str.{bytes_eq}
-use Rattle.clap.specs.Words.{App, Row, Text, fault_of, first_of, new_app, new_rule, subcommand_of}
-use Rattle.clap.specs.Words.{with_rule, with_subcommand}
+use Rattle.clap.specs.Words.{App, Row, Text, fault_of, first_of, new_app, new_rule, one_of}
+use Rattle.clap.specs.Words.{subcommand_of, with_rule, with_subcommand}
+use Rattle.clap.specs.declared.builder.action.ArgAction.TheVariants.{SetTrue}
 use Rattle.clap.specs.Simple.{on_top}
 use Rattle.clap.specs.Walk.{is_empty}
+use Rattle.jp_check.specs.declared.profile.Profile.{Profile}
+use Rattle.jp_check.specs.declared.profile.Profile.TheVariants.{Standard, Extended}
 use Rattle.jp_command.specs.declared.lines.Form.TheVariants.{Values, Paths, Both}
 use Rattle.jp_command.specs.declared.words.Task.{Task}
 use Rattle.jp_command.specs.declared.words.Task.TheVariants.{Check, Canon, Eval}
 
--- a subcommand with exactly one positional, the query, which is required
+-- a subcommand with exactly one positional, the query, which is required, and the flag
+-- `--extended`, which is on or off
 unfoldable pub query_app : Text → App
-query_app name = with_rule (new_app name) (record (new_rule (codes "QUERY")) { required = true })
+query_app name = with_rule
+    (with_rule (new_app name) (record (new_rule (codes "QUERY")) { required = true }))
+    (record (new_rule (codes "extended")) {
+      long = Some (codes "extended");
+      action = Some SetTrue;
+    })
 
 -- the command with one such subcommand more
 abbrev pub with_task : App → Text → App
@@ -34,13 +44,19 @@ task_called name =
     else if bytes_eq name (codes "paths") then Some (Eval Paths)
     else if bytes_eq name (codes "both") then Some (Eval Both) else None
 
--- the task and the query of the subcommand that the words name
-abbrev pub task_and_query : Text × List Row → Option (Task × Text)
-task_and_query entered = option_and_then
-    (λ task. option_map (λ query. (task, query)) (first_of (codes "QUERY") entered.1))
-    (task_called entered.0)
+-- the profile: `Extended` with the flag `--extended`, whose value clap then makes `true`
+abbrev pub profile_asked : List Row → Profile
+profile_asked rows =
+    if option_map_or (bytes_eq (codes "true")) (one_of (codes "extended") rows) false then Extended
+    else Standard
+
+-- the task, the query and the profile of the subcommand that the words name
+abbrev pub asked_by : Text × List Row → Option (Task × Text × Profile)
+asked_by entered = option_and_then
+    (λ task. option_map (λ query. (task, query, profile_asked entered.1))
+    (first_of (codes "QUERY") entered.1)) (task_called entered.0)
 
 -- what the words ask for, the program's name among them: nothing where clap finds a fault in them
-abbrev pub asked : List Text → Option (Task × Text)
+abbrev pub asked : List Text → Option (Task × Text × Profile)
 asked words = if is_empty (fault_of jp words)
-    then option_and_then task_and_query (subcommand_of jp words) else None
+    then option_and_then asked_by (subcommand_of jp words) else None

@@ -1,12 +1,13 @@
--- The headline of jp, sentence by sentence: of documents, queries, nodelists, paths, canonical
--- texts and refusals, and of what runs answer and write. What is said of an input's bytes has the
--- premise that the input tells them; what is said of an output's bytes is said where the output
--- tells them.
+-- The headline of jp in a profile, sentence by sentence: of documents, queries, nodelists, paths,
+-- canonical texts and refusals, and of what runs answer and write. What is said of an input's bytes
+-- has the premise that the input tells them; what is said of an output's bytes is said where the
+-- output tells them.
 use Rattle.std.specs.Prelude.{◌≡◌, ℕ, ◌≤◌, Bool, true, false, List}
 use Rattle.std.specs.Prelude.{length, Option, Some, Result, Ok, Err}
 use Rattle.std.specs.Io.KnownBytes.{Appends}
 use Rattle.jp_canon.specs.Laws.{CanonTellsApart}
-use Rattle.jp_check.specs.Laws.{FaultAtItsItem, OneAnswer}
+use Rattle.jp_check.specs.Laws.{FaultAtItsItem, OneAnswer, StandardIsExtended}
+use Rattle.jp_check.specs.declared.profile.Profile.{Profile}
 use Rattle.jp_document.specs.Document.{IsDocument}
 use Rattle.jp_document.specs.Laws.{DocumentOrDefect, NodesDiffer}
 use Rattle.jp_document.specs.Value.{Value}
@@ -31,38 +32,38 @@ is_refusal DocumentTooLarge = true
 is_refusal _ = false
 
 -- i and j are the input before and after a run, o and p the output
-module _ {R W : Type 0} (remaining : R → Option (List ℕ)) (has_failed : R → Bool)
-    (read_gives : R → Option (List ℕ) → R → Type 0) (contents : W → Option (List ℕ))
-    (writes_failed : W → Bool) where
+module _ (profile : Profile) {R W : Type 0} (remaining : R → Option (List ℕ))
+    (has_failed : R → Bool) (read_gives : R → Option (List ℕ) → R → Type 0)
+    (contents : W → Option (List ℕ)) (writes_failed : W → Bool) where
   -- the text is asked as the query q, and what the input tells is a document, not too large, of the
   -- value d
   pub record IsAcceptedPair (text : List ℕ) (i : R) (q : QueryTree) (d : Value) : Type 0 where
     pub bytes : List ℕ
     pub tells : remaining i ≡ Some bytes
     pub few : length bytes ≤ document_limit
-    pub asked : IsAsked text q
+    pub asked : IsAsked profile text q
     pub document : IsDocument bytes d
 
   -- a run of the query ended with this answer
   abbrev pub Runs : Form → List ℕ → R → R → W → W → Result (Unit {0}) Fault → Type 0
-  Runs = RunsEval remaining has_failed read_gives contents writes_failed
+  Runs = RunsEval profile remaining has_failed read_gives contents writes_failed
 
   -- a run that wrote the line of an accepted query
   pub record WritesLine (line_of : QueryTree → List ℕ) (text : List ℕ) (o p : W) : Type 0 where
     pub q : QueryTree
-    pub asked : IsAsked text q
+    pub asked : IsAsked profile text q
     pub writes : Appends (contents o) (contents p) (line_of q)
 
   -- what a run answers of a query that it refuses: what the query is, at its place; nothing is
   -- read or written
   abbrev pub Refuses : List ℕ → Refusal → R → R → W → W → Type 0
-  Refuses text r i j o p = RefusesQuery text r × (j ≡ i) × (p ≡ o)
+  Refuses text r i j o p = RefusesQuery profile text r × (j ≡ i) × (p ≡ o)
 
   pub record Headline : Type 0 where
     -- Bytes are the document of one value, or have one defect, and not both.
     pub documents : DocumentOrDefect
     -- A text is accepted as one query, or is refused in one way, and not both.
-    pub queries : (text : List ℕ) → OneAnswer text
+    pub queries : (text : List ℕ) → OneAnswer profile text
     -- An accepted query over an accepted document is not refused,
     pub accepted : (form : Form) (text : List ℕ) (i j : R) (o p : W) (q : QueryTree) (d : Value)
         (f : Fault) → IsAcceptedPair text i q d
@@ -76,7 +77,7 @@ module _ {R W : Type 0} (remaining : R → Option (List ℕ)) (has_failed : R �
     -- Whatever its input tells, a run answers accepted queries alone,
     pub asked : (form : Form) (text : List ℕ) (i j : R) (o p : W)
         → Runs form text i j o p (Ok tt)
-        → (q : QueryTree) × IsAsked text q
+        → (q : QueryTree) × IsAsked profile text q
     -- and refuses a query for what it is.
     pub refused : (form : Form) (text : List ℕ) (i j : R) (o p : W) (r : Refusal)
         → Runs form text i j o p (Err (Query r))
@@ -92,19 +93,21 @@ module _ {R W : Type 0} (remaining : R → Option (List ℕ)) (has_failed : R �
     -- Two nodes of a document have equal normalized paths exactly if they are the same node
     -- (section 2.7),
     pub paths : NodesDiffer
-    -- and each path, read as a query, selects that node alone.
+    -- and each path, read as a query in either profile, selects that node alone.
     pub path_selects : PathSelectsItsNode
-    -- Two accepted queries have equal canonical texts exactly if their trees are equal.
+    -- A query that is accepted in `Standard` is accepted in `Extended`,
+    pub extended : StandardIsExtended
+    -- and two that are accepted there have equal canonical texts exactly if their trees are equal.
     pub canonical_texts : CanonTellsApart
     -- That text is what a run for it writes of an accepted query,
     pub canonical_lines : (text : List ℕ) (o p : W)
-        → RunsCanon contents writes_failed text o p (Ok (tt {0}))
+        → RunsCanon profile contents writes_failed text o p (Ok (tt {0}))
         → WritesLine canon_line text o p
     -- and `accepted` what a run that only checks one does.
     pub checked_lines : (text : List ℕ) (o p : W)
-        → RunsCheck contents writes_failed text o p (Ok (tt {0}))
+        → RunsCheck profile contents writes_failed text o p (Ok (tt {0}))
         → WritesLine accepted_line text o p
     -- A text that spells no query is refused with one kind and at one place,
     pub syntax_places : OneRefusal
     -- and one that spells a query with a fault, where the text of the faulty item starts.
-    pub fault_places : FaultAtItsItem
+    pub fault_places : FaultAtItsItem profile

@@ -4,6 +4,7 @@ use Rattle.std.specs.Prelude.{◌≡◌, ℕ, Bool, List, ◌++◌, Option, Some
 use Rattle.std.specs.Fmt.{decimal}
 use Rattle.jp_document.specs.declared.fault.DocumentFault.{DocumentFault}
 use Rattle.jp_document.specs.declared.fault.DocumentFault.TheVariants as document
+use Rattle.jp_check.specs.declared.profile.Profile.{Profile}
 use Rattle.jp_query.specs.Refusal.{name_of}
 use Rattle.jp_command.specs.Canon.{RunsCanon}
 use Rattle.jp_command.specs.Check.{RunsCheck}
@@ -45,34 +46,45 @@ fault_text Write = codes "write fault"
 abbrev pub fault_line : Fault → List ℕ
 fault_line f = fault_text f ++ codes "\n"
 
--- what is said of a run of the program: i and j are the input before and after it, o and p the
--- output
-module _ {R W : Type 0} (remaining : R → Option (List ℕ)) (has_failed : R → Bool)
-    (read_gives : R → Option (List ℕ) → R → Type 0) (contents : W → Option (List ℕ))
-    (writes_failed : W → Bool) where
+-- i and j are the input before and after a run, o and p the output
+module _ (profile : Profile) {R W : Type 0} (remaining : R → Option (List ℕ))
+    (has_failed : R → Bool) (read_gives : R → Option (List ℕ) → R → Type 0)
+    (contents : W → Option (List ℕ)) (writes_failed : W → Bool) where
   -- a task with its query ended with this answer
   abbrev pub RunsTask : {X : Type 0} → Task → List ℕ → R → R → W → W → Result X Fault → Type 0
-  RunsTask Check query i j o p answer = (j ≡ i) × RunsCheck contents writes_failed query o p answer
-  RunsTask Canon query i j o p answer = (j ≡ i) × RunsCanon contents writes_failed query o p answer
+  RunsTask Check query i j o p answer =
+      (j ≡ i) × RunsCheck profile contents writes_failed query o p answer
+  RunsTask Canon query i j o p answer =
+      (j ≡ i) × RunsCanon profile contents writes_failed query o p answer
   RunsTask (Eval form) query i j o p answer =
-      RunsEval remaining has_failed read_gives contents writes_failed form query i j o p answer
+      RunsEval profile remaining has_failed read_gives contents writes_failed form query i j o p
+      answer
 
-  -- the task that the words ask for ended with this answer
+  -- the task that the words ask for, in that profile, ended with this answer
   pub record RunsWords {X : Type 0} (words : List (List ℕ)) (i j : R) (o p : W)
       (answer : Result X Fault) : Type 0 where
     pub task : Task
     pub query : List ℕ
-    pub asks : asked words ≡ Some (task, query)
+    pub asks : asked words ≡ Some (task, query, profile)
     pub runs : RunsTask task query i j o p answer
+
+-- the same of the whole program
+module _ {R W : Type 0} (remaining : R → Option (List ℕ)) (has_failed : R → Bool)
+    (read_gives : R → Option (List ℕ) → R → Type 0) (contents : W → Option (List ℕ))
+    (writes_failed : W → Bool) where
+  -- what the words ask for, in that profile, ended with this answer
+  abbrev pub Ends : Profile → List (List ℕ) → R → R → W → W → Result (Unit {0}) Fault → Type 0
+  Ends profile = RunsWords profile remaining has_failed read_gives contents writes_failed
 
   -- what is said with a status; u and v are what takes the fault's line, before and after. Where
   -- the words are not ones that the command line takes, that is clap's text, of which its contract
   -- says nothing
   pub data RunsLine {E : Type 0} (reports : E → Option (List ℕ)) (words : List (List ℕ))
       (i j : R) (o p : W) (u v : E) (status : ℕ) : Type 0 where
-    done : status ≡ 0 → RunsWords words i j o p (Ok (tt {0})) → v ≡ u
+    done : (profile : Profile) → status ≡ 0 → Ends profile words i j o p (Ok tt) → v ≡ u
         → RunsLine reports words i j o p u v status
-    fault : (f : Fault) → status ≡ status_of f → RunsWords {X = Unit {0}} words i j o p (Err f)
+    fault : (profile : Profile) (f : Fault) → status ≡ status_of f
+        → Ends profile words i j o p (Err f)
         → AppendsPrefix (reports u) (reports v) (fault_line f)
         → RunsLine reports words i j o p u v status
     usage : status ≡ 2 → asked words ≡ None → j ≡ i → p ≡ o

@@ -1,9 +1,10 @@
--- What a run of a query over an input says with its answer.
+-- What a run of a query, in a profile, over an input says with its answer.
 use Rattle.std.specs.Prelude.{◌≡◌, ◌≢◌, ◌⊎◌, ℕ, ◌<◌, ◌≤◌, Bool, true, List, length, Option, Result}
 use Rattle.std.specs.Prelude.{Ok, Err}
 use Rattle.std.specs.Str.{chars}
 use Rattle.jp_check.specs.Accepted.{IsAcceptedAs, IsNotAccepted}
 use Rattle.jp_check.specs.Refused.{IsRefusedForItself}
+use Rattle.jp_check.specs.declared.profile.Profile.{Profile}
 use Rattle.jp_document.specs.Document.{IsDocument, IsDocumentFault}
 use Rattle.jp_document.specs.Value.{Value}
 use Rattle.jp_document.specs.declared.fault.DocumentFault.{DocumentFault}
@@ -20,30 +21,30 @@ use Rattle.jp_command.specs.declared.fault.Fault.TheVariants.{Query, Document, D
 use Rattle.jp_command.specs.declared.fault.Fault.TheVariants.{NoMemory, Read, Write}
 use Rattle.jp_command.specs.declared.lines.Form.{Form}
 
--- the query, in bytes, is not too long and is accepted as the tree q
-pub record IsAsked (text : List ℕ) (q : QueryTree) : Type 0 where
+-- the query, in bytes, is not too long and in that profile is accepted as the tree q
+pub record IsAsked (profile : Profile) (text : List ℕ) (q : QueryTree) : Type 0 where
   pub short : length text ≤ query_limit
-  pub accepted : IsAcceptedAs (chars text) q
+  pub accepted : IsAcceptedAs profile (chars text) q
 
--- the query is too long, or else not accepted and refused with r for what it is; running out of
--- memory is no such refusal
-pub data RefusesQuery (text : List ℕ) (r : Refusal) : Type 0 where
+-- the query is too long, or else in that profile not accepted and refused with r for what it is;
+-- running out of memory is no such refusal
+pub data RefusesQuery (profile : Profile) (text : List ℕ) (r : Refusal) : Type 0 where
   too_long : query_limit < length text → r ≡ record { kind = TextTooLong; place = 0 }
-      → RefusesQuery text r
-  refused : length text ≤ query_limit → IsNotAccepted (chars text)
-      → IsRefusedForItself (chars text) r → RefusesQuery text r
+      → RefusesQuery profile text r
+  refused : length text ≤ query_limit → IsNotAccepted profile (chars text)
+      → IsRefusedForItself profile (chars text) r → RefusesQuery profile text r
 
 -- i and j are the input before and after a run, o and p the output
-module _ {R W : Type 0} (remaining : R → Option (List ℕ)) (has_failed : R → Bool)
-    (read_gives : R → Option (List ℕ) → R → Type 0) (contents : W → Option (List ℕ))
-    (writes_failed : W → Bool) where
+module _ (profile : Profile) {R W : Type 0} (remaining : R → Option (List ℕ))
+    (has_failed : R → Bool) (read_gives : R → Option (List ℕ) → R → Type 0)
+    (contents : W → Option (List ℕ)) (writes_failed : W → Bool) where
   -- the query is asked, the input was read to its end and is a document, and this is the output of
   -- the one over the other
   pub record IsOutput (form : Form) (text : List ℕ) (i j : R) (output : List ℕ) : Type 0 where
     pub q : QueryTree
     pub bytes : List ℕ
     pub d : Value
-    pub asked : IsAsked text q
+    pub asked : IsAsked profile text q
     pub reads : ReadsAll remaining has_failed read_gives i j bytes
     pub document : IsDocument bytes d
     pub is : output ≡ output_of form q d
@@ -53,7 +54,7 @@ module _ {R W : Type 0} (remaining : R → Option (List ℕ)) (has_failed : R �
   pub record RefusesDocument (text : List ℕ) (i j : R) (f : DocumentFault) : Type 0 where
     pub q : QueryTree
     pub bytes : List ℕ
-    pub asked : IsAsked text q
+    pub asked : IsAsked profile text q
     pub reads : ReadsAll remaining has_failed read_gives i j bytes
     pub fault : IsDocumentFault bytes f
     pub known : f ≢ document.NoMemory
@@ -62,16 +63,16 @@ module _ {R W : Type 0} (remaining : R → Option (List ℕ)) (has_failed : R �
   abbrev pub RunsEval : {X : Type 0} → Form → List ℕ → R → R → W → W → Result X Fault → Type 0
   RunsEval form text i j o p (Ok x) =
       WritesOutput contents writes_failed (IsOutput form text i j) o p
-  RunsEval form text i j o p (Err (Query r)) = RefusesQuery text r × (j ≡ i) × (p ≡ o)
+  RunsEval form text i j o p (Err (Query r)) = RefusesQuery profile text r × (j ≡ i) × (p ≡ o)
   RunsEval form text i j o p (Err (Document f)) = RefusesDocument text i j f × (p ≡ o)
   RunsEval form text i j o p (Err DocumentTooLarge) =
-      ((q : QueryTree) × IsAsked text q) × ReadsTooMuch remaining has_failed read_gives i j
+      ((q : QueryTree) × IsAsked profile text q) × ReadsTooMuch remaining has_failed read_gives i j
       × (p ≡ o)
   RunsEval form text i j o p (Err NoMemory) =
       (has_failed j ≡ has_failed i) × (writes_failed p ≡ writes_failed o)
       × ((p ≡ o) ⊎ WritesPrefix contents writes_failed (IsOutput form text i j) o p)
   RunsEval form text i j o p (Err Read) =
-      ((q : QueryTree) × IsAsked text q) × FailsToRead remaining has_failed read_gives i j
+      ((q : QueryTree) × IsAsked profile text q) × FailsToRead remaining has_failed read_gives i j
       × (p ≡ o)
   RunsEval form text i j o p (Err Write) =
       WritesPrefix contents writes_failed (IsOutput form text i j) o p × (writes_failed p ≡ true)

@@ -10,7 +10,7 @@ use crate::fault::Fault;
 use crate::input::read_all;
 use crate::limits::QUERY_LIMIT;
 use crate::lines::{Form, write_lines};
-use jp_check::{Checked, read_query};
+use jp_check::{Checked, Profile, read_query};
 use jp_document::Document;
 use jp_evaluate::nodes;
 use jp_match::Marks;
@@ -18,8 +18,8 @@ use jp_query::{Refusal, RefusalKind};
 use std::alloc::Global;
 use std::mem;
 
-/// Writes a line for each node that `query` selects in the document that `input` gives, in the
-/// nodelist's order (RFC 9535 section 2.1.2).
+/// Writes a line for each node that `query`, read in that profile, selects in the document that
+/// `input` gives, in the nodelist's order (RFC 9535 section 2.1.2).
 ///
 /// The query is read first, and where it is refused the input stays unread; then the input is read
 /// to its end; then the document is read; and only then is anything written, each node's line
@@ -32,14 +32,15 @@ use std::mem;
 pub fn run_eval<R: Source, W: Writer>(
     alloc: Global,
     query: &str,
+    profile: Profile,
     form: Form,
     input: &mut R,
     output: &mut W,
 ) -> Result<(), Fault>
-    ensures { RunsEval R.remaining R.has_failed R.read_gives W.contents W.has_failed
+    ensures { RunsEval profile R.remaining R.has_failed R.read_gives W.contents W.has_failed
         form query.now input.old input.new output.old output.new result }
 {
-    let query = read_within_limit(alloc, query)?;
+    let query = read_within_limit(alloc, query, profile)?;
     let bytes = read_all(alloc, input)?;
     let document = Document::read(alloc, &bytes)?;
     drop(bytes);
@@ -53,10 +54,14 @@ pub fn run_eval<R: Source, W: Writer>(
 }
 
 /// Reads a query that is not too long.
-pub(crate) fn read_within_limit(alloc: Global, text: &str) -> Result<Checked, Refusal>
-    ensures asked { IfOk result (λ query. IsAsked text.now (query_of query)) }
+pub(crate) fn read_within_limit(
+    alloc: Global,
+    text: &str,
+    profile: Profile,
+) -> Result<Checked, Refusal>
+    ensures asked { IfOk result (λ c. IsAsked profile text.now (query_of c.query)) }
     ensures refused { IfErr result
-        (λ refusal. (refusal.kind ≡ NoMemory) ⊎ RefusesQuery text.now refusal) }
+        (λ refusal. (refusal.kind ≡ NoMemory) ⊎ RefusesQuery profile text.now refusal) }
 {
     if text.len() > QUERY_LIMIT {
         return Err(Refusal {
@@ -64,5 +69,5 @@ pub(crate) fn read_within_limit(alloc: Global, text: &str) -> Result<Checked, Re
             place: 0,
         });
     }
-    read_query(alloc, text)
+    read_query(alloc, text, profile)
 }

@@ -3,13 +3,13 @@
 //!
 //! ```text
 //! let mut output = Device::new(Vec::new(alloc));
-//! run_eval(alloc, "$.a[-1]", Form::Both, &mut Device::new(bytes), &mut output)?;
+//! run_eval(alloc, "$.a[-1]", Standard, Form::Both, &mut Device::new(bytes), &mut output)?;
 //! ```
 //!
-//! `run_eval` runs one query over one input; `specs/Run.antt` has what it says with each answer.
-//! `run_check` tells whether a query is accepted (`specs/Check.antt`), and `run_canon` writes its
-//! canonical text (`specs/Canon.antt`). `run_line` is the whole program over its words;
-//! `specs/Line.antt` has what it says with each status.
+//! `run_eval` runs one query, read in a profile of jp_check, over one input; `specs/Run.antt` has
+//! what it says with each answer. `run_check` tells whether a query is accepted
+//! (`specs/Check.antt`), and `run_canon` writes its canonical text (`specs/Canon.antt`). `run_line`
+//! is the whole program over its words; `specs/Line.antt` has what it says with each status.
 #![tactic(auto)]
 
 mod canon;

@@ -16,6 +16,7 @@ use crate::output::write_all;
 use crate::words::{Task, read_words};
 use clap::Error;
 use clap::error::ErrorKind;
+use jp_check::Profile;
 use jp_document::DocumentFault;
 use std::alloc::{AllocError, Global};
 use std::borrow::CowStr;
@@ -38,7 +39,9 @@ pub fn run_line<R: Source, W: Output, E: Writer>(
         faults.old faults.new result }
 {
     match read_words(alloc, &words) {
-        Ok((task, query)) => match run_and_flush(alloc, task, query, input, output) {
+        Ok((task, query, profile)) => match run_and_flush(
+            alloc, task, query, profile, input, output,
+        ) {
             Ok(()) => 0,
             Err(fault) => {
                 report(alloc, &fault, faults);
@@ -54,13 +57,14 @@ fn run_and_flush<R: Source, W: Output>(
     alloc: Global,
     task: Task,
     query: &str,
+    profile: Profile,
     input: &mut R,
     output: &mut W,
 ) -> Result<(), Fault>
-    ensures { RunsTask R.remaining R.has_failed R.read_gives W.contents W.has_failed
+    ensures { RunsTask profile R.remaining R.has_failed R.read_gives W.contents W.has_failed
         task query.now input.old input.new output.old output.new result }
 {
-    run_task(alloc, task, query, input, output)?;
+    run_task(alloc, task, query, profile, input, output)?;
     match output.flush() {
         Ok(()) => Ok(()),
         Err(_) => Err(Fault::Write),
@@ -72,16 +76,17 @@ fn run_task<R: Source, W: Writer>(
     alloc: Global,
     task: Task,
     query: &str,
+    profile: Profile,
     input: &mut R,
     output: &mut W,
 ) -> Result<(), Fault>
-    ensures { RunsTask R.remaining R.has_failed R.read_gives W.contents W.has_failed
+    ensures { RunsTask profile R.remaining R.has_failed R.read_gives W.contents W.has_failed
         task query.now input.old input.new output.old output.new result }
 {
     match task {
-        Task::Check => run_check(alloc, query, output),
-        Task::Canon => run_canon(alloc, query, output),
-        Task::Eval(form) => run_eval(alloc, query, form, input, output),
+        Task::Check => run_check(alloc, query, profile, output),
+        Task::Canon => run_canon(alloc, query, profile, output),
+        Task::Eval(form) => run_eval(alloc, query, profile, form, input, output),
     }
 }
 

@@ -6,12 +6,13 @@ ghost use Rattle.clap.specs.Words.{IsAmong, app_of, fault_of, found_of, kind_of,
 ghost use Rattle.clap.specs.Words.{subcommand_of, subcommand_rows_of};
 ghost use Rattle.clap.specs.declared.builder.command.Command.TheViews.{out-Command};
 ghost use Rattle.clap.specs.declared.error.kind.ErrorKind.TheVariants.{OutOfMemory};
-ghost use Rattle.jp_command.specs.CommandLine.{asked, jp, query_app, task_and_query, task_called};
-ghost use Rattle.jp_command.specs.CommandLine.{with_task};
+ghost use Rattle.jp_command.specs.CommandLine.{asked, asked_by, jp, profile_asked, query_app};
+ghost use Rattle.jp_command.specs.CommandLine.{task_called, with_task};
 
 use crate::lines::Form;
 use clap::error::ErrorKind;
-use clap::{Arg, ArgMatches, Command, Error};
+use clap::{Arg, ArgAction, ArgMatches, Command, Error};
+use jp_check::Profile;
 use std::alloc::{AllocError, Global};
 
 /// The version of the program.
@@ -20,6 +21,7 @@ const VERSION: &str = "0.1.0";
 /// What help says below the subcommands.
 const AFTER_HELP: &str = "\
 Each command takes one QUERY. eval, paths and both read a JSON document from standard input.
+With --extended before or after it, the query may also call the function distinct.
 
 Example: echo '[1,2]' | jp eval '$[-1]'
 
@@ -51,7 +53,7 @@ fn task_named(name: &str) -> Option<Task>
     }
 }
 
-/// A subcommand with a query.
+/// A subcommand with a query and the flag `--extended`.
 #[tactic(auto, unfolding(crate::specs::CommandLine::query_app))]
 fn query_command<'w>(
     alloc: Global,
@@ -64,7 +66,14 @@ fn query_command<'w>(
     let query = Arg::new(alloc, "QUERY")
         .required(true)
         .help("A JSONPath query, such as $.a[0]");
-    Command::new(alloc, name).about(about).arg(query)
+    let extended = Arg::new(alloc, "extended")
+        .long("extended")
+        .action(ArgAction::SetTrue)
+        .help("Lets the query call distinct");
+    Command::new(alloc, name)
+        .about(about)
+        .arg(query)?
+        .arg(extended)
 }
 
 /// The command with one such subcommand more.
@@ -114,34 +123,48 @@ fn matches_of<'w>(alloc: Global, words: &'w [String]) -> Result<ArgMatches<'w>, 
     command.try_get_matches_from(words)
 }
 
-/// The task and the query of the subcommand `name` with the matches `found`.
-fn task_and_query<'w>(name: &str, found: &ArgMatches<'w>) -> Option<(Task, &'w str)>
-    ensures { option_map (λ pair. (pair.0, pair.1.now)) result
-        ≡ task_and_query (name.now, rows_of (found_of found.now)) }
+/// The profile that the matches of a subcommand ask for.
+fn profile_asked(found: &ArgMatches) -> Profile
+    ensures { result ≡ profile_asked (rows_of (found_of found.now)) }
+{
+    if found.get_one::<bool>("extended").unwrap_or(false) {
+        Profile::Extended
+    } else {
+        Profile::Standard
+    }
+}
+
+/// What the subcommand `name` with the matches `found` asks for.
+fn asked_by<'w>(name: &str, found: &ArgMatches<'w>) -> Option<(Task, &'w str, Profile)>
+    ensures { option_map (λ found. (found.0, found.1.now, found.2)) result
+        ≡ asked_by (name.now, rows_of (found_of found.now)) }
 {
     let task = task_named(name)?;
     let query = found.get_str("QUERY")?;
-    Some((task, query))
+    Some((task, query, profile_asked(found)))
 }
 
-/// The task and the query of the subcommand in `matches`.
-fn subcommand_task<'w>(matches: &ArgMatches<'w>) -> Option<(Task, &'w str)>
-    ensures { option_map (λ pair. (pair.0, pair.1.now)) result
-        ≡ option_and_then task_and_query (subcommand_rows_of matches.now) }
+/// What the subcommand in `matches` asks for.
+fn asked_in<'w>(matches: &ArgMatches<'w>) -> Option<(Task, &'w str, Profile)>
+    ensures { option_map (λ found. (found.0, found.1.now, found.2)) result
+        ≡ option_and_then asked_by (subcommand_rows_of matches.now) }
 {
     let (name, found) = matches.subcommand()?;
-    task_and_query(name, found)
+    asked_by(name, found)
 }
 
 /// What `words`, of which the first is the program's name, ask for, or clap's error.
-pub(crate) fn read_words<'w>(alloc: Global, words: &'w [String]) -> Result<(Task, &'w str), Error>
+pub(crate) fn read_words<'w>(
+    alloc: Global,
+    words: &'w [String],
+) -> Result<(Task, &'w str, Profile), Error>
     ensures asked { IfOk result (λ found.
-        asked (map string_bytes words.entry.now) ≡ Some (found.0, found.1.now)) }
+        asked (map string_bytes words.entry.now) ≡ Some (found.0, found.1.now, found.2)) }
     ensures refused { IfErr result (λ error. (kind_of error ≡ OutOfMemory)
         ⊎ (asked (map string_bytes words.entry.now) ≡ None)) }
 {
     let matches = matches_of(alloc, words)?;
-    match subcommand_task(&matches) {
+    match asked_in(&matches) {
         Some(asked) => Ok(asked),
         None => Err(no_task(alloc)?),
     }

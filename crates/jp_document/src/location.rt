@@ -2,8 +2,9 @@
 
 use std::marker::Model;
 
-/// One step of a location, which borrows its name.
-#[derive(Clone, Copy)]
+/// One step of a location, which borrows its name. Names are before indexes, and compare by their
+/// bytes.
+#[derive(Debug, Clone, Copy, PartialEq, Eq, PartialOrd, Ord)]
 pub enum Step<'d> {
     Name(&'d str),
     /// From 0.

@@ -3,7 +3,7 @@ use Rattle.std.proofs.Common.{◌≡◌, ◌↔◌, ℕ, List, Bool, true, false
 use Rattle.std.proofs.Common.{refl, ap, sym, ◌∙◌}
 use Rattle.std.specs.Str.{chars}
 use Rattle.jp_check.specs.declared.functions.Function.{Function}
-use Rattle.jp_check.specs.declared.functions.Function.TheVariants.{Count, Length, Match}
+use Rattle.jp_check.specs.declared.functions.Function.TheVariants.{Count, Distinct, Length, Match}
 use Rattle.jp_check.specs.declared.functions.Function.TheVariants.{Search, ValueOf}
 use Rattle.jp_document.specs.Value.{text}
 use Rattle.jp_iregexp.proofs.Membership.{parts_are_tested, words_are_tested}
@@ -45,4 +45,5 @@ no_answer (Some Search) s p none = sym (ap (is_passing (λ x. has_word x (chars 
 no_answer (Some Length) s p none = refl
 no_answer (Some Count) s p none = refl
 no_answer (Some ValueOf) s p none = refl
+no_answer (Some Distinct) s p none = refl
 no_answer None s p none = refl

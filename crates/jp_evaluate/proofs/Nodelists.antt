@@ -3,5 +3,6 @@ pub mod Along
 pub mod Anywhere
 pub mod Elements
 pub mod Joined
+pub mod Repeats
 pub mod Sides
 pub mod Standing

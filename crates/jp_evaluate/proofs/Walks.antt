@@ -3,4 +3,5 @@ pub mod Advances
 pub mod Begun
 pub mod Choices
 pub mod Reaching
+pub mod Selects
 pub mod Turns

@@ -1,13 +1,15 @@
--- What the functions of RFC 9535 section 2.4 answer for what their arguments stand for. Nothing is
--- None.
-use Rattle.std.specs.Prelude.{ℕ, pos, Bool, false, List, [], ◌∷◌, length}
+-- What the functions answer for what their arguments stand for: those of RFC 9535 section 2.4, and
+-- `distinct`. Nothing is None.
+use Rattle.std.specs.Prelude.{ℕ, pos, Bool, false, not, List, [], ◌∷◌, filter as those_of, length}
 use Rattle.std.specs.Prelude.{Option, Some, None, option_and_then, option_map}
+use Rattle.std.specs.Ordering.{is_eq}
 use Rattle.std.specs.Str.{chars}
+use Rattle.jp_document.specs.Location.{location_cmp}
 use Rattle.jp_document.specs.Node.{Node}
 use Rattle.jp_document.specs.Value.{Value, item_count, list, names_of, object, text, whole}
 use Rattle.jp_iregexp.specs.Matches.{has_match, is_match}
 use Rattle.jp_check.specs.declared.functions.Function.{Function}
-use Rattle.jp_check.specs.declared.functions.Function.TheVariants.{Count, Length, Match}
+use Rattle.jp_check.specs.declared.functions.Function.TheVariants.{Count, Distinct, Length, Match}
 use Rattle.jp_check.specs.declared.functions.Function.TheVariants.{Search, ValueOf}
 
 -- how many scalar values a text has, items a list, members an object
@@ -30,6 +32,15 @@ abbrev pub only_value : List Node → Option Value
 only_value (n ∷ []) = Some n.value
 only_value _ = None
 
+-- the nodes have one location
+abbrev pub is_same_node : Node → Node → Bool
+is_same_node n m = is_eq (location_cmp n.location m.location)
+
+-- distinct: nodes without repeats, each at its first occurrence
+abbrev pub without_repeats : List Node → List Node
+without_repeats [] = []
+without_repeats (n ∷ ns) = n ∷ those_of (λ m. not (is_same_node n m)) (without_repeats ns)
+
 -- match: whether a text, the whole of it, matches a pattern; not so where the pattern does not
 -- conform, or one of both is no text (section 2.4.6)
 abbrev pub is_matched : Option Value → Option Value → Bool
@@ -48,6 +59,12 @@ value_answer (Some Length) v ns = length_of v
 value_answer (Some Count) v ns = option_and_then count_of ns
 value_answer (Some ValueOf) v ns = option_and_then only_value ns
 value_answer _ v ns = None
+
+-- what a function of one argument answers as nodes: `distinct` for the argument's nodes ns; other
+-- functions answer no nodes
+abbrev pub nodes_answer : Option Function → Option (List Node) → Option (List Node)
+nodes_answer (Some Distinct) ns = option_map without_repeats ns
+nodes_answer _ ns = None
 
 -- whether `match` or `search` is true of the values of its two arguments; other functions are false
 -- here

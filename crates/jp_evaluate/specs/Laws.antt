@@ -1,19 +1,28 @@
 -- Laws of nodes and queries.
-use Rattle.std.specs.Prelude.{◌≡◌, ◌≤◌, [], ◌∷◌, length, true, All, Some}
+use Rattle.std.specs.Prelude.{◌≡◌, ◌≢◌, ◌≤◌, ℕ, None, List, [], ◌∷◌, ◌++◌, length, Bool, true, false, All, Some}
+use Rattle.std.specs.Prelude.{if◌then◌else◌}
+use Rattle.std.specs.List.{AllByRecursion, Contains, list_any}
 use Rattle.std.specs.Str.{chars}
 use Rattle.jp_document.specs.Node.{Node, StandsIn}
 use Rattle.jp_document.specs.Path.{path_of}
 use Rattle.jp_document.specs.Value.{NamesRise, Value}
 use Rattle.jp_tree.specs.Singular.{is_singular}
-use Rattle.jp_tree.specs.Tree.{OperandTree, QueryTree}
+use Rattle.jp_tree.specs.Tree.{ArgumentTrees, OperandTree, QueryTree, call, call_test}
+use Rattle.jp_check.specs.Functions.{function_named}
+use Rattle.jp_check.specs.declared.functions.Function.TheVariants.{Distinct}
+use Rattle.jp_check.specs.declared.profile.Profile.TheVariants.{Extended}
+use Rattle.jp_check.specs.declared.profile.Profile.{Profile}
 use Rattle.jp_check.specs.Accepted.{IsAcceptedAs}
-use Rattle.jp_evaluate.specs.Nodelist.{nodelist, nodelist_at, operand_value}
+use Rattle.jp_evaluate.specs.Functions.{is_same_node, without_repeats}
+use Rattle.jp_evaluate.specs.Nodelist.{call_holds, call_nodes, holds, nodelist, nodelist_at}
+use Rattle.jp_evaluate.specs.Nodelist.{operand_value}
 
--- the normalized path of a node of a document, read as a query, is accepted and selects that node
--- alone (RFC 9535 section 2.7)
+-- the normalized path of a node of a document, read as a query, is accepted in each profile and
+-- selects that node alone (RFC 9535 section 2.7)
 abbrev pub PathSelectsItsNode : Type 0
 PathSelectsItsNode = (d : Value) (n : Node) → StandsIn d n
-    → (q : QueryTree) × IsAcceptedAs (chars (path_of n.location)) q × (nodelist q d ≡ n ∷ [])
+    → (q : QueryTree) × ((profile : Profile) → IsAcceptedAs profile (chars (path_of n.location)) q)
+    × (nodelist q d ≡ n ∷ [])
 
 -- a nodelist has nodes of the document alone, each with the value that stands at its location,
 -- whatever node the query begins at (section 2.1.2)
@@ -32,3 +41,37 @@ abbrev pub NamesRiseInSides : Type 0
 NamesRiseInSides =
     (x : OperandTree) (d : Value) (c : Node) (v : Value) → StandsIn d c →
     operand_value x d c ≡ Some v → NamesRise v
+
+-- a node of the list has the location of n
+abbrev pub is_there : List Node → Node → Bool
+is_there ns n = list_any (is_same_node n) ns
+
+-- no two of the nodes have one location
+abbrev pub AreApart : List Node → Type 0
+AreApart [] = Unit {0}
+AreApart (n ∷ ns) = AllByRecursion (λ m. is_same_node n m ≡ false) ns × AreApart ns
+
+-- what `distinct` answers
+pub record DistinctIsExact : Type 0 where
+  -- it has the locations of the argument's nodes
+  pub same : (ns : List Node) (n : Node) → is_there (without_repeats ns) n ≡ is_there ns n
+  -- each is a node of the argument
+  pub own : (ns : List Node) → All (Contains ns) (without_repeats ns)
+  -- no two of them have one location
+  pub apart : (ns : List Node) → AreApart (without_repeats ns)
+  -- they stand in the order of their first occurrences: one node more comes last, unless its
+  -- location was there
+  pub first : (ns : List Node) (n : Node) →
+      without_repeats (ns ++ n ∷ []) ≡ without_repeats ns ++ (if is_there ns n then [] else n ∷ [])
+  -- a list without repeats stays as it is
+  pub unchanged : (ns : List Node) → AreApart ns → without_repeats ns ≡ ns
+
+-- what a call of a function other than `distinct` is, or of none: it answers no nodes, so that no
+-- argument stands for any by it, and it is true as a test where its answer is. So a query without
+-- `distinct` means what it means with the functions of the standard alone
+pub record StandardCalls : Type 0 where
+  pub no_nodes : (cs : List ℕ) (xs : ArgumentTrees) (d : Value) (c : Node)
+      → function_named Extended cs ≢ Some Distinct → call_nodes (call cs xs) d c ≡ None
+  pub tests : (cs : List ℕ) (xs : ArgumentTrees) (d : Value) (c : Node)
+      → function_named Extended cs ≢ Some Distinct
+      → holds (call_test (call cs xs)) d c ≡ call_holds (call cs xs) d c

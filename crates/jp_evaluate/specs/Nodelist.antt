@@ -16,10 +16,11 @@ use Rattle.jp_tree.specs.Tree.{null_literal, number, query, query_argument, segm
 use Rattle.jp_tree.specs.Tree.{selector_then, text, true_literal}
 use Rattle.jp_tree.specs.declared.tree.Numeral.TheVariants.{Whole}
 use Rattle.jp_check.specs.Functions.{function_named}
+use Rattle.jp_check.specs.declared.profile.Profile.TheVariants.{Extended}
 use Rattle.jp_select.specs.Subtree.{subtree_of}
 use Rattle.jp_select.specs.Comparison.{compared}
 use Rattle.jp_select.specs.Selectors.{chosen}
-use Rattle.jp_evaluate.specs.Functions.{logical_answer, only_value, value_answer}
+use Rattle.jp_evaluate.specs.Functions.{logical_answer, nodes_answer, only_value, value_answer}
 
 -- the nodes at which a segment applies its selectors: a child segment at the nodes themselves
 -- (section 2.5.1.2), a descendant segment at each node and its descendants (section 2.5.2.2)
@@ -36,6 +37,11 @@ start_of false d c = c
 abbrev pub has_node : List Node → Bool
 has_node [] = false
 has_node (n ∷ ns) = true
+
+-- the same where there may be no list
+abbrev pub some_node : Option (List Node) → Bool
+some_node None = false
+some_node (Some ns) = has_node ns
 
 -- the value of the node of a singular query's nodelist, Nothing where that is empty; other queries
 -- have none (section 2.3.5.1)
@@ -89,7 +95,7 @@ abbrev mutual
   holds (comparison left op right) d c =
       compared op (operand_value left d c) (operand_value right d c)
   holds (exists q) d c = has_node (nodelist_at q d c)
-  holds (call_test f) d c = call_holds f d c
+  holds (call_test f) d c = call_holds f d c || some_node (call_nodes f d c)
 
   -- one of the expressions is true
   pub any_holds : ExprTrees → Value → Node → Bool
@@ -112,15 +118,22 @@ abbrev mutual
   -- none
   pub call_answer : CallTree → Value → Node → Option Value
   call_answer (call cs (argument_then x no_arguments)) d c =
-      value_answer (function_named cs) (argument_value x d c) (argument_nodes x d c)
+      value_answer (function_named Extended cs) (argument_value x d c) (argument_nodes x d c)
   call_answer (call cs _) d c = None
 
   -- whether a function answers true (section 2.4); a call that is not well-typed as a test is false
   -- here
   pub call_holds : CallTree → Value → Node → Bool
   call_holds (call cs (argument_then x (argument_then y no_arguments))) d c =
-      logical_answer (function_named cs) (argument_value x d c) (argument_value y d c)
+      logical_answer (function_named Extended cs) (argument_value x d c) (argument_value y d c)
   call_holds (call cs _) d c = false
+
+  -- the nodes that a function answers (section 2.4.1); a call that is not well-typed as nodes has
+  -- none
+  pub call_nodes : CallTree → Value → Node → Option (List Node)
+  call_nodes (call cs (argument_then x no_arguments)) d c =
+      nodes_answer (function_named Extended cs) (argument_nodes x d c)
+  call_nodes (call cs _) d c = None
 
   -- the value that an argument stands for (section 2.4.3)
   pub argument_value : ArgumentTree → Value → Node → Option Value
@@ -129,11 +142,12 @@ abbrev mutual
   argument_value (call_argument f) d c = call_answer f d c
   argument_value (logical_argument e) d c = None
 
-  -- the nodes that an argument stands for (section 2.4.3), where it is a query
+  -- the nodes that an argument stands for (section 2.4.3), where it is a query or a call that
+  -- answers nodes
   pub argument_nodes : ArgumentTree → Value → Node → Option (List Node)
   argument_nodes (query_argument q) d c = Some (nodelist_at q d c)
   argument_nodes (literal_argument x) d c = None
-  argument_nodes (call_argument f) d c = None
+  argument_nodes (call_argument f) d c = call_nodes f d c
   argument_nodes (logical_argument e) d c = None
 
 -- the nodelist of a whole query over the document's value d: it begins at the root (section 2.2.2)

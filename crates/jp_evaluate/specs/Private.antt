@@ -3,6 +3,7 @@
 pub mod Asked
 pub mod Calls
 pub mod ReadText
+pub mod Selecting
 pub mod Singular
 pub mod Sizes
 pub mod Walk

@@ -1,5 +1,5 @@
 //! The functions of filters (RFC 9535 section 2.4), over their arguments.
-ghost use Rattle.std.specs.Prelude.{◌≡◌, IfOk, length, option_map};
+ghost use Rattle.std.specs.Prelude.{◌≡◌, ◌<◌, IfOk, IfSome, length, option_map};
 ghost use Rattle.jp_document.specs.DocumentValue.{lent_value};
 ghost use Rattle.jp_tree.specs.Tree.{argument_of, call_of, query_of};
 ghost use Rattle.jp_select.specs.Comparable.{comparable_of};
@@ -7,19 +7,21 @@ ghost use Rattle.jp_evaluate.specs.Functions.{only_value};
 ghost use Rattle.jp_evaluate.specs.Nodelist.{argument_value, call_answer, call_holds, nodelist_at};
 ghost use Rattle.jp_evaluate.specs.Private.Asked.{asked};
 ghost use Rattle.jp_evaluate.specs.Private.Calls.{argument_query, both_arguments, call_function};
-ghost use Rattle.jp_evaluate.specs.Private.Calls.{only_argument};
+ghost use Rattle.jp_evaluate.specs.Private.Calls.{call_query, counted, only_argument};
+ghost use Rattle.jp_evaluate.specs.Private.Selecting.{nodes_query};
+ghost use Rattle.jp_evaluate.specs.Private.Sizes.{argument_size, call_size, query_size};
 
 use crate::evaluating::logical_answer;
 use crate::filter::Asking;
 use crate::length::length_of;
 use crate::operand::{comparable, literal_value, whole};
 use crate::pattern::Patterns;
-use crate::walk::Walk;
-use jp_check::Function;
+use crate::selecting::{NodesQuery, Selecting};
+use jp_check::{Function, Profile};
 use jp_document::DocumentValue;
 use jp_match::Matching;
 use jp_select::Comparable;
-use jp_tree::{Argument, Call, Query};
+use jp_tree::{Argument, Call};
 use std::alloc::AllocError;
 
 impl<'a, 'q, M: Matching> Asking<'a, 'q, M> {
@@ -39,14 +41,16 @@ impl<'a, 'q, M: Matching> Asking<'a, 'q, M> {
         match function_of(call) {
             Some(Function::Length) => Ok(length_of(self.argument_value(patterns, argument)?)),
             Some(Function::Count) => match argument_query(argument) {
-                Some(query) => Ok(whole(self.node_count(patterns, query)?)),
+                Some(nodes) => Ok(whole(self.node_count(patterns, nodes)?)),
                 None => Ok(Comparable::Nothing),
             },
             Some(Function::ValueOf) => match argument_query(argument) {
-                Some(query) => Ok(comparable(self.only_value(patterns, query)?)),
+                Some(nodes) => Ok(comparable(self.only_value(patterns, nodes)?)),
                 None => Ok(Comparable::Nothing),
             },
-            Some(Function::Match) | Some(Function::Search) | None => Ok(Comparable::Nothing),
+            Some(Function::Match | Function::Search | Function::Distinct) | None => {
+                Ok(Comparable::Nothing)
+            }
         }
     }
 
@@ -85,39 +89,41 @@ impl<'a, 'q, M: Matching> Asking<'a, 'q, M> {
         }
     }
 
-    /// How many nodes a query selects, repeats counted.
+    /// How many nodes a query selects, those alone that are counted.
     #[cycle(filter)]
-    fn node_count(&self, patterns: &mut Patterns<'q>, query: &'q Query) -> Result<u64, AllocError>
-        ensures { IfOk result
-            (λ count. count ≡ length (asked self.now (nodelist_at (query_of query.now)))) }
+    fn node_count(
+        &self,
+        patterns: &mut Patterns<'q>,
+        nodes: NodesQuery<'q>,
+    ) -> Result<u64, AllocError>
+        ensures { IfOk result (λ count. count ≡ length (counted nodes.entry.distinct
+            (asked self.now (nodelist_at (query_of nodes.entry.query.now))))) }
     {
-        let mut walk = Walk::from(self.evaluation.alloc, self.start(query));
+        let mut selecting = Selecting::from(self.evaluation.alloc, nodes, self.start(nodes.query));
         let mut count: u64 = 0;
-        while walk
-            .advance(self.evaluation, patterns, &query.segments)?
-            .is_some()
-        {
+        while selecting.next(self.evaluation, patterns)?.is_some() {
             count = count.checked_add(1).ok_or(AllocError)?;
         }
         Ok(count)
     }
 
-    /// The value of the only node that a query selects, None where it selects none or several; the
-    /// walk ends at the second.
+    /// The value of the only node that a query selects, of those that are counted; None where these
+    /// are none or several. The walk ends at the second.
     #[cycle(filter)]
     fn only_value(
         &self,
         patterns: &mut Patterns<'q>,
-        query: &'q Query,
+        nodes: NodesQuery<'q>,
     ) -> Result<Option<DocumentValue<'q>>, AllocError>
-        ensures { IfOk result (λ value. option_map lent_value value
-            ≡ only_value (asked self.now (nodelist_at (query_of query.now)))) }
+        ensures { IfOk result (λ value. option_map lent_value value ≡ only_value
+            (counted nodes.entry.distinct
+            (asked self.now (nodelist_at (query_of nodes.entry.query.now))))) }
     {
-        let mut walk = Walk::from(self.evaluation.alloc, self.start(query));
-        let Some(place) = walk.advance(self.evaluation, patterns, &query.segments)? else {
+        let mut selecting = Selecting::from(self.evaluation.alloc, nodes, self.start(nodes.query));
+        let Some(place) = selecting.next(self.evaluation, patterns)? else {
             return Ok(None);
         };
-        match walk.advance(self.evaluation, patterns, &query.segments)? {
+        match selecting.next(self.evaluation, patterns)? {
             Some(_) => Ok(None),
             None => Ok(Some(place.value)),
         }
@@ -129,16 +135,41 @@ impl<'a, 'q, M: Matching> Asking<'a, 'q, M> {
 fn function_of(call: &Call) -> Option<Function>
     ensures { result ≡ call_function (call_of call.now) }
 {
-    Function::named(&call.name)
+    Function::named(&call.name, Profile::Extended)
 }
 
-/// The query that an argument is.
-fn argument_query(argument: &Argument) -> Option<&Query>
-    ensures { option_map (λ q. query_of q.now) result ≡ argument_query (argument_of argument.now) }
+/// The query whose nodes an argument stands for, if it stands for nodes.
+#[cycle(arguments)]
+fn argument_query(argument: &Argument) -> Option<NodesQuery<'_>>
+    ensures gives { option_map nodes_query result ≡ argument_query (argument_of argument.now) }
+    ensures smaller { IfSome result (λ n. query_size (query_of n.query.now)
+        < argument_size (argument_of argument.now)) }
 {
     match argument {
-        Argument::Query(query) => Some(query),
-        Argument::Literal(_) | Argument::Call(_) | Argument::Logical(_) => None,
+        Argument::Query(query) => Some(NodesQuery {
+            query,
+            distinct: false,
+        }),
+        Argument::Call(call) => call_query(call),
+        Argument::Literal(_) | Argument::Logical(_) => None,
+    }
+}
+
+/// The query whose nodes a call answers, if it answers nodes. Calls of `distinct` inside one another
+/// are the same as one.
+#[cycle(arguments)]
+pub(crate) fn call_query(call: &Call) -> Option<NodesQuery<'_>>
+    ensures gives { option_map nodes_query result ≡ call_query (call_of call.now) }
+    ensures smaller { IfSome result (λ n. query_size (query_of n.query.now)
+        < call_size (call_of call.now)) }
+{
+    let argument = only_argument(call)?;
+    match function_of(call) {
+        Some(Function::Distinct) => Some(NodesQuery {
+            query: argument_query(argument)?.query,
+            distinct: true,
+        }),
+        _ => None,
     }
 }
 

@@ -61,6 +61,7 @@ fn text_answer<'q, M: Matching>(
         Some(Function::Search) => evaluation
             .matcher
             .part(alloc, pattern, text, &mut Tests::new()),
-        Some(Function::Length | Function::Count | Function::ValueOf) | None => Ok(false),
+        Some(Function::Length | Function::Count | Function::ValueOf | Function::Distinct) | None =>
+            { Ok(false) }
     }
 }

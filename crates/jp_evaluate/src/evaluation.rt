@@ -27,7 +27,7 @@ pub fn nodes<'d: 'q, 'q, M: Matching>(
     matcher: &'q M,
 ) -> Nodes<'d, 'q, M>
     ensures working { has_failed result ≡ false }
-    ensures nodes { rest_of result ≡ nodelist (query_of query.now) (document_of document.now) }
+    ensures nodes { rest_of result ≡ nodelist (query_of query.now.query) (document_of document.now) }
 {
     let root = document.value();
     Nodes {
@@ -54,7 +54,7 @@ pub fn evaluate<'d, M: Matching>(
     matcher: &M,
 ) -> Result<Vec<Node<'d>>, AllocError>
     ensures { IfOk result (λ nodes. map node_of nodes.items
-        ≡ nodelist (query_of query.now) (document_of document.now)) }
+        ≡ nodelist (query_of query.now.query) (document_of document.now)) }
 {
     let mut selected = Vec::new(alloc);
     for next in nodes(alloc, document, query, matcher) {

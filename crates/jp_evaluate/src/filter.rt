@@ -6,6 +6,7 @@ ghost use Rattle.jp_evaluate.specs.Nodelist.{all_hold, any_holds, has_node, hold
 ghost use Rattle.jp_evaluate.specs.Nodelist.{operand_value};
 ghost use Rattle.jp_evaluate.specs.Private.Asked.{asked};
 
+use crate::calls::call_query;
 use crate::evaluating::Evaluation;
 use crate::operand::{comparable, literal_value};
 use crate::pattern::Patterns;
@@ -44,7 +45,10 @@ impl<'a, 'q, M: Matching> Asking<'a, 'q, M> {
                 Ok(compare(*op, left, right))
             }
             Expr::Test(Subject::Query(query)) => self.selects_some(patterns, query),
-            Expr::Test(Subject::Call(call)) => self.call_holds(patterns, call),
+            Expr::Test(Subject::Call(call)) => match call_query(call) {
+                Some(nodes) => self.selects_some(patterns, nodes.query),
+                None => self.call_holds(patterns, call),
+            },
         }
     }
 

@@ -1,7 +1,7 @@
 //! Laws over the definitions.
 
-ghost use Rattle.jp_evaluate.specs.Laws.{NamesRiseInSides, PathSelectsItsNode, SelectsNodesAlone};
-ghost use Rattle.jp_evaluate.specs.Laws.{SingularSelectsOne};
+ghost use Rattle.jp_evaluate.specs.Laws.{DistinctIsExact, NamesRiseInSides, PathSelectsItsNode, SelectsNodesAlone};
+ghost use Rattle.jp_evaluate.specs.Laws.{SingularSelectsOne, StandardCalls};
 
 /// The normalized path of a node of a document, read as a query, is accepted and selects that node
 /// alone (RFC 9535 section 2.7).
@@ -25,4 +25,16 @@ pub fn singular_selects_one()
 /// (sections 2.3.5.1 and 2.3.5.2.2).
 pub fn names_rise_in_sides()
     ensures { NamesRiseInSides }
+{}
+
+/// `distinct` answers the nodes of its argument, each location once, in the order of their first
+/// occurrences; a list without repeats stays as it is.
+pub fn distinct_is_exact()
+    ensures { DistinctIsExact }
+{}
+
+/// A call of another function than `distinct` answers no nodes, and is true as a test where its
+/// answer is: a query without `distinct` means what it means with the standard's functions alone.
+pub fn standard_calls()
+    ensures { StandardCalls }
 {}

@@ -2,7 +2,7 @@
 //!
 //! ```text
 //! let document = Document::read(alloc, b"[{\"a\":1},{\"a\":2}]")?;
-//! let query = read_query(alloc, "$..a")?;
+//! let query = read_query(alloc, "$..a", Profile::Standard)?;
 //! evaluate(alloc, &document, &query, &Marks)?;      // $[0]['a'] $[1]['a']
 //! nodes(alloc, &document, &query, &Marks).next();   // $[0]['a']
 //! ```
@@ -11,7 +11,8 @@
 //! `specs/Nodelist.antt` and, for what functions answer, `specs/Functions.antt`, in order and with
 //! repeats, one at a time, and `evaluate` collects them. By `laws` the normalized path of a node of
 //! a document, read as a query, selects that node alone, a query selects nodes of the document
-//! alone, and a singular one at most one.
+//! alone, and a singular one at most one. Nothing that they give depends on a query's profile: one
+//! without `distinct` means what it means with the standard's functions alone.
 #![tactic(auto)]
 
 mod calls;
@@ -23,6 +24,7 @@ pub mod laws;
 mod length;
 mod operand;
 mod pattern;
+mod selecting;
 mod singular;
 #[cfg(test)]
 mod tests;

@@ -1,6 +1,6 @@
 //! Nodelists, and nodes one at a time. Other rows are in jp_command's table.
 use crate::{evaluate, nodes};
-use jp_check::read_query;
+use jp_check::{Profile, read_query};
 use jp_document::{Document, path_text, value_text};
 use jp_match::Marks;
 use std::alloc::Global;
@@ -10,7 +10,9 @@ const NESTED: &[u8] = br#"{"o":{"j":1,"k":2},"a":[5,3,[{"j":4},{"k":6}]]}"#;
 
 /// The paths of the nodelist, each with a blank before it.
 fn nodelist(alloc: Global, bytes: &[u8], query: &str) -> Result<String, Fail> {
-    let query = read_query(alloc, query).ok().ok_or("refused")?;
+    let query = read_query(alloc, query, Profile::Extended)
+        .ok()
+        .ok_or("refused")?;
     let document = Document::read(alloc, bytes)?;
     let mut paths = String::new(alloc);
     for node in &evaluate(alloc, &document, &query, &Marks)? {
@@ -31,6 +33,17 @@ fn nodelists(rt: HostRuntime) -> Result<(), Fail> {
         ),
         (b"[[[3],[4]],[[5]],6]", "$[?@..[?@==5]]", " $[1]"),
         (
+            b"[[1,1],[1]]",
+            "$[?count(distinct(@[0,0,1,0]))==2]",
+            " $[0]",
+        ),
+        (
+            b"[[1,1],[1]]",
+            "$[?value(distinct(@[0,0]))==1]",
+            " $[0] $[1]",
+        ),
+        (b"[[1],[]]", "$[?distinct(distinct(@.*))]", " $[0]"),
+        (
             NESTED,
             "$..*",
             " $['a'] $['o'] $['a'][0] $['a'][1] $['a'][2] $['a'][2][0] $['a'][2][1] \
@@ -46,7 +59,9 @@ fn nodelists(rt: HostRuntime) -> Result<(), Fail> {
 fn nodes_one_at_a_time(rt: HostRuntime) -> Result<(), Fail> {
     let alloc = rt.alloc();
     let document = Document::read(alloc, NESTED)?;
-    let query = read_query(alloc, "$..*").ok().ok_or("refused")?;
+    let query = read_query(alloc, "$..*", Profile::Standard)
+        .ok()
+        .ok_or("refused")?;
     let mut some = nodes(alloc, &document, &query, &Marks);
     for path in ["$['a']", "$['o']", "$['a'][0]"] {
         let node = some.next().ok_or("no node")??;
@@ -66,7 +81,9 @@ fn nodes_one_at_a_time(rt: HostRuntime) -> Result<(), Fail> {
 fn no_nodes(rt: HostRuntime) -> Result<(), Fail> {
     let alloc = rt.alloc();
     let document = Document::read(alloc, b"[{}]")?;
-    let query = read_query(alloc, "$[?@.x]").ok().ok_or("refused")?;
+    let query = read_query(alloc, "$[?@.x]", Profile::Standard)
+        .ok()
+        .ok_or("refused")?;
     let mut none = nodes(alloc, &document, &query, &Marks);
     assert!(rt; none.next().is_none() && none.next().is_none() && !none.failed());
     Ok(())

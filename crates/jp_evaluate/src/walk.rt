@@ -170,13 +170,26 @@ impl<'d> Walk<'d> {
     pub(crate) fn node_at(&self, alloc: Global, place: Place<'d>) -> Result<Node<'d>, AllocError>
         ensures { IfOk result (λ n. node_of n ≡ reached_place self.now place.entry) }
     {
+        Ok(Node::of(self.location_at(alloc, place)?, place.value))
+    }
+
+    /// Where it is.
+    #[inline(always)]
+    pub(crate) fn location_at(
+        &self,
+        alloc: Global,
+        place: Place<'d>,
+    ) -> Result<Vec<Step<'d>>, AllocError>
+        ensures { IfOk result (λ l. map key_of l.items
+            ≡ (reached_place self.now place.entry).location) }
+    {
         let mut location = Vec::with_capacity(alloc, self.below.len() + 2)?;
         for frame in &self.below {
             push_step(&mut location, frame.place.step)?;
         }
         push_step(&mut location, self.top.and_then(|frame| frame.place.step))?;
         push_step(&mut location, place.step)?;
-        Ok(Node::of(location, place.value))
+        Ok(location)
     }
 }
 

@@ -3,8 +3,8 @@
 //! Its word is the task for each line of the standard input. `paths` reads the line as a normalized
 //! path and writes its steps or why it is none; `steps` and `no-steps` read it as a pattern and
 //! write whether a scan accepts 100,000 times `ab`, or the empty text; `descend` reads it as a
-//! document and writes how many nodes it has. The status is 0, 4 where memory ran out, and 5 where a
-//! read or a write failed otherwise.
+//! document and writes how many nodes it has. The status is 0, 4 where memory ran out, and 5 where
+//! a read or a write failed otherwise.
 #![tactic(auto)]
 
 use jp_document::{Document, DocumentFault, OwnedStep, PathFault, read_path};

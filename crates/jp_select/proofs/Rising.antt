@@ -39,7 +39,7 @@ Rise ns = IsStrictlySortedBy location_cmp (places ns)
 abbrev pub IsBefore : Location → List Node → Type 0
 IsBefore l ns = AllByRecursion (λ m. location_cmp l m ≡ Less) (places ns)
 
-cancel : (k l m : Location) → location_cmp (k ++ l) (k ++ m) ≡ location_cmp l m
+pub cancel : (k l m : Location) → location_cmp (k ++ l) (k ++ m) ≡ location_cmp l m
 cancel [] l m = refl
 cancel (j ∷ k) l m =
     ap (λ o. ordering_then o (location_cmp (k ++ l) (k ++ m))) (key_same j) ∙ cancel k l m

@@ -23,8 +23,8 @@ pub record SubtreeRises : Type 0 where
   -- each is a node of d, with the value that d has at its location
   pub stand : (d : Value) (n : Node) → StandsIn d n → All (StandsIn d) (subtree_of n)
 
--- a plain selector selects, at a node of d, nodes of d alone, each with the value that stands at its
--- location (RFC 9535 section 2.3)
+-- a plain selector selects, at a node of d, nodes of d alone, each with the value that stands at
+-- its location (RFC 9535 section 2.3)
 abbrev pub ChoosesNodesAlone : Type 0
 ChoosesNodesAlone =
     (d : Value) (n : Node) (s : SelectorTree) → StandsIn d n → All (StandsIn d) (chosen s n)

@@ -4,6 +4,7 @@ use Rattle.jp_reading.specs.Texts.{Spans, Text}
 use Rattle.jp_query.specs.Grammar.{Inside, Nested, Segments, Spells}
 use Rattle.jp_query.specs.Laws.{OneReading}
 use Rattle.jp_tree.specs.Tree.{QueryTree, segments}
+use Rattle.jp_check.specs.declared.profile.Profile.TheVariants.{Extended}
 use Rattle.jp_canon.specs.Canon.{canon_of, segments_text}
 use Rattle.jp_canon.specs.Laws.{CanonIsAccepted, CanonSpells, CanonTellsApart}
 use Rattle.jp_canon.proofs.Forms.{Has, both, has-word}
@@ -41,7 +42,7 @@ canon-spells n q s text h =
     (found.0, record { parts = h.parts; tree = refl; is = found.1 })
 
 pub canon-accepted : CanonIsAccepted
-canon-accepted q accepted =
+canon-accepted profile q accepted =
     let reading = accepted.1 in
     let found = canon-spells _ q reading.spans accepted.0 reading.spelled in
     record { spans = found.0; spelled = found.1; faultless = reading.faultless }
@@ -55,8 +56,8 @@ one-tree one n m q u r s v w first second same =
 pub canon-tells-apart : OneReading → CanonTellsApart
 canon-tells-apart one q u accepted other = (
   λ same.
-      let here = canon-accepted q accepted in
-      let there = canon-accepted u other in
+      let here = canon-accepted Extended q accepted in
+      let there = canon-accepted Extended u other in
       one-tree one _ _ q u here.spans there.spans (canon_of q)
       (canon_of u) here.spelled there.spelled same,
   ap canon_of,

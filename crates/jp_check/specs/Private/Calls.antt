@@ -4,6 +4,7 @@ use Rattle.jp_query.specs.Items.{QueryItem, arguments_items, count}
 use Rattle.jp_tree.specs.Tree.{ArgumentTree, CallTree, arguments, call}
 use Rattle.jp_check.specs.declared.functions.DataType.{DataType}
 use Rattle.jp_check.specs.declared.functions.Signature as declared
+use Rattle.jp_check.specs.declared.profile.Profile.{Profile}
 use Rattle.jp_check.specs.Functions.{Signature, signature_named}
 use Rattle.jp_check.specs.Types.{wanted_of_arguments}
 
@@ -12,8 +13,9 @@ abbrev pub signature_of : declared.Signature → Signature
 signature_of s = record { parameters = s.parameters.now; result = s.answer }
 
 -- the types that are wanted of a call's arguments
-abbrev pub wanted_of_call : CallTree → List DataType
-wanted_of_call (call name all) = wanted_of_arguments (signature_named name) (count all)
+abbrev pub wanted_of_call : Profile → CallTree → List DataType
+wanted_of_call profile (call name all) =
+    wanted_of_arguments (signature_named profile name) (count all)
 
 -- the items of the arguments of a call from the one after so many others, which are these
 abbrev pub arguments_from : CallTree → ℕ → List ArgumentTree → List QueryItem

@@ -18,13 +18,15 @@ use Rattle.jp_tree.specs.declared.tree.Numeral.{Numeral}
 use Rattle.jp_tree.specs.declared.tree.Numeral.TheVariants.{Beyond, Fraction}
 use Rattle.jp_check.specs.declared.functions.DataType.{DataType}
 use Rattle.jp_check.specs.declared.functions.DataType.TheVariants.{Value, Logical}
+use Rattle.jp_check.specs.declared.profile.Profile.{Profile}
 use Rattle.jp_check.specs.Functions.{Signature, signature_named}
 use Rattle.jp_check.specs.Types.{fits, wanted}
 use Rattle.jp_check.specs.Ranges.{is_in_index_range}
 
--- how far the walk is: the spans of the items that are still to come, and the first fault of those
--- that were
+-- how far the walk is: its profile, the spans of the items that are still to come, and the first
+-- fault of those that were
 pub record Progress : Type 0 where
+  pub profile : Profile
   pub spans : Spans
   pub first : Option Refusal
 
@@ -56,20 +58,21 @@ fault_of_called (Some function) given want =
     else Some ArgumentCount
 
 -- the fault of a call where that type is wanted, if it has one
-abbrev pub fault_of_call : CallTree → Option DataType → Option RefusalKind
-fault_of_call (call name all) want = fault_of_called (signature_named name) (count all) want
+abbrev pub fault_of_call : Profile → CallTree → Option DataType → Option RefusalKind
+fault_of_call profile (call name all) want =
+    fault_of_called (signature_named profile name) (count all) want
 
 -- the fault of a logical expression where that type is wanted, if it has one
 abbrev pub fault_of_logical : Option DataType → Option RefusalKind
 fault_of_logical want = ill_typed Logical want
 
 -- the fault of an item, if it has one; of several the one with the least number
-abbrev pub fault_of : QueryItem → Option RefusalKind
-fault_of (int n _) = fault_of_int n
-fault_of (constant l role) = fault_of_literal l (wanted role)
-fault_of (inner q role) = fault_of_query q (wanted role)
-fault_of (called c role) = fault_of_call c (wanted role)
-fault_of (logical e role) = fault_of_logical (wanted role)
+abbrev pub fault_of : Profile → QueryItem → Option RefusalKind
+fault_of profile (int n _) = fault_of_int n
+fault_of profile (constant l role) = fault_of_literal l (wanted profile role)
+fault_of profile (inner q role) = fault_of_query q (wanted profile role)
+fault_of profile (called c role) = fault_of_call profile c (wanted profile role)
+fault_of profile (logical e role) = fault_of_logical (wanted profile role)
 
 -- whether the one fault stands before the other
 abbrev pub is_before : Refusal → Refusal → Bool
@@ -82,24 +85,36 @@ abbrev pub earlier : Option Refusal → Refusal → Option Refusal
 earlier None fault = Some fault
 earlier (Some first) fault = if is_before fault first then Some fault else Some first
 
--- past an item with that fault or none, whose span comes next
-abbrev pub past_item : Option RefusalKind → Spans → Option Refusal → Progress
-past_item fault [] first = record { spans = []; first = first }
-past_item (Some kind) (Some span ∷ rest) first =
-    record { spans = rest; first = earlier first (record { kind = kind; place = span.start }) }
-past_item _ (_ ∷ rest) first = record { spans = rest; first = first }
+-- the spans past the next item
+abbrev pub spans_past : Spans → Spans
+spans_past [] = []
+spans_past (_ ∷ rest) = rest
+
+-- the first fault past an item with that fault or none, whose span comes next
+abbrev pub first_past : Option RefusalKind → Spans → Option Refusal → Option Refusal
+first_past fault [] first = first
+first_past (Some kind) (Some span ∷ rest) first =
+    earlier first (record { kind = kind; place = span.start })
+first_past _ (_ ∷ rest) first = first
+
+-- past an item with that fault or none
+abbrev pub past_item : Option RefusalKind → Progress → Progress
+past_item fault p = record {
+  profile = p.profile;
+  spans = spans_past p.spans;
+  first = first_past fault p.spans p.first;
+}
 
 -- past these items
 abbrev pub steps : List QueryItem → Progress → Progress
 steps [] p = p
-steps (x ∷ xs) p = steps xs (past_item (fault_of x) p.spans p.first)
+steps (x ∷ xs) p = steps xs (past_item (fault_of p.profile x) p)
 
 -- past an argument of which that type is wanted, and past the items in it
 abbrev pub past_argument : Option DataType → ArgumentTree → Progress → Progress
-past_argument want (literal_argument l) p = past_item (fault_of_literal l want) p.spans p.first
-past_argument want (query_argument q) p =
-    steps (items_of q) (past_item (fault_of_query q want) p.spans p.first)
+past_argument want (literal_argument l) p = past_item (fault_of_literal l want) p
+past_argument want (query_argument q) p = steps (items_of q) (past_item (fault_of_query q want) p)
 past_argument want (call_argument c) p =
-    steps (call_items c) (past_item (fault_of_call c want) p.spans p.first)
+    steps (call_items c) (past_item (fault_of_call p.profile c want) p)
 past_argument want (logical_argument e) p =
-    steps (expr_items e) (past_item (fault_of_logical want) p.spans p.first)
+    steps (expr_items e) (past_item (fault_of_logical want) p)

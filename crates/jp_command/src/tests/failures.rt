@@ -4,6 +4,7 @@ use super::devices::{Blanks, Drip, Narrow, Trickle};
 use super::table::names::{IN_QUOTES, NAMES};
 use super::texts::nested;
 use crate::{Device, Fault, Form, Source, Writer, run_canon, run_check, run_eval};
+use jp_check::Profile::Standard;
 use jp_query::{Refusal, RefusalKind};
 use std::alloc::Global;
 use std::process::Abort;
@@ -18,7 +19,14 @@ fn tells_no_failure_where_none_came(rt: HostRuntime) {
     let mut drip = Drip::new(rt.alloc(), 1);
     let mut input = Device::new(&mut trickle);
     let mut output = Device::new(&mut drip);
-    let run = run_eval(rt.alloc(), IN_QUOTES, Form::Both, &mut input, &mut output);
+    let run = run_eval(
+        rt.alloc(),
+        IN_QUOTES,
+        Standard,
+        Form::Both,
+        &mut input,
+        &mut output,
+    );
     let failed = (input.failed(), output.failed());
     assert_eq!(rt; (run, failed), (Ok(()), (false, false)));
     assert_eq!(rt;
@@ -43,7 +51,14 @@ fn assert_write_fails(rt: &impl Abort, alloc: Global, taken: usize, takes_none: 
     drip.takes_none = takes_none;
     let mut output = Device::new(&mut drip);
     let mut input = Device::new(NAMES.as_bytes());
-    let run = run_eval(alloc, IN_QUOTES, Form::Both, &mut input, &mut output);
+    let run = run_eval(
+        alloc,
+        IN_QUOTES,
+        Standard,
+        Form::Both,
+        &mut input,
+        &mut output,
+    );
     let failed = (input.failed(), output.failed());
     assert_eq!(rt; (run, failed), (Err(Fault::Write), (false, true)));
     assert!(rt; LINE.as_bytes().get(..taken) == Some(drip.taken.as_slice()));
@@ -58,7 +73,14 @@ fn tells_each_read_that_fails(rt: HostRuntime) {
         let mut written = Vec::new(alloc);
         let mut input = Device::new(&mut trickle);
         let mut output = Device::new(&mut written);
-        let run = run_eval(alloc, IN_QUOTES, Form::Both, &mut input, &mut output);
+        let run = run_eval(
+            alloc,
+            IN_QUOTES,
+            Standard,
+            Form::Both,
+            &mut input,
+            &mut output,
+        );
         let failed = (input.failed(), output.failed());
         assert_eq!(rt;
             (run, failed, written.len(), trickle.calls),
@@ -75,7 +97,7 @@ fn stops_reading_an_input_that_never_ends(rt: HostRuntime) {
         let mut written = Vec::new(alloc);
         let mut input = Device::new(&mut blanks);
         let mut output = Device::new(&mut written);
-        let run = run_eval(alloc, "$", Form::Both, &mut input, &mut output);
+        let run = run_eval(alloc, "$", Standard, Form::Both, &mut input, &mut output);
         let failed = (input.failed(), output.failed());
         assert_eq!(rt;
             (run, failed, written.len(), blanks.calls),
@@ -93,6 +115,7 @@ fn writes_a_line_before_it_looks_for_the_next_node(rt: HostRuntime) -> Result<()
     let run = run_eval(
         alloc,
         each_item_twice.as_str(),
+        Standard,
         Form::Values,
         &mut Device::new(document.as_bytes()),
         &mut Device::new(&mut narrow),
@@ -114,6 +137,7 @@ fn keeps_what_was_written_before_a_failing_write(rt: HostRuntime) {
         let run = run_eval(
             alloc,
             query,
+            Standard,
             form,
             &mut Device::new(document.as_bytes()),
             &mut Device::new(&mut narrow),
@@ -128,7 +152,7 @@ fn keeps_what_was_written_before_a_failing_write(rt: HostRuntime) {
 #[test]
 fn tells_why_no_canonical_text_is_written(rt: HostRuntime) {
     let mut bytes = Vec::new(rt.alloc());
-    let run = run_canon(rt.alloc(), "$.a[", &mut Device::new(&mut bytes));
+    let run = run_canon(rt.alloc(), "$.a[", Standard, &mut Device::new(&mut bytes));
     let refusal = Refusal {
         kind: RefusalKind::Syntax,
         place: 4,
@@ -139,7 +163,12 @@ fn tells_why_no_canonical_text_is_written(rt: HostRuntime) {
 #[test]
 fn keeps_the_beginning_of_a_canonical_text(rt: HostRuntime) {
     let mut narrow = Narrow::new(rt.alloc(), 6, true);
-    let run = run_canon(rt.alloc(), "$.ab.c", &mut Device::new(&mut narrow));
+    let run = run_canon(
+        rt.alloc(),
+        "$.ab.c",
+        Standard,
+        &mut Device::new(&mut narrow),
+    );
     assert_eq!(rt;
         (run, narrow.taken.as_slice()),
         (Err(Fault::Write), b"$['ab'".as_slice())
@@ -149,7 +178,12 @@ fn keeps_the_beginning_of_a_canonical_text(rt: HostRuntime) {
 #[test]
 fn keeps_the_beginning_of_the_word_accepted(rt: HostRuntime) {
     let mut narrow = Narrow::new(rt.alloc(), 6, true);
-    let run = run_check(rt.alloc(), "$.ab.c", &mut Device::new(&mut narrow));
+    let run = run_check(
+        rt.alloc(),
+        "$.ab.c",
+        Standard,
+        &mut Device::new(&mut narrow),
+    );
     assert_eq!(rt;
         (run, narrow.taken.as_slice()),
         (Err(Fault::Write), b"accept".as_slice())

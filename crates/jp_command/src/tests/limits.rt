@@ -6,6 +6,7 @@ use super::rows::Answer::{Canonical, Nodes, Query};
 use super::rows::{Answer, assert_ended, assert_gives};
 use super::texts::nested;
 use jp_canon::canon;
+use jp_check::Profile::Standard;
 use jp_check::read_query;
 use std::alloc::Global;
 use std::process::Abort;
@@ -23,7 +24,13 @@ fn runs_queries_of_the_longest_length(rt: HostRuntime) -> Result<(), Fail> {
     let alloc = rt.alloc();
     for text in LONGEST {
         let query = nested(alloc, *text, ("", ""))?;
-        assert_gives(&rt, alloc, ("[1]", query.as_str()), Nodes(&[]), 999)?;
+        assert_gives(
+            &rt,
+            alloc,
+            ("[1]", query.as_str(), Standard),
+            Nodes(&[]),
+            999,
+        )?;
         let line = ["jp", "check", query.as_str()];
         assert_ended(&rt, alloc, &line, b"".as_slice(), (0, "accepted\n", ""))?;
     }
@@ -48,7 +55,7 @@ fn runs_no_longer_query(rt: HostRuntime) -> Result<(), Fail> {
 
 /// Asserts that no run takes a query, for its length, though it is an accepted one.
 fn assert_too_long(rt: &impl Abort, alloc: Global, query: &str) -> Result<(), Fail> {
-    assert!(rt; read_query(alloc, query).is_ok());
+    assert!(rt; read_query(alloc, query, Standard).is_ok());
     let refused = (1, "", "query refused: TextTooLong at 0\n");
     for subcommand in ["eval", "paths", "both", "canon", "check"] {
         let line = ["jp", subcommand, query];
@@ -69,7 +76,7 @@ fn gives_canonical_texts_of_half_a_million_segments(rt: HostRuntime) -> Result<(
 
 /// The canonical text of a query.
 fn canonical_text(alloc: Global, text: &str) -> Result<String, Fail> {
-    let query = read_query(alloc, text).ok().ok_or("refused")?;
+    let query = read_query(alloc, text, Standard).ok().ok_or("refused")?;
     Ok(canon(alloc, &query)?)
 }
 
@@ -92,7 +99,7 @@ fn nests_filters_64_deep(rt: HostRuntime) -> Result<(), Fail> {
     let alloc = rt.alloc();
     for (count, answer) in [(64, Nodes(&[])), (65, Query("TooDeep at 194"))] {
         let query = nested(alloc, ("$", "[?@", count, ""), ("]", ""))?;
-        assert_gives(&rt, alloc, ("[]", query.as_str()), answer, 999)?;
+        assert_gives(&rt, alloc, ("[]", query.as_str(), Standard), answer, 999)?;
     }
     Ok(())
 }
@@ -118,9 +125,9 @@ fn nests_parentheses_and_calls_64_deep(rt: HostRuntime) -> Result<(), Fail> {
     let alloc = rt.alloc();
     for (opening, count, inside, answer) in NESTED {
         let query = nested(alloc, ("$[?", opening, *count, inside), (")", "]"))?;
-        assert_gives(&rt, alloc, ("[]", query.as_str()), *answer, 999)?;
+        assert_gives(&rt, alloc, ("[]", query.as_str(), Standard), *answer, 999)?;
         if let Nodes(_) = answer {
-            prefixes::are_accepted_or_end(&rt, alloc, query.as_str());
+            prefixes::are_accepted_or_end(&rt, alloc, query.as_str(), Standard);
         }
     }
     Ok(())

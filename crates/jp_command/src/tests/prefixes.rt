@@ -1,18 +1,18 @@
 //! Prefixes of accepted queries and of documents.
 
-use jp_check::read_query;
+use jp_check::{Profile, read_query};
 use jp_document::{Document, DocumentFault};
 use jp_query::{Refusal, RefusalKind};
 use std::alloc::Global;
 use std::process::Abort;
 
-/// Each prefix of an accepted query is accepted, or refused where it ends.
-pub fn are_accepted_or_end(rt: &impl Abort, alloc: Global, query: &str) {
+/// Each prefix of a query that is accepted in that profile is accepted, or refused where it ends.
+pub fn are_accepted_or_end(rt: &impl Abort, alloc: Global, query: &str, profile: Profile) {
     for end in 0..query.len() {
         let Some(prefix) = query.get(..end) else {
             continue;
         };
-        let refusal = read_query(alloc, prefix).err();
+        let refusal = read_query(alloc, prefix, profile).err();
         assert!(rt;
             refusal.is_none() || refusal == Some(syntax_at(end)),
             "{prefix}"

@@ -3,6 +3,7 @@
 use super::devices::{Drip, Trickle};
 use super::prefixes;
 use crate::{Device, run_line};
+use jp_check::Profile::{self, Extended, Standard};
 use std::alloc::{AllocError, Global};
 use std::io::Read;
 use std::process::Abort;
@@ -10,6 +11,9 @@ use std::test::Fail;
 
 /// A document, a query, and what they give.
 pub type Row = (&'static str, &'static str, Answer);
+
+/// A document, a query, and what they give in `Extended` and in `Standard`.
+pub type ProfileRow = (&'static str, &'static str, Answer, Answer);
 
 /// What `jp both` gives, or `jp canon` for a canonical text.
 #[derive(Debug, Clone, Copy)]
@@ -24,23 +28,51 @@ pub enum Answer {
     Document(&'static str),
 }
 
-/// Runs each row. No prefix of a query that is accepted is refused but at its end, and where a row
-/// gives nodes, no proper prefix of its document is a document.
+/// Runs each row in both profiles.
 pub fn gives_each(rt: &impl Abort, alloc: Global, rows: &[Row]) -> Result<(), Fail> {
     for (document, query, answer) in rows {
-        gives_in_pieces(rt, alloc, (document, query), *answer)?;
-        match answer {
-            Answer::Nodes(_) => {
-                prefixes::are_accepted_or_end(rt, alloc, query);
-                prefixes::are_no_documents(rt, alloc, document);
-            }
-            Answer::Canonical(text) => {
-                prefixes::are_accepted_or_end(rt, alloc, query);
-                prefixes::are_accepted_or_end(rt, alloc, text);
-                gives_in_pieces(rt, alloc, (document, text), *answer)?;
-            }
-            Answer::Query(_) | Answer::Document(_) => {}
+        gives(rt, alloc, (document, query, Standard), *answer)?;
+        gives(rt, alloc, (document, query, Extended), *answer)?;
+    }
+    Ok(())
+}
+
+/// Runs each row in both profiles, in which it gives different answers.
+pub fn gives_in_each_profile(
+    rt: &impl Abort,
+    alloc: Global,
+    rows: &[ProfileRow],
+) -> Result<(), Fail> {
+    for (document, query, extended, standard) in rows {
+        gives(rt, alloc, (document, query, Extended), *extended)?;
+        gives(rt, alloc, (document, query, Standard), *standard)?;
+    }
+    Ok(())
+}
+
+/// A document, a query and the profile in which it is read.
+type Asked<'a> = (&'a str, &'a str, Profile);
+
+/// Runs a row. No prefix of a query that is accepted is refused but at its end, and where a row
+/// gives nodes, no proper prefix of its document is a document.
+fn gives(
+    rt: &impl Abort,
+    alloc: Global,
+    (document, query, profile): Asked<'_>,
+    answer: Answer,
+) -> Result<(), Fail> {
+    gives_in_pieces(rt, alloc, (document, query, profile), answer)?;
+    match answer {
+        Answer::Nodes(_) => {
+            prefixes::are_accepted_or_end(rt, alloc, query, profile);
+            prefixes::are_no_documents(rt, alloc, document);
         }
+        Answer::Canonical(text) => {
+            prefixes::are_accepted_or_end(rt, alloc, query, profile);
+            prefixes::are_accepted_or_end(rt, alloc, text, profile);
+            gives_in_pieces(rt, alloc, (document, text, profile), answer)?;
+        }
+        Answer::Query(_) | Answer::Document(_) => {}
     }
     Ok(())
 }
@@ -49,7 +81,7 @@ pub fn gives_each(rt: &impl Abort, alloc: Global, rows: &[Row]) -> Result<(), Fa
 fn gives_in_pieces(
     rt: &impl Abort,
     alloc: Global,
-    asked: (&str, &str),
+    asked: Asked<'_>,
     answer: Answer,
 ) -> Result<(), Fail> {
     for size in [1, 2, 3, 7, 999] {
@@ -64,7 +96,7 @@ fn gives_in_pieces(
 pub fn assert_gives(
     rt: &impl Abort,
     alloc: Global,
-    (document, query): (&str, &str),
+    (document, query, profile): Asked<'_>,
     answer: Answer,
     size: usize,
 ) -> Result<(), Fail> {
@@ -79,7 +111,7 @@ pub fn assert_gives(
     let mut faults = Vec::new(alloc);
     let ended = run_line(
         alloc,
-        words(alloc, &["jp", subcommand, query])?,
+        profile_words(alloc, subcommand, query, profile)?,
         &mut Device::new(&mut input),
         &mut Device::new(&mut output),
         &mut Device::new(&mut faults),
@@ -164,6 +196,19 @@ pub fn ended<R: Read + Drop>(
         &mut Device::new(&mut faults),
     );
     Ok((status, output, faults))
+}
+
+/// The line of words that asks for a query's run in that profile.
+fn profile_words(
+    alloc: Global,
+    subcommand: &str,
+    query: &str,
+    profile: Profile,
+) -> Result<Vec<String>, AllocError> {
+    match profile {
+        Standard => words(alloc, &["jp", subcommand, query]),
+        Extended => words(alloc, &["jp", subcommand, "--extended", query]),
+    }
 }
 
 /// A line of words, the program's name first.

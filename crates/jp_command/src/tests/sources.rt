@@ -4,6 +4,7 @@ ghost use Rattle.std.specs.Prelude.{None, false};
 
 use super::table::names::{IN_QUOTES, NAMES};
 use crate::{Device, Failed, Fault, Form, Source, run_eval};
+use jp_check::Profile::Standard;
 use jp_document::DocumentFault;
 use std::alloc::Global;
 use std::process::Abort;
@@ -14,6 +15,7 @@ fn ran<R: Source>(alloc: Global, input: &mut R) -> (Result<(), Fault>, Vec<u8>) 
     let run = run_eval(
         alloc,
         IN_QUOTES,
+        Standard,
         Form::Values,
         input,
         &mut Device::new(&mut written),

@@ -39,9 +39,53 @@ fn writes_the_form_of_its_subcommand(rt: HostRuntime) -> Result<(), Fail> {
     Ok(())
 }
 
+/// A document, and a query that `Extended` alone accepts.
+const SOME_OR_NONE: &str = r#"[{"a":0},{}]"#;
+
+const HAS_SOME: &str = "$[?distinct(@.*)]";
+
+#[test]
+fn reads_the_query_of_each_subcommand_in_the_profile_of_its_flag(
+    rt: HostRuntime,
+) -> Result<(), Fail> {
+    let alloc = rt.alloc();
+    let refused = (1, "", "query refused: UnknownFunction at 3\n");
+    for (subcommand, text) in [
+        ("check", "accepted\n"),
+        ("canon", "$[?distinct(@[*])]\n"),
+        ("eval", "{\"a\":0}\n"),
+        ("paths", "$[0]\n"),
+        ("both", "$[0]\t{\"a\":0}\n"),
+    ] {
+        let line = ["jp", subcommand, HAS_SOME, "--extended"];
+        assert_ended(&rt, alloc, &line, SOME_OR_NONE.as_bytes(), (0, text, ""))?;
+        let line = ["jp", subcommand, HAS_SOME];
+        assert_ended(&rt, alloc, &line, SOME_OR_NONE.as_bytes(), refused)?;
+    }
+    Ok(())
+}
+
+#[test]
+fn takes_the_flag_on_either_side_of_the_query(rt: HostRuntime) -> Result<(), Fail> {
+    let taken = (0, "$[0]\n", "");
+    let no_query = (1, "", "query refused: Syntax at 0\n");
+    let lines: [(&[&str], (u8, &str, &str)); 6] = [
+        (&["jp", "paths", "--extended", HAS_SOME], taken),
+        (&["jp", "paths", HAS_SOME, "--extended"], taken),
+        (&["jp", "paths", "--extended", "--", HAS_SOME], taken),
+        (&["jp", "paths", "--extended", "--", "-$"], no_query),
+        (&["jp", "paths", "--", "-$"], no_query),
+        (&["jp", "paths", "--", "--extended"], no_query),
+    ];
+    for (line, ended) in lines {
+        assert_ended(&rt, rt.alloc(), line, SOME_OR_NONE.as_bytes(), ended)?;
+    }
+    Ok(())
+}
+
 #[test]
 fn refuses_words_that_it_does_not_take(rt: HostRuntime) -> Result<(), Fail> {
-    let lines: [&[&str]; 9] = [
+    let lines: [&[&str]; 17] = [
         &[],
         &["jp"],
         &["jp", "both"],
@@ -51,6 +95,14 @@ fn refuses_words_that_it_does_not_take(rt: HostRuntime) -> Result<(), Fail> {
         &["jp", "--help"],
         &["jp", "--version"],
         &["jp", "both", "--help"],
+        &["jp", "both", "--extended"],
+        &["jp", "both", "--extended", "$", "--extended"],
+        &["jp", "both", "--extended", "--extended", "$"],
+        &["jp", "--extended", "both", "$"],
+        &["jp", "both", "--", "$", "--extended"],
+        &["jp", "both", "--extended=true", "$"],
+        &["jp", "both", "--extend", "$"],
+        &["jp", "both", "-e", "$"],
     ];
     for line in lines {
         let (status, output, faults) = ended(rt.alloc(), line, b"[1]".as_slice())?;
@@ -72,6 +124,7 @@ fn tells_of_each_subcommand_and_status_in_its_help(rt: HostRuntime) -> Result<()
         "\n  paths ",
         "\n  both ",
         "QUERY",
+        "--extended",
         "jp eval '$[-1]'",
         "0 done",
         "1 query refused",

@@ -1,8 +1,9 @@
 //! The table of rows, by the sections of RFC 9535: a document, a query, and what `jp both` or
-//! `jp canon` gives. A new row goes to its section, and nowhere else.
+//! `jp canon` gives in both profiles. A new row goes to its section, and nowhere else.
 
 mod canonical;
 mod comparisons;
+mod distinct;
 mod filters;
 mod functions;
 pub mod names;

@@ -1,5 +1,15 @@
-use Rattle.std.proofs.Common.{sym, ◌∙◌, rules}
+use Rattle.std.proofs.Common.{◌≡◌, IfOk, Some, ap, arith, length, option_map, pos, rules, subst, sym, ◌∙◌}
 use Rattle.jp_document.specs.DocumentValue.{lent_value}
+use Rattle.jp_document.specs.Node.{root_of}
+use Rattle.jp_document.specs.Value.{whole}
+use Rattle.jp_tree.specs.declared.tree.Expr.{the_lemmas}
+use Rattle.jp_tree.specs.Tree.{argument_of, call_of, call_test, expr_of}
+use Rattle.jp_check.specs.declared.functions.Function.TheVariants.{Count, ValueOf}
+use Rattle.jp_evaluate.specs.Functions.{value_answer}
+use Rattle.jp_evaluate.specs.Nodelist.{argument_value, holds}
+use Rattle.jp_evaluate.specs.Private.Selecting.{nodes_query}
+use Rattle.jp_evaluate.proofs.Parts.Counted.{counted_nodes, one-answer, test-logical, test-nodes}
+use Rattle.jp_evaluate.proofs.Walks.Selects.{begun_to_come}
 use Rattle.jp_evaluate.proofs.Walks.Advances.{ends_at, goes_on, goes_on_less, offer_less, passed_over}
 use Rattle.jp_evaluate.proofs.Parts.Sizes.{part_less}
 use Rattle.jp_evaluate.proofs.+filter.Goals as goal
@@ -22,8 +32,89 @@ filter::Asking::all_hold-holds-requires g t c κs within = (
 
 -- ---- calls
 
-pub filter::Asking::node_count-returns : goal.filter::Asking::node_count-returns
-filter::Asking::node_count-returns g t c = search rules
+pub filter::Asking::call_value-returns-in_ok-node_count-in-Some-argument_query :
+    goal.filter::Asking::call_value-returns-in_ok-node_count-in-Some-argument_query
+filter::Asking::call_value-returns-in_ok-node_count-in-Some-argument_query g t c =
+    let d = lent_value c.args.self.now.evaluation.now.root in
+    let n = root_of (lent_value c.args.self.now.current) in
+    let x = argument_of c.in-Some.argument.now in
+    c.whole.ensures
+    ∙ ap (λ m. Some (whole (pos m))) c.in_ok-node_count-in-Some-argument_query.ensures
+    ∙ ap (λ o. value_answer (Some Count) (argument_value x d n) (option_map (counted_nodes d n) o))
+    c.in-Some-argument_query.ensures.gives
+    ∙ one-answer (call_of c.args.call.now) x (Some Count) d n c.in-Some.ensures
+    (sym (ap Some c.in-Some-Count.field-0-is) ∙ c.in-Some-Count.ensures)
+
+pub filter::Asking::call_value-returns-in-None : goal.filter::Asking::call_value-returns-in-None
+filter::Asking::call_value-returns-in-None g t c =
+    let d = lent_value c.args.self.now.evaluation.now.root in
+    let n = root_of (lent_value c.args.self.now.current) in
+    let x = argument_of c.in-Some.argument.now in
+    ap (λ o. value_answer (Some Count) (argument_value x d n) (option_map (counted_nodes d n) o))
+    c.in-None.ensures.gives
+    ∙ one-answer (call_of c.args.call.now) x (Some Count) d n c.in-Some.ensures
+    (sym (ap Some c.in-Some-Count.field-0-is) ∙ c.in-Some-Count.ensures)
+
+pub filter::Asking::call_value-returns-in_ok-only_value-in-Some-argument_query-2 :
+    goal.filter::Asking::call_value-returns-in_ok-only_value-in-Some-argument_query-2
+filter::Asking::call_value-returns-in_ok-only_value-in-Some-argument_query-2 g t c =
+    let d = lent_value c.args.self.now.evaluation.now.root in
+    let n = root_of (lent_value c.args.self.now.current) in
+    let x = argument_of c.in-Some.argument.now in
+    c.comparable.ensures
+    ∙ c.in_ok-only_value-in-Some-argument_query-2.ensures
+    ∙ ap (λ o. value_answer (Some ValueOf) (argument_value x d n) (option_map (counted_nodes d n) o))
+    c.in-Some-argument_query-2.ensures.gives
+    ∙ one-answer (call_of c.args.call.now) x (Some ValueOf) d n c.in-Some.ensures
+    (sym (ap Some c.in-Some-ValueOf.field-0-is) ∙ c.in-Some-ValueOf.ensures)
+
+pub filter::Asking::call_value-returns-in-None-argument_query :
+    goal.filter::Asking::call_value-returns-in-None-argument_query
+filter::Asking::call_value-returns-in-None-argument_query g t c =
+    let d = lent_value c.args.self.now.evaluation.now.root in
+    let n = root_of (lent_value c.args.self.now.current) in
+    let x = argument_of c.in-Some.argument.now in
+    ap (λ o. value_answer (Some ValueOf) (argument_value x d n) (option_map (counted_nodes d n) o))
+    c.in-None-argument_query.ensures.gives
+    ∙ one-answer (call_of c.args.call.now) x (Some ValueOf) d n c.in-Some.ensures
+    (sym (ap Some c.in-Some-ValueOf.field-0-is) ∙ c.in-Some-ValueOf.ensures)
+
+pub filter::Asking::holds-returns-in-Some : goal.filter::Asking::holds-returns-in-Some
+filter::Asking::holds-returns-in-Some g t c =
+    let d = lent_value c.args.self.now.evaluation.now.root in
+    let n = root_of (lent_value c.args.self.now.current) in
+    let f = call_of c.in-Test-Call.call in
+    let tree : expr_of c.args.expr.now ≡ call_test f = search (rules, the_lemmas) in
+    subst (λ b. IfOk c.selects_some-in-Some.result (λ answer. answer ≡ b))
+    (test-nodes f d n (nodes_query c.in-Some.nodes) c.in-Some.ensures.gives
+    ∙ ap (λ e. holds e d n) (sym tree)) c.selects_some-in-Some.ensures
+
+pub filter::Asking::holds-returns-in-None : goal.filter::Asking::holds-returns-in-None
+filter::Asking::holds-returns-in-None g t c =
+    let d = lent_value c.args.self.now.evaluation.now.root in
+    let n = root_of (lent_value c.args.self.now.current) in
+    let f = call_of c.in-Test-Call.call in
+    let tree : expr_of c.args.expr.now ≡ call_test f = search (rules, the_lemmas) in
+    subst (λ b. IfOk c.call_holds.result (λ answer. answer ≡ b))
+    (test-logical f d n c.in-None.ensures.gives ∙ ap (λ e. holds e d n) (sym tree))
+    c.call_holds.ensures
+
+pub filter::Asking::node_count-loop-selecting-init :
+    goal.filter::Asking::node_count-loop-selecting-init
+filter::Asking::node_count-loop-selecting-init g t c =
+    let new = c.from-selecting.ensures in
+    let all = ap length
+    (begun_to_come c.args.nodes.query.now (lent_value c.args.self.now.evaluation.now.root)
+    (root_of (lent_value c.args.self.now.current)) c.from-selecting.result c.start.result
+    c.args.nodes.distinct new.segments c.start.ensures new.first new.frames new.seen) in
+    (new.segments, omega (arith, all))
+
+pub filter::Asking::node_count-loop-selecting-preserved :
+    goal.filter::Asking::node_count-loop-selecting-preserved
+filter::Asking::node_count-loop-selecting-preserved g t c = (
+  ap (λ s. s.now) c.next.ensures.segments ∙ c.loop-selecting.invariant.0,
+  search rules,
+)
 
 -- ---- the walk
 
@@ -67,6 +158,3 @@ walk::Walk::advance-loop-offer-preserved-in-Continue-branch-2 g t c =
     c.in-Some.ensures.begun (sym c.in_ok-passes.ensures ∙ c.if-branch.true)
     c.if-offer-segments.false c.enter.ensures.first c.in_ok-enter.ensures.frames
     ∙ c.loop-offer.invariant
-
-pub filter::Asking::node_count-loop-walk-preserved : goal.filter::Asking::node_count-loop-walk-preserved
-filter::Asking::node_count-loop-walk-preserved g t c = search rules

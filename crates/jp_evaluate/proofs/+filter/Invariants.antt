@@ -11,6 +11,8 @@ use Rattle.jp_evaluate.specs.Nodelist.{all_hold, any_holds, nodelist_at}
 use Rattle.jp_evaluate.specs.Private.Asked.{asked}
 use Rattle.jp_evaluate.specs.Private.Sizes.{argument_size, call_size, expr_size, exprs_size}
 use Rattle.jp_evaluate.specs.Private.Sizes.{operand_size, query_size, segments_size}
+use Rattle.jp_evaluate.specs.Private.Calls.{counted}
+use Rattle.jp_evaluate.specs.Private.Selecting.{to_come}
 use Rattle.jp_evaluate.specs.Private.Walk.{walk_reaches, walk_weight}
 use Rattle.jp_evaluate.specs.declared.filter.Asking.{Asking}
 use Rattle.jp_evaluate.proofs.+filter.Given as goal
@@ -23,6 +25,10 @@ decreases-walk::Walk::advance g l = suc (segments_size (segments (map segment_of
 abbrev pub decreases-walk::Offer::passes : goal.decreases-walk::Offer::passes
 decreases-walk::Offer::passes g l =
     option_map_or (λ e. suc (expr_size (expr_of e.now))) l.self.test 0
+
+abbrev pub decreases-selecting::Selecting::next : goal.decreases-selecting::Selecting::next
+decreases-selecting::Selecting::next g l =
+    suc (suc (segments_size (segments (map segment_of l.self.now.segments.now))))
 
 abbrev pub decreases-filter::Asking::holds : goal.decreases-filter::Asking::holds
 decreases-filter::Asking::holds g l = expr_size (expr_of l.expr.now)
@@ -49,10 +55,10 @@ abbrev pub decreases-filter::Asking::argument_value : goal.decreases-filter::Ask
 decreases-filter::Asking::argument_value g l = argument_size (argument_of l.argument.now)
 
 abbrev pub decreases-filter::Asking::node_count : goal.decreases-filter::Asking::node_count
-decreases-filter::Asking::node_count g l = query_size (query_of l.query.now)
+decreases-filter::Asking::node_count g l = query_size (query_of l.nodes.query.now)
 
 abbrev pub decreases-filter::Asking::only_value : goal.decreases-filter::Asking::only_value
-decreases-filter::Asking::only_value g l = query_size (query_of l.query.now)
+decreases-filter::Asking::only_value g l = query_size (query_of l.nodes.query.now)
 
 -- ---- loops
 
@@ -82,15 +88,27 @@ invariant-filter::Asking::all_hold-loop-part g l =
     rest_decides l.self all_hold l.parts l.part-index
 
 -- the nodes so far and those to come are all
-abbrev pub invariant-filter::Asking::node_count-loop-walk :
-    goal.invariant-filter::Asking::node_count-loop-walk
-invariant-filter::Asking::node_count-loop-walk g l =
-    l.count + length
-    (walk_reaches (out-Query l.query).segments.items (lent_value l.self.evaluation.now.root) l.walk)
-    ≡ length (asked l.self (nodelist_at (query_of l.query)))
+abbrev pub invariant-filter::Asking::node_count-loop-selecting :
+    goal.invariant-filter::Asking::node_count-loop-selecting
+invariant-filter::Asking::node_count-loop-selecting g l =
+    (l.selecting.segments.now ≡ (out-Query l.nodes.query.now).segments.items)
+    × (l.count + length (to_come (lent_value l.self.evaluation.now.root) l.selecting)
+    ≡ length (counted l.nodes.distinct (asked l.self (nodelist_at (query_of l.nodes.query.now)))))
 
-abbrev pub decreases-filter::Asking::node_count-loop-walk :
-    goal.decreases-filter::Asking::node_count-loop-walk
-decreases-filter::Asking::node_count-loop-walk g l =
-    length
-    (walk_reaches (out-Query l.query).segments.items (lent_value l.self.evaluation.now.root) l.walk)
+abbrev pub decreases-filter::Asking::node_count-loop-selecting :
+    goal.decreases-filter::Asking::node_count-loop-selecting
+decreases-filter::Asking::node_count-loop-selecting g l =
+    length (to_come (lent_value l.self.evaluation.now.root) l.selecting)
+
+-- what was passed over did not count
+abbrev pub invariant-selecting::Selecting::next-loop-place :
+    goal.invariant-selecting::Selecting::next-loop-place
+invariant-selecting::Selecting::next-loop-place g l =
+    (l.self.segments ≡ l.fn.self.segments)
+    × (to_come (lent_value l.evaluation.root) l.self
+    ≡ to_come (lent_value l.evaluation.root) l.fn.self)
+
+abbrev pub decreases-selecting::Selecting::next-loop-place :
+    goal.decreases-selecting::Selecting::next-loop-place
+decreases-selecting::Selecting::next-loop-place g l =
+    length (walk_reaches l.self.segments.now (lent_value l.evaluation.root) l.self.walk)

@@ -1,6 +1,6 @@
 -- What is asked at a node depends on its value alone, and not on where it stands.
 use Rattle.std.proofs.Common.{◌≡◌, Bool, true, false, not, ◌&&◌, ◌||◌, if◌then◌else◌}
-use Rattle.std.proofs.Common.{List, [], ◌∷◌, ◌++◌, Option, Some, None, map, pos}
+use Rattle.std.proofs.Common.{List, [], ◌∷◌, ◌++◌, Option, Some, None, is_eq, map, option_map, pos}
 use Rattle.std.proofs.Common.{refl, ap, ap₂, sym, ◌∙◌, append_assoc}
 use Rattle.std.specs.List.{filter as those_of, flat_map}
 use Rattle.std.proofs.lemmas.List.{append-nil, length-map, map-append}
@@ -16,15 +16,20 @@ use Rattle.jp_tree.specs.Tree.{literal_argument, logical_argument, negation, no_
 use Rattle.jp_tree.specs.Tree.{no_exprs, no_segments, no_selectors, node_value, query}
 use Rattle.jp_tree.specs.Tree.{query_argument, segment, segment_then, selector_then}
 use Rattle.jp_check.specs.Functions.{function_named}
+use Rattle.jp_check.specs.declared.profile.Profile.TheVariants.{Extended}
 use Rattle.jp_check.specs.declared.functions.Function.{Function}
-use Rattle.jp_check.specs.declared.functions.Function.TheVariants.{Count, Length, Match}
+use Rattle.jp_check.specs.declared.functions.Function.TheVariants.{Count, Distinct, Length, Match}
 use Rattle.jp_check.specs.declared.functions.Function.TheVariants.{Search, ValueOf}
 use Rattle.jp_select.specs.Comparison.{compared}
 use Rattle.jp_select.specs.Selectors.{candidates}
 use Rattle.jp_select.specs.Subtree.{beyond, nodes_in, subtree_of}
-use Rattle.jp_evaluate.specs.Functions.{logical_answer, only_value, value_answer}
+use Rattle.jp_evaluate.specs.Functions.{logical_answer, nodes_answer, only_value, value_answer}
+use Rattle.jp_evaluate.specs.Functions.{without_repeats}
+use Rattle.jp_evaluate.proofs.Nodelists.Repeats.{others}
+use Rattle.jp_select.proofs.Rising.{cancel}
 use Rattle.jp_evaluate.specs.Nodelist.{all_hold, any_holds, argument_nodes, argument_value}
-use Rattle.jp_evaluate.specs.Nodelist.{call_answer, call_holds, has_node, holds, nodelist_at}
+use Rattle.jp_evaluate.specs.Nodelist.{call_answer, call_holds, call_nodes, has_node, holds}
+use Rattle.jp_evaluate.specs.Nodelist.{nodelist_at, some_node}
 use Rattle.jp_evaluate.specs.Nodelist.{operand_value, result, segment_result, selected, selection}
 use Rattle.jp_evaluate.specs.Nodelist.{single_node_value, visited}
 
@@ -54,20 +59,29 @@ flat_map-beyond l f (n ∷ ns) each =
     ap₂ (λ xs ys. xs ++ ys) (each n) (flat_map-beyond l f ns each)
     ∙ sym (map-append (beyond l) (f n) (flat_map f ns))
 
-those_of-beyond : (l : Location) (p : Node → Bool) (ns : List Node)
-    → ((n : Node) → p (beyond l n) ≡ p n)
-    → those_of p (map (beyond l) ns) ≡ map (beyond l) (those_of p ns)
-those_of-beyond l p [] same = refl
-those_of-beyond l p (n ∷ ns) same =
-    ap₂ (λ b xs. if b then beyond l n ∷ xs else xs) (same n) (those_of-beyond l p ns same)
-    ∙ kept (p n)
+those_of-beyond : (l : Location) (p q : Node → Bool) (ns : List Node)
+    → ((n : Node) → p (beyond l n) ≡ q n)
+    → those_of p (map (beyond l) ns) ≡ map (beyond l) (those_of q ns)
+those_of-beyond l p q [] same = refl
+those_of-beyond l p q (n ∷ ns) same =
+    ap₂ (λ b xs. if b then beyond l n ∷ xs else xs) (same n) (those_of-beyond l p q ns same)
+    ∙ kept (q n)
   where
     kept : (b : Bool) →
-        (if b then beyond l n ∷ map (beyond l) (those_of p ns)
-        else map (beyond l) (those_of p ns)) ≡
-        map (beyond l) (if b then n ∷ those_of p ns else those_of p ns)
+        (if b then beyond l n ∷ map (beyond l) (those_of q ns)
+        else map (beyond l) (those_of q ns)) ≡
+        map (beyond l) (if b then n ∷ those_of q ns else those_of q ns)
     kept true = refl
     kept false = refl
+
+repeats-beyond : (l : Location) (ns : List Node)
+    → without_repeats (map (beyond l) ns) ≡ map (beyond l) (without_repeats ns)
+repeats-beyond l [] = refl
+repeats-beyond l (n ∷ ns) =
+    ap (λ t. beyond l n ∷ t)
+    (ap (those_of (others (beyond l n))) (repeats-beyond l ns)
+    ∙ those_of-beyond l (others (beyond l n)) (others n) (without_repeats ns)
+    (λ m. ap (λ o. not (is_eq o)) (cancel l n.location m.location)))
 
 visited-beyond : (b : Bool) (l : Location) (ns : List Node)
     → visited b (map (beyond l) ns) ≡ map (beyond l) (visited b ns)
@@ -90,14 +104,34 @@ single-beyond : (q : QueryTree) (l : Location) (ns : List Node)
     → single_node_value q (map (beyond l) ns) ≡ single_node_value q ns
 single-beyond q l ns = ap (λ v. if is_singular q then v else None) (only-beyond l ns)
 
-answer-beyond : (f : Option Function) (v : Option Value) (l : Location) (ns : List Node)
-    → value_answer f v (Some (map (beyond l) ns)) ≡ value_answer f v (Some ns)
-answer-beyond None v l ns = refl
-answer-beyond (Some Length) v l ns = refl
-answer-beyond (Some Count) v l ns = ap (λ n. Some (whole (pos n))) (length-map ns (beyond l))
-answer-beyond (Some Match) v l ns = refl
-answer-beyond (Some Search) v l ns = refl
-answer-beyond (Some ValueOf) v l ns = only-beyond l ns
+answer-beyond : (f : Option Function) (v : Option Value) (l : Location) (o : Option (List Node))
+    → value_answer f v (option_map (map (beyond l)) o) ≡ value_answer f v o
+answer-beyond None v l o = refl
+answer-beyond (Some Length) v l o = refl
+answer-beyond (Some Count) v l None = refl
+answer-beyond (Some Count) v l (Some ns) =
+    ap (λ n. Some (whole (pos n))) (length-map ns (beyond l))
+answer-beyond (Some Match) v l o = refl
+answer-beyond (Some Search) v l o = refl
+answer-beyond (Some ValueOf) v l None = refl
+answer-beyond (Some ValueOf) v l (Some ns) = only-beyond l ns
+answer-beyond (Some Distinct) v l o = refl
+
+nodes_answer-beyond : (f : Option Function) (l : Location) (o : Option (List Node))
+    → nodes_answer f (option_map (map (beyond l)) o) ≡ option_map (map (beyond l)) (nodes_answer f o)
+nodes_answer-beyond None l o = refl
+nodes_answer-beyond (Some Length) l o = refl
+nodes_answer-beyond (Some Count) l o = refl
+nodes_answer-beyond (Some Match) l o = refl
+nodes_answer-beyond (Some Search) l o = refl
+nodes_answer-beyond (Some ValueOf) l o = refl
+nodes_answer-beyond (Some Distinct) l None = refl
+nodes_answer-beyond (Some Distinct) l (Some ns) = ap Some (repeats-beyond l ns)
+
+some_node-beyond : (l : Location) (o : Option (List Node))
+    → some_node (option_map (map (beyond l)) o) ≡ some_node o
+some_node-beyond l None = refl
+some_node-beyond l (Some ns) = has_node-beyond l ns
 
 -- ---- the evaluation
 
@@ -105,6 +139,18 @@ answer-beyond (Some ValueOf) v l ns = only-beyond l ns
 abbrev further : QueryTree → Location → Location
 further (query true all) l = []
 further (query false all) l = l
+
+-- the same of the nodes that an argument stands for, or a call answers
+abbrev mutual
+  argument_further : ArgumentTree → Location → Location
+  argument_further (query_argument q) l = further q l
+  argument_further (call_argument f) l = call_further f l
+  argument_further (literal_argument x) l = []
+  argument_further (logical_argument e) l = []
+
+  call_further : CallTree → Location → Location
+  call_further (call cs (argument_then x no_arguments)) l = argument_further x l
+  call_further (call cs _) l = []
 
 mutual
   holds-beyond : (e : ExprTree) (d : Value) (l : Location) (n : Node)
@@ -116,7 +162,10 @@ mutual
       ap₂ (compared op) (operand-beyond left d l n) (operand-beyond right d l n)
   holds-beyond (exists q) d l n =
       ap has_node (query-beyond q d l n) ∙ has_node-beyond (further q l) (nodelist_at q d n)
-  holds-beyond (call_test f) d l n = call_holds-beyond f d l n
+  holds-beyond (call_test f) d l n =
+      ap₂ (λ a b. a || b) (call_holds-beyond f d l n)
+      (ap some_node (call_nodes-beyond f d l n)
+      ∙ some_node-beyond (call_further f l) (call_nodes f d n))
 
   any_holds-beyond : (es : ExprTrees) (d : Value) (l : Location) (n : Node)
       → any_holds es d (beyond l n) ≡ any_holds es d n
@@ -142,9 +191,12 @@ mutual
       → call_answer f d (beyond l n) ≡ call_answer f d n
   call_answer-beyond (call cs no_arguments) d l n = refl
   call_answer-beyond (call cs (argument_then x no_arguments)) d l n =
-      ap (λ v. value_answer (function_named cs) v (argument_nodes x d (beyond l n)))
+      ap (λ v. value_answer (function_named Extended cs) v (argument_nodes x d (beyond l n)))
       (argument_value-beyond x d l n)
-      ∙ argument_nodes-beyond (function_named cs) (argument_value x d n) x d l n
+      ∙ ap (value_answer (function_named Extended cs) (argument_value x d n))
+      (argument_nodes-beyond x d l n)
+      ∙ answer-beyond (function_named Extended cs) (argument_value x d n) (argument_further x l)
+      (argument_nodes x d n)
   call_answer-beyond (call cs (argument_then x (argument_then y rest))) d l n = refl
 
   call_holds-beyond : (f : CallTree) (d : Value) (l : Location) (n : Node)
@@ -152,7 +204,7 @@ mutual
   call_holds-beyond (call cs no_arguments) d l n = refl
   call_holds-beyond (call cs (argument_then x no_arguments)) d l n = refl
   call_holds-beyond (call cs (argument_then x (argument_then y no_arguments))) d l n =
-      ap₂ (logical_answer (function_named cs)) (argument_value-beyond x d l n)
+      ap₂ (logical_answer (function_named Extended cs)) (argument_value-beyond x d l n)
       (argument_value-beyond y d l n)
   call_holds-beyond (call cs (argument_then x (argument_then y (argument_then z rest)))) d l n =
       refl
@@ -166,16 +218,23 @@ mutual
   argument_value-beyond (call_argument f) d l n = call_answer-beyond f d l n
   argument_value-beyond (logical_argument e) d l n = refl
 
-  argument_nodes-beyond : (f : Option Function) (v : Option Value) (x : ArgumentTree) (d : Value)
-      (l : Location) (n : Node) →
-      value_answer f v (argument_nodes x d (beyond l n)) ≡
-      value_answer f v (argument_nodes x d n)
-  argument_nodes-beyond f v (query_argument q) d l n =
-      ap (λ ns. value_answer f v (Some ns)) (query-beyond q d l n)
-      ∙ answer-beyond f v (further q l) (nodelist_at q d n)
-  argument_nodes-beyond f v (literal_argument x) d l n = refl
-  argument_nodes-beyond f v (call_argument x) d l n = refl
-  argument_nodes-beyond f v (logical_argument e) d l n = refl
+  argument_nodes-beyond : (x : ArgumentTree) (d : Value) (l : Location) (n : Node) →
+      argument_nodes x d (beyond l n) ≡
+      option_map (map (beyond (argument_further x l))) (argument_nodes x d n)
+  argument_nodes-beyond (query_argument q) d l n = ap Some (query-beyond q d l n)
+  argument_nodes-beyond (literal_argument x) d l n = refl
+  argument_nodes-beyond (call_argument f) d l n = call_nodes-beyond f d l n
+  argument_nodes-beyond (logical_argument e) d l n = refl
+
+  call_nodes-beyond : (f : CallTree) (d : Value) (l : Location) (n : Node) →
+      call_nodes f d (beyond l n) ≡
+      option_map (map (beyond (call_further f l))) (call_nodes f d n)
+  call_nodes-beyond (call cs no_arguments) d l n = refl
+  call_nodes-beyond (call cs (argument_then x no_arguments)) d l n =
+      ap (nodes_answer (function_named Extended cs)) (argument_nodes-beyond x d l n)
+      ∙ nodes_answer-beyond (function_named Extended cs) (argument_further x l)
+      (argument_nodes x d n)
+  call_nodes-beyond (call cs (argument_then x (argument_then y rest))) d l n = refl
 
   query-beyond : (q : QueryTree) (d : Value) (l : Location) (n : Node)
       → nodelist_at q d (beyond l n) ≡ map (beyond (further q l)) (nodelist_at q d n)
@@ -205,7 +264,7 @@ mutual
       → selection s d (beyond l n) ≡ map (beyond l) (selection s d n)
   selection-beyond (filter e) d l n =
       ap (those_of (holds e d)) (nodes_below-beyond l n.location (entries n.value))
-      ∙ those_of-beyond l (holds e d) (children n) (λ m. holds-beyond e d l m)
+      ∙ those_of-beyond l (holds e d) (holds e d) (children n) (λ m. holds-beyond e d l m)
   selection-beyond s d l n = nodes_below-beyond l n.location (candidates s n.value)
 
 -- an expression is true of a node where it is true of its value alone

@@ -3,28 +3,28 @@ use Rattle.std.proofs.Common.{◌≡◌, ℕ, pos, Bool, true, false, if◌then�
 use Rattle.std.proofs.Common.{None, refl, subst}
 use Rattle.std.proofs.lemmas.Option.{same_Some}
 use Rattle.std.specs.List.{All}
-use Rattle.std.specs.Option.{option_map}
+use Rattle.std.specs.Option.{IfSome, option_map}
 use Rattle.std.proofs.lemmas.List.Elements.{All-head}
 use Rattle.jp_document.proofs.Descent.Entries.{document-names_rise}
 use Rattle.jp_document.proofs.Descent.Nodes.{IsDocumentValue-at}
 use Rattle.jp_document.specs.Node.{Node, StandsIn}
 use Rattle.jp_document.specs.Value.{NamesRise, Value, whole}
 use Rattle.jp_tree.specs.Singular.{is_singular}
-use Rattle.jp_tree.specs.Tree.{ArgumentTree, CallTree, LiteralTree, argument_then, call}
-use Rattle.jp_tree.specs.Tree.{call_argument, call_value, literal_argument, logical_argument}
-use Rattle.jp_tree.specs.Tree.{query_argument}
+use Rattle.jp_tree.specs.Tree.{CallTree, LiteralTree, argument_then, call}
+use Rattle.jp_tree.specs.Tree.{call_value}
 use Rattle.jp_tree.specs.Tree.{false_literal, literal, no_arguments, node_value, null_literal, number}
 use Rattle.jp_tree.specs.Tree.{text, true_literal}
 use Rattle.jp_tree.specs.declared.tree.Numeral.TheVariants.{Beyond, Fraction, Whole}
 use Rattle.jp_check.specs.Functions.{function_named}
+use Rattle.jp_check.specs.declared.profile.Profile.TheVariants.{Extended}
 use Rattle.jp_check.specs.declared.functions.Function.{Function}
-use Rattle.jp_check.specs.declared.functions.Function.TheVariants.{Count, Length, Match}
+use Rattle.jp_check.specs.declared.functions.Function.TheVariants.{Count, Distinct, Length, Match}
 use Rattle.jp_check.specs.declared.functions.Function.TheVariants.{Search, ValueOf}
 use Rattle.jp_evaluate.specs.Functions.{length_of, only_value, size_of, value_answer}
 use Rattle.jp_evaluate.specs.Laws.{NamesRiseInSides}
 use Rattle.jp_evaluate.specs.Nodelist.{argument_nodes, argument_value, call_answer, literal_value}
 use Rattle.jp_evaluate.specs.Nodelist.{nodelist_at}
-use Rattle.jp_evaluate.proofs.Nodelists.Standing.{selects_nodes_alone}
+use Rattle.jp_evaluate.proofs.Nodelists.Standing.{argument_stands, selects_nodes_alone}
 
 -- names rise in the value, if there is one
 abbrev Rises : Option Value → Type 0
@@ -67,27 +67,24 @@ rises-length v = rises-size (size_of v)
     rises-size None = rises-none
     rises-size (Some n) = rises-some _ refl
 
--- what a function answers for an argument
-rises-answer : (f : Option Function) (v : Option Value) (x : ArgumentTree) (d : Value) (c : Node)
-    → StandsIn d c → Rises (value_answer f v (argument_nodes x d c))
-rises-answer (Some Length) v x d c stands = rises-length v
-rises-answer (Some Count) v (query_argument q) d c stands = rises-some _ refl
-rises-answer (Some Count) v (literal_argument x) d c stands = rises-none
-rises-answer (Some Count) v (call_argument f) d c stands = rises-none
-rises-answer (Some Count) v (logical_argument e) d c stands = rises-none
-rises-answer (Some ValueOf) v (query_argument q) d c stands =
-    rises-only d (nodelist_at q d c) (selects_nodes_alone q d c stands)
-rises-answer (Some ValueOf) v (literal_argument x) d c stands = rises-none
-rises-answer (Some ValueOf) v (call_argument f) d c stands = rises-none
-rises-answer (Some ValueOf) v (logical_argument e) d c stands = rises-none
-rises-answer (Some Match) v x d c stands = rises-none
-rises-answer (Some Search) v x d c stands = rises-none
-rises-answer None v x d c stands = rises-none
+-- what a function answers for nodes of the document
+rises-answer : (f : Option Function) (v : Option Value) (d : Value) (o : Option (List Node))
+    → IfSome o (All (StandsIn d)) → Rises (value_answer f v o)
+rises-answer (Some Length) v d o stand = rises-length v
+rises-answer (Some Count) v d None stand = rises-none
+rises-answer (Some Count) v d (Some ns) stand = rises-some _ refl
+rises-answer (Some ValueOf) v d None stand = rises-none
+rises-answer (Some ValueOf) v d (Some ns) stand = rises-only d ns stand
+rises-answer (Some Match) v d o stand = rises-none
+rises-answer (Some Search) v d o stand = rises-none
+rises-answer (Some Distinct) v d o stand = rises-none
+rises-answer None v d o stand = rises-none
 
 rises-call : (f : CallTree) (d : Value) (c : Node) → StandsIn d c → Rises (call_answer f d c)
 rises-call (call cs no_arguments) d c stands = rises-none
 rises-call (call cs (argument_then x no_arguments)) d c stands =
-    rises-answer (function_named cs) (argument_value x d c) x d c stands
+    rises-answer (function_named Extended cs) (argument_value x d c) d (argument_nodes x d c)
+    (argument_stands x d c stands)
 rises-call (call cs (argument_then x (argument_then y more))) d c stands = rises-none
 
 pub sides_law : NamesRiseInSides

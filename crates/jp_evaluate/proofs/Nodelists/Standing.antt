@@ -4,12 +4,17 @@ use Rattle.std.proofs.Common.{Option, Some, None, option_to_list, refl, ◌∙�
 use Rattle.std.specs.List.{All}
 use Rattle.std.proofs.lemmas.Bool.{and_parts}
 use Rattle.std.proofs.lemmas.List.{append-nil}
-use Rattle.std.proofs.lemmas.List.Elements.{All-append, All-cons, All-filter, All-nil}
+use Rattle.std.proofs.lemmas.List.Elements.{All-append, All-cons, All-filter, All-head, All-nil}
+use Rattle.std.proofs.lemmas.List.Elements.{All-tail}
+use Rattle.std.specs.List.{filter as those_of}
+use Rattle.std.specs.Option.{IfSome}
 use Rattle.jp_document.specs.Location.{Key, Location}
 use Rattle.jp_document.specs.Node.{Node, StandsIn, children, node_below}
 use Rattle.jp_document.specs.Value.{Value}
 use Rattle.jp_tree.specs.Singular.{are_single, is_single, is_single_segment}
 use Rattle.jp_tree.specs.Tree.{SegmentTree, SegmentTrees, SelectorTree, SelectorTrees, filter}
+use Rattle.jp_tree.specs.Tree.{ArgumentTree, CallTree, argument_then, call, call_argument}
+use Rattle.jp_tree.specs.Tree.{literal_argument, logical_argument, no_arguments, query_argument}
 use Rattle.jp_tree.specs.Tree.{index, name, no_segments, no_selectors, query, segment}
 use Rattle.jp_tree.specs.Tree.{segment_then, selector_then, slice, wildcard}
 use Rattle.jp_select.proofs.Choosing.Nodes.{candidates_below, choosing_law}
@@ -19,6 +24,14 @@ use Rattle.jp_select.specs.Subtree.{subtree_of}
 use Rattle.jp_evaluate.specs.Laws.{SelectsNodesAlone, SingularSelectsOne}
 use Rattle.jp_evaluate.specs.Nodelist.{holds, result, segment_result, selected, selection, start_of}
 use Rattle.jp_evaluate.specs.Nodelist.{visited}
+use Rattle.jp_check.specs.Functions.{function_named}
+use Rattle.jp_check.specs.declared.functions.Function.{Function}
+use Rattle.jp_check.specs.declared.functions.Function.TheVariants.{Count, Distinct, Length, Match}
+use Rattle.jp_check.specs.declared.functions.Function.TheVariants.{Search, ValueOf}
+use Rattle.jp_check.specs.declared.profile.Profile.TheVariants.{Extended}
+use Rattle.jp_evaluate.specs.Functions.{nodes_answer, without_repeats}
+use Rattle.jp_evaluate.specs.Nodelist.{argument_nodes, call_nodes}
+use Rattle.jp_evaluate.proofs.Nodelists.Repeats.{others}
 use Rattle.jp_evaluate.proofs.Nodelists.Elements.{All-flat_map_from}
 
 -- ---- nodes of the document
@@ -64,6 +77,43 @@ selects_nodes_alone (query absolute ss) d c stands =
     result_stands ss d (start_of absolute d c ∷ [])
     (All-cons (StandsIn d) (start_of absolute d c) [] (start_stands absolute d c stands)
     (All-nil (StandsIn d)))
+
+repeats_stand : (d : Value) (ns : List Node) → All (StandsIn d) ns
+    → All (StandsIn d) (without_repeats ns)
+repeats_stand d [] all = all
+repeats_stand d (n ∷ ns) all =
+    All-cons (StandsIn d) n (those_of (others n) (without_repeats ns))
+    (All-head (StandsIn d) n ns all)
+    (All-filter (others n) (StandsIn d) (without_repeats ns)
+    (repeats_stand d ns (All-tail (StandsIn d) n ns all)))
+
+answer_stands : (f : Option Function) (d : Value) (o : Option (List Node))
+    → IfSome o (All (StandsIn d)) → IfSome (nodes_answer f o) (All (StandsIn d))
+answer_stands None d o stand = tt
+answer_stands (Some Length) d o stand = tt
+answer_stands (Some Count) d o stand = tt
+answer_stands (Some Match) d o stand = tt
+answer_stands (Some Search) d o stand = tt
+answer_stands (Some ValueOf) d o stand = tt
+answer_stands (Some Distinct) d None stand = tt
+answer_stands (Some Distinct) d (Some ns) stand = repeats_stand d ns stand
+
+-- the nodes that an argument stands for, or a call answers
+mutual
+  pub argument_stands : (x : ArgumentTree) (d : Value) (c : Node) → StandsIn d c
+      → IfSome (argument_nodes x d c) (All (StandsIn d))
+  argument_stands (query_argument q) d c stands = selects_nodes_alone q d c stands
+  argument_stands (literal_argument x) d c stands = tt
+  argument_stands (call_argument f) d c stands = call_stands f d c stands
+  argument_stands (logical_argument e) d c stands = tt
+
+  call_stands : (f : CallTree) (d : Value) (c : Node) → StandsIn d c
+      → IfSome (call_nodes f d c) (All (StandsIn d))
+  call_stands (call cs no_arguments) d c stands = tt
+  call_stands (call cs (argument_then x no_arguments)) d c stands =
+      answer_stands (function_named Extended cs) d (argument_nodes x d c)
+      (argument_stands x d c stands)
+  call_stands (call cs (argument_then x (argument_then y rest))) d c stands = tt
 
 -- ---- at most one node
 

@@ -8,6 +8,7 @@ use Rattle.jp_tree.specs.Tree.{argument_of, arguments, call, call_of}
 use Rattle.jp_tree.specs.declared.tree.Argument.{Argument}
 use Rattle.jp_tree.specs.declared.tree.Call.{Call, out-Call}
 use Rattle.jp_check.specs.Functions.{function_named}
+use Rattle.jp_check.specs.declared.profile.Profile.TheVariants.{Extended}
 use Rattle.jp_evaluate.specs.Private.Calls.{both_arguments, call_function, only_argument}
 use Rattle.jp_evaluate.proofs.Parts.Trees.{call_of-is}
 
@@ -56,5 +57,5 @@ not_two_arguments f many =
     both_arguments-others (spelled f) (out-Call f).arguments.items many
     ∙ sym (ap both_arguments (call_of-is f))
 
-pub named_function : (f : Call) → function_named (spelled f) ≡ call_function (call_of f)
+pub named_function : (f : Call) → function_named Extended (spelled f) ≡ call_function (call_of f)
 named_function f = sym (ap call_function (call_of-is f))

@@ -17,6 +17,7 @@ use Rattle.jp_document.specs.Value.{IsDocumentValue, Items, Value, boolean, item
 use Rattle.jp_document.specs.Value.{list, null, object, text, whole}
 use Rattle.jp_query.specs.Items.{segments_items}
 use Rattle.jp_tree.specs.Tree.{segments}
+use Rattle.jp_check.specs.declared.profile.Profile.{Profile}
 use Rattle.jp_check.specs.Faults.{HasFault}
 use Rattle.jp_check.proofs.OwnFault.{int-fault}
 use Rattle.jp_check.specs.Ranges.{is_in_index_range}
@@ -101,22 +102,24 @@ steps_fit v w (k ∷ m) document end =
       steps_fit u.0 w m (IsDocumentValue-child v u.0 k document u.1) u.2,
     )
 
-abbrev NoFault : QueryItem → Type 0
-NoFault x = (kind : RefusalKind) → ¬ HasFault x kind
+abbrev NoFault : Profile → QueryItem → Type 0
+NoFault profile x = (kind : RefusalKind) → ¬ HasFault profile x kind
 
-index_faultless : (i : ℕ) → i < 2 ^ 53 → NoFault (int (Whole (pos i)) as_index)
-index_faultless i small kind fault =
-    let out = (int-fault (Whole (pos i)) as_index kind fault).1 in
+index_faultless : (profile : Profile) (i : ℕ) → i < 2 ^ 53
+    → NoFault profile (int (Whole (pos i)) as_index)
+index_faultless profile i small kind fault =
+    let out = (int-fault profile (Whole (pos i)) as_index kind fault).1 in
     let fits : is_in_index_range (Whole (pos i)) ≡ true = lt-ltb i (2 ^ 53) small in
     cc
 
-steps_faultless : (m : Location) → StepsFit m
-    → All NoFault (segments_items (segments (map step_segment m)))
-steps_faultless [] fit = All-nil NoFault
-steps_faultless (named s ∷ m) fit = steps_faultless m fit.1
-steps_faultless (nth i ∷ m) fit =
-    All-cons NoFault (int (Whole (pos i)) as_index) (segments_items (segments (map step_segment m)))
-    (index_faultless i fit.0) (steps_faultless m fit.1)
+steps_faultless : (profile : Profile) (m : Location) → StepsFit m
+    → All (NoFault profile) (segments_items (segments (map step_segment m)))
+steps_faultless profile [] fit = All-nil (NoFault profile)
+steps_faultless profile (named s ∷ m) fit = steps_faultless profile m fit.1
+steps_faultless profile (nth i ∷ m) fit =
+    All-cons (NoFault profile) (int (Whole (pos i)) as_index)
+    (segments_items (segments (map step_segment m)))
+    (index_faultless profile i fit.0) (steps_faultless profile m fit.1)
 
 pub path_selects_its_node : PathSelectsItsNode
 path_selects_its_node d n stands =
@@ -124,6 +127,10 @@ path_selects_its_node d n stands =
     let fit = steps_fit d n.value l stands.document stands.there in
     let spelled = path-spells level_limit l fit in (
       path_tree l,
-      record { spans = spelled.0; spelled = spelled.1; faultless = steps_faultless l fit },
+      (λ profile. record {
+        spans = spelled.0;
+        spelled = spelled.1;
+        faultless = steps_faultless profile l fit;
+      }),
       walks d d n.value [] l stands.there fit,
     )

@@ -1,5 +1,5 @@
--- What is asked at a value. It depends on the value alone and not on where it stands, so the current
--- node is told as if it stood at the root.
+-- What is asked at a value. It depends on the value alone and not on where it stands, so the
+-- current node is told as if it stood at the root.
 use Rattle.jp_document.specs.DocumentValue.{lent_value}
 use Rattle.jp_document.specs.Node.{Node, root_of}
 use Rattle.jp_document.specs.Value.{Value}

@@ -10,17 +10,19 @@ use Rattle.jp_check.proofs.checked.read_query.Goals as goal
 
 pub returns-in_err-parsed-clause-only : goal.returns-in_err-parsed-clause-only
 returns-in_err-parsed-clause-only c =
-    let refused : IfErr c.from_residual.result (IsRefused (chars c.args.text.now)) = grind
+    let refused : IfErr c.from_residual.result
+    (IsRefused c.args.profile (chars c.args.text.now)) = grind
     (arith, common_steps) in
-    refused-result one-reading one-refusal (chars c.args.text.now) c.from_residual.result refused
+    refused-result c.args.profile one-reading one-refusal (chars c.args.text.now)
+    c.from_residual.result refused
 
 pub returns-clause-refused : goal.returns-clause-refused
 returns-clause-refused c =
-    first-refused (chars c.args.text.now)
+    first-refused c.args.profile (chars c.args.text.now)
     (query_of c.in_ok-parsed.parsed.query) c.in_ok-parsed.parsed.spans c.check.result
     c.in_ok-parsed.ensures.found c.check.ensures.first
 
 pub returns-clause-only : goal.returns-clause-only
 returns-clause-only c =
-    refused-result one-reading one-refusal (chars c.args.text.now) c.check.result
+    refused-result c.args.profile one-reading one-refusal (chars c.args.text.now) c.check.result
     (returns-clause-refused c)

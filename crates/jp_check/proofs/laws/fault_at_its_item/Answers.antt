@@ -2,4 +2,4 @@ use Rattle.jp_check.proofs.OwnText.{fault-at_its_item}
 use Rattle.jp_check.proofs.laws.fault_at_its_item.Goals as goal
 
 pub returns : goal.returns
-returns c = fault-at_its_item c.spans_of_items.ensures
+returns c = λ profile. fault-at_its_item profile c.spans_of_items.ensures

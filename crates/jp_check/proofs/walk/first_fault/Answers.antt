@@ -7,7 +7,7 @@ use Rattle.jp_check.proofs.walk.first_fault.Goals as goal
 pub returns : goal.returns
 returns c =
     let spelled = rw c.spans.ensures.same at c.spans.ensures.each in
-    found spelled.0
+    found c.args.profile spelled.0
     (items_of
     (query_of c.args.parsed.now.query)) c.args.parsed.now.spans c.first.result spelled.2.each
     (rw (

@@ -5,7 +5,7 @@ use Rattle.jp_command.proofs.canon.run_canon.Goals as goal
 
 pub returns : goal.returns
 returns g c =
-    let q = query_of c.in_ok-query.query in
+    let q = query_of c.in_ok-query.query.query in
     let line : c.as_bytes.result.now ≡ canon_line q = search rules in
     record {
       output = c.as_bytes.result.now;

@@ -15,11 +15,12 @@ returns g c =
     let bytes = c.in_ok-bytes.bytes.items in
     let nodes = rest_of c.nodes-selected.result in
     let document : IsDocument bytes d = search rules in
-    run-ends g.R.Source.remaining g.R.Source.has_failed g.R.Source.read_gives g.W.Writer.contents g.W.Writer.has_failed
-    c.args.form c.args.query.now c.args.input.now c.read_all.new.input c.args.output.now
-    c.write_lines-written.new.output (lines_of c.args.form nodes) c.write_lines-written.result
+    run-ends c.args.profile g.R.Source.remaining g.R.Source.has_failed g.R.Source.read_gives
+    g.W.Writer.contents g.W.Writer.has_failed c.args.form c.args.query.now c.args.input.now
+    c.read_all.new.input c.args.output.now c.write_lines-written.new.output
+    (lines_of c.args.form nodes) c.write_lines-written.result
     (record {
-      q = query_of c.in_ok-query.query;
+      q = query_of c.in_ok-query.query.query;
       bytes = bytes;
       d = d;
       asked = c.in_ok-query.ensures.asked;

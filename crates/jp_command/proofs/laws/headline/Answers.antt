@@ -5,20 +5,22 @@ use Rattle.jp_command.specs.Check.{accepted_line}
 use Rattle.jp_command.proofs.laws.headline.Goals as goal
 
 pub returns : goal.returns
-returns g c = record {
+returns g c profile = record {
   documents = c.document_or_defect.ensures;
-  queries = c.one_answer.ensures;
-  accepted = accepted-is_taken _ _ _ _ _ c.document_or_defect.ensures;
-  no_other = answered-is_accepted _ _ _ _ _;
+  queries = c.one_answer.ensures profile;
+  accepted = accepted-is_taken profile _ _ _ _ _ c.document_or_defect.ensures;
+  no_other = answered-is_accepted profile _ _ _ _ _;
   asked = λ form text i j o p run. (run.is.q, run.is.asked);
   refused = λ form text i j o p r run. run;
-  nodelist = writes-nodelist _ _ _ _ _ c.document_or_defect.ensures c.one_answer.ensures;
+  nodelist = writes-nodelist profile _ _ _ _ _ c.document_or_defect.ensures
+      (c.one_answer.ensures profile);
   own_nodes = c.selects_nodes_alone.ensures;
   paths = c.paths_differ.ensures.nodes;
   path_selects = c.path_selects_its_node.ensures;
+  extended = c.standard_is_extended.ensures;
   canonical_texts = c.canon_tells_apart.ensures;
-  canonical_lines = line-is_written _ _ _ _ _ canon_line;
-  checked_lines = line-is_written _ _ _ _ _ accepted_line;
+  canonical_lines = line-is_written profile _ _ _ _ _ canon_line;
+  checked_lines = line-is_written profile _ _ _ _ _ accepted_line;
   syntax_places = c.one_refusal.ensures;
-  fault_places = c.fault_at_its_item.ensures;
+  fault_places = c.fault_at_its_item.ensures profile;
 }

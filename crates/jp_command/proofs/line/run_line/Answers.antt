@@ -3,7 +3,7 @@ use Rattle.jp_command.specs.Line.{done, fault}
 use Rattle.jp_command.proofs.line.run_line.Goals as goal
 
 pub returns-in-Ok-run_and_flush : goal.returns-in-Ok-run_and_flush
-returns-in-Ok-run_and_flush g c = done refl
+returns-in-Ok-run_and_flush g c = done c.in-Ok.profile refl
     (record {
       task = c.in-Ok.task;
       query = c.in-Ok.query.now;
@@ -13,7 +13,8 @@ returns-in-Ok-run_and_flush g c = done refl
     refl
 
 pub returns-in-Ok : goal.returns-in-Ok
-returns-in-Ok g c = fault c.in-Err-run_and_flush.fault c.status.ensures
+returns-in-Ok g c =
+    fault c.in-Ok.profile c.in-Err-run_and_flush.fault c.status.ensures
     (record {
       task = c.in-Ok.task;
       query = c.in-Ok.query.now;

@@ -11,5 +11,5 @@ abbrev pub invariant-loop-next : goal.invariant-loop-next
 invariant-loop-next g l = record {
   working : has_failed l.next-iterator ≡ false;
   all : map node_of l.selected.items ++ rest_of l.next-iterator
-      ≡ nodelist (query_of l.query) (document_of l.document);
+      ≡ nodelist (query_of l.query.query) (document_of l.document);
 }

@@ -15,7 +15,7 @@ at_the_root false d = refl
 pub returns-clause-nodes : goal.returns-clause-nodes
 returns-clause-nodes g c =
     let all = c.deref.result.now in
-    let q = c.args.query.now in
+    let q = c.args.query.now.query in
     let d = document_of c.args.document.now in
     let are = ap (λ (p : Query). (out-Query p).segments.items) (sym c.query.ensures.same)
     ∙ sym c.deref.ensures.value in

@@ -1,6 +1,7 @@
 use Rattle.std.proofs.Common.{◌≡◌, ◌∙◌, slice_get, rules}
 use Rattle.jp_check.proofs.Calls.{copied_item}
 use Rattle.jp_check.proofs.Steps.{arguments-on, exprs-on, segments-on, selectors-on, sides-on}
+use Rattle.jp_check.proofs.Steps.{types-kept}
 use Rattle.jp_check.proofs.walk.Walk.+walk.Goals as goal
 
 pub query-loop-segment-preserved : goal.query-loop-segment-preserved
@@ -22,4 +23,4 @@ call-loop-index-preserved t c =
     c.copied.ensures
     ∙ copied_item c.wanted_of_arguments-types.result.now c.loop-index.index c.get.result
     c.get.ensures.lookup in
-    (c.loop-index.invariant.0, search (rules, want, arguments-on))
+    (search (rules, types-kept), search (rules, want, arguments-on))

@@ -26,7 +26,7 @@ invariant-parts-loop-part l = steps (exprs_items (exprs (map expr_of l.parts))) 
 
 -- the items of the arguments still to come lead to where those of all lead
 abbrev pub invariant-call-loop-index : goal.invariant-call-loop-index
-invariant-call-loop-index l = (l.types ≡ wanted_of_call (call_of l.call))
+invariant-call-loop-index l = (l.types ≡ wanted_of_call l.self.profile (call_of l.call))
     × (steps (call_items (call_of l.call)) l.initial.self
     ≡ steps (arguments_from (call_of l.call) l.index
     (map argument_of (drop l.index l.argument-items))) l.self)

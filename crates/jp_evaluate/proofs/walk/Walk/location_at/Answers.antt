@@ -1,12 +1,10 @@
 use Rattle.std.proofs.Common.{◌≡◌, ◌++◌, [], ◌∷◌, map}
 use Rattle.std.proofs.Common.{ap₂, rules, option_and_then, take, ap, sym, ◌∙◌}
 use Rattle.std.proofs.lemmas.List.{take_all, take_more}
-use Rattle.jp_document.specs.DocumentValue.{lent_value}
 use Rattle.jp_document.specs.Location.{key_of}
-use Rattle.jp_document.specs.Node.{node_at}
 use Rattle.jp_evaluate.specs.Private.Walk.{reached_at, steps_of}
 use Rattle.jp_evaluate.proofs.Walks.Choices.{reached-push, reached-top}
-use Rattle.jp_evaluate.proofs.walk.Walk.node_at.Goals as goal
+use Rattle.jp_evaluate.proofs.walk.Walk.location_at.Goals as goal
 
 pub loop-frame-preserved : goal.loop-frame-preserved
 loop-frame-preserved c =
@@ -30,10 +28,8 @@ returns c =
     (take_all c.loop-frame.frame-index fs c.loop-frame-test.false
     ∙ c.deref-frame-items.ensures.value) in
     let step : c.and_then.result ≡ option_and_then (λ f. f.place.step) w.top = search rules in
-    c.of.ensures
-    ∙ ap (λ l. node_at l (lent_value c.args.place.value))
-    (c.in_ok-push_step-3.ensures
+    c.in_ok-push_step-3.ensures
     ∙ ap (λ l. l ++ steps_of c.args.place.step)
     (c.in_ok-push_step-2.ensures
     ∙ ap₂ (λ l o. l ++ steps_of o) below step
-    ∙ sym (reached-top [] w.below.items w.top)))
+    ∙ sym (reached-top [] w.below.items w.top))

@@ -1,0 +1,90 @@
+//! The nodes of a query inside an expression, one by one, each once where that is asked.
+ghost use Rattle.std.specs.Prelude.{◌≡◌, ◌∷◌, [], IfOk, MatchOption, Some};
+ghost use Rattle.jp_document.specs.DocumentValue.{lent_value};
+ghost use Rattle.jp_tree.specs.declared.tree.Query.{out-Query};
+ghost use Rattle.jp_evaluate.specs.Private.Selecting.{IsFresh, TellsNew, to_come};
+ghost use Rattle.jp_evaluate.specs.Private.Walk.{reached_place, walk_frames};
+
+use crate::evaluating::Evaluation;
+use crate::pattern::Patterns;
+use crate::walk::{Place, Walk};
+use jp_document::{DocumentValue, Step};
+use jp_match::Matching;
+use jp_tree::{Query, Segment};
+use std::alloc::{AllocError, Global};
+use std::collections::BTreeSet;
+
+/// A query, and whether each of its nodes counts once.
+#[derive(Clone, Copy)]
+pub(crate) struct NodesQuery<'q> {
+    pub(crate) query: &'q Query,
+    pub(crate) distinct: bool,
+}
+
+/// The nodes of a query that are still to come. It keeps the locations of those that came where each
+/// counts once, and else none.
+#[derive(Drop)]
+pub(crate) struct Selecting<'q> {
+    segments: &'q [Segment],
+    walk: Walk<'q>,
+    seen: Option<BTreeSet<Vec<Step<'q>>>>,
+}
+
+impl<'q> Selecting<'q> {
+    /// The nodes of a query that begins at this value.
+    pub(crate) fn from(
+        alloc: Global,
+        nodes: NodesQuery<'q>,
+        start: DocumentValue<'q>,
+    ) -> Selecting<'q>
+        ensures segments { result.segments.now ≡ (out-Query nodes.entry.query.now).segments.items }
+        ensures first { result.walk.first ≡ Some start.entry }
+        ensures frames { walk_frames result.walk ≡ [] }
+        ensures seen { IsFresh nodes.entry.distinct result.seen }
+    {
+        Selecting {
+            segments: &nodes.query.segments,
+            walk: Walk::from(alloc, start),
+            seen: if nodes.distinct {
+                Some(BTreeSet::new(alloc))
+            } else {
+                None
+            },
+        }
+    }
+
+    /// The next node that counts, None at the end. After an error nothing is said of what is left.
+    #[cycle(filter)]
+    #[inline(always)]
+    pub(crate) fn next<M: Matching>(
+        &mut self,
+        evaluation: &Evaluation<'q, M>,
+        patterns: &mut Patterns<'q>,
+    ) -> Result<Option<Place<'q>>, AllocError>
+        ensures segments { self.new.segments ≡ self.old.segments }
+        ensures gives { IfOk result (λ o. let left = to_come (lent_value evaluation.now.root) in
+            MatchOption o ((left self.old ≡ []) × (left self.new ≡ []))
+            (λ p. left self.old ≡ reached_place self.new.walk p ∷ left self.new)) }
+    {
+        while let Some(place) = self.walk.advance(evaluation, patterns, self.segments)? {
+            if self.is_new(evaluation.alloc, place)? {
+                return Ok(Some(place));
+            }
+        }
+        Ok(None)
+    }
+
+    /// Whether a node counts, which the walk has reached: it did not come before, or each counts.
+    #[inline(always)]
+    fn is_new(&mut self, alloc: Global, place: Place<'q>) -> Result<bool, AllocError>
+        ensures walk { self.new.walk ≡ self.old.walk }
+        ensures segments { self.new.segments ≡ self.old.segments }
+        ensures new { IfOk result (λ new. TellsNew self.old.seen
+            (reached_place self.old.walk place.entry) new self.new.seen) }
+    {
+        match &mut self.seen {
+            Some(seen) => Ok(seen.insert(self.walk.location_at(alloc, place)?)?),
+            None => Ok(true),
+        }
+    }
+}
