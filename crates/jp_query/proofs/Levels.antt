@@ -1,6 +1,6 @@
 -- What is inside a number of levels.
 use Rattle.std.proofs.Common.{◌≡◌, ℕ, zero, suc, ◌+◌, ◌-◌, ◌||◌, ◌⊎◌, Bool, true, [], ◌∷◌, false}
-use Rattle.std.proofs.Common.{Option, Some, None, inl, inr, refl, ap, ◌∙◌, arith, codes}
+use Rattle.std.proofs.Common.{Option, Some, None, inl, inr, refl, ap, subst, ◌∙◌, arith, codes}
 use Rattle.jp_reading.specs.Texts.{Text, Spans}
 use Rattle.jp_reading.specs.Forms.{Form, ◌⌢◌, word, Blank}
 use Rattle.jp_reading.specs.Outcome.{State, Outcome, took, ◌>>=◌, head, past, skip, passes, is}
@@ -19,6 +19,7 @@ use Rattle.jp_reading.proofs.Rules.Soundness.{sound-as}
 use Rattle.jp_reading.proofs.Rules.Completeness.{InnerIsComplete, done}
 use Rattle.jp_tree.specs.Tree.{ExprTree, QueryTree}
 use Rattle.jp_reading.specs.Characters.{opening_parenthesis}
+use Rattle.jp_query.specs.Laws.{LevelsOnlyAdd}
 use Rattle.jp_query.specs.Names.{is_function_char}
 use Rattle.jp_query.specs.Grammar.{nested_expr, nested_arguments, without, Inside, Segments, Spells}
 use Rattle.jp_query.specs.Private.Rules.{nesting, opens, opened, inside_mark, expression, segments}
@@ -78,6 +79,11 @@ spells-more zero n q s text h = let e : zero + n ≡ n = omega arith in rw e h
 spells-more (suc k) n q s text h =
     let e : suc k + n ≡ suc (k + n) = omega arith in
     rw e (spells-lifts (k + n) q s text (spells-more k n q s text h))
+
+pub levels-only_add : LevelsOnlyAdd
+levels-only_add n m q s text few h =
+    let all : m - n + n ≡ m = omega (arith, few) in
+    subst (λ k. Spells k q s text) all (spells-more (m - n) n q s text h)
 
 -- ---- soundness
 

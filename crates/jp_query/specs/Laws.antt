@@ -1,5 +1,5 @@
 -- Laws of the grammar (RFC 9535 section 2.1.1).
-use Rattle.std.specs.Prelude.{◌≡◌, ◌⊎◌, ℕ}
+use Rattle.std.specs.Prelude.{◌≡◌, ◌≤◌, ◌⊎◌, ℕ}
 use Rattle.jp_reading.specs.Texts.{Text, Spans}
 use Rattle.jp_tree.specs.Tree.{QueryTree}
 use Rattle.jp_query.specs.Grammar.{Spells}
@@ -15,6 +15,12 @@ abbrev pub OneReading : Type 0
 OneReading =
     (n m : ℕ) (q u : QueryTree) (s t : Spans) (text : Text) → Spells n q s text → Spells m u t text
     → (q ≡ u) × (s ≡ t)
+
+-- a text that spells a tree within some levels spells it within more, with the same spans
+abbrev pub LevelsOnlyAdd : Type 0
+LevelsOnlyAdd =
+    (n m : ℕ) (q : QueryTree) (s : Spans) (text : Text) → n ≤ m → Spells n q s text
+    → Spells m q s text
 
 -- the spans of a text that spells a tree are those of its items, whatever the levels
 abbrev pub SpansOfItems : Type 0
