@@ -3,4 +3,4 @@ use Rattle.std.specs.Prelude.{ℕ}
 
 -- the greatest number of levels in a query that is read
 abbrev pub level_limit : ℕ
-level_limit = 64
+level_limit = 128

@@ -1,23 +1,25 @@
 //! Function expressions and their arguments (RFC 9535 section 2.4).
 
-ghost use Rattle.std.specs.Prelude.{◌≡◌, [], map};
+ghost use Rattle.std.specs.Prelude.{◌≡◌, [], map, IfOk};
 ghost use Rattle.std.specs.Str.{chars};
 ghost use Rattle.std.specs.String.{string_bytes};
 ghost use Rattle.jp_reading.specs.Outcome.{after_blank, passes};
 ghost use Rattle.jp_reading.specs.Views.{Gives, by};
-ghost use Rattle.jp_tree.specs.Tree.{argument_of, call_of, expr_of, operand_of};
+ghost use Rattle.jp_tree.specs.Tree.{argument_of, call_of, operand_of};
 ghost use Rattle.jp_query.specs.Private.Rules as rules;
 ghost use Rattle.jp_query.specs.Private.Rules.{is_logical};
-ghost use Rattle.jp_query.specs.Private.Parts.{begins_part, logical_at, rest_of_call};
+ghost use Rattle.jp_query.specs.Private.Parts.{begins_part, boxed_argument, boxed_expr};
+ghost use Rattle.jp_query.specs.Private.Parts.{first_argument, logical_at, rest_of_call};
 ghost use Rattle.jp_query.specs.Private.Reading.{call_inside, read_inside};
 
-use crate::expressions::{Connective, comparison, joined_from, negation, parenthesis};
-use crate::lists::append;
+use crate::expressions::{Connective, comparison, joined_from, negation, parenthesis, tested};
+use crate::lists::{append_boxed, boxed};
 use crate::names::{NameCharacter, name_from};
 use crate::operators::is_before_operator;
 use crate::sides::side;
 use jp_reading::{Reader, Stop};
-use jp_tree::{Argument, Call, Expr, Operand, Subject};
+use jp_tree::{Argument, Call, Expr, Literal, Operand, Query, Subject};
+use std::alloc::{AllocError, Global};
 
 /// A function expression.
 #[cycle(nested)]
@@ -92,10 +94,10 @@ fn some_arguments(reader: &mut Reader, levels: u32) -> Result<Vec<Argument>, Sto
 {
     let mut arguments = Vec::new(reader.alloc());
     let first = argument(reader, levels)?;
-    append(&mut arguments, first)?;
+    append_boxed(&mut arguments, first)?;
     'arguments: while reader.is_before(',') {
         let next = next_argument(reader, levels)?;
-        append(&mut arguments, next)?;
+        append_boxed(&mut arguments, next)?;
     }
     reader.skip();
     reader.expect(')')?;
@@ -105,9 +107,9 @@ fn some_arguments(reader: &mut Reader, levels: u32) -> Result<Vec<Argument>, Sto
 /// An argument after a comma.
 #[cycle(nested)]
 #[tactic(auto, unfolding(crate::specs::Private::Rules::next_argument))]
-fn next_argument(reader: &mut Reader, levels: u32) -> Result<Argument, Stop>
+fn next_argument(reader: &mut Reader, levels: u32) -> Result<Box<Argument>, Stop>
     ensures { Gives
-        argument_of
+        boxed_argument
         result
         reader.new
         (read_inside levels rules.next_argument reader.old) }
@@ -121,8 +123,8 @@ fn next_argument(reader: &mut Reader, levels: u32) -> Result<Argument, Stop>
 /// An argument, which is an item of its own where it is a logical expression.
 #[cycle(nested)]
 #[tactic(auto, unfolding(crate::specs::Private::Rules::argument))]
-fn argument(reader: &mut Reader, levels: u32) -> Result<Argument, Stop>
-    ensures { Gives argument_of result reader.new (read_inside levels rules.argument reader.old) }
+fn argument(reader: &mut Reader, levels: u32) -> Result<Box<Argument>, Stop>
+    ensures { Gives boxed_argument result reader.new (read_inside levels rules.argument reader.old) }
 {
     let start = reader.place();
     let before = reader.items();
@@ -147,12 +149,20 @@ fn is_logical(argument: &Argument) -> bool
     }
 }
 
+/// The first part of an argument.
+enum FirstPart {
+    Literal(Literal),
+    Query(Query),
+    Call(Call),
+    Logical(Box<Expr>),
+}
+
 /// The first part of an argument: a basic expression, or a literal.
 #[cycle(nested)]
 #[tactic(auto, unfolding(crate::specs::Private::Rules::argument_start))]
-fn argument_start(reader: &mut Reader, levels: u32) -> Result<Argument, Stop>
+fn argument_start(reader: &mut Reader, levels: u32) -> Result<FirstPart, Stop>
     ensures { Gives
-        argument_of
+        first_argument
         result
         reader.new
         (read_inside levels rules.argument_start reader.old) }
@@ -160,9 +170,9 @@ fn argument_start(reader: &mut Reader, levels: u32) -> Result<Argument, Stop>
     match reader.peek() {
         Some('!') => {
             reader.bump();
-            Ok(Argument::Logical(negation(reader, levels)?))
+            Ok(FirstPart::Logical(negation(reader, levels)?))
         },
-        Some('(') => Ok(Argument::Logical(parenthesis(reader, levels)?)),
+        Some('(') => Ok(FirstPart::Logical(parenthesis(reader, levels)?)),
         _ => {
             let first = side(reader, levels)?;
             compared_or_alone(reader, levels, first)
@@ -172,41 +182,60 @@ fn argument_start(reader: &mut Reader, levels: u32) -> Result<Argument, Stop>
 
 /// What goes on from the first side of an argument: a comparison, or nothing.
 #[cycle(nested)]
-fn compared_or_alone(reader: &mut Reader, levels: u32, first: Operand) -> Result<Argument, Stop>
+fn compared_or_alone(reader: &mut Reader, levels: u32, first: Operand) -> Result<FirstPart, Stop>
     ensures { Gives
-        argument_of
+        first_argument
         result
         reader.new
         (read_inside levels (rules.compared_or_alone (operand_of first)) reader.old) }
 {
     if is_before_operator(reader) {
         reader.skip();
-        return Ok(Argument::Logical(comparison(reader, levels, first)?));
+        return Ok(FirstPart::Logical(comparison(reader, levels, first)?));
     }
     match first {
-        Operand::Literal(literal) => Ok(Argument::Literal(literal)),
-        Operand::Query(query) => Ok(Argument::Query(query)),
-        Operand::Call(call) => Ok(Argument::Call(call)),
+        Operand::Literal(literal) => Ok(FirstPart::Literal(literal)),
+        Operand::Query(query) => Ok(FirstPart::Query(query)),
+        Operand::Call(call) => Ok(FirstPart::Call(call)),
     }
 }
 
 /// An argument from its first part on: a literal is no part of a logical expression.
 #[cycle(nested)]
-fn argument_from(reader: &mut Reader, levels: u32, first: Argument) -> Result<Argument, Stop>
+fn argument_from(reader: &mut Reader, levels: u32, first: FirstPart) -> Result<Box<Argument>, Stop>
     ensures { Gives
-        argument_of
+        boxed_argument
         result
         reader.new
-        (read_inside levels (rules.argument_on (argument_of first)) reader.old) }
+        (read_inside levels (rules.argument_on (first_argument first)) reader.old) }
 {
     if !is_before_part(reader) {
-        return Ok(first);
+        return Ok(alone(reader.alloc(), first)?);
     }
     match first {
-        Argument::Literal(literal) => Ok(Argument::Literal(literal)),
-        Argument::Query(query) => logical(reader, levels, Expr::Test(Subject::Query(query))),
-        Argument::Call(call) => logical(reader, levels, Expr::Test(Subject::Call(call))),
-        Argument::Logical(expr) => logical(reader, levels, expr),
+        FirstPart::Literal(literal) => Ok(alone(reader.alloc(), FirstPart::Literal(literal))?),
+        FirstPart::Query(query) => {
+            let test = tested(reader.alloc(), Subject::Query(query))?;
+            logical(reader, levels, test)
+        },
+        FirstPart::Call(call) => {
+            let test = tested(reader.alloc(), Subject::Call(call))?;
+            logical(reader, levels, test)
+        },
+        FirstPart::Logical(expr) => logical(reader, levels, expr),
+    }
+}
+
+/// The argument of one part.
+#[inline(never)]
+fn alone(alloc: Global, part: FirstPart) -> Result<Box<Argument>, AllocError>
+    ensures { IfOk result (λ b. boxed_argument b ≡ first_argument part) }
+{
+    match part {
+        FirstPart::Literal(literal) => boxed(alloc, Argument::Literal(literal)),
+        FirstPart::Query(query) => boxed(alloc, Argument::Query(query)),
+        FirstPart::Call(call) => boxed(alloc, Argument::Call(call)),
+        FirstPart::Logical(expr) => boxed(alloc, Argument::Logical(Box::into_inner(expr))),
     }
 }
 
@@ -219,14 +248,14 @@ fn is_before_part(reader: &Reader) -> bool
 
 /// A logical expression from its first part on.
 #[cycle(nested)]
-fn logical(reader: &mut Reader, levels: u32, first: Expr) -> Result<Argument, Stop>
+fn logical(reader: &mut Reader, levels: u32, first: Box<Expr>) -> Result<Box<Argument>, Stop>
     ensures { Gives
-        argument_of
+        boxed_argument
         result
         reader.new
-        (logical_at levels (expr_of first) reader.old) }
+        (logical_at levels (boxed_expr first) reader.old) }
 {
     let conjunction = joined_from(reader, levels, Connective::And, first)?;
     let expression = joined_from(reader, levels, Connective::Or, conjunction)?;
-    Ok(Argument::Logical(expression))
+    Ok(alone(reader.alloc(), FirstPart::Logical(expression))?)
 }

@@ -1,26 +1,27 @@
 //! Logical expressions of filters (RFC 9535 section 2.3.5.1).
 
-ghost use Rattle.std.specs.Prelude.{◌≡◌, map};
+ghost use Rattle.std.specs.Prelude.{◌≡◌, map, IfOk};
 ghost use Rattle.jp_reading.specs.Outcome.{after_blank, is, passes};
 ghost use Rattle.jp_reading.specs.Views.{Gives};
-ghost use Rattle.jp_tree.specs.Tree.{expr_of, exprs, operand_of, subject_of};
-ghost use Rattle.jp_query.specs.Private.Parts.{joined_at, mark_of, part_of, several};
+ghost use Rattle.jp_tree.specs.Tree.{comparison, expr_of, exprs, negation, operand_of, subject_of};
+ghost use Rattle.jp_query.specs.Private.Parts.{boxed_expr, joined_at, mark_of, part_of, several};
 ghost use Rattle.jp_query.specs.Private.Rules as rules;
 ghost use Rattle.jp_query.specs.Private.Reading.{inside, parenthesis_at, read_flat, read_inside};
 
 use crate::calls::call;
-use crate::lists::append;
+use crate::lists::{append_boxed, boxed};
 use crate::names::is_at_function;
 use crate::operators::{is_before_operator, operator};
 use crate::sides::{query_within, side};
 use jp_reading::{Reader, Stop};
-use jp_tree::{Expr, Operand, Subject};
+use jp_tree::{Expr, Op, Operand, Subject};
+use std::alloc::{AllocError, Global};
 
 /// An expression after the mark that opens it, one level further in than the text around.
 #[cycle(nested)]
 #[tactic(auto, unfolding(crate::specs::Private::Rules::inside_mark))]
-pub(crate) fn inside(reader: &mut Reader, mark: char, levels: u32) -> Result<Expr, Stop>
-    ensures { Gives expr_of result reader.new (inside levels (rules.mark mark) reader.old) }
+pub(crate) fn inside(reader: &mut Reader, mark: char, levels: u32) -> Result<Box<Expr>, Stop>
+    ensures { Gives boxed_expr result reader.new (inside levels (rules.mark mark) reader.old) }
 {
     if levels == 0 {
         return Err(Stop::TooDeep(reader.place()));
@@ -62,8 +63,8 @@ impl Connective {
 /// Conjunctions with `||` between them; a single one stands for itself.
 #[cycle(nested)]
 #[tactic(auto, unfolding(crate::specs::Private::Rules::expression))]
-fn expression(reader: &mut Reader, levels: u32) -> Result<Expr, Stop>
-    ensures { Gives expr_of result reader.new (read_inside levels rules.expression reader.old) }
+fn expression(reader: &mut Reader, levels: u32) -> Result<Box<Expr>, Stop>
+    ensures { Gives boxed_expr result reader.new (read_inside levels rules.expression reader.old) }
 {
     let first = conjunction(reader, levels)?;
     joined_from(reader, levels, Connective::Or, first)
@@ -72,8 +73,8 @@ fn expression(reader: &mut Reader, levels: u32) -> Result<Expr, Stop>
 /// Basic expressions with `&&` between them; a single one stands for itself.
 #[cycle(nested)]
 #[tactic(auto, unfolding(crate::specs::Private::Rules::conjunction))]
-fn conjunction(reader: &mut Reader, levels: u32) -> Result<Expr, Stop>
-    ensures { Gives expr_of result reader.new (read_inside levels rules.conjunction reader.old) }
+fn conjunction(reader: &mut Reader, levels: u32) -> Result<Box<Expr>, Stop>
+    ensures { Gives boxed_expr result reader.new (read_inside levels rules.conjunction reader.old) }
 {
     let first = basic(reader, levels)?;
     joined_from(reader, levels, Connective::And, first)
@@ -85,31 +86,41 @@ pub(crate) fn joined_from(
     reader: &mut Reader,
     levels: u32,
     connective: Connective,
-    first: Expr,
-) -> Result<Expr, Stop>
+    first: Box<Expr>,
+) -> Result<Box<Expr>, Stop>
     ensures { Gives
-        expr_of
+        boxed_expr
         result
         reader.new
-        (joined_at connective levels (expr_of first) reader.old) }
+        (joined_at connective levels (boxed_expr first) reader.old) }
 {
     if !is_before_joint(reader, connective) {
         return Ok(first);
     }
     let mut parts = Vec::new(reader.alloc());
-    append(&mut parts, first)?;
+    append_boxed(&mut parts, first)?;
     'parts: while is_before_joint(reader, connective) {
         joint(reader, connective)?;
         let next = part(reader, levels, connective)?;
-        append(&mut parts, next)?;
+        append_boxed(&mut parts, next)?;
     }
-    Ok(connective.join(parts))
+    Ok(joined(reader.alloc(), connective, parts)?)
+}
+
+/// The expression of several parts.
+#[inline(never)]
+fn joined(alloc: Global, connective: Connective, parts: Vec<Expr>) -> Result<Box<Expr>, AllocError>
+    ensures { IfOk
+        result
+        (λ b. boxed_expr b ≡ several connective (exprs (map expr_of parts.items))) }
+{
+    boxed(alloc, connective.join(parts))
 }
 
 /// A part that the connective joins to others.
 #[cycle(nested)]
-fn part(reader: &mut Reader, levels: u32, connective: Connective) -> Result<Expr, Stop>
-    ensures { Gives expr_of result reader.new (read_inside levels (part_of connective) reader.old) }
+fn part(reader: &mut Reader, levels: u32, connective: Connective) -> Result<Box<Expr>, Stop>
+    ensures { Gives boxed_expr result reader.new (read_inside levels (part_of connective) reader.old) }
 {
     match connective {
         Connective::Or => conjunction(reader, levels),
@@ -144,8 +155,8 @@ fn joint(reader: &mut Reader, connective: Connective) -> Result<(), Stop>
 /// A basic expression: a negation, an expression in parentheses, a comparison, or a test.
 #[cycle(nested)]
 #[tactic(auto, unfolding(crate::specs::Private::Rules::basic))]
-fn basic(reader: &mut Reader, levels: u32) -> Result<Expr, Stop>
-    ensures { Gives expr_of result reader.new (read_inside levels rules.basic reader.old) }
+fn basic(reader: &mut Reader, levels: u32) -> Result<Box<Expr>, Stop>
+    ensures { Gives boxed_expr result reader.new (read_inside levels rules.basic reader.old) }
 {
     match reader.peek() {
         Some('!') => {
@@ -163,22 +174,27 @@ fn basic(reader: &mut Reader, levels: u32) -> Result<Expr, Stop>
 /// A negation after its `!`.
 #[cycle(nested)]
 #[tactic(auto, unfolding(crate::specs::Private::Rules::negation_on))]
-pub(crate) fn negation(reader: &mut Reader, levels: u32) -> Result<Expr, Stop>
-    ensures { Gives expr_of result reader.new (read_inside levels rules.negation_on reader.old) }
+pub(crate) fn negation(reader: &mut Reader, levels: u32) -> Result<Box<Expr>, Stop>
+    ensures { Gives boxed_expr result reader.new (read_inside levels rules.negation_on reader.old) }
 {
     reader.skip();
     let part = negated(reader, levels)?;
-    match Box::new(reader.alloc(), part) {
-        Ok(part) => Ok(Expr::Not(part)),
-        Err(_) => Err(Stop::Memory),
-    }
+    Ok(opposite(reader.alloc(), part)?)
+}
+
+/// The expression that is true where the part is not.
+#[inline(never)]
+fn opposite(alloc: Global, part: Box<Expr>) -> Result<Box<Expr>, AllocError>
+    ensures { IfOk result (λ b. boxed_expr b ≡ negation (boxed_expr part)) }
+{
+    boxed(alloc, Expr::Not(part))
 }
 
 /// What stands after a `!`: an expression in parentheses, or a test.
 #[cycle(nested)]
 #[tactic(auto, unfolding(crate::specs::Private::Rules::negated))]
-fn negated(reader: &mut Reader, levels: u32) -> Result<Expr, Stop>
-    ensures { Gives expr_of result reader.new (read_inside levels rules.negated reader.old) }
+fn negated(reader: &mut Reader, levels: u32) -> Result<Box<Expr>, Stop>
+    ensures { Gives boxed_expr result reader.new (read_inside levels rules.negated reader.old) }
 {
     if reader.is_at('(') {
         return parenthesis(reader, levels);
@@ -189,14 +205,22 @@ fn negated(reader: &mut Reader, levels: u32) -> Result<Expr, Stop>
 /// A test, which is an item: a function, or a query.
 #[cycle(nested)]
 #[tactic(auto, unfolding(crate::specs::Private::Rules::test_expr))]
-fn test(reader: &mut Reader, levels: u32) -> Result<Expr, Stop>
-    ensures { Gives expr_of result reader.new (read_inside levels rules.test_expr reader.old) }
+fn test(reader: &mut Reader, levels: u32) -> Result<Box<Expr>, Stop>
+    ensures { Gives boxed_expr result reader.new (read_inside levels rules.test_expr reader.old) }
 {
     let start = reader.place();
     let before = reader.items();
     let subject = subject(reader, levels)?;
     reader.add_item(start, before)?;
-    Ok(Expr::Test(subject))
+    Ok(tested(reader.alloc(), subject)?)
+}
+
+/// The test of the subject.
+#[inline(never)]
+pub(crate) fn tested(alloc: Global, subject: Subject) -> Result<Box<Expr>, AllocError>
+    ensures { IfOk result (λ b. boxed_expr b ≡ subject_of subject) }
+{
+    boxed(alloc, Expr::Test(subject))
 }
 
 /// What a test asks for: a function, or a query.
@@ -213,8 +237,8 @@ fn subject(reader: &mut Reader, levels: u32) -> Result<Subject, Stop>
 /// An expression in parentheses.
 #[cycle(nested)]
 #[tactic(auto, unfolding(crate::specs::Private::Rules::closed))]
-pub(crate) fn parenthesis(reader: &mut Reader, levels: u32) -> Result<Expr, Stop>
-    ensures { Gives expr_of result reader.new (parenthesis_at levels reader.old) }
+pub(crate) fn parenthesis(reader: &mut Reader, levels: u32) -> Result<Box<Expr>, Stop>
+    ensures { Gives boxed_expr result reader.new (parenthesis_at levels reader.old) }
 {
     let expr = inside(reader, '(', levels)?;
     reader.skip();
@@ -224,9 +248,9 @@ pub(crate) fn parenthesis(reader: &mut Reader, levels: u32) -> Result<Expr, Stop
 
 /// What goes on from the first side: a literal has to be compared, all else may be a test.
 #[cycle(nested)]
-fn compared_or_test(reader: &mut Reader, levels: u32, first: Operand) -> Result<Expr, Stop>
+fn compared_or_test(reader: &mut Reader, levels: u32, first: Operand) -> Result<Box<Expr>, Stop>
     ensures { Gives
-        expr_of
+        boxed_expr
         result
         reader.new
         (read_inside levels (rules.compared_or_test (operand_of first)) reader.old) }
@@ -236,8 +260,8 @@ fn compared_or_test(reader: &mut Reader, levels: u32, first: Operand) -> Result<
         return comparison(reader, levels, first);
     }
     match first {
-        Operand::Query(query) => Ok(Expr::Test(Subject::Query(query))),
-        Operand::Call(call) => Ok(Expr::Test(Subject::Call(call))),
+        Operand::Query(query) => Ok(tested(reader.alloc(), Subject::Query(query))?),
+        Operand::Call(call) => Ok(tested(reader.alloc(), Subject::Call(call))?),
         Operand::Literal(literal) => {
             reader.skip();
             comparison(reader, levels, Operand::Literal(literal))
@@ -248,9 +272,9 @@ fn compared_or_test(reader: &mut Reader, levels: u32, first: Operand) -> Result<
 /// An operator and the second side of a comparison, after the first.
 #[cycle(nested)]
 #[tactic(auto, unfolding(crate::specs::Private::Rules::comparison_with))]
-pub(crate) fn comparison(reader: &mut Reader, levels: u32, left: Operand) -> Result<Expr, Stop>
+pub(crate) fn comparison(reader: &mut Reader, levels: u32, left: Operand) -> Result<Box<Expr>, Stop>
     ensures { Gives
-        expr_of
+        boxed_expr
         result
         reader.new
         (read_inside levels (rules.comparison_with (operand_of left)) reader.old) }
@@ -258,5 +282,15 @@ pub(crate) fn comparison(reader: &mut Reader, levels: u32, left: Operand) -> Res
     let op = operator(reader)?;
     reader.skip();
     let right = side(reader, levels)?;
-    Ok(Expr::Compare { left, op, right })
+    Ok(compared(reader.alloc(), left, op, right)?)
+}
+
+/// The comparison of two sides.
+#[inline(never)]
+fn compared(alloc: Global, left: Operand, op: Op, right: Operand) -> Result<Box<Expr>, AllocError>
+    ensures { IfOk
+        result
+        (λ b. boxed_expr b ≡ comparison (operand_of left) op (operand_of right)) }
+{
+    boxed(alloc, Expr::Compare { left, op, right })
 }

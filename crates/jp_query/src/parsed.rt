@@ -17,7 +17,7 @@ use std::alloc::Global;
 use std::marker::Model;
 
 /// How many filters, parentheses and calls may be inside one another at most.
-pub const LEVEL_LIMIT: u32 = 64;
+pub const LEVEL_LIMIT: u32 = 128;
 
 /// A query and the spans of its items, as some text spells them.
 #[derive(Debug, Drop)]

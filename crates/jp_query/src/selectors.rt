@@ -1,19 +1,20 @@
 //! Selectors (RFC 9535 section 2.3), and what stands between brackets (section 2.5.1.1).
 
-ghost use Rattle.std.specs.Prelude.{map};
-ghost use Rattle.jp_reading.specs.Views.{Gives};
-ghost use Rattle.jp_tree.specs.Tree.{selector_of};
+ghost use Rattle.std.specs.Prelude.{◌≡◌, map, IfOk};
+ghost use Rattle.jp_reading.specs.Views.{Gives, by};
+ghost use Rattle.jp_tree.specs.Tree.{filter, name, selector_of, slice};
 ghost use Rattle.jp_query.specs.Private.Rules as rules;
-ghost use Rattle.jp_query.specs.Private.Parts.{next_entry};
+ghost use Rattle.jp_query.specs.Private.Parts.{boxed_expr, boxed_selector, next_entry};
 ghost use Rattle.jp_query.specs.Private.Reading.{read_flat, read_inside};
 
 use crate::expressions::inside;
 use crate::ints::int_item;
-use crate::lists::append;
+use crate::lists::{append_boxed, boxed};
 use crate::slices::slice;
 use crate::strings::quoted;
 use jp_reading::{Reader, Stop};
-use jp_tree::Selector;
+use jp_tree::{Expr, Numeral, Selector};
+use std::alloc::{AllocError, Global};
 
 /// Selectors with commas between them, and blank space around each. The reader stands before the
 /// first, and then past the blanks after the last.
@@ -28,18 +29,18 @@ pub(crate) fn entries(reader: &mut Reader, levels: u32) -> Result<Vec<Selector>,
 {
     let mut selectors = Vec::new(reader.alloc());
     let first = entry(reader, levels)?;
-    append(&mut selectors, first)?;
+    append_boxed(&mut selectors, first)?;
     'entries: while reader.is_at(',') {
         let next = next_entry(reader, levels)?;
-        append(&mut selectors, next)?;
+        append_boxed(&mut selectors, next)?;
     }
     Ok(selectors)
 }
 
 /// A selector after a comma, and the blanks after each of them.
 #[cycle(nested)]
-fn next_entry(reader: &mut Reader, levels: u32) -> Result<Selector, Stop>
-    ensures { Gives selector_of result reader.new (read_inside levels next_entry reader.old) }
+fn next_entry(reader: &mut Reader, levels: u32) -> Result<Box<Selector>, Stop>
+    ensures { Gives boxed_selector result reader.new (read_inside levels next_entry reader.old) }
 {
     reader.expect(',')?;
     reader.skip();
@@ -49,8 +50,8 @@ fn next_entry(reader: &mut Reader, levels: u32) -> Result<Selector, Stop>
 /// A selector and the blanks after it.
 #[cycle(nested)]
 #[tactic(auto, unfolding(crate::specs::Private::Rules::entry))]
-fn entry(reader: &mut Reader, levels: u32) -> Result<Selector, Stop>
-    ensures { Gives selector_of result reader.new (read_inside levels rules.entry reader.old) }
+fn entry(reader: &mut Reader, levels: u32) -> Result<Box<Selector>, Stop>
+    ensures { Gives boxed_selector result reader.new (read_inside levels rules.entry reader.old) }
 {
     let selector = selector(reader, levels)?;
     reader.skip();
@@ -60,37 +61,73 @@ fn entry(reader: &mut Reader, levels: u32) -> Result<Selector, Stop>
 /// A selector.
 #[cycle(nested)]
 #[tactic(auto, unfolding(crate::specs::Private::Rules::selector))]
-fn selector(reader: &mut Reader, levels: u32) -> Result<Selector, Stop>
-    ensures { Gives selector_of result reader.new (read_inside levels rules.selector reader.old) }
+fn selector(reader: &mut Reader, levels: u32) -> Result<Box<Selector>, Stop>
+    ensures { Gives boxed_selector result reader.new (read_inside levels rules.selector reader.old) }
 {
     if reader.is_at('"') {
-        return Ok(Selector::Name(quoted(reader, '"')?));
+        return name_selector(reader, '"');
     }
     if reader.is_at('\'') {
-        return Ok(Selector::Name(quoted(reader, '\'')?));
+        return name_selector(reader, '\'');
     }
     if reader.is_at('*') {
         reader.bump();
-        return Ok(Selector::Wildcard);
+        return Ok(boxed(reader.alloc(), Selector::Wildcard)?);
     }
     if reader.is_at(':') {
-        return Ok(Selector::Slice(slice(reader, None)?));
+        return slice_selector(reader, None);
     }
     if reader.is_at('?') {
-        return Ok(Selector::Filter(inside(reader, '?', levels)?));
+        let condition = inside(reader, '?', levels)?;
+        return Ok(filter_selector(reader.alloc(), condition)?);
     }
     number(reader)
 }
 
+/// A name in quotes.
+#[inline(never)]
+fn name_selector(reader: &mut Reader, quote: char) -> Result<Box<Selector>, Stop>
+    ensures { Gives
+        boxed_selector
+        result
+        reader.new
+        (by name (read_flat (rules.quoted quote) reader.old)) }
+{
+    let name = quoted(reader, quote)?;
+    Ok(boxed(reader.alloc(), Selector::Name(name))?)
+}
+
+/// A slice from its first colon on.
+#[inline(never)]
+fn slice_selector(reader: &mut Reader, start: Option<Numeral>) -> Result<Box<Selector>, Stop>
+    ensures { Gives
+        boxed_selector
+        result
+        reader.new
+        (by slice (read_flat (rules.slice_from start) reader.old)) }
+{
+    let slice = slice(reader, start)?;
+    Ok(boxed(reader.alloc(), Selector::Slice(slice))?)
+}
+
+/// The children for which the condition is true.
+#[inline(never)]
+fn filter_selector(alloc: Global, condition: Box<Expr>) -> Result<Box<Selector>, AllocError>
+    ensures { IfOk result (λ b. boxed_selector b ≡ filter (boxed_expr condition)) }
+{
+    boxed(alloc, Selector::Filter(Box::into_inner(condition)))
+}
+
 /// An index, or a slice that starts with it.
+#[inline(never)]
 #[tactic(auto, unfolding(crate::specs::Private::Rules::number_selector))]
-fn number(reader: &mut Reader) -> Result<Selector, Stop>
-    ensures { Gives selector_of result reader.new (read_flat rules.number_selector reader.old) }
+fn number(reader: &mut Reader) -> Result<Box<Selector>, Stop>
+    ensures { Gives boxed_selector result reader.new (read_flat rules.number_selector reader.old) }
 {
     let index = int_item(reader)?;
     if reader.is_before(':') {
         reader.skip();
-        return Ok(Selector::Slice(slice(reader, Some(index))?));
+        return slice_selector(reader, Some(index));
     }
-    Ok(Selector::Index(index))
+    Ok(boxed(reader.alloc(), Selector::Index(index))?)
 }

@@ -95,9 +95,9 @@ fn refuses_a_document_beyond_the_limit(rt: HostRuntime) -> Result<(), Fail> {
 }
 
 #[test]
-fn nests_filters_64_deep(rt: HostRuntime) -> Result<(), Fail> {
+fn nests_filters_128_deep(rt: HostRuntime) -> Result<(), Fail> {
     let alloc = rt.alloc();
-    for (count, answer) in [(64, Nodes(&[])), (65, Query("TooDeep at 194"))] {
+    for (count, answer) in [(128, Nodes(&[])), (129, Query("TooDeep at 386"))] {
         let query = nested(alloc, ("$", "[?@", count, ""), ("]", ""))?;
         assert_gives(&rt, alloc, ("[]", query.as_str(), Standard), answer, 999)?;
     }
@@ -106,22 +106,23 @@ fn nests_filters_64_deep(rt: HostRuntime) -> Result<(), Fail> {
 
 // What stands in so many parentheses or calls in a filter, and what that gives over no items.
 const NESTED: &[(&str, usize, &str, Answer)] = &[
-    ("(", 63, "@.a", Nodes(&[])),
-    ("(", 64, "@.a", Query("TooDeep at 66")),
-    ("g(", 63, "1", Query("UnknownFunction at 3")),
-    ("g(", 64, "1", Query("TooDeep at 129")),
-    ("f(", 64, "1", Query("TooDeep at 130")),
-    ("(", 62, "f()", Query("UnknownFunction at 65")),
-    ("(", 63, "f()", Query("TooDeep at 67")),
-    ("(", 63, "!f()", Query("TooDeep at 67")),
-    ("(", 63, "true()", Query("TooDeep at 70")),
-    ("(", 63, "tru)", Query("Syntax at 69")),
-    ("(", 63, "@==true", Nodes(&[])),
-    ("(", 63, "@.a", Canonical("$[?@['a']]")),
+    ("(", 127, "@.a", Nodes(&[])),
+    ("(", 128, "@.a", Query("TooDeep at 130")),
+    ("g(", 127, "1", Query("UnknownFunction at 3")),
+    ("g(", 128, "1", Query("TooDeep at 257")),
+    ("f(", 128, "1", Query("TooDeep at 258")),
+    ("(", 126, "f()", Query("UnknownFunction at 129")),
+    ("(", 127, "f()", Query("TooDeep at 131")),
+    ("(", 127, "!f()", Query("TooDeep at 131")),
+    ("(", 127, "true()", Query("TooDeep at 134")),
+    ("(", 127, "tru)", Query("Syntax at 133")),
+    ("(", 127, "@==true", Nodes(&[])),
+    ("(", 64, "@.a", Canonical("$[?@['a']]")),
+    ("(", 127, "@.a", Canonical("$[?@['a']]")),
 ];
 
 #[test]
-fn nests_parentheses_and_calls_64_deep(rt: HostRuntime) -> Result<(), Fail> {
+fn nests_parentheses_and_calls_128_deep(rt: HostRuntime) -> Result<(), Fail> {
     let alloc = rt.alloc();
     for (opening, count, inside, answer) in NESTED {
         let query = nested(alloc, ("$[?", opening, *count, inside), (")", "]"))?;

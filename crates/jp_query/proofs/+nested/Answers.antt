@@ -14,7 +14,6 @@ use Rattle.jp_reading.proofs.Folds.{fails-then}
 use Rattle.jp_reading.proofs.Rules.Rounds as loops
 use Rattle.jp_tree.specs.declared.tree.Operand.TheVariants as operand
 use Rattle.jp_tree.specs.declared.tree.Subject.{the_lemmas}
-use Rattle.jp_tree.specs.declared.tree.Subject.TheVariants as subject
 use Rattle.jp_tree.specs.Tree.{SegmentTree, argument_of, call_of, expr_of}
 use Rattle.jp_tree.specs.Tree.{literal_of, operand_of, selector_of, segment_of, query_of}
 use Rattle.jp_tree.specs.Tree.{ArgumentTree, OperandTree, true_literal, false_literal}
@@ -29,12 +28,13 @@ use Rattle.jp_query.specs.Private.Rules.{conjunction, other_parts, call_with}
 use Rattle.jp_query.specs.Private.Rules.{argument, argument_start, argument_on}
 use Rattle.jp_query.specs.Private.Rules.{next_argument, some_arguments, is_logical, query_within}
 use Rattle.jp_query.specs.Private.Rules.{inside_mark, side, word_from, word_of}
+use Rattle.jp_query.specs.Private.Parts.{boxed_argument, boxed_expr, boxed_selector}
+use Rattle.jp_query.specs.Private.Parts.{first_argument}
 use Rattle.jp_query.specs.Private.Parts.{next_entry, logical_at, mark_of, part_of, several}
 use Rattle.jp_query.specs.Private.Reading.{inside, call_inside, read_inside}
 use Rattle.jp_query.proofs.Levels.{inside-progress, inside-entered}
-use Rattle.jp_tree.proofs.Trees.{tree_argument_query}
-use Rattle.jp_tree.proofs.Trees.{tree_argument_call, tree_logical, tree_operand_literal}
-use Rattle.jp_tree.proofs.Trees.{tree_subject_query, tree_subject_call, tree_test}
+use Rattle.jp_tree.proofs.Trees.{tree_operand_literal}
+use Rattle.jp_tree.proofs.Trees.{tree_subject_query, tree_subject_call}
 use Rattle.jp_query.proofs.Readers.Exits.{err_is}
 use Rattle.jp_query.proofs.Readers.ArgumentParts as parts
 use Rattle.jp_query.proofs.Readers.Openings as openings
@@ -90,7 +90,7 @@ pub selectors::entries-entries-init : goal.selectors::entries-entries-init
 unfolding entries
 selectors::entries-entries-init t c =
     rw (
-      rounds.map-first selector_of c.in_ok-append.ensures c.new-selectors.ensures.items,
+      rounds.map-first selector_of c.in_ok-append_boxed.ensures c.new-selectors.ensures.items,
       c.in_ok-first.ensures,
     ) refl
 
@@ -111,11 +111,11 @@ selectors::entries-entries-smaller t c =
 
 pub selectors::entries-entries-preserved : goal.selectors::entries-entries-preserved
 selectors::entries-entries-preserved t c =
-    rw (rounds.map-pushed selector_of c.entries.selectors.items c.in_ok-next.next
-    c.in_ok-append-2.ensures)
+    rw (rounds.map-pushed selector_of c.entries.selectors.items c.in_ok-next.next.value
+    c.in_ok-append_boxed-2.ensures)
     (sym (loops.some_on (inside c.args.levels) (inside-progress c.args.levels) here (is comma)
     next_entry c.entries.reader c.next_entry.new.reader (map selector_of c.entries.selectors.items)
-    (selector_of c.in_ok-next.next) (sym c.is_at.ensures ∙ c.entries-test.true)
+    (boxed_selector c.in_ok-next.next) (sym c.is_at.ensures ∙ c.entries-test.true)
     c.in_ok-next.ensures) ∙ c.entries.invariant)
 
 pub selectors::entries-returns : goal.selectors::entries-returns
@@ -135,15 +135,15 @@ selectors::next_entry-returns t c =
 pub expressions::joined_from-returns-then-not-is_before_joint :
     goal.expressions::joined_from-returns-then-not-is_before_joint
 expressions::joined_from-returns-then-not-is_before_joint t c =
-    ap (by (λ es. joined (several c.args.connective) (expr_of c.args.first ∷ es)))
+    ap (by (λ es. joined (several c.args.connective) (boxed_expr c.args.first ∷ es)))
     (rounds.parts-none (inside c.args.levels) (mark_of c.args.connective)
     (part_of c.args.connective) c.args.reader.now
     (sym c.is_before_joint.ensures ∙ c.if-not-is_before_joint.true))
 
 pub expressions::joined_from-parts-init : goal.expressions::joined_from-parts-init
 expressions::joined_from-parts-init t c =
-    let items : c.append.new.list.items ≡ c.args.first ∷ [] =
-    c.in_ok-append.ensures ∙ ap (λ xs. xs ++ c.args.first ∷ []) c.new-parts.ensures.items in
+    let items : c.append_boxed.new.list.items ≡ c.args.first.value ∷ [] =
+    c.in_ok-append_boxed.ensures ∙ ap (λ xs. xs ++ c.args.first.value ∷ []) c.new-parts.ensures.items in
     let on : passes (is (mark_of c.args.connective)) (after_blank c.args.reader.now) ≡ true =
     sym c.is_before_joint.ensures ∙ c.if-not-is_before_joint.false in
     record {
@@ -157,7 +157,7 @@ pub expressions::joined_from-returns-in_err-joint :
 expressions::joined_from-returns-in_err-joint t c =
     let e = c.in_err-joint.field-0.0 in
     rw (err_is c.from_residual-in_err-joint.result c.from_residual-in_err-joint.ensures.1)
-    (rounds.parts-fail c.args.levels c.args.connective (expr_of c.args.first) c.args.reader.now
+    (rounds.parts-fail c.args.levels c.args.connective (boxed_expr c.args.first) c.args.reader.now
     e (map expr_of c.parts.parts.items) c.parts.reader c.parts.invariant.total
     (sym c.is_before_joint-in-parts.ensures ∙ c.parts-test.true)
     (rounds.mark-fails (inside c.args.levels) (mark_of c.args.connective)
@@ -169,7 +169,7 @@ pub expressions::joined_from-returns-in_err-next :
 expressions::joined_from-returns-in_err-next t c =
     let e = c.in_err-next.field-0.0 in
     rw (err_is c.from_residual-in_err-next.result c.from_residual-in_err-next.ensures.1)
-    (rounds.parts-fail c.args.levels c.args.connective (expr_of c.args.first) c.args.reader.now
+    (rounds.parts-fail c.args.levels c.args.connective (boxed_expr c.args.first) c.args.reader.now
     e (map expr_of c.parts.parts.items) c.parts.reader c.parts.invariant.total
     (sym c.is_before_joint-in-parts.ensures ∙ c.parts-test.true)
     (rounds.part-fails (inside c.args.levels) (mark_of c.args.connective)
@@ -178,22 +178,22 @@ expressions::joined_from-returns-in_err-next t c =
 
 pub expressions::joined_from-parts-smaller : goal.expressions::joined_from-parts-smaller
 expressions::joined_from-parts-smaller t c =
-    rounds.parts-smaller c.args.levels c.args.connective (expr_of c.args.first) c.args.reader.now
-    c.parts.reader c.joint.new.reader c.part.new.reader (expr_of c.in_ok-next.next)
+    rounds.parts-smaller c.args.levels c.args.connective (boxed_expr c.args.first) c.args.reader.now
+    c.parts.reader c.joint.new.reader c.part.new.reader (boxed_expr c.in_ok-next.next)
     c.in_ok-joint.ensures c.in_ok-next.ensures
 
 pub expressions::joined_from-parts-preserved :
     goal.expressions::joined_from-parts-preserved
 expressions::joined_from-parts-preserved t c =
     let some = c.parts.invariant.some in
-    let two : 2 ≤ length c.append-in-parts.new.list.items = rw c.in_ok-append-2.ensures
-    (omega (arith, length-append c.parts.parts.items (c.in_ok-next.next ∷ []))) in
+    let two : 2 ≤ length c.append_boxed-in-parts.new.list.items = rw c.in_ok-append_boxed-2.ensures
+    (omega (arith, length-append c.parts.parts.items (c.in_ok-next.next.value ∷ []))) in
     record {
-      total = rw (rounds.map-pushed expr_of c.parts.parts.items c.in_ok-next.next
-          c.in_ok-append-2.ensures)
-          (rounds.parts-on c.args.levels c.args.connective (expr_of c.args.first) c.args.reader.now
+      total = rw (rounds.map-pushed expr_of c.parts.parts.items c.in_ok-next.next.value
+          c.in_ok-append_boxed-2.ensures)
+          (rounds.parts-on c.args.levels c.args.connective (boxed_expr c.args.first) c.args.reader.now
           (map expr_of c.parts.parts.items) c.parts.reader c.joint.new.reader c.part.new.reader
-          (expr_of c.in_ok-next.next) c.parts.invariant.total
+          (boxed_expr c.in_ok-next.next) c.parts.invariant.total
           (sym c.is_before_joint-in-parts.ensures ∙ c.parts-test.true)
           c.in_ok-joint.ensures c.in_ok-next.ensures);
       some = omega arith;
@@ -205,9 +205,9 @@ expressions::joined_from-returns t c =
     let off : passes (is (mark_of c.args.connective)) (after_blank c.parts.reader) ≡ false =
     sym c.is_before_joint-in-parts.ensures ∙ c.parts-test.false in
     let two = c.parts.invariant.several off in
-    rounds.parts-end c.args.levels c.args.connective (expr_of c.args.first) c.args.reader.now
+    rounds.parts-end c.args.levels c.args.connective (boxed_expr c.args.first) c.args.reader.now
     (map expr_of c.parts.parts.items) c.parts.reader c.parts.invariant.total off (rw length-map two)
-    ∙ ap (λ e. took e c.parts.reader) (sym c.join.ensures)
+    ∙ ap (λ e. took e c.parts.reader) (sym c.in_ok-joined.ensures)
 
 -- ---- levels and brackets
 
@@ -269,12 +269,12 @@ calls::some_arguments-arguments-smaller t c =
 
 pub calls::some_arguments-arguments-preserved : goal.calls::some_arguments-arguments-preserved
 calls::some_arguments-arguments-preserved t c =
-    rw (rounds.map-pushed argument_of c.arguments.arguments.items c.in_ok-next.next
-    c.in_ok-append-2.ensures)
+    rw (rounds.map-pushed argument_of c.arguments.arguments.items c.in_ok-next.next.value
+    c.in_ok-append_boxed-2.ensures)
     (sym (loops.some_on (inside c.args.levels) (inside-progress c.args.levels) beyond
     (is comma) next_argument c.arguments.reader
     c.next_argument.new.reader (map argument_of c.arguments.arguments.items)
-    (argument_of c.in_ok-next.next)
+    (boxed_argument c.in_ok-next.next)
     (sym c.is_before.ensures ∙ c.arguments-test.true) c.in_ok-next.ensures) ∙ c.arguments.invariant)
 
 pub calls::some_arguments-returns-in_err-expect : goal.calls::some_arguments-returns-in_err-expect
@@ -328,28 +328,30 @@ calls::argument-returns-in_err-argument t c =
       err_is c.from_residual-in_err-argument.result c.from_residual-in_err-argument.ensures.1,
       c.in_ok-first.ensures,
     ) (fails-then c.in_err-argument.field-0.0
-    (read_inside c.args.levels (argument_on (argument_of c.in_ok-first.first))
+    (read_inside c.args.levels (argument_on (first_argument c.in_ok-first.first))
     c.argument_start.new.reader) _ c.in_err-argument.ensures)
 
 pub calls::argument-returns-then-not-is_logical : goal.calls::argument-returns-then-not-is_logical
 calls::argument-returns-then-not-is_logical t c =
-    let x = argument_of c.in_ok-argument.argument in
-    let off : is_logical x ≡ false = sym c.is_logical.ensures ∙ c.if-not-is_logical.true in
+    let x = boxed_argument c.in_ok-argument.argument in
+    let off : is_logical x ≡ false = ap (λ a. is_logical (argument_of a)) (sym c.deref.ensures)
+    ∙ sym c.is_logical.ensures ∙ c.if-not-is_logical.true in
     parts.argument-took (inside c.args.levels) c.args.reader.now c.argument_start.new.reader
     c.argument_from.new.reader
-    (argument_of c.in_ok-first.first) x c.in_ok-first.ensures c.in_ok-argument.ensures
+    (first_argument c.in_ok-first.first) x c.in_ok-first.ensures c.in_ok-argument.ensures
     ∙ ap (λ b. took x (spanned_if b c.args.reader.now c.argument_from.new.reader)) off
 
 pub calls::argument-returns : goal.calls::argument-returns
 calls::argument-returns t c =
-    let x = argument_of c.in_ok-argument.argument in
-    let on : is_logical x ≡ true = sym c.is_logical.ensures ∙ c.if-not-is_logical.false in
+    let x = boxed_argument c.in_ok-argument.argument in
+    let on : is_logical x ≡ true = ap (λ a. is_logical (argument_of a)) (sym c.deref.ensures)
+    ∙ sym c.is_logical.ensures ∙ c.if-not-is_logical.false in
     let added : c.add_item.new.self ≡ item_since c.args.reader.now.at
     (length c.args.reader.now.found) c.argument_from.new.reader =
     rw (c.place-start.ensures, c.items-before.ensures) at c.in_ok-add_item.ensures.added in
     parts.argument-took (inside c.args.levels) c.args.reader.now c.argument_start.new.reader
     c.argument_from.new.reader
-    (argument_of c.in_ok-first.first) x c.in_ok-first.ensures c.in_ok-argument.ensures
+    (first_argument c.in_ok-first.first) x c.in_ok-first.ensures c.in_ok-argument.ensures
     ∙ ap (λ b. took x (spanned_if b c.args.reader.now c.argument_from.new.reader)) on
     ∙ ap (took x) (sym added)
 
@@ -357,50 +359,53 @@ pub calls::argument_from-returns-then-not-is_before_part :
     goal.calls::argument_from-returns-then-not-is_before_part
 calls::argument_from-returns-then-not-is_before_part t c =
     parts.argument-alone (inside c.args.levels) (inside-progress c.args.levels)
-    (argument_of c.args.first) c.args.reader.now
+    (first_argument c.args.first) c.args.reader.now
     (sym c.is_before_part.ensures ∙ c.if-not-is_before_part.true)
+    ∙ ap (λ x. took x c.args.reader.now) (sym c.in_ok-alone.ensures)
 
-pub calls::argument_from-returns-in-Query : goal.calls::argument_from-returns-in-Query
-calls::argument_from-returns-in-Query t c =
+pub calls::argument_from-returns-in_ok-test-in-Query :
+    goal.calls::argument_from-returns-in_ok-test-in-Query
+calls::argument_from-returns-in_ok-test-in-Query t c =
     let x = c.in-Query.query in
-    subst (λ (o : Outcome ArgumentTree). Gives argument_of c.logical.result c.logical.new.reader o)
+    subst (λ (o : Outcome ArgumentTree). Gives boxed_argument c.logical.result c.logical.new.reader o)
     (sym (ap (λ y. read_inside c.args.levels (argument_on y) c.args.reader.now)
-    (ap argument_of c.in-Query.is ∙ tree_argument_query x)
+    (ap first_argument c.in-Query.is)
     ∙ parts.parts-logical (inside c.args.levels) (inside-progress c.args.levels)
     (query_argument (query_of x)) (exists (query_of x)) c.args.reader.now
     (sym c.is_before_part.ensures ∙ c.if-not-is_before_part.false)
     ∙ ap (λ e. logical_at c.args.levels e c.args.reader.now)
-    (sym (tree_test (subject.Query x) ∙ tree_subject_query x)))) c.logical.ensures
+    (sym (c.in_ok-test-in-Query.ensures ∙ tree_subject_query x)))) c.logical.ensures
 
-pub calls::argument_from-returns-in-Call : goal.calls::argument_from-returns-in-Call
-calls::argument_from-returns-in-Call t c =
+pub calls::argument_from-returns-in_ok-test-in-Call :
+    goal.calls::argument_from-returns-in_ok-test-in-Call
+calls::argument_from-returns-in_ok-test-in-Call t c =
     let x = c.in-Call.call in
-    subst (λ (o : Outcome ArgumentTree). Gives argument_of c.logical-in-Call.result
+    subst (λ (o : Outcome ArgumentTree). Gives boxed_argument c.logical-in-Call.result
     c.logical-in-Call.new.reader o) (sym
     (ap (λ y. read_inside c.args.levels (argument_on y) c.args.reader.now)
-    (ap argument_of c.in-Call.is ∙ tree_argument_call x)
+    (ap first_argument c.in-Call.is)
     ∙ parts.parts-logical (inside c.args.levels) (inside-progress c.args.levels)
     (call_argument (call_of x)) (call_test (call_of x)) c.args.reader.now
     (sym c.is_before_part.ensures ∙ c.if-not-is_before_part.false)
     ∙ ap (λ e. logical_at c.args.levels e c.args.reader.now)
-    (sym (tree_test (subject.Call x) ∙ tree_subject_call x)))) c.logical-in-Call.ensures
+    (sym (c.in_ok-test-in-Call.ensures ∙ tree_subject_call x)))) c.logical-in-Call.ensures
 
 pub calls::argument_from-returns-in-Logical : goal.calls::argument_from-returns-in-Logical
 calls::argument_from-returns-in-Logical t c =
     let x = c.in-Logical.expr in
-    subst (λ (o : Outcome ArgumentTree). Gives argument_of c.logical-in-Logical.result
+    subst (λ (o : Outcome ArgumentTree). Gives boxed_argument c.logical-in-Logical.result
     c.logical-in-Logical.new.reader o) (sym
     (ap (λ y. read_inside c.args.levels (argument_on y) c.args.reader.now)
-    (ap argument_of c.in-Logical.is ∙ tree_logical x)
+    (ap first_argument c.in-Logical.is)
     ∙ parts.parts-logical (inside c.args.levels) (inside-progress c.args.levels)
-    (logical_argument (expr_of x)) (expr_of x) c.args.reader.now
+    (logical_argument (boxed_expr x)) (boxed_expr x) c.args.reader.now
     (sym c.is_before_part.ensures ∙ c.if-not-is_before_part.false))) c.logical-in-Logical.ensures
 
 pub calls::logical-returns-in_err-conjunction : goal.calls::logical-returns-in_err-conjunction
 calls::logical-returns-in_err-conjunction t c =
     rw (err_is c.from_residual.result c.from_residual.ensures.1)
     (fails-then c.in_err-conjunction.field-0.0
-    (by (λ es. joined all_of (expr_of c.args.first ∷ es))
+    (by (λ es. joined all_of (boxed_expr c.args.first ∷ es))
     (read_inside c.args.levels (other_parts ampersand basic) c.args.reader.now)) _
     c.in_err-conjunction.ensures)
 
@@ -411,15 +416,14 @@ calls::logical-returns-in_err-expression t c =
       err_is c.from_residual-in_err-expression.result c.from_residual-in_err-expression.ensures.1,
       c.in_ok-conjunction.ensures,
     ) (fails-then c.in_err-expression.field-0.0
-    (by (λ es. joined any_of (expr_of c.in_ok-conjunction.conjunction ∷ es))
+    (by (λ es. joined any_of (boxed_expr c.in_ok-conjunction.conjunction ∷ es))
     (read_inside c.args.levels (other_parts bar conjunction) c.joined_from.new.reader))
     (λ e q. took (logical_argument e) q) c.in_err-expression.ensures)
 
 pub calls::logical-returns : goal.calls::logical-returns
 calls::logical-returns t c =
     rw (c.in_ok-conjunction.ensures, c.in_ok-expression.ensures)
-    (ap (λ x. took x c.joined_from-2.new.reader)
-    (sym (tree_logical c.in_ok-expression.expression)))
+    (ap (λ x. took x c.joined_from-2.new.reader) (sym c.in_ok-alone.ensures))
 
 -- ---- tests and sides
 

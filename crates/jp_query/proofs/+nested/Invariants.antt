@@ -8,7 +8,7 @@ use Rattle.jp_reading.specs.Rule.{beyond, some}
 use Rattle.jp_reading.specs.Characters.{comma}
 use Rattle.jp_query.specs.declared.expressions.Connective.{Connective}
 use Rattle.jp_query.specs.declared.expressions.Connective.TheVariants.{Or, And}
-use Rattle.jp_query.specs.Private.Parts.{mark_of, part_of}
+use Rattle.jp_query.specs.Private.Parts.{boxed_expr, mark_of, part_of}
 use Rattle.jp_query.specs.Private.Rules.{segments, entries, other_parts, next_argument, word_from}
 use Rattle.jp_query.specs.Private.Rules.{word_of}
 use Rattle.jp_query.specs.Private.Reading.{read_inside}
@@ -154,7 +154,7 @@ abbrev pub invariant-expressions::joined_from-parts : goal.invariant-expressions
 invariant-expressions::joined_from-parts l = record {
   total : with_prefix (map expr_of l.parts.items)
       (read_inside l.levels (other_parts (mark_of l.connective) (part_of l.connective)) l.reader)
-      ≡ by (λ es. expr_of l.fn.first ∷ es)
+      ≡ by (λ es. boxed_expr l.fn.first ∷ es)
       (read_inside l.levels (other_parts (mark_of l.connective)
       (part_of l.connective)) l.fn.reader);
   some : 1 ≤ length l.parts.items;

@@ -1,12 +1,20 @@
 -- The parts of brackets, of logical expressions and of calls, and what goes on from an argument's
 -- first part.
 use Rattle.std.specs.Prelude.{ℕ, Bool, true, ◌||◌, ◌∷◌, ◌++◌}
+use Rattle.std.specs.Global.{Box}
 use Rattle.jp_reading.specs.Outcome.{State, Outcome, ◌>>=◌, is, expect}
 use Rattle.jp_reading.specs.Texts.{Text}
 use Rattle.jp_reading.specs.Rule.{here, beyond, the, blanks, ◌>>◌}
 use Rattle.jp_reading.specs.Views.{by}
 use Rattle.jp_query.specs.declared.expressions.Connective.{Connective}
 use Rattle.jp_query.specs.declared.expressions.Connective.TheVariants.{Or, And}
+use Rattle.jp_query.specs.declared.calls.FirstPart.{FirstPart}
+use Rattle.jp_query.specs.declared.calls.FirstPart.TheVariants as first
+use Rattle.jp_tree.specs.declared.tree.Expr.{Expr}
+use Rattle.jp_tree.specs.declared.tree.Selector.{Selector}
+use Rattle.jp_tree.specs.declared.tree.Argument.{Argument}
+use Rattle.jp_tree.specs.Tree.{expr_of, selector_of, argument_of, literal_of, query_of, call_of}
+use Rattle.jp_tree.specs.Tree.{literal_argument, query_argument, call_argument}
 use Rattle.jp_tree.specs.Tree.{SelectorTree, ExprTree, ExprTrees, any_of, all_of, CallTree, call}
 use Rattle.jp_tree.specs.Tree.{arguments, ArgumentTree, logical_argument}
 use Rattle.jp_reading.specs.Characters.{ampersand, bar, comma, opening_parenthesis}
@@ -15,6 +23,23 @@ use Rattle.jp_query.specs.Grammar.{joined}
 use Rattle.jp_query.specs.Private.Rules.{QueryRule, entry, basic, conjunction, other_parts, run}
 use Rattle.jp_query.specs.Private.Rules.{after_parenthesis}
 use Rattle.jp_query.specs.Private.Reading.{read_flat, read_inside}
+
+-- the tree of what is in a box
+abbrev pub boxed_expr : Box Expr → ExprTree
+boxed_expr b = expr_of b.value
+
+abbrev pub boxed_selector : Box Selector → SelectorTree
+boxed_selector b = selector_of b.value
+
+abbrev pub boxed_argument : Box Argument → ArgumentTree
+boxed_argument b = argument_of b.value
+
+-- the argument that its first part is, if nothing goes on from it
+abbrev pub first_argument : FirstPart → ArgumentTree
+first_argument (first.Literal l) = literal_argument (literal_of l)
+first_argument (first.Query q) = query_argument (query_of q)
+first_argument (first.Call c) = call_argument (call_of c)
+first_argument (first.Logical b) = logical_argument (boxed_expr b)
 
 -- a selector after a comma, and the blanks after each of them
 abbrev pub next_entry : QueryRule true here here SelectorTree

@@ -21,11 +21,16 @@ fn texts_are_refused_at_their_places(rt: HostRuntime) {
 }
 
 #[test]
-fn a_65th_level_is_refused(rt: HostRuntime) -> Result<(), Fail> {
-    for (start, levels, count, place) in [("$", "[?(@", 33, 130), ("$[?", "(", 100_000, 66)] {
+fn a_129th_level_is_refused(rt: HostRuntime) -> Result<(), Fail> {
+    let texts = [
+        ("$", "[?(@", 65, RefusalKind::TooDeep, 258),
+        ("$[?", "(", 64, RefusalKind::Syntax, 67),
+        ("$[?", "(", 100_000, RefusalKind::TooDeep, 130),
+    ];
+    for (start, levels, count, kind, place) in texts {
         let levels = levels.repeat(rt.alloc(), count)?;
         let text = format!(in rt.alloc(); "{start}{levels}")?;
-        assert_refused(&rt, rt.alloc(), &text, RefusalKind::TooDeep, place);
+        assert_refused(&rt, rt.alloc(), &text, kind, place);
     }
     Ok(())
 }
