@@ -1,11 +1,14 @@
 //! How texts are spelled between quotes.
-ghost use Rattle.std.specs.Prelude.{◌≡◌, ◌<◌, ◌≤◌, ◌++◌, ◌∷◌, [], true, false, length};
-ghost use Rattle.std.specs.Prelude.{take, slice_index, string_bytes, OnOk};
+ghost use Rattle.std.specs.Prelude.{◌≡◌, ◌+◌, ◌<◌, ◌≤◌, ◌++◌, ◌∷◌, [], true, false, length};
+ghost use Rattle.std.specs.Prelude.{take, drop, slice_index, string_bytes, OnOk};
+ghost use Rattle.std.specs.Prelude.{All, ◌==◌, nat_lt};
+ghost use Rattle.std.specs.Bool.{OnTrue};
 ghost use Rattle.std.specs.List.{flat_map};
 ghost use Rattle.jp_document.specs.Appending.{IsPartAppended};
 ghost use Rattle.jp_document.specs.Spelling.{spelling, quoted_in, hex_digit, control};
 
 use std::alloc::AllocError;
+use std::simd::prelude::*;
 
 /// Appends the text between two of these quotes, each character as it is spelled there. What needs
 /// no spelling of its own is copied in whole runs.
@@ -40,19 +43,60 @@ fn push_spelled(out: &mut String, text: &str, quote: u8) -> Result<(), AllocErro
     }
 }
 
-/// How many bytes at the start stand for themselves.
+/// How many bytes at the start stand for themselves: looked at sixteen by sixteen, and the last ones
+/// one by one.
 fn plain_len(text: &[u8], quote: u8) -> usize
     requires { quote < 128 }
     ensures within { result ≤ length text.now }
     ensures plain { flat_map (spelling quote) (take result text.now) ≡ take result text.now }
     ensures ascii { result < length text.now → slice_index text.now result < 128 }
 {
-    for (i, byte) in text.iter().enumerate() {
-        if is_marked(*byte, quote) {
-            return i;
-        }
+    let mut plain = plain_blocks(text, quote);
+    'bytes: while plain < text.len() && !is_marked(text[plain], quote) {
+        plain += 1;
     }
-    text.len()
+    plain
+}
+
+const LANES: usize = 16;
+
+/// A number of bytes at the start that stand for themselves, a multiple of sixteen.
+fn plain_blocks(text: &[u8], quote: u8) -> usize
+    ensures within { result ≤ length text.now }
+    ensures plain { flat_map (spelling quote) (take result text.now) ≡ take result text.now }
+{
+    let mut plain = 0;
+    'lanes: while text.len() - plain >= LANES && is_plain_block(text, plain, quote) {
+        plain += LANES;
+    }
+    plain
+}
+
+/// Whether the next sixteen bytes stand for themselves.
+#[inline(always)]
+fn is_plain_block(text: &[u8], from: usize, quote: u8) -> bool
+    requires { from + LANES ≤ length text.now }
+    ensures { OnTrue result (flat_map (spelling quote) (take LANES (drop from text.now))
+        ≡ take LANES (drop from text.now)) }
+{
+    let block = u8x16::from_slice(&text[from..]);
+    lacks_controls(block) & lacks(block, quote) & lacks(block, b'\\')
+}
+
+/// Whether none of the bytes is below a space.
+#[inline(always)]
+fn lacks_controls(block: u8x16) -> bool
+    ensures { OnTrue result (All (λ b. nat_lt b 32 ≡ false) block) }
+{
+    block.simd_lt(u8x16::splat(b' ')).to_bitmask() == 0
+}
+
+/// Whether none of the bytes is this one.
+#[inline(always)]
+fn lacks(block: u8x16, byte: u8) -> bool
+    ensures { OnTrue result (All (λ b. (b == byte) ≡ false) block) }
+{
+    block.simd_eq(u8x16::splat(byte)).to_bitmask() == 0
 }
 
 /// Whether the byte has a spelling of its own.

@@ -1,0 +1,13 @@
+use Rattle.std.proofs.Common.{◌≡◌, ◌≤◌, ◌-◌, length, take}
+use Rattle.std.specs.List.{flat_map}
+use Rattle.jp_document.specs.Spelling.{spelling}
+use Rattle.jp_document.proofs.spelling.plain_blocks.Given as goal
+
+abbrev pub invariant-lanes : goal.invariant-lanes
+invariant-lanes l = record {
+  within : l.plain ≤ length l.text;
+  plain : flat_map (spelling l.quote) (take l.plain l.text) ≡ take l.plain l.text;
+}
+
+abbrev pub decreases-lanes : goal.decreases-lanes
+decreases-lanes l = length l.text - l.plain
