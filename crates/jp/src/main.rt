@@ -27,7 +27,7 @@ fn main(rt: HostRuntime) -> ExitCode {
 fn run(rt: &HostRuntime) -> io::Result<u8> {
     let alloc = rt.alloc();
     let words = env::args(rt)?.collect(alloc)?;
-    let mut input = Device::last(rt.stdin());
+    let mut input = Device::new(rt.stdin());
     let mut output = Device::new(BufWriter::with_capacity(alloc, OUTPUT_BUFFER, rt.stdout())?);
     let mut faults = Device::new(rt.stderr());
     Ok(run_line(alloc, words, &mut input, &mut output, &mut faults))

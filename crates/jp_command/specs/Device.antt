@@ -10,7 +10,3 @@ carried device = device.inner
 -- whether a call of it failed
 abbrev pub carrier_failed : {T : Type 0} → Device T → Bool
 carrier_failed device = device.failed
-
--- whether the process ends with what is read from it
-abbrev pub carrier_is_last : {T : Type 0} → Device T → Bool
-carrier_is_last device = device.last

@@ -1,9 +1,9 @@
 //! Where the bytes come from and where they go.
 
 ghost use Rattle.std.specs.Prelude.{◌≡◌, ℕ, ◌<◌, ◌≤◌, Bool, List, Option, true, false, IfOk, IsErr};
-ghost use Rattle.std.specs.Prelude.{IsTrue, OnOk, OnErr, length, ⊤};
+ghost use Rattle.std.specs.Prelude.{OnOk, OnErr, length, ⊤};
 ghost use Rattle.std.specs.Io.KnownBytes.{ReadConsumes, WriteAppends, Keeps};
-ghost use Rattle.jp_command.specs.Device.{carried, carrier_failed, carrier_is_last};
+ghost use Rattle.jp_command.specs.Device.{carried, carrier_failed};
 ghost use Rattle.jp_command.specs.Reads.{given_by};
 
 use std::io::{Read, Write};
@@ -24,9 +24,6 @@ pub trait Source {
     // contract can speak of each call.
     ghost read_gives: { Self → Option (List ℕ) → Self → Type 0 } = { λ _ _ _. ⊤ };
 
-    // Whether the process ends with what is read here.
-    ghost ends_process: { Self → Bool } = { λ _. false };
-
     /// Reads some bytes to the start of `buffer` and answers how many; 0 only at the end of the
     /// bytes or for a buffer without room. `Failed` where they can't be read.
     fn read(&mut self, buffer: &mut [u8]) -> Result<usize, Failed>
@@ -39,14 +36,6 @@ pub trait Source {
     /// Whether a call failed.
     fn failed(&self) -> bool
         ensures { result ≡ has_failed self.now };
-
-    /// Whether the process ends with what is read here, so that memory is left to its end. Where a
-    /// source does not say so, it does not.
-    fn is_last(&self) -> bool
-        ensures { IsTrue result → ends_process self.now ≡ true }
-    {
-        false
-    }
 }
 
 /// What bytes are written to. It tells its bytes as std's writers do.
@@ -87,7 +76,6 @@ pub trait Output: Writer {
 pub struct Device<T> {
     inner: T,
     failed: bool,
-    last: bool,
 }
 
 impl<T> Device<T> {
@@ -95,25 +83,11 @@ impl<T> Device<T> {
     pub fn new(inner: T) -> Device<T>
         ensures carries { carried result ≡ inner }
         ensures fresh { carrier_failed result ≡ false }
-        ensures frees { carrier_is_last result ≡ false }
     {
         Device {
             inner,
             failed: false,
-            last: false,
         }
-    }
-
-    /// The same, for the last input of a process: what is made of it is not freed, since the
-    /// process then ends, which frees all that it has at once.
-    pub fn last(inner: T) -> Device<T>
-        ensures carries { carried result ≡ inner }
-        ensures fresh { carrier_failed result ≡ false }
-        ensures leaves { carrier_is_last result ≡ true }
-    {
-        let mut device = Device::new(inner);
-        device.last = true;
-        device
     }
 
     /// Keeps that a call failed.
@@ -132,8 +106,6 @@ impl<T: Read> Source for Device<T> {
 
     ghost has_failed = { carrier_failed };
 
-    ghost ends_process = { carrier_is_last };
-
     fn read(&mut self, buffer: &mut [u8]) -> Result<usize, Failed> {
         match self.inner.read(buffer) {
             Ok(count) => Ok(count),
@@ -143,12 +115,6 @@ impl<T: Read> Source for Device<T> {
 
     fn failed(&self) -> bool {
         self.failed
-    }
-
-    fn is_last(&self) -> bool
-        ensures { result ≡ carrier_is_last self.now }
-    {
-        self.last
     }
 }
 
