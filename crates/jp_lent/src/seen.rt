@@ -1,0 +1,12 @@
+//! Values, as seen from outside.
+
+/// What a value is, without what is in it.
+#[derive(Clone, Copy)]
+pub enum Seen<'d> {
+    Null,
+    Bool(bool),
+    Whole(i128),
+    Text(&'d str),
+    List,
+    Members,
+}
