@@ -6,10 +6,13 @@ use crate::lent::{Lent, Selectable};
 use crate::seen::Seen;
 use jp_document::{DocumentValue, Step};
 
-impl<'d> Lent<'d> for DocumentValue<'d> {
+impl<'v> Lent for DocumentValue<'v> {
     ghost meaning = { lent_value };
 
-    fn seen(self) -> Seen<'d> {
+    fn seen<'d>(self) -> Seen<'d>
+    where
+        Self: 'd,
+    {
         seen(self.json())
     }
 
@@ -17,17 +20,23 @@ impl<'d> Lent<'d> for DocumentValue<'d> {
         count(self.json())
     }
 
-    fn child(self, position: usize) -> Option<(Step<'d>, DocumentValue<'d>)> {
+    fn child<'d>(self, position: usize) -> Option<(Step<'d>, DocumentValue<'v>)>
+    where
+        Self: 'd,
+    {
         DocumentValue::child(self, position)
     }
 }
 
-impl<'d> Selectable<'d> for DocumentValue<'d> {
+impl<'v> Selectable for DocumentValue<'v> {
     fn list_length(self) -> Option<u64> {
         DocumentValue::list_length(self)
     }
 
-    fn member(self, name: &str) -> Option<(Step<'d>, DocumentValue<'d>)> {
+    fn member<'d>(self, name: &str) -> Option<(Step<'d>, DocumentValue<'v>)>
+    where
+        Self: 'd,
+    {
         DocumentValue::member(self, name)
     }
 }

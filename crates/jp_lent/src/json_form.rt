@@ -9,10 +9,13 @@ use crate::lent::Lent;
 use crate::seen::Seen;
 use jp_document::{Json, Step};
 
-impl<'d> Lent<'d> for &'d Json {
+impl<'v> Lent for &'v Json {
     ghost meaning = { λ json. value_of json.now };
 
-    fn seen(self) -> Seen<'d> {
+    fn seen<'d>(self) -> Seen<'d>
+    where
+        Self: 'd,
+    {
         seen(self)
     }
 
@@ -20,7 +23,10 @@ impl<'d> Lent<'d> for &'d Json {
         count(self)
     }
 
-    fn child(self, position: usize) -> Option<(Step<'d>, &'d Json)> {
+    fn child<'d>(self, position: usize) -> Option<(Step<'d>, &'v Json)>
+    where
+        Self: 'd,
+    {
         match self {
             Json::List(items) => Some((Step::Index(position as u64), items.get(position)?)),
             Json::Members(members) => {

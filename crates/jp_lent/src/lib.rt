@@ -5,7 +5,7 @@
 //! call answers, so that what is built on `Lent` is proved once for all forms:
 //!
 //! ```text
-//! fn is_true<'d, V: Lent<'d>>(value: V) -> bool {
+//! fn is_true<V: Lent>(value: V) -> bool {
 //!     matches!(value.seen(), Seen::Bool(true))
 //! }
 //! ```
