@@ -1,5 +1,6 @@
 -- How values compare.
 pub mod EqualValues
+pub mod Parts
 pub mod Sameness
 pub mod TextOrder
 pub mod Weights

@@ -2,11 +2,12 @@
 use Rattle.std.proofs.Common.{◌≡◌, ℕ, suc, ◌<◌, List, [], ◌∷◌, length, Some, true}
 use Rattle.std.proofs.Common.{zero, arith, refl, sym, ap, ◌∙◌, subst}
 use Rattle.std.specs.List.{slice_get}
-use Rattle.std.specs.Option.{is_some}
+use Rattle.std.specs.Option.{is_some, option_map}
 use Rattle.std.proofs.lemmas.Option.{same_Some}
-use Rattle.jp_document.specs.Location.{child, nth}
+use Rattle.jp_document.specs.Location.{child, child_entry, entries, items_from, nth}
 use Rattle.jp_document.specs.Value.{Value, null, boolean, whole, text, list, object}
 use Rattle.jp_document.specs.Value.{Items, no_items, item, item_count, items_of, list_length}
+use Rattle.jp_document.proofs.Descent.Entries.{at_index, item_entry}
 use Rattle.jp_document.proofs.Descent.Items.{child-nth}
 
 abbrev pub item_list : Items → List Value
@@ -42,3 +43,15 @@ item-there (list vs) n i is within =
     ∙ there-at (item_list vs) i
     (subst (λ m. i < m) (sym (length-item_list vs ∙ same_Some _ _ is)) within)
 item-there (object ms) n i is within = absurd (cc)
+
+-- the entry of a list at an index is its item with that index
+pub item-at : (v : Value) (n i : ℕ) → list_length v ≡ Some n
+    → slice_get (entries v) i ≡ child_entry v (nth i)
+item-at null n i is = absurd (cc)
+item-at (boolean b) n i is = absurd (cc)
+item-at (whole z) n i is = absurd (cc)
+item-at (text s) n i is = absurd (cc)
+item-at (list vs) n i is =
+    ap (λ us. slice_get (items_from 0 us) i) (sym (items_of-item_list vs))
+    ∙ item_entry i (item_list vs) ∙ ap (option_map (at_index i)) (sym (child-item vs i))
+item-at (object ms) n i is = absurd (cc)

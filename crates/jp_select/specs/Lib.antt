@@ -4,6 +4,7 @@ pub mod Comparison
 pub mod Equality
 pub mod Giving
 pub mod Laws
+pub mod Parts
 pub mod Selectors
 pub mod Slice
 pub mod Walk

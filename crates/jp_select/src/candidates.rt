@@ -1,24 +1,25 @@
 //! The values that a selector chooses from, one by one (RFC 9535 section 2.3).
 ghost use Rattle.std.specs.Prelude.{◌≡◌, ◌<◌, OnSome, option_map, slice_get};
-ghost use Rattle.jp_document.specs.DocumentValue.{lent_entry, lent_value};
 ghost use Rattle.jp_tree.specs.Tree.{index as index_tree, selector_of, slice as slice_tree};
+ghost use Rattle.jp_lent.specs.Lending.{step_with};
 ghost use Rattle.jp_select.specs.Selectors.{candidates, item_at, single};
 
 use crate::slice::{slice_index, whole};
-use jp_document::{DocumentValue, Step};
+use jp_document::Step;
+use jp_lent::Selectable;
 use jp_tree::{Numeral, Selector, Slice};
 
 /// The value at this position, from 0, among those that a selector chooses from at a value, with
 /// its step; None where there are no more. A name has that member, an index that item, a slice its
 /// items in its order, a wildcard and a filter all children, of which a filter takes those for
 /// which its expression is true. A number that is not whole, or beyond 64 bits, chooses nothing.
-pub fn candidate<'d>(
+pub fn candidate<'d, V: Selectable + 'd>(
     selector: &Selector,
-    value: DocumentValue<'d>,
+    value: V,
     position: usize,
-) -> Option<(Step<'d>, DocumentValue<'d>)>
-    ensures entry { option_map lent_entry result
-        ≡ slice_get (candidates (selector_of selector.now) (lent_value value.entry)) position }
+) -> Option<(Step<'d>, V)>
+    ensures entry { option_map (step_with V.meaning) result
+        ≡ slice_get (candidates (selector_of selector.now) (V.meaning value)) position }
     ensures more { OnSome result (position < usize.MAX) }
 {
     match selector {
@@ -35,12 +36,9 @@ pub fn candidate<'d>(
 
 /// The value that a name or an index selects at a value, with its step (RFC 9535 sections 2.3.1 and
 /// 2.3.3); None where there is none, and for other selectors.
-pub fn single<'d>(
-    selector: &Selector,
-    value: DocumentValue<'d>,
-) -> Option<(Step<'d>, DocumentValue<'d>)>
-    ensures { option_map lent_entry result
-        ≡ single (selector_of selector.now) (lent_value value.entry) }
+pub fn single<'d, V: Selectable + 'd>(selector: &Selector, value: V) -> Option<(Step<'d>, V)>
+    ensures { option_map (step_with V.meaning) result
+        ≡ single (selector_of selector.now) (V.meaning value) }
 {
     match selector {
         Selector::Name(name) => value.member(name.as_str()),
@@ -50,23 +48,25 @@ pub fn single<'d>(
 }
 
 /// The item of a list that an index selects (section 2.3.3.2).
-fn item<'d>(value: DocumentValue<'d>, index: Numeral) -> Option<(Step<'d>, DocumentValue<'d>)>
-    ensures { option_map lent_entry result ≡ single (index_tree index) (lent_value value.entry) }
+fn item<'d, V: Selectable + 'd>(value: V, index: Numeral) -> Option<(Step<'d>, V)>
+    ensures { option_map (step_with V.meaning) result ≡ single (index_tree index) (V.meaning value) }
 {
-    value.item(item_at(value.list_length()?, whole(index)?)?)
+    let length = value.list_length()?;
+    value.child(item_at(length, whole(index)?)? as usize)
 }
 
 /// The item of a list at a position among those that a slice selects (section 2.3.4.2).
-fn slice_item<'d>(
-    value: DocumentValue<'d>,
+fn slice_item<'d, V: Selectable + 'd>(
+    value: V,
     slice: Slice,
     position: usize,
-) -> Option<(Step<'d>, DocumentValue<'d>)>
-    ensures entry { option_map lent_entry result
-        ≡ slice_get (candidates (slice_tree slice) (lent_value value.entry)) position }
+) -> Option<(Step<'d>, V)>
+    ensures entry { option_map (step_with V.meaning) result
+        ≡ slice_get (candidates (slice_tree slice) (V.meaning value)) position }
     ensures more { OnSome result (position < usize.MAX) }
 {
-    value.item(slice_index(value.list_length()?, slice, position as u64)?)
+    let length = value.list_length()?;
+    value.child(slice_index(length, slice, position as u64)? as usize)
 }
 
 /// Which of `length` items an index selects, counted from the end where it is negative.

@@ -1,69 +1,120 @@
 //! The sides of comparisons (RFC 9535 section 2.3.5.1), and how two of them compare.
-ghost use Rattle.std.specs.Prelude.{◌≡◌, ◌↔◌, ◌&&◌, IsTrue, bytes_eq, map, chars};
-ghost use Rattle.jp_document.specs.Value.{value_of, items_of, members_of, member_of};
-ghost use Rattle.jp_select.specs.Comparable.{comparable_of, side_of};
-ghost use Rattle.jp_select.specs.Comparison.{equals, is_less, precedes, same_items, same_value};
-ghost use Rattle.jp_select.specs.Comparison.{same_members};
+ghost use Rattle.std.specs.Prelude.{◌≡◌, ◌↔◌, IsTrue, MatchOption, Some, chars, false, option_map};
+ghost use Rattle.jp_document.specs.Location.{entries, key_of};
+ghost use Rattle.jp_lent.specs.Lending.{bare, seen_value, step_with};
+ghost use Rattle.jp_select.specs.Comparable.{comparable_of, has_parts};
+ghost use Rattle.jp_select.specs.Comparison.{equals, is_less, precedes};
+ghost use Rattle.jp_select.specs.Parts.{same_key, same_part, same_parts};
 
-use jp_document::{Json, Member};
+use jp_document::Step;
+use jp_lent::{Lent, Seen};
 
-/// A side of a comparison: a value that is lent, or Nothing.
+/// A side of a comparison: Nothing, a value of its own, or one that is lent.
 #[derive(Clone, Copy)]
-pub enum Comparable<'a> {
+pub enum Comparable<'a, V> {
     Nothing,
     Null,
     Bool(bool),
     Whole(i128),
     Text(&'a str),
-    List(&'a [Json]),
-    Members(&'a [Member]),
+    Lent(V),
 }
 
-impl<'a> Comparable<'a> {
+impl<'a, V: Lent + 'a> Comparable<'a, V> {
     /// The side that has this value, or Nothing at None.
-    pub fn of(value: Option<&'a Json>) -> Comparable<'a>
-        ensures { comparable_of result ≡ side_of value.entry }
+    pub fn of(value: Option<V>) -> Comparable<'a, V>
+        ensures { comparable_of V.meaning result ≡ option_map V.meaning value }
     {
         match value {
+            Some(value) => Comparable::Lent(value),
             None => Comparable::Nothing,
-            Some(Json::Null) => Comparable::Null,
-            Some(Json::Bool(truth)) => Comparable::Bool(*truth),
-            Some(Json::Whole(number)) => Comparable::Whole(*number),
-            Some(Json::Text(text)) => Comparable::Text(text.as_str()),
-            Some(Json::List(items)) => Comparable::List(items),
-            Some(Json::Members(members)) => Comparable::Members(members),
+        }
+    }
+
+    /// What its value is, without what is in it; None of Nothing.
+    pub fn seen(&self) -> Option<Seen<'a>>
+        ensures { option_map seen_value result
+            ≡ option_map bare (comparable_of V.meaning self.now) }
+    {
+        match self {
+            Comparable::Nothing => None,
+            Comparable::Null => Some(Seen::Null),
+            Comparable::Bool(truth) => Some(Seen::Bool(*truth)),
+            Comparable::Whole(number) => Some(Seen::Whole(*number)),
+            Comparable::Text(text) => Some(Seen::Text(text)),
+            Comparable::Lent(value) => Some(value.seen()),
+        }
+    }
+
+    /// Its value where that is a list or an object.
+    fn parts(&self) -> Option<V>
+        ensures { MatchOption result (has_parts (comparable_of V.meaning self.now) ≡ false)
+            (λ v. comparable_of V.meaning self.now ≡ Some (V.meaning v)) }
+    {
+        let Comparable::Lent(value) = self else {
+            return None;
+        };
+        match value.seen() {
+            Seen::List | Seen::Members => Some(*value),
+            Seen::Null | Seen::Bool(_) | Seen::Whole(_) | Seen::Text(_) => None,
         }
     }
 
     /// Whether `self == other`: Nothing equals only Nothing, and values are equal where they are
     /// the same (RFC 9535 section 2.3.5.2.2).
     #[cycle(equals)]
-    pub fn equals(self, other: Comparable) -> bool
-        ensures value { result ≡ equals (comparable_of self.entry) (comparable_of other.entry) }
-        ensures same { IsTrue result ↔ (comparable_of self.entry ≡ comparable_of other.entry) }
+    pub fn equals(&self, other: &Comparable<'a, V>) -> bool
+        ensures value { result ≡ equals (comparable_of V.meaning self.now)
+            (comparable_of V.meaning other.now) }
+        ensures same { IsTrue result
+            ↔ (comparable_of V.meaning self.now ≡ comparable_of V.meaning other.now) }
     {
-        match (self, other) {
-            (Comparable::Nothing, Comparable::Nothing) => true,
-            (Comparable::Null, Comparable::Null) => true,
-            (Comparable::Bool(left), Comparable::Bool(right)) => left == right,
-            (Comparable::Whole(left), Comparable::Whole(right)) => left == right,
-            (Comparable::Text(left), Comparable::Text(right)) => left == right,
-            (Comparable::List(left), Comparable::List(right)) => same_items(left, right),
-            (Comparable::Members(left), Comparable::Members(right)) => same_members(left, right),
-            _ => false,
+        if !looks_same(self.seen(), other.seen()) {
+            return false;
         }
+        let Some(left) = self.parts() else {
+            return true;
+        };
+        let Some(right) = other.parts() else {
+            return true;
+        };
+        same_parts(left, right)
     }
 
     /// Whether `self < other`: two numbers in order, or two texts in the order of their scalar
     /// values; else false (RFC 9535 section 2.3.5.2.2).
-    pub fn is_less(self, other: Comparable) -> bool
-        ensures { result ≡ is_less (comparable_of self.entry) (comparable_of other.entry) }
+    pub fn is_less(&self, other: &Comparable<'a, V>) -> bool
+        ensures { result ≡ is_less (comparable_of V.meaning self.now)
+            (comparable_of V.meaning other.now) }
     {
-        match (self, other) {
-            (Comparable::Whole(left), Comparable::Whole(right)) => left < right,
-            (Comparable::Text(left), Comparable::Text(right)) => precedes(left, right),
-            _ => false,
-        }
+        looks_less(self.seen(), other.seen())
+    }
+}
+
+/// Whether two sides are the same but for what is in them.
+fn looks_same(left: Option<Seen>, right: Option<Seen>) -> bool
+    ensures { result ≡ equals (option_map seen_value left.entry) (option_map seen_value right.entry) }
+{
+    match (left, right) {
+        (None, None) => true,
+        (Some(Seen::Null), Some(Seen::Null)) => true,
+        (Some(Seen::Bool(left)), Some(Seen::Bool(right))) => left == right,
+        (Some(Seen::Whole(left)), Some(Seen::Whole(right))) => left == right,
+        (Some(Seen::Text(left)), Some(Seen::Text(right))) => left == right,
+        (Some(Seen::List), Some(Seen::List)) => true,
+        (Some(Seen::Members), Some(Seen::Members)) => true,
+        _ => false,
+    }
+}
+
+/// Whether a side is below another; what is in them does not count.
+fn looks_less(left: Option<Seen>, right: Option<Seen>) -> bool
+    ensures { result ≡ is_less (option_map seen_value left.entry) (option_map seen_value right.entry) }
+{
+    match (left, right) {
+        (Some(Seen::Whole(left)), Some(Seen::Whole(right))) => left < right,
+        (Some(Seen::Text(left)), Some(Seen::Text(right))) => precedes(left, right),
+        _ => false,
     }
 }
 
@@ -74,47 +125,41 @@ fn precedes(left: &str, right: &str) -> bool
     left < right
 }
 
-/// Whether two lists have as many items, each the same as the other's.
+/// Whether two values have as many parts, each the same as the other's.
 #[cycle(equals)]
-fn same_items(lefts: &[Json], rights: &[Json]) -> bool
-    ensures { result
-        ≡ same_items (items_of (map value_of lefts.now)) (items_of (map value_of rights.now)) }
+fn same_parts<'a, V: Lent + 'a>(left: V, right: V) -> bool
+    ensures { result ≡ same_parts (entries (V.meaning left)) (entries (V.meaning right)) }
 {
-    if lefts.len() != rights.len() {
+    if left.count() != right.count() {
         return false;
     }
-    for (left, right) in lefts.iter().zip(rights) {
-        if !Comparable::of(Some(left)).equals(Comparable::of(Some(right))) {
+    let mut position = 0;
+    while let Some(part) = left.child(position) {
+        let Some(other) = right.child(position) else {
+            return false;
+        };
+        if !same_part(part, other) {
             return false;
         }
+        position += 1;
     }
     true
 }
 
-/// Whether two objects have as many members, each the same as the other's.
+/// Whether two parts have one step and the same value.
 #[cycle(equals)]
-fn same_members(members: &[Member], others: &[Member]) -> bool
-    ensures { result
-        ≡ same_members (members_of (map member_of members.now))
-        (members_of (map member_of others.now)) }
+fn same_part<'a, V: Lent + 'a>(left: (Step<'a>, V), right: (Step<'a>, V)) -> bool
+    ensures { result ≡ same_part (step_with V.meaning left.entry) (step_with V.meaning right.entry) }
 {
-    if members.len() != others.len() {
-        return false;
-    }
-    for (member, other) in members.iter().zip(others) {
-        if !same_member(member, other) {
-            return false;
-        }
-    }
-    true
+    same_step(left.0, right.0) && Comparable::Lent(left.1).equals(&Comparable::Lent(right.1))
 }
 
-/// Whether two members have one name and the same value.
-#[cycle(equals)]
-fn same_member(member: &Member, other: &Member) -> bool
-    ensures { let m = member_of member.now in let n = member_of other.now in
-        result ≡ (bytes_eq m.0 n.0 && same_value m.1 n.1) }
+fn same_step(left: Step, right: Step) -> bool
+    ensures { result ≡ same_key (key_of left.entry) (key_of right.entry) }
 {
-    member.name.as_str() == other.name.as_str()
-        && Comparable::of(Some(&member.value)).equals(Comparable::of(Some(&other.value)))
+    match (left, right) {
+        (Step::Name(left), Step::Name(right)) => left == right,
+        (Step::Index(left), Step::Index(right)) => left == right,
+        _ => false,
+    }
 }

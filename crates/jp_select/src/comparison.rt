@@ -5,6 +5,7 @@ ghost use Rattle.jp_select.specs.Comparison.{at_most, compared, equals, is_less}
 
 use crate::comparable::Comparable;
 use jp_document::Json;
+use jp_lent::Lent;
 use jp_tree::Op;
 
 /// Whether `left == right`, where None is Nothing: Nothing equals only Nothing, and values are
@@ -14,7 +15,7 @@ pub fn equal(left: Option<&Json>, right: Option<&Json>) -> bool
     ensures value { result ≡ equals (side_of left.entry) (side_of right.entry) }
     ensures same { IsTrue result ↔ (side_of left.entry ≡ side_of right.entry) }
 {
-    Comparable::of(left).equals(Comparable::of(right))
+    Comparable::of(left).equals(&Comparable::of(right))
 }
 
 /// Whether `left < right`, where None is Nothing: two numbers in order, or two texts in the order
@@ -22,27 +23,29 @@ pub fn equal(left: Option<&Json>, right: Option<&Json>) -> bool
 pub fn less(left: Option<&Json>, right: Option<&Json>) -> bool
     ensures { result ≡ is_less (side_of left.entry) (side_of right.entry) }
 {
-    Comparable::of(left).is_less(Comparable::of(right))
+    Comparable::of(left).is_less(&Comparable::of(right))
 }
 
 /// Whether the comparison `left op right` is true (RFC 9535 section 2.3.5.2.2). The members of both
 /// stand in the order of their names, as in every document.
-pub fn compare(op: Op, left: Comparable, right: Comparable) -> bool
-    ensures { result ≡ compared op (comparable_of left.entry) (comparable_of right.entry) }
+pub fn compare<'a, V: Lent + 'a>(op: Op, left: Comparable<'a, V>, right: Comparable<'a, V>) -> bool
+    ensures { result ≡ compared op (comparable_of V.meaning left.entry)
+        (comparable_of V.meaning right.entry) }
 {
     match op {
-        Op::Equal => left.equals(right),
-        Op::Unequal => !left.equals(right),
-        Op::Less => left.is_less(right),
-        Op::LessEqual => at_most(left, right),
-        Op::Greater => right.is_less(left),
-        Op::GreaterEqual => at_most(right, left),
+        Op::Equal => left.equals(&right),
+        Op::Unequal => !left.equals(&right),
+        Op::Less => left.is_less(&right),
+        Op::LessEqual => at_most(&left, &right),
+        Op::Greater => right.is_less(&left),
+        Op::GreaterEqual => at_most(&right, &left),
     }
 }
 
 /// Whether `left <= right`.
-fn at_most(left: Comparable, right: Comparable) -> bool
-    ensures { result ≡ at_most (comparable_of left.entry) (comparable_of right.entry) }
+fn at_most<'a, V: Lent + 'a>(left: &Comparable<'a, V>, right: &Comparable<'a, V>) -> bool
+    ensures { result ≡ at_most (comparable_of V.meaning left.now)
+        (comparable_of V.meaning right.now) }
 {
     left.is_less(right) || left.equals(right)
 }

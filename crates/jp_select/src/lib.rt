@@ -16,7 +16,7 @@
 //! node stands.
 //! `candidate` is what a selector chooses from at a value, position by position, without a list.
 //! `compare` answers what the standard has for an operator between two values, or Nothing, and
-//! takes no memory.
+//! takes no memory. Both take values in whatever form they are lent.
 #![tactic(auto)]
 
 mod candidates;

@@ -1,15 +1,12 @@
 -- `equals` answers true exactly where both sides are the same.
-use Rattle.std.proofs.Common.{◌≡◌, ℕ, suc, ◌≢◌, ◌↔◌, ◌&&◌, Bool, true, false, IsTrue, List, []}
-use Rattle.std.proofs.Common.{◌∷◌, length, map, Option, Some, None, refl, sym, ap, ap₂, ◌∙◌}
-use Rattle.std.proofs.lemmas.Bool.{and_parts, and_from, and_right}
+use Rattle.std.proofs.Common.{◌≡◌, ℕ, ◌↔◌, ◌&&◌, Bool, true, false, IsTrue, List, Option, Some, None}
+use Rattle.std.proofs.Common.{refl, sym, ap, ap₂, ◌∙◌}
+use Rattle.std.proofs.lemmas.Bool.{and_parts, and_from}
 use Rattle.std.proofs.lemmas.Bool.Decides.{Decides-int_eq}
 use Rattle.std.proofs.lemmas.Slice.Eq.{bytes_eq-Decides}
 use Rattle.std.specs.Str.{bytes_eq}
 use Rattle.jp_document.specs.Value.{Value, null, boolean, whole, text, list, object}
-use Rattle.jp_document.specs.Value.{Items, no_items, item, Members, no_members}
-use Rattle.jp_document.specs.Value.{member, items_of, members_of, value_of, member_of}
-use Rattle.jp_document.specs.declared.value.Json.{Json}
-use Rattle.jp_document.specs.declared.value.Member.{Member}
+use Rattle.jp_document.specs.Value.{Items, no_items, item, Members, no_members, member}
 use Rattle.jp_select.specs.Comparison.{equals, same_value, same_items, same_members}
 
 -- ---- each is the same as itself
@@ -83,28 +80,3 @@ equals_is _ _ h = absurd (cc)
 pub equals-exact : (o p : Option Value) (r : Bool) → r ≡ equals o p → IsTrue r ↔ (o ≡ p)
 equals-exact o p r is =
     (λ h. equals_is o p (sym is ∙ h), λ e. is ∙ sym (ap (equals o) e) ∙ equals_itself o)
-
--- ---- lists of other lengths
-
-pub items_unlike : (xs ys : List Json) → (length xs ≢ length ys) →
-    false ≡ same_items (items_of (map value_of xs)) (items_of (map value_of ys))
-items_unlike [] [] unlike = absurd (unlike refl)
-items_unlike [] (y ∷ ys) unlike = refl
-items_unlike (x ∷ xs) [] unlike = refl
-items_unlike (x ∷ xs) (y ∷ ys) unlike =
-    sym
-    (and_right (same_value (value_of x) (value_of y))
-    (same_items (items_of (map value_of xs)) (items_of (map value_of ys)))
-    (sym (items_unlike xs ys (λ e. unlike (ap suc e)))))
-
-pub members_unlike : (xs ys : List Member) → (length xs ≢ length ys) →
-    false ≡ same_members (members_of (map member_of xs)) (members_of (map member_of ys))
-members_unlike [] [] unlike = absurd (unlike refl)
-members_unlike [] (y ∷ ys) unlike = refl
-members_unlike (x ∷ xs) [] unlike = refl
-members_unlike (x ∷ xs) (y ∷ ys) unlike =
-    sym
-    (and_right
-    (bytes_eq (member_of x).0 (member_of y).0 && same_value (member_of x).1 (member_of y).1)
-    (same_members (members_of (map member_of xs)) (members_of (map member_of ys)))
-    (sym (members_unlike xs ys (λ e. unlike (ap suc e)))))

@@ -1,11 +1,11 @@
 //! Comparisons of a document's values. The standard's rows are in jp_command's table.
 use crate::{Comparable, compare, equal, less};
-use jp_document::{Document, Step};
+use jp_document::{Document, Json, Step};
 use jp_tree::Op;
 use std::test::Fail;
 
 /// The value at an index of a document's list, None where there is none.
-fn item(document: &Document, index: u64) -> Comparable<'_> {
+fn item(document: &Document, index: u64) -> Comparable<'_, &Json> {
     Comparable::of(document.at(&[Step::Index(index)]))
 }
 

@@ -1,13 +1,12 @@
 use Rattle.std.proofs.Common.{sym, ap, ◌∙◌}
-use Rattle.jp_document.specs.DocumentValue.{lent_value}
 use Rattle.jp_tree.specs.Tree.{selector_of}
 use Rattle.jp_select.specs.Selectors.{single}
 use Rattle.jp_select.proofs.Choosing.Entries.{single-name}
 use Rattle.jp_select.proofs.candidates.single.Goals as goal
 
 pub returns-in-Name : goal.returns-in-Name
-returns-in-Name c =
-    let v = lent_value c.args.value in
+returns-in-Name g c =
+    let v = g.V.Lent.meaning c.args.value in
     c.member.ensures
     ∙ sym
     (ap (λ s. single (selector_of s) v) c.in-Name.is

@@ -1,0 +1,21 @@
+-- Values compared by their parts. The contracts of private functions alone cite it.
+use Rattle.std.specs.Prelude.{Bool, true, false, ◌&&◌, ◌==◌, List, [], ◌∷◌, bytes_eq}
+use Rattle.jp_document.specs.Location.{Key, named, nth}
+use Rattle.jp_document.specs.Value.{Value}
+use Rattle.jp_select.specs.Comparison.{same_value}
+
+-- the steps are one
+abbrev pub same_key : Key → Key → Bool
+same_key (named m) (named n) = bytes_eq m n
+same_key (nth i) (nth j) = i == j
+same_key _ _ = false
+
+-- the steps are one, and the values the same
+abbrev pub same_part : Key × Value → Key × Value → Bool
+same_part e f = same_key e.0 f.0 && same_value e.1 f.1
+
+-- there are as many, each the same as the other's
+abbrev pub same_parts : List (Key × Value) → List (Key × Value) → Bool
+same_parts [] [] = true
+same_parts (e ∷ es) (f ∷ fs) = same_part e f && same_parts es fs
+same_parts _ _ = false
