@@ -1,6 +1,5 @@
 //! The functions of filters (RFC 9535 section 2.4), over their arguments.
 ghost use Rattle.std.specs.Prelude.{◌≡◌, ◌<◌, IfOk, IfSome, length, option_map};
-ghost use Rattle.jp_document.specs.DocumentValue.{lent_value};
 ghost use Rattle.jp_tree.specs.Tree.{argument_of, call_of, query_of};
 ghost use Rattle.jp_select.specs.Comparable.{comparable_of};
 ghost use Rattle.jp_evaluate.specs.Functions.{only_value};
@@ -14,26 +13,26 @@ ghost use Rattle.jp_evaluate.specs.Private.Sizes.{argument_size, call_size, quer
 use crate::evaluating::logical_answer;
 use crate::filter::Asking;
 use crate::length::length_of;
-use crate::operand::{comparable, literal_value, whole};
+use crate::operand::{literal_value, whole};
 use crate::pattern::Patterns;
 use crate::selecting::{NodesQuery, Selecting};
 use jp_check::{Function, Profile};
-use jp_document::DocumentValue;
+use jp_lent::Selectable;
 use jp_match::Matching;
 use jp_select::Comparable;
 use jp_tree::{Argument, Call};
 use std::alloc::AllocError;
 
-impl<'a, 'q, M: Matching> Asking<'a, 'q, M> {
+impl<'a, 'q, V: Selectable + 'q, M: Matching> Asking<'a, 'q, V, M> {
     /// The value that a function answers, Nothing where it answers none.
     #[cycle(filter)]
     pub(crate) fn call_value(
         &self,
         patterns: &mut Patterns<'q>,
         call: &'q Call,
-    ) -> Result<Comparable<'q>, AllocError>
+    ) -> Result<Comparable<'q, V>, AllocError>
         ensures { IfOk result
-            (λ value. comparable_of value ≡ asked self.now (call_answer (call_of call.now))) }
+            (λ value. comparable_of V.meaning value ≡ asked V.meaning self.now (call_answer (call_of call.now))) }
     {
         let Some(argument) = only_argument(call) else {
             return Ok(Comparable::Nothing);
@@ -45,7 +44,7 @@ impl<'a, 'q, M: Matching> Asking<'a, 'q, M> {
                 None => Ok(Comparable::Nothing),
             },
             Some(Function::ValueOf) => match argument_query(argument) {
-                Some(nodes) => Ok(comparable(self.only_value(patterns, nodes)?)),
+                Some(nodes) => Ok(Comparable::of(self.only_value(patterns, nodes)?)),
                 None => Ok(Comparable::Nothing),
             },
             Some(Function::Match | Function::Search | Function::Distinct) | None => {
@@ -61,7 +60,7 @@ impl<'a, 'q, M: Matching> Asking<'a, 'q, M> {
         patterns: &mut Patterns<'q>,
         call: &'q Call,
     ) -> Result<bool, AllocError>
-        ensures { IfOk result (λ answer. answer ≡ asked self.now (call_holds (call_of call.now))) }
+        ensures { IfOk result (λ answer. answer ≡ asked V.meaning self.now (call_holds (call_of call.now))) }
     {
         let Some((first, second)) = both_arguments(call) else {
             return Ok(false);
@@ -77,13 +76,13 @@ impl<'a, 'q, M: Matching> Asking<'a, 'q, M> {
         &self,
         patterns: &mut Patterns<'q>,
         argument: &'q Argument,
-    ) -> Result<Comparable<'q>, AllocError>
-        ensures { IfOk result (λ value. comparable_of value
-            ≡ asked self.now (argument_value (argument_of argument.now))) }
+    ) -> Result<Comparable<'q, V>, AllocError>
+        ensures { IfOk result (λ value. comparable_of V.meaning value
+            ≡ asked V.meaning self.now (argument_value (argument_of argument.now))) }
     {
         match argument {
             Argument::Literal(literal) => Ok(literal_value(literal)),
-            Argument::Query(query) => Ok(comparable(self.node_value(query))),
+            Argument::Query(query) => Ok(Comparable::of(self.node_value(query))),
             Argument::Call(call) => self.call_value(patterns, call),
             Argument::Logical(_) => Ok(Comparable::Nothing),
         }
@@ -97,7 +96,7 @@ impl<'a, 'q, M: Matching> Asking<'a, 'q, M> {
         nodes: NodesQuery<'q>,
     ) -> Result<u64, AllocError>
         ensures { IfOk result (λ count. count ≡ length (counted nodes.entry.distinct
-            (asked self.now (nodelist_at (query_of nodes.entry.query.now))))) }
+            (asked V.meaning self.now (nodelist_at (query_of nodes.entry.query.now))))) }
     {
         let mut selecting = Selecting::from(self.evaluation.alloc, nodes, self.start(nodes.query));
         let mut count: u64 = 0;
@@ -114,10 +113,10 @@ impl<'a, 'q, M: Matching> Asking<'a, 'q, M> {
         &self,
         patterns: &mut Patterns<'q>,
         nodes: NodesQuery<'q>,
-    ) -> Result<Option<DocumentValue<'q>>, AllocError>
-        ensures { IfOk result (λ value. option_map lent_value value ≡ only_value
+    ) -> Result<Option<V>, AllocError>
+        ensures { IfOk result (λ value. option_map V.meaning value ≡ only_value
             (counted nodes.entry.distinct
-            (asked self.now (nodelist_at (query_of nodes.entry.query.now))))) }
+            (asked V.meaning self.now (nodelist_at (query_of nodes.entry.query.now))))) }
     {
         let mut selecting = Selecting::from(self.evaluation.alloc, nodes, self.start(nodes.query));
         let Some(place) = selecting.next(self.evaluation, patterns)? else {

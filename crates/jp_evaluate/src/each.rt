@@ -1,27 +1,18 @@
 //! The nodes of a nodelist, to be taken one by one.
-ghost use Rattle.std.specs.Prelude.{◌≡◌, ◌+◌, ◌++◌, IfNone, IfOk, [], if◌then◌else◌, length, map};
-ghost use Rattle.std.specs.Prelude.{option_to_list};
+ghost use Rattle.std.specs.Prelude.{◌≡◌, ◌+◌, if◌then◌else◌, length};
 ghost use Rattle.std.specs.Iterator.{at_most};
-ghost use Rattle.jp_document.specs.Node.{node_of};
 ghost use Rattle.jp_select.specs.Giving.{GivesNext};
 ghost use Rattle.jp_evaluate.specs.Rest.{has_failed, rest_of};
 
-use crate::evaluating::Evaluation;
-use crate::pattern::Patterns;
-use crate::walk::Walk;
-use jp_document::Node;
+use crate::lent::LentNodes;
+use jp_document::{DocumentValue, Node};
 use jp_match::Matching;
-use jp_tree::Segment;
 use std::alloc::AllocError;
 
 /// The nodes that a query selects, one after another. What came so far is a prefix of the nodelist.
 #[derive(Drop)]
 pub struct Nodes<'d, 'q, M> {
-    pub(crate) evaluation: Evaluation<'q, M>,
-    pub(crate) patterns: Patterns<'q>,
-    pub(crate) segments: &'q [Segment],
-    pub(crate) walk: Walk<'d>,
-    pub(crate) failed: bool,
+    pub(crate) nodes: LentNodes<'d, 'q, DocumentValue<'d>, M>,
 }
 
 impl<'d: 'q, 'q, M: Matching> Nodes<'d, 'q, M> {
@@ -29,23 +20,7 @@ impl<'d: 'q, 'q, M: Matching> Nodes<'d, 'q, M> {
     pub fn failed(&self) -> bool
         ensures { result ≡ has_failed self.now }
     {
-        self.failed
-    }
-
-    /// The next node, None at the end.
-    fn take(&mut self) -> Result<Option<Node<'d>>, AllocError>
-        ensures gives { IfOk result (λ o. rest_of self.old
-            ≡ map node_of (option_to_list o) ++ rest_of self.new) }
-        ensures end { IfOk result (λ o. IfNone o (rest_of self.new ≡ [])) }
-        ensures failed { has_failed self.new ≡ has_failed self.old }
-    {
-        match self
-            .walk
-            .advance(&self.evaluation, &mut self.patterns, self.segments)?
-        {
-            Some(place) => Ok(Some(self.walk.node_at(self.evaluation.alloc, place)?)),
-            None => Ok(None),
-        }
+        self.nodes.failed()
     }
 }
 
@@ -59,15 +34,9 @@ impl<'d: 'q, 'q, M: Matching> Iterator for Nodes<'d, 'q, M> {
     /// The next node, or an error where there is no memory for it, after which there are no more;
     /// None at the end of the nodelist.
     fn next(&mut self) -> Option<Result<Node<'d>, AllocError>> {
-        if self.failed {
-            return None;
-        }
-        match self.take() {
-            Ok(next) => Some(Ok(next?)),
-            Err(error) => {
-                self.failed = true;
-                Some(Err(error))
-            }
+        match self.nodes.next()? {
+            Ok((location, value)) => Some(Ok(Node::of(location, value))),
+            Err(error) => Some(Err(error)),
         }
     }
 }

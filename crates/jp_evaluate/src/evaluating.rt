@@ -6,32 +6,32 @@ ghost use Rattle.jp_evaluate.specs.Functions.{logical_answer};
 
 use crate::pattern::Patterns;
 use jp_check::Function;
-use jp_document::DocumentValue;
+use jp_lent::{Lent, Seen};
 use jp_match::{Matching, Tests};
 use jp_select::Comparable;
 use std::alloc::{AllocError, Global};
 
 /// What an evaluation goes by: the value of the root, `$`, and the matcher of patterns.
 #[derive(Drop)]
-pub(crate) struct Evaluation<'q, M> {
+pub(crate) struct Evaluation<'q, V, M> {
     pub(crate) alloc: Global,
-    pub(crate) root: DocumentValue<'q>,
+    pub(crate) root: V,
     pub(crate) matcher: &'q M,
 }
 
 /// Whether `match` or `search` is true of the values of its arguments; other functions are not.
-pub(crate) fn logical_answer<'q, M: Matching>(
-    evaluation: &Evaluation<'q, M>,
+pub(crate) fn logical_answer<'q, V: Lent + 'q, M: Matching>(
+    evaluation: &Evaluation<'q, V, M>,
     patterns: &mut Patterns<'q>,
     function: Option<Function>,
-    value: Comparable<'q>,
-    pattern: Comparable<'q>,
+    value: Comparable<'q, V>,
+    pattern: Comparable<'q, V>,
 ) -> Result<bool, AllocError>
     ensures { IfOk result (λ answer. answer ≡ logical_answer function
-        (comparable_of value.entry) (comparable_of pattern.entry)) }
+        (comparable_of V.meaning value.entry) (comparable_of V.meaning pattern.entry)) }
 {
-    match (value, pattern) {
-        (Comparable::Text(text), Comparable::Text(pattern)) => text_answer(
+    match (value.seen(), pattern.seen()) {
+        (Some(Seen::Text(text)), Some(Seen::Text(pattern))) => text_answer(
             evaluation, patterns, function, text, pattern,
         ),
         _ => Ok(false),
@@ -40,8 +40,8 @@ pub(crate) fn logical_answer<'q, M: Matching>(
 
 /// Whether a text matches the pattern of the other, the whole of it for `match` (RFC 9535 section
 /// 2.4.6), some part of it for `search` (section 2.4.7); not so where it spells none.
-fn text_answer<'q, M: Matching>(
-    evaluation: &Evaluation<'q, M>,
+fn text_answer<'q, V, M: Matching>(
+    evaluation: &Evaluation<'q, V, M>,
     patterns: &mut Patterns<'q>,
     function: Option<Function>,
     text: &str,

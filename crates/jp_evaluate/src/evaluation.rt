@@ -7,9 +7,7 @@ ghost use Rattle.jp_evaluate.specs.Nodelist.{nodelist};
 ghost use Rattle.jp_evaluate.specs.Rest.{has_failed, rest_of};
 
 use crate::each::Nodes;
-use crate::evaluating::Evaluation;
-use crate::pattern::Patterns;
-use crate::walk::Walk;
+use crate::lent::lent_nodes;
 use jp_check::Checked;
 use jp_document::{Document, Node};
 use jp_match::Matching;
@@ -29,17 +27,8 @@ pub fn nodes<'d: 'q, 'q, M: Matching>(
     ensures working { has_failed result ≡ false }
     ensures nodes { rest_of result ≡ nodelist (query_of query.now.query) (document_of document.now) }
 {
-    let root = document.value();
     Nodes {
-        evaluation: Evaluation {
-            alloc,
-            root,
-            matcher,
-        },
-        patterns: Patterns::new(alloc),
-        segments: &query.query().segments,
-        walk: Walk::from(alloc, root),
-        failed: false,
+        nodes: lent_nodes(alloc, document.value(), query, matcher),
     }
 }
 

@@ -8,10 +8,10 @@ ghost use Rattle.jp_evaluate.specs.Private.Asked.{asked};
 
 use crate::calls::call_query;
 use crate::evaluating::Evaluation;
-use crate::operand::{comparable, literal_value};
+use crate::operand::literal_value;
 use crate::pattern::Patterns;
 use crate::walk::Walk;
-use jp_document::DocumentValue;
+use jp_lent::Selectable;
 use jp_match::Matching;
 use jp_select::{Comparable, compare};
 use jp_tree::{Expr, Operand, Query, Subject};
@@ -20,12 +20,12 @@ use std::alloc::AllocError;
 /// What stays the same while an expression is evaluated: what the evaluation goes by, and the value
 /// of the current node, `@`.
 #[derive(Drop)]
-pub(crate) struct Asking<'a, 'q, M> {
-    pub(crate) evaluation: &'a Evaluation<'q, M>,
-    pub(crate) current: DocumentValue<'q>,
+pub(crate) struct Asking<'a, 'q, V, M> {
+    pub(crate) evaluation: &'a Evaluation<'q, V, M>,
+    pub(crate) current: V,
 }
 
-impl<'a, 'q, M: Matching> Asking<'a, 'q, M> {
+impl<'a, 'q, V: Selectable + 'q, M: Matching> Asking<'a, 'q, V, M> {
     /// Whether an expression is true.
     #[cycle(filter)]
     pub(crate) fn holds(
@@ -33,7 +33,7 @@ impl<'a, 'q, M: Matching> Asking<'a, 'q, M> {
         patterns: &mut Patterns<'q>,
         expr: &'q Expr,
     ) -> Result<bool, AllocError>
-        ensures { IfOk result (λ answer. answer ≡ asked self.now (holds (expr_of expr.now))) }
+        ensures { IfOk result (λ answer. answer ≡ asked V.meaning self.now (holds (expr_of expr.now))) }
     {
         match expr {
             Expr::AnyOf(parts) => self.any_holds(patterns, parts),
@@ -56,7 +56,7 @@ impl<'a, 'q, M: Matching> Asking<'a, 'q, M> {
     #[cycle(filter)]
     fn any_holds(&self, patterns: &mut Patterns<'q>, parts: &'q [Expr]) -> Result<bool, AllocError>
         ensures { IfOk result
-            (λ answer. answer ≡ asked self.now (any_holds (exprs (map expr_of parts.now)))) }
+            (λ answer. answer ≡ asked V.meaning self.now (any_holds (exprs (map expr_of parts.now)))) }
     {
         for part in parts {
             if self.holds(patterns, part)? {
@@ -70,7 +70,7 @@ impl<'a, 'q, M: Matching> Asking<'a, 'q, M> {
     #[cycle(filter)]
     fn all_hold(&self, patterns: &mut Patterns<'q>, parts: &'q [Expr]) -> Result<bool, AllocError>
         ensures { IfOk result
-            (λ answer. answer ≡ asked self.now (all_hold (exprs (map expr_of parts.now)))) }
+            (λ answer. answer ≡ asked V.meaning self.now (all_hold (exprs (map expr_of parts.now)))) }
     {
         for part in parts {
             if !self.holds(patterns, part)? {
@@ -88,7 +88,7 @@ impl<'a, 'q, M: Matching> Asking<'a, 'q, M> {
         query: &'q Query,
     ) -> Result<bool, AllocError>
         ensures { IfOk result
-            (λ answer. answer ≡ has_node (asked self.now (nodelist_at (query_of query.now)))) }
+            (λ answer. answer ≡ has_node (asked V.meaning self.now (nodelist_at (query_of query.now)))) }
     {
         let mut walk = Walk::from(self.evaluation.alloc, self.start(query));
         let first = walk.advance(self.evaluation, patterns, &query.segments)?;
@@ -103,13 +103,13 @@ impl<'a, 'q, M: Matching> Asking<'a, 'q, M> {
         &self,
         patterns: &mut Patterns<'q>,
         operand: &'q Operand,
-    ) -> Result<Comparable<'q>, AllocError>
-        ensures { IfOk result (λ value. comparable_of value
-            ≡ asked self.now (operand_value (operand_of operand.now))) }
+    ) -> Result<Comparable<'q, V>, AllocError>
+        ensures { IfOk result (λ value. comparable_of V.meaning value
+            ≡ asked V.meaning self.now (operand_value (operand_of operand.now))) }
     {
         match operand {
             Operand::Literal(literal) => Ok(literal_value(literal)),
-            Operand::Query(query) => Ok(comparable(self.node_value(query))),
+            Operand::Query(query) => Ok(Comparable::of(self.node_value(query))),
             Operand::Call(call) => self.call_value(patterns, call),
         }
     }

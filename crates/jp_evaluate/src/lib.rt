@@ -22,6 +22,7 @@ mod evaluation;
 mod filter;
 pub mod laws;
 mod length;
+mod lent;
 mod operand;
 mod pattern;
 mod selecting;
@@ -32,3 +33,4 @@ mod walk;
 
 pub use each::Nodes;
 pub use evaluation::{evaluate, nodes};
+pub use lent::{LentNodes, lent_nodes};

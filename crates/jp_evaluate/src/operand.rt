@@ -1,18 +1,17 @@
 //! The values of literals (RFC 9535 section 2.3.5.1).
-ghost use Rattle.std.specs.Prelude.{◌≡◌, Some, option_map, pos};
-ghost use Rattle.jp_document.specs.DocumentValue.{lent_value};
+ghost use Rattle.std.specs.Prelude.{◌≡◌, Some, pos};
 ghost use Rattle.jp_document.specs.Value.{whole};
 ghost use Rattle.jp_tree.specs.Tree.{literal_of};
 ghost use Rattle.jp_select.specs.Comparable.{comparable_of};
 ghost use Rattle.jp_evaluate.specs.Nodelist.{literal_value};
 
-use jp_document::DocumentValue;
+use jp_lent::Lent;
 use jp_select::Comparable;
 use jp_tree::{Literal, Numeral};
 
 /// The value of a literal; a number that is not whole, or beyond 64 bits, has none.
-pub(crate) fn literal_value(literal: &Literal) -> Comparable<'_>
-    ensures { comparable_of result ≡ literal_value (literal_of literal.now) }
+pub(crate) fn literal_value<V: Lent>(literal: &Literal) -> Comparable<'_, V>
+    ensures { comparable_of V.meaning result ≡ literal_value (literal_of literal.now) }
 {
     match literal {
         Literal::Number(Numeral::Whole(number)) => Comparable::Whole(*number),
@@ -24,19 +23,9 @@ pub(crate) fn literal_value(literal: &Literal) -> Comparable<'_>
     }
 }
 
-/// The side that has this value, or Nothing at None.
-pub(crate) fn comparable(value: Option<DocumentValue<'_>>) -> Comparable<'_>
-    ensures { comparable_of result ≡ option_map lent_value value.entry }
-{
-    match value {
-        Some(value) => Comparable::of(Some(value.json())),
-        None => Comparable::Nothing,
-    }
-}
-
 /// The side that has this number.
-pub(crate) fn whole<'a>(count: u64) -> Comparable<'a>
-    ensures { comparable_of result ≡ Some (whole (pos count)) }
+pub(crate) fn whole<'a, V: Lent>(count: u64) -> Comparable<'a, V>
+    ensures { comparable_of V.meaning result ≡ Some (whole (pos count)) }
 {
     Comparable::Whole(count as i128)
 }

@@ -1,6 +1,5 @@
 //! The nodes of a query inside an expression, one by one, each once where that is asked.
 ghost use Rattle.std.specs.Prelude.{◌≡◌, ◌∷◌, [], IfOk, MatchOption, Some};
-ghost use Rattle.jp_document.specs.DocumentValue.{lent_value};
 ghost use Rattle.jp_tree.specs.declared.tree.Query.{out-Query};
 ghost use Rattle.jp_evaluate.specs.Private.Selecting.{IsFresh, TellsNew, to_come};
 ghost use Rattle.jp_evaluate.specs.Private.Walk.{reached_place, walk_frames};
@@ -8,7 +7,8 @@ ghost use Rattle.jp_evaluate.specs.Private.Walk.{reached_place, walk_frames};
 use crate::evaluating::Evaluation;
 use crate::pattern::Patterns;
 use crate::walk::{Place, Walk};
-use jp_document::{DocumentValue, Step};
+use jp_document::Step;
+use jp_lent::Selectable;
 use jp_match::Matching;
 use jp_tree::{Query, Segment};
 use std::alloc::{AllocError, Global};
@@ -24,21 +24,17 @@ pub(crate) struct NodesQuery<'q> {
 /// The nodes of a query that are still to come. It keeps the locations of those that came where each
 /// counts once, and else none.
 #[derive(Drop)]
-pub(crate) struct Selecting<'q> {
+pub(crate) struct Selecting<'q, V> {
     segments: &'q [Segment],
-    walk: Walk<'q>,
+    walk: Walk<'q, V>,
     seen: Option<BTreeSet<Vec<Step<'q>>>>,
 }
 
-impl<'q> Selecting<'q> {
+impl<'q, V: Selectable + 'q> Selecting<'q, V> {
     /// The nodes of a query that begins at this value.
-    pub(crate) fn from(
-        alloc: Global,
-        nodes: NodesQuery<'q>,
-        start: DocumentValue<'q>,
-    ) -> Selecting<'q>
+    pub(crate) fn from(alloc: Global, nodes: NodesQuery<'q>, start: V) -> Selecting<'q, V>
         ensures segments { result.segments.now ≡ (out-Query nodes.entry.query.now).segments.items }
-        ensures first { result.walk.first ≡ Some start.entry }
+        ensures first { result.walk.first ≡ Some start }
         ensures frames { walk_frames result.walk ≡ [] }
         ensures seen { IsFresh nodes.entry.distinct result.seen }
     {
@@ -58,16 +54,16 @@ impl<'q> Selecting<'q> {
     #[inline(always)]
     pub(crate) fn next<M: Matching>(
         &mut self,
-        evaluation: &Evaluation<'q, M>,
+        evaluation: &Evaluation<'q, V, M>,
         patterns: &mut Patterns<'q>,
-    ) -> Result<Option<Place<'q>>, AllocError>
+    ) -> Result<Option<Place<'q, V>>, AllocError>
         ensures segments { self.new.segments ≡ self.old.segments }
-        ensures gives { IfOk result (λ o. let left = to_come (lent_value evaluation.now.root) in
-            MatchOption o ((left self.old ≡ []) × (left self.new ≡ []))
-            (λ p. left self.old ≡ reached_place self.new.walk p ∷ left self.new)) }
+        ensures gives { IfOk result (λ o. let left = to_come V.meaning (V.meaning evaluation.now.root)
+            in MatchOption o ((left self.old ≡ []) × (left self.new ≡ []))
+            (λ p. left self.old ≡ reached_place V.meaning self.new.walk p ∷ left self.new)) }
     {
         while let Some(place) = self.walk.advance(evaluation, patterns, self.segments)? {
-            if self.is_new(evaluation.alloc, place)? {
+            if self.is_new(evaluation.alloc, &place)? {
                 return Ok(Some(place));
             }
         }
@@ -76,11 +72,11 @@ impl<'q> Selecting<'q> {
 
     /// Whether a node counts, which the walk has reached: it did not come before, or each counts.
     #[inline(always)]
-    fn is_new(&mut self, alloc: Global, place: Place<'q>) -> Result<bool, AllocError>
+    fn is_new(&mut self, alloc: Global, place: &Place<'q, V>) -> Result<bool, AllocError>
         ensures walk { self.new.walk ≡ self.old.walk }
         ensures segments { self.new.segments ≡ self.old.segments }
         ensures new { IfOk result (λ new. TellsNew self.old.seen
-            (reached_place self.old.walk place.entry) new self.new.seen) }
+            (reached_place V.meaning self.old.walk place.now) new self.new.seen) }
     {
         match &mut self.seen {
             Some(seen) => Ok(seen.insert(self.walk.location_at(alloc, place)?)?),

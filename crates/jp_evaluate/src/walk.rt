@@ -1,11 +1,11 @@
 //! The walk of a query through a document, from choice to choice (RFC 9535 section 2.1.2). It keeps
 //! a frame for each value on the way from where it begins to where it stands, and no list of nodes.
 ghost use Rattle.std.specs.Prelude.{◌≡◌, ◌<◌, ◌++◌, ◌∷◌, [], IfNone, IfOk, IfSome, MatchOption};
-ghost use Rattle.std.specs.Prelude.{OnOk, OnSome, map, option_map, slice_get};
-ghost use Rattle.jp_document.specs.DocumentValue.{lent_entry, lent_value};
+ghost use Rattle.std.specs.Prelude.{OnOk, OnSome, map, option_and_then, option_map, slice_get};
 ghost use Rattle.jp_document.specs.Location.{key_of};
-ghost use Rattle.jp_document.specs.Node.{node_of, root_of};
+ghost use Rattle.jp_document.specs.Node.{root_of};
 ghost use Rattle.jp_tree.specs.Tree.{expr_of, segment_of, segments as segment_trees, selector_of};
+ghost use Rattle.jp_lent.specs.Lending.{step_with};
 ghost use Rattle.jp_select.specs.Selectors.{candidates};
 ghost use Rattle.jp_evaluate.specs.Private.Sizes.{expr_size, segments_size, selector_size};
 ghost use Rattle.jp_evaluate.specs.Private.Walk.{choice_at, entered, frame_choices, offered};
@@ -17,7 +17,8 @@ ghost use Rattle.jp_evaluate.specs.Private.Walk.{walk_frames};
 use crate::evaluating::Evaluation;
 use crate::filter::Asking;
 use crate::pattern::Patterns;
-use jp_document::{DocumentValue, Node, Step};
+use jp_document::Step;
+use jp_lent::Selectable;
 use jp_match::Matching;
 use jp_select::candidate;
 use jp_tree::{Expr, Segment, Selector};
@@ -25,26 +26,26 @@ use std::alloc::{AllocError, Global};
 
 /// A value that segments led to.
 #[derive(Clone, Copy)]
-pub(crate) struct Place<'d> {
+pub(crate) struct Place<'d, V> {
     /// How many segments are before it.
     done: usize,
     /// The step to it from the frame before it, None where the walk begins.
     step: Option<Step<'d>>,
-    pub(crate) value: DocumentValue<'d>,
+    pub(crate) value: V,
 }
 
 /// A place at which a segment chooses: by which turn, and the position of the next of its choices.
 #[derive(Clone, Copy)]
-struct Frame<'d> {
-    place: Place<'d>,
+struct Frame<'d, V> {
+    place: Place<'d, V>,
     turn: usize,
     next: usize,
 }
 
 /// A place to go on from, where the test is passed.
 #[derive(Clone, Copy)]
-struct Offer<'q, 'd> {
-    place: Place<'d>,
+struct Offer<'q, 'd, V> {
+    place: Place<'d, V>,
     test: Option<&'q Expr>,
 }
 
@@ -59,16 +60,16 @@ struct Turn<'q> {
 /// A walk under way: the value that it begins with, while that has not been offered, and the frames
 /// from there on. The last frame stands apart, so that a walk of one frame takes no memory.
 #[derive(Drop)]
-pub(crate) struct Walk<'d> {
-    first: Option<DocumentValue<'d>>,
-    top: Option<Frame<'d>>,
-    below: Vec<Frame<'d>>,
+pub(crate) struct Walk<'d, V> {
+    first: Option<V>,
+    top: Option<Frame<'d, V>>,
+    below: Vec<Frame<'d, V>>,
 }
 
-impl<'d> Walk<'d> {
+impl<'d, V: Selectable + 'd> Walk<'d, V> {
     /// A walk that begins with this value.
-    pub(crate) fn from(alloc: Global, value: DocumentValue<'d>) -> Walk<'d>
-        ensures first { result.first ≡ Some value.entry }
+    pub(crate) fn from(alloc: Global, value: V) -> Walk<'d, V>
+        ensures first { result.first ≡ Some value }
         ensures frames { walk_frames result ≡ [] }
     {
         Walk {
@@ -83,16 +84,16 @@ impl<'d> Walk<'d> {
     #[cycle(filter)]
     pub(crate) fn advance<'q, M: Matching>(
         &mut self,
-        evaluation: &Evaluation<'q, M>,
+        evaluation: &Evaluation<'q, V, M>,
         patterns: &mut Patterns<'q>,
         segments: &'q [Segment],
-    ) -> Result<Option<Place<'d>>, AllocError>
+    ) -> Result<Option<Place<'d, V>>, AllocError>
     where
         'd: 'q,
-        ensures { IfOk result (λ o. let left = walk_reaches segments.now
-            (lent_value evaluation.now.root) in MatchOption o
+        ensures { IfOk result (λ o. let left = walk_reaches V.meaning segments.now
+            (V.meaning evaluation.now.root) in MatchOption o
             ((left self.old ≡ []) × (left self.new ≡ []))
-            (λ p. left self.old ≡ reached_place self.new p ∷ left self.new)) }
+            (λ p. left self.old ≡ reached_place V.meaning self.new p ∷ left self.new)) }
     {
         while let Some(offer) = self.next_offer(segments) {
             if offer.passes(evaluation, patterns)? {
@@ -106,12 +107,12 @@ impl<'d> Walk<'d> {
     }
 
     /// The next choice, None at the end.
-    fn next_offer<'q>(&mut self, segments: &'q [Segment]) -> Option<Offer<'q, 'd>>
-        ensures gives { MatchOption result
-            ((pending segments.now self.old ≡ []) × (pending segments.now self.new ≡ []))
-            (λ o. pending segments.now self.old
-            ≡ choice_at (reached_at [] (walk_frames self.new)) (offered segments.now o)
-            ∷ pending segments.now self.new) }
+    fn next_offer<'q>(&mut self, segments: &'q [Segment]) -> Option<Offer<'q, 'd, V>>
+        ensures gives { let left = pending V.meaning segments.now in MatchOption result
+            ((left self.old ≡ []) × (left self.new ≡ []))
+            (λ o. left self.old
+            ≡ choice_at (reached_at [] (walk_frames self.new)) (offered V.meaning segments.now o)
+            ∷ left self.new) }
         ensures begun { self.new.first ≡ None }
         ensures smaller { IfSome result (λ o. IfSome o.test (λ e. expr_size (expr_of e.now)
             < segments_size (segment_trees (map segment_of segments.now)))) }
@@ -150,7 +151,7 @@ impl<'d> Walk<'d> {
     }
 
     /// Goes on from a place.
-    fn enter(&mut self, place: Place<'d>) -> Result<(), AllocError>
+    fn enter(&mut self, place: Place<'d, V>) -> Result<(), AllocError>
         ensures first { self.new.first ≡ self.old.first }
         ensures frames { OnOk result
             (walk_frames self.new ≡ walk_frames self.old ++ entered place.entry ∷ []) }
@@ -166,30 +167,34 @@ impl<'d> Walk<'d> {
         Ok(())
     }
 
-    /// The node at a place that the last frame led to.
-    pub(crate) fn node_at(&self, alloc: Global, place: Place<'d>) -> Result<Node<'d>, AllocError>
-        ensures { IfOk result (λ n. node_of n ≡ reached_place self.now place.entry) }
-    {
-        Ok(Node::of(self.location_at(alloc, place)?, place.value))
-    }
-
-    /// Where it is.
+    /// Where a place is that the last frame led to.
     #[inline(always)]
     pub(crate) fn location_at(
         &self,
         alloc: Global,
-        place: Place<'d>,
+        place: &Place<'d, V>,
     ) -> Result<Vec<Step<'d>>, AllocError>
         ensures { IfOk result (λ l. map key_of l.items
-            ≡ (reached_place self.now place.entry).location) }
+            ≡ (reached_place V.meaning self.now place.now).location) }
     {
         let mut location = Vec::with_capacity(alloc, self.below.len() + 2)?;
         for frame in &self.below {
             push_step(&mut location, frame.place.step)?;
         }
-        push_step(&mut location, self.top.and_then(|frame| frame.place.step))?;
+        push_step(&mut location, self.last_step())?;
         push_step(&mut location, place.step)?;
         Ok(location)
+    }
+
+    /// The step to the frame that stands apart.
+    #[inline(always)]
+    fn last_step(&self) -> Option<Step<'d>>
+        ensures { result ≡ option_and_then (λ f. f.place.step) self.now.top }
+    {
+        match &self.top {
+            Some(frame) => frame.place.step,
+            None => None,
+        }
     }
 }
 
@@ -204,22 +209,25 @@ fn push_step<'d>(location: &mut Vec<Step<'d>>, step: Option<Step<'d>>) -> Result
 }
 
 /// The next choice of a frame, None where it has no more.
-fn frame_offer<'q, 'd>(segments: &'q [Segment], frame: &mut Frame<'d>) -> Option<Offer<'q, 'd>>
+fn frame_offer<'q, 'd, V: Selectable + 'd>(
+    segments: &'q [Segment],
+    frame: &mut Frame<'d, V>,
+) -> Option<Offer<'q, 'd, V>>
     ensures place { frame.new.place ≡ frame.old.place }
-    ensures gives { MatchOption result (frame_choices segments.now frame.old ≡ [])
-        (λ o. frame_choices segments.now frame.old
-        ≡ offered segments.now o ∷ frame_choices segments.now frame.new) }
+    ensures gives { let left = frame_choices V.meaning segments.now in
+        MatchOption result (left frame.old ≡ [])
+        (λ o. left frame.old ≡ offered V.meaning segments.now o ∷ left frame.new) }
     ensures smaller { IfSome result (λ o. IfSome o.test (λ e. expr_size (expr_of e.now)
         < segments_size (segment_trees (map segment_of segments.now)))) }
 {
     while let Some(turn) = turn_at(segments, frame.place.done, frame.turn) {
-        if let Some((step, value)) = turn.choice(frame.place.value, frame.next) {
+        if let Some(choice) = turn.choice(frame.place.value, frame.next) {
             frame.next += 1;
             return Some(Offer {
                 place: Place {
                     done: turn.done,
-                    step: Some(step),
-                    value,
+                    step: Some(choice.0),
+                    value: choice.1,
                 },
                 test: turn.test(),
             });
@@ -257,19 +265,19 @@ fn turn_at<'q>(segments: &'q [Segment], done: usize, number: usize) -> Option<Tu
     }
 }
 
-impl<'q, 'd> Offer<'q, 'd> {
+impl<'q, 'd, V: Selectable + 'd> Offer<'q, 'd, V> {
     /// Whether the test is passed; without one it is.
     #[cycle(filter)]
     fn passes<M: Matching>(
-        self,
-        evaluation: &Evaluation<'q, M>,
+        &self,
+        evaluation: &Evaluation<'q, V, M>,
         patterns: &mut Patterns<'q>,
     ) -> Result<bool, AllocError>
     where
         'd: 'q,
         ensures { IfOk result (λ answer. answer
-            ≡ passes (option_map (λ e. expr_of e.now) self.entry.test)
-            (lent_value evaluation.now.root) (root_of (lent_value self.entry.place.value))) }
+            ≡ passes (option_map (λ e. expr_of e.now) self.now.test)
+            (V.meaning evaluation.now.root) (root_of (V.meaning self.now.place.value))) }
     {
         let Some(expr) = self.test else {
             return Ok(true);
@@ -284,13 +292,9 @@ impl<'q, 'd> Offer<'q, 'd> {
 
 impl<'q> Turn<'q> {
     /// The value at this position among those that it chooses from.
-    fn choice<'d>(
-        self,
-        value: DocumentValue<'d>,
-        position: usize,
-    ) -> Option<(Step<'d>, DocumentValue<'d>)>
-        ensures entry { option_map lent_entry result
-            ≡ slice_get (candidates (turn_selector self.entry) (lent_value value.entry)) position }
+    fn choice<'d, V: Selectable + 'd>(self, value: V, position: usize) -> Option<(Step<'d>, V)>
+        ensures entry { option_map (step_with V.meaning) result
+            ≡ slice_get (candidates (turn_selector self.entry) (V.meaning value)) position }
         ensures more { OnSome result (position < usize.MAX) }
     {
         match self.selector {

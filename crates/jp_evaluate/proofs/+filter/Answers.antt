@@ -1,13 +1,13 @@
-use Rattle.std.proofs.Common.{◌≡◌, IfOk, Some, ap, arith, length, option_map, pos, rules, subst, sym, ◌∙◌}
-use Rattle.jp_document.specs.DocumentValue.{lent_value}
+use Rattle.std.proofs.Common.{◌≡◌, ◌∷◌, IfOk, Some, ap, arith, length, option_map, pos, rules, subst, sym, ◌∙◌}
 use Rattle.jp_document.specs.Node.{root_of}
 use Rattle.jp_document.specs.Value.{whole}
 use Rattle.jp_tree.specs.declared.tree.Expr.{the_lemmas}
 use Rattle.jp_tree.specs.Tree.{argument_of, call_of, call_test, expr_of}
 use Rattle.jp_check.specs.declared.functions.Function.TheVariants.{Count, ValueOf}
-use Rattle.jp_evaluate.specs.Functions.{value_answer}
+use Rattle.jp_evaluate.specs.Functions.{only_value, value_answer}
 use Rattle.jp_evaluate.specs.Nodelist.{argument_value, holds}
 use Rattle.jp_evaluate.specs.Private.Selecting.{nodes_query}
+use Rattle.jp_evaluate.specs.Private.Walk.{reached_place}
 use Rattle.jp_evaluate.proofs.Parts.Counted.{counted_nodes, one-answer, test-logical, test-nodes}
 use Rattle.jp_evaluate.proofs.Walks.Selects.{begun_to_come}
 use Rattle.jp_evaluate.proofs.Walks.Advances.{ends_at, goes_on, goes_on_less, offer_less, passed_over}
@@ -35,8 +35,8 @@ filter::Asking::all_hold-holds-requires g t c κs within = (
 pub filter::Asking::call_value-returns-in_ok-node_count-in-Some-argument_query :
     goal.filter::Asking::call_value-returns-in_ok-node_count-in-Some-argument_query
 filter::Asking::call_value-returns-in_ok-node_count-in-Some-argument_query g t c =
-    let d = lent_value c.args.self.now.evaluation.now.root in
-    let n = root_of (lent_value c.args.self.now.current) in
+    let d = g.V.Lent.meaning c.args.self.now.evaluation.now.root in
+    let n = root_of (g.V.Lent.meaning c.args.self.now.current) in
     let x = argument_of c.in-Some.argument.now in
     c.whole.ensures
     ∙ ap (λ m. Some (whole (pos m))) c.in_ok-node_count-in-Some-argument_query.ensures
@@ -47,8 +47,8 @@ filter::Asking::call_value-returns-in_ok-node_count-in-Some-argument_query g t c
 
 pub filter::Asking::call_value-returns-in-None : goal.filter::Asking::call_value-returns-in-None
 filter::Asking::call_value-returns-in-None g t c =
-    let d = lent_value c.args.self.now.evaluation.now.root in
-    let n = root_of (lent_value c.args.self.now.current) in
+    let d = g.V.Lent.meaning c.args.self.now.evaluation.now.root in
+    let n = root_of (g.V.Lent.meaning c.args.self.now.current) in
     let x = argument_of c.in-Some.argument.now in
     ap (λ o. value_answer (Some Count) (argument_value x d n) (option_map (counted_nodes d n) o))
     c.in-None.ensures.gives
@@ -58,10 +58,10 @@ filter::Asking::call_value-returns-in-None g t c =
 pub filter::Asking::call_value-returns-in_ok-only_value-in-Some-argument_query-2 :
     goal.filter::Asking::call_value-returns-in_ok-only_value-in-Some-argument_query-2
 filter::Asking::call_value-returns-in_ok-only_value-in-Some-argument_query-2 g t c =
-    let d = lent_value c.args.self.now.evaluation.now.root in
-    let n = root_of (lent_value c.args.self.now.current) in
+    let d = g.V.Lent.meaning c.args.self.now.evaluation.now.root in
+    let n = root_of (g.V.Lent.meaning c.args.self.now.current) in
     let x = argument_of c.in-Some.argument.now in
-    c.comparable.ensures
+    c.of.ensures
     ∙ c.in_ok-only_value-in-Some-argument_query-2.ensures
     ∙ ap (λ o. value_answer (Some ValueOf) (argument_value x d n) (option_map (counted_nodes d n) o))
     c.in-Some-argument_query-2.ensures.gives
@@ -71,8 +71,8 @@ filter::Asking::call_value-returns-in_ok-only_value-in-Some-argument_query-2 g t
 pub filter::Asking::call_value-returns-in-None-argument_query :
     goal.filter::Asking::call_value-returns-in-None-argument_query
 filter::Asking::call_value-returns-in-None-argument_query g t c =
-    let d = lent_value c.args.self.now.evaluation.now.root in
-    let n = root_of (lent_value c.args.self.now.current) in
+    let d = g.V.Lent.meaning c.args.self.now.evaluation.now.root in
+    let n = root_of (g.V.Lent.meaning c.args.self.now.current) in
     let x = argument_of c.in-Some.argument.now in
     ap (λ o. value_answer (Some ValueOf) (argument_value x d n) (option_map (counted_nodes d n) o))
     c.in-None-argument_query.ensures.gives
@@ -81,8 +81,8 @@ filter::Asking::call_value-returns-in-None-argument_query g t c =
 
 pub filter::Asking::holds-returns-in-Some : goal.filter::Asking::holds-returns-in-Some
 filter::Asking::holds-returns-in-Some g t c =
-    let d = lent_value c.args.self.now.evaluation.now.root in
-    let n = root_of (lent_value c.args.self.now.current) in
+    let d = g.V.Lent.meaning c.args.self.now.evaluation.now.root in
+    let n = root_of (g.V.Lent.meaning c.args.self.now.current) in
     let f = call_of c.in-Test-Call.call in
     let tree : expr_of c.args.expr.now ≡ call_test f = search (rules, the_lemmas) in
     subst (λ b. IfOk c.selects_some-in-Some.result (λ answer. answer ≡ b))
@@ -91,8 +91,8 @@ filter::Asking::holds-returns-in-Some g t c =
 
 pub filter::Asking::holds-returns-in-None : goal.filter::Asking::holds-returns-in-None
 filter::Asking::holds-returns-in-None g t c =
-    let d = lent_value c.args.self.now.evaluation.now.root in
-    let n = root_of (lent_value c.args.self.now.current) in
+    let d = g.V.Lent.meaning c.args.self.now.evaluation.now.root in
+    let n = root_of (g.V.Lent.meaning c.args.self.now.current) in
     let f = call_of c.in-Test-Call.call in
     let tree : expr_of c.args.expr.now ≡ call_test f = search (rules, the_lemmas) in
     subst (λ b. IfOk c.call_holds.result (λ answer. answer ≡ b))
@@ -104,8 +104,8 @@ pub filter::Asking::node_count-loop-selecting-init :
 filter::Asking::node_count-loop-selecting-init g t c =
     let new = c.from-selecting.ensures in
     let all = ap length
-    (begun_to_come c.args.nodes.query.now (lent_value c.args.self.now.evaluation.now.root)
-    (root_of (lent_value c.args.self.now.current)) c.from-selecting.result c.start.result
+    (begun_to_come g.V.Lent.meaning c.args.nodes.query.now (g.V.Lent.meaning c.args.self.now.evaluation.now.root)
+    (root_of (g.V.Lent.meaning c.args.self.now.current)) c.from-selecting.result c.start.result
     c.args.nodes.distinct new.segments c.start.ensures new.first new.frames new.seen) in
     (new.segments, omega (arith, all))
 
@@ -116,35 +116,71 @@ filter::Asking::node_count-loop-selecting-preserved g t c = (
   search rules,
 )
 
+pub filter::Asking::only_value-returns-in_default :
+    goal.filter::Asking::only_value-returns-in_default
+filter::Asking::only_value-returns-in_default g t c =
+    let m = g.V.Lent.meaning in
+    let new = c.from-selecting.ensures in
+    let begun =
+    begun_to_come m c.args.nodes.query.now (m c.args.self.now.evaluation.now.root)
+    (root_of (m c.args.self.now.current)) c.from-selecting.result c.start.result
+    c.args.nodes.distinct new.segments c.start.ensures new.first new.frames new.seen in
+    let none = rw c.in_default.is at c.in_ok-place.ensures.gives in
+    sym (ap only_value (sym begun ∙ none.0))
+
+pub filter::Asking::only_value-returns-in-Some-2 : goal.filter::Asking::only_value-returns-in-Some-2
+filter::Asking::only_value-returns-in-Some-2 g t c =
+    let m = g.V.Lent.meaning in
+    let new = c.from-selecting.ensures in
+    let begun =
+    begun_to_come m c.args.nodes.query.now (m c.args.self.now.evaluation.now.root)
+    (root_of (m c.args.self.now.current)) c.from-selecting.result c.start.result
+    c.args.nodes.distinct new.segments c.start.ensures new.first new.frames new.seen in
+    let first = rw c.in-Some.is at c.in_ok-place.ensures.gives in
+    let second = rw c.in-Some-2.is at c.in_ok-next.ensures.gives in
+    sym (ap only_value (sym begun ∙ first ∙ ap (λ ns. reached_place m c.next.new.self.walk c.in-Some.place ∷ ns) second))
+
+pub filter::Asking::only_value-returns : goal.filter::Asking::only_value-returns
+filter::Asking::only_value-returns g t c =
+    let m = g.V.Lent.meaning in
+    let new = c.from-selecting.ensures in
+    let begun =
+    begun_to_come m c.args.nodes.query.now (m c.args.self.now.evaluation.now.root)
+    (root_of (m c.args.self.now.current)) c.from-selecting.result c.start.result
+    c.args.nodes.distinct new.segments c.start.ensures new.first new.frames new.seen in
+    let first = rw c.in-Some.is at c.in_ok-place.ensures.gives in
+    let second = rw c.in-None.is at c.in_ok-next.ensures.gives in
+    sym (ap only_value (sym begun ∙ first ∙ ap (λ ns. reached_place m c.next.new.self.walk c.in-Some.place ∷ ns) second.0))
+
 -- ---- the walk
 
 pub walk::Walk::advance-loop-offer-preserved : goal.walk::Walk::advance-loop-offer-preserved
 walk::Walk::advance-loop-offer-preserved g t c =
     let all = c.args.segments.now in
-    let d = lent_value c.args.evaluation.now.root in
+    let d = g.V.Lent.meaning c.args.evaluation.now.root in
     let o = c.in-Some.offer in
-    passed_over all d c.loop-offer.self c.next_offer.new.self o c.in-Some.ensures.gives
+    passed_over g.V.Lent.meaning all d c.loop-offer.self c.next_offer.new.self o c.in-Some.ensures.gives
     (sym c.in_ok-passes.ensures ∙ c.if-branch.false) ∙ c.loop-offer.invariant
 
 pub walk::Walk::advance-returns-then-offer-segments :
     goal.walk::Walk::advance-returns-then-offer-segments
 walk::Walk::advance-returns-then-offer-segments g t c =
     let all = c.args.segments.now in
-    let d = lent_value c.args.evaluation.now.root in
+    let d = g.V.Lent.meaning c.args.evaluation.now.root in
     let o = c.in-Some.offer in
     sym c.loop-offer.invariant
-    ∙ ends_at all d c.loop-offer.self c.next_offer.new.self o c.in-Some.ensures.gives
+    ∙ ends_at g.V.Lent.meaning all d c.loop-offer.self c.next_offer.new.self o c.in-Some.ensures.gives
     (sym c.in_ok-passes.ensures ∙ c.if-branch.true) c.if-offer-segments.true
 
 pub walk::Walk::advance-loop-offer-smaller : goal.walk::Walk::advance-loop-offer-smaller
 walk::Walk::advance-loop-offer-smaller g t c =
-    offer_less c.args.segments.now c.loop-offer.self c.next_offer.new.self c.in-Some.offer
+    offer_less g.V.Lent.meaning c.args.segments.now c.loop-offer.self c.next_offer.new.self c.in-Some.offer
     c.in-Some.ensures.gives
 
 pub walk::Walk::advance-loop-offer-smaller-in-Continue-branch-2 :
     goal.walk::Walk::advance-loop-offer-smaller-in-Continue-branch-2
 walk::Walk::advance-loop-offer-smaller-in-Continue-branch-2 g t c =
-    goes_on_less c.args.segments.now c.loop-offer.self c.next_offer.new.self c.enter.new.self
+    goes_on_less g.V.Lent.meaning c.args.segments.now c.loop-offer.self c.next_offer.new.self c.enter.new.self
     c.in-Some.offer c.in-Some.ensures.gives c.in-Some.ensures.begun
     c.if-offer-segments.false c.enter.ensures.first c.in_ok-enter.ensures.frames
 
@@ -152,9 +188,9 @@ pub walk::Walk::advance-loop-offer-preserved-in-Continue-branch-2 :
     goal.walk::Walk::advance-loop-offer-preserved-in-Continue-branch-2
 walk::Walk::advance-loop-offer-preserved-in-Continue-branch-2 g t c =
     let all = c.args.segments.now in
-    let d = lent_value c.args.evaluation.now.root in
+    let d = g.V.Lent.meaning c.args.evaluation.now.root in
     let o = c.in-Some.offer in
-    goes_on all d c.loop-offer.self c.next_offer.new.self c.enter.new.self o c.in-Some.ensures.gives
+    goes_on g.V.Lent.meaning all d c.loop-offer.self c.next_offer.new.self c.enter.new.self o c.in-Some.ensures.gives
     c.in-Some.ensures.begun (sym c.in_ok-passes.ensures ∙ c.if-branch.true)
     c.if-offer-segments.false c.enter.ensures.first c.in_ok-enter.ensures.frames
     ∙ c.loop-offer.invariant

@@ -1,6 +1,5 @@
 use Rattle.std.proofs.Common.{◌≡◌, ◌+◌, ℕ, suc, Bool, List, drop, length, map}
 use Rattle.std.specs.Option.{option_map_or}
-use Rattle.jp_document.specs.DocumentValue.{lent_value}
 use Rattle.jp_document.specs.Node.{Node}
 use Rattle.jp_document.specs.Value.{Value}
 use Rattle.jp_tree.specs.declared.tree.Expr.{Expr}
@@ -24,7 +23,7 @@ decreases-walk::Walk::advance g l = suc (segments_size (segments (map segment_of
 
 abbrev pub decreases-walk::Offer::passes : goal.decreases-walk::Offer::passes
 decreases-walk::Offer::passes g l =
-    option_map_or (λ e. suc (expr_size (expr_of e.now))) l.self.test 0
+    option_map_or (λ e. suc (expr_size (expr_of e.now))) l.self.now.test 0
 
 abbrev pub decreases-selecting::Selecting::next : goal.decreases-selecting::Selecting::next
 decreases-selecting::Selecting::next g l =
@@ -65,50 +64,50 @@ decreases-filter::Asking::only_value g l = query_size (query_of l.nodes.query.no
 -- what was offered so far reached nothing
 abbrev pub invariant-walk::Walk::advance-loop-offer : goal.invariant-walk::Walk::advance-loop-offer
 invariant-walk::Walk::advance-loop-offer g l =
-    walk_reaches l.segments (lent_value l.evaluation.root) l.self
-    ≡ walk_reaches l.segments (lent_value l.evaluation.root) l.fn.self
+    walk_reaches g.V.Lent.meaning l.segments (g.V.Lent.meaning l.evaluation.root) l.self
+    ≡ walk_reaches g.V.Lent.meaning l.segments (g.V.Lent.meaning l.evaluation.root) l.fn.self
 
 abbrev pub decreases-walk::Walk::advance-loop-offer : goal.decreases-walk::Walk::advance-loop-offer
-decreases-walk::Walk::advance-loop-offer g l = walk_weight l.segments l.self
+decreases-walk::Walk::advance-loop-offer g l = walk_weight g.V.Lent.meaning l.segments l.self
 
 -- the parts from i on decide
-abbrev rest_decides : {M : Type 0} → Asking M → (ExprTrees → Value → Node → Bool) → List Expr → ℕ →
-    Type 0
-rest_decides a truth es i =
-    asked a (truth (exprs (map expr_of (drop i es)))) ≡ asked a (truth (exprs (map expr_of es)))
+abbrev rest_decides : {V M : Type 0} → (V → Value) → Asking V M → (ExprTrees → Value → Node → Bool)
+    → List Expr → ℕ → Type 0
+rest_decides m a truth es i =
+    asked m a (truth (exprs (map expr_of (drop i es)))) ≡ asked m a (truth (exprs (map expr_of es)))
 
 abbrev pub invariant-filter::Asking::any_holds-loop-part :
     goal.invariant-filter::Asking::any_holds-loop-part
 invariant-filter::Asking::any_holds-loop-part g l =
-    rest_decides l.self any_holds l.parts l.part-index
+    rest_decides g.V.Lent.meaning l.self any_holds l.parts l.part-index
 
 abbrev pub invariant-filter::Asking::all_hold-loop-part :
     goal.invariant-filter::Asking::all_hold-loop-part
 invariant-filter::Asking::all_hold-loop-part g l =
-    rest_decides l.self all_hold l.parts l.part-index
+    rest_decides g.V.Lent.meaning l.self all_hold l.parts l.part-index
 
 -- the nodes so far and those to come are all
 abbrev pub invariant-filter::Asking::node_count-loop-selecting :
     goal.invariant-filter::Asking::node_count-loop-selecting
 invariant-filter::Asking::node_count-loop-selecting g l =
     (l.selecting.segments.now ≡ (out-Query l.nodes.query.now).segments.items)
-    × (l.count + length (to_come (lent_value l.self.evaluation.now.root) l.selecting)
-    ≡ length (counted l.nodes.distinct (asked l.self (nodelist_at (query_of l.nodes.query.now)))))
+    × (l.count + length (to_come g.V.Lent.meaning (g.V.Lent.meaning l.self.evaluation.now.root) l.selecting)
+    ≡ length (counted l.nodes.distinct (asked g.V.Lent.meaning l.self (nodelist_at (query_of l.nodes.query.now)))))
 
 abbrev pub decreases-filter::Asking::node_count-loop-selecting :
     goal.decreases-filter::Asking::node_count-loop-selecting
 decreases-filter::Asking::node_count-loop-selecting g l =
-    length (to_come (lent_value l.self.evaluation.now.root) l.selecting)
+    length (to_come g.V.Lent.meaning (g.V.Lent.meaning l.self.evaluation.now.root) l.selecting)
 
 -- what was passed over did not count
 abbrev pub invariant-selecting::Selecting::next-loop-place :
     goal.invariant-selecting::Selecting::next-loop-place
 invariant-selecting::Selecting::next-loop-place g l =
     (l.self.segments ≡ l.fn.self.segments)
-    × (to_come (lent_value l.evaluation.root) l.self
-    ≡ to_come (lent_value l.evaluation.root) l.fn.self)
+    × (to_come g.V.Lent.meaning (g.V.Lent.meaning l.evaluation.root) l.self
+    ≡ to_come g.V.Lent.meaning (g.V.Lent.meaning l.evaluation.root) l.fn.self)
 
 abbrev pub decreases-selecting::Selecting::next-loop-place :
     goal.decreases-selecting::Selecting::next-loop-place
 decreases-selecting::Selecting::next-loop-place g l =
-    length (walk_reaches l.self.segments.now (lent_value l.evaluation.root) l.self.walk)
+    length (walk_reaches g.V.Lent.meaning l.self.segments.now (g.V.Lent.meaning l.evaluation.root) l.self.walk)

@@ -5,7 +5,6 @@ use Rattle.std.proofs.Common.{slice_index_or, option_to_list, refl, ap, ap₂, s
 use Rattle.std.specs.List.{flat_map, sum_by}
 use Rattle.std.proofs.lemmas.Grind.{flat_map-append}
 use Rattle.std.proofs.lemmas.List.Sums.{sum_by-append, sum_by-cons}
-use Rattle.jp_document.specs.DocumentValue.{lent_value}
 use Rattle.jp_document.specs.Node.{Node, node_at, root_of}
 use Rattle.jp_document.specs.Value.{Value}
 use Rattle.jp_tree.specs.Tree.{ExprTree, segment_of, segment_then, segments}
@@ -27,9 +26,9 @@ use Rattle.jp_evaluate.proofs.Walks.Reaching.{choice-weighs, enters, enters_less
 use Rattle.jp_evaluate.proofs.Walks.Turns.{segments_left-next}
 
 -- the offer o of the walk that was w leaves the walk v
-abbrev pub Offers : List Segment → Walk → Offer → Walk → Type 0
-Offers all w o v =
-    pending all w ≡ choice_at (reached_at [] (walk_frames v)) (offered all o) ∷ pending all v
+abbrev pub Offers : {V : Type 0} → (V → Value) → List Segment → Walk V → Offer V → Walk V → Type 0
+Offers means all w o v =
+    pending means all w ≡ choice_at (reached_at [] (walk_frames v)) (offered means all o) ∷ pending means all v
 
 -- a test is asked of the value alone
 passes-anywhere : (t : Option ExprTree) (d : Value) (n : Node)
@@ -39,60 +38,60 @@ passes-anywhere (Some e) d n = holds-anywhere e d n
 
 -- ---- a choice that does not pass
 
-pub passed_over : (all : List Segment) (d : Value) (w v : Walk) (o : Offer) → Offers all w o v
-    → passes (offered all o).test d (root_of (offered all o).value) ≡ false
-    → walk_reaches all d v ≡ walk_reaches all d w
-passed_over all d w v o gives fails =
-    let n = chosen_node (choice_at (reached_at [] (walk_frames v)) (offered all o)) in
+pub passed_over : {V : Type 0} (means : V → Value) (all : List Segment) (d : Value) (w v : Walk V) (o : Offer V) → Offers means all w o v
+    → passes (offered means all o).test d (root_of (offered means all o).value) ≡ false
+    → walk_reaches means all d v ≡ walk_reaches means all d w
+passed_over means all d w v o gives fails =
+    let n = chosen_node (choice_at (reached_at [] (walk_frames v)) (offered means all o)) in
     sym (ap (flat_map (choice_reaches d)) gives
-    ∙ ap (λ b. (if b then reaches (offered all o).left d n else []) ++ walk_reaches all d v)
-    (passes-anywhere (offered all o).test d n ∙ fails))
+    ∙ ap (λ b. (if b then reaches (offered means all o).left d n else []) ++ walk_reaches means all d v)
+    (passes-anywhere (offered means all o).test d n ∙ fails))
 
-pub offer_less : (all : List Segment) (w v : Walk) (o : Offer) → Offers all w o v
-    → walk_weight all v < walk_weight all w
-offer_less all w v o gives =
-    let c = choice_at (reached_at [] (walk_frames v)) (offered all o) in
-    let sum = ap (sum_by choice_weight) gives ∙ sum_by-cons choice_weight c (pending all v) in
+pub offer_less : {V : Type 0} (means : V → Value) (all : List Segment) (w v : Walk V) (o : Offer V) → Offers means all w o v
+    → walk_weight means all v < walk_weight means all w
+offer_less means all w v o gives =
+    let c = choice_at (reached_at [] (walk_frames v)) (offered means all o) in
+    let sum = ap (sum_by choice_weight) gives ∙ sum_by-cons choice_weight c (pending means all v) in
     let some = choice-weighs c in
     omega arith
 
 -- ---- a choice where no segment is left
 
-pub ends_at : (all : List Segment) (d : Value) (w v : Walk) (o : Offer) → Offers all w o v
-    → passes (offered all o).test d (root_of (offered all o).value) ≡ true
+pub ends_at : {V : Type 0} (means : V → Value) (all : List Segment) (d : Value) (w v : Walk V) (o : Offer V) → Offers means all w o v
+    → passes (offered means all o).test d (root_of (offered means all o).value) ≡ true
     → length all ≤ o.place.done
-    → walk_reaches all d w ≡ reached_place v o.place ∷ walk_reaches all d v
-ends_at all d w v o gives passed past =
-    let n = reached_place v o.place in
+    → walk_reaches means all d w ≡ reached_place means v o.place ∷ walk_reaches means all d v
+ends_at means all d w v o gives passed past =
+    let n = reached_place means v o.place in
     ap (flat_map (choice_reaches d)) gives
-    ∙ ap (λ b. (if b then reaches (offered all o).left d n else []) ++ walk_reaches all d v)
-    (passes-anywhere (offered all o).test d n ∙ passed)
-    ∙ ap (λ xs. reaches (segments (map segment_of xs)) d n ++ walk_reaches all d v)
+    ∙ ap (λ b. (if b then reaches (offered means all o).left d n else []) ++ walk_reaches means all d v)
+    (passes-anywhere (offered means all o).test d n ∙ passed)
+    ∙ ap (λ xs. reaches (segments (map segment_of xs)) d n ++ walk_reaches means all d v)
     (drop_past all o.place.done (slice_get_past all o.place.done past))
 
 -- ---- a choice to go on from
 
-entered_pending : (all : List Segment) (v u : Walk) (p : Place) → v.first ≡ None →
+entered_pending : {V : Type 0} (means : V → Value) (all : List Segment) (v u : Walk V) (p : Place V) → v.first ≡ None →
     u.first ≡ v.first → walk_frames u ≡ walk_frames v ++ entered p ∷ [] →
-    pending all u ≡
+    pending means all u ≡
     map (choice_at (reached_at [] (walk_frames v) ++ steps_of p.step))
-    (choices_from (lent_value p.value) (turns (segments_left all p.done)) 0) ++ pending all v
-entered_pending all v u p begun same frames =
+    (choices_from (means p.value) (turns (segments_left all p.done)) 0) ++ pending means all v
+entered_pending means all v u p begun same frames =
     let fs = walk_frames v in
     ap₂
-    (λ o gs. map (choice_at (reached_at [] gs)) (map (start_choice all) (option_to_list o))
-    ++ frames_pending all [] gs) (same ∙ begun) frames
-    ∙ pending-push all [] fs (entered p)
+    (λ o gs. map (choice_at (reached_at [] gs)) (map (start_choice means all) (option_to_list o))
+    ++ frames_pending means all [] gs) (same ∙ begun) frames
+    ∙ pending-push means all [] fs (entered p)
     ∙ ap
     (λ ts. map (choice_at (reached_at [] fs ++ steps_of p.step))
-    (choices_from (lent_value p.value) ts 0) ++ frames_pending all [] fs)
+    (choices_from (means p.value) ts 0) ++ frames_pending means all [] fs)
     (drop_none (turns (segments_left all p.done)))
     ∙ ap
     (λ t. map (choice_at (reached_at [] fs ++ steps_of p.step))
-    (choices_from (lent_value p.value) (turns (segments_left all p.done)) 0) ++ t)
+    (choices_from (means p.value) (turns (segments_left all p.done)) 0) ++ t)
     (ap
-    (λ o. map (choice_at (reached_at [] fs)) (map (start_choice all) (option_to_list o))
-    ++ frames_pending all [] fs) (sym begun))
+    (λ o. map (choice_at (reached_at [] fs)) (map (start_choice means all) (option_to_list o))
+    ++ frames_pending means all [] fs) (sym begun))
 
 -- the segment that is next
 abbrev pub IsThere : List Segment → ℕ → Type 0
@@ -113,45 +112,45 @@ there (x ∷ xs) i within = (
     again (z ∷ ys) zero y h = refl
     again (z ∷ ys) (suc j) y h = again ys j y (omega arith)
 
-pub goes_on : (all : List Segment) (d : Value) (w v u : Walk) (o : Offer) → Offers all w o v
-    → v.first ≡ None → passes (offered all o).test d (root_of (offered all o).value) ≡ true
+pub goes_on : {V : Type 0} (means : V → Value) (all : List Segment) (d : Value) (w v u : Walk V) (o : Offer V) → Offers means all w o v
+    → v.first ≡ None → passes (offered means all o).test d (root_of (offered means all o).value) ≡ true
     → o.place.done < length all → u.first ≡ v.first
     → walk_frames u ≡ walk_frames v ++ entered o.place ∷ []
-    → walk_reaches all d u ≡ walk_reaches all d w
-goes_on all d w v u o gives begun passed more same frames =
+    → walk_reaches means all d u ≡ walk_reaches means all d w
+goes_on means all d w v u o gives begun passed more same frames =
     let p = o.place in
     let l = reached_at [] (walk_frames v) ++ steps_of p.step in
     let left = segments_left all p.done in
     let next = there all p.done more in
-    let choices = map (choice_at l) (choices_from (lent_value p.value) (turns left) 0) in
-    ap (flat_map (choice_reaches d)) (entered_pending all v u p begun same frames)
-    ∙ flat_map-append (choice_reaches d) choices (pending all v)
-    ∙ ap (λ t. t ++ walk_reaches all d v)
+    let choices = map (choice_at l) (choices_from (means p.value) (turns left) 0) in
+    ap (flat_map (choice_reaches d)) (entered_pending means all v u p begun same frames)
+    ∙ flat_map-append (choice_reaches d) choices (pending means all v)
+    ∙ ap (λ t. t ++ walk_reaches means all d v)
     (sym
     (enters (segment_of next.0) (segments_left all (p.done + 1)) left d
-    (lent_value p.value) l next.1))
+    (means p.value) l next.1))
     ∙ sym (ap (flat_map (choice_reaches d)) gives
     ∙ ap
-    (λ b. (if b then reaches left d (node_at l (lent_value p.value)) else [])
-    ++ walk_reaches all d v)
-    (passes-anywhere (offered all o).test d (node_at l (lent_value p.value)) ∙ passed))
+    (λ b. (if b then reaches left d (node_at l (means p.value)) else [])
+    ++ walk_reaches means all d v)
+    (passes-anywhere (offered means all o).test d (node_at l (means p.value)) ∙ passed))
 
-pub goes_on_less : (all : List Segment) (w v u : Walk) (o : Offer) → Offers all w o v
+pub goes_on_less : {V : Type 0} (means : V → Value) (all : List Segment) (w v u : Walk V) (o : Offer V) → Offers means all w o v
     → v.first ≡ None
     → o.place.done < length all → u.first ≡ v.first
     → walk_frames u ≡ walk_frames v ++ entered o.place ∷ []
-    → walk_weight all u < walk_weight all w
-goes_on_less all w v u o gives begun more same frames =
+    → walk_weight means all u < walk_weight means all w
+goes_on_less means all w v u o gives begun more same frames =
     let p = o.place in
     let l = reached_at [] (walk_frames v) ++ steps_of p.step in
     let left = segments_left all p.done in
     let next = there all p.done more in
-    let choices = map (choice_at l) (choices_from (lent_value p.value) (turns left) 0) in
-    let c = choice_at (reached_at [] (walk_frames v)) (offered all o) in
-    let after = ap (sum_by choice_weight) (entered_pending all v u p begun same frames)
-    ∙ sum_by-append choice_weight choices (pending all v) in
-    let before = ap (sum_by choice_weight) gives ∙ sum_by-cons choice_weight c (pending all v) in
+    let choices = map (choice_at l) (choices_from (means p.value) (turns left) 0) in
+    let c = choice_at (reached_at [] (walk_frames v)) (offered means all o) in
+    let after = ap (sum_by choice_weight) (entered_pending means all v u p begun same frames)
+    ∙ sum_by-append choice_weight choices (pending means all v) in
+    let before = ap (sum_by choice_weight) gives ∙ sum_by-cons choice_weight c (pending means all v) in
     let less =
     enters_less (segment_of next.0) (segments_left all (p.done + 1)) left
-    (lent_value p.value) l next.1 in
+    (means p.value) l next.1 in
     omega arith

@@ -2,10 +2,8 @@
 use Rattle.std.proofs.Common.{◌≡◌, List, [], ◌∷◌, ◌++◌, Some, map, option_to_list, ap, ap₂, sym, ◌∙◌}
 use Rattle.std.specs.List.{flat_map}
 use Rattle.std.proofs.lemmas.List.{append-nil}
-use Rattle.jp_document.specs.DocumentValue.{lent_value}
 use Rattle.jp_document.specs.Node.{Node, root_of}
 use Rattle.jp_document.specs.Value.{Value}
-use Rattle.jp_document.specs.declared.document_value.DocumentValue.{DocumentValue}
 use Rattle.jp_tree.specs.Tree.{query_of, segment_of, segments}
 use Rattle.jp_tree.specs.declared.tree.Query.{Query, out-Query}
 use Rattle.jp_tree.specs.declared.tree.Segment.{Segment}
@@ -17,24 +15,24 @@ use Rattle.jp_evaluate.proofs.Walks.Choices.{drop_none}
 use Rattle.jp_evaluate.proofs.Parts.Trees.{query_of-is}
 
 -- a walk that begins with v reaches what the segments do
-begun_reaches : (all : List Segment) (d : Value) (w : Walk) (v : DocumentValue)
+begun_reaches : {V : Type 0} (means : V → Value) (all : List Segment) (d : Value) (w : Walk V) (v : V)
     → w.first ≡ Some v → walk_frames w ≡ []
-    → walk_reaches all d w ≡ reaches (segments (map segment_of all)) d (root_of (lent_value v))
-begun_reaches all d w v first frames =
+    → walk_reaches means all d w ≡ reaches (segments (map segment_of all)) d (root_of (means v))
+begun_reaches means all d w v first frames =
     ap (flat_map (choice_reaches d))
     (ap₂
-    (λ o fs. map (choice_at (reached_at [] fs)) (map (start_choice all) (option_to_list o))
-    ++ frames_pending all [] fs) first frames)
-    ∙ append-nil (choice_reaches d (choice_at [] (start_choice all v)))
-    ∙ ap (λ xs. reaches (segments (map segment_of xs)) d (root_of (lent_value v))) (drop_none all)
+    (λ o fs. map (choice_at (reached_at [] fs)) (map (start_choice means all) (option_to_list o))
+    ++ frames_pending means all [] fs) first frames)
+    ∙ append-nil (choice_reaches d (choice_at [] (start_choice means all v)))
+    ∙ ap (λ xs. reaches (segments (map segment_of xs)) d (root_of (means v))) (drop_none all)
 
 -- from where a query begins it reaches the query's nodelist
-pub begun_nodelist : (q : Query) (all : List Segment) (d : Value) (c : Node) (w : Walk)
-    (v : DocumentValue) → (out-Query q).segments.items ≡ all
-    → root_of (lent_value v) ≡ start_of (out-Query q).absolute d c
+pub begun_nodelist : {V : Type 0} (means : V → Value) (q : Query) (all : List Segment) (d : Value)
+    (c : Node) (w : Walk V) (v : V) → (out-Query q).segments.items ≡ all
+    → root_of (means v) ≡ start_of (out-Query q).absolute d c
     → w.first ≡ Some v → walk_frames w ≡ []
-    → walk_reaches all d w ≡ nodelist_at (query_of q) d c
-begun_nodelist q all d c w v are starts first frames =
-    begun_reaches all d w v first frames
+    → walk_reaches means all d w ≡ nodelist_at (query_of q) d c
+begun_nodelist means q all d c w v are starts first frames =
+    begun_reaches means all d w v first frames
     ∙ ap₂ (λ xs n. result (segments (map segment_of xs)) d (n ∷ [])) (sym are) starts
     ∙ sym (ap (λ t. nodelist_at t d c) (query_of-is q))

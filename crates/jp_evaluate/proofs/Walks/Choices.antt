@@ -74,86 +74,89 @@ turns_end v ts i k past = ap (λ us. choices_from v us k) (drop_past ts i past)
 
 -- ---- frames
 
-pub reached-push : (l : Location) (fs : List Frame) (f : Frame)
+pub reached-push : {V : Type 0} (l : Location) (fs : List (Frame V)) (f : Frame V)
     → reached_at l (fs ++ f ∷ []) ≡ reached_at l fs ++ steps_of f.place.step
 reached-push l [] f = refl
 reached-push l (g ∷ fs) f = reached-push (l ++ steps_of g.place.step) fs f
 
 -- a last frame that stands apart
-pub reached-top : (l : Location) (fs : List Frame) (o : Option Frame) →
+pub reached-top : {V : Type 0} (l : Location) (fs : List (Frame V)) (o : Option (Frame V)) →
     reached_at l (fs ++ option_to_list o) ≡
     reached_at l fs ++ steps_of (option_and_then (λ f. f.place.step) o)
 reached-top l fs None = ap (reached_at l) (append-nil fs) ∙ sym (append-nil (reached_at l fs))
 reached-top l fs (Some f) = reached-push l fs f
 
 -- the last frame's choices come first
-pub pending-push : (all : List Segment) (l : Location) (fs : List Frame) (f : Frame) →
-    frames_pending all l (fs ++ f ∷ []) ≡
-    map (choice_at (reached_at l fs ++ steps_of f.place.step)) (frame_choices all f)
-    ++ frames_pending all l fs
-pending-push all l [] f =
-    append_nil_again (map (choice_at (l ++ steps_of f.place.step)) (frame_choices all f))
+pub pending-push : {V : Type 0} (means : V → Value) (all : List Segment) (l : Location)
+    (fs : List (Frame V)) (f : Frame V) →
+    frames_pending means all l (fs ++ f ∷ []) ≡
+    map (choice_at (reached_at l fs ++ steps_of f.place.step)) (frame_choices means all f)
+    ++ frames_pending means all l fs
+pending-push means all l [] f =
+    append_nil_again (map (choice_at (l ++ steps_of f.place.step)) (frame_choices means all f))
   where
     append_nil_again : {X : Type 0} (xs : List X) → [] ++ xs ≡ xs ++ []
     append_nil_again [] = refl
     append_nil_again (x ∷ xs) = ap (λ t. x ∷ t) (append_nil_again xs)
-pending-push all l (g ∷ fs) f =
+pending-push means all l (g ∷ fs) f =
     let m = l ++ steps_of g.place.step in
-    ap (λ t. t ++ map (choice_at m) (frame_choices all g)) (pending-push all m fs f)
+    ap (λ t. t ++ map (choice_at m) (frame_choices means all g)) (pending-push means all m fs f)
     ∙ append_assoc
-    (map (choice_at (reached_at m fs ++ steps_of f.place.step)) (frame_choices all f))
-    (frames_pending all m fs) (map (choice_at m) (frame_choices all g))
+    (map (choice_at (reached_at m fs ++ steps_of f.place.step)) (frame_choices means all f))
+    (frames_pending means all m fs) (map (choice_at m) (frame_choices means all g))
 
 -- ---- walks
 
 -- a walk whose first value was offered has what its frames have
-pub pending_frames : (all : List Segment) (w : Walk) (fs : List Frame) → w.first ≡ None
-    → walk_frames w ≡ fs → pending all w ≡ frames_pending all [] fs
-pending_frames all w fs first frames =
+pub pending_frames : {V : Type 0} (means : V → Value) (all : List Segment) (w : Walk V)
+    (fs : List (Frame V)) → w.first ≡ None
+    → walk_frames w ≡ fs → pending means all w ≡ frames_pending means all [] fs
+pending_frames means all w fs first frames =
     ap₂
-    (λ o gs. map (choice_at (reached_at [] gs)) (map (start_choice all) (option_to_list o))
-    ++ frames_pending all [] gs) first frames
+    (λ o gs. map (choice_at (reached_at [] gs)) (map (start_choice means all) (option_to_list o))
+    ++ frames_pending means all [] gs) first frames
 
-pub frames_alone : (all : List Segment) (w v : Walk) → w.first ≡ None → v.first ≡ None
-    → walk_frames w ≡ walk_frames v → pending all w ≡ pending all v
-frames_alone all w v first begun same =
-    pending_frames all w (walk_frames v) first same
-    ∙ sym (pending_frames all v (walk_frames v) begun refl)
+pub frames_alone : {V : Type 0} (means : V → Value) (all : List Segment) (w v : Walk V) → w.first ≡ None → v.first ≡ None
+    → walk_frames w ≡ walk_frames v → pending means all w ≡ pending means all v
+frames_alone means all w v first begun same =
+    pending_frames means all w (walk_frames v) first same
+    ∙ sym (pending_frames means all v (walk_frames v) begun refl)
 
 -- the last frame's next choice
-pub frame_next : (all : List Segment) (before : List (Location × Choice)) (w v : Walk) (f g : Frame)
-    (c : Choice) → w.first ≡ None → v.first ≡ None → pending all w ≡ before → w.top ≡ Some f →
+pub frame_next : {V : Type 0} (means : V → Value) (all : List Segment)
+    (before : List (Location × Choice)) (w v : Walk V) (f g : Frame V) (c : Choice) → w.first ≡ None → v.first ≡ None → pending means all w ≡ before → w.top ≡ Some f →
     v.top ≡ Some g → v.below ≡ w.below → g.place ≡ f.place →
-    frame_choices all f ≡ c ∷ frame_choices all g →
-    before ≡ choice_at (reached_at [] (walk_frames v)) c ∷ pending all v
-frame_next all before w v f g c first begun rest top new below place choices =
+    frame_choices means all f ≡ c ∷ frame_choices means all g →
+    before ≡ choice_at (reached_at [] (walk_frames v)) c ∷ pending means all v
+frame_next {V = X} means all before w v f g c first begun rest top new below place choices =
     let b = w.below.items in
     let m = reached_at [] b ++ steps_of f.place.step in
-    let was = pending_frames all w (b ++ f ∷ []) first (ap (λ t. b ++ option_to_list t) top) in
+    let was = pending_frames means all w (b ++ f ∷ []) first (ap (λ t. b ++ option_to_list t) top) in
     let frames : walk_frames v ≡ b ++ g ∷ [] =
-    ap₂ (λ (x : Vec Frame Global) t. x.items ++ option_to_list t) below new in
-    let is = pending_frames all v (b ++ g ∷ []) begun frames in
+    ap₂ (λ (x : Vec (Frame X) Global) t. x.items ++ option_to_list t) below new in
+    let is = pending_frames means all v (b ++ g ∷ []) begun frames in
     let at : reached_at [] (walk_frames v) ≡ m =
     ap (reached_at []) frames
-    ∙ reached-push [] b g ∙ ap (λ (p : Place). reached_at [] b ++ steps_of p.step) place in
-    sym rest ∙ was ∙ pending-push all [] b f
-    ∙ ap (λ cs. map (choice_at m) cs ++ frames_pending all [] b) choices
+    ∙ reached-push [] b g ∙ ap (λ (p : Place X). reached_at [] b ++ steps_of p.step) place in
+    sym rest ∙ was ∙ pending-push means all [] b f
+    ∙ ap (λ cs. map (choice_at m) cs ++ frames_pending means all [] b) choices
     ∙ ap₂ (λ l t. choice_at l c ∷ t) (sym at)
     (ap
-    (λ (p : Place). map (choice_at (reached_at [] b ++ steps_of p.step)) (frame_choices all g)
-    ++ frames_pending all [] b) (sym place) ∙ sym (is ∙ pending-push all [] b g))
+    (λ (p : Place X). map (choice_at (reached_at [] b ++ steps_of p.step)) (frame_choices means all g)
+    ++ frames_pending means all [] b) (sym place) ∙ sym (is ∙ pending-push means all [] b g))
 
 -- a frame without more choices is left
-pub frame_left : (all : List Segment) (before : List (Location × Choice)) (w v : Walk) (f : Frame) →
-    w.first ≡ None → v.first ≡ None → pending all w ≡ before → w.top ≡ Some f → v.top ≡ None →
-    v.below ≡ w.below → frame_choices all f ≡ [] → pending all v ≡ before
-frame_left all before w v f first begun rest top new below choices =
+pub frame_left : {V : Type 0} (means : V → Value) (all : List Segment)
+    (before : List (Location × Choice)) (w v : Walk V) (f : Frame V) →
+    w.first ≡ None → v.first ≡ None → pending means all w ≡ before → w.top ≡ Some f → v.top ≡ None →
+    v.below ≡ w.below → frame_choices means all f ≡ [] → pending means all v ≡ before
+frame_left {V = X} means all before w v f first begun rest top new below choices =
     let b = w.below.items in
     let m = reached_at [] b ++ steps_of f.place.step in
-    let was = pending_frames all w (b ++ f ∷ []) first (ap (λ t. b ++ option_to_list t) top) in
+    let was = pending_frames means all w (b ++ f ∷ []) first (ap (λ t. b ++ option_to_list t) top) in
     let is =
-    pending_frames all v (b ++ []) begun
-    (ap₂ (λ (x : Vec Frame Global) t. x.items ++ option_to_list t) below new) in
-    is ∙ ap (frames_pending all []) (append-nil b)
-    ∙ ap (λ cs. map (choice_at m) cs ++ frames_pending all [] b) (sym choices)
-    ∙ sym (was ∙ pending-push all [] b f) ∙ rest
+    pending_frames means all v (b ++ []) begun
+    (ap₂ (λ (x : Vec (Frame X) Global) t. x.items ++ option_to_list t) below new) in
+    is ∙ ap (frames_pending means all []) (append-nil b)
+    ∙ ap (λ cs. map (choice_at m) cs ++ frames_pending means all [] b) (sym choices)
+    ∙ sym (was ∙ pending-push means all [] b f) ∙ rest

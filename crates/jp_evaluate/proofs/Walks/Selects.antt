@@ -11,9 +11,7 @@ use Rattle.std.specs.Cmp.Lexicographic.{slice_cmp}
 use Rattle.jp_document.specs.Location.{Location, key_cmp, key_of, location_cmp}
 use Rattle.jp_document.specs.contracts.location.StepOrd.TheImpl.{ghosts as steps}
 use Rattle.jp_document.specs.declared.location.Step.TheVariants.{Index, Name}
-use Rattle.jp_document.specs.DocumentValue.{lent_value}
 use Rattle.jp_document.specs.Node.{Node, node_at, root_of}
-use Rattle.jp_document.specs.declared.document_value.DocumentValue.{DocumentValue}
 use Rattle.jp_document.specs.declared.location.Step.{Step}
 use Rattle.jp_tree.specs.Tree.{query_of}
 use Rattle.jp_tree.specs.declared.tree.Query.{Query, out-Query}
@@ -172,12 +170,12 @@ fresh-counts true (Some s) ns fresh =
     ∙ all-new (without_repeats ns)
 
 -- from where a query begins those of its nodelist are to come that count
-pub begun_to_come : (q : Query) (d : Value) (c : Node) (s : Selecting) (v : DocumentValue) (b : Bool)
-    → s.segments.now ≡ (out-Query q).segments.items
-    → root_of (lent_value v) ≡ start_of (out-Query q).absolute d c
+pub begun_to_come : {V : Type 0} (means : V → Value) (q : Query) (d : Value) (c : Node)
+    (s : Selecting V) (v : V) (b : Bool) → s.segments.now ≡ (out-Query q).segments.items
+    → root_of (means v) ≡ start_of (out-Query q).absolute d c
     → s.walk.first ≡ Some v → walk_frames s.walk ≡ [] → IsFresh b s.seen
-    → to_come d s ≡ counted b (nodelist_at (query_of q) d c)
-begun_to_come q d c s v b are starts first frames fresh =
-    fresh-counts b s.seen (walk_reaches s.segments.now d s.walk) fresh
+    → to_come means d s ≡ counted b (nodelist_at (query_of q) d c)
+begun_to_come means q d c s v b are starts first frames fresh =
+    fresh-counts b s.seen (walk_reaches means s.segments.now d s.walk) fresh
     ∙ ap (counted b)
-    (begun_nodelist q s.segments.now d c s.walk v (sym are) starts first frames)
+    (begun_nodelist means q s.segments.now d c s.walk v (sym are) starts first frames)

@@ -33,9 +33,10 @@ abbrev pub counted_of : Option (BTreeSet Steps) → List Node → List Node
 counted_of None ns = ns
 counted_of (Some seen) ns = those_of (λ n. not (is_among seen.keys n)) (without_repeats ns)
 
--- the nodes to come that count, in a document of value d
-abbrev pub to_come : Value → Selecting → List Node
-to_come d s = counted_of s.seen (walk_reaches s.segments.now d s.walk)
+-- the nodes to come that count, in a document of value d, where m says what a value that is lent
+-- stands for
+abbrev pub to_come : {V : Type 0} → (V → Value) → Value → Selecting V → List Node
+to_come m d s = counted_of s.seen (walk_reaches m s.segments.now d s.walk)
 
 -- nothing was seen, where it is asked
 abbrev pub IsFresh : Bool → Option (BTreeSet Steps) → Type 0

@@ -1,13 +1,11 @@
--- What a walk still has to offer, frame by frame.
+-- What a walk still has to offer, frame by frame; m says what a value that is lent stands for.
 use Rattle.std.specs.Prelude.{ℕ, suc, ◌+◌, List, [], ◌∷◌, ◌++◌, if◌then◌else◌, Bool, true, false}
 use Rattle.std.specs.Prelude.{Option, Some, None, drop, map, option_map, option_to_list, sum_by}
 use Rattle.std.specs.List.{flat_map}
 use Rattle.std.specs.Option.{option_map_or}
-use Rattle.jp_document.specs.DocumentValue.{lent_value}
 use Rattle.jp_document.specs.Location.{Key, Location, key_of}
 use Rattle.jp_document.specs.Node.{Node}
 use Rattle.jp_document.specs.Value.{Value}
-use Rattle.jp_document.specs.declared.document_value.DocumentValue.{DocumentValue}
 use Rattle.jp_document.specs.declared.location.Step.{Step}
 use Rattle.jp_tree.specs.Tree.{ExprTree, SegmentTrees, SelectorTree, SelectorTrees, expr_of}
 use Rattle.jp_tree.specs.Tree.{filter, no_segments, no_selectors, segment, segment_of}
@@ -76,32 +74,31 @@ abbrev pub steps_of : Option Step → Location
 steps_of None = []
 steps_of (Some s) = key_of s ∷ []
 
-abbrev pub offered : List Segment → Offer → Choice
-offered all o = record {
+abbrev pub offered : {V : Type 0} → (V → Value) → List Segment → Offer V → Choice
+offered m all o = record {
   test = option_map (λ e. expr_of e.now) o.test;
   left = segments_left all o.place.done;
   step = steps_of o.place.step;
-  value = lent_value o.place.value;
+  value = m o.place.value;
 }
 
 -- where a walk begins
-abbrev pub start_choice : List Segment → DocumentValue → Choice
-start_choice all v =
-    record { test = None; left = segments_left all 0; step = []; value = lent_value v }
+abbrev pub start_choice : {V : Type 0} → (V → Value) → List Segment → V → Choice
+start_choice m all v =
+    record { test = None; left = segments_left all 0; step = []; value = m v }
 
 -- ---- frames
 
-abbrev pub frame_choices : List Segment → Frame → List Choice
-frame_choices all f =
-    choices_from (lent_value f.place.value) (drop f.turn (turns (segments_left all f.place.done)))
-    f.next
+abbrev pub frame_choices : {V : Type 0} → (V → Value) → List Segment → Frame V → List Choice
+frame_choices m all f =
+    choices_from (m f.place.value) (drop f.turn (turns (segments_left all f.place.done))) f.next
 
 -- a frame at its first choice
-abbrev pub entered : Place → Frame
+abbrev pub entered : {V : Type 0} → Place V → Frame V
 entered p = record { place = p; turn = 0; next = 0 }
 
 -- where the last frame stands, if the first begins at l
-abbrev pub reached_at : Location → List Frame → Location
+abbrev pub reached_at : {V : Type 0} → Location → List (Frame V) → Location
 reached_at l [] = l
 reached_at l (f ∷ fs) = reached_at (l ++ steps_of f.place.step) fs
 
@@ -109,20 +106,21 @@ abbrev pub choice_at : Location → Choice → Location × Choice
 choice_at l c = (l, c)
 
 -- the choices of frames, each with where its frame stands; the last frame's come first
-abbrev pub frames_pending : List Segment → Location → List Frame → List (Location × Choice)
-frames_pending all l [] = []
-frames_pending all l (f ∷ fs) =
-    frames_pending all (l ++ steps_of f.place.step) fs
-    ++ map (choice_at (l ++ steps_of f.place.step)) (frame_choices all f)
+abbrev pub frames_pending : {V : Type 0} → (V → Value) → List Segment → Location → List (Frame V)
+    → List (Location × Choice)
+frames_pending m all l [] = []
+frames_pending m all l (f ∷ fs) =
+    frames_pending m all (l ++ steps_of f.place.step) fs
+    ++ map (choice_at (l ++ steps_of f.place.step)) (frame_choices m all f)
 
-abbrev pub walk_frames : Walk → List Frame
+abbrev pub walk_frames : {V : Type 0} → Walk V → List (Frame V)
 walk_frames w = w.below.items ++ option_to_list w.top
 
-abbrev pub pending : List Segment → Walk → List (Location × Choice)
-pending all w =
+abbrev pub pending : {V : Type 0} → (V → Value) → List Segment → Walk V → List (Location × Choice)
+pending m all w =
     map (choice_at (reached_at [] (walk_frames w)))
-    (map (start_choice all) (option_to_list w.first))
-    ++ frames_pending all [] (walk_frames w)
+    (map (start_choice m all) (option_to_list w.first))
+    ++ frames_pending m all [] (walk_frames w)
 
 -- ---- what choices lead to
 
@@ -144,14 +142,14 @@ choice_reaches d c =
     if passes c.1.test d (chosen_node c) then reaches c.1.left d (chosen_node c) else []
 
 -- what a walk still reaches
-abbrev pub walk_reaches : List Segment → Value → Walk → List Node
-walk_reaches all d w = flat_map (choice_reaches d) (pending all w)
+abbrev pub walk_reaches : {V : Type 0} → (V → Value) → List Segment → Value → Walk V → List Node
+walk_reaches m all d w = flat_map (choice_reaches d) (pending m all w)
 
 -- where a place of the walk stands, with its value
-abbrev pub reached_place : Walk → Place → Node
-reached_place w p = record {
+abbrev pub reached_place : {V : Type 0} → (V → Value) → Walk V → Place V → Node
+reached_place m w p = record {
   location = reached_at [] (walk_frames w) ++ steps_of p.step;
-  value = lent_value p.value;
+  value = m p.value;
 }
 
 -- ---- how many choices there are at most
@@ -171,5 +169,5 @@ weight (segment_then (segment true ss) rest) v =
 abbrev pub choice_weight : Location × Choice → ℕ
 choice_weight c = weight c.1.left c.1.value
 
-abbrev pub walk_weight : List Segment → Walk → ℕ
-walk_weight all w = sum_by choice_weight (pending all w)
+abbrev pub walk_weight : {V : Type 0} → (V → Value) → List Segment → Walk V → ℕ
+walk_weight m all w = sum_by choice_weight (pending m all w)

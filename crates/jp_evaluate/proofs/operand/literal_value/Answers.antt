@@ -6,7 +6,7 @@ use Rattle.jp_evaluate.proofs.Nodelists.Along.{text-spelled}
 use Rattle.jp_evaluate.proofs.operand.literal_value.Goals as goal
 
 pub returns-in-Text : goal.returns-in-Text
-returns-in-Text c =
+returns-in-Text g c =
     ap (λ b. Some (text b))
     (sym
     (text-spelled c.as_str.result.now (string_bytes c.in-Text.text) c.as_str.utf8

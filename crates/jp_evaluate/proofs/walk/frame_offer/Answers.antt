@@ -1,15 +1,15 @@
 use Rattle.std.proofs.Common.{◌<◌, ◌+◌, [], ◌∷◌, drop, length, ap, sym, ◌∙◌, arith}
 use Rattle.std.proofs.lemmas.Option.{slice_get_within}
-use Rattle.jp_document.specs.DocumentValue.{lent_entry, lent_value}
+use Rattle.jp_lent.specs.Lending.{step_with}
 use Rattle.jp_evaluate.specs.Private.Walk.{Choice, choices_from, segments_left, turn_of, turns}
 use Rattle.jp_evaluate.proofs.Walks.Choices.{choice_next, turn_next, turns_end}
 use Rattle.jp_evaluate.proofs.walk.frame_offer.Goals as goal
 
 pub loop-turn-preserved : goal.loop-turn-preserved
-loop-turn-preserved c =
+loop-turn-preserved g c =
     let f = c.loop-turn.frame in
     let all = c.args.segments.now in
-    let v = lent_value f.place.value in
+    let v = g.V.Lent.meaning f.place.value in
     let t = turn_of all c.in-Some.turn in
     record {
       place = c.loop-turn.invariant.place;
@@ -20,7 +20,7 @@ loop-turn-preserved c =
     }
 
 pub loop-turn-smaller : goal.loop-turn-smaller
-loop-turn-smaller c =
+loop-turn-smaller g c =
     let f = c.loop-turn.frame in
     let all = c.args.segments.now in
     let within : f.turn < length (turns (segments_left all f.place.done)) =
@@ -29,12 +29,12 @@ loop-turn-smaller c =
     omega arith
 
 pub returns-in-Some-choice-clause-gives : goal.returns-in-Some-choice-clause-gives
-returns-in-Some-choice-clause-gives c =
+returns-in-Some-choice-clause-gives g c =
     let f = c.loop-turn.frame in
     let all = c.args.segments.now in
-    let v = lent_value f.place.value in
+    let v = g.V.Lent.meaning f.place.value in
     let t = turn_of all c.in-Some.turn in
-    let e = lent_entry (c.in-Some-choice.step, c.in-Some-choice.value) in
+    let e = step_with g.V.Lent.meaning c.in-Some-choice.choice in
     let ts = turns (segments_left all f.place.done) in
     sym c.loop-turn.invariant.same
     ∙ choice_next v ts f.turn f.next t e (sym c.in-Some.ensures.gives)
@@ -47,9 +47,9 @@ returns-in-Some-choice-clause-gives c =
     } in o) ∷ choices_from v (drop f.turn ts) (f.next + 1)) (sym c.test.ensures.test)
 
 pub returns-clause-gives : goal.returns-clause-gives
-returns-clause-gives c =
+returns-clause-gives g c =
     let f = c.loop-turn.frame in
     let all = c.args.segments.now in
     sym c.loop-turn.invariant.same
-    ∙ turns_end (lent_value f.place.value) (turns (segments_left all f.place.done)) f.turn f.next
+    ∙ turns_end (g.V.Lent.meaning f.place.value) (turns (segments_left all f.place.done)) f.turn f.next
     (sym c.in_default.ensures.gives)

@@ -5,5 +5,5 @@ use Rattle.jp_evaluate.proofs.walk.Walk.location_at.Given as goal
 
 -- the steps of the frames so far
 abbrev pub invariant-loop-frame : goal.invariant-loop-frame
-invariant-loop-frame l =
+invariant-loop-frame g l =
     map key_of l.location.items ≡ reached_at [] (take l.frame-index l.frame-items)

@@ -5,34 +5,36 @@ use Rattle.jp_evaluate.proofs.Walks.Choices.{frame_left, frame_next, frames_alon
 use Rattle.jp_evaluate.proofs.walk.Walk.next_offer.Goals as goal
 
 pub loop-self-preserved : goal.loop-self-preserved
-loop-self-preserved c =
+loop-self-preserved g c =
+    let m = g.V.Lent.meaning in
     let all = c.args.segments.now in
     let w = c.take_up.new.self in
     let f = c.in-Some-top.frame in
     let begun = c.take_up.ensures.first ∙ c.loop-self.invariant.begun in
-    let rest : pending all w ≡ pending all c.args.self.now =
-    frames_alone all w c.loop-self.self begun c.loop-self.invariant.begun
+    let rest : pending m all w ≡ pending m all c.args.self.now =
+    frames_alone m all w c.loop-self.self begun c.loop-self.invariant.begun
     c.take_up.ensures.frames ∙ c.loop-self.invariant.same in
-    let v : Walk = record { first = w.first; top = None; below = w.below } in
+    let v : Walk g.row.V.Denot = record { first = w.first; top = None; below = w.below } in
     record {
       begun = begun;
       same =
-          frame_left all _ w v f begun begun rest
+          frame_left m all _ w v f begun begun rest
           c.in-Some-top.is refl refl
           c.in_default-frame_offer.ensures.gives;
     }
 
 pub returns-in-Some-frame_offer-clause-gives : goal.returns-in-Some-frame_offer-clause-gives
-returns-in-Some-frame_offer-clause-gives c =
+returns-in-Some-frame_offer-clause-gives g c =
+    let m = g.V.Lent.meaning in
     let all = c.args.segments.now in
     let w = c.take_up.new.self in
     let f = c.in-Some-top.frame in
-    let g = c.frame_offer.new.frame in
+    let h = c.frame_offer.new.frame in
     let begun = c.take_up.ensures.first ∙ c.loop-self.invariant.begun in
-    let rest : pending all w ≡ pending all c.args.self.now =
-    frames_alone all w c.loop-self.self begun c.loop-self.invariant.begun
+    let rest : pending m all w ≡ pending m all c.args.self.now =
+    frames_alone m all w c.loop-self.self begun c.loop-self.invariant.begun
     c.take_up.ensures.frames ∙ c.loop-self.invariant.same in
-    let v : Walk = record { first = w.first; top = Some g; below = w.below } in
-    frame_next all _ w v f g (offered all c.in-Some-frame_offer.offer) begun begun rest
+    let v : Walk g.row.V.Denot = record { first = w.first; top = Some h; below = w.below } in
+    frame_next m all _ w v f h (offered m all c.in-Some-frame_offer.offer) begun begun rest
     c.in-Some-top.is refl refl
     c.frame_offer.ensures.place c.in-Some-frame_offer.ensures.gives

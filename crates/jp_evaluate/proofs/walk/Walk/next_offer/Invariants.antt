@@ -4,10 +4,10 @@ use Rattle.jp_evaluate.proofs.walk.Walk.next_offer.Given as goal
 
 -- the frames that were taken off had no more choices
 abbrev pub invariant-loop-self : goal.invariant-loop-self
-invariant-loop-self l = record {
+invariant-loop-self g l = record {
   begun : l.self.first ≡ None;
-  same : pending l.segments l.self ≡ pending l.segments l.fn.self;
+  same : pending g.V.Lent.meaning l.segments l.self ≡ pending g.V.Lent.meaning l.segments l.fn.self;
 }
 
 abbrev pub decreases-loop-self : goal.decreases-loop-self
-decreases-loop-self l = length (walk_frames l.self)
+decreases-loop-self g l = length (walk_frames l.self)

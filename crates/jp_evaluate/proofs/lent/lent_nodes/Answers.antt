@@ -1,12 +1,10 @@
 use Rattle.std.proofs.Common.{◌≡◌, Bool, true, false, ap, refl, sym, ◌∙◌}
-use Rattle.jp_document.specs.Document.{document_of}
 use Rattle.jp_document.specs.Node.{root_of}
 use Rattle.jp_document.specs.Value.{Value}
 use Rattle.jp_tree.specs.declared.tree.Query.{Query, out-Query}
 use Rattle.jp_evaluate.specs.Nodelist.{start_of}
-use Rattle.jp_evaluate.specs.Private.Walk.{walk_reaches}
 use Rattle.jp_evaluate.proofs.Walks.Begun.{begun_nodelist}
-use Rattle.jp_evaluate.proofs.evaluation.nodes.Goals as goal
+use Rattle.jp_evaluate.proofs.lent.lent_nodes.Goals as goal
 
 at_the_root : (absolute : Bool) (d : Value) → root_of d ≡ start_of absolute d (root_of d)
 at_the_root true d = refl
@@ -16,10 +14,8 @@ pub returns-clause-nodes : goal.returns-clause-nodes
 returns-clause-nodes g c =
     let all = c.deref.result.now in
     let q = c.args.query.now.query in
-    let d = document_of c.args.document.now in
+    let d = g.V.Lent.meaning c.args.root in
     let are = ap (λ (p : Query). (out-Query p).segments.items) (sym c.query.ensures.same)
     ∙ sym c.deref.ensures.value in
-    ap (λ v. walk_reaches all v c.from.result) c.value-root.ensures
-    ∙ begun_nodelist q all d (root_of d) c.from.result c.value-root.result are
-    (ap root_of c.value-root.ensures ∙ at_the_root (out-Query q).absolute d)
-    c.from.ensures.first c.from.ensures.frames
+    begun_nodelist g.V.Lent.meaning q all d (root_of d) c.from.result c.args.root are
+    (at_the_root (out-Query q).absolute d) c.from.ensures.first c.from.ensures.frames

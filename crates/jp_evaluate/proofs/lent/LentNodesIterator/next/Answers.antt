@@ -1,5 +1,5 @@
 use Rattle.std.proofs.Common.{rules}
-use Rattle.jp_evaluate.proofs.each.NodesIterator.next.Goals as goal
+use Rattle.jp_evaluate.proofs.lent.LentNodesIterator.next.Goals as goal
 
 pub returns-then-self-clause-steps : goal.returns-then-self-clause-steps
 returns-then-self-clause-steps g c = search rules

@@ -1,0 +1,21 @@
+-- What an iterator of nodes that are lent still has to give.
+use Rattle.std.specs.Prelude.{List, Bool, Vec, map}
+use Rattle.std.specs.declared.alloc.Global.{Global}
+use Rattle.jp_document.specs.Location.{key_of}
+use Rattle.jp_document.specs.Node.{Node, node_at}
+use Rattle.jp_document.specs.Value.{Value}
+use Rattle.jp_document.specs.declared.location.Step.{Step}
+use Rattle.jp_evaluate.specs.Private.Walk.{walk_reaches}
+use Rattle.jp_evaluate.specs.declared.lent.LentNodes.{LentNodes}
+
+-- the node of these steps and this value, where m says what the value stands for
+abbrev pub lent_node : {V : Type 0} → (V → Value) → Vec Step Global × V → Node
+lent_node m n = node_at (map key_of n.0.items) (m n.1)
+
+-- the nodes that it still has to give, told by what it holds now
+abbrev pub rest_of : {V M : Type 0} → (V → Value) → LentNodes V M → List Node
+rest_of m v = walk_reaches m v.segments.now (m v.evaluation.root) v.walk
+
+-- memory ran out for a node, so that no more are given
+abbrev pub has_failed : {V M : Type 0} → LentNodes V M → Bool
+has_failed v = v.failed
