@@ -42,7 +42,7 @@ parsed_before f (Some p) b r e =
 
 -- ---- a value of one token
 
-one_token : (depth : ℕ) (ts r : List Token) (t : Token) (d : Data) (v : Value) → ts ≡ t ∷ r →
+pub one_token : (depth : ℕ) (ts r : List Token) (t : Token) (d : Data) (v : Value) → ts ≡ t ∷ r →
     converted of_json (value depth (t ∷ r)) ≡ Some (d, r) → value_of_data d ≡ Some v →
     ReadsValue depth ts r v
 one_token depth ts r t d v first is holds = record {
@@ -90,7 +90,7 @@ twice g r None = refl
 twice g r (Some a) = refl
 
 -- a part that is read with its parts
-converted-map : {A B C D : Type 0} (f : A → Option B) (g : C → Option D) (h : A → C) (k : B → D) →
+pub converted-map : {A B C D : Type 0} (f : A → Option B) (g : C → Option D) (h : A → C) (k : B → D) →
     ((a : A) → g (h a) ≡ option_map k (f a)) → (o : Option (A × List Token)) →
     converted g (parse_map h o) ≡ parse_map k (converted f o)
 converted-map f g h k same None = refl
