@@ -1,0 +1,167 @@
+-- What single tokens are read as: for `value`.
+use Rattle.std.proofs.Common.{◌≡◌, ◌-◌, ◌<◌, ℕ, zero, suc, Bool, true, List, [], ◌∷◌, Some, length}
+use Rattle.std.proofs.Common.{option_map, refl, sym, ap, subst, ◌∙◌, arith, false, pos, negsuc, drop}
+use Rattle.std.proofs.Common.{◌==◌, slice_index}
+use Rattle.fast_float.specs.Text.{minus, scan}
+use Rattle.json.specs.Json as json
+use Rattle.json.specs.Json.{items, members, parse_map, value}
+use Rattle.json.specs.Token.{Token}
+use Rattle.json.proofs.Grammar.{value_is, value-begin_array, value-begin_object}
+use Rattle.serde_json.specs.Data as parsed
+use Rattle.serde_json.specs.Data.{negative, unsigned}
+use Rattle.serde_json.specs.Read.{converted, number_from, of_items, of_json, of_members}
+use Rattle.jp_document.specs.Private.Direct.{ReadsItems, ReadsMembers, ReadsValue}
+use Rattle.jp_document.specs.Value.{Value, null, boolean, text, whole, list, object}
+use Rattle.jp_document.specs.Value.{everywhere, items_of, list_fits, members_of}
+use Rattle.jp_document.proofs.Conjunctions.{and-both}
+use Rattle.jp_document.proofs.Tokens.Turns.{below_zero_text, converted-map, from_zero_text, one_token}
+use Rattle.jp_flat.specs.Flat.{Shown, flat_value, number_of, text_at}
+use Rattle.jp_flat.specs.Private.Reading.{IsWholeItem, ReadsFlat, ReadsFlatItems, ReadsFlatMembers}
+use Rattle.jp_flat.specs.declared.item.Halves.{Halves}
+use Rattle.jp_flat.specs.declared.item.Item.{Item}
+use Rattle.jp_flat.specs.declared.item.Item.TheVariants as code
+use Rattle.jp_flat.specs.declared.item.Span.{Span}
+
+-- ---- the values of leaves
+
+null_means : (n : ℕ) (t : Shown) → flat_value n t code.Null ≡ Some null
+unfolding flat_value
+null_means zero t = refl
+null_means (suc n) t = refl
+
+boolean_means : (n : ℕ) (t : Shown) (b : Bool) → flat_value n t (code.Bool b) ≡ Some (boolean b)
+unfolding flat_value
+boolean_means zero t b = refl
+boolean_means (suc n) t b = refl
+
+text_means : (n : ℕ) (t : Shown) (p : Span) (x : List ℕ) → text_at t p ≡ Some x →
+    flat_value n t (code.Text p) ≡ Some (text x)
+unfolding flat_value
+text_means zero t p x is = ap (option_map text) is
+text_means (suc n) t p x is = ap (option_map text) is
+
+above_means : (n : ℕ) (t : Shown) (h : Halves) →
+    flat_value n t (code.Above h) ≡ Some (whole (pos (number_of h)))
+unfolding flat_value
+above_means zero t h = refl
+above_means (suc n) t h = refl
+
+below_means : (n : ℕ) (t : Shown) (h : Halves) →
+    flat_value n t (code.Below h) ≡ Some (whole (negsuc (number_of h)))
+unfolding flat_value
+below_means zero t h = refl
+below_means (suc n) t h = refl
+
+-- ---- whole numbers
+
+pub above_item : (s : List ℕ) (n : ℕ) (h : Halves) → (slice_index s 0 == minus) ≡ false →
+    number_from false (scan s) ≡ Some (unsigned n) → number_of h ≡ n → IsWholeItem s (code.Above h)
+above_item s n h first read is = record {
+  number = pos (number_of h);
+  written = from_zero_text s n (pos (number_of h)) first read (ap pos (sym is));
+  means = λ m t. above_means m t h;
+}
+
+pub below_item : (s : List ℕ) (n : ℕ) (h : Halves) → (slice_index s 0 == minus) ≡ true →
+    number_from true (scan (drop 1 s)) ≡ Some (negative (negsuc n)) → number_of h ≡ n →
+    IsWholeItem s (code.Below h)
+below_item s n h first read is = record {
+  number = negsuc (number_of h);
+  written = below_zero_text s (negsuc n) (negsuc (number_of h)) first read (ap negsuc (sym is));
+  means = λ m t. below_means m t h;
+}
+
+-- ---- tokens
+
+pub flat-null : (depth : ℕ) (ts r : List Token) (t : Shown) → ts ≡ Token.null ∷ r →
+    ReadsFlat depth ts r t code.Null
+flat-null depth ts r t first = record {
+  value = null;
+  reads = one_token depth ts r Token.null parsed.null null first
+      (ap (converted of_json) (value_is depth (Token.null ∷ r))) refl;
+  short = refl;
+  means = null_means depth t;
+}
+
+pub flat-boolean : (depth : ℕ) (ts r : List Token) (t : Shown) (b : Bool) →
+    ts ≡ Token.boolean b ∷ r → ReadsFlat depth ts r t (code.Bool b)
+flat-boolean depth ts r t b first = record {
+  value = boolean b;
+  reads = one_token depth ts r (Token.boolean b) (parsed.boolean b) (boolean b) first
+      (ap (converted of_json) (value_is depth (Token.boolean b ∷ r))) refl;
+  short = refl;
+  means = boolean_means depth t b;
+}
+
+pub flat-text : (depth : ℕ) (ts r : List Token) (t : Shown) (p : Span) (x : List ℕ) →
+    ts ≡ Token.string x ∷ r → text_at t p ≡ Some x → ReadsFlat depth ts r t (code.Text p)
+flat-text depth ts r t p x first at = record {
+  value = text x;
+  reads = one_token depth ts r (Token.string x) (parsed.string x) (text x) first
+      (ap (converted of_json) (value_is depth (Token.string x ∷ r))) refl;
+  short = refl;
+  means = text_means depth t p x at;
+}
+
+pub flat-whole : (depth : ℕ) (ts r : List Token) (t : Shown) (i : Item) (s : List ℕ) →
+    ts ≡ Token.number s ∷ r → IsWholeItem s i → ReadsFlat depth ts r t i
+flat-whole depth ts r t i s first x = record {
+  value = whole x.number;
+  reads = one_token depth ts r (Token.number s) (parsed.number x.written.number) (whole x.number)
+      first
+      (ap (converted of_json) (value_is depth (Token.number s ∷ r))
+      ∙ ap (λ o. option_map (λ d. (d, r)) (option_map parsed.number o)) x.written.read)
+      x.written.holds;
+  short = refl;
+  means = x.means depth t;
+}
+
+-- ---- lists and objects
+
+reads_list : (depth : ℕ) (ts s r : List Token) (vs : List Value) → 0 < depth →
+    ts ≡ Token.begin_array ∷ s → ReadsItems (depth - 1) (length s) s r (items_of vs) →
+    ReadsValue depth ts r (list (items_of vs))
+reads_list depth ts s r vs deep first x = record {
+  reading = parsed.array x.reading;
+  read =
+      ap (converted of_json) (ap (value depth) first ∙ value-begin_array depth s deep)
+      ∙ converted-map of_items of_json json.array parsed.array (λ js. refl)
+      (items (value (depth - 1)) (length s) s)
+      ∙ ap (parse_map parsed.array) x.read;
+  holds = ap (option_map list) x.holds;
+}
+
+reads_object : (depth : ℕ) (ts s r : List Token) (ms : List (List ℕ × Value)) → 0 < depth →
+    ts ≡ Token.begin_object ∷ s → ReadsMembers (depth - 1) (length s) s r (members_of ms) →
+    ReadsValue depth ts r (object (members_of ms))
+reads_object depth ts s r ms deep first x = record {
+  reading = parsed.object x.reading;
+  read =
+      ap (converted of_json) (ap (value depth) first ∙ value-begin_object depth s deep)
+      ∙ converted-map (λ js. of_members js parsed.no_members) of_json json.object parsed.object
+      (λ js. refl) (members (value (depth - 1)) (length s) s)
+      ∙ ap (parse_map parsed.object) x.read;
+  holds = ap (option_map object) x.holds;
+}
+
+pub flat-list : (depth : ℕ) (ts s r : List Token) (t : Shown) (i : Item) → 0 < depth →
+    ts ≡ Token.begin_array ∷ s → ReadsFlatItems (depth - 1) s r t i → ReadsFlat depth ts r t i
+flat-list depth ts s r t i deep first x = record {
+  value = list (items_of x.values);
+  reads = reads_list depth ts s r x.values deep first x.reads;
+  short = and-both _ _ x.short x.within;
+  means =
+      let same : suc (depth - 1) ≡ depth = omega arith in
+      subst (λ n. flat_value n t i ≡ Some (list (items_of x.values))) same x.means;
+}
+
+pub flat-object : (depth : ℕ) (ts s r : List Token) (t : Shown) (i : Item) → 0 < depth →
+    ts ≡ Token.begin_object ∷ s → ReadsFlatMembers (depth - 1) s r t i → ReadsFlat depth ts r t i
+flat-object depth ts s r t i deep first x = record {
+  value = object (members_of x.members);
+  reads = reads_object depth ts s r x.members deep first x.reads;
+  short = and-both _ _ refl x.within;
+  means =
+      let same : suc (depth - 1) ≡ depth = omega arith in
+      subst (λ n. flat_value n t i ≡ Some (object (members_of x.members))) same x.means;
+}

@@ -1,0 +1,5 @@
+pub mod Documents
+pub mod Growth
+pub mod Leaves
+pub mod Loops
+pub mod Names

@@ -1,0 +1,33 @@
+use Rattle.std.proofs.Common.{◌≡◌, ◌*◌, ◌+◌, length}
+use Rattle.jp_flat.specs.Flat.{shown}
+use Rattle.jp_flat.proofs.Loops.{ItemsSoFar, MembersSoFar}
+use Rattle.jp_flat.proofs.reading.+reading.Given as goal
+
+abbrev pub decreases-value : goal.decreases-value
+decreases-value l = 2 * l.depth
+
+abbrev pub decreases-items : goal.decreases-items
+decreases-items l = 2 * l.depth + 1
+
+abbrev pub decreases-members : goal.decreases-members
+decreases-members l = 2 * l.depth + 1
+
+abbrev pub invariant-items-items : goal.invariant-items-items
+invariant-items-items l = record {
+  so : ItemsSoFar l.depth l.initial.reader l.reader (shown l.initial.tables) (shown l.tables) l.base
+      l.initial.pending.items.items l.pending.items.items;
+  others : l.pending.members.items ≡ l.initial.pending.members.items;
+}
+
+abbrev pub decreases-items-items : goal.decreases-items-items
+decreases-items-items l = length l.reader
+
+abbrev pub invariant-members-members : goal.invariant-members-members
+invariant-members-members l = record {
+  so : MembersSoFar l.depth l.initial.reader l.reader (shown l.initial.tables) (shown l.tables)
+      l.base l.rises l.initial.pending.members.items l.pending.members.items;
+  others : l.pending.items.items ≡ l.initial.pending.items.items;
+}
+
+abbrev pub decreases-members-members : goal.decreases-members-members
+decreases-members-members l = length l.reader

@@ -1,0 +1,61 @@
+-- What the tokens of a document are read as, value by value.
+use Rattle.std.specs.Prelude.{◌≡◌, ◌≤◌, ℕ, ℤ, suc, true, List, [], ◌∷◌, ◌++◌, length, Option, Some}
+use Rattle.std.specs.BTreeMap.{insert_entry}
+use Rattle.std.specs.Cmp.Lexicographic.{slice_cmp}
+use Rattle.std.specs.Ordering.{is_lt, nat_cmp}
+use Rattle.json.specs.Token.{Token}
+use Rattle.jp_document.specs.Private.Direct.{IsWholeText, ReadsItems, ReadsMembers, ReadsText}
+use Rattle.jp_document.specs.Private.Direct.{ReadsValue}
+use Rattle.jp_document.specs.Value.{Value, everywhere, everywhere_in_items, everywhere_in_members}
+use Rattle.jp_document.specs.Value.{items_of, list, list_fits, members_of, object, whole}
+use Rattle.jp_flat.specs.Flat.{Shown, flat_value, most_levels, text_at}
+use Rattle.jp_flat.specs.declared.item.Item.{Item}
+use Rattle.jp_flat.specs.declared.item.Named.{Named}
+
+-- the tokens begin with the value of the item, nested no deeper than the number, and the rest
+-- follows
+pub record ReadsFlat (depth : ℕ) (ts rest : List Token) (t : Shown) (i : Item) : Type 0 where
+  pub value : Value
+  pub reads : ReadsValue depth ts rest value
+  pub short : everywhere list_fits value ≡ true
+  pub means : flat_value depth t i ≡ Some value
+
+-- the same of the items of a list, of which the item is made
+pub record ReadsFlatItems (depth : ℕ) (ts rest : List Token) (t : Shown) (i : Item) : Type 0 where
+  pub values : List Value
+  pub reads : ReadsItems depth (length ts) ts rest (items_of values)
+  pub within : everywhere_in_items list_fits (items_of values) ≡ true
+  pub short : list_fits (list (items_of values)) ≡ true
+  pub means : flat_value (suc depth) t i ≡ Some (list (items_of values))
+
+-- the same of the members of an object
+pub record ReadsFlatMembers (depth : ℕ) (ts rest : List Token) (t : Shown) (i : Item) : Type 0
+  where
+  pub members : List (List ℕ × Value)
+  pub reads : ReadsMembers depth (length ts) ts rest (members_of members)
+  pub within : everywhere_in_members list_fits (members_of members) ≡ true
+  pub means : flat_value (suc depth) t i ≡ Some (object (members_of members))
+
+-- a reading of the text holds the value of the item
+pub record ReadsFlatText (source : List ℕ) (t : Shown) (i : Item) : Type 0 where
+  pub value : Value
+  pub reads : ReadsText source value
+  pub short : everywhere list_fits value ≡ true
+  pub means : flat_value most_levels t i ≡ Some value
+
+-- the characters write the whole number that the item is
+pub record IsWholeItem (s : List ℕ) (i : Item) : Type 0 where
+  pub number : ℤ
+  pub written : IsWholeText s number
+  pub means : (n : ℕ) (t : Shown) → flat_value n t i ≡ Some (whole number)
+
+-- the members one after another, each in the place of an earlier one of its name
+abbrev pub put_all : List (List ℕ × Value) → List (List ℕ × Value) → List (List ℕ × Value)
+put_all found [] = found
+put_all found (m ∷ ms) = put_all (insert_entry (slice_cmp nat_cmp) found m.0 m.1) ms
+
+-- the name is above that of the last of the members, if there is one
+abbrev pub IsAboveLast : Shown → List Named → List ℕ → Type 0
+IsAboveLast t ms name =
+    (front : List Named) (last : Named) (x : List ℕ) → ms ≡ front ++ last ∷ [] →
+    text_at t last.name ≡ Some x → is_lt (slice_cmp nat_cmp x name) ≡ true

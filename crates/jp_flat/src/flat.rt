@@ -1,0 +1,123 @@
+//! Documents in tables.
+ghost use Rattle.std.specs.Prelude.{◌≡◌, [], true, IfOk, IfSome, OnSome, Some, string_bytes};
+ghost use Rattle.jp_document.specs.Document.{IsDocument};
+ghost use Rattle.jp_flat.specs.Flat.{is_flat, meaning, shown};
+ghost use Rattle.jp_flat.specs.Private.Reading.{ReadsFlatText};
+
+use crate::flat_value::FlatValue;
+use crate::item::{Item, Named};
+use crate::reading::{Pending, value};
+use crate::tables::Tables;
+use json::{Reader, Scratch};
+use std::alloc::Global;
+
+/// The most levels of lists and objects.
+const MAX_DEPTH: usize = 127;
+
+/// A document in tables, which are made of its text: `Document` without a tree.
+#[derive(Drop)]
+pub struct Flat<'t> {
+    tables: Tables<'t>,
+    root: Item,
+    pending: Pending,
+    scratch: Scratch,
+    ghost sound: { is_flat (shown tables) root ≡ true },
+}
+
+impl<'t> Flat<'t> {
+    ghost use Rattle.jp_flat.specs.FlatValue.{document_in, lent_flat};
+
+    /// The document's value, to go on from.
+    pub fn value(&self) -> FlatValue<'_, 't>
+        ensures { lent_flat result ≡ document_in self.now }
+    {
+        FlatValue::of(&self.tables, self.root)
+    }
+
+    /// The memory, for the next document.
+    pub fn into_room(self) -> Room {
+        Room {
+            spare: self.tables.spare,
+            items: self.tables.items,
+            members: self.tables.members,
+            pending: self.pending,
+            scratch: self.scratch,
+        }
+    }
+}
+
+/// The document that these bytes are, in tables. None says nothing of the bytes: they may be no
+/// document, too many for tables (2^32), or more than there is memory for.
+pub fn flat_document(alloc: Global, bytes: &[u8]) -> Option<Flat<'_>>
+    ensures { IfSome result (λ f. IsDocument bytes.now (meaning (shown f.tables) f.root)) }
+{
+    Room::new(alloc).read(bytes).ok()
+}
+
+/// Memory to read documents into, which goes from one to the next.
+#[derive(Drop)]
+pub struct Room {
+    spare: String,
+    items: Vec<Item>,
+    members: Vec<Named>,
+    pending: Pending,
+    scratch: Scratch,
+}
+
+impl Room {
+    ghost use Rattle.jp_flat.specs.FlatValue.{document_in};
+
+    /// No memory yet: it is taken as documents need it.
+    pub fn new(alloc: Global) -> Room {
+        Room {
+            spare: String::new(alloc),
+            items: Vec::new(alloc),
+            members: Vec::new(alloc),
+            pending: Pending::new(alloc),
+            scratch: Scratch::new(alloc),
+        }
+    }
+
+    /// The document that these bytes are, in this memory. An `Err` gives the memory back, and says
+    /// nothing of the bytes: they may be no document, too many for tables (2^32), or more than
+    /// there is memory for.
+    pub fn read(self, bytes: &[u8]) -> Result<Flat<'_>, Room>
+        ensures { IfOk result (λ f. IsDocument bytes.now (document_in f)) }
+    {
+        let Ok(text) = simdutf8::compat::from_utf8(bytes) else {
+            return Err(self);
+        };
+        let mut pending = self.pending;
+        let mut scratch = self.scratch;
+        let mut tables = Tables::of(text, self.spare, self.items, self.members);
+        pending.clear();
+        let read = root(&mut tables, &mut pending, &mut scratch);
+        match read {
+            Some(root) => Ok(Flat {
+                tables,
+                root,
+                pending,
+                scratch,
+            }),
+            None => Err(Room {
+                spare: tables.spare,
+                items: tables.items,
+                members: tables.members,
+                pending,
+                scratch,
+            }),
+        }
+    }
+}
+
+/// Reads the value of a whole text.
+fn root(tables: &mut Tables<'_>, pending: &mut Pending, scratch: &mut Scratch) -> Option<Item>
+    ensures { IfSome result (ReadsFlatText tables.old.text.now (shown tables.new)) }
+{
+    let mut reader = Reader::new(tables.text, scratch).ok()?;
+    let item = value(tables, pending, &mut reader, MAX_DEPTH)?;
+    match reader.next() {
+        Some(_) => None,
+        None => Some(item),
+    }
+}

@@ -1,0 +1,139 @@
+//! Values from the tokens of a text, into tables. What is no document, and what fits no table, is
+//! left to others.
+ghost use Rattle.std.specs.Prelude.{◌≡◌, ◌+◌, ◌^◌, ◌<◌, ◌≤◌, ◌≢◌, ℕ, suc, true, IfSome, IsTrue};
+ghost use Rattle.std.specs.Prelude.{List, [], OnSome, Some, drop, length, take};
+ghost use Rattle.std.specs.List.{list_all};
+ghost use Rattle.jp_document.specs.Value.{Value, items_of, list, members_of, object};
+ghost use Rattle.jp_flat.specs.Flat.{Grows, all_of, flat_value, member_with, shown};
+ghost use Rattle.jp_flat.specs.Private.Reading.{IsAboveLast, IsWholeItem, ReadsFlat};
+ghost use Rattle.jp_flat.specs.Private.Reading.{ReadsFlatItems, ReadsFlatMembers};
+
+use crate::item::{Item, Named};
+use crate::number::number;
+use crate::closing::{close_list, close_object};
+use crate::place::place;
+use crate::rising::still_rises;
+use crate::tables::Tables;
+use json::{Reader, Token};
+use std::alloc::Global;
+
+/// The parts of the lists and objects that are being read, innermost last.
+#[derive(Drop)]
+pub(crate) struct Pending {
+    pub(crate) items: Vec<Item>,
+    pub(crate) members: Vec<Named>,
+}
+
+impl Pending {
+    pub(crate) fn new(alloc: Global) -> Pending {
+        Pending {
+            items: Vec::new(alloc),
+            members: Vec::new(alloc),
+        }
+    }
+
+    /// Nothing is being read.
+    pub(crate) fn clear(&mut self)
+        ensures items { self.new.items.items ≡ [] }
+        ensures members { self.new.members.items ≡ [] }
+    {
+        self.items.clear();
+        self.members.clear();
+    }
+}
+
+/// Reads one value, with its parts into the tables.
+#[cycle(reading)]
+pub(crate) fn value(
+    tables: &mut Tables<'_>,
+    pending: &mut Pending,
+    reader: &mut Reader<'_>,
+    depth: usize,
+) -> Option<Item>
+    ensures reads { IfSome result (λ i. ReadsFlat depth reader.old reader.new (shown tables.new) i) }
+    ensures grows { OnSome result (Grows (shown tables.old) (shown tables.new)) }
+    ensures items { OnSome result (pending.new.items.items ≡ pending.old.items.items) }
+    ensures members { OnSome result (pending.new.members.items ≡ pending.old.members.items) }
+    ensures shorter { OnSome result (length reader.new < length reader.old) }
+{
+    let at = reader.offset();
+    let token = reader.next()?;
+    match token {
+        Token::Null => Some(Item::Null),
+        Token::Bool(truth) => Some(Item::Bool(truth)),
+        Token::Number(text) => {
+            let item = number(text)?;
+            Some(item)
+        }
+        Token::String(text) => {
+            let span = place(tables, at, text)?;
+            Some(Item::Text(span))
+        }
+        Token::BeginArray => {
+            if depth == 0 {
+                return None;
+            }
+            let item = items(tables, pending, reader, depth - 1)?;
+            Some(item)
+        }
+        Token::BeginObject => {
+            if depth == 0 {
+                return None;
+            }
+            let item = members(tables, pending, reader, depth - 1)?;
+            Some(item)
+        }
+        Token::EndObject | Token::EndArray | Token::Key(_) | Token::Bad => None,
+    }
+}
+
+#[cycle(reading)]
+fn items(
+    tables: &mut Tables<'_>,
+    pending: &mut Pending,
+    reader: &mut Reader<'_>,
+    depth: usize,
+) -> Option<Item>
+    ensures reads { IfSome result
+        (λ i. ReadsFlatItems depth reader.old reader.new (shown tables.new) i) }
+    ensures grows { OnSome result (Grows (shown tables.old) (shown tables.new)) }
+    ensures items { OnSome result (pending.new.items.items ≡ pending.old.items.items) }
+    ensures members { OnSome result (pending.new.members.items ≡ pending.old.members.items) }
+    ensures shorter { OnSome result (length reader.new < length reader.old) }
+{
+    let base = pending.items.len();
+    'items: while !reader.take_end_array() {
+        let item = value(tables, pending, reader, depth)?;
+        pending.items.push(item).ok()?;
+    }
+    let list = close_list(tables, &mut pending.items, base)?;
+    Some(list)
+}
+
+#[cycle(reading)]
+fn members(
+    tables: &mut Tables<'_>,
+    pending: &mut Pending,
+    reader: &mut Reader<'_>,
+    depth: usize,
+) -> Option<Item>
+    ensures reads { IfSome result
+        (λ i. ReadsFlatMembers depth reader.old reader.new (shown tables.new) i) }
+    ensures grows { OnSome result (Grows (shown tables.old) (shown tables.new)) }
+    ensures items { OnSome result (pending.new.items.items ≡ pending.old.items.items) }
+    ensures members { OnSome result (pending.new.members.items ≡ pending.old.members.items) }
+    ensures shorter { OnSome result (length reader.new < length reader.old) }
+{
+    let base = pending.members.len();
+    let mut rises = true;
+    let mut at = reader.offset();
+    'members: while let Some(name) = reader.next_key().ok()? {
+        rises = still_rises(rises, tables, &pending.members, base, name);
+        let span = place(tables, at, name)?;
+        let item = value(tables, pending, reader, depth)?;
+        pending.members.push(Named { name: span, item }).ok()?;
+        at = reader.offset();
+    }
+    let object = close_object(tables, &mut pending.members, base, rises)?;
+    Some(object)
+}

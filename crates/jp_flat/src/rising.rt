@@ -1,0 +1,58 @@
+//! Whether the names of an object rise, while it is read.
+ghost use Rattle.std.specs.Prelude.{◌≡◌, ◌≤◌, Some, IfSome, IsTrue, drop, length, option_map};
+ghost use Rattle.std.specs.Prelude.{true};
+ghost use Rattle.std.specs.Cmp.Lexicographic.{slice_cmp};
+ghost use Rattle.std.specs.Ordering.{is_lt, nat_cmp};
+ghost use Rattle.jp_flat.specs.Flat.{shown, text_at};
+ghost use Rattle.jp_flat.specs.Private.Reading.{IsAboveLast};
+
+use crate::item::{Named, Span};
+use crate::place::piece;
+use crate::tables::Tables;
+use std::cmp::Ordering;
+
+/// Whether names rose so far, and this one is above that of the last member from the base on.
+pub(crate) fn still_rises(
+    rises: bool,
+    tables: &Tables<'_>,
+    members: &[Named],
+    base: usize,
+    name: &str,
+) -> bool
+    requires { base ≤ length members.now }
+    ensures rose { result ≡ true → rises ≡ true }
+    ensures above { result ≡ true
+        → IsAboveLast (shown tables.now) (drop base members.now) name.now }
+{
+    if !rises {
+        return false;
+    }
+    let (_, these) = members.split_at(base);
+    match these.last() {
+        Some(last) => is_below(tables, last, name),
+        None => true,
+    }
+}
+
+/// Whether a member's name is below another.
+fn is_below(tables: &Tables<'_>, member: &Named, name: &str) -> bool
+    ensures { result ≡ true → IfSome (text_at (shown tables.now) member.now.name)
+        (λ x. is_lt (slice_cmp nat_cmp x name.now) ≡ true) }
+{
+    match text(tables, member.name) {
+        Some(bytes) => matches!(bytes.cmp(name.as_bytes()), Ordering::Less),
+        None => false,
+    }
+}
+
+/// The bytes of the text at a span.
+pub(crate) fn text<'d>(tables: &'d Tables<'_>, span: Span) -> Option<&'d [u8]>
+    ensures { option_map (λ s. s.now) result ≡ text_at (shown tables.entry.now) span }
+{
+    let first = span.first as usize;
+    let count = span.count as usize;
+    if first + count <= tables.text.len() {
+        return piece(tables.text.as_bytes(), first, count);
+    }
+    piece(tables.spare.as_bytes(), first.checked_sub(tables.text.len())?, count)
+}

@@ -1,0 +1,41 @@
+//! The tables of a document.
+ghost use Rattle.std.specs.Prelude.{◌≡◌, []};
+ghost use Rattle.jp_flat.specs.Flat.{shown};
+
+use crate::item::{Item, Named};
+
+/// A document's text, the texts that are spelled otherwise in it, unescaped, and the parts of its
+/// lists and objects, side by side.
+#[derive(Drop)]
+pub(crate) struct Tables<'t> {
+    pub(crate) text: &'t str,
+    pub(crate) spare: String,
+    pub(crate) items: Vec<Item>,
+    pub(crate) members: Vec<Named>,
+}
+
+impl<'t> Tables<'t> {
+    /// The tables of a document of which nothing is read yet, in the memory of others.
+    pub(crate) fn of(
+        text: &'t str,
+        spare: String,
+        items: Vec<Item>,
+        members: Vec<Named>,
+    ) -> Tables<'t>
+        ensures source { (shown result).source ≡ text.now }
+        ensures spare { (shown result).spare ≡ [] }
+        ensures items { (shown result).items ≡ [] }
+        ensures members { (shown result).members ≡ [] }
+    {
+        let mut tables = Tables {
+            text,
+            spare,
+            items,
+            members,
+        };
+        tables.spare.clear();
+        tables.items.clear();
+        tables.members.clear();
+        tables
+    }
+}
