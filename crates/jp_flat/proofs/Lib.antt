@@ -1,5 +1,6 @@
 pub mod Documents
 pub mod Growth
+pub mod Inside
 pub mod Leaves
 pub mod Loops
 pub mod Names

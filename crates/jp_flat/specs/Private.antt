@@ -1,2 +1,4 @@
--- How a document is read into tables. The contracts of private functions alone cite it.
+-- How a document is read into tables, and looked up there. The contracts of private functions alone
+-- cite it.
+pub mod Parts
 pub mod Reading

@@ -1,10 +1,15 @@
 //! Values of documents in tables, wherever they stand.
-ghost use Rattle.std.specs.Prelude.{◌≡◌, ◌<◌, true, OnSome, option_map, slice_get};
-ghost use Rattle.jp_flat.specs.Flat.{is_flat, meaning, shown};
+ghost use Rattle.std.specs.Prelude.{◌≡◌, ◌<◌, true, OnSome, length, option_map, slice_get};
+ghost use Rattle.std.specs.Prelude.{negsuc, pos};
+ghost use Rattle.jp_document.specs.Value.{list_length};
+ghost use Rattle.jp_flat.specs.Flat.{is_flat, meaning, number_of, shown};
+ghost use Rattle.jp_lent.specs.Lending.{bare, seen_value};
 
-use crate::item::{Item, Span};
+use crate::item::{Halves, Item};
+use crate::parts::{item_at, member_at, members, name_order, text_at};
 use crate::tables::Tables;
 use jp_document::Step;
+use jp_lent::Seen;
 
 /// A value of a document in tables: the document's own, or one that stands inside it. It copies
 /// nothing of it.
@@ -17,7 +22,7 @@ pub struct FlatValue<'d, 't> {
 
 impl<'d, 't> FlatValue<'d, 't> {
     ghost use Rattle.jp_flat.specs.FlatValue.{flat_entry, lent_flat};
-    ghost use Rattle.jp_document.specs.Location.{child, child_entry, entries, key_of, named, nth};
+    ghost use Rattle.jp_document.specs.Location.{child_entry, entries, named, nth};
 
     /// The value of an item.
     pub(crate) fn of(tables: &'d Tables<'t>, item: Item) -> FlatValue<'d, 't>
@@ -26,4 +31,128 @@ impl<'d, 't> FlatValue<'d, 't> {
     {
         FlatValue { tables, item }
     }
+
+    /// What it is, without what is in it.
+    pub fn seen(self) -> Seen<'d>
+        ensures { seen_value result ≡ bare (lent_flat self.entry) }
+    {
+        match self.item {
+            Item::Null => Seen::Null,
+            Item::Bool(truth) => Seen::Bool(truth),
+            Item::Above(halves) => Seen::Whole(above(halves)),
+            Item::Below(halves) => Seen::Whole(below(halves)),
+            Item::Text(span) => Seen::Text(text_at(self.tables, span)),
+            Item::List(_) => Seen::List,
+            Item::Members(_) => Seen::Members,
+        }
+    }
+
+    /// How many values it has one step inside: a list its items, an object its members, others
+    /// none.
+    pub fn count(self) -> usize
+        ensures { result ≡ length (entries (lent_flat self.entry)) }
+    {
+        match self.item {
+            Item::List(span) | Item::Members(span) => span.count as usize,
+            Item::Null | Item::Bool(_) | Item::Above(_) | Item::Below(_) | Item::Text(_) => 0,
+        }
+    }
+
+    /// How many items a list has, None of another value.
+    pub fn list_length(self) -> Option<u64>
+        ensures { result ≡ list_length (lent_flat self.entry) }
+    {
+        match self.item {
+            Item::List(span) => Some(u64::from(span.count)),
+            Item::Null
+            | Item::Bool(_)
+            | Item::Above(_)
+            | Item::Below(_)
+            | Item::Text(_)
+            | Item::Members(_) => None,
+        }
+    }
+
+    /// The value at this position one step inside, from 0, with its step; None where there are no
+    /// more. A list has its items, an object its members by the bytes of their names (RFC 9535
+    /// section 1.1).
+    pub fn child(self, position: usize) -> Option<(Step<'d>, FlatValue<'d, 't>)>
+        ensures entry { option_map flat_entry result
+            ≡ slice_get (entries (lent_flat self.entry)) position }
+        ensures more { OnSome result (position < usize.MAX) }
+    {
+        let tables = self.tables;
+        match self.item {
+            Item::List(span) => {
+                let item = item_at(tables, span, position)?;
+                Some((Step::Index(position as u64), FlatValue { tables, item }))
+            }
+            Item::Members(span) => {
+                let member = member_at(tables, span, position)?;
+                let name = text_at(tables, member.name);
+                let item = member.item;
+                Some((Step::Name(name), FlatValue { tables, item }))
+            }
+            Item::Null | Item::Bool(_) | Item::Above(_) | Item::Below(_) | Item::Text(_) => None,
+        }
+    }
+
+    /// The item at this index of a list, with its step; None where there is none (RFC 9535 section
+    /// 2.3.3).
+    pub fn item(self, index: u64) -> Option<(Step<'d>, FlatValue<'d, 't>)>
+        ensures { option_map flat_entry result ≡ child_entry (lent_flat self.entry) (nth index) }
+    {
+        match self.item {
+            Item::List(_) => self.child(index as usize),
+            Item::Null
+            | Item::Bool(_)
+            | Item::Above(_)
+            | Item::Below(_)
+            | Item::Text(_)
+            | Item::Members(_) => None,
+        }
+    }
+
+    /// The member of this name of an object, with its step; None where there is none (RFC 9535
+    /// section 2.3.1).
+    pub fn member(self, name: &str) -> Option<(Step<'d>, FlatValue<'d, 't>)>
+        ensures { option_map flat_entry result
+            ≡ child_entry (lent_flat self.entry) (named name.now) }
+    {
+        match self.item {
+            Item::Members(span) => {
+                let tables = self.tables;
+                let members = members(tables, span)?;
+                match members.binary_search_by(|member| name_order(tables, member, name)) {
+                    Ok(place) => self.child(place),
+                    Err(_) => None,
+                }
+            }
+            Item::Null
+            | Item::Bool(_)
+            | Item::Above(_)
+            | Item::Below(_)
+            | Item::Text(_)
+            | Item::List(_) => None,
+        }
+    }
+}
+
+fn above(halves: Halves) -> i128
+    ensures { result ≡ pos (number_of halves) }
+{
+    i128::from(number_of(halves))
+}
+
+fn below(halves: Halves) -> i128
+    ensures { result ≡ negsuc (number_of halves) }
+{
+    -1 - i128::from(number_of(halves))
+}
+
+/// The number by its halves.
+fn number_of(halves: Halves) -> u64
+    ensures { result ≡ number_of halves }
+{
+    u64::from(halves.high) * 0x1_0000_0000 + u64::from(halves.low)
 }

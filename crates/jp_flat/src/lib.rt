@@ -5,8 +5,10 @@
 mod closing;
 mod flat;
 mod flat_value;
+mod form;
 mod item;
 mod number;
+mod parts;
 mod place;
 mod reading;
 mod rising;

@@ -1,13 +1,13 @@
 //! Whether the names of an object rise, while it is read.
-ghost use Rattle.std.specs.Prelude.{◌≡◌, ◌≤◌, Some, IfSome, IsTrue, drop, length, option_map};
+ghost use Rattle.std.specs.Prelude.{◌≡◌, ◌≤◌, Some, IfSome, IsTrue, drop, length};
 ghost use Rattle.std.specs.Prelude.{true};
 ghost use Rattle.std.specs.Cmp.Lexicographic.{slice_cmp};
 ghost use Rattle.std.specs.Ordering.{is_lt, nat_cmp};
 ghost use Rattle.jp_flat.specs.Flat.{shown, text_at};
 ghost use Rattle.jp_flat.specs.Private.Reading.{IsAboveLast};
 
-use crate::item::{Named, Span};
-use crate::place::piece;
+use crate::item::Named;
+use crate::parts::bytes_at;
 use crate::tables::Tables;
 use std::cmp::Ordering;
 
@@ -39,20 +39,8 @@ fn is_below(tables: &Tables<'_>, member: &Named, name: &str) -> bool
     ensures { result ≡ true → IfSome (text_at (shown tables.now) member.now.name)
         (λ x. is_lt (slice_cmp nat_cmp x name.now) ≡ true) }
 {
-    match text(tables, member.name) {
+    match bytes_at(tables, member.name) {
         Some(bytes) => matches!(bytes.cmp(name.as_bytes()), Ordering::Less),
         None => false,
     }
-}
-
-/// The bytes of the text at a span.
-pub(crate) fn text<'d>(tables: &'d Tables<'_>, span: Span) -> Option<&'d [u8]>
-    ensures { option_map (λ s. s.now) result ≡ text_at (shown tables.entry.now) span }
-{
-    let first = span.first as usize;
-    let count = span.count as usize;
-    if first + count <= tables.text.len() {
-        return piece(tables.text.as_bytes(), first, count);
-    }
-    piece(tables.spare.as_bytes(), first.checked_sub(tables.text.len())?, count)
 }

@@ -1,0 +1,54 @@
+use Rattle.std.proofs.Common.{◌≡◌, Some, true, option_map, sym, ap, subst, ◌∙◌, rules, arith}
+use Rattle.std.specs.List.{slice_get}
+use Rattle.std.proofs.lemmas.Fn.{always_returns_same}
+use Rattle.jp_document.specs.Location.{child, entries, named}
+use Rattle.jp_document.proofs.Members.ByName.{bytes_cmp}
+use Rattle.jp_flat.specs.Flat.{is_flat, meaning, piece, shown}
+use Rattle.jp_flat.proofs.Inside.{hit, members-there, missed, no-member, seen_member}
+use Rattle.jp_flat.proofs.flat_value.FlatValue.member.Goals as goal
+
+pub returns-in_err-members-in-Members : goal.returns-in_err-members-in-Members
+returns-in_err-members-in-Members c =
+    let t = shown c.args.self.tables.now in
+    let sound = subst (λ i. is_flat t i ≡ true) c.in-Members.is c.args.self.sound in
+    let h = members-there t c.in-Members.span sound in
+    absurd (let there = h.1 in let gone = c.members.ensures in let was = c.in_err-members-in-Members.was in grind arith)
+
+pub returns-in-Ok : goal.returns-in-Ok
+returns-in-Ok c =
+    let t = shown c.args.self.tables.now in
+    let p = c.in-Members.span in
+    let q = c.args.name.now in
+    let e = c.in-Members.is in
+    let xs = c.in_ok-members-in-Members.members.now in
+    let sound = subst (λ i. is_flat t i ≡ true) e c.args.self.sound in
+    let there : piece t.members p.first p.count ≡ Some xs = search rules in
+    c.child.ensures.entry
+    ∙ subst (λ i. slice_get (entries (meaning t i)) c.in-Ok.place
+    ≡ option_map (λ w. (named q, w)) (child (meaning t i) (named q))) (sym e)
+    (hit t p q xs c.in-Ok.place sound there c.in-Ok.ensures.bound
+    (c.in-Ok.ensures.position (λ m. bytes_cmp (seen_member t m).0 q)
+    (always_returns_same _ _ _ (λ a r f k. search rules))))
+
+pub returns-in-Err : goal.returns-in-Err
+returns-in-Err c =
+    let t = shown c.args.self.tables.now in
+    let p = c.in-Members.span in
+    let q = c.args.name.now in
+    let e = c.in-Members.is in
+    let xs = c.in_ok-members-in-Members.members.now in
+    let sound = subst (λ i. is_flat t i ≡ true) e c.args.self.sound in
+    let there : piece t.members p.first p.count ≡ Some xs = search rules in
+    sym
+    (ap (option_map (λ w. (named q, w)))
+    (ap (λ i. child (meaning t i) (named q)) e
+    ∙ missed t p q xs c.in-Err.field-0 sound there
+    (c.in-Err.ensures.position (λ m. bytes_cmp (seen_member t m).0 q)
+    (always_returns_same _ _ _ (λ a r f k. search rules)))))
+
+pub returns-in-Null : goal.returns-in-Null
+returns-in-Null c =
+    sym
+    (ap (option_map (λ w. (named c.args.name.now, w)))
+    (no-member (shown c.args.self.tables.now) c.args.self.item c.args.name.now c.args.self.sound
+    c.in-Null.is))

@@ -1,0 +1,80 @@
+//! The parts of lists and objects in tables, and texts.
+ghost use Rattle.std.specs.Prelude.{◌≡◌, ◌<◌, OnSome, Some, option_map, slice_get};
+ghost use Rattle.std.specs.Cmp.Lexicographic.{slice_cmp};
+ghost use Rattle.std.specs.Ordering.{nat_cmp};
+ghost use Rattle.jp_flat.specs.Flat.{piece, shown, text_at};
+ghost use Rattle.jp_flat.specs.Private.Parts.{HoldsText, item_at, member_at, name_in};
+
+use crate::item::{Item, Named, Span};
+use crate::place::piece;
+use crate::tables::Tables;
+use std::cmp::Ordering;
+
+/// The item at this position of those at a span.
+pub(crate) fn item_at(tables: &Tables<'_>, span: Span, position: usize) -> Option<Item>
+    ensures item { result ≡ item_at (shown tables.now) span position }
+    ensures more { OnSome result (position < usize.MAX) }
+{
+    let items = piece(&tables.items, span.first as usize, span.count as usize)?;
+    copy_at(items, position)
+}
+
+/// The member at this position of those at a span.
+pub(crate) fn member_at(tables: &Tables<'_>, span: Span, position: usize) -> Option<Named>
+    ensures member { result ≡ member_at (shown tables.now) span position }
+    ensures more { OnSome result (position < usize.MAX) }
+{
+    copy_at(members(tables, span)?, position)
+}
+
+/// The members at a span.
+pub(crate) fn members<'d>(tables: &'d Tables<'_>, span: Span) -> Option<&'d [Named]>
+    ensures { option_map (λ s. s.now) result
+        ≡ piece (shown tables.entry.now).members span.first span.count }
+{
+    piece(&tables.members, span.first as usize, span.count as usize)
+}
+
+fn copy_at<T: Copy>(all: &[T], position: usize) -> Option<T>
+    ensures entry { result ≡ slice_get all.now position }
+    ensures more { OnSome result (position < usize.MAX) }
+{
+    if position < all.len() {
+        Some(all[position])
+    } else {
+        None
+    }
+}
+
+/// The order of a member's name beside another, by their bytes.
+pub(crate) fn name_order(tables: &Tables<'_>, member: &Named, name: &str) -> Ordering
+    ensures { result ≡ slice_cmp nat_cmp (name_in (shown tables.now) member.now) name.now }
+{
+    match bytes_at(tables, member.name) {
+        Some(bytes) => bytes.cmp(name.as_bytes()),
+        None => b"".as_slice().cmp(name.as_bytes()),
+    }
+}
+
+/// The text at a span.
+pub(crate) fn text_at<'d>(tables: &'d Tables<'_>, span: Span) -> &'d str
+    requires { HoldsText (shown tables.now) span }
+    ensures { Some result.now ≡ text_at (shown tables.entry.now) span }
+{
+    match bytes_at(tables, span) {
+        Some(bytes) => unsafe { std::str::from_utf8_unchecked(bytes) },
+        None => "",
+    }
+}
+
+/// The bytes of the text at a span.
+pub(crate) fn bytes_at<'d>(tables: &'d Tables<'_>, span: Span) -> Option<&'d [u8]>
+    ensures { option_map (λ s. s.now) result ≡ text_at (shown tables.entry.now) span }
+{
+    let first = span.first as usize;
+    let count = span.count as usize;
+    if first + count <= tables.text.len() {
+        return piece(tables.text.as_bytes(), first, count);
+    }
+    piece(tables.spare.as_bytes(), first.checked_sub(tables.text.len())?, count)
+}
