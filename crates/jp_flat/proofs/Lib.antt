@@ -1,3 +1,4 @@
+pub mod ByName
 pub mod Documents
 pub mod Growth
 pub mod Inside

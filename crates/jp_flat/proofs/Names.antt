@@ -74,16 +74,23 @@ rise_after (k ∷ ks) last n rise less =
 keys-append : (ms ns : List Pair) → keys_of (ms ++ ns) ≡ keys_of ms ++ keys_of ns
 keys-append ms ns = map-append (λ m. m.0) ms ns
 
-all_of_last : {A B : Type 0} (f : A → Option B) (xs : List A) (x : A) (ys : List B) →
+pub all_of_last : {A B : Type 0} (f : A → Option B) (xs : List A) (x : A) (ys : List B) →
     all_of f (xs ++ x ∷ []) ≡ Some ys →
-    (zs : List B) × (z : B) × (ys ≡ zs ++ z ∷ []) × (f x ≡ Some z)
+    (zs : List B) × (z : B) × (ys ≡ zs ++ z ∷ []) × (all_of f xs ≡ Some zs) × (f x ≡ Some z)
 all_of_last f [] x ys is =
     let h = some_from_both (λ y ys. y ∷ ys) (f x) (Some []) ys is in
-    ([], h.0, sym h.4 ∙ ap (λ zs. h.0 ∷ zs) (sym (same_Some [] h.1 h.3)), h.2)
+    ([], h.0, sym h.4 ∙ ap (λ zs. h.0 ∷ zs) (sym (same_Some [] h.1 h.3)), refl, h.2)
 all_of_last f (w ∷ xs) x ys is =
     let h = some_from_both (λ y ys. y ∷ ys) (f w) (all_of f (xs ++ x ∷ [])) ys is in
     let k = all_of_last f xs x h.1 h.3 in
-    (h.0 ∷ k.0, k.1, sym h.4 ∙ ap (λ zs. h.0 ∷ zs) k.2, k.3)
+    (
+      h.0 ∷ k.0,
+      k.1,
+      sym h.4 ∙ ap (λ zs. h.0 ∷ zs) k.2,
+      ap (option_and_then (λ y. option_map (λ ys. y ∷ ys) (all_of f xs))) h.2
+          ∙ ap (option_map (λ ys. h.0 ∷ ys)) k.3,
+      k.4,
+    )
 
 pub rise-push : (t : Shown) (new : List Named) (found : List Pair) (name : List ℕ) (v : Value)
     (f : Item → Option Value) → all_of (member_with f t) new ≡ Some found →
@@ -97,7 +104,7 @@ rise-push t new found name v f mean rise above = elim (last_of new) [
   | inr some ↦
       let h = all_of_last (member_with f t) some.0 some.1 found
       (ap (all_of (member_with f t)) (sym some.2) ∙ mean) in
-      let k = some_from_both (λ name v. (name, v)) (text_at t some.1.name) (f some.1.item) h.1 h.3 in
+      let k = some_from_both (λ name v. (name, v)) (text_at t some.1.name) (f some.1.item) h.1 h.4 in
       let named : text_at t some.1.name ≡ Some h.1.0 =
       k.2 ∙ ap Some (ap (λ p. p.0) k.4) in
       let less = above some.0 some.1 h.1.0 some.2 named in

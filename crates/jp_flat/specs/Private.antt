@@ -2,3 +2,4 @@
 -- cite it.
 pub mod Parts
 pub mod Reading
+pub mod Sorting

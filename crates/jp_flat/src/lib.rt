@@ -12,6 +12,7 @@ mod parts;
 mod place;
 mod reading;
 mod rising;
+mod sorting;
 mod tables;
 
 pub use flat::{Flat, Room, flat_document};

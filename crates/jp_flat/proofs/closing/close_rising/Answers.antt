@@ -3,7 +3,7 @@ use Rattle.jp_document.specs.Value.{members_of, object}
 use Rattle.jp_flat.specs.Flat.{Grows, shown}
 use Rattle.jp_flat.proofs.Growth.{object_closed}
 use Rattle.jp_flat.proofs.Names.{put_all-rising}
-use Rattle.jp_flat.proofs.closing.close_object.Goals as goal
+use Rattle.jp_flat.proofs.closing.close_rising.Goals as goal
 
 pub returns-clause-object : goal.returns-clause-object
 returns-clause-object c = λ n ms rise all.
@@ -16,4 +16,4 @@ returns-clause-object c = λ n ms rise all.
     let at : p.first ≡ length t.members = search rules in
     let many : p.count ≡ length new = search rules in
     object_closed n t s new ms p more moved at many all
-    ∙ ap (λ ws. Some (object (members_of ws))) (sym (put_all-rising ms (rise (search rules))))
+    ∙ ap (λ ws. Some (object (members_of ws))) (sym (put_all-rising ms rise))

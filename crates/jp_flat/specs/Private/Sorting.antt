@@ -1,0 +1,29 @@
+-- Members put in the order of their names, each in the place of an earlier one of its name.
+use Rattle.std.specs.Prelude.{◌≡◌, ℕ, List, [], Option, Some, map}
+use Rattle.std.specs.Borrow.{Bor}
+use Rattle.std.specs.Map.{keys_of}
+use Rattle.jp_document.specs.Value.{Value}
+use Rattle.jp_flat.specs.Flat.{Shown, all_of, member_with}
+use Rattle.jp_flat.specs.Private.Reading.{put_all}
+use Rattle.jp_flat.specs.declared.item.Item.{Item}
+use Rattle.jp_flat.specs.declared.item.Named.{Named}
+
+-- whatever the items are, the sorted members stand for all that the members stand for, put one
+-- after another
+abbrev pub PutsAll : Shown → List Named → List Named → Type 0
+PutsAll t members sorted =
+    (f : Item → Option Value) (ms : List (List ℕ × Value)) →
+    all_of (member_with f t) members ≡ Some ms →
+    all_of (member_with f t) sorted ≡ Some (put_all [] ms)
+
+-- the entries are these members under their names
+pub record HoldsByName (f : Item → Option Value) (t : Shown) (ms : List (List ℕ × Value))
+    (entries : List (Bor (List ℕ) × Named)) : Type 0 where
+  pub names : map (λ e. e.0.now) entries ≡ keys_of ms
+  pub members : all_of (member_with f t) (map (λ e. e.1) entries) ≡ Some ms
+
+-- the same of members under their names
+abbrev pub PutsByName : Shown → List Named → List (Bor (List ℕ) × Named) → Type 0
+PutsByName t members entries =
+    (f : Item → Option Value) (ms : List (List ℕ × Value)) →
+    all_of (member_with f t) members ≡ Some ms → HoldsByName f t (put_all [] ms) entries
