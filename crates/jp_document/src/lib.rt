@@ -47,5 +47,5 @@ pub use node::{Node, child_at, child_named};
 pub use path::{path_text, push_path, push_quote, quote};
 pub use path_fault::PathFault;
 pub use path_reader::read_path;
-pub use text::{push_value, value_text};
+pub use text::{push_integer, push_text, push_value, value_text};
 pub use value::{Json, Member};

@@ -4,7 +4,7 @@ ghost use Rattle.std.specs.Prelude.{map, string_bytes, IfOk, OnOk};
 ghost use Rattle.std.specs.Fmt.{signed_decimal};
 ghost use Rattle.std.specs.List.{join_with_byte};
 ghost use Rattle.jp_document.specs.Appending.{IsPartAppended};
-ghost use Rattle.jp_document.specs.Text.{text_of, item_texts, member_texts};
+ghost use Rattle.jp_document.specs.Text.{text_of, item_texts, member_texts, string_text};
 ghost use Rattle.jp_document.specs.Value.{value_of, items_of, members_of, member_of};
 
 use crate::spelling::push_quoted;
@@ -82,8 +82,21 @@ fn push_members(out: &mut String, members: &[Member]) -> Result<(), AllocError>
     Ok(())
 }
 
-/// Appends a whole number in decimal; numbers of 64 bits are the quick ones to print.
-fn push_integer(out: &mut String, number: i128) -> Result<(), AllocError>
+/// Appends a text between double quotes, as it stands in the text of a value. Where memory runs out,
+/// the text still begins with what it held, and only a beginning of what was to come stands after
+/// it.
+pub fn push_text(out: &mut String, text: &str) -> Result<(), AllocError>
+    ensures ok { OnOk result (string_bytes out.new ≡ string_bytes out.old ++ string_text text.now) }
+    ensures kept { IsPartAppended (string_bytes out.old) (string_text text.now)
+        (string_bytes out.new) }
+{
+    push_quoted(out, text, b'"')
+}
+
+/// Appends a whole number in decimal; numbers of 64 bits are the quick ones to print. Where memory
+/// runs out, the text still begins with what it held, and only a beginning of the number stands
+/// after it.
+pub fn push_integer(out: &mut String, number: i128) -> Result<(), AllocError>
     ensures ok { OnOk result
         (string_bytes out.new ≡ string_bytes out.old ++ signed_decimal number) }
     ensures kept { IsPartAppended (string_bytes out.old) (signed_decimal number)
