@@ -24,12 +24,12 @@ use Rattle.jp_flat.specs.declared.item.Span.{Span}
 
 -- ---- the values of leaves
 
-null_means : (n : ℕ) (t : Shown) → flat_value n t code.Null ≡ Some null
+pub null_means : (n : ℕ) (t : Shown) → flat_value n t code.Null ≡ Some null
 unfolding flat_value
 null_means zero t = refl
 null_means (suc n) t = refl
 
-boolean_means : (n : ℕ) (t : Shown) (b : Bool) → flat_value n t (code.Bool b) ≡ Some (boolean b)
+pub boolean_means : (n : ℕ) (t : Shown) (b : Bool) → flat_value n t (code.Bool b) ≡ Some (boolean b)
 unfolding flat_value
 boolean_means zero t b = refl
 boolean_means (suc n) t b = refl
@@ -40,13 +40,13 @@ unfolding flat_value
 text_means zero t p x is = ap (option_map text) is
 text_means (suc n) t p x is = ap (option_map text) is
 
-above_means : (n : ℕ) (t : Shown) (h : Halves) →
+pub above_means : (n : ℕ) (t : Shown) (h : Halves) →
     flat_value n t (code.Above h) ≡ Some (whole (pos (number_of h)))
 unfolding flat_value
 above_means zero t h = refl
 above_means (suc n) t h = refl
 
-below_means : (n : ℕ) (t : Shown) (h : Halves) →
+pub below_means : (n : ℕ) (t : Shown) (h : Halves) →
     flat_value n t (code.Below h) ≡ Some (whole (negsuc (number_of h)))
 unfolding flat_value
 below_means zero t h = refl

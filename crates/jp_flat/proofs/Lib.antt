@@ -5,3 +5,4 @@ pub mod Inside
 pub mod Leaves
 pub mod Loops
 pub mod Names
+pub mod Printed

@@ -71,17 +71,25 @@ unfoldable pub flat_value : ℕ → Shown → Item → Option Value
 flat_value zero t i = value_with (λ j. None) t i
 flat_value (suc n) t i = value_with (flat_value n t) t i
 
+-- what an item stands for, where it has a value with so many levels
+abbrev pub meaning_at : ℕ → Shown → Item → Value
+meaning_at n t i = unwrap_or (flat_value n t i) null
+
+-- the item has a value with so many levels, and it may be a document's
+abbrev pub is_flat_at : ℕ → Shown → Item → Bool
+is_flat_at n t i = is_some (flat_value n t i) && everywhere is_allowed (meaning_at n t i)
+
 -- the most levels of a document
 abbrev pub most_levels : ℕ
 most_levels = 127
 
 -- the value of an item of a document
 abbrev pub meaning : Shown → Item → Value
-meaning t i = unwrap_or (flat_value most_levels t i) null
+meaning = meaning_at most_levels
 
 -- the item has a value, and it may be a document's
 abbrev pub is_flat : Shown → Item → Bool
-is_flat t i = is_some (flat_value most_levels t i) && everywhere is_allowed (meaning t i)
+is_flat = is_flat_at most_levels
 
 -- one begins with all of the other
 pub record BeginsWith {A : Type 0} (whole front : List A) : Type 0 where

@@ -1,5 +1,6 @@
 -- How a document is read into tables, and looked up there. The contracts of private functions alone
 -- cite it.
 pub mod Parts
+pub mod Printing
 pub mod Reading
 pub mod Sorting

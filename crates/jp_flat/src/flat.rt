@@ -7,12 +7,9 @@ ghost use Rattle.jp_flat.specs.Private.Reading.{ReadsFlatText};
 use crate::flat_value::FlatValue;
 use crate::item::{Item, Named};
 use crate::reading::{Pending, value};
-use crate::tables::Tables;
+use crate::tables::{MAX_DEPTH, Tables};
 use json::{Reader, Scratch};
 use std::alloc::Global;
-
-/// The most levels of lists and objects.
-const MAX_DEPTH: usize = 127;
 
 /// A document in tables, which are made of its text: `Document` without a tree.
 #[derive(Drop)]

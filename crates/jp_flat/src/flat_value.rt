@@ -1,15 +1,19 @@
 //! Values of documents in tables, wherever they stand.
-ghost use Rattle.std.specs.Prelude.{◌≡◌, ◌<◌, true, OnSome, length, option_map, slice_get};
-ghost use Rattle.std.specs.Prelude.{negsuc, pos};
+ghost use Rattle.std.specs.Prelude.{◌≡◌, ◌++◌, ◌<◌, true, OnOk, OnSome, length, option_map};
+ghost use Rattle.std.specs.Prelude.{slice_get, string_bytes};
+ghost use Rattle.jp_document.specs.Appending.{IsPartAppended};
+ghost use Rattle.jp_document.specs.Text.{text_of};
 ghost use Rattle.jp_document.specs.Value.{list_length};
-ghost use Rattle.jp_flat.specs.Flat.{is_flat, meaning, number_of, shown};
+ghost use Rattle.jp_flat.specs.Flat.{is_flat, meaning, shown};
 ghost use Rattle.jp_lent.specs.Lending.{bare, seen_value};
 
-use crate::item::{Halves, Item};
+use crate::item::Item;
 use crate::parts::{item_at, member_at, members, name_order, text_at};
-use crate::tables::Tables;
+use crate::printing::push_item;
+use crate::tables::{MAX_DEPTH, Tables};
 use jp_document::Step;
 use jp_lent::Seen;
+use std::alloc::AllocError;
 
 /// A value of a document in tables: the document's own, or one that stands inside it. It copies
 /// nothing of it.
@@ -39,8 +43,8 @@ impl<'d, 't> FlatValue<'d, 't> {
         match self.item {
             Item::Null => Seen::Null,
             Item::Bool(truth) => Seen::Bool(truth),
-            Item::Above(halves) => Seen::Whole(above(halves)),
-            Item::Below(halves) => Seen::Whole(below(halves)),
+            Item::Above(halves) => Seen::Whole(halves.above()),
+            Item::Below(halves) => Seen::Whole(halves.below()),
             Item::Text(span) => Seen::Text(text_at(self.tables, span)),
             Item::List(_) => Seen::List,
             Item::Members(_) => Seen::Members,
@@ -136,23 +140,15 @@ impl<'d, 't> FlatValue<'d, 't> {
             | Item::List(_) => None,
         }
     }
-}
 
-fn above(halves: Halves) -> i128
-    ensures { result ≡ pos (number_of halves) }
-{
-    i128::from(number_of(halves))
-}
-
-fn below(halves: Halves) -> i128
-    ensures { result ≡ negsuc (number_of halves) }
-{
-    -1 - i128::from(number_of(halves))
-}
-
-/// The number by its halves.
-fn number_of(halves: Halves) -> u64
-    ensures { result ≡ number_of halves }
-{
-    u64::from(halves.high) * 0x1_0000_0000 + u64::from(halves.low)
+    /// Appends the compact text of the value. Where memory runs out, the text still begins with
+    /// what it held, and only a beginning of the value's text stands after it.
+    pub fn push_value(self, out: &mut String) -> Result<(), AllocError>
+        ensures ok { OnOk result
+            (string_bytes out.new ≡ string_bytes out.old ++ text_of (lent_flat self.entry)) }
+        ensures kept { IsPartAppended (string_bytes out.old) (text_of (lent_flat self.entry))
+            (string_bytes out.new) }
+    {
+        push_item(out, self.tables, self.item, MAX_DEPTH)
+    }
 }

@@ -1,4 +1,6 @@
 //! What stands in the tables of a document: items and members, by the places of their parts.
+ghost use Rattle.std.specs.Prelude.{◌≡◌, negsuc, pos};
+ghost use Rattle.jp_flat.specs.Flat.{number_of};
 
 /// A part of a text or of a table: where it begins, and how many bytes or entries it has.
 #[derive(Clone, Copy)]
@@ -12,6 +14,28 @@ pub(crate) struct Span {
 pub(crate) struct Halves {
     pub(crate) high: u32,
     pub(crate) low: u32,
+}
+
+impl Halves {
+    /// The number from 0 on.
+    pub(crate) fn above(self) -> i128
+        ensures { result ≡ pos (number_of self) }
+    {
+        i128::from(self.number())
+    }
+
+    /// The number that is so far below -1.
+    pub(crate) fn below(self) -> i128
+        ensures { result ≡ negsuc (number_of self) }
+    {
+        -1 - i128::from(self.number())
+    }
+
+    fn number(self) -> u64
+        ensures { result ≡ number_of self }
+    {
+        u64::from(self.high) * 0x1_0000_0000 + u64::from(self.low)
+    }
 }
 
 /// A value: itself, or where its bytes or its parts stand. `Above` is a whole number from 0 on,

@@ -10,6 +10,7 @@ mod item;
 mod number;
 mod parts;
 mod place;
+mod printing;
 mod reading;
 mod rising;
 mod sorting;

@@ -3,7 +3,8 @@ ghost use Rattle.std.specs.Prelude.{◌≡◌, ◌<◌, OnSome, Some, option_map
 ghost use Rattle.std.specs.Cmp.Lexicographic.{slice_cmp};
 ghost use Rattle.std.specs.Ordering.{nat_cmp};
 ghost use Rattle.jp_flat.specs.Flat.{piece, shown, text_at};
-ghost use Rattle.jp_flat.specs.Private.Parts.{HoldsText, item_at, member_at, name_in};
+ghost use Rattle.jp_flat.specs.Private.Parts.{HoldsText, item_at, items_at, member_at, members_at};
+ghost use Rattle.jp_flat.specs.Private.Parts.{name_in};
 
 use crate::item::{Item, Named, Span};
 use crate::place::piece;
@@ -25,6 +26,26 @@ pub(crate) fn member_at(tables: &Tables<'_>, span: Span, position: usize) -> Opt
     ensures more { OnSome result (position < usize.MAX) }
 {
     copy_at(members(tables, span)?, position)
+}
+
+/// The items at a span, none where they are not all there.
+pub(crate) fn items_at<'d>(tables: &'d Tables<'_>, span: Span) -> &'d [Item]
+    ensures { result.now ≡ items_at (shown tables.entry.now) span }
+{
+    match piece(&tables.items, span.first as usize, span.count as usize) {
+        Some(items) => items,
+        None => &[],
+    }
+}
+
+/// The members at a span, none where they are not all there.
+pub(crate) fn members_at<'d>(tables: &'d Tables<'_>, span: Span) -> &'d [Named]
+    ensures { result.now ≡ members_at (shown tables.entry.now) span }
+{
+    match piece(&tables.members, span.first as usize, span.count as usize) {
+        Some(members) => members,
+        None => &[],
+    }
 }
 
 /// The members at a span.

@@ -4,6 +4,9 @@ ghost use Rattle.jp_flat.specs.Flat.{shown};
 
 use crate::item::{Item, Named};
 
+/// The most levels of lists and objects.
+pub(crate) const MAX_DEPTH: usize = 127;
+
 /// A document's text, the texts that are spelled otherwise in it, unescaped, and the parts of its
 /// lists and objects, side by side.
 #[derive(Drop)]

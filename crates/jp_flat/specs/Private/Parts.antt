@@ -23,3 +23,11 @@ pub record HoldsText (t : Shown) (s : Span) : Type 0 where
   pub text : List ℕ
   pub at : text_at t s ≡ Some text
   pub utf8 : IsUtf8 text
+
+-- all that stands at a span of items
+abbrev pub items_at : Shown → Span → List Item
+items_at t s = unwrap_or (piece t.items s.first s.count) []
+
+-- all that stands at a span of members
+abbrev pub members_at : Shown → Span → List Named
+members_at t s = unwrap_or (piece t.members s.first s.count) []
