@@ -9,14 +9,12 @@ use crate::device::{Source, Writer};
 use crate::fault::Fault;
 use crate::input::read_all;
 use crate::limits::QUERY_LIMIT;
-use crate::lines::{Form, write_lines};
+use crate::lines::{Form, write_selected};
 use jp_check::{Checked, Profile, read_query};
 use jp_document::Document;
-use jp_evaluate::nodes;
-use jp_match::Marks;
+use jp_flat::flat_document;
 use jp_query::{Refusal, RefusalKind};
 use std::alloc::Global;
-use std::mem;
 
 /// Writes a line for each node that `query`, read in that profile, selects in the document that
 /// `input` gives, in the nodelist's order (RFC 9535 section 2.1.2).
@@ -27,8 +25,9 @@ use std::mem;
 /// bytes (`TextTooLong`) or is refused, `Document` that what was read is no document,
 /// `DocumentTooLarge` that more than `DOCUMENT_LIMIT` bytes came, `Read` and `Write` that the input
 /// or the output failed: a call that fails is not tried again. `NoMemory` says that memory ran out,
-/// at whatever step. After `Write` and `NoMemory` a prefix of the output is written. The document
-/// is freed at the end, unless the input is the last of its process (`Device::last`).
+/// at whatever step. After `Write` and `NoMemory` a prefix of the output is written.
+///
+/// A document is read into tables, and what fits none as a tree.
 pub fn run_eval<R: Source, W: Writer>(
     alloc: Global,
     query: &str,
@@ -42,15 +41,11 @@ pub fn run_eval<R: Source, W: Writer>(
 {
     let query = read_within_limit(alloc, query, profile)?;
     let bytes = read_all(alloc, input)?;
-    let document = Document::read(alloc, &bytes)?;
-    drop(bytes);
-    let mut selected = nodes(alloc, &document, &query, &Marks);
-    let written = write_lines(alloc, form, &mut selected, output);
-    drop(selected);
-    if input.is_last() {
-        mem::forget(document);
+    if let Some(flat) = flat_document(alloc, &bytes) {
+        return write_selected(alloc, form, flat.value(), &query, output);
     }
-    written
+    let document = Document::read(alloc, &bytes)?;
+    write_selected(alloc, form, document.value(), &query, output)
 }
 
 /// Reads a query that is not too long.

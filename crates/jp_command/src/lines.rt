@@ -1,17 +1,21 @@
 //! Writing a line for each node.
 
-ghost use Rattle.std.specs.Prelude.{◌≡◌, ◌++◌, IfErr, OnOk, false, string_bytes};
-ghost use Rattle.jp_command.specs.Lines.{line_of, lines_of};
+ghost use Rattle.std.specs.Prelude.{◌≡◌, ◌++◌, IfErr, OnOk, false, map, string_bytes};
+ghost use Rattle.jp_command.specs.Lines.{line_of, lines_of, output_of};
 ghost use Rattle.jp_command.specs.Output.{StopsWriting, WritesAll};
 ghost use Rattle.jp_command.specs.Private.ByTurns.{WritesByTurns};
-ghost use Rattle.jp_document.specs.Node.{node_of};
-ghost use Rattle.jp_evaluate.specs.Rest.{has_failed, rest_of};
+ghost use Rattle.jp_evaluate.specs.Lent.{has_failed, rest_of};
+ghost use Rattle.jp_document.specs.Location.{key_of};
+ghost use Rattle.jp_document.specs.Node.{node_at};
+ghost use Rattle.jp_tree.specs.Tree.{query_of};
 
 use crate::device::Writer;
 use crate::fault::Fault;
 use crate::output::write_all;
-use jp_document::{Node, push_path, push_value};
-use jp_evaluate::Nodes;
+use jp_check::Checked;
+use jp_document::{Step, push_path};
+use jp_evaluate::{LentNodes, lent_nodes};
+use jp_lent::Printed;
 use jp_match::Marks;
 use std::alloc::{AllocError, Global};
 
@@ -26,44 +30,66 @@ pub enum Form {
     Both,
 }
 
-/// Appends the line of `node`.
-fn push_line(form: Form, node: &Node, line: &mut String) -> Result<(), AllocError>
-    ensures { OnOk result
-        (string_bytes line.new ≡ string_bytes line.old ++ line_of form (node_of node.now)) }
+/// Appends the line of the node at this location with this value.
+fn push_line<V: Printed>(
+    form: Form,
+    location: &[Step],
+    value: V,
+    line: &mut String,
+) -> Result<(), AllocError>
+    ensures { OnOk result (string_bytes line.new ≡ string_bytes line.old
+        ++ line_of form (node_at (map key_of location.now) (V.meaning value))) }
 {
     match form {
-        Form::Values => push_value(line, node.value())?,
-        Form::Paths => push_path(line, node.location())?,
+        Form::Values => value.push_value(line)?,
+        Form::Paths => push_path(line, location)?,
         Form::Both => {
-            push_path(line, node.location())?;
+            push_path(line, location)?;
             line.push('\t')?;
-            push_value(line, node.value())?;
+            value.push_value(line)?;
         }
     }
     line.push('\n')
 }
 
-/// Writes the line of each node before it asks for the next. After a fault a prefix of the lines is
-/// written: those of the nodes that were given, the last of them perhaps in part or not at all.
-pub(crate) fn write_lines<'d: 'q, 'q, W: Writer>(
+/// Writes a line for each node that the query selects in the document whose value is the root.
+pub(crate) fn write_selected<'d: 'q, 'q, V: Printed + 'd, W: Writer>(
     alloc: Global,
     form: Form,
-    nodes: &mut Nodes<'d, 'q, Marks>,
+    root: V,
+    query: &'q Checked,
+    output: &mut W,
+) -> Result<(), Fault>
+    ensures ok { OnOk result (WritesAll W.contents W.has_failed output.old output.new
+        (output_of form (query_of query.now.query) (V.meaning root))) }
+    ensures stopped { IfErr result (StopsWriting W.contents W.has_failed output.old output.new
+        (output_of form (query_of query.now.query) (V.meaning root))) }
+{
+    let mut nodes = lent_nodes(alloc, root, query, &Marks);
+    write_lines(alloc, form, &mut nodes, output)
+}
+
+/// Writes the line of each node before it asks for the next. After a fault a prefix of the lines is
+/// written: those of the nodes that were given, the last of them perhaps in part or not at all.
+pub(crate) fn write_lines<'d: 'q, 'q, V: Printed + 'd, W: Writer>(
+    alloc: Global,
+    form: Form,
+    nodes: &mut LentNodes<'d, 'q, V, Marks>,
     output: &mut W,
 ) -> Result<(), Fault>
     requires { has_failed nodes.now ≡ false }
     ensures ok { OnOk result (WritesAll W.contents W.has_failed output.old output.new
-        (lines_of form (rest_of nodes.old))) }
+        (lines_of form (rest_of V.meaning nodes.old))) }
     ensures stopped { IfErr result (StopsWriting W.contents W.has_failed output.old output.new
-        (lines_of form (rest_of nodes.old))) }
-    ensures by_turns { WritesByTurns W.contents form
+        (lines_of form (rest_of V.meaning nodes.old))) }
+    ensures by_turns { WritesByTurns W.contents form V.meaning
         nodes.old nodes.new output.old output.new result }
 {
     let mut line = String::new(alloc);
     while let Some(next) = nodes.next() {
         let node = next?;
         line.clear();
-        push_line(form, &node, &mut line)?;
+        push_line(form, &node.0, node.1, &mut line)?;
         let Ok(()) = write_all(output, line.as_bytes()) else {
             return Err(Fault::Write);
         };

@@ -3,7 +3,8 @@ ghost use Rattle.jp_flat.specs.FlatValue.{lent_flat};
 
 use crate::flat_value::FlatValue;
 use jp_document::Step;
-use jp_lent::{Lent, Seen, Selectable};
+use jp_lent::{Lent, Printed, Seen, Selectable};
+use std::alloc::AllocError;
 
 impl<'v, 't> Lent for FlatValue<'v, 't> {
     ghost meaning = { lent_flat };
@@ -37,5 +38,11 @@ impl<'v, 't> Selectable for FlatValue<'v, 't> {
         Self: 'd,
     {
         FlatValue::member(self, name)
+    }
+}
+
+impl<'v, 't> Printed for FlatValue<'v, 't> {
+    fn push_value(self, out: &mut String) -> Result<(), AllocError> {
+        FlatValue::push_value(self, out)
     }
 }

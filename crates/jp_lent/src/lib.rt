@@ -18,5 +18,5 @@ mod json_form;
 mod lent;
 mod seen;
 
-pub use lent::{Lent, Selectable};
+pub use lent::{Lent, Printed, Selectable};
 pub use seen::Seen;

@@ -4,8 +4,9 @@ use Rattle.std.specs.Prelude.{◌≡◌, ◌⊎◌, ℕ, true, false, List, [], 
 use Rattle.std.specs.Prelude.{Err}
 use Rattle.std.specs.Io.KnownBytes.{Appends}
 use Rattle.jp_document.specs.Node.{Node}
-use Rattle.jp_evaluate.specs.Rest.{has_failed, rest_of}
-use Rattle.jp_evaluate.specs.declared.each.Nodes.{Nodes}
+use Rattle.jp_document.specs.Value.{Value}
+use Rattle.jp_evaluate.specs.Lent.{has_failed, rest_of}
+use Rattle.jp_evaluate.specs.declared.lent.LentNodes.{LentNodes}
 use Rattle.jp_command.specs.Lines.{line_of, lines_of}
 use Rattle.jp_command.specs.declared.fault.Fault.{Fault}
 use Rattle.jp_command.specs.declared.fault.Fault.TheVariants.{NoMemory, Write}
@@ -29,14 +30,18 @@ module _ {W : Type 0} (contents : W → Option (List ℕ)) (form : Form) where
     pub line : line_of form last ≡ prefix ++ left
     pub written : Appends (contents o) (contents p) (lines_of form given ++ prefix)
 
-  -- The nodes v were asked for, until w were left, and each but the last had its line before the
-  -- next was asked for. Memory runs out for a line, of which nothing is written, or for the next
-  -- node: then the nodes end, and which were left is not told.
-  abbrev pub WritesByTurns : {M X : Type 0} → Nodes M → Nodes M → W → W → Result X Fault → Type 0
-  WritesByTurns v w o p (Ok x) = (rest_of w ≡ []) × WritesGiven (rest_of v) (rest_of w) o p
-  WritesByTurns v w o p (Err NoMemory) =
-      ((has_failed w ≡ false) × (last : Node) × WritesGiven (rest_of v) (last ∷ rest_of w) o p)
-      ⊎ ((has_failed w ≡ true) × (rest : List Node) × WritesGiven (rest_of v) rest o p)
-  WritesByTurns v w o p (Err Write) =
-      (has_failed w ≡ false) × WritesPart (rest_of v) (rest_of w) o p
-  WritesByTurns v w o p (Err _) = ⊥
+  -- The nodes v were asked for, until w were left, where m says what their values stand for, and
+  -- each but the last had its line before the next was asked for. Memory runs out for a line, of
+  -- which nothing is written, or for the next node: then the nodes end, and which were left is not
+  -- told.
+  abbrev pub WritesByTurns : {V M X : Type 0} → (V → Value) → LentNodes V M → LentNodes V M → W → W
+      → Result X Fault → Type 0
+  WritesByTurns m v w o p (Ok x) =
+      (rest_of m w ≡ []) × WritesGiven (rest_of m v) (rest_of m w) o p
+  WritesByTurns m v w o p (Err NoMemory) =
+      ((has_failed w ≡ false) × (last : Node)
+      × WritesGiven (rest_of m v) (last ∷ rest_of m w) o p)
+      ⊎ ((has_failed w ≡ true) × (rest : List Node) × WritesGiven (rest_of m v) rest o p)
+  WritesByTurns m v w o p (Err Write) =
+      (has_failed w ≡ false) × WritesPart (rest_of m v) (rest_of m w) o p
+  WritesByTurns m v w o p (Err _) = ⊥

@@ -1,5 +1,5 @@
 use Rattle.std.proofs.Common.{◌≡◌, rules}
-use Rattle.jp_document.specs.Node.{node_of}
+use Rattle.jp_evaluate.specs.Lent.{lent_node}
 use Rattle.jp_command.specs.Lines.{line_of}
 use Rattle.jp_command.proofs.LineLemmas.{given_more, given_part, part-is_prefix, stops-for_memory}
 use Rattle.jp_command.proofs.lines.write_lines.Goals as goal
@@ -20,9 +20,9 @@ returns-in_default-write_all-clause-stopped g c =
     let form = c.args.form in
     let n = c.in_ok-node.node in
     let steps = rw (c.in-Some.is, c.in_ok-node.was) at c.next.ensures.steps in
-    let line : c.as_bytes.result.now ≡ line_of form (node_of n) = search rules in (
+    let line : c.as_bytes.result.now ≡ line_of form (lent_node g.V.Lent.meaning n) = search rules in (
       part-is_prefix g.W.Writer.contents g.W.Writer.has_failed form _ _ _ _
-          (given_part g.W.Writer.contents g.W.Writer.has_failed form _ _ _ (node_of n) _ _ _
+          (given_part g.W.Writer.contents g.W.Writer.has_failed form _ _ _ (lent_node g.V.Lent.meaning n) _ _ _
           c.loop-next.invariant.written steps.2 (rw line at c.in_default-write_all.ensures.prefix)),
       c.in_default-write_all.ensures.failed,
     )
@@ -33,9 +33,9 @@ returns-in_default-write_all-clause-by_turns g c =
     let form = c.args.form in
     let n = c.in_ok-node.node in
     let steps = rw (c.in-Some.is, c.in_ok-node.was) at c.next.ensures.steps in
-    let line : c.as_bytes.result.now ≡ line_of form (node_of n) = search rules in (
+    let line : c.as_bytes.result.now ≡ line_of form (lent_node g.V.Lent.meaning n) = search rules in (
       steps.1,
-      given_part g.W.Writer.contents g.W.Writer.has_failed form _ _ _ (node_of n) _ _ _
+      given_part g.W.Writer.contents g.W.Writer.has_failed form _ _ _ (lent_node g.V.Lent.meaning n) _ _ _
           c.loop-next.invariant.written steps.2 (rw line at c.in_default-write_all.ensures.prefix),
     )
 
@@ -44,10 +44,10 @@ loop-next-preserved g c =
     let form = c.args.form in
     let n = c.in_ok-node.node in
     let steps = rw (c.in-Some.is, c.in_ok-node.was) at c.next.ensures.steps in
-    let line : c.as_bytes.result.now ≡ line_of form (node_of n) = search rules in
+    let line : c.as_bytes.result.now ≡ line_of form (lent_node g.V.Lent.meaning n) = search rules in
     record {
       working = steps.1;
-      written = given_more g.W.Writer.contents g.W.Writer.has_failed form _ _ _ (node_of n) _ _ _
+      written = given_more g.W.Writer.contents g.W.Writer.has_failed form _ _ _ (lent_node g.V.Lent.meaning n) _ _ _
           c.loop-next.invariant.written steps.2 (rw line at c.in-Ok.ensures.ok);
       works = search rules;
     }

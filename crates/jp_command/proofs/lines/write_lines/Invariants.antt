@@ -1,5 +1,5 @@
 use Rattle.std.proofs.Common.{◌≡◌, false, length}
-use Rattle.jp_evaluate.specs.Rest.{has_failed, rest_of}
+use Rattle.jp_evaluate.specs.Lent.{has_failed, rest_of}
 use Rattle.jp_command.specs.Private.ByTurns.{WritesGiven}
 use Rattle.jp_command.proofs.lines.write_lines.Given as goal
 
@@ -7,10 +7,10 @@ use Rattle.jp_command.proofs.lines.write_lines.Given as goal
 abbrev pub invariant-loop-next : goal.invariant-loop-next
 invariant-loop-next g l = record {
   working : has_failed l.nodes ≡ false;
-  written : WritesGiven g.W.Writer.contents l.form (rest_of l.fn.nodes) (rest_of l.nodes)
+  written : WritesGiven g.W.Writer.contents l.form (rest_of g.V.Lent.meaning l.fn.nodes) (rest_of g.V.Lent.meaning l.nodes)
       l.fn.output l.output;
   works : g.W.Writer.has_failed l.output ≡ g.W.Writer.has_failed l.fn.output;
 }
 
 abbrev pub decreases-loop-next : goal.decreases-loop-next
-decreases-loop-next g l = length (rest_of l.nodes)
+decreases-loop-next g l = length (rest_of g.V.Lent.meaning l.nodes)
