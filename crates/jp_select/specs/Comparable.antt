@@ -1,7 +1,7 @@
 -- The sides of comparisons (RFC 9535 section 2.3.5.1).
-use Rattle.std.specs.Prelude.{Bool, true, false, Option, Some, None, option_map}
+use Rattle.std.specs.Prelude.{Option, Some, None, option_map}
 use Rattle.std.specs.Borrow.{Bor}
-use Rattle.jp_document.specs.Value.{Value, null, boolean, whole, text, list, object, value_of}
+use Rattle.jp_document.specs.Value.{Value, null, boolean, whole, text, value_of}
 use Rattle.jp_document.specs.declared.value.Json.{Json}
 use Rattle.jp_select.specs.declared.comparable.Comparable.{Comparable}
 use Rattle.jp_select.specs.declared.comparable.Comparable.TheVariants as side
@@ -18,9 +18,3 @@ comparable_of f (side.Lent v) = Some (f v)
 -- the value of a `Json`; None is Nothing
 abbrev pub side_of : Option (Bor Json) → Option Value
 side_of o = option_map (λ j. value_of j.now) o
-
--- a side is a list or an object
-abbrev pub has_parts : Option Value → Bool
-has_parts (Some (list vs)) = true
-has_parts (Some (object ms)) = true
-has_parts _ = false

@@ -4,7 +4,7 @@ pub mod Comparison
 pub mod Equality
 pub mod Giving
 pub mod Laws
-pub mod Parts
+pub mod Private
 pub mod Selectors
 pub mod Slice
 pub mod Walk

@@ -2,9 +2,9 @@
 ghost use Rattle.std.specs.Prelude.{◌≡◌, ◌↔◌, IsTrue, MatchOption, Some, chars, false, option_map};
 ghost use Rattle.jp_document.specs.Location.{entries, key_of};
 ghost use Rattle.jp_lent.specs.Lending.{bare, seen_value, step_with};
-ghost use Rattle.jp_select.specs.Comparable.{comparable_of, has_parts};
+ghost use Rattle.jp_select.specs.Comparable.{comparable_of};
 ghost use Rattle.jp_select.specs.Comparison.{equals, is_less, precedes};
-ghost use Rattle.jp_select.specs.Parts.{same_key, same_part, same_parts};
+ghost use Rattle.jp_select.specs.Private.Parts.{has_parts, same_key, same_part, same_parts};
 
 use jp_document::Step;
 use jp_lent::{Lent, Seen};

@@ -11,7 +11,7 @@ use Rattle.jp_document.specs.Value.{Value, null, boolean, whole, text, list, obj
 use Rattle.jp_document.specs.Value.{Items, no_items, item, Members, no_members, member}
 use Rattle.jp_lent.specs.Lending.{bare}
 use Rattle.jp_select.specs.Comparison.{equals, same_items, same_members, same_value}
-use Rattle.jp_select.specs.Parts.{same_part, same_parts}
+use Rattle.jp_select.specs.Private.Parts.{same_part, same_parts}
 use Rattle.jp_select.proofs.Walks.{drop_at, drop_past}
 
 -- ---- the parts of lists and objects

@@ -1,8 +1,15 @@
--- Values compared by their parts. The contracts of private functions alone cite it.
-use Rattle.std.specs.Prelude.{Bool, true, false, ◌&&◌, ◌==◌, List, [], ◌∷◌, bytes_eq}
+-- Values compared by their parts.
+use Rattle.std.specs.Prelude.{Bool, true, false, ◌&&◌, ◌==◌, List, [], ◌∷◌, Option, Some}
+use Rattle.std.specs.Prelude.{bytes_eq}
 use Rattle.jp_document.specs.Location.{Key, named, nth}
-use Rattle.jp_document.specs.Value.{Value}
+use Rattle.jp_document.specs.Value.{Value, list, object}
 use Rattle.jp_select.specs.Comparison.{same_value}
+
+-- a side is a list or an object
+abbrev pub has_parts : Option Value → Bool
+has_parts (Some (list vs)) = true
+has_parts (Some (object ms)) = true
+has_parts _ = false
 
 -- the steps are one
 abbrev pub same_key : Key → Key → Bool
