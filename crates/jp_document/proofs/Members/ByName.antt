@@ -76,7 +76,7 @@ adjacent f xs k d sorted within =
     (Less-from_sorted bytes_cmp ns k (k + 1) (f d).0 sorted (omega arith) (omega (arith, long)))))
 
 -- compared with a name, the members' names rise
-searchable : {X V : Type 0} (f : X → List ℕ × V) (q : List ℕ) (xs : List X) →
+pub searchable : {X V : Type 0} (f : X → List ℕ × V) (q : List ℕ) (xs : List X) →
     IsStrictlySortedBy bytes_cmp (keys_of (map f xs)) →
     IsNonDecreasingBy (λ x. ordering_index (bytes_cmp (f x).0 q)) xs
 searchable f q xs sorted =
