@@ -121,9 +121,6 @@ length-all_of f (x ∷ xs) ys is =
     let h = some_from_both (λ y ys. y ∷ ys) (f x) (all_of f xs) ys is in
     ap length (sym h.4) ∙ ap suc (length-all_of f xs h.1 h.3)
 
-
-
-
 pub member_grows : (f g : Item → Option Value) (t s : Shown) → Grows t s →
     ((i : Item) (v : Value) → f i ≡ Some v → g i ≡ Some v) → (m : Named) (p : List ℕ × Value) →
     member_with f t m ≡ Some p → member_with g s m ≡ Some p

@@ -6,3 +6,4 @@ pub mod Leaves
 pub mod Loops
 pub mod Names
 pub mod Printed
+pub mod Putting

@@ -117,8 +117,14 @@ pub items_end : (depth : ℕ) (initial ts r : List Token) (t s u : Shown) (base 
 items_end depth initial ts r t s u base old all i over few closed so =
     let back = cut_back base old so.new all so.pushed so.at in
     let many : length so.values < 2 ^ 32 =
-    omega (arith, few, length-all_of (flat_value depth s) so.new so.values so.mean, so.at,
-    ap length so.pushed, length-append old so.new) in
+    omega (
+      arith,
+      few,
+      length-all_of (flat_value depth s) so.new so.values so.mean,
+      so.at,
+      ap length so.pushed,
+      length-append old so.new,
+    ) in
     record {
       values = so.values;
       reads =

@@ -82,8 +82,7 @@ all_of_last f [] x ys is =
     ([], h.0, sym h.4 ∙ ap (λ zs. h.0 ∷ zs) (sym (same_Some [] h.1 h.3)), refl, h.2)
 all_of_last f (w ∷ xs) x ys is =
     let h = some_from_both (λ y ys. y ∷ ys) (f w) (all_of f (xs ++ x ∷ [])) ys is in
-    let k = all_of_last f xs x h.1 h.3 in
-    (
+    let k = all_of_last f xs x h.1 h.3 in (
       h.0 ∷ k.0,
       k.1,
       sym h.4 ∙ ap (λ zs. h.0 ∷ zs) k.2,

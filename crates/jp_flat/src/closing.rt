@@ -8,7 +8,7 @@ ghost use Rattle.jp_flat.specs.Private.Reading.{put_all};
 
 use crate::item::{Item, Named};
 use crate::place::span_of;
-use crate::sorting::sorted;
+use crate::sorting::sort;
 use crate::tables::Tables;
 
 /// The list of the items from the base on, which move to the tables.
@@ -33,10 +33,12 @@ pub(crate) fn close_list(
 }
 
 /// The object of the members from the base on, which move to the tables in the order of their
-/// names, each in the place of an earlier one of its name. `rises` says that they came in it.
+/// names, each in the place of an earlier one of its name. `rises` says that they came in it; else
+/// they are sorted in `sorted`, which is free before and after.
 pub(crate) fn close_object(
     tables: &mut Tables<'_>,
     members: &mut Vec<Named>,
+    sorted: &mut Vec<Named>,
     base: usize,
     rises: bool,
 ) -> Option<Item>
@@ -44,7 +46,7 @@ pub(crate) fn close_object(
     ensures object { IfSome result (λ i. (n : ℕ) (ms : List (List ℕ × Value))
         → (rises ≡ true → names_rise (keys_of ms) ≡ true)
         → all_of (member_with (flat_value n (shown tables.old)) (shown tables.old))
-            (drop base members.old.items) ≡ Some ms
+        (drop base members.old.items) ≡ Some ms
         → flat_value (suc n) (shown tables.new) i ≡ Some (object (members_of (put_all [] ms)))) }
     ensures grows { OnSome result (Grows (shown tables.old) (shown tables.new)) }
     ensures rest { OnSome result (members.new.items ≡ take base members.old.items) }
@@ -52,20 +54,16 @@ pub(crate) fn close_object(
     if rises {
         close_rising(tables, members, base)
     } else {
-        close_falling(tables, members, base)
+        close_falling(tables, members, sorted, base)
     }
 }
 
-fn close_rising(
-    tables: &mut Tables<'_>,
-    members: &mut Vec<Named>,
-    base: usize,
-) -> Option<Item>
+fn close_rising(tables: &mut Tables<'_>, members: &mut Vec<Named>, base: usize) -> Option<Item>
     requires { base ≤ length members.old.items }
     ensures object { IfSome result (λ i. (n : ℕ) (ms : List (List ℕ × Value))
         → names_rise (keys_of ms) ≡ true
         → all_of (member_with (flat_value n (shown tables.old)) (shown tables.old))
-            (drop base members.old.items) ≡ Some ms
+        (drop base members.old.items) ≡ Some ms
         → flat_value (suc n) (shown tables.new) i ≡ Some (object (members_of (put_all [] ms)))) }
     ensures grows { OnSome result (Grows (shown tables.old) (shown tables.new)) }
     ensures rest { OnSome result (members.new.items ≡ take base members.old.items) }
@@ -80,19 +78,20 @@ fn close_rising(
 fn close_falling(
     tables: &mut Tables<'_>,
     members: &mut Vec<Named>,
+    sorted: &mut Vec<Named>,
     base: usize,
 ) -> Option<Item>
     requires { base ≤ length members.old.items }
     ensures object { IfSome result (λ i. (n : ℕ) (ms : List (List ℕ × Value))
         → all_of (member_with (flat_value n (shown tables.old)) (shown tables.old))
-            (drop base members.old.items) ≡ Some ms
+        (drop base members.old.items) ≡ Some ms
         → flat_value (suc n) (shown tables.new) i ≡ Some (object (members_of (put_all [] ms)))) }
     ensures grows { OnSome result (Grows (shown tables.old) (shown tables.new)) }
     ensures rest { OnSome result (members.new.items ≡ take base members.old.items) }
 {
-    let parts = sorted(*members.allocator(), tables, tail(members, base))?;
-    let span = span_of(tables.members.len(), parts.len())?;
-    tables.members.extend_from_slice(&parts).ok()?;
+    sort(tables, tail(members, base), sorted)?;
+    let span = span_of(tables.members.len(), sorted.len())?;
+    tables.members.extend_from_slice(sorted).ok()?;
     members.truncate(base);
     Some(Item::Members(span))
 }

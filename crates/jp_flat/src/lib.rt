@@ -15,6 +15,8 @@ mod reading;
 mod rising;
 mod sorting;
 mod tables;
+#[cfg(test)]
+mod tests;
 
 pub use flat::{Flat, Room, flat_document};
 pub use flat_value::FlatValue;

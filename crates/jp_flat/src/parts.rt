@@ -71,9 +71,16 @@ fn copy_at<T: Copy>(all: &[T], position: usize) -> Option<T>
 pub(crate) fn name_order(tables: &Tables<'_>, member: &Named, name: &str) -> Ordering
     ensures { result ≡ slice_cmp nat_cmp (name_in (shown tables.now) member.now) name.now }
 {
+    bytes_order(tables, member, name.as_bytes())
+}
+
+/// The order of a member's name beside these bytes.
+pub(crate) fn bytes_order(tables: &Tables<'_>, member: &Named, name: &[u8]) -> Ordering
+    ensures { result ≡ slice_cmp nat_cmp (name_in (shown tables.now) member.now) name.now }
+{
     match bytes_at(tables, member.name) {
-        Some(bytes) => bytes.cmp(name.as_bytes()),
-        None => b"".as_slice().cmp(name.as_bytes()),
+        Some(bytes) => bytes.cmp(name),
+        None => b"".as_slice().cmp(name),
     }
 }
 
@@ -97,5 +104,9 @@ pub(crate) fn bytes_at<'d>(tables: &'d Tables<'_>, span: Span) -> Option<&'d [u8
     if first + count <= tables.text.len() {
         return piece(tables.text.as_bytes(), first, count);
     }
-    piece(tables.spare.as_bytes(), first.checked_sub(tables.text.len())?, count)
+    piece(
+        tables.spare.as_bytes(),
+        first.checked_sub(tables.text.len())?,
+        count,
+    )
 }

@@ -8,9 +8,9 @@ ghost use Rattle.jp_flat.specs.Flat.{Grows, all_of, flat_value, member_with, sho
 ghost use Rattle.jp_flat.specs.Private.Reading.{IsAboveLast, IsWholeItem, ReadsFlat};
 ghost use Rattle.jp_flat.specs.Private.Reading.{ReadsFlatItems, ReadsFlatMembers};
 
+use crate::closing::{close_list, close_object};
 use crate::item::{Item, Named};
 use crate::number::number;
-use crate::closing::{close_list, close_object};
 use crate::place::place;
 use crate::rising::still_rises;
 use crate::tables::Tables;
@@ -22,6 +22,9 @@ use std::alloc::Global;
 pub(crate) struct Pending {
     pub(crate) items: Vec<Item>,
     pub(crate) members: Vec<Named>,
+
+    /// Room to sort the members of one object.
+    pub(crate) sorted: Vec<Named>,
 }
 
 impl Pending {
@@ -29,6 +32,7 @@ impl Pending {
         Pending {
             items: Vec::new(alloc),
             members: Vec::new(alloc),
+            sorted: Vec::new(alloc),
         }
     }
 
@@ -134,6 +138,12 @@ fn members(
         pending.members.push(Named { name: span, item }).ok()?;
         at = reader.offset();
     }
-    let object = close_object(tables, &mut pending.members, base, rises)?;
+    let object = close_object(
+        tables,
+        &mut pending.members,
+        &mut pending.sorted,
+        base,
+        rises,
+    )?;
     Some(object)
 }

@@ -1,25 +1,62 @@
 //! Members put in the order of their names.
-ghost use Rattle.std.specs.Prelude.{◌≡◌, IfSome, map};
+ghost use Rattle.std.specs.Prelude.{◌≡◌, IfSome, OnSome, map};
 ghost use Rattle.jp_flat.specs.Flat.{shown};
-ghost use Rattle.jp_flat.specs.Private.Sorting.{PutsAll, PutsByName};
+ghost use Rattle.jp_flat.specs.Private.Sorting.{Puts, PutsAll, PutsByName};
 
 use crate::item::Named;
-use crate::parts::bytes_at;
+use crate::parts::{bytes_at, bytes_order};
 use crate::tables::Tables;
 use std::alloc::Global;
 use std::collections::BTreeMap;
 
-/// The members in the order of their names, each in the place of an earlier one of its name.
-pub(crate) fn sorted(
-    alloc: Global,
-    tables: &Tables<'_>,
-    members: &[Named],
-) -> Option<Vec<Named>>
-    ensures { IfSome result (λ v. PutsAll (shown tables.now) members.now v.items) }
+/// The most members that are put in order one by one.
+const MAX_MOVED: usize = 64;
+
+/// Fills `found` with the members in the order of their names, each in the place of an earlier one
+/// of its name.
+pub(crate) fn sort(tables: &Tables<'_>, members: &[Named], found: &mut Vec<Named>) -> Option<()>
+    ensures { OnSome result (PutsAll (shown tables.now) members.now found.new.items) }
 {
-    let named = by_name(alloc, tables, members)?;
-    let sorted = values(alloc, named)?;
-    Some(sorted)
+    if members.len() <= MAX_MOVED {
+        put_each(tables, members, found)
+    } else {
+        put_by_name(tables, members, found)
+    }
+}
+
+fn put_each(tables: &Tables<'_>, members: &[Named], found: &mut Vec<Named>) -> Option<()>
+    ensures { OnSome result (PutsAll (shown tables.now) members.now found.new.items) }
+{
+    found.clear();
+    for member in members {
+        put(tables, found, *member)?;
+    }
+    Some(())
+}
+
+/// Puts a member among others in the order of their names, in the place of one of its name.
+fn put(tables: &Tables<'_>, found: &mut Vec<Named>, member: Named) -> Option<()>
+    ensures { OnSome result (Puts (shown tables.now) member found.old.items found.new.items) }
+{
+    let name = bytes_at(tables, member.name)?;
+    match found.binary_search_by(|other| bytes_order(tables, other, name)) {
+        Ok(place) => {
+            found[place] = member;
+            Some(())
+        }
+        Err(place) => {
+            found.insert(place, member).ok()?;
+            Some(())
+        }
+    }
+}
+
+fn put_by_name(tables: &Tables<'_>, members: &[Named], found: &mut Vec<Named>) -> Option<()>
+    ensures { OnSome result (PutsAll (shown tables.now) members.now found.new.items) }
+{
+    let named = by_name(*found.allocator(), tables, members)?;
+    list(named, found)?;
+    Some(())
 }
 
 fn by_name<'d>(
@@ -37,12 +74,12 @@ fn by_name<'d>(
     Some(found)
 }
 
-fn values(alloc: Global, named: BTreeMap<&[u8], Named>) -> Option<Vec<Named>>
-    ensures { IfSome result (λ v. v.items ≡ map (λ e. e.1) named.entry.entries) }
+fn list(named: BTreeMap<&[u8], Named>, found: &mut Vec<Named>) -> Option<()>
+    ensures { OnSome result (found.new.items ≡ map (λ e. e.1) named.entry.entries) }
 {
-    let mut found = Vec::with_capacity(alloc, named.len()).ok()?;
+    found.clear();
     for (name, member) in named {
         found.push(member).ok()?;
     }
-    Some(found)
+    Some(())
 }

@@ -31,10 +31,10 @@ pub record ReadsFlatItems (depth : ℕ) (ts rest : List Token) (t : Shown) (i : 
 -- the same of the members of an object
 pub record ReadsFlatMembers (depth : ℕ) (ts rest : List Token) (t : Shown) (i : Item) : Type 0
   where
-  pub members : List (List ℕ × Value)
-  pub reads : ReadsMembers depth (length ts) ts rest (members_of members)
-  pub within : everywhere_in_members list_fits (members_of members) ≡ true
-  pub means : flat_value (suc depth) t i ≡ Some (object (members_of members))
+    pub members : List (List ℕ × Value)
+    pub reads : ReadsMembers depth (length ts) ts rest (members_of members)
+    pub within : everywhere_in_members list_fits (members_of members) ≡ true
+    pub means : flat_value (suc depth) t i ≡ Some (object (members_of members))
 
 -- a reading of the text holds the value of the item
 pub record ReadsFlatText (source : List ℕ) (t : Shown) (i : Item) : Type 0 where

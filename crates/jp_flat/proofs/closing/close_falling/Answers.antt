@@ -10,7 +10,7 @@ returns-clause-object c = λ n ms all.
     let t = shown c.args.tables.now in
     let s = shown (record c.args.tables.now { members = c.extend_from_slice.new.self }) in
     let old = drop c.args.base c.args.members.now.items in
-    let new = c.in_ok-parts.parts.items in
+    let new = c.sort.new.found.items in
     let p = c.in_ok-span.span in
     let more : Grows t s = search rules in
     let moved : s.members ≡ t.members ++ new = search rules in

@@ -1,0 +1,3 @@
+//! Documents in tables, beside the same in trees.
+mod documents;
+mod values;
