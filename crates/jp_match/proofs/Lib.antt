@@ -1,4 +1,5 @@
 pub mod Bools
+pub mod Counting
 pub mod Patterns
 pub mod Sets
 pub mod Steps

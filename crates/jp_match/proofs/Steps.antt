@@ -1,7 +1,11 @@
 -- A step of a scan: for the functions that move marks over a character or look where they end.
 pub mod EmptyWords
 pub mod EndParts
+pub mod Kept
 pub mod OneClass
+pub mod Repeating
+pub mod Rounding
+pub mod Sizes
 pub mod StepParts
-pub mod Turns
 pub mod Unrolled
+pub mod Walking

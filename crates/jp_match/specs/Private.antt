@@ -8,3 +8,4 @@ pub mod OneClass
 pub mod Place
 pub mod Plain
 pub mod Rows
+pub mod Walks

@@ -8,7 +8,7 @@ use jp_iregexp::Pattern;
 
 /// Whether the empty word is in the language of the pattern.
 #[cycle(empty_word)]
-fn has_empty_word(pattern: &Pattern) -> bool
+pub(crate) fn has_empty_word(pattern: &Pattern) -> bool
     ensures { result ≡ has_empty (tree pattern.now) }
 {
     match pattern {
@@ -45,7 +45,7 @@ fn each_has_empty_word(parts: &[Pattern]) -> bool
 
 /// The same for a repeat of the pattern.
 #[cycle(empty_word)]
-pub(crate) fn repeats_empty_word(inner: &Pattern, least: u32, most: Option<u32>) -> bool
+fn repeats_empty_word(inner: &Pattern, least: u32, most: Option<u32>) -> bool
     ensures { result ≡ has_empty (repeat (tree inner.now) least most) }
 {
     if let Some(most) = most

@@ -14,8 +14,8 @@
 #![tactic(auto)]
 
 mod class_tests;
+mod counts;
 mod empty_word;
-mod ending;
 mod images;
 mod marking;
 mod marks;
@@ -23,13 +23,13 @@ mod matching;
 mod one_class;
 mod passing;
 mod places;
-mod position_count;
 mod relations;
 mod rows;
 mod scan;
 mod stepping;
 #[cfg(test)]
 mod tests;
+mod walk;
 
 pub use class_tests::Tests;
 pub use images::Images;

@@ -1,50 +1,98 @@
 //! A pattern with a mark for each of its positions.
 
-ghost use Rattle.std.specs.Prelude.{◌≡◌, ◌+◌, ◌↔◌, ℕ, ◌≤◌, IsTrue, length, get_or, false};
+ghost use Rattle.std.specs.Prelude.{◌≡◌, ◌+◌, ◌^◌, ◌↔◌, ℕ, ◌≤◌, IsTrue, IfOk, min, length};
+ghost use Rattle.std.specs.Prelude.{get_or, true, false, ◌||◌};
 ghost use Rattle.jp_iregexp.specs.Tree.{tree};
 ghost use Rattle.jp_iregexp.specs.Positions.{positions_of};
 ghost use Rattle.jp_match.specs.Private.Plain.{unrolled};
 ghost use Rattle.jp_match.specs.Private.Marks.{Ends, Steps};
+ghost use Rattle.jp_match.specs.Private.Walks.{rounds_of, rounds_end, marks_end};
+ghost use Rattle.jp_match.specs.Private.Walks.{takes_none};
 
 use crate::class_tests::Tests;
-use crate::ending::ends;
-use crate::places::is_any;
+use crate::counts::{Counts, MANY_ROUNDS};
+use crate::empty_word::has_empty_word;
+use crate::places::{is_any, none};
 use crate::stepping::step;
+use crate::walk::Walk;
 use jp_iregexp::Pattern;
+use std::alloc::{AllocError, Global};
 
-/// A pattern, and a mark for each of its positions: its class has taken the last character.
+/// A pattern, a mark for each of its positions, and whether its end is reached.
 #[derive(Drop)]
 pub(crate) struct Marking<'p> {
     pub(crate) pattern: &'p Pattern,
-    pub(crate) marks: Vec<bool>,
-    ghost sized: { length marks.items ≡ positions_of (tree pattern.now) },
-    ghost few: { length marks.items ≤ 4096 },
+    pub(crate) walk: Walk,
+    pub(crate) ends: bool,
+    pub(crate) ends_entered: bool,
+    ghost sized: { length walk.marks.items ≡ positions_of (tree pattern.now) },
+    ghost kept: { length walk.rounds.items ≡ rounds_of (unrolled (tree pattern.now)) },
+    ghost so: { rounds_end (unrolled (tree pattern.now)) walk.marks.items walk.rounds.items ≡ true },
+    ghost reached: { ends ≡ marks_end (unrolled (tree pattern.now)) walk.marks.items },
+    ghost reached_entered: { ends_entered ≡ (marks_end (unrolled (tree pattern.now))
+        walk.marks.items || takes_none (unrolled (tree pattern.now))) },
 }
 
 impl<'p> Marking<'p> {
+    /// No mark so far.
+    pub(crate) fn new(
+        alloc: Global,
+        pattern: &'p Pattern,
+        counts: Counts,
+    ) -> Result<Marking<'p>, AllocError>
+        requires positions { counts.positions ≡ positions_of (tree pattern.now) }
+        requires rounds { counts.rounds ≡ min (rounds_of (unrolled (tree pattern.now))) (2 ^ 31) }
+        ensures of { IfOk result (λ marking. marking.pattern.now ≡ pattern.entry.now) }
+        ensures none { IfOk result (λ marking. (position : ℕ) →
+            IsTrue (get_or marking.walk.marks.items position false) → ⊥) }
+    {
+        if counts.rounds >= MANY_ROUNDS {
+            return Err(AllocError);
+        }
+        let marks = none(alloc, counts.positions as usize)?;
+        let rounds = none(alloc, counts.rounds as usize)?;
+        Ok(Marking {
+            pattern,
+            walk: Walk {
+                marks,
+                rounds,
+                at: 0,
+                round: 0,
+            },
+            ends: false,
+            ends_entered: has_empty_word(pattern),
+        })
+    }
+
     /// Moves the marks over the character, and answers whether the end was reached before.
     pub(crate) fn step(&mut self, entered: bool, c: char, tests: &mut Tests) -> bool
         ensures same { self.new.pattern.now ≡ self.old.pattern.now }
-        ensures step { Steps (unrolled (tree self.old.pattern.now)) c entered self.old.marks.items
-            self.new.marks.items result }
+        ensures step { Steps (unrolled (tree self.old.pattern.now)) c entered
+            self.old.walk.marks.items self.new.walk.marks.items result }
         ensures counted { tests.new ≤ tests.old + positions_of (tree self.old.pattern.now) }
         ensures kept { tests.old ≤ tests.new }
     {
-        step(self.pattern, &mut self.marks, entered, c, tests)
+        self.walk.at = 0;
+        self.walk.round = 0;
+        let reach = step(self.pattern, &mut self.walk, entered, c, tests);
+        self.ends = reach.after;
+        self.ends_entered = reach.after_entered;
+        reach.before
     }
 
     /// Whether the end is reached.
     pub(crate) fn ends(&self, entered: bool) -> bool
-        ensures { Ends (unrolled (tree self.now.pattern.now)) entered self.now.marks.items result }
+        ensures { Ends (unrolled (tree self.now.pattern.now)) entered self.now.walk.marks.items
+            result }
     {
-        ends(self.pattern, &self.marks, entered)
+        self.ends | (entered & self.ends_entered)
     }
 
     /// Whether there is a mark.
     pub(crate) fn has_mark(&self) -> bool
-        ensures { IsTrue result ↔ ((position : ℕ) × IsTrue (get_or self.now.marks.items position
-            false)) }
+        ensures { IsTrue result ↔ ((position : ℕ) × IsTrue (get_or self.now.walk.marks.items
+            position false)) }
     {
-        is_any(&self.marks)
+        is_any(&self.walk.marks)
     }
 }

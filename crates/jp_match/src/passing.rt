@@ -7,9 +7,10 @@ ghost use Rattle.jp_iregexp.specs.Positions.{positions_of};
 ghost use Rattle.jp_match.specs.Private.Place.{IsImage};
 
 use crate::class_tests::Tests;
+use crate::counts::counts_of;
 use crate::marking::Marking;
-use crate::places::{Ground, Places, none};
-use jp_iregexp::{Pattern, positions};
+use crate::places::{Ground, Places};
+use jp_iregexp::Pattern;
 use std::alloc::AllocError;
 
 /// Replaces the places by those that a word of the pattern reaches from them. It goes over the text
@@ -26,8 +27,7 @@ pub(crate) fn pass(
         places.old.items places.new.items) }
     ensures counted { tests.old ≤ tests.new }
 {
-    let marks = none(ground.alloc, positions(pattern) as usize)?;
-    let mut marking = Marking { pattern, marks };
+    let mut marking = Marking::new(ground.alloc, pattern, counts_of(pattern))?;
     for (i, c) in ground.text.iter().enumerate() {
         let entered = places[i];
         places[i] = marking.step(entered, *c, tests);

@@ -6,9 +6,9 @@ ghost use Rattle.jp_iregexp.specs.Positions.{positions_of};
 ghost use Rattle.jp_match.specs.Scan.{Begins, Left, tree_of};
 
 use crate::class_tests::Tests;
+use crate::counts::counts_of;
 use crate::marking::Marking;
-use crate::places::none;
-use jp_iregexp::{Pattern, positions};
+use jp_iregexp::Pattern;
 use std::alloc::{AllocError, Global};
 
 /// The most positions of a pattern that there is a scan for.
@@ -35,13 +35,13 @@ impl<'p> Scan<'p> {
     ) -> Result<Option<Scan<'p>>, AllocError>
         ensures { IfOk result (Begins (tree pattern.now) anywhere) }
     {
-        let count = positions(pattern);
-        if count > MOST_POSITIONS {
+        let counts = counts_of(pattern);
+        if counts.positions > MOST_POSITIONS {
             return Ok(None);
         }
-        let marks = none(alloc, count as usize)?;
+        let marking = Marking::new(alloc, pattern, counts)?;
         Ok(Some(Scan {
-            marking: Marking { pattern, marks },
+            marking,
             anywhere,
             at_start: true,
         }))

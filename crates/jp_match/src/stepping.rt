@@ -1,130 +1,107 @@
 //! A step of a scan over one character.
 
-ghost use Rattle.std.specs.Prelude.{◌≡◌, ◌+◌, ◌*◌, ◌/◌, ◌≤◌, ◌<◌, length, map};
-ghost use Rattle.std.specs.Prelude.{Some, None, false};
+ghost use Rattle.std.specs.Prelude.{◌≡◌, ◌+◌, ◌≤◌, ◌<◌, min, map, true, false};
 ghost use Rattle.jp_iregexp.specs.Tree.{tree, branches, pieces, repeat};
-ghost use Rattle.jp_iregexp.specs.Positions.{positions_of};
 ghost use Rattle.jp_match.specs.Private.Plain.{unrolled, class as plain_class, plus, between};
 ghost use Rattle.jp_match.specs.Private.Plain.{at_least};
-ghost use Rattle.jp_match.specs.Private.Marks.{Steps};
+ghost use Rattle.jp_match.specs.Private.Marks.{size};
+ghost use Rattle.jp_match.specs.Private.Walks.{IsBefore, Moves, own_rounds};
 
 use crate::class_tests::Tests;
-use crate::empty_word::repeats_empty_word;
-use crate::ending::ends;
 use crate::one_class::one_class;
-use crate::places::is_any;
-use crate::position_count::position_count;
+use crate::walk::{Reach, Walk};
 use jp_iregexp::{CharClass, Pattern};
 
-/// Moves the marks of a pattern over the character, and answers whether its end was reached before:
-/// by a mark, or by the empty word where the pattern is entered.
+/// Moves the marks of a pattern over the character.
 #[cycle(step)]
 pub(crate) fn step(
     pattern: &Pattern,
-    row: &mut [bool],
+    walk: &mut Walk,
     entered: bool,
     c: char,
     tests: &mut Tests,
-) -> bool
-    requires sized { length row.old ≡ positions_of (tree pattern.now) }
-    requires few { length row.old ≤ 4096 }
-    ensures step { Steps (unrolled (tree pattern.now)) c entered row.old row.new result }
-    ensures counted { tests.new ≤ tests.old + length row.old }
+) -> Reach
+    requires { IsBefore (unrolled (tree pattern.now)) walk.old }
+    ensures moves { Moves (unrolled (tree pattern.now)) c entered false true walk.old walk.new
+        result.before result.after result.after_entered }
+    ensures counted { walk.old.at + tests.new ≤ walk.new.at + tests.old }
     ensures kept { tests.old ≤ tests.new }
 {
-    if !entered && !is_any(row) {
-        return false;
-    }
     match pattern {
-        Pattern::Either(branches) => step_either(branches, row, entered, c, tests),
-        Pattern::Sequence(pieces) => step_sequence(pieces, row, entered, c, tests),
+        Pattern::Either(branches) => step_either(branches, walk, entered, c, tests),
+        Pattern::Sequence(pieces) => step_sequence(pieces, walk, entered, c, tests),
         Pattern::Repeat { inner, least, most } => {
-            step_repeat(inner, *least, *most, row, entered, c, tests)
+            step_repeat(inner, *least, *most, walk, entered, c, tests)
         }
-        Pattern::Class(class) => step_class(class, row, entered, c, tests),
+        Pattern::Class(class) => step_class(class, walk, entered, c, tests),
     }
 }
 
 /// The same for a class: its one position.
 fn step_class(
     class: &CharClass,
-    row: &mut [bool],
+    walk: &mut Walk,
     entered: bool,
     c: char,
     tests: &mut Tests,
-) -> bool
-    requires sized { length row.old ≡ 1 }
-    ensures step { Steps (plain_class class.now.negated class.now.items.items) c entered row.old
-        row.new result }
-    ensures counted { tests.new ≤ tests.old + 1 }
+) -> Reach
+    requires { IsBefore (plain_class class.now.negated class.now.items.items) walk.old }
+    ensures moves { Moves (plain_class class.now.negated class.now.items.items) c entered false
+        true walk.old walk.new result.before result.after result.after_entered }
+    ensures counted { walk.old.at + tests.new ≤ walk.new.at + tests.old }
     ensures kept { tests.old ≤ tests.new }
 {
-    let ended = row[0];
-    row[0] = entered && tests.holds(class, c);
-    ended
+    let before = walk.marks[walk.at];
+    let after = entered && tests.holds(class, c);
+    walk.marks[walk.at] = after;
+    walk.at += 1;
+    Reach {
+        before,
+        after,
+        after_entered: after,
+    }
 }
 
 /// The same for branches.
 #[cycle(step)]
 fn step_either(
     parts: &[Pattern],
-    row: &mut [bool],
+    walk: &mut Walk,
     entered: bool,
     c: char,
     tests: &mut Tests,
-) -> bool
-    requires sized { length row.old ≡ positions_of (branches (map tree parts.now)) }
-    requires few { length row.old ≤ 4096 }
-    ensures step { Steps (unrolled (branches (map tree parts.now))) c entered row.old row.new
-        result }
-    ensures counted { tests.new ≤ tests.old + length row.old }
+) -> Reach
+    requires { IsBefore (unrolled (branches (map tree parts.now))) walk.old }
+    ensures moves { Moves (unrolled (branches (map tree parts.now))) c entered false true walk.old
+        walk.new result.before result.after result.after_entered }
+    ensures counted { walk.old.at + tests.new ≤ walk.new.at + tests.old }
     ensures kept { tests.old ≤ tests.new }
 {
-    if let [only] = parts {
-        return match only {
-            Pattern::Sequence(pieces) => step_sequence(pieces, row, entered, c, tests),
-            _ => step(only, row, entered, c, tests),
-        };
-    }
-    let mut ended = false;
-    let mut at = 0;
+    let mut ended = Reach::none();
     for branch in parts {
-        let end = at + position_count(branch);
-        ended |= step(branch, &mut row[at..end], entered, c, tests);
-        at = end;
+        ended = ended.or(step(branch, walk, entered, c, tests));
     }
     ended
 }
 
-/// The same for pieces: where one has ended, the next is entered. Where none is and no mark is
-/// left, the others have nothing to do.
+/// The same for pieces: where one has ended, the next is entered.
 #[cycle(step)]
 fn step_sequence(
     parts: &[Pattern],
-    row: &mut [bool],
+    walk: &mut Walk,
     entered: bool,
     c: char,
     tests: &mut Tests,
-) -> bool
-    requires sized { length row.old ≡ positions_of (pieces (map tree parts.now)) }
-    requires few { length row.old ≤ 4096 }
-    ensures step { Steps (unrolled (pieces (map tree parts.now))) c entered row.old row.new result }
-    ensures counted { tests.new ≤ tests.old + length row.old }
+) -> Reach
+    requires { IsBefore (unrolled (pieces (map tree parts.now))) walk.old }
+    ensures moves { Moves (unrolled (pieces (map tree parts.now))) c entered false true walk.old
+        walk.new result.before result.after result.after_entered }
+    ensures counted { walk.old.at + tests.new ≤ walk.new.at + tests.old }
     ensures kept { tests.old ≤ tests.new }
 {
-    if let [only] = parts {
-        return step(only, row, entered, c, tests);
-    }
-    let mut through = entered;
-    let mut at = 0;
+    let mut through = Reach::at_start(entered);
     for piece in parts {
-        let end = at + position_count(piece);
-        let ended = step(piece, &mut row[at..end], through, c, tests);
-        if through && !ended && !is_any(&row[end..]) {
-            return false;
-        }
-        through = ended;
-        at = end;
+        through = through.then(step(piece, walk, through.before, c, tests));
     }
     through
 }
@@ -135,105 +112,97 @@ fn step_repeat(
     inner: &Pattern,
     least: u32,
     most: Option<u32>,
-    row: &mut [bool],
+    walk: &mut Walk,
     entered: bool,
     c: char,
     tests: &mut Tests,
-) -> bool
-    requires sized { length row.old ≡ positions_of (repeat (tree inner.now) least most) }
-    requires few { length row.old ≤ 4096 }
-    ensures step { Steps (unrolled (repeat (tree inner.now) least most)) c entered row.old row.new
-        result }
-    ensures counted { tests.new ≤ tests.old + length row.old }
+) -> Reach
+    requires { IsBefore (unrolled (repeat (tree inner.now) least most)) walk.old }
+    ensures moves { Moves (unrolled (repeat (tree inner.now) least most)) c entered false true
+        walk.old walk.new result.before result.after result.after_entered }
+    ensures counted { walk.old.at + tests.new ≤ walk.new.at + tests.old }
     ensures kept { tests.old ≤ tests.new }
 {
-    if row.is_empty() {
-        return entered && repeats_empty_word(inner, least, most);
-    }
     match most {
-        Some(most) => step_between(inner, least, most, row, entered, c, tests),
-        None if least == 0 => step_plus(inner, row, entered, c, tests) | entered,
-        None => step_at_least(inner, least, row, entered, c, tests),
+        Some(most) => step_between(inner, least, most, walk, entered, c, tests),
+        None if least == 0 => {
+            Reach::at_start(entered).or(step_plus(inner, walk, entered, c, tests))
+        }
+        None => step_at_least(inner, least, walk, entered, c, tests),
     }
-}
-
-/// How many positions each copy has. Most repeats in a repeat have one copy, and a division takes
-/// longer than the rest of their step.
-fn copy_size(positions: usize, copies: u32) -> usize
-    requires { 0 < copies }
-    ensures { result ≡ positions / copies }
-{
-    if copies == 1 {
-        return positions;
-    }
-    positions / copies as usize
 }
 
 /// The same for a repeat with a most. It may end before each copy, and after the last one, where
-/// there were at least the least. All copies of one class share one test of it.
+/// there were at least the least. Copies of one class share one test of it.
 #[cycle(step)]
 fn step_between(
     inner: &Pattern,
     least: u32,
     most: u32,
-    row: &mut [bool],
+    walk: &mut Walk,
     entered: bool,
     c: char,
     tests: &mut Tests,
-) -> bool
-    requires sized { length row.old ≡ most * positions_of (tree inner.now) }
-    requires some { 0 < most }
-    requires few { length row.old ≤ 4096 }
-    ensures step { Steps (between (unrolled (tree inner.now)) least most) c entered row.old row.new
-        result }
-    ensures counted { tests.new ≤ tests.old + length row.old }
+) -> Reach
+    requires { IsBefore (between (unrolled (tree inner.now)) least most) walk.old }
+    ensures moves { Moves (between (unrolled (tree inner.now)) least most) c entered false true
+        walk.old walk.new result.before result.after result.after_entered }
+    ensures counted { walk.old.at + tests.new ≤ walk.new.at + tests.old }
     ensures kept { tests.old ≤ tests.new }
 {
+    if most < 2 {
+        return step_copies(inner, least, most, walk, entered, c, tests);
+    }
     let Some(one) = one_class(inner) else {
-        return step_copies(inner, least, most, row, entered, c, tests);
+        return step_copies(inner, least, most, walk, entered, c, tests);
     };
     let holds = tests.holds(one.class, c);
-    let mut ended = false;
-    let mut through = entered;
+    let mut ended = Reach::none();
+    let mut through = Reach::at_start(entered);
     for copies in 0..most {
-        ended |= (least <= copies) & through;
-        let marked = row[copies as usize];
-        row[copies as usize] = through & holds;
-        through = marked | (one.is_optional & through);
+        ended = ended.or(through.only_if(least <= copies));
+        let marked = walk.marks[walk.at];
+        let next = through.before & holds;
+        walk.marks[walk.at] = next;
+        walk.at += 1;
+        through = through.then(Reach {
+            before: marked | (one.is_optional & through.before),
+            after: next,
+            after_entered: next | one.is_optional,
+        });
     }
-    ended | ((least <= most) & through)
+    ended.or(through.only_if(least <= most))
 }
 
-/// The same for copies of more than one class, each by itself.
+/// The same for copies of more than one class, each by itself. Copies without positions are all as
+/// the first.
 #[cycle(step)]
 fn step_copies(
     inner: &Pattern,
     least: u32,
     most: u32,
-    row: &mut [bool],
+    walk: &mut Walk,
     entered: bool,
     c: char,
     tests: &mut Tests,
-) -> bool
-    requires sized { length row.old ≡ most * positions_of (tree inner.now) }
-    requires some { 0 < most }
-    requires few { length row.old ≤ 4096 }
-    ensures step { Steps (between (unrolled (tree inner.now)) least most) c entered row.old row.new
-        result }
-    ensures counted { tests.new ≤ tests.old + length row.old }
+) -> Reach
+    requires { IsBefore (between (unrolled (tree inner.now)) least most) walk.old }
+    ensures moves { Moves (between (unrolled (tree inner.now)) least most) c entered false true
+        walk.old walk.new result.before result.after result.after_entered }
+    ensures counted { walk.old.at + tests.new ≤ walk.new.at + tests.old }
     ensures kept { tests.old ≤ tests.new }
 {
-    let size = copy_size(row.len(), most);
-    let mut ended = false;
-    let mut through = entered;
-    let mut at = 0;
+    let mut ended = Reach::none();
+    let mut through = Reach::at_start(entered);
     for copies in 0..most {
-        ended |= (least <= copies) & through;
-        let next = at + size;
-        through = step(inner, &mut row[at..next], through, c, tests);
-        at = next;
+        ended = ended.or(through.only_if(least <= copies));
+        let at = walk.at;
+        through = through.then(step(inner, walk, through.before, c, tests));
+        if walk.at == at {
+            return ended.or(through.only_if(least <= most));
+        }
     }
-    ended | ((least <= most) & through)
+    ended.or(through.only_if(least <= most))
 }
 
 /// The same for a repeat with a least and no most: the last copy goes on.
@@ -241,38 +210,71 @@ fn step_copies(
 fn step_at_least(
     inner: &Pattern,
     least: u32,
-    row: &mut [bool],
+    walk: &mut Walk,
     entered: bool,
     c: char,
     tests: &mut Tests,
-) -> bool
-    requires sized { length row.old ≡ least * positions_of (tree inner.now) }
+) -> Reach
+    requires before { IsBefore (at_least (unrolled (tree inner.now)) least) walk.old }
     requires some { 0 < least }
-    requires few { length row.old ≤ 4096 }
-    ensures step { Steps (at_least (unrolled (tree inner.now)) least) c entered row.old row.new
-        result }
-    ensures counted { tests.new ≤ tests.old + length row.old }
+    ensures moves { Moves (at_least (unrolled (tree inner.now)) least) c entered false true
+        walk.old walk.new result.before result.after result.after_entered }
+    ensures counted { walk.old.at + tests.new ≤ walk.new.at + tests.old }
     ensures kept { tests.old ≤ tests.new }
 {
-    let size = copy_size(row.len(), least);
-    let mut through = entered;
-    let mut at = 0;
+    let mut through = Reach::at_start(entered);
     for _ in 1..least {
-        through = step(inner, &mut row[at..at + size], through, c, tests);
-        at += size;
+        let at = walk.at;
+        through = through.then(step(inner, walk, through.before, c, tests));
+        if walk.at == at {
+            return through.then(step_plus(inner, walk, through.before, c, tests));
+        }
     }
-    step_plus(inner, &mut row[at..], through, c, tests)
+    through.then(step_plus(inner, walk, through.before, c, tests))
 }
 
-/// The same for one or more words of the pattern: where one has ended, the next may begin.
+/// The same for one or more words of the pattern: where one has ended, the next may begin. The mark
+/// of a class tells whether one has.
 #[cycle(step)]
-fn step_plus(inner: &Pattern, row: &mut [bool], entered: bool, c: char, tests: &mut Tests) -> bool
-    requires sized { length row.old ≡ positions_of (tree inner.now) }
-    requires few { length row.old ≤ 4096 }
-    ensures step { Steps (plus (unrolled (tree inner.now))) c entered row.old row.new result }
-    ensures counted { tests.new ≤ tests.old + length row.old }
+fn step_plus(inner: &Pattern, walk: &mut Walk, entered: bool, c: char, tests: &mut Tests) -> Reach
+    requires { IsBefore (plus (unrolled (tree inner.now))) walk.old }
+    ensures moves { Moves (plus (unrolled (tree inner.now))) c entered false true walk.old walk.new
+        result.before result.after result.after_entered }
+    ensures counted { walk.old.at + tests.new ≤ walk.new.at + tests.old }
     ensures kept { tests.old ≤ tests.new }
 {
-    let again = entered || ends(inner, row, false);
-    step(inner, row, again, c, tests)
+    match inner {
+        Pattern::Class(class) => {
+            let again = entered | walk.marks[walk.at];
+            step_class(class, walk, again, c, tests)
+        }
+        _ => step_rounds(inner, walk, entered, c, tests),
+    }
+}
+
+/// The same for a pattern that is no class. Without positions it has no round that is kept.
+#[cycle(step)]
+fn step_rounds(inner: &Pattern, walk: &mut Walk, entered: bool, c: char, tests: &mut Tests) -> Reach
+    requires before { IsBefore (plus (unrolled (tree inner.now))) walk.old }
+    requires own { own_rounds (unrolled (tree inner.now)) ≡ min (size (unrolled (tree inner.now))) 1 }
+    ensures moves { Moves (plus (unrolled (tree inner.now))) c entered false true walk.old walk.new
+        result.before result.after result.after_entered }
+    ensures counted { walk.old.at + tests.new ≤ walk.new.at + tests.old }
+    ensures kept { tests.old ≤ tests.new }
+{
+    let at = walk.at;
+    let round = walk.round;
+    let again = entered | walk.round_has_ended();
+    walk.round = round.saturating_add(1);
+    let reach = step(inner, walk, again, c, tests);
+    if walk.at == at {
+        walk.round = round;
+        return Reach {
+            before: reach.before & entered,
+            after: reach.after,
+            after_entered: reach.after_entered,
+        };
+    }
+    walk.rounds[round] = reach.after;
+    reach
 }

@@ -6,16 +6,10 @@ use Rattle.std.specs.Bool.{IsTrue}
 use Rattle.std.proofs.lemmas.Bool.{leb-true, le-leb}
 use Rattle.jp_iregexp.specs.Tree as tree
 use Rattle.jp_iregexp.specs.Tree.{Tree}
-use Rattle.jp_iregexp.specs.Positions.{positions_of}
 use Rattle.jp_iregexp.specs.Language.{Power, Language, IsAtMost}
 use Rattle.jp_match.specs.Private.EmptyWord.{has_empty, is_within}
-use Rattle.jp_match.specs.Private.Plain.{unrolled}
-use Rattle.jp_match.specs.Private.Marks.{size, Steps}
 use Rattle.jp_match.proofs.Bools.{and_is, or_is}
 use Rattle.jp_match.proofs.Steps.EndParts.{joined_nil, nil_joined}
-use Rattle.jp_match.proofs.Steps.StepParts.{step_without}
-use Rattle.jp_match.proofs.Steps.Turns.{size_unrolled}
-use Rattle.jp_match.proofs.Steps.Unrolled.{unrolled-words}
 
 within_is : (least : ℕ) (most : Option ℕ) → IsTrue (is_within least most) ↔ IsAtMost most least
 within_is least None = (λ h. tt, λ h. refl)
@@ -25,7 +19,7 @@ at_most_within : (least k : ℕ) (most : Option ℕ) → least ≤ k → IsAtMos
 at_most_within least k None enough within = tt
 at_most_within least k (Some most) enough within = omega arith
 
-powers_nil : (L : List ℕ → Type 0) (k : ℕ) → L [] → Power L k []
+pub powers_nil : (L : List ℕ → Type 0) (k : ℕ) → L [] → Power L k []
 powers_nil L zero h = refl
 powers_nil L (suc k) h = nil_joined L (Power L k) h (powers_nil L k h)
 
@@ -73,27 +67,3 @@ empty_is (tree.repeat a least most) = (
             (has_empty a) (empty_is a).1),
       ),
 )
-
-no_marks : (row : List Bool) → length row ≡ 0 → row ≡ []
-no_marks [] h = refl
-no_marks (x ∷ row) h = absurd (omega (arith, h))
-
-pub step_empty_row : (t : Tree) (c : ℕ) (entered p : Bool) (row : List Bool) →
-    length row ≡ positions_of t → length row ≡ 0 →
-    IsTrue p ↔ (IsTrue entered × IsTrue (has_empty t)) → Steps (unrolled t) c entered row row p
-step_empty_row t c entered p row sized none is =
-    let sizes : size (unrolled t) ≡ 0 = size_unrolled t ∙ sym sized ∙ none in
-    let step = step_without (unrolled t) c entered p sizes (
-      λ h. let q = is.0 h in (q.0, (unrolled-words t []).1 ((empty_is t).0 q.1)),
-      λ h. is.1 (h.0, (empty_is t).1 ((unrolled-words t []).0 h.1)),
-    ) in
-    rw (no_marks row none) step
-
--- the pattern is entered and has the empty word, or it is not entered
-pub by_entered : (t : Tree) (entered p : Bool) → entered ≡ true → p ≡ has_empty t →
-    IsTrue p ↔ (IsTrue entered × IsTrue (has_empty t))
-by_entered t entered p e is = (λ h. (e, sym is ∙ h), λ h. is ∙ h.1)
-
-pub not_entered : (t : Tree) (entered : Bool) → entered ≡ false →
-    IsTrue entered ↔ (IsTrue entered × IsTrue (has_empty t))
-not_entered t entered e = (λ h. absurd (cc), λ h. h.0)

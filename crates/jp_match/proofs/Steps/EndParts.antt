@@ -1,5 +1,5 @@
 -- Where the end is reached, part by part.
-use Rattle.std.proofs.Common.{◌≡◌, inl, inr, ℕ, Bool, false, ◌||◌, List, [], ◌∷◌, ◌++◌, take, drop}
+use Rattle.std.proofs.Common.{◌≡◌, inl, inr, ℕ, Bool, false, ◌||◌, List, [], ◌∷◌, ◌++◌, drop}
 use Rattle.std.proofs.Common.{get_or, refl, sym, subst}
 use Rattle.jp_iregexp.specs.declared.class.ClassItem.{ClassItem}
 use Rattle.jp_iregexp.specs.Language.{Concatenation, Power}
@@ -50,7 +50,7 @@ ends_nothing entered marks = record {
 }
 
 pub ends_either : (a b : Plain) (entered : Bool) (marks : List Bool) (x y : Bool) →
-    Ends a entered (take (size a) marks) x → Ends b entered (drop (size a) marks) y →
+    Ends a entered marks x → Ends b entered (drop (size a) marks) y →
     Ends (either a b) entered marks (x || y)
 ends_either a b entered marks x y ha hb = record {
   is = (
@@ -72,20 +72,20 @@ ends_either a b entered marks x y ha hb = record {
 }
 
 pub ends_sequence : (a b : Plain) (entered : Bool) (marks : List Bool) (x y : Bool) →
-    Ends a entered (take (size a) marks) x → Ends b x (drop (size a) marks) y →
+    Ends a entered marks x → Ends b x (drop (size a) marks) y →
     Ends (sequence a b) entered marks y
 ends_sequence a b entered marks x y ha hb = record {
   is = (
     λ h. elim (hb.is.0 h) [
       | inl r ↦ inl (inr r)
       | inr w ↦ elim (ha.is.0 w.0) [
-        | inl r ↦ inl (inl (nil_joined (Rest a (take (size a) marks)) (Words b) r w.1))
+        | inl r ↦ inl (inl (nil_joined (Rest a marks) (Words b) r w.1))
         | inr v ↦ inr (v.0, nil_joined (Words a) (Words b) v.1 w.1)
       ]
     ],
     λ h. hb.is.1 (elim h [
       | inl r ↦ elim r [
-        | inl j ↦ let p = joined_nil (Rest a (take (size a) marks)) (Words b) j in
+        | inl j ↦ let p = joined_nil (Rest a marks) (Words b) j in
             inr (ha.is.1 (inl p.0), p.1)
         | inr rb ↦ inl rb
       ]

@@ -1,9 +1,9 @@
 -- A step over one character, part by part.
-use Rattle.std.proofs.Common.{◌≡◌, ◌↔◌, ◌⊎◌, inl, inr, ℕ, zero, suc, ◌+◌, ◌<◌, Bool, true, false}
-use Rattle.std.proofs.Common.{◌||◌, ◌&&◌, List, [], ◌∷◌, ◌++◌, length, take, drop, get_or, sym, ap}
+use Rattle.std.proofs.Common.{◌≡◌, ◌↔◌, ◌⊎◌, inl, inr, ℕ, zero, suc, ◌+◌, ◌≤◌, ◌<◌, Bool, true, false}
+use Rattle.std.proofs.Common.{◌||◌, ◌&&◌, List, [], ◌∷◌, ◌++◌, drop, get_or, sym, ap}
 use Rattle.std.proofs.Common.{◌∙◌, subst, arith}
 use Rattle.std.specs.Bool.{IsTrue}
-use Rattle.std.proofs.lemmas.List.{take_at, drop_at, get_or-drop, get_or-take, length-take}
+use Rattle.std.proofs.lemmas.List.{get_or-drop}
 use Rattle.jp_iregexp.specs.declared.class.ClassItem.{ClassItem}
 use Rattle.jp_iregexp.specs.Class.{class_holds}
 use Rattle.jp_iregexp.specs.Language.{Concatenation, Power}
@@ -11,7 +11,6 @@ use Rattle.jp_match.specs.Private.Plain.{Plain, Words, class, nothing, either, e
 use Rattle.jp_match.specs.Private.Plain.{plus}
 use Rattle.jp_match.specs.Private.Marks.{Star, size, Rest, Ends, Steps}
 use Rattle.jp_match.proofs.Bools.{and_is, or_is}
-use Rattle.jp_match.proofs.Sets.Cuts.{marked_below}
 use Rattle.jp_match.proofs.Steps.EndParts.{ends_class, ends_empty, ends_nothing, ends_either}
 use Rattle.jp_match.proofs.Steps.EndParts.{ends_sequence, ends_plus, nil_before}
 
@@ -109,27 +108,19 @@ step_nothing c entered before after = record {
   ends = ends_nothing entered before;
 }
 
--- the marks of two parts
-record Beside (a : Plain) (x y all : List Bool) : Type 0 where
-  first : take (size a) all ≡ x
-  second : drop (size a) all ≡ y
-
-beside : (a : Plain) (x y : List Bool) → length x ≡ size a → Beside a x y (x ++ y)
-beside a x y long = record { first = take_at x y (size a) long; second = drop_at x y (size a) long }
-
-pub step_either : (a b : Plain) (c : ℕ) (entered : Bool) (before x y : List Bool) (p q : Bool) →
-    length x ≡ size a →
-    Steps a c entered (take (size a) before) x p → Steps b c entered (drop (size a) before) y q →
-    Steps (either a b) c entered before (x ++ y) (p || q)
-step_either a b c entered before x y p q long ha hb = let at = beside a x y long in record {
+pub step_either : (a b : Plain) (c : ℕ) (entered : Bool) (before after : List Bool) (p q : Bool) →
+    Steps a c entered before after p →
+    Steps b c entered (drop (size a) before) (drop (size a) after) q →
+    Steps (either a b) c entered before after (p || q)
+step_either a b c entered before after p q ha hb = record {
   left = λ word. (
     λ h. elim h [
-      | inl r ↦ elim ((ha.left word).0 (rw at.first at r)) [
+      | inl r ↦ elim ((ha.left word).0 r) [
         | inl s ↦ inl (inl s)
         | inr w ↦ inr
             (w.0, inl w.1)
       ]
-      | inr r ↦ elim ((hb.left word).0 (rw at.second at r)) [
+      | inr r ↦ elim ((hb.left word).0 r) [
         | inl s ↦ inl (inr s)
         | inr w ↦ inr
             (w.0, inr w.1)
@@ -137,27 +128,27 @@ step_either a b c entered before x y p q long ha hb = let at = beside a x y long
     ],
     λ h. elim h [
       | inl r ↦ elim r [
-        | inl s ↦ inl (rw at.first ((ha.left word).1 (inl s)))
-        | inr s ↦ inr (rw at.second ((hb.left word).1 (inl s)))
+        | inl s ↦ inl ((ha.left word).1 (inl s))
+        | inr s ↦ inr ((hb.left word).1 (inl s))
       ]
       | inr w ↦ elim w.1 [
-        | inl s ↦ inl (rw at.first ((ha.left word).1 (inr (w.0, s))))
-        | inr s ↦ inr (rw at.second ((hb.left word).1 (inr (w.0, s))))
+        | inl s ↦ inl ((ha.left word).1 (inr (w.0, s)))
+        | inr s ↦ inr ((hb.left word).1 (inr (w.0, s)))
       ]
     ],
   );
   ends = ends_either a b entered before p q ha.ends hb.ends;
 }
 
-pub step_sequence : (a b : Plain) (c : ℕ) (entered : Bool) (before x y : List Bool) (p q : Bool) →
-    length x ≡ size a →
-    Steps a c entered (take (size a) before) x p → Steps b c p (drop (size a) before) y q →
-    Steps (sequence a b) c entered before (x ++ y) q
-step_sequence a b c entered before x y p q long ha hb = let at = beside a x y long in record {
+pub step_sequence : (a b : Plain) (c : ℕ) (entered : Bool) (before after : List Bool) (p q :
+    Bool) → Steps a c entered before after p →
+    Steps b c p (drop (size a) before) (drop (size a) after) q →
+    Steps (sequence a b) c entered before after q
+step_sequence a b c entered before after p q ha hb = record {
   left = λ word. (
     λ h. elim h [
-      | inl j ↦ elim ((ha.left j.prefix).0 (rw at.first at j.first)) [
-        | inl s ↦ inl (inl (cons_joined (Rest a (take (size a) before)) (Words b) c word (record {
+      | inl j ↦ elim ((ha.left j.prefix).0 j.first) [
+        | inl s ↦ inl (inl (cons_joined (Rest a before) (Words b) c word (record {
           prefix = j.prefix;
           suffix = j.suffix;
           is = j.is;
@@ -176,10 +167,10 @@ step_sequence a b c entered before x y p q long ha hb = let at = beside a x y lo
           }),
         )
       ]
-      | inr r ↦ elim ((hb.left word).0 (rw at.second at r)) [
+      | inr r ↦ elim ((hb.left word).0 r) [
         | inl s ↦ inl (inr s)
         | inr w ↦ elim (ha.ends.is.0 w.0) [
-          | inl s ↦ inl (inl (nil_before (Rest a (take (size a) before)) (Words b) (c ∷ word) s
+          | inl s ↦ inl (inl (nil_before (Rest a before) (Words b) (c ∷ word) s
               w.1))
           | inr v ↦ inr (v.0, nil_before (Words a) (Words b) (c ∷ word) v.1 w.1)
         ]
@@ -187,27 +178,25 @@ step_sequence a b c entered before x y p q long ha hb = let at = beside a x y lo
     ],
     λ h. elim h [
       | inl r ↦ elim r [
-        | inl j ↦ elim (joined_cons (Rest a (take (size a) before)) (Words b) c word j) [
-          | inl n ↦ inr (rw at.second ((hb.left word).1 (inr (ha.ends.is.1 (inl n.0), n.1))))
+        | inl j ↦ elim (joined_cons (Rest a before) (Words b) c word j) [
+          | inl n ↦ inr ((hb.left word).1 (inr (ha.ends.is.1 (inl n.0), n.1)))
           | inr k ↦ inl (record {
             prefix = k.prefix;
             suffix = k.suffix;
             is = k.is;
-            first = rw at.first
-                ((ha.left k.prefix).1 (inl k.first));
+            first = (ha.left k.prefix).1 (inl k.first);
             second = k.second;
           })
         ]
-        | inr s ↦ inr (rw at.second ((hb.left word).1 (inl s)))
+        | inr s ↦ inr ((hb.left word).1 (inl s))
       ]
       | inr w ↦ elim (joined_cons (Words a) (Words b) c word w.1) [
-        | inl n ↦ inr (rw at.second ((hb.left word).1 (inr (ha.ends.is.1 (inr (w.0, n.0)), n.1))))
+        | inl n ↦ inr ((hb.left word).1 (inr (ha.ends.is.1 (inr (w.0, n.0)), n.1)))
         | inr k ↦ inl (record {
           prefix = k.prefix;
           suffix = k.suffix;
           is = k.is;
-          first = rw at.first
-              ((ha.left k.prefix).1 (inr (w.0, k.first)));
+          first = (ha.left k.prefix).1 (inr (w.0, k.first));
           second = k.second;
         })
       ]
@@ -310,14 +299,7 @@ step_plus a c entered again before after p may ha = record {
     );
   })
 
-none_taken : (n : ℕ) (marks : List Bool) → ((k : ℕ) → IsTrue (get_or marks k false) → ⊥) →
-    (k : ℕ) → IsTrue (get_or (take n marks) k false) → ⊥
-none_taken n marks none k h =
-    let below = marked_below (take n marks) k h in
-    let few : k < n = omega (arith, length-take n marks) in
-    none k (sym (get_or-take n marks k false few) ∙ h)
-
-none_dropped : (n : ℕ) (marks : List Bool) → ((k : ℕ) → IsTrue (get_or marks k false) → ⊥) →
+pub none_dropped : (n : ℕ) (marks : List Bool) → ((k : ℕ) → IsTrue (get_or marks k false) → ⊥) →
     (k : ℕ) → IsTrue (get_or (drop n marks) k false) → ⊥
 none_dropped n marks none k h = none (n + k) (sym (get_or-drop n marks k false) ∙ h)
 
@@ -326,13 +308,12 @@ pub rest_none : (a : Plain) (marks : List Bool) (word : List ℕ) → ((k : ℕ)
     IsTrue (get_or marks k false) → ⊥) → Rest a marks word → ⊥
 rest_none (class negated items) marks word none r = none 0 r.0
 rest_none nothing marks word none r = r
-rest_none (either a b) marks word none (inl r) = rest_none a (take (size a) marks) word (none_taken
-    (size a) marks none) r
+rest_none (either a b) marks word none (inl r) = rest_none a marks word none r
 rest_none (either a b) marks word none (inr r) = rest_none b (drop (size a) marks) word
     (none_dropped (size a) marks none) r
 rest_none empty marks word none r = r
-rest_none (sequence a b) marks word none (inl r) = rest_none a (take (size a) marks) r.prefix
-    (none_taken (size a) marks none) r.first
+rest_none (sequence a b) marks word none (inl r) = rest_none a marks r.prefix none
+    r.first
 rest_none (sequence a b) marks word none (inr r) = rest_none b (drop (size a) marks) word
     (none_dropped (size a) marks none) r
 rest_none (plus a) marks word none r = rest_none a marks r.prefix none r.first
@@ -382,28 +363,131 @@ only_nil (sequence a b) none w h =
     only_nil b (no_sum (size a) (size b) none).1 h.suffix h.second
 only_nil (plus a) none w h = power_of_nil (Words a) (only_nil a none) (suc h.0) w h.1
 
--- without positions a step takes nothing, and the end is reached by the empty word alone
-pub step_without : (a : Plain) (c : ℕ) (entered : Bool) (p : Bool) → size a ≡ 0 →
-    IsTrue p ↔ (IsTrue entered × Words a []) → Steps a c entered [] [] p
-step_without a c entered p none is = record {
+-- without positions no mark leads anywhere
+pub rest_without : (a : Plain) (marks : List Bool) (word : List ℕ) → size a ≡ 0 →
+    Rest a marks word → ⊥
+rest_without (class negated items) marks word none r = absurd (omega (arith, none))
+rest_without nothing marks word none r = r
+rest_without (either a b) marks word none (inl r) =
+    rest_without a marks word (no_sum (size a) (size b) none).0 r
+rest_without (either a b) marks word none (inr r) =
+    rest_without b (drop (size a) marks) word (no_sum (size a) (size b) none).1 r
+rest_without empty marks word none r = r
+rest_without (sequence a b) marks word none (inl r) =
+    rest_without a marks r.prefix (no_sum (size a) (size b) none).0 r.first
+rest_without (sequence a b) marks word none (inr r) =
+    rest_without b (drop (size a) marks) word (no_sum (size a) (size b) none).1 r
+rest_without (plus a) marks word none r = rest_without a marks r.prefix none r.first
+
+-- the end is then reached by the empty word alone
+pub ends_without : (a : Plain) (entered : Bool) (marks : List Bool) (p : Bool) → size a ≡ 0 →
+    IsTrue p ↔ (IsTrue entered × Words a []) → Ends a entered marks p
+ends_without a entered marks p none is = record {
+  is = (
+    λ h. inr (is.0 h),
+    λ h. elim h [ inl r ↦ absurd (rest_without a marks [] none r) | inr w ↦ is.1 w ],
+  );
+}
+
+pub without_ends : (a : Plain) (entered : Bool) (marks : List Bool) (p : Bool) → size a ≡ 0 →
+    Ends a entered marks p → IsTrue p ↔ (IsTrue entered × Words a [])
+without_ends a entered marks p none ends = (
+  λ h. elim (ends.is.0 h) [ inl r ↦ absurd (rest_without a marks [] none r) | inr w ↦ w ],
+  λ w. ends.is.1 (inr w),
+)
+
+-- and a step takes nothing
+pub step_without : (a : Plain) (c : ℕ) (entered : Bool) (before after : List Bool) (p : Bool) →
+    size a ≡ 0 → Ends a entered before p → Steps a c entered before after p
+step_without a c entered before after p none ends = record {
   left = λ word. (
-    λ h. absurd (rest_none a [] word (λ k m. absurd (cc)) h),
+    λ h. absurd (rest_without a after word none h),
     λ h. elim h [
-      | inl r ↦ absurd (rest_none a [] (c ∷ word) (λ k m. absurd (cc)) r)
+      | inl r ↦ absurd (rest_without a before (c ∷ word) none r)
       | inr w ↦ absurd (let e = only_nil a none (c ∷ word) w.1 in cc)
     ],
   );
-  ends = ends_without a entered p is;
-} where
-  ends_without : (a : Plain) (entered : Bool) (p : Bool) →
-      IsTrue p ↔ (IsTrue entered × Words a []) → Ends a entered [] p
-  ends_without a entered p is = record {
-    is = (
-      λ h. inr (is.0 h),
-      λ h. elim h [
-        | inl r ↦ absurd (rest_none a [] [] (λ k m. absurd (cc))
-            r)
-        | inr w ↦ is.1 w
-      ],
-    );
-  }
+  ends = ends;
+}
+
+-- the first marks are the same
+pub record IsSameBefore (n : ℕ) (marks others : List Bool) : Type 0 where
+  pub each : (k : ℕ) → k < n → get_or marks k false ≡ get_or others k false
+
+pub same_back : (n : ℕ) (marks others : List Bool) → IsSameBefore n marks others →
+    IsSameBefore n others marks
+same_back n marks others same = record { each = λ k below. sym (same.each k below) }
+
+pub same_fewer : (m n : ℕ) (marks others : List Bool) → m ≤ n → IsSameBefore n marks others →
+    IsSameBefore m marks others
+same_fewer m n marks others few same = record { each = λ k below. same.each k (omega arith) }
+
+pub same_dropped : (m n : ℕ) (marks others : List Bool) → IsSameBefore (m + n) marks others →
+    IsSameBefore n (drop m marks) (drop m others)
+same_dropped m n marks others same = record {
+  each = λ k below. get_or-drop m marks k false ∙ same.each (m + k) (omega arith) ∙
+      sym (get_or-drop m others k false);
+}
+
+-- what leads to the end is told by the first marks, one for each position
+pub rest_same : (a : Plain) (marks others : List Bool) (word : List ℕ) →
+    IsSameBefore (size a) marks others → Rest a marks word → Rest a others word
+rest_same (class negated items) marks others word same r =
+    (sym (same.each 0 (omega arith)) ∙ r.0, r.1)
+rest_same nothing marks others word same r = r
+rest_same (either a b) marks others word same (inl r) =
+    inl (rest_same a marks others word (same_fewer (size a) (size a + size b) marks others (omega
+    arith) same) r)
+rest_same (either a b) marks others word same (inr r) =
+    inr (rest_same b (drop (size a) marks) (drop (size a) others) word (same_dropped (size a) (size
+    b) marks others same) r)
+rest_same empty marks others word same r = r
+rest_same (sequence a b) marks others word same (inl r) = inl (record {
+  prefix = r.prefix;
+  suffix = r.suffix;
+  is = r.is;
+  first = rest_same a marks others r.prefix (same_fewer (size a) (size a + size b) marks others
+      (omega arith) same) r.first;
+  second = r.second;
+})
+rest_same (sequence a b) marks others word same (inr r) =
+    inr (rest_same b (drop (size a) marks) (drop (size a) others) word (same_dropped (size a) (size
+    b) marks others same) r)
+rest_same (plus a) marks others word same r = record {
+  prefix = r.prefix;
+  suffix = r.suffix;
+  is = r.is;
+  first = rest_same a marks others r.prefix same r.first;
+  second = r.second;
+}
+
+pub ends_same : (a : Plain) (entered : Bool) (marks others : List Bool) (p : Bool) →
+    IsSameBefore (size a) marks others → Ends a entered marks p → Ends a entered others p
+ends_same a entered marks others p same ends = record {
+  is = (
+    λ h. elim (ends.is.0 h) [ inl r ↦ inl (rest_same a marks others [] same r) | inr w ↦ inr w ],
+    λ h. ends.is.1 (elim h [
+      | inl r ↦ inl (rest_same a others marks [] (same_back (size a) marks others same) r)
+      | inr w ↦ inr w
+    ]),
+  );
+}
+
+pub step_same : (a : Plain) (c : ℕ) (entered : Bool) (before before' after after' : List Bool) (p :
+    Bool) → IsSameBefore (size a) before before' → IsSameBefore (size a) after after' →
+    Steps a c entered before after p → Steps a c entered before' after' p
+step_same a c entered before before' after after' p same same' step = record {
+  left = λ word. (
+    λ h. elim ((step.left word).0 (rest_same a after' after word (same_back (size a) after after'
+        same') h)) [
+          | inl r ↦ inl (rest_same a before before' (c ∷ word) same r)
+          | inr w ↦ inr w
+        ],
+    λ h. rest_same a after after' word same' ((step.left word).1 (elim h [
+      | inl r ↦ inl (rest_same a before' before (c ∷ word) (same_back (size a) before before' same)
+          r)
+      | inr w ↦ inr w
+    ])),
+  );
+  ends = ends_same a entered before before' p same step.ends;
+}

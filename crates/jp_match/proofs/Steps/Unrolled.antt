@@ -23,7 +23,7 @@ power_as L L' each zero w p = p
 power_as L L' each (suc k) w p = joined_as L L' (Power L k) (Power L' k) each (power_as L L' each
     k) w p
 
-at_least_to : (a : Plain) (least : ℕ) (w : List ℕ) → Words (at_least a least) w →
+pub at_least_to : (a : Plain) (least : ℕ) (w : List ℕ) → Words (at_least a least) w →
     (k : ℕ) × (least ≤ k) × Power (Words a) k w
 unfolding at_least
 at_least_to a zero w (inl none) = (0, omega arith, none)
@@ -43,7 +43,7 @@ at_least_to a (suc (suc n)) w h =
       },
     )
 
-at_least_of : (a : Plain) (least k : ℕ) (w : List ℕ) → least ≤ k → Power (Words a) k w →
+pub at_least_of : (a : Plain) (least k : ℕ) (w : List ℕ) → least ≤ k → Power (Words a) k w →
     Words (at_least a least) w
 unfolding at_least
 at_least_of a zero zero w enough p = inl p
@@ -55,7 +55,7 @@ at_least_of a (suc (suc n)) (suc k) w enough p =
     joined_as (Words a) (Words a) (Power (Words a) k) (Words (at_least a (suc n))) (λ v l. l)
     (λ v q. at_least_of a (suc n) k v (omega arith) q) w p
 
-between_to : (a : Plain) (least most : ℕ) (w : List ℕ) → Words (between a least most) w →
+pub between_to : (a : Plain) (least most : ℕ) (w : List ℕ) → Words (between a least most) w →
     (k : ℕ) × (least ≤ k) × (k ≤ most) × Power (Words a) k w
 unfolding between
 between_to a zero zero w h = (0, omega arith, omega arith, h)
@@ -76,7 +76,7 @@ between_to a (suc least) (suc most) w j =
       record { prefix = j.prefix; suffix = j.suffix; is = j.is; first = j.first; second = words },
     )
 
-between_of : (a : Plain) (least most k : ℕ) (w : List ℕ) → least ≤ k → k ≤ most →
+pub between_of : (a : Plain) (least most k : ℕ) (w : List ℕ) → least ≤ k → k ≤ most →
     Power (Words a) k w → Words (between a least most) w
 unfolding between
 between_of a zero zero zero w enough within p = p

@@ -1,7 +1,6 @@
 -- Marks on the positions of a pattern whose repeats are written out: a position is marked where its
 -- class has taken the last character.
-use Rattle.std.specs.Prelude.{◌≡◌, ◌↔◌, ◌⊎◌, ℕ, ◌+◌, Bool, IsTrue, false, List, [], ◌∷◌, take, drop}
-use Rattle.std.specs.Prelude.{get_or}
+use Rattle.std.specs.Prelude.{◌≡◌, ◌↔◌, ◌⊎◌, ℕ, ◌+◌, Bool, IsTrue, false, List, [], ◌∷◌, drop, get_or}
 use Rattle.jp_iregexp.specs.Language.{Concatenation, Power}
 use Rattle.jp_match.specs.Private.Plain.{Plain, Words, class, nothing, either, empty, sequence}
 use Rattle.jp_match.specs.Private.Plain.{plus}
@@ -19,14 +18,14 @@ size (plus a) = size a
 abbrev pub Star : (List ℕ → Type 0) → List ℕ → Type 0
 Star L word = (k : ℕ) × Power L k word
 
--- the words that lead from a mark to the end
+-- the words that lead from a mark to the end; the marks of a part come before those of the next
 abbrev pub Rest : Plain → List Bool → List ℕ → Type 0
 Rest (class negated items) marks word = IsTrue (get_or marks 0 false) × (word ≡ [])
 Rest nothing marks word = ⊥
-Rest (either a b) marks word = Rest a (take (size a) marks) word ⊎ Rest b (drop (size a) marks) word
+Rest (either a b) marks word = Rest a marks word ⊎ Rest b (drop (size a) marks) word
 Rest empty marks word = ⊥
 Rest (sequence a b) marks word =
-    Concatenation (Rest a (take (size a) marks)) (Words b) word ⊎ Rest b (drop (size a) marks) word
+    Concatenation (Rest a marks) (Words b) word ⊎ Rest b (drop (size a) marks) word
 Rest (plus a) marks word = Concatenation (Rest a marks) (Star (Words a)) word
 
 -- the end is reached: a mark is there, or the pattern is entered and has the empty word

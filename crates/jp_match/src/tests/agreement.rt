@@ -83,3 +83,43 @@ fn both_matchers_agree(rt: HostRuntime) -> Result<(), Fail> {
     }
     Ok(())
 }
+
+const NESTS: [(&str, &str); 8] = [
+    ("(", "|b)*c"),
+    ("(", "b?)*"),
+    ("(a|", "b)+"),
+    ("(b?", ")*"),
+    ("(", "|(a))+"),
+    ("(", "a{2}|b)*"),
+    ("(a?", "|c)+"),
+    ("(", "){1,2}"),
+];
+
+/// A pattern of so many groups inside one another.
+fn nested_pattern(alloc: Global, seed: &mut u64, depth: u64) -> Result<String, AllocError> {
+    let mut pattern = String::new(alloc);
+    pattern.push_str(one_of(seed, &ATOMS))?;
+    let mut nests = 7;
+    for level in 0..depth {
+        // The last nest doubles the positions.
+        if depth.saturating_sub(level) <= 6 {
+            nests = 8;
+        }
+        let index = below(seed, nests) as usize;
+        let (before, after) = NESTS.get(index).copied().unwrap_or(("", ""));
+        pattern = format!(in alloc; "{before}{pattern}{after}")?;
+    }
+    Ok(pattern)
+}
+
+#[test]
+fn both_matchers_agree_on_nested_patterns(rt: HostRuntime) -> Result<(), Fail> {
+    let mut seed = 2;
+    for _ in 0..500 {
+        let depth = below(&mut seed, 44).saturating_add(20);
+        let pattern = nested_pattern(rt.alloc(), &mut seed, depth)?;
+        let word = made_text(rt.alloc(), &mut seed)?;
+        assert!(rt; agree(rt.alloc(), &pattern, &word)?, "{pattern} {word}");
+    }
+    Ok(())
+}

@@ -14,8 +14,8 @@ unwritten t text from now i b below is so_far =
 
 pub loop-i-init : goal.loop-i-init
 loop-i-init c = record {
-  same = refl;
-  carries = carries_first _ _ _ _ c.in_ok-marks.ensures.none;
+  same = c.in_ok-marking.ensures.of;
+  carries = carries_first _ _ _ _ c.in_ok-marking.ensures.none;
   passes = passes_first _ _ _;
   kept = omega arith;
 }
@@ -51,7 +51,7 @@ returns-clause-image c =
     let first = c.args.places.now.items in
     let end : c.loop-i.i ≡ length text = omega arith in
     let passes = subst (Passes t text first c.loop-i.places.items) end c.loop-i.invariant.passes in
-    let carries = subst (λ i. Carries t text first i c.loop-i.marking.marks.items) end
+    let carries = subst (λ i. Carries t text first i c.loop-i.marking.walk.marks.items) end
     c.loop-i.invariant.carries in
     let below : length text < length c.loop-i.places.items = omega (
       arith,

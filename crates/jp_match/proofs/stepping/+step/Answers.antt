@@ -1,420 +1,446 @@
-use Rattle.std.proofs.Common.{ℕ, Bool, min, List, [], ◌∷◌, Vec, Global, ◌≡◌, ◌+◌, ◌-◌, ◌*◌, ◌≤◌}
-use Rattle.std.proofs.Common.{suc, false, inl}
-use Rattle.std.proofs.Common.{map, take, drop, get_or, ◌<◌, ◌&&◌, length, refl, sym, ap, ◌∙◌, arith}
-use Rattle.std.proofs.Common.{rules}
-use Rattle.std.proofs.lemmas.List.{length-take, length-drop, length-set}
+use Rattle.std.proofs.Common.{◌≡◌, ◌+◌, ◌≤◌, ◌<◌, Bool, false, ◌||◌, ◌&&◌, List, length, drop, refl, ap}
+use Rattle.std.proofs.Common.{◌∙◌, subst, arith, rules}
 use Rattle.std.proofs.lemmas.Bool.{leb-true, le-leb}
-use borrow.Rule.Slice.PartMut.{put_mid}
-use denote.Param.Weighed.{most}
+use Rattle.std.proofs.lemmas.List.{get_or_default}
+use denote.Param.Weighed.{at_most}
 use Rattle.jp_iregexp.proofs.pattern.Pattern.TheLaws.{the_size}
-use Rattle.jp_iregexp.specs.declared.pattern.Pattern.{Pattern}
-use Rattle.jp_iregexp.specs.declared.pattern.Pattern.TheVariants as pattern
-use Rattle.jp_iregexp.specs.declared.pattern.Pattern.TheViews.{sized-Sequence}
-use Rattle.jp_iregexp.specs.Tree.{Tree, tree, branches, pieces, repeat}
-use Rattle.jp_iregexp.specs.Positions.{positions_of}
+use Rattle.jp_iregexp.specs.declared.class.ClassItem.{ClassItem}
+use Rattle.jp_iregexp.specs.Tree.{Tree, tree, class as class_tree}
 use Rattle.jp_iregexp.proofs.Trees.{tree_class, tree_either, tree_sequence, tree_repeat}
-use Rattle.jp_match.specs.Private.Plain.{unrolled, counted}
+use Rattle.jp_match.specs.declared.walk.Walk.{Walk}
+use Rattle.jp_match.specs.Private.Plain.{class, plus, unrolled, counted}
+use Rattle.jp_match.specs.Private.Marks.{size}
+use Rattle.jp_match.specs.Private.Walks.{own_rounds, IsBefore}
 use Rattle.jp_match.proofs.Patterns.Variants.{either_is, sequence_is, repeat_is}
-use Rattle.jp_match.proofs.Steps.EmptyWords.{step_empty_row, by_entered, not_entered}
-use Rattle.jp_match.proofs.Patterns.Items.{drop_item, drop_all, only_item}
-use Rattle.jp_match.proofs.Steps.OneClass.{mark_taken, mark_written}
-use Rattle.jp_match.proofs.Steps.StepParts.{step_nowhere, step_plus, by_round}
-use Rattle.jp_match.proofs.Steps.Turns.{Turned, part_is, put_long, turned, size_unrolled}
-use Rattle.jp_match.proofs.Steps.Turns.{steps_next_piece, steps_next_branch, steps_end_pieces}
-use Rattle.jp_match.proofs.Steps.Turns.{steps_end_branches, steps_stop, steps_copy}
-use Rattle.jp_match.proofs.Steps.Turns.{steps_copies_end, steps_at_least, steps_at_least_end}
-use Rattle.jp_match.proofs.Steps.Turns.{steps_star, steps_only_branch, steps_only_piece}
+use Rattle.jp_match.proofs.Patterns.Items.{drop_item, drop_all}
+use Rattle.jp_match.proofs.Steps.Walking.{before_branch, before_piece, walked_next_branch}
+use Rattle.jp_match.proofs.Steps.Walking.{walked_next_piece, walked_branches, walked_pieces}
+use Rattle.jp_match.proofs.Steps.Repeating.{before_copy, walked_copy, walked_copies, walked_still}
+use Rattle.jp_match.proofs.Steps.Repeating.{before_goes_on, walked_goes_on, before_plus, walked_plus}
+use Rattle.jp_match.proofs.Steps.Repeating.{before_star, moves_star, before_still}
+use Rattle.jp_match.proofs.Steps.Repeating.{walked_still_plus}
+use Rattle.jp_match.proofs.Steps.Rounding.{moves_copy, moves_class_plus, before_inner}
+use Rattle.jp_match.proofs.Steps.Rounding.{moves_idle, moves_rounds}
+use Rattle.jp_match.proofs.Steps.Sizes.{own_other}
 use Rattle.jp_match.proofs.stepping.+step.Goals as goal
-use Rattle.jp_match.proofs.stepping.+step.Goals.{step_plus-then-entered, step_plus-else-entered}
-
-pub step-returns-then-not-is_any-clause-step : goal.step-returns-then-not-is_any-clause-step
-step-returns-then-not-is_any-clause-step t c =
-    let e : c.args.entered ≡ false = c.if-not-entered.true in
-    rw e (step_nowhere (unrolled (tree c.args.pattern.now)) c.args.c c.args.row.now (λ k m. let any
-    = c.is_any.ensures.1 (k, m) in let not = c.if-not-is_any.true in cc))
 
 pub step-step_either-requires : goal.step-step_either-requires
 step-step_either-requires t c =
     let is = either_is _ _ _ c.in-Either.is c.deref.ensures.value in (
       omega (arith, c.decreases, is.smaller),
-      (c.requires.sized ∙ ap positions_of is.same, c.requires.few),
+      subst (λ t. IsBefore (unrolled t) c.args.walk.now) is.same c.requires,
     )
 
 pub step-step_sequence-requires : goal.step-step_sequence-requires
 step-step_sequence-requires t c =
     let is = sequence_is _ _ _ c.in-Sequence.is c.deref-in-Sequence.ensures.value in (
       omega (arith, c.decreases, is.smaller),
-      (c.requires.sized ∙ ap positions_of is.same, c.requires.few),
+      subst (λ t. IsBefore (unrolled t) c.args.walk.now) is.same c.requires,
     )
 
 pub step-step_repeat-requires : goal.step-step_repeat-requires
 step-step_repeat-requires t c =
     let is = repeat_is _ _ _ _ _ c.in-Repeat.is c.deref-in-Repeat.ensures in (
       omega (arith, c.decreases, is.smaller),
-      (c.requires.sized ∙ ap positions_of is.same, c.requires.few),
+      subst (λ t. IsBefore (unrolled t) c.args.walk.now) is.same c.requires,
     )
 
 pub step-step_class-requires : goal.step-step_class-requires
-step-step_class-requires t c = record {
-  sized = c.requires.sized ∙
-      ap (λ p. positions_of (tree p)) c.in-Class.is ∙ ap positions_of (tree_class c.in-Class.class);
-}
+unfolding unrolled
+step-step_class-requires t c =
+    subst (λ t. IsBefore (unrolled t) c.args.walk.now) (ap tree c.in-Class.is ∙ tree_class
+    c.in-Class.class) c.requires
 
-pub step-returns-in-Either-clause-step : goal.step-returns-in-Either-clause-step
-step-returns-in-Either-clause-step t c = rw (
+pub step-returns-in-Either-clause-moves : goal.step-returns-in-Either-clause-moves
+step-returns-in-Either-clause-moves t c = rw (
   c.in-Either.is,
   tree_either,
   ← c.deref.ensures.value,
-) c.step_either.ensures.step
+) c.step_either.ensures.moves
 
-pub step-returns-in-Sequence-clause-step : goal.step-returns-in-Sequence-clause-step
-step-returns-in-Sequence-clause-step t c = rw (
+pub step-returns-in-Sequence-clause-moves : goal.step-returns-in-Sequence-clause-moves
+step-returns-in-Sequence-clause-moves t c = rw (
   c.in-Sequence.is,
   tree_sequence,
   ← c.deref-in-Sequence.ensures.value,
-) c.step_sequence.ensures.step
+) c.step_sequence.ensures.moves
 
-pub step-returns-in-Repeat-clause-step : goal.step-returns-in-Repeat-clause-step
-step-returns-in-Repeat-clause-step t c = rw (
+pub step-returns-in-Repeat-clause-moves : goal.step-returns-in-Repeat-clause-moves
+step-returns-in-Repeat-clause-moves t c = rw (
   c.in-Repeat.is,
   tree_repeat,
   ← c.deref-in-Repeat.ensures,
-) c.step_repeat.ensures.step
+) c.step_repeat.ensures.moves
 
-pub step-returns-in-Class-clause-step : goal.step-returns-in-Class-clause-step
+pub step-returns-in-Class-clause-moves : goal.step-returns-in-Class-clause-moves
 unfolding unrolled
-step-returns-in-Class-clause-step t c = rw (c.in-Class.is, tree_class) c.step_class.ensures.step
+step-returns-in-Class-clause-moves t c = rw (c.in-Class.is, tree_class) c.step_class.ensures.moves
 
-pub step-returns-in-Class-clause-counted : goal.step-returns-in-Class-clause-counted
-step-returns-in-Class-clause-counted t c =
-    let sized : length c.args.row.now ≡ 1 = c.requires.sized ∙
-    ap (λ p. positions_of (tree p)) c.in-Class.is ∙
-    ap positions_of (tree_class c.in-Class.class) in
-    omega (arith, c.step_class.ensures.counted)
-
--- the turn of one part: its marks are as many as its positions, and written anew within the row
-record PartTurn (t : Tree) (row part : List Bool) (at n : ℕ) : Type 0 where
-  size : n ≡ positions_of t
-  turned : Turned row part (put_mid at (at + n - at) row part) at n
-
-part_turn : (t : Tree) (row part : List Bool) (at n : ℕ) → n ≡ min (positions_of t) 4097 →
-    at + positions_of t ≤ length row → length row ≤ 4096 →
-    length part ≡ length (take (at + n - at) (drop at row)) → PartTurn t row part at n
-part_turn t row part at n count within few kept =
-    let size : n ≡ positions_of t = omega (arith, count, within, few) in
-    record { size = size; turned = turned row part at n (omega (arith, size, within)) kept }
+pub step_either-step-requires : goal.step_either-step-requires
+step_either-step-requires t c =
+    let item = drop_item c.args.parts.now c.loop-branch.branch-index c.branch-item.result
+    c.loop-branch-test.true c.branch-item.is in
+    let before = rw item at c.loop-branch.invariant.walked.before in
+    let few = at_most the_size c.args.parts.now c.loop-branch.branch-index c.branch-item.result
+    c.loop-branch-test.true in (
+      omega (arith, c.decreases, few, ap the_size c.branch-item.is),
+      before_branch _ _ _ before,
+    )
 
 pub step_either-loop-branch-preserved : goal.step_either-loop-branch-preserved
 step_either-loop-branch-preserved t c =
     let item = drop_item c.args.parts.now c.loop-branch.branch-index c.branch-item.result
     c.loop-branch-test.true c.branch-item.is in
-    let sized = rw item at c.loop-branch.invariant.sized in
-    let part = part_is c.loop-branch.row c.loop-branch.at c.position_count.result in
-    let turn = part_turn (tree c.branch-item.result) c.loop-branch.row c.step-ended.new.row
-    c.loop-branch.at c.position_count.result c.position_count.ensures (omega (arith, sized))
-    (omega (
-      arith,
-      c.requires.few,
-      c.loop-branch.invariant.long,
-    )) c.step-ended.auto.row in
-    let size = turn.size in
-    let w = turn.turned in
+    let so_far = rw item at c.loop-branch.invariant.walked in
+    let or = c.or-ended.ensures in
     record {
-      long = w.same ∙ c.loop-branch.invariant.long;
-      sized = omega (arith, sized, size, w.same);
-      so_far = steps_next_branch _ _ _ _ _ _ _ _ _ _ _ _ _ _ size w.long w.written (rw item at
-          c.loop-branch.invariant.so_far) (rw part at c.step-ended.ensures.step);
-      counted = omega (
-        arith,
-        c.step-ended.ensures.counted,
-        c.loop-branch.invariant.counted,
-        w.long,
-        c.step-ended.auto.row,
-      );
-      kept = omega (arith, c.step-ended.ensures.kept, c.loop-branch.invariant.kept);
+      walked = rw (or.before, or.after, or.after_entered) (walked_next_branch _ _ _ _ _ _ _ _ _ _ _
+          _ _ _ _ so_far c.step.ensures.moves);
+      counted = omega (arith, c.loop-branch.invariant.counted, c.step.ensures.counted);
+      kept = omega (arith, c.loop-branch.invariant.kept, c.step.ensures.kept);
     }
 
-pub step_either-returns-clause-step : goal.step_either-returns-clause-step
-step_either-returns-clause-step t c =
+pub step_either-returns-clause-moves : goal.step_either-returns-clause-moves
+step_either-returns-clause-moves t c =
     let end : c.loop-branch.branch-index ≡ length c.args.parts.now = omega arith in
     let none = ap (λ n. drop n c.args.parts.now) end ∙ drop_all c.args.parts.now in
-    let sized = rw none at c.loop-branch.invariant.sized in
-    steps_end_branches _ _ _ _ _ _ _ _ (omega (
-      arith,
-      sized,
-    )) (rw none at c.loop-branch.invariant.so_far)
+    walked_branches _ _ _ _ _ _ _ _ _ _ _ (rw none at c.loop-branch.invariant.walked)
+
+pub step_sequence-step-requires : goal.step_sequence-step-requires
+step_sequence-step-requires t c =
+    let item = drop_item c.args.parts.now c.loop-piece.piece-index c.piece-item.result
+    c.loop-piece-test.true c.piece-item.is in
+    let before = rw item at c.loop-piece.invariant.walked.before in
+    let few = at_most the_size c.args.parts.now c.loop-piece.piece-index c.piece-item.result
+    c.loop-piece-test.true in (
+      omega (arith, c.decreases, few, ap the_size c.piece-item.is),
+      before_piece _ _ _ before,
+    )
 
 pub step_sequence-loop-piece-preserved : goal.step_sequence-loop-piece-preserved
 step_sequence-loop-piece-preserved t c =
     let item = drop_item c.args.parts.now c.loop-piece.piece-index c.piece-item.result
     c.loop-piece-test.true c.piece-item.is in
-    let sized = rw item at c.loop-piece.invariant.sized in
-    let part = part_is c.loop-piece.row c.loop-piece.at c.position_count.result in
-    let turn = part_turn (tree c.piece-item.result) c.loop-piece.row c.step-ended.new.row
-    c.loop-piece.at c.position_count.result c.position_count.ensures (omega (arith, sized)) (omega (
-      arith,
-      c.requires.few,
-      c.loop-piece.invariant.long,
-    )) c.step-ended.auto.row in
-    let size = turn.size in
-    let w = turn.turned in
+    let so_far = rw item at c.loop-piece.invariant.walked in
+    let then = c.then-through.ensures in
     record {
-      long = w.same ∙ c.loop-piece.invariant.long;
-      sized = omega (arith, sized, size, w.same);
-      so_far = steps_next_piece _ _ _ _ _ _ _ _ _ _ _ _ _ size w.long w.written (rw item at
-          c.loop-piece.invariant.so_far) (rw part at c.step-ended.ensures.step);
-      counted = omega (
-        arith,
-        c.step-ended.ensures.counted,
-        c.loop-piece.invariant.counted,
-        w.long,
-        c.step-ended.auto.row,
-      );
-      kept = omega (arith, c.step-ended.ensures.kept, c.loop-piece.invariant.kept);
+      walked = rw (then.before, then.after, then.after_entered) (walked_next_piece _ _ _ _ _ _ _ _ _
+          _ _ _ _ _ so_far c.step.ensures.moves);
+      counted = omega (arith, c.loop-piece.invariant.counted, c.step.ensures.counted);
+      kept = omega (arith, c.loop-piece.invariant.kept, c.step.ensures.kept);
     }
 
-pub step_sequence-returns-then-not-is_any-clause-step :
-    goal.step_sequence-returns-then-not-is_any-clause-step
-step_sequence-returns-then-not-is_any-clause-step t c =
-    let item = drop_item c.args.parts.now c.loop-piece.piece-index c.piece-item.result
-    c.loop-piece-test.true c.piece-item.is in
-    let sized = rw item at c.loop-piece.invariant.sized in
-    let part = part_is c.loop-piece.row c.loop-piece.at c.position_count.result in
-    let turn = part_turn (tree c.piece-item.result) c.loop-piece.row c.step-ended.new.row
-    c.loop-piece.at c.position_count.result c.position_count.ensures (omega (arith, sized)) (omega (
-      arith,
-      c.requires.few,
-      c.loop-piece.invariant.long,
-    )) c.step-ended.auto.row in
-    let size = turn.size in
-    let w = turn.turned in
-    let ended : c.step-ended.result ≡ false = c.if-not-ended.true in
-    steps_stop _ _ _ _ _ _ _ (λ k m. let any = c.is_any.ensures.1 (k, m) in
-    let not = c.if-not-is_any.true in cc)
-    (steps_next_piece _ _ _ _ _ _ _ _ _ _ _ _ _ size w.long w.written (rw item at
-    c.loop-piece.invariant.so_far) (rw (part, ended) at c.step-ended.ensures.step))
-
-pub step_sequence-returns-clause-step : goal.step_sequence-returns-clause-step
-step_sequence-returns-clause-step t c =
+pub step_sequence-returns-clause-moves : goal.step_sequence-returns-clause-moves
+step_sequence-returns-clause-moves t c =
     let end : c.loop-piece.piece-index ≡ length c.args.parts.now = omega arith in
     let none = ap (λ n. drop n c.args.parts.now) end ∙ drop_all c.args.parts.now in
-    let sized = rw none at c.loop-piece.invariant.sized in
-    steps_end_pieces _ _ _ _ _ _ _ (omega (arith, sized)) (rw none at c.loop-piece.invariant.so_far)
+    walked_pieces _ _ _ _ _ _ _ _ (rw none at c.loop-piece.invariant.walked)
+
+pub step_repeat-step_between-requires : goal.step_repeat-step_between-requires
+unfolding unrolled counted
+step_repeat-step_between-requires t c = (
+  search rules,
+  rw c.in-Some.is at c.requires,
+)
+
+pub step_repeat-step_plus-requires : goal.step_repeat-step_plus-requires
+unfolding unrolled counted
+step_repeat-step_plus-requires t c = (
+  search rules,
+  before_star _ _ (rw (c.in-None.is, c.if-least-eq0.true) at c.requires),
+)
+
+pub step_repeat-step_at_least-requires : goal.step_repeat-step_at_least-requires
+unfolding unrolled counted
+step_repeat-step_at_least-requires t c = (
+  search rules,
+  (rw c.in-None-2.is at c.requires, omega arith),
+)
+
+pub step_repeat-returns-in-Some-clause-moves : goal.step_repeat-returns-in-Some-clause-moves
+unfolding unrolled counted
+step_repeat-returns-in-Some-clause-moves t c = rw c.in-Some.is c.step_between.ensures.moves
+
+pub step_repeat-returns-in-None-clause-moves : goal.step_repeat-returns-in-None-clause-moves
+unfolding unrolled counted
+step_repeat-returns-in-None-clause-moves t c =
+    let or = c.or.ensures in
+    let start = c.at_start.ensures in
+    rw (
+      c.in-None.is,
+      c.if-least-eq0.true,
+      or.before,
+      or.after,
+      or.after_entered,
+      start.before,
+      start.after,
+      start.after_entered,
+    ) (moves_star _ _ _ _ _ _ _ _ _ _ c.step_plus.ensures.moves)
+
+pub step_repeat-returns-in-None-2-clause-moves : goal.step_repeat-returns-in-None-2-clause-moves
+unfolding unrolled counted
+step_repeat-returns-in-None-2-clause-moves t c = rw c.in-None-2.is c.step_at_least.ensures.moves
+
+pub step_copies-step-requires : goal.step_copies-step-requires
+step_copies-step-requires t c = (
+  search rules,
+  before_copy _ c.args.least c.args.most c.loop-copies.copies _ c.loop-copies-test.true
+      c.loop-copies.invariant.walked.before,
+)
 
 pub step_copies-loop-copies-preserved : goal.step_copies-loop-copies-preserved
 step_copies-loop-copies-preserved t c =
-    let n = c.copy_size-size.result in
-    let left : c.args.most - c.loop-copies.copies ≡ suc (c.args.most - (c.loop-copies.copies + 1))
-    = omega arith in
-    let sized = rw left at c.loop-copies.invariant.sized in
-    let within : c.loop-copies.at + c.copy_size-size.result ≤ length c.loop-copies.row
-    = omega (arith, sized, c.loop-copies.invariant.size) in
-    let part = part_is c.loop-copies.row c.loop-copies.at c.copy_size-size.result in
-    let w = turned c.loop-copies.row c.step-through.new.row c.loop-copies.at
-    c.copy_size-size.result within c.step-through.auto.row in
+    let then = c.then-through.ensures in
+    let or = c.or-ended.ensures in
+    let if = c.only_if.ensures in
     record {
-      long = w.same ∙ c.loop-copies.invariant.long;
-      size = c.loop-copies.invariant.size;
-      sized = omega (arith, sized, c.loop-copies.invariant.size, w.same);
-      so_far = steps_copy _ _ _ _ _ _ _ _ c.args.least c.args.most c.loop-copies.copies _ _ _ _ _ _
-          c.loop-copies-test.true (
-            leb-true _ _,
-            le-leb _ _,
-          ) (size_unrolled (tree c.args.inner.now) ∙
-          sym c.loop-copies.invariant.size) w.long w.written c.loop-copies.invariant.so_far (rw
-          part at c.step-through.ensures.step);
-      counted = omega (
-        arith,
-        c.step-through.ensures.counted,
-        c.loop-copies.invariant.counted,
-        w.long,
-        c.step-through.auto.row,
-      );
-      kept = omega (arith, c.step-through.ensures.kept, c.loop-copies.invariant.kept);
+      walked = rw (
+        then.before,
+        then.after,
+        then.after_entered,
+        or.before,
+        or.after,
+        or.after_entered,
+        if.before,
+        if.after,
+        if.after_entered,
+      ) (walked_copy _ _ _ _ _ _ _ _ c.args.least c.args.most c.loop-copies.copies _ _ _ _ _ _ _ _ _
+          c.loop-copies-test.true (leb-true _ _, le-leb _ _) c.loop-copies.invariant.walked
+          c.step.ensures.moves);
+      counted = omega (arith, c.loop-copies.invariant.counted, c.step.ensures.counted);
+      kept = omega (arith, c.loop-copies.invariant.kept, c.step.ensures.kept);
     }
 
-pub step_copies-returns-clause-step : goal.step_copies-returns-clause-step
-step_copies-returns-clause-step t c =
-    let none : c.args.most - c.loop-copies.copies ≡ 0 = omega arith in
-    let sized = rw none at c.loop-copies.invariant.sized in
-    steps_copies_end _ _ _ _ _ _ _ c.args.least c.args.most c.loop-copies.copies _ _ _ (omega
-    arith) (omega arith) (leb-true _ _, le-leb _ _) (omega (
-      arith,
-      sized,
-    )) c.loop-copies.invariant.so_far
+pub step_copies-returns-then-walk-at-clause-moves :
+    goal.step_copies-returns-then-walk-at-clause-moves
+step_copies-returns-then-walk-at-clause-moves t c =
+    let then = c.then-through.ensures in
+    let or = c.or-ended.ensures in
+    let if = c.only_if.ensures in
+    let last = c.or.ensures in
+    let within = c.only_if-then-walk-at.ensures in
+    rw (
+      last.before,
+      last.after,
+      last.after_entered,
+      within.before,
+      within.after,
+      within.after_entered,
+      then.before,
+      then.after,
+      then.after_entered,
+      or.before,
+      or.after,
+      or.after_entered,
+      if.before,
+      if.after,
+      if.after_entered,
+    ) (walked_still _ _ _ _ _ _ _ _ _ c.args.least c.args.most c.loop-copies.copies _ _ _ _ _ _ _ _ _
+    c.loop-copies-test.true (leb-true _ _, le-leb _ _) (leb-true _ _, le-leb _ _) c.if-walk-at.true
+    c.loop-copies.invariant.walked c.step.ensures.moves)
 
-pub step_between-loop-copies-init : goal.step_between-loop-copies-init
-step_between-loop-copies-init t c =
-    let one : positions_of (tree c.args.inner.now) ≡ 1 = sym (size_unrolled (tree
-    c.args.inner.now)) ∙ c.in-Some.ensures.sized in
-    record {
-      long = refl;
-      sized = omega (arith, rw one at c.requires.sized);
-      so_far = search rules;
-    }
+pub step_copies-returns-clause-moves : goal.step_copies-returns-clause-moves
+step_copies-returns-clause-moves t c =
+    let or = c.or-2.ensures in
+    let if = c.only_if-2.ensures in
+    rw (or.before, or.after, or.after_entered, if.before, if.after, if.after_entered)
+    (walked_copies _ _ _ _ _ _ _ _ c.args.least c.args.most c.loop-copies.copies _ _ _ _ _ (omega
+    arith) (omega arith) (leb-true _ _, le-leb _ _) c.loop-copies.invariant.walked)
+
+pub step_between-index-marked-requires : goal.step_between-index-marked-requires
+step_between-index-marked-requires t c =
+    let before = before_copy _ c.args.least c.args.most c.loop-copies.copies _
+    c.loop-copies-test.true c.loop-copies.invariant.walked.before in
+    omega (arith, before.marks, c.in-Some.ensures.sized)
+
+pub step_between-index_mut-requires : goal.step_between-index_mut-requires
+step_between-index_mut-requires t c =
+    let before = before_copy _ c.args.least c.args.most c.loop-copies.copies _
+    c.loop-copies-test.true c.loop-copies.invariant.walked.before in
+    omega (arith, before.marks, c.in-Some.ensures.sized)
 
 pub step_between-loop-copies-preserved : goal.step_between-loop-copies-preserved
 step_between-loop-copies-preserved t c =
     let one = c.in-Some.ensures in
-    let row = c.loop-copies.row in
-    let at = c.loop-copies.copies in
-    let below : at < length row = omega arith in
-    let marked : take 1 (drop at row) ≡ get_or row at false ∷ [] = mark_taken row at below in
+    let then = c.then-through.ensures in
+    let or = c.or-ended.ensures in
+    let if = c.only_if.ensures in
+    let before = before_copy _ c.args.least c.args.most c.loop-copies.copies _
+    c.loop-copies-test.true c.loop-copies.invariant.walked.before in
+    let within : c.loop-copies.walk.at < length c.loop-copies.walk.marks.items = omega (
+      arith,
+      before.marks,
+      one.sized,
+    ) in
     record {
-      long = length-set row at _ ∙ c.loop-copies.invariant.long;
-      sized = length-set row at _ ∙ c.loop-copies.invariant.sized;
-      so_far = steps_copy _ _ _ _ _ _ _ _ c.args.least c.args.most at _ _ _ _ _ _
-          c.loop-copies-test.true (
-            leb-true _ _,
-            le-leb _ _,
-          ) one.sized refl (mark_written row at _ below) c.loop-copies.invariant.so_far (rw marked
-          (one.steps c.args.c c.loop-copies.through (get_or row at false) _ (ap
-          (λ holds. c.loop-copies.through && holds) c.holds-holds.ensures.answer)));
+      walked = rw (
+        then.before,
+        then.after,
+        then.after_entered,
+        or.before,
+        or.after,
+        or.after_entered,
+        if.before,
+        if.after,
+        if.after_entered,
+      ) (walked_copy _ _ _ _ _ _ _ _ c.args.least c.args.most c.loop-copies.copies _ _ _ _ _ _ _ _ _
+          c.loop-copies-test.true (leb-true _ _, le-leb _ _) c.loop-copies.invariant.walked
+          (moves_copy _ _ _ _ _ _ _ _ _ _ one (c.index-marked.ensures ∙ get_or_default _ _ _ false
+          within) (ap (λ holds. c.loop-copies.through.before && holds)
+          c.holds-holds.ensures.answer) (record {
+            within = within;
+            at = refl;
+            round = refl;
+            marks = refl;
+            rounds = refl;
+          })));
+      at = omega (arith, c.loop-copies.invariant.at);
     }
 
-pub step_between-returns-clause-step : goal.step_between-returns-clause-step
-step_between-returns-clause-step t c =
-    steps_copies_end _ _ _ _ _ _ _ c.args.least c.args.most c.loop-copies.copies _ _ _ (omega
-    arith) (omega arith) (leb-true _ _, le-leb _ _) (omega arith) c.loop-copies.invariant.so_far
+pub step_between-returns-clause-moves : goal.step_between-returns-clause-moves
+step_between-returns-clause-moves t c =
+    let or = c.or.ensures in
+    let if = c.only_if-2.ensures in
+    rw (or.before, or.after, or.after_entered, if.before, if.after, if.after_entered)
+    (walked_copies _ _ _ _ _ _ _ _ c.args.least c.args.most c.loop-copies.copies _ _ _ _ _ (omega
+    arith) (omega arith) (leb-true _ _, le-leb _ _) c.loop-copies.invariant.walked)
+
+pub step_at_least-step-requires : goal.step_at_least-step-requires
+step_at_least-step-requires t c = (
+  search rules,
+  before_goes_on _ c.args.least c.loop.counter _ c.loop-test.true c.loop.invariant.walked.before,
+)
+
+pub step_at_least-step_plus-requires : goal.step_at_least-step_plus-requires
+step_at_least-step_plus-requires t c = (
+  search rules,
+  before_still _ _ _ _ _ _ _ c.args.least c.loop.counter _ _ _ _ _ _ c.loop-test.true
+      c.if-walk-at.true c.loop.invariant.walked c.step.ensures.moves,
+)
+
+pub step_at_least-returns-then-walk-at-clause-moves :
+    goal.step_at_least-returns-then-walk-at-clause-moves
+step_at_least-returns-then-walk-at-clause-moves t c =
+    let then = c.then-through.ensures in
+    let last = c.then.ensures in
+    rw (last.before, last.after, last.after_entered, then.after, then.after_entered)
+    (walked_still_plus _ _ _ _ _ _ _ c.args.least c.loop.counter _ _ _ _ _ _ _ _ _ _
+    c.loop-test.true c.if-walk-at.true c.loop.invariant.walked c.step.ensures.moves (rw then.before
+    at c.step_plus.ensures.moves))
 
 pub step_at_least-loop-preserved : goal.step_at_least-loop-preserved
 step_at_least-loop-preserved t c =
-    let left : c.args.least - c.loop.counter ≡ suc (c.args.least - (c.loop.counter + 1)) = omega
-    arith in
-    let sized = rw left at c.loop.invariant.sized in
-    let within : c.loop.at + c.copy_size-size.result ≤ length c.loop.row = omega
-    (arith, sized, c.loop.invariant.size) in
-    let part = part_is c.loop.row c.loop.at c.copy_size-size.result in
-    let w = turned c.loop.row c.step-through.new.row c.loop.at c.copy_size-size.result
-    within c.step-through.auto.row in
+    let then = c.then-through.ensures in
     record {
-      long = w.same ∙ c.loop.invariant.long;
-      size = c.loop.invariant.size;
-      sized = omega (arith, sized, c.loop.invariant.size, w.same);
-      so_far = steps_at_least _ _ _ _ _ _ c.args.least c.loop.counter _ _ _ _ _ _ c.loop-test.true
-          (size_unrolled (tree c.args.inner.now) ∙
-          sym c.loop.invariant.size) w.long w.written c.loop.invariant.so_far (rw part at
-          c.step-through.ensures.step);
-      counted = omega (
-        arith,
-        c.step-through.ensures.counted,
-        c.loop.invariant.counted,
-        w.long,
-        c.step-through.auto.row,
-      );
-      kept = omega (arith, c.step-through.ensures.kept, c.loop.invariant.kept);
+      walked = rw (then.before, then.after, then.after_entered) (walked_goes_on _ _ _ _ _ _ _
+          c.args.least c.loop.counter _ _ _ _ _ _ _ _ _ c.loop-test.true c.loop.invariant.walked
+          c.step.ensures.moves);
+      counted = omega (arith, c.loop.invariant.counted, c.step.ensures.counted);
+      kept = omega (arith, c.loop.invariant.kept, c.step.ensures.kept);
     }
 
-pub step_repeat-returns-in-Some-clause-step : goal.step_repeat-returns-in-Some-clause-step
-unfolding unrolled counted
-step_repeat-returns-in-Some-clause-step t c = rw c.in-Some.is c.step_between.ensures.step
+pub step_at_least-step_plus-requires-2 : goal.step_at_least-step_plus-requires-2
+step_at_least-step_plus-requires-2 t c = (
+  search rules,
+  before_plus _ c.args.least c.loop.counter _ c.loop-test.false c.loop.invariant.walked.before,
+)
 
-pub step_repeat-returns-in-None-clause-step : goal.step_repeat-returns-in-None-clause-step
-unfolding unrolled counted
-step_repeat-returns-in-None-clause-step t c = rw (
-  c.in-None.is,
-  c.if-least-eq0.true,
-) (steps_star _ _ _ _ _ _ c.step_plus.ensures.step)
+pub step_at_least-returns-clause-moves : goal.step_at_least-returns-clause-moves
+step_at_least-returns-clause-moves t c =
+    let last = c.then-2.ensures in
+    rw (last.before, last.after, last.after_entered) (walked_plus _ _ _ _ _ _ _ c.args.least
+    c.loop.counter _ _ _ _ _ _ c.loop-test.false c.loop.invariant.walked c.step_plus-2.ensures.moves)
 
-pub step_repeat-returns-in-None-2-clause-step : goal.step_repeat-returns-in-None-2-clause-step
-unfolding unrolled counted
-step_repeat-returns-in-None-2-clause-step t c = rw c.in-None-2.is c.step_at_least.ensures.step
+pub step_plus-step_rounds-requires : goal.step_plus-step_rounds-requires
+step_plus-step_rounds-requires t c = (
+  search rules,
+  (c.requires, own_other c.args.inner.now c.in_default.not-Class),
+)
 
-pub step_repeat-returns-then-entered-clause-step : goal.step_repeat-returns-then-entered-clause-step
-step_repeat-returns-then-entered-clause-step t c = step_empty_row (repeat (tree c.args.inner.now)
-    c.args.least c.args.most) _ _ _ _ c.requires.sized (search rules) (by_entered (repeat (tree
-    c.args.inner.now) c.args.least c.args.most) _ _ c.if-entered.true c.repeats_empty_word.ensures)
+-- a walk stands before a class that is repeated
+record BeforeClass (negated : Bool) (items : List ClassItem) (walk : Walk) : Type 0 where
+  within : walk.at < length walk.marks.items
+  before : IsBefore (class negated items) walk
 
-pub step_repeat-returns-else-entered-clause-step : goal.step_repeat-returns-else-entered-clause-step
-step_repeat-returns-else-entered-clause-step t c = step_empty_row (repeat (tree c.args.inner.now)
-    c.args.least c.args.most) _ _ _ _ c.requires.sized (search rules) (not_entered (repeat (tree
-    c.args.inner.now) c.args.least c.args.most) _ c.if-entered.false)
+before_class : (negated : Bool) (items : List ClassItem) (walk : Walk) {t : Tree} →
+    t ≡ class_tree negated items → IsBefore (plus (unrolled t)) walk →
+    BeforeClass negated items walk
+unfolding unrolled
+before_class negated items walk {t} is h =
+    let all : IsBefore (plus (class negated items)) walk = rw is at h in
+    record {
+      within = omega (arith, all.marks);
+      before = record {
+        marks = all.marks;
+        rounds = λ some. let fit = all.rounds some in omega (arith, fit);
+        so = tt;
+      };
+    }
 
-pub step_at_least-returns-clause-step : goal.step_at_least-returns-clause-step
-step_at_least-returns-clause-step t c =
-    let none : c.args.least - c.loop.counter ≡ 0 = omega arith in
-    let sized = rw none at c.loop.invariant.sized in
-    let end : c.loop.at + (length c.loop.row - c.loop.at) ≡ length c.loop.row = omega (
+pub step_plus-index-requires : goal.step_plus-index-requires
+step_plus-index-requires t c =
+    let before = before_class _ _ _ (ap tree c.in-Class.is ∙ tree_class c.in-Class.class) c.requires
+    in
+    omega (arith, before.within)
+
+pub step_plus-step_class-requires : goal.step_plus-step_class-requires
+step_plus-step_class-requires t c = (before_class _ _ _ (ap tree c.in-Class.is ∙ tree_class
+    c.in-Class.class) c.requires).before
+
+pub step_plus-returns-in-Class-clause-moves : goal.step_plus-returns-in-Class-clause-moves
+unfolding unrolled
+step_plus-returns-in-Class-clause-moves t c =
+    let before = before_class _ _ _ (ap tree c.in-Class.is ∙ tree_class c.in-Class.class) c.requires
+    in
+    let mark = c.index.ensures ∙ get_or_default _ _ _ false before.within in
+    rw (c.in-Class.is, tree_class) (moves_class_plus _ _ _ _ _ _ _ _ _ _ (ap (λ b. c.args.entered
+    || b) mark) c.step_class.ensures.moves)
+
+pub step_rounds-step-reach-requires : goal.step_rounds-step-reach-requires
+step_rounds-step-reach-requires t c = (
+  search rules,
+  before_inner _ c.args.walk.now _ c.requires.own c.requires.before (record {
+    at = refl;
+    round = λ some. let fit = c.requires.before.rounds some in
+        omega (arith, fit, c.requires.own, some, c.saturating_add-walk.ensures);
+    marks = refl;
+    rounds = refl;
+  }),
+)
+
+pub step_rounds-returns-then-walk-at-clause-moves :
+    goal.step_rounds-returns-then-walk-at-clause-moves
+step_rounds-returns-then-walk-at-clause-moves t c =
+    let a = unrolled (tree c.args.inner.now) in
+    let none : size a ≡ 0 = omega (arith, c.step-reach.ensures.moves.at, c.if-walk-at.true) in
+    moves_idle a _ _ _ _ c.args.walk.now _ _ _ _ _ _ none (record {
+      at = refl;
+      round = λ some. absurd (omega (arith, some, none));
+      marks = refl;
+      rounds = refl;
+    }) (ap (λ b. c.args.entered || b) c.round_has_ended.ensures) c.step-reach.ensures.moves refl
+    refl refl refl
+
+pub step_rounds-returns-clause-moves : goal.step_rounds-returns-clause-moves
+step_rounds-returns-clause-moves t c =
+    let a = unrolled (tree c.args.inner.now) in
+    let some : 1 ≤ size a = omega (arith, c.step-reach.ensures.moves.at, c.if-walk-at.false) in
+    let one : own_rounds a ≡ 1 = omega (arith, c.requires.own, some) in
+    let fit = c.requires.before.rounds some in
+    let next : c.saturating_add-walk.result ≡ c.args.walk.now.round + 1 = omega (
       arith,
-      sized,
+      fit,
+      one,
+      c.saturating_add-walk.ensures,
     ) in
-    let long : length c.step_plus.new.row ≡ length c.loop.row - c.loop.at = omega (
-      arith,
-      c.step_plus.auto.row,
-      length-take (length c.loop.row - c.loop.at) (drop c.loop.at
-          c.loop.row),
-      length-drop c.loop.at c.loop.row,
-    ) in
-    steps_at_least_end _ _ _ _ _ _ c.args.least c.loop.counter _ _ _ _ _ _ c.loop-test.false end
-    long
-    (put_long c.loop.row c.step_plus.new.row c.loop.at (length c.loop.row - c.loop.at) (omega
-    arith) long) refl c.loop.invariant.so_far c.step_plus.ensures.step
-
-pub step_plus-returns-clause-step : goal.step_plus-returns-clause-step
-step_plus-returns-clause-step t c = elim c.if-entered.branch [
-  | step_plus-then-entered w ↦ step_plus _ _ _ _ _ _ _ (
-    λ h. inl w.if-entered.true,
-    λ h. w.again-is ∙ w.if-entered.true,
-  ) c.step.ensures.step
-  | step_plus-else-entered w ↦ step_plus _ _ _ _ _ _ _ (rw w.again-is (by_round _ _ _ _
-      w.if-entered.false w.ends-again.ensures)) c.step.ensures.step
-]
-
--- the only branch is these pieces
-only_pieces : (ps : List Pattern) (p : Pattern) (v : Vec Pattern Global) (qs : List Pattern) →
-    ps ≡ p ∷ [] → p ≡ pattern.Sequence v → qs ≡ v.items →
-    branches (map tree ps) ≡ branches (pieces (map tree qs) ∷ [])
-only_pieces ps p v qs only is items =
-    let whole : tree p ≡ pieces (map tree qs) = ap tree is ∙ tree_sequence v ∙ ap (λ q. pieces (map
-    tree q)) (sym items) in
-    ap (λ q. branches (map tree q)) only ∙ ap (λ a. branches (a ∷ [])) whole
-
-pub step_either-step_sequence-requires : goal.step_either-step_sequence-requires
-step_either-step_sequence-requires t c =
-    let only = only_item c.args.parts.now c.only-item.result c.in-len1.len_at_least
-    c.in-len1.len_below c.only-item.is in
-    let same = only_pieces _ _ _ _ only c.in-Sequence.is c.deref.ensures.value in
-    let sized = rw same at c.requires.sized in
-    let deep : 4 * most the_size c.args.parts.now + 1 ≡ t = c.decreases in (
-      omega (
-        arith,
-        deep,
-        ap (most the_size) only,
-        ap the_size c.in-Sequence.is,
-        sized-Sequence c.in-Sequence.pieces,
-        ap (most the_size) c.deref.ensures.value,
-      ),
-      (omega (arith, sized), c.requires.few),
-    )
-
-pub step_either-returns-in-Sequence-clause-step : goal.step_either-returns-in-Sequence-clause-step
-step_either-returns-in-Sequence-clause-step t c =
-    let only = only_item c.args.parts.now c.only-item.result c.in-len1.len_at_least
-    c.in-len1.len_below c.only-item.is in
-    let same = only_pieces _ _ _ _ only c.in-Sequence.is c.deref.ensures.value in
-    let sized = rw same at c.requires.sized in
-    rw same (steps_only_branch (pieces (map tree c.deref.result.now)) _ _ _ _ _ (omega (
-      arith,
-      sized,
-    )) c.step_sequence.auto.row c.step_sequence.ensures.step)
-
-pub step_either-returns-in_default-only-clause-step :
-    goal.step_either-returns-in_default-only-clause-step
-step_either-returns-in_default-only-clause-step t c =
-    let only = only_item c.args.parts.now c.only-item.result c.in-len1.len_at_least
-    c.in-len1.len_below c.only-item.is in
-    let sized = rw only at c.requires.sized in
-    rw only (steps_only_branch (tree c.only-item.result) _ _ _ _ _ (omega (
-      arith,
-      sized,
-    )) c.step.auto.row c.step.ensures.step)
-
-pub step_sequence-returns-in-len1-clause-step : goal.step_sequence-returns-in-len1-clause-step
-step_sequence-returns-in-len1-clause-step t c =
-    let only = only_item c.args.parts.now c.only-item.result c.in-len1.len_at_least
-    c.in-len1.len_below c.only-item.is in
-    let sized = rw only at c.requires.sized in
-    rw only (steps_only_piece (tree c.only-item.result) _ _ _ _ _ (omega (
-      arith,
-      sized,
-    )) c.step.auto.row c.step.ensures.step)
+    moves_rounds a _ _ _ c.args.walk.now _ _ _ _ _ _ one some c.requires.before (record {
+      at = refl;
+      round = λ more. next;
+      marks = refl;
+      rounds = refl;
+    }) (ap (λ b. c.args.entered || b) c.round_has_ended.ensures) c.step-reach.ensures.moves (record {
+      at = refl;
+      round = refl;
+      marks = refl;
+      rounds = refl;
+    })

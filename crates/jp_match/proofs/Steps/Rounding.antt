@@ -1,0 +1,334 @@
+-- Walks over one position, and over the rounds of a repeat.
+use Rattle.std.proofs.Common.{◌≡◌, ◌↔◌, ◌⊎◌, inl, inr, ℕ, zero, suc, ◌+◌, ◌≤◌, ◌<◌, min, Bool, true}
+use Rattle.std.proofs.Common.{false, ◌||◌, ◌&&◌, List, [], ◌∷◌, length, drop, set, get_or, refl, sym}
+use Rattle.std.proofs.Common.{ap, ◌∙◌, subst, arith, ◌≢◌}
+use Rattle.std.specs.Bool.{IsTrue}
+use Rattle.std.proofs.lemmas.Bool.{cases_lt}
+use Rattle.std.proofs.lemmas.List.{get_or-drop, length-set, get_or-set_other, get_or-set_same}
+use Rattle.jp_iregexp.specs.declared.class.ClassItem.{ClassItem}
+use Rattle.jp_iregexp.specs.Class.{class_holds}
+use Rattle.jp_match.specs.declared.walk.Walk.{Walk}
+use Rattle.jp_match.specs.Private.Plain.{Plain, Words, class, plus}
+use Rattle.jp_match.specs.Private.Marks.{size, Rest, Ends}
+use Rattle.jp_match.specs.Private.OneClass.{IsOneClass}
+use Rattle.jp_match.specs.Private.Walks.{own_rounds, rounds_of, Rounds, IsBefore, IsSameOutside}
+use Rattle.jp_match.specs.Private.Walks.{Moves}
+use Rattle.jp_match.proofs.Bools.{or_is, and_is, or_false}
+use Rattle.jp_match.proofs.Steps.EndParts.{ends_plus}
+use Rattle.jp_match.proofs.Steps.OneClass.{one_class}
+use Rattle.jp_match.proofs.Steps.Repeating.{plus_nil}
+use Rattle.jp_match.proofs.Steps.Sizes.{own_few, rounds_without, rounds_free}
+use Rattle.jp_match.proofs.Steps.StepParts.{IsSameBefore, step_same, ends_same, step_plus}
+use Rattle.jp_match.proofs.Steps.StepParts.{ends_without, without_ends, step_without}
+use Rattle.jp_match.proofs.Steps.Walking.{rounds_same, same_outside, same_there}
+
+first_same : (n at : ℕ) (b : Bool) (xs : List Bool) → n ≡ 1 → b ≡ get_or xs at false →
+    IsSameBefore n (b ∷ []) (drop at xs)
+first_same n at b xs one is = record {
+  each = λ k below.
+      let zero_is : 0 ≡ k = omega (arith, one) in
+      let place : at ≡ at + 0 = omega arith in
+      subst (λ i. get_or (b ∷ []) i false ≡ get_or (drop at xs) i false) zero_is
+      (is ∙ ap (λ i. get_or xs i false) place ∙ sym (get_or-drop at xs 0 false));
+}
+
+pub set_outside : (at : ℕ) (b : Bool) (xs : List Bool) →
+    IsSameOutside at (at + 1) xs (set xs at b)
+set_outside at b xs = record {
+  same_length = length-set xs at b;
+  below = λ k under. let ne : k ≢ at = omega arith in rw get_or-set_other refl;
+  above = λ k over. let ne : k ≢ at = omega arith in rw get_or-set_other refl;
+}
+
+-- the walk has gone over one position
+pub record WalkedOne (now last : Walk) (next : Bool) : Type 0 where
+  pub within : now.at < length now.marks.items
+  pub at : last.at ≡ now.at + 1
+  pub round : last.round ≡ now.round
+  pub marks : last.marks.items ≡ set now.marks.items now.at next
+  pub rounds : last.rounds.items ≡ now.rounds.items
+
+pub moves_one : (a : Plain) (negated : Bool) (items : List ClassItem) (optional : Bool) (c : ℕ)
+    (e x y : Bool) (now last : Walk) (marked next : Bool) → IsOneClass a negated items optional →
+    marked ≡ get_or now.marks.items now.at false → next ≡ (e && class_holds negated items c) →
+    WalkedOne now last next → Moves a c e x y now last (marked || (optional && e))
+    (next || (optional && x)) (next || (optional && y))
+moves_one a negated items optional c e x y now last marked next one was is moved =
+    let written : next ≡ get_or last.marks.items now.at false = sym (ap (λ xs. get_or xs now.at
+    false) moved.marks ∙ get_or-set_same now.marks.items now.at next false moved.within) in
+    let before = first_same (size a) now.at marked now.marks.items one.sized was in
+    let after = first_same (size a) now.at next last.marks.items one.sized written in
+    let still = one.no_rounds in
+    record {
+      at = omega (arith, moved.at, one.sized);
+      round = omega (arith, moved.round, still);
+      marks = subst (λ end. IsSameOutside now.at end now.marks.items last.marks.items) (sym
+          moved.at) (subst (IsSameOutside now.at (now.at + 1) now.marks.items) (sym moved.marks)
+          (set_outside now.at next now.marks.items));
+      rounds = subst (IsSameOutside now.round last.round now.rounds.items) (sym moved.rounds)
+          (same_outside now.round last.round now.rounds.items);
+      step = step_same a c e (marked ∷ []) (drop now.at now.marks.items) (next ∷ [])
+          (drop now.at last.marks.items) (marked || (optional && e)) before after
+          (one.steps c e marked next is);
+      ends = ends_same a x (next ∷ []) (drop now.at last.marks.items) (next || (optional && x)) after
+          (one.steps 0 x next (x && class_holds negated items 0) refl).ends;
+      ends_too = ends_same a y (next ∷ []) (drop now.at last.marks.items) (next || (optional && y))
+          after (one.steps 0 y next (y && class_holds negated items 0) refl).ends;
+      so = rounds_free a (drop now.at last.marks.items) (drop now.round last.rounds.items) still;
+    }
+
+and_false : (b : Bool) → (b && false) ≡ false
+and_false true = refl
+and_false false = refl
+
+and_true : (b : Bool) → (b && true) ≡ b
+and_true true = refl
+and_true false = refl
+
+pub moves_copy : (a : Plain) (negated : Bool) (items : List ClassItem) (optional : Bool) (c : ℕ)
+    (e : Bool) (now last : Walk) (marked next : Bool) → IsOneClass a negated items optional →
+    marked ≡ get_or now.marks.items now.at false → next ≡ (e && class_holds negated items c) →
+    WalkedOne now last next →
+    Moves a c e false true now last (marked || (optional && e)) next (next || optional)
+moves_copy a negated items optional c e now last marked next one was is moved =
+    rw (and_false optional, and_true optional, or_false next) at (moves_one a negated items optional
+    c e false true now last marked next one was is moved)
+
+pub moves_class : (negated : Bool) (items : List ClassItem) (c : ℕ) (e x y : Bool) (now last : Walk)
+    (marked next : Bool) → marked ≡ get_or now.marks.items now.at false →
+    next ≡ (e && class_holds negated items c) → WalkedOne now last next →
+    Moves (class negated items) c e x y now last marked next next
+moves_class negated items c e x y now last marked next was is moved =
+    rw (or_false marked, or_false next) at (moves_one (class negated items) negated items false c e
+    x y now last marked next (one_class negated items) was is moved)
+
+-- a class that is repeated needs no round: its mark tells whether one has ended
+pub moves_class_plus : (negated : Bool) (items : List ClassItem) (c : ℕ) (e again : Bool) (now last
+    : Walk) (p f t : Bool) → again ≡ (e || get_or now.marks.items now.at false) →
+    Moves (class negated items) c again false true now last p f t →
+    Moves (plus (class negated items)) c e false true now last p f t
+moves_class_plus negated items c e again now last p f t is h =
+    let a = class negated items in
+    let before = drop now.at now.marks.items in
+    let after = drop now.at last.marks.items in
+    let place : now.at + 0 ≡ now.at = omega arith in
+    let first = get_or-drop now.at now.marks.items 0 false ∙
+    ap (λ i. get_or now.marks.items i false) place in
+    record {
+      at = h.at;
+      round = h.round;
+      marks = h.marks;
+      rounds = h.rounds;
+      step = step_plus a c e again before after p (
+        λ i. elim ((or_is e (get_or now.marks.items now.at false)).0 (sym is ∙ i)) [
+          | inl l ↦ inl l
+          | inr r ↦ inr (first ∙ r, refl)
+        ],
+        λ w. is ∙ (or_is e (get_or now.marks.items now.at false)).1 (elim w [
+          | inl l ↦ inl l
+          | inr r ↦ inr (sym first ∙ r.0)
+        ]),
+      ) h.step;
+      ends = ends_plus a false after f h.ends;
+      ends_too = ends_plus a true after t h.ends_too;
+      so = (λ one. absurd (omega (arith, one)), tt);
+    }
+
+-- a walk goes into a repeat: past its own round
+pub record GoesIn (now inner : Walk) (a : Plain) : Type 0 where
+  pub at : inner.at ≡ now.at
+  pub round : 1 ≤ size a → inner.round ≡ now.round + 1
+  pub marks : inner.marks.items ≡ now.marks.items
+  pub rounds : inner.rounds.items ≡ now.rounds.items
+
+pub before_inner : (a : Plain) (now inner : Walk) → own_rounds a ≡ min (size a) 1 →
+    IsBefore (plus a) now → GoesIn now inner a → IsBefore a inner
+before_inner a now inner own h in_ =
+    let marks : drop inner.at inner.marks.items ≡ drop now.at now.marks.items =
+    ap (λ n. drop n inner.marks.items) in_.at ∙ ap (drop now.at) in_.marks in
+    record {
+      marks = omega (arith, h.marks, in_.at, ap length in_.marks);
+      rounds = λ some.
+          let fit = h.rounds some in
+          let one : own_rounds a ≡ 1 = omega (arith, own, some) in
+          omega (arith, fit, one, in_.round some, ap length in_.rounds);
+      so = elim (cases_lt 0 (size a)) [
+        | inl some ↦
+            let one : own_rounds a ≡ 1 = omega (arith, own, some) in
+            let next : inner.round ≡ now.round + own_rounds a = omega (
+              arith,
+              in_.round (omega
+                  arith),
+              one,
+            ) in
+            let same = same_there now.round (own_rounds a) inner.round (rounds_of a)
+            inner.rounds.items now.rounds.items next
+            (λ k over. ap (λ xs. get_or xs k false) in_.rounds) in
+            rounds_same a (drop now.at now.marks.items) (drop inner.at inner.marks.items)
+            (drop (own_rounds a) (drop now.round now.rounds.items))
+            (drop inner.round inner.rounds.items)
+            (record { each = λ k below. ap (λ xs. get_or xs k false) (sym marks) })
+            (record { each = λ k below. sym (same.each k below) }) h.so.1
+        | inr none ↦ rounds_free a (drop inner.at inner.marks.items)
+            (drop inner.round inner.rounds.items) (rounds_without a (omega arith))
+      ];
+    }
+
+-- a round may begin again where the repeat is entered or a round has ended
+may_begin : (a : Plain) (e again bit : Bool) (marks : List Bool) → again ≡ (e || bit) →
+    (IsTrue bit ↔ Rest a marks []) → IsTrue again ↔ (IsTrue e ⊎ Rest a marks [])
+may_begin a e again bit marks is so = (
+  λ h. elim ((or_is e bit).0 (sym is ∙ h)) [ inl l ↦ inl l | inr r ↦ inr (so.0 r) ],
+  λ w. is ∙ (or_is e bit).1 (elim w [ inl l ↦ inl l | inr r ↦ inr (so.1 r) ]),
+)
+
+ends_rest : (a : Plain) (marks : List Bool) (f : Bool) → Ends a false marks f →
+    IsTrue f ↔ Rest a marks []
+ends_rest a marks f ends = (
+  λ h. elim (ends.is.0 h) [ inl r ↦ r | inr w ↦ absurd (let e = w.0 in cc) ],
+  λ r. ends.is.1 (inl r),
+)
+
+-- and comes out of it: what has become of the round is kept
+pub record ComesOut (now moved last : Walk) (f : Bool) : Type 0 where
+  pub at : last.at ≡ moved.at
+  pub round : last.round ≡ moved.round
+  pub marks : last.marks.items ≡ moved.marks.items
+  pub rounds : last.rounds.items ≡ set moved.rounds.items now.round f
+
+pub moves_rounds : (a : Plain) (c : ℕ) (e again : Bool) (now inner moved last : Walk) (p f t :
+    Bool) → own_rounds a ≡ 1 → 1 ≤ size a → IsBefore (plus a) now → GoesIn now inner a →
+    again ≡ (e || get_or now.rounds.items now.round false) →
+    Moves a c again false true inner moved p f t → ComesOut now moved last f →
+    Moves (plus a) c e false true now last p f t
+moves_rounds a c e again now inner moved last p f t one some is in_ begins h out =
+    let before = drop now.at now.marks.items in
+    let after = drop now.at last.marks.items in
+    let next = in_.round some in
+    let old : drop inner.at inner.marks.items ≡ before =
+    ap (λ n. drop n inner.marks.items) in_.at ∙ ap (drop now.at) in_.marks in
+    let new : drop inner.at moved.marks.items ≡ after =
+    ap (λ n. drop n moved.marks.items) in_.at ∙ ap (drop now.at) (sym out.marks) in
+    let place : now.round + 0 ≡ now.round = omega arith in
+    let bit = get_or-drop now.round now.rounds.items 0 false ∙
+    ap (λ i. get_or now.rounds.items i false) place in
+    let so : IsTrue (get_or now.rounds.items now.round false) ↔ Rest a before [] = (
+      λ i. (is.so.0 one).0 (bit ∙ i),
+      λ r. sym bit ∙ (is.so.0 one).1 r,
+    ) in
+    let fit = is.rounds some in
+    let within : now.round < length moved.rounds.items = omega (
+      arith,
+      fit,
+      one,
+      ap length
+          in_.rounds,
+      h.rounds.same_length,
+    ) in
+    let written : get_or (drop now.round last.rounds.items) 0 false ≡ f =
+    get_or-drop now.round last.rounds.items 0 false ∙
+    ap (λ i. get_or last.rounds.items i false) place ∙
+    ap (λ xs. get_or xs now.round false) out.rounds ∙
+    get_or-set_same moved.rounds.items now.round f false within in
+    let others : (k : ℕ) → k ≢ now.round → get_or last.rounds.items k false ≡ get_or
+    moved.rounds.items k false = λ k ne. ap (λ xs. get_or xs k false) out.rounds ∙
+    (rw get_or-set_other refl) in
+    let ends = subst (λ m. Ends a false m f) new h.ends in
+    let kept = same_there now.round (own_rounds a) inner.round (rounds_of a) moved.rounds.items
+    last.rounds.items (omega (arith, next, one))
+    (λ k over. sym (others k (omega (arith, next)))) in
+    record {
+      at = omega (arith, out.at, h.at, in_.at);
+      round = omega (arith, out.round, h.round, next, one);
+      marks = record {
+        same_length = ap length out.marks ∙ h.marks.same_length ∙ ap length in_.marks;
+        below = λ k under. ap (λ xs. get_or xs k false) out.marks ∙ h.marks.below k (omega (
+          arith,
+          in_.at,
+        )) ∙ ap (λ xs. get_or xs k false) in_.marks;
+        above = λ k over. ap (λ xs. get_or xs k false) out.marks ∙ h.marks.above k (omega (
+          arith,
+          out.at,
+        )) ∙ ap (λ xs. get_or xs k false) in_.marks;
+      };
+      rounds = record {
+        same_length = ap length out.rounds ∙ length-set moved.rounds.items now.round f ∙
+            h.rounds.same_length ∙ ap length in_.rounds;
+        below = λ k under. others k (omega arith) ∙ h.rounds.below k (omega (arith, next)) ∙
+            ap (λ xs. get_or xs k false) in_.rounds;
+        above = λ k over. others k (omega (arith, out.round, h.round, next)) ∙
+            h.rounds.above k (omega (arith, out.round)) ∙ ap (λ xs. get_or xs k false) in_.rounds;
+      };
+      step = step_plus a c e again before after p (may_begin a e again (get_or now.rounds.items
+          now.round false) before begins so) (rw (old, new) at h.step);
+      ends = ends_plus a false after f ends;
+      ends_too = ends_plus a true after t (subst (λ m. Ends a true m t) new h.ends_too);
+      so = (
+        λ own. let r = ends_rest a after f ends in (
+          λ i. r.0 (sym written ∙ i),
+          λ w. written ∙ r.1
+              w,
+        ),
+        rounds_same a (drop inner.at moved.marks.items) after
+            (drop inner.round moved.rounds.items) (drop (own_rounds a) (drop now.round
+            last.rounds.items)) (record { each = λ k below. ap (λ xs. get_or xs k false) new }) kept
+            h.so,
+      );
+    }
+
+-- a list that is the same outside of no place is the same
+outside_nothing : (n m : ℕ) (xs ys : List Bool) → IsSameOutside n n xs ys →
+    IsSameOutside m m xs ys
+outside_nothing n m xs ys h = record {
+  same_length = h.same_length;
+  below = λ k under. everywhere k;
+  above = λ k over. everywhere k;
+} where
+  everywhere : (k : ℕ) → get_or ys k false ≡ get_or xs k false
+  everywhere k = elim (cases_lt k n) [
+    | inl under ↦ h.below k under
+    | inr over ↦ h.above k (omega arith)
+  ]
+
+-- a repeat without positions: a round of it is there only where it is entered
+pub moves_idle : (a : Plain) (c : ℕ) (e again bit : Bool) (now inner moved last : Walk) (p f t :
+    Bool) → size a ≡ 0 → GoesIn now inner a → again ≡ (e || bit) →
+    Moves a c again false true inner moved p f t → last.at ≡ moved.at → last.round ≡ now.round →
+    last.marks.items ≡ moved.marks.items → last.rounds.items ≡ moved.rounds.items →
+    Moves (plus a) c e false true now last (p && e) f t
+moves_idle a c e again bit now inner moved last p f t none in_ begins h at round marks rounds =
+    let before = drop now.at now.marks.items in
+    let after = drop now.at last.marks.items in
+    let still = rounds_without a none in
+    let own = own_few a in
+    let new : drop inner.at moved.marks.items ≡ after =
+    ap (λ n. drop n moved.marks.items) in_.at ∙ ap (drop now.at) (sym marks) in
+    let word = without_ends a again (drop inner.at inner.marks.items) p none h.step.ends in
+    let nil = plus_nil a in
+    let no_mark : moved.at ≡ inner.at = omega (arith, h.at, none) in
+    let no_round : moved.round ≡ inner.round = omega (arith, h.round, still) in
+    let same_marks = outside_nothing inner.at now.at inner.marks.items moved.marks.items (subst (λ
+    end. IsSameOutside inner.at end inner.marks.items moved.marks.items) no_mark h.marks) in
+    let same_rounds = outside_nothing inner.round now.round inner.rounds.items moved.rounds.items
+    (subst (λ end. IsSameOutside inner.round end inner.rounds.items moved.rounds.items) no_round
+    h.rounds) in
+    let end : last.at ≡ now.at = at ∙ no_mark ∙ in_.at in
+    record {
+      at = omega (arith, end, none);
+      round = omega (arith, round, still, own, none);
+      marks = rw (end, marks, ← in_.marks) same_marks;
+      rounds = rw (round, rounds, ← in_.rounds) same_rounds;
+      step = step_without (plus a) c e before after (p && e) none (ends_without (plus a) e before (p
+          && e) none (
+            λ i. let q = (and_is p e).0 i in (q.1, nil.1 ((word.0 q.0).1)),
+            λ w. (and_is p e).1 (word.1 (begins ∙ (or_is e bit).1 (inl w.0), nil.0 w.1), w.0),
+          ));
+      ends = ends_plus a false after f (subst (λ m. Ends a false m f) new h.ends);
+      ends_too = ends_plus a true after t (subst (λ m. Ends a true m t) new h.ends_too);
+      so = rounds_free (plus a) after (drop now.round last.rounds.items) (omega (
+        arith,
+        still,
+        own,
+        none,
+      ));
+    }

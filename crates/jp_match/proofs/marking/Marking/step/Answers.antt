@@ -1,0 +1,30 @@
+use Rattle.std.proofs.Common.{◌∙◌, arith}
+use Rattle.jp_iregexp.specs.Tree.{tree}
+use Rattle.jp_match.proofs.Steps.Kept.{ends_are, ends_are_entered, rounds_of_test, test_of_rounds}
+use Rattle.jp_match.proofs.Steps.Sizes.{size_unrolled}
+use Rattle.jp_match.proofs.marking.Marking.step.Goals as goal
+
+pub step-reach-requires : goal.step-reach-requires
+step-reach-requires c =
+    let sizes = size_unrolled (tree c.args.self.now.pattern.now) in
+    record {
+      marks = omega (arith, c.args.self.now.sized, sizes);
+      rounds = λ some. omega (arith, c.args.self.now.kept);
+      so = rounds_of_test _ _ _ c.args.self.now.so;
+    }
+
+pub invariant_of-self : goal.invariant_of-self
+invariant_of-self c =
+    let moves = c.step-reach.ensures.moves in
+    record {
+      sized = moves.marks.same_length ∙ c.args.self.now.sized;
+      kept = moves.rounds.same_length ∙ c.args.self.now.kept;
+      so = test_of_rounds _ _ _ moves.so;
+      reached = ends_are _ _ _ moves.ends;
+      reached_entered = ends_are_entered _ _ _ moves.ends_too;
+    }
+
+pub returns-clause-counted : goal.returns-clause-counted
+returns-clause-counted c =
+    let sizes = size_unrolled (tree c.args.self.now.pattern.now) in
+    omega (arith, c.step-reach.ensures.counted, c.step-reach.ensures.moves.at, sizes)

@@ -1,0 +1,105 @@
+-- A walk over the parts of a pattern, from the left: it takes off the marks of each position and the
+-- rounds of each repeat as it comes to them.
+use Rattle.std.specs.Prelude.{◌≡◌, ◌↔◌, ℕ, ◌+◌, ◌≤◌, ◌<◌, min, Bool, IsTrue, true, false, ◌||◌, ◌&&◌}
+use Rattle.std.specs.Prelude.{not, nat_le, ⊤, List, [], drop, length, get_or}
+use Rattle.jp_match.specs.declared.walk.Walk.{Walk}
+use Rattle.jp_match.specs.Private.Plain.{Plain, class, nothing, either, empty, sequence, plus}
+use Rattle.jp_match.specs.Private.Marks.{size, Rest, Ends, Steps}
+
+-- a repeat without a most keeps whether a round of it has ended: not where a class is repeated, for
+-- its mark says so, and not where there is no position
+abbrev pub own_rounds : Plain → ℕ
+own_rounds (class negated items) = 0
+own_rounds a = min (size a) 1
+
+-- how many repeats keep that
+abbrev pub rounds_of : Plain → ℕ
+rounds_of (class negated items) = 0
+rounds_of nothing = 0
+rounds_of (either a b) = rounds_of a + rounds_of b
+rounds_of empty = 0
+rounds_of (sequence a b) = rounds_of a + rounds_of b
+rounds_of (plus a) = own_rounds a + rounds_of a
+
+-- what is kept is so: a round has ended exactly where a mark has reached the end of the inner
+-- pattern
+abbrev pub Rounds : Plain → List Bool → List Bool → Type 0
+Rounds (class negated items) marks rounds = ⊤
+Rounds nothing marks rounds = ⊤
+Rounds (either a b) marks rounds =
+    Rounds a marks rounds × Rounds b (drop (size a) marks) (drop (rounds_of a) rounds)
+Rounds empty marks rounds = ⊤
+Rounds (sequence a b) marks rounds =
+    Rounds a marks rounds × Rounds b (drop (size a) marks) (drop (rounds_of a) rounds)
+Rounds (plus a) marks rounds =
+    (own_rounds a ≡ 1 → IsTrue (get_or rounds 0 false) ↔ Rest a marks [])
+    × Rounds a marks (drop (own_rounds a) rounds)
+
+-- a walk stands before a part: there are marks for its positions, and what is kept of its rounds is
+-- so
+pub record IsBefore (a : Plain) (walk : Walk) : Type 0 where
+  pub marks : walk.at + size a ≤ length walk.marks.items
+  pub rounds : 1 ≤ size a → walk.round + rounds_of a ≤ length walk.rounds.items
+  pub so : Rounds a (drop walk.at walk.marks.items) (drop walk.round walk.rounds.items)
+
+-- the lists are as long, and the same outside of the places from one on and before another
+pub record IsSameOutside (first end : ℕ) (before after : List Bool) : Type 0 where
+  pub same_length : length after ≡ length before
+  pub below : (k : ℕ) → k < first → get_or after k false ≡ get_or before k false
+  pub above : (k : ℕ) → end ≤ k → get_or after k false ≡ get_or before k false
+
+-- the walk has gone over a part and moved its marks over the character c; told is whether its end was
+-- reached before the character, and whether it is reached after it, by one entry and by another
+pub record Moves (a : Plain) (c : ℕ) (entered enters enters_too : Bool) (before after : Walk)
+    (was is is_too : Bool) : Type 0 where
+  pub at : after.at ≡ before.at + size a
+  pub round : after.round ≡ before.round + rounds_of a
+  pub marks : IsSameOutside before.at after.at before.marks.items after.marks.items
+  pub rounds : IsSameOutside before.round after.round before.rounds.items after.rounds.items
+  pub step : Steps a c entered (drop before.at before.marks.items)
+      (drop before.at after.marks.items) was
+  pub ends : Ends a enters (drop before.at after.marks.items) is
+  pub ends_too : Ends a enters_too (drop before.at after.marks.items) is_too
+  pub so : Rounds a (drop before.at after.marks.items) (drop before.round after.rounds.items)
+
+-- whether the end of a part is reached, from the answers for one that is not entered and for one
+-- that is
+abbrev pub reached : Bool → Bool → Bool → Bool
+reached entered by_mark if_entered = by_mark || (entered && if_entered)
+
+-- the same as tests, for what is kept from one character to the next: a pattern has the empty word
+abbrev pub takes_none : Plain → Bool
+takes_none (class negated items) = false
+takes_none nothing = false
+takes_none (either a b) = takes_none a || takes_none b
+takes_none empty = true
+takes_none (sequence a b) = takes_none a && takes_none b
+takes_none (plus a) = takes_none a
+
+-- a mark has reached the end
+abbrev pub marks_end : Plain → List Bool → Bool
+marks_end (class negated items) marks = get_or marks 0 false
+marks_end nothing marks = false
+marks_end (either a b) marks = marks_end a marks || marks_end b (drop (size a) marks)
+marks_end empty marks = false
+marks_end (sequence a b) marks =
+    (marks_end a marks && takes_none b) || marks_end b (drop (size a) marks)
+marks_end (plus a) marks = marks_end a marks
+
+-- one truth value is the other
+abbrev pub is_same : Bool → Bool → Bool
+is_same true b = b
+is_same false b = not b
+
+-- what is kept of the rounds is so
+abbrev pub rounds_end : Plain → List Bool → List Bool → Bool
+rounds_end (class negated items) marks rounds = true
+rounds_end nothing marks rounds = true
+rounds_end (either a b) marks rounds =
+    rounds_end a marks rounds && rounds_end b (drop (size a) marks) (drop (rounds_of a) rounds)
+rounds_end empty marks rounds = true
+rounds_end (sequence a b) marks rounds =
+    rounds_end a marks rounds && rounds_end b (drop (size a) marks) (drop (rounds_of a) rounds)
+rounds_end (plus a) marks rounds =
+    (nat_le (own_rounds a) 0 || is_same (get_or rounds 0 false) (marks_end a marks))
+    && rounds_end a marks (drop (own_rounds a) rounds)

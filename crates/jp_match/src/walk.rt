@@ -1,0 +1,108 @@
+//! A walk over the parts of a pattern, from the left.
+
+ghost use Rattle.std.specs.Prelude.{◌≡◌, Bool, true, false, ◌||◌, ◌&&◌, get_or};
+ghost use Rattle.jp_match.specs.Private.Walks.{reached};
+
+/// The marks of a pattern, what is kept of its repeats, and where a walk over its parts stands: it
+/// comes to the positions and to the repeats one after another, so nothing is counted or looked up.
+#[derive(Drop)]
+pub(crate) struct Walk {
+    /// A mark for each position: its class has taken the last character.
+    pub(crate) marks: Vec<bool>,
+    /// For each repeat without a most whether a round of it has ended.
+    pub(crate) rounds: Vec<bool>,
+    pub(crate) at: usize,
+    pub(crate) round: usize,
+}
+
+impl Walk {
+    /// Whether a round of the next repeat has ended.
+    pub(crate) fn round_has_ended(&self) -> bool
+        ensures { result ≡ get_or self.now.rounds.items self.now.round false }
+    {
+        match self.rounds.get(self.round) {
+            Some(ended) => *ended,
+            None => false,
+        }
+    }
+}
+
+/// Whether the end of a part of a pattern is reached by a mark, or by the empty word where the part
+/// is entered.
+#[derive(Clone, Copy)]
+pub(crate) struct Reach {
+    /// Before the character.
+    pub(crate) before: bool,
+    /// After it, the part not being entered.
+    pub(crate) after: bool,
+    /// After it, the part being entered.
+    pub(crate) after_entered: bool,
+}
+
+impl Reach {
+    /// Nowhere.
+    pub(crate) fn none() -> Reach
+        ensures before { result.before ≡ false }
+        ensures after { result.after ≡ false }
+        ensures after_entered { result.after_entered ≡ false }
+    {
+        Reach {
+            before: false,
+            after: false,
+            after_entered: false,
+        }
+    }
+
+    /// At the start of a part.
+    pub(crate) fn at_start(entered: bool) -> Reach
+        ensures before { result.before ≡ entered }
+        ensures after { result.after ≡ false }
+        ensures after_entered { result.after_entered ≡ true }
+    {
+        Reach {
+            before: entered,
+            after: false,
+            after_entered: true,
+        }
+    }
+
+    /// By this part or by the other.
+    pub(crate) fn or(self, other: Reach) -> Reach
+        ensures before { result.before ≡ (self.before || other.before) }
+        ensures after { result.after ≡ (self.after || other.after) }
+        ensures after_entered { result.after_entered ≡ (self.after_entered || other.after_entered) }
+    {
+        Reach {
+            before: self.before | other.before,
+            after: self.after | other.after,
+            after_entered: self.after_entered | other.after_entered,
+        }
+    }
+
+    /// The same where the condition holds, and else nowhere.
+    pub(crate) fn only_if(self, condition: bool) -> Reach
+        ensures before { result.before ≡ (condition && self.before) }
+        ensures after { result.after ≡ (condition && self.after) }
+        ensures after_entered { result.after_entered ≡ (condition && self.after_entered) }
+    {
+        Reach {
+            before: condition & self.before,
+            after: condition & self.after,
+            after_entered: condition & self.after_entered,
+        }
+    }
+
+    /// By the part after this one, which was walked as it was entered.
+    pub(crate) fn then(self, next: Reach) -> Reach
+        ensures before { result.before ≡ next.before }
+        ensures after { result.after ≡ reached self.after next.after next.after_entered }
+        ensures after_entered { result.after_entered
+            ≡ reached self.after_entered next.after next.after_entered }
+    {
+        Reach {
+            before: next.before,
+            after: next.after | (self.after & next.after_entered),
+            after_entered: next.after | (self.after_entered & next.after_entered),
+        }
+    }
+}
