@@ -94,12 +94,37 @@ fn refuses_a_document_beyond_the_limit(rt: HostRuntime) -> Result<(), Fail> {
     assert_ended(&rt, rt.alloc(), &line, Blanks(16_777_216), refused)
 }
 
+/// Asserts that `read_query` refuses the query so, or that its canonical text is its own.
+fn assert_read(rt: &impl Abort, alloc: Global, text: &str, answer: Answer) -> Result<(), Fail> {
+    let refused = match answer {
+        Query(refusal) => Some(refusal),
+        Nodes(_) | Canonical(_) | Answer::Document(_) => None,
+    };
+    match read_query(alloc, text, Standard) {
+        Ok(query) => {
+            let canonical = canon(alloc, &query)?;
+            let again = canonical_text(alloc, canonical.as_str())?;
+            assert_eq!(rt;
+                (again.as_str(), refused),
+                (canonical.as_str(), None),
+                "{text}"
+            );
+        }
+        Err(refusal) => {
+            let said = format!(in alloc; "{} at {}", refusal.kind.name(), refusal.place)?;
+            assert_eq!(rt; Some(said.as_str()), refused, "{text}");
+        }
+    }
+    Ok(())
+}
+
 #[test]
 fn nests_filters_128_deep(rt: HostRuntime) -> Result<(), Fail> {
     let alloc = rt.alloc();
     for (count, answer) in [(128, Nodes(&[])), (129, Query("TooDeep at 386"))] {
         let query = nested(alloc, ("$", "[?@", count, ""), ("]", ""))?;
         assert_gives(&rt, alloc, ("[]", query.as_str(), Standard), answer, 999)?;
+        assert_read(&rt, alloc, query.as_str(), answer)?;
     }
     Ok(())
 }
@@ -127,6 +152,7 @@ fn nests_parentheses_and_calls_128_deep(rt: HostRuntime) -> Result<(), Fail> {
     for (opening, count, inside, answer) in NESTED {
         let query = nested(alloc, ("$[?", opening, *count, inside), (")", "]"))?;
         assert_gives(&rt, alloc, ("[]", query.as_str(), Standard), *answer, 999)?;
+        assert_read(&rt, alloc, query.as_str(), *answer)?;
         if let Nodes(_) = answer {
             prefixes::are_accepted_or_end(&rt, alloc, query.as_str(), Standard);
         }

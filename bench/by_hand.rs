@@ -1,0 +1,91 @@
+//! Each task of the benchmark, written out by hand over serde_json's `Value`: what a program does that
+//! has no query language. Its word is the task's name; `bench/run` builds it.
+use regex::Regex;
+use serde_json::Value;
+use std::io::{self, BufWriter, Read, Write};
+
+type Lines<'a> = &'a mut dyn Write;
+
+/// Writes a value in a line of its own.
+fn line(out: Lines, value: &Value) -> io::Result<()> {
+    serde_json::to_writer(&mut *out, value)?;
+    out.write_all(b"\n")
+}
+
+/// The values one step inside.
+fn children(value: &Value) -> Box<dyn Iterator<Item = &Value> + '_> {
+    match value {
+        Value::Array(items) => Box::new(items.iter()),
+        Value::Object(members) => Box::new(members.values()),
+        _ => Box::new(std::iter::empty()),
+    }
+}
+
+/// Writes the members of this name of a value and of all inside it.
+fn named(out: Lines, value: &Value, name: &str) -> io::Result<()> {
+    if let Some(found) = value.get(name) {
+        line(out, found)?;
+    }
+    children(value).try_for_each(|child| named(out, child, name))
+}
+
+/// Writes all values inside.
+fn inside(out: Lines, value: &Value) -> io::Result<()> {
+    children(value).try_for_each(|child| line(out, child))?;
+    children(value).try_for_each(|child| inside(out, child))
+}
+
+/// Writes what `take` gives of each item.
+fn of_each<'v>(
+    out: Lines,
+    list: &'v Value,
+    take: impl Fn(&'v Value) -> Option<&'v Value>,
+) -> io::Result<()> {
+    children(list).filter_map(take).try_for_each(|value| line(out, value))
+}
+
+/// The identifiers of records whose text has a part that the pattern matches.
+fn matching(out: Lines, list: &Value, name: &str, pattern: &str) -> io::Result<()> {
+    let pattern = Regex::new(pattern).expect("a pattern");
+    of_each(out, list, |item| {
+        let text = item.get(name)?.as_str()?;
+        if pattern.is_match(text) { item.get("id") } else { None }
+    })
+}
+
+fn run(task: &str, value: &Value, out: Lines) -> io::Result<()> {
+    match task {
+        "parse and print" => line(out, value),
+        "$[*].name" => of_each(out, value, |item| item.get("name")),
+        "$..price" => named(out, value, "price"),
+        "$..*" => inside(out, value),
+        "$[?@.price<10].title" => of_each(out, value, |item| {
+            if item.get("price")?.as_u64()? < 10 { item.get("title") } else { None }
+        }),
+        "$[?@.a.b==@.c.d]" => of_each(out, value, |item| {
+            let (left, right) = (item.get("a")?.get("b")?, item.get("c")?.get("d")?);
+            if left == right { Some(item) } else { None }
+        }),
+        "match of a time stamp" => {
+            matching(out, value, "time", "^2026-(0[1-9]|1[0-2])-..T..:..:..Z$")
+        }
+        "search in a message" => matching(out, value, "message", "timeout|refused"),
+        "$[::-1]" => match value {
+            Value::Array(items) => items.iter().rev().try_for_each(|item| line(out, item)),
+            _ => Ok(()),
+        },
+        "$.*" => children(value).try_for_each(|child| line(out, child)),
+        "$..leaf" => named(out, value, "leaf"),
+        _ => Err(io::Error::new(io::ErrorKind::InvalidInput, "no such task")),
+    }
+}
+
+fn main() -> io::Result<()> {
+    let task = std::env::args().nth(1).unwrap_or_default();
+    let mut bytes = Vec::new();
+    io::stdin().lock().read_to_end(&mut bytes)?;
+    let value = serde_json::from_slice(&bytes)?;
+    let mut out = BufWriter::with_capacity(65_536, io::stdout().lock());
+    run(&task, &value, &mut out)?;
+    out.flush()
+}
