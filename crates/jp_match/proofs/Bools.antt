@@ -31,3 +31,7 @@ not_both false n h = cc
 pub not_false : (b : Bool) → b ≡ false → IsTrue b → ⊥
 not_false true n h = cc
 not_false false n h = cc
+
+pub is_false : (b : Bool) → IsTrue (not b) → b ≡ false
+is_false true n = absurd (cc)
+is_false false n = refl

@@ -1,3 +1,4 @@
+pub mod Beginnings
 pub mod Bools
 pub mod Counting
 pub mod Patterns

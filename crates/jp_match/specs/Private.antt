@@ -1,5 +1,6 @@
 -- How the matchers go: patterns with their counts written out, rows of marks, sets of places and
 -- class tests counted. Beside `Scan`, the contracts of private functions alone cite it.
+pub mod Beginning
 pub mod ClassTests
 pub mod Counts
 pub mod EmptyWord

@@ -13,6 +13,7 @@
 //! ```
 #![tactic(auto)]
 
+mod beginning;
 mod class_tests;
 mod counts;
 mod empty_word;

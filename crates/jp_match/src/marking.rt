@@ -1,6 +1,6 @@
 //! A pattern with a mark for each of its positions.
 
-ghost use Rattle.std.specs.Prelude.{◌≡◌, ◌+◌, ◌^◌, ◌↔◌, ℕ, ◌≤◌, IsTrue, IfOk, min, length};
+ghost use Rattle.std.specs.Prelude.{◌≡◌, ◌+◌, ◌^◌, ℕ, ◌≤◌, IsTrue, IfOk, min, length};
 ghost use Rattle.std.specs.Prelude.{get_or, true, false, ◌||◌};
 ghost use Rattle.jp_iregexp.specs.Tree.{tree};
 ghost use Rattle.jp_iregexp.specs.Positions.{positions_of};
@@ -25,6 +25,10 @@ pub(crate) struct Marking<'p> {
     pub(crate) walk: Walk,
     pub(crate) ends: bool,
     pub(crate) ends_entered: bool,
+    /// There is no mark.
+    pub(crate) is_idle: bool,
+    ghost no_mark: { IsTrue is_idle → (position : ℕ) → IsTrue (get_or walk.marks.items position
+        false) → ⊥ },
     ghost sized: { length walk.marks.items ≡ positions_of (tree pattern.now) },
     ghost kept: { length walk.rounds.items ≡ rounds_of (unrolled (tree pattern.now)) },
     ghost so: { rounds_end (unrolled (tree pattern.now)) walk.marks.items walk.rounds.items ≡ true },
@@ -61,6 +65,7 @@ impl<'p> Marking<'p> {
             },
             ends: false,
             ends_entered: has_empty_word(pattern),
+            is_idle: true,
         })
     }
 
@@ -77,6 +82,7 @@ impl<'p> Marking<'p> {
         let reach = step(self.pattern, &mut self.walk, entered, c, tests);
         self.ends = reach.after;
         self.ends_entered = reach.after_entered;
+        self.is_idle = !is_any(&self.walk.marks);
         reach.before
     }
 
@@ -86,13 +92,5 @@ impl<'p> Marking<'p> {
             result }
     {
         self.ends | (entered & self.ends_entered)
-    }
-
-    /// Whether there is a mark.
-    pub(crate) fn has_mark(&self) -> bool
-        ensures { IsTrue result ↔ ((position : ℕ) × IsTrue (get_or self.now.walk.marks.items
-            position false)) }
-    {
-        is_any(&self.walk.marks)
     }
 }

@@ -1,6 +1,7 @@
 //! The matcher of positions: a scan stepped once over the text.
 
-ghost use Rattle.std.specs.Prelude.{◌↔◌, ◌+◌, ◌*◌, ◌≤◌, ℕ, IsTrue, length, take};
+ghost use Rattle.std.specs.Prelude.{◌↔◌, ◌⊎◌, ◌+◌, ◌*◌, ◌≤◌, ℕ, IsTrue, List, [], ◌∷◌};
+ghost use Rattle.std.specs.Prelude.{length, take};
 ghost use Rattle.std.specs.Str.{chars};
 ghost use Rattle.jp_iregexp.specs.Positions.{positions_of};
 ghost use Rattle.jp_match.specs.Scan.{Left, tree_of};
@@ -62,7 +63,8 @@ fn accepts_whole(scan: &mut Scan<'_>, text: &str, tests: &mut Tests) -> bool
     scan.accepts()
 }
 
-/// Whether the scan accepts once it has taken some prefix of the text. It ends at the first one.
+/// Whether the scan accepts once it has taken some prefix of the text. It ends at the first one, and
+/// passes over the characters that no word begins with.
 fn accepts_prefix(scan: &mut Scan<'_>, text: &str, tests: &mut Tests) -> bool
     ensures accepted { IsTrue result
         ↔ ((count : ℕ) × (count ≤ length (chars text.now))
@@ -71,10 +73,31 @@ fn accepts_prefix(scan: &mut Scan<'_>, text: &str, tests: &mut Tests) -> bool
         text.now) }
     ensures kept { tests.old ≤ tests.new }
 {
+    let mut budget = tests.count();
     for c in text.chars() {
+        budget = budget.saturating_add(scan.positions());
+        if stays_within(scan, c, tests, budget) {
+            continue;
+        }
         if scan.advance(c, tests) {
             return true;
         }
     }
     scan.accepts()
+}
+
+/// Whether the scan stays as it is over the character. It asks only where the tests that this takes
+/// leave those of a step within the budget, since a step may follow.
+fn stays_within(scan: &Scan<'_>, c: char, tests: &mut Tests, budget: u64) -> bool
+    ensures stays { IsTrue result → (word : List ℕ) → Left scan.now word ↔ Left scan.now (c ∷
+        word) }
+    ensures refuses { IsTrue result → Left scan.now [] → ⊥ }
+    ensures counted { (tests.new ≤ tests.old) ⊎ (tests.new + positions_of (tree_of scan.now) ≤
+        budget) }
+    ensures kept { tests.old ≤ tests.new }
+{
+    if budget.saturating_sub(tests.count()) / 2 < scan.positions() {
+        return false;
+    }
+    scan.stays(c, tests)
 }

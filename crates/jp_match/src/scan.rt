@@ -5,6 +5,7 @@ ghost use Rattle.jp_iregexp.specs.Tree.{tree};
 ghost use Rattle.jp_iregexp.specs.Positions.{positions_of};
 ghost use Rattle.jp_match.specs.Scan.{Begins, Left, tree_of};
 
+use crate::beginning::may_begin;
 use crate::class_tests::Tests;
 use crate::counts::counts_of;
 use crate::marking::Marking;
@@ -82,6 +83,28 @@ impl<'p> Scan<'p> {
     pub(crate) fn is_spent(&self) -> bool
         ensures { IsTrue result → (word : List ℕ) → Left self.now word → ⊥ }
     {
-        !self.at_start && !self.marking.has_mark()
+        !self.at_start && self.marking.is_idle
+    }
+
+    /// How many positions the pattern has.
+    pub(crate) fn positions(&self) -> u64
+        ensures { result ≡ positions_of (tree_of self.now) }
+    {
+        self.marking.walk.marks.len() as u64
+    }
+
+    /// Whether the scan stays as it is over the character, and does not accept before it: it has no
+    /// mark, and no word begins so. That makes at most one class test for each position.
+    pub(crate) fn stays(&self, c: char, tests: &mut Tests) -> bool
+        ensures stays { IsTrue result → (word : List ℕ) → Left self.now word ↔ Left self.now
+            (c ∷ word) }
+        ensures refuses { IsTrue result → Left self.now [] → ⊥ }
+        ensures counted { tests.new ≤ tests.old + positions_of (tree_of self.now) }
+        ensures kept { tests.old ≤ tests.new }
+    {
+        if !self.anywhere || !self.at_start || !self.marking.is_idle {
+            return false;
+        }
+        !may_begin(self.marking.pattern, c, tests)
     }
 }

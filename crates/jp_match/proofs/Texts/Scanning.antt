@@ -11,7 +11,7 @@ use Rattle.jp_match.proofs.Steps.StepParts.{rest_none}
 use Rattle.jp_match.proofs.Steps.Unrolled.{unrolled-words}
 
 -- a suffix of a word is the word, or one of what is after its first character
-suffix_cons : (L : List ℕ → Type 0) (c : ℕ) (w : List ℕ) → HasSuffix L (c ∷ w) →
+pub suffix_cons : (L : List ℕ → Type 0) (c : ℕ) (w : List ℕ) → HasSuffix L (c ∷ w) →
     L (c ∷ w) ⊎ HasSuffix L w
 suffix_cons L c w h = parts h.before h.suffix h.is h.holds where
   parts : (before suffix : List ℕ) → c ∷ w ≡ before ++ suffix → L suffix → L (c ∷ w) ⊎ HasSuffix L w
@@ -22,7 +22,7 @@ suffix_cons L c w h = parts h.before h.suffix h.is h.holds where
 whole_suffix : (L : List ℕ → Type 0) (w : List ℕ) → L w → HasSuffix L w
 whole_suffix L w h = record { before = []; suffix = w; is = refl; holds = h }
 
-later_suffix : (L : List ℕ → Type 0) (c : ℕ) (w : List ℕ) → HasSuffix L w → HasSuffix L (c ∷ w)
+pub later_suffix : (L : List ℕ → Type 0) (c : ℕ) (w : List ℕ) → HasSuffix L w → HasSuffix L (c ∷ w)
 later_suffix L c w h = record {
   before = c ∷ h.before;
   suffix = h.suffix;
@@ -31,7 +31,7 @@ later_suffix L c w h = record {
   holds = h.holds;
 }
 
-nil_suffix : (L : List ℕ → Type 0) → HasSuffix L [] → L []
+pub nil_suffix : (L : List ℕ → Type 0) → HasSuffix L [] → L []
 nil_suffix L h = parts h.before h.suffix h.is h.holds where
   parts : (before suffix : List ℕ) → [] ≡ before ++ suffix → L suffix → L []
   parts [] suffix is holds = subst L (sym is) holds

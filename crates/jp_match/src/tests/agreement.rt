@@ -44,9 +44,10 @@ fn with_atom(alloc: Global, seed: &mut u64, pattern: &str) -> Result<String, All
     }
 }
 
-fn made_text(alloc: Global, seed: &mut u64) -> Result<String, AllocError> {
+/// A text of fewer characters than so many.
+fn made_text(alloc: Global, seed: &mut u64, end: u64) -> Result<String, AllocError> {
     let mut text = String::new(alloc);
-    for _ in 0..below(seed, 8) {
+    for _ in 0..below(seed, end) {
         text.push_str(one_of(seed, &["a", "b", "c"]))?;
     }
     Ok(text)
@@ -78,7 +79,7 @@ fn both_matchers_agree(rt: HostRuntime) -> Result<(), Fail> {
     let mut seed = 1;
     for _ in 0..3_000 {
         let pattern = made_pattern(rt.alloc(), &mut seed)?;
-        let word = made_text(rt.alloc(), &mut seed)?;
+        let word = made_text(rt.alloc(), &mut seed, 8)?;
         assert!(rt; agree(rt.alloc(), &pattern, &word)?, "{pattern} {word}");
     }
     Ok(())
@@ -118,7 +119,7 @@ fn both_matchers_agree_on_nested_patterns(rt: HostRuntime) -> Result<(), Fail> {
     for _ in 0..500 {
         let depth = below(&mut seed, 44).saturating_add(20);
         let pattern = nested_pattern(rt.alloc(), &mut seed, depth)?;
-        let word = made_text(rt.alloc(), &mut seed)?;
+        let word = made_text(rt.alloc(), &mut seed, 4)?;
         assert!(rt; agree(rt.alloc(), &pattern, &word)?, "{pattern} {word}");
     }
     Ok(())

@@ -1,4 +1,4 @@
-use Rattle.std.proofs.Common.{◌≡◌, inl, inr, ◌+◌, length, take, sym, ap, subst, ◌∙◌, arith}
+use Rattle.std.proofs.Common.{◌≡◌, inl, inr, ◌+◌, ◌*◌, ◌≤◌, length, take, sym, ap, subst, ◌∙◌, arith}
 use Rattle.std.proofs.lemmas.Bool.{cases_lt}
 use Rattle.std.proofs.lemmas.Iterator.{YieldsList-from_chars}
 use Rattle.std.proofs.lemmas.Iterator.Consumers.{YieldsList-turn, YieldsList-end}
@@ -14,10 +14,22 @@ pub returns-then-advance-clause-counted : goal.returns-then-advance-clause-count
 returns-then-advance-clause-counted c =
     let t = YieldsList-turn (YieldsList-from_chars c.args.text.now c.utf8.text cc) c.loop-c.yielded
     _ c.loop-c.yielded_by _ _ c.in-Some.c c.in-Some.is c.next.ensures.steps in
+    let P = positions_of (tree_of c.args.scan.now) in
+    let n = length c.loop-c.yielded in
     let step = rw c.loop-c.invariant.same at c.advance.ensures.counted in
-    let all = within_all (positions_of (tree_of c.args.scan.now)) (length c.loop-c.yielded + 1)
-    (length (chars c.args.text.now)) (omega (arith, t.0)) in
-    omega (arith, step, c.loop-c.invariant.counted, all)
+    let spare = rw c.loop-c.invariant.same at c.stays_within.ensures.counted in
+    let added = rw c.loop-c.invariant.same at c.positions.ensures in
+    let budget : c.saturating_add-budget.result ≤ c.args.tests.now + P * (n + 1) = omega (
+      arith,
+      c.saturating_add-budget.ensures,
+      added,
+      c.loop-c.invariant.budget,
+    ) in
+    let all = within_all P (n + 1) (length (chars c.args.text.now)) (omega (arith, t.0)) in
+    elim spare [
+      | inl same ↦ omega (arith, step, same, c.loop-c.invariant.counted, all)
+      | inr fit ↦ omega (arith, step, fit, budget, all)
+    ]
 
 pub returns-then-advance-clause-accepted : goal.returns-then-advance-clause-accepted
 returns-then-advance-clause-accepted c =
@@ -31,8 +43,58 @@ returns-then-advance-clause-accepted c =
       λ h. cc,
     )
 
+pub loop-c-preserved-then-stays_within : goal.loop-c-preserved-then-stays_within
+loop-c-preserved-then-stays_within c =
+    let t = YieldsList-turn (YieldsList-from_chars c.args.text.now c.utf8.text cc) c.loop-c.yielded
+    _ c.loop-c.yielded_by _ _ c.in-Some.c c.in-Some.is c.next.ensures.steps in
+    let P = positions_of (tree_of c.args.scan.now) in
+    let n = length c.loop-c.yielded in
+    let more = length_push c.loop-c.yielded c.in-Some.c in
+    let last = left_nil _ (Left c.args.scan.now) c.loop-c.yielded c.loop-c.invariant.left in
+    let spare = rw c.loop-c.invariant.same at c.stays_within.ensures.counted in
+    let added = rw c.loop-c.invariant.same at c.positions.ensures in
+    let budget : c.saturating_add-budget.result ≤ c.args.tests.now + P * (n + 1) = omega (
+      arith,
+      c.saturating_add-budget.ensures,
+      added,
+      c.loop-c.invariant.budget,
+    ) in
+    record {
+      taken = taken_more (chars c.args.text.now) c.loop-c.yielded c.in-Some.c
+          c.loop-c.invariant.taken t.0 t.1;
+      within = omega (arith, t.0, more);
+      none = λ count below left. elim (cases_lt count (length c.loop-c.yielded)) [
+        | inl earlier ↦ c.loop-c.invariant.none count earlier left
+        | inr here ↦
+            let at : count ≡ length c.loop-c.yielded = omega (arith, more) in
+            let now = subst (Left c.args.scan.now) (ap (λ n. take n (chars c.args.text.now)) at ∙
+            sym c.loop-c.invariant.taken) left in
+            c.stays_within.ensures.refuses c.if-stays_within.true (last.1 now)
+      ];
+      left = left_more _ _ (Left c.args.scan.now) c.loop-c.yielded c.in-Some.c
+          c.loop-c.invariant.left (c.stays_within.ensures.stays c.if-stays_within.true);
+      same = c.loop-c.invariant.same;
+      counted = rw more (elim spare [
+        | inl same ↦ omega (arith, same, c.loop-c.invariant.counted)
+        | inr fit ↦ omega (arith, fit, budget)
+      ]);
+      budget = rw more budget;
+      kept = omega (arith, c.stays_within.ensures.kept, c.loop-c.invariant.kept);
+    }
+
 pub loop-c-preserved : goal.loop-c-preserved
 loop-c-preserved c =
+    let P = positions_of (tree_of c.args.scan.now) in
+    let n = length c.loop-c.yielded in
+    let step = rw c.loop-c.invariant.same at c.advance.ensures.counted in
+    let spare = rw c.loop-c.invariant.same at c.stays_within.ensures.counted in
+    let added = rw c.loop-c.invariant.same at c.positions.ensures in
+    let budget : c.saturating_add-budget.result ≤ c.args.tests.now + P * (n + 1) = omega (
+      arith,
+      c.saturating_add-budget.ensures,
+      added,
+      c.loop-c.invariant.budget,
+    ) in
     let t = YieldsList-turn (YieldsList-from_chars c.args.text.now c.utf8.text cc) c.loop-c.yielded
     _ c.loop-c.yielded_by _ _ c.in-Some.c c.in-Some.is c.next.ensures.steps in
     let more = length_push c.loop-c.yielded c.in-Some.c in
@@ -53,9 +115,17 @@ loop-c-preserved c =
       left = left_more _ _ (Left c.args.scan.now) c.loop-c.yielded c.in-Some.c
           c.loop-c.invariant.left c.advance.ensures.left;
       same = c.advance.ensures.same ∙ c.loop-c.invariant.same;
-      counted = rw more (let step = rw c.loop-c.invariant.same at c.advance.ensures.counted in
-          omega (arith, step, c.loop-c.invariant.counted));
-      kept = omega (arith, c.advance.ensures.kept, c.loop-c.invariant.kept);
+      counted = rw more (elim spare [
+        | inl same ↦ omega (arith, step, same, c.loop-c.invariant.counted)
+        | inr fit ↦ omega (arith, step, fit, budget)
+      ]);
+      budget = rw more budget;
+      kept = omega (
+        arith,
+        c.advance.ensures.kept,
+        c.stays_within.ensures.kept,
+        c.loop-c.invariant.kept,
+      );
     }
 
 pub returns-clause-accepted : goal.returns-clause-accepted

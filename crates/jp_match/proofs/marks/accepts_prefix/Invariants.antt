@@ -12,5 +12,6 @@ invariant-loop-c l = record {
   left : (word : List ℕ) → Left l.scan word ↔ Left l.fn.scan (l.yielded ++ word);
   same : tree_of l.scan ≡ tree_of l.fn.scan;
   counted : l.tests ≤ l.fn.tests + positions_of (tree_of l.fn.scan) * length l.yielded;
+  budget : l.budget ≤ l.fn.tests + positions_of (tree_of l.fn.scan) * length l.yielded;
   kept : l.fn.tests ≤ l.tests;
 }

@@ -12,6 +12,7 @@ invariant_of-result c =
     let marks = c.in_ok-marks.marks.items in
     let none = c.in_ok-marks.ensures.none in
     record {
+      no_mark = λ e. none;
       sized = omega (arith, c.in_ok-marks.ensures.same_length, c.requires.positions);
       kept = omega (
         arith,

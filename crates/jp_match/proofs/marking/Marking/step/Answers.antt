@@ -1,5 +1,6 @@
 use Rattle.std.proofs.Common.{◌∙◌, arith}
 use Rattle.jp_iregexp.specs.Tree.{tree}
+use Rattle.jp_match.proofs.Bools.{not_both}
 use Rattle.jp_match.proofs.Steps.Kept.{ends_are, ends_are_entered, rounds_of_test, test_of_rounds}
 use Rattle.jp_match.proofs.Steps.Sizes.{size_unrolled}
 use Rattle.jp_match.proofs.marking.Marking.step.Goals as goal
@@ -16,7 +17,9 @@ step-reach-requires c =
 pub invariant_of-self : goal.invariant_of-self
 invariant_of-self c =
     let moves = c.step-reach.ensures.moves in
+    let any = rw c.deref.ensures.value at c.is_any.ensures.1 in
     record {
+      no_mark = λ e k m. not_both c.is_any.result e (any (k, m));
       sized = moves.marks.same_length ∙ c.args.self.now.sized;
       kept = moves.rounds.same_length ∙ c.args.self.now.kept;
       so = test_of_rounds _ _ _ moves.so;
