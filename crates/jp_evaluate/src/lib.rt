@@ -9,10 +9,11 @@
 //!
 //! The contract for the crates above: `nodes` gives the nodes of the query's nodelist, by
 //! `specs/Nodelist.antt` and, for what functions answer, `specs/Functions.antt`, in order and with
-//! repeats, one at a time, and `evaluate` collects them. By `laws` the normalized path of a node of
-//! a document, read as a query, selects that node alone, a query selects nodes of the document
-//! alone, and a singular one at most one. Nothing that they give depends on a query's profile: one
-//! without `distinct` means what it means with the standard's functions alone.
+//! repeats, one at a time, and `evaluate` collects them; `lent_nodes` gives them of a value in
+//! whatever form it is lent. By `laws` the normalized path of a node of a document, read as a query,
+//! selects that node alone, a query selects nodes of the document alone, and a singular one at most
+//! one. Nothing that they give depends on a query's profile: one without `distinct` means what it
+//! means with the standard's functions alone.
 #![tactic(auto)]
 
 mod calls;
