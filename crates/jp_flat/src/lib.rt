@@ -1,5 +1,18 @@
 //! JSON documents in flat tables (RFC 9535 section 1.1): read several times faster than into a
 //! tree, and in a third of its memory.
+//!
+//! `flat_document` reads one, `Flat::value` is its value, and a `FlatValue` is a `Lent` one, which
+//! `FlatValue::push_value` prints. A `Room` takes the memory from one document to the next:
+//!
+//! ```text
+//! let flat = flat_document(alloc, b"{\"a\":[1,2]}")?;
+//! let (_, list) = flat.value().member("a")?;     // [1,2]
+//! let flat = flat.into_room().read(b"[3]")?;     // the next one, in the same memory
+//! ```
+//!
+//! For the layer above: what is read is a document, with its value in `specs/FlatValue.antt`, and
+//! each call at a value answers as at a `DocumentValue`. Where nothing is read, nothing is said of
+//! the bytes: `Document::read` has the answer.
 #![tactic(auto)]
 
 mod closing;
