@@ -44,7 +44,7 @@ pub use document_value::DocumentValue;
 pub use fault::DocumentFault;
 pub use location::{OwnedLocation, OwnedStep, Step};
 pub use node::{Node, child_at, child_named};
-pub use path::{path_text, push_path, push_quote, quote};
+pub use path::{path_text, push_path, push_quote, push_step, quote};
 pub use path_fault::PathFault;
 pub use path_reader::read_path;
 pub use text::{push_integer, push_text, push_value, value_text};

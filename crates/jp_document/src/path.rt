@@ -64,8 +64,10 @@ pub(crate) fn owned_path_text(alloc: Global, location: &[OwnedStep]) -> Result<S
     Ok(text)
 }
 
-/// Appends one step of a normalized path.
-fn push_step(out: &mut String, step: Step) -> Result<(), AllocError>
+/// Appends one step of a normalized path, as it stands there between brackets (RFC 9535 section 2.7).
+/// Where memory runs out, the text still begins with what it held, and only a beginning of the step
+/// stands after it.
+pub fn push_step(out: &mut String, step: Step) -> Result<(), AllocError>
     ensures ok { OnOk result
         (string_bytes out.new ≡ string_bytes out.old ++ step_text (key_of step.entry)) }
     ensures kept { IsPartAppended (string_bytes out.old) (step_text (key_of step.entry))

@@ -1,7 +1,7 @@
 //! Rows of documents, their nodes, and texts of both.
 use crate::{
-    Document, DocumentFault, Node, Step, child_at, child_named, children, path_text, quote,
-    value_text,
+    Document, DocumentFault, Node, Step, child_at, child_named, children, path_text, push_step,
+    quote, value_text,
 };
 use std::alloc::{AllocError, Global};
 use std::test::Fail;
@@ -110,6 +110,15 @@ fn children_in_document_order(rt: HostRuntime) -> Result<(), Fail> {
         all_children(rt.alloc(), text)?.as_str(),
         "$['a'] [5,3,[{\"j\":4},{\"k\":6}]]\n$['o'] {\"j\":1,\"k\":2}\n"
     );
+    Ok(())
+}
+
+#[test]
+fn steps_are_spelled_one_after_another(rt: HostRuntime) -> Result<(), Fail> {
+    let mut path = String::from_str(rt.alloc(), "$")?;
+    push_step(&mut path, Step::Name("it's"))?;
+    push_step(&mut path, Step::Index(0))?;
+    assert_eq!(rt; path.as_str(), r"$['it\'s'][0]");
     Ok(())
 }
 
