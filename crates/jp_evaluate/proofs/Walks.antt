@@ -2,6 +2,7 @@
 pub mod Advances
 pub mod Begun
 pub mod Choices
+pub mod Leaves
 pub mod Reaching
 pub mod Selects
 pub mod Turns

@@ -61,10 +61,30 @@ impl<'d: 'q, 'q, V: Selectable + 'd, M: Matching> LentNodes<'d, 'q, V, M> {
         self.failed
     }
 
-    /// The next node, None at the end.
-    fn take(&mut self) -> Result<Option<(Vec<Step<'d>>, V)>, AllocError>
+    /// The next node: its value, and in `location` the steps to it instead of what that held; None
+    /// at the end of the nodelist. An error says that there is no memory for it; there are no more
+    /// then, and `location` may hold anything.
+    pub fn next_at(&mut self, location: &mut Vec<Step<'d>>) -> Option<Result<V, AllocError>>
+        ensures { Gives (λ v. lent_node V.meaning (location.new, v)) (rest_of V.meaning) has_failed
+            self.old result self.new }
+    {
+        if self.failed {
+            return None;
+        }
+        match self.take(location) {
+            Ok(next) => Some(Ok(next?)),
+            Err(error) => {
+                self.failed = true;
+                Some(Err(error))
+            }
+        }
+    }
+
+    /// The same, before an error is kept.
+    fn take(&mut self, location: &mut Vec<Step<'d>>) -> Result<Option<V>, AllocError>
         ensures gives { IfOk result (λ o. rest_of V.meaning self.old
-            ≡ map (lent_node V.meaning) (option_to_list o) ++ rest_of V.meaning self.new) }
+            ≡ map (λ v. lent_node V.meaning (location.new, v)) (option_to_list o)
+            ++ rest_of V.meaning self.new) }
         ensures end { IfOk result (λ o. IfNone o (rest_of V.meaning self.new ≡ [])) }
         ensures failed { has_failed self.new ≡ has_failed self.old }
     {
@@ -73,8 +93,8 @@ impl<'d: 'q, 'q, V: Selectable + 'd, M: Matching> LentNodes<'d, 'q, V, M> {
             .advance(&self.evaluation, &mut self.patterns, self.segments)?
         {
             Some(place) => {
-                let location = self.walk.location_at(self.evaluation.alloc, &place)?;
-                Ok(Some((location, place.value)))
+                self.walk.locate(&place, location)?;
+                Ok(Some(place.value))
             }
             None => Ok(None),
         }
@@ -95,15 +115,10 @@ impl<'d: 'q, 'q, V: Selectable + 'd, M: Matching> Iterator for LentNodes<'d, 'q,
     /// The next node, or an error where there is no memory for it, after which there are no more;
     /// None at the end of the nodelist.
     fn next(&mut self) -> Option<Result<(Vec<Step<'d>>, V), AllocError>> {
-        if self.failed {
-            return None;
-        }
-        match self.take() {
-            Ok(next) => Some(Ok(next?)),
-            Err(error) => {
-                self.failed = true;
-                Some(Err(error))
-            }
+        let mut location = Vec::new(self.evaluation.alloc);
+        match self.next_at(&mut location)? {
+            Ok(value) => Some(Ok((location, value))),
+            Err(error) => Some(Err(error)),
         }
     }
 }

@@ -1,8 +1,8 @@
 //! The walk of a query through a document, from choice to choice (RFC 9535 section 2.1.2). It keeps
 //! a frame for each value on the way from where it begins to where it stands, and no list of nodes.
-ghost use Rattle.std.specs.Prelude.{◌≡◌, ◌<◌, ◌++◌, ◌∷◌, [], IfNone, IfOk, IfSome, MatchOption};
-ghost use Rattle.std.specs.Prelude.{OnOk, OnSome, map, option_and_then, option_map, slice_get};
-ghost use Rattle.jp_document.specs.Location.{key_of};
+ghost use Rattle.std.specs.Prelude.{◌≡◌, ◌↔◌, ◌<◌, ◌++◌, ◌∷◌, [], IfNone, IfOk, IfSome, IsTrue};
+ghost use Rattle.std.specs.Prelude.{MatchOption, OnOk, OnSome, length, map, option_and_then, option_map, slice_get};
+ghost use Rattle.jp_document.specs.Location.{entries, key_of};
 ghost use Rattle.jp_document.specs.Node.{root_of};
 ghost use Rattle.jp_tree.specs.Tree.{expr_of, segment_of, segments as segment_trees, selector_of};
 ghost use Rattle.jp_lent.specs.Lending.{step_with};
@@ -32,6 +32,15 @@ pub(crate) struct Place<'d, V> {
     /// The step to it from the frame before it, None where the walk begins.
     step: Option<Step<'d>>,
     pub(crate) value: V,
+}
+
+impl<'d, V: Selectable + 'd> Place<'d, V> {
+    /// Whether there is nothing inside its value, so that no segment chooses anything there.
+    fn is_leaf(&self) -> bool
+        ensures { IsTrue result ↔ (length (entries (V.meaning self.now.value)) ≡ 0) }
+    {
+        self.value.count() == 0
+    }
 }
 
 /// A place at which a segment chooses: by which turn, and the position of the next of its choices.
@@ -100,7 +109,9 @@ impl<'d, V: Selectable + 'd> Walk<'d, V> {
                 if offer.place.done >= segments.len() {
                     return Ok(Some(offer.place));
                 }
-                self.enter(offer.place)?;
+                if !offer.place.is_leaf() {
+                    self.enter(offer.place)?;
+                }
             }
         }
         Ok(None)
@@ -177,13 +188,29 @@ impl<'d, V: Selectable + 'd> Walk<'d, V> {
         ensures { IfOk result (λ l. map key_of l.items
             ≡ (reached_place V.meaning self.now place.now).location) }
     {
-        let mut location = Vec::with_capacity(alloc, self.below.len() + 2)?;
-        for frame in &self.below {
-            push_step(&mut location, frame.place.step)?;
-        }
-        push_step(&mut location, self.last_step())?;
-        push_step(&mut location, place.step)?;
+        let mut location = Vec::new(alloc);
+        self.locate(place, &mut location)?;
         Ok(location)
+    }
+
+    /// Puts the steps to that place into the list, instead of what it holds.
+    #[inline(always)]
+    pub(crate) fn locate(
+        &self,
+        place: &Place<'d, V>,
+        location: &mut Vec<Step<'d>>,
+    ) -> Result<(), AllocError>
+        ensures { OnOk result (map key_of location.new.items
+            ≡ (reached_place V.meaning self.now place.now).location) }
+    {
+        location.clear();
+        location.reserve(self.below.len() + 2)?;
+        for frame in &self.below {
+            push_step(location, frame.place.step)?;
+        }
+        push_step(location, self.last_step())?;
+        push_step(location, place.step)?;
+        Ok(())
     }
 
     /// The step to the frame that stands apart.

@@ -1,4 +1,5 @@
 use Rattle.std.proofs.Common.{◌≡◌, ◌∷◌, IfOk, Some, ap, arith, length, option_map, pos, rules, subst, sym, ◌∙◌}
+use Rattle.jp_document.specs.Location.{entries}
 use Rattle.jp_document.specs.Node.{root_of}
 use Rattle.jp_document.specs.Value.{whole}
 use Rattle.jp_tree.specs.declared.tree.Expr.{the_lemmas}
@@ -10,7 +11,7 @@ use Rattle.jp_evaluate.specs.Private.Selecting.{nodes_query}
 use Rattle.jp_evaluate.specs.Private.Walk.{reached_place}
 use Rattle.jp_evaluate.proofs.Parts.Counted.{counted_nodes, one-answer, test-logical, test-nodes}
 use Rattle.jp_evaluate.proofs.Walks.Selects.{begun_to_come}
-use Rattle.jp_evaluate.proofs.Walks.Advances.{ends_at, goes_on, goes_on_less, offer_less, passed_over}
+use Rattle.jp_evaluate.proofs.Walks.Advances.{ends_at, ends_in_leaf, goes_on, goes_on_less, offer_less, passed_over}
 use Rattle.jp_evaluate.proofs.Parts.Sizes.{part_less}
 use Rattle.jp_evaluate.proofs.+filter.Goals as goal
 
@@ -193,4 +194,15 @@ walk::Walk::advance-loop-offer-preserved-in-Continue-branch-2 g t c =
     goes_on g.V.Lent.meaning all d c.loop-offer.self c.next_offer.new.self c.enter.new.self o c.in-Some.ensures.gives
     c.in-Some.ensures.begun (sym c.in_ok-passes.ensures ∙ c.if-branch.true)
     c.if-offer-segments.false c.enter.ensures.first c.in_ok-enter.ensures.frames
+    ∙ c.loop-offer.invariant
+
+pub walk::Walk::advance-loop-offer-preserved-else-not-is_leaf :
+    goal.walk::Walk::advance-loop-offer-preserved-else-not-is_leaf
+walk::Walk::advance-loop-offer-preserved-else-not-is_leaf g t c =
+    let all = c.args.segments.now in
+    let d = g.V.Lent.meaning c.args.evaluation.now.root in
+    let o = c.in-Some.offer in
+    let leaf : length (entries (g.V.Lent.meaning o.place.value)) ≡ 0 = search rules in
+    ends_in_leaf g.V.Lent.meaning all d c.loop-offer.self c.next_offer.new.self o c.in-Some.ensures.gives
+    (sym c.in_ok-passes.ensures ∙ c.if-branch.true) c.if-offer-segments.false leaf
     ∙ c.loop-offer.invariant

@@ -5,6 +5,7 @@ use Rattle.std.proofs.Common.{slice_index_or, option_to_list, refl, ap, ap₂, s
 use Rattle.std.specs.List.{flat_map, sum_by}
 use Rattle.std.proofs.lemmas.Grind.{flat_map-append}
 use Rattle.std.proofs.lemmas.List.Sums.{sum_by-append, sum_by-cons}
+use Rattle.jp_document.specs.Location.{entries}
 use Rattle.jp_document.specs.Node.{Node, node_at, root_of}
 use Rattle.jp_document.specs.Value.{Value}
 use Rattle.jp_tree.specs.Tree.{ExprTree, segment_of, segment_then, segments}
@@ -22,6 +23,7 @@ use Rattle.jp_evaluate.specs.declared.walk.Place.{Place}
 use Rattle.jp_evaluate.specs.declared.walk.Walk.{Walk}
 use Rattle.jp_evaluate.proofs.Nodelists.Anywhere.{holds-anywhere}
 use Rattle.jp_evaluate.proofs.Walks.Choices.{drop_none, pending-push}
+use Rattle.jp_evaluate.proofs.Walks.Leaves.{no_choices, no_entries}
 use Rattle.jp_evaluate.proofs.Walks.Reaching.{choice-weighs, enters, enters_less}
 use Rattle.jp_evaluate.proofs.Walks.Turns.{segments_left-next}
 
@@ -154,3 +156,27 @@ goes_on_less means all w v u o gives begun more same frames =
     enters_less (segment_of next.0) (segments_left all (p.done + 1)) left
     (means p.value) l next.1 in
     omega arith
+
+-- ---- a choice with nothing inside it
+
+pub ends_in_leaf : {V : Type 0} (means : V → Value) (all : List Segment) (d : Value) (w v : Walk V) (o : Offer V)
+    → Offers means all w o v
+    → passes (offered means all o).test d (root_of (offered means all o).value) ≡ true
+    → o.place.done < length all
+    → length (entries (means o.place.value)) ≡ 0
+    → walk_reaches means all d v ≡ walk_reaches means all d w
+ends_in_leaf means all d w v o gives passed more leaf =
+    let p = o.place in
+    let l = reached_at [] (walk_frames v) ++ steps_of p.step in
+    let left = segments_left all p.done in
+    let next = there all p.done more in
+    let nothing : reaches left d (node_at l (means p.value)) ≡ [] =
+    enters (segment_of next.0) (segments_left all (p.done + 1)) left d (means p.value) l next.1
+    ∙ ap (λ cs. flat_map (choice_reaches d) (map (choice_at l) cs))
+    (no_choices (means p.value) (turns left) (no_entries (means p.value) (omega (arith, leaf)))) in
+    sym (ap (flat_map (choice_reaches d)) gives
+    ∙ ap
+    (λ b. (if b then reaches left d (node_at l (means p.value)) else [])
+    ++ walk_reaches means all d v)
+    (passes-anywhere (offered means all o).test d (node_at l (means p.value)) ∙ passed)
+    ∙ ap (λ ns. ns ++ walk_reaches means all d v) nothing)

@@ -27,7 +27,7 @@ returns g c =
     ∙ ap (reached_at [])
     (take_all c.loop-frame.frame-index fs c.loop-frame-test.false
     ∙ c.deref-frame-items.ensures.value) in
-    c.push_step-3.ensures
+    c.in_ok-push_step-3.ensures
     ∙ ap (λ l. l ++ steps_of c.args.place.now.step)
     (c.in_ok-push_step-2.ensures
     ∙ ap₂ (λ l o. l ++ steps_of o) below c.last_step.ensures
