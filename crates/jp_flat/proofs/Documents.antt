@@ -1,8 +1,8 @@
 -- What is read from a whole text is a document: for `Room::read`.
-use Rattle.std.proofs.Common.{◌≡◌, ℕ, true, List, [], Some, IsUtf8, is_some, sym, ap, subst, unwrap_or}
+use Rattle.std.proofs.Common.{◌≡◌, ℕ, true, List, [], IsUtf8, is_some, sym, ap, subst, unwrap_or}
 use Rattle.json.specs.Lex.{tokens}
 use Rattle.jp_document.specs.Document.{IsDocument}
-use Rattle.jp_document.specs.Value.{everywhere, is_allowed, null}
+use Rattle.jp_document.specs.Value.{null}
 use Rattle.jp_document.proofs.Conjunctions.{and-both}
 use Rattle.jp_document.proofs.Tokens.Ahead.{document_from_text}
 use Rattle.jp_document.proofs.Tokens.Turns.{reads-all}

@@ -2,16 +2,18 @@
 -- tables.
 use Rattle.std.proofs.Common.{◌≡◌, ◌+◌, ◌-◌, ◌≤◌, ◌++◌, ℕ, zero, suc, Bool, true, false}
 use Rattle.std.proofs.Common.{List, [], ◌∷◌, Option, Some, None, cond, leb, length, take, drop}
-use Rattle.std.proofs.Common.{option_map, option_and_then, refl, sym, ap, subst, ◌∙◌, arith}
+use Rattle.std.proofs.Common.{option_map, option_and_then, refl, sym, ap, ◌∙◌, arith}
 use Rattle.std.proofs.Common.{append_assoc, append-nil, length-drop}
 use Rattle.std.proofs.Math.Seq.{drop-append_seam, take-length}
 use Rattle.std.proofs.lemmas.Bool.{cond-true, leb-true, le-leb}
-use Rattle.std.proofs.lemmas.List.{drop-append-le, length-append, take-append-le}
+use Rattle.std.proofs.lemmas.List.{drop-append-le, length-append, length-take-le}
+use Rattle.std.proofs.lemmas.List.{take-append-drop, take-append-le}
 use Rattle.std.proofs.lemmas.Option.{cond_some, same_Some}
 use Rattle.jp_document.specs.Value.{Value, text, list, object, items_of, members_of}
 use Rattle.jp_document.proofs.Options.{some_from_both, some_from_map, some_from_then}
 use Rattle.jp_flat.specs.Flat.{BeginsWith, Grows, Shown, all_of, flat_value, member_with, piece}
 use Rattle.jp_flat.specs.Flat.{text_at, value_with}
+use Rattle.jp_flat.specs.Private.Reading.{IsListOf, with_items}
 use Rattle.jp_flat.specs.declared.item.Item.{Item}
 use Rattle.jp_flat.specs.declared.item.Item.TheVariants as code
 use Rattle.jp_flat.specs.declared.item.Named.{Named}
@@ -75,6 +77,16 @@ grows_on t s r one two = record {
   spare = begins_on t.spare s.spare r.spare one.spare two.spare;
   items = begins_on t.items s.items r.items one.items two.items;
   members = begins_on t.members s.members r.members one.members two.members;
+}
+
+-- whatever items they hold
+pub grows_beside : (t s : Shown) (items : List Item) → Grows t s →
+    Grows (with_items t items) (with_items s items)
+grows_beside t s items more = record {
+  source = more.source;
+  spare = more.spare;
+  items = begins_same items;
+  members = more.members;
 }
 
 -- ---- texts and values in tables that grow
@@ -185,6 +197,23 @@ list_closed n t s new vs p more is at many all =
     (piece_appended s.items t.items new p.first p.count is at many)
     ∙ ap (option_map (λ ws. list (items_of ws)))
     (all_of_grows (flat_value n t) (flat_value n s) new vs (value_grows n t s more) all)
+
+-- the list of the items from a place on
+pub list_from_there : (s : Shown) (first : ℕ) (p : Span) → first ≤ length s.items →
+    p.first ≡ first → p.count ≡ length s.items - first →
+    IsListOf (drop first s.items) (with_items s (take first s.items)) s (code.List p)
+list_from_there s first p within at many = λ n vs all.
+    let t = with_items s (take first s.items) in
+    let new = drop first s.items in
+    let parts : s.items ≡ t.items ++ new = sym (take-append-drop first s.items) in
+    let grown : Grows t s = record {
+      source = refl;
+      spare = begins_same s.spare;
+      items = record { rest = new; is = parts };
+      members = begins_same s.members;
+    } in
+    list_closed n t s new vs p grown parts (at ∙ sym (length-take-le first s.items within))
+    (many ∙ sym (length-drop first s.items)) all
 
 pub object_closed : (n : ℕ) (t s : Shown) (new : List Named) (ms : List (List ℕ × Value)) (p : Span)
     → Grows t s → s.members ≡ t.members ++ new → p.first ≡ length t.members →

@@ -13,7 +13,7 @@ use Rattle.std.proofs.lemmas.List.{length-map, length-take-le}
 use Rattle.std.proofs.lemmas.Option.{cond_some, same_Some, slice_get-map, slice_get_cases}
 use Rattle.std.proofs.lemmas.Str.{IsUtf8-from_is_utf8}
 use Rattle.jp_document.specs.Location.{Key, child, entries, items_from, key_cmp, members_by_name, named, nth}
-use Rattle.jp_document.specs.Value.{IsDocumentValue, NamesRise, Value, is_allowed, items_of, list, list_length}
+use Rattle.jp_document.specs.Value.{IsDocumentValue, NamesRise, Value, items_of, list, list_length}
 use Rattle.jp_document.specs.Value.{boolean, item_count, members_of, no_items, no_members, null, object, text, whole}
 use Rattle.jp_document.proofs.Conjunctions.{and-both, and-left, and-right}
 use Rattle.jp_document.proofs.Descent.Entries.{IsDocumentValue-entry, at_index, child-entry}

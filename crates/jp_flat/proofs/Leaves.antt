@@ -1,10 +1,10 @@
 -- What single tokens are read as: for `value`.
 use Rattle.std.proofs.Common.{◌≡◌, ◌-◌, ◌<◌, ℕ, zero, suc, Bool, true, List, [], ◌∷◌, Some, length}
 use Rattle.std.proofs.Common.{option_map, refl, sym, ap, subst, ◌∙◌, arith, false, pos, negsuc, drop}
-use Rattle.std.proofs.Common.{◌==◌, slice_index}
+use Rattle.std.proofs.Common.{◌==◌, slice_index, None}
 use Rattle.fast_float.specs.Text.{minus, scan}
 use Rattle.json.specs.Json as json
-use Rattle.json.specs.Json.{items, members, parse_map, value}
+use Rattle.json.specs.Json.{after_end_array, items, members, parse_map, value}
 use Rattle.json.specs.Token.{Token}
 use Rattle.json.proofs.Grammar.{value_is, value-begin_array, value-begin_object}
 use Rattle.serde_json.specs.Data as parsed
@@ -12,11 +12,12 @@ use Rattle.serde_json.specs.Data.{negative, unsigned}
 use Rattle.serde_json.specs.Read.{converted, number_from, of_items, of_json, of_members}
 use Rattle.jp_document.specs.Private.Direct.{ReadsItems, ReadsMembers, ReadsValue}
 use Rattle.jp_document.specs.Value.{Value, null, boolean, text, whole, list, object}
-use Rattle.jp_document.specs.Value.{everywhere, items_of, list_fits, members_of}
+use Rattle.jp_document.specs.Value.{items_of, members_of}
 use Rattle.jp_document.proofs.Conjunctions.{and-both}
 use Rattle.jp_document.proofs.Tokens.Turns.{below_zero_text, converted-map, from_zero_text, one_token}
 use Rattle.jp_flat.specs.Flat.{Shown, flat_value, number_of, text_at}
-use Rattle.jp_flat.specs.Private.Reading.{IsWholeItem, ReadsFlat, ReadsFlatItems, ReadsFlatMembers}
+use Rattle.jp_flat.specs.Private.Reading.{IsLeaf, IsWholeItem, ReadsFlat, ReadsFlatItems}
+use Rattle.jp_flat.specs.Private.Reading.{ReadsFlatMembers, with_items}
 use Rattle.jp_flat.specs.declared.item.Halves.{Halves}
 use Rattle.jp_flat.specs.declared.item.Item.{Item}
 use Rattle.jp_flat.specs.declared.item.Item.TheVariants as code
@@ -73,48 +74,76 @@ below_item s n h first read is = record {
 
 -- ---- tokens
 
-pub flat-null : (depth : ℕ) (ts r : List Token) (t : Shown) → ts ≡ Token.null ∷ r →
-    ReadsFlat depth ts r t code.Null
-flat-null depth ts r t first = record {
+pub leaf-null : (k : Token) (t : Shown) → k ≡ Token.null → IsLeaf k t code.Null
+leaf-null k t is = λ depth r items. record {
   value = null;
-  reads = one_token depth ts r Token.null parsed.null null first
+  reads = one_token depth (k ∷ r) r Token.null parsed.null null (ap (λ k. k ∷ r) is)
       (ap (converted of_json) (value_is depth (Token.null ∷ r))) refl;
   short = refl;
-  means = null_means depth t;
+  means = null_means depth (with_items t items);
 }
 
-pub flat-boolean : (depth : ℕ) (ts r : List Token) (t : Shown) (b : Bool) →
-    ts ≡ Token.boolean b ∷ r → ReadsFlat depth ts r t (code.Bool b)
-flat-boolean depth ts r t b first = record {
+pub leaf-boolean : (k : Token) (t : Shown) (b : Bool) → k ≡ Token.boolean b →
+    IsLeaf k t (code.Bool b)
+leaf-boolean k t b is = λ depth r items. record {
   value = boolean b;
-  reads = one_token depth ts r (Token.boolean b) (parsed.boolean b) (boolean b) first
-      (ap (converted of_json) (value_is depth (Token.boolean b ∷ r))) refl;
+  reads = one_token depth (k ∷ r) r (Token.boolean b) (parsed.boolean b) (boolean b)
+      (ap (λ k. k ∷ r) is) (ap (converted of_json) (value_is depth (Token.boolean b ∷ r))) refl;
   short = refl;
-  means = boolean_means depth t b;
+  means = boolean_means depth (with_items t items) b;
 }
 
-pub flat-text : (depth : ℕ) (ts r : List Token) (t : Shown) (p : Span) (x : List ℕ) →
-    ts ≡ Token.string x ∷ r → text_at t p ≡ Some x → ReadsFlat depth ts r t (code.Text p)
-flat-text depth ts r t p x first at = record {
+pub leaf-text : (k : Token) (t : Shown) (p : Span) (x : List ℕ) → k ≡ Token.string x →
+    text_at t p ≡ Some x → IsLeaf k t (code.Text p)
+leaf-text k t p x is at = λ depth r items. record {
   value = text x;
-  reads = one_token depth ts r (Token.string x) (parsed.string x) (text x) first
-      (ap (converted of_json) (value_is depth (Token.string x ∷ r))) refl;
+  reads = one_token depth (k ∷ r) r (Token.string x) (parsed.string x) (text x)
+      (ap (λ k. k ∷ r) is) (ap (converted of_json) (value_is depth (Token.string x ∷ r))) refl;
   short = refl;
-  means = text_means depth t p x at;
+  means = text_means depth (with_items t items) p x at;
 }
 
-pub flat-whole : (depth : ℕ) (ts r : List Token) (t : Shown) (i : Item) (s : List ℕ) →
-    ts ≡ Token.number s ∷ r → IsWholeItem s i → ReadsFlat depth ts r t i
-flat-whole depth ts r t i s first x = record {
+pub leaf-whole : (k : Token) (t : Shown) (i : Item) (s : List ℕ) → k ≡ Token.number s →
+    IsWholeItem s i → IsLeaf k t i
+leaf-whole k t i s is x = λ depth r items. record {
   value = whole x.number;
-  reads = one_token depth ts r (Token.number s) (parsed.number x.written.number) (whole x.number)
-      first
+  reads = one_token depth (k ∷ r) r (Token.number s) (parsed.number x.written.number)
+      (whole x.number) (ap (λ k. k ∷ r) is)
       (ap (converted of_json) (value_is depth (Token.number s ∷ r))
       ∙ ap (λ o. option_map (λ d. (d, r)) (option_map parsed.number o)) x.written.read)
       x.written.holds;
   short = refl;
-  means = x.means depth t;
+  means = x.means depth (with_items t items);
 }
+
+pub leaf-read : (depth : ℕ) (ts r : List Token) (token : Token) (t : Shown) (i : Item) →
+    ts ≡ token ∷ r → IsLeaf token t i → ReadsFlat depth ts r t i
+leaf-read depth ts r token t i first x =
+    subst (λ ks. ReadsFlat depth ks r t i) (sym first) (x depth r t.items)
+
+no_value : (depth : ℕ) (ts r : List Token) (v : Value) → value depth ts ≡ None →
+    ReadsValue depth ts r v → ⊥
+no_value depth ts r v none x =
+    let never : converted of_json None ≡ Some (x.reading, r) =
+    sym (ap (converted of_json) none) ∙ x.read in
+    absurd (cc)
+
+-- no list ends where a value begins
+pub value_goes : (depth : ℕ) (ts r : List Token) (t : Shown) (i : Item) → ReadsFlat depth ts r t i →
+    after_end_array ts ≡ None
+value_goes depth [] r t i x = refl
+value_goes depth (Token.begin_object ∷ ts) r t i x = refl
+value_goes depth (Token.end_object ∷ ts) r t i x = refl
+value_goes depth (Token.begin_array ∷ ts) r t i x = refl
+value_goes depth (Token.end_array ∷ ts) r t i x =
+    absurd (no_value depth (Token.end_array ∷ ts) r x.value
+    (value_is depth (Token.end_array ∷ ts)) x.reads)
+value_goes depth (Token.key s ∷ ts) r t i x = refl
+value_goes depth (Token.string s ∷ ts) r t i x = refl
+value_goes depth (Token.number s ∷ ts) r t i x = refl
+value_goes depth (Token.boolean b ∷ ts) r t i x = refl
+value_goes depth (Token.null ∷ ts) r t i x = refl
+value_goes depth (Token.bad ∷ ts) r t i x = refl
 
 -- ---- lists and objects
 

@@ -2,9 +2,7 @@
 -- `items` and `members`.
 use Rattle.std.proofs.Common.{◌≡◌, ◌+◌, ◌-◌, ◌^◌, ◌<◌, ◌≤◌, ◌++◌, ℕ, suc, Bool, true, List, [], ◌∷◌}
 use Rattle.std.proofs.Common.{Some, None, length, drop, take, refl, sym, ap, subst, ◌∙◌, arith}
-use Rattle.std.proofs.Common.{append_assoc, append-nil, is_lt, option_map, option_and_then}
-use Rattle.std.specs.BTreeMap.{insert_entry}
-use Rattle.std.specs.List.{list_all}
+use Rattle.std.proofs.Common.{append_assoc, append-nil, option_map, option_and_then}
 use Rattle.std.specs.Map.{keys_of}
 use Rattle.std.proofs.Math.Seq.{drop-append_seam, take-append_seam}
 use Rattle.std.proofs.lemmas.Bool.{and_from, le-leb}
@@ -14,86 +12,20 @@ use Rattle.json.specs.Json.{after_end_array, read_key}
 use Rattle.json.specs.Token.{Token}
 use Rattle.jp_document.specs.Private.Direct.{ReadsItems}
 use Rattle.jp_document.specs.Value.{Value, everywhere, everywhere_in_items, item_count, items_of}
-use Rattle.jp_document.specs.Value.{list, list_fits, members_of, names_rise, object}
+use Rattle.jp_document.specs.Value.{list_fits, members_of, names_rise, object}
 use Rattle.jp_document.proofs.Descent.Inside.{all-items}
-use Rattle.jp_document.proofs.Members.ByName.{bytes_cmp}
 use Rattle.jp_document.proofs.Tokens.Ahead.{MembersAhead, ahead_member, ahead_members_end}
 use Rattle.jp_document.proofs.Tokens.Turns.{items_over, items_turn}
 use Rattle.jp_flat.specs.Flat.{Grows, Shown, all_of, flat_value, member_with, text_at}
-use Rattle.jp_flat.specs.Private.Reading.{IsAboveLast, ReadsFlat, ReadsFlatItems}
-use Rattle.jp_flat.specs.Private.Reading.{ReadsFlatMembers, put_all}
+use Rattle.jp_flat.specs.Private.Reading.{BeginsItems, IsAboveLast, IsLeaf, IsListOf, ReadsFlat}
+use Rattle.jp_flat.specs.Private.Reading.{ReadsFlatItems, ReadsFlatMembers, ReadsLeaves, put_all}
+use Rattle.jp_flat.specs.Private.Reading.{with_items}
 use Rattle.jp_flat.specs.declared.item.Item.{Item}
 use Rattle.jp_flat.specs.declared.item.Named.{Named}
 use Rattle.jp_flat.proofs.Growth.{all_of_grows, all_of_push, grows_on, grows_same, length-all_of}
-use Rattle.jp_flat.proofs.Growth.{member_grows, text_grows, value_grows}
+use Rattle.jp_flat.proofs.Growth.{grows_beside, member_grows, text_grows, value_grows}
+use Rattle.jp_flat.proofs.Leaves.{value_goes}
 use Rattle.jp_flat.proofs.Names.{put_all-push, rise-push}
-
--- ---- items
-
--- the items so far, which stand behind the old ones, and the items to come
-pub record ItemsSoFar (depth : ℕ) (initial ts : List Token) (before now : Shown) (base : ℕ)
-    (old all : List Item) : Type 0 where
-  pub turns : ℕ
-  pub enough : length ts ≤ turns
-  pub shorter : length ts ≤ length initial
-  pub values : List Value
-  pub ahead : (vs : List Value) (r : List Token) → ReadsItems depth turns ts r (items_of vs) →
-      ReadsItems depth (length initial) initial r (items_of (values ++ vs))
-  pub short : everywhere_in_items list_fits (items_of values) ≡ true
-  pub new : List Item
-  pub mean : all_of (flat_value depth now) new ≡ Some values
-  pub pushed : all ≡ old ++ new
-  pub at : base ≡ length old
-  pub grows : Grows before now
-
-pub items_begin : (depth : ℕ) (ts : List Token) (t : Shown) (base : ℕ) (old : List Item) →
-    base ≡ length old → ItemsSoFar depth ts ts t t base old old
-items_begin depth ts t base old at = record {
-  turns = length ts;
-  enough = omega arith;
-  shorter = omega arith;
-  values = [];
-  ahead = λ vs r later. later;
-  short = refl;
-  new = [];
-  mean = refl;
-  pushed = sym (append-nil old);
-  at = at;
-  grows = grows_same t;
-}
-
-short_item : (values : List Value) (v : Value) →
-    everywhere_in_items list_fits (items_of values) ≡ true → everywhere list_fits v ≡ true →
-    everywhere_in_items list_fits (items_of (values ++ v ∷ [])) ≡ true
-short_item values v before here =
-    all-items list_fits (values ++ v ∷ [])
-    ∙ list_all-append (everywhere list_fits) values (v ∷ [])
-    ∙ and_from _ _ (sym (all-items list_fits values) ∙ before) (and_from _ _ here refl)
-
-pub items_more : (depth : ℕ) (initial ts r : List Token) (t s u : Shown) (base : ℕ)
-    (old all : List Item) (i : Item) → after_end_array ts ≡ None → length r < length ts →
-    ReadsFlat depth ts r u i → Grows s u → ItemsSoFar depth initial ts t s base old all →
-    ItemsSoFar depth initial r t u base old (all ++ i ∷ [])
-items_more depth initial ts r t s u base old all i going less x more so = record {
-  turns = so.turns - 1;
-  enough = omega (arith, so.enough);
-  shorter = omega (arith, so.shorter);
-  values = so.values ++ x.value ∷ [];
-  ahead = λ vs q later.
-      subst (λ ws. ReadsItems depth (length initial) initial q (items_of ws))
-      (sym (append_assoc so.values (x.value ∷ []) vs))
-      (so.ahead (x.value ∷ vs) q
-      (items_turn depth so.turns ts r q x.value (items_of vs) (omega (arith, so.enough)) going
-      x.reads later));
-  short = short_item so.values x.value so.short x.short;
-  new = so.new ++ i ∷ [];
-  mean = all_of_push (flat_value depth u) so.new so.values i x.value
-      (all_of_grows (flat_value depth s) (flat_value depth u) so.new so.values
-      (value_grows depth s u more) so.mean) x.means;
-  pushed = ap (λ xs. xs ++ i ∷ []) so.pushed ∙ append_assoc old so.new (i ∷ []);
-  at = so.at;
-  grows = grows_on t s u so.grows more;
-}
 
 cut_back : {A : Type 0} (base : ℕ) (old new all : List A) → all ≡ old ++ new → base ≡ length old →
     drop base all ≡ new
@@ -105,36 +37,178 @@ pub cut_front : {A : Type 0} (base : ℕ) (old new all : List A) → all ≡ old
 cut_front base old new all pushed at =
     ap (λ n. take n all) at ∙ ap (take (length old)) pushed ∙ take-append_seam old new
 
+-- ---- items
+
+begins_none : (depth : ℕ) (ts : List Token) (t : Shown) → BeginsItems depth ts ts t []
+begins_none depth ts t = record {
+  values = [];
+  turns = length ts;
+  enough = omega arith;
+  ahead = λ vs r later. later;
+  short = refl;
+  mean = refl;
+}
+
+short_item : (values : List Value) (v : Value) →
+    everywhere_in_items list_fits (items_of values) ≡ true → everywhere list_fits v ≡ true →
+    everywhere_in_items list_fits (items_of (values ++ v ∷ [])) ≡ true
+short_item values v before here =
+    all-items list_fits (values ++ v ∷ [])
+    ∙ list_all-append (everywhere list_fits) values (v ∷ [])
+    ∙ and_from _ _ (sym (all-items list_fits values) ∙ before) (and_from _ _ here refl)
+
+begins_more : (depth : ℕ) (initial ts r : List Token) (s u : Shown) (items : List Item) (i : Item) →
+    length r < length ts → Grows s u → ReadsFlat depth ts r u i →
+    BeginsItems depth initial ts s items → BeginsItems depth initial r u (items ++ i ∷ [])
+begins_more depth initial ts r s u items i less more x so = record {
+  values = so.values ++ x.value ∷ [];
+  turns = so.turns - 1;
+  enough = omega (arith, so.enough);
+  ahead = λ vs q later.
+      subst (λ ws. ReadsItems depth (length initial) initial q (items_of ws))
+      (sym (append_assoc so.values (x.value ∷ []) vs))
+      (so.ahead (x.value ∷ vs) q
+      (items_turn depth so.turns ts r q x.value (items_of vs) (omega (arith, so.enough))
+      (value_goes depth ts r u i x) x.reads later));
+  short = short_item so.values x.value so.short x.short;
+  mean = all_of_push (flat_value depth u) items so.values i x.value
+      (all_of_grows (flat_value depth s) (flat_value depth u) items so.values
+      (value_grows depth s u more) so.mean) x.means;
+}
+
 item_count-items_of : (vs : List Value) → item_count (items_of vs) ≡ length vs
 item_count-items_of [] = refl
 item_count-items_of (v ∷ vs) = ap suc (item_count-items_of vs)
 
+begins_end : (depth : ℕ) (initial ts r : List Token) (s u : Shown) (items : List Item) (i : Item) →
+    after_end_array ts ≡ Some r → length items < 2 ^ 32 → IsListOf items s u i →
+    BeginsItems depth initial ts s items → ReadsFlatItems depth initial r u i
+begins_end depth initial ts r s u items i over few closed so = record {
+  values = so.values;
+  reads =
+      subst (λ ws. ReadsItems depth (length initial) initial r (items_of ws))
+      (append-nil so.values)
+      (so.ahead [] r (items_over depth so.turns ts r so.enough over));
+  within = so.short;
+  short =
+      le-leb _ _
+      (omega (
+        arith,
+        few,
+        item_count-items_of so.values,
+        length-all_of (flat_value depth s) items so.values so.mean,
+      ));
+  means = closed depth so.values so.mean;
+}
+
+-- ---- leaves at the front of a list
+
+pub leaves_begin : (ts : List Token) (t : Shown) → ReadsLeaves ts ts t t
+leaves_begin ts t = record {
+  new = [];
+  behind = sym (append-nil t.items);
+  begins = λ depth. begins_none depth ts t;
+  grows = grows_same t;
+}
+
+pub leaves_more : (initial ts r : List Token) (token : Token) (t s u w : Shown) (i : Item) →
+    ts ≡ token ∷ r → IsLeaf token u i → Grows s u → u.items ≡ s.items →
+    w ≡ with_items u (u.items ++ i ∷ []) → ReadsLeaves initial ts t s → ReadsLeaves initial r t w
+leaves_more initial ts r token t s u w i first leaf more same pushed so =
+    let grown = grows_beside s u t.items more in
+    subst (ReadsLeaves initial r t) (sym pushed) (record {
+      new = so.new ++ i ∷ [];
+      behind =
+          ap (λ xs. xs ++ i ∷ []) (same ∙ so.behind) ∙ append_assoc t.items so.new (i ∷ []);
+      begins = λ depth.
+          begins_more depth initial ts r (with_items s t.items) (with_items u t.items) so.new i
+          (omega (arith, ap length first)) grown
+          (subst (λ ks. ReadsFlat depth ks r (with_items u t.items) i) (sym first)
+          (leaf depth r t.items)) (so.begins depth);
+      grows = grows_on t (with_items s t.items) (with_items u t.items) so.grows grown;
+    })
+
+-- all the items of a list are leaves
+pub leaves_end : (depth : ℕ) (initial ts r : List Token) (t s : Shown) (first : ℕ) (i : Item) →
+    after_end_array ts ≡ Some r → first ≡ length t.items → length s.items < first + 2 ^ 32 →
+    IsListOf (drop first s.items) (with_items s (take first s.items)) s i →
+    ReadsLeaves initial ts t s → ReadsFlatItems depth initial r s i
+leaves_end depth initial ts r t s first i over at few closed so =
+    let back = cut_back first t.items so.new s.items so.behind at in
+    let front = cut_front first t.items so.new s.items so.behind at in
+    begins_end depth initial ts r (with_items s t.items) s so.new i over
+    (omega (arith, few, at, ap length so.behind, length-append t.items so.new))
+    (subst (λ xs. IsListOf so.new (with_items s xs) s i) front
+    (subst (λ xs. IsListOf xs (with_items s (take first s.items)) s i) back closed))
+    (so.begins depth)
+
+pub leaves_grow : (ts rest : List Token) (t s : Shown) → ReadsLeaves ts rest t s → Grows t s
+leaves_grow ts rest t s so = record {
+  source = so.grows.source;
+  spare = so.grows.spare;
+  items = record { rest = so.new; is = so.behind };
+  members = so.grows.members;
+}
+
+-- ---- items with parts, and those behind them
+
+-- the items so far, which stand behind the old ones, and the items to come
+pub record ItemsSoFar (depth : ℕ) (initial ts : List Token) (before now : Shown) (base : ℕ)
+    (old all : List Item) : Type 0 where
+  pub new : List Item
+  pub begins : BeginsItems depth initial ts now new
+  pub shorter : length ts ≤ length initial
+  pub pushed : all ≡ old ++ new
+  pub at : base ≡ length old
+  pub grows : Grows before now
+
+-- the leaves moved from the tables, and the first item that is none
+pub items_begin : (depth : ℕ) (initial ts r : List Token) (t s u : Shown) (first base : ℕ)
+    (old all : List Item) (i : Item) → first ≡ length t.items → base ≡ length old →
+    length ts ≤ length initial → ReadsLeaves initial ts t s →
+    all ≡ old ++ drop first s.items → Grows (with_items s (take first s.items)) u →
+    length r < length ts → ReadsFlat depth ts r u i →
+    ItemsSoFar depth initial r t u base old (all ++ i ∷ [])
+items_begin depth initial ts r t s u first base old all i at here shorter leaves moved more less x =
+    let back = cut_back first t.items leaves.new s.items leaves.behind at in
+    let front = cut_front first t.items leaves.new s.items leaves.behind at in
+    let grown : Grows (with_items s t.items) u =
+    subst (λ xs. Grows (with_items s xs) u) front more in
+    record {
+      new = leaves.new ++ i ∷ [];
+      begins =
+          begins_more depth initial ts r (with_items s t.items) u leaves.new i less grown x
+          (leaves.begins depth);
+      shorter = omega (arith, less, shorter);
+      pushed =
+          ap (λ xs. xs ++ i ∷ []) (moved ∙ ap (λ xs. old ++ xs) back)
+          ∙ append_assoc old leaves.new (i ∷ []);
+      at = here;
+      grows = grows_on t (with_items s t.items) u leaves.grows grown;
+    }
+
+pub items_more : (depth : ℕ) (initial ts r : List Token) (t s u : Shown) (base : ℕ)
+    (old all : List Item) (i : Item) → length r < length ts → ReadsFlat depth ts r u i →
+    Grows s u → ItemsSoFar depth initial ts t s base old all →
+    ItemsSoFar depth initial r t u base old (all ++ i ∷ [])
+items_more depth initial ts r t s u base old all i less x more so = record {
+  new = so.new ++ i ∷ [];
+  begins = begins_more depth initial ts r s u so.new i less more x so.begins;
+  shorter = omega (arith, less, so.shorter);
+  pushed = ap (λ xs. xs ++ i ∷ []) so.pushed ∙ append_assoc old so.new (i ∷ []);
+  at = so.at;
+  grows = grows_on t s u so.grows more;
+}
+
 pub items_end : (depth : ℕ) (initial ts r : List Token) (t s u : Shown) (base : ℕ)
     (old all : List Item) (i : Item) → after_end_array ts ≡ Some r → length all < base + 2 ^ 32 →
-    ((n : ℕ) (vs : List Value) → all_of (flat_value n s) (drop base all) ≡ Some vs →
-    flat_value (suc n) u i ≡ Some (list (items_of vs))) →
-    ItemsSoFar depth initial ts t s base old all → ReadsFlatItems depth initial r u i
+    IsListOf (drop base all) s u i → ItemsSoFar depth initial ts t s base old all →
+    ReadsFlatItems depth initial r u i
 items_end depth initial ts r t s u base old all i over few closed so =
     let back = cut_back base old so.new all so.pushed so.at in
-    let many : length so.values < 2 ^ 32 =
-    omega (
-      arith,
-      few,
-      length-all_of (flat_value depth s) so.new so.values so.mean,
-      so.at,
-      ap length so.pushed,
-      length-append old so.new,
-    ) in
-    record {
-      values = so.values;
-      reads =
-          subst (λ ws. ReadsItems depth (length initial) initial r (items_of ws))
-          (append-nil so.values)
-          (so.ahead [] r (items_over depth so.turns ts r so.enough over));
-      within = so.short;
-      short = le-leb _ _ (omega (arith, item_count-items_of so.values));
-      means = closed depth so.values (ap (all_of (flat_value depth s)) back ∙ so.mean);
-    }
+    begins_end depth initial ts r s u so.new i over
+    (omega (arith, few, so.at, ap length so.pushed, length-append old so.new))
+    (subst (λ xs. IsListOf xs s u i) back closed) so.begins
 
 -- ---- members
 

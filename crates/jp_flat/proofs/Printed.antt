@@ -1,15 +1,14 @@
 -- The parts of lists and objects with so many levels, and what they stand for: for `push_item`.
-use Rattle.std.proofs.Common.{◌≡◌, ◌-◌, ◌<◌, ◌++◌, ◌&&◌, ℕ, zero, suc, Bool, true, false, List, []}
-use Rattle.std.proofs.Common.{◌∷◌, length, map, Option, Some, None, option_map, option_and_then}
-use Rattle.std.proofs.Common.{is_some, unwrap_or, IsUtf8, refl, sym, ap, subst, ◌∙◌, arith}
+use Rattle.std.proofs.Common.{◌≡◌, ◌-◌, ◌&&◌, ℕ, zero, suc, Bool, true, false, List, []}
+use Rattle.std.proofs.Common.{◌∷◌, map, Option, Some, None, option_map, option_and_then}
+use Rattle.std.proofs.Common.{is_some, unwrap_or, refl, sym, ap, subst, ◌∙◌, arith}
 use Rattle.std.specs.List.{list_all}
 use Rattle.std.specs.Map.{keys_of}
 use Rattle.std.specs.Str.{is_utf8}
-use Rattle.std.proofs.lemmas.Bool.{and_from}
 use Rattle.std.proofs.lemmas.Option.{none-some, same_Some}
 use Rattle.std.proofs.lemmas.Str.{IsUtf8-from_is_utf8}
-use Rattle.jp_document.specs.Value.{IsDocumentValue, Value, boolean, everywhere, is_allowed}
-use Rattle.jp_document.specs.Value.{items_of, list, members_of, names_of, null, object, text, whole}
+use Rattle.jp_document.specs.Value.{IsDocumentValue, Value, everywhere, is_allowed}
+use Rattle.jp_document.specs.Value.{items_of, list, members_of, null, object, text}
 use Rattle.jp_document.proofs.Conjunctions.{and-both, and-left, and-right}
 use Rattle.jp_document.proofs.Descent.Inside.{all-items, all-members}
 use Rattle.jp_document.proofs.Members.ByName.{names_of-members_of}

@@ -1,6 +1,6 @@
 -- Members put one by one among others whose names rise: for `put` and `put_each`.
 use Rattle.std.proofs.Common.{◌≡◌, ◌++◌, ◌∷◌, ◌<◌, ◌≤◌, ℕ, zero, suc, Bool, true, List, [], length}
-use Rattle.std.proofs.Common.{Option, Some, None, Ordering, Less, Equal, Greater, Err, is_lt, get_or}
+use Rattle.std.proofs.Common.{Option, Some, Ordering, Less, Equal, Greater, Err, is_lt, get_or}
 use Rattle.std.proofs.Common.{map, option_map, option_and_then, take, drop, refl, sym, ap, subst, ◌∙◌}
 use Rattle.std.proofs.Common.{arith, unwrap_or}
 use Rattle.std.specs.BTreeMap.{insert_entry}

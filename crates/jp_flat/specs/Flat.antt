@@ -1,5 +1,5 @@
 -- The values that stand in flat tables: an item by the places of its bytes and parts.
-use Rattle.std.specs.Prelude.{◌≡◌, ◌+◌, ◌-◌, ◌*◌, ◌^◌, ◌&&◌, ◌++◌, ℕ, suc, zero, pos, negsuc, Bool, true}
+use Rattle.std.specs.Prelude.{◌≡◌, ◌+◌, ◌-◌, ◌*◌, ◌^◌, ◌&&◌, ◌++◌, ℕ, suc, zero, pos, negsuc, Bool}
 use Rattle.std.specs.Prelude.{List, [], ◌∷◌, Option, Some, None, cond, nat_le, length, take, drop}
 use Rattle.std.specs.Prelude.{option_map, option_and_then, string_bytes, unwrap_or, is_some}
 use Rattle.jp_document.specs.Value.{Value, null, boolean, whole, text, list, object}

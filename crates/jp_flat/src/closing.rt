@@ -2,9 +2,9 @@
 ghost use Rattle.std.specs.Prelude.{◌≡◌, ◌+◌, ◌^◌, ◌<◌, ◌≤◌, ℕ, suc, true, IfSome, IsTrue};
 ghost use Rattle.std.specs.Prelude.{List, [], OnSome, Some, drop, length, take};
 ghost use Rattle.std.specs.Map.{keys_of};
-ghost use Rattle.jp_document.specs.Value.{Value, items_of, list, members_of, names_rise, object};
+ghost use Rattle.jp_document.specs.Value.{Value, members_of, names_rise, object};
 ghost use Rattle.jp_flat.specs.Flat.{Grows, all_of, flat_value, member_with, shown};
-ghost use Rattle.jp_flat.specs.Private.Reading.{put_all};
+ghost use Rattle.jp_flat.specs.Private.Reading.{IsListOf, put_all, with_items};
 
 use crate::item::{Item, Named};
 use crate::place::span_of;
@@ -18,17 +18,27 @@ pub(crate) fn close_list(
     base: usize,
 ) -> Option<Item>
     requires { base ≤ length items.old.items }
-    ensures list { IfSome result (λ i. (n : ℕ) (vs : List Value)
-        → all_of (flat_value n (shown tables.old)) (drop base items.old.items) ≡ Some vs
-        → flat_value (suc n) (shown tables.new) i ≡ Some (list (items_of vs))) }
+    ensures list { IfSome result (IsListOf (drop base items.old.items) (shown tables.old)
+        (shown tables.new)) }
     ensures grows { OnSome result (Grows (shown tables.old) (shown tables.new)) }
     ensures rest { OnSome result (items.new.items ≡ take base items.old.items) }
     ensures few { OnSome result (length items.old.items < base + 2 ^ 32) }
 {
-    let parts = tail(items, base);
-    let span = span_of(tables.items.len(), parts.len())?;
-    tables.items.extend_from_slice(parts).ok()?;
+    let first = tables.items.len();
+    tables.items.extend_from_slice(tail(items, base)).ok()?;
     items.truncate(base);
+    let list = list_from(tables, first)?;
+    Some(list)
+}
+
+/// The list of the items in the tables from the first on.
+pub(crate) fn list_from(tables: &Tables<'_>, first: usize) -> Option<Item>
+    requires { first ≤ length tables.now.items.items }
+    ensures list { IfSome result (IsListOf (drop first tables.now.items.items)
+        (with_items (shown tables.now) (take first tables.now.items.items)) (shown tables.now)) }
+    ensures few { OnSome result (length tables.now.items.items < first + 2 ^ 32) }
+{
+    let span = span_of(first, tables.items.len() - first)?;
     Some(Item::List(span))
 }
 

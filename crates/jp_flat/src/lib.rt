@@ -20,6 +20,7 @@ mod flat;
 mod flat_value;
 mod form;
 mod item;
+mod leaf;
 mod number;
 mod parts;
 mod place;

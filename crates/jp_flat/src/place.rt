@@ -11,6 +11,7 @@ use crate::tables::Tables;
 pub(crate) fn place(tables: &mut Tables<'_>, at: usize, text: &str) -> Option<Span>
     ensures spelled { IfSome result (λ s. text_at (shown tables.new) s ≡ Some text.now) }
     ensures grows { OnSome result (Grows (shown tables.old) (shown tables.new)) }
+    ensures items { tables.new.items.items ≡ tables.old.items.items }
 {
     match in_text(tables.text, at, text) {
         Some(span) => Some(span),
@@ -36,6 +37,7 @@ fn in_text(whole: &str, at: usize, text: &str) -> Option<Span>
 fn spared(tables: &mut Tables<'_>, text: &str) -> Option<Span>
     ensures spelled { IfSome result (λ s. text_at (shown tables.new) s ≡ Some text.now) }
     ensures grows { OnSome result (Grows (shown tables.old) (shown tables.new)) }
+    ensures items { tables.new.items.items ≡ tables.old.items.items }
 {
     let first = tables.text.len().checked_add(tables.spare.len())?;
     tables.spare.push_str(text).ok()?;

@@ -1,16 +1,13 @@
 //! Values from the tokens of a text, into tables. What is no document, and what fits no table, is
 //! left to others.
-ghost use Rattle.std.specs.Prelude.{◌≡◌, ◌+◌, ◌^◌, ◌<◌, ◌≤◌, ◌≢◌, ℕ, suc, true, IfSome, IsTrue};
-ghost use Rattle.std.specs.Prelude.{List, [], OnSome, Some, drop, length, take};
-ghost use Rattle.std.specs.List.{list_all};
-ghost use Rattle.jp_document.specs.Value.{Value, items_of, list, members_of, object};
-ghost use Rattle.jp_flat.specs.Flat.{Grows, all_of, flat_value, member_with, shown};
-ghost use Rattle.jp_flat.specs.Private.Reading.{IsAboveLast, IsWholeItem, ReadsFlat};
-ghost use Rattle.jp_flat.specs.Private.Reading.{ReadsFlatItems, ReadsFlatMembers};
+ghost use Rattle.std.specs.Prelude.{◌≡◌, ◌<◌, ◌∷◌, [], IfSome, OnSome, length};
+ghost use Rattle.json.specs.Reads.{token_of};
+ghost use Rattle.jp_flat.specs.Flat.{Grows, shown};
+ghost use Rattle.jp_flat.specs.Private.Reading.{ReadsFlat, ReadsFlatItems, ReadsFlatMembers};
 
-use crate::closing::{close_list, close_object};
+use crate::closing::{close_list, close_object, list_from};
 use crate::item::{Item, Named};
-use crate::number::number;
+use crate::leaf::{leaf, leaves, move_items};
 use crate::place::place;
 use crate::rising::still_rises;
 use crate::tables::Tables;
@@ -63,34 +60,51 @@ pub(crate) fn value(
     let at = reader.offset();
     let token = reader.next()?;
     match token {
-        Token::Null => Some(Item::Null),
-        Token::Bool(truth) => Some(Item::Bool(truth)),
-        Token::Number(text) => {
-            let item = number(text)?;
+        Token::BeginArray | Token::BeginObject => {
+            let item = container(tables, pending, reader, depth, token)?;
             Some(item)
         }
-        Token::String(text) => {
-            let span = place(tables, at, text)?;
-            Some(Item::Text(span))
+        _ => {
+            let item = leaf(tables, at, token)?;
+            Some(item)
         }
+    }
+}
+
+/// The list or the object that begins with a token.
+#[cycle(reading)]
+fn container(
+    tables: &mut Tables<'_>,
+    pending: &mut Pending,
+    reader: &mut Reader<'_>,
+    depth: usize,
+    token: Token<'_>,
+) -> Option<Item>
+    ensures reads { IfSome result (λ i. ReadsFlat depth (token_of token.entry ∷ reader.old)
+        reader.new (shown tables.new) i) }
+    ensures grows { OnSome result (Grows (shown tables.old) (shown tables.new)) }
+    ensures items { OnSome result (pending.new.items.items ≡ pending.old.items.items) }
+    ensures members { OnSome result (pending.new.members.items ≡ pending.old.members.items) }
+    ensures shorter { OnSome result (length reader.new < length reader.old) }
+{
+    if depth == 0 {
+        return None;
+    }
+    match token {
         Token::BeginArray => {
-            if depth == 0 {
-                return None;
-            }
             let item = items(tables, pending, reader, depth - 1)?;
             Some(item)
         }
         Token::BeginObject => {
-            if depth == 0 {
-                return None;
-            }
             let item = members(tables, pending, reader, depth - 1)?;
             Some(item)
         }
-        Token::EndObject | Token::EndArray | Token::Key(_) | Token::Bad => None,
+        _ => None,
     }
 }
 
+/// Reads the items of a list: into the tables while they have no parts, and to those that are
+/// being read from the first one on that has some.
 #[cycle(reading)]
 fn items(
     tables: &mut Tables<'_>,
@@ -105,7 +119,16 @@ fn items(
     ensures members { OnSome result (pending.new.members.items ≡ pending.old.members.items) }
     ensures shorter { OnSome result (length reader.new < length reader.old) }
 {
+    let first = tables.items.len();
+    let token = leaves(tables, reader)?;
+    if let Token::EndArray = token {
+        let list = list_from(tables, first)?;
+        return Some(list);
+    }
     let base = pending.items.len();
+    move_items(tables, first, &mut pending.items)?;
+    let item = container(tables, pending, reader, depth, token)?;
+    pending.items.push(item).ok()?;
     'items: while !reader.take_end_array() {
         let item = value(tables, pending, reader, depth)?;
         pending.items.push(item).ok()?;

@@ -1,5 +1,5 @@
 -- What is printed of values in tables.
-use Rattle.std.specs.Prelude.{◌≡◌, ◌-◌, ◌<◌, ◌++◌, ◌∷◌, ◌&&◌, ℕ, Bool, true, false, List, length, map}
+use Rattle.std.specs.Prelude.{◌≡◌, ◌-◌, ◌<◌, ◌++◌, ◌∷◌, ◌&&◌, ℕ, Bool, true, false, List, length}
 use Rattle.std.specs.Prelude.{option_map, unwrap_or}
 use Rattle.std.specs.List.{list_all}
 use Rattle.std.specs.Str.{is_utf8}
@@ -10,7 +10,6 @@ use Rattle.jp_flat.specs.Flat.{Shown, is_flat_at, meaning_at, text_at}
 use Rattle.jp_flat.specs.Private.Parts.{name_in}
 use Rattle.jp_flat.specs.declared.item.Item.{Item}
 use Rattle.jp_flat.specs.declared.item.Named.{Named}
-use Rattle.jp_flat.specs.declared.item.Span.{Span}
 
 -- the member has a name in UTF-8, and a value with so many levels that may be a document's
 abbrev pub is_member_at : ℕ → Shown → Named → Bool

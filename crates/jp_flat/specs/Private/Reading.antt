@@ -1,5 +1,5 @@
 -- What the tokens of a document are read as, value by value.
-use Rattle.std.specs.Prelude.{◌≡◌, ◌≤◌, ℕ, ℤ, suc, true, List, [], ◌∷◌, ◌++◌, length, Option, Some}
+use Rattle.std.specs.Prelude.{◌≡◌, ◌≤◌, ℕ, ℤ, suc, true, List, [], ◌∷◌, ◌++◌, length, Some}
 use Rattle.std.specs.BTreeMap.{insert_entry}
 use Rattle.std.specs.Cmp.Lexicographic.{slice_cmp}
 use Rattle.std.specs.Ordering.{is_lt, nat_cmp}
@@ -8,7 +8,7 @@ use Rattle.jp_document.specs.Private.Direct.{IsWholeText, ReadsItems, ReadsMembe
 use Rattle.jp_document.specs.Private.Direct.{ReadsValue}
 use Rattle.jp_document.specs.Value.{Value, everywhere, everywhere_in_items, everywhere_in_members}
 use Rattle.jp_document.specs.Value.{items_of, list, list_fits, members_of, object, whole}
-use Rattle.jp_flat.specs.Flat.{Shown, flat_value, most_levels, text_at}
+use Rattle.jp_flat.specs.Flat.{Grows, Shown, all_of, flat_value, most_levels, text_at}
 use Rattle.jp_flat.specs.declared.item.Item.{Item}
 use Rattle.jp_flat.specs.declared.item.Named.{Named}
 
@@ -35,6 +35,43 @@ pub record ReadsFlatMembers (depth : ℕ) (ts rest : List Token) (t : Shown) (i 
     pub reads : ReadsMembers depth (length ts) ts rest (members_of members)
     pub within : everywhere_in_members list_fits (members_of members) ≡ true
     pub means : flat_value (suc depth) t i ≡ Some (object (members_of members))
+
+-- the tokens begin with the values of the items in a list: with whatever values the rest goes on,
+-- these and those are read as one list
+pub record BeginsItems (depth : ℕ) (ts rest : List Token) (t : Shown) (items : List Item) : Type 0
+  where
+    pub values : List Value
+    pub turns : ℕ
+    pub enough : length rest ≤ turns
+    pub ahead : (vs : List Value) (end : List Token) →
+        ReadsItems depth turns rest end (items_of vs) →
+        ReadsItems depth (length ts) ts end (items_of (values ++ vs))
+    pub short : everywhere_in_items list_fits (items_of values) ≡ true
+    pub mean : all_of (flat_value depth t) items ≡ Some values
+
+-- tables with other items
+abbrev pub with_items : Shown → List Item → Shown
+with_items t items = record t { items = items }
+
+-- the token alone is the value of the item, whatever items the tables hold
+abbrev pub IsLeaf : Token → Shown → Item → Type 0
+IsLeaf token t i =
+    (depth : ℕ) (rest : List Token) (items : List Item) →
+    ReadsFlat depth (token ∷ rest) rest (with_items t items) i
+
+-- the tokens begin with the values of the items in a list that the later tables hold behind those
+-- of the earlier ones, and need none of them
+pub record ReadsLeaves (ts rest : List Token) (before after : Shown) : Type 0 where
+  pub new : List Item
+  pub behind : after.items ≡ before.items ++ new
+  pub begins : (depth : ℕ) → BeginsItems depth ts rest (with_items after before.items) new
+  pub grows : Grows before (with_items after before.items)
+
+-- whatever values the items have in the earlier tables, the item is their list in the later ones
+abbrev pub IsListOf : List Item → Shown → Shown → Item → Type 0
+IsListOf items before after i =
+    (n : ℕ) (vs : List Value) → all_of (flat_value n before) items ≡ Some vs →
+    flat_value (suc n) after i ≡ Some (list (items_of vs))
 
 -- a reading of the text holds the value of the item
 pub record ReadsFlatText (source : List ℕ) (t : Shown) (i : Item) : Type 0 where

@@ -1,4 +1,4 @@
-use Rattle.std.proofs.Common.{◌≡◌, ◌++◌, drop, length, refl, rules, arith, sym, subst, ap, ◌∙◌, Some}
+use Rattle.std.proofs.Common.{◌≡◌, ◌++◌, drop, length, rules, sym, ap, ◌∙◌, Some}
 use Rattle.jp_document.specs.Value.{members_of, object}
 use Rattle.jp_flat.specs.Flat.{Grows, shown}
 use Rattle.jp_flat.proofs.Growth.{object_closed}

@@ -1,4 +1,4 @@
-use Rattle.std.proofs.Common.{◌≡◌, ap, arith, drop, false, length-drop, rules, sym, take_all, true, ◌∙◌}
+use Rattle.std.proofs.Common.{◌≡◌, ap, arith, drop, false, length-drop, sym, take_all, true, ◌∙◌}
 use Rattle.fast_float.specs.Text.{scan}
 use Rattle.serde_json.specs.Read.{number_from}
 use Rattle.jp_flat.proofs.Leaves.{above_item, below_item}

@@ -1,20 +1,19 @@
 use Rattle.std.proofs.Common.{◌≡◌, ℕ, ◌+◌, ◌-◌, ◌<◌, List, [], ◌∷◌, ◌++◌, cond, eqb, length, get_or}
 use Rattle.std.proofs.Common.{drop, map, string_bytes, sym, ap, subst, ◌∙◌, append_assoc, arith, true, false}
-use Rattle.std.proofs.Common.{rules, codes, unwrap_or, pos, negsuc, OnOk, Result, Ok, Err}
+use Rattle.std.proofs.Common.{rules, unwrap_or, pos, negsuc, OnOk, Result, Ok, Err}
 use mir.Val.{of_z, to_z}
 use Rattle.std.specs.Fmt.{signed_decimal}
 use Rattle.std.specs.Int.{w128}
-use Rattle.std.specs.List.{join_with_byte, list_all}
-use Rattle.std.proofs.lemmas.Grind.{common_steps}
+use Rattle.std.specs.List.{join_with_byte}
 use Rattle.std.proofs.lemmas.List.{drop_more}
 use Rattle.jp_reading.specs.Characters as char
 use Rattle.jp_document.specs.Appending.{IsPartAppended}
 use Rattle.jp_document.specs.Text.{text_of, item_texts, member_texts, string_text}
 use Rattle.jp_document.specs.Value.{Value, boolean, items_of, list, members_of, null, object, text, whole}
-use Rattle.jp_document.proofs.Writing.Appended.{after, all_of, between, first, nothing}
-use Rattle.jp_document.proofs.Writing.Parts.{joined_more, part_more, wrote_member}
-use Rattle.jp_flat.specs.Flat.{Shown, is_flat_at, meaning_at, number_of, shown}
-use Rattle.jp_flat.specs.Private.Printing.{AreItems, AreMembers, is_member_at, pair_at, pair_text}
+use Rattle.jp_document.proofs.Writing.Appended.{after, all_of, between, first}
+use Rattle.jp_document.proofs.Writing.Parts.{joined_more, part_more}
+use Rattle.jp_flat.specs.Flat.{is_flat_at, meaning_at, number_of, shown}
+use Rattle.jp_flat.specs.Private.Printing.{AreItems, AreMembers, pair_at, pair_text}
 use Rattle.jp_flat.specs.declared.item.Item.{Item}
 use Rattle.jp_flat.specs.declared.item.Item.TheVariants as code
 use Rattle.jp_flat.specs.declared.item.Named.{Named}

@@ -1,91 +1,105 @@
-use Rattle.std.proofs.Common.{◌≡◌, ◌++◌, ◌∷◌, [], ◌<◌, Some, None, true, length, arith, rules, sym, ap}
-use Rattle.std.proofs.Common.{◌∙◌}
+use Rattle.std.proofs.Common.{◌≡◌, ◌++◌, ◌∷◌, [], ◌<◌, Some, None, length, arith, rules, ap}
+use Rattle.std.proofs.Common.{◌∙◌, ◌≤◌, drop, take}
 use Rattle.json.specs.Json.{after_end_array, read_key}
 use Rattle.json.specs.Reads.{token_of}
 use Rattle.json.specs.Token.{Token}
 use Rattle.json.proofs.Grammar.{read_key-shorter}
-use Rattle.jp_flat.specs.Flat.{shown}
-use Rattle.jp_flat.specs.Private.Reading.{ReadsFlat}
+use Rattle.jp_flat.specs.Flat.{Grows, shown}
+use Rattle.jp_flat.specs.Private.Reading.{ReadsFlat, with_items}
 use Rattle.jp_flat.specs.declared.item.Named.{Named}
-use Rattle.jp_flat.proofs.Leaves.{flat-null, flat-boolean, flat-text, flat-whole, flat-list}
-use Rattle.jp_flat.proofs.Leaves.{flat-object}
-use Rattle.jp_flat.proofs.Loops.{cut_front, items_begin, items_end, items_more, members_begin}
-use Rattle.jp_flat.proofs.Loops.{members_end, members_more}
+use Rattle.jp_flat.proofs.Leaves.{flat-list, flat-object, leaf-read}
+use Rattle.jp_flat.proofs.Loops.{items_begin, items_end, items_more, leaves_end, leaves_grow}
+use Rattle.jp_flat.proofs.Loops.{members_begin, members_end, members_more}
 use Rattle.jp_flat.proofs.reading.+reading.Goals as goal
 
-pub value-returns-in-Null-clause-reads : goal.value-returns-in-Null-clause-reads
-value-returns-in-Null-clause-reads t c =
-    let first : c.args.reader.now ≡ token_of c.in_ok-token.token ∷ c.next.new.self = grind arith in
-    let is : c.args.reader.now ≡ Token.null ∷ c.next.new.self = grind (arith, first) in
-    flat-null c.args.depth c.args.reader.now c.next.new.self (shown c.args.tables.now) is
+pub value-returns-in_ok-item-in_default-clause-reads :
+    goal.value-returns-in_ok-item-in_default-clause-reads
+value-returns-in_ok-item-in_default-clause-reads t c =
+    let k = token_of c.in_ok-token.token in
+    let first : c.args.reader.now ≡ k ∷ c.next.new.self = grind arith in
+    leaf-read c.args.depth c.args.reader.now c.next.new.self k (shown c.leaf.new.tables)
+    c.in_ok-item-in_default.item first c.in_ok-item-in_default.ensures.leaf
 
-pub value-returns-in-Bool-clause-reads : goal.value-returns-in-Bool-clause-reads
-value-returns-in-Bool-clause-reads t c =
-    let first : c.args.reader.now ≡ token_of c.in_ok-token.token ∷ c.next.new.self = grind arith in
-    let is : c.args.reader.now ≡ Token.boolean c.in-Bool.truth ∷ c.next.new.self =
-    grind (arith, first) in
-    flat-boolean c.args.depth c.args.reader.now c.next.new.self (shown c.args.tables.now) _ is
+pub container-returns-in_ok-item-in-BeginArray-clause-reads :
+    goal.container-returns-in_ok-item-in-BeginArray-clause-reads
+container-returns-in_ok-item-in-BeginArray-clause-reads t c =
+    let k = token_of c.args.token in
+    let is : k ≡ Token.begin_array = grind arith in
+    flat-list c.args.depth (k ∷ c.args.reader.now) c.args.reader.now c.items.new.reader
+    (shown c.items.new.tables) _ (omega arith) (ap (λ k. k ∷ c.args.reader.now) is)
+    c.in_ok-item-in-BeginArray.ensures.reads
 
-pub value-returns-in_ok-item-in-Number-clause-reads :
-    goal.value-returns-in_ok-item-in-Number-clause-reads
-value-returns-in_ok-item-in-Number-clause-reads t c =
-    let first : c.args.reader.now ≡ token_of c.in_ok-token.token ∷ c.next.new.self = grind arith in
-    let is : c.args.reader.now ≡ Token.number c.in-Number.text.now ∷ c.next.new.self =
-    grind (arith, first) in
-    flat-whole c.args.depth c.args.reader.now c.next.new.self (shown c.args.tables.now) _
-    c.in-Number.text.now is c.in_ok-item-in-Number.ensures
+pub container-returns-in_ok-item-in-BeginObject-clause-reads :
+    goal.container-returns-in_ok-item-in-BeginObject-clause-reads
+container-returns-in_ok-item-in-BeginObject-clause-reads t c =
+    let k = token_of c.args.token in
+    let is : k ≡ Token.begin_object = grind arith in
+    flat-object c.args.depth (k ∷ c.args.reader.now) c.args.reader.now c.members.new.reader
+    (shown c.members.new.tables) _ (omega arith) (ap (λ k. k ∷ c.args.reader.now) is)
+    c.in_ok-item-in-BeginObject.ensures.reads
 
-pub value-returns-in_ok-span-in-String-clause-reads :
-    goal.value-returns-in_ok-span-in-String-clause-reads
-value-returns-in_ok-span-in-String-clause-reads t c =
-    let first : c.args.reader.now ≡ token_of c.in_ok-token.token ∷ c.next.new.self = grind arith in
-    let is : c.args.reader.now ≡ Token.string c.in-String.text.now ∷ c.next.new.self =
-    grind (arith, first) in
-    flat-text c.args.depth c.args.reader.now c.next.new.self (shown c.place.new.tables)
-    c.in_ok-span-in-String.span c.in-String.text.now is c.in_ok-span-in-String.ensures.spelled
+pub items-returns-in-EndArray-clause-reads : goal.items-returns-in-EndArray-clause-reads
+items-returns-in-EndArray-clause-reads t c =
+    let k = token_of c.in_ok-token.token in
+    let r = c.leaves.new.reader in
+    let is : k ≡ Token.end_array = grind arith in
+    let over : after_end_array (k ∷ r) ≡ Some r = ap (λ k. after_end_array (k ∷ r)) is in
+    let at : c.len-first.result ≡ length c.args.tables.now.items.items = search rules in
+    leaves_end c.args.depth c.args.reader.now (k ∷ r) r (shown c.args.tables.now)
+    (shown c.leaves.new.tables) c.len-first.result c.in_ok-list.list over at
+    c.in_ok-list.ensures.few c.in_ok-list.ensures.list c.in_ok-token.ensures.reads
 
-pub value-returns-in_ok-item-in-BeginArray-clause-reads :
-    goal.value-returns-in_ok-item-in-BeginArray-clause-reads
-value-returns-in_ok-item-in-BeginArray-clause-reads t c =
-    let first : c.args.reader.now ≡ token_of c.in_ok-token.token ∷ c.next.new.self = grind arith in
-    let is : c.args.reader.now ≡ Token.begin_array ∷ c.next.new.self = grind (arith, first) in
-    flat-list c.args.depth c.args.reader.now c.next.new.self c.items.new.reader
-    (shown c.items.new.tables) _ (omega arith) is c.in_ok-item-in-BeginArray.ensures.reads
-
-pub value-returns-in_ok-item-in-BeginObject-clause-reads :
-    goal.value-returns-in_ok-item-in-BeginObject-clause-reads
-value-returns-in_ok-item-in-BeginObject-clause-reads t c =
-    let first : c.args.reader.now ≡ token_of c.in_ok-token.token ∷ c.next.new.self = grind arith in
-    let is : c.args.reader.now ≡ Token.begin_object ∷ c.next.new.self = grind (arith, first) in
-    flat-object c.args.depth c.args.reader.now c.next.new.self c.members.new.reader
-    (shown c.members.new.tables) _ (omega arith) is c.in_ok-item-in-BeginObject.ensures.reads
+pub items-returns-in-EndArray-clause-grows : goal.items-returns-in-EndArray-clause-grows
+items-returns-in-EndArray-clause-grows t c =
+    leaves_grow c.args.reader.now (token_of c.in_ok-token.token ∷ c.leaves.new.reader)
+    (shown c.args.tables.now) (shown c.leaves.new.tables) c.in_ok-token.ensures.reads
 
 pub items-items-init : goal.items-items-init
-items-items-init t c = record {
-  so =
-      let at : c.len-base.result ≡ length c.args.pending.now.items.items = search rules in
-      items_begin c.args.depth c.args.reader.now (shown c.args.tables.now) c.len-base.result
-      c.args.pending.now.items.items at;
-  others = search rules;
-}
+items-items-init t c =
+    let k = token_of c.in_ok-token.token in
+    let s = c.leaves.new.tables in
+    let q = c.leaves.new.reader in
+    let r = c.container.new.reader in
+    let i = c.in_ok-item.item in
+    let done = c.in_ok-item.ensures in
+    let first = c.len-first.result in
+    let old = c.args.pending.now.items.items in
+    let moved = c.move_items.new.items.items in
+    let at : first ≡ length c.args.tables.now.items.items = search rules in
+    let here : c.len-base.result ≡ length old = search rules in
+    let leaf : length (k ∷ q) ≤ length c.args.reader.now =
+    omega (arith, c.in_ok-token.ensures.shorter) in
+    let less : length r < length (k ∷ q) = omega (arith, done.shorter) in
+    let put : moved ≡ old ++ drop first s.items.items = search rules in
+    let left : shown c.move_items.new.tables ≡ with_items (shown s) (take first s.items.items) =
+    search rules in
+    let more : Grows (with_items (shown s) (take first s.items.items)) (shown c.container.new.tables) =
+    rw (← left) done.grows in
+    let pushed : c.push.new.self.items ≡ moved ++ i ∷ [] = search rules in
+    record {
+      so = rw pushed
+          (items_begin c.args.depth c.args.reader.now (k ∷ q) r (shown c.args.tables.now) (shown s)
+          (shown c.container.new.tables) first c.len-base.result old moved i at here leaf
+          c.in_ok-token.ensures.reads put more less done.reads);
+      others = search rules;
+    }
 
 pub items-items-preserved : goal.items-items-preserved
 items-items-preserved t c =
     let l = c.items in
-    let going : (after_end_array l.reader ≡ None) × (c.take_end_array.new.self ≡ l.reader) =
-    grind arith in
-    let done = c.in_ok-item.ensures in
-    let i = c.in_ok-item.item in
+    let same : c.take_end_array.new.self ≡ l.reader = grind arith in
+    let done = c.in_ok-item-2.ensures in
+    let i = c.in_ok-item-2.item in
     let r = c.value.new.reader in
     let s = shown c.value.new.tables in
-    let less : length r < length l.reader = rw (← going.1) done.shorter in
-    let pushed : c.push.new.self.items ≡ l.pending.items.items ++ i ∷ [] = search rules in
-    let read : ReadsFlat c.args.depth l.reader r s i = rw (← going.1) done.reads in
+    let less : length r < length l.reader = rw (← same) done.shorter in
+    let pushed : c.push-in-items.new.self.items ≡ l.pending.items.items ++ i ∷ [] = search rules in
+    let read : ReadsFlat c.args.depth l.reader r s i = rw (← same) done.reads in
     record {
       so = rw pushed
           (items_more c.args.depth c.args.reader.now l.reader r (shown c.args.tables.now)
           (shown l.tables) s c.len-base.result c.args.pending.now.items.items l.pending.items.items i
-          going.0 less read done.grows l.invariant.so);
+          less read done.grows l.invariant.so);
       others = done.members ∙ l.invariant.others;
     }
 
@@ -95,8 +109,8 @@ items-returns-clause-reads t c =
     let over : after_end_array l.reader ≡ Some c.take_end_array.new.self = grind arith in
     items_end c.args.depth c.args.reader.now l.reader c.take_end_array.new.self
     (shown c.args.tables.now) (shown l.tables) (shown c.close_list.new.tables) c.len-base.result
-    c.args.pending.now.items.items l.pending.items.items c.in_ok-list.list over
-    c.in_ok-list.ensures.few c.in_ok-list.ensures.list l.invariant.so
+    c.args.pending.now.items.items l.pending.items.items c.in_ok-list-2.list over
+    c.in_ok-list-2.ensures.few c.in_ok-list-2.ensures.list l.invariant.so
 
 pub members-members-init : goal.members-members-init
 members-members-init t c = record {

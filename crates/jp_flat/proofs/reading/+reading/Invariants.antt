@@ -4,19 +4,22 @@ use Rattle.jp_flat.proofs.Loops.{ItemsSoFar, MembersSoFar}
 use Rattle.jp_flat.proofs.reading.+reading.Given as goal
 
 abbrev pub decreases-value : goal.decreases-value
-decreases-value l = 2 * l.depth
+decreases-value l = 3 * l.depth + 1
+
+abbrev pub decreases-container : goal.decreases-container
+decreases-container l = 3 * l.depth
 
 abbrev pub decreases-items : goal.decreases-items
-decreases-items l = 2 * l.depth + 1
+decreases-items l = 3 * l.depth + 2
 
 abbrev pub decreases-members : goal.decreases-members
-decreases-members l = 2 * l.depth + 1
+decreases-members l = 3 * l.depth + 2
 
 abbrev pub invariant-items-items : goal.invariant-items-items
 invariant-items-items l = record {
-  so : ItemsSoFar l.depth l.initial.reader l.reader (shown l.initial.tables) (shown l.tables) l.base
-      l.initial.pending.items.items l.pending.items.items;
-  others : l.pending.members.items ≡ l.initial.pending.members.items;
+  so : ItemsSoFar l.depth l.fn.reader l.reader (shown l.fn.tables) (shown l.tables) l.base
+      l.fn.pending.items.items l.pending.items.items;
+  others : l.pending.members.items ≡ l.fn.pending.members.items;
 }
 
 abbrev pub decreases-items-items : goal.decreases-items-items

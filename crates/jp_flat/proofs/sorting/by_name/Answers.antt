@@ -1,8 +1,8 @@
-use Rattle.std.proofs.Common.{◌≡◌, ◌+◌, ◌++◌, ◌∷◌, [], Some, take, rules, arith, length, get_or, sym}
+use Rattle.std.proofs.Common.{◌≡◌, ◌+◌, ◌++◌, ◌∷◌, [], take, rules, arith, get_or, sym}
 use Rattle.std.proofs.Common.{subst, take_all}
 use Rattle.std.proofs.lemmas.List.{take_more}
 use Rattle.std.specs.BTreeMap.{insert_entry}
-use Rattle.jp_flat.specs.Flat.{shown, text_at}
+use Rattle.jp_flat.specs.Flat.{shown}
 use Rattle.jp_flat.specs.Private.Sorting.{PutsByName}
 use Rattle.jp_flat.specs.declared.item.Item.TheVariants as code
 use Rattle.jp_flat.specs.declared.item.Named.{Named}

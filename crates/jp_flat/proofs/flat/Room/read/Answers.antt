@@ -1,7 +1,7 @@
 use Rattle.std.proofs.Common.{◌≡◌, IsUtf8, rules, subst, ◌∙◌}
 use Rattle.jp_flat.specs.Flat.{shown}
 use Rattle.jp_flat.specs.Private.Reading.{ReadsFlatText}
-use Rattle.jp_flat.proofs.Documents.{flat-document, flat-sound}
+use Rattle.jp_flat.proofs.Documents.{flat-sound}
 use Rattle.jp_flat.proofs.flat.Room.read.Goals as goal
 
 pub invariant_of-result : goal.invariant_of-result

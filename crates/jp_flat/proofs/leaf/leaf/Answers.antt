@@ -1,0 +1,33 @@
+use Rattle.std.proofs.Common.{◌≡◌, arith}
+use Rattle.json.specs.Reads.{token_of}
+use Rattle.json.specs.Token.{Token}
+use Rattle.jp_flat.specs.Flat.{shown}
+use Rattle.jp_flat.proofs.Leaves.{leaf-boolean, leaf-null, leaf-text, leaf-whole}
+use Rattle.jp_flat.proofs.leaf.leaf.Goals as goal
+
+pub returns-in-Null-clause-leaf : goal.returns-in-Null-clause-leaf
+returns-in-Null-clause-leaf c =
+    let k = token_of c.args.token in
+    let is : k ≡ Token.null = grind arith in leaf-null k (shown c.args.tables.now) is
+
+pub returns-in-Bool-clause-leaf : goal.returns-in-Bool-clause-leaf
+returns-in-Bool-clause-leaf c =
+    let k = token_of c.args.token in
+    let is : k ≡ Token.boolean c.in-Bool.truth = grind arith in
+    leaf-boolean k (shown c.args.tables.now) c.in-Bool.truth is
+
+pub returns-in_ok-item-in-Number-clause-leaf : goal.returns-in_ok-item-in-Number-clause-leaf
+returns-in_ok-item-in-Number-clause-leaf c =
+    let k = token_of c.args.token in
+    let s = c.in-Number.text.now in
+    let is : k ≡ Token.number s = grind arith in
+    leaf-whole k (shown c.args.tables.now) c.in_ok-item-in-Number.item s is
+    c.in_ok-item-in-Number.ensures
+
+pub returns-in_ok-span-in-String-clause-leaf : goal.returns-in_ok-span-in-String-clause-leaf
+returns-in_ok-span-in-String-clause-leaf c =
+    let k = token_of c.args.token in
+    let s = c.in-String.text.now in
+    let is : k ≡ Token.string s = grind arith in
+    leaf-text k (shown c.place.new.tables) c.in_ok-span-in-String.span s is
+    c.in_ok-span-in-String.ensures.spelled

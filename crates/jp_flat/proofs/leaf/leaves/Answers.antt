@@ -1,0 +1,29 @@
+use Rattle.std.proofs.Common.{◌≡◌, ◌∷◌, ◌++◌, [], arith, length, rules, ap}
+use Rattle.json.specs.Reads.{token_of}
+use Rattle.jp_flat.specs.Flat.{shown}
+use Rattle.jp_flat.specs.Private.Reading.{with_items}
+use Rattle.jp_flat.proofs.Loops.{leaves_begin, leaves_more}
+use Rattle.jp_flat.proofs.leaf.leaves.Goals as goal
+
+pub leaves-init : goal.leaves-init
+leaves-init c = record {
+  so = leaves_begin c.args.reader.now (shown c.args.tables.now);
+  shorter = search rules;
+}
+
+pub leaves-preserved : goal.leaves-preserved
+leaves-preserved c =
+    let l = c.leaves in
+    let k = token_of c.in_ok-token.token in
+    let i = c.in_ok-item-in_default.item in
+    let done = c.in_ok-item-in_default.ensures in
+    let u = shown c.leaf.new.tables in
+    let w = shown (record c.leaf.new.tables { items = c.push.new.self }) in
+    let first : l.reader ≡ k ∷ c.next.new.self = grind arith in
+    let pushed : w ≡ with_items u (u.items ++ i ∷ []) = search rules in
+    record {
+      so =
+          leaves_more c.args.reader.now l.reader c.next.new.self k (shown c.args.tables.now)
+          (shown l.tables) u w i first done.leaf done.grows done.items pushed l.invariant.so;
+      shorter = omega (arith, ap length first, l.invariant.shorter);
+    }
