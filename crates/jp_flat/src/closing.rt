@@ -4,9 +4,10 @@ ghost use Rattle.std.specs.Prelude.{List, [], OnSome, Some, drop, length, take};
 ghost use Rattle.std.specs.Map.{keys_of};
 ghost use Rattle.jp_document.specs.Value.{Value, members_of, names_rise, object};
 ghost use Rattle.jp_flat.specs.Flat.{Grows, all_of, flat_value, member_with, shown};
-ghost use Rattle.jp_flat.specs.Private.Reading.{IsListOf, put_all, with_items};
+ghost use Rattle.jp_flat.specs.Private.Reading.{IsListOf, IsObjectOf, put_all, with_items};
 
 use crate::item::{Item, Named};
+use crate::moving::move_parts;
 use crate::place::span_of;
 use crate::sorting::sort;
 use crate::tables::Tables;
@@ -25,8 +26,7 @@ pub(crate) fn close_list(
     ensures few { OnSome result (length items.old.items < base + 2 ^ 32) }
 {
     let first = tables.items.len();
-    tables.items.extend_from_slice(tail(items, base)).ok()?;
-    items.truncate(base);
+    move_parts(&mut tables.items, items, base)?;
     let list = list_from(tables, first)?;
     Some(list)
 }
@@ -62,47 +62,25 @@ pub(crate) fn close_object(
     ensures rest { OnSome result (members.new.items ≡ take base members.old.items) }
 {
     if rises {
-        close_rising(tables, members, base)
-    } else {
-        close_falling(tables, members, sorted, base)
+        let object = object_of(tables, members, base)?;
+        return Some(object);
     }
-}
-
-fn close_rising(tables: &mut Tables<'_>, members: &mut Vec<Named>, base: usize) -> Option<Item>
-    requires { base ≤ length members.old.items }
-    ensures object { IfSome result (λ i. (n : ℕ) (ms : List (List ℕ × Value))
-        → names_rise (keys_of ms) ≡ true
-        → all_of (member_with (flat_value n (shown tables.old)) (shown tables.old))
-        (drop base members.old.items) ≡ Some ms
-        → flat_value (suc n) (shown tables.new) i ≡ Some (object (members_of (put_all [] ms)))) }
-    ensures grows { OnSome result (Grows (shown tables.old) (shown tables.new)) }
-    ensures rest { OnSome result (members.new.items ≡ take base members.old.items) }
-{
-    let parts = tail(members, base);
-    let span = span_of(tables.members.len(), parts.len())?;
-    tables.members.extend_from_slice(parts).ok()?;
-    members.truncate(base);
-    Some(Item::Members(span))
-}
-
-fn close_falling(
-    tables: &mut Tables<'_>,
-    members: &mut Vec<Named>,
-    sorted: &mut Vec<Named>,
-    base: usize,
-) -> Option<Item>
-    requires { base ≤ length members.old.items }
-    ensures object { IfSome result (λ i. (n : ℕ) (ms : List (List ℕ × Value))
-        → all_of (member_with (flat_value n (shown tables.old)) (shown tables.old))
-        (drop base members.old.items) ≡ Some ms
-        → flat_value (suc n) (shown tables.new) i ≡ Some (object (members_of (put_all [] ms)))) }
-    ensures grows { OnSome result (Grows (shown tables.old) (shown tables.new)) }
-    ensures rest { OnSome result (members.new.items ≡ take base members.old.items) }
-{
     sort(tables, tail(members, base), sorted)?;
-    let span = span_of(tables.members.len(), sorted.len())?;
-    tables.members.extend_from_slice(sorted).ok()?;
     members.truncate(base);
+    let object = object_of(tables, sorted, 0)?;
+    Some(object)
+}
+
+/// The object of the members from the base on as they stand, which move to the tables.
+fn object_of(tables: &mut Tables<'_>, members: &mut Vec<Named>, base: usize) -> Option<Item>
+    requires { base ≤ length members.old.items }
+    ensures object { IfSome result (IsObjectOf (drop base members.old.items) (shown tables.old)
+        (shown tables.new)) }
+    ensures grows { OnSome result (Grows (shown tables.old) (shown tables.new)) }
+    ensures rest { OnSome result (members.new.items ≡ take base members.old.items) }
+{
+    let span = span_of(tables.members.len(), members.len() - base)?;
+    move_parts(&mut tables.members, members, base)?;
     Some(Item::Members(span))
 }
 

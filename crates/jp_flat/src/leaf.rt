@@ -56,16 +56,3 @@ pub(crate) fn leaf(tables: &mut Tables<'_>, at: usize, token: Token<'_>) -> Opti
         | Token::Bad => None,
     }
 }
-
-/// Moves the items of the tables from the first on behind other items.
-pub(crate) fn move_items(tables: &mut Tables<'_>, first: usize, items: &mut Vec<Item>) -> Option<()>
-    requires { first ≤ length tables.old.items.items }
-    ensures left { OnSome result
-        (shown tables.new ≡ with_items (shown tables.old) (take first tables.old.items.items)) }
-    ensures moved { OnSome result
-        (items.new.items ≡ items.old.items ++ drop first tables.old.items.items) }
-{
-    items.extend_from_slice(&tables.items[first..]).ok()?;
-    tables.items.truncate(first);
-    Some(())
-}

@@ -21,6 +21,7 @@ mod flat_value;
 mod form;
 mod item;
 mod leaf;
+mod moving;
 mod number;
 mod parts;
 mod place;

@@ -7,7 +7,8 @@ ghost use Rattle.jp_flat.specs.Private.Reading.{ReadsFlat, ReadsFlatItems, Reads
 
 use crate::closing::{close_list, close_object, list_from};
 use crate::item::{Item, Named};
-use crate::leaf::{leaf, leaves, move_items};
+use crate::leaf::{leaf, leaves};
+use crate::moving::move_parts;
 use crate::place::place;
 use crate::rising::still_rises;
 use crate::tables::Tables;
@@ -45,6 +46,7 @@ impl Pending {
 
 /// Reads one value, with its parts into the tables.
 #[cycle(reading)]
+#[inline(always)]
 pub(crate) fn value(
     tables: &mut Tables<'_>,
     pending: &mut Pending,
@@ -126,7 +128,7 @@ fn items(
         return Some(list);
     }
     let base = pending.items.len();
-    move_items(tables, first, &mut pending.items)?;
+    move_parts(&mut pending.items, &mut tables.items, first)?;
     let item = container(tables, pending, reader, depth, token)?;
     pending.items.push(item).ok()?;
     'items: while !reader.take_end_array() {

@@ -8,7 +8,8 @@ use Rattle.jp_document.specs.Private.Direct.{IsWholeText, ReadsItems, ReadsMembe
 use Rattle.jp_document.specs.Private.Direct.{ReadsValue}
 use Rattle.jp_document.specs.Value.{Value, everywhere, everywhere_in_items, everywhere_in_members}
 use Rattle.jp_document.specs.Value.{items_of, list, list_fits, members_of, object, whole}
-use Rattle.jp_flat.specs.Flat.{Grows, Shown, all_of, flat_value, most_levels, text_at}
+use Rattle.jp_flat.specs.Flat.{Grows, Shown, all_of, flat_value, member_with, most_levels}
+use Rattle.jp_flat.specs.Flat.{text_at}
 use Rattle.jp_flat.specs.declared.item.Item.{Item}
 use Rattle.jp_flat.specs.declared.item.Named.{Named}
 
@@ -72,6 +73,13 @@ abbrev pub IsListOf : List Item → Shown → Shown → Item → Type 0
 IsListOf items before after i =
     (n : ℕ) (vs : List Value) → all_of (flat_value n before) items ≡ Some vs →
     flat_value (suc n) after i ≡ Some (list (items_of vs))
+
+-- the same of members and their object
+abbrev pub IsObjectOf : List Named → Shown → Shown → Item → Type 0
+IsObjectOf members before after i =
+    (n : ℕ) (ms : List (List ℕ × Value)) →
+    all_of (member_with (flat_value n before) before) members ≡ Some ms →
+    flat_value (suc n) after i ≡ Some (object (members_of ms))
 
 -- a reading of the text holds the value of the item
 pub record ReadsFlatText (source : List ℕ) (t : Shown) (i : Item) : Type 0 where

@@ -1,5 +1,5 @@
 use Rattle.std.proofs.Common.{◌≡◌, ◌++◌, ◌∷◌, [], ◌<◌, Some, None, length, arith, rules, ap}
-use Rattle.std.proofs.Common.{◌∙◌, ◌≤◌, drop, take}
+use Rattle.std.proofs.Common.{◌∙◌, ◌≤◌, drop, subst, take}
 use Rattle.json.specs.Json.{after_end_array, read_key}
 use Rattle.json.specs.Reads.{token_of}
 use Rattle.json.specs.Token.{Token}
@@ -64,17 +64,16 @@ items-items-init t c =
     let done = c.in_ok-item.ensures in
     let first = c.len-first.result in
     let old = c.args.pending.now.items.items in
-    let moved = c.move_items.new.items.items in
+    let moved = c.move_parts.new.table.items in
     let at : first ≡ length c.args.tables.now.items.items = search rules in
     let here : c.len-base.result ≡ length old = search rules in
     let leaf : length (k ∷ q) ≤ length c.args.reader.now =
     omega (arith, c.in_ok-token.ensures.shorter) in
     let less : length r < length (k ∷ q) = omega (arith, done.shorter) in
     let put : moved ≡ old ++ drop first s.items.items = search rules in
-    let left : shown c.move_items.new.tables ≡ with_items (shown s) (take first s.items.items) =
-    search rules in
+    let left : c.move_parts.new.parts.items ≡ take first s.items.items = search rules in
     let more : Grows (with_items (shown s) (take first s.items.items)) (shown c.container.new.tables) =
-    rw (← left) done.grows in
+    subst (λ xs. Grows (with_items (shown s) xs) (shown c.container.new.tables)) left done.grows in
     let pushed : c.push.new.self.items ≡ moved ++ i ∷ [] = search rules in
     record {
       so = rw pushed

@@ -1,0 +1,23 @@
+//! Parts that move from one table to another.
+ghost use Rattle.std.specs.Prelude.{◌≡◌, ◌≤◌, ◌++◌, OnSome, drop, length, take};
+
+use std::mem::swap;
+
+/// Moves the parts from a place on behind those of a table.
+pub(crate) fn move_parts<T: Copy>(
+    table: &mut Vec<T>,
+    parts: &mut Vec<T>,
+    first: usize,
+) -> Option<()>
+    requires { first ≤ length parts.old.items }
+    ensures moved { OnSome result (table.new.items ≡ table.old.items ++ drop first parts.old.items) }
+    ensures left { OnSome result (parts.new.items ≡ take first parts.old.items) }
+{
+    if first == 0 && table.is_empty() {
+        swap(table, parts);
+        return Some(());
+    }
+    table.extend_from_slice(&parts[first..]).ok()?;
+    parts.truncate(first);
+    Some(())
+}
