@@ -5,3 +5,4 @@ pub mod Runs
 pub mod LineLemmas
 pub mod Flushes
 pub mod Headline
+pub mod Fronts

@@ -17,6 +17,7 @@ mod check;
 mod device;
 mod eval;
 mod fault;
+mod front;
 mod input;
 pub mod laws;
 mod limits;

@@ -4,6 +4,7 @@ ghost use Rattle.std.specs.Prelude.{◌≡◌, ◌++◌, IfErr, OnOk, false, map
 ghost use Rattle.jp_command.specs.Lines.{line_of, lines_of, output_of};
 ghost use Rattle.jp_command.specs.Output.{StopsWriting, WritesAll};
 ghost use Rattle.jp_command.specs.Private.ByTurns.{WritesByTurns};
+ghost use Rattle.jp_command.specs.Private.Fronts.{IsSpelled};
 ghost use Rattle.jp_evaluate.specs.Lent.{has_failed, rest_of};
 ghost use Rattle.jp_document.specs.Location.{key_of};
 ghost use Rattle.jp_document.specs.Node.{node_at};
@@ -11,9 +12,10 @@ ghost use Rattle.jp_tree.specs.Tree.{query_of};
 
 use crate::device::Writer;
 use crate::fault::Fault;
+use crate::front::Front;
 use crate::output::write_all;
 use jp_check::Checked;
-use jp_document::{Step, push_path};
+use jp_document::Step;
 use jp_evaluate::{LentNodes, lent_nodes};
 use jp_lent::Printed;
 use jp_match::Marks;
@@ -30,21 +32,25 @@ pub enum Form {
     Both,
 }
 
-/// Appends the line of the node at this location with this value.
-fn push_line<V: Printed>(
+/// Appends the line of the node at this location with this value. After an error nothing is said of
+/// the front.
+fn push_line<'d, V: Printed>(
     form: Form,
-    location: &[Step],
+    front: &mut Front<'d>,
+    location: &[Step<'d>],
     value: V,
     line: &mut String,
 ) -> Result<(), AllocError>
-    ensures { OnOk result (string_bytes line.new ≡ string_bytes line.old
+    requires { IsSpelled front.old }
+    ensures kept { OnOk result (IsSpelled front.new) }
+    ensures line { OnOk result (string_bytes line.new ≡ string_bytes line.old
         ++ line_of form (node_at (map key_of location.now) (V.meaning value))) }
 {
     match form {
         Form::Values => value.push_value(line)?,
-        Form::Paths => push_path(line, location)?,
+        Form::Paths => front.push_path(location, line)?,
         Form::Both => {
-            push_path(line, location)?;
+            front.push_path(location, line)?;
             line.push('\t')?;
             value.push_value(line)?;
         }
@@ -85,11 +91,13 @@ pub(crate) fn write_lines<'d: 'q, 'q, V: Printed + 'd, W: Writer>(
     ensures by_turns { WritesByTurns W.contents form V.meaning
         nodes.old nodes.new output.old output.new result }
 {
+    let mut location = Vec::new(alloc);
+    let mut front = Front::new(alloc);
     let mut line = String::new(alloc);
-    while let Some(next) = nodes.next() {
-        let node = next?;
+    while let Some(next) = nodes.next_at(&mut location) {
+        let value = next?;
         line.clear();
-        push_line(form, &node.0, node.1, &mut line)?;
+        push_line(form, &mut front, &location, value, &mut line)?;
         let Ok(()) = write_all(output, line.as_bytes()) else {
             return Err(Fault::Write);
         };

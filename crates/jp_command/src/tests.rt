@@ -2,6 +2,7 @@
 
 mod devices;
 mod failures;
+mod forms;
 mod limits;
 mod prefixes;
 mod rows;

@@ -1,7 +1,7 @@
 //! Running the rows of the table.
 
 use super::devices::{Drip, Trickle};
-use super::prefixes;
+use super::{forms, prefixes};
 use crate::{Device, run_line};
 use jp_check::Profile::{self, Extended, Standard};
 use std::alloc::{AllocError, Global};
@@ -51,10 +51,10 @@ pub fn gives_in_each_profile(
 }
 
 /// A document, a query and the profile in which it is read.
-type Asked<'a> = (&'a str, &'a str, Profile);
+pub type Asked<'a> = (&'a str, &'a str, Profile);
 
-/// Runs a row. No prefix of a query that is accepted is refused but at its end, and where a row
-/// gives nodes, no proper prefix of its document is a document.
+/// Runs a row, and asks the document's tree as well. No prefix of a query that is accepted is refused
+/// but at its end, and where a row gives nodes, no proper prefix of its document is a document.
 fn gives(
     rt: &impl Abort,
     alloc: Global,
@@ -62,6 +62,7 @@ fn gives(
     answer: Answer,
 ) -> Result<(), Fail> {
     gives_in_pieces(rt, alloc, (document, query, profile), answer)?;
+    forms::assert_each_has_the_answer(rt, alloc, (document, query, profile), answer)?;
     match answer {
         Answer::Nodes(_) => {
             prefixes::are_accepted_or_end(rt, alloc, query, profile);
@@ -137,7 +138,7 @@ pub fn assert_gives(
 }
 
 /// The status of an answer, what is written to the output, and the fault's line.
-fn expected(alloc: Global, answer: &Answer) -> Result<(u8, String, String), AllocError> {
+pub fn expected(alloc: Global, answer: &Answer) -> Result<(u8, String, String), AllocError> {
     let mut lines = String::new(alloc);
     let mut fault = String::new(alloc);
     let status = match answer {
