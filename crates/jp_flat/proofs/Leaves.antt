@@ -16,7 +16,7 @@ use Rattle.jp_document.specs.Value.{items_of, members_of}
 use Rattle.jp_document.proofs.Conjunctions.{and-both}
 use Rattle.jp_document.proofs.Tokens.Turns.{below_zero_text, converted-map, from_zero_text, one_token}
 use Rattle.jp_flat.specs.Flat.{Shown, flat_value, number_of, text_at}
-use Rattle.jp_flat.specs.Private.Reading.{IsLeaf, IsWholeItem, ReadsFlat, ReadsFlatItems}
+use Rattle.jp_flat.specs.Private.Reading.{ReadsLeaf, IsWholeItem, ReadsFlat, ReadsFlatItems}
 use Rattle.jp_flat.specs.Private.Reading.{ReadsFlatMembers, with_items}
 use Rattle.jp_flat.specs.declared.item.Halves.{Halves}
 use Rattle.jp_flat.specs.declared.item.Item.{Item}
@@ -74,7 +74,7 @@ below_item s n h first read is = record {
 
 -- ---- tokens
 
-pub leaf-null : (k : Token) (t : Shown) → k ≡ Token.null → IsLeaf k t code.Null
+pub leaf-null : (k : Token) (t : Shown) → k ≡ Token.null → ReadsLeaf k t code.Null
 leaf-null k t is = λ depth r items. record {
   value = null;
   reads = one_token depth (k ∷ r) r Token.null parsed.null null (ap (λ k. k ∷ r) is)
@@ -84,7 +84,7 @@ leaf-null k t is = λ depth r items. record {
 }
 
 pub leaf-boolean : (k : Token) (t : Shown) (b : Bool) → k ≡ Token.boolean b →
-    IsLeaf k t (code.Bool b)
+    ReadsLeaf k t (code.Bool b)
 leaf-boolean k t b is = λ depth r items. record {
   value = boolean b;
   reads = one_token depth (k ∷ r) r (Token.boolean b) (parsed.boolean b) (boolean b)
@@ -94,7 +94,7 @@ leaf-boolean k t b is = λ depth r items. record {
 }
 
 pub leaf-text : (k : Token) (t : Shown) (p : Span) (x : List ℕ) → k ≡ Token.string x →
-    text_at t p ≡ Some x → IsLeaf k t (code.Text p)
+    text_at t p ≡ Some x → ReadsLeaf k t (code.Text p)
 leaf-text k t p x is at = λ depth r items. record {
   value = text x;
   reads = one_token depth (k ∷ r) r (Token.string x) (parsed.string x) (text x)
@@ -104,7 +104,7 @@ leaf-text k t p x is at = λ depth r items. record {
 }
 
 pub leaf-whole : (k : Token) (t : Shown) (i : Item) (s : List ℕ) → k ≡ Token.number s →
-    IsWholeItem s i → IsLeaf k t i
+    IsWholeItem s i → ReadsLeaf k t i
 leaf-whole k t i s is x = λ depth r items. record {
   value = whole x.number;
   reads = one_token depth (k ∷ r) r (Token.number s) (parsed.number x.written.number)
@@ -117,7 +117,7 @@ leaf-whole k t i s is x = λ depth r items. record {
 }
 
 pub leaf-read : (depth : ℕ) (ts r : List Token) (token : Token) (t : Shown) (i : Item) →
-    ts ≡ token ∷ r → IsLeaf token t i → ReadsFlat depth ts r t i
+    ts ≡ token ∷ r → ReadsLeaf token t i → ReadsFlat depth ts r t i
 leaf-read depth ts r token t i first x =
     subst (λ ks. ReadsFlat depth ks r t i) (sym first) (x depth r t.items)
 

@@ -3,6 +3,7 @@ pub mod Documents
 pub mod Growth
 pub mod Inside
 pub mod Leaves
+pub mod Lookups
 pub mod Loops
 pub mod Names
 pub mod Printed

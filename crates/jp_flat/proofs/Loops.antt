@@ -17,7 +17,7 @@ use Rattle.jp_document.proofs.Descent.Inside.{all-items}
 use Rattle.jp_document.proofs.Tokens.Ahead.{MembersAhead, ahead_member, ahead_members_end}
 use Rattle.jp_document.proofs.Tokens.Turns.{items_over, items_turn}
 use Rattle.jp_flat.specs.Flat.{Grows, Shown, all_of, flat_value, member_with, text_at}
-use Rattle.jp_flat.specs.Private.Reading.{BeginsItems, IsAboveLast, IsLeaf, IsListOf, ReadsFlat}
+use Rattle.jp_flat.specs.Private.Reading.{BeginsItems, IsAboveLast, ReadsLeaf, IsListOf, ReadsFlat}
 use Rattle.jp_flat.specs.Private.Reading.{ReadsFlatItems, ReadsFlatMembers, ReadsLeaves, put_all}
 use Rattle.jp_flat.specs.Private.Reading.{with_items}
 use Rattle.jp_flat.specs.declared.item.Item.{Item}
@@ -112,7 +112,7 @@ leaves_begin ts t = record {
 }
 
 pub leaves_more : (initial ts r : List Token) (token : Token) (t s u w : Shown) (i : Item) →
-    ts ≡ token ∷ r → IsLeaf token u i → Grows s u → u.items ≡ s.items →
+    ts ≡ token ∷ r → ReadsLeaf token u i → Grows s u → u.items ≡ s.items →
     w ≡ with_items u (u.items ++ i ∷ []) → ReadsLeaves initial ts t s → ReadsLeaves initial r t w
 leaves_more initial ts r token t s u w i first leaf more same pushed so =
     let grown = grows_beside s u t.items more in

@@ -2,7 +2,7 @@
 ghost use Rattle.std.specs.Prelude.{◌≡◌, ◌<◌, ◌≤◌, ◌∷◌, ◌++◌, IfSome, OnSome, drop, length, take};
 ghost use Rattle.json.specs.Reads.{token_of};
 ghost use Rattle.jp_flat.specs.Flat.{Grows, shown};
-ghost use Rattle.jp_flat.specs.Private.Reading.{IsLeaf, ReadsLeaves, with_items};
+ghost use Rattle.jp_flat.specs.Private.Reading.{ReadsLeaf, ReadsLeaves, with_items};
 
 use crate::item::Item;
 use crate::number::number;
@@ -33,7 +33,7 @@ pub(crate) fn leaves<'a>(tables: &mut Tables<'_>, reader: &mut Reader<'a>) -> Op
 /// The value of a token alone, which began at this offset, with its text in the tables.
 #[inline(always)]
 pub(crate) fn leaf(tables: &mut Tables<'_>, at: usize, token: Token<'_>) -> Option<Item>
-    ensures leaf { IfSome result (IsLeaf (token_of token.entry) (shown tables.new)) }
+    ensures leaf { IfSome result (ReadsLeaf (token_of token.entry) (shown tables.new)) }
     ensures grows { OnSome result (Grows (shown tables.old) (shown tables.new)) }
     ensures items { OnSome result (tables.new.items.items ≡ tables.old.items.items) }
 {

@@ -75,6 +75,7 @@ pub(crate) fn value(
 
 /// The list or the object that begins with a token.
 #[cycle(reading)]
+#[inline(always)]
 fn container(
     tables: &mut Tables<'_>,
     pending: &mut Pending,

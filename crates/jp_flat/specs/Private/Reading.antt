@@ -55,8 +55,8 @@ abbrev pub with_items : Shown → List Item → Shown
 with_items t items = record t { items = items }
 
 -- the token alone is the value of the item, whatever items the tables hold
-abbrev pub IsLeaf : Token → Shown → Item → Type 0
-IsLeaf token t i =
+abbrev pub ReadsLeaf : Token → Shown → Item → Type 0
+ReadsLeaf token t i =
     (depth : ℕ) (rest : List Token) (items : List Item) →
     ReadsFlat depth (token ∷ rest) rest (with_items t items) i
 

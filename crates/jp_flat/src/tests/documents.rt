@@ -46,6 +46,36 @@ fn documents_of_each_kind(rt: HostRuntime) -> Result<(), Fail> {
 }
 
 #[test]
+fn lists_with_parts_and_without(rt: HostRuntime) -> Result<(), Fail> {
+    for (text, wanted) in [
+        (" [ ] ", "[]"),
+        (
+            r#"[ 1 , -2 , "a\u0009b" , "c" , true , null ]"#,
+            r#"[1,-2,"a\tb","c",true,null]"#,
+        ),
+        ("[1, 2, [3]]", "[1,2,[3]]"),
+        ("[[1], 2, 3]", "[[1],2,3]"),
+        ("[1, [2], 3, [4], 5]", "[1,[2],3,[4],5]"),
+        ("[[1, 2], [3, 4], []]", "[[1,2],[3,4],[]]"),
+        ("[[], 1, [], 2]", "[[],1,[],2]"),
+        ("[[[[1, 2], 3], 4], 5]", "[[[[1,2],3],4],5]"),
+        ("[1, [2, [3, [4, []]], 5], 6]", "[1,[2,[3,[4,[]]],5],6]"),
+        (
+            r#"[0, {"b": [1, 2], "a": [3, {"c": [4]}, 5]}, 6]"#,
+            r#"[0,{"a":[3,{"c":[4]},5],"b":[1,2]},6]"#,
+        ),
+        (
+            r#"{"b": [1, 2], "a": [], "c": {"d": [3]}}"#,
+            r#"{"a":[],"b":[1,2],"c":{"d":[3]}}"#,
+        ),
+    ] {
+        let flat = flat_text(rt.alloc(), text)?;
+        assert_eq!(rt; flat.as_deref(), Some(wanted), "{text}");
+    }
+    Ok(())
+}
+
+#[test]
 fn no_documents(rt: HostRuntime) -> Result<(), Fail> {
     for text in [
         "",

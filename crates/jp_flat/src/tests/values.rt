@@ -71,6 +71,30 @@ fn items(rt: HostRuntime) -> Result<(), Fail> {
 }
 
 #[test]
+fn items_before_and_behind_parts(rt: HostRuntime) -> Result<(), Fail> {
+    let text = br#"[7,"x",{"a":[9,8]},[],6]"#;
+    let flat = flat_document(rt.alloc(), text).ok_or("no document")?;
+    let list = flat.value();
+    assert_eq!(rt; list.count(), 5);
+    for (index, wanted) in [
+        (0, "0 7"),
+        (1, "1 \"x\""),
+        (2, r#"2 {"a":[9,8]}"#),
+        (3, "3 []"),
+        (4, "4 6"),
+        (5, ""),
+    ] {
+        let found = entry_text(rt.alloc(), list.item(index))?;
+        assert_eq!(rt; found.as_str(), wanted);
+    }
+    let (_, object) = list.child(2).ok_or("no object")?;
+    let (_, inner) = object.member("a").ok_or("no member")?;
+    let found = entry_text(rt.alloc(), inner.item(1))?;
+    assert_eq!(rt; found.as_str(), "1 8");
+    Ok(())
+}
+
+#[test]
 fn what_values_are(rt: HostRuntime) -> Result<(), Fail> {
     let flat = flat_document(rt.alloc(), DOCUMENT).ok_or("no document")?;
     let root = flat.value();

@@ -3,7 +3,8 @@ use Rattle.std.specs.List.{slice_get}
 use Rattle.jp_document.specs.Location.{child, entries, nth}
 use Rattle.jp_document.proofs.Descent.Entries.{at_index}
 use Rattle.jp_flat.specs.Flat.{is_flat, meaning, shown}
-use Rattle.jp_flat.proofs.Inside.{list-child, no-item}
+use Rattle.jp_flat.proofs.Inside.{no-item}
+use Rattle.jp_flat.proofs.Lookups.{list-child}
 use Rattle.jp_flat.proofs.flat_value.FlatValue.item.Goals as goal
 
 pub returns-in-List : goal.returns-in-List

@@ -4,7 +4,8 @@ use Rattle.std.proofs.lemmas.Fn.{always_returns_same}
 use Rattle.jp_document.specs.Location.{child, entries, named}
 use Rattle.jp_document.proofs.Members.ByName.{bytes_cmp}
 use Rattle.jp_flat.specs.Flat.{is_flat, meaning, piece, shown}
-use Rattle.jp_flat.proofs.Inside.{hit, members-there, missed, no-member, seen_member}
+use Rattle.jp_flat.proofs.Inside.{no-member, seen_member}
+use Rattle.jp_flat.proofs.Lookups.{hit, members-there, missed}
 use Rattle.jp_flat.proofs.flat_value.FlatValue.member.Goals as goal
 
 pub returns-in_err-members-in-Members : goal.returns-in_err-members-in-Members
