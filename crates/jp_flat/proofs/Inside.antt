@@ -1,26 +1,23 @@
 -- What stands one step inside a value in tables: for each call of `FlatValue`.
-use Rattle.std.proofs.Common.{◌≡◌, ◌≤◌, ◌<◌, ◌+◌, ℕ, zero, suc, true, List, [], ◌∷◌, length, map}
+use Rattle.std.proofs.Common.{◌≡◌, ◌≤◌, ◌+◌, ℕ, zero, suc, true, List, [], ◌∷◌, length, map}
 use Rattle.std.proofs.Common.{Option, Some, None, option_map, option_and_then, is_some, unwrap_or}
 use Rattle.std.proofs.Common.{refl, sym, ap, subst, ◌∙◌, arith, IsUtf8, take, drop, leb, length-drop}
-use Rattle.std.proofs.Common.{Bool, pos, negsuc, ◌⊎◌, inl, inr, Equal, Err, get_or}
+use Rattle.std.proofs.Common.{Bool, pos, negsuc, ◌⊎◌, inl, inr}
 use Rattle.std.specs.BTreeMap.{is_at}
-use Rattle.std.specs.List.Sorted.{IsBinarySearchResult}
 use Rattle.std.specs.Map.{lookup}
-use Rattle.std.proofs.lemmas.Map.Lookups.{exact_bytes}
 use Rattle.std.specs.List.{slice_get}
 use Rattle.std.proofs.lemmas.Bool.{leb-true}
 use Rattle.std.proofs.lemmas.List.{length-map, length-take-le}
-use Rattle.std.proofs.lemmas.Option.{cond_some, same_Some, slice_get-map, slice_get_cases}
+use Rattle.std.proofs.lemmas.Option.{cond_some, same_Some, slice_get-map}
 use Rattle.std.proofs.lemmas.Str.{IsUtf8-from_is_utf8}
 use Rattle.jp_document.specs.Location.{Key, child, entries, items_from, key_cmp, members_by_name, named, nth}
-use Rattle.jp_document.specs.Value.{IsDocumentValue, NamesRise, Value, items_of, list, list_length}
+use Rattle.jp_document.specs.Value.{IsDocumentValue, Value, items_of, list, list_length}
 use Rattle.jp_document.specs.Value.{boolean, item_count, members_of, no_items, no_members, null, object, text, whole}
 use Rattle.jp_document.proofs.Conjunctions.{and-both, and-left, and-right}
 use Rattle.jp_document.proofs.Descent.Entries.{IsDocumentValue-entry, at_index, child-entry}
-use Rattle.jp_document.proofs.Descent.Entries.{document-names_rise, item_entry}
-use Rattle.jp_document.proofs.Descent.Items.{child-nth}
-use Rattle.jp_document.proofs.Members.ByName.{absent_name, bytes_cmp, child-list_named, child-named}
-use Rattle.jp_document.proofs.Members.ByName.{child-object_nth, sorted_members}
+use Rattle.jp_document.proofs.Descent.Entries.{item_entry}
+use Rattle.jp_document.proofs.Members.ByName.{child-list_named}
+use Rattle.jp_document.proofs.Members.ByName.{child-object_nth}
 use Rattle.jp_document.proofs.Members.TextNames.{IsUtf8-child_named}
 use Rattle.jp_document.proofs.Options.{some_from_both, some_from_map, some_from_then}
 use Rattle.jp_flat.specs.Flat.{Shown, all_of, flat_value, is_flat, meaning, member_with, most_levels}

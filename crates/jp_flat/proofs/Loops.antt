@@ -27,7 +27,7 @@ use Rattle.jp_flat.proofs.Growth.{grows_beside, member_grows, text_grows, value_
 use Rattle.jp_flat.proofs.Leaves.{value_goes}
 use Rattle.jp_flat.proofs.Names.{put_all-push, rise-push}
 
-cut_back : {A : Type 0} (base : ℕ) (old new all : List A) → all ≡ old ++ new → base ≡ length old →
+pub cut_back : {A : Type 0} (base : ℕ) (old new all : List A) → all ≡ old ++ new → base ≡ length old →
     drop base all ≡ new
 cut_back base old new all pushed at =
     ap (λ n. drop n all) at ∙ ap (drop (length old)) pushed ∙ drop-append_seam old new

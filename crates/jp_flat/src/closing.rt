@@ -9,8 +9,11 @@ ghost use Rattle.jp_flat.specs.Private.Reading.{IsListOf, IsObjectOf, put_all, w
 use crate::item::{Item, Named};
 use crate::moving::move_parts;
 use crate::place::span_of;
-use crate::sorting::sort;
+use crate::sorting::{put_by_name, put_each};
 use crate::tables::Tables;
+
+/// The most members that are put in order one by one.
+const MAX_MOVED: usize = 64;
 
 /// The list of the items from the base on, which move to the tables.
 pub(crate) fn close_list(
@@ -44,7 +47,7 @@ pub(crate) fn list_from(tables: &Tables<'_>, first: usize) -> Option<Item>
 
 /// The object of the members from the base on, which move to the tables in the order of their
 /// names, each in the place of an earlier one of its name. `rises` says that they came in it; else
-/// they are sorted in `sorted`, which is free before and after.
+/// they are sorted, few of them in `sorted`, which is free before and after.
 pub(crate) fn close_object(
     tables: &mut Tables<'_>,
     members: &mut Vec<Named>,
@@ -65,7 +68,12 @@ pub(crate) fn close_object(
         let object = object_of(tables, members, base)?;
         return Some(object);
     }
-    sort(tables, tail(members, base), sorted)?;
+    if members.len() - base > MAX_MOVED {
+        put_by_name(tables, members, base)?;
+        let object = object_of(tables, members, base)?;
+        return Some(object);
+    }
+    put_each(tables, tail(members, base), sorted)?;
     members.truncate(base);
     let object = object_of(tables, sorted, 0)?;
     Some(object)

@@ -1,5 +1,5 @@
 //! Members put in the order of their names.
-ghost use Rattle.std.specs.Prelude.{◌≡◌, IfSome, OnSome, map};
+ghost use Rattle.std.specs.Prelude.{◌≡◌, ◌≤◌, ◌++◌, IfSome, OnSome, drop, length, map, take};
 ghost use Rattle.jp_flat.specs.Flat.{shown};
 ghost use Rattle.jp_flat.specs.Private.Sorting.{Puts, PutsAll, PutsByName};
 
@@ -9,22 +9,9 @@ use crate::tables::Tables;
 use std::alloc::Global;
 use std::collections::BTreeMap;
 
-/// The most members that are put in order one by one.
-const MAX_MOVED: usize = 64;
-
 /// Fills `found` with the members in the order of their names, each in the place of an earlier one
-/// of its name.
-pub(crate) fn sort(tables: &Tables<'_>, members: &[Named], found: &mut Vec<Named>) -> Option<()>
-    ensures { OnSome result (PutsAll (shown tables.now) members.now found.new.items) }
-{
-    if members.len() <= MAX_MOVED {
-        put_each(tables, members, found)
-    } else {
-        put_by_name(tables, members, found)
-    }
-}
-
-fn put_each(tables: &Tables<'_>, members: &[Named], found: &mut Vec<Named>) -> Option<()>
+/// of its name: for few members.
+pub(crate) fn put_each(tables: &Tables<'_>, members: &[Named], found: &mut Vec<Named>) -> Option<()>
     ensures { OnSome result (PutsAll (shown tables.now) members.now found.new.items) }
 {
     found.clear();
@@ -51,11 +38,18 @@ fn put(tables: &Tables<'_>, found: &mut Vec<Named>, member: Named) -> Option<()>
     }
 }
 
-fn put_by_name(tables: &Tables<'_>, members: &[Named], found: &mut Vec<Named>) -> Option<()>
-    ensures { OnSome result (PutsAll (shown tables.now) members.now found.new.items) }
+/// Puts the members from the base on in the order of their names, each in the place of an earlier
+/// one of its name: for many members.
+pub(crate) fn put_by_name(tables: &Tables<'_>, members: &mut Vec<Named>, base: usize) -> Option<()>
+    requires { base ≤ length members.old.items }
+    ensures front { OnSome result (take base members.new.items ≡ take base members.old.items) }
+    ensures put { OnSome result (PutsAll (shown tables.now) (drop base members.old.items)
+        (drop base members.new.items)) }
+    ensures long { OnSome result (base ≤ length members.new.items) }
 {
-    let named = by_name(*found.allocator(), tables, members)?;
-    list(named, found)?;
+    let named = by_name(*members.allocator(), tables, &members[base..])?;
+    members.truncate(base);
+    list(named, members)?;
     Some(())
 }
 
@@ -74,10 +68,11 @@ fn by_name<'d>(
     Some(found)
 }
 
+/// Appends the members of a map.
 fn list(named: BTreeMap<&[u8], Named>, found: &mut Vec<Named>) -> Option<()>
-    ensures { OnSome result (found.new.items ≡ map (λ e. e.1) named.entry.entries) }
+    ensures { OnSome result
+        (found.new.items ≡ found.old.items ++ map (λ e. e.1) named.entry.entries) }
 {
-    found.clear();
     for (name, member) in named {
         found.push(member).ok()?;
     }
