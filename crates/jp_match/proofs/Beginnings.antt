@@ -1,12 +1,12 @@
 -- Characters that no word of a pattern begins with, part by part.
-use Rattle.std.proofs.Common.{◌≡◌, ◌↔◌, ◌⊎◌, inl, inr, ℕ, zero, suc, ◌+◌, ◌*◌, ◌≤◌, ◌<◌, Bool, true, false}
-use Rattle.std.proofs.Common.{List, [], ◌∷◌, Option, get_or, refl, sym, ◌∙◌, subst, arith}
+use Rattle.std.proofs.Common.{◌≡◌, ◌↔◌, ◌⊎◌, inl, inr, ℕ, zero, suc, ◌*◌, ◌≤◌, ◌<◌, Bool, true, false}
+use Rattle.std.proofs.Common.{List, [], ◌∷◌, Option, get_or, refl, subst, arith}
 use Rattle.std.specs.Bool.{IsTrue}
 use Rattle.std.proofs.Math.Nat.{le-mul_of_pos_right, mul_comm}
 use Rattle.jp_iregexp.specs.declared.class.ClassItem.{ClassItem}
 use Rattle.jp_iregexp.specs.Class.{class_holds}
 use Rattle.jp_iregexp.specs.Tree.{Tree, class, nothing, either, sequence, repeat}
-use Rattle.jp_iregexp.specs.Language.{Power, Language, IsAtMost}
+use Rattle.jp_iregexp.specs.Language.{Power, Language}
 use Rattle.jp_match.specs.Scan.{Sought}
 use Rattle.jp_match.specs.Private.Plain.{unrolled}
 use Rattle.jp_match.specs.Private.Marks.{Rest}

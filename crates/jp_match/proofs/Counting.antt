@@ -1,6 +1,6 @@
 -- Counts of positions and of rounds, up to the greatest that is told apart.
-use Rattle.std.proofs.Common.{◌≡◌, ℕ, zero, suc, ◌+◌, ◌*◌, ◌≤◌, ◌<◌, min, max, List, [], ◌∷◌, Some}
-use Rattle.std.proofs.Common.{None, inl, inr, refl, ap, ◌∙◌, sym, arith}
+use Rattle.std.proofs.Common.{◌≡◌, ℕ, zero, suc, ◌+◌, ◌*◌, min, max, List, [], ◌∷◌, Some}
+use Rattle.std.proofs.Common.{None, inl, inr, refl, ap, arith}
 use Rattle.std.proofs.lemmas.Bool.{cases_lt}
 use Rattle.std.proofs.Math.Nat.{mul-le-mul_left}
 use Rattle.jp_iregexp.specs.Tree.{Tree, branches, pieces, repeat}

@@ -1,6 +1,7 @@
 -- A step of a scan: for the functions that move marks over a character or look where they end.
 pub mod EmptyWords
 pub mod EndParts
+pub mod Idle
 pub mod Kept
 pub mod OneClass
 pub mod Repeating

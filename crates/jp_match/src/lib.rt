@@ -17,6 +17,7 @@ mod beginning;
 mod class_tests;
 mod counts;
 mod empty_word;
+mod idle;
 mod images;
 mod marking;
 mod marks;

@@ -8,12 +8,14 @@ ghost use Rattle.jp_match.specs.Private.Marks.{size};
 ghost use Rattle.jp_match.specs.Private.Walks.{IsBefore, Moves, own_rounds};
 
 use crate::class_tests::Tests;
+use crate::idle::idle_part;
 use crate::one_class::one_class;
 use crate::walk::{Reach, Walk};
 use jp_iregexp::{CharClass, Pattern};
 
 /// Moves the marks of a pattern over the character.
 #[cycle(step)]
+#[inline(always)]
 pub(crate) fn step(
     pattern: &Pattern,
     walk: &mut Walk,
@@ -27,6 +29,14 @@ pub(crate) fn step(
     ensures counted { walk.old.at + tests.new ≤ walk.new.at + tests.old }
     ensures kept { tests.old ≤ tests.new }
 {
+    if !entered && let Some(idle) = idle_part(pattern, walk) {
+        walk.at += idle.positions;
+        return Reach {
+            before: false,
+            after: false,
+            after_entered: idle.has_empty_word,
+        };
+    }
     match pattern {
         Pattern::Either(branches) => step_either(branches, walk, entered, c, tests),
         Pattern::Sequence(pieces) => step_sequence(pieces, walk, entered, c, tests),
@@ -38,6 +48,7 @@ pub(crate) fn step(
 }
 
 /// The same for a class: its one position.
+#[inline(always)]
 fn step_class(
     class: &CharClass,
     walk: &mut Walk,

@@ -1,6 +1,6 @@
 -- The test for the empty word, and patterns without positions.
-use Rattle.std.proofs.Common.{◌≡◌, ◌↔◌, ◌⊎◌, inl, inr, ℕ, zero, suc, ◌≤◌, Bool, true, false, ◌||◌}
-use Rattle.std.proofs.Common.{nat_le, List, [], ◌∷◌, Option, Some, None, length, refl, sym, ◌∙◌}
+use Rattle.std.proofs.Common.{◌≡◌, ◌↔◌, ◌⊎◌, inl, inr, ℕ, zero, suc, ◌≤◌, Bool, ◌||◌}
+use Rattle.std.proofs.Common.{nat_le, List, [], Option, Some, None, refl}
 use Rattle.std.proofs.Common.{subst, arith}
 use Rattle.std.specs.Bool.{IsTrue}
 use Rattle.std.proofs.lemmas.Bool.{leb-true, le-leb}

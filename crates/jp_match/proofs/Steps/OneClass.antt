@@ -1,5 +1,5 @@
 -- Patterns of one position, part by part.
-use Rattle.std.proofs.Common.{◌≡◌, ◌+◌, ℕ, Bool, true, false, ◌||◌, ◌&&◌, List, [], ◌∷◌, Some, drop}
+use Rattle.std.proofs.Common.{◌≡◌, Bool, true, false, ◌||◌, ◌&&◌, List, [], ◌∷◌, Some, drop}
 use Rattle.std.proofs.Common.{refl, sym, subst, arith}
 use Rattle.jp_iregexp.specs.declared.class.ClassItem.{ClassItem}
 use Rattle.jp_iregexp.specs.Tree.{Tree, branches, pieces, repeat}

@@ -1,22 +1,22 @@
 -- Walks over the copies of a repeat.
 use Rattle.std.proofs.Common.{◌≡◌, ◌↔◌, ℕ, zero, suc, ◌+◌, ◌-◌, ◌≤◌, ◌<◌, Bool, true, false, ◌||◌}
-use Rattle.std.proofs.Common.{◌*◌, max, ◌&&◌, List, [], drop, get_or, refl, sym, ap, ◌∙◌, subst, arith}
+use Rattle.std.proofs.Common.{◌*◌, max, ◌&&◌, List, [], drop, refl, sym, ap, ◌∙◌, subst, arith}
 use Rattle.std.specs.Bool.{IsTrue}
 use Rattle.jp_iregexp.specs.Language.{Power}
 use Rattle.jp_match.specs.declared.walk.Walk.{Walk}
-use Rattle.jp_match.specs.Private.Plain.{Plain, Words, nothing, either, empty, sequence, plus}
+use Rattle.jp_match.specs.Private.Plain.{Plain, Words, either, empty, sequence, plus}
 use Rattle.jp_match.specs.Private.Plain.{at_least, between}
 use Rattle.jp_match.specs.Private.Marks.{size, Ends}
-use Rattle.jp_match.specs.Private.Walks.{own_rounds, rounds_of, Rounds, IsBefore, IsSameOutside}
+use Rattle.jp_match.specs.Private.Walks.{IsBefore}
 use Rattle.jp_match.specs.Private.Walks.{Moves, reached}
-use Rattle.jp_match.proofs.Bools.{or_is, and_is, or_assoc, or_false}
+use Rattle.jp_match.proofs.Bools.{and_is, or_assoc, or_false}
 use Rattle.jp_match.proofs.Steps.EmptyWords.{powers_nil}
 use Rattle.jp_match.proofs.Steps.EndParts.{joined_nil, nil_joined}
 use Rattle.jp_match.proofs.Steps.Sizes.{own_few, rounds_without, rounds_free, size_between}
 use Rattle.jp_match.proofs.Steps.Sizes.{size_at_least}
 use Rattle.jp_match.proofs.Steps.StepParts.{ends_without, without_ends, step_without}
 use Rattle.jp_match.proofs.Steps.Unrolled.{between_to, between_of, at_least_to, at_least_of}
-use Rattle.jp_match.proofs.Steps.Walking.{Walked, moves_sequence, moves_either, moves_empty}
+use Rattle.jp_match.proofs.Steps.Walking.{Walked, moves_either, moves_empty}
 use Rattle.jp_match.proofs.Steps.Walking.{moves_nothing, moves_entered, same_outside, walked_piece}
 use Rattle.jp_match.proofs.Steps.Walking.{before_first}
 

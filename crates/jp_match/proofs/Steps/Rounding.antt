@@ -1,5 +1,5 @@
 -- Walks over one position, and over the rounds of a repeat.
-use Rattle.std.proofs.Common.{◌≡◌, ◌↔◌, ◌⊎◌, inl, inr, ℕ, zero, suc, ◌+◌, ◌≤◌, ◌<◌, min, Bool, true}
+use Rattle.std.proofs.Common.{◌≡◌, ◌↔◌, ◌⊎◌, inl, inr, ℕ, ◌+◌, ◌≤◌, ◌<◌, min, Bool, true}
 use Rattle.std.proofs.Common.{false, ◌||◌, ◌&&◌, List, [], ◌∷◌, length, drop, set, get_or, refl, sym}
 use Rattle.std.proofs.Common.{ap, ◌∙◌, subst, arith, ◌≢◌}
 use Rattle.std.specs.Bool.{IsTrue}
@@ -8,10 +8,10 @@ use Rattle.std.proofs.lemmas.List.{get_or-drop, length-set, get_or-set_other, ge
 use Rattle.jp_iregexp.specs.declared.class.ClassItem.{ClassItem}
 use Rattle.jp_iregexp.specs.Class.{class_holds}
 use Rattle.jp_match.specs.declared.walk.Walk.{Walk}
-use Rattle.jp_match.specs.Private.Plain.{Plain, Words, class, plus}
+use Rattle.jp_match.specs.Private.Plain.{Plain, class, plus}
 use Rattle.jp_match.specs.Private.Marks.{size, Rest, Ends}
 use Rattle.jp_match.specs.Private.OneClass.{IsOneClass}
-use Rattle.jp_match.specs.Private.Walks.{own_rounds, rounds_of, Rounds, IsBefore, IsSameOutside}
+use Rattle.jp_match.specs.Private.Walks.{own_rounds, rounds_of, IsBefore, IsSameOutside}
 use Rattle.jp_match.specs.Private.Walks.{Moves}
 use Rattle.jp_match.proofs.Bools.{or_is, and_is, or_false}
 use Rattle.jp_match.proofs.Steps.EndParts.{ends_plus}

@@ -10,7 +10,7 @@ use Rattle.jp_iregexp.specs.Language.{Concatenation, Power}
 use Rattle.jp_match.specs.Private.Plain.{Plain, Words, class, nothing, either, empty, sequence}
 use Rattle.jp_match.specs.Private.Plain.{plus}
 use Rattle.jp_match.specs.Private.Marks.{Star, size, Rest, Ends, Steps}
-use Rattle.jp_match.proofs.Bools.{and_is, or_is}
+use Rattle.jp_match.proofs.Bools.{and_is}
 use Rattle.jp_match.proofs.Steps.EndParts.{ends_class, ends_empty, ends_nothing, ends_either}
 use Rattle.jp_match.proofs.Steps.EndParts.{ends_sequence, ends_plus, nil_before}
 

@@ -1,19 +1,16 @@
 -- Walks over the parts of a pattern, one after another.
-use Rattle.std.proofs.Common.{◌≡◌, ◌↔◌, ℕ, zero, suc, ◌+◌, ◌-◌, ◌*◌, ◌≤◌, ◌<◌, max, min, Bool, true}
-use Rattle.std.proofs.Common.{false, ◌||◌, ◌&&◌, List, [], ◌∷◌, length, drop, get_or, Some, None}
+use Rattle.std.proofs.Common.{◌≡◌, ℕ, ◌+◌, ◌≤◌, Bool, true}
+use Rattle.std.proofs.Common.{false, ◌||◌, List, [], ◌∷◌, drop, get_or}
 use Rattle.std.proofs.Common.{inl, inr, refl, sym, ap, ◌∙◌, subst, arith}
-use Rattle.std.specs.Bool.{IsTrue}
 use Rattle.std.proofs.lemmas.List.{get_or-drop}
-use Rattle.jp_iregexp.specs.Tree as tree
 use Rattle.jp_iregexp.specs.Tree.{Tree, branches, pieces}
-use Rattle.jp_iregexp.specs.Positions.{positions_of}
 use Rattle.jp_match.specs.declared.walk.Walk.{Walk}
-use Rattle.jp_match.specs.Private.Plain.{Plain, Words, class, nothing, either, empty, sequence}
-use Rattle.jp_match.specs.Private.Plain.{plus, at_least, between, counted, unrolled}
-use Rattle.jp_match.specs.Private.Marks.{size, Rest, Ends, Steps}
+use Rattle.jp_match.specs.Private.Plain.{Plain, class, nothing, either, empty, sequence}
+use Rattle.jp_match.specs.Private.Plain.{plus, unrolled}
+use Rattle.jp_match.specs.Private.Marks.{size, Ends}
 use Rattle.jp_match.specs.Private.Walks.{own_rounds, rounds_of, Rounds, IsBefore, IsSameOutside}
 use Rattle.jp_match.specs.Private.Walks.{Moves, reached}
-use Rattle.jp_match.proofs.Bools.{or_is, and_is, or_assoc, or_false}
+use Rattle.jp_match.proofs.Bools.{or_is, or_assoc, or_false}
 use Rattle.jp_match.proofs.Steps.EndParts.{ends_empty, ends_nothing, ends_either, ends_sequence}
 use Rattle.jp_match.proofs.Steps.StepParts.{IsSameBefore, same_fewer, same_dropped, rest_same}
 use Rattle.jp_match.proofs.Steps.StepParts.{same_back, ends_same, step_same, step_empty}

@@ -103,3 +103,10 @@ rounds_end (sequence a b) marks rounds =
 rounds_end (plus a) marks rounds =
     (nat_le (own_rounds a) 0 || is_same (get_or rounds 0 false) (marks_end a marks))
     && rounds_end a marks (drop (own_rounds a) rounds)
+
+-- a part without rounds has no mark: where it is not entered, a step leaves it as it is
+pub record IsIdle (a : Plain) (walk : Walk) (positions : ℕ) (has_empty_word : Bool) : Type 0 where
+  pub sized : size a ≡ positions
+  pub no_rounds : rounds_of a ≡ 0
+  pub takes : takes_none a ≡ has_empty_word
+  pub no_mark : (k : ℕ) → k < positions → IsTrue (get_or walk.marks.items (walk.at + k) false) → ⊥

@@ -1,10 +1,8 @@
-use Rattle.std.proofs.Common.{◌≡◌, ◌+◌, ◌*◌, ◌≤◌, ◌<◌, map, drop, length, sym, ◌∙◌, arith}
-use Rattle.jp_iregexp.specs.Tree.{tree, branches, pieces, repeat}
-use Rattle.jp_iregexp.specs.Positions.{positions_of, copies}
+use Rattle.std.proofs.Common.{◌<◌, length, sym, ◌∙◌, arith}
 use Rattle.jp_iregexp.proofs.Trees.{tree_class, tree_either, tree_sequence, tree_repeat}
-use Rattle.jp_match.proofs.Beginnings.{never_class, never_nothing, never_either, never_sequence}
-use Rattle.jp_match.proofs.Beginnings.{never_repeat, one_of_copies}
-use Rattle.jp_match.proofs.Patterns.Items.{drop_item, drop_all}
+use Rattle.jp_match.proofs.Beginnings.{never_class, never_either, never_sequence}
+use Rattle.jp_match.proofs.Beginnings.{never_repeat}
+use Rattle.jp_match.proofs.Patterns.Items.{drop_item}
 use Rattle.jp_match.proofs.beginning.+begins.Goals as goal
 
 pub may_begin-returns-in-Either : goal.may_begin-returns-in-Either

@@ -1,4 +1,4 @@
-use Rattle.std.proofs.Common.{◌≡◌, ◌+◌, ◌≤◌, map, drop}
+use Rattle.std.proofs.Common.{◌+◌, ◌≤◌, map, drop}
 use Rattle.jp_iregexp.specs.Tree.{tree, branches}
 use Rattle.jp_iregexp.specs.Language.{Language}
 use Rattle.jp_iregexp.specs.Positions.{positions_of}

@@ -1,7 +1,6 @@
-use Rattle.std.proofs.Common.{◌≡◌, ◌+◌, ◌*◌, ◌^◌, min, max, refl, ap, ◌∙◌, sym, arith, drop, map}
+use Rattle.std.proofs.Common.{◌≡◌, ◌+◌, ◌*◌, ◌^◌, min, max, refl, ap, ◌∙◌, arith, drop, map}
 use Rattle.std.proofs.Common.{length}
-use Rattle.jp_iregexp.specs.Tree.{tree, branches, pieces, repeat}
-use Rattle.jp_iregexp.specs.Positions.{positions_of}
+use Rattle.jp_iregexp.specs.Tree.{tree}
 use Rattle.jp_iregexp.proofs.Trees.{tree_class, tree_either, tree_sequence, tree_repeat}
 use Rattle.jp_match.specs.Private.Plain.{unrolled}
 use Rattle.jp_match.specs.Private.Walks.{own_rounds, rounds_of}

@@ -1,4 +1,4 @@
-use Rattle.std.proofs.Common.{◌∙◌, sym, ap, arith, refl}
+use Rattle.std.proofs.Common.{arith, refl}
 use Rattle.jp_iregexp.specs.Tree.{tree}
 use Rattle.jp_iregexp.proofs.Trees.{tree_class}
 use Rattle.jp_match.specs.Private.Plain.{unrolled}

@@ -13,6 +13,7 @@ use Rattle.jp_match.specs.Private.Marks.{size}
 use Rattle.jp_match.specs.Private.Walks.{own_rounds, IsBefore}
 use Rattle.jp_match.proofs.Patterns.Variants.{either_is, sequence_is, repeat_is}
 use Rattle.jp_match.proofs.Patterns.Items.{drop_item, drop_all}
+use Rattle.jp_match.proofs.Steps.Idle.{moves_idle_part}
 use Rattle.jp_match.proofs.Steps.Walking.{before_branch, before_piece, walked_next_branch}
 use Rattle.jp_match.proofs.Steps.Walking.{walked_next_piece, walked_branches, walked_pieces}
 use Rattle.jp_match.proofs.Steps.Repeating.{before_copy, walked_copy, walked_copies, walked_still}
@@ -75,6 +76,16 @@ step-returns-in-Repeat-clause-moves t c = rw (
 pub step-returns-in-Class-clause-moves : goal.step-returns-in-Class-clause-moves
 unfolding unrolled
 step-returns-in-Class-clause-moves t c = rw (c.in-Class.is, tree_class) c.step_class.ensures.moves
+
+pub step-returns-clause-moves : goal.step-returns-clause-moves
+step-returns-clause-moves t c =
+    rw c.if-not-entered.true (moves_idle_part (unrolled (tree c.args.pattern.now))
+    c.args.c _ _ _ _ c.in-Some.ensures (record {
+      at = refl;
+      round = refl;
+      marks = refl;
+      rounds = refl;
+    }) c.requires.so)
 
 pub step_either-step-requires : goal.step_either-step-requires
 step_either-step-requires t c =

@@ -1,0 +1,136 @@
+-- Parts without a mark: where they are not entered, a step leaves them as they are.
+use Rattle.std.proofs.Common.{◌≡◌, ◌↔◌, inl, inr, ℕ, zero, suc, ◌+◌, ◌-◌, ◌<◌, Bool, true, false, List}
+use Rattle.std.proofs.Common.{[], length, drop, take, get_or, nat_eq, Option, Some, refl, sym, ap, ◌∙◌, subst, arith}
+use Rattle.std.specs.Bool.{IsTrue}
+use Rattle.std.proofs.Math.Dec.{eqb-suc-zero}
+use Rattle.std.proofs.lemmas.List.{get_or-drop, get_or-take}
+use Rattle.jp_iregexp.specs.declared.class.ClassItem.{ClassItem}
+use Rattle.jp_iregexp.specs.Tree.{Tree, class as class_tree, repeat}
+use Rattle.jp_match.specs.declared.walk.Walk.{Walk}
+use Rattle.jp_match.specs.Private.Plain.{Plain, class, between, unrolled, counted}
+use Rattle.jp_match.specs.Private.Marks.{size, Ends, Steps}
+use Rattle.jp_match.specs.Private.Walks.{Rounds, takes_none, IsBefore, IsSameOutside}
+use Rattle.jp_match.specs.Private.Walks.{IsIdle, Moves}
+use Rattle.jp_match.proofs.Bools.{not_false}
+use Rattle.jp_match.proofs.Steps.Kept.{takes_none_is}
+use Rattle.jp_match.proofs.Steps.Sizes.{size_between, rounds_between}
+use Rattle.jp_match.proofs.Steps.StepParts.{IsSameBefore, rest_none, step_nowhere, step_same, ends_same}
+use Rattle.jp_match.proofs.Steps.Walking.{same_outside}
+
+not_true : (b : Bool) → (IsTrue b → ⊥) → false ≡ b
+not_true true never = absurd (never refl)
+not_true false never = refl
+
+no_mark : (k : ℕ) → IsTrue (get_or [] k false) → ⊥
+no_mark k h = cc
+
+-- the first marks are as those of a list without marks
+unmarked : (a : Plain) (walk : Walk) (positions : ℕ) (e : Bool) → IsIdle a walk positions e →
+    IsSameBefore (size a) [] (drop walk.at walk.marks.items)
+unmarked a walk positions e idle = record {
+  each = λ k below. not_true (get_or (drop walk.at walk.marks.items) k false)
+      (λ h. idle.no_mark k (omega (arith, below, idle.sized)) (sym (get_or-drop walk.at
+      walk.marks.items k false) ∙ h));
+}
+
+-- the end is reached by the empty word alone
+ends_nowhere : (a : Plain) → Ends a true [] (takes_none a)
+ends_nowhere a = record {
+  is = (
+    λ h. inr (refl, (takes_none_is a).0 h),
+    λ w. elim w [
+      | inl r ↦ absurd (rest_none a [] [] no_mark r)
+      | inr v ↦ (takes_none_is a).1 v.1
+    ],
+  );
+}
+
+-- a walk goes past a part
+pub record GoesPast (now last : Walk) (positions : ℕ) : Type 0 where
+  pub at : last.at ≡ now.at + positions
+  pub round : last.round ≡ now.round
+  pub marks : last.marks.items ≡ now.marks.items
+  pub rounds : last.rounds.items ≡ now.rounds.items
+
+pub moves_idle_part : (a : Plain) (c positions : ℕ) (e : Bool) (now last : Walk) →
+    IsIdle a now positions e → GoesPast now last positions → Rounds a (drop now.at now.marks.items) (drop now.round now.rounds.items) →
+    Moves a c false false true now last false false e
+moves_idle_part a c positions e now last idle past so =
+    let old = drop now.at now.marks.items in
+    let same = unmarked a now positions e idle in
+    let step = step_same a c false [] old [] old false same same (step_nowhere a c [] no_mark) in
+    let marks = sym past.marks in
+    record {
+      at = omega (arith, past.at, idle.sized);
+      round = omega (arith, past.round, idle.no_rounds);
+      marks = subst (IsSameOutside now.at last.at now.marks.items) marks (same_outside now.at
+          last.at now.marks.items);
+      rounds = subst (IsSameOutside now.round last.round now.rounds.items) (sym past.rounds)
+          (same_outside now.round last.round now.rounds.items);
+      step = subst (λ xs. Steps a c false old (drop now.at xs) false) marks step;
+      ends = subst (λ xs. Ends a false (drop now.at xs) false) marks step.ends;
+      ends_too = subst (λ xs. Ends a true (drop now.at xs) e) marks (subst (Ends a true old)
+          idle.takes (ends_same a true [] old (takes_none a) same (ends_nowhere a)));
+      so = rw (past.marks, past.rounds) so;
+    }
+
+-- copies of a class have the empty word where there may be none
+takes_copies : (negated : Bool) (items : List ClassItem) (least most : ℕ) →
+    takes_none (between (class negated items) least most) ≡ nat_eq least 0
+unfolding between
+takes_copies negated items zero zero = refl
+takes_copies negated items zero (suc most) = refl
+takes_copies negated items (suc least) zero = sym (eqb-suc-zero least)
+takes_copies negated items (suc least) (suc most) = sym (eqb-suc-zero least)
+
+pub size_copies : (t : Tree) (least most : ℕ) (o : Option ℕ) (negated : Bool) (items : List
+    ClassItem) → o ≡ Some most → t ≡ class_tree negated items →
+    size (unrolled (repeat t least o)) ≡ most
+unfolding unrolled counted
+size_copies t least most o negated items is one =
+    let e = size_between (class negated items) least most in rw (is, one) (omega (arith, e))
+
+pub idle_of_copies : (t : Tree) (least most : ℕ) (o : Option ℕ) (negated : Bool) (items : List
+    ClassItem) (walk : Walk) → o ≡ Some most → t ≡ class_tree negated items →
+    ((k : ℕ) → k < most → IsTrue (get_or walk.marks.items (walk.at + k) false) → ⊥) →
+    IsIdle (unrolled (repeat t least o)) walk most (nat_eq least 0)
+unfolding unrolled counted
+idle_of_copies t least most o negated items walk is one none =
+    let rounds = rounds_between (class negated items) least most in
+    record {
+      sized = size_copies t least most o negated items is one;
+      no_rounds = rw (is, one) (omega (arith, rounds));
+      takes = rw (is, one) (takes_copies negated items least most);
+      no_mark = none;
+    }
+
+pub idle_of_class : (t : Tree) (negated : Bool) (items : List ClassItem) (walk : Walk) →
+    t ≡ class_tree negated items → get_or walk.marks.items walk.at false ≡ false →
+    IsIdle (unrolled t) walk 1 false
+unfolding unrolled
+idle_of_class t negated items walk is none = rw is (record {
+  sized = refl;
+  no_rounds = refl;
+  takes = refl;
+  no_mark = λ k below h.
+      let place : walk.at + k ≡ walk.at = omega arith in
+      absurd (let e = sym none ∙ ap (λ i. get_or walk.marks.items i false) (sym place) ∙ h in cc);
+})
+
+pub class_within : (t : Tree) (negated : Bool) (items : List ClassItem) (walk : Walk) →
+    t ≡ class_tree negated items → IsBefore (unrolled t) walk →
+    walk.at < length walk.marks.items
+unfolding unrolled
+class_within t negated items walk is before =
+    let all : IsBefore (class negated items) walk = rw is at before in omega (arith, all.marks)
+
+pub unmarked_slice : (at n : ℕ) (marks : List Bool) (any : Bool) → any ≡ false →
+    (IsTrue any ↔ ((k : ℕ) × IsTrue (get_or (take (at + n - at) (drop at marks)) k false))) →
+    (k : ℕ) → k < n → IsTrue (get_or marks (at + k) false) → ⊥
+unmarked_slice at n marks any none is k below h =
+    let within : k < at + n - at = omega (arith, below) in
+    not_false any none (is.1 (
+      k,
+      get_or-take (at + n - at) (drop at marks) k false within ∙
+          get_or-drop at marks k false ∙ h,
+    ))

@@ -1,0 +1,62 @@
+//! Parts of a pattern that a step passes over.
+
+ghost use Rattle.std.specs.Prelude.{IfSome};
+ghost use Rattle.jp_iregexp.specs.Tree.{tree, repeat};
+ghost use Rattle.jp_match.specs.Private.Plain.{unrolled};
+ghost use Rattle.jp_match.specs.Private.Walks.{IsBefore, IsIdle};
+
+use crate::places::is_any;
+use crate::walk::Walk;
+use jp_iregexp::Pattern;
+
+/// A part that has no mark: where it is not entered, a step leaves it as it is.
+#[derive(Clone, Copy)]
+pub(crate) struct Idle {
+    pub(crate) positions: usize,
+    pub(crate) has_empty_word: bool,
+}
+
+/// The next part of a walk, where it is a class or copies of one and has no mark.
+#[inline(always)]
+pub(crate) fn idle_part(part: &Pattern, walk: &Walk) -> Option<Idle>
+    requires { IsBefore (unrolled (tree part.now)) walk.now }
+    ensures { IfSome result (λ idle. IsIdle (unrolled (tree part.now)) walk.now idle.positions
+        idle.has_empty_word) }
+{
+    match part {
+        Pattern::Class(_) => {
+            if walk.marks[walk.at] {
+                return None;
+            }
+            Some(Idle {
+                positions: 1,
+                has_empty_word: false,
+            })
+        }
+        Pattern::Repeat { inner, least, most } => idle_copies(inner, *least, *most, walk),
+        _ => None,
+    }
+}
+
+/// The same for a repeat: of a class, with a most.
+#[inline(always)]
+fn idle_copies(inner: &Pattern, least: u32, most: Option<u32>, walk: &Walk) -> Option<Idle>
+    requires { IsBefore (unrolled (repeat (tree inner.now) least most)) walk.now }
+    ensures { IfSome result (λ idle. IsIdle (unrolled (repeat (tree inner.now) least most))
+        walk.now idle.positions idle.has_empty_word) }
+{
+    let Some(most) = most else {
+        return None;
+    };
+    let Pattern::Class(_) = inner else {
+        return None;
+    };
+    let end = walk.at + most as usize;
+    if is_any(&walk.marks[walk.at..end]) {
+        return None;
+    }
+    Some(Idle {
+        positions: most as usize,
+        has_empty_word: least == 0,
+    })
+}
