@@ -1,3 +1,4 @@
 -- A scan over a text: for the scan and the matcher of positions.
+pub mod Cutting
 pub mod Prefixes
 pub mod Scanning

@@ -3,6 +3,7 @@
 pub mod Beginning
 pub mod ClassTests
 pub mod Counts
+pub mod Cutting
 pub mod EmptyWord
 pub mod Marks
 pub mod OneClass

@@ -16,6 +16,7 @@
 mod beginning;
 mod class_tests;
 mod counts;
+mod cutting;
 mod empty_word;
 mod idle;
 mod images;

@@ -1,12 +1,16 @@
 //! The matcher of positions: a scan stepped once over the text.
 
-ghost use Rattle.std.specs.Prelude.{◌↔◌, ◌⊎◌, ◌+◌, ◌*◌, ◌≤◌, ℕ, IsTrue, List, [], ◌∷◌};
+ghost use Rattle.std.specs.Prelude.{◌↔◌, ◌⊎◌, ◌+◌, ◌*◌, ◌≤◌, ℕ, IfOk, IsTrue, List, [], ◌∷◌};
 ghost use Rattle.std.specs.Prelude.{length, take};
 ghost use Rattle.std.specs.Str.{chars};
+ghost use Rattle.jp_iregexp.specs.Tree.{tree};
+ghost use Rattle.jp_iregexp.specs.Language.{Language};
 ghost use Rattle.jp_iregexp.specs.Positions.{positions_of};
+ghost use Rattle.jp_match.specs.Part.{HasPart};
 ghost use Rattle.jp_match.specs.Scan.{Left, tree_of};
 
 use crate::class_tests::Tests;
+use crate::cutting::cut;
 use crate::images::Images;
 use crate::matching::Matching;
 use crate::scan::Scan;
@@ -14,8 +18,9 @@ use jp_iregexp::Pattern;
 use std::alloc::{AllocError, Global};
 
 /// The matcher of positions. It steps one [`Scan`] over the text, so a pattern of at most 4,096
-/// positions takes at most one class test for each of them and each character. It hands patterns of
-/// more positions to [`Images`].
+/// positions takes at most one class test for each of them and each character. A pattern of more
+/// positions is first cut down to the text's length, and where there still are more it is handed to
+/// [`Images`].
 #[derive(Clone, Copy, Debug, Default)]
 pub struct Marks;
 
@@ -29,7 +34,7 @@ impl Matching for Marks {
     ) -> Result<bool, AllocError> {
         match Scan::new(alloc, pattern, false)? {
             Some(mut scan) => Ok(accepts_whole(&mut scan, text, tests)),
-            None => Images.whole(alloc, pattern, text, tests),
+            None => whole_of_many(alloc, pattern, text, tests),
         }
     }
 
@@ -42,8 +47,45 @@ impl Matching for Marks {
     ) -> Result<bool, AllocError> {
         match Scan::new(alloc, pattern, true)? {
             Some(mut scan) => Ok(accepts_prefix(&mut scan, text, tests)),
-            None => Images.part(alloc, pattern, text, tests),
+            None => part_of_many(alloc, pattern, text, tests),
         }
+    }
+}
+
+/// Whether the text is in the language of a pattern of many positions: of the pattern cut down to
+/// the text.
+fn whole_of_many(
+    alloc: Global,
+    pattern: &Pattern,
+    text: &str,
+    tests: &mut Tests,
+) -> Result<bool, AllocError>
+    ensures exact { IfOk result (λ answer. IsTrue answer ↔ Language (tree pattern.entry.now) (chars
+        text.entry.now)) }
+    ensures kept { tests.old ≤ tests.new }
+{
+    let cut = cut(alloc, pattern, text.chars().count())?;
+    match Scan::new(alloc, &cut, false)? {
+        Some(mut scan) => Ok(accepts_whole(&mut scan, text, tests)),
+        None => Images.whole(alloc, &cut, text, tests),
+    }
+}
+
+/// Whether some part of the text is in its language.
+fn part_of_many(
+    alloc: Global,
+    pattern: &Pattern,
+    text: &str,
+    tests: &mut Tests,
+) -> Result<bool, AllocError>
+    ensures exact { IfOk result (λ answer. IsTrue answer ↔ HasPart (Language (tree
+        pattern.entry.now)) (chars text.entry.now)) }
+    ensures kept { tests.old ≤ tests.new }
+{
+    let cut = cut(alloc, pattern, text.chars().count())?;
+    match Scan::new(alloc, &cut, true)? {
+        Some(mut scan) => Ok(accepts_prefix(&mut scan, text, tests)),
+        None => Images.part(alloc, &cut, text, tests),
     }
 }
 
