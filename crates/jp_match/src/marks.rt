@@ -1,6 +1,6 @@
 //! The matcher of positions: a scan stepped once over the text.
 
-ghost use Rattle.std.specs.Prelude.{◌↔◌, ◌⊎◌, ◌+◌, ◌*◌, ◌≤◌, ℕ, IfOk, IsTrue, List, [], ◌∷◌};
+ghost use Rattle.std.specs.Prelude.{◌≡◌, ◌↔◌, ◌⊎◌, ◌+◌, ◌*◌, ◌≤◌, ℕ, IfOk, IsTrue, List, [], ◌∷◌};
 ghost use Rattle.std.specs.Prelude.{length, take};
 ghost use Rattle.std.specs.Str.{chars};
 ghost use Rattle.jp_iregexp.specs.Tree.{tree};
@@ -64,7 +64,7 @@ fn whole_of_many(
         text.entry.now)) }
     ensures kept { tests.old ≤ tests.new }
 {
-    let cut = cut(alloc, pattern, text.chars().count())?;
+    let cut = cut(alloc, pattern, char_count(text))?;
     match Scan::new(alloc, &cut, false)? {
         Some(mut scan) => Ok(accepts_whole(&mut scan, text, tests)),
         None => Images.whole(alloc, &cut, text, tests),
@@ -82,11 +82,18 @@ fn part_of_many(
         pattern.entry.now)) (chars text.entry.now)) }
     ensures kept { tests.old ≤ tests.new }
 {
-    let cut = cut(alloc, pattern, text.chars().count())?;
+    let cut = cut(alloc, pattern, char_count(text))?;
     match Scan::new(alloc, &cut, true)? {
         Some(mut scan) => Ok(accepts_prefix(&mut scan, text, tests)),
         None => Images.part(alloc, &cut, text, tests),
     }
+}
+
+/// How many characters the text has.
+fn char_count(text: &str) -> usize
+    ensures { result ≡ length (chars text.now) }
+{
+    text.chars().count()
 }
 
 /// Whether the scan accepts once it has taken the text. It ends early where no word is left.

@@ -1,5 +1,4 @@
-use Rattle.std.proofs.Common.{◌≡◌, ◌≤◌, ◌++◌, ◌∷◌, [], length, map, take, refl, sym, ap, ◌∙◌, arith}
-use Rattle.jp_iregexp.specs.Tree.{tree}
+use Rattle.std.proofs.Common.{refl}
 use Rattle.jp_iregexp.proofs.Trees.{tree_class, tree_either, tree_sequence, tree_repeat}
 use Rattle.jp_match.proofs.Texts.Cutting.{same_self, same_then, same_none, same_branches, same_pieces}
 use Rattle.jp_match.proofs.Texts.Cutting.{same_repeat, same_more}

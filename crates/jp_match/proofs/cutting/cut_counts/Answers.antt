@@ -1,4 +1,4 @@
-use Rattle.std.proofs.Common.{◌≡◌, ◌≤◌, ◌<◌, sym, ◌∙◌, arith}
+use Rattle.std.proofs.Common.{arith}
 use Rattle.std.proofs.lemmas.Option.{IfSome_then}
 use Rattle.jp_iregexp.specs.Tree.{tree}
 use Rattle.jp_match.proofs.Texts.Cutting.{no_most, none_between, none_with, same_self, same_then}
