@@ -10,3 +10,4 @@ pub mod Sizes
 pub mod StepParts
 pub mod Unrolled
 pub mod Walking
+pub mod Whole

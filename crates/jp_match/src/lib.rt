@@ -33,6 +33,7 @@ mod stepping;
 #[cfg(test)]
 mod tests;
 mod walk;
+mod whole;
 
 pub use class_tests::Tests;
 pub use images::Images;

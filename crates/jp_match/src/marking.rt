@@ -13,8 +13,8 @@ use crate::class_tests::Tests;
 use crate::counts::{Counts, MANY_ROUNDS};
 use crate::empty_word::has_empty_word;
 use crate::places::{is_any, none};
-use crate::stepping::step;
 use crate::walk::Walk;
+use crate::whole::step_whole;
 use jp_iregexp::Pattern;
 use std::alloc::{AllocError, Global};
 
@@ -22,12 +22,15 @@ use std::alloc::{AllocError, Global};
 #[derive(Drop)]
 pub(crate) struct Marking<'p> {
     pub(crate) pattern: &'p Pattern,
+    /// The walk of the last step: there is no mark from its end on.
     pub(crate) walk: Walk,
     pub(crate) ends: bool,
     pub(crate) ends_entered: bool,
     /// There is no mark.
     pub(crate) is_idle: bool,
     ghost no_mark: { IsTrue is_idle → (position : ℕ) → IsTrue (get_or walk.marks.items position
+        false) → ⊥ },
+    ghost ended: { (position : ℕ) → walk.at ≤ position → IsTrue (get_or walk.marks.items position
         false) → ⊥ },
     ghost sized: { length walk.marks.items ≡ positions_of (tree pattern.now) },
     ghost kept: { length walk.rounds.items ≡ rounds_of (unrolled (tree pattern.now)) },
@@ -77,12 +80,16 @@ impl<'p> Marking<'p> {
         ensures counted { tests.new ≤ tests.old + positions_of (tree self.old.pattern.now) }
         ensures kept { tests.old ≤ tests.new }
     {
+        let end = self.walk.at;
         self.walk.at = 0;
         self.walk.round = 0;
-        let reach = step(self.pattern, &mut self.walk, entered, c, tests);
+        let reach = step_whole(self.pattern, &mut self.walk, end, entered, c, tests);
         self.ends = reach.after;
         self.ends_entered = reach.after_entered;
         self.is_idle = !is_any(&self.walk.marks);
+        if self.is_idle {
+            self.walk.at = 0;
+        }
         reach.before
     }
 

@@ -75,7 +75,7 @@ fn step_class(
 
 /// The same for branches.
 #[cycle(step)]
-fn step_either(
+pub(crate) fn step_either(
     parts: &[Pattern],
     walk: &mut Walk,
     entered: bool,

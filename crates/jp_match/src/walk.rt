@@ -1,6 +1,6 @@
 //! A walk over the parts of a pattern, from the left.
 
-ghost use Rattle.std.specs.Prelude.{◌≡◌, Bool, true, false, ◌||◌, ◌&&◌, get_or};
+ghost use Rattle.std.specs.Prelude.{◌≡◌, Bool, IsTrue, true, false, ◌||◌, ◌&&◌, get_or};
 ghost use Rattle.jp_match.specs.Private.Walks.{reached};
 
 /// The marks of a pattern, what is kept of its repeats, and where a walk over its parts stands: it
@@ -64,6 +64,14 @@ impl Reach {
             after: false,
             after_entered: true,
         }
+    }
+
+    /// Whether it is reached in no way.
+    pub(crate) fn is_nowhere(self) -> bool
+        ensures { IsTrue result → (self.before ≡ false) × (self.after ≡ false)
+            × (self.after_entered ≡ false) }
+    {
+        !(self.before | self.after | self.after_entered)
     }
 
     /// By this part or by the other.

@@ -9,7 +9,7 @@ use Rattle.jp_iregexp.specs.Tree.{Tree, class as class_tree, repeat}
 use Rattle.jp_match.specs.declared.walk.Walk.{Walk}
 use Rattle.jp_match.specs.Private.Plain.{Plain, class, between, unrolled, counted}
 use Rattle.jp_match.specs.Private.Marks.{size, Ends, Steps}
-use Rattle.jp_match.specs.Private.Walks.{Rounds, takes_none, IsBefore, IsSameOutside}
+use Rattle.jp_match.specs.Private.Walks.{rounds_of, Rounds, takes_none, IsBefore, IsSameOutside}
 use Rattle.jp_match.specs.Private.Walks.{IsIdle, Moves}
 use Rattle.jp_match.proofs.Bools.{not_false}
 use Rattle.jp_match.proofs.Steps.Kept.{takes_none_is}
@@ -24,13 +24,13 @@ not_true false never = refl
 no_mark : (k : ℕ) → IsTrue (get_or [] k false) → ⊥
 no_mark k h = cc
 
--- the first marks are as those of a list without marks
-unmarked : (a : Plain) (walk : Walk) (positions : ℕ) (e : Bool) → IsIdle a walk positions e →
-    IsSameBefore (size a) [] (drop walk.at walk.marks.items)
-unmarked a walk positions e idle = record {
-  each = λ k below. not_true (get_or (drop walk.at walk.marks.items) k false)
-      (λ h. idle.no_mark k (omega (arith, below, idle.sized)) (sym (get_or-drop walk.at
-      walk.marks.items k false) ∙ h));
+-- from a place on the first marks are as those of a list without marks
+pub unmarked : (n at : ℕ) (marks : List Bool) →
+    ((k : ℕ) → k < n → IsTrue (get_or marks (at + k) false) → ⊥) →
+    IsSameBefore n [] (drop at marks)
+unmarked n at marks none = record {
+  each = λ k below. not_true (get_or (drop at marks) k false) (λ h. none k below (sym (get_or-drop
+      at marks k false) ∙ h));
 }
 
 -- the end is reached by the empty word alone
@@ -46,33 +46,47 @@ ends_nowhere a = record {
 }
 
 -- a walk goes past a part
-pub record GoesPast (now last : Walk) (positions : ℕ) : Type 0 where
+pub record GoesPast (now last : Walk) (positions turns : ℕ) : Type 0 where
   pub at : last.at ≡ now.at + positions
-  pub round : last.round ≡ now.round
+  pub round : last.round ≡ now.round + turns
   pub marks : last.marks.items ≡ now.marks.items
   pub rounds : last.rounds.items ≡ now.rounds.items
 
-pub moves_idle_part : (a : Plain) (c positions : ℕ) (e : Bool) (now last : Walk) →
-    IsIdle a now positions e → GoesPast now last positions → Rounds a (drop now.at now.marks.items) (drop now.round now.rounds.items) →
-    Moves a c false false true now last false false e
-moves_idle_part a c positions e now last idle past so =
+pub moves_unmarked : (a : Plain) (c positions turns : ℕ) (now last : Walk) → size a ≡ positions →
+    rounds_of a ≡ turns → IsSameBefore (size a) [] (drop now.at now.marks.items) →
+    GoesPast now last positions turns →
+    Rounds a (drop now.at now.marks.items) (drop now.round now.rounds.items) →
+    Moves a c false false true now last false false (takes_none a)
+moves_unmarked a c positions turns now last sized turned same past so =
     let old = drop now.at now.marks.items in
-    let same = unmarked a now positions e idle in
     let step = step_same a c false [] old [] old false same same (step_nowhere a c [] no_mark) in
     let marks = sym past.marks in
     record {
-      at = omega (arith, past.at, idle.sized);
-      round = omega (arith, past.round, idle.no_rounds);
-      marks = subst (IsSameOutside now.at last.at now.marks.items) marks (same_outside now.at
-          last.at now.marks.items);
+      at = omega (arith, past.at, sized);
+      round = omega (arith, past.round, turned);
+      marks = subst (IsSameOutside now.at last.at now.marks.items) marks (same_outside now.at last.at
+          now.marks.items);
       rounds = subst (IsSameOutside now.round last.round now.rounds.items) (sym past.rounds)
           (same_outside now.round last.round now.rounds.items);
       step = subst (λ xs. Steps a c false old (drop now.at xs) false) marks step;
       ends = subst (λ xs. Ends a false (drop now.at xs) false) marks step.ends;
-      ends_too = subst (λ xs. Ends a true (drop now.at xs) e) marks (subst (Ends a true old)
-          idle.takes (ends_same a true [] old (takes_none a) same (ends_nowhere a)));
+      ends_too = subst (λ xs. Ends a true (drop now.at xs) (takes_none a)) marks (ends_same a true []
+          old (takes_none a) same (ends_nowhere a));
       so = rw (past.marks, past.rounds) so;
     }
+
+pub moves_idle_part : (a : Plain) (c positions : ℕ) (e : Bool) (now last : Walk) →
+    IsIdle a now positions e → GoesPast now last positions 0 →
+    Rounds a (drop now.at now.marks.items) (drop now.round now.rounds.items) →
+    Moves a c false false true now last false false e
+moves_idle_part a c positions e now last idle past so =
+    let none = unmarked (size a) now.at now.marks.items (λ k below. idle.no_mark k (omega (
+      arith,
+      below,
+      idle.sized,
+    ))) in
+    subst (Moves a c false false true now last false false) idle.takes (moves_unmarked a c positions
+    0 now last idle.sized idle.no_rounds none past so)
 
 -- copies of a class have the empty word where there may be none
 takes_copies : (negated : Bool) (items : List ClassItem) (least most : ℕ) →

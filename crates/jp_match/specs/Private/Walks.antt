@@ -110,3 +110,24 @@ pub record IsIdle (a : Plain) (walk : Walk) (positions : ℕ) (has_empty_word : 
   pub no_rounds : rounds_of a ≡ 0
   pub takes : takes_none a ≡ has_empty_word
   pub no_mark : (k : ℕ) → k < positions → IsTrue (get_or walk.marks.items (walk.at + k) false) → ⊥
+
+-- a walk stands at the start of a whole pattern, which has no mark from a place on
+pub record IsAtStart (a : Plain) (end : ℕ) (walk : Walk) : Type 0 where
+  pub before : IsBefore a walk
+  pub at : walk.at ≡ 0
+  pub sized : length walk.marks.items ≡ size a
+  pub ended : (k : ℕ) → end ≤ k → IsTrue (get_or walk.marks.items k false) → ⊥
+
+-- the walk has moved the marks of a whole pattern over the character c, and there is none from its
+-- end on; told are the ends as for a part
+pub record MovesAll (a : Plain) (c : ℕ) (entered : Bool) (before after : Walk) (was is is_too :
+    Bool) : Type 0 where
+  pub marks : length after.marks.items ≡ length before.marks.items
+  pub rounds : length after.rounds.items ≡ length before.rounds.items
+  pub within : after.at ≤ size a
+  pub none : (k : ℕ) → after.at ≤ k → IsTrue (get_or after.marks.items k false) → ⊥
+  pub step : Steps a c entered (drop before.at before.marks.items)
+      (drop before.at after.marks.items) was
+  pub ends : Ends a false (drop before.at after.marks.items) is
+  pub ends_too : Ends a true (drop before.at after.marks.items) is_too
+  pub so : Rounds a (drop before.at after.marks.items) (drop before.round after.rounds.items)

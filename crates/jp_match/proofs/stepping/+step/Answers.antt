@@ -82,7 +82,7 @@ step-returns-clause-moves t c =
     rw c.if-not-entered.true (moves_idle_part (unrolled (tree c.args.pattern.now))
     c.args.c _ _ _ _ c.in-Some.ensures (record {
       at = refl;
-      round = refl;
+      round = omega arith;
       marks = refl;
       rounds = refl;
     }) c.requires.so)

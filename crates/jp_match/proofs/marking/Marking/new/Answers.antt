@@ -13,6 +13,7 @@ invariant_of-result c =
     let none = c.in_ok-marks.ensures.none in
     record {
       no_mark = λ e. none;
+      ended = λ k over. none k;
       sized = omega (arith, c.in_ok-marks.ensures.same_length, c.requires.positions);
       kept = omega (
         arith,

@@ -1,0 +1,18 @@
+use Rattle.std.proofs.Common.{subst}
+use Rattle.jp_iregexp.proofs.Trees.{tree_either}
+use Rattle.jp_match.specs.Private.Plain.{unrolled}
+use Rattle.jp_match.specs.Private.Walks.{IsAtStart}
+use Rattle.jp_match.proofs.Patterns.Variants.{either_is}
+use Rattle.jp_match.proofs.whole.step_whole.Goals as goal
+
+pub step_branches-requires : goal.step_branches-requires
+step_branches-requires c =
+    let is = either_is _ _ _ c.in-Either.is c.deref.ensures.value in
+    subst (λ t. IsAtStart (unrolled t) c.args.end c.args.walk.now) is.same c.requires
+
+pub returns-in-Either-clause-moves : goal.returns-in-Either-clause-moves
+returns-in-Either-clause-moves c = rw (
+  c.in-Either.is,
+  tree_either,
+  ← c.deref.ensures.value,
+) c.step_branches.ensures.moves
