@@ -1,5 +1,6 @@
 pub mod Beginnings
 pub mod Bools
+pub mod Classes
 pub mod Counting
 pub mod Patterns
 pub mod Sets

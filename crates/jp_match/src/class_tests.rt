@@ -1,10 +1,10 @@
 //! The count of class tests.
 
-ghost use Rattle.std.specs.Prelude.{◌≡◌, ◌≤◌};
-ghost use Rattle.jp_iregexp.specs.Class.{class_holds};
+ghost use Rattle.std.specs.Prelude.{◌≡◌, ◌≤◌, ◌&&◌, nat_le};
+ghost use Rattle.jp_iregexp.specs.Class.{class_holds as holds_in};
 ghost use Rattle.jp_match.specs.Private.ClassTests.{count_after};
 
-use jp_iregexp::CharClass;
+use jp_iregexp::{CharClass, ClassItem};
 use std::marker::Model;
 
 /// How often a matcher has tested whether a class holds a character; at most the greatest `u64`.
@@ -38,12 +38,31 @@ impl Tests {
 
     /// Whether the class holds the character. Every class test of every matcher goes through here.
     pub(crate) fn holds(&mut self, class: &CharClass, c: char) -> bool
-        ensures answer { result ≡ class_holds class.now.negated class.now.items.items c }
+        ensures answer { result ≡ holds_in class.now.negated class.now.items.items c }
         ensures counted { self.new ≡ count_after 1 self.old }
         ensures kept { self.old ≤ self.new }
     {
         let Tests { made } = self;
         *made = made.saturating_add(1);
-        class.holds(c)
+        class_holds(class, c)
     }
+}
+
+/// Whether the class holds the character. A class of one range, as most are, is tested in place.
+fn class_holds(class: &CharClass, c: char) -> bool
+    ensures { result ≡ holds_in class.now.negated class.now.items.items c }
+{
+    let [only] = class.items.as_slice() else {
+        return class.holds(c);
+    };
+    match *only {
+        ClassItem::Range(first, last) => is_between(first, last, c) != class.negated,
+        ClassItem::Category { .. } => class.holds(c),
+    }
+}
+
+fn is_between(first: char, last: char, c: char) -> bool
+    ensures { result ≡ (nat_le first c && nat_le c last) }
+{
+    first <= c && c <= last
 }

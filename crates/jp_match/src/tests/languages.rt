@@ -7,7 +7,7 @@ use std::process::Abort;
 use std::test::Fail;
 
 // A pattern, a text, whether the whole text is in its language, and whether some part of it is.
-const ROWS: [(&str, &str, bool, bool); 27] = [
+const ROWS: [(&str, &str, bool, bool); 32] = [
     ("", "", true, true),
     ("", "a", false, true),
     ("^a$", "a", false, false),
@@ -33,6 +33,11 @@ const ROWS: [(&str, &str, bool, bool); 27] = [
     ("(()|a){2,3}", "aaaa", false, true),
     ("((){999999999}){999999999}", "", true, true),
     ("x{999999999}|b", "b", true, true),
+    ("((a{0,99999}b?){0,99999}c?){0,99999}d", "abcad", true, true),
+    ("(a{0,99999}b){2,99999}", "aabab", true, true),
+    ("(a{0,99999}b){2,99999}", "aab", false, false),
+    ("(a{5000}|b){3,}c", "bbbc", true, true),
+    ("a{5000,}|a{3,9000}", "aaa", true, true),
     ("(a|b)*c", "abab", false, false),
     ("(ab|c)*", "abcab", true, true),
 ];
@@ -89,6 +94,7 @@ fn answers_on_ten_thousand_characters(rt: HostRuntime) -> Result<(), Fail> {
         ("(aé){5000}", true, true),
         ("(aé){4999}", false, true),
         ("éé", false, false),
+        ("((a{0,99999}é?){0,99999}c?){0,99999}d", false, false),
     ] {
         assert_answers(&rt, rt.alloc(), (pattern, text.as_str()), (whole, part))?;
     }
