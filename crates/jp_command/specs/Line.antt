@@ -1,11 +1,9 @@
 -- What the program says with its status: the status and the line of each fault, what a task's run
 -- says, and `RunsLine`, which the clause of `run_line` cites.
 use Rattle.std.specs.Prelude.{◌≡◌, ℕ, Bool, List, ◌++◌, Option, Some, None, Result, Ok, Err, codes}
-use Rattle.std.specs.Fmt.{decimal}
-use Rattle.jp_document.specs.declared.fault.DocumentFault.{DocumentFault}
-use Rattle.jp_document.specs.declared.fault.DocumentFault.TheVariants as document
 use Rattle.jp_check.specs.declared.profile.Profile.{Profile}
-use Rattle.jp_query.specs.Refusal.{name_of}
+use Rattle.jp_document.specs.Faults.{document_fault_name}
+use Rattle.jp_query.specs.Refusal.{refusal_text}
 use Rattle.jp_command.specs.Canon.{RunsCanon}
 use Rattle.jp_command.specs.Check.{RunsCheck}
 use Rattle.jp_command.specs.CommandLine.{asked}
@@ -26,16 +24,9 @@ status_of NoMemory = 4
 status_of Read = 5
 status_of Write = 5
 
-abbrev pub document_fault_name : DocumentFault → List ℕ
-document_fault_name document.NotJson = codes "NotJson"
-document_fault_name (document.NotWhole path) = codes "NotWhole"
-document_fault_name document.ListTooLong = codes "ListTooLong"
-document_fault_name document.NoMemory = codes "NoMemory"
-
 -- what stands in the line of a fault
 abbrev pub fault_text : Fault → List ℕ
-fault_text (Query r) =
-    codes "query refused: " ++ (name_of r.kind ++ (codes " at " ++ decimal r.place))
+fault_text (Query r) = codes "query refused: " ++ refusal_text r
 fault_text (Document f) = codes "document refused: " ++ document_fault_name f
 fault_text DocumentTooLarge = codes "document refused: DocumentTooLarge"
 fault_text NoMemory = codes "want of memory"

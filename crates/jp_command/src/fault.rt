@@ -7,29 +7,46 @@ ghost use Rattle.jp_command.specs.Private.Faults.{fault_of_document, fault_of_re
 use jp_document::DocumentFault;
 use jp_query::{Refusal, RefusalKind};
 use std::alloc::AllocError;
+use std::fmt;
 use thiserror::Error;
 
 /// Why a run did not do what it was asked.
 #[derive(Debug, PartialEq, Drop, Error)]
 pub enum Fault {
     /// The query is refused; nothing was read or written.
-    #[error("the query is refused: {0:?}")]
     Query(Refusal),
     /// The input is no document; nothing was written.
-    #[error("the document is refused: {0:?}")]
     Document(DocumentFault),
     /// The input has more than `DOCUMENT_LIMIT` bytes; nothing was written.
-    #[error("the document is refused: it is too large")]
     DocumentTooLarge,
     /// The memory did not suffice; what was written is a prefix of the output.
-    #[error("the memory did not suffice")]
     NoMemory,
     /// A read failed; nothing was written.
-    #[error("a read failed")]
     Read,
     /// A write failed; what was written is a prefix of the output.
-    #[error("a write failed")]
     Write,
+}
+
+/// The fault's line, without the newline.
+impl fmt::Display for Fault {
+    ghost use Rattle.std.specs.Prelude.{Some};
+    ghost use Rattle.jp_command.specs.Line.{fault_text};
+
+    ghost output = { λ fault. Some (fault_text fault) };
+
+    fn fmt<W: fmt::Write>(&self, f: &mut fmt::Formatter<W>) -> fmt::Result {
+        match self {
+            Fault::Query(refusal) => write!(f, "query refused: {refusal}"),
+            Fault::Document(fault) => {
+                let name = fault.name();
+                write!(f, "document refused: {name}")
+            }
+            Fault::DocumentTooLarge => f.write_str("document refused: DocumentTooLarge"),
+            Fault::NoMemory => f.write_str("want of memory"),
+            Fault::Read => f.write_str("read fault"),
+            Fault::Write => f.write_str("write fault"),
+        }
+    }
 }
 
 impl From<AllocError> for Fault {

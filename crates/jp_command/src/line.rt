@@ -3,7 +3,7 @@
 ghost use Rattle.std.specs.Prelude.{◌≡◌, ◌≢◌, IfOk, map, string_bytes};
 ghost use Rattle.std.specs.Cow.{cow_str_bytes};
 ghost use Rattle.clap.specs.Words.{kind_of};
-ghost use Rattle.jp_command.specs.Line.{RunsLine, RunsTask, document_fault_name, fault_line};
+ghost use Rattle.jp_command.specs.Line.{RunsLine, RunsTask, fault_line};
 ghost use Rattle.jp_command.specs.Line.{status_of};
 ghost use Rattle.jp_command.specs.Output.{AppendsPrefix, AppendsSome};
 
@@ -17,7 +17,6 @@ use crate::words::{Task, read_words};
 use clap::Error;
 use clap::error::ErrorKind;
 use jp_check::Profile;
-use jp_document::DocumentFault;
 use std::alloc::{AllocError, Global};
 use std::borrow::CowStr;
 
@@ -111,37 +110,17 @@ fn report<E: Writer>(alloc: Global, fault: &Fault, faults: &mut E)
     }
 }
 
-/// The line of a fault.
+/// The line of a fault. Those that tell of memory or of streams need no memory.
 fn line_of(alloc: Global, fault: &Fault) -> Result<CowStr<'static>, AllocError>
     ensures { IfOk result (λ line. cow_str_bytes line ≡ fault_line fault.now) }
 {
     Ok(match fault {
-        Fault::Query(refusal) => {
-            let kind = refusal.kind.name();
-            let place = refusal.place;
-            CowStr::Owned(format!(in alloc; "query refused: {kind} at {place}\n")?)
-        }
-        Fault::Document(fault) => {
-            let name = document_fault_name(fault);
-            CowStr::Owned(format!(in alloc; "document refused: {name}\n")?)
-        }
+        Fault::Query(_) | Fault::Document(_) => CowStr::Owned(format!(in alloc; "{fault}\n")?),
         Fault::DocumentTooLarge => CowStr::Borrowed("document refused: DocumentTooLarge\n"),
         Fault::NoMemory => CowStr::Borrowed("want of memory\n"),
         Fault::Read => CowStr::Borrowed("read fault\n"),
         Fault::Write => CowStr::Borrowed("write fault\n"),
     })
-}
-
-/// The name of a document's fault.
-fn document_fault_name(fault: &DocumentFault) -> &'static str
-    ensures { result.now ≡ document_fault_name fault.now }
-{
-    match fault {
-        DocumentFault::NotJson => "NotJson",
-        DocumentFault::NotWhole(_) => "NotWhole",
-        DocumentFault::ListTooLong => "ListTooLong",
-        DocumentFault::NoMemory => "NoMemory",
-    }
 }
 
 /// Writes the text of clap's error, and answers its status.

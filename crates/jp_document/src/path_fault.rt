@@ -2,9 +2,11 @@
 ghost use Rattle.std.specs.Prelude.{◌≡◌};
 
 use jp_reading::Stop;
+use std::fmt;
+use thiserror::Error;
 
 /// Why a text gives no location, numbered from 1 in this order.
-#[derive(Debug, PartialEq, Drop)]
+#[derive(Debug, PartialEq, Drop, Error)]
 pub enum PathFault {
     /// It is the normalized path of no list of steps.
     NotNormalized,
@@ -24,6 +26,22 @@ impl From<Stop> for PathFault {
             Stop::Memory => PathFault::NoMemory,
             Stop::Syntax(_) | Stop::TooDeep(_) => PathFault::NotNormalized,
         }
+    }
+}
+
+/// The fault's name, as it stands in the enum.
+impl fmt::Display for PathFault {
+    ghost use Rattle.std.specs.Prelude.{Some};
+    ghost use Rattle.jp_document.specs.Faults.{path_fault_name};
+
+    ghost output = { λ fault. Some (path_fault_name fault) };
+
+    fn fmt<W: fmt::Write>(&self, f: &mut fmt::Formatter<W>) -> fmt::Result {
+        f.write_str(match self {
+            PathFault::NotNormalized => "NotNormalized",
+            PathFault::IndexRange => "IndexRange",
+            PathFault::NoMemory => "NoMemory",
+        })
     }
 }
 

@@ -1,5 +1,7 @@
--- The kinds of refusal: their numbers and their names.
-use Rattle.std.specs.Prelude.{ℕ, List, codes}
+-- The kinds of refusal: their numbers and their names; and the text of a refusal.
+use Rattle.std.specs.Prelude.{ℕ, List, ◌++◌, codes}
+use Rattle.std.specs.Fmt.{decimal}
+use Rattle.jp_query.specs.declared.refusal.Refusal.{Refusal}
 use Rattle.jp_query.specs.declared.refusal.RefusalKind.{RefusalKind}
 use Rattle.jp_query.specs.declared.refusal.RefusalKind.TheVariants.{Syntax, TooDeep, NotWhole}
 use Rattle.jp_query.specs.declared.refusal.RefusalKind.TheVariants.{NumberRange, IndexRange}
@@ -34,3 +36,7 @@ name_of NotSingular = codes "NotSingular"
 name_of IllTyped = codes "IllTyped"
 name_of NoMemory = codes "NoMemory"
 name_of TextTooLong = codes "TextTooLong"
+
+-- what a refusal says of itself: its kind, and the byte of the query where it is
+abbrev pub refusal_text : Refusal → List ℕ
+refusal_text r = name_of r.kind ++ (codes " at " ++ decimal r.place)

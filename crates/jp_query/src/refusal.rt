@@ -4,9 +4,11 @@ ghost use Rattle.std.specs.Prelude.{◌≡◌};
 ghost use Rattle.jp_query.specs.Refusal.{number_of, name_of};
 
 use jp_reading::Stop;
+use std::fmt;
+use thiserror::Error;
 
 /// Why a query is refused, and where.
-#[derive(Debug, Clone, Copy, PartialEq, Eq)]
+#[derive(Debug, Clone, Copy, PartialEq, Eq, Error)]
 pub struct Refusal {
     pub kind: RefusalKind,
     /// The byte offset in the query's text, from 0; the text's end has the text's length.
@@ -14,7 +16,7 @@ pub struct Refusal {
 }
 
 /// The kinds of refusal, numbered from 1 in this order.
-#[derive(Debug, Clone, Copy, PartialEq, Eq)]
+#[derive(Debug, Clone, Copy, PartialEq, Eq, Error)]
 pub enum RefusalKind {
     /// The text is no query: at the end of its longest viable prefix, or at its end.
     Syntax,
@@ -62,6 +64,30 @@ impl From<Stop> for Refusal {
                 place,
             },
         }
+    }
+}
+
+/// The kind's name and the place, as `Syntax at 5`.
+impl fmt::Display for Refusal {
+    ghost use Rattle.std.specs.Prelude.{Some};
+    ghost use Rattle.jp_query.specs.Refusal.{refusal_text};
+
+    ghost output = { λ refusal. Some (refusal_text refusal) };
+
+    fn fmt<W: fmt::Write>(&self, f: &mut fmt::Formatter<W>) -> fmt::Result {
+        let (kind, place) = (self.kind, self.place);
+        write!(f, "{kind} at {place}")
+    }
+}
+
+/// The kind's name.
+impl fmt::Display for RefusalKind {
+    ghost use Rattle.std.specs.Prelude.{Some};
+
+    ghost output = { λ kind. Some (name_of kind) };
+
+    fn fmt<W: fmt::Write>(&self, f: &mut fmt::Formatter<W>) -> fmt::Result {
+        f.write_str(self.name())
     }
 }
 

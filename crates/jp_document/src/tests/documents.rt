@@ -178,6 +178,18 @@ fn fault_numbers(rt: HostRuntime) {
     }
 }
 
+#[test]
+fn a_fault_tells_its_name_and_the_path(rt: HostRuntime) -> Result<(), Fail> {
+    for (bytes, text) in [
+        (b"[1,]".as_slice(), "NotJson"),
+        (br#"{"a":[0,2.5]}"#, "NotWhole at $['a'][1]"),
+    ] {
+        let fault = fault(rt.alloc(), bytes).ok_or("a document")?;
+        assert_eq!(rt; format!(in rt.alloc(); "{fault}")?.as_str(), text);
+    }
+    Ok(())
+}
+
 /// A list in a list, so many in all.
 fn lists(alloc: Global, count: usize) -> Result<String, AllocError> {
     let (opened, closed) = ("[".repeat(alloc, count)?, "]".repeat(alloc, count)?);

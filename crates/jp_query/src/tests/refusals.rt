@@ -41,3 +41,13 @@ fn kinds_have_numbers_and_names(rt: HostRuntime) {
     assert_eq!(rt; RefusalKind::TextTooLong.number(), 11);
     assert_eq!(rt; RefusalKind::IndexRange.name(), "IndexRange");
 }
+
+#[test]
+fn a_refusal_tells_its_kind_and_place(rt: HostRuntime) -> Result<(), Fail> {
+    let refusal = parse(rt.alloc(), "$.a[01]").err().ok_or("a query")?;
+    assert_eq!(rt;
+        format!(in rt.alloc(); "{refusal}")?.as_str(),
+        "Syntax at 5"
+    );
+    Ok(())
+}
