@@ -1,5 +1,5 @@
 -- What a call leaves for C: the numbers of its outcome, and the text where there is room for it.
-use Rattle.std.specs.Prelude.{◌≡◌, ℕ, nat_le, if◌then◌else◌, List, [], ◌++◌, length, drop, codes}
+use Rattle.std.specs.Prelude.{◌≡◌, ℕ, nat_le, if◌then◌else◌, List, [], ◌++◌, length, drop}
 use Rattle.std.specs.Prelude.{string_bytes}
 use Rattle.jp_document.specs.Faults.{document_fault_number}
 use Rattle.jp_document.specs.declared.fault.DocumentFault.TheVariants.{NotWhole}
