@@ -35,4 +35,4 @@ pub use eval::run_eval;
 pub use fault::Fault;
 pub use limits::{DOCUMENT_LIMIT, QUERY_LIMIT};
 pub use line::run_line;
-pub use lines::Form;
+pub use lines::{Form, selected_lines};

@@ -1,6 +1,6 @@
 //! Writing a line for each node.
 
-ghost use Rattle.std.specs.Prelude.{◌≡◌, ◌++◌, IfErr, OnOk, false, map, string_bytes};
+ghost use Rattle.std.specs.Prelude.{◌≡◌, ◌++◌, IfErr, IfOk, OnOk, false, map, string_bytes};
 ghost use Rattle.jp_command.specs.Lines.{line_of, lines_of, output_of};
 ghost use Rattle.jp_command.specs.Output.{StopsWriting, WritesAll};
 ghost use Rattle.jp_command.specs.Private.ByTurns.{WritesByTurns};
@@ -56,6 +56,41 @@ fn push_line<'d, V: Printed>(
         }
     }
     line.push('\n')
+}
+
+/// The lines of all nodes that the query selects in the document whose value is the root, in the
+/// nodelist's order (RFC 9535 section 2.1.2). The only error is that memory ran out.
+pub fn selected_lines<'d: 'q, 'q, V: Printed + 'd>(
+    alloc: Global,
+    form: Form,
+    root: V,
+    query: &'q Checked,
+) -> Result<String, AllocError>
+    ensures { IfOk result (λ lines. string_bytes lines
+        ≡ output_of form (query_of query.now.query) (V.meaning root)) }
+{
+    let mut nodes = lent_nodes(alloc, root, query, &Marks);
+    lines_of_rest(alloc, form, &mut nodes)
+}
+
+/// The lines of the nodes that are still to come.
+fn lines_of_rest<'d: 'q, 'q, V: Printed + 'd>(
+    alloc: Global,
+    form: Form,
+    nodes: &mut LentNodes<'d, 'q, V, Marks>,
+) -> Result<String, AllocError>
+    requires { has_failed nodes.now ≡ false }
+    ensures { IfOk result (λ lines. string_bytes lines
+        ≡ lines_of form (rest_of V.meaning nodes.old)) }
+{
+    let mut location = Vec::new(alloc);
+    let mut front = Front::new(alloc);
+    let mut lines = String::new(alloc);
+    while let Some(next) = nodes.next_at(&mut location) {
+        let selected = next?;
+        push_line(form, &mut front, &location, selected, &mut lines)?;
+    }
+    Ok(lines)
 }
 
 /// Writes a line for each node that the query selects in the document whose value is the root.

@@ -1,0 +1,121 @@
+/* Measures the CPU time of a call over a document of about 1 KB, against libjq where it is:
+ * `library [libjq.so.1]`, as bench/library runs it. A row: the query, microseconds a call of jp_eval (the query not read before), and
+ * of libjq, its program compiled before, with parsing the document and printing what comes. */
+#define _POSIX_C_SOURCE 200809L
+#include "jp.h"
+
+#include <dlfcn.h>
+#include <stdio.h>
+#include <string.h>
+#include <time.h>
+
+/* Of jq.h and jv.h, as of libjq 1.5 to 1.7: a value of 16 bytes, passed by value. */
+typedef struct {
+    unsigned char kind, pad;
+    unsigned short offset;
+    int size;
+    union {
+        void *at;
+        double number;
+    } u;
+} jv;
+
+static const char *const queries[][2] = {
+    {"$.store.book[0].title", ".store.book[0].title"},
+    {"$..price", ".. | objects | select(has(\"price\")) | .price"},
+    {"$.store.book[?@.price<10].title", ".store.book[] | select(.price < 10) | .title"},
+};
+
+static double seconds(void) {
+    struct timespec now;
+    clock_gettime(CLOCK_PROCESS_CPUTIME_ID, &now);
+    return (double)now.tv_sec + 1e-9 * (double)now.tv_nsec;
+}
+
+static char document[4096];
+
+static void make_document(void) {
+    size_t at = (size_t)sprintf(document, "{\"store\":{\"book\":[");
+    for (int book = 0; book < 9; book += 1) {
+        at += (size_t)sprintf(document + at,
+                              "%s{\"category\":\"fiction\",\"author\":\"Author %d\",\"title\":\"Title %d\",\"price\":%d,"
+                              "\"isbn\":\"0-553-2131%d\"}",
+                              book == 0 ? "" : ",", book, book, 4 * book, book);
+    }
+    sprintf(document + at, "],\"bicycle\":{\"color\":\"red\",\"price\":399}}}");
+}
+
+static double measure_jp(const char *query) {
+    uint8_t out[4096];
+    struct jp_report report;
+    double best = 1e9;
+    for (int round = 0; round < 5; round += 1) {
+        double start = seconds();
+        for (int call = 0; call < 2000; call += 1) {
+            jp_eval((const uint8_t *)query, strlen(query), (const uint8_t *)document, strlen(document), JP_VALUES,
+                    JP_STANDARD, out, sizeof out, &report);
+        }
+        double took = (seconds() - start) / 2000;
+        best = took < best ? took : best;
+    }
+    return report.status == JP_DONE && report.length > 0 ? best : -1;
+}
+
+struct jq_calls {
+    void *(*init)(void);
+    int (*compile)(void *, const char *);
+    void (*start)(void *, jv, int);
+    jv (*next)(void *);
+    jv (*parse)(const char *);
+    jv (*dump)(jv, int);
+    void (*release)(jv);
+};
+
+static double measure_jq(const struct jq_calls *calls, const char *program) {
+    void *jq = calls->init();
+    double best = 1e9;
+    if (jq == NULL || !calls->compile(jq, program)) {
+        return -1;
+    }
+    for (int round = 0; round < 5; round += 1) {
+        double start = seconds();
+        for (int call = 0; call < 2000; call += 1) {
+            calls->start(jq, calls->parse(document), 0);
+            for (;;) {
+                jv value = calls->next(jq);
+                if ((value.kind & 15) == 0) {
+                    calls->release(value);
+                    break;
+                }
+                calls->release(calls->dump(value, 0));
+            }
+        }
+        double took = (seconds() - start) / 2000;
+        best = took < best ? took : best;
+    }
+    return best;
+}
+
+int main(int count, char **words) {
+    struct jq_calls calls = {0};
+    void *library = count > 1 ? dlopen(words[1], RTLD_NOW) : NULL;
+    if (library != NULL) {
+        *(void **)&calls.init = dlsym(library, "jq_init");
+        *(void **)&calls.compile = dlsym(library, "jq_compile");
+        *(void **)&calls.start = dlsym(library, "jq_start");
+        *(void **)&calls.next = dlsym(library, "jq_next");
+        *(void **)&calls.parse = dlsym(library, "jv_parse");
+        *(void **)&calls.dump = dlsym(library, "jv_dump_string");
+        *(void **)&calls.release = dlsym(library, "jv_free");
+    }
+    make_document();
+    printf("%zu bytes\n", strlen(document));
+    for (size_t row = 0; row < sizeof queries / sizeof queries[0]; row += 1) {
+        printf("%s\t%.1f", queries[row][0], 1e6 * measure_jp(queries[row][0]));
+        if (library != NULL) {
+            printf("\t%.1f", 1e6 * measure_jq(&calls, queries[row][1]));
+        }
+        printf("\n");
+    }
+    return 0;
+}

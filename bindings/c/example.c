@@ -1,0 +1,123 @@
+/* A query over a document, as the program jp does it:
+ *
+ *     example FORM QUERY [--extended] < document
+ *
+ * FORM is eval, paths, both, canon or check. What is written, on both outputs, and the status are the
+ * ones of `jp FORM QUERY`, but for its limits of lengths, its help, and the path that a number that
+ * is not whole has.
+ */
+#include "jp.h"
+
+#include <stdio.h>
+#include <stdlib.h>
+#include <string.h>
+
+struct text {
+    uint8_t *at;
+    size_t length;
+};
+
+static const char *const query_kinds[] = {
+    "",           "Syntax",          "TooDeep",       "NotWhole",    "NumberRange",
+    "IndexRange", "UnknownFunction", "ArgumentCount", "NotSingular", "IllTyped",
+};
+static const char *const document_kinds[] = {"", "NotJson", "NotWhole", "ListTooLong"};
+
+/* All of a stream. No memory or a failing read ends the program. */
+static struct text read_all(FILE *stream) {
+    size_t room = 1 << 16;
+    struct text text = {malloc(room), 0};
+    while (text.at != NULL) {
+        text.length += fread(text.at + text.length, 1, room - text.length, stream);
+        if (text.length < room) {
+            break;
+        }
+        room *= 2;
+        text.at = realloc(text.at, room);
+    }
+    if (text.at == NULL || ferror(stream)) {
+        fputs(text.at == NULL ? "want of memory\n" : "read fault\n", stderr);
+        exit(text.at == NULL ? 4 : 5);
+    }
+    return text;
+}
+
+/* Says why there is no text, in the words of the program. */
+static void say(const struct jp_report *report) {
+    switch (report->status) {
+    case JP_QUERY_REFUSED:
+        fprintf(stderr, "query refused: %s at %zu\n", query_kinds[report->kind], report->place);
+        break;
+    case JP_DOCUMENT_REFUSED:
+        fprintf(stderr, "document refused: %s\n", document_kinds[report->kind]);
+        break;
+    case JP_NO_MEMORY:
+        fputs("want of memory\n", stderr);
+        break;
+    default:
+        break;
+    }
+}
+
+struct call {
+    const char *form;
+    const char *query;
+    uint32_t profile;
+    struct text document;
+};
+
+static uint32_t make(const struct call *call, uint8_t *out, size_t room, struct jp_report *report) {
+    const uint8_t *query = (const uint8_t *)call->query;
+    size_t length = strlen(call->query);
+    if (strcmp(call->form, "canon") == 0) {
+        return jp_canon(query, length, call->profile, out, room, report);
+    }
+    if (strcmp(call->form, "check") == 0) {
+        return jp_check(query, length, call->profile, report);
+    }
+    uint32_t form = strcmp(call->form, "eval") == 0    ? JP_VALUES
+                    : strcmp(call->form, "paths") == 0 ? JP_PATHS
+                                                       : JP_BOTH;
+    return jp_eval(query, length, call->document.at, call->document.length, form, call->profile, out,
+                   room, report);
+}
+
+int main(int count, char **words) {
+    if (count < 3 || count > 4 || (count == 4 && strcmp(words[3], "--extended") != 0)) {
+        fputs("usage: example FORM QUERY [--extended] < document\n", stderr);
+        return 2;
+    }
+    struct call call = {words[1], words[2], count == 4 ? JP_EXTENDED : JP_STANDARD, {NULL, 0}};
+    uint8_t small[256];
+    struct jp_report report;
+    call.document.at = small;
+    /* The query first, as the program does: where it is refused nothing is read. */
+    uint32_t status = jp_check((const uint8_t *)call.query, strlen(call.query), call.profile, &report);
+    int reads = strcmp(call.form, "canon") != 0 && strcmp(call.form, "check") != 0;
+    if (status == JP_DONE && reads) {
+        call.document = read_all(stdin);
+    }
+    uint8_t *out = small;
+    status = make(&call, small, sizeof small, &report);
+    if (report.length > sizeof small) {
+        out = malloc(report.length);
+        if (out == NULL) {
+            fputs("want of memory\n", stderr);
+            return 4;
+        }
+        status = make(&call, out, report.length, &report);
+    }
+    say(&report);
+    if (status == JP_DONE) {
+        fwrite(out, 1, report.length, stdout);
+        fputs(strcmp(call.form, "canon") == 0 ? "\n" : strcmp(call.form, "check") == 0 ? "accepted\n" : "",
+              stdout);
+    }
+    if (out != small) {
+        free(out);
+    }
+    if (call.document.at != small) {
+        free(call.document.at);
+    }
+    return (int)status;
+}

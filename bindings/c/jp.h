@@ -1,0 +1,106 @@
+/* jp: JSONPath queries (RFC 9535) over JSON documents, for C and C++.
+ *
+ * Each call takes bytes and numbers and gives a status. It writes the text that is asked for to the
+ * start of the buffer `out` if there is room for the whole of it, and else leaves the buffer as it
+ * was; `report->length` is the text's length in either case. So a caller that got too little calls
+ * again with a buffer of that length. No text ends with a zero byte.
+ *
+ * What the caller owes, which nothing checks:
+ * - No pointer is null, not even where the length beside it is 0: give the address of some byte.
+ * - Each pointer is to as many bytes as the length beside it says, below 2^63. The query and the
+ *   document may be read, and the buffer and the report written, by no one else meanwhile. The
+ *   buffer and the report overlap nothing, and each is aligned as its type is.
+ * - `malloc`, `realloc` and `free` of the program are of one allocator and align to 16 bytes.
+ * - No call from a signal handler, nor from the forked child of a process that has threads.
+ * - 1 MiB of stack.
+ *
+ * Calls share nothing: they may be made at once from any threads. What was allocated for a call is
+ * freed when it returns.
+ *
+ * A query has to be UTF-8, as has a document. Numbers in documents are whole, of 64 bits.
+ */
+#ifndef JP_H
+#define JP_H
+
+#include <stddef.h>
+#include <stdint.h>
+
+#ifdef __cplusplus
+extern "C" {
+#endif
+
+/* 65536 times the major number, 256 times the minor one, and the patch. */
+#define JP_VERSION 0x000100
+
+/* Statuses, as the program jp ends with them. */
+enum {
+    JP_DONE = 0,
+    JP_QUERY_REFUSED = 1,
+    JP_USAGE = 2, /* no form or no profile has that number */
+    JP_DOCUMENT_REFUSED = 3,
+    JP_NO_MEMORY = 4
+};
+
+/* What is written of each node, with a newline after it. */
+enum {
+    JP_VALUES = 0, /* the compact text of the value, which has no newline */
+    JP_PATHS = 1,  /* the normalized path (RFC 9535, section 2.7), which has no newline and no tab */
+    JP_BOTH = 2    /* the normalized path, a tab, and the compact text of the value */
+};
+
+/* Which functions a query may call. */
+enum {
+    JP_STANDARD = 0, /* those of RFC 9535 */
+    JP_EXTENDED = 1  /* also `distinct` */
+};
+
+/* Kinds of a query's refusal, in `report->kind` where the status is JP_QUERY_REFUSED. */
+enum {
+    JP_SYNTAX = 1,           /* no query begins with the text up to the place and the character there */
+    JP_TOO_DEEP = 2,         /* more than 128 levels inside one another */
+    JP_NOT_WHOLE = 3,        /* a literal with a fraction or an exponent */
+    JP_NUMBER_RANGE = 4,     /* a literal outside -(2^63) to (2^64)-1 */
+    JP_INDEX_RANGE = 5,      /* an index or a part of a slice outside -(2^53)+1 to (2^53)-1 */
+    JP_UNKNOWN_FUNCTION = 6, /* no function of the profile has that name */
+    JP_ARGUMENT_COUNT = 7,   /* a call with too many arguments or too few */
+    JP_NOT_SINGULAR = 8,     /* a query that stands for one value and is not singular */
+    JP_ILL_TYPED = 9         /* a call or an argument that does not fit what is wanted */
+};
+
+/* What is wrong with a document, in `report->kind` where the status is JP_DOCUMENT_REFUSED. */
+enum {
+    JP_NOT_JSON = 1,        /* no JSON, no UTF-8, or deeper than 127 levels */
+    JP_NUMBER_NOT_WHOLE = 2, /* the text is the normalized path of the first number that is not */
+    JP_LIST_TOO_LONG = 3    /* more than (2^53)-1 items */
+};
+
+struct jp_report {
+    uint32_t status; /* also what the call gives */
+    uint32_t kind;   /* of the refusal, else 0 */
+    size_t place;    /* the byte of the query at which it is refused, from 0, else 0 */
+    size_t length;   /* how many bytes the text has, else 0 */
+};
+
+/* The version of the library. */
+uint32_t jp_version(void);
+
+/* A line for each node that the query selects in the document, in the nodelist's order; no text
+ * where it selects none. The query is read first. */
+uint32_t jp_eval(const uint8_t *query, size_t query_length,
+                 const uint8_t *document, size_t document_length,
+                 uint32_t form, uint32_t profile,
+                 uint8_t *out, size_t out_length, struct jp_report *report);
+
+/* The canonical text of a query, in which each query has one spelling; no newline after it. */
+uint32_t jp_canon(const uint8_t *query, size_t query_length, uint32_t profile,
+                  uint8_t *out, size_t out_length, struct jp_report *report);
+
+/* JP_DONE where the query is accepted. There is no text. */
+uint32_t jp_check(const uint8_t *query, size_t query_length, uint32_t profile,
+                  struct jp_report *report);
+
+#ifdef __cplusplus
+}
+#endif
+
+#endif

@@ -1,0 +1,96 @@
+/* Tests what jp.h promises of buffers and bytes: rooms of 0, of one too little, of the length and of
+ * more; a query and a document that are no UTF-8; no text at all. Prints nothing where all is so. */
+#include "jp.h"
+
+#include <stdio.h>
+#include <stdlib.h>
+#include <string.h>
+
+static int failures = 0;
+
+static void expect(int holds, const char *what, size_t room) {
+    if (!holds) {
+        failures += 1;
+        fprintf(stderr, "%s does not hold at a room of %zu\n", what, room);
+    }
+}
+
+struct row {
+    const char *query;
+    size_t query_length;
+    const char *document;
+    size_t document_length;
+    uint32_t form;
+    struct jp_report expected;
+    const char *text;
+};
+
+#define ROW(query, document, form, status, kind, place, text)                                       \
+    {query, sizeof query - 1, document, sizeof document - 1, form,                                 \
+     {status, kind, place, sizeof text - 1}, text}
+
+static const struct row rows[] = {
+    ROW("$.a[*]", "{\"a\":[1,[2,{}]]}", JP_BOTH, 0, 0, 0, "$['a'][0]\t1\n$['a'][1]\t[2,{}]\n"),
+    ROW("$.a[*]", "{\"a\":[1,[2,{}]]}", JP_PATHS, 0, 0, 0, "$['a'][0]\n$['a'][1]\n"),
+    ROW("$.a[*]", "{\"a\":[1,[2,{}]]}", JP_VALUES, 0, 0, 0, "1\n[2,{}]\n"),
+    ROW("$.b", "{\"a\":[1,2]}", JP_VALUES, 0, 0, 0, ""),
+    ROW("$.a[01]", "[1,]", JP_VALUES, 1, JP_SYNTAX, 5, ""),
+    ROW("", "", JP_VALUES, 1, JP_SYNTAX, 0, ""),
+    ROW("$.\xff", "[]", JP_VALUES, 1, JP_SYNTAX, 2, ""),
+    ROW("$['\0']", "[]", JP_VALUES, 1, JP_SYNTAX, 3, ""),
+    ROW("$", "", JP_VALUES, 3, JP_NOT_JSON, 0, ""),
+    ROW("$", "\"\xff\"", JP_VALUES, 3, JP_NOT_JSON, 0, ""),
+    ROW("$", "{\"a\":[0,2.5]}", JP_VALUES, 3, JP_NUMBER_NOT_WHOLE, 0, "$['a'][1]"),
+    ROW("$", "[]", 3, 2, 0, 0, ""),
+};
+
+/* A call with so much room gives the row's report, and fills the buffer whole or leaves it alone. */
+static void try_room(const struct row *row, size_t room) {
+    uint8_t *out = malloc(room + 1);
+    struct jp_report report = {9, 9, 9, 9};
+    memset(out, '#', room + 1);
+    uint32_t status = jp_eval((const uint8_t *)row->query, row->query_length,
+                              (const uint8_t *)row->document, row->document_length, row->form,
+                              JP_STANDARD, out, room, &report);
+    expect(status == row->expected.status, "the status", room);
+    expect(memcmp(&report, &row->expected, sizeof report) == 0, "the report", room);
+    size_t written = room >= row->expected.length ? row->expected.length : 0;
+    expect(memcmp(out, row->text, written) == 0, "the text", room);
+    for (size_t at = written; at <= room; at += 1) {
+        expect(out[at] == '#', "what stands behind the text", room);
+    }
+    free(out);
+}
+
+/* Canonical texts in the same rooms, and that a query is accepted. */
+static void try_queries(void) {
+    static const char query[] = "$ .a [ ?distinct(@.b) ]";
+    static const char text[] = "$['a'][?distinct(@['b'])]";
+    const size_t length = sizeof text - 1;
+    struct jp_report report;
+    for (size_t room = length - 1; room <= length; room += 1) {
+        uint8_t out[sizeof text] = {0};
+        expect(jp_canon((const uint8_t *)query, sizeof query - 1, JP_EXTENDED, out, room, &report) == 0,
+               "the status", room);
+        expect(report.length == length, "the length", room);
+        expect(memcmp(out, room < length ? "" : text, room < length ? 1 : length) == 0, "the text", room);
+    }
+    expect(jp_check((const uint8_t *)query, sizeof query - 1, JP_EXTENDED, &report) == JP_DONE, "accepted", 0);
+    expect(jp_check((const uint8_t *)query, sizeof query - 1, JP_STANDARD, &report) == JP_QUERY_REFUSED
+               && report.kind == JP_UNKNOWN_FUNCTION && report.place == 8,
+           "refused", 0);
+    expect(jp_check((const uint8_t *)query, sizeof query - 1, 2, &report) == JP_USAGE, "no profile", 0);
+}
+
+int main(void) {
+    for (size_t at = 0; at < sizeof rows / sizeof rows[0]; at += 1) {
+        size_t length = rows[at].expected.length;
+        const size_t rooms[] = {0, length == 0 ? 0 : length - 1, length, length + 5};
+        for (size_t room = 0; room < 4; room += 1) {
+            try_room(&rows[at], rooms[room]);
+        }
+    }
+    try_queries();
+    expect(jp_version() == JP_VERSION, "the version", 0);
+    return failures == 0 ? 0 : 1;
+}

@@ -1,0 +1,126 @@
+"""Queries over documents, as Python has them."""
+import json
+from typing import Any, List, Union
+
+from . import _engine
+
+# A `str` or `bytes` is JSON text, and anything else is written as JSON.
+Document = Union[str, bytes, bytearray, memoryview, dict, list, tuple, int, bool, None]
+
+
+class Match:
+    """A node that a query selects.
+
+    path: its normalized path (RFC 9535, section 2.7). text: its value as compact JSON. value: its
+    value as a Python object, made anew each time; whole numbers are exact.
+    """
+
+    __slots__ = ("path", "text")
+
+    def __init__(self, path: str, text: str) -> None:
+        self.path = path
+        self.text = text
+
+    @property
+    def value(self) -> Any:
+        return json.loads(self.text)
+
+    @property
+    def full_path(self) -> str:
+        """The path, by the name that jsonpath-ng has for it."""
+        return self.path
+
+    def __repr__(self) -> str:
+        return f"Match({self.path!r}, {self.text!r})"
+
+    def __eq__(self, other: object) -> bool:
+        if not isinstance(other, Match):
+            return NotImplemented
+        return (self.path, self.text) == (other.path, other.text)
+
+    def __hash__(self) -> int:
+        return hash((self.path, self.text))
+
+
+class Query:
+    """A query that is accepted. It can be kept, and asked of any number of documents."""
+
+    __slots__ = ("text", "extended")
+
+    def __init__(self, text: str, extended: bool = False) -> None:
+        check(text, extended)
+        self.text = text
+        self.extended = extended
+
+    def find(self, document: Document) -> List[Match]:
+        return find(self.text, document, self.extended)
+
+    def paths(self, document: Document) -> List[str]:
+        return paths(self.text, document, self.extended)
+
+    def values(self, document: Document) -> List[Any]:
+        return values(self.text, document, self.extended)
+
+    def __str__(self) -> str:
+        return self.text
+
+    def __repr__(self) -> str:
+        return f"Query({self.text!r}, extended={self.extended})"
+
+
+def parse(query: str, extended: bool = False) -> Query:
+    """The query, to be asked of documents. Raises `QueryError` where it is not accepted."""
+    return Query(query, extended)
+
+
+def find(query: str, document: Document, extended: bool = False) -> List[Match]:
+    """The nodes that the query selects, in the order of RFC 9535; one that is selected twice stands
+    there twice. Raises `QueryError` or `DocumentError`, the query's first."""
+    return _matches(_lines(query, document, _engine.BOTH, extended))
+
+
+def paths(query: str, document: Document, extended: bool = False) -> List[str]:
+    """The normalized paths of the nodes that `find` gives."""
+    return _lines(query, document, _engine.PATHS, extended)
+
+
+def values(query: str, document: Document, extended: bool = False) -> List[Any]:
+    """The values of the nodes that `find` gives, as Python objects."""
+    lines = _lines(query, document, _engine.VALUES, extended)
+    return json.loads(f"[{','.join(lines)}]")
+
+
+def canonical(query: str, extended: bool = False) -> str:
+    """The canonical text of the query: equal for equal queries, however they are spelled. Raises
+    `QueryError`."""
+    return _engine.canonical(query, _profile(extended))
+
+
+def check(query: str, extended: bool = False) -> None:
+    """Raises `QueryError` where the query is not accepted."""
+    _engine.check(query, _profile(extended))
+
+
+def _matches(lines: List[str]) -> List[Match]:
+    return [Match(*line.split("\t", 1)) for line in lines]
+
+
+def _profile(extended: bool) -> int:
+    return _engine.EXTENDED if extended else _engine.STANDARD
+
+
+def _lines(query: str, document: Document, form: int, extended: bool) -> List[str]:
+    text = _engine.evaluate(query, _json_bytes(document), form, _profile(extended))
+    # Each line ends with a newline, which no path and no value has inside.
+    return text.split("\n")[:-1]
+
+
+def _json_bytes(document: Document) -> bytes:
+    if isinstance(document, bytes):
+        return document
+    if isinstance(document, (bytearray, memoryview)):
+        return bytes(document)
+    if not isinstance(document, str):
+        document = json.dumps(document, ensure_ascii=False, separators=(",", ":"))
+    # Half of a surrogate pair becomes bytes that are no UTF-8, and so the document is refused.
+    return document.encode("utf-8", "surrogatepass")

@@ -1,0 +1,165 @@
+"""What Python users see. Expected values are those of RFC 9535, or by hand."""
+import doctest
+import json
+import threading
+import unittest
+
+import jsonpath_jp as jp
+
+STORE = {
+    "store": {
+        "book": [
+            {"category": "reference", "author": "Nigel Rees", "title": "Sayings", "price": 8},
+            {"category": "fiction", "author": "Evelyn Waugh", "title": "Sword", "price": 12},
+        ],
+        "bicycle": {"color": "red", "price": 399},
+    }
+}
+
+
+class Find(unittest.TestCase):
+    def test_paths_and_values(self):
+        found = jp.find("$.store.book[?@.price<10].title", STORE)
+        self.assertEqual([match.path for match in found], ["$['store']['book'][0]['title']"])
+        self.assertEqual([match.value for match in found], ["Sayings"])
+        self.assertEqual(found[0].full_path, found[0].path)
+        self.assertEqual(found[0].text, '"Sayings"')
+
+    def test_order_and_repeats(self):
+        self.assertEqual(jp.values("$[::-1]", "[1,2,3]"), [3, 2, 1])
+        self.assertEqual(jp.paths("$[0,0]", "[1,2,3]"), ["$[0]", "$[0]"])
+
+    def test_nothing_selected(self):
+        self.assertEqual(jp.find("$.nothing", STORE), [])
+
+    def test_whole_numbers_are_exact(self):
+        text = '{"a":[18446744073709551615,-9223372036854775808,9007199254740993]}'
+        expected = [18446744073709551615, -9223372036854775808, 9007199254740993]
+        self.assertEqual(jp.values("$.a[*]", text), expected)
+
+    def test_documents_as_text_bytes_and_objects(self):
+        for document in ['{"é":[1]}', '{"é":[1]}'.encode(), bytearray('{"é":[1]}'.encode()), {"é": [1]}]:
+            self.assertEqual(jp.paths("$.é[0]", document), ["$['é'][0]"])
+        self.assertEqual(jp.values("$", None), [None])
+        self.assertEqual(jp.values("$", True), [True])
+
+    def test_texts_with_tabs_newlines_and_zero_bytes(self):
+        names = {"a\tb\n\x00": "c\td\n\x00"}
+        (match,) = jp.find("$.*", names)
+        self.assertEqual(match.value, "c\td\n\x00")
+        self.assertEqual(jp.values(match.path, names), [match.value])
+
+    def test_a_text_longer_than_the_first_buffer(self):
+        items = list(range(100_000))
+        self.assertEqual(jp.values("$[*]", items), items)
+        self.assertEqual(jp.values("$[0]", [["x" * 3_000_000]]), [["x" * 3_000_000]])
+
+    def test_functions(self):
+        people = [{"id": 1, "born": "1815"}, {"id": 2, "born": "1791"}]
+        self.assertEqual(jp.values('$[?match(@.born,"18..")].id', people), [1])
+        self.assertEqual(jp.values('$[?search(@.born,"79")].id', people), [2])
+        self.assertEqual(jp.values("$[?length(@.born)==4].id", people), [1, 2])
+
+    def test_extended(self):
+        items = [{"a": 0}, {}]
+        self.assertEqual(jp.paths("$[?distinct(@.*)]", items, extended=True), ["$[0]"])
+        with self.assertRaises(jp.QueryError) as refused:
+            jp.paths("$[?distinct(@.*)]", items)
+        self.assertEqual((refused.exception.kind, refused.exception.place), ("UnknownFunction", 3))
+
+
+class Queries(unittest.TestCase):
+    def test_canonical_text(self):
+        self.assertEqual(jp.canonical("$ .a [ ?(@.b==-0) ]"), "$['a'][?@['b']==0]")
+
+    def test_check(self):
+        self.assertIsNone(jp.check("$..a"))
+        with self.assertRaises(jp.QueryError):
+            jp.check("$..")
+
+    def test_a_query_that_is_kept(self):
+        query = jp.parse("$.a")
+        self.assertEqual(query.values({"a": 1}), [1])
+        self.assertEqual(query.paths({"a": 1}), ["$['a']"])
+        self.assertEqual(query.find({"b": 1}), [])
+        with self.assertRaises(jp.QueryError):
+            jp.parse("a")
+
+
+class Refusals(unittest.TestCase):
+    def test_a_query_with_its_caret(self):
+        with self.assertRaises(jp.QueryError) as refused:
+            jp.find("$.a[01]", "[]")
+        fault = refused.exception
+        self.assertEqual((fault.kind, fault.place, fault.column), ("Syntax", 5, 5))
+        self.assertEqual(str(fault), "query refused: Syntax at 5\n$.a[01]\n     ^")
+        self.assertIsInstance(fault, ValueError)
+
+    def test_the_caret_is_under_a_character(self):
+        with self.assertRaises(jp.QueryError) as refused:
+            jp.check("$.é[01]")
+        self.assertEqual((refused.exception.place, refused.exception.column), (6, 5))
+        self.assertEqual(str(refused.exception).split("\n")[2], "     ^")
+
+    def test_kinds(self):
+        for query, kind, place in [
+            ("$[9007199254740992]", "IndexRange", 2),
+            ("$[?@.a==1.5]", "NotWhole", 8),
+            ("$[?@.a==99999999999999999999]", "NumberRange", 8),
+            ("$[?length()==1]", "ArgumentCount", 3),
+            ("$[?@.*==1]", "NotSingular", 3),
+            ("$[?value(@..color)]", "IllTyped", 3),
+            ("$[?" + "(" * 200, "TooDeep", 130),
+            ("$.\ud800", "Syntax", 2),
+        ]:
+            with self.subTest(query=query):
+                with self.assertRaises(jp.QueryError) as refused:
+                    jp.check(query)
+                self.assertEqual((refused.exception.kind, refused.exception.place), (kind, place))
+
+    def test_documents(self):
+        for document, kind, path in [
+            ("[1,]", "NotJson", None),
+            (b'"\xff"', "NotJson", None),
+            ('"\ud800"', "NotJson", None),
+            ("[" * 128 + "]" * 128, "NotJson", None),
+            ('{"a":[0,2.5]}', "NotWhole", "$['a'][1]"),
+            ([1e400], "NotJson", None),
+            ([0.5], "NotWhole", "$[0]"),
+        ]:
+            with self.subTest(document=str(document)[:20]):
+                with self.assertRaises(jp.DocumentError) as refused:
+                    jp.find("$", document)
+                self.assertEqual((refused.exception.kind, refused.exception.path), (kind, path))
+        self.assertEqual(str(jp.DocumentError("NotWhole", "$[0]")), "document refused: NotWhole at $[0]")
+
+    def test_the_query_first(self):
+        with self.assertRaises(jp.QueryError):
+            jp.find("$[", "[1,")
+
+
+class Threads(unittest.TestCase):
+    def test_calls_at_once(self):
+        wrong = []
+
+        def ask(number):
+            document = json.dumps({"a": [number] * (number * 700 + 1)})
+            for _ in range(200):
+                if set(jp.values("$.a[*]", document)) != {number}:
+                    wrong.append(number)
+
+        threads = [threading.Thread(target=ask, args=[number]) for number in range(4)]
+        for thread in threads:
+            thread.start()
+        for thread in threads:
+            thread.join()
+        self.assertEqual(wrong, [])
+
+
+def load_tests(loader, tests, pattern):
+    tests.addTests(doctest.DocTestSuite(jp))
+    return tests
+
+
+if __name__ == "__main__":
+    unittest.main()

@@ -1,0 +1,62 @@
+-- Queries and documents as bytes: what is accepted, what is answered, and why nothing is.
+use Rattle.std.specs.Prelude.{◌≡◌, ◌≢◌, ℕ, List}
+use Rattle.std.specs.Str.{chars, IsUtf8}
+use Rattle.std.specs.Str.Lossy.{utf8_valid_len}
+use Rattle.jp_canon.specs.Canon.{canon_of}
+use Rattle.jp_check.specs.Accepted.{IsAcceptedAs}
+use Rattle.jp_check.specs.declared.profile.Profile.{Profile}
+use Rattle.jp_command.specs.Lines.{output_of}
+use Rattle.jp_command.specs.declared.lines.Form.{Form}
+use Rattle.jp_document.specs.Document.{IsDocument, IsDocumentFault}
+use Rattle.jp_document.specs.Value.{Value}
+use Rattle.jp_document.specs.declared.fault.DocumentFault.TheVariants as document
+use Rattle.jp_query.specs.declared.refusal.Refusal.{Refusal}
+use Rattle.jp_query.specs.declared.refusal.RefusalKind.TheVariants.{Syntax}
+use Rattle.jp_tree.specs.Tree.{QueryTree}
+use Rattle.jsonpath.specs.Find.{RefusesQuery}
+use Rattle.jsonpath.specs.declared.fault.FindFault.{FindFault}
+use Rattle.jsonpath.specs.declared.fault.FindFault.TheVariants.{Query, Document, NoMemory}
+
+-- the bytes are a text (RFC 3629), which in the profile is accepted as the tree q
+pub record IsAsked (profile : Profile) (bytes : List ℕ) (q : QueryTree) : Type 0 where
+  pub utf8 : IsUtf8 bytes
+  pub accepted : IsAcceptedAs profile (chars bytes) q
+
+-- the bytes are no text: `Syntax` at the first byte that belongs to none
+pub record IsNoText (bytes : List ℕ) (r : Refusal) : Type 0 where
+  pub none : ¬ IsUtf8 bytes
+  pub is : r ≡ record { kind = Syntax; place = utf8_valid_len bytes }
+
+-- the bytes are no text, or one that in the profile is refused so for what it is
+pub data RefusesBytes (profile : Profile) (bytes : List ℕ) (r : Refusal) : Type 0 where
+  no_text : IsNoText bytes r → RefusesBytes profile bytes r
+  refused : IsUtf8 bytes → RefusesQuery profile (chars bytes) r → RefusesBytes profile bytes r
+
+-- why no query is read; running out of memory says nothing of the bytes
+abbrev pub IsQueryFault : Profile → List ℕ → FindFault → Type 0
+IsQueryFault profile bytes (Query r) = RefusesBytes profile bytes r
+IsQueryFault profile bytes (Document f) = ⊥
+IsQueryFault profile bytes NoMemory = Unit {0}
+
+-- the text is the lines, in that form, of the nodes that the query selects in the document
+pub record IsAnswer (profile : Profile) (form : Form) (query bytes text : List ℕ) : Type 0 where
+  pub q : QueryTree
+  pub d : Value
+  pub asked : IsAsked profile query q
+  pub document : IsDocument bytes d
+  pub lines : text ≡ output_of form q d
+
+-- why there is no answer: the query is refused; or it is accepted and the bytes are no document,
+-- with that fault; running out of memory says nothing of either
+abbrev pub IsNoAnswer : Profile → List ℕ → List ℕ → FindFault → Type 0
+IsNoAnswer profile query bytes (Query r) = RefusesBytes profile query r
+IsNoAnswer profile query bytes (Document f) =
+    ((q : QueryTree) × IsAsked profile query q) × IsDocumentFault bytes f
+    × (f ≢ document.NoMemory)
+IsNoAnswer profile query bytes NoMemory = Unit {0}
+
+-- the text is the canonical one of the query that the bytes are
+pub record IsCanonOf (profile : Profile) (query text : List ℕ) : Type 0 where
+  pub q : QueryTree
+  pub asked : IsAsked profile query q
+  pub canonical : chars text ≡ canon_of q

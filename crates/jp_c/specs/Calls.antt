@@ -1,0 +1,36 @@
+-- The outcomes that each call may have.
+use Rattle.std.specs.Prelude.{◌≡◌, ◌⊎◌, ℕ, List, [], Some, None, string_bytes}
+use Rattle.jp_check.specs.declared.profile.Profile.{Profile}
+use Rattle.jp_command.specs.declared.lines.Form.{Form}
+use Rattle.jp_tree.specs.Tree.{QueryTree}
+use Rattle.jp_c.specs.Asked.{IsAnswer, IsAsked, IsCanonOf, IsNoAnswer, IsQueryFault}
+use Rattle.jp_c.specs.Numbers.{form_of, profile_of}
+use Rattle.jp_c.specs.declared.outcome.Outcome as outcome
+use Rattle.jp_c.specs.declared.outcome.Outcome.TheVariants.{Text, Usage, Fault}
+
+-- of `jp_eval`: the lines of the nodelist, or why there are none
+abbrev pub IsEvalOutcome : ℕ → ℕ → List ℕ → List ℕ → outcome.Outcome → Type 0
+IsEvalOutcome form profile query document (Text text) =
+    (f : Form) × (p : Profile) × (form_of form ≡ Some f) × (profile_of profile ≡ Some p)
+    × IsAnswer p f query document (string_bytes text)
+IsEvalOutcome form profile query document Usage =
+    (form_of form ≡ None) ⊎ (profile_of profile ≡ None)
+IsEvalOutcome form profile query document (Fault fault) =
+    (p : Profile) × (profile_of profile ≡ Some p) × IsNoAnswer p query document fault
+
+-- of `jp_canon`: the canonical text, or why there is none
+abbrev pub IsCanonOutcome : ℕ → List ℕ → outcome.Outcome → Type 0
+IsCanonOutcome profile query (Text text) =
+    (p : Profile) × (profile_of profile ≡ Some p) × IsCanonOf p query (string_bytes text)
+IsCanonOutcome profile query Usage = profile_of profile ≡ None
+IsCanonOutcome profile query (Fault fault) =
+    (p : Profile) × (profile_of profile ≡ Some p) × IsQueryFault p query fault
+
+-- of `jp_check`: no text, and the query is accepted; or why it is not
+abbrev pub IsCheckOutcome : ℕ → List ℕ → outcome.Outcome → Type 0
+IsCheckOutcome profile query (Text text) =
+    (p : Profile) × (q : QueryTree) × (profile_of profile ≡ Some p) × IsAsked p query q
+    × (string_bytes text ≡ [])
+IsCheckOutcome profile query Usage = profile_of profile ≡ None
+IsCheckOutcome profile query (Fault fault) =
+    (p : Profile) × (profile_of profile ≡ Some p) × IsQueryFault p query fault

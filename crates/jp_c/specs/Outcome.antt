@@ -1,0 +1,61 @@
+-- What a call leaves for C: the numbers of its outcome, and the text where there is room for it.
+use Rattle.std.specs.Prelude.{◌≡◌, ℕ, nat_le, if◌then◌else◌, List, [], ◌++◌, length, drop}
+use Rattle.std.specs.Prelude.{string_bytes}
+use Rattle.jp_document.specs.Faults.{document_fault_number}
+use Rattle.jp_document.specs.declared.fault.DocumentFault.TheVariants.{NotWhole}
+use Rattle.jp_query.specs.Refusal.{number_of}
+use Rattle.jsonpath.specs.declared.fault.FindFault.TheVariants as find
+use Rattle.jp_c.specs.declared.outcome.Outcome as outcome
+use Rattle.jp_c.specs.declared.outcome.Outcome.TheVariants.{Text, Usage, Fault}
+use Rattle.jp_c.specs.declared.outcome.Report.{Report}
+
+-- the status, by which a caller tells what happened
+abbrev pub status_of : outcome.Outcome → ℕ
+status_of (Text text) = 0
+status_of (Fault (find.Query r)) = 1
+status_of Usage = 2
+status_of (Fault (find.Document f)) = 3
+status_of (Fault find.NoMemory) = 4
+
+-- the number of a query's refusal or of a document's fault
+abbrev pub kind_of : outcome.Outcome → ℕ
+kind_of (Fault (find.Query r)) = number_of r.kind
+kind_of (Fault (find.Document f)) = document_fault_number f
+kind_of _ = 0
+
+-- the byte of the query at which it is refused
+abbrev pub place_of : outcome.Outcome → ℕ
+place_of (Fault (find.Query r)) = r.place
+place_of _ = 0
+
+-- the text: what was asked for, or the path of the first number that is not whole
+abbrev pub told_text : outcome.Outcome → List ℕ
+told_text (Text text) = string_bytes text
+told_text (Fault (find.Document (NotWhole path))) = string_bytes path
+told_text _ = []
+
+abbrev pub report_of : outcome.Outcome → Report
+report_of o = record {
+  status = status_of o;
+  kind = kind_of o;
+  place = place_of o;
+  length = length (told_text o);
+}
+
+-- a buffer after a text was written to its start, or as it was where there is no room for all of it
+abbrev pub filled : List ℕ → List ℕ → List ℕ
+filled text old = if nat_le (length text) (length old) then text ++ drop (length text) old else old
+
+-- the status, the report and the buffer, which was `old` and is `new`, are those of the outcome
+pub record Tells (o : outcome.Outcome) (old new : List ℕ) (report : Report) (status : ℕ)
+    : Type 0 where
+  pub reports : report ≡ report_of o
+  pub answers : status ≡ status_of o
+  pub fills : new ≡ filled (told_text o) old
+
+-- a call has an outcome of that kind, and tells it
+pub record Answers (IsOutcome : outcome.Outcome → Type 0) (old new : List ℕ) (report : Report)
+    (status : ℕ) : Type 0 where
+  pub o : outcome.Outcome
+  pub is : IsOutcome o
+  pub tells : Tells o old new report status

@@ -1,0 +1,88 @@
+//! From bytes to answers.
+ghost use Rattle.std.specs.Prelude.{◌≡◌, ◌⊎◌, IfErr, IfOk, string_bytes};
+ghost use Rattle.std.specs.Str.{IsUtf8};
+ghost use Rattle.jp_query.specs.declared.refusal.RefusalKind.TheVariants.{NoMemory};
+ghost use Rattle.jp_tree.specs.Tree.{query_of};
+ghost use Rattle.jp_c.specs.Asked.{IsAnswer, IsAsked, IsCanonOf, IsNoAnswer, IsNoText, IsQueryFault};
+ghost use Rattle.jp_c.specs.Asked.{RefusesBytes};
+
+use jp_canon::canon;
+use jp_check::{Checked, Profile, read_query};
+use jp_command::{Form, selected_lines};
+use jp_document::Document;
+use jp_flat::flat_document;
+use jp_query::{Refusal, RefusalKind};
+use jsonpath::FindFault;
+use std::alloc::Global;
+
+/// The text that these bytes are. Where they are no UTF-8 the place is the first that is none.
+fn text_of(query: &[u8]) -> Result<&str, Refusal>
+    ensures same { IfOk result (λ text. text.now ≡ query.now) }
+    ensures utf8 { IfOk result (λ text. IsUtf8 query.now) }
+    ensures none { IfErr result (IsNoText query.now) }
+{
+    match str::from_utf8(query) {
+        Ok(text) => Ok(text),
+        Err(error) => Err(Refusal {
+            kind: RefusalKind::Syntax,
+            place: error.valid_up_to(),
+        }),
+    }
+}
+
+/// The query that these bytes are in a profile.
+pub(crate) fn asked(alloc: Global, query: &[u8], profile: Profile) -> Result<Checked, FindFault>
+    ensures asked { IfOk result (λ c. IsAsked profile query.now (query_of c.query)) }
+    ensures fault { IfErr result (IsQueryFault profile query.now) }
+{
+    Ok(read_bytes(alloc, query, profile)?)
+}
+
+/// The same, or how it is refused.
+fn read_bytes(alloc: Global, query: &[u8], profile: Profile) -> Result<Checked, Refusal>
+    ensures asked { IfOk result (λ c. IsAsked profile query.now (query_of c.query)) }
+    ensures refused { IfErr result
+        (λ r. (r.kind ≡ NoMemory) ⊎ RefusesBytes profile query.now r) }
+{
+    let text = text_of(query)?;
+    read_text(alloc, text, profile)
+}
+
+/// The same of a text.
+fn read_text(alloc: Global, text: &str, profile: Profile) -> Result<Checked, Refusal>
+    ensures asked { IfOk result (λ c. IsAsked profile text.now (query_of c.query)) }
+    ensures refused { IfErr result
+        (λ r. (r.kind ≡ NoMemory) ⊎ RefusesBytes profile text.now r) }
+{
+    read_query(alloc, text, profile)
+}
+
+/// The lines, in that form, of the nodes that a query selects in a document. Both are read here, the
+/// query first.
+pub(crate) fn answer(
+    alloc: Global,
+    query: &[u8],
+    document: &[u8],
+    form: Form,
+    profile: Profile,
+) -> Result<String, FindFault>
+    ensures answer { IfOk result (λ text.
+        IsAnswer profile form query.now document.now (string_bytes text)) }
+    ensures fault { IfErr result (IsNoAnswer profile query.now document.now) }
+{
+    let query = asked(alloc, query, profile)?;
+    if let Some(flat) = flat_document(alloc, document) {
+        return Ok(selected_lines(alloc, form, flat.value(), &query)?);
+    }
+    let document = Document::read(alloc, document)?;
+    Ok(selected_lines(alloc, form, document.value(), &query)?)
+}
+
+/// The canonical text of the query that these bytes are in a profile.
+pub(crate) fn canonical(alloc: Global, query: &[u8], profile: Profile) -> Result<String, FindFault>
+    ensures text { IfOk result (λ text. IsCanonOf profile query.now (string_bytes text)) }
+    ensures fault { IfErr result (IsQueryFault profile query.now) }
+{
+    let query = asked(alloc, query, profile)?;
+    Ok(canon(alloc, &query)?)
+}

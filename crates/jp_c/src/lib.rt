@@ -1,0 +1,22 @@
+//! jp for C and for all that calls C: a query over a document in one call, with no handles.
+//!
+//! Each call takes bytes and numbers, writes the text that is asked for into a buffer of the
+//! caller's, and fills a `Report`. The buffer is filled from its start where it has room for the
+//! whole text, and else is left as it was; the report says in each case how long the text is, so a
+//! caller with too little room calls again. `bindings/c/jp.h` has the calls as C sees them, with
+//! what a caller owes, which nothing checks.
+//!
+//! The contract of each: there is an `Outcome` of the kind that the definitions of the crates below
+//! allow (`specs/Calls.antt`), and the status, the report and the buffer are the
+//! ones of that outcome (`specs/Outcome.antt`).
+#![tactic(auto)]
+
+mod asked;
+mod exports;
+mod numbers;
+mod outcome;
+#[cfg(test)]
+mod tests;
+
+pub use exports::{VERSION, jp_canon, jp_check, jp_eval, jp_version};
+pub use outcome::{Outcome, Report};

@@ -1,0 +1,91 @@
+//! The calls as C makes them, with values by hand.
+use crate::{Report, jp_canon, jp_check, jp_eval, jp_version};
+use std::alloc::Global;
+use std::test::Fail;
+
+const DOCUMENT: &[u8] = br#"{"a":[1,[2,{}]]}"#;
+
+/// A report of a text of this length.
+fn done(length: usize) -> Report {
+    Report {
+        status: 0,
+        kind: 0,
+        place: 0,
+        length,
+    }
+}
+
+/// A call over a document with a buffer of 64 bytes: its report, and what it wrote.
+fn evaluated(
+    alloc: Global,
+    query: &[u8],
+    document: &[u8],
+    form: u32,
+    profile: u32,
+) -> Result<(Report, Vec<u8>), Fail> {
+    let mut out = [b'#'; 64];
+    let mut report = done(0);
+    let status = jp_eval(alloc, query, document, form, profile, &mut out, &mut report);
+    if status != report.status {
+        return Err("two statuses")?;
+    }
+    let written = out.get(..report.length).unwrap_or(&[]);
+    Ok((report, Vec::from_slice(alloc, written)?))
+}
+
+#[test]
+fn writes_each_form(rt: HostRuntime) -> Result<(), Fail> {
+    for (form, text) in [
+        (0, b"1\n[2,{}]\n".as_slice()),
+        (1, b"$['a'][0]\n$['a'][1]\n"),
+        (2, b"$['a'][0]\t1\n$['a'][1]\t[2,{}]\n"),
+    ] {
+        let (report, written) = evaluated(rt.alloc(), b"$.a[*]", DOCUMENT, form, 0)?;
+        assert_eq!(rt; report, done(text.len()));
+        assert_eq!(rt; written.as_slice(), text);
+    }
+    Ok(())
+}
+
+#[test]
+fn reports_why_there_is_no_text(rt: HostRuntime) -> Result<(), Fail> {
+    let rows: [(&[u8], &[u8], u32, u32, (u32, u32, usize), &[u8]); 8] = [
+        (b"$.a[01]", b"[1,]", 0, 0, (1, 1, 5), b""),
+        (b"$.\xff", b"[]", 0, 0, (1, 1, 2), b""),
+        (b"$[?distinct(@)]", b"[]", 0, 0, (1, 6, 3), b""),
+        (b"$", b"[1,]", 0, 0, (3, 1, 0), b""),
+        (b"$", b"\"\xff\"", 0, 0, (3, 1, 0), b""),
+        (b"$", br#"{"a":[0,2.5]}"#, 0, 0, (3, 2, 0), b"$['a'][1]"),
+        (b"$", b"[]", 3, 0, (2, 0, 0), b""),
+        (b"$", b"[]", 0, 2, (2, 0, 0), b""),
+    ];
+    for (query, document, form, profile, numbers, text) in rows {
+        let (report, written) = evaluated(rt.alloc(), query, document, form, profile)?;
+        assert_eq!(rt; (report.status, report.kind, report.place), numbers);
+        assert_eq!(rt; written.as_slice(), text);
+    }
+    Ok(())
+}
+
+#[test]
+fn fills_a_buffer_whole_or_leaves_it(rt: HostRuntime) {
+    for (room, text) in [(0, b"######".as_slice()), (5, b"######"), (6, b"$['a']")] {
+        let mut out = [b'#'; 6];
+        let mut report = done(0);
+        let (part, _) = out.split_at_mut(room);
+        let status = jp_canon(rt.alloc(), b"$.a", 0, part, &mut report);
+        assert_eq!(rt; (status, report), (0, done(6)));
+        assert_eq!(rt; out.as_slice(), text);
+    }
+}
+
+#[test]
+fn checks_in_a_profile(rt: HostRuntime) {
+    let query = b"$[?distinct(@.*)]";
+    let mut report = done(0);
+    assert_eq!(rt; jp_check(rt.alloc(), query, 1, &mut report), 0);
+    assert_eq!(rt; report, done(0));
+    assert_eq!(rt; jp_check(rt.alloc(), query, 0, &mut report), 1);
+    assert_eq!(rt; (report.kind, report.place), (6, 3));
+    assert_eq!(rt; jp_version(), 256);
+}

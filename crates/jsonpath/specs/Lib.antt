@@ -1,0 +1,16 @@
+pub mod Find
+pub mod Private
+pub use Rattle.jp_canon.specs.Canon
+pub use Rattle.jp_check.specs.Accepted
+pub use Rattle.jp_check.specs.Refused
+pub use Rattle.jp_document.specs.Document
+pub use Rattle.jp_document.specs.Location
+pub use Rattle.jp_document.specs.Node
+pub use Rattle.jp_document.specs.Path
+pub use Rattle.jp_document.specs.PathFault
+pub use Rattle.jp_document.specs.Text
+pub use Rattle.jp_document.specs.Value
+pub use Rattle.jp_evaluate.specs.Nodelist
+pub use Rattle.jp_evaluate.specs.Rest
+pub use Rattle.jp_query.specs.Refusal
+pub use Rattle.jp_tree.specs.Tree

@@ -1,0 +1,78 @@
+//! The calls of this crate, and that those of the crates below are at hand.
+use crate::Profile::{Extended, Standard};
+use crate::{Document, canon, find, find_nodes, path_text, read_query};
+use std::alloc::Global;
+use std::test::Fail;
+
+const STORE: &[u8] = br#"{"book":[{"title":"A","price":9},{"title":"B","price":12}]}"#;
+
+/// The lines of what is found: path, blank, value.
+fn lines(alloc: Global, document: &[u8], query: &str) -> Result<String, Fail> {
+    let mut lines = String::new(alloc);
+    for found in &find(alloc, document, query, Standard)? {
+        lines.push_str(found.path.as_str())?;
+        lines.push_str(" ")?;
+        lines.push_str(found.value.as_str())?;
+        lines.push_str("\n")?;
+    }
+    Ok(lines)
+}
+
+#[test]
+fn finds_paths_and_values(rt: HostRuntime) -> Result<(), Fail> {
+    let alloc = rt.alloc();
+    let cheap = lines(alloc, STORE, "$.book[?@.price<10].title")?;
+    assert_eq!(rt; cheap.as_str(), "$['book'][0]['title'] \"A\"\n");
+    let all = lines(alloc, STORE, "$..price")?;
+    assert_eq!(rt;
+        all.as_str(),
+        "$['book'][0]['price'] 9\n$['book'][1]['price'] 12\n"
+    );
+    Ok(())
+}
+
+#[test]
+fn says_what_is_wrong(rt: HostRuntime) -> Result<(), Fail> {
+    let alloc = rt.alloc();
+    let rows: [(&[u8], &str, &str); 4] = [
+        (b"[1]", "$.a[01]", "query refused: Syntax at 5"),
+        (b"[1,]", "$", "document refused: NotJson"),
+        (
+            br#"{"a":[0,2.5]}"#,
+            "$",
+            "document refused: NotWhole at $['a'][1]",
+        ),
+        (b"[1", "$[", "query refused: Syntax at 2"),
+    ];
+    for (document, query, text) in rows {
+        let fault = find(alloc, document, query, Standard).err().ok_or("found")?;
+        assert_eq!(rt; format!(in alloc; "{fault}")?.as_str(), text);
+    }
+    Ok(())
+}
+
+#[test]
+fn finds_nodes_in_a_document_that_was_read(rt: HostRuntime) -> Result<(), Fail> {
+    let alloc = rt.alloc();
+    let document = Document::read(alloc, STORE)?;
+    let nodes = find_nodes(alloc, &document, "$.book[-1].title", Standard)?;
+    let [title] = nodes.as_slice() else {
+        return Err("one title")?;
+    };
+    assert_eq!(rt;
+        path_text(alloc, title.location())?.as_str(),
+        "$['book'][1]['title']"
+    );
+    let refusal = find_nodes(alloc, &document, "$[", Standard)
+        .err()
+        .ok_or("found")?;
+    assert_eq!(rt; format!(in alloc; "{refusal}")?.as_str(), "Syntax at 2");
+    Ok(())
+}
+
+#[test]
+fn gives_canonical_texts(rt: HostRuntime) -> Result<(), Fail> {
+    let query = read_query(rt.alloc(), "$ [?distinct(@.b)]", Extended)?;
+    assert_eq!(rt; canon(rt.alloc(), &query)?.as_str(), "$[?distinct(@['b'])]");
+    Ok(())
+}

@@ -1,0 +1,3 @@
+pub mod Caret
+pub mod First
+pub mod Paths
