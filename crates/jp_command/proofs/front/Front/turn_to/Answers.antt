@@ -1,4 +1,4 @@
-use Rattle.std.proofs.Common.{◌++◌, ◌∷◌, [], ap, map, subst, ◌≡◌, drop, ◌+◌, ◌∙◌, sym}
+use Rattle.std.proofs.Common.{◌++◌, ap, map, drop, ◌+◌, ◌∙◌, sym}
 use Rattle.std.specs.List.{flat_map}
 use Rattle.jp_document.specs.Location.{key_of}
 use Rattle.jp_document.specs.Path.{step_text}
