@@ -9,7 +9,7 @@ use Rattle.clap.specs.declared.parser.matches.ArgMatches.{ArgMatches}
 use Rattle.clap.specs.declared.parser.matches.Found.{Found}
 use Rattle.clap.specs.Matches.{ReadsOne, one_text}
 use Rattle.clap.proofs.WalkLemmas.{first_value-rows, one_text-rows}
-use Rattle.std.specs.Prelude.{option_and_then, if◌then◌else◌}
+use Rattle.std.specs.Prelude.{option_and_then}
 use Rattle.std.specs.Option.{option_map_or, unwrap_or}
 use Rattle.std.specs.Str.{bytes_eq}
 use Rattle.std.specs.Str.Parse.{ParsesBool}
@@ -17,8 +17,8 @@ use Rattle.std.proofs.lemmas.Slice.Eq.{bytes_eq-Decides}
 use Rattle.jp_command.specs.declared.words.Task.{Task}
 use Rattle.clap.proofs.OnLiterals.{clap_on_literals}
 use Rattle.jp_check.specs.declared.profile.Profile.{Profile}
-use Rattle.jp_check.specs.declared.profile.Profile.TheVariants.{Standard, Extended}
-use Rattle.jp_command.specs.CommandLine.{asked_by, jp, profile_asked, query_app, task_called}
+use Rattle.jp_command.specs.CommandLine.{asked_by, is_set, jp, profile_asked, query_app}
+use Rattle.jp_command.specs.CommandLine.{task_called}
 
 jp_is_free : is_simple_and_free jp ≡ true
 unfolding clap_on_literals jp query_app
@@ -71,37 +71,30 @@ task_with_query name found task query is held =
     (ap (option_map (with_query task (profile_asked rows)))
     (held ∙ first_value-rows found (codes "QUERY")))
 
--- the profile by the text of the flag, and by what `get_one` reads of it
-abbrev profile_by : Option Text → Profile
-profile_by text = if option_map_or (bytes_eq (codes "true")) text false then Extended else Standard
-
-abbrev pub profile_for : Option Bool → Profile
-profile_for flag = if unwrap_or flag false then Extended else Standard
+-- whether a flag is set, by its text
+abbrev set_by : Option Text → Bool
+set_by text = option_map_or (bytes_eq (codes "true")) text false
 
 not-true : (b : Bool) → (b ≡ true → ⊥) → b ≡ false
 not-true true other = absurd (other refl)
 not-true false other = refl
 
-profile-of_text : (E : Type 0) (t : Text) (flag : Option Bool)
-    → ReadsOne (ParsesBool {E = E}) t flag → profile_for flag ≡ profile_by (Some t)
-profile-of_text E t (Some true) is = sym (ap (λ s. profile_by (Some s)) is)
-profile-of_text E t (Some false) is = sym (ap (λ s. profile_by (Some s)) is)
-profile-of_text E t None is =
-    let other : bytes_eq (codes "true") t ≡ false =
-    not-true _ (λ same. is.1.0 (sym ((bytes_eq-Decides (codes "true") t).0 same))) in
-    rw other refl
+set-of_text : (E : Type 0) (t : Text) (value : Option Bool)
+    → ReadsOne (ParsesBool {E = E}) t value → unwrap_or value false ≡ set_by (Some t)
+set-of_text E t (Some true) is = sym (ap (λ s. set_by (Some s)) is)
+set-of_text E t (Some false) is = sym (ap (λ s. set_by (Some s)) is)
+set-of_text E t None is =
+    sym (not-true _ (λ same. is.1.0 (sym ((bytes_eq-Decides (codes "true") t).0 same))))
 
--- the profile that the matches hold
-pub profile-read : (E : Type 0) (found : Found) (flag : Option Bool)
-    → (one_text found (codes "extended") ≡ None → flag ≡ None)
-    → ((t : Text) → one_text found (codes "extended") ≡ Some t
-    → ReadsOne (ParsesBool {E = E}) t flag)
-    → profile_for flag ≡ profile_asked (rows_of found)
-profile-read E found flag none some =
-    go (one_text found (codes "extended")) refl
-    ∙ ap profile_by (one_text-rows found (codes "extended"))
+-- what `get_one` reads of a flag in the matches
+pub flag-read : (E : Type 0) (found : Found) (name : Text) (value : Option Bool)
+    → (one_text found name ≡ None → value ≡ None)
+    → ((t : Text) → one_text found name ≡ Some t → ReadsOne (ParsesBool {E = E}) t value)
+    → unwrap_or value false ≡ is_set name (rows_of found)
+flag-read E found name value none some =
+    go (one_text found name) refl ∙ ap set_by (one_text-rows found name)
   where
-    go : (text : Option Text) → one_text found (codes "extended") ≡ text
-        → profile_for flag ≡ profile_by text
-    go None is = ap profile_for (none is)
-    go (Some t) is = profile-of_text E t flag (some t is)
+    go : (text : Option Text) → one_text found name ≡ text
+        → unwrap_or value false ≡ set_by text
+    go None is = ap (λ v. unwrap_or v false) (none is)
+    go (Some t) is = set-of_text E t value (some t is)

@@ -1,6 +1,6 @@
 -- What the words of a command line ask for: the command line as clap reads it, and the task, the
 -- query and the profile that it finds in the words. `Line` cites it.
-use Rattle.std.specs.Prelude.{true, false, List, Option, Some, None, codes, if◌then◌else◌}
+use Rattle.std.specs.Prelude.{Bool, true, false, List, Option, Some, None, codes, if◌then◌else◌}
 use Rattle.std.specs.Prelude.{option_and_then, option_map}
 use Rattle.std.specs.Option.{option_map_or}
 use Rattle.std.specs.Str.{bytes_eq}
@@ -44,11 +44,13 @@ task_called name =
     else if bytes_eq name (codes "paths") then Some (Eval Paths)
     else if bytes_eq name (codes "both") then Some (Eval Both) else None
 
--- the profile: `Extended` with the flag `--extended`, whose value clap then makes `true`
+-- whether a flag is given, whose value clap then makes `true`
+abbrev pub is_set : Text → List Row → Bool
+is_set flag rows = option_map_or (bytes_eq (codes "true")) (one_of flag rows) false
+
+-- the profile: `Extended` with the flag `--extended`
 abbrev pub profile_asked : List Row → Profile
-profile_asked rows =
-    if option_map_or (bytes_eq (codes "true")) (one_of (codes "extended") rows) false then Extended
-    else Standard
+profile_asked rows = if is_set (codes "extended") rows then Extended else Standard
 
 -- the task, the query and the profile of the subcommand that the words name
 abbrev pub asked_by : Text × List Row → Option (Task × Text × Profile)

@@ -41,19 +41,17 @@ pub fn run_eval<R: Source, W: Writer>(
 {
     let query = read_within_limit(alloc, query, profile)?;
     let bytes = read_all(alloc, input)?;
+    let mut line = String::new(alloc);
     if let Some(flat) = flat_document(alloc, &bytes) {
-        return write_selected(alloc, form, flat.value(), &query, output);
+        return write_selected(alloc, form, "", flat.value(), &query, &mut line, output);
     }
     let document = Document::read(alloc, &bytes)?;
-    write_selected(alloc, form, document.value(), &query, output)
+    write_selected(alloc, form, "", document.value(), &query, &mut line, output)
 }
 
-/// Reads a query that is not too long.
-pub(crate) fn read_within_limit(
-    alloc: Global,
-    text: &str,
-    profile: Profile,
-) -> Result<Checked, Refusal>
+/// Reads a query of at most `QUERY_LIMIT` bytes in a profile, as `read_query` does. A longer one is
+/// refused with `TextTooLong` at 0.
+pub fn read_within_limit(alloc: Global, text: &str, profile: Profile) -> Result<Checked, Refusal>
     ensures asked { IfOk result (λ c. IsAsked profile text.now (query_of c.query)) }
     ensures refused { IfErr result
         (λ refusal. (refusal.kind ≡ NoMemory) ⊎ RefusesQuery profile text.now refusal) }

@@ -89,8 +89,8 @@ fn run_task<R: Source, W: Writer>(
     }
 }
 
-/// The status of a fault.
-fn status(fault: &Fault) -> u8
+/// The status of a fault, as the program ends with it.
+pub fn status(fault: &Fault) -> u8
     ensures { result ≡ status_of fault.now }
 {
     match fault {
@@ -101,8 +101,9 @@ fn status(fault: &Fault) -> u8
     }
 }
 
-/// Writes the line of a fault. One that cannot be written is left out.
-fn report<E: Writer>(alloc: Global, fault: &Fault, faults: &mut E)
+/// Writes the line of a fault. One that cannot be written, or for which there is no memory, is left
+/// out.
+pub fn report<E: Writer>(alloc: Global, fault: &Fault, faults: &mut E)
     ensures { AppendsPrefix (E.contents faults.old) (E.contents faults.new) (fault_line fault.now) }
 {
     if let Ok(line) = line_of(alloc, fault) {
@@ -123,8 +124,9 @@ fn line_of(alloc: Global, fault: &Fault) -> Result<CowStr<'static>, AllocError>
     })
 }
 
-/// Writes the text of clap's error, and answers its status.
-fn refuse_words<E: Writer>(alloc: Global, error: &Error, faults: &mut E) -> u8
+/// Writes the text of clap's error, and answers its status: 4 where the error is that memory ran
+/// out, and otherwise 2. A text that cannot be written is left out.
+pub fn refuse_words<E: Writer>(alloc: Global, error: &Error, faults: &mut E) -> u8
     ensures memory { kind_of error.now ≡ ErrorKind.OutOfMemory → result ≡ 4 }
     ensures memory_line { kind_of error.now ≡ ErrorKind.OutOfMemory
         → AppendsPrefix (E.contents faults.old) (E.contents faults.new)

@@ -1,7 +1,8 @@
 //! Writing a line for each node.
 
 ghost use Rattle.std.specs.Prelude.{◌≡◌, ◌++◌, IfErr, IfOk, OnOk, false, map, string_bytes};
-ghost use Rattle.jp_command.specs.Lines.{line_of, lines_of, output_of};
+ghost use Rattle.std.specs.List.{flat_map};
+ghost use Rattle.jp_command.specs.Lines.{line_behind, line_of, lines_of, output_behind, output_of};
 ghost use Rattle.jp_command.specs.Output.{StopsWriting, WritesAll};
 ghost use Rattle.jp_command.specs.Private.ByTurns.{WritesByTurns};
 ghost use Rattle.jp_command.specs.Private.Fronts.{IsSpelled};
@@ -93,21 +94,27 @@ fn lines_of_rest<'d: 'q, 'q, V: Printed + 'd>(
     Ok(lines)
 }
 
-/// Writes a line for each node that the query selects in the document whose value is the root.
-pub(crate) fn write_selected<'d: 'q, 'q, V: Printed + 'd, W: Writer>(
+/// Writes a line for each node that the query selects in the document whose value is the root, in
+/// the nodelist's order (RFC 9535 section 2.1.2), each behind the text `lead`; a node's line before
+/// the next node is looked for. `line` gives the memory that lines are made in, and what it held is
+/// gone. `Write` says that the output failed, and `NoMemory` that memory ran out; after both a
+/// prefix of the lines is written. There are no other errors.
+pub fn write_selected<'d: 'q, 'q, V: Printed + 'd, W: Writer>(
     alloc: Global,
     form: Form,
+    lead: &str,
     root: V,
     query: &'q Checked,
+    line: &mut String,
     output: &mut W,
 ) -> Result<(), Fault>
     ensures ok { OnOk result (WritesAll W.contents W.has_failed output.old output.new
-        (output_of form (query_of query.now.query) (V.meaning root))) }
+        (output_behind lead.now form (query_of query.now.query) (V.meaning root))) }
     ensures stopped { IfErr result (StopsWriting W.contents W.has_failed output.old output.new
-        (output_of form (query_of query.now.query) (V.meaning root))) }
+        (output_behind lead.now form (query_of query.now.query) (V.meaning root))) }
 {
     let mut nodes = lent_nodes(alloc, root, query, &Marks);
-    write_lines(alloc, form, &mut nodes, output)
+    write_lines(alloc, form, lead, &mut nodes, line, output)
 }
 
 /// Writes the line of each node before it asks for the next. After a fault a prefix of the lines is
@@ -115,24 +122,26 @@ pub(crate) fn write_selected<'d: 'q, 'q, V: Printed + 'd, W: Writer>(
 pub(crate) fn write_lines<'d: 'q, 'q, V: Printed + 'd, W: Writer>(
     alloc: Global,
     form: Form,
+    lead: &str,
     nodes: &mut LentNodes<'d, 'q, V, Marks>,
+    line: &mut String,
     output: &mut W,
 ) -> Result<(), Fault>
     requires { has_failed nodes.now ≡ false }
     ensures ok { OnOk result (WritesAll W.contents W.has_failed output.old output.new
-        (lines_of form (rest_of V.meaning nodes.old))) }
+        (flat_map (line_behind lead.now form) (rest_of V.meaning nodes.old))) }
     ensures stopped { IfErr result (StopsWriting W.contents W.has_failed output.old output.new
-        (lines_of form (rest_of V.meaning nodes.old))) }
-    ensures by_turns { WritesByTurns W.contents form V.meaning
+        (flat_map (line_behind lead.now form) (rest_of V.meaning nodes.old))) }
+    ensures by_turns { WritesByTurns W.contents (line_behind lead.now form) V.meaning
         nodes.old nodes.new output.old output.new result }
 {
     let mut location = Vec::new(alloc);
     let mut front = Front::new(alloc);
-    let mut line = String::new(alloc);
     while let Some(next) = nodes.next_at(&mut location) {
         let value = next?;
         line.clear();
-        push_line(form, &mut front, &location, value, &mut line)?;
+        line.push_str(lead)?;
+        push_line(form, &mut front, &location, value, line)?;
         let Ok(()) = write_all(output, line.as_bytes()) else {
             return Err(Fault::Write);
         };

@@ -5,8 +5,9 @@ ghost use Rattle.jp_command.specs.Output.{AppendsPrefix, WritesAll};
 
 use crate::device::{Failed, Writer};
 
-/// Writes all of `bytes`. Where a write fails, what was written is a prefix of them.
-pub(crate) fn write_all<W: Writer>(output: &mut W, bytes: &[u8]) -> Result<(), Failed>
+/// Writes all of `bytes`. Where a write fails, what was written is a prefix of them, and no further
+/// write is tried.
+pub fn write_all<W: Writer>(output: &mut W, bytes: &[u8]) -> Result<(), Failed>
     ensures ok { OnOk result (WritesAll W.contents W.has_failed output.old output.new bytes.now) }
     ensures prefix { OnErr result
         (AppendsPrefix (W.contents output.old) (W.contents output.new) bytes.now) }

@@ -6,8 +6,8 @@ ghost use Rattle.clap.specs.Words.{IsAmong, app_of, fault_of, found_of, kind_of,
 ghost use Rattle.clap.specs.Words.{subcommand_of, subcommand_rows_of};
 ghost use Rattle.clap.specs.declared.builder.command.Command.TheViews.{out-Command};
 ghost use Rattle.clap.specs.declared.error.kind.ErrorKind.TheVariants.{OutOfMemory};
-ghost use Rattle.jp_command.specs.CommandLine.{asked, asked_by, jp, profile_asked, query_app};
-ghost use Rattle.jp_command.specs.CommandLine.{task_called, with_task};
+ghost use Rattle.jp_command.specs.CommandLine.{asked, asked_by, is_set, jp, profile_asked};
+ghost use Rattle.jp_command.specs.CommandLine.{query_app, task_called, with_task};
 
 use crate::lines::Form;
 use clap::error::ErrorKind;
@@ -123,11 +123,18 @@ fn matches_of<'w>(alloc: Global, words: &'w [String]) -> Result<ArgMatches<'w>, 
     command.try_get_matches_from(words)
 }
 
+/// Whether a flag, which is on or off, is given in the matches of a subcommand.
+pub fn is_set(found: &ArgMatches, flag: &str) -> bool
+    ensures { result ≡ is_set flag.now (rows_of (found_of found.now)) }
+{
+    found.get_one::<bool>(flag).unwrap_or(false)
+}
+
 /// The profile that the matches of a subcommand ask for.
-fn profile_asked(found: &ArgMatches) -> Profile
+pub fn profile_asked(found: &ArgMatches) -> Profile
     ensures { result ≡ profile_asked (rows_of (found_of found.now)) }
 {
-    if found.get_one::<bool>("extended").unwrap_or(false) {
+    if is_set(found, "extended") {
         Profile::Extended
     } else {
         Profile::Standard

@@ -3,22 +3,21 @@
 use Rattle.std.specs.Prelude.{◌≡◌, ◌⊎◌, ℕ, true, false, List, [], ◌∷◌, ◌++◌, Option, Result, Ok}
 use Rattle.std.specs.Prelude.{Err}
 use Rattle.std.specs.Io.KnownBytes.{Appends}
+use Rattle.std.specs.List.{flat_map}
 use Rattle.jp_document.specs.Node.{Node}
 use Rattle.jp_document.specs.Value.{Value}
 use Rattle.jp_evaluate.specs.Lent.{has_failed, rest_of}
 use Rattle.jp_evaluate.specs.declared.lent.LentNodes.{LentNodes}
-use Rattle.jp_command.specs.Lines.{line_of, lines_of}
 use Rattle.jp_command.specs.declared.fault.Fault.{Fault}
 use Rattle.jp_command.specs.declared.fault.Fault.TheVariants.{NoMemory, Write}
-use Rattle.jp_command.specs.declared.lines.Form.{Form}
 
--- o and p are the output before and after
-module _ {W : Type 0} (contents : W → Option (List ℕ)) (form : Form) where
+-- o and p are the output before and after, and line_of is the line of each node
+module _ {W : Type 0} (contents : W → Option (List ℕ)) (line_of : Node → List ℕ) where
   -- all nodes but the rest were given, and the line of each is written
   pub record WritesGiven (all rest : List Node) (o p : W) : Type 0 where
     pub given : List Node
     pub nodes : all ≡ given ++ rest
-    pub written : Appends (contents o) (contents p) (lines_of form given)
+    pub written : Appends (contents o) (contents p) (flat_map line_of given)
 
   -- the same of all that were given but the last, of whose line a prefix is written
   pub record WritesPart (all rest : List Node) (o p : W) : Type 0 where
@@ -27,8 +26,8 @@ module _ {W : Type 0} (contents : W → Option (List ℕ)) (form : Form) where
     pub nodes : all ≡ given ++ last ∷ rest
     pub prefix : List ℕ
     pub left : List ℕ
-    pub line : line_of form last ≡ prefix ++ left
-    pub written : Appends (contents o) (contents p) (lines_of form given ++ prefix)
+    pub line : line_of last ≡ prefix ++ left
+    pub written : Appends (contents o) (contents p) (flat_map line_of given ++ prefix)
 
   -- The nodes v were asked for, until w were left, where m says what their values stand for, and
   -- each but the last had its line before the next was asked for. Memory runs out for a line, of

@@ -1,28 +1,28 @@
 use Rattle.std.proofs.Common.{◌≡◌, rules}
 use Rattle.jp_evaluate.specs.Lent.{lent_node}
-use Rattle.jp_command.specs.Lines.{line_of}
+use Rattle.jp_command.specs.Lines.{line_behind}
 use Rattle.jp_command.proofs.LineLemmas.{given_more, given_part, part-is_prefix, stops-for_memory}
 use Rattle.jp_command.proofs.lines.write_lines.Goals as goal
 
 pub returns-in_err-value-clause-stopped : goal.returns-in_err-value-clause-stopped
 returns-in_err-value-clause-stopped g c =
-    stops-for_memory g.W.Writer.contents g.W.Writer.has_failed c.args.form _ _ _ _ _
+    stops-for_memory g.W.Writer.contents g.W.Writer.has_failed (line_behind c.args.lead.now c.args.form) _ _ _ _ _
     c.loop-next.invariant.written c.loop-next.invariant.works c.from_residual.ensures.1
 
 pub returns-in_err-push_line-clause-stopped : goal.returns-in_err-push_line-clause-stopped
 returns-in_err-push_line-clause-stopped g c =
-    stops-for_memory g.W.Writer.contents g.W.Writer.has_failed c.args.form _ _ _ _ _
+    stops-for_memory g.W.Writer.contents g.W.Writer.has_failed (line_behind c.args.lead.now c.args.form) _ _ _ _ _
     c.loop-next.invariant.written c.loop-next.invariant.works
     c.from_residual-in_err-push_line.ensures.1
 
 pub returns-in_default-write_all-clause-stopped : goal.returns-in_default-write_all-clause-stopped
 returns-in_default-write_all-clause-stopped g c =
-    let form = c.args.form in
+    let behind = line_behind c.args.lead.now c.args.form in
     let n = lent_node g.V.Lent.meaning (c.next_at.new.location, c.in_ok-value.value) in
     let steps = rw (c.in-Some.is, c.in_ok-value.was) at c.next_at.ensures in
-    let line : c.as_bytes.result.now ≡ line_of form n = search rules in (
-      part-is_prefix g.W.Writer.contents g.W.Writer.has_failed form _ _ _ _
-          (given_part g.W.Writer.contents g.W.Writer.has_failed form _ _ _ n _ _ _
+    let line : c.as_bytes.result.now ≡ behind n = search rules in (
+      part-is_prefix g.W.Writer.contents g.W.Writer.has_failed behind _ _ _ _
+          (given_part g.W.Writer.contents g.W.Writer.has_failed behind _ _ _ n _ _ _
           c.loop-next.invariant.written steps.2 (rw line at c.in_default-write_all.ensures.prefix)),
       c.in_default-write_all.ensures.failed,
     )
@@ -30,25 +30,25 @@ returns-in_default-write_all-clause-stopped g c =
 pub returns-in_default-write_all-clause-by_turns :
     goal.returns-in_default-write_all-clause-by_turns
 returns-in_default-write_all-clause-by_turns g c =
-    let form = c.args.form in
+    let behind = line_behind c.args.lead.now c.args.form in
     let n = lent_node g.V.Lent.meaning (c.next_at.new.location, c.in_ok-value.value) in
     let steps = rw (c.in-Some.is, c.in_ok-value.was) at c.next_at.ensures in
-    let line : c.as_bytes.result.now ≡ line_of form n = search rules in (
+    let line : c.as_bytes.result.now ≡ behind n = search rules in (
       steps.1,
-      given_part g.W.Writer.contents g.W.Writer.has_failed form _ _ _ n _ _ _
+      given_part g.W.Writer.contents g.W.Writer.has_failed behind _ _ _ n _ _ _
           c.loop-next.invariant.written steps.2 (rw line at c.in_default-write_all.ensures.prefix),
     )
 
 pub loop-next-preserved : goal.loop-next-preserved
 loop-next-preserved g c =
-    let form = c.args.form in
+    let behind = line_behind c.args.lead.now c.args.form in
     let n = lent_node g.V.Lent.meaning (c.next_at.new.location, c.in_ok-value.value) in
     let steps = rw (c.in-Some.is, c.in_ok-value.was) at c.next_at.ensures in
-    let line : c.as_bytes.result.now ≡ line_of form n = search rules in
+    let line : c.as_bytes.result.now ≡ behind n = search rules in
     record {
       front = search rules;
       working = steps.1;
-      written = given_more g.W.Writer.contents g.W.Writer.has_failed form _ _ _ n _ _ _
+      written = given_more g.W.Writer.contents g.W.Writer.has_failed behind _ _ _ n _ _ _
           c.loop-next.invariant.written steps.2 (rw line at c.in-Ok.ensures.ok);
       works = search rules;
     }
