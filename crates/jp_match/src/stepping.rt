@@ -8,6 +8,7 @@ ghost use Rattle.jp_match.specs.Private.Marks.{size};
 ghost use Rattle.jp_match.specs.Private.Walks.{IsBefore, Moves, own_rounds};
 
 use crate::class_tests::Tests;
+use crate::copies::Copies;
 use crate::idle::idle_part;
 use crate::one_class::one_class;
 use crate::walk::{Reach, Walk};
@@ -168,21 +169,14 @@ fn step_between(
         return step_copies(inner, least, most, walk, entered, c, tests);
     };
     let holds = tests.holds(one.class, c);
-    let mut ended = Reach::none();
-    let mut through = Reach::at_start(entered);
-    for copies in 0..most {
-        ended = ended.or(through.only_if(least <= copies));
-        let marked = walk.marks[walk.at];
-        let next = through.before & holds;
-        walk.marks[walk.at] = next;
-        walk.at += 1;
-        through = through.then(Reach {
-            before: marked | (one.is_optional & through.before),
-            after: next,
-            after_entered: next | one.is_optional,
-        });
-    }
-    ended.or(through.only_if(least <= most))
+    let copies = Copies {
+        least: least as usize,
+        is_optional: one.is_optional,
+    };
+    let end = walk.at + most as usize;
+    let reach = copies.step(&mut walk.marks[walk.at..end], entered, holds);
+    walk.at = end;
+    reach
 }
 
 /// The same for copies of more than one class, each by itself. Copies without positions are all as

@@ -1,7 +1,8 @@
-use Rattle.std.proofs.Common.{◌≡◌, ◌+◌, ◌≤◌, ◌<◌, Bool, false, ◌||◌, ◌&&◌, List, length, drop, refl, ap}
+use Rattle.std.proofs.Common.{◌≡◌, ◌+◌, ◌*◌, ◌≤◌, ◌<◌, Bool, false, ◌||◌, ◌&&◌, List, length, drop, take, refl, sym, ap}
+use Rattle.std.proofs.Common.{◌-◌, ◌++◌}
 use Rattle.std.proofs.Common.{◌∙◌, subst, arith, rules}
 use Rattle.std.proofs.lemmas.Bool.{leb-true, le-leb}
-use Rattle.std.proofs.lemmas.List.{get_or_default}
+use Rattle.std.proofs.lemmas.List.{get_or_default, with_items_is}
 use denote.Param.Weighed.{at_most}
 use Rattle.jp_iregexp.proofs.pattern.Pattern.TheLaws.{the_size}
 use Rattle.jp_iregexp.specs.declared.class.ClassItem.{ClassItem}
@@ -13,6 +14,7 @@ use Rattle.jp_match.specs.Private.Marks.{size}
 use Rattle.jp_match.specs.Private.Walks.{own_rounds, IsBefore}
 use Rattle.jp_match.proofs.Patterns.Variants.{either_is, sequence_is, repeat_is}
 use Rattle.jp_match.proofs.Patterns.Items.{drop_item, drop_all}
+use Rattle.jp_match.proofs.Steps.Copies.{moves_copies, put_length}
 use Rattle.jp_match.proofs.Steps.Idle.{moves_idle_part}
 use Rattle.jp_match.proofs.Steps.Walking.{before_branch, before_piece, walked_next_branch}
 use Rattle.jp_match.proofs.Steps.Walking.{walked_next_piece, walked_branches, walked_pieces}
@@ -20,9 +22,9 @@ use Rattle.jp_match.proofs.Steps.Repeating.{before_copy, walked_copy, walked_cop
 use Rattle.jp_match.proofs.Steps.Repeating.{before_goes_on, walked_goes_on, before_plus, walked_plus}
 use Rattle.jp_match.proofs.Steps.Repeating.{before_star, moves_star, before_still}
 use Rattle.jp_match.proofs.Steps.Repeating.{walked_still_plus}
-use Rattle.jp_match.proofs.Steps.Rounding.{moves_copy, moves_class_plus, before_inner}
+use Rattle.jp_match.proofs.Steps.Rounding.{moves_class_plus, before_inner}
 use Rattle.jp_match.proofs.Steps.Rounding.{moves_idle, moves_rounds}
-use Rattle.jp_match.proofs.Steps.Sizes.{own_other}
+use Rattle.jp_match.proofs.Steps.Sizes.{own_other, size_between}
 use Rattle.jp_match.proofs.stepping.+step.Goals as goal
 
 pub step-step_either-requires : goal.step-step_either-requires
@@ -258,63 +260,38 @@ step_copies-returns-clause-moves t c =
     (walked_copies _ _ _ _ _ _ _ _ c.args.least c.args.most c.loop-copies.copies _ _ _ _ _ (omega
     arith) (omega arith) (leb-true _ _, le-leb _ _) c.loop-copies.invariant.walked)
 
-pub step_between-index-marked-requires : goal.step_between-index-marked-requires
-step_between-index-marked-requires t c =
-    let before = before_copy _ c.args.least c.args.most c.loop-copies.copies _
-    c.loop-copies-test.true c.loop-copies.invariant.walked.before in
-    omega (arith, before.marks, c.in-Some.ensures.sized)
-
-pub step_between-index_mut-requires : goal.step_between-index_mut-requires
-step_between-index_mut-requires t c =
-    let before = before_copy _ c.args.least c.args.most c.loop-copies.copies _
-    c.loop-copies-test.true c.loop-copies.invariant.walked.before in
-    omega (arith, before.marks, c.in-Some.ensures.sized)
-
-pub step_between-loop-copies-preserved : goal.step_between-loop-copies-preserved
-step_between-loop-copies-preserved t c =
-    let one = c.in-Some.ensures in
-    let then = c.then-through.ensures in
-    let or = c.or-ended.ensures in
-    let if = c.only_if.ensures in
-    let before = before_copy _ c.args.least c.args.most c.loop-copies.copies _
-    c.loop-copies-test.true c.loop-copies.invariant.walked.before in
-    let within : c.loop-copies.walk.at < length c.loop-copies.walk.marks.items = omega (
+pub step_between-slice_bounds-step-end : goal.step_between-slice_bounds-step-end
+step_between-slice_bounds-step-end t c =
+    let size = size_between (unrolled (tree c.args.inner.now)) c.args.least c.args.most ∙ ap
+    (λ n. c.args.most * n) c.in-Some.ensures.sized in
+    let fit : c.args.walk.now.at + c.args.most ≤ length c.args.walk.now.marks.items = omega (
       arith,
-      before.marks,
-      one.sized,
+      c.requires.marks,
+      size,
     ) in
-    record {
-      walked = rw (
-        then.before,
-        then.after,
-        then.after_entered,
-        or.before,
-        or.after,
-        or.after_entered,
-        if.before,
-        if.after,
-        if.after_entered,
-      ) (walked_copy _ _ _ _ _ _ _ _ c.args.least c.args.most c.loop-copies.copies _ _ _ _ _ _ _ _ _
-          c.loop-copies-test.true (leb-true _ _, le-leb _ _) c.loop-copies.invariant.walked
-          (moves_copy _ _ _ _ _ _ _ _ _ _ one (c.index-marked.ensures ∙ get_or_default _ _ _ false
-          within) (ap (λ holds. c.loop-copies.through.before && holds)
-          c.holds-holds.ensures.answer) (record {
-            within = within;
-            at = refl;
-            round = refl;
-            marks = refl;
-            rounds = refl;
-          })));
-      at = omega (arith, c.loop-copies.invariant.at);
-    }
+    search rules
 
 pub step_between-returns-clause-moves : goal.step_between-returns-clause-moves
 step_between-returns-clause-moves t c =
-    let or = c.or.ensures in
-    let if = c.only_if-2.ensures in
-    rw (or.before, or.after, or.after_entered, if.before, if.after, if.after_entered)
-    (walked_copies _ _ _ _ _ _ _ _ c.args.least c.args.most c.loop-copies.copies _ _ _ _ _ (omega
-    arith) (omega arith) (leb-true _ _, le-leb _ _) c.loop-copies.invariant.walked)
+    let at = c.args.walk.now.at in
+    let marks = c.args.walk.now.marks in
+    let m = at + c.args.most - at in
+    let value = c.deref_mut.ensures.value in
+    let stepped = rw value at c.step-reach.ensures in
+    let size = size_between (unrolled (tree c.args.inner.now)) c.args.least c.args.most ∙ ap
+    (λ n. c.args.most * n) c.in-Some.ensures.sized in
+    let fit : at + c.args.most ≤ length marks.items = omega (arith, c.requires.marks, size) in
+    let long = put_length at c.args.most m marks.items c.step-reach.new.marks fit (omega arith)
+    stepped.turned.same_length in
+    let here = with_items_is marks (take at marks.items ++ (c.step-reach.new.marks ++ drop m (drop
+    at marks.items))) (long ∙ sym (ap length value) ∙ c.deref_mut.ensures.len) in
+    moves_copies _ _ _ _ _ c.args.least c.args.most _ _ c.args.walk.now _ _ _ _ _
+    c.in-Some.ensures c.holds-holds.ensures.answer c.requires stepped (record {
+      at = refl;
+      round = refl;
+      rounds = refl;
+      marks_are = rw value here;
+    })
 
 pub step_at_least-step-requires : goal.step_at_least-step-requires
 step_at_least-step-requires t c = (

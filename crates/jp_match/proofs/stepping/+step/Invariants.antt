@@ -22,15 +22,6 @@ invariant-step_sequence-loop-piece l = record {
   kept : l.fn.tests ≤ l.tests;
 }
 
-abbrev pub invariant-step_between-loop-copies : goal.invariant-step_between-loop-copies
-invariant-step_between-loop-copies l = record {
-  walked : Walked (between (unrolled (tree l.inner)) l.least l.most)
-      (between (unrolled (tree l.inner)) (l.least - l.copies) (l.most - l.copies)) l.fn.c l.entered
-      l.through.before l.through.after l.through.after_entered l.fn.walk l.walk l.ended.before
-      l.ended.after l.ended.after_entered;
-  at : l.walk.at ≡ l.fn.walk.at + l.copies;
-}
-
 abbrev pub invariant-step_copies-loop-copies : goal.invariant-step_copies-loop-copies
 invariant-step_copies-loop-copies l = record {
   walked : Walked (between (unrolled (tree l.inner)) l.least l.most)
