@@ -10,10 +10,10 @@ use Rattle.jp_iregexp.specs.declared.class.ClassItem.{ClassItem}
 use Rattle.jp_iregexp.specs.Class.{class_holds}
 use Rattle.jp_iregexp.specs.Language.{Power}
 use Rattle.jp_match.specs.declared.walk.Walk.{Walk}
-use Rattle.jp_match.specs.Private.Copies.{enters, IsTurned, IsEndMarked, IsNoneEnough, AreStepped}
+use Rattle.jp_match.specs.Private.Copies.{enters, IsEndMarked, IsNoneEnough, AreStepped}
 use Rattle.jp_match.specs.Private.Marks.{size, Rest, Ends, Steps}
 use Rattle.jp_match.specs.Private.OneClass.{IsOneClass}
-use Rattle.jp_match.specs.Private.Plain.{Plain, Words, empty, either, sequence, between}
+use Rattle.jp_match.specs.Private.Plain.{Plain, Words, empty, sequence, between}
 use Rattle.jp_match.specs.Private.Walks.{rounds_of, IsBefore, IsSameOutside, Moves}
 use Rattle.jp_match.proofs.Bools.{or_false}
 use Rattle.jp_match.proofs.Steps.EmptyWords.{powers_nil}
