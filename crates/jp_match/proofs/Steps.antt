@@ -1,4 +1,5 @@
 -- A step of a scan: for the functions that move marks over a character or look where they end.
+pub mod Copies
 pub mod EmptyWords
 pub mod EndParts
 pub mod Idle

@@ -2,6 +2,7 @@
 -- class tests counted. Beside `Scan`, the contracts of private functions alone cite it.
 pub mod Beginning
 pub mod ClassTests
+pub mod Copies
 pub mod Counts
 pub mod Cutting
 pub mod EmptyWord

@@ -1,6 +1,6 @@
 //! Parts of a pattern that a step passes over.
 
-ghost use Rattle.std.specs.Prelude.{IfSome};
+ghost use Rattle.std.specs.Prelude.{◌≡◌, IfSome};
 ghost use Rattle.jp_iregexp.specs.Tree.{tree, repeat};
 ghost use Rattle.jp_match.specs.Private.Plain.{unrolled};
 ghost use Rattle.jp_match.specs.Private.Walks.{IsBefore, IsIdle};
@@ -14,6 +14,26 @@ use jp_iregexp::Pattern;
 pub(crate) struct Idle {
     pub(crate) positions: usize,
     pub(crate) has_empty_word: bool,
+}
+
+/// How many positions a part has, and how many repeats that keep a round.
+#[derive(Clone, Copy)]
+pub(crate) struct Size {
+    /// None until the part has been walked over.
+    pub(crate) positions: usize,
+    pub(crate) rounds: usize,
+}
+
+impl Size {
+    /// That of a part that has not been walked over.
+    pub(crate) fn unknown() -> Size
+        ensures { result.positions ≡ 0 }
+    {
+        Size {
+            positions: 0,
+            rounds: 0,
+        }
+    }
 }
 
 /// The next part of a walk, where it is a class or copies of one and has no mark.

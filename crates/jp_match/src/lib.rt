@@ -15,6 +15,7 @@
 
 mod beginning;
 mod class_tests;
+mod copies;
 mod counts;
 mod cutting;
 mod empty_word;

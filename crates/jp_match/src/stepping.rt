@@ -5,11 +5,14 @@ ghost use Rattle.jp_iregexp.specs.Tree.{tree, branches, pieces, repeat};
 ghost use Rattle.jp_match.specs.Private.Plain.{unrolled, class as plain_class, plus, between};
 ghost use Rattle.jp_match.specs.Private.Plain.{at_least};
 ghost use Rattle.jp_match.specs.Private.Marks.{size};
-ghost use Rattle.jp_match.specs.Private.Walks.{IsBefore, Moves, own_rounds};
+ghost use Rattle.jp_match.specs.Private.Walks.{IsBefore, IsSize, Moves, own_rounds};
 
 use crate::class_tests::Tests;
-use crate::idle::idle_part;
+use crate::copies::Copies;
+use crate::empty_word::has_empty_word;
+use crate::idle::{Size, idle_part};
 use crate::one_class::one_class;
+use crate::places::is_any;
 use crate::walk::{Reach, Walk};
 use jp_iregexp::{CharClass, Pattern};
 
@@ -168,21 +171,14 @@ fn step_between(
         return step_copies(inner, least, most, walk, entered, c, tests);
     };
     let holds = tests.holds(one.class, c);
-    let mut ended = Reach::none();
-    let mut through = Reach::at_start(entered);
-    for copies in 0..most {
-        ended = ended.or(through.only_if(least <= copies));
-        let marked = walk.marks[walk.at];
-        let next = through.before & holds;
-        walk.marks[walk.at] = next;
-        walk.at += 1;
-        through = through.then(Reach {
-            before: marked | (one.is_optional & through.before),
-            after: next,
-            after_entered: next | one.is_optional,
-        });
-    }
-    ended.or(through.only_if(least <= most))
+    let copies = Copies {
+        least: least as usize,
+        is_optional: one.is_optional,
+    };
+    let end = walk.at + most as usize;
+    let reach = copies.step(&mut walk.marks[walk.at..end], entered, holds);
+    walk.at = end;
+    reach
 }
 
 /// The same for copies of more than one class, each by itself. Copies without positions are all as
@@ -205,15 +201,55 @@ fn step_copies(
 {
     let mut ended = Reach::none();
     let mut through = Reach::at_start(entered);
+    let mut size = Size::unknown();
     for copies in 0..most {
         ended = ended.or(through.only_if(least <= copies));
         let at = walk.at;
-        through = through.then(step(inner, walk, through.before, c, tests));
+        let round = walk.round;
+        through = through.then(step_copy(inner, size, walk, through.before, c, tests));
         if walk.at == at {
             return ended.or(through.only_if(least <= most));
         }
+        size = Size {
+            positions: walk.at - at,
+            rounds: walk.round - round,
+        };
     }
     ended.or(through.only_if(least <= most))
+}
+
+/// The same for one copy. Once the size of copies is known, one that is not entered and has no mark
+/// is passed over.
+#[cycle(step)]
+fn step_copy(
+    inner: &Pattern,
+    size: Size,
+    walk: &mut Walk,
+    entered: bool,
+    c: char,
+    tests: &mut Tests,
+) -> Reach
+    requires before { IsBefore (unrolled (tree inner.now)) walk.old }
+    requires sized { IsSize (unrolled (tree inner.now)) size.positions size.rounds }
+    ensures moves { Moves (unrolled (tree inner.now)) c entered false true walk.old walk.new
+        result.before result.after result.after_entered }
+    ensures counted { walk.old.at + tests.new ≤ walk.new.at + tests.old }
+    ensures kept { tests.old ≤ tests.new }
+{
+    if entered || size.positions == 0 {
+        return step(inner, walk, entered, c, tests);
+    }
+    let end = walk.at + size.positions;
+    if is_any(&walk.marks[walk.at..end]) {
+        return step(inner, walk, entered, c, tests);
+    }
+    walk.at = end;
+    walk.round += size.rounds;
+    Reach {
+        before: false,
+        after: false,
+        after_entered: has_empty_word(inner),
+    }
 }
 
 /// The same for a repeat with a least and no most: the last copy goes on.

@@ -7,12 +7,13 @@ use Rattle.std.proofs.lemmas.List.{get_or-drop, get_or-take}
 use Rattle.jp_iregexp.specs.declared.class.ClassItem.{ClassItem}
 use Rattle.jp_iregexp.specs.Tree.{Tree, class as class_tree, repeat}
 use Rattle.jp_match.specs.declared.walk.Walk.{Walk}
+use Rattle.jp_match.specs.Private.EmptyWord.{has_empty}
 use Rattle.jp_match.specs.Private.Plain.{Plain, class, between, unrolled, counted}
 use Rattle.jp_match.specs.Private.Marks.{size, Ends, Steps}
 use Rattle.jp_match.specs.Private.Walks.{rounds_of, Rounds, takes_none, IsBefore, IsSameOutside}
 use Rattle.jp_match.specs.Private.Walks.{IsIdle, Moves}
 use Rattle.jp_match.proofs.Bools.{not_false}
-use Rattle.jp_match.proofs.Steps.Kept.{takes_none_is}
+use Rattle.jp_match.proofs.Steps.Kept.{takes_none_is, ends_are_entered, ends_fresh}
 use Rattle.jp_match.proofs.Steps.Sizes.{size_between, rounds_between}
 use Rattle.jp_match.proofs.Steps.StepParts.{IsSameBefore, rest_none, step_nowhere, step_same, ends_same}
 use Rattle.jp_match.proofs.Steps.Walking.{same_outside}
@@ -44,6 +45,12 @@ ends_nowhere a = record {
     ],
   );
 }
+
+pub takes_empty : (t : Tree) → takes_none (unrolled t) ≡ has_empty t
+takes_empty t =
+    let a = unrolled t in
+    ends_are_entered a [] (takes_none a) (ends_nowhere a) ∙
+    sym (ends_are_entered a [] (has_empty t) (ends_fresh t [] no_mark))
 
 -- a walk goes past a part
 pub record GoesPast (now last : Walk) (positions turns : ℕ) : Type 0 where

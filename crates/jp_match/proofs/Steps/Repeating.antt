@@ -16,7 +16,7 @@ use Rattle.jp_match.proofs.Steps.Sizes.{own_few, rounds_without, rounds_free, si
 use Rattle.jp_match.proofs.Steps.Sizes.{size_at_least}
 use Rattle.jp_match.proofs.Steps.StepParts.{ends_without, without_ends, step_without}
 use Rattle.jp_match.proofs.Steps.Unrolled.{between_to, between_of, at_least_to, at_least_of}
-use Rattle.jp_match.proofs.Steps.Walking.{Walked, moves_either, moves_empty}
+use Rattle.jp_match.proofs.Steps.Walking.{Walked, walked_none, moves_either, moves_empty}
 use Rattle.jp_match.proofs.Steps.Walking.{moves_nothing, moves_entered, same_outside, walked_piece}
 use Rattle.jp_match.proofs.Steps.Walking.{before_first}
 
@@ -51,6 +51,18 @@ walked_here whole a c begin e x y false (suc least) most first now p f t is so_f
     subst (λ l. Walked whole (sequence a (between a l most)) c begin e x y first now
     (p || false) (f || false) (t || false)) (sym one) (rw (or_false p, or_false f, or_false t)
     so_far)
+
+-- before the first copy
+pub walked_begin : (a : Plain) (c : ℕ) (e : Bool) (least most : ℕ) (walk : Walk) →
+    IsBefore (between a least most) walk → Walked (between a least most)
+    (between a (least - 0) (most - 0)) c e e false true walk walk false false false
+walked_begin a c e least most walk before =
+    let whole = between a least most in
+    let all : least ≡ least - 0 = omega arith in
+    let every : most ≡ most - 0 = omega arith in
+    subst (λ l. Walked whole (between a l (most - 0)) c e e false true walk walk false false false)
+    all (subst (λ m. Walked whole (between a least m) c e e false true walk walk false false false)
+    every (walked_none whole c e walk before))
 
 -- one copy more of a counted repeat
 pub walked_copy : (whole a : Plain) (c : ℕ) (begin e x y enough : Bool) (least most done : ℕ) (first

@@ -22,7 +22,7 @@ use Rattle.jp_match.proofs.Steps.StepParts.{IsSameBefore, step_same, ends_same, 
 use Rattle.jp_match.proofs.Steps.StepParts.{ends_without, without_ends, step_without}
 use Rattle.jp_match.proofs.Steps.Walking.{rounds_same, same_outside, same_there}
 
-first_same : (n at : ℕ) (b : Bool) (xs : List Bool) → n ≡ 1 → b ≡ get_or xs at false →
+pub first_same : (n at : ℕ) (b : Bool) (xs : List Bool) → n ≡ 1 → b ≡ get_or xs at false →
     IsSameBefore n (b ∷ []) (drop at xs)
 first_same n at b xs one is = record {
   each = λ k below.
@@ -77,22 +77,13 @@ moves_one a negated items optional c e x y now last marked next one was is moved
       so = rounds_free a (drop now.at last.marks.items) (drop now.round last.rounds.items) still;
     }
 
-and_false : (b : Bool) → (b && false) ≡ false
+pub and_false : (b : Bool) → (b && false) ≡ false
 and_false true = refl
 and_false false = refl
 
-and_true : (b : Bool) → (b && true) ≡ b
+pub and_true : (b : Bool) → (b && true) ≡ b
 and_true true = refl
 and_true false = refl
-
-pub moves_copy : (a : Plain) (negated : Bool) (items : List ClassItem) (optional : Bool) (c : ℕ)
-    (e : Bool) (now last : Walk) (marked next : Bool) → IsOneClass a negated items optional →
-    marked ≡ get_or now.marks.items now.at false → next ≡ (e && class_holds negated items c) →
-    WalkedOne now last next →
-    Moves a c e false true now last (marked || (optional && e)) next (next || optional)
-moves_copy a negated items optional c e now last marked next one was is moved =
-    rw (and_false optional, and_true optional, or_false next) at (moves_one a negated items optional
-    c e false true now last marked next one was is moved)
 
 pub moves_class : (negated : Bool) (items : List ClassItem) (c : ℕ) (e x y : Bool) (now last : Walk)
     (marked next : Bool) → marked ≡ get_or now.marks.items now.at false →

@@ -104,6 +104,11 @@ rounds_end (plus a) marks rounds =
     (nat_le (own_rounds a) 0 || is_same (get_or rounds 0 false) (marks_end a marks))
     && rounds_end a marks (drop (own_rounds a) rounds)
 
+-- where the number of its positions is known, both numbers are those of the part
+pub record IsSize (a : Plain) (positions rounds : ℕ) : Type 0 where
+  pub positions_so : 1 ≤ positions → size a ≡ positions
+  pub rounds_so : 1 ≤ positions → rounds_of a ≡ rounds
+
 -- a part without rounds has no mark: where it is not entered, a step leaves it as it is
 pub record IsIdle (a : Plain) (walk : Walk) (positions : ℕ) (has_empty_word : Bool) : Type 0 where
   pub sized : size a ≡ positions

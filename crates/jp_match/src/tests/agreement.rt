@@ -124,3 +124,28 @@ fn both_matchers_agree_on_nested_patterns(rt: HostRuntime) -> Result<(), Fail> {
     }
     Ok(())
 }
+
+const CLASSES: [&str; 6] = ["a", "b", "[ab]", "(a?)", "(b?)", "(([ab])?)"];
+
+/// A pattern of some counted classes, one after another.
+fn counted_pattern(alloc: Global, seed: &mut u64) -> Result<String, AllocError> {
+    let mut pattern = String::new(alloc);
+    for _ in 0..below(seed, 5) {
+        let class = one_of(seed, &CLASSES);
+        let least = below(seed, 4);
+        let most = least.saturating_add(below(seed, 3));
+        pattern = format!(in alloc; "{pattern}{class}{{{least},{most}}}")?;
+    }
+    Ok(pattern)
+}
+
+#[test]
+fn both_matchers_agree_on_counted_classes(rt: HostRuntime) -> Result<(), Fail> {
+    let mut seed = 3;
+    for _ in 0..1_000 {
+        let pattern = counted_pattern(rt.alloc(), &mut seed)?;
+        let word = made_text(rt.alloc(), &mut seed, 12)?;
+        assert!(rt; agree(rt.alloc(), &pattern, &word)?, "{pattern} {word}");
+    }
+    Ok(())
+}

@@ -7,7 +7,7 @@ use std::process::Abort;
 use std::test::Fail;
 
 // A pattern, a text, whether the whole text is in its language, and whether some part of it is.
-const ROWS: [(&str, &str, bool, bool); 32] = [
+const ROWS: [(&str, &str, bool, bool); 40] = [
     ("", "", true, true),
     ("", "a", false, true),
     ("^a$", "a", false, false),
@@ -40,6 +40,14 @@ const ROWS: [(&str, &str, bool, bool); 32] = [
     ("a{5000,}|a{3,9000}", "aaa", true, true),
     ("(a|b)*c", "abab", false, false),
     ("(ab|c)*", "abcab", true, true),
+    ("a{2,4}", "a", false, false),
+    ("a{2,4}", "aaaaa", false, true),
+    ("(a?){2,4}", "aaaa", true, true),
+    ("(a?){2,4}", "aaaaa", false, true),
+    ("b(a?){2}b", "bb", true, true),
+    ("b(a?){2}b", "baaab", false, false),
+    ("[ab]{3}c{0,2}", "abac", true, true),
+    ("[ab]{3}c{0,2}", "abcc", false, false),
 ];
 
 /// Asserts whether a text, and whether some part of it, matches the pattern that another spells.

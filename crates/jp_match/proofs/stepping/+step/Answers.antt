@@ -1,7 +1,8 @@
-use Rattle.std.proofs.Common.{◌≡◌, ◌+◌, ◌≤◌, ◌<◌, Bool, false, ◌||◌, ◌&&◌, List, length, drop, refl, ap}
+use Rattle.std.proofs.Common.{◌≡◌, ◌+◌, ◌*◌, ◌≤◌, ◌<◌, Bool, true, false, ◌||◌, List, length, drop, take, refl, sym, ap}
+use Rattle.std.proofs.Common.{◌-◌, ◌++◌}
 use Rattle.std.proofs.Common.{◌∙◌, subst, arith, rules}
 use Rattle.std.proofs.lemmas.Bool.{leb-true, le-leb}
-use Rattle.std.proofs.lemmas.List.{get_or_default}
+use Rattle.std.proofs.lemmas.List.{get_or_default, with_items_is}
 use denote.Param.Weighed.{at_most}
 use Rattle.jp_iregexp.proofs.pattern.Pattern.TheLaws.{the_size}
 use Rattle.jp_iregexp.specs.declared.class.ClassItem.{ClassItem}
@@ -10,19 +11,22 @@ use Rattle.jp_iregexp.proofs.Trees.{tree_class, tree_either, tree_sequence, tree
 use Rattle.jp_match.specs.declared.walk.Walk.{Walk}
 use Rattle.jp_match.specs.Private.Plain.{class, plus, unrolled, counted}
 use Rattle.jp_match.specs.Private.Marks.{size}
-use Rattle.jp_match.specs.Private.Walks.{own_rounds, IsBefore}
+use Rattle.jp_match.specs.Private.Walks.{own_rounds, IsBefore, Moves}
 use Rattle.jp_match.proofs.Patterns.Variants.{either_is, sequence_is, repeat_is}
 use Rattle.jp_match.proofs.Patterns.Items.{drop_item, drop_all}
-use Rattle.jp_match.proofs.Steps.Idle.{moves_idle_part}
+use Rattle.jp_match.proofs.Steps.Copies.{moves_copies, put_length}
+use Rattle.jp_match.proofs.Steps.Idle.{moves_idle_part, moves_unmarked, unmarked, unmarked_slice}
+use Rattle.jp_match.proofs.Steps.Idle.{takes_empty}
 use Rattle.jp_match.proofs.Steps.Walking.{before_branch, before_piece, walked_next_branch}
 use Rattle.jp_match.proofs.Steps.Walking.{walked_next_piece, walked_branches, walked_pieces}
+use Rattle.jp_match.proofs.Steps.Repeating.{walked_begin}
 use Rattle.jp_match.proofs.Steps.Repeating.{before_copy, walked_copy, walked_copies, walked_still}
 use Rattle.jp_match.proofs.Steps.Repeating.{before_goes_on, walked_goes_on, before_plus, walked_plus}
 use Rattle.jp_match.proofs.Steps.Repeating.{before_star, moves_star, before_still}
 use Rattle.jp_match.proofs.Steps.Repeating.{walked_still_plus}
-use Rattle.jp_match.proofs.Steps.Rounding.{moves_copy, moves_class_plus, before_inner}
+use Rattle.jp_match.proofs.Steps.Rounding.{moves_class_plus, before_inner}
 use Rattle.jp_match.proofs.Steps.Rounding.{moves_idle, moves_rounds}
-use Rattle.jp_match.proofs.Steps.Sizes.{own_other}
+use Rattle.jp_match.proofs.Steps.Sizes.{own_other, size_between}
 use Rattle.jp_match.proofs.stepping.+step.Goals as goal
 
 pub step-step_either-requires : goal.step-step_either-requires
@@ -192,12 +196,36 @@ pub step_repeat-returns-in-None-2-clause-moves : goal.step_repeat-returns-in-Non
 unfolding unrolled counted
 step_repeat-returns-in-None-2-clause-moves t c = rw c.in-None-2.is c.step_at_least.ensures.moves
 
-pub step_copies-step-requires : goal.step_copies-step-requires
-step_copies-step-requires t c = (
+pub step_copies-step_copy-requires : goal.step_copies-step_copy-requires
+step_copies-step_copy-requires t c = (
   search rules,
-  before_copy _ c.args.least c.args.most c.loop-copies.copies _ c.loop-copies-test.true
-      c.loop-copies.invariant.walked.before,
+  (
+    before_copy _ c.args.least c.args.most c.loop-copies.copies _ c.loop-copies-test.true
+        c.loop-copies.invariant.walked.before,
+    c.loop-copies.invariant.sized,
+  ),
 )
+
+pub step_copies-loop-copies-init : goal.step_copies-loop-copies-init
+step_copies-loop-copies-init t c =
+    let start = c.at_start-through.ensures in
+    let none = c.none-ended.ensures in
+    record {
+      walked = rw (
+        start.before,
+        start.after,
+        start.after_entered,
+        none.before,
+        none.after,
+        none.after_entered,
+      ) (walked_begin _ _ _ c.args.least c.args.most _ c.requires);
+      sized = record {
+        positions_so = λ some. absurd (omega (arith, some, c.unknown-size.ensures));
+        rounds_so = λ some. absurd (omega (arith, some, c.unknown-size.ensures));
+      };
+      counted = omega arith;
+      kept = omega arith;
+    }
 
 pub step_copies-loop-copies-preserved : goal.step_copies-loop-copies-preserved
 step_copies-loop-copies-preserved t c =
@@ -217,9 +245,13 @@ step_copies-loop-copies-preserved t c =
         if.after_entered,
       ) (walked_copy _ _ _ _ _ _ _ _ c.args.least c.args.most c.loop-copies.copies _ _ _ _ _ _ _ _ _
           c.loop-copies-test.true (leb-true _ _, le-leb _ _) c.loop-copies.invariant.walked
-          c.step.ensures.moves);
-      counted = omega (arith, c.loop-copies.invariant.counted, c.step.ensures.counted);
-      kept = omega (arith, c.loop-copies.invariant.kept, c.step.ensures.kept);
+          c.step_copy.ensures.moves);
+      sized = record {
+        positions_so = λ some. omega (arith, c.step_copy.ensures.moves.at);
+        rounds_so = λ some. omega (arith, c.step_copy.ensures.moves.round);
+      };
+      counted = omega (arith, c.loop-copies.invariant.counted, c.step_copy.ensures.counted);
+      kept = omega (arith, c.loop-copies.invariant.kept, c.step_copy.ensures.kept);
     }
 
 pub step_copies-returns-then-walk-at-clause-moves :
@@ -248,7 +280,28 @@ step_copies-returns-then-walk-at-clause-moves t c =
       if.after_entered,
     ) (walked_still _ _ _ _ _ _ _ _ _ c.args.least c.args.most c.loop-copies.copies _ _ _ _ _ _ _ _ _
     c.loop-copies-test.true (leb-true _ _, le-leb _ _) (leb-true _ _, le-leb _ _) c.if-walk-at.true
-    c.loop-copies.invariant.walked c.step.ensures.moves)
+    c.loop-copies.invariant.walked c.step_copy.ensures.moves)
+
+pub step_copy-slice_bounds-is_any-end : goal.step_copy-slice_bounds-is_any-end
+step_copy-slice_bounds-is_any-end t c =
+    let size = c.requires.sized.positions_so (omega (arith, c.if-size-eq0.false)) in
+    let fit : c.args.walk.now.at + c.args.size.positions ≤ length c.args.walk.now.marks.items =
+    omega (arith, c.requires.before.marks, size) in
+    search rules
+
+pub step_copy-returns-clause-moves : goal.step_copy-returns-clause-moves
+step_copy-returns-clause-moves t c =
+    let a = unrolled (tree c.args.inner.now) in
+    let now = c.args.walk.now in
+    let known : 1 ≤ c.args.size.positions = omega (arith, c.if-size-eq0.false) in
+    let sized = c.requires.sized.positions_so known in
+    let none = unmarked (size a) now.at now.marks.items (λ k below. unmarked_slice now.at
+    c.args.size.positions now.marks.items _ c.if-is_any.false (rw c.deref.ensures.value at
+    c.is_any.ensures) k (omega (arith, below, sized))) in
+    rw c.if-entered.false (subst (Moves a c.args.c false false true now _ false false) (takes_empty
+    (tree c.args.inner.now) ∙ sym c.has_empty_word.ensures) (moves_unmarked a c.args.c
+    c.args.size.positions c.args.size.rounds now _ sized (c.requires.sized.rounds_so known) none
+    (record { at = refl; round = refl; marks = refl; rounds = refl }) c.requires.before.so))
 
 pub step_copies-returns-clause-moves : goal.step_copies-returns-clause-moves
 step_copies-returns-clause-moves t c =
@@ -258,63 +311,38 @@ step_copies-returns-clause-moves t c =
     (walked_copies _ _ _ _ _ _ _ _ c.args.least c.args.most c.loop-copies.copies _ _ _ _ _ (omega
     arith) (omega arith) (leb-true _ _, le-leb _ _) c.loop-copies.invariant.walked)
 
-pub step_between-index-marked-requires : goal.step_between-index-marked-requires
-step_between-index-marked-requires t c =
-    let before = before_copy _ c.args.least c.args.most c.loop-copies.copies _
-    c.loop-copies-test.true c.loop-copies.invariant.walked.before in
-    omega (arith, before.marks, c.in-Some.ensures.sized)
-
-pub step_between-index_mut-requires : goal.step_between-index_mut-requires
-step_between-index_mut-requires t c =
-    let before = before_copy _ c.args.least c.args.most c.loop-copies.copies _
-    c.loop-copies-test.true c.loop-copies.invariant.walked.before in
-    omega (arith, before.marks, c.in-Some.ensures.sized)
-
-pub step_between-loop-copies-preserved : goal.step_between-loop-copies-preserved
-step_between-loop-copies-preserved t c =
-    let one = c.in-Some.ensures in
-    let then = c.then-through.ensures in
-    let or = c.or-ended.ensures in
-    let if = c.only_if.ensures in
-    let before = before_copy _ c.args.least c.args.most c.loop-copies.copies _
-    c.loop-copies-test.true c.loop-copies.invariant.walked.before in
-    let within : c.loop-copies.walk.at < length c.loop-copies.walk.marks.items = omega (
+pub step_between-slice_bounds-step-end : goal.step_between-slice_bounds-step-end
+step_between-slice_bounds-step-end t c =
+    let size = size_between (unrolled (tree c.args.inner.now)) c.args.least c.args.most ∙ ap
+    (λ n. c.args.most * n) c.in-Some.ensures.sized in
+    let fit : c.args.walk.now.at + c.args.most ≤ length c.args.walk.now.marks.items = omega (
       arith,
-      before.marks,
-      one.sized,
+      c.requires.marks,
+      size,
     ) in
-    record {
-      walked = rw (
-        then.before,
-        then.after,
-        then.after_entered,
-        or.before,
-        or.after,
-        or.after_entered,
-        if.before,
-        if.after,
-        if.after_entered,
-      ) (walked_copy _ _ _ _ _ _ _ _ c.args.least c.args.most c.loop-copies.copies _ _ _ _ _ _ _ _ _
-          c.loop-copies-test.true (leb-true _ _, le-leb _ _) c.loop-copies.invariant.walked
-          (moves_copy _ _ _ _ _ _ _ _ _ _ one (c.index-marked.ensures ∙ get_or_default _ _ _ false
-          within) (ap (λ holds. c.loop-copies.through.before && holds)
-          c.holds-holds.ensures.answer) (record {
-            within = within;
-            at = refl;
-            round = refl;
-            marks = refl;
-            rounds = refl;
-          })));
-      at = omega (arith, c.loop-copies.invariant.at);
-    }
+    search rules
 
 pub step_between-returns-clause-moves : goal.step_between-returns-clause-moves
 step_between-returns-clause-moves t c =
-    let or = c.or.ensures in
-    let if = c.only_if-2.ensures in
-    rw (or.before, or.after, or.after_entered, if.before, if.after, if.after_entered)
-    (walked_copies _ _ _ _ _ _ _ _ c.args.least c.args.most c.loop-copies.copies _ _ _ _ _ (omega
-    arith) (omega arith) (leb-true _ _, le-leb _ _) c.loop-copies.invariant.walked)
+    let at = c.args.walk.now.at in
+    let marks = c.args.walk.now.marks in
+    let m = at + c.args.most - at in
+    let value = c.deref_mut.ensures.value in
+    let stepped = rw value at c.step-reach.ensures in
+    let size = size_between (unrolled (tree c.args.inner.now)) c.args.least c.args.most ∙ ap
+    (λ n. c.args.most * n) c.in-Some.ensures.sized in
+    let fit : at + c.args.most ≤ length marks.items = omega (arith, c.requires.marks, size) in
+    let long = put_length at c.args.most m marks.items c.step-reach.new.marks fit (omega arith)
+    stepped.turned.same_length in
+    let here = with_items_is marks (take at marks.items ++ (c.step-reach.new.marks ++ drop m (drop
+    at marks.items))) (long ∙ sym (ap length value) ∙ c.deref_mut.ensures.len) in
+    moves_copies _ _ _ _ _ c.args.least c.args.most _ _ c.args.walk.now _ _ _ _ _
+    c.in-Some.ensures c.holds-holds.ensures.answer c.requires stepped (record {
+      at = refl;
+      round = refl;
+      rounds = refl;
+      marks_are = rw value here;
+    })
 
 pub step_at_least-step-requires : goal.step_at_least-step-requires
 step_at_least-step-requires t c = (

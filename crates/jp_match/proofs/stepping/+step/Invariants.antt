@@ -1,6 +1,7 @@
-use Rattle.std.proofs.Common.{◌≡◌, ◌+◌, ◌-◌, ◌≤◌, suc, true, false, map, drop}
+use Rattle.std.proofs.Common.{◌+◌, ◌-◌, ◌≤◌, suc, true, false, map, drop}
 use Rattle.jp_iregexp.specs.Tree.{tree, branches, pieces}
 use Rattle.jp_match.specs.Private.Plain.{unrolled, between, at_least}
+use Rattle.jp_match.specs.Private.Walks.{IsSize}
 use Rattle.jp_match.proofs.Steps.Walking.{Walked}
 use Rattle.jp_match.proofs.stepping.+step.Given as goal
 
@@ -22,21 +23,13 @@ invariant-step_sequence-loop-piece l = record {
   kept : l.fn.tests ≤ l.tests;
 }
 
-abbrev pub invariant-step_between-loop-copies : goal.invariant-step_between-loop-copies
-invariant-step_between-loop-copies l = record {
-  walked : Walked (between (unrolled (tree l.inner)) l.least l.most)
-      (between (unrolled (tree l.inner)) (l.least - l.copies) (l.most - l.copies)) l.fn.c l.entered
-      l.through.before l.through.after l.through.after_entered l.fn.walk l.walk l.ended.before
-      l.ended.after l.ended.after_entered;
-  at : l.walk.at ≡ l.fn.walk.at + l.copies;
-}
-
 abbrev pub invariant-step_copies-loop-copies : goal.invariant-step_copies-loop-copies
 invariant-step_copies-loop-copies l = record {
   walked : Walked (between (unrolled (tree l.inner)) l.least l.most)
       (between (unrolled (tree l.inner)) (l.least - l.copies) (l.most - l.copies)) l.c l.entered
       l.through.before l.through.after l.through.after_entered l.fn.walk l.walk l.ended.before
       l.ended.after l.ended.after_entered;
+  sized : IsSize (unrolled (tree l.inner)) l.size.positions l.size.rounds;
   counted : l.fn.walk.at + l.tests ≤ l.walk.at + l.fn.tests;
   kept : l.fn.tests ≤ l.tests;
 }
