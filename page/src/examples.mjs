@@ -42,7 +42,13 @@ export const EXAMPLES = [
   {
     title: "1.5 A book store",
     document: STORE,
-    queries: ["$..book[?@.price<10].title", "$.store.book[*].author", "$..book[-1]", "$..book[?@.isbn]", "$.store..price"],
+    queries: [
+      "$..book[?@.price<10].title",
+      "$.store.book[*].author",
+      "$..book[-1]",
+      "$..book[?@.isbn]",
+      "$.store..price",
+    ],
   },
   {
     title: "2.3.1 Name selector",

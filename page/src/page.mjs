@@ -20,6 +20,8 @@ const DOCUMENT_MEANINGS = {
   NotWhole: "this number is not whole, or does not fit in 64 bits: ",
   ListTooLong: "a list has more than (2^53)-1 items.",
 };
+const CANNOT_START =
+  "This browser cannot run the engine, which is a WebAssembly module whose memory has addresses of 64 bits.";
 const NO_NODES = {
   query: "No answer: the query is refused.",
   document: "No answer: the document is refused.",
@@ -48,6 +50,11 @@ function made(name, className, ...parts) {
   }
   element.append(...parts);
   return element;
+}
+
+/** A number with commas between its thousands. */
+function spelled(number) {
+  return number.toLocaleString("en");
 }
 
 function choice(name) {
@@ -138,7 +145,7 @@ function showFrom(start) {
   }
   const part = longDocument.slice(start, start + PART);
   documentBox.value = part;
-  const [all, first, last] = [longDocument.length, start + 1, start + part.length].map((it) => it.toLocaleString("en"));
+  const [all, first, last] = [longDocument.length, start + 1, start + part.length].map(spelled);
   long.firstElementChild.textContent = `${all} characters; the box shows those from ${first} to ${last}.`;
   return start;
 }
@@ -232,15 +239,16 @@ function showNodes({ form }, answer) {
   if (first) {
     first.tabIndex = 0;
   }
-  count.textContent = answer.rows ? counted(answer) : NO_NODES[Object.keys(NO_NODES).find((why) => answer[why])];
+  const why = Object.keys(NO_NODES).find((it) => answer[it]);
+  count.textContent = answer.rows ? counted(answer) : NO_NODES[why];
   nodes.setAttribute("aria-busy", "false");
 }
 
 function counted({ count: all, rows: first, time }) {
-  const nodesText = `${all.toLocaleString("en")} ${all === 1 ? "node" : "nodes"}`;
+  const nodesText = `${spelled(all)} ${all === 1 ? "node" : "nodes"}`;
   const timeText = time < 0.1 ? "less than 0.1 ms" : `${time.toFixed(1)} ms`;
   const rest = all - first.length;
-  const restText = rest === 0 ? "" : `; the first ${first.length.toLocaleString("en")} are here, ${rest.toLocaleString("en")} are not`;
+  const restText = rest === 0 ? "" : `; the first ${spelled(first.length)} are here, ${spelled(rest)} are not`;
   return `${nodesText} in ${timeText}${restText}`;
 }
 
@@ -254,7 +262,7 @@ function row({ path, value }) {
 }
 
 function cutText({ text, left }) {
-  const parts = left ? [text, made("span", "more", ` … and ${left.toLocaleString("en")} characters more`)] : [text];
+  const parts = left ? [text, made("span", "more", ` … and ${spelled(left)} characters more`)] : [text];
   return made("code", "", ...parts);
 }
 
@@ -362,7 +370,8 @@ async function copyLink() {
   history.replaceState(null, "", fragmentOf(asking()));
   try {
     await navigator.clipboard.writeText(location.href);
-    byId("copied").textContent = isWhole ? "Copied." : "Copied without the document, which is too long for a link.";
+    const without = "Copied without the document, which is too long for a link.";
+    byId("copied").textContent = isWhole ? "Copied." : without;
   } catch {
     byId("copied").textContent = "Copy the page's address.";
   }
@@ -410,9 +419,7 @@ async function start() {
   try {
     asker = new Asker(await WebAssembly.compile(bytes), show);
   } catch {
-    queryOutcome.replaceChildren(
-      made("p", "refused", "This browser cannot run the engine, which is a WebAssembly module whose memory has addresses of 64 bits."),
-    );
+    queryOutcome.replaceChildren(made("p", "refused", CANNOT_START));
     return;
   }
   ask();

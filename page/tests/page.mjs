@@ -77,7 +77,10 @@ async function press(key) {
 }
 
 async function isWhole(name, { width, scheme }) {
-  const [wanted, had] = await browser.value("[document.documentElement.scrollWidth, document.documentElement.clientWidth]");
+  const [wanted, had] = await browser.value(`(() => {
+    const { scrollWidth, clientWidth } = document.documentElement;
+    return [scrollWidth, clientWidth];
+  })()`);
   assert.ok(wanted <= had, `${name} at ${width}: ${wanted} pixels in ${had}`);
   if (pictures) {
     await browser.picture(join(pictures, `${name}-${width}-${scheme}.png`));
@@ -182,6 +185,14 @@ async function goesOnMeanwhile() {
   assert.equal(await table(), "$[0]\t5\n");
 }
 
+/** The page's own policy keeps a document in it, also from a script that would send it away. */
+async function connectsToNothing() {
+  await open({ q: "$" });
+  assert.equal(await browser.value('fetch("http://127.0.0.1:9/").then(() => "sent", () => "kept")'), "kept");
+  const complaints = browser.complaints.splice(0);
+  assert.ok(complaints.some((it) => it.includes("Content Security Policy")), complaints.join("\n"));
+}
+
 async function saysThatItCannotStart() {
   await open({ q: "$" });
   const source = "WebAssembly.compile = () => Promise.reject(new Error());";
@@ -222,6 +233,7 @@ const tests = [
   marksByKeyboard,
   answersWhileTyping,
   goesOnMeanwhile,
+  connectsToNothing,
   saysThatItCannotStart,
   hasNames,
   isWholeInEachWindow,
