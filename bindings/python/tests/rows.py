@@ -1,8 +1,10 @@
 """The rows of jp_command's table, read from its sources, so that none is written twice.
 
 A row is a document, a query, a profile and what is given: ("Nodes", [(path, value), ..]),
-("Canonical", text), ("Query", "Syntax at 5") or ("Document", "NotJson").
+("Canonical", text), ("Query", "Syntax at 5") or ("Document", "NotJson"). As a program this prints each row
+as a line of JSON, for tests in other languages.
 """
+import json
 import os
 import re
 from typing import Any, Dict, Iterator, NamedTuple, Tuple
@@ -91,3 +93,8 @@ def rows() -> Iterator[Row]:
             for document, query, extended, standard in value:
                 yield Row(document, query, True, *extended)
                 yield Row(document, query, False, *standard)
+
+
+if __name__ == "__main__":
+    for row in rows():
+        print(json.dumps(row))

@@ -1,0 +1,88 @@
+/** JSONPath queries (RFC 9535) over JSON documents, by the proved engine jp. */
+
+/**
+ * JSON text, as a string or as bytes, or any other value, which `JSON.stringify` writes first; a BigInt
+ * in it is a whole number. A string is JSON text: the JSON text of the string `a` is `'"a"'`.
+ */
+export type Document = string | Uint8Array | object | number | bigint | boolean | null;
+
+/** A JSON value. A whole number that is no safe integer is a BigInt. */
+export type Value = string | number | bigint | boolean | null | Value[] | { [name: string]: Value };
+
+export interface Options {
+  /** Lets a query call `distinct`, which RFC 9535 does not have. */
+  extended?: boolean;
+}
+
+/** A node that a query selects. */
+export class Match {
+  /** Its normalized path (RFC 9535, section 2.7). */
+  readonly path: string;
+  /** Its value as compact JSON. */
+  readonly text: string;
+  /** Its value, made anew each time. */
+  get value(): Value;
+}
+
+/** A query that is accepted. It can be kept, and asked of any number of documents. */
+export class Query {
+  constructor(text: string, options?: Options);
+  readonly text: string;
+  readonly extended: boolean;
+  find(document: Document): Match[];
+  paths(document: Document): string[];
+  values(document: Document): Value[];
+  toString(): string;
+}
+
+/** A query that is refused. Its message shows the query with a caret. */
+export class QueryError extends Error {
+  readonly name: "QueryError";
+  readonly kind:
+    | "Syntax"
+    | "TooDeep"
+    | "NotWhole"
+    | "NumberRange"
+    | "IndexRange"
+    | "UnknownFunction"
+    | "ArgumentCount"
+    | "NotSingular"
+    | "IllTyped";
+  /** The byte of the query, in UTF-8, where it goes wrong, from 0. */
+  readonly place: number;
+  /** The same as an index of `query`. */
+  readonly column: number;
+  readonly query: string;
+}
+
+/** A document that is refused. */
+export class DocumentError extends Error {
+  readonly name: "DocumentError";
+  readonly kind: "NotJson" | "NotWhole" | "ListTooLong";
+  /** Of `NotWhole`, the normalized path of the first number that is not a whole one of 64 bits. */
+  readonly path: string | null;
+}
+
+/** The query, to be asked of documents. Throws `QueryError` where it is not accepted. */
+export function parse(query: string, options?: Options): Query;
+
+/**
+ * The nodes that the query selects, in the order of RFC 9535; one that is selected twice stands there
+ * twice. Throws `QueryError` or `DocumentError`, the query's first, and `RangeError` where memory ran out.
+ */
+export function find(query: string, document: Document, options?: Options): Match[];
+
+/** The normalized paths of the nodes that `find` gives. */
+export function paths(query: string, document: Document, options?: Options): string[];
+
+/** The values of the nodes that `find` gives. */
+export function values(query: string, document: Document, options?: Options): Value[];
+
+/** The canonical text of the query: equal for equal queries, however they are spelled. Throws `QueryError`. */
+export function canonical(query: string, options?: Options): string;
+
+/** Throws `QueryError` where the query is not accepted. */
+export function check(query: string, options?: Options): void;
+
+/** The version of the engine, as "0.1.0". */
+export function version(): string;

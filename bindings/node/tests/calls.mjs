@@ -1,0 +1,163 @@
+/** What users of Node see. Expected values are those of RFC 9535, or by hand. */
+import assert from "node:assert/strict";
+import test from "node:test";
+import * as jp from "../jp.mjs";
+
+const STORE = {
+  store: {
+    book: [
+      { category: "reference", author: "Nigel Rees", title: "Sayings", price: 8 },
+      { category: "fiction", author: "Evelyn Waugh", title: "Sword", price: 12 },
+    ],
+    bicycle: { color: "red", price: 399 },
+  },
+};
+
+/** The error that a call throws, which has to be one of a class. */
+function thrown(kind, call) {
+  try {
+    call();
+  } catch (fault) {
+    assert.ok(fault instanceof kind, fault);
+    return fault;
+  }
+  return assert.fail("nothing is thrown");
+}
+
+test("paths and values", () => {
+  const [match, ...others] = jp.find("$.store.book[?@.price<10].title", STORE);
+  assert.deepEqual(others, []);
+  assert.equal(match.path, "$['store']['book'][0]['title']");
+  assert.equal(match.text, '"Sayings"');
+  assert.equal(match.value, "Sayings");
+});
+
+test("order and repeats", () => {
+  assert.deepEqual(jp.values("$[::-1]", "[1,2,3]"), [3, 2, 1]);
+  assert.deepEqual(jp.paths("$[0,0]", "[1,2,3]"), ["$[0]", "$[0]"]);
+  assert.deepEqual(jp.find("$.nothing", STORE), []);
+});
+
+test("whole numbers are exact", () => {
+  const text = '{"a":[18446744073709551615,-9223372036854775808,9007199254740993,9007199254740991]}';
+  const expected = [18446744073709551615n, -9223372036854775808n, 9007199254740993n, 9007199254740991];
+  assert.deepEqual(jp.values("$.a[*]", text), expected);
+  assert.deepEqual(jp.values("$.*", { a: expected }), [expected]);
+  const mixed = { "1234567890123456": "n18446744073709551615", b: ["t\\\"", "9007199254740993:"], c: 2n ** 63n };
+  assert.deepEqual(jp.values("$", mixed), [mixed]);
+});
+
+test("documents as text, bytes and values", () => {
+  for (const document of ['{"é":[1]}', new TextEncoder().encode('{"é":[1]}'), { é: [1] }]) {
+    assert.deepEqual(jp.paths("$.é[0]", document), ["$['é'][0]"]);
+  }
+  assert.deepEqual(jp.values("$", null), [null]);
+  assert.deepEqual(jp.values("$", true), [true]);
+  assert.throws(() => jp.find("$", undefined), TypeError);
+  assert.throws(() => jp.find(["$"], "[]"), TypeError);
+});
+
+test("texts with tabs, newlines and zero bytes", () => {
+  const names = { "a\tb\n\0": "c\td\n\0" };
+  const [match] = jp.find("$.*", names);
+  assert.equal(match.value, "c\td\n\0");
+  assert.deepEqual(jp.values(match.path, names), [match.value]);
+});
+
+test("a text longer than the first buffer", () => {
+  const items = Array.from({ length: 100_000 }, (_, index) => index);
+  assert.deepEqual(jp.values("$[*]", items), items);
+  assert.deepEqual(jp.values("$[0]", [["x".repeat(3_000_000)]]), [["x".repeat(3_000_000)]]);
+});
+
+test("functions, and those of the profile Extended", () => {
+  const people = [
+    { id: 1, born: "1815" },
+    { id: 2, born: "1791" },
+  ];
+  assert.deepEqual(jp.values('$[?match(@.born,"18..")].id', people), [1]);
+  assert.deepEqual(jp.values('$[?search(@.born,"79")].id', people), [2]);
+  assert.deepEqual(jp.paths("$[?distinct(@.*)]", [{ a: 0 }, {}], { extended: true }), ["$[0]"]);
+  const refused = thrown(jp.QueryError, () => jp.paths("$[?distinct(@.*)]", []));
+  assert.deepEqual([refused.kind, refused.place], ["UnknownFunction", 3]);
+});
+
+test("canonical texts, and queries that are kept", () => {
+  assert.equal(jp.canonical("$ .a [ ?(@.b==-0) ]"), "$['a'][?@['b']==0]");
+  assert.equal(jp.check("$..a"), undefined);
+  const query = jp.parse("$.a");
+  assert.deepEqual([query.values({ a: 1 }), query.paths({ a: 1 }), query.find({ b: 1 })], [[1], ["$['a']"], []]);
+  const extended = jp.parse("$[?distinct(@.*)]", { extended: true });
+  assert.deepEqual(extended.paths([{}, [0]]), ["$[1]"]);
+  thrown(jp.QueryError, () => jp.parse("a"));
+});
+
+test("a query that is refused, with its caret", () => {
+  const refused = thrown(jp.QueryError, () => jp.find("$.a[01]", "[1,"));
+  assert.deepEqual([refused.kind, refused.place, refused.column], ["Syntax", 5, 5]);
+  assert.equal(refused.message, "query refused: Syntax at 5\n$.a[01]\n     ^");
+});
+
+test("places are bytes, and columns are indexes of the query", () => {
+  for (const [query, place, column, caret] of [
+    ["$.é[01]", 6, 5, "     ^"],
+    ["$.😀[01]", 8, 6, "     ^"],
+    ["$.e\u0301[01]", 7, 6, "      ^"],
+    ["$.\n[", 2, 2, "  ^"],
+    ["$.\ud800", 2, 2, "  ^"],
+    ["$['\ud800\ud800']", 3, 3, "   ^"],
+  ]) {
+    const refused = thrown(jp.QueryError, () => jp.check(query));
+    assert.deepEqual([refused.place, refused.column, refused.message.split("\n")[2]], [place, column, caret]);
+  }
+});
+
+test("kinds of refusal", () => {
+  for (const [query, kind, place] of [
+    ["$[9007199254740992]", "IndexRange", 2],
+    ["$[?@.a==1.5]", "NotWhole", 8],
+    ["$[?@.a==99999999999999999999]", "NumberRange", 8],
+    ["$[?length()==1]", "ArgumentCount", 3],
+    ["$[?@.*==1]", "NotSingular", 3],
+    ["$[?value(@..color)]", "IllTyped", 3],
+    [`$[?${"(".repeat(200)}`, "TooDeep", 130],
+  ]) {
+    const refused = thrown(jp.QueryError, () => jp.check(query));
+    assert.deepEqual([refused.kind, refused.place], [kind, place]);
+  }
+});
+
+test("documents that are refused", () => {
+  for (const [document, kind, path] of [
+    ["[1,]", "NotJson", null],
+    [Uint8Array.of(0x22, 0xff, 0x22), "NotJson", null],
+    ['"\ud800"', "NotJson", null],
+    ["[".repeat(128) + "]".repeat(128), "NotJson", null],
+    ["[1e400]", "NotJson", null],
+    ['{"a":[0,2.5]}', "NotWhole", "$['a'][1]"],
+    [[0.5], "NotWhole", "$[0]"],
+  ]) {
+    const refused = thrown(jp.DocumentError, () => jp.find("$", document));
+    assert.deepEqual([refused.kind, refused.path], [kind, path]);
+  }
+  assert.equal(new jp.DocumentError("NotWhole", "$[0]").message, "document refused: NotWhole at $[0]");
+});
+
+test("the deepest query and document", () => {
+  const deepest = "[".repeat(127) + "]".repeat(127);
+  assert.equal(jp.paths("$..*", deepest).length, 126);
+  const query = `$[?${"(".repeat(127)}@.a${")".repeat(127)}]`;
+  assert.equal(jp.canonical(query), "$[?@['a']]");
+});
+
+test("calls go on after the stack ran out", () => {
+  const deep = (depth) => (depth === 0 ? jp.values("$..[?@..a]", "[1]") : deep(depth - 1));
+  for (let depth = 1; depth < 40_000; depth += 1000) {
+    try {
+      deep(depth);
+    } catch (fault) {
+      assert.ok(fault instanceof RangeError);
+    }
+  }
+  assert.deepEqual(jp.values("$[0]", "[1]"), [1]);
+});
