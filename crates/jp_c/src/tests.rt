@@ -141,7 +141,7 @@ fn answers_many_over_no_document(rt: HostRuntime) {
     let mut out = [b'#'; 5];
     let size = jp_eval_many(rt.alloc(), b"$", &mut questions, b"[2.5]", 0, 0, &mut out);
     assert_eq!(rt; size, 4);
-    assert_eq!(rt; out.as_slice(), b"$[0]#");
+    assert_eq!(rt; out.as_slice(), b"$[0]#".as_slice());
     let (first, second) = (questions[0].report, questions[1].report);
     assert_eq!(rt; (first.status, first.kind, first.length), (3, 2, 4));
     assert_eq!(rt; second, no_query(0));
