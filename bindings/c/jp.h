@@ -8,8 +8,8 @@
  * What the caller owes, which nothing checks:
  * - No pointer is null, not even where the length beside it is 0: give the address of some byte.
  * - Each pointer is to as many bytes as the length beside it says, below 2^63. The query and the
- *   document may be read, and the buffer and the report written, by no one else meanwhile. The
- *   buffer and the report overlap nothing, and each is aligned as its type is.
+ *   document may be read, and the buffer and the reports written, by no one else meanwhile. The
+ *   buffer and the reports overlap nothing, and each is aligned as its type is.
  * - `malloc`, `realloc` and `free` of the program are of one allocator and align to 16 bytes.
  * - No call from a signal handler, nor from the forked child of a process that has threads.
  * - 1 MiB of stack.
@@ -90,6 +90,24 @@ uint32_t jp_eval(const uint8_t *query, size_t query_length,
                  const uint8_t *document, size_t document_length,
                  uint32_t form, uint32_t profile,
                  uint8_t *out, size_t out_length, struct jp_report *report);
+
+/* One of many queries: the bytes of the queries' text from its place on, as many as its size says. */
+struct jp_question {
+    size_t place;
+    size_t size;
+    struct jp_report report; /* which the call fills as jp_eval does, whatever it was */
+};
+
+/* Many queries over one document, which is read once where it is accepted, and else for each query.
+ * Each question is answered in turn by its own report, also where others are refused. What the reports
+ * tell of are texts that stand one after another: a question's begins where the lengths of those before
+ * it end. `out` gets all of them if there is room for all, and else is left as it was. Gives how many
+ * bytes they have together. A query that the text of the queries ends before is what is there of it. */
+size_t jp_eval_many(const uint8_t *queries, size_t queries_length,
+                    struct jp_question *questions, size_t questions_length,
+                    const uint8_t *document, size_t document_length,
+                    uint32_t form, uint32_t profile,
+                    uint8_t *out, size_t out_length);
 
 /* The canonical text of a query, in which each query has one spelling; no newline after it. */
 uint32_t jp_canon(const uint8_t *query, size_t query_length, uint32_t profile,

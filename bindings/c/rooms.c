@@ -62,6 +62,54 @@ static void try_room(const struct row *row, size_t room) {
     free(out);
 }
 
+/* Many queries with so much room: one refused among others, one with no node, one of no bytes. */
+static void try_many(size_t room) {
+    static const char queries[] = "$.a[*]$.a[01]$.b$.a";
+    static const char document[] = "{\"a\":[1,[2,{}]]}";
+    static const char text[] = "$['a'][0]\n$['a'][1]\n$['a']\n";
+    static const struct jp_report expected[] = {
+        {0, 0, 0, 20}, {JP_QUERY_REFUSED, JP_SYNTAX, 5, 0}, {0, 0, 0, 0},
+        {0, 0, 0, 7}, {JP_QUERY_REFUSED, JP_SYNTAX, 0, 0},
+    };
+    struct jp_question questions[] = {
+        {0, 6, {9, 9, 9, 9}}, {6, 7, {9, 9, 9, 9}}, {13, 3, {9, 9, 9, 9}},
+        {16, 9, {9, 9, 9, 9}}, {99, 9, {9, 9, 9, 9}},
+    };
+    uint8_t *out = malloc(room + 1);
+    memset(out, '#', room + 1);
+    size_t size = jp_eval_many((const uint8_t *)queries, sizeof queries - 1, questions, 5,
+                               (const uint8_t *)document, sizeof document - 1, JP_PATHS,
+                               JP_STANDARD, out, room);
+    expect(size == sizeof text - 1, "the size of all texts", room);
+    for (size_t at = 0; at < 5; at += 1) {
+        expect(memcmp(&questions[at].report, &expected[at], sizeof expected[at]) == 0, "a report", room);
+    }
+    size_t written = room >= size ? size : 0;
+    expect(memcmp(out, text, written) == 0, "the texts", room);
+    for (size_t at = written; at <= room; at += 1) {
+        expect(out[at] == '#', "what stands behind the texts", room);
+    }
+    free(out);
+}
+
+/* Many queries over what is no document, and no queries at all. */
+static void try_many_refused(void) {
+    struct jp_question questions[] = {{0, 1, {9, 9, 9, 9}}, {0, 0, {9, 9, 9, 9}}};
+    uint8_t out[16] = {0};
+    const uint8_t document[] = "[2.5]";
+    expect(jp_eval_many((const uint8_t *)"$", 1, questions, 2, document, 5, JP_VALUES, JP_STANDARD,
+                        out, sizeof out) == 4
+               && memcmp(out, "$[0]", 5) == 0,
+           "the path of a number", 16);
+    expect(questions[0].report.status == JP_DOCUMENT_REFUSED
+               && questions[0].report.kind == JP_NUMBER_NOT_WHOLE,
+           "the document's report", 16);
+    expect(questions[1].report.status == JP_QUERY_REFUSED, "the query's report", 16);
+    expect(jp_eval_many((const uint8_t *)"", 0, questions, 0, document, 5, JP_VALUES, JP_STANDARD,
+                        out, sizeof out) == 0,
+           "no queries", 16);
+}
+
 /* Canonical texts in the same rooms, and that a query is accepted. */
 static void try_queries(void) {
     static const char query[] = "$ .a [ ?distinct(@.b) ]";
@@ -90,6 +138,11 @@ int main(void) {
             try_room(&rows[at], rooms[room]);
         }
     }
+    const size_t rooms[] = {0, 26, 27, 32};
+    for (size_t room = 0; room < 4; room += 1) {
+        try_many(rooms[room]);
+    }
+    try_many_refused();
     try_queries();
     expect(jp_version() == JP_VERSION, "the version", 0);
     return failures == 0 ? 0 : 1;

@@ -13,7 +13,7 @@ numbers are whole numbers of 64 bits, and are given back exactly. `extended=True
 Any thread may make any call, at the same time as others; Python's lock is given up meanwhile.
 """
 from ._engine import DocumentError, QueryError, version
-from ._queries import Match, Query, canonical, check, find, parse, paths, values
+from ._queries import Match, Query, canonical, check, find, find_many, parse, paths, values
 
 __all__ = [
     "DocumentError",
@@ -23,6 +23,7 @@ __all__ = [
     "canonical",
     "check",
     "find",
+    "find_many",
     "parse",
     "paths",
     "values",

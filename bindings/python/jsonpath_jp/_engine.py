@@ -6,7 +6,7 @@ nobody changes.
 """
 import ctypes
 import os
-from typing import List, Optional
+from typing import List, Optional, Sequence, Union
 
 VALUES, PATHS, BOTH = range(3)
 STANDARD, EXTENDED = range(2)
@@ -78,6 +78,14 @@ class _Report(ctypes.Structure):
     ]
 
 
+class _Question(ctypes.Structure):
+    _fields_ = [
+        ("place", ctypes.c_size_t),
+        ("size", ctypes.c_size_t),
+        ("report", _Report),
+    ]
+
+
 class _Room:
     """What a call writes to."""
 
@@ -96,6 +104,10 @@ def _load() -> ctypes.CDLL:
     number = [ctypes.c_uint32]
     library.jp_version.argtypes = []
     library.jp_eval.argtypes = text + text + number + number + room
+    library.jp_eval_many.argtypes = (
+        text + [ctypes.POINTER(_Question), ctypes.c_size_t] + text + number + number + room[:2]
+    )
+    library.jp_eval_many.restype = ctypes.c_size_t
     library.jp_canon.argtypes = text + number + room
     library.jp_check.argtypes = text + number + [ctypes.POINTER(_Report)]
     for name in ("jp_version", "jp_eval", "jp_canon", "jp_check"):
@@ -116,12 +128,21 @@ def version() -> str:
     return f"{number >> 16}.{number >> 8 & 255}.{number & 255}"
 
 
+def _take_room() -> _Room:
+    try:
+        return _spare_rooms.pop()
+    except IndexError:
+        return _Room(_FIRST_ROOM)
+
+
+def _give_back(room: _Room) -> None:
+    if room.size <= _LARGEST_KEPT_ROOM:
+        _spare_rooms.append(room)
+
+
 def _text(call, query: str, *arguments) -> str:
     """The text that a call writes, called again where the buffer has too little room for it."""
-    try:
-        room = _spare_rooms.pop()
-    except IndexError:
-        room = _Room(_FIRST_ROOM)
+    room = _take_room()
     report = room.report
     status = call(*arguments, *room.arguments)
     if report.length > room.size:
@@ -130,8 +151,7 @@ def _text(call, query: str, *arguments) -> str:
         status = call(*arguments, *room.arguments)
     text = ctypes.string_at(room.buffer, report.length).decode()
     refusal = _refusal(report, query, text) if status else None
-    if room.size <= _LARGEST_KEPT_ROOM:
-        _spare_rooms.append(room)
+    _give_back(room)
     if refusal is not None:
         raise refusal
     return text
@@ -158,6 +178,42 @@ def evaluate(query: str, document: bytes, form: int, profile: int) -> str:
     return _text(
         _library.jp_eval, query, text, len(text), document, len(document), form, profile
     )
+
+
+def evaluate_many(
+    queries: Sequence[str], document: bytes, form: int, profile: int
+) -> List[Union[str, QueryError]]:
+    """What `evaluate` answers for each query, with the error in place of the text of one that is
+    refused. The document's errors are raised."""
+    texts = [_bytes(query) for query in queries]
+    questions = (_Question * max(len(texts), 1))()
+    place = 0
+    for question, text in zip(questions, texts):
+        question.place, question.size = place, len(text)
+        place += len(text)
+    arguments = (b"".join(texts), place, questions, len(texts), document, len(document), form, profile)
+    room = _take_room()
+    size = _library.jp_eval_many(*arguments, room.buffer, room.size)
+    if size > room.size:
+        room = _Room(size)
+        size = _library.jp_eval_many(*arguments, room.buffer, room.size)
+    written = ctypes.string_at(room.buffer, size)
+    _give_back(room)
+    return _answers(queries, questions, written)
+
+
+def _answers(queries: Sequence[str], questions, written: bytes) -> List[Union[str, QueryError]]:
+    answers: List[Union[str, QueryError]] = []
+    place = 0
+    for query, question in zip(queries, questions):
+        end = place + question.report.length
+        text = written[place:end].decode()
+        place = end
+        refusal = _refusal(question.report, query, text) if question.report.status else None
+        if refusal is not None and not isinstance(refusal, QueryError):
+            raise refusal
+        answers.append(text if refusal is None else refusal)
+    return answers
 
 
 def canonical(query: str, profile: int) -> str:

@@ -1,8 +1,9 @@
 """Queries over documents, as Python has them."""
 import json
-from typing import Any, List, Union
+from typing import Any, Iterable, List, Union
 
 from . import _engine
+from ._engine import QueryError
 
 # A `str` or `bytes` is JSON text, and anything else is written as JSON.
 Document = Union[str, bytes, bytearray, memoryview, dict, list, tuple, int, bool, None]
@@ -79,6 +80,20 @@ def find(query: str, document: Document, extended: bool = False) -> List[Match]:
     return _matches(_lines(query, document, _engine.BOTH, extended))
 
 
+def find_many(
+    queries: Iterable[str], document: Document, extended: bool = False
+) -> List[Union[List[Match], QueryError]]:
+    """What `find` gives for each query, over one document that is read once. A query that is refused
+    has its `QueryError` in the list, and ends nothing. Raises `DocumentError` where a query that is
+    accepted is asked of what is no document."""
+    answers = _engine.evaluate_many(
+        list(queries), _json_bytes(document), _engine.BOTH, _profile(extended)
+    )
+    return [
+        answer if isinstance(answer, QueryError) else _matches(_split(answer)) for answer in answers
+    ]
+
+
 def paths(query: str, document: Document, extended: bool = False) -> List[str]:
     """The normalized paths of the nodes that `find` gives."""
     return _lines(query, document, _engine.PATHS, extended)
@@ -110,7 +125,10 @@ def _profile(extended: bool) -> int:
 
 
 def _lines(query: str, document: Document, form: int, extended: bool) -> List[str]:
-    text = _engine.evaluate(query, _json_bytes(document), form, _profile(extended))
+    return _split(_engine.evaluate(query, _json_bytes(document), form, _profile(extended)))
+
+
+def _split(text: str) -> List[str]:
     # Each line ends with a newline, which no path and no value has inside.
     return text.split("\n")[:-1]
 

@@ -32,6 +32,24 @@ class Find(unittest.TestCase):
     def test_nothing_selected(self):
         self.assertEqual(jp.find("$.nothing", STORE), [])
 
+    def test_many_queries(self):
+        queries = ["$.a[*]", "$.a[01]", "$.é", "", "$.b", "$\0", "$.a"]
+        answers = jp.find_many(queries, {"a": [1, "é" * 5000]})
+        for query, answer in zip(queries, answers):
+            try:
+                self.assertEqual(answer, jp.find(query, {"a": [1, "é" * 5000]}))
+            except jp.QueryError as refused:
+                self.assertEqual(str(answer), str(refused))
+        self.assertEqual([len(answers[at]) for at in (0, 2, 4, 6)], [2, 0, 0, 1])
+        self.assertEqual([answers[at].place for at in (1, 3, 5)], [5, 0, 1])
+
+    def test_many_queries_over_no_document(self):
+        self.assertEqual(jp.find_many([], "["), [])
+        self.assertEqual([error.kind for error in jp.find_many([""], "[")], ["Syntax"])
+        with self.assertRaises(jp.DocumentError) as caught:
+            jp.find_many(["", "$"], "[0,2.5]")
+        self.assertEqual(caught.exception.path, "$[1]")
+
     def test_whole_numbers_are_exact(self):
         text = '{"a":[18446744073709551615,-9223372036854775808,9007199254740993]}'
         expected = [18446744073709551615, -9223372036854775808, 9007199254740993]

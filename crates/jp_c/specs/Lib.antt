@@ -1,4 +1,6 @@
 pub mod Asked
 pub mod Calls
+pub mod Many
 pub mod Numbers
 pub mod Outcome
+pub mod Private

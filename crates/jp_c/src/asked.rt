@@ -1,6 +1,8 @@
 //! From bytes to answers.
-ghost use Rattle.std.specs.Prelude.{◌≡◌, ◌⊎◌, IfErr, IfOk, string_bytes};
+ghost use Rattle.std.specs.Prelude.{◌≡◌, ◌⊎◌, IfErr, IfOk, IfSome, string_bytes};
 ghost use Rattle.std.specs.Str.{IsUtf8};
+ghost use Rattle.jp_document.specs.Document.{IsDocument};
+ghost use Rattle.jp_flat.specs.FlatValue.{document_in};
 ghost use Rattle.jp_query.specs.declared.refusal.RefusalKind.TheVariants.{NoMemory};
 ghost use Rattle.jp_tree.specs.Tree.{query_of};
 ghost use Rattle.jp_c.specs.Asked.{IsAnswer, IsAsked, IsCanonOf, IsNoAnswer, IsNoText, IsQueryFault};
@@ -10,7 +12,7 @@ use jp_canon::canon;
 use jp_check::{Checked, Profile, read_query};
 use jp_command::{Form, selected_lines};
 use jp_document::Document;
-use jp_flat::flat_document;
+use jp_flat::{Flat, flat_document};
 use jp_query::{Refusal, RefusalKind};
 use jsonpath::FindFault;
 use std::alloc::Global;
@@ -76,6 +78,27 @@ pub(crate) fn answer(
     }
     let document = Document::read(alloc, document)?;
     Ok(selected_lines(alloc, form, document.value(), &query)?)
+}
+
+/// The same where the document may stand in tables already; where it does not, it is read here.
+pub(crate) fn answer_from(
+    alloc: Global,
+    query: &[u8],
+    tables: Option<&Flat<'_>>,
+    document: &[u8],
+    form: Form,
+    profile: Profile,
+) -> Result<String, FindFault>
+    requires { IfSome tables (λ f. IsDocument document.now (document_in f.now)) }
+    ensures answer { IfOk result (λ text.
+        IsAnswer profile form query.now document.now (string_bytes text)) }
+    ensures fault { IfErr result (IsNoAnswer profile query.now document.now) }
+{
+    let Some(flat) = tables else {
+        return answer(alloc, query, document, form, profile);
+    };
+    let query = asked(alloc, query, profile)?;
+    Ok(selected_lines(alloc, form, flat.value(), &query)?)
 }
 
 /// The canonical text of the query that these bytes are in a profile.

@@ -13,10 +13,12 @@
 
 mod asked;
 mod exports;
+mod many;
 mod numbers;
 mod outcome;
 #[cfg(test)]
 mod tests;
 
 pub use exports::{VERSION, jp_canon, jp_check, jp_eval, jp_version};
+pub use many::{Question, jp_eval_many};
 pub use outcome::{Outcome, Report};

@@ -76,7 +76,7 @@ pub(crate) fn tell(outcome: &Outcome, out: &mut [u8], report: &mut Report) -> u3
 }
 
 /// Writes a text to the start of a buffer that has room for all of it.
-fn fill(text: &[u8], out: &mut [u8])
+pub(crate) fn fill(text: &[u8], out: &mut [u8])
     ensures { out.new ≡ filled text.now out.old }
 {
     if text.len() <= out.len() {

@@ -1,5 +1,5 @@
 //! The calls as C makes them, with values by hand.
-use crate::{Report, jp_canon, jp_check, jp_eval, jp_version};
+use crate::{Question, Report, jp_canon, jp_check, jp_eval, jp_eval_many, jp_version};
 use std::alloc::Global;
 use std::test::Fail;
 
@@ -88,4 +88,61 @@ fn checks_in_a_profile(rt: HostRuntime) {
     assert_eq!(rt; jp_check(rt.alloc(), query, 0, &mut report), 1);
     assert_eq!(rt; (report.kind, report.place), (6, 3));
     assert_eq!(rt; jp_version(), 256);
+}
+
+/// A question that is not answered yet.
+fn asked(place: usize, size: usize) -> Question {
+    Question {
+        place,
+        size,
+        report: done(9),
+    }
+}
+
+/// A report of a query that is refused at this place as no query.
+fn no_query(place: usize) -> Report {
+    Report {
+        status: 1,
+        kind: 1,
+        place,
+        length: 0,
+    }
+}
+
+#[test]
+fn answers_many_in_turn(rt: HostRuntime) {
+    let reports = [done(2), no_query(5), done(0), done(11), no_query(0)];
+    for (room, text) in [
+        (12, b"##############".as_slice()),
+        (13, b"1\n[1,[2,{}]]\n#"),
+    ] {
+        let mut questions = [
+            asked(0, 6),
+            asked(6, 7),
+            asked(13, 3),
+            asked(16, 99),
+            asked(99, 1),
+        ];
+        let mut out = [b'#'; 14];
+        let (part, _) = out.split_at_mut(room);
+        let queries = b"$.a[0]$.a[01]$.b$.a";
+        let size = jp_eval_many(rt.alloc(), queries, &mut questions, DOCUMENT, 0, 0, part);
+        assert_eq!(rt; size, 13);
+        assert_eq!(rt; out.as_slice(), text);
+        for (question, report) in questions.iter().zip(reports) {
+            assert_eq!(rt; question.report, report);
+        }
+    }
+}
+
+#[test]
+fn answers_many_over_no_document(rt: HostRuntime) {
+    let mut questions = [asked(0, 1), asked(0, 0)];
+    let mut out = [b'#'; 5];
+    let size = jp_eval_many(rt.alloc(), b"$", &mut questions, b"[2.5]", 0, 0, &mut out);
+    assert_eq!(rt; size, 4);
+    assert_eq!(rt; out.as_slice(), b"$[0]#".as_slice());
+    let (first, second) = (questions[0].report, questions[1].report);
+    assert_eq!(rt; (first.status, first.kind, first.length), (3, 2, 4));
+    assert_eq!(rt; second, no_query(0));
 }

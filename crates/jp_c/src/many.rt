@@ -1,0 +1,155 @@
+//! Many queries over one document, which is read once.
+ghost use Rattle.std.specs.Prelude.{◌≡◌, ◌≢◌, ◌⊎◌, ◌++◌, ℕ, List, drop, string_bytes, take};
+ghost use Rattle.jsonpath.specs.declared.fault.FindFault.TheVariants.{NoMemory};
+ghost use Rattle.jp_c.specs.Calls.{IsEvalOutcome};
+ghost use Rattle.jp_c.specs.Many.{AnswersAll, AnswersInTurn, AnswersOne};
+ghost use Rattle.jp_c.specs.Outcome.{told_text};
+ghost use Rattle.jp_c.specs.Private.Subjects.{IsSound};
+ghost use Rattle.jp_c.specs.declared.outcome.Outcome.TheVariants.{Fault, Usage};
+
+use crate::asked::answer_from;
+use crate::numbers::{form, profile};
+use crate::outcome::{Outcome, Report, fill};
+use jp_flat::{Flat, flat_document};
+use jsonpath::FindFault;
+use std::alloc::Global;
+
+/// One of many queries: where it stands, and what is answered.
+#[repr(C)]
+#[derive(Debug, Clone, Copy, PartialEq, Eq)]
+pub struct Question {
+    /// The byte at which the query begins.
+    pub place: usize,
+    /// How many bytes it has.
+    pub size: usize,
+    /// What the call answers.
+    pub report: Report,
+}
+
+/// Answers each question in turn as `jp_eval` does, over one document, which is read once where it
+/// is accepted: the report goes into the question. A question's query is the bytes of `queries`
+/// from its place on, as many as it says, or as there are. The buffer gets the texts of all
+/// questions one after another where it has room for all of them, and is else left as it was.
+/// Answers how many bytes these texts have.
+#[unsafe(no_mangle)]
+pub extern "C" fn jp_eval_many(
+    alloc: Global,
+    queries: &[u8],
+    questions: &mut [Question],
+    document: &[u8],
+    form: u32,
+    profile: u32,
+    out: &mut [u8],
+) -> usize
+    ensures { AnswersAll (λ query. IsEvalOutcome form profile query document.now) queries.now
+        questions.old questions.new out.old out.new result }
+{
+    let subject = Subject::read(alloc, document, form, profile);
+    let texts = answer_each(&subject, queries, questions);
+    fill(texts.as_bytes(), out);
+    texts.len()
+}
+
+/// What all of the queries are asked of, and how.
+#[derive(Drop)]
+struct Subject<'d> {
+    alloc: Global,
+    document: &'d [u8],
+    tables: Option<Flat<'d>>,
+    form: u32,
+    profile: u32,
+}
+
+impl<'d> Subject<'d> {
+    fn read(alloc: Global, document: &'d [u8], form: u32, profile: u32) -> Subject<'d>
+        ensures document { result.document.now ≡ document.now }
+        ensures form { result.form ≡ form }
+        ensures profile { result.profile ≡ profile }
+        ensures sound { IsSound result }
+    {
+        Subject {
+            alloc,
+            document,
+            tables: flat_document(alloc, document),
+            form,
+            profile,
+        }
+    }
+
+    /// What a query answers.
+    fn outcome(&self, query: &[u8]) -> Outcome
+        requires { IsSound self.now }
+        ensures { IsEvalOutcome self.now.form self.now.profile query.now self.now.document.now
+            result }
+    {
+        let Some(form) = form(self.form) else {
+            return Outcome::Usage;
+        };
+        let Some(profile) = profile(self.profile) else {
+            return Outcome::Usage;
+        };
+        match answer_from(
+            self.alloc,
+            query,
+            self.tables.as_ref(),
+            self.document,
+            form,
+            profile,
+        ) {
+            Ok(text) => Outcome::Text(text),
+            Err(fault) => Outcome::Fault(fault),
+        }
+    }
+}
+
+/// Answers all questions, and gives their texts one after another.
+fn answer_each(subject: &Subject<'_>, queries: &[u8], questions: &mut [Question]) -> String
+    requires { IsSound subject.now }
+    ensures { AnswersInTurn
+        (λ query. IsEvalOutcome subject.now.form subject.now.profile query subject.now.document.now)
+        queries.now questions.old questions.new (string_bytes result) }
+{
+    let mut texts = String::new(subject.alloc);
+    for question in questions.iter_mut() {
+        answer_one(subject, queries, question, &mut texts);
+    }
+    texts
+}
+
+/// Answers one question, and puts its text behind the others.
+fn answer_one(subject: &Subject<'_>, queries: &[u8], question: &mut Question, texts: &mut String)
+    requires { IsSound subject.now }
+    ensures { (text : List ℕ)
+        × AnswersOne
+        (λ query. IsEvalOutcome subject.now.form subject.now.profile query
+        subject.now.document.now)
+        queries.now question.old question.new text
+        × (string_bytes texts.new ≡ string_bytes texts.old ++ text) }
+{
+    let query = part(queries, question.place, question.size);
+    let outcome = told_behind(subject.outcome(query), texts);
+    question.report = outcome.report();
+}
+
+/// The bytes from a place on, as many as wanted, or as there are.
+fn part(bytes: &[u8], place: usize, size: usize) -> &[u8]
+    ensures { result.now ≡ take size (drop place bytes.now) }
+{
+    let rest = bytes.get(place..).unwrap_or(&[]);
+    rest.get(..size).unwrap_or(rest)
+}
+
+/// Puts the text of an outcome behind the others. Where there is no memory for it, that is the
+/// outcome.
+fn told_behind(outcome: Outcome, texts: &mut String) -> Outcome
+    ensures is { (result ≡ outcome) ⊎ ((result ≡ Fault NoMemory) × (outcome ≢ Usage)) }
+    ensures told { string_bytes texts.new ≡ string_bytes texts.old ++ told_text result }
+{
+    if let Outcome::Usage = outcome {
+        return outcome;
+    }
+    match texts.push_str(outcome.text()) {
+        Ok(()) => outcome,
+        Err(_) => Outcome::Fault(FindFault::NoMemory),
+    }
+}
