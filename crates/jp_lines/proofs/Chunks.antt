@@ -1,0 +1,133 @@
+-- How far a run is in its input, as more bytes come.
+use Rattle.std.proofs.Common.{◌≡◌, ◌⊎◌, inl, inr, ℕ, ◌<◌, Bool, true, false, ◌&&◌, List, [], ◌∷◌, ◌++◌}
+use Rattle.std.proofs.Common.{length, Option, subst, refl, sym, ◌∙◌, ap}
+use Rattle.std.proofs.lemmas.List.{append-nil}
+use Rattle.std.proofs.lemmas.List.Folds.{list_all-append}
+use Rattle.jp_tree.specs.Tree.{QueryTree}
+use Rattle.jp_command.specs.Limits.{document_limit}
+use Rattle.jp_command.specs.declared.fault.Fault.TheVariants as fault
+use Rattle.jp_lines.specs.Lines.{lines_of_input, newline}
+use Rattle.jp_lines.specs.Outcome.{Outcome, Refused, ComesTo, refused_for, too_large}
+use Rattle.jp_lines.specs.Run.{Goes, GoesToRefusal, StopsAmong}
+use Rattle.jp_lines.specs.Private.Passing.{EndsLine, GoesOver, Keeps, Passes, PassesOn, Standing}
+use Rattle.jp_lines.specs.Private.Passing.{StopsPassing, is_in_line, kept_of, standing}
+use Rattle.jp_lines.specs.Private.Treating.{StopsEnding}
+use Rattle.jp_lines.specs.declared.defect.Defect.TheVariants.{TooLarge}
+use Rattle.jp_lines.specs.declared.options.Options.{Options}
+use Rattle.jp_lines.specs.declared.passing.Progress.{Progress}
+use Rattle.jp_lines.specs.declared.stop.Stop.{Stop}
+use Rattle.jp_lines.specs.declared.stop.Stop.TheVariants as stop
+use Rattle.jp_lines.proofs.Going.{not_then, part-over, passes-end, passes-kept, passes-lines}
+use Rattle.jp_lines.proofs.Going.{passes-more, passes-none, stops-after, stops-longer}
+use Rattle.jp_lines.proofs.Outcomes.{kept-many}
+use Rattle.jp_lines.proofs.Splitting.{lines-ended, lines-in_line, lines-some, lines-whole}
+
+module _ (options : Options) {W E : Type 0} (contents : W → Option (List ℕ))
+    (writes_failed : W → Bool) (reports : E → Option (List ℕ)) (reports_failed : E → Bool)
+    (q : QueryTree) where
+  abbrev On : List ℕ → Progress → Progress → List ℕ → W → W → E → E → Type 0
+  On = PassesOn options contents writes_failed reports reports_failed q
+
+  abbrev Stops : ℕ → List (List ℕ) → Type 0 → W → W → E → E → Stop → Type 0
+  Stops = StopsAmong options contents writes_failed reports reports_failed q
+
+  -- the lines that ended and the one that has begun
+  pub passes-all : (bytes : List ℕ) (s t : Standing) (o p : W) (u v : E)
+      → (passes : Passes options contents writes_failed reports reports_failed q bytes s t o p u v)
+      → is_in_line t.line ≡ true
+      → lines_of_input (s.line ++ bytes) ≡ passes.lines ++ t.line ∷ []
+  passes-all bytes s t o p u v passes in_line =
+      ap lines_of_input passes.is
+      ∙ lines-ended passes.lines t.line passes.whole
+      ∙ ap (λ l. passes.lines ++ l) (lines-whole t.line in_line)
+
+  pub on-none : (a : Progress) (line : List ℕ) (o : W) (u : E) → Keeps a line
+      → On [] a a line o o u u
+  on-none a line o u keeps = record {
+    next = line;
+    keeps = keeps;
+    passes = passes-none options contents writes_failed reports reports_failed q
+        (standing a line) o u;
+  }
+
+  -- bytes that end no line are kept
+  pub on-kept : (taken piece : List ℕ) (a b c : Progress) (line : List ℕ) (o p : W) (u v : E)
+      → On taken a b line o p u v → is_in_line piece ≡ true → c.number ≡ b.number
+      → c.refused ≡ b.refused
+      → ((begun : List ℕ) → b.line.items ≡ kept_of begun → c.line.items ≡ kept_of (begun ++ piece))
+      → On (taken ++ piece) a c line o p u v
+  on-kept taken piece a b c line o p u v on in_line number refused kept = record {
+    next = on.next ++ piece;
+    keeps = (list_all-append _ on.next piece ∙ rw (on.keeps.0, in_line) refl, kept on.next on.keeps.1);
+    passes = passes-more options contents writes_failed reports reports_failed q taken piece _ _ _
+        _ _ _ _ _ _ on.passes
+        (passes-kept options contents writes_failed reports reports_failed q piece
+        (standing b on.next) (standing c (on.next ++ piece)) p v number refused refl);
+  }
+
+  -- a newline ends the line
+  pub on-ended : (taken : List ℕ) (a b c : Progress) (line : List ℕ) (o p r : W) (u v w : E)
+      → (on : On taken a b line o p u v)
+      → EndsLine options contents writes_failed reports reports_failed q b c on.next p r v w
+      → On (taken ++ newline ∷ []) a c line o r u w
+  on-ended taken a b c line o p r u v w on ends = record {
+    next = [];
+    keeps = ends.keeps;
+    passes = passes-more options contents writes_failed reports reports_failed q taken
+        (newline ∷ []) _ _ _ _ _ _ _ _ _ on.passes
+        (passes-end options contents writes_failed reports reports_failed q
+        (standing b on.next) (standing c []) p r v w on.keeps.0 refl ends.over);
+  }
+
+  -- there is no memory to keep what comes
+  pub on-stops_keeping : (taken rest : List ℕ) (a b : Progress) (line : List ℕ) (o p : W) (u v : E)
+      → On taken a b line o p u v
+      → StopsPassing options contents writes_failed reports reports_failed q (taken ++ rest) a line
+      o p u v (stop.Run fault.NoMemory)
+  on-stops_keeping taken rest a b line o p u v on =
+      subst (λ all. Stops a.number all (false ≡ true) o p u v (stop.Run fault.NoMemory))
+      (sym (passes-lines options contents writes_failed reports reports_failed q taken rest _ _
+      o p u v on.passes)) (
+        part-over options contents writes_failed reports reports_failed q on.passes.lines _ _ _
+            o p u v on.passes.over,
+        on.passes.over.goes.writes.works,
+      )
+
+  -- the run stops at the line that a newline ends
+  pub on-stops_ending : (taken rest : List ℕ) (a b : Progress) (line : List ℕ) (o p r : W)
+      (u v w : E) (why : Stop) → (on : On taken a b line o p u v)
+      → StopsEnding options contents writes_failed reports reports_failed q b.number on.next
+      p r v w why
+      → StopsPassing options contents writes_failed reports reports_failed q
+      (taken ++ newline ∷ rest) a line o r u w why
+  on-stops_ending taken rest a b line o p r u v w why on stops =
+      subst (λ all. Stops a.number all (false ≡ true) o r u w why)
+      (sym (passes-lines options contents writes_failed reports reports_failed q taken
+      (newline ∷ rest) _ _ o p u v on.passes
+      ∙ ap (λ l. on.passes.lines ++ l) (lines-in_line on.next rest on.keeps.0)))
+      (stops-after options contents writes_failed reports reports_failed q on.passes.lines _ _ _ _
+      o p r u v w why on.passes.over
+      (stops-longer options contents writes_failed reports reports_failed q b.number
+      (on.next ∷ []) (lines_of_input rest) _ _ p r v w why (lines-some rest) stops))
+
+  -- the line has more bytes than a document may have
+  pub on-stops_growing : (taken : List ℕ) (a b : Progress) (line : List ℕ) (o p : W) (u v : E)
+      → On taken a b line o p u v → document_limit < length b.line.items
+      → options.keep_going ≡ false
+      → GoesToRefusal options contents writes_failed reports reports_failed q a.number
+      (lines_of_input (line ++ taken)) (false ≡ true) (refused_for b.number TooLarge) o p u v
+  on-stops_growing taken a b line o p u v on many stops = record {
+    lines = on.passes.lines;
+    line = on.next;
+    rest = [];
+    split = passes-all taken _ _ o p u v on.passes on.keeps.0;
+    outcomes = on.passes.over.outcomes;
+    goes = on.passes.over.goes;
+    unrefused = not_then _ _ on.passes.over.goes.allowed stops;
+    comes = subst
+        (λ n. ComesTo options q n on.next (Refused (refused_for b.number TooLarge)))
+        on.passes.over.number
+        (too_large (kept-many on.next (rw on.keeps.1 at many)));
+    complete = inr (inr refl);
+    stops = stops;
+  }

@@ -1,0 +1,9 @@
+pub mod Splitting
+pub mod ToldLemmas
+pub mod Outcomes
+pub mod Kept
+pub mod Going
+pub mod LineLemmas
+pub mod Finding
+pub mod Chunks
+pub mod Ending

@@ -1,0 +1,259 @@
+-- One line: its answer, its refusal, and why a run stops at it.
+use Rattle.std.proofs.Common.{◌≡◌, ◌≢◌, ◌⊎◌, inl, inr, ℕ, suc, ◌≤◌, ◌||◌, Bool, true, false, List, [], ◌∷◌, ◌++◌}
+use Rattle.std.proofs.Common.{length, Option, Some, None, Result, Ok, Err, IfOk, IfErr, OnOk, codes}
+use Rattle.std.proofs.Common.{subst, refl, sym, ◌∙◌, ap, arith}
+use Rattle.std.proofs.Math.Bool.{or-false}
+use Rattle.std.proofs.lemmas.List.{append-nil}
+use Rattle.std.specs.Io.KnownBytes.{Keeps}
+use Rattle.std.specs.Result.{IsErrAnd}
+use Rattle.jp_document.specs.Document.{IsDocument, IsDocumentFault}
+use Rattle.jp_document.specs.Value.{Value}
+use Rattle.jp_document.specs.declared.fault.DocumentFault.{DocumentFault}
+use Rattle.jp_document.specs.declared.fault.DocumentFault.TheVariants as document
+use Rattle.jp_tree.specs.Tree.{QueryTree}
+use Rattle.jp_command.specs.Limits.{document_limit}
+use Rattle.jp_command.specs.Output.{AppendsPrefix, StopsWriting, WritesAll}
+use Rattle.jp_command.specs.declared.fault.Fault.{Fault}
+use Rattle.jp_command.specs.declared.fault.Fault.TheVariants as fault
+use Rattle.jp_command.proofs.Streams.{Appends-keeps, prefix-whole}
+use Rattle.jp_lines.specs.Lines.{is_blank_line}
+use Rattle.jp_lines.specs.Outcome.{Outcome, Answered, Refused, ComesTo, blank, document, no_document}
+use Rattle.jp_lines.specs.Outcome.{none, written_of_all, told_of_all, lead_of, wanted_output}
+use Rattle.jp_lines.specs.Outcome.{refused_for, refused_text}
+use Rattle.jp_lines.specs.Run.{Goes, GoesInPart}
+use Rattle.jp_lines.specs.Told.{Tells, TellsPrefix}
+use Rattle.jp_lines.specs.Private.Answers.{Answers, AnswersInPart, AnswersLine, StopsAnswering}
+use Rattle.jp_lines.specs.Private.Answers.{defect_of}
+use Rattle.jp_lines.specs.Private.Passing.{GoesOver, Standing, kept_of}
+use Rattle.jp_lines.specs.Private.Treating.{Treats, StopsEnding}
+use Rattle.jp_lines.specs.declared.defect.Defect.{Defect}
+use Rattle.jp_lines.specs.declared.options.Options.{Options}
+use Rattle.jp_lines.specs.declared.stop.Stop.{Stop}
+use Rattle.jp_lines.specs.declared.stop.Stop.TheVariants as stop
+use Rattle.jp_lines.proofs.Going.{goes-none}
+use Rattle.jp_lines.proofs.Outcomes.{come-one, comes-kept}
+use Rattle.jp_lines.proofs.ToldLemmas.{prefix-none, tells-none, tells-prefix-none}
+use Rattle.jp_lines.proofs.ToldLemmas.{tells-prefix-whole, writes-none}
+
+-- an error that is this one
+pub err-is : {T E : Type 0} (r : Result T E) (e : E) (P : E → Type 0) → IsErrAnd r (λ x. x ≡ e) → P e
+    → IfErr r P
+err-is (Ok x) e P is holds = absurd is
+err-is (Err x) e P is holds = subst P (sym is) holds
+
+module _ {W : Type 0} (contents : W → Option (List ℕ)) (has_failed : W → Bool) (options : Options)
+    (q : QueryTree) (n : ℕ) (line : List ℕ) where
+  abbrev output : Value → List ℕ
+  output d = wanted_output options.wanted (lead_of options.numbered n) q d
+
+  pub answers-blank : (o : W) → length line ≤ document_limit → is_blank_line line ≡ true
+      → AnswersLine contents has_failed options q n line o o
+  answers-blank o few is = record {
+    output = [];
+    comes = blank few is;
+    writes = writes-none contents has_failed o;
+  }
+
+  pub answers-document : (d : Value) (o p : W) → length line ≤ document_limit
+      → is_blank_line line ≡ false → IsDocument line d
+      → WritesAll contents has_failed o p (output d)
+      → AnswersLine contents has_failed options q n line o p
+  answers-document d o p few some is writes = record {
+    output = output d;
+    comes = document d few some is;
+    writes = writes;
+  }
+
+  pub stops-document : (d : Value) (o p : W) (f : Fault) → length line ≤ document_limit
+      → is_blank_line line ≡ false → IsDocument line d
+      → StopsWriting contents has_failed o p (output d) f
+      → StopsAnswering contents has_failed options q n line o p f
+  stops-document d o p fault.NoMemory few some is stops =
+      (inr (record { output = output d; comes = document d few some is; writes = stops.0 }), stops.1)
+  stops-document d o p fault.Write few some is stops =
+      (record { output = output d; comes = document d few some is; writes = stops.0 }, stops.1)
+  stops-document d o p (fault.Query r) few some is stops = absurd stops
+  stops-document d o p (fault.Document f) few some is stops = absurd stops
+  stops-document d o p fault.DocumentTooLarge few some is stops = absurd stops
+  stops-document d o p fault.Read few some is stops = absurd stops
+
+  -- what is no document is refused, and want of memory stops
+  pub refuses-document : (f : DocumentFault) (o : W) → length line ≤ document_limit
+      → is_blank_line line ≡ false → IsDocumentFault line f
+      → IfOk (defect_of f) (Answers contents has_failed options q n line o o)
+      × IfErr (defect_of f) (StopsAnswering contents has_failed options q n line o o)
+  refuses-document document.NoMemory o few some is = (tt, (inl refl, refl))
+  refuses-document document.NotJson o few some is =
+      ((no_document document.NotJson few some is (λ e. cc), refl), tt)
+  refuses-document (document.NotWhole path) o few some is =
+      ((no_document (document.NotWhole path) few some is (λ e. cc), refl), tt)
+  refuses-document document.ListTooLong o few some is =
+      ((no_document document.ListTooLong few some is (λ e. cc), refl), tt)
+
+module _ (options : Options) {W E : Type 0} (contents : W → Option (List ℕ))
+    (writes_failed : W → Bool) (reports : E → Option (List ℕ)) (reports_failed : E → Bool)
+    (q : QueryTree) (n : ℕ) (kept line : List ℕ) (is : kept ≡ kept_of line) where
+  abbrev Comes : Outcome → Type 0
+  Comes = ComesTo options q n kept
+
+  abbrev Ends : W → W → E → E → Stop → Type 0
+  Ends = StopsEnding options contents writes_failed reports reports_failed q n line
+
+  comes-line : (x : Outcome) → Comes x → ComesTo options q n line x
+  comes-line x comes = comes-kept options q n line x (subst (λ l. ComesTo options q n l x) is comes)
+
+  pub treats-answered : (o p r : W) (u : E)
+      → AnswersLine contents writes_failed options q n kept o p
+      → Keeps (contents p) (contents r) → writes_failed r ≡ writes_failed p
+      → Treats options contents writes_failed reports reports_failed q n line false o r u u
+  treats-answered o p r u answers keeps works = record {
+    outcome = Answered answers.output;
+    comes = comes-line _ answers.comes;
+    writes = record {
+      written = Appends-keeps _ _ _ _ answers.writes.written keeps;
+      works = works ∙ answers.writes.works;
+    };
+    tells = tells-none reports reports_failed u;
+    is = refl;
+    allowed = λ e. cc;
+    quiet = λ e. refl;
+  }
+
+  pub treats-refused : (defect : Defect) (o p : W) (u v : E) → Comes (Refused (refused_for n defect))
+      → p ≡ o → Tells reports reports_failed u v (refused_text (refused_for n defect) ++ codes "\n")
+      → options.keep_going ≡ true
+      → Treats options contents writes_failed reports reports_failed q n line true o p u v
+  treats-refused defect o p u v comes same tells going = record {
+    outcome = Refused (refused_for n defect);
+    comes = comes-line _ comes;
+    writes = subst (λ r. WritesAll contents writes_failed o r []) (sym same)
+        (writes-none contents writes_failed o);
+    tells = tells;
+    is = refl;
+    allowed = λ e. going;
+    quiet = λ e. cc;
+  }
+
+  -- nothing of the line is written or told
+  part-none : (o p : W) (u v : E) → p ≡ o → v ≡ u
+      → GoesInPart options contents writes_failed reports reports_failed q n (line ∷ []) o p u v
+  part-none o p u v written told =
+      subst (λ r. GoesInPart options contents writes_failed reports reports_failed q n (line ∷ [])
+      o r u v) (sym written)
+      (subst (λ w. GoesInPart options contents writes_failed reports reports_failed q n (line ∷ [])
+      o o u w) (sym told) (record {
+        lines = [];
+        rest = line ∷ [];
+        front = refl;
+        outcomes = [];
+        come = none n;
+        writes = prefix-none (contents o) [];
+        tells = tells-prefix-none reports reports_failed u [];
+      }))
+
+  -- a prefix of what is to be written of it is written
+  part-written : (text : List ℕ) (o p : W) (u : E) → Comes (Answered text)
+      → AppendsPrefix (contents o) (contents p) text
+      → GoesInPart options contents writes_failed reports reports_failed q n (line ∷ []) o p u u
+  part-written text o p u comes writes = record {
+    lines = line ∷ [];
+    rest = [];
+    front = refl;
+    outcomes = Answered text ∷ [];
+    come = come-one options q n line _ (comes-line _ comes);
+    writes = subst (AppendsPrefix (contents o) (contents p)) (sym (append-nil text)) writes;
+    tells = tells-prefix-none reports reports_failed u [];
+  }
+
+  pub stops-answering : (f : Fault) (o p : W) (u : E)
+      → StopsAnswering contents writes_failed options q n kept o p f → Ends o p u u (stop.Run f)
+  stops-answering fault.NoMemory o p u stops = (go stops.0, stops.1)
+    where
+      go : (p ≡ o) ⊎ AnswersInPart contents writes_failed options q n kept o p
+          → GoesInPart options contents writes_failed reports reports_failed q n (line ∷ []) o p u u
+      go (inl same) = part-none o p u u same refl
+      go (inr part) = part-written part.output o p u part.comes part.writes
+  stops-answering fault.Write o p u stops =
+      (part-written stops.0.output o p u stops.0.comes stops.0.writes, stops.1)
+  stops-answering (fault.Query r) o p u stops = absurd stops
+  stops-answering (fault.Document f) o p u stops = absurd stops
+  stops-answering fault.DocumentTooLarge o p u stops = absurd stops
+  stops-answering fault.Read o p u stops = absurd stops
+
+  -- the flush after its answer failed
+  pub stops-flushing : (o p r : W) (u : E)
+      → AnswersLine contents writes_failed options q n kept o p
+      → Keeps (contents p) (contents r) → writes_failed r ≡ true
+      → Ends o r u u (stop.Run fault.Write)
+  stops-flushing o p r u answers keeps fails = (
+    part-written answers.output o r u answers.comes
+        (prefix-whole _ _ _ (Appends-keeps _ _ _ _ answers.writes.written keeps)),
+    fails,
+  )
+
+  -- its refusal stops the run, or there is no memory to tell it
+  pub stops-refusing : (defect : Defect) (o p : W) (u v : E) (why : Stop)
+      → Comes (Refused (refused_for n defect)) → p ≡ o → v ≡ u
+      → (why ≡ stop.Run fault.NoMemory)
+      ⊎ ((why ≡ stop.Line (refused_for n defect)) × (options.keep_going ≡ false))
+      → Ends o p u v why
+  stops-refusing defect o p u v why comes written told (inl is) =
+      subst (Ends o p u v) (sym is) (part-none o p u v written told, ap writes_failed written)
+  stops-refusing defect o p u v why comes written told (inr is) =
+      subst (Ends o p u v) (sym is.0) (record {
+        lines = [];
+        line = line;
+        rest = [];
+        split = refl;
+        outcomes = [];
+        goes = subst (λ r. Goes options contents writes_failed reports reports_failed q n [] [] o r u v)
+            (sym written)
+            (subst (λ w. Goes options contents writes_failed reports reports_failed q n [] [] o o u w)
+            (sym told) (goes-none options contents writes_failed reports reports_failed q n o u));
+        unrefused = refl;
+        comes = subst (λ m. ComesTo options q m line (Refused (refused_for n defect)))
+            (omega arith) (comes-line _ comes);
+        complete = inr (inl tt);
+        stops = is.1;
+      })
+
+module _ (options : Options) {W E : Type 0} (contents : W → Option (List ℕ))
+    (writes_failed : W → Bool) (reports : E → Option (List ℕ)) (reports_failed : E → Bool)
+    (q : QueryTree) where
+  -- a line that is treated is gone over
+  pub over-line : (s t : Standing) (refused : Bool) (o p : W) (u v : E)
+      → Treats options contents writes_failed reports reports_failed q s.number s.line refused o p u v
+      → t.number ≡ suc s.number → t.refused ≡ (s.refused || refused)
+      → GoesOver options contents writes_failed reports reports_failed q (s.line ∷ []) s t o p u v
+  over-line s t refused o p u v treats number is = record {
+    outcomes = treats.outcome ∷ [];
+    goes = record {
+      come = come-one options q s.number s.line treats.outcome treats.comes;
+      writes = subst (WritesAll contents writes_failed o p) (sym (append-nil _)) treats.writes;
+      tells = subst (Tells reports reports_failed u v) (sym (append-nil _)) treats.tells;
+      allowed = λ e. treats.allowed (sym (or-false _) ∙ e);
+      quiet = λ e. treats.quiet (sym (or-false _) ∙ e);
+    };
+    number = number ∙ omega arith;
+    refused = is ∙ ap (λ b. s.refused || b) (treats.is ∙ sym (or-false _));
+  }
+
+  -- there are no numbers for the lines behind it
+  pub stops-counting : (n : ℕ) (line : List ℕ) (refused : Bool) (o p : W) (u v : E)
+      → Treats options contents writes_failed reports reports_failed q n line refused o p u v
+      → StopsEnding options contents writes_failed reports reports_failed q n line o p u v
+      (stop.Run fault.NoMemory)
+  stops-counting n line refused o p u v treats = (
+    record {
+      lines = line ∷ [];
+      rest = [];
+      front = refl;
+      outcomes = treats.outcome ∷ [];
+      come = come-one options q n line treats.outcome treats.comes;
+      writes = subst (AppendsPrefix (contents o) (contents p)) (sym (append-nil _))
+          (prefix-whole _ _ _ treats.writes.written);
+      tells = subst (TellsPrefix reports reports_failed u v) (sym (append-nil _))
+          (tells-prefix-whole reports reports_failed u v _ treats.tells);
+    },
+    treats.writes.works,
+  )

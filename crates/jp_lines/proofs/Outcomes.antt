@@ -1,0 +1,42 @@
+-- Outcomes of lines after those of the lines before.
+use Rattle.std.proofs.Common.{◌≡◌, ℕ, suc, ◌+◌, ◌<◌, ◌≤◌, List, [], ◌∷◌, ◌++◌, length, take, subst, sym}
+use Rattle.std.proofs.Common.{arith, rules}
+use Rattle.std.proofs.lemmas.List.{length-take, take_all}
+use Rattle.jp_command.specs.Limits.{document_limit}
+use Rattle.jp_lines.specs.Outcome.{Outcome, ComesTo, ComeTo, none, one_more}
+use Rattle.jp_lines.specs.Outcome.{blank, document, no_document, too_large}
+use Rattle.jp_lines.specs.Private.Passing.{kept_of}
+use Rattle.jp_lines.specs.declared.options.Options.{Options}
+use Rattle.jp_tree.specs.Tree.{QueryTree}
+
+-- a line that is not too large is kept whole
+pub kept-all : (l : List ℕ) → length (kept_of l) ≤ document_limit → kept_of l ≡ l
+kept-all l few = take_all (suc document_limit) l (omega (arith, length-take (suc document_limit) l))
+
+pub kept-many : (l : List ℕ) → document_limit < length (kept_of l) → document_limit < length l
+kept-many l many = omega (arith, length-take (suc document_limit) l)
+
+module _ (options : Options) (q : QueryTree) where
+  pub come-one : (n : ℕ) (l : List ℕ) (x : Outcome) → ComesTo options q n l x
+      → ComeTo options q n (l ∷ []) (x ∷ [])
+  come-one n l x comes = one_more n l [] x [] comes (none (suc n))
+
+  pub come-append : (n : ℕ) (ls ms : List (List ℕ)) (xs ys : List Outcome)
+      → ComeTo options q n ls xs → ComeTo options q (n + length ls) ms ys
+      → ComeTo options q n (ls ++ ms) (xs ++ ys)
+  come-append n ls ms xs ys (none m) after =
+      subst (λ k. ComeTo options q k ms ys) (omega arith) after
+  come-append n ls ms xs ys (one_more m l more x rest comes come) after =
+      one_more n l (more ++ ms) x (rest ++ ys) comes
+      (come-append (suc n) more ms rest ys come
+      (subst (λ k. ComeTo options q k ms ys) (omega arith) after))
+
+  -- what a line comes to is seen from what is kept of it
+  pub comes-kept : (n : ℕ) (l : List ℕ) (x : Outcome) → ComesTo options q n (kept_of l) x
+      → ComesTo options q n l x
+  comes-kept n l x (blank few is) = subst (λ t. ComesTo options q n t x) (kept-all l few) (blank few is)
+  comes-kept n l x (document d few some is) =
+      subst (λ t. ComesTo options q n t x) (kept-all l few) (document d few some is)
+  comes-kept n l x (no_document fault few some is known) =
+      subst (λ t. ComesTo options q n t x) (kept-all l few) (no_document fault few some is known)
+  comes-kept n l x (too_large many) = too_large (kept-many l many)

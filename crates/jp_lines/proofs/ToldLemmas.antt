@@ -1,0 +1,88 @@
+-- What is written or told in two steps.
+use Rattle.std.proofs.Common.{◌≡◌, ℕ, Bool, true, false, List, [], ◌++◌, Option, Some, None}
+use Rattle.std.proofs.Common.{subst, refl, sym, ◌∙◌, ap, append_assoc}
+use Rattle.std.proofs.lemmas.List.{append-nil}
+use Rattle.std.specs.Io.KnownBytes.{Appends}
+use Rattle.jp_command.specs.Output.{AppendsPrefix, WritesAll}
+use Rattle.jp_command.proofs.Streams.{Appends-twice, prefix-whole}
+use Rattle.jp_lines.specs.Told.{Tells, TellsPrefix, whole, part, nothing}
+
+pub Appends-none : (a : Option (List ℕ)) → Appends a a []
+Appends-none None = tt
+Appends-none (Some xs) = sym (append-nil xs)
+
+pub prefix-none : (a : Option (List ℕ)) (text : List ℕ) → AppendsPrefix a a text
+prefix-none a text = record { prefix = []; rest = text; is = refl; written = Appends-none a }
+
+pub prefix-after : (a b c : Option (List ℕ)) (x y : List ℕ) → Appends a b x → AppendsPrefix b c y
+    → AppendsPrefix a c (x ++ y)
+prefix-after a b c x y first second = record {
+  prefix = x ++ second.prefix;
+  rest = second.rest;
+  is = ap (λ t. x ++ t) second.is ∙ sym (append_assoc x second.prefix second.rest);
+  written = Appends-twice a b c x second.prefix first second.written;
+}
+
+prefix-longer : (a b : Option (List ℕ)) (x y : List ℕ) → AppendsPrefix a b x
+    → AppendsPrefix a b (x ++ y)
+prefix-longer a b x y first = record {
+  prefix = first.prefix;
+  rest = first.rest ++ y;
+  is = ap (λ t. t ++ y) first.is ∙ append_assoc first.prefix first.rest y;
+  written = first.written;
+}
+
+module _ {W : Type 0} (contents : W → Option (List ℕ)) (has_failed : W → Bool) where
+  pub writes-none : (o : W) → WritesAll contents has_failed o o []
+  writes-none o = record { written = Appends-none (contents o); works = refl }
+
+  pub writes-more : (o p r : W) (x y : List ℕ) → WritesAll contents has_failed o p x
+      → WritesAll contents has_failed p r y → WritesAll contents has_failed o r (x ++ y)
+  writes-more o p r x y first second = record {
+    written = Appends-twice _ _ _ x y first.written second.written;
+    works = second.works ∙ first.works;
+  }
+
+module _ {E : Type 0} (reports : E → Option (List ℕ)) (has_failed : E → Bool) where
+  abbrev Told : E → E → List ℕ → Type 0
+  Told = Tells reports has_failed
+
+  pub tells-none : (u : E) → Told u u []
+  tells-none u = go (has_failed u) refl
+    where
+      go : (b : Bool) → has_failed u ≡ b → Told u u []
+      go true is = nothing is refl
+      go false is = whole is is (Appends-none (reports u))
+
+  pub tells-more : (u v w : E) (x y : List ℕ) → Told u v x → Told v w y → Told u w (x ++ y)
+  tells-more u v w x y (whole a b c) (whole d e f) = whole a e (Appends-twice _ _ _ x y c f)
+  tells-more u v w x y (whole a b c) (part d e f) = part a e (prefix-after _ _ _ x y c f)
+  tells-more u v w x y (whole a b c) (nothing d e) = cc
+  tells-more u v w x y (part a b c) (whole d e f) = cc
+  tells-more u v w x y (part a b c) (part d e f) = cc
+  tells-more u v w x y (part a b c) (nothing d e) =
+      part a (ap has_failed e ∙ b)
+      (prefix-longer _ _ x y (subst (λ z. AppendsPrefix (reports u) (reports z) x) (sym e) c))
+  tells-more u v w x y (nothing a e) (whole d f g) = cc
+  tells-more u v w x y (nothing a e) (part d f g) = cc
+  tells-more u v w x y (nothing a e) (nothing d f) = nothing a (f ∙ e)
+
+  pub tells-prefix-whole : (u v : E) (x : List ℕ) → Told u v x → TellsPrefix reports has_failed u v x
+  tells-prefix-whole u v x tells = record {
+    told = x;
+    rest = [];
+    is = sym (append-nil x);
+    tells = tells;
+  }
+
+  pub tells-prefix-after : (u v w : E) (x y : List ℕ) → Told u v x
+      → TellsPrefix reports has_failed v w y → TellsPrefix reports has_failed u w (x ++ y)
+  tells-prefix-after u v w x y first second = record {
+    told = x ++ second.told;
+    rest = second.rest;
+    is = ap (λ t. x ++ t) second.is ∙ sym (append_assoc x second.told second.rest);
+    tells = tells-more u v w x second.told first second.tells;
+  }
+
+  pub tells-prefix-none : (u : E) (text : List ℕ) → TellsPrefix reports has_failed u u text
+  tells-prefix-none u text = record { told = []; rest = text; is = refl; tells = tells-none u }

@@ -1,0 +1,98 @@
+-- What the lines of an input come to: a document with what is written of it, nothing, or a defect.
+use Rattle.std.specs.Prelude.{◌≡◌, ◌≢◌, ℕ, suc, ◌<◌, ◌≤◌, Bool, true, false, List, [], ◌∷◌, ◌++◌}
+use Rattle.std.specs.Prelude.{length, codes, if◌then◌else◌}
+use Rattle.std.specs.Fmt.{decimal}
+use Rattle.std.specs.List.{flat_map, list_any}
+use Rattle.jp_document.specs.Document.{IsDocument, IsDocumentFault}
+use Rattle.jp_document.specs.Faults.{document_fault_text}
+use Rattle.jp_document.specs.Value.{Value}
+use Rattle.jp_document.specs.declared.fault.DocumentFault.{DocumentFault}
+use Rattle.jp_document.specs.declared.fault.DocumentFault.TheVariants.{NoMemory}
+use Rattle.jp_command.specs.Limits.{document_limit}
+use Rattle.jp_command.specs.Lines.{output_behind}
+use Rattle.jp_evaluate.specs.Nodelist.{nodelist}
+use Rattle.jp_tree.specs.Tree.{QueryTree}
+use Rattle.jp_lines.specs.Lines.{is_blank_line}
+use Rattle.jp_lines.specs.declared.defect.Defect.{Defect}
+use Rattle.jp_lines.specs.declared.defect.Defect.TheVariants.{Document, TooLarge}
+use Rattle.jp_lines.specs.declared.defect.RefusedLine.{RefusedLine}
+use Rattle.jp_lines.specs.declared.options.Options.{Options}
+use Rattle.jp_lines.specs.declared.options.Wanted.{Wanted}
+use Rattle.jp_lines.specs.declared.options.Wanted.TheVariants.{Nodes, Count}
+
+-- ---- texts
+
+-- what is said of a defect
+abbrev pub defect_text : Defect → List ℕ
+defect_text (Document fault) = codes "document refused: " ++ document_fault_text fault
+defect_text TooLarge = codes "document refused: DocumentTooLarge"
+
+-- what is said of a line that is refused
+abbrev pub refused_text : RefusedLine → List ℕ
+refused_text r = codes "line " ++ decimal r.number ++ codes ": " ++ defect_text r.defect
+
+-- the number of an input's line and a tab, where numbers are asked for
+abbrev pub lead_of : Bool → ℕ → List ℕ
+lead_of numbered number = if numbered then decimal number ++ codes "\t" else []
+
+-- what is written of a document, behind such a lead: the lines of its nodes, or how many they are
+abbrev pub wanted_output : Wanted → List ℕ → QueryTree → Value → List ℕ
+wanted_output (Nodes form) lead q d = output_behind lead form q d
+wanted_output Count lead q d = lead ++ decimal (length (nodelist q d)) ++ codes "\n"
+
+-- ---- outcomes
+
+pub data Outcome : Type 0 where
+  Answered : List ℕ → Outcome
+  Refused : RefusedLine → Outcome
+
+-- what is written of a line
+abbrev pub written_of : Outcome → List ℕ
+written_of (Answered output) = output
+written_of (Refused r) = []
+
+-- what is told of it
+abbrev pub told_of : Outcome → List ℕ
+told_of (Answered output) = []
+told_of (Refused r) = refused_text r ++ codes "\n"
+
+abbrev pub is_refused : Outcome → Bool
+is_refused (Answered output) = false
+is_refused (Refused r) = true
+
+-- what is written and told of all, one after the other, and whether some are refused
+abbrev pub written_of_all : List Outcome → List ℕ
+written_of_all xs = flat_map written_of xs
+
+abbrev pub told_of_all : List Outcome → List ℕ
+told_of_all xs = flat_map told_of xs
+
+abbrev pub some_refused : List Outcome → Bool
+some_refused xs = list_any is_refused xs
+
+-- the refusal of the line of that number
+abbrev pub refused_for : ℕ → Defect → RefusedLine
+refused_for number defect = record { number = number; defect = defect }
+
+-- what is asked of each document, and the query
+module _ (options : Options) (q : QueryTree) where
+  -- the line of that number comes to this
+  pub data ComesTo (number : ℕ) (line : List ℕ) : Outcome → Type 0 where
+    blank : length line ≤ document_limit → is_blank_line line ≡ true
+        → ComesTo number line (Answered [])
+    document : (d : Value) → length line ≤ document_limit → is_blank_line line ≡ false
+        → IsDocument line d
+        → ComesTo number line
+        (Answered (wanted_output options.wanted (lead_of options.numbered number) q d))
+    no_document : (fault : DocumentFault) → length line ≤ document_limit
+        → is_blank_line line ≡ false → IsDocumentFault line fault → fault ≢ NoMemory
+        → ComesTo number line (Refused (refused_for number (Document fault)))
+    too_large : document_limit < length line
+        → ComesTo number line (Refused (refused_for number TooLarge))
+
+  -- the lines, numbered from there on, come to these, each to one
+  pub data ComeTo : ℕ → List (List ℕ) → List Outcome → Type 0 where
+    none : (number : ℕ) → ComeTo number [] []
+    one_more : (number : ℕ) (line : List ℕ) (lines : List (List ℕ)) (x : Outcome)
+        (xs : List Outcome) → ComesTo number line x → ComeTo (suc number) lines xs
+        → ComeTo number (line ∷ lines) (x ∷ xs)

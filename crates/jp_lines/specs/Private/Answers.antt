@@ -1,0 +1,42 @@
+-- What the answer to one line says. The clauses of `answer` cite it.
+use Rattle.std.specs.Prelude.{◌≡◌, ◌⊎◌, ℕ, Bool, true, List, Option, Some, None, Result, Ok, Err}
+use Rattle.jp_document.specs.declared.fault.DocumentFault.{DocumentFault}
+use Rattle.jp_document.specs.declared.fault.DocumentFault.TheVariants as document
+use Rattle.jp_tree.specs.Tree.{QueryTree}
+use Rattle.jp_command.specs.Output.{AppendsPrefix, WritesAll}
+use Rattle.jp_command.specs.declared.fault.Fault.{Fault}
+use Rattle.jp_command.specs.declared.fault.Fault.TheVariants.{NoMemory, Write}
+use Rattle.jp_lines.specs.Outcome.{Answered, Refused, ComesTo, refused_for}
+use Rattle.jp_lines.specs.declared.defect.Defect.{Defect}
+use Rattle.jp_lines.specs.declared.defect.Defect.TheVariants.{Document}
+use Rattle.jp_lines.specs.declared.options.Options.{Options}
+
+-- the defect of a line whose bytes have that fault: want of memory is none, and a fault of the run
+abbrev pub defect_of : DocumentFault → Result (Option Defect) Fault
+defect_of document.NoMemory = Err NoMemory
+defect_of fault = Ok (Some (Document fault))
+
+-- o and p are the output before and after
+module _ {W : Type 0} (contents : W → Option (List ℕ)) (has_failed : W → Bool) (options : Options)
+    (q : QueryTree) (number : ℕ) (line : List ℕ) (o p : W) where
+  -- all that is to be written of the line is written
+  pub record AnswersLine : Type 0 where
+    pub output : List ℕ
+    pub comes : ComesTo options q number line (Answered output)
+    pub writes : WritesAll contents has_failed o p output
+
+  -- a prefix of it is
+  pub record AnswersInPart : Type 0 where
+    pub output : List ℕ
+    pub comes : ComesTo options q number line (Answered output)
+    pub writes : AppendsPrefix (contents o) (contents p) output
+
+  abbrev pub Answers : Option Defect → Type 0
+  Answers None = AnswersLine
+  Answers (Some defect) =
+      ComesTo options q number line (Refused (refused_for number defect)) × (p ≡ o)
+
+  abbrev pub StopsAnswering : Fault → Type 0
+  StopsAnswering NoMemory = ((p ≡ o) ⊎ AnswersInPart) × (has_failed p ≡ has_failed o)
+  StopsAnswering Write = AnswersInPart × (has_failed p ≡ true)
+  StopsAnswering _ = ⊥

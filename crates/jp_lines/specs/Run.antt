@@ -1,0 +1,128 @@
+-- What a run of a query over the lines of an input says with its answer.
+use Rattle.std.specs.Prelude.{◌≡◌, ◌≢◌, ◌⊎◌, ℕ, ◌+◌, Bool, true, false, List, [], ◌∷◌, ◌++◌, length}
+use Rattle.std.specs.Prelude.{Option, Result, Ok, Err}
+use Rattle.jp_check.specs.declared.profile.Profile.{Profile}
+use Rattle.jp_tree.specs.Tree.{QueryTree}
+use Rattle.jp_command.specs.Output.{AppendsPrefix, WritesAll}
+use Rattle.jp_command.specs.Run.{IsAsked, RefusesQuery}
+use Rattle.jp_command.specs.declared.fault.Fault.{Fault}
+use Rattle.jp_command.specs.declared.fault.Fault.TheVariants.{Query, NoMemory, Read, Write}
+use Rattle.jp_lines.specs.Lines.{lines_of_input}
+use Rattle.jp_lines.specs.Outcome.{Outcome, Refused, ComesTo, ComeTo, written_of_all, told_of_all}
+use Rattle.jp_lines.specs.Outcome.{some_refused}
+use Rattle.jp_lines.specs.Reads.{ReadsSome, ReadsToEnd, FailsToRead}
+use Rattle.jp_lines.specs.Told.{Tells, TellsPrefix}
+use Rattle.jp_lines.specs.declared.defect.Defect.TheVariants.{TooLarge}
+use Rattle.jp_lines.specs.declared.defect.RefusedLine.{RefusedLine}
+use Rattle.jp_lines.specs.declared.options.Options.{Options}
+use Rattle.jp_lines.specs.declared.stop.Stop.{Stop}
+use Rattle.jp_lines.specs.declared.stop.Stop.TheVariants.{Run, Line}
+
+-- o and p are the output before and after, u and v what takes the refusals of lines
+module _ (options : Options) {W E : Type 0} (contents : W → Option (List ℕ))
+    (writes_failed : W → Bool) (reports : E → Option (List ℕ)) (reports_failed : E → Bool) where
+  -- The lines, numbered from there on, came to these outcomes: what is to be written of them is
+  -- written, what is to be told is told and nothing where no line is refused, and a line is refused
+  -- only where the run is to go on.
+  pub record Goes (q : QueryTree) (number : ℕ) (lines : List (List ℕ)) (outcomes : List Outcome)
+      (o p : W) (u v : E) : Type 0 where
+    pub come : ComeTo options q number lines outcomes
+    pub writes : WritesAll contents writes_failed o p (written_of_all outcomes)
+    pub tells : Tells reports reports_failed u v (told_of_all outcomes)
+    pub allowed : some_refused outcomes ≡ true → options.keep_going ≡ true
+    pub quiet : some_refused outcomes ≡ false → v ≡ u
+
+  -- among all these lines, some at the front came to these outcomes, and of what is to be written
+  -- and told of them a prefix is
+  pub record GoesInPart (q : QueryTree) (number : ℕ) (all : List (List ℕ)) (o p : W) (u v : E) : Type 0 where
+    pub lines : List (List ℕ)
+    pub rest : List (List ℕ)
+    pub front : all ≡ lines ++ rest
+    pub outcomes : List Outcome
+    pub come : ComeTo options q number lines outcomes
+    pub writes : AppendsPrefix (contents o) (contents p) (written_of_all outcomes)
+    pub tells : TellsPrefix reports reports_failed u v (told_of_all outcomes)
+
+  -- Among all these lines, the first that is no document is refused with r, and the ones before it
+  -- are answered. Where it is the last line that came, it is the whole line, or has more bytes than
+  -- a document may have.
+  pub record GoesToRefusal (q : QueryTree) (number : ℕ) (all : List (List ℕ)) (at_end : Type 0) (r : RefusedLine) (o p : W)
+      (u v : E) : Type 0 where
+    pub lines : List (List ℕ)
+    pub line : List ℕ
+    pub rest : List (List ℕ)
+    pub split : all ≡ lines ++ line ∷ rest
+    pub outcomes : List Outcome
+    pub goes : Goes q number lines outcomes o p u v
+    pub unrefused : some_refused outcomes ≡ false
+    pub comes : ComesTo options q (number + length lines) line (Refused r)
+    pub complete : (rest ≢ []) ⊎ at_end ⊎ (r.defect ≡ TooLarge)
+    pub stops : options.keep_going ≡ false
+
+  -- Why the lines, all of these, numbered from there on, were not gone through to the end: one of
+  -- them is refused, memory ran out, or a write failed. at_end says that the last of them is whole.
+  abbrev pub StopsAmong : QueryTree → ℕ → List (List ℕ) → Type 0 → W → W → E → E → Stop → Type 0
+  StopsAmong q number all at_end o p u v (Line r) = GoesToRefusal q number all at_end r o p u v
+  StopsAmong q number all at_end o p u v (Run NoMemory) =
+      GoesInPart q number all o p u v × (writes_failed p ≡ writes_failed o)
+  StopsAmong q number all at_end o p u v (Run Write) =
+      GoesInPart q number all o p u v × (writes_failed p ≡ true)
+  StopsAmong q number all at_end o p u v (Run _) = ⊥
+
+-- i and j are the input before and after
+module _ (profile : Profile) (options : Options) {R W E : Type 0}
+    (remaining : R → Option (List ℕ)) (has_failed : R → Bool)
+    (read_gives : R → Option (List ℕ) → R → Type 0) (contents : W → Option (List ℕ))
+    (writes_failed : W → Bool) (reports : E → Option (List ℕ)) (reports_failed : E → Bool) where
+  -- these bytes came, and the first word tells whether the end was read as well
+  abbrev Came : Bool → R → R → List ℕ → Type 0
+  Came true i j bytes = ReadsToEnd remaining has_failed read_gives i j bytes
+  Came false i j bytes = ReadsSome remaining has_failed read_gives i j bytes
+
+  -- the query is asked, the input was read to its end, and all its lines came to outcomes, of which
+  -- some are refused or none
+  pub record GoesToEnd (text : List ℕ) (i j : R) (o p : W) (u v : E) (refused : Bool) : Type 0 where
+    pub q : QueryTree
+    pub asked : IsAsked profile text q
+    pub bytes : List ℕ
+    pub reads : ReadsToEnd remaining has_failed read_gives i j bytes
+    pub outcomes : List Outcome
+    pub goes : Goes options contents writes_failed reports reports_failed q 1
+        (lines_of_input bytes) outcomes o p u v
+    pub is : refused ≡ some_refused outcomes
+
+  -- the query is asked, a read failed, and what came before it but for its last line, which had not
+  -- ended, came to outcomes
+  pub record FailsAtRead (text : List ℕ) (i j : R) (o p : W) (u v : E) : Type 0 where
+    pub q : QueryTree
+    pub asked : IsAsked profile text q
+    pub bytes : List ℕ
+    pub reads : FailsToRead remaining has_failed read_gives i j bytes
+    pub lines : List (List ℕ)
+    pub last : List ℕ
+    pub split : lines_of_input bytes ≡ lines ++ last ∷ []
+    pub outcomes : List Outcome
+    pub goes : Goes options contents writes_failed reports reports_failed q 1 lines outcomes o p u v
+
+  -- the query is asked, and among the lines of what was read the run stopped; the last of them is
+  -- whole if the input had come to its end
+  pub record StopsAtLine (text : List ℕ) (i j : R) (o p : W) (u v : E) (stop : Stop) : Type 0 where
+    pub q : QueryTree
+    pub asked : IsAsked profile text q
+    pub bytes : List ℕ
+    pub at_end : Bool
+    pub reads : Came at_end i j bytes
+    pub stops : StopsAmong options contents writes_failed reports reports_failed q 1
+        (lines_of_input bytes) (at_end ≡ true) o p u v stop
+
+  -- what a run says with its answer
+  abbrev pub RunsLines : List ℕ → R → R → W → W → E → E → Result Bool Stop → Type 0
+  RunsLines text i j o p u v (Ok refused) = GoesToEnd text i j o p u v refused
+  RunsLines text i j o p u v (Err (Line r)) = StopsAtLine text i j o p u v (Line r)
+  RunsLines text i j o p u v (Err (Run (Query r))) =
+      RefusesQuery profile text r × (j ≡ i) × (p ≡ o) × (v ≡ u)
+  RunsLines text i j o p u v (Err (Run NoMemory)) =
+      ((j ≡ i) × (p ≡ o) × (v ≡ u)) ⊎ StopsAtLine text i j o p u v (Run NoMemory)
+  RunsLines text i j o p u v (Err (Run Read)) = FailsAtRead text i j o p u v
+  RunsLines text i j o p u v (Err (Run Write)) = StopsAtLine text i j o p u v (Run Write)
+  RunsLines text i j o p u v (Err (Run _)) = ⊥

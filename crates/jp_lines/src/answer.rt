@@ -1,0 +1,204 @@
+//! What one line comes to.
+
+ghost use Rattle.std.specs.Prelude.{◌≡◌, ◌++◌, ◌≤◌, IfErr, IfOk, OnOk, codes, false, length};
+ghost use Rattle.std.specs.Prelude.{string_bytes};
+ghost use Rattle.jp_command.specs.Limits.{document_limit};
+ghost use Rattle.std.specs.Fmt.{decimal};
+ghost use Rattle.jp_tree.specs.Tree.{query_of};
+ghost use Rattle.jp_command.specs.Output.{StopsWriting, WritesAll};
+ghost use Rattle.jp_lines.specs.Lines.{is_blank_line};
+ghost use Rattle.jp_lines.specs.Outcome.{lead_of, wanted_output};
+ghost use Rattle.jp_lines.specs.Private.Answers.{Answers, StopsAnswering, defect_of};
+
+use crate::count::count_selected;
+use crate::defect::Defect;
+use crate::options::{Options, Wanted};
+use itoa::Buffer;
+use jp_check::Checked;
+use jp_command::{DOCUMENT_LIMIT, Fault, Writer, write_all, write_selected};
+use jp_document::{Document, DocumentFault};
+use jp_flat::Room;
+use jp_lent::Printed;
+use std::alloc::{AllocError, Global};
+use std::mem;
+
+/// What is asked of each line.
+#[derive(Clone, Copy)]
+pub(crate) struct Asked<'q> {
+    pub(crate) alloc: Global,
+    pub(crate) query: &'q Checked,
+    pub(crate) options: Options,
+}
+
+/// The memory that goes from one line to the next.
+#[derive(Drop)]
+pub(crate) struct Memory {
+    room: Room,
+    lead: String,
+    text: String,
+}
+
+impl Memory {
+    /// None yet: it is taken as lines need it.
+    pub(crate) fn new(alloc: Global) -> Memory {
+        Memory {
+            room: Room::new(alloc),
+            lead: String::new(alloc),
+            text: String::new(alloc),
+        }
+    }
+}
+
+/// Whether a line has blanks alone, or nothing.
+fn is_blank_line(line: &[u8]) -> bool
+    ensures { result ≡ is_blank_line line.now }
+{
+    line.iter()
+        .all(|byte| matches!(*byte, b' ' | b'\t' | b'\n' | b'\r'))
+}
+
+/// Writes what is asked of the line's document, if it is one, and answers its defect if it is none.
+/// Of a line with more than `DOCUMENT_LIMIT` bytes, one byte more than that is enough.
+pub(crate) fn answer<W: Writer>(
+    asked: Asked<'_>,
+    number: u64,
+    line: &[u8],
+    memory: &mut Memory,
+    output: &mut W,
+) -> Result<Option<Defect>, Fault>
+    ensures answers { IfOk result (Answers W.contents W.has_failed asked.entry.options
+        (query_of asked.entry.query.now.query) number line.now output.old output.new) }
+    ensures stopped { IfErr result (StopsAnswering W.contents W.has_failed asked.entry.options
+        (query_of asked.entry.query.now.query) number line.now output.old output.new) }
+{
+    if line.len() > DOCUMENT_LIMIT {
+        return Ok(Some(Defect::TooLarge));
+    }
+    if is_blank_line(line) {
+        return Ok(None);
+    }
+    let room = mem::replace(&mut memory.room, Room::new(asked.alloc));
+    match room.read(line) {
+        Ok(flat) => {
+            write_wanted(asked, number, flat.value(), memory, output)?;
+            memory.room = flat.into_room();
+            Ok(None)
+        }
+        Err(room) => {
+            memory.room = room;
+            answer_by_tree(asked, number, line, memory, output)
+        }
+    }
+}
+
+/// The same of a line that does not fit the tables, or is no document.
+fn answer_by_tree<W: Writer>(
+    asked: Asked<'_>,
+    number: u64,
+    line: &[u8],
+    memory: &mut Memory,
+    output: &mut W,
+) -> Result<Option<Defect>, Fault>
+    requires few { length line.now ≤ document_limit }
+    requires some { is_blank_line line.now ≡ false }
+    ensures answers { IfOk result (Answers W.contents W.has_failed asked.entry.options
+        (query_of asked.entry.query.now.query) number line.now output.old output.new) }
+    ensures stopped { IfErr result (StopsAnswering W.contents W.has_failed asked.entry.options
+        (query_of asked.entry.query.now.query) number line.now output.old output.new) }
+{
+    match Document::read(asked.alloc, line) {
+        Ok(document) => {
+            write_wanted(asked, number, document.value(), memory, output)?;
+            Ok(None)
+        }
+        Err(fault) => defect_of(fault),
+    }
+}
+
+/// The defect of a line with that fault. Want of memory is none.
+fn defect_of(fault: DocumentFault) -> Result<Option<Defect>, Fault>
+    ensures { result ≡ defect_of fault }
+{
+    match fault {
+        DocumentFault::NoMemory => Err(Fault::NoMemory),
+        fault => Ok(Some(Defect::Document(fault))),
+    }
+}
+
+/// Writes what is asked of the document whose value is the root.
+fn write_wanted<'d: 'q, 'q, V: Printed + 'd, W: Writer>(
+    asked: Asked<'q>,
+    number: u64,
+    root: V,
+    memory: &mut Memory,
+    output: &mut W,
+) -> Result<(), Fault>
+    ensures ok { OnOk result (WritesAll W.contents W.has_failed output.old output.new
+        (wanted_output asked.entry.options.wanted (lead_of asked.entry.options.numbered number)
+        (query_of asked.entry.query.now.query) (V.meaning root))) }
+    ensures stopped { IfErr result (StopsWriting W.contents W.has_failed output.old output.new
+        (wanted_output asked.entry.options.wanted (lead_of asked.entry.options.numbered number)
+        (query_of asked.entry.query.now.query) (V.meaning root))) }
+{
+    let lead = &mut memory.lead;
+    let text = &mut memory.text;
+    set_lead(asked.options.numbered, number, lead)?;
+    match asked.options.wanted {
+        Wanted::Nodes(form) => write_selected(
+            asked.alloc,
+            form,
+            lead.as_str(),
+            root,
+            asked.query,
+            text,
+            output,
+        ),
+        Wanted::Count => {
+            let count = count_selected(asked.alloc, root, asked.query)?;
+            write_count(lead.as_str(), count, text, output)
+        }
+    }
+}
+
+/// Makes `lead` what each line of output begins with.
+fn set_lead(numbered: bool, number: u64, lead: &mut String) -> Result<(), AllocError>
+    ensures { OnOk result (string_bytes lead.new ≡ lead_of numbered number) }
+{
+    lead.clear();
+    if numbered {
+        let mut buffer = Buffer::new();
+        lead.push_str(buffer.format(number))?;
+        lead.push('\t')?;
+    }
+    Ok(())
+}
+
+/// Writes a count in a line, behind `lead`.
+fn write_count<W: Writer>(
+    lead: &str,
+    count: u64,
+    text: &mut String,
+    output: &mut W,
+) -> Result<(), Fault>
+    ensures ok { OnOk result (WritesAll W.contents W.has_failed output.old output.new
+        (lead.now ++ decimal count ++ codes "\n")) }
+    ensures stopped { IfErr result (StopsWriting W.contents W.has_failed output.old output.new
+        (lead.now ++ decimal count ++ codes "\n")) }
+{
+    push_count(lead, count, text)?;
+    match write_all(output, text.as_bytes()) {
+        Ok(()) => Ok(()),
+        Err(_) => Err(Fault::Write),
+    }
+}
+
+/// Makes `text` the line of a count.
+fn push_count(lead: &str, count: u64, text: &mut String) -> Result<(), AllocError>
+    ensures { OnOk result (string_bytes text.new ≡ lead.now ++ decimal count ++ codes "\n") }
+{
+    let mut buffer = Buffer::new();
+    text.clear();
+    text.push_str(lead)?;
+    text.push_str(buffer.format(count))?;
+    text.push('\n')
+}

@@ -1,0 +1,53 @@
+//! Why lines are refused.
+
+use jp_document::DocumentFault;
+use std::fmt;
+use thiserror::Error;
+
+/// Why a line is no document.
+#[derive(Debug, PartialEq, Drop, Error)]
+pub enum Defect {
+    /// Its bytes are no document. Want of memory is no such fault.
+    Document(DocumentFault),
+    /// It has more than `DOCUMENT_LIMIT` bytes.
+    TooLarge,
+}
+
+/// As `jp` tells it, and of a number that is not whole also the path, as
+/// `document refused: NotWhole at $['a'][1]`.
+impl fmt::Display for Defect {
+    ghost use Rattle.std.specs.Prelude.{Some};
+    ghost use Rattle.jp_lines.specs.Outcome.{defect_text};
+
+    ghost output = { λ defect. Some (defect_text defect) };
+
+    fn fmt<W: fmt::Write>(&self, f: &mut fmt::Formatter<W>) -> fmt::Result {
+        match self {
+            Defect::Document(fault) => write!(f, "document refused: {fault}"),
+            Defect::TooLarge => f.write_str("document refused: DocumentTooLarge"),
+        }
+    }
+}
+
+/// A line that is no document.
+#[derive(Debug, PartialEq, Drop, Error)]
+pub struct RefusedLine {
+    /// Which line of the input it is, from 1.
+    pub number: u64,
+    /// Why it is none.
+    pub defect: Defect,
+}
+
+/// As `line 17: document refused: NotJson`.
+impl fmt::Display for RefusedLine {
+    ghost use Rattle.std.specs.Prelude.{Some};
+    ghost use Rattle.jp_lines.specs.Outcome.{refused_text};
+
+    ghost output = { λ refused. Some (refused_text refused) };
+
+    fn fmt<W: fmt::Write>(&self, f: &mut fmt::Formatter<W>) -> fmt::Result {
+        let number = self.number;
+        let defect = &self.defect;
+        write!(f, "line {number}: {defect}")
+    }
+}

@@ -1,0 +1,25 @@
+//! What is asked of a run.
+
+use jp_command::Form;
+
+/// What is written of each document.
+#[derive(Debug, Clone, Copy, PartialEq, Eq)]
+pub enum Wanted {
+    /// A line for each selected node, in this form.
+    Nodes(Form),
+    /// One line: how many nodes are selected.
+    Count,
+}
+
+/// How a run goes over the lines of its input.
+#[derive(Debug, Clone, Copy, PartialEq, Eq)]
+pub struct Options {
+    /// What is written of each document.
+    pub wanted: Wanted,
+    /// Whether each line of output begins with the number of the input's line, from 1, and a tab.
+    pub numbered: bool,
+    /// Whether a run goes on after a line that is no document.
+    pub keep_going: bool,
+    /// Whether the output is flushed after each document.
+    pub line_buffered: bool,
+}

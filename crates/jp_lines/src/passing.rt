@@ -1,0 +1,116 @@
+//! Going over the bytes of an input, line by line.
+
+ghost use Rattle.std.specs.Prelude.{◌≡◌, ◌++◌, [], List, ℕ, IfErr, OnOk, false};
+ghost use Rattle.jp_tree.specs.Tree.{query_of};
+ghost use Rattle.jp_lines.specs.Private.Passing.{EndsLine, Keeps, PassesOn, StopsPassing, kept_of};
+ghost use Rattle.jp_lines.specs.Private.Treating.{StopsEnding};
+
+use crate::answer::{Asked, Memory};
+use crate::count::number_after;
+use crate::defect::{Defect, RefusedLine};
+use crate::stop::Stop;
+use crate::treating::treat;
+use jp_command::{DOCUMENT_LIMIT, Output, Writer};
+use memchr::memchr;
+use std::alloc::{AllocError, Global};
+
+/// Where a run stands in its input.
+#[derive(Drop)]
+pub(crate) struct Progress {
+    /// The number of the line that has begun.
+    pub(crate) number: u64,
+    /// What has come of it, but at most one byte more than a document may have.
+    pub(crate) line: Vec<u8>,
+    /// Whether some line was refused.
+    pub(crate) refused: bool,
+    pub(crate) memory: Memory,
+}
+
+impl Progress {
+    /// At the start of the first line.
+    pub(crate) fn new(alloc: Global) -> Progress
+        ensures number { result.number ≡ 1 }
+        ensures line { result.line.items ≡ [] }
+        ensures refused { result.refused ≡ false }
+    {
+        Progress {
+            number: 1,
+            line: Vec::new(alloc),
+            refused: false,
+            memory: Memory::new(alloc),
+        }
+    }
+}
+
+/// Goes over the next bytes of the input. A line that has grown too large is refused before its end
+/// where the run does not go on after it.
+pub(crate) fn pass<W: Output, E: Writer>(
+    asked: Asked<'_>,
+    progress: &mut Progress,
+    bytes: &[u8],
+    output: &mut W,
+    faults: &mut E,
+) -> Result<(), Stop>
+    ensures passes { OnOk result ((line : List ℕ) → Keeps progress.old line
+        → PassesOn asked.entry.options W.contents W.has_failed E.contents E.has_failed
+        (query_of asked.entry.query.now.query) bytes.now progress.old progress.new line
+        output.old output.new faults.old faults.new) }
+    ensures stopped { IfErr result (λ stop. (line : List ℕ) → Keeps progress.old line
+        → StopsPassing asked.entry.options W.contents W.has_failed E.contents E.has_failed
+        (query_of asked.entry.query.now.query) bytes.now progress.old line
+        output.old output.new faults.old faults.new stop) }
+{
+    let mut rest = bytes;
+    while let Some(end) = memchr(b'\n', rest) {
+        keep(&mut progress.line, &rest[..end])?;
+        end_line(asked, progress, output, faults)?;
+        rest = &rest[end..][1..];
+    }
+    keep(&mut progress.line, rest)?;
+    if progress.line.len() > DOCUMENT_LIMIT && !asked.options.keep_going {
+        return Err(Stop::Line(RefusedLine {
+            number: progress.number,
+            defect: Defect::TooLarge,
+        }));
+    }
+    Ok(())
+}
+
+/// Adds to what is kept of a line.
+fn keep(line: &mut Vec<u8>, bytes: &[u8]) -> Result<(), AllocError>
+    ensures { OnOk result ((begun : List ℕ) → line.old.items ≡ kept_of begun
+        → line.new.items ≡ kept_of (begun ++ bytes.now)) }
+{
+    let room = (DOCUMENT_LIMIT + 1).saturating_sub(line.len());
+    line.extend_from_slice(&bytes[..bytes.len().min(room)])
+}
+
+/// Treats the line that has ended, and begins the next one.
+pub(crate) fn end_line<W: Output, E: Writer>(
+    asked: Asked<'_>,
+    progress: &mut Progress,
+    output: &mut W,
+    faults: &mut E,
+) -> Result<(), Stop>
+    ensures ended { OnOk result ((line : List ℕ) → Keeps progress.old line
+        → EndsLine asked.entry.options W.contents W.has_failed E.contents E.has_failed
+        (query_of asked.entry.query.now.query) progress.old progress.new line
+        output.old output.new faults.old faults.new) }
+    ensures stopped { IfErr result (λ stop. (line : List ℕ) → Keeps progress.old line
+        → StopsEnding asked.entry.options W.contents W.has_failed E.contents E.has_failed
+        (query_of asked.entry.query.now.query) progress.old.number line
+        output.old output.new faults.old faults.new stop) }
+{
+    let refused = treat(
+        asked,
+        progress.number,
+        progress.line.as_slice(),
+        &mut progress.memory,
+        output,
+        faults,
+    )?;
+    progress.refused |= refused;
+    progress.line.clear();
+    progress.number = number_after(progress.number)?;
+    Ok(())
+}

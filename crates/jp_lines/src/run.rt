@@ -1,0 +1,91 @@
+//! A run of a query over the lines of an input.
+
+ghost use Rattle.std.specs.Prelude.{◌≡◌, List, ℕ, IfOk, vec_len};
+ghost use Rattle.jp_check.specs.declared.profile.Profile.{Profile};
+ghost use Rattle.jp_tree.specs.Tree.{query_of};
+ghost use Rattle.jp_command.specs.Limits.{chunk_size};
+ghost use Rattle.jp_command.specs.Run.{IsAsked};
+ghost use Rattle.jp_lines.specs.Run.{RunsLines};
+
+use crate::answer::Asked;
+use crate::options::Options;
+use crate::passing::{Progress, end_line, pass};
+use crate::stop::Stop;
+use jp_check::Profile;
+use jp_command::{Fault, Output, Source, Writer, read_within_limit};
+use std::alloc::{AllocError, Global};
+
+/// The most bytes that one read may give.
+const CHUNK_SIZE: usize = 65_536;
+
+/// How often an input is read at most, which is more often than any run can.
+const READS: u64 = u64::MAX;
+
+/// Runs `query`, read in that profile, over the lines of `input`, each of which is one document
+/// (JSON Lines, NDJSON). A line of blanks alone, or of nothing, holds none and is passed over. For
+/// each document in turn, what `options` ask for is written before the next line is read from what
+/// came; one document is in memory at a time.
+///
+/// Answers whether some line was refused: a line that is no document is told to `faults`, where
+/// `keep_going` asks the run to go on, and is else the `Line` that the run stops with. What can't be
+/// written to `faults` is left out, and no further write to it is tried. The other errors are those
+/// of a run over one document: `Query` (the input stays unread), `Read`, `Write` and `NoMemory`,
+/// which also says that lines, nodes or reads are more than 2^64. What is written then is a prefix
+/// of the output, after `Line` and `Read` that of all lines before. The output is flushed only where
+/// `line_buffered` asks for it.
+pub fn run_lines<R: Source, W: Output, E: Writer>(
+    alloc: Global,
+    query: &str,
+    profile: Profile,
+    options: Options,
+    input: &mut R,
+    output: &mut W,
+    faults: &mut E,
+) -> Result<bool, Stop>
+    ensures { RunsLines profile options R.remaining R.has_failed R.read_gives
+        W.contents W.has_failed E.contents E.has_failed query.now
+        input.old input.new output.old output.new faults.old faults.new result }
+{
+    let query = read_within_limit(alloc, query, profile).map_err(Fault::from)?;
+    let asked = Asked {
+        alloc,
+        query: &query,
+        options,
+    };
+    pass_all(asked, input, output, faults)
+}
+
+/// The same of a query that was read.
+fn pass_all<R: Source, W: Output, E: Writer>(
+    asked: Asked<'_>,
+    input: &mut R,
+    output: &mut W,
+    faults: &mut E,
+) -> Result<bool, Stop>
+    ensures { (profile : Profile) (text : List ℕ)
+        → IsAsked profile text (query_of asked.entry.query.now.query)
+        → RunsLines profile asked.entry.options R.remaining R.has_failed R.read_gives
+        W.contents W.has_failed E.contents E.has_failed text
+        input.old input.new output.old output.new faults.old faults.new result }
+{
+    let mut chunk = chunk_buffer(asked.alloc)?;
+    let mut progress = Progress::new(asked.alloc);
+    for _ in 0..READS {
+        let Ok(count) = input.read(chunk.as_mut_slice()) else {
+            return Err(Stop::Run(Fault::Read));
+        };
+        if count == 0 {
+            end_line(asked, &mut progress, output, faults)?;
+            return Ok(progress.refused);
+        }
+        pass(asked, &mut progress, &chunk[..count], output, faults)?;
+    }
+    Err(Stop::Run(Fault::NoMemory))
+}
+
+/// A buffer that has room for one read.
+fn chunk_buffer(alloc: Global) -> Result<Vec<u8>, AllocError>
+    ensures { IfOk result (λ chunk. vec_len chunk ≡ chunk_size) }
+{
+    vec![in alloc; 0; CHUNK_SIZE]
+}

@@ -1,0 +1,4 @@
+//! Runs over lines of every kind, and where reads, writes and flushes fail.
+
+mod devices;
+mod runs;

@@ -1,0 +1,208 @@
+//! What is written and told of lines of every kind.
+
+use super::devices::{Narrow, Trickle};
+use crate::{Options, Wanted, run_lines};
+use jp_check::Profile::Standard;
+use jp_command::{Device, Form};
+use std::alloc::{AllocError, Global};
+use std::process::Abort;
+
+/// Values, and nothing else asked for.
+const VALUES: Options = Options {
+    wanted: Wanted::Nodes(Form::Values),
+    numbered: false,
+    keep_going: false,
+    line_buffered: false,
+};
+
+/// Numbered values of a run that goes on.
+const NUMBERED: Options = Options {
+    wanted: Wanted::Nodes(Form::Values),
+    numbered: true,
+    keep_going: true,
+    line_buffered: true,
+};
+
+const COUNTED: Options = Options {
+    wanted: Wanted::Count,
+    numbered: false,
+    keep_going: true,
+    line_buffered: false,
+};
+
+/// Lines, how they come and what takes the output and the refusals.
+#[derive(Clone, Copy)]
+struct Case<'a> {
+    lines: &'a str,
+
+    /// How many bytes a read gives at most.
+    size: usize,
+
+    /// Whether the read behind them fails.
+    fails: bool,
+
+    /// How many bytes the output takes before a write fails, and how many of refusals are taken.
+    room: usize,
+    told_room: usize,
+}
+
+/// A case in which nothing fails.
+fn whole(lines: &str, size: usize) -> Case<'_> {
+    Case {
+        lines,
+        size,
+        fails: false,
+        room: usize::MAX,
+        told_room: usize::MAX,
+    }
+}
+
+/// What a run says: its answer or why it stopped, what is written, what is told, and how often the
+/// output was flushed.
+type Said<'a> = (&'a str, &'a str, &'a str, usize);
+
+/// Runs `$..a` over a case.
+fn assert_says(
+    rt: &impl Abort,
+    alloc: Global,
+    options: Options,
+    case: Case<'_>,
+    (answer, written, told, flushes): Said<'_>,
+) -> Result<(), AllocError> {
+    let mut output = Narrow::new(alloc, case.room);
+    let mut faults = Narrow::new(alloc, case.told_room);
+    let run = run_lines(
+        alloc,
+        "$..a",
+        Standard,
+        options,
+        &mut Device::new(Trickle {
+            bytes: case.lines.as_bytes(),
+            size: case.size,
+            fails: case.fails,
+        }),
+        &mut Device::new(&mut output),
+        &mut Device::new(&mut faults),
+    );
+    let said = match run {
+        Ok(refused) => format!(in alloc; "{refused}")?,
+        Err(stop) => format!(in alloc; "{stop}")?,
+    };
+    assert_eq!(rt; said.as_str(), answer);
+    assert!(rt; output.taken.as_slice() == written.as_bytes());
+    assert!(rt; faults.taken.as_slice() == told.as_bytes());
+    assert_eq!(rt; output.flushes, flushes);
+    Ok(())
+}
+
+/// Five lines, of which the third is blank, the fourth and the fifth are no documents, and the last
+/// has no newline.
+const FIVE: &str = "{\"a\":1}\n{\"a\":{\"a\":[2]}}\r\n \t\r\n{\"a\":}\n{\"b\":0,\"a\":3.0}";
+
+const TOLD: &str =
+    "line 4: document refused: NotJson\nline 5: document refused: NotWhole at $['a']\n";
+
+#[test]
+fn goes_on_or_stops_after_a_line_that_is_no_document(rt: HostRuntime) -> Result<(), AllocError> {
+    let alloc = rt.alloc();
+    for size in [1, 7, 100] {
+        let values = "1\n{\"a\":[2]}\n[2]\n";
+        let stop = "line 4: document refused: NotJson";
+        assert_says(&rt, alloc, VALUES, whole(FIVE, size), (stop, values, "", 0))?;
+        let values = "1\t1\n2\t{\"a\":[2]}\n2\t[2]\n";
+        assert_says(
+            &rt,
+            alloc,
+            NUMBERED,
+            whole(FIVE, size),
+            ("true", values, TOLD, 3),
+        )?;
+        assert_says(
+            &rt,
+            alloc,
+            COUNTED,
+            whole(FIVE, size),
+            ("true", "1\n2\n", TOLD, 0),
+        )?;
+    }
+    Ok(())
+}
+
+#[test]
+fn writes_nothing_of_lines_without_documents(rt: HostRuntime) -> Result<(), AllocError> {
+    for (lines, flushes) in [("", 1), ("\n", 2), (" ", 1), ("\n\n \r\n", 4)] {
+        assert_says(
+            &rt,
+            rt.alloc(),
+            NUMBERED,
+            whole(lines, 3),
+            ("false", "", "", flushes),
+        )?;
+    }
+    Ok(())
+}
+
+#[test]
+fn has_answered_the_lines_before_a_read_that_fails(rt: HostRuntime) -> Result<(), AllocError> {
+    let lines = Case {
+        fails: true,
+        ..whole("{\"a\":1}\n{\"a\":2}\n{\"a\":", 3)
+    };
+    assert_says(
+        &rt,
+        rt.alloc(),
+        VALUES,
+        lines,
+        ("read fault", "1\n2\n", "", 0),
+    )
+}
+
+#[test]
+fn stops_at_a_write_that_fails(rt: HostRuntime) -> Result<(), AllocError> {
+    let lines = Case {
+        room: 3,
+        ..whole("{\"a\":1}\n{\"a\":2}\n{\"a\":3}\n", 100)
+    };
+    assert_says(
+        &rt,
+        rt.alloc(),
+        VALUES,
+        lines,
+        ("write fault", "1\n2", "", 0),
+    )
+}
+
+#[test]
+fn goes_on_where_a_refusal_cannot_be_told(rt: HostRuntime) -> Result<(), AllocError> {
+    let lines = Case {
+        told_room: 4,
+        ..whole("x\n{\"a\":1}\nx\n", 100)
+    };
+    assert_says(&rt, rt.alloc(), COUNTED, lines, ("true", "1\n", "line", 0))
+}
+
+#[test]
+fn refuses_a_query_before_it_reads(rt: HostRuntime) -> Result<(), AllocError> {
+    let mut taken = Narrow::new(rt.alloc(), usize::MAX);
+    let mut input = Trickle {
+        bytes: b"{}",
+        size: 1,
+        fails: true,
+    };
+    let run = run_lines(
+        rt.alloc(),
+        "$[?distinct(@.*)]",
+        Standard,
+        VALUES,
+        &mut Device::new(&mut input),
+        &mut Device::new(&mut taken),
+        &mut Device::new(Narrow::new(rt.alloc(), 0)),
+    );
+    let Err(stop) = run else {
+        return Err(AllocError);
+    };
+    let said = format!(in rt.alloc(); "{stop}")?;
+    assert_eq!(rt; said.as_str(), "query refused: UnknownFunction at 3");
+    assert_eq!(rt; (input.bytes.len(), taken.taken.len()), (2, 0));
+    Ok(())
+}

@@ -1,0 +1,84 @@
+//! What is done with one line.
+
+ghost use Rattle.std.specs.Prelude.{◌≡◌, ◌⊎◌, ◌++◌, List, ℕ, IfErr, IfOk, OnErr, OnOk, codes, true};
+ghost use Rattle.std.specs.Prelude.{false};
+ghost use Rattle.std.specs.Io.KnownBytes.{Keeps};
+ghost use Rattle.jp_tree.specs.Tree.{query_of};
+ghost use Rattle.jp_command.specs.declared.fault.Fault.TheVariants as fault;
+ghost use Rattle.jp_lines.specs.Outcome.{refused_for, refused_text};
+ghost use Rattle.jp_lines.specs.Told.{Tells};
+ghost use Rattle.jp_lines.specs.declared.stop.Stop.TheVariants as stop;
+ghost use Rattle.jp_lines.specs.Private.Passing.{kept_of};
+ghost use Rattle.jp_lines.specs.Private.Treating.{StopsEnding, Treats};
+
+use crate::answer::{Asked, Memory, answer};
+use crate::defect::{Defect, RefusedLine};
+use crate::stop::Stop;
+use crate::telling::tell;
+use jp_command::{Fault, Output, Writer};
+
+/// Writes what is asked of a line's document, or tells that it is none; answers whether it is
+/// refused. Of the line it takes what is kept of it.
+pub(crate) fn treat<W: Output, E: Writer>(
+    asked: Asked<'_>,
+    number: u64,
+    kept: &[u8],
+    memory: &mut Memory,
+    output: &mut W,
+    faults: &mut E,
+) -> Result<bool, Stop>
+    ensures treated { IfOk result (λ refused. (line : List ℕ) → kept.now ≡ kept_of line
+        → Treats asked.entry.options W.contents W.has_failed E.contents E.has_failed
+        (query_of asked.entry.query.now.query) number line refused
+        output.old output.new faults.old faults.new) }
+    ensures stopped { IfErr result (λ why. (line : List ℕ) → kept.now ≡ kept_of line
+        → StopsEnding asked.entry.options W.contents W.has_failed E.contents E.has_failed
+        (query_of asked.entry.query.now.query) number line
+        output.old output.new faults.old faults.new why) }
+{
+    match answer(asked, number, kept, memory, output)? {
+        None => {
+            flush(asked.options.line_buffered, output)?;
+            Ok(false)
+        }
+        Some(defect) => {
+            refuse(asked, number, defect, faults)?;
+            Ok(true)
+        }
+    }
+}
+
+/// Hands the output on, where that is asked for after each document.
+fn flush<W: Output>(line_buffered: bool, output: &mut W) -> Result<(), Fault>
+    ensures kept { Keeps (W.contents output.old) (W.contents output.new) }
+    ensures works { OnOk result (W.has_failed output.new ≡ W.has_failed output.old) }
+    ensures write { IfErr result (λ stop. stop ≡ fault.Write) }
+    ensures fails { OnErr result (W.has_failed output.new ≡ true) }
+{
+    if line_buffered && output.flush().is_err() {
+        return Err(Fault::Write);
+    }
+    Ok(())
+}
+
+/// Tells that a line is refused, where the run goes on after it.
+fn refuse<E: Writer>(
+    asked: Asked<'_>,
+    number: u64,
+    defect: Defect,
+    faults: &mut E,
+) -> Result<(), Stop>
+    ensures told { OnOk result (Tells E.contents E.has_failed faults.old faults.new
+        (refused_text (refused_for number defect) ++ codes "\n")) }
+    ensures going { OnOk result (asked.entry.options.keep_going ≡ true) }
+    ensures stopped { IfErr result (λ why. (why ≡ stop.Run fault.NoMemory)
+        ⊎ ((why ≡ stop.Line (refused_for number defect)) × (asked.entry.options.keep_going ≡ false))) }
+    ensures silent { OnErr result (faults.new ≡ faults.old) }
+{
+    let refused = RefusedLine { number, defect };
+    if !asked.options.keep_going {
+        return Err(Stop::Line(refused));
+    }
+    tell(asked.alloc, &refused, faults)?;
+    Ok(())
+}
