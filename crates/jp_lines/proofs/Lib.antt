@@ -7,3 +7,4 @@ pub mod LineLemmas
 pub mod Finding
 pub mod Chunks
 pub mod Ending
+pub mod OneLine

@@ -1,8 +1,31 @@
--- What the definition of an input's lines implies.
-use Rattle.std.specs.Prelude.{◌≡◌, ℕ, List}
+-- What the definition of an input's lines implies, and how a run over lines stands to one over a
+-- document.
+use Rattle.std.specs.Prelude.{◌≡◌, ℕ, Bool, false, List, [], ◌∷◌, Option, Some, Ok}
 use Rattle.std.specs.List.{join_with_byte}
-use Rattle.jp_lines.specs.Lines.{lines_of_input, newline}
+use Rattle.jp_check.specs.declared.profile.Profile.{Profile}
+use Rattle.jp_command.specs.Run.{RunsEval}
+use Rattle.jp_command.specs.declared.lines.Form.{Form}
+use Rattle.jp_lines.specs.Lines.{is_blank_line, lines_of_input, newline}
+use Rattle.jp_lines.specs.Run.{RunsLines}
+use Rattle.jp_lines.specs.declared.options.Options.{Options}
+use Rattle.jp_lines.specs.declared.options.Wanted.TheVariants.{Nodes}
 
 -- the lines of an input, with a newline between each two, are the input again
 abbrev pub LinesJoinAgain : Type 0
 LinesJoinAgain = (input : List ℕ) → join_with_byte newline (lines_of_input input) ≡ input
+
+-- i and j are the input before and after a run, o and p the output
+module _ (profile : Profile) {R W E : Type 0} (remaining : R → Option (List ℕ))
+    (has_failed : R → Bool) (read_gives : R → Option (List ℕ) → R → Type 0)
+    (contents : W → Option (List ℕ)) (writes_failed : W → Bool) (reports : E → Option (List ℕ))
+    (reports_failed : E → Bool) where
+  -- Of an input that is one line, and no blank one, a run over lines that refuses none and writes
+  -- no numbers says what a run over the document says.
+  abbrev pub OneLineIsADocument : Type 0
+  OneLineIsADocument = (form : Form) (options : Options) (text bytes : List ℕ) (i j : R) (o p : W)
+      (u v : E) → options.wanted ≡ Nodes form → options.numbered ≡ false
+      → remaining i ≡ Some bytes → lines_of_input bytes ≡ bytes ∷ [] → is_blank_line bytes ≡ false
+      → RunsLines profile options remaining has_failed read_gives contents writes_failed reports
+      reports_failed text i j o p u v (Ok false)
+      → RunsEval profile remaining has_failed read_gives contents writes_failed form text i j o p
+      (Ok (tt {0}))

@@ -1,0 +1,115 @@
+-- Of an input that is one line, a run over lines is one over a document.
+use Rattle.std.proofs.Common.{◌≡◌, ℕ, suc, Bool, true, false, ◌||◌, List, [], ◌∷◌, ◌++◌, Option, Some, None, Ok}
+use Rattle.std.proofs.Common.{subst, refl, sym, ◌∙◌, ap}
+use Rattle.std.proofs.Math.Bool.{or-false}
+use Rattle.std.proofs.lemmas.List.{append-nil}
+use Rattle.std.specs.Io.KnownBytes.{Consumes, IsAtEnd}
+use Rattle.jp_check.specs.declared.profile.Profile.{Profile}
+use Rattle.jp_command.specs.Lines.{output_of}
+use Rattle.jp_command.specs.Output.{WritesAll, WritesOutput}
+use Rattle.jp_command.specs.Run.{IsAsked, IsOutput}
+use Rattle.jp_command.specs.declared.lines.Form.{Form}
+use Rattle.jp_tree.specs.Tree.{QueryTree}
+use Rattle.jp_lines.specs.Laws.{OneLineIsADocument}
+use Rattle.jp_lines.specs.Lines.{is_blank_line, lines_of_input}
+use Rattle.jp_lines.specs.Outcome.{Outcome, Answered, ComesTo, ComeTo, none, one_more, blank, document}
+use Rattle.jp_lines.specs.Outcome.{no_document, too_large, is_refused, lead_of, some_refused}
+use Rattle.jp_lines.specs.Outcome.{wanted_output, written_of, written_of_all}
+use Rattle.jp_lines.specs.Reads.{ReadsToEnd}
+use Rattle.jp_lines.specs.Run.{GoesToEnd}
+use Rattle.jp_lines.specs.declared.options.Options.{Options}
+use Rattle.jp_lines.specs.declared.options.Wanted.TheVariants.{Nodes}
+
+-- what was consumed up to the end is all
+consumed-all : (a b : Option (List ℕ)) (came bytes : List ℕ) → Consumes a b came → IsAtEnd b
+    → a ≡ Some bytes → came ≡ bytes
+consumed-all None b came bytes consumes ended is = cc
+consumed-all (Some xs) None came bytes consumes ended is = absurd consumes
+consumed-all (Some xs) (Some ys) came bytes consumes ended is =
+    sym (append-nil came)
+    ∙ ap (λ t. came ++ t) (sym ended)
+    ∙ sym consumes
+    ∙ some-same xs bytes is
+  where
+    some-same : (x y : List ℕ) → Some x ≡ Some y → x ≡ y
+    some-same x y same = cc
+
+module _ (options : Options) (q : QueryTree) where
+  come-nil : (n : ℕ) (ls : List (List ℕ)) (xs : List Outcome) → ComeTo options q n ls xs → ls ≡ []
+      → xs ≡ []
+  come-nil n ls xs (none m) is = refl
+  come-nil n ls xs (one_more m l more x rest comes come) is = cc
+
+  -- one line has one outcome
+  come-single : (n : ℕ) (ls : List (List ℕ)) (xs : List Outcome) (line : List ℕ)
+      → ComeTo options q n ls xs → ls ≡ line ∷ []
+      → (x : Outcome) × (xs ≡ x ∷ []) × ComesTo options q n line x
+  come-single n ls xs line (none m) is = cc
+  come-single n ls xs line (one_more m l more x rest comes come) is = (
+    x,
+    ap (λ t. x ∷ t) (come-nil (suc m) more rest come (tails l line more [] is)),
+    subst (λ t. ComesTo options q m t x) (heads l line more [] is) comes,
+  )
+    where
+      tails : (a b : List ℕ) (ms ns : List (List ℕ)) → a ∷ ms ≡ b ∷ ns → ms ≡ ns
+      tails a b ms ns same = cc
+
+      heads : (a b : List ℕ) (ms ns : List (List ℕ)) → a ∷ ms ≡ b ∷ ns → a ≡ b
+      heads a b ms ns same = cc
+
+module _ (profile : Profile) {R W E : Type 0} (remaining : R → Option (List ℕ))
+    (has_failed : R → Bool) (read_gives : R → Option (List ℕ) → R → Type 0)
+    (contents : W → Option (List ℕ)) (writes_failed : W → Bool) (reports : E → Option (List ℕ))
+    (reports_failed : E → Bool) where
+  abbrev Output : Form → List ℕ → R → R → List ℕ → Type 0
+  Output = IsOutput profile remaining has_failed read_gives contents writes_failed
+
+  -- the outcome of a line that is neither blank nor refused is what a run over it writes
+  outcome-is : (form : Form) (options : Options) (q : QueryTree) (text bytes : List ℕ) (i j : R)
+      (x : Outcome) → options.wanted ≡ Nodes form → options.numbered ≡ false
+      → IsAsked profile text q → ReadsToEnd remaining has_failed read_gives i j bytes
+      → is_blank_line bytes ≡ false → is_refused x ≡ false → ComesTo options q 1 bytes x
+      → Output form text i j (written_of x)
+  outcome-is form options q text bytes i j x wanted numbered asked reads some unrefused (blank few is) = cc
+  outcome-is form options q text bytes i j x wanted numbered asked reads some unrefused
+      (document d few is doc) = record {
+        q = q;
+        bytes = bytes;
+        d = d;
+        asked = asked;
+        reads = record {
+          came = reads.came;
+          ended = reads.ended;
+          few = few;
+          works = reads.works;
+          between = reads.between;
+          calls = reads.calls;
+          last = reads.last;
+        };
+        document = doc;
+        is = ap (λ w. wanted_output w (lead_of options.numbered 1) q d) wanted
+            ∙ ap (λ b. wanted_output (Nodes form) (lead_of b 1) q d) numbered;
+      }
+  outcome-is form options q text bytes i j x wanted numbered asked reads some unrefused
+      (no_document fault few is f known) = cc
+  outcome-is form options q text bytes i j x wanted numbered asked reads some unrefused
+      (too_large many) = cc
+
+  pub one_line : OneLineIsADocument profile remaining has_failed read_gives contents writes_failed
+      reports reports_failed
+  one_line form options text bytes i j o p u v wanted numbered known single some runs =
+      let same = consumed-all (remaining i) (remaining j) runs.bytes bytes runs.reads.came
+      runs.reads.ended known in
+      let come = subst (λ b. ComeTo options runs.q 1 (lines_of_input b) runs.outcomes) same
+      runs.goes.come in
+      let one = come-single options runs.q 1 (lines_of_input bytes) runs.outcomes bytes come single in
+      let unrefused : is_refused one.0 ≡ false =
+      sym (or-false (is_refused one.0)) ∙ sym (ap some_refused one.1) ∙ sym runs.is in
+      record {
+        output = written_of one.0;
+        is = outcome-is form options runs.q text bytes i j one.0 wanted numbered runs.asked
+            (subst (ReadsToEnd remaining has_failed read_gives i j) same runs.reads) some
+            unrefused one.2;
+        writes = subst (WritesAll contents writes_failed o p)
+            (ap written_of_all one.1 ∙ append-nil (written_of one.0)) runs.goes.writes;
+      }
