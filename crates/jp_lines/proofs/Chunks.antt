@@ -1,15 +1,14 @@
 -- How far a run is in its input, as more bytes come.
-use Rattle.std.proofs.Common.{◌≡◌, ◌⊎◌, inl, inr, ℕ, ◌<◌, Bool, true, false, ◌&&◌, List, [], ◌∷◌, ◌++◌}
+use Rattle.std.proofs.Common.{◌≡◌, inr, ℕ, ◌<◌, Bool, true, false, List, [], ◌∷◌, ◌++◌}
 use Rattle.std.proofs.Common.{length, Option, subst, refl, sym, ◌∙◌, ap}
-use Rattle.std.proofs.lemmas.List.{append-nil}
 use Rattle.std.proofs.lemmas.List.Folds.{list_all-append}
 use Rattle.jp_tree.specs.Tree.{QueryTree}
 use Rattle.jp_command.specs.Limits.{document_limit}
 use Rattle.jp_command.specs.declared.fault.Fault.TheVariants as fault
 use Rattle.jp_lines.specs.Lines.{lines_of_input, newline}
-use Rattle.jp_lines.specs.Outcome.{Outcome, Refused, ComesTo, refused_for, too_large}
-use Rattle.jp_lines.specs.Run.{Goes, GoesToRefusal, StopsAmong}
-use Rattle.jp_lines.specs.Private.Passing.{EndsLine, GoesOver, Keeps, Passes, PassesOn, Standing}
+use Rattle.jp_lines.specs.Outcome.{Refused, ComesTo, refused_for, too_large}
+use Rattle.jp_lines.specs.Run.{GoesToRefusal, StopsAmong}
+use Rattle.jp_lines.specs.Private.Passing.{EndsLine, Keeps, Passes, PassesOn, Standing}
 use Rattle.jp_lines.specs.Private.Passing.{StopsPassing, is_in_line, kept_of, standing}
 use Rattle.jp_lines.specs.Private.Treating.{StopsEnding}
 use Rattle.jp_lines.specs.declared.defect.Defect.TheVariants.{TooLarge}

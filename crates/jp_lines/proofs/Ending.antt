@@ -1,6 +1,6 @@
 -- How a run ends, by what came and how far it was passed.
-use Rattle.std.proofs.Common.{◌≡◌, inl, inr, ℕ, ◌<◌, ◌≤◌, Bool, true, false, List, [], ◌∷◌, ◌++◌}
-use Rattle.std.proofs.Common.{length, take, Option, Some, None, Ok, Err, Result, subst, refl, sym, ◌∙◌, ap, arith}
+use Rattle.std.proofs.Common.{◌≡◌, inr, ℕ, ◌<◌, ◌≤◌, Bool, true, false, List, [], ◌∷◌, ◌++◌}
+use Rattle.std.proofs.Common.{length, take, Option, Some, None, Ok, Err, Result, subst, refl, sym, ◌∙◌}
 use Rattle.std.proofs.KnownBytes.{Consumes-kept, Consumes-trans}
 use Rattle.std.proofs.lemmas.List.{append-nil}
 use Rattle.std.specs.Result.{IsErrAnd}
@@ -9,14 +9,12 @@ use Rattle.jp_check.specs.declared.profile.Profile.{Profile}
 use Rattle.jp_tree.specs.Tree.{QueryTree}
 use Rattle.jp_command.specs.Reads.{none}
 use Rattle.jp_command.specs.Run.{IsAsked}
-use Rattle.jp_command.specs.declared.fault.Fault.{Fault}
 use Rattle.jp_command.specs.declared.fault.Fault.TheVariants as fault
 use Rattle.jp_command.proofs.Streams.{come-more}
 use Rattle.jp_lines.specs.Lines.{lines_of_input}
-use Rattle.jp_lines.specs.Outcome.{some_refused}
 use Rattle.jp_lines.specs.Reads.{FailsToRead, ReadsSome, ReadsToEnd}
-use Rattle.jp_lines.specs.Run.{FailsAtRead, Goes, GoesToEnd, RunsLines, StopsAmong, StopsAtLine}
-use Rattle.jp_lines.specs.Private.Passing.{GoesOver, Passes, PassesOn, Standing, is_in_line}
+use Rattle.jp_lines.specs.Run.{Goes, RunsLines, StopsAmong}
+use Rattle.jp_lines.specs.Private.Passing.{GoesOver, Passes, Standing, is_in_line}
 use Rattle.jp_lines.specs.Private.Treating.{StopsEnding}
 use Rattle.jp_lines.specs.declared.options.Options.{Options}
 use Rattle.jp_lines.specs.declared.stop.Stop.{Stop}

@@ -1,11 +1,10 @@
 -- Lines gone over after those before.
-use Rattle.std.proofs.Common.{◌≡◌, ◌≢◌, ◌⊎◌, inl, inr, ℕ, suc, ◌+◌, Bool, true, false, ◌||◌, List, []}
+use Rattle.std.proofs.Common.{◌≡◌, ◌≢◌, ◌⊎◌, inl, inr, ℕ, ◌+◌, Bool, true, false, ◌||◌, List, []}
 use Rattle.std.proofs.Common.{◌∷◌, ◌++◌, length, Option, subst, refl, sym, ◌∙◌, ap, append_assoc, arith}
 use Rattle.std.proofs.lemmas.Grind.{flat_map-append}
 use Rattle.std.proofs.lemmas.List.{append-nil, length-append}
 use Rattle.std.proofs.lemmas.List.Folds.{list_all-append, list_any-append}
 use Rattle.std.proofs.Math.Bool.{or_assoc, or-false}
-use Rattle.std.specs.List.{list_all}
 use Rattle.jp_tree.specs.Tree.{QueryTree}
 use Rattle.jp_command.specs.Output.{AppendsPrefix, WritesAll}
 use Rattle.jp_command.specs.declared.fault.Fault.TheVariants.{Query, Document, DocumentTooLarge}
@@ -13,15 +12,15 @@ use Rattle.jp_command.specs.declared.fault.Fault.TheVariants.{NoMemory, Read, Wr
 use Rattle.jp_command.proofs.Streams.{prefix-whole}
 use Rattle.jp_lines.specs.Lines.{lines_of_input, newline}
 use Rattle.jp_lines.specs.Outcome.{Outcome, Refused, ComesTo, ComeTo, none, written_of, told_of}
-use Rattle.jp_lines.specs.Outcome.{written_of_all, told_of_all, is_refused, some_refused}
+use Rattle.jp_lines.specs.Outcome.{is_refused, some_refused}
 use Rattle.jp_lines.specs.Run.{Goes, GoesInPart, StopsAmong}
 use Rattle.jp_lines.specs.Told.{Tells, TellsPrefix}
-use Rattle.jp_lines.specs.Private.Passing.{GoesOver, Passes, EndsLine, Standing, ended, is_in_line}
+use Rattle.jp_lines.specs.Private.Passing.{GoesOver, Passes, Standing, ended, is_in_line}
 use Rattle.jp_lines.specs.declared.options.Options.{Options}
 use Rattle.jp_lines.specs.declared.stop.Stop.{Stop}
 use Rattle.jp_lines.specs.declared.stop.Stop.TheVariants.{Run, Line}
 use Rattle.jp_lines.proofs.Outcomes.{come-append}
-use Rattle.jp_lines.proofs.Splitting.{lines-ended, lines-some}
+use Rattle.jp_lines.proofs.Splitting.{lines-ended}
 use Rattle.jp_lines.proofs.ToldLemmas.{writes-none, writes-more, tells-none, tells-more, prefix-after}
 use Rattle.jp_lines.proofs.ToldLemmas.{tells-prefix-whole, tells-prefix-after}
 

@@ -1,6 +1,6 @@
 -- One line: its answer, its refusal, and why a run stops at it.
-use Rattle.std.proofs.Common.{◌≡◌, ◌≢◌, ◌⊎◌, inl, inr, ℕ, suc, ◌≤◌, ◌||◌, Bool, true, false, List, [], ◌∷◌, ◌++◌}
-use Rattle.std.proofs.Common.{length, Option, Some, None, Result, Ok, Err, IfOk, IfErr, OnOk, codes}
+use Rattle.std.proofs.Common.{◌≡◌, ◌⊎◌, inl, inr, ℕ, suc, ◌≤◌, ◌||◌, Bool, true, false, List, [], ◌∷◌, ◌++◌}
+use Rattle.std.proofs.Common.{length, Option, Result, Ok, Err, IfOk, IfErr, codes}
 use Rattle.std.proofs.Common.{subst, refl, sym, ◌∙◌, ap, arith}
 use Rattle.std.proofs.Math.Bool.{or-false}
 use Rattle.std.proofs.lemmas.List.{append-nil}
@@ -18,7 +18,7 @@ use Rattle.jp_command.specs.declared.fault.Fault.TheVariants as fault
 use Rattle.jp_command.proofs.Streams.{Appends-keeps, prefix-whole}
 use Rattle.jp_lines.specs.Lines.{is_blank_line}
 use Rattle.jp_lines.specs.Outcome.{Outcome, Answered, Refused, ComesTo, blank, document, no_document}
-use Rattle.jp_lines.specs.Outcome.{none, written_of_all, told_of_all, lead_of, wanted_output}
+use Rattle.jp_lines.specs.Outcome.{none, lead_of, wanted_output}
 use Rattle.jp_lines.specs.Outcome.{refused_for, refused_text}
 use Rattle.jp_lines.specs.Run.{Goes, GoesInPart}
 use Rattle.jp_lines.specs.Told.{Tells, TellsPrefix}

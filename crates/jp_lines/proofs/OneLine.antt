@@ -1,22 +1,20 @@
 -- Of an input that is one line, a run over lines is one over a document.
-use Rattle.std.proofs.Common.{◌≡◌, ℕ, suc, Bool, true, false, ◌||◌, List, [], ◌∷◌, ◌++◌, Option, Some, None, Ok}
+use Rattle.std.proofs.Common.{◌≡◌, ℕ, suc, Bool, false, List, [], ◌∷◌, ◌++◌, Option, Some, None}
 use Rattle.std.proofs.Common.{subst, refl, sym, ◌∙◌, ap}
 use Rattle.std.proofs.Math.Bool.{or-false}
 use Rattle.std.proofs.lemmas.List.{append-nil}
 use Rattle.std.specs.Io.KnownBytes.{Consumes, IsAtEnd}
 use Rattle.jp_check.specs.declared.profile.Profile.{Profile}
-use Rattle.jp_command.specs.Lines.{output_of}
-use Rattle.jp_command.specs.Output.{WritesAll, WritesOutput}
+use Rattle.jp_command.specs.Output.{WritesAll}
 use Rattle.jp_command.specs.Run.{IsAsked, IsOutput}
 use Rattle.jp_command.specs.declared.lines.Form.{Form}
 use Rattle.jp_tree.specs.Tree.{QueryTree}
 use Rattle.jp_lines.specs.Laws.{OneLineIsADocument}
 use Rattle.jp_lines.specs.Lines.{is_blank_line, lines_of_input}
-use Rattle.jp_lines.specs.Outcome.{Outcome, Answered, ComesTo, ComeTo, none, one_more, blank, document}
+use Rattle.jp_lines.specs.Outcome.{Outcome, ComesTo, ComeTo, none, one_more, blank, document}
 use Rattle.jp_lines.specs.Outcome.{no_document, too_large, is_refused, lead_of, some_refused}
 use Rattle.jp_lines.specs.Outcome.{wanted_output, written_of, written_of_all}
 use Rattle.jp_lines.specs.Reads.{ReadsToEnd}
-use Rattle.jp_lines.specs.Run.{GoesToEnd}
 use Rattle.jp_lines.specs.declared.options.Options.{Options}
 use Rattle.jp_lines.specs.declared.options.Wanted.TheVariants.{Nodes}
 

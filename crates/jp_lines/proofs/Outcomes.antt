@@ -1,6 +1,6 @@
 -- Outcomes of lines after those of the lines before.
-use Rattle.std.proofs.Common.{◌≡◌, ℕ, suc, ◌+◌, ◌<◌, ◌≤◌, List, [], ◌∷◌, ◌++◌, length, take, subst, sym}
-use Rattle.std.proofs.Common.{arith, rules}
+use Rattle.std.proofs.Common.{◌≡◌, ℕ, suc, ◌+◌, ◌<◌, ◌≤◌, List, [], ◌∷◌, ◌++◌, length, subst}
+use Rattle.std.proofs.Common.{arith}
 use Rattle.std.proofs.lemmas.List.{length-take, take_all}
 use Rattle.jp_command.specs.Limits.{document_limit}
 use Rattle.jp_lines.specs.Outcome.{Outcome, ComesTo, ComeTo, none, one_more}

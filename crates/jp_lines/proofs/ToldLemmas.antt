@@ -4,7 +4,7 @@ use Rattle.std.proofs.Common.{subst, refl, sym, ◌∙◌, ap, append_assoc}
 use Rattle.std.proofs.lemmas.List.{append-nil}
 use Rattle.std.specs.Io.KnownBytes.{Appends}
 use Rattle.jp_command.specs.Output.{AppendsPrefix, WritesAll}
-use Rattle.jp_command.proofs.Streams.{Appends-twice, prefix-whole}
+use Rattle.jp_command.proofs.Streams.{Appends-twice}
 use Rattle.jp_lines.specs.Told.{Tells, TellsPrefix, whole, part, nothing}
 
 pub Appends-none : (a : Option (List ℕ)) → Appends a a []

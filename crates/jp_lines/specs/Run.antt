@@ -5,7 +5,6 @@ use Rattle.jp_check.specs.declared.profile.Profile.{Profile}
 use Rattle.jp_tree.specs.Tree.{QueryTree}
 use Rattle.jp_command.specs.Output.{AppendsPrefix, WritesAll}
 use Rattle.jp_command.specs.Run.{IsAsked, RefusesQuery}
-use Rattle.jp_command.specs.declared.fault.Fault.{Fault}
 use Rattle.jp_command.specs.declared.fault.Fault.TheVariants.{Query, NoMemory, Read, Write}
 use Rattle.jp_lines.specs.Lines.{lines_of_input}
 use Rattle.jp_lines.specs.Outcome.{Outcome, Refused, ComesTo, ComeTo, written_of_all, told_of_all}

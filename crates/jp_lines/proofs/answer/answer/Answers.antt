@@ -1,8 +1,6 @@
-use Rattle.std.proofs.Common.{◌≡◌, false, refl, subst, sym, ◌∙◌}
+use Rattle.std.proofs.Common.{refl, subst, sym}
 use Rattle.jp_document.specs.Document.{IsDocument}
-use Rattle.jp_flat.specs.FlatValue.{document_in, lent_flat}
-use Rattle.jp_tree.specs.Tree.{query_of}
-use Rattle.jp_lines.specs.Lines.{is_blank_line}
+use Rattle.jp_flat.specs.FlatValue.{lent_flat}
 use Rattle.jp_lines.specs.Outcome.{too_large}
 use Rattle.jp_lines.proofs.LineLemmas.{answers-blank, answers-document, err-is, stops-document}
 use Rattle.jp_lines.proofs.answer.answer.Goals as goal

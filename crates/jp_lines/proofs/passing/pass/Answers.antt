@@ -1,10 +1,8 @@
-use Rattle.std.proofs.Common.{◌≡◌, ◌++◌, ◌∷◌, [], true, refl, rules, sym, take, drop, suc, subst, ◌∙◌}
+use Rattle.std.proofs.Common.{◌≡◌, ◌++◌, ◌∷◌, [], refl, rules, sym, take, drop, suc, ◌∙◌}
 use Rattle.std.proofs.Common.{append_assoc, ap, arith}
-use Rattle.std.proofs.lemmas.List.{append-nil, take_rest}
 use Rattle.jp_tree.specs.Tree.{query_of}
 use Rattle.jp_command.specs.declared.fault.Fault.TheVariants as fault
 use Rattle.jp_lines.specs.Lines.{newline}
-use Rattle.jp_lines.specs.Private.Passing.{is_in_line}
 use Rattle.jp_lines.specs.declared.stop.Stop.TheVariants as stop
 use Rattle.jp_lines.proofs.Chunks.{on-ended, on-kept, on-none, on-stops_ending, on-stops_growing}
 use Rattle.jp_lines.proofs.Chunks.{on-stops_keeping}

@@ -1,4 +1,4 @@
-use Rattle.std.proofs.Common.{◌≡◌, ◌<◌, ◌++◌, [], Err, refl, rules, take, length, arith}
+use Rattle.std.proofs.Common.{◌≡◌, ◌<◌, ◌++◌, [], refl, rules, take, length, arith}
 use Rattle.std.proofs.lemmas.Grind.{common_steps}
 use Rattle.jp_tree.specs.Tree.{query_of}
 use Rattle.jp_lines.specs.Run.{RunsLines}

@@ -1,4 +1,4 @@
-use Rattle.std.proofs.Common.{◌≡◌, sym, subst}
+use Rattle.std.proofs.Common.{sym, subst}
 use Rattle.jp_tree.specs.Tree.{query_of}
 use Rattle.jp_lines.specs.Private.Treating.{StopsEnding}
 use Rattle.jp_lines.specs.declared.stop.Stop.TheVariants as stop
