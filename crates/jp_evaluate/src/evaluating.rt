@@ -57,10 +57,10 @@ fn text_answer<'q, V, M: Matching>(
     match function {
         Some(Function::Match) => evaluation
             .matcher
-            .whole(alloc, pattern, text, &mut Tests::new()),
+            .whole_counted(alloc, pattern, text, &mut Tests::new()),
         Some(Function::Search) => evaluation
             .matcher
-            .part(alloc, pattern, text, &mut Tests::new()),
+            .part_counted(alloc, pattern, text, &mut Tests::new()),
         Some(Function::Length | Function::Count | Function::ValueOf | Function::Distinct) | None =>
             { Ok(false) }
     }

@@ -5,7 +5,8 @@ ghost use Rattle.std.specs.Str.{chars};
 ghost use Rattle.jp_iregexp.specs.PatternOf.{pattern_of};
 ghost use Rattle.jp_iregexp.specs.Tree.{tree};
 
-use jp_iregexp::{Pattern, PatternFault, read_pattern};
+use jp_iregexp::{PatternFault, read_pattern};
+use jp_match::CountedPattern;
 use std::alloc::{AllocError, Global};
 use std::marker::Model;
 
@@ -16,7 +17,7 @@ const MOST_KEPT: usize = 16;
 #[derive(Drop)]
 struct ReadText<'q> {
     text: &'q str,
-    pattern: Option<Pattern>,
+    pattern: Option<CountedPattern>,
 }
 
 impl<'q> Model for ReadText<'q> {
@@ -44,19 +45,19 @@ impl<'q> ReadText<'q> {
         self.text == text
     }
 
-    fn pattern(&self) -> Option<&Pattern>
-        ensures { pattern_of (chars self.now) ≡ option_map (λ p. tree p.now) result }
+    fn pattern(&self) -> Option<&CountedPattern>
+        ensures { pattern_of (chars self.now) ≡ option_map (λ p. tree p.now.pattern) result }
     {
         self.pattern.as_ref()
     }
 }
 
 /// The pattern that a text spells, None where it does not conform.
-fn conforming(alloc: Global, text: &str) -> Result<Option<Pattern>, AllocError>
-    ensures { IfOk result (λ o. pattern_of (chars text.now) ≡ option_map (λ p. tree p) o) }
+fn conforming(alloc: Global, text: &str) -> Result<Option<CountedPattern>, AllocError>
+    ensures { IfOk result (λ o. pattern_of (chars text.now) ≡ option_map (λ p. tree p.pattern) o) }
 {
     match read_pattern(alloc, text) {
-        Ok(pattern) => Ok(Some(pattern)),
+        Ok(pattern) => Ok(Some(CountedPattern::new(pattern))),
         Err(PatternFault::NotConforming) => Ok(None),
         Err(PatternFault::NoMemory) => Err(AllocError),
     }
@@ -84,8 +85,8 @@ impl<'q> Patterns<'q> {
         &mut self,
         alloc: Global,
         text: &'q str,
-    ) -> Result<Option<&Pattern>, AllocError>
-        ensures { IfOk result (λ o. pattern_of (chars text.now) ≡ option_map (λ p. tree p.now) o) }
+    ) -> Result<Option<&CountedPattern>, AllocError>
+        ensures { IfOk result (λ o. pattern_of (chars text.now) ≡ option_map (λ p. tree p.now.pattern) o) }
     {
         let position = match self.position(text) {
             Some(position) => position,
@@ -120,9 +121,9 @@ impl<'q> Patterns<'q> {
     }
 
     /// The pattern of the text at a position, None where it does not conform.
-    fn pattern(&self, position: usize) -> Option<&Pattern>
+    fn pattern(&self, position: usize) -> Option<&CountedPattern>
         ensures { IfSome (slice_get self.now.read.items position)
-            (λ text. pattern_of (chars text) ≡ option_map (λ p. tree p.now) result) }
+            (λ text. pattern_of (chars text) ≡ option_map (λ p. tree p.now.pattern) result) }
     {
         self.read.get(position)?.pattern()
     }

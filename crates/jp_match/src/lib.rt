@@ -16,6 +16,7 @@
 mod beginning;
 mod class_tests;
 mod copies;
+mod counted;
 mod counts;
 mod cutting;
 mod empty_word;
@@ -37,6 +38,7 @@ mod walk;
 mod whole;
 
 pub use class_tests::Tests;
+pub use counted::CountedPattern;
 pub use images::Images;
 pub use marks::Marks;
 pub use matching::Matching;

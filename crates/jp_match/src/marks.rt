@@ -10,6 +10,7 @@ ghost use Rattle.jp_match.specs.Part.{HasPart};
 ghost use Rattle.jp_match.specs.Scan.{Left, tree_of};
 
 use crate::class_tests::Tests;
+use crate::counted::{Counted, CountedPattern};
 use crate::cutting::cut;
 use crate::images::Images;
 use crate::matching::Matching;
@@ -32,10 +33,7 @@ impl Matching for Marks {
         text: &str,
         tests: &mut Tests,
     ) -> Result<bool, AllocError> {
-        match Scan::new(alloc, pattern, false)? {
-            Some(mut scan) => Ok(accepts_whole(&mut scan, text, tests)),
-            None => whole_of_many(alloc, pattern, text, tests),
-        }
+        whole_of(alloc, Counted::of(pattern), text, tests)
     }
 
     fn part(
@@ -45,10 +43,65 @@ impl Matching for Marks {
         text: &str,
         tests: &mut Tests,
     ) -> Result<bool, AllocError> {
-        match Scan::new(alloc, pattern, true)? {
-            Some(mut scan) => Ok(accepts_prefix(&mut scan, text, tests)),
-            None => part_of_many(alloc, pattern, text, tests),
-        }
+        part_of(alloc, Counted::of(pattern), text, tests)
+    }
+
+    fn whole_counted(
+        &self,
+        alloc: Global,
+        pattern: &CountedPattern,
+        text: &str,
+        tests: &mut Tests,
+    ) -> Result<bool, AllocError> {
+        whole_of(alloc, pattern.counted(), text, tests)
+    }
+
+    fn part_counted(
+        &self,
+        alloc: Global,
+        pattern: &CountedPattern,
+        text: &str,
+        tests: &mut Tests,
+    ) -> Result<bool, AllocError> {
+        part_of(alloc, pattern.counted(), text, tests)
+    }
+}
+
+/// Whether the text is in the language of a pattern that was counted.
+fn whole_of(
+    alloc: Global,
+    counted: Counted<'_>,
+    text: &str,
+    tests: &mut Tests,
+) -> Result<bool, AllocError>
+    ensures exact { IfOk result (λ answer. IsTrue answer ↔ Language (tree
+        counted.entry.pattern.now) (chars text.entry.now)) }
+    ensures bound { positions_of (tree counted.entry.pattern.now) ≤ 4096 → tests.new ≤ tests.old +
+        positions_of (tree counted.entry.pattern.now) * length (chars text.entry.now) }
+    ensures kept { tests.old ≤ tests.new }
+{
+    match Scan::of_counted(alloc, counted, false)? {
+        Some(mut scan) => Ok(accepts_whole(&mut scan, text, tests)),
+        None => whole_of_many(alloc, counted.pattern, text, tests),
+    }
+}
+
+/// Whether some part of the text is in its language.
+fn part_of(
+    alloc: Global,
+    counted: Counted<'_>,
+    text: &str,
+    tests: &mut Tests,
+) -> Result<bool, AllocError>
+    ensures exact { IfOk result (λ answer. IsTrue answer ↔ HasPart (Language (tree
+        counted.entry.pattern.now)) (chars text.entry.now)) }
+    ensures bound { positions_of (tree counted.entry.pattern.now) ≤ 4096 → tests.new ≤ tests.old +
+        positions_of (tree counted.entry.pattern.now) * length (chars text.entry.now) }
+    ensures kept { tests.old ≤ tests.new }
+{
+    match Scan::of_counted(alloc, counted, true)? {
+        Some(mut scan) => Ok(accepts_prefix(&mut scan, text, tests)),
+        None => part_of_many(alloc, counted.pattern, text, tests),
     }
 }
 

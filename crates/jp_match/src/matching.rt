@@ -8,6 +8,7 @@ ghost use Rattle.jp_iregexp.specs.Positions.{positions_of};
 ghost use Rattle.jp_match.specs.Part.{HasPart};
 
 use crate::class_tests::Tests;
+use crate::counted::CountedPattern;
 use jp_iregexp::Pattern;
 use std::alloc::{AllocError, Global};
 
@@ -44,4 +45,38 @@ pub trait Matching {
         ensures bound { positions_of (tree pattern.now) ≤ 4096 →
             tests.new ≤ tests.old + positions_of (tree pattern.now) * length (chars text.now) }
         ensures kept { tests.old ≤ tests.new };
+
+    /// The same as `whole`, for a pattern that was counted before.
+    fn whole_counted(
+        &self,
+        alloc: Global,
+        pattern: &CountedPattern,
+        text: &str,
+        tests: &mut Tests,
+    ) -> Result<bool, AllocError>
+        ensures exact { IfOk result (λ answer. IsTrue answer ↔ Language (tree pattern.now.pattern) (chars
+            text.now)) }
+        ensures bound { positions_of (tree pattern.now.pattern) ≤ 4096 →
+            tests.new ≤ tests.old + positions_of (tree pattern.now.pattern) * length (chars text.now) }
+        ensures kept { tests.old ≤ tests.new }
+    {
+        self.whole(alloc, pattern.pattern(), text, tests)
+    }
+
+    /// The same as `part`, for a pattern that was counted before.
+    fn part_counted(
+        &self,
+        alloc: Global,
+        pattern: &CountedPattern,
+        text: &str,
+        tests: &mut Tests,
+    ) -> Result<bool, AllocError>
+        ensures exact { IfOk result (λ answer. IsTrue answer ↔ HasPart (Language (tree pattern.now.pattern)) (chars
+            text.now)) }
+        ensures bound { positions_of (tree pattern.now.pattern) ≤ 4096 →
+            tests.new ≤ tests.old + positions_of (tree pattern.now.pattern) * length (chars text.now) }
+        ensures kept { tests.old ≤ tests.new }
+    {
+        self.part(alloc, pattern.pattern(), text, tests)
+    }
 }

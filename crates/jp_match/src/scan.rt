@@ -7,7 +7,7 @@ ghost use Rattle.jp_match.specs.Scan.{Begins, Left, tree_of};
 
 use crate::beginning::may_begin;
 use crate::class_tests::Tests;
-use crate::counts::counts_of;
+use crate::counted::Counted;
 use crate::marking::Marking;
 use jp_iregexp::Pattern;
 use std::alloc::{AllocError, Global};
@@ -36,7 +36,18 @@ impl<'p> Scan<'p> {
     ) -> Result<Option<Scan<'p>>, AllocError>
         ensures { IfOk result (Begins (tree pattern.now) anywhere) }
     {
-        let counts = counts_of(pattern);
+        Scan::of_counted(alloc, Counted::of(pattern), anywhere)
+    }
+
+    /// The same for a pattern that was counted.
+    pub(crate) fn of_counted(
+        alloc: Global,
+        counted: Counted<'p>,
+        anywhere: bool,
+    ) -> Result<Option<Scan<'p>>, AllocError>
+        ensures { IfOk result (Begins (tree counted.entry.pattern.now) anywhere) }
+    {
+        let Counted { pattern, counts } = counted;
         if counts.positions > MOST_POSITIONS {
             return Ok(None);
         }

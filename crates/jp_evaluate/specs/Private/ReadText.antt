@@ -7,4 +7,4 @@ use Rattle.jp_evaluate.specs.declared.pattern.ReadText.TheInside.{Inside}
 
 -- the pattern is the one that the text spells
 abbrev pub IsReadInside : Inside → Type 0
-IsReadInside r = pattern_of (chars r.text.now) ≡ option_map (λ p. tree p) r.pattern
+IsReadInside r = pattern_of (chars r.text.now) ≡ option_map (λ p. tree p.pattern) r.pattern
