@@ -14,34 +14,33 @@ use Rattle.std.specs.Option.{option_map_or, unwrap_or}
 use Rattle.std.specs.Str.{bytes_eq}
 use Rattle.std.specs.Str.Parse.{ParsesBool}
 use Rattle.std.proofs.lemmas.Slice.Eq.{bytes_eq-Decides}
-use Rattle.jp_command.specs.declared.words.Task.{Task}
 use Rattle.clap.proofs.OnLiterals.{clap_on_literals}
-use Rattle.jp_check.specs.declared.profile.Profile.{Profile}
-use Rattle.jp_command.specs.CommandLine.{asked_by, is_set, jp, profile_asked, query_app}
-use Rattle.jp_command.specs.CommandLine.{task_called}
+use Rattle.jp_command.specs.CommandLine.{is_set, jp, query_app}
 
-jp_is_free : is_simple_and_free jp ≡ true
+pub jp_is_free : is_simple_and_free jp ≡ true
 unfolding clap_on_literals jp query_app
 jp_is_free = refl
 
-jp_is_simple : is_simple jp ≡ true
+pub jp_is_simple : is_simple jp ≡ true
 unfolding clap_on_literals jp query_app
 jp_is_simple = refl
 
--- a parse by a command that is `jp` fails by the faults of `jp`
-pub jp_fails : {X : Type 0} (a : App) (words : List Text) (parse : Result X Error) → a ≡ jp
-    → (is_simple_and_free a ≡ true → FailsBy (fault_of a words) parse)
-    → FailsBy (fault_of jp words) parse
-jp_fails a words parse is fails =
-    let P : App → Type 0 = λ b. is_simple_and_free b ≡ true → FailsBy (fault_of b words) parse in
-    subst P is fails jp_is_free
+-- of a command whose shape is `app`
+module _ (app a : App) (words : List Text) (same : a ≡ app) where
+  -- a parse fails by the faults of `app`
+  pub fails_as : {X : Type 0} (parse : Result X Error) → is_simple_and_free app ≡ true
+      → (is_simple_and_free a ≡ true → FailsBy (fault_of a words) parse)
+      → FailsBy (fault_of app words) parse
+  fails_as parse free fails =
+      let P : App → Type 0 = λ b. is_simple_and_free b ≡ true → FailsBy (fault_of b words) parse in
+      subst P same fails free
 
--- its matches are those of `jp`
-pub jp_matches : (a : App) (words : List Text) (m : ArgMatches) → a ≡ jp → HasMatchesOf a words m
-    → subcommand_rows_of m ≡ subcommand_of jp words
-jp_matches a words m is has =
-    let P : App → Type 0 = λ b. HasMatchesOf b words m in
-    (subst P is has jp_is_simple).1
+  -- its matches are those of `app`
+  pub matches_as : (m : ArgMatches) → is_simple app ≡ true → HasMatchesOf a words m
+      → subcommand_rows_of m ≡ subcommand_of app words
+  matches_as m simple has =
+      let P : App → Type 0 = λ b. HasMatchesOf b words m in
+      (subst P same has simple).1
 
 pub fails_on_ok : {X : Type 0} (kinds : Kinds) (parse : Result X Error)
     → FailsBy kinds parse → IfOk parse (λ _. kinds ≡ [])
@@ -53,23 +52,17 @@ pub fails_on_err : {X : Type 0} (kinds : Kinds) (parse : Result X Error)
 fails_on_err kinds (Ok x) fails = tt
 fails_on_err kinds (Err e) fails = fails
 
-abbrev pub with_query : Task → Profile → Text → Task × Text × Profile
-with_query task profile query = (task, query, profile)
-
--- a task with the query and the profile that the matches hold
-pub task_with_query : (name : Text) (found : Found) (task : Task) (query : Option Text)
-    → Some task ≡ task_called name → query ≡ first_value found (codes "QUERY")
-    → option_map (with_query task (profile_asked (rows_of found))) query
-    ≡ asked_by (name, rows_of found)
-task_with_query name found task query is held =
-    let rows = rows_of found in
-    let P : Option Task → Type 0 =
-    λ o. option_map (with_query task (profile_asked rows)) query
-    ≡ option_and_then
-    (λ t. option_map (with_query t (profile_asked rows)) (first_of (codes "QUERY") rows)) o in
-    subst P is
-    (ap (option_map (with_query task (profile_asked rows)))
-    (held ∙ first_value-rows found (codes "QUERY")))
+-- what is made of the query that the matches hold and of what a subcommand's name stands for
+module _ {X Y : Type 0} (make : X → Text → Y) (found : Found) where
+  pub with_query : (x : X) (called : Option X) (query : Option Text) → Some x ≡ called
+      → query ≡ first_value found (codes "QUERY")
+      → option_map (make x) query ≡ option_and_then
+      (λ y. option_map (make y) (first_of (codes "QUERY") (rows_of found))) called
+  with_query x called query is held =
+      let P : Option X → Type 0 =
+      λ o. option_map (make x) query ≡ option_and_then
+      (λ y. option_map (make y) (first_of (codes "QUERY") (rows_of found))) o in
+      subst P is (ap (option_map (make x)) (held ∙ first_value-rows found (codes "QUERY")))
 
 -- whether a flag is set, by its text
 abbrev set_by : Option Text → Bool

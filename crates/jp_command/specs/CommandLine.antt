@@ -15,15 +15,16 @@ use Rattle.jp_command.specs.declared.lines.Form.TheVariants.{Values, Paths, Both
 use Rattle.jp_command.specs.declared.words.Task.{Task}
 use Rattle.jp_command.specs.declared.words.Task.TheVariants.{Check, Canon, Eval}
 
--- a subcommand with exactly one positional, the query, which is required, and the flag
--- `--extended`, which is on or off
+-- the command with one flag more, which is on or off
+abbrev pub with_flag : App → Text → App
+with_flag app name =
+    with_rule app (record (new_rule name) { long = Some name; action = Some SetTrue })
+
+-- a subcommand with exactly one positional, the query, which is required, and the flag `--extended`
 unfoldable pub query_app : Text → App
-query_app name = with_rule
+query_app name = with_flag
     (with_rule (new_app name) (record (new_rule (codes "QUERY")) { required = true }))
-    (record (new_rule (codes "extended")) {
-      long = Some (codes "extended");
-      action = Some SetTrue;
-    })
+    (codes "extended")
 
 -- the command with one such subcommand more
 abbrev pub with_task : App → Text → App

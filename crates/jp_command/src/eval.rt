@@ -9,7 +9,7 @@ use crate::device::{Source, Writer};
 use crate::fault::Fault;
 use crate::input::read_all;
 use crate::limits::QUERY_LIMIT;
-use crate::lines::{Form, write_selected};
+use crate::lines::{Form, Spare, write_selected};
 use jp_check::{Checked, Profile, read_query};
 use jp_document::Document;
 use jp_flat::flat_document;
@@ -41,12 +41,12 @@ pub fn run_eval<R: Source, W: Writer>(
 {
     let query = read_within_limit(alloc, query, profile)?;
     let bytes = read_all(alloc, input)?;
-    let mut line = String::new(alloc);
+    let mut spare = Spare::new(alloc);
     if let Some(flat) = flat_document(alloc, &bytes) {
-        return write_selected(alloc, form, "", flat.value(), &query, &mut line, output);
+        return write_selected(alloc, form, "", flat.value(), &query, &mut spare, output);
     }
     let document = Document::read(alloc, &bytes)?;
-    write_selected(alloc, form, "", document.value(), &query, &mut line, output)
+    write_selected(alloc, form, "", document.value(), &query, &mut spare, output)
 }
 
 /// Reads a query of at most `QUERY_LIMIT` bytes in a profile, as `read_query` does. A longer one is

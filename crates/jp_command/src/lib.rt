@@ -35,6 +35,6 @@ pub use eval::{read_within_limit, run_eval};
 pub use fault::Fault;
 pub use limits::{DOCUMENT_LIMIT, QUERY_LIMIT};
 pub use line::{refuse_words, report, run_line, status};
-pub use lines::{Form, selected_lines, write_selected};
+pub use lines::{Form, Spare, selected_lines, write_selected};
 pub use output::write_all;
-pub use words::{is_set, profile_asked};
+pub use words::{is_set, profile_asked, query_command, with_flag};

@@ -17,10 +17,11 @@ use crate::front::Front;
 use crate::output::write_all;
 use jp_check::Checked;
 use jp_document::Step;
-use jp_evaluate::{LentNodes, lent_nodes};
+use jp_evaluate::{LentNodes, Patterns, lent_nodes, lent_nodes_with};
 use jp_lent::Printed;
 use jp_match::Marks;
 use std::alloc::{AllocError, Global};
+use std::mem;
 
 /// What is written of each node.
 #[derive(Debug, Clone, Copy, PartialEq, Eq)]
@@ -94,10 +95,28 @@ fn lines_of_rest<'d: 'q, 'q, V: Printed + 'd>(
     Ok(lines)
 }
 
+/// Memory that goes from the lines of one document to those of the next.
+#[derive(Drop)]
+pub struct Spare {
+    /// What lines are made in. What it holds is gone with the next one.
+    pub line: String,
+    /// What was read of the patterns.
+    pub patterns: Patterns,
+}
+
+impl Spare {
+    /// None yet: it is taken as lines need it.
+    pub fn new(alloc: Global) -> Spare {
+        Spare {
+            line: String::new(alloc),
+            patterns: Patterns::new(alloc),
+        }
+    }
+}
+
 /// Writes a line for each node that the query selects in the document whose value is the root, in
 /// the nodelist's order (RFC 9535 section 2.1.2), each behind the text `lead`; a node's line before
-/// the next node is looked for. `line` gives the memory that lines are made in, and what it held is
-/// gone. `Write` says that the output failed, and `NoMemory` that memory ran out; after both a
+/// the next node is looked for. `Write` says that the output failed, and `NoMemory` that memory ran out; after both a
 /// prefix of the lines is written. There are no other errors.
 pub fn write_selected<'d: 'q, 'q, V: Printed + 'd, W: Writer>(
     alloc: Global,
@@ -105,7 +124,7 @@ pub fn write_selected<'d: 'q, 'q, V: Printed + 'd, W: Writer>(
     lead: &str,
     root: V,
     query: &'q Checked,
-    line: &mut String,
+    spare: &mut Spare,
     output: &mut W,
 ) -> Result<(), Fault>
     ensures ok { OnOk result (WritesAll W.contents W.has_failed output.old output.new
@@ -113,8 +132,11 @@ pub fn write_selected<'d: 'q, 'q, V: Printed + 'd, W: Writer>(
     ensures stopped { IfErr result (StopsWriting W.contents W.has_failed output.old output.new
         (output_behind lead.now form (query_of query.now.query) (V.meaning root))) }
 {
-    let mut nodes = lent_nodes(alloc, root, query, &Marks);
-    write_lines(alloc, form, lead, &mut nodes, line, output)
+    let patterns = mem::replace(&mut spare.patterns, Patterns::new(alloc));
+    let mut nodes = lent_nodes_with(alloc, root, query, &Marks, patterns);
+    let written = write_lines(alloc, form, lead, &mut nodes, &mut spare.line, output);
+    spare.patterns = nodes.into_patterns();
+    written
 }
 
 /// Writes the line of each node before it asks for the next. After a fault a prefix of the lines is

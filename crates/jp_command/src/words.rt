@@ -7,7 +7,7 @@ ghost use Rattle.clap.specs.Words.{subcommand_of, subcommand_rows_of};
 ghost use Rattle.clap.specs.declared.builder.command.Command.TheViews.{out-Command};
 ghost use Rattle.clap.specs.declared.error.kind.ErrorKind.TheVariants.{OutOfMemory};
 ghost use Rattle.jp_command.specs.CommandLine.{asked, asked_by, is_set, jp, profile_asked};
-ghost use Rattle.jp_command.specs.CommandLine.{query_app, task_called, with_task};
+ghost use Rattle.jp_command.specs.CommandLine.{query_app, task_called, with_flag, with_task};
 
 use crate::lines::Form;
 use clap::error::ErrorKind;
@@ -53,9 +53,28 @@ fn task_named(name: &str) -> Option<Task>
     }
 }
 
+/// The command with one flag more, `--name`, which is on or off.
+pub fn with_flag<'w>(
+    alloc: Global,
+    command: Command<'w>,
+    name: &'w str,
+    help: &'w str,
+) -> Result<Command<'w>, AllocError>
+    ensures shape { IfOk result (λ more.
+        app_of more ≡ with_flag (app_of command.entry) name.entry.now) }
+    ensures local { IfOk result (λ more.
+        (out-Command more).has_globals ≡ (out-Command command.entry).has_globals) }
+{
+    let flag = Arg::new(alloc, name)
+        .long(name)
+        .action(ArgAction::SetTrue)
+        .help(help);
+    command.arg(flag)
+}
+
 /// A subcommand with a query and the flag `--extended`.
 #[tactic(auto, unfolding(crate::specs::CommandLine::query_app))]
-fn query_command<'w>(
+pub fn query_command<'w>(
     alloc: Global,
     name: &'w str,
     about: &'w str,
@@ -66,14 +85,8 @@ fn query_command<'w>(
     let query = Arg::new(alloc, "QUERY")
         .required(true)
         .help("A JSONPath query, such as $.a[0]");
-    let extended = Arg::new(alloc, "extended")
-        .long("extended")
-        .action(ArgAction::SetTrue)
-        .help("Lets the query call distinct");
-    Command::new(alloc, name)
-        .about(about)
-        .arg(query)?
-        .arg(extended)
+    let command = Command::new(alloc, name).about(about).arg(query)?;
+    with_flag(alloc, command, "extended", "Lets the query call distinct")
 }
 
 /// The command with one such subcommand more.

@@ -28,7 +28,7 @@ impl<'a, 'q, V: Selectable + 'q, M: Matching> Asking<'a, 'q, V, M> {
     #[cycle(filter)]
     pub(crate) fn call_value(
         &self,
-        patterns: &mut Patterns<'q>,
+        patterns: &mut Patterns,
         call: &'q Call,
     ) -> Result<Comparable<'q, V>, AllocError>
         ensures { IfOk result
@@ -57,7 +57,7 @@ impl<'a, 'q, V: Selectable + 'q, M: Matching> Asking<'a, 'q, V, M> {
     #[cycle(filter)]
     pub(crate) fn call_holds(
         &self,
-        patterns: &mut Patterns<'q>,
+        patterns: &mut Patterns,
         call: &'q Call,
     ) -> Result<bool, AllocError>
         ensures { IfOk result (λ answer. answer ≡ asked V.meaning self.now (call_holds (call_of call.now))) }
@@ -74,7 +74,7 @@ impl<'a, 'q, V: Selectable + 'q, M: Matching> Asking<'a, 'q, V, M> {
     #[cycle(filter)]
     fn argument_value(
         &self,
-        patterns: &mut Patterns<'q>,
+        patterns: &mut Patterns,
         argument: &'q Argument,
     ) -> Result<Comparable<'q, V>, AllocError>
         ensures { IfOk result (λ value. comparable_of V.meaning value
@@ -92,7 +92,7 @@ impl<'a, 'q, V: Selectable + 'q, M: Matching> Asking<'a, 'q, V, M> {
     #[cycle(filter)]
     fn node_count(
         &self,
-        patterns: &mut Patterns<'q>,
+        patterns: &mut Patterns,
         nodes: NodesQuery<'q>,
     ) -> Result<u64, AllocError>
         ensures { IfOk result (λ count. count ≡ length (counted nodes.entry.distinct
@@ -111,7 +111,7 @@ impl<'a, 'q, V: Selectable + 'q, M: Matching> Asking<'a, 'q, V, M> {
     #[cycle(filter)]
     fn only_value(
         &self,
-        patterns: &mut Patterns<'q>,
+        patterns: &mut Patterns,
         nodes: NodesQuery<'q>,
     ) -> Result<Option<V>, AllocError>
         ensures { IfOk result (λ value. option_map V.meaning value ≡ only_value

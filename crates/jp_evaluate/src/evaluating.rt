@@ -22,7 +22,7 @@ pub(crate) struct Evaluation<'q, V, M> {
 /// Whether `match` or `search` is true of the values of its arguments; other functions are not.
 pub(crate) fn logical_answer<'q, V: Lent + 'q, M: Matching>(
     evaluation: &Evaluation<'q, V, M>,
-    patterns: &mut Patterns<'q>,
+    patterns: &mut Patterns,
     function: Option<Function>,
     value: Comparable<'q, V>,
     pattern: Comparable<'q, V>,
@@ -42,7 +42,7 @@ pub(crate) fn logical_answer<'q, V: Lent + 'q, M: Matching>(
 /// 2.4.6), some part of it for `search` (section 2.4.7); not so where it spells none.
 fn text_answer<'q, V, M: Matching>(
     evaluation: &Evaluation<'q, V, M>,
-    patterns: &mut Patterns<'q>,
+    patterns: &mut Patterns,
     function: Option<Function>,
     text: &str,
     pattern: &'q str,

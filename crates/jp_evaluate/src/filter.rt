@@ -30,7 +30,7 @@ impl<'a, 'q, V: Selectable + 'q, M: Matching> Asking<'a, 'q, V, M> {
     #[cycle(filter)]
     pub(crate) fn holds(
         &self,
-        patterns: &mut Patterns<'q>,
+        patterns: &mut Patterns,
         expr: &'q Expr,
     ) -> Result<bool, AllocError>
         ensures { IfOk result (λ answer. answer ≡ asked V.meaning self.now (holds (expr_of expr.now))) }
@@ -54,7 +54,7 @@ impl<'a, 'q, V: Selectable + 'q, M: Matching> Asking<'a, 'q, V, M> {
 
     /// Whether one of the expressions is true; those after it are not asked.
     #[cycle(filter)]
-    fn any_holds(&self, patterns: &mut Patterns<'q>, parts: &'q [Expr]) -> Result<bool, AllocError>
+    fn any_holds(&self, patterns: &mut Patterns, parts: &'q [Expr]) -> Result<bool, AllocError>
         ensures { IfOk result
             (λ answer. answer ≡ asked V.meaning self.now (any_holds (exprs (map expr_of parts.now)))) }
     {
@@ -68,7 +68,7 @@ impl<'a, 'q, V: Selectable + 'q, M: Matching> Asking<'a, 'q, V, M> {
 
     /// Whether all of the expressions are true; those after one that is not are not asked.
     #[cycle(filter)]
-    fn all_hold(&self, patterns: &mut Patterns<'q>, parts: &'q [Expr]) -> Result<bool, AllocError>
+    fn all_hold(&self, patterns: &mut Patterns, parts: &'q [Expr]) -> Result<bool, AllocError>
         ensures { IfOk result
             (λ answer. answer ≡ asked V.meaning self.now (all_hold (exprs (map expr_of parts.now)))) }
     {
@@ -84,7 +84,7 @@ impl<'a, 'q, V: Selectable + 'q, M: Matching> Asking<'a, 'q, V, M> {
     #[cycle(filter)]
     fn selects_some(
         &self,
-        patterns: &mut Patterns<'q>,
+        patterns: &mut Patterns,
         query: &'q Query,
     ) -> Result<bool, AllocError>
         ensures { IfOk result
@@ -101,7 +101,7 @@ impl<'a, 'q, V: Selectable + 'q, M: Matching> Asking<'a, 'q, V, M> {
     #[cycle(filter)]
     fn operand_value(
         &self,
-        patterns: &mut Patterns<'q>,
+        patterns: &mut Patterns,
         operand: &'q Operand,
     ) -> Result<Comparable<'q, V>, AllocError>
         ensures { IfOk result (λ value. comparable_of V.meaning value

@@ -22,7 +22,7 @@ use std::alloc::{AllocError, Global};
 #[derive(Drop)]
 pub struct LentNodes<'d, 'q, V, M> {
     evaluation: Evaluation<'q, V, M>,
-    patterns: Patterns<'q>,
+    patterns: Patterns,
     segments: &'q [Segment],
     walk: Walk<'d, V>,
     failed: bool,
@@ -40,13 +40,28 @@ pub fn lent_nodes<'d: 'q, 'q, V: Selectable + 'd, M: Matching>(
     ensures nodes { rest_of V.meaning result
         ≡ nodelist (query_of query.now.query) (V.meaning root) }
 {
+    lent_nodes_with(alloc, root, query, matcher, Patterns::new(alloc))
+}
+
+/// The same with the patterns that other evaluations have read, which are not read again.
+pub fn lent_nodes_with<'d: 'q, 'q, V: Selectable + 'd, M: Matching>(
+    alloc: Global,
+    root: V,
+    query: &'q Checked,
+    matcher: &'q M,
+    patterns: Patterns,
+) -> LentNodes<'d, 'q, V, M>
+    ensures working { has_failed result ≡ false }
+    ensures nodes { rest_of V.meaning result
+        ≡ nodelist (query_of query.now.query) (V.meaning root) }
+{
     LentNodes {
         evaluation: Evaluation {
             alloc,
             root,
             matcher,
         },
-        patterns: Patterns::new(alloc),
+        patterns,
         segments: &query.query().segments,
         walk: Walk::from(alloc, root),
         failed: false,
@@ -59,6 +74,14 @@ impl<'d: 'q, 'q, V: Selectable + 'd, M: Matching> LentNodes<'d, 'q, V, M> {
         ensures { result ≡ has_failed self.now }
     {
         self.failed
+    }
+
+    /// The patterns that were read, for another evaluation: those whose texts have at most 1,024
+    /// bytes.
+    pub fn into_patterns(self) -> Patterns {
+        let mut patterns = self.patterns;
+        patterns.forget_long();
+        patterns
     }
 
     /// The next node: its value, and in `location` the steps to it instead of what that held; None

@@ -34,4 +34,5 @@ mod walk;
 
 pub use each::Nodes;
 pub use evaluation::{evaluate, nodes};
-pub use lent::{LentNodes, lent_nodes};
+pub use lent::{LentNodes, lent_nodes, lent_nodes_with};
+pub use pattern::Patterns;

@@ -13,36 +13,40 @@ use std::marker::Model;
 /// How many texts are kept at most.
 const MOST_KEPT: usize = 16;
 
+/// How many bytes a text has at most that goes from one evaluation to the next.
+const MOST_BYTES_HANDED_ON: usize = 1_024;
+
 /// A text with the pattern that it spells, None where it does not conform.
 #[derive(Drop)]
-struct ReadText<'q> {
-    text: &'q str,
+struct ReadText {
+    text: String,
     pattern: Option<CountedPattern>,
 }
 
-impl<'q> Model for ReadText<'q> {
-    ghost use Rattle.std.specs.Prelude.{ℕ, List};
+impl Model for ReadText {
+    ghost use Rattle.std.specs.Prelude.{ℕ, List, string_bytes};
     ghost use Rattle.jp_evaluate.specs.Private.ReadText.{IsReadInside};
 
     ghost Value = { List ℕ };
 
-    ghost view = { λ r. r.text.now };
+    ghost view = { λ r. string_bytes r.text };
 
     ghost invariant = { IsReadInside };
 }
 
-impl<'q> ReadText<'q> {
-    fn new(alloc: Global, text: &'q str) -> Result<ReadText<'q>, AllocError>
+impl ReadText {
+    fn new(alloc: Global, text: &str) -> Result<ReadText, AllocError>
         ensures { IfOk result (λ r. r ≡ text.now) }
     {
         let pattern = conforming(alloc, text)?;
+        let text = String::from_str(alloc, text)?;
         Ok(ReadText { text, pattern })
     }
 
     fn is(&self, text: &str) -> bool
         ensures { IsTrue result ↔ (self.now ≡ text.now) }
     {
-        self.text == text
+        self.text.as_str() == text
     }
 
     fn pattern(&self) -> Option<&CountedPattern>
@@ -63,17 +67,18 @@ fn conforming(alloc: Global, text: &str) -> Result<Option<CountedPattern>, Alloc
     }
 }
 
-/// The texts that were read, with their patterns; of 16 that are kept, the last gives way to a new
-/// one.
+/// The texts that were read as patterns, each with what it spells; of 16 that are kept, the last
+/// gives way to a new one. They go from one evaluation to the next by `lent_nodes_with` and
+/// `LentNodes::into_patterns`.
 #[derive(Drop)]
-pub(crate) struct Patterns<'q> {
-    read: Vec<ReadText<'q>>,
+pub struct Patterns {
+    read: Vec<ReadText>,
     ghost few: { vec_len read ≤ 16 },
 }
 
-impl<'q> Patterns<'q> {
+impl Patterns {
     /// No text was read yet. It takes no memory.
-    pub(crate) fn new(alloc: Global) -> Patterns<'q> {
+    pub fn new(alloc: Global) -> Patterns {
         Patterns {
             read: Vec::new(alloc),
         }
@@ -84,7 +89,7 @@ impl<'q> Patterns<'q> {
     pub(crate) fn of(
         &mut self,
         alloc: Global,
-        text: &'q str,
+        text: &str,
     ) -> Result<Option<&CountedPattern>, AllocError>
         ensures { IfOk result (λ o. pattern_of (chars text.now) ≡ option_map (λ p. tree p.now.pattern) o) }
     {
@@ -93,6 +98,12 @@ impl<'q> Patterns<'q> {
             None => self.read(alloc, text)?,
         };
         Ok(self.pattern(position))
+    }
+
+    /// Forgets long texts, so that little memory goes from one evaluation to the next.
+    pub(crate) fn forget_long(&mut self) {
+        self.read
+            .retain(|read| read.text.len() <= MOST_BYTES_HANDED_ON);
     }
 
     /// The position of a text that is kept.
@@ -108,7 +119,7 @@ impl<'q> Patterns<'q> {
     }
 
     /// Reads a text and keeps it; answers its position.
-    fn read(&mut self, alloc: Global, text: &'q str) -> Result<usize, AllocError>
+    fn read(&mut self, alloc: Global, text: &str) -> Result<usize, AllocError>
         ensures { IfOk result (λ i. slice_get self.new.read.items i ≡ Some text.now) }
     {
         let read = ReadText::new(alloc, text)?;

@@ -55,7 +55,7 @@ impl<'q, V: Selectable + 'q> Selecting<'q, V> {
     pub(crate) fn next<M: Matching>(
         &mut self,
         evaluation: &Evaluation<'q, V, M>,
-        patterns: &mut Patterns<'q>,
+        patterns: &mut Patterns,
     ) -> Result<Option<Place<'q, V>>, AllocError>
         ensures segments { self.new.segments ≡ self.old.segments }
         ensures gives { IfOk result (λ o. let left = to_come V.meaning (V.meaning evaluation.now.root)

@@ -94,7 +94,7 @@ impl<'d, V: Selectable + 'd> Walk<'d, V> {
     pub(crate) fn advance<'q, M: Matching>(
         &mut self,
         evaluation: &Evaluation<'q, V, M>,
-        patterns: &mut Patterns<'q>,
+        patterns: &mut Patterns,
         segments: &'q [Segment],
     ) -> Result<Option<Place<'d, V>>, AllocError>
     where
@@ -298,7 +298,7 @@ impl<'q, 'd, V: Selectable + 'd> Offer<'q, 'd, V> {
     fn passes<M: Matching>(
         &self,
         evaluation: &Evaluation<'q, V, M>,
-        patterns: &mut Patterns<'q>,
+        patterns: &mut Patterns,
     ) -> Result<bool, AllocError>
     where
         'd: 'q,

@@ -17,7 +17,8 @@ pub struct Flat<'t> {
     tables: Tables<'t>,
     root: Item,
     pending: Pending,
-    scratch: Scratch,
+    scratch: Box<Scratch>,
+    alloc: Global,
     ghost sound: { is_flat (shown tables) root ≡ true },
 }
 
@@ -38,7 +39,8 @@ impl<'t> Flat<'t> {
             items: self.tables.items,
             members: self.tables.members,
             pending: self.pending,
-            scratch: self.scratch,
+            scratch: Some(self.scratch),
+            alloc: self.alloc,
         }
     }
 }
@@ -58,7 +60,9 @@ pub struct Room {
     items: Vec<Item>,
     members: Vec<Named>,
     pending: Pending,
-    scratch: Scratch,
+    // Boxed, since it has 16 KiB inside, which would be copied with each move of a room.
+    scratch: Option<Box<Scratch>>,
+    alloc: Global,
 }
 
 impl Room {
@@ -71,21 +75,33 @@ impl Room {
             items: Vec::new(alloc),
             members: Vec::new(alloc),
             pending: Pending::new(alloc),
-            scratch: Scratch::new(alloc),
+            scratch: None,
+            alloc,
+        }
+    }
+
+    /// The reader's scratch, which is made for the first document. None where there is no memory.
+    fn take_scratch(&mut self) -> Option<Box<Scratch>> {
+        match self.scratch.take() {
+            Some(scratch) => Some(scratch),
+            None => Box::new(self.alloc, Scratch::new(self.alloc)).ok(),
         }
     }
 
     /// The document that these bytes are, in this memory. An `Err` gives the memory back, and says
     /// nothing of the bytes: they may be no document, too many for tables (2^32), or more than
     /// there is memory for.
-    pub fn read(self, bytes: &[u8]) -> Result<Flat<'_>, Room>
+    pub fn read(mut self, bytes: &[u8]) -> Result<Flat<'_>, Room>
         ensures { IfOk result (λ f. IsDocument bytes.now (document_in f)) }
     {
         let Ok(text) = simdutf8::compat::from_utf8(bytes) else {
             return Err(self);
         };
+        let Some(mut scratch) = self.take_scratch() else {
+            return Err(self);
+        };
+        let alloc = self.alloc;
         let mut pending = self.pending;
-        let mut scratch = self.scratch;
         let mut tables = Tables::of(text, self.spare, self.items, self.members);
         pending.clear();
         let read = root(&mut tables, &mut pending, &mut scratch);
@@ -95,13 +111,15 @@ impl Room {
                 root,
                 pending,
                 scratch,
+                alloc,
             }),
             None => Err(Room {
                 spare: tables.spare,
                 items: tables.items,
                 members: tables.members,
                 pending,
-                scratch,
+                scratch: Some(scratch),
+                alloc,
             }),
         }
     }

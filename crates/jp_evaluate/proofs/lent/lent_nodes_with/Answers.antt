@@ -4,7 +4,7 @@ use Rattle.jp_document.specs.Value.{Value}
 use Rattle.jp_tree.specs.declared.tree.Query.{Query, out-Query}
 use Rattle.jp_evaluate.specs.Nodelist.{start_of}
 use Rattle.jp_evaluate.proofs.Walks.Begun.{begun_nodelist}
-use Rattle.jp_evaluate.proofs.lent.lent_nodes.Goals as goal
+use Rattle.jp_evaluate.proofs.lent.lent_nodes_with.Goals as goal
 
 at_the_root : (absolute : Bool) (d : Value) → root_of d ≡ start_of absolute d (root_of d)
 at_the_root true d = refl
