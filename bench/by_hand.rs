@@ -1,8 +1,9 @@
 //! Each task of the benchmark, written out by hand over serde_json's `Value`: what a program does that
-//! has no query language. Its word is the task's name; `bench/run` builds it.
+//! has no query language. Its word is the task's name; `bench/run` builds it. A task over lines takes
+//! each line of its input for a document.
 use regex::Regex;
 use serde_json::Value;
-use std::io::{self, BufWriter, Read, Write};
+use std::io::{self, BufRead, BufWriter, Read, Write};
 
 type Lines<'a> = &'a mut dyn Write;
 
@@ -80,12 +81,52 @@ fn run(task: &str, value: &Value, out: Lines) -> io::Result<()> {
     }
 }
 
+type Task = Box<dyn Fn(&Value, Lines) -> io::Result<()>>;
+
+/// What is done with the document of each line.
+fn task_over_lines(task: &str) -> Option<Task> {
+    Some(match task {
+        "lines: $.user.name" => Box::new(|value, out| match value["user"].get("name") {
+            Some(name) => line(out, name),
+            None => Ok(()),
+        }),
+        "lines: filter over items" => Box::new(|value, out| {
+            of_each(out, &value["items"], |item| {
+                if item.get("price")?.as_u64()? < 10 { item.get("sku") } else { None }
+            })
+        }),
+        "lines: search over members" => {
+            let pattern = Regex::new("timeout|refused").expect("a pattern");
+            Box::new(move |value, out| {
+                of_each(out, value, |member| {
+                    if pattern.is_match(member.as_str()?) { Some(member) } else { None }
+                })
+            })
+        }
+        _ => return None,
+    })
+}
+
+fn run_over_lines(task: Task, out: Lines) -> io::Result<()> {
+    let mut input = io::BufReader::with_capacity(65_536, io::stdin().lock());
+    let mut text = Vec::new();
+    while input.read_until(b'\n', &mut text)? > 0 {
+        task(&serde_json::from_slice(&text)?, out)?;
+        text.clear();
+    }
+    Ok(())
+}
+
 fn main() -> io::Result<()> {
     let task = std::env::args().nth(1).unwrap_or_default();
-    let mut bytes = Vec::new();
-    io::stdin().lock().read_to_end(&mut bytes)?;
-    let value = serde_json::from_slice(&bytes)?;
     let mut out = BufWriter::with_capacity(65_536, io::stdout().lock());
-    run(&task, &value, &mut out)?;
+    match task_over_lines(&task) {
+        Some(task) => run_over_lines(task, &mut out)?,
+        None => {
+            let mut bytes = Vec::new();
+            io::stdin().lock().read_to_end(&mut bytes)?;
+            run(&task, &serde_json::from_slice(&bytes)?, &mut out)?;
+        }
+    }
     out.flush()
 }

@@ -90,11 +90,7 @@ impl<'a, 'q, V: Selectable + 'q, M: Matching> Asking<'a, 'q, V, M> {
 
     /// How many nodes a query selects, those alone that are counted.
     #[cycle(filter)]
-    fn node_count(
-        &self,
-        patterns: &mut Patterns,
-        nodes: NodesQuery<'q>,
-    ) -> Result<u64, AllocError>
+    fn node_count(&self, patterns: &mut Patterns, nodes: NodesQuery<'q>) -> Result<u64, AllocError>
         ensures { IfOk result (λ count. count ≡ length (counted nodes.entry.distinct
             (asked V.meaning self.now (nodelist_at (query_of nodes.entry.query.now))))) }
     {

@@ -28,11 +28,7 @@ pub(crate) struct Asking<'a, 'q, V, M> {
 impl<'a, 'q, V: Selectable + 'q, M: Matching> Asking<'a, 'q, V, M> {
     /// Whether an expression is true.
     #[cycle(filter)]
-    pub(crate) fn holds(
-        &self,
-        patterns: &mut Patterns,
-        expr: &'q Expr,
-    ) -> Result<bool, AllocError>
+    pub(crate) fn holds(&self, patterns: &mut Patterns, expr: &'q Expr) -> Result<bool, AllocError>
         ensures { IfOk result (λ answer. answer ≡ asked V.meaning self.now (holds (expr_of expr.now))) }
     {
         match expr {
@@ -82,11 +78,7 @@ impl<'a, 'q, V: Selectable + 'q, M: Matching> Asking<'a, 'q, V, M> {
 
     /// Whether a query selects a node; the walk ends at the first.
     #[cycle(filter)]
-    fn selects_some(
-        &self,
-        patterns: &mut Patterns,
-        query: &'q Query,
-    ) -> Result<bool, AllocError>
+    fn selects_some(&self, patterns: &mut Patterns, query: &'q Query) -> Result<bool, AllocError>
         ensures { IfOk result
             (λ answer. answer ≡ has_node (asked V.meaning self.now (nodelist_at (query_of query.now)))) }
     {

@@ -8,3 +8,6 @@ pub mod Finding
 pub mod Chunks
 pub mod Ending
 pub mod OneLine
+pub mod Flushing
+pub mod Matches
+pub mod Rows

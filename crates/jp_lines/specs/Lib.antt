@@ -3,5 +3,7 @@ pub mod Outcome
 pub mod Reads
 pub mod Told
 pub mod Run
+pub mod CommandLine
+pub mod Program
 pub mod Laws
 pub mod Private

@@ -1,5 +1,4 @@
 -- What the contracts of private functions alone cite: what one line comes to, and how chunks are gone through.
 pub mod Answers
 pub mod Passing
-pub mod Stopping
 pub mod Treating

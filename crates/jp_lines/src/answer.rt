@@ -15,7 +15,7 @@ use crate::defect::Defect;
 use crate::options::{Options, Wanted};
 use itoa::Buffer;
 use jp_check::Checked;
-use jp_command::{DOCUMENT_LIMIT, Fault, Writer, write_all, write_selected};
+use jp_command::{DOCUMENT_LIMIT, Fault, Spare, Writer, write_all, write_selected};
 use jp_document::{Document, DocumentFault};
 use jp_flat::Room;
 use jp_lent::Printed;
@@ -35,7 +35,7 @@ pub(crate) struct Asked<'q> {
 pub(crate) struct Memory {
     room: Room,
     lead: String,
-    text: String,
+    spare: Spare,
 }
 
 impl Memory {
@@ -44,7 +44,7 @@ impl Memory {
         Memory {
             room: Room::new(alloc),
             lead: String::new(alloc),
-            text: String::new(alloc),
+            spare: Spare::new(alloc),
         }
     }
 }
@@ -141,7 +141,7 @@ fn write_wanted<'d: 'q, 'q, V: Printed + 'd, W: Writer>(
         (query_of asked.entry.query.now.query) (V.meaning root))) }
 {
     let lead = &mut memory.lead;
-    let text = &mut memory.text;
+    let spare = &mut memory.spare;
     set_lead(asked.options.numbered, number, lead)?;
     match asked.options.wanted {
         Wanted::Nodes(form) => write_selected(
@@ -150,12 +150,12 @@ fn write_wanted<'d: 'q, 'q, V: Printed + 'd, W: Writer>(
             lead.as_str(),
             root,
             asked.query,
-            text,
+            spare,
             output,
         ),
         Wanted::Count => {
-            let count = count_selected(asked.alloc, root, asked.query)?;
-            write_count(lead.as_str(), count, text, output)
+            let count = count_selected(asked.alloc, root, asked.query, &mut spare.patterns)?;
+            write_count(lead.as_str(), count, &mut spare.line, output)
         }
     }
 }

@@ -8,7 +8,8 @@
 //! `Options` say what is written of each document, and whether lines are numbered, a run goes on
 //! after a line that is no document, and the output is flushed after each. `specs/Run.antt` has what
 //! `run_lines` says with each answer, by the outcomes of lines in `specs/Outcome.antt`;
-//! `specs/Lines.antt` says what the lines of an input are.
+//! `specs/Lines.antt` says what the lines of an input are. `run_program` is the whole program
+//! `jp-lines` over its words; `specs/Program.antt` has what it says with each status.
 #![tactic(auto)]
 
 mod answer;
@@ -17,14 +18,17 @@ mod defect;
 pub mod laws;
 mod options;
 mod passing;
+mod program;
 mod run;
 mod stop;
 mod telling;
 #[cfg(test)]
 mod tests;
 mod treating;
+mod words;
 
 pub use defect::{Defect, RefusedLine};
 pub use options::{Options, Wanted};
+pub use program::run_program;
 pub use run::run_lines;
 pub use stop::Stop;

@@ -22,7 +22,7 @@ pub enum Stop {
 /// The line that tells it, without the newline.
 impl fmt::Display for Stop {
     ghost use Rattle.std.specs.Prelude.{Some};
-    ghost use Rattle.jp_lines.specs.Private.Stopping.{stop_text};
+    ghost use Rattle.jp_lines.specs.Program.{stop_text};
 
     ghost output = { λ stop. Some (stop_text stop) };
 

@@ -48,14 +48,14 @@ pub(crate) fn treat<W: Output, E: Writer>(
     }
 }
 
-/// Hands the output on, where that is asked for after each document.
-fn flush<W: Output>(line_buffered: bool, output: &mut W) -> Result<(), Fault>
+/// Hands the output on, where that is asked for.
+pub(crate) fn flush<W: Output>(is_asked_for: bool, output: &mut W) -> Result<(), Fault>
     ensures kept { Keeps (W.contents output.old) (W.contents output.new) }
     ensures works { OnOk result (W.has_failed output.new ≡ W.has_failed output.old) }
     ensures write { IfErr result (λ stop. stop ≡ fault.Write) }
     ensures fails { OnErr result (W.has_failed output.new ≡ true) }
 {
-    if line_buffered && output.flush().is_err() {
+    if is_asked_for && output.flush().is_err() {
         return Err(Fault::Write);
     }
     Ok(())

@@ -21,7 +21,8 @@ impl Read for Trickle<'_> {
     }
 }
 
-/// Takes so many bytes, one a call, and then fails; counts how often it is flushed.
+/// Takes so many bytes, one a call, fails once, and takes all that comes after that; counts how often
+/// it is flushed.
 #[derive(Drop)]
 pub struct Narrow {
     pub taken: Vec<u8>,
@@ -43,6 +44,7 @@ impl Write for Narrow {
     fn write(&mut self, bytes: &[u8]) -> Result<usize> {
         let count = bytes.len().min(self.room).min(1);
         if count == 0 {
+            self.room = usize::MAX;
             return Err(Error::from(ErrorKind::BrokenPipe));
         }
         self.taken.extend_from_slice(&bytes[..count])?;
@@ -53,5 +55,22 @@ impl Write for Narrow {
     fn flush(&mut self) -> Result<()> {
         self.flushes = self.flushes.saturating_add(1);
         Ok(())
+    }
+}
+
+/// Takes all bytes, and fails where it is flushed.
+#[derive(Drop)]
+pub struct Unflushed {
+    pub taken: Vec<u8>,
+}
+
+impl Write for Unflushed {
+    fn write(&mut self, bytes: &[u8]) -> Result<usize> {
+        self.taken.extend_from_slice(bytes)?;
+        Ok(bytes.len())
+    }
+
+    fn flush(&mut self) -> Result<()> {
+        Err(Error::from(ErrorKind::BrokenPipe))
     }
 }

@@ -1,0 +1,52 @@
+-- What some command lines ask for.
+use Rattle.std.proofs.Common.{◌≡◌, [], ◌∷◌, true, false, Some, None, codes, refl}
+use Rattle.clap.proofs.OnLiterals.{clap_on_literals}
+use Rattle.jp_check.specs.declared.profile.Profile.TheVariants.{Standard, Extended}
+use Rattle.jp_command.specs.CommandLine.{query_app}
+use Rattle.jp_command.specs.declared.lines.Form.TheVariants.{Values, Both}
+use Rattle.jp_lines.specs.CommandLine.{asked, jp_lines, lines_app}
+use Rattle.jp_lines.specs.declared.options.Options.{Options}
+use Rattle.jp_lines.specs.declared.options.Wanted.{Wanted}
+use Rattle.jp_lines.specs.declared.options.Wanted.TheVariants.{Nodes, Count}
+
+-- what no flag asks for
+abbrev plain : Wanted → Options
+plain wanted =
+    record { wanted = wanted; numbered = false; keep_going = false; line_buffered = false }
+
+values : asked (codes "jp-lines" ∷ codes "eval" ∷ codes "$" ∷ [])
+    ≡ Some (plain (Nodes Values), codes "$", Standard)
+unfolding clap_on_literals jp_lines lines_app query_app
+values = refl
+
+number_and_buffer :
+    asked (codes "jp-lines" ∷ codes "both" ∷ codes "--number" ∷ codes "$"
+    ∷ codes "--line-buffered" ∷ [])
+    ≡ Some (
+      record (plain (Nodes Both)) { numbered = true; line_buffered = true },
+      codes "$",
+      Standard,
+    )
+unfolding clap_on_literals jp_lines lines_app query_app
+number_and_buffer = refl
+
+going_and_extended :
+    asked (codes "jp-lines" ∷ codes "count" ∷ codes "--keep-going" ∷ codes "--extended"
+    ∷ codes "$" ∷ [])
+    ≡ Some (record (plain Count) { keep_going = true }, codes "$", Extended)
+unfolding clap_on_literals jp_lines lines_app query_app
+going_and_extended = refl
+
+flag_twice :
+    asked (codes "jp-lines" ∷ codes "count" ∷ codes "--number" ∷ codes "--number" ∷ codes "$" ∷ [])
+    ≡ None
+unfolding clap_on_literals jp_lines lines_app query_app
+flag_twice = refl
+
+no_query : asked (codes "jp-lines" ∷ codes "eval" ∷ []) ≡ None
+unfolding clap_on_literals jp_lines lines_app query_app
+no_query = refl
+
+subcommand_of_another_program : asked (codes "jp-lines" ∷ codes "check" ∷ codes "$" ∷ []) ≡ None
+unfolding clap_on_literals jp_lines lines_app query_app
+subcommand_of_another_program = refl

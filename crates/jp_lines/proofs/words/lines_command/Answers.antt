@@ -1,0 +1,16 @@
+use Rattle.std.proofs.Common.{◌∙◌, ap, codes}
+use Rattle.std.proofs.lemmas.Result.{IfOk-weaker}
+use Rattle.jp_command.specs.CommandLine.{with_flag}
+use Rattle.jp_lines.specs.CommandLine.{lines_app}
+use Rattle.jp_lines.proofs.words.lines_command.Goals as goal
+
+pub returns-clause-shape : goal.returns-clause-shape
+unfolding lines_app
+returns-clause-shape c =
+    let numbered = c.in_ok-command-2.ensures.shape
+    ∙ ap (λ a. with_flag a (codes "number")) c.in_ok-command.ensures.shape in
+    let going = c.in_ok-command-3.ensures.shape
+    ∙ ap (λ a. with_flag a (codes "keep-going")) numbered in
+    IfOk-weaker c.with_flag-3.result _ _
+    (λ more same. same ∙ ap (λ a. with_flag a (codes "line-buffered")) going)
+    c.with_flag-3.ensures.shape

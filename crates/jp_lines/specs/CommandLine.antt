@@ -1,0 +1,59 @@
+-- What the words of a command line ask for: the command line as clap reads it, and what it finds in
+-- the words: how to go over the lines, the query and the profile. `Program` cites it.
+use Rattle.std.specs.Prelude.{true, List, Option, Some, None, codes, if◌then◌else◌}
+use Rattle.std.specs.Prelude.{option_and_then, option_map}
+use Rattle.std.specs.Str.{bytes_eq}
+use Rattle.clap.specs.Words.{App, Row, Text, fault_of, first_of, new_app, subcommand_of}
+use Rattle.clap.specs.Words.{with_subcommand}
+use Rattle.clap.specs.Simple.{on_top}
+use Rattle.clap.specs.Walk.{is_empty}
+use Rattle.jp_check.specs.declared.profile.Profile.{Profile}
+use Rattle.jp_command.specs.CommandLine.{is_set, profile_asked, query_app, with_flag}
+use Rattle.jp_command.specs.declared.lines.Form.TheVariants.{Values, Paths, Both}
+use Rattle.jp_lines.specs.declared.options.Options.{Options}
+use Rattle.jp_lines.specs.declared.options.Wanted.{Wanted}
+use Rattle.jp_lines.specs.declared.options.Wanted.TheVariants.{Nodes, Count}
+
+-- a subcommand with the query, `--extended`, and the flags of a run over lines
+unfoldable pub lines_app : Text → App
+lines_app name = with_flag (with_flag (with_flag (query_app name) (codes "number"))
+    (codes "keep-going")) (codes "line-buffered")
+
+-- the command with one such subcommand more
+abbrev pub with_lines : App → Text → App
+with_lines app name = with_subcommand app (lines_app name).top
+
+-- `jp-lines` with its subcommands, one of which is required, and a version that it tells
+unfoldable pub jp_lines : App
+jp_lines = on_top (λ top. record top { subcommand_required = true; has_version = true })
+    (with_lines (with_lines (with_lines (with_lines (new_app (codes "jp-lines"))
+    (codes "eval")) (codes "paths")) (codes "both")) (codes "count"))
+
+-- what a subcommand's name asks to be written of each document
+abbrev pub wanted_called : Text → Option Wanted
+wanted_called name =
+    if bytes_eq name (codes "eval") then Some (Nodes Values)
+    else if bytes_eq name (codes "paths") then Some (Nodes Paths)
+    else if bytes_eq name (codes "both") then Some (Nodes Both)
+    else if bytes_eq name (codes "count") then Some Count else None
+
+-- the same with what the flags ask for
+abbrev pub options_asked : Wanted → List Row → Options
+options_asked wanted rows = record {
+  wanted = wanted;
+  numbered = is_set (codes "number") rows;
+  keep_going = is_set (codes "keep-going") rows;
+  line_buffered = is_set (codes "line-buffered") rows;
+}
+
+-- the options, the query and the profile of the subcommand that the words name
+abbrev pub asked_by : Text × List Row → Option (Options × Text × Profile)
+asked_by entered = option_and_then
+    (λ wanted. option_map
+    (λ query. (options_asked wanted entered.1, query, profile_asked entered.1))
+    (first_of (codes "QUERY") entered.1)) (wanted_called entered.0)
+
+-- what the words ask for, the program's name among them: nothing where clap finds a fault in them
+abbrev pub asked : List Text → Option (Options × Text × Profile)
+asked words = if is_empty (fault_of jp_lines words)
+    then option_and_then asked_by (subcommand_of jp_lines words) else None

@@ -1,0 +1,66 @@
+-- What the program says with its status: the status and the line of each stop, and `RunsProgram`,
+-- which the clause of `run_program` cites.
+use Rattle.std.specs.Prelude.{◌≡◌, ℕ, Bool, true, false, List, ◌++◌, Option, Some, None, Result}
+use Rattle.std.specs.Prelude.{Ok, Err, codes}
+use Rattle.jp_check.specs.declared.profile.Profile.{Profile}
+use Rattle.jp_command.specs.Line.{fault_line, fault_text, status_of}
+use Rattle.jp_command.specs.Output.{AppendsPrefix, AppendsSome}
+use Rattle.jp_command.specs.declared.fault.Fault.TheVariants.{NoMemory}
+use Rattle.jp_lines.specs.CommandLine.{asked}
+use Rattle.jp_lines.specs.Outcome.{refused_text}
+use Rattle.jp_lines.specs.Run.{RunsLines}
+use Rattle.jp_lines.specs.declared.options.Options.{Options}
+use Rattle.jp_lines.specs.declared.stop.Stop.{Stop}
+use Rattle.jp_lines.specs.declared.stop.Stop.TheVariants.{Run, Line}
+
+-- what is said of a stop
+abbrev pub stop_text : Stop → List ℕ
+stop_text (Line refused) = refused_text refused
+stop_text (Run fault) = fault_text fault
+
+-- its line, which a newline ends
+abbrev pub stop_line : Stop → List ℕ
+stop_line stop = stop_text stop ++ codes "\n"
+
+-- its status
+abbrev pub status_of_stop : Stop → ℕ
+status_of_stop (Line refused) = 3
+status_of_stop (Run fault) = status_of fault
+
+-- u and v are what takes refusals, before and after
+module _ {E : Type 0} (reports : E → Option (List ℕ)) (reports_failed : E → Bool) where
+  -- a prefix of the stop's line is told, and nothing where a write had failed before
+  pub record TellsStop (stop : Stop) (u v : E) : Type 0 where
+    pub prefix : AppendsPrefix (reports u) (reports v) (stop_line stop)
+    pub silent : reports_failed u ≡ true → v ≡ u
+
+-- i and j are the input before and after, o and p the output, u and v what takes refusals
+module _ {R W E : Type 0} (remaining : R → Option (List ℕ)) (has_failed : R → Bool)
+    (read_gives : R → Option (List ℕ) → R → Type 0) (contents : W → Option (List ℕ))
+    (writes_failed : W → Bool) (reports : E → Option (List ℕ)) (reports_failed : E → Bool) where
+  -- the run that the words ask for ended with this answer
+  pub record Ends (words : List (List ℕ)) (i j : R) (o p : W) (u v : E)
+      (answer : Result Bool Stop) : Type 0 where
+    pub options : Options
+    pub query : List ℕ
+    pub profile : Profile
+    pub asks : asked words ≡ Some (options, query, profile)
+    pub runs : RunsLines profile options remaining has_failed read_gives contents writes_failed
+        reports reports_failed query i j o p u v answer
+
+  -- What is said with a status. Where the words are not ones that the command line takes, clap's
+  -- text is told, of which its contract says nothing.
+  pub data RunsProgram (words : List (List ℕ)) (i j : R) (o p : W) (u v : E) (status : ℕ) : Type 0 where
+    none_refused : status ≡ 0 → Ends words i j o p u v (Ok false)
+        → RunsProgram words i j o p u v status
+    some_refused : status ≡ 3 → Ends words i j o p u v (Ok true)
+        → RunsProgram words i j o p u v status
+    stopped : (stop : Stop) (between : E) → status ≡ status_of_stop stop
+        → Ends words i j o p u between (Err stop)
+        → TellsStop reports reports_failed stop between v
+        → RunsProgram words i j o p u v status
+    usage : status ≡ 2 → asked words ≡ None → j ≡ i → p ≡ o
+        → AppendsSome (reports u) (reports v) → RunsProgram words i j o p u v status
+    memory : status ≡ 4 → j ≡ i → p ≡ o
+        → AppendsPrefix (reports u) (reports v) (fault_line NoMemory)
+        → RunsProgram words i j o p u v status

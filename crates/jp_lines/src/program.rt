@@ -1,0 +1,104 @@
+//! The whole program over its words.
+
+ghost use Rattle.std.specs.Prelude.{◌≡◌, map, string_bytes};
+ghost use Rattle.jp_lines.specs.Program.{RunsProgram, TellsStop, status_of_stop};
+ghost use Rattle.jp_lines.specs.Run.{RunsLines};
+
+use crate::options::Options;
+use crate::run::run_lines;
+use crate::stop::Stop;
+use crate::telling::tell;
+use crate::treating::flush;
+use crate::words::read_words;
+use jp_check::Profile;
+use jp_command::{Output, Source, Writer, refuse_words, report, status};
+use std::alloc::Global;
+
+/// The status of a run of which some line is refused.
+const LINE_REFUSED: u8 = 3;
+
+/// Does what `words` ask for, of which the first is the program's name, and answers the status: 0
+/// where it is done, 1 where the query is refused, 2 where the words are not ones that the command
+/// line takes, 3 where some line is refused, 4 where the memory did not suffice, 5 where the input
+/// or the output failed. Every status but 0 has its line in `faults`, if it can be written there,
+/// and status 3 after `--keep-going` one for each line that is refused; with status 2 that is clap's
+/// own text. The output is flushed after a run that is done, and where a line is refused before
+/// that is told.
+pub fn run_program<R: Source, W: Output, E: Writer>(
+    alloc: Global,
+    words: Vec<String>,
+    input: &mut R,
+    output: &mut W,
+    faults: &mut E,
+) -> u8
+    ensures { RunsProgram R.remaining R.has_failed R.read_gives W.contents W.has_failed E.contents
+        E.has_failed (map string_bytes words.items) input.old input.new output.old output.new
+        faults.old faults.new result }
+{
+    match read_words(alloc, &words) {
+        Ok((options, query, profile)) => match run_and_flush(
+            alloc, query, profile, options, input, output, faults,
+        ) {
+            Ok(false) => 0,
+            Ok(true) => LINE_REFUSED,
+            Err(stop) => {
+                tell_stop(alloc, &stop, faults);
+                status_of_stop(&stop)
+            }
+        },
+        Err(error) => refuse_words(alloc, &error, faults),
+    }
+}
+
+/// Runs a query over the lines, and flushes the output where that is done or a line is refused.
+fn run_and_flush<R: Source, W: Output, E: Writer>(
+    alloc: Global,
+    query: &str,
+    profile: Profile,
+    options: Options,
+    input: &mut R,
+    output: &mut W,
+    faults: &mut E,
+) -> Result<bool, Stop>
+    ensures { RunsLines profile options R.remaining R.has_failed R.read_gives
+        W.contents W.has_failed E.contents E.has_failed query.now
+        input.old input.new output.old output.new faults.old faults.new result }
+{
+    match run_lines(alloc, query, profile, options, input, output, faults) {
+        Ok(refused) => {
+            flush(true, output)?;
+            Ok(refused)
+        }
+        Err(Stop::Line(refused)) => {
+            flush(true, output)?;
+            Err(Stop::Line(refused))
+        }
+        Err(Stop::Run(fault)) => Err(Stop::Run(fault)),
+    }
+}
+
+/// The status of a stop.
+fn status_of_stop(stop: &Stop) -> u8
+    ensures { result ≡ status_of_stop stop.now }
+{
+    match stop {
+        Stop::Line(_) => LINE_REFUSED,
+        Stop::Run(fault) => status(fault),
+    }
+}
+
+/// Writes the line of a stop, unless a write to `faults` has failed before. One that cannot be
+/// written, or for which there is no memory, is left out.
+fn tell_stop<E: Writer>(alloc: Global, stop: &Stop, faults: &mut E)
+    ensures { TellsStop E.contents E.has_failed stop.now faults.old faults.new }
+{
+    if faults.failed() {
+        return;
+    }
+    match stop {
+        Stop::Line(refused) => {
+            let _ = tell(alloc, refused, faults);
+        }
+        Stop::Run(fault) => report(alloc, fault, faults),
+    }
+}

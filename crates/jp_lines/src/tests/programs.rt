@@ -1,0 +1,198 @@
+//! What the program writes and tells with each status.
+
+use super::devices::{Narrow, Trickle, Unflushed};
+use crate::run_program;
+use jp_command::Device;
+use std::alloc::{AllocError, Global};
+use std::process::Abort;
+
+/// A document in the first line, none in the second, a fault in the third, and in the fourth a
+/// document before a carriage return.
+const LINES: &str = "{\"a\":1,\"b\":[2,3]}\n\nx\n[4]\r\n";
+
+/// The words with a subcommand, flags and a query.
+fn words(alloc: Global, line: &[&str]) -> Result<Vec<String>, AllocError> {
+    let mut words = Vec::new(alloc);
+    for word in line {
+        words.push(String::from_str(alloc, *word)?)?;
+    }
+    Ok(words)
+}
+
+/// How a program ends: its status, what it writes, what it tells, and how often it flushes.
+type Ended<'a> = (u8, &'a str, &'a str, usize);
+
+/// Runs the program over lines, where a read behind them fails if it is to.
+fn assert_ends(
+    rt: &impl Abort,
+    alloc: Global,
+    line: &[&str],
+    lines: &str,
+    fails: bool,
+    (status, written, told, flushes): Ended<'_>,
+) -> Result<(), AllocError> {
+    let mut output = Narrow::new(alloc, usize::MAX);
+    let mut faults = Narrow::new(alloc, usize::MAX);
+    let input = Trickle {
+        bytes: lines.as_bytes(),
+        size: 3,
+        fails,
+    };
+    let ended = run_program(
+        alloc,
+        words(alloc, line)?,
+        &mut Device::new(input),
+        &mut Device::new(&mut output),
+        &mut Device::new(&mut faults),
+    );
+    assert_eq!(rt; ended, status);
+    assert!(rt; output.taken.as_slice() == written.as_bytes());
+    assert!(rt; faults.taken.as_slice() == told.as_bytes());
+    assert_eq!(rt; output.flushes, flushes);
+    Ok(())
+}
+
+#[test]
+fn writes_what_its_words_ask_for(rt: HostRuntime) -> Result<(), AllocError> {
+    let refused = "line 3: document refused: NotJson\n";
+    let runs: [(&[&str], &str); 7] = [
+        (&["jp-lines", "eval", "$.*"], "1\n[2,3]\n"),
+        (
+            &["jp-lines", "eval", "--keep-going", "$.*"],
+            "1\n[2,3]\n4\n",
+        ),
+        (
+            &["jp-lines", "paths", "$.*", "--keep-going", "--number"],
+            "1\t$['a']\n1\t$['b']\n4\t$[0]\n",
+        ),
+        (
+            &["jp-lines", "both", "--keep-going", "$.*"],
+            "$['a']\t1\n$['b']\t[2,3]\n$[0]\t4\n",
+        ),
+        (&["jp-lines", "count", "--keep-going", "$.*"], "2\n1\n"),
+        (&["jp-lines", "count", "--number", "$.*"], "1\t2\n"),
+        (
+            &["jp-lines", "eval", "--extended", "$[?distinct(@[*])]"],
+            "[2,3]\n",
+        ),
+    ];
+    for (line, written) in runs {
+        assert_ends(
+            &rt,
+            rt.alloc(),
+            line,
+            LINES,
+            false,
+            (3, written, refused, 1),
+        )?;
+    }
+    Ok(())
+}
+
+#[test]
+fn flushes_after_each_document_where_that_is_asked_for(rt: HostRuntime) -> Result<(), AllocError> {
+    let mut output = Unflushed {
+        taken: Vec::new(rt.alloc()),
+    };
+    let mut faults = Narrow::new(rt.alloc(), usize::MAX);
+    let ended = run_program(
+        rt.alloc(),
+        words(rt.alloc(), &["jp-lines", "eval", "--line-buffered", "$[0]"])?,
+        &mut Device::new(b"[1]\n[2]\n".as_slice()),
+        &mut Device::new(&mut output),
+        &mut Device::new(&mut faults),
+    );
+    assert_eq!(rt; ended, 5);
+    assert!(rt; output.taken.as_slice() == "1\n".as_bytes());
+    assert!(rt; faults.taken.as_slice() == "write fault\n".as_bytes());
+    Ok(())
+}
+
+#[test]
+fn ends_with_the_status_of_its_run(rt: HostRuntime) -> Result<(), AllocError> {
+    let alloc = rt.alloc();
+    let eval = ["jp-lines", "eval", "$[1]"];
+    assert_ends(&rt, alloc, &eval, "[1,2]\n[3]\n", false, (0, "2\n", "", 1))?;
+    assert_ends(&rt, alloc, &eval, "", false, (0, "", "", 1))?;
+    let not_whole = "line 2: document refused: NotWhole at $['a'][1]\n";
+    let lines = "[0,0]\n{\"a\":[1,1.5]}\n";
+    assert_ends(&rt, alloc, &eval, lines, false, (3, "0\n", not_whole, 1))?;
+    assert_ends(
+        &rt,
+        alloc,
+        &eval,
+        "[1,2]\n[3,4]",
+        true,
+        (5, "2\n", "read fault\n", 0),
+    )?;
+    let extended = ["jp-lines", "count", "$[?distinct(@[*])]"];
+    let unknown = "query refused: UnknownFunction at 3\n";
+    assert_ends(&rt, alloc, &extended, "[]\n", false, (1, "", unknown, 0))
+}
+
+#[test]
+fn refuses_words_that_name_no_run(rt: HostRuntime) -> Result<(), AllocError> {
+    let lines: [&[&str]; 5] = [
+        &["jp-lines"],
+        &["jp-lines", "check", "$"],
+        &["jp-lines", "eval"],
+        &["jp-lines", "eval", "$", "$"],
+        &["jp-lines", "eval", "--number", "--number", "$"],
+    ];
+    for line in lines {
+        let mut input = Trickle {
+            bytes: b"[1]",
+            size: 3,
+            fails: false,
+        };
+        let mut output = Narrow::new(rt.alloc(), usize::MAX);
+        let mut faults = Narrow::new(rt.alloc(), usize::MAX);
+        let ended = run_program(
+            rt.alloc(),
+            words(rt.alloc(), line)?,
+            &mut Device::new(&mut input),
+            &mut Device::new(&mut output),
+            &mut Device::new(&mut faults),
+        );
+        assert_eq!(rt; (ended, input.bytes.len(), output.taken.len()), (2, 3, 0));
+        assert!(rt; !faults.taken.is_empty());
+    }
+    Ok(())
+}
+
+#[test]
+fn tells_that_a_flush_failed(rt: HostRuntime) -> Result<(), AllocError> {
+    for lines in ["[1]\n", "[1]\nx\n"] {
+        let mut output = Unflushed {
+            taken: Vec::new(rt.alloc()),
+        };
+        let mut faults = Narrow::new(rt.alloc(), usize::MAX);
+        let ended = run_program(
+            rt.alloc(),
+            words(rt.alloc(), &["jp-lines", "eval", "$[0]"])?,
+            &mut Device::new(lines.as_bytes()),
+            &mut Device::new(&mut output),
+            &mut Device::new(&mut faults),
+        );
+        assert_eq!(rt; ended, 5);
+        assert!(rt; output.taken.as_slice() == "1\n".as_bytes());
+        assert!(rt; faults.taken.as_slice() == "write fault\n".as_bytes());
+    }
+    Ok(())
+}
+
+#[test]
+fn writes_no_more_faults_after_one_that_failed(rt: HostRuntime) -> Result<(), AllocError> {
+    let mut output = Narrow::new(rt.alloc(), 1);
+    let mut faults = Narrow::new(rt.alloc(), 4);
+    let ended = run_program(
+        rt.alloc(),
+        words(rt.alloc(), &["jp-lines", "eval", "--keep-going", "$[0]"])?,
+        &mut Device::new(b"x\n[1]\n".as_slice()),
+        &mut Device::new(&mut output),
+        &mut Device::new(&mut faults),
+    );
+    assert_eq!(rt; ended, 5);
+    assert!(rt; faults.taken.as_slice() == "line".as_bytes());
+    Ok(())
+}

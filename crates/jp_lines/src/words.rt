@@ -1,0 +1,179 @@
+//! Reading the words of a command line.
+
+ghost use Rattle.std.specs.Prelude.{◌≡◌, ◌⊎◌, Some, None, IfOk, IfErr, [], false, map};
+ghost use Rattle.std.specs.Prelude.{option_and_then, option_map, string_bytes};
+ghost use Rattle.clap.specs.Words.{IsAmong, app_of, fault_of, found_of, kind_of, rows_of};
+ghost use Rattle.clap.specs.Words.{subcommand_of, subcommand_rows_of};
+ghost use Rattle.clap.specs.declared.builder.command.Command.TheViews.{out-Command};
+ghost use Rattle.clap.specs.declared.error.kind.ErrorKind.TheVariants.{OutOfMemory};
+ghost use Rattle.jp_lines.specs.CommandLine.{asked, asked_by, jp_lines, lines_app};
+ghost use Rattle.jp_lines.specs.CommandLine.{options_asked, wanted_called, with_lines};
+
+use crate::options::{Options, Wanted};
+use clap::error::ErrorKind;
+use clap::{ArgMatches, Command, Error};
+use jp_check::Profile;
+use jp_command::{Form, is_set, profile_asked, query_command, with_flag};
+use std::alloc::{AllocError, Global};
+
+/// The version of the program.
+const VERSION: &str = "0.1.0";
+
+/// What help says below the subcommands.
+const AFTER_HELP: &str = "\
+Each command takes one QUERY and runs it over each line of standard input, which is one JSON
+document. Lines of blanks alone hold none. A line that is no document ends the run, unless
+--keep-going is given.
+
+Example: printf '{\"a\":1}\\n{\"a\":2}\\n' | jp-lines eval '$.a'
+
+Statuses: 0 done, 1 query refused, 2 usage or help, 3 some line refused,
+4 want of memory, 5 read or write fault";
+
+/// What a subcommand's name asks to be written of each document.
+fn wanted_named(name: &str) -> Option<Wanted>
+    ensures { result ≡ wanted_called name.now }
+{
+    match name {
+        "eval" => Some(Wanted::Nodes(Form::Values)),
+        "paths" => Some(Wanted::Nodes(Form::Paths)),
+        "both" => Some(Wanted::Nodes(Form::Both)),
+        "count" => Some(Wanted::Count),
+        _ => None,
+    }
+}
+
+/// A subcommand with a query and all flags.
+#[tactic(auto, unfolding(crate::specs::CommandLine::lines_app))]
+fn lines_command<'w>(
+    alloc: Global,
+    name: &'w str,
+    about: &'w str,
+) -> Result<Command<'w>, AllocError>
+    ensures shape { IfOk result (λ command. app_of command ≡ lines_app name.entry.now) }
+    ensures local { IfOk result (λ command. (out-Command command).has_globals ≡ false) }
+{
+    let command = query_command(alloc, name, about)?;
+    let command = with_flag(
+        alloc,
+        command,
+        "number",
+        "Writes the number of the input's line and a tab before each line",
+    )?;
+    let command = with_flag(
+        alloc,
+        command,
+        "keep-going",
+        "Goes on after a line that is no document",
+    )?;
+    with_flag(
+        alloc,
+        command,
+        "line-buffered",
+        "Flushes the output after each document",
+    )
+}
+
+/// The command with one such subcommand more.
+fn with_lines<'w>(
+    alloc: Global,
+    command: Command<'w>,
+    name: &'w str,
+    about: &'w str,
+) -> Result<Command<'w>, AllocError>
+    ensures { IfOk result (λ more.
+        app_of more ≡ with_lines (app_of command.entry) name.entry.now) }
+{
+    command.subcommand(lines_command(alloc, name, about)?)
+}
+
+/// The whole command line.
+#[tactic(auto, unfolding(crate::specs::CommandLine::jp_lines))]
+fn jp_lines_command<'w>(alloc: Global) -> Result<Command<'w>, AllocError>
+    ensures { IfOk result (λ command. app_of command ≡ jp_lines) }
+{
+    let command = Command::new(alloc, "jp-lines")
+        .version(VERSION)
+        .about("Runs a JSONPath query (RFC 9535) over JSON documents, one a line")
+        .after_help(AFTER_HELP);
+    let command = with_lines(alloc, command, "eval", "Writes each selected node's value")?;
+    let command = with_lines(alloc, command, "paths", "Writes each selected node's path")?;
+    let command = with_lines(
+        alloc,
+        command,
+        "both",
+        "Writes each one's path, a tab and its value",
+    )?;
+    let command = with_lines(
+        alloc,
+        command,
+        "count",
+        "Writes how many nodes each document has selected",
+    )?;
+    Ok(command.subcommand_required(true))
+}
+
+/// The matches of `words` by the command line.
+fn matches_of<'w>(alloc: Global, words: &'w [String]) -> Result<ArgMatches<'w>, Error>
+    ensures taken { IfOk result (λ _. fault_of jp_lines (map string_bytes words.entry.now) ≡ []) }
+    ensures entered { IfOk result (λ matches. subcommand_rows_of matches
+        ≡ subcommand_of jp_lines (map string_bytes words.entry.now)) }
+    ensures refused { IfErr result (λ error. (kind_of error ≡ OutOfMemory)
+        ⊎ IsAmong (kind_of error) (fault_of jp_lines (map string_bytes words.entry.now))) }
+{
+    let command = jp_lines_command(alloc)?;
+    command.try_get_matches_from(words)
+}
+
+/// The options that the matches of a subcommand ask for.
+fn options_asked(wanted: Wanted, found: &ArgMatches) -> Options
+    ensures { result ≡ options_asked wanted (rows_of (found_of found.now)) }
+{
+    Options {
+        wanted,
+        numbered: is_set(found, "number"),
+        keep_going: is_set(found, "keep-going"),
+        line_buffered: is_set(found, "line-buffered"),
+    }
+}
+
+/// What the subcommand `name` with the matches `found` asks for.
+fn asked_by<'w>(name: &str, found: &ArgMatches<'w>) -> Option<(Options, &'w str, Profile)>
+    ensures { option_map (λ found. (found.0, found.1.now, found.2)) result
+        ≡ asked_by (name.now, rows_of (found_of found.now)) }
+{
+    let wanted = wanted_named(name)?;
+    let query = found.get_str("QUERY")?;
+    Some((options_asked(wanted, found), query, profile_asked(found)))
+}
+
+/// What the subcommand in `matches` asks for.
+fn asked_in<'w>(matches: &ArgMatches<'w>) -> Option<(Options, &'w str, Profile)>
+    ensures { option_map (λ found. (found.0, found.1.now, found.2)) result
+        ≡ option_and_then asked_by (subcommand_rows_of matches.now) }
+{
+    let (name, found) = matches.subcommand()?;
+    asked_by(name, found)
+}
+
+/// What `words`, of which the first is the program's name, ask for, or clap's error.
+pub(crate) fn read_words<'w>(
+    alloc: Global,
+    words: &'w [String],
+) -> Result<(Options, &'w str, Profile), Error>
+    ensures asked { IfOk result (λ found.
+        asked (map string_bytes words.entry.now) ≡ Some (found.0, found.1.now, found.2)) }
+    ensures refused { IfErr result (λ error. (kind_of error ≡ OutOfMemory)
+        ⊎ (asked (map string_bytes words.entry.now) ≡ None)) }
+{
+    let matches = matches_of(alloc, words)?;
+    match asked_in(&matches) {
+        Some(asked) => Ok(asked),
+        None => Err(no_query(alloc)?),
+    }
+}
+
+/// Clap's error for words that it takes and that name no subcommand with a query.
+fn no_query(alloc: Global) -> Result<Error, AllocError> {
+    jp_lines_command(alloc)?.error(ErrorKind::MissingSubcommand, "no subcommand has a query")
+}
