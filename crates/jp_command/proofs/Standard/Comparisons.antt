@@ -1,17 +1,17 @@
 -- Section 2.3.5.3: comparisons.
 use Rattle.std.proofs.Common.{codes, refl, [], List, ℕ, ◌++◌}
-use Rattle.jp_command.proofs.Standard.Computed.{Gives, answer, row}
+use Rattle.jp_command.proofs.Standard.Computed.{Selects, answer, row}
 
 abbrev compared : List ℕ
 compared = codes "{\"obj\":{\"x\":\"y\"},\"arr\":[2,3]}"
 
 -- a filter of the comparison selects both members, or none
 abbrev Holds : List ℕ → Type 0
-Holds comparison = Gives compared (codes "$[?" ++ comparison ++ codes "]")
+Holds comparison = Selects compared (codes "$[?" ++ comparison ++ codes "]")
     (codes "$['arr']\t[2,3]\n$['obj']\t{\"x\":\"y\"}\n")
 
 abbrev Fails : List ℕ → Type 0
-Fails comparison = Gives compared (codes "$[?" ++ comparison ++ codes "]") []
+Fails comparison = Selects compared (codes "$[?" ++ comparison ++ codes "]") []
 
 nothing_equals_nothing : Holds (codes "$.absent1 == $.absent2")
 unfolding answer

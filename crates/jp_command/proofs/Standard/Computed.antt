@@ -49,7 +49,7 @@ use Rattle.jp_command.specs.declared.lines.Form.TheVariants.{Both}
 
 -- In `Standard` the text is accepted as a query, the bytes are a document, and over it the query
 -- gives these lines: for each node its normalized path, a tab and its value.
-pub record Gives (document text lines : List ℕ) : Type 0 where
+pub record Selects (document text lines : List ℕ) : Type 0 where
   pub query : QueryTree
   pub value : Value
   pub asked : IsAcceptedAs Standard text query
@@ -215,7 +215,7 @@ answer document text =
 
 answered : (document text lines : List ℕ) (q : QueryTree) (o : Option Value) → tree text ≡ Some q
     → value document ≡ o → option_map (output_of Both q) o ≡ Some lines
-    → Gives document text lines
+    → Selects document text lines
 answered document text lines q None e r h = absurd (cc)
 answered document text lines q (Some v) e r h = record {
   query = q;
@@ -227,13 +227,13 @@ answered document text lines q (Some v) e r h = record {
 
 treed : (document text lines : List ℕ) (o : Option QueryTree) → tree text ≡ o
     → option_and_then (λ q. option_map (output_of Both q) (value document)) o ≡ Some lines
-    → Gives document text lines
+    → Selects document text lines
 treed document text lines None e h = absurd (cc)
 treed document text lines (Some q) e h =
     answered document text lines q (value document) e refl h
 
 pub row : {document text lines : List ℕ} → answer document text ≡ Some lines
-    → Gives document text lines
+    → Selects document text lines
 unfolding answer
 row {document = document} {text = text} {lines = lines} h =
     treed document text lines (tree text) refl h
