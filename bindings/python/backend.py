@@ -5,12 +5,12 @@ The wheel holds the package as it stands, with the shared object that `bindings/
 import base64
 import hashlib
 import os
+import re
 import sysconfig
 import tarfile
 import zipfile
 
 NAME = "jsonpath_jp"
-VERSION = "0.1.0"
 HERE = os.path.dirname(os.path.abspath(__file__))
 LIBRARY = "libjp.so"
 SOURCES = ["pyproject.toml", "backend.py", "README.md"]
@@ -27,6 +27,9 @@ def _package_files():
 def _contents(path):
     with open(os.path.join(HERE, path), "rb") as file:
         return file.read()
+
+
+VERSION = re.search(r'^version = "(.*)"$', _contents("pyproject.toml").decode(), re.MULTILINE)[1]
 
 
 def _tag():

@@ -6,3 +6,4 @@ pub mod LineLemmas
 pub mod Flushes
 pub mod Headline
 pub mod Fronts
+pub mod Standard

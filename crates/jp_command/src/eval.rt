@@ -46,15 +46,8 @@ pub fn run_eval<R: Source, W: Writer>(
         return write_selected(alloc, form, "", flat.value(), &query, &mut spare, output);
     }
     let document = Document::read(alloc, &bytes)?;
-    write_selected(
-        alloc,
-        form,
-        "",
-        document.value(),
-        &query,
-        &mut spare,
-        output,
-    )
+    let root = document.value();
+    write_selected(alloc, form, "", root, &query, &mut spare, output)
 }
 
 /// Reads a query of at most `QUERY_LIMIT` bytes in a profile, as `read_query` does. A longer one is
