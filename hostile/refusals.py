@@ -82,6 +82,16 @@ def refused_run(program, library, number, words, document):
     return came, given
 
 
+def held_at_most(program, library, words, document):
+    """What a run gave, and how many bytes it held at most."""
+    inner, outer = os.pipe()
+    given = run(program, words, document, {"LD_PRELOAD": library, "TELL_HELD": "1"}, marks=outer)
+    os.close(outer)
+    told = os.read(inner, 20)
+    os.close(inner)
+    return given, int(told)
+
+
 def refuse_growths(runs, library, program, words, document, whole):
     """Refuses each request of a run, one a run: it gives what it gives with ample memory, `whole`, or
     status 4 with its line and a prefix of that on both streams. The statuses of the refused runs."""

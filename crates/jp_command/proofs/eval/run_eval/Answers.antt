@@ -41,7 +41,7 @@ returns g c =
     run-ends c.args.profile g.R.Source.remaining g.R.Source.has_failed g.R.Source.read_gives
     g.W.Writer.contents g.W.Writer.has_failed c.args.form c.args.query.now c.args.input.now
     c.read_all.new.input c.args.output.now c.write_selected-2.new.output
-    (output_of c.args.form q (lent_value c.value-2.result)) c.write_selected-2.result
+    (output_of c.args.form q (lent_value c.value-root.result)) c.write_selected-2.result
     (record {
       q = q;
       bytes = bytes;
@@ -49,7 +49,7 @@ returns g c =
       asked = c.in_ok-query.ensures.asked;
       reads = c.in_ok-bytes.ensures.ok;
       document = document;
-      is = ap (output_of c.args.form q) c.value-2.ensures;
+      is = ap (output_of c.args.form q) c.value-root.ensures;
     })
     c.in_ok-bytes.ensures.ok.works c.write_selected-2.ensures.ok
     c.write_selected-2.ensures.stopped
