@@ -9,7 +9,7 @@ ghost use Rattle.jp_match.specs.Private.Walks.{IsBefore, IsSize, Moves, at_start
 
 use crate::copies::Copies;
 use crate::empty_word::has_empty_word;
-use crate::idle::{Size, idle_part};
+use crate::idle::{Size, idle_part, is_idle_class};
 use crate::one_class::one_class;
 use crate::places::is_any;
 use crate::walk::{Reach, Walk};
@@ -40,11 +40,27 @@ pub(crate) fn step(pattern: &Pattern, walk: &mut Walk, entered: bool, c: char) -
     }
 }
 
+/// The same for a part that follows others, by how their end is reached. A class that is not entered
+/// and has no mark, as most are, is passed over first.
+#[cycle(step)]
+#[inline(always)]
+pub(crate) fn step_next(part: &Pattern, walk: &mut Walk, through: Reach, c: char) -> Reach
+    requires { IsBefore (unrolled (tree part.now)) walk.old }
+    ensures { Moves (unrolled (tree part.now)) c through walk.old walk.new result }
+{
+    if !through.before && is_idle_class(part, walk) {
+        walk.at += 1;
+        return Reach::none();
+    }
+    through.then(step(part, walk, through.before, c))
+}
+
 /// The same for a class: its one position.
 #[inline(always)]
 fn step_class(class: &CharClass, walk: &mut Walk, entered: bool, c: char) -> Reach
     requires { IsBefore (plain_class class.now.negated class.now.items.items) walk.old }
-    ensures { Moves (plain_class class.now.negated class.now.items.items) c (at_start entered) walk.old walk.new result }
+    ensures { Moves (plain_class class.now.negated class.now.items.items) c (at_start entered)
+        walk.old walk.new result }
 {
     let before = walk.marks[walk.at];
     let after = entered && walk.tests.holds(class, c);
@@ -61,7 +77,8 @@ fn step_class(class: &CharClass, walk: &mut Walk, entered: bool, c: char) -> Rea
 #[cycle(step)]
 pub(crate) fn step_either(parts: &[Pattern], walk: &mut Walk, entered: bool, c: char) -> Reach
     requires { IsBefore (unrolled (branches (map tree parts.now))) walk.old }
-    ensures { Moves (unrolled (branches (map tree parts.now))) c (at_start entered) walk.old walk.new result }
+    ensures { Moves (unrolled (branches (map tree parts.now))) c (at_start entered) walk.old
+        walk.new result }
 {
     let mut ended = Reach::none();
     for branch in parts {
@@ -74,11 +91,12 @@ pub(crate) fn step_either(parts: &[Pattern], walk: &mut Walk, entered: bool, c: 
 #[cycle(step)]
 fn step_sequence(parts: &[Pattern], walk: &mut Walk, entered: bool, c: char) -> Reach
     requires { IsBefore (unrolled (pieces (map tree parts.now))) walk.old }
-    ensures { Moves (unrolled (pieces (map tree parts.now))) c (at_start entered) walk.old walk.new result }
+    ensures { Moves (unrolled (pieces (map tree parts.now))) c (at_start entered) walk.old walk.new
+        result }
 {
     let mut through = Reach::at_start(entered);
     for piece in parts {
-        through = through.then(step(piece, walk, through.before, c));
+        through = step_next(piece, walk, through, c);
     }
     through
 }
@@ -94,7 +112,8 @@ fn step_repeat(
     c: char,
 ) -> Reach
     requires { IsBefore (unrolled (repeat (tree inner.now) least most)) walk.old }
-    ensures { Moves (unrolled (repeat (tree inner.now) least most)) c (at_start entered) walk.old walk.new result }
+    ensures { Moves (unrolled (repeat (tree inner.now) least most)) c (at_start entered) walk.old
+        walk.new result }
 {
     match most {
         Some(most) => step_between(inner, least, most, walk, entered, c),
@@ -115,7 +134,8 @@ fn step_between(
     c: char,
 ) -> Reach
     requires { IsBefore (between (unrolled (tree inner.now)) least most) walk.old }
-    ensures { Moves (between (unrolled (tree inner.now)) least most) c (at_start entered) walk.old walk.new result }
+    ensures { Moves (between (unrolled (tree inner.now)) least most) c (at_start entered) walk.old
+        walk.new result }
 {
     if most < 2 {
         return step_copies(inner, least, most, walk, entered, c);
@@ -146,7 +166,8 @@ fn step_copies(
     c: char,
 ) -> Reach
     requires { IsBefore (between (unrolled (tree inner.now)) least most) walk.old }
-    ensures { Moves (between (unrolled (tree inner.now)) least most) c (at_start entered) walk.old walk.new result }
+    ensures { Moves (between (unrolled (tree inner.now)) least most) c (at_start entered) walk.old
+        walk.new result }
 {
     let mut ended = Reach::none();
     let mut through = Reach::at_start(entered);
@@ -196,7 +217,8 @@ fn step_copy(inner: &Pattern, size: Size, walk: &mut Walk, entered: bool, c: cha
 fn step_at_least(inner: &Pattern, least: u32, walk: &mut Walk, entered: bool, c: char) -> Reach
     requires before { IsBefore (at_least (unrolled (tree inner.now)) least) walk.old }
     requires some { 0 < least }
-    ensures { Moves (at_least (unrolled (tree inner.now)) least) c (at_start entered) walk.old walk.new result }
+    ensures { Moves (at_least (unrolled (tree inner.now)) least) c (at_start entered) walk.old
+        walk.new result }
 {
     let mut through = Reach::at_start(entered);
     for _ in 1..least {

@@ -5,7 +5,7 @@ ghost use Rattle.jp_iregexp.specs.Tree.{tree, branches, pieces};
 ghost use Rattle.jp_match.specs.Private.Plain.{unrolled};
 ghost use Rattle.jp_match.specs.Private.Walks.{IsAtStart, MovesAll};
 
-use crate::stepping::{step, step_either};
+use crate::stepping::{step, step_either, step_next};
 use crate::walk::{Reach, Walk};
 use jp_iregexp::Pattern;
 
@@ -51,7 +51,7 @@ fn step_pieces(parts: &[Pattern], walk: &mut Walk, end: usize, entered: bool, c:
         if walk.at >= end && through.is_nowhere() {
             return Reach::none();
         }
-        through = through.then(step(piece, walk, through.before, c));
+        through = step_next(piece, walk, through, c);
     }
     through
 }

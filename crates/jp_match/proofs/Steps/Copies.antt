@@ -17,10 +17,10 @@ use Rattle.jp_match.specs.Private.OneClass.{IsOneClass}
 use Rattle.jp_match.specs.Private.Plain.{Plain, Words, between}
 use Rattle.jp_match.specs.Private.Walks.{rounds_of, IsBefore, IsSameOutside, Moves}
 use Rattle.jp_match.specs.Private.Walks.{at_start}
-use Rattle.jp_match.proofs.Bools.{or_false}
+use Rattle.jp_match.proofs.Bools.{and_false, and_true, or_false}
 use Rattle.jp_match.proofs.Steps.EmptyWords.{powers_nil}
 use Rattle.jp_match.proofs.Steps.EndParts.{joined_nil, nil_before}
-use Rattle.jp_match.proofs.Steps.Rounding.{and_false, and_true, first_same}
+use Rattle.jp_match.proofs.Steps.Rounding.{first_same}
 use Rattle.jp_match.proofs.Steps.Sizes.{size_between, rounds_between, rounds_free}
 use Rattle.jp_match.proofs.Steps.StepParts.{IsSameBefore, ends_same, step_same, step_empty}
 use Rattle.jp_match.proofs.Steps.StepParts.{step_nothing, step_either, step_sequence}

@@ -12,12 +12,12 @@ use Rattle.jp_match.specs.Private.EmptyWord.{has_empty}
 use Rattle.jp_match.specs.Private.Plain.{Plain, class, between, unrolled, counted}
 use Rattle.jp_match.specs.Private.Marks.{size, Ends, Steps}
 use Rattle.jp_match.specs.Private.Walks.{rounds_of, Rounds, takes_none, IsBefore}
-use Rattle.jp_match.specs.Private.Walks.{IsIdle, Moves, at_start}
+use Rattle.jp_match.specs.Private.Walks.{IsIdle, Moves, at_start, nowhere}
 use Rattle.jp_match.proofs.Bools.{not_false}
 use Rattle.jp_match.proofs.Steps.Kept.{takes_none_is, ends_are_entered, ends_fresh}
 use Rattle.jp_match.proofs.Steps.Sizes.{size_between, rounds_between}
 use Rattle.jp_match.proofs.Steps.StepParts.{IsSameBefore, rest_none, step_nowhere, step_same, ends_same}
-use Rattle.jp_match.proofs.Steps.Walking.{same_outside}
+use Rattle.jp_match.proofs.Steps.Walking.{moves_nowhere, same_outside}
 
 not_true : (b : Bool) → (IsTrue b → ⊥) → false ≡ b
 not_true true never = absurd (never refl)
@@ -100,6 +100,12 @@ moves_idle_part {a} {now = now} idle past so =
       idle.sized,
     ))) in
     moves_unmarked idle.sized idle.no_rounds idle.takes none past so
+
+pub moves_idle_next : {a : Plain} {c positions : ℕ} {e : Reach} {now last : Walk} →
+    e.before ≡ false → IsIdle a now positions false → GoesPast now last positions 0 →
+    Rounds a (drop now.at now.marks.items) (drop now.round now.rounds.items) →
+    Moves a c e now last nowhere
+moves_idle_next is idle past so = moves_nowhere is (moves_idle_part idle past so)
 
 -- copies of a class have the empty word where there may be none
 takes_copies : (negated : Bool) (items : List ClassItem) (least most : ℕ) →

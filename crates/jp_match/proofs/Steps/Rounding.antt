@@ -49,14 +49,6 @@ pub record WalkedOne (now last : Walk) (next : Bool) : Type 0 where
   pub counted : last.tests ≤ now.tests + 1
   pub kept : now.tests ≤ last.tests
 
-pub and_false : (b : Bool) → (b && false) ≡ false
-and_false true = refl
-and_false false = refl
-
-pub and_true : (b : Bool) → (b && true) ≡ b
-and_true true = refl
-and_true false = refl
-
 pub moves_class : {negated : Bool} {items : List ClassItem} {c : ℕ} {e : Bool} {now last : Walk}
     {marked next : Bool} → marked ≡ get_or now.marks.items now.at false →
     next ≡ (e && class_holds negated items c) → WalkedOne now last next →

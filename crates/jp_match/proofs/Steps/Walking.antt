@@ -11,7 +11,7 @@ use Rattle.jp_match.specs.Private.Plain.{plus, unrolled}
 use Rattle.jp_match.specs.Private.Marks.{size, Ends}
 use Rattle.jp_match.specs.Private.Walks.{own_rounds, rounds_of, Rounds, IsBefore, IsSameOutside}
 use Rattle.jp_match.specs.Private.Walks.{Moves, at_start, by_either, by_next, nowhere, reached}
-use Rattle.jp_match.proofs.Bools.{or_is, or_assoc, or_false}
+use Rattle.jp_match.proofs.Bools.{and_false, or_is, or_assoc, or_false}
 use Rattle.jp_match.proofs.Steps.EndParts.{ends_empty, ends_nothing, ends_either, ends_sequence}
 use Rattle.jp_match.proofs.Steps.StepParts.{IsSameBefore, same_fewer, same_dropped, rest_same}
 use Rattle.jp_match.proofs.Steps.StepParts.{same_back, ends_same, step_same, step_empty}
@@ -213,6 +213,15 @@ moves_entered {e} h = record {
   kept = h.kept;
 }
 
+by_nowhere : (r : Reach) → by_next r nowhere ≡ nowhere
+by_nowhere r = rw (and_false r.after, and_false r.after_entered) refl
+
+-- where nothing is entered and no mark leads to the end
+pub moves_nowhere : {a : Plain} {c : ℕ} {e : Reach} {first next : Walk} → e.before ≡ false →
+    Moves a c (at_start false) first next nowhere → Moves a c e first next nowhere
+moves_nowhere {a} {c} {e} {first} {next} is h = subst (Moves a c e first next) (by_nowhere e)
+    (moves_entered {e = e} {x = nowhere} (rw is h))
+
 -- the walk stands before the first of two parts, and once it has gone over it before the other
 pub before_first : {a b : Plain} {walk : Walk} → IsBefore (sequence a b) walk → IsBefore a walk
 before_first h = record {
@@ -250,16 +259,19 @@ pub walked_none : {whole : Plain} {c : ℕ} {e : Bool} {walk : Walk} → IsBefor
     Walked whole whole c e (at_start e) walk walk nowhere
 walked_none before = record { before = before; completes = λ last end h. h }
 
+pub walked_next : {whole a b : Plain} {c : ℕ} {begin : Bool} {through x ended : Reach} {first now
+    next : Walk} → Walked whole (sequence a b) c begin through first now ended →
+    Moves a c through now next x → Walked whole b c begin x first next ended
+walked_next so_far here = record {
+  before = before_next so_far.before here;
+  completes = λ last end h. so_far.completes last end (moves_sequence here h);
+}
+
 pub walked_piece : {whole a b : Plain} {c : ℕ} {begin : Bool} {through x ended : Reach} {first now
     next : Walk} → Walked whole (sequence a b) c begin through first now ended →
     Moves a c (at_start through.before) now next x →
     Walked whole b c begin (by_next through x) first next ended
-walked_piece {through} so_far moved =
-    let here = moves_entered {e = through} moved in
-    record {
-      before = before_next so_far.before here;
-      completes = λ last end h. so_far.completes last end (moves_sequence here h);
-    }
+walked_piece {through} so_far moved = walked_next so_far (moves_entered {e = through} moved)
 
 either_assoc : (r s t : Reach) → by_either (by_either r s) t ≡ by_either r (by_either s t)
 either_assoc r s t = rw (
@@ -302,10 +314,10 @@ walked_next_branch a others so_far moved = walked_either so_far moved
 pub walked_next_piece : {whole : Plain} (a : Tree) (others : List Tree) {c : ℕ} {begin : Bool}
     {through x ended : Reach} {first now next : Walk} →
     Walked whole (unrolled (pieces (a ∷ others))) c begin through first now ended →
-    Moves (unrolled a) c (at_start through.before) now next x →
-    Walked whole (unrolled (pieces others)) c begin (by_next through x) first next ended
+    Moves (unrolled a) c through now next x →
+    Walked whole (unrolled (pieces others)) c begin x first next ended
 unfolding unrolled
-walked_next_piece a others so_far moved = walked_piece so_far moved
+walked_next_piece a others so_far moved = walked_next so_far moved
 
 -- no branch, or no piece, is left
 pub walked_branches : {whole : Plain} {c : ℕ} {begin : Bool} {through ended : Reach} {first now :

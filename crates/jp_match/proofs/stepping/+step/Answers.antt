@@ -12,11 +12,13 @@ use Rattle.jp_match.specs.declared.walk.Walk.{Walk}
 use Rattle.jp_match.specs.Private.Plain.{class, plus, unrolled, counted}
 use Rattle.jp_match.specs.Private.Marks.{size}
 use Rattle.jp_match.specs.Private.Walks.{own_rounds, IsBefore}
+use Rattle.jp_match.proofs.Bools.{is_false}
 use Rattle.jp_match.proofs.Patterns.Variants.{either_is, sequence_is, repeat_is}
 use Rattle.jp_match.proofs.Patterns.Items.{drop_item, drop_all}
 use Rattle.jp_match.proofs.Steps.Copies.{moves_copies, put_length}
-use Rattle.jp_match.proofs.Steps.Idle.{moves_idle_part, moves_unmarked, unmarked, unmarked_slice}
+use Rattle.jp_match.proofs.Steps.Idle.{moves_idle_part, moves_idle_next, moves_unmarked, unmarked, unmarked_slice}
 use Rattle.jp_match.proofs.Steps.Idle.{takes_empty}
+use Rattle.jp_match.proofs.Steps.Walking.{moves_entered}
 use Rattle.jp_match.proofs.Steps.Walking.{before_branch, before_piece, walked_next_branch}
 use Rattle.jp_match.proofs.Steps.Walking.{walked_next_piece, walked_branches, walked_pieces}
 use Rattle.jp_match.proofs.Steps.Repeating.{walked_begin}
@@ -91,6 +93,20 @@ step-returns t c =
       tests = refl;
     }) c.requires.so)
 
+pub step_next-returns-then-is_idle_class : goal.step_next-returns-then-is_idle_class
+step_next-returns-then-is_idle_class t c =
+    rw c.none.ensures (moves_idle_next (is_false _ c.if-not-through.true) (c.is_idle_class.ensures
+    c.if-is_idle_class.true) (record {
+      at = refl;
+      round = omega arith;
+      marks = refl;
+      rounds = refl;
+      tests = refl;
+    }) c.requires.so)
+
+pub step_next-returns : goal.step_next-returns
+step_next-returns t c = rw c.then.ensures (moves_entered {e = c.args.through} c.step.ensures)
+
 pub step_either-step-requires : goal.step_either-step-requires
 step_either-step-requires t c =
     let item = drop_item c.args.parts.now c.loop-branch.branch-index c.branch-item.result
@@ -115,8 +131,8 @@ step_either-returns t c =
     let none = ap (λ n. drop n c.args.parts.now) end ∙ drop_all c.args.parts.now in
     walked_branches (rw none at c.loop-branch.invariant)
 
-pub step_sequence-step-requires : goal.step_sequence-step-requires
-step_sequence-step-requires t c =
+pub step_sequence-step_next-through-requires : goal.step_sequence-step_next-through-requires
+step_sequence-step_next-through-requires t c =
     let item = drop_item c.args.parts.now c.loop-piece.piece-index c.piece-item.result
     c.loop-piece-test.true c.piece-item.is in
     let before = rw item at c.loop-piece.invariant.before in
@@ -131,7 +147,7 @@ step_sequence-loop-piece-preserved t c =
     let item = drop_item c.args.parts.now c.loop-piece.piece-index c.piece-item.result
     c.loop-piece-test.true c.piece-item.is in
     let so_far = rw item at c.loop-piece.invariant in
-    rw c.then-through.ensures (walked_next_piece _ _ so_far c.step.ensures)
+    walked_next_piece _ _ so_far c.step_next-through.ensures
 
 pub step_sequence-returns : goal.step_sequence-returns
 step_sequence-returns t c =

@@ -10,8 +10,8 @@ returns-then-is_nowhere c =
     rw c.none.ensures (all_ended c.args.end c.requires so_far.walked so_far.ahead so_far.kept
     so_far.counted (omega (arith, c.if-walk-end.true)) (c.is_nowhere.ensures c.if-is_nowhere.true))
 
-pub step-requires : goal.step-requires
-step-requires c =
+pub step_next-through-requires : goal.step_next-through-requires
+step_next-through-requires c =
     let item = drop_item c.args.parts.now c.loop-piece.piece-index c.piece-item.result
     c.loop-piece-test.true c.piece-item.is in
     before_piece _ _ (rw item at c.loop-piece.invariant.walked.before)
@@ -21,9 +21,9 @@ loop-piece-preserved c =
     let item = drop_item c.args.parts.now c.loop-piece.piece-index c.piece-item.result
     c.loop-piece-test.true c.piece-item.is in
     let so_far = rw item at c.loop-piece.invariant.walked in
-    let moves = c.step.ensures in
+    let moves = c.step_next-through.ensures in
     record {
-      walked = rw c.then-through.ensures (walked_next_piece _ _ so_far moves);
+      walked = walked_next_piece _ _ so_far moves;
       ahead = λ k over. moves.marks.above k over ∙ c.loop-piece.invariant.ahead k (omega (
         arith,
         moves.at,
