@@ -91,7 +91,8 @@ impl Patterns {
         alloc: Global,
         text: &str,
     ) -> Result<Option<&CountedPattern>, AllocError>
-        ensures { IfOk result (λ o. pattern_of (chars text.now) ≡ option_map (λ p. tree p.now.pattern) o) }
+        ensures { IfOk result (λ o. pattern_of (chars text.now)
+            ≡ option_map (λ p. tree p.now.pattern) o) }
     {
         let position = match self.position(text) {
             Some(position) => position,

@@ -41,8 +41,8 @@ never_either a b c left right = record {
 pub never_sequence : (a b : Tree) (c : ℕ) → NeverBegins (Language a) c →
     NeverBegins (Language (sequence a b)) c
 never_sequence a b c never = record {
-  not_empty = λ h. never.not_empty (joined_nil (Language a) (Language b) h).0;
-  not_first = λ rest h. elim (joined_cons (Language a) (Language b) c rest h) [
+  not_empty = λ h. never.not_empty (joined_nil {L = Language a} {M = Language b} h).0;
+  not_first = λ rest h. elim (joined_cons {L = Language a} {M = Language b} h) [
     | inl empty ↦ never.not_empty empty.0
     | inr j ↦ never.not_first j.prefix j.first
   ];
@@ -50,12 +50,12 @@ never_sequence a b c never = record {
 
 power_not_empty : (L : List ℕ → Type 0) (c k : ℕ) → NeverBegins L c → 1 ≤ k → Power L k [] → ⊥
 power_not_empty L c zero never some h = omega (arith, some)
-power_not_empty L c (suc k) never some h = never.not_empty (joined_nil L (Power L k) h).0
+power_not_empty L c (suc k) never some h = never.not_empty (joined_nil {L = L} {M = Power L k} h).0
 
 power_not_first : (L : List ℕ → Type 0) (c k : ℕ) (rest : List ℕ) → NeverBegins L c → 1 ≤ k →
     Power L k (c ∷ rest) → ⊥
 power_not_first L c zero rest never some h = omega (arith, some)
-power_not_first L c (suc k) rest never some h = elim (joined_cons L (Power L k) c rest h) [
+power_not_first L c (suc k) rest never some h = elim (joined_cons {L = L} {M = Power L k} h) [
   | inl empty ↦ never.not_empty empty.0
   | inr j ↦ never.not_first j.prefix j.first
 ]

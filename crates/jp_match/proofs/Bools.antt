@@ -35,3 +35,11 @@ not_false false n h = cc
 pub is_false : (b : Bool) → IsTrue (not b) → b ≡ false
 is_false true n = absurd (cc)
 is_false false n = refl
+
+pub and_false : (b : Bool) → (b && false) ≡ false
+and_false true = refl
+and_false false = refl
+
+pub and_true : (b : Bool) → (b && true) ≡ b
+and_true true = refl
+and_true false = refl

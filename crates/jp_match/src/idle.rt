@@ -1,6 +1,6 @@
 //! Parts of a pattern that a step passes over.
 
-ghost use Rattle.std.specs.Prelude.{◌≡◌, IfSome};
+ghost use Rattle.std.specs.Prelude.{◌≡◌, IfSome, IsTrue, false};
 ghost use Rattle.jp_iregexp.specs.Tree.{tree, repeat};
 ghost use Rattle.jp_match.specs.Private.Plain.{unrolled};
 ghost use Rattle.jp_match.specs.Private.Walks.{IsBefore, IsIdle};
@@ -36,6 +36,18 @@ impl Size {
     }
 }
 
+/// Whether the next part of a walk is a class that has no mark.
+#[inline(always)]
+pub(crate) fn is_idle_class(part: &Pattern, walk: &Walk) -> bool
+    requires { IsBefore (unrolled (tree part.now)) walk.now }
+    ensures { IsTrue result → IsIdle (unrolled (tree part.now)) walk.now 1 false }
+{
+    match part {
+        Pattern::Class(_) => !walk.marks[walk.at],
+        _ => false,
+    }
+}
+
 /// The next part of a walk, where it is a class or copies of one and has no mark.
 #[inline(always)]
 pub(crate) fn idle_part(part: &Pattern, walk: &Walk) -> Option<Idle>
@@ -43,16 +55,13 @@ pub(crate) fn idle_part(part: &Pattern, walk: &Walk) -> Option<Idle>
     ensures { IfSome result (λ idle. IsIdle (unrolled (tree part.now)) walk.now idle.positions
         idle.has_empty_word) }
 {
+    if is_idle_class(part, walk) {
+        return Some(Idle {
+            positions: 1,
+            has_empty_word: false,
+        });
+    }
     match part {
-        Pattern::Class(_) => {
-            if walk.marks[walk.at] {
-                return None;
-            }
-            Some(Idle {
-                positions: 1,
-                has_empty_word: false,
-            })
-        }
         Pattern::Repeat { inner, least, most } => idle_copies(inner, *least, *most, walk),
         _ => None,
     }

@@ -17,6 +17,7 @@ use crate::walk::Walk;
 use crate::whole::step_whole;
 use jp_iregexp::Pattern;
 use std::alloc::{AllocError, Global};
+use std::mem::swap;
 
 /// A pattern, a mark for each of its positions, and whether its end is reached.
 #[derive(Drop)]
@@ -65,6 +66,7 @@ impl<'p> Marking<'p> {
                 rounds,
                 at: 0,
                 round: 0,
+                tests: Tests::new(),
             },
             ends: false,
             ends_entered: has_empty_word(pattern),
@@ -83,7 +85,9 @@ impl<'p> Marking<'p> {
         let end = self.walk.at;
         self.walk.at = 0;
         self.walk.round = 0;
-        let reach = step_whole(self.pattern, &mut self.walk, end, entered, c, tests);
+        swap(&mut self.walk.tests, tests);
+        let reach = step_whole(self.pattern, &mut self.walk, end, entered, c);
+        swap(&mut self.walk.tests, tests);
         self.ends = reach.after;
         self.ends_entered = reach.after_entered;
         self.is_idle = !is_any(&self.walk.marks);

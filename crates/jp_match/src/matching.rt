@@ -54,8 +54,8 @@ pub trait Matching {
         text: &str,
         tests: &mut Tests,
     ) -> Result<bool, AllocError>
-        ensures exact { IfOk result (λ answer. IsTrue answer ↔ Language (tree pattern.now.pattern) (chars
-            text.now)) }
+        ensures exact { IfOk result (λ answer. IsTrue answer ↔ Language (tree pattern.now.pattern)
+            (chars text.now)) }
         ensures bound { positions_of (tree pattern.now.pattern) ≤ 4096 →
             tests.new ≤ tests.old + positions_of (tree pattern.now.pattern) * length (chars text.now) }
         ensures kept { tests.old ≤ tests.new }
@@ -71,8 +71,8 @@ pub trait Matching {
         text: &str,
         tests: &mut Tests,
     ) -> Result<bool, AllocError>
-        ensures exact { IfOk result (λ answer. IsTrue answer ↔ HasPart (Language (tree pattern.now.pattern)) (chars
-            text.now)) }
+        ensures exact { IfOk result (λ answer. IsTrue answer ↔ HasPart (Language (tree
+            pattern.now.pattern)) (chars text.now)) }
         ensures bound { positions_of (tree pattern.now.pattern) ≤ 4096 →
             tests.new ≤ tests.old + positions_of (tree pattern.now.pattern) * length (chars text.now) }
         ensures kept { tests.old ≤ tests.new }

@@ -1,7 +1,9 @@
 //! A walk over the parts of a pattern, from the left.
 
-ghost use Rattle.std.specs.Prelude.{◌≡◌, Bool, IsTrue, true, false, ◌||◌, ◌&&◌, get_or};
-ghost use Rattle.jp_match.specs.Private.Walks.{reached};
+ghost use Rattle.std.specs.Prelude.{◌≡◌, IsTrue, false, get_or};
+ghost use Rattle.jp_match.specs.Private.Walks.{at_start, by_either, by_next, nowhere, only_if};
+
+use crate::class_tests::Tests;
 
 /// The marks of a pattern, what is kept of its repeats, and where a walk over its parts stands: it
 /// comes to the positions and to the repeats one after another, so nothing is counted or looked up.
@@ -13,6 +15,8 @@ pub(crate) struct Walk {
     pub(crate) rounds: Vec<bool>,
     pub(crate) at: usize,
     pub(crate) round: usize,
+    /// Counts the class tests.
+    pub(crate) tests: Tests,
 }
 
 impl Walk {
@@ -42,9 +46,7 @@ pub(crate) struct Reach {
 impl Reach {
     /// Nowhere.
     pub(crate) fn none() -> Reach
-        ensures before { result.before ≡ false }
-        ensures after { result.after ≡ false }
-        ensures after_entered { result.after_entered ≡ false }
+        ensures { result ≡ nowhere }
     {
         Reach {
             before: false,
@@ -55,9 +57,7 @@ impl Reach {
 
     /// At the start of a part.
     pub(crate) fn at_start(entered: bool) -> Reach
-        ensures before { result.before ≡ entered }
-        ensures after { result.after ≡ false }
-        ensures after_entered { result.after_entered ≡ true }
+        ensures { result ≡ at_start entered }
     {
         Reach {
             before: entered,
@@ -68,17 +68,14 @@ impl Reach {
 
     /// Whether it is reached in no way.
     pub(crate) fn is_nowhere(self) -> bool
-        ensures { IsTrue result → (self.before ≡ false) × (self.after ≡ false)
-            × (self.after_entered ≡ false) }
+        ensures { IsTrue result → self ≡ nowhere }
     {
         !(self.before | self.after | self.after_entered)
     }
 
     /// By this part or by the other.
     pub(crate) fn or(self, other: Reach) -> Reach
-        ensures before { result.before ≡ (self.before || other.before) }
-        ensures after { result.after ≡ (self.after || other.after) }
-        ensures after_entered { result.after_entered ≡ (self.after_entered || other.after_entered) }
+        ensures { result ≡ by_either self other }
     {
         Reach {
             before: self.before | other.before,
@@ -89,9 +86,7 @@ impl Reach {
 
     /// The same where the condition holds, and else nowhere.
     pub(crate) fn only_if(self, condition: bool) -> Reach
-        ensures before { result.before ≡ (condition && self.before) }
-        ensures after { result.after ≡ (condition && self.after) }
-        ensures after_entered { result.after_entered ≡ (condition && self.after_entered) }
+        ensures { result ≡ only_if condition self }
     {
         Reach {
             before: condition & self.before,
@@ -102,10 +97,7 @@ impl Reach {
 
     /// By the part after this one, which was walked as it was entered.
     pub(crate) fn then(self, next: Reach) -> Reach
-        ensures before { result.before ≡ next.before }
-        ensures after { result.after ≡ reached self.after next.after next.after_entered }
-        ensures after_entered { result.after_entered
-            ≡ reached self.after_entered next.after next.after_entered }
+        ensures { result ≡ by_next self next }
     {
         Reach {
             before: next.before,

@@ -1,13 +1,11 @@
 //! A step of a scan over a whole pattern.
 
-ghost use Rattle.std.specs.Prelude.{◌≡◌, ◌+◌, ◌≤◌, ℕ, IsTrue, map, length, get_or, false};
+ghost use Rattle.std.specs.Prelude.{map};
 ghost use Rattle.jp_iregexp.specs.Tree.{tree, branches, pieces};
 ghost use Rattle.jp_match.specs.Private.Plain.{unrolled};
-ghost use Rattle.jp_match.specs.Private.Marks.{size};
 ghost use Rattle.jp_match.specs.Private.Walks.{IsAtStart, MovesAll};
 
-use crate::class_tests::Tests;
-use crate::stepping::{step, step_either};
+use crate::stepping::{step, step_either, step_next};
 use crate::walk::{Reach, Walk};
 use jp_iregexp::Pattern;
 
@@ -19,65 +17,41 @@ pub(crate) fn step_whole(
     end: usize,
     entered: bool,
     c: char,
-    tests: &mut Tests,
 ) -> Reach
     requires { IsAtStart (unrolled (tree pattern.now)) end walk.old }
-    ensures moves { MovesAll (unrolled (tree pattern.now)) c entered walk.old walk.new
-        result.before result.after result.after_entered }
-    ensures counted { tests.new ≤ walk.new.at + tests.old }
-    ensures kept { tests.old ≤ tests.new }
+    ensures { MovesAll (unrolled (tree pattern.now)) c entered walk.old walk.new result }
 {
     match pattern {
-        Pattern::Either(branches) => step_branches(branches, walk, end, entered, c, tests),
-        _ => step(pattern, walk, entered, c, tests),
+        Pattern::Either(branches) => step_branches(branches, walk, end, entered, c),
+        _ => step(pattern, walk, entered, c),
     }
 }
 
 /// The same for branches.
-fn step_branches(
-    parts: &[Pattern],
-    walk: &mut Walk,
-    end: usize,
-    entered: bool,
-    c: char,
-    tests: &mut Tests,
-) -> Reach
+fn step_branches(parts: &[Pattern], walk: &mut Walk, end: usize, entered: bool, c: char) -> Reach
     requires { IsAtStart (unrolled (branches (map tree parts.now))) end walk.old }
-    ensures moves { MovesAll (unrolled (branches (map tree parts.now))) c entered walk.old walk.new
-        result.before result.after result.after_entered }
-    ensures counted { tests.new ≤ walk.new.at + tests.old }
-    ensures kept { tests.old ≤ tests.new }
+    ensures { MovesAll (unrolled (branches (map tree parts.now))) c entered walk.old walk.new result }
 {
     let [only] = parts else {
-        return step_either(parts, walk, entered, c, tests);
+        return step_either(parts, walk, entered, c);
     };
     match only {
-        Pattern::Sequence(pieces) => step_pieces(pieces, walk, end, entered, c, tests),
-        _ => step_either(parts, walk, entered, c, tests),
+        Pattern::Sequence(pieces) => step_pieces(pieces, walk, end, entered, c),
+        _ => step_either(parts, walk, entered, c),
     }
 }
 
 /// The same for pieces.
-fn step_pieces(
-    parts: &[Pattern],
-    walk: &mut Walk,
-    end: usize,
-    entered: bool,
-    c: char,
-    tests: &mut Tests,
-) -> Reach
+fn step_pieces(parts: &[Pattern], walk: &mut Walk, end: usize, entered: bool, c: char) -> Reach
     requires { IsAtStart (unrolled (pieces (map tree parts.now))) end walk.old }
-    ensures moves { MovesAll (unrolled (pieces (map tree parts.now))) c entered walk.old walk.new
-        result.before result.after result.after_entered }
-    ensures counted { tests.new ≤ walk.new.at + tests.old }
-    ensures kept { tests.old ≤ tests.new }
+    ensures { MovesAll (unrolled (pieces (map tree parts.now))) c entered walk.old walk.new result }
 {
     let mut through = Reach::at_start(entered);
     for piece in parts {
         if walk.at >= end && through.is_nowhere() {
             return Reach::none();
         }
-        through = through.then(step(piece, walk, through.before, c, tests));
+        through = step_next(piece, walk, through, c);
     }
     through
 }

@@ -9,16 +9,18 @@ use Rattle.std.proofs.lemmas.List.{length-take, length-drop, length-append, get_
 use Rattle.jp_iregexp.specs.declared.class.ClassItem.{ClassItem}
 use Rattle.jp_iregexp.specs.Class.{class_holds}
 use Rattle.jp_iregexp.specs.Language.{Power}
+use Rattle.jp_match.specs.declared.walk.Reach.{Reach}
 use Rattle.jp_match.specs.declared.walk.Walk.{Walk}
 use Rattle.jp_match.specs.Private.Copies.{enters, IsEndMarked, IsNoneEnough, AreStepped}
 use Rattle.jp_match.specs.Private.Marks.{size, Rest, Ends, Steps}
 use Rattle.jp_match.specs.Private.OneClass.{IsOneClass}
-use Rattle.jp_match.specs.Private.Plain.{Plain, Words, empty, sequence, between}
+use Rattle.jp_match.specs.Private.Plain.{Plain, Words, between}
 use Rattle.jp_match.specs.Private.Walks.{rounds_of, IsBefore, IsSameOutside, Moves}
-use Rattle.jp_match.proofs.Bools.{or_false}
+use Rattle.jp_match.specs.Private.Walks.{at_start}
+use Rattle.jp_match.proofs.Bools.{and_false, and_true, or_false}
 use Rattle.jp_match.proofs.Steps.EmptyWords.{powers_nil}
-use Rattle.jp_match.proofs.Steps.EndParts.{joined_nil, nil_joined}
-use Rattle.jp_match.proofs.Steps.Rounding.{and_false, and_true, first_same}
+use Rattle.jp_match.proofs.Steps.EndParts.{joined_nil, nil_before}
+use Rattle.jp_match.proofs.Steps.Rounding.{first_same}
 use Rattle.jp_match.proofs.Steps.Sizes.{size_between, rounds_between, rounds_free}
 use Rattle.jp_match.proofs.Steps.StepParts.{IsSameBefore, ends_same, step_same, step_empty}
 use Rattle.jp_match.proofs.Steps.StepParts.{step_nothing, step_either, step_sequence}
@@ -31,8 +33,8 @@ mark_ends : (a : Plain) (negated : Bool) (items : List ClassItem) (optional : Bo
 mark_ends a negated items optional marks one =
     let m = get_or marks 0 false in
     let first = first_same (size a) 0 m marks one.sized refl in
-    let ends = ends_same a false (m ∷ []) marks m first (rw (and_false optional, or_false m) at (
-    one.steps 0 false m (false && class_holds negated items 0) refl).ends) in (
+    let ends = ends_same first (rw (and_false optional, or_false m) at (one.steps 0 false m (false &&
+    class_holds negated items 0) refl).ends) in (
       λ h. elim (ends.is.0 h) [ inl r ↦ r | inr w ↦ absurd (let e = w.0 in cc) ],
       λ r. ends.is.1 (inl r),
     )
@@ -51,7 +53,7 @@ optional_is a negated items optional one =
 powers_enough : (L : List ℕ → Type 0) (optional : Bool) (least k : ℕ) → (L [] → IsTrue optional) →
     least ≤ k → Power L k [] → IsTrue optional ⊎ (least ≡ 0)
 powers_enough L optional least zero is some words = inr (omega (arith, some))
-powers_enough L optional least (suc k) is some words = inl (is (joined_nil L (Power L k) words).0)
+powers_enough L optional least (suc k) is some words = inl (is (joined_nil {L = L} {M = Power L k} words).0)
 
 none_enough : (a : Plain) (negated : Bool) (items : List ClassItem) (optional : Bool) (least most :
     ℕ) → IsOneClass a negated items optional →
@@ -114,13 +116,13 @@ module _ (a : Plain) (negated : Bool) (items : List ClassItem) (optional : Bool)
   marked_of zero zero marks r = absurd r
   marked_of zero (suc most) marks (inl r) = absurd r
   marked_of zero (suc most) marks (inr (inl j)) =
-      let p = joined_nil (Rest a marks) (Words (between a zero most)) j in
+      let p = joined_nil j in
       marked_first zero zero most marks (omega arith) (omega arith) p.0 p.1
   marked_of zero (suc most) marks (inr (inr r)) =
       marked_later zero zero most marks (omega arith) (marked_of zero most (drop (size a) marks) r)
   marked_of (suc least) zero marks r = absurd r
   marked_of (suc least) (suc most) marks (inl j) =
-      let p = joined_nil (Rest a marks) (Words (between a least most)) j in
+      let p = joined_nil j in
       let none = (none_enough a negated items optional least most one).0 p.1 in
       let may = none.may in
       marked_first (suc least) least most marks (omega arith) (omega arith) p.0 p.1
@@ -149,15 +151,15 @@ module _ (a : Plain) (negated : Bool) (items : List ClassItem) (optional : Bool)
   unfolding between
   marked_to least zero copy marks within marked may enough = absurd (omega arith)
   marked_to zero (suc most) zero marks within marked may enough =
-      inr (inl (nil_joined (Rest a marks) (Words (between a zero most)) ((mark_ends a negated items
-      optional marks one).0 marked) (none_after zero zero most (omega arith) may enough)))
+      inr (inl (nil_before ((mark_ends a negated items optional marks one).0 marked) (none_after zero
+      zero most (omega arith) may enough)))
   marked_to zero (suc most) (suc copy) marks within marked may enough =
       inr (inr (marked_to zero most copy (drop (size a) marks) (omega arith) (later_mark (size a)
       copy marks one.sized ∙ marked) (omega arith) (fewer_enough zero zero copy (omega arith)
       enough)))
   marked_to (suc least) (suc most) zero marks within marked may enough =
-      inl (nil_joined (Rest a marks) (Words (between a least most)) ((mark_ends a negated items
-      optional marks one).0 marked) (none_after (suc least) least most (omega arith) may enough))
+      inl (nil_before ((mark_ends a negated items optional marks one).0 marked) (none_after (suc
+      least) least most (omega arith) may enough))
   marked_to (suc least) (suc most) (suc copy) marks within marked may enough =
       inr (marked_to least most copy (drop (size a) marks) (omega arith) (later_mark (size a) copy
       marks one.sized ∙ marked) (omega arith) (fewer_enough (suc least) least copy (omega arith)
@@ -198,9 +200,8 @@ module _ (a : Plain) (negated : Bool) (items : List ClassItem) (optional : Bool)
   step_first c entered holds before after is turned =
       let m = get_or before 0 false in
       let next = get_or after 0 false in
-      step_same a c entered (m ∷ []) before (next ∷ []) after (m || (optional && entered))
-      (first_same (size a) 0 m before one.sized refl) (first_same (size a) 0 next after one.sized
-      refl) (one.steps c entered m next (turned ∙ ap (λ h. entered && h) is))
+      step_same (first_same (size a) 0 m before one.sized refl) (first_same (size a) 0 next after
+      one.sized refl) (one.steps c entered m next (turned ∙ ap (λ h. entered && h) is))
 
   turned_later : (most : ℕ) (entered holds : Bool) (before after : List Bool) →
       ((k : ℕ) → k < suc most → get_or after k false ≡ (enters optional entered before k && holds))
@@ -217,25 +218,23 @@ module _ (a : Plain) (negated : Bool) (items : List ClassItem) (optional : Bool)
       (ended : Bool) × Steps (between a least most) c entered before after ended
   unfolding between
   steps_copies c zero zero entered holds before after is turned =
-      (entered, step_empty c entered before after)
+      (entered, step_empty)
   steps_copies c (suc least) zero entered holds before after is turned =
-      (false, step_nothing c entered before after)
+      (false, step_nothing)
   steps_copies c zero (suc most) entered holds before after is turned =
       let p = get_or before 0 false || (optional && entered) in
       let first = step_first c entered holds before after is (turned 0 (omega arith)) in
       let (q, rest) = steps_copies c zero most p holds (drop (size a) before) (drop (size a) after)
       is (turned_later most entered holds before after turned) in (
         entered || q,
-        step_either empty (sequence a (between a zero most)) c entered before after entered q
-            (step_empty c entered before after) (step_sequence a (between a zero most) c entered
-            before after p q first rest),
+        step_either step_empty (step_sequence first rest),
       )
   steps_copies c (suc least) (suc most) entered holds before after is turned =
       let p = get_or before 0 false || (optional && entered) in
       let first = step_first c entered holds before after is (turned 0 (omega arith)) in
       let (q, rest) = steps_copies c least most p holds (drop (size a) before) (drop (size a) after)
       is (turned_later most entered holds before after turned) in
-      (q, step_sequence a (between a least most) c entered before after p q first rest)
+      (q, step_sequence first rest)
 
 -- a part of a list that is written anew
 front_length : (at : ℕ) (xs : List Bool) → at ≤ length xs → length (take at xs) ≡ at
@@ -289,18 +288,23 @@ pub record GoesOver (now last : Walk) (count : ℕ) (marks : List Bool) : Type 0
   pub at : last.at ≡ now.at + count
   pub round : last.round ≡ now.round
   pub rounds : last.rounds.items ≡ now.rounds.items
+  pub counted : last.tests ≤ now.tests + 1
+  pub kept : now.tests ≤ last.tests
   pub marks_are : last.marks.items ≡ take now.at now.marks.items ++ (marks ++ drop (now.at +
       count - now.at) (drop now.at now.marks.items))
 
-pub moves_copies : (a : Plain) (negated : Bool) (items : List ClassItem) (optional : Bool)
-    (c least most : ℕ) (e holds : Bool) (now last : Walk) (marks : List Bool) (p f t : Bool) →
+pub moves_copies : {a : Plain} {negated : Bool} {items : List ClassItem} {optional : Bool} {c : ℕ}
+    (least most : ℕ) {e holds : Bool} {now last : Walk} {marks : List Bool} {x : Reach} → 1 ≤ most →
     IsOneClass a negated items optional → holds ≡ class_holds negated items c →
     IsBefore (between a least most) now →
     AreStepped optional e holds least (take (now.at + most - now.at) (drop now.at now.marks.items))
-    marks p f t → GoesOver now last most marks →
-    Moves (between a least most) c e false true now last p f t
-moves_copies a negated items optional c least most e holds now last marks p f t one is before
-    stepped over =
+    marks x.before x.after x.after_entered → GoesOver now last most marks →
+    Moves (between a least most) c (at_start e) now last x
+moves_copies {a} {negated} {items} {optional} {c} least most {e} {holds} {now} {last} {marks} {x}
+    some one is before stepped over =
+    let p = x.before in
+    let f = x.after in
+    let t = x.after_entered in
     let whole = between a least most in
     let xs = now.marks.items in
     let old = take (now.at + most - now.at) (drop now.at xs) in
@@ -335,25 +339,23 @@ moves_copies a negated items optional c least most e holds now last marks p f t 
       marks = subst (λ zs. IsSameOutside now.at last.at xs zs) (sym over.marks_are) (subst (λ end.
           IsSameOutside now.at end xs (take now.at xs ++ (marks ++ back))) (sym over.at)
           (put_outside now.at most m xs marks fit now_long place));
-      rounds = subst (IsSameOutside now.round last.round now.rounds.items) (sym over.rounds)
-          (same_outside now.round last.round now.rounds.items);
-      step = step_same whole c e old (drop now.at xs) marks (drop now.at last.marks.items) p same
-          there (record {
-            left = steps.1.left;
-            ends = ends_as old e p (subst (λ n. IsTrue p ↔ (IsEndMarked optional least n old ⊎ (IsTrue
-                e × IsNoneEnough optional least n))) long stepped.was_so);
-          });
-      ends = ends_same whole false marks (drop now.at last.marks.items) f there (ends_as marks false
-          f (let so = subst (λ n. IsTrue f ↔ IsEndMarked optional least n marks) long stepped.is_so
+      rounds = same_outside over.rounds;
+      step = step_same same there (record {
+        left = steps.1.left;
+        ends = ends_as old e p (subst (λ n. IsTrue p ↔ (IsEndMarked optional least n old ⊎ (IsTrue
+            e × IsNoneEnough optional least n))) long stepped.was_so);
+      });
+      ends = ends_same there (ends_as marks false f (let so = subst (λ n. IsTrue f ↔ IsEndMarked optional least n marks) long stepped.is_so
           in (λ h. inl (so.0 h), λ w. elim w [ inl m ↦ so.1 m | inr v ↦ absurd (let e = v.0 in cc) ])));
-      ends_too = ends_same whole true marks (drop now.at last.marks.items) t there (ends_as marks
-          true t (let so = subst (λ n. IsTrue t ↔ (IsEndMarked optional least n marks ⊎
+      ends_too = ends_same there (ends_as marks true t (let so = subst (λ n. IsTrue t ↔ (IsEndMarked optional least n marks ⊎
           IsNoneEnough optional least n)) long stepped.is_too_so in (
             λ h. elim (so.0 h) [ inl m ↦ inl m | inr v ↦ inr (refl, v) ],
             λ w. so.1 (elim w [ inl m ↦ inl m | inr v ↦ inr v.1 ]),
           )));
       so = rounds_free whole (drop now.at last.marks.items) (drop now.round last.rounds.items)
           still;
+      counted = omega (arith, over.at, over.counted, some);
+      kept = over.kept;
     }
 
 -- a mark in the copies from one on, which reach the end

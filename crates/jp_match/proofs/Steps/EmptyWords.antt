@@ -9,7 +9,7 @@ use Rattle.jp_iregexp.specs.Tree.{Tree}
 use Rattle.jp_iregexp.specs.Language.{Power, Language, IsAtMost}
 use Rattle.jp_match.specs.Private.EmptyWord.{has_empty, is_within}
 use Rattle.jp_match.proofs.Bools.{and_is, or_is}
-use Rattle.jp_match.proofs.Steps.EndParts.{joined_nil, nil_joined}
+use Rattle.jp_match.proofs.Steps.EndParts.{joined_nil, nil_before}
 
 within_is : (least : ℕ) (most : Option ℕ) → IsTrue (is_within least most) ↔ IsAtMost most least
 within_is least None = (λ h. tt, λ h. refl)
@@ -21,12 +21,12 @@ at_most_within least k (Some most) enough within = omega arith
 
 pub powers_nil : (L : List ℕ → Type 0) (k : ℕ) → L [] → Power L k []
 powers_nil L zero h = refl
-powers_nil L (suc k) h = nil_joined L (Power L k) h (powers_nil L k h)
+powers_nil L (suc k) h = nil_before h (powers_nil L k h)
 
 none_or_first : (L : List ℕ → Type 0) (least k : ℕ) → least ≤ k → Power L k [] → (b : Bool) →
     (L [] → IsTrue b) → IsTrue (nat_le least 0) ⊎ IsTrue b
 none_or_first L least zero enough words b is = inl (le-leb least 0 enough)
-none_or_first L least (suc k) enough words b is = inr (is (joined_nil L (Power L k) words).0)
+none_or_first L least (suc k) enough words b is = inr (is (joined_nil {L = L} {M = Power L k} words).0)
 
 pub empty_is : (t : Tree) → IsTrue (has_empty t) ↔ Language t []
 empty_is (tree.class negated items) = (λ h. absurd (cc), λ h. absurd (let e = h.2 in cc))
@@ -46,8 +46,8 @@ empty_is (tree.either a b) = (
 empty_is tree.empty = (λ h. refl, λ h. refl)
 empty_is (tree.sequence a b) = (
   λ h. let p = (and_is (has_empty a) (has_empty b)).0 h in
-      nil_joined (Language a) (Language b) ((empty_is a).0 p.0) ((empty_is b).0 p.1),
-  λ h. let p = joined_nil (Language a) (Language b) h in
+      nil_before ((empty_is a).0 p.0) ((empty_is b).0 p.1),
+  λ h. let p = joined_nil {L = Language a} {M = Language b} h in
       (and_is (has_empty a) (has_empty b)).1 ((empty_is a).1 p.0, (empty_is b).1 p.1),
 )
 empty_is (tree.repeat a least most) = (

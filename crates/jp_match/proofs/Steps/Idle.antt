@@ -6,17 +6,18 @@ use Rattle.std.proofs.Math.Dec.{eqb-suc-zero}
 use Rattle.std.proofs.lemmas.List.{get_or-drop, get_or-take}
 use Rattle.jp_iregexp.specs.declared.class.ClassItem.{ClassItem}
 use Rattle.jp_iregexp.specs.Tree.{Tree, class as class_tree, repeat}
+use Rattle.jp_match.specs.declared.walk.Reach.{Reach}
 use Rattle.jp_match.specs.declared.walk.Walk.{Walk}
 use Rattle.jp_match.specs.Private.EmptyWord.{has_empty}
 use Rattle.jp_match.specs.Private.Plain.{Plain, class, between, unrolled, counted}
 use Rattle.jp_match.specs.Private.Marks.{size, Ends, Steps}
-use Rattle.jp_match.specs.Private.Walks.{rounds_of, Rounds, takes_none, IsBefore, IsSameOutside}
-use Rattle.jp_match.specs.Private.Walks.{IsIdle, Moves}
+use Rattle.jp_match.specs.Private.Walks.{rounds_of, Rounds, takes_none, IsBefore}
+use Rattle.jp_match.specs.Private.Walks.{IsIdle, Moves, at_start, nowhere}
 use Rattle.jp_match.proofs.Bools.{not_false}
 use Rattle.jp_match.proofs.Steps.Kept.{takes_none_is, ends_are_entered, ends_fresh}
 use Rattle.jp_match.proofs.Steps.Sizes.{size_between, rounds_between}
 use Rattle.jp_match.proofs.Steps.StepParts.{IsSameBefore, rest_none, step_nowhere, step_same, ends_same}
-use Rattle.jp_match.proofs.Steps.Walking.{same_outside}
+use Rattle.jp_match.proofs.Steps.Walking.{moves_nowhere, same_outside}
 
 not_true : (b : Bool) → (IsTrue b → ⊥) → false ≡ b
 not_true true never = absurd (never refl)
@@ -58,42 +59,53 @@ pub record GoesPast (now last : Walk) (positions turns : ℕ) : Type 0 where
   pub round : last.round ≡ now.round + turns
   pub marks : last.marks.items ≡ now.marks.items
   pub rounds : last.rounds.items ≡ now.rounds.items
+  pub tests : last.tests ≡ now.tests
 
-pub moves_unmarked : (a : Plain) (c positions turns : ℕ) (now last : Walk) → size a ≡ positions →
-    rounds_of a ≡ turns → IsSameBefore (size a) [] (drop now.at now.marks.items) →
+-- the end of a part that has no mark and is not entered
+abbrev pub by_none : Bool → Reach
+by_none takes = record { before = false; after = false; after_entered = takes }
+
+pub moves_unmarked : {a : Plain} {c positions turns : ℕ} {takes : Bool} {now last : Walk} →
+    size a ≡ positions → rounds_of a ≡ turns → takes_none a ≡ takes →
+    IsSameBefore (size a) [] (drop now.at now.marks.items) →
     GoesPast now last positions turns →
     Rounds a (drop now.at now.marks.items) (drop now.round now.rounds.items) →
-    Moves a c false false true now last false false (takes_none a)
-moves_unmarked a c positions turns now last sized turned same past so =
+    Moves a c (at_start false) now last (by_none takes)
+moves_unmarked {a} {c} {now = now} {last} sized turned takes same past so =
     let old = drop now.at now.marks.items in
-    let step = step_same a c false [] old [] old false same same (step_nowhere a c [] no_mark) in
+    let step : Steps a c false old old false = step_same same same (step_nowhere a c [] no_mark) in
     let marks = sym past.marks in
     record {
       at = omega (arith, past.at, sized);
       round = omega (arith, past.round, turned);
-      marks = subst (IsSameOutside now.at last.at now.marks.items) marks (same_outside now.at last.at
-          now.marks.items);
-      rounds = subst (IsSameOutside now.round last.round now.rounds.items) (sym past.rounds)
-          (same_outside now.round last.round now.rounds.items);
+      marks = same_outside past.marks;
+      rounds = same_outside past.rounds;
       step = subst (λ xs. Steps a c false old (drop now.at xs) false) marks step;
       ends = subst (λ xs. Ends a false (drop now.at xs) false) marks step.ends;
-      ends_too = subst (λ xs. Ends a true (drop now.at xs) (takes_none a)) marks (ends_same a true []
-          old (takes_none a) same (ends_nowhere a));
+      ends_too = rw (← takes) (subst (λ xs. Ends a true (drop now.at xs) (takes_none a)) marks
+          (ends_same same (ends_nowhere a)));
       so = rw (past.marks, past.rounds) so;
+      counted = omega (arith, past.at, past.tests);
+      kept = omega (arith, past.tests);
     }
 
-pub moves_idle_part : (a : Plain) (c positions : ℕ) (e : Bool) (now last : Walk) →
+pub moves_idle_part : {a : Plain} {c positions : ℕ} {e : Bool} {now last : Walk} →
     IsIdle a now positions e → GoesPast now last positions 0 →
     Rounds a (drop now.at now.marks.items) (drop now.round now.rounds.items) →
-    Moves a c false false true now last false false e
-moves_idle_part a c positions e now last idle past so =
+    Moves a c (at_start false) now last (by_none e)
+moves_idle_part {a} {now = now} idle past so =
     let none = unmarked (size a) now.at now.marks.items (λ k below. idle.no_mark k (omega (
       arith,
       below,
       idle.sized,
     ))) in
-    subst (Moves a c false false true now last false false) idle.takes (moves_unmarked a c positions
-    0 now last idle.sized idle.no_rounds none past so)
+    moves_unmarked idle.sized idle.no_rounds idle.takes none past so
+
+pub moves_idle_next : {a : Plain} {c positions : ℕ} {e : Reach} {now last : Walk} →
+    e.before ≡ false → IsIdle a now positions false → GoesPast now last positions 0 →
+    Rounds a (drop now.at now.marks.items) (drop now.round now.rounds.items) →
+    Moves a c e now last nowhere
+moves_idle_next is idle past so = moves_nowhere is (moves_idle_part idle past so)
 
 -- copies of a class have the empty word where there may be none
 takes_copies : (negated : Bool) (items : List ClassItem) (least most : ℕ) →

@@ -12,7 +12,7 @@ use Rattle.jp_match.specs.Private.Walks.{own_rounds, rounds_of, Rounds, takes_no
 use Rattle.jp_match.specs.Private.Walks.{is_same, rounds_end}
 use Rattle.jp_match.proofs.Bools.{or_is, and_is}
 use Rattle.jp_match.proofs.Steps.EmptyWords.{empty_is}
-use Rattle.jp_match.proofs.Steps.EndParts.{joined_nil, nil_joined}
+use Rattle.jp_match.proofs.Steps.EndParts.{joined_nil, nil_before}
 use Rattle.jp_match.proofs.Steps.Repeating.{plus_nil}
 use Rattle.jp_match.proofs.Steps.Sizes.{own_one}
 use Rattle.jp_match.proofs.Steps.StepParts.{rest_none, none_dropped}
@@ -34,8 +34,8 @@ takes_none_is (either a b) = (
 takes_none_is empty = (λ h. refl, λ w. refl)
 takes_none_is (sequence a b) = (
   λ h. let p = (and_is (takes_none a) (takes_none b)).0 h in
-      nil_joined (Words a) (Words b) ((takes_none_is a).0 p.0) ((takes_none_is b).0 p.1),
-  λ w. let p = joined_nil (Words a) (Words b) w in
+      nil_before ((takes_none_is a).0 p.0) ((takes_none_is b).0 p.1),
+  λ w. let p = joined_nil {L = Words a} {M = Words b} w in
       (and_is (takes_none a) (takes_none b)).1 ((takes_none_is a).1 p.0, (takes_none_is b).1 p.1),
 )
 takes_none_is (plus a) = (
@@ -63,12 +63,12 @@ marks_end_is (sequence a b) marks =
     let here = marks_end a marks && takes_none b in (
       λ h. elim ((or_is here (marks_end b rest)).0 h) [
         | inl l ↦ let p = (and_is (marks_end a marks) (takes_none b)).0 l in
-            inl (nil_joined (Rest a marks) (Words b) ((marks_end_is a marks).0 p.0)
+            inl (nil_before ((marks_end_is a marks).0 p.0)
             ((takes_none_is b).0 p.1))
         | inr r ↦ inr ((marks_end_is b rest).0 r)
       ],
       λ w. (or_is here (marks_end b rest)).1 (elim w [
-        | inl j ↦ let p = joined_nil (Rest a marks) (Words b) j in
+        | inl j ↦ let p = joined_nil j in
             inl ((and_is (marks_end a marks) (takes_none b)).1 (
               (marks_end_is a marks).1 p.0,
               (takes_none_is b).1 p.1,
@@ -77,8 +77,8 @@ marks_end_is (sequence a b) marks =
       ]),
     )
 marks_end_is (plus a) marks = (
-  λ h. nil_joined (Rest a marks) (Star (Words a)) ((marks_end_is a marks).0 h) (0, refl),
-  λ r. (marks_end_is a marks).1 (joined_nil (Rest a marks) (Star (Words a)) r).0,
+  λ h. nil_before ((marks_end_is a marks).0 h) (0, refl),
+  λ r. (marks_end_is a marks).1 (joined_nil {L = Rest a marks} {M = Star (Words a)} r).0,
 )
 
 alike : (a b : Bool) → (IsTrue a → IsTrue b) → (IsTrue b → IsTrue a) → a ≡ b

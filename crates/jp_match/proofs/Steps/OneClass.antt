@@ -1,11 +1,11 @@
 -- Patterns of one position, part by part.
-use Rattle.std.proofs.Common.{◌≡◌, Bool, true, false, ◌||◌, ◌&&◌, List, [], ◌∷◌, Some, drop}
+use Rattle.std.proofs.Common.{◌≡◌, Bool, true, false, ◌||◌, ◌&&◌, List, [], ◌∷◌, Some}
 use Rattle.std.proofs.Common.{refl, sym, subst, arith}
 use Rattle.jp_iregexp.specs.declared.class.ClassItem.{ClassItem}
 use Rattle.jp_iregexp.specs.Tree.{Tree, branches, pieces, repeat}
 use Rattle.jp_match.specs.Private.Plain.{class, nothing, either, empty, sequence, between, counted}
 use Rattle.jp_match.specs.Private.Plain.{unrolled}
-use Rattle.jp_match.specs.Private.Marks.{size, Steps}
+use Rattle.jp_match.specs.Private.Marks.{Steps}
 use Rattle.jp_match.specs.Private.OneClass.{IsOneClass}
 use Rattle.jp_match.proofs.Bools.{or_false}
 use Rattle.jp_match.proofs.Steps.StepParts.{step_class, step_empty, step_nothing, step_either}
@@ -18,7 +18,7 @@ one_class negated items = record {
   no_rounds = refl;
   steps = λ c entered marked next is.
       subst (Steps (class negated items) c entered (marked ∷ []) (next ∷ [])) (sym (or_false
-      marked)) (step_class negated items c entered (marked ∷ []) (next ∷ []) is);
+      marked)) (step_class is);
 }
 
 pub one_branch : (t : Tree) (negated : Bool) (items : List ClassItem) (optional : Bool) →
@@ -29,12 +29,9 @@ one_branch t negated items optional one = record {
   sized = omega (arith, one.sized);
   no_rounds = omega (arith, one.no_rounds);
   steps = λ c entered marked next is.
-      let a = unrolled t in
-      let ended = marked || (optional && entered) in
-      subst (Steps (either a nothing) c entered (marked ∷ []) (next ∷ [])) (or_false ended)
-      (step_either a nothing c entered (marked ∷ []) (next ∷ []) ended false (one.steps c entered
-      marked next is) (step_nothing c entered (drop (size a) (marked ∷ [])) (drop (size a) (next ∷
-      []))));
+      subst (Steps (either (unrolled t) nothing) c entered (marked ∷ []) (next ∷ [])) (or_false
+      (marked || (optional && entered))) (step_either (one.steps c entered marked next is)
+      step_nothing);
 }
 
 pub one_piece : (t : Tree) (negated : Bool) (items : List ClassItem) (optional : Bool) →
@@ -44,12 +41,7 @@ unfolding unrolled
 one_piece t negated items optional one = record {
   sized = omega (arith, one.sized);
   no_rounds = omega (arith, one.no_rounds);
-  steps = λ c entered marked next is.
-      let a = unrolled t in
-      let ended = marked || (optional && entered) in
-      step_sequence a empty c entered (marked ∷ []) (next ∷ []) ended ended (one.steps c entered
-      marked next is) (step_empty c ended (drop (size a) (marked ∷ [])) (drop (size a) (next ∷
-      [])));
+  steps = λ c entered marked next is. step_sequence (one.steps c entered marked next is) step_empty;
 }
 
 -- the end is reached at once where the pattern is entered, and else by the mark
@@ -68,13 +60,7 @@ one_optional t negated items optional one = record {
   sized = omega (arith, one.sized);
   no_rounds = omega (arith, one.no_rounds);
   steps = λ c entered marked next is.
-      let a = unrolled t in
-      let ended = marked || (optional && entered) in
-      let once = step_sequence a empty c entered (marked ∷ []) (next ∷ []) ended ended (one.steps c
-      entered marked next is) (step_empty c ended (drop (size a) (marked ∷ [])) (drop (size a)
-      (next ∷ []))) in
-      subst (Steps (either empty (sequence a empty)) c entered (marked ∷ []) (next ∷ []))
-      (optional_ends entered marked optional) (step_either empty (sequence a empty) c entered
-      (marked ∷ []) (next ∷ []) entered ended (step_empty c entered (marked ∷ []) (next ∷ []))
-      once);
+      subst (Steps (either empty (sequence (unrolled t) empty)) c entered (marked ∷ []) (next ∷ []))
+      (optional_ends entered marked optional) (step_either step_empty (step_sequence (one.steps c
+      entered marked next is) step_empty));
 }

@@ -7,18 +7,17 @@ use Rattle.std.proofs.lemmas.Bool.{cases_lt}
 use Rattle.std.proofs.lemmas.List.{get_or-drop, length-set, get_or-set_other, get_or-set_same}
 use Rattle.jp_iregexp.specs.declared.class.ClassItem.{ClassItem}
 use Rattle.jp_iregexp.specs.Class.{class_holds}
+use Rattle.jp_match.specs.declared.walk.Reach.{Reach}
 use Rattle.jp_match.specs.declared.walk.Walk.{Walk}
 use Rattle.jp_match.specs.Private.Plain.{Plain, class, plus}
 use Rattle.jp_match.specs.Private.Marks.{size, Rest, Ends}
-use Rattle.jp_match.specs.Private.OneClass.{IsOneClass}
 use Rattle.jp_match.specs.Private.Walks.{own_rounds, rounds_of, IsBefore, IsSameOutside}
-use Rattle.jp_match.specs.Private.Walks.{Moves}
-use Rattle.jp_match.proofs.Bools.{or_is, and_is, or_false}
-use Rattle.jp_match.proofs.Steps.EndParts.{ends_plus}
-use Rattle.jp_match.proofs.Steps.OneClass.{one_class}
+use Rattle.jp_match.specs.Private.Walks.{Moves, at_start}
+use Rattle.jp_match.proofs.Bools.{or_is, and_is}
+use Rattle.jp_match.proofs.Steps.EndParts.{ends_class, ends_plus}
 use Rattle.jp_match.proofs.Steps.Repeating.{plus_nil}
 use Rattle.jp_match.proofs.Steps.Sizes.{own_few, rounds_without, rounds_free}
-use Rattle.jp_match.proofs.Steps.StepParts.{IsSameBefore, step_same, ends_same, step_plus}
+use Rattle.jp_match.proofs.Steps.StepParts.{IsSameBefore, same_back, step_class, step_same, ends_same, step_plus}
 use Rattle.jp_match.proofs.Steps.StepParts.{ends_without, without_ends, step_without}
 use Rattle.jp_match.proofs.Steps.Walking.{rounds_same, same_outside, same_there}
 
@@ -40,68 +39,53 @@ set_outside at b xs = record {
   above = λ k over. let ne : k ≢ at = omega arith in rw get_or-set_other refl;
 }
 
--- the walk has gone over one position
+-- the walk has gone over one position, by one class test at most
 pub record WalkedOne (now last : Walk) (next : Bool) : Type 0 where
   pub within : now.at < length now.marks.items
   pub at : last.at ≡ now.at + 1
   pub round : last.round ≡ now.round
   pub marks : last.marks.items ≡ set now.marks.items now.at next
   pub rounds : last.rounds.items ≡ now.rounds.items
+  pub counted : last.tests ≤ now.tests + 1
+  pub kept : now.tests ≤ last.tests
 
-pub moves_one : (a : Plain) (negated : Bool) (items : List ClassItem) (optional : Bool) (c : ℕ)
-    (e x y : Bool) (now last : Walk) (marked next : Bool) → IsOneClass a negated items optional →
-    marked ≡ get_or now.marks.items now.at false → next ≡ (e && class_holds negated items c) →
-    WalkedOne now last next → Moves a c e x y now last (marked || (optional && e))
-    (next || (optional && x)) (next || (optional && y))
-moves_one a negated items optional c e x y now last marked next one was is moved =
-    let written : next ≡ get_or last.marks.items now.at false = sym (ap (λ xs. get_or xs now.at
-    false) moved.marks ∙ get_or-set_same now.marks.items now.at next false moved.within) in
-    let before = first_same (size a) now.at marked now.marks.items one.sized was in
-    let after = first_same (size a) now.at next last.marks.items one.sized written in
-    let still = one.no_rounds in
+pub moves_class : {negated : Bool} {items : List ClassItem} {c : ℕ} {e : Bool} {now last : Walk}
+    {marked next : Bool} → marked ≡ get_or now.marks.items now.at false →
+    next ≡ (e && class_holds negated items c) → WalkedOne now last next →
+    Moves (class negated items) c (at_start e) now last (record {
+      before = marked;
+      after = next;
+      after_entered = next;
+    })
+moves_class {negated} {items} {c} {e} {now} {last} {marked} {next} was is moved =
+    let a = class negated items in
+    let xs = now.marks.items in
+    let written : next ≡ get_or last.marks.items now.at false = sym (ap (λ ys. get_or ys now.at
+    false) moved.marks ∙ get_or-set_same xs now.at next false moved.within) in
+    let before : IsSameBefore (size a) (marked ∷ []) (drop now.at xs) = first_same 1 now.at marked
+    xs refl was in
+    let after : IsSameBefore (size a) (next ∷ []) (drop now.at last.marks.items) = first_same 1
+    now.at next last.marks.items refl written in
+    let new : Ends a false (drop now.at last.marks.items) next = ends_same after ends_class in
     record {
-      at = omega (arith, moved.at, one.sized);
-      round = omega (arith, moved.round, still);
-      marks = subst (λ end. IsSameOutside now.at end now.marks.items last.marks.items) (sym
-          moved.at) (subst (IsSameOutside now.at (now.at + 1) now.marks.items) (sym moved.marks)
-          (set_outside now.at next now.marks.items));
-      rounds = subst (IsSameOutside now.round last.round now.rounds.items) (sym moved.rounds)
-          (same_outside now.round last.round now.rounds.items);
-      step = step_same a c e (marked ∷ []) (drop now.at now.marks.items) (next ∷ [])
-          (drop now.at last.marks.items) (marked || (optional && e)) before after
-          (one.steps c e marked next is);
-      ends = ends_same a x (next ∷ []) (drop now.at last.marks.items) (next || (optional && x)) after
-          (one.steps 0 x next (x && class_holds negated items 0) refl).ends;
-      ends_too = ends_same a y (next ∷ []) (drop now.at last.marks.items) (next || (optional && y))
-          after (one.steps 0 y next (y && class_holds negated items 0) refl).ends;
-      so = rounds_free a (drop now.at last.marks.items) (drop now.round last.rounds.items) still;
+      at = moved.at;
+      round = omega (arith, moved.round);
+      marks = rw (moved.at, moved.marks) (set_outside now.at next xs);
+      rounds = same_outside moved.rounds;
+      step = step_same before after (step_class is);
+      ends = new;
+      ends_too = ends_same after ends_class;
+      so = tt;
+      counted = omega (arith, moved.at, moved.counted);
+      kept = moved.kept;
     }
 
-pub and_false : (b : Bool) → (b && false) ≡ false
-and_false true = refl
-and_false false = refl
-
-pub and_true : (b : Bool) → (b && true) ≡ b
-and_true true = refl
-and_true false = refl
-
-pub moves_class : (negated : Bool) (items : List ClassItem) (c : ℕ) (e x y : Bool) (now last : Walk)
-    (marked next : Bool) → marked ≡ get_or now.marks.items now.at false →
-    next ≡ (e && class_holds negated items c) → WalkedOne now last next →
-    Moves (class negated items) c e x y now last marked next next
-moves_class negated items c e x y now last marked next was is moved =
-    rw (or_false marked, or_false next) at (moves_one (class negated items) negated items false c e
-    x y now last marked next (one_class negated items) was is moved)
-
 -- a class that is repeated needs no round: its mark tells whether one has ended
-pub moves_class_plus : (negated : Bool) (items : List ClassItem) (c : ℕ) (e again : Bool) (now last
-    : Walk) (p f t : Bool) → again ≡ (e || get_or now.marks.items now.at false) →
-    Moves (class negated items) c again false true now last p f t →
-    Moves (plus (class negated items)) c e false true now last p f t
-moves_class_plus negated items c e again now last p f t is h =
-    let a = class negated items in
-    let before = drop now.at now.marks.items in
-    let after = drop now.at last.marks.items in
+pub moves_class_plus : {negated : Bool} {items : List ClassItem} {c : ℕ} {e again : Bool} {now last
+    : Walk} {x : Reach} → again ≡ (e || get_or now.marks.items now.at false) →
+    Moves (class negated items) c (at_start again) now last x →
+    Moves (plus (class negated items)) c (at_start e) now last x
+moves_class_plus {e} {now} is h =
     let place : now.at + 0 ≡ now.at = omega arith in
     let first = get_or-drop now.at now.marks.items 0 false ∙
     ap (λ i. get_or now.marks.items i false) place in
@@ -110,7 +94,7 @@ moves_class_plus negated items c e again now last p f t is h =
       round = h.round;
       marks = h.marks;
       rounds = h.rounds;
-      step = step_plus a c e again before after p (
+      step = step_plus (
         λ i. elim ((or_is e (get_or now.marks.items now.at false)).0 (sym is ∙ i)) [
           | inl l ↦ inl l
           | inr r ↦ inr (first ∙ r, refl)
@@ -120,9 +104,11 @@ moves_class_plus negated items c e again now last p f t is h =
           | inr r ↦ inr (sym first ∙ r.0)
         ]),
       ) h.step;
-      ends = ends_plus a false after f h.ends;
-      ends_too = ends_plus a true after t h.ends_too;
+      ends = ends_plus h.ends;
+      ends_too = ends_plus h.ends_too;
       so = (λ one. absurd (omega (arith, one)), tt);
+      counted = h.counted;
+      kept = h.kept;
     }
 
 -- a walk goes into a repeat: past its own round
@@ -131,10 +117,11 @@ pub record GoesIn (now inner : Walk) (a : Plain) : Type 0 where
   pub round : 1 ≤ size a → inner.round ≡ now.round + 1
   pub marks : inner.marks.items ≡ now.marks.items
   pub rounds : inner.rounds.items ≡ now.rounds.items
+  pub tests : inner.tests ≡ now.tests
 
-pub before_inner : (a : Plain) (now inner : Walk) → own_rounds a ≡ min (size a) 1 →
+pub before_inner : {a : Plain} {now inner : Walk} → own_rounds a ≡ min (size a) 1 →
     IsBefore (plus a) now → GoesIn now inner a → IsBefore a inner
-before_inner a now inner own h in_ =
+before_inner {a} {now} {inner} own h in_ =
     let marks : drop inner.at inner.marks.items ≡ drop now.at now.marks.items =
     ap (λ n. drop n inner.marks.items) in_.at ∙ ap (drop now.at) in_.marks in
     record {
@@ -155,11 +142,8 @@ before_inner a now inner own h in_ =
             let same = same_there now.round (own_rounds a) inner.round (rounds_of a)
             inner.rounds.items now.rounds.items next
             (λ k over. ap (λ xs. get_or xs k false) in_.rounds) in
-            rounds_same a (drop now.at now.marks.items) (drop inner.at inner.marks.items)
-            (drop (own_rounds a) (drop now.round now.rounds.items))
-            (drop inner.round inner.rounds.items)
-            (record { each = λ k below. ap (λ xs. get_or xs k false) (sym marks) })
-            (record { each = λ k below. sym (same.each k below) }) h.so.1
+            rounds_same a (record { each = λ k below. ap (λ xs. get_or xs k false) (sym marks) })
+            (same_back same) h.so.1
         | inr none ↦ rounds_free a (drop inner.at inner.marks.items)
             (drop inner.round inner.rounds.items) (rounds_without a (omega arith))
       ];
@@ -173,9 +157,9 @@ may_begin a e again bit marks is so = (
   λ w. is ∙ (or_is e bit).1 (elim w [ inl l ↦ inl l | inr r ↦ inr (so.1 r) ]),
 )
 
-ends_rest : (a : Plain) (marks : List Bool) (f : Bool) → Ends a false marks f →
+ends_rest : {a : Plain} {marks : List Bool} {f : Bool} → Ends a false marks f →
     IsTrue f ↔ Rest a marks []
-ends_rest a marks f ends = (
+ends_rest ends = (
   λ h. elim (ends.is.0 h) [ inl r ↦ r | inr w ↦ absurd (let e = w.0 in cc) ],
   λ r. ends.is.1 (inl r),
 )
@@ -186,13 +170,16 @@ pub record ComesOut (now moved last : Walk) (f : Bool) : Type 0 where
   pub round : last.round ≡ moved.round
   pub marks : last.marks.items ≡ moved.marks.items
   pub rounds : last.rounds.items ≡ set moved.rounds.items now.round f
+  pub tests : last.tests ≡ moved.tests
 
-pub moves_rounds : (a : Plain) (c : ℕ) (e again : Bool) (now inner moved last : Walk) (p f t :
-    Bool) → own_rounds a ≡ 1 → 1 ≤ size a → IsBefore (plus a) now → GoesIn now inner a →
+pub moves_rounds : {a : Plain} {c : ℕ} {e again : Bool} {now inner moved last : Walk} {x : Reach} →
+    own_rounds a ≡ 1 → 1 ≤ size a → IsBefore (plus a) now → GoesIn now inner a →
     again ≡ (e || get_or now.rounds.items now.round false) →
-    Moves a c again false true inner moved p f t → ComesOut now moved last f →
-    Moves (plus a) c e false true now last p f t
-moves_rounds a c e again now inner moved last p f t one some is in_ begins h out =
+    Moves a c (at_start again) inner moved x → ComesOut now moved last x.after →
+    Moves (plus a) c (at_start e) now last x
+moves_rounds {a} {e = e} {again = again} {now} {inner} {moved} {last} {x} one some is in_ begins h
+    out =
+    let f = x.after in
     let before = drop now.at now.marks.items in
     let after = drop now.at last.marks.items in
     let next = in_.round some in
@@ -250,21 +237,16 @@ moves_rounds a c e again now inner moved last p f t one some is in_ begins h out
         above = λ k over. others k (omega (arith, out.round, h.round, next)) ∙
             h.rounds.above k (omega (arith, out.round)) ∙ ap (λ xs. get_or xs k false) in_.rounds;
       };
-      step = step_plus a c e again before after p (may_begin a e again (get_or now.rounds.items
-          now.round false) before begins so) (rw (old, new) at h.step);
-      ends = ends_plus a false after f ends;
-      ends_too = ends_plus a true after t (subst (λ m. Ends a true m t) new h.ends_too);
+      step = step_plus (may_begin a e again (get_or now.rounds.items now.round false) before begins
+          so) (rw (old, new) at h.step);
+      ends = ends_plus ends;
+      ends_too = ends_plus (subst (λ m. Ends a true m x.after_entered) new h.ends_too);
       so = (
-        λ own. let r = ends_rest a after f ends in (
-          λ i. r.0 (sym written ∙ i),
-          λ w. written ∙ r.1
-              w,
-        ),
-        rounds_same a (drop inner.at moved.marks.items) after
-            (drop inner.round moved.rounds.items) (drop (own_rounds a) (drop now.round
-            last.rounds.items)) (record { each = λ k below. ap (λ xs. get_or xs k false) new }) kept
-            h.so,
+        λ own. let r = ends_rest ends in (λ i. r.0 (sym written ∙ i), λ w. written ∙ r.1 w),
+        rounds_same a (record { each = λ k below. ap (λ xs. get_or xs k false) new }) kept h.so,
       );
+      counted = omega (arith, in_.at, in_.tests, h.counted, out.at, out.tests);
+      kept = omega (arith, in_.tests, h.kept, out.tests);
     }
 
 -- a list that is the same outside of no place is the same
@@ -282,19 +264,24 @@ outside_nothing n m xs ys h = record {
   ]
 
 -- a repeat without positions: a round of it is there only where it is entered
-pub moves_idle : (a : Plain) (c : ℕ) (e again bit : Bool) (now inner moved last : Walk) (p f t :
-    Bool) → size a ≡ 0 → GoesIn now inner a → again ≡ (e || bit) →
-    Moves a c again false true inner moved p f t → last.at ≡ moved.at → last.round ≡ now.round →
+pub moves_idle : {a : Plain} {c : ℕ} {e again : Bool} (bit : Bool) {now inner moved last : Walk} {x : Reach} →
+    size a ≡ 0 → GoesIn now inner a → again ≡ (e || bit) →
+    Moves a c (at_start again) inner moved x → last.at ≡ moved.at → last.round ≡ now.round →
     last.marks.items ≡ moved.marks.items → last.rounds.items ≡ moved.rounds.items →
-    Moves (plus a) c e false true now last (p && e) f t
-moves_idle a c e again bit now inner moved last p f t none in_ begins h at round marks rounds =
-    let before = drop now.at now.marks.items in
+    last.tests ≡ moved.tests → Moves (plus a) c (at_start e) now last (record {
+      before = x.before && e;
+      after = x.after;
+      after_entered = x.after_entered;
+    })
+moves_idle {a} {e = e} bit {now} {inner} {moved} {last} {x} none in_ begins h at round marks
+    rounds tests =
     let after = drop now.at last.marks.items in
+    let p = x.before in
     let still = rounds_without a none in
     let own = own_few a in
     let new : drop inner.at moved.marks.items ≡ after =
     ap (λ n. drop n moved.marks.items) in_.at ∙ ap (drop now.at) (sym marks) in
-    let word = without_ends a again (drop inner.at inner.marks.items) p none h.step.ends in
+    let word = without_ends none h.step.ends in
     let nil = plus_nil a in
     let no_mark : moved.at ≡ inner.at = omega (arith, h.at, none) in
     let no_round : moved.round ≡ inner.round = omega (arith, h.round, still) in
@@ -309,17 +296,18 @@ moves_idle a c e again bit now inner moved last p f t none in_ begins h at round
       round = omega (arith, round, still, own, none);
       marks = rw (end, marks, ← in_.marks) same_marks;
       rounds = rw (round, rounds, ← in_.rounds) same_rounds;
-      step = step_without (plus a) c e before after (p && e) none (ends_without (plus a) e before (p
-          && e) none (
-            λ i. let q = (and_is p e).0 i in (q.1, nil.1 ((word.0 q.0).1)),
-            λ w. (and_is p e).1 (word.1 (begins ∙ (or_is e bit).1 (inl w.0), nil.0 w.1), w.0),
-          ));
-      ends = ends_plus a false after f (subst (λ m. Ends a false m f) new h.ends);
-      ends_too = ends_plus a true after t (subst (λ m. Ends a true m t) new h.ends_too);
+      step = step_without none (ends_without none (
+        λ i. let q = (and_is p e).0 i in (q.1, nil.1 ((word.0 q.0).1)),
+        λ w. (and_is p e).1 (word.1 (begins ∙ (or_is e bit).1 (inl w.0), nil.0 w.1), w.0),
+      ));
+      ends = ends_plus (subst (λ m. Ends a false m x.after) new h.ends);
+      ends_too = ends_plus (subst (λ m. Ends a true m x.after_entered) new h.ends_too);
       so = rounds_free (plus a) after (drop now.round last.rounds.items) (omega (
         arith,
         still,
         own,
         none,
       ));
+      counted = omega (arith, in_.at, in_.tests, h.counted, at, tests);
+      kept = omega (arith, in_.tests, h.kept, tests);
     }

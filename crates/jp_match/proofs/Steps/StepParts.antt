@@ -14,10 +14,21 @@ use Rattle.jp_match.proofs.Bools.{and_is}
 use Rattle.jp_match.proofs.Steps.EndParts.{ends_class, ends_empty, ends_nothing, ends_either}
 use Rattle.jp_match.proofs.Steps.EndParts.{ends_sequence, ends_plus, nil_before}
 
+-- the same cut of a word, with another first part
+pub with_first : {L M N : List ℕ → Type 0} {w : List ℕ} (j : Concatenation L M w) → N j.prefix →
+    Concatenation N M w
+with_first j h = record {
+  prefix = j.prefix;
+  suffix = j.suffix;
+  is = j.is;
+  first = h;
+  second = j.second;
+}
+
 -- a word that begins with a character is joined so that the first part is empty or begins with it
-pub joined_cons : (L M : List ℕ → Type 0) (c : ℕ) (w : List ℕ) → Concatenation L M (c ∷ w) →
+pub joined_cons : {L M : List ℕ → Type 0} {c : ℕ} {w : List ℕ} → Concatenation L M (c ∷ w) →
     (L [] × M (c ∷ w)) ⊎ Concatenation (λ v. L (c ∷ v)) M w
-joined_cons L M c w j = parts j.prefix j.suffix j.is j.first j.second where
+joined_cons {L} {M} {c} {w} j = parts j.prefix j.suffix j.is j.first j.second where
   parts : (prefix suffix : List ℕ) → c ∷ w ≡ prefix ++ suffix → L prefix → M suffix →
       (L [] × M (c ∷ w)) ⊎ Concatenation (λ v. L (c ∷ v)) M w
   parts [] suffix is first second = inl (first, subst M (sym is) second)
@@ -28,14 +39,13 @@ joined_cons L M c w j = parts j.prefix j.suffix j.is j.first j.second where
         prefix = prefix;
         suffix = suffix;
         is = tail;
-        first = subst (λ d. L (d ∷ prefix)) (sym
-            head) first;
+        first = subst (λ d. L (d ∷ prefix)) (sym head) first;
         second = second;
       })
 
-pub cons_joined : (L M : List ℕ → Type 0) (c : ℕ) (w : List ℕ) →
+pub cons_joined : {L M : List ℕ → Type 0} {c : ℕ} {w : List ℕ} →
     Concatenation (λ v. L (c ∷ v)) M w → Concatenation L M (c ∷ w)
-cons_joined L M c w j = record {
+cons_joined {c} j = record {
   prefix = c ∷ j.prefix;
   suffix = j.suffix;
   is = ap (λ v. c ∷ v) j.is;
@@ -47,25 +57,21 @@ cons_joined L M c w j = record {
 pub power_cons : (L : List ℕ → Type 0) (k c : ℕ) (w : List ℕ) → Power L k (c ∷ w) →
     Concatenation (λ v. L (c ∷ v)) (Star L) w
 power_cons L zero c w h = absurd (cc)
-power_cons L (suc k) c w h = elim (joined_cons L (Power L k) c w h) [
+power_cons L (suc k) c w h = elim (joined_cons {L = L} {M = Power L k} h) [
   | inl none ↦ power_cons L k c w none.1
   | inr j ↦ record {
     prefix = j.prefix;
     suffix = j.suffix;
     is = j.is;
     first = j.first;
-    second = (
-      k,
-      j.second,
-    );
+    second = (k, j.second);
   }
 ]
 
-pub step_class : (negated : Bool) (items : List ClassItem) (c : ℕ) (entered : Bool) (before after :
-    List Bool) →
-    get_or after 0 false ≡ (entered && class_holds negated items c) →
+pub step_class : {negated : Bool} {items : List ClassItem} {c : ℕ} {entered : Bool} {before after :
+    List Bool} → get_or after 0 false ≡ (entered && class_holds negated items c) →
     Steps (class negated items) c entered before after (get_or before 0 false)
-step_class negated items c entered before after is = record {
+step_class {negated} {items} {c} {entered} is = record {
   left = λ word. (
     λ h. let t = (and_is entered (class_holds negated items c)).0 (sym is ∙ h.0) in
         inr (t.0, (c, t.1, ap (λ w. c ∷ w) h.1)),
@@ -77,54 +83,41 @@ step_class negated items c entered before after is = record {
           let none : word ≡ [] = cc in (
             is ∙ (and_is entered (class_holds negated items c)).1 (
               y.0,
-              subst (λ x. class_holds
-                  negated items x ≡ true) same holds,
+              subst (λ x. class_holds negated items x ≡ true) same holds,
             ),
             none,
           )
     ],
   );
-  ends = ends_class negated items entered before;
+  ends = ends_class;
 }
 
-pub step_empty : (c : ℕ) (entered : Bool) (before after : List Bool) →
+pub step_empty : {c : ℕ} {entered : Bool} {before after : List Bool} →
     Steps empty c entered before after entered
-step_empty c entered before after = record {
+step_empty = record {
   left = λ word. (
     λ h. absurd h,
-    λ h. elim h [
-      | inl x ↦ absurd x
-      | inr y ↦ absurd (let e = y.1 in
-          cc)
-    ],
+    λ h. elim h [ inl x ↦ absurd x | inr y ↦ absurd (let e = y.1 in cc) ],
   );
-  ends = ends_empty entered before;
+  ends = ends_empty;
 }
 
-pub step_nothing : (c : ℕ) (entered : Bool) (before after : List Bool) →
+pub step_nothing : {c : ℕ} {entered : Bool} {before after : List Bool} →
     Steps nothing c entered before after false
-step_nothing c entered before after = record {
+step_nothing = record {
   left = λ word. (λ h. absurd h, λ h. elim h [ inl x ↦ absurd x | inr y ↦ absurd y.1 ]);
-  ends = ends_nothing entered before;
+  ends = ends_nothing;
 }
 
-pub step_either : (a b : Plain) (c : ℕ) (entered : Bool) (before after : List Bool) (p q : Bool) →
+pub step_either : {a b : Plain} {c : ℕ} {entered : Bool} {before after : List Bool} {p q : Bool} →
     Steps a c entered before after p →
     Steps b c entered (drop (size a) before) (drop (size a) after) q →
     Steps (either a b) c entered before after (p || q)
-step_either a b c entered before after p q ha hb = record {
+step_either ha hb = record {
   left = λ word. (
     λ h. elim h [
-      | inl r ↦ elim ((ha.left word).0 r) [
-        | inl s ↦ inl (inl s)
-        | inr w ↦ inr
-            (w.0, inl w.1)
-      ]
-      | inr r ↦ elim ((hb.left word).0 r) [
-        | inl s ↦ inl (inr s)
-        | inr w ↦ inr
-            (w.0, inr w.1)
-      ]
+      | inl r ↦ elim ((ha.left word).0 r) [ inl s ↦ inl (inl s) | inr w ↦ inr (w.0, inl w.1) ]
+      | inr r ↦ elim ((hb.left word).0 r) [ inl s ↦ inl (inr s) | inr w ↦ inr (w.0, inr w.1) ]
     ],
     λ h. elim h [
       | inl r ↦ elim r [
@@ -137,99 +130,55 @@ step_either a b c entered before after p q ha hb = record {
       ]
     ],
   );
-  ends = ends_either a b entered before p q ha.ends hb.ends;
+  ends = ends_either ha.ends hb.ends;
 }
 
-pub step_sequence : (a b : Plain) (c : ℕ) (entered : Bool) (before after : List Bool) (p q :
-    Bool) → Steps a c entered before after p →
-    Steps b c p (drop (size a) before) (drop (size a) after) q →
+pub step_sequence : {a b : Plain} {c : ℕ} {entered : Bool} {before after : List Bool} {p q : Bool} →
+    Steps a c entered before after p → Steps b c p (drop (size a) before) (drop (size a) after) q →
     Steps (sequence a b) c entered before after q
-step_sequence a b c entered before after p q ha hb = record {
+step_sequence ha hb = record {
   left = λ word. (
     λ h. elim h [
       | inl j ↦ elim ((ha.left j.prefix).0 j.first) [
-        | inl s ↦ inl (inl (cons_joined (Rest a before) (Words b) c word (record {
-          prefix = j.prefix;
-          suffix = j.suffix;
-          is = j.is;
-          first = s;
-          second = j.second;
-        })))
-        | inr w ↦ inr (
-          w.0,
-          cons_joined (Words a) (Words b) c word (record {
-            prefix = j.prefix;
-            suffix
-                = j.suffix;
-            is = j.is;
-            first = w.1;
-            second = j.second;
-          }),
-        )
+        | inl s ↦ inl (inl (cons_joined (with_first j s)))
+        | inr w ↦ inr (w.0, cons_joined (with_first j w.1))
       ]
       | inr r ↦ elim ((hb.left word).0 r) [
         | inl s ↦ inl (inr s)
         | inr w ↦ elim (ha.ends.is.0 w.0) [
-          | inl s ↦ inl (inl (nil_before (Rest a before) (Words b) (c ∷ word) s
-              w.1))
-          | inr v ↦ inr (v.0, nil_before (Words a) (Words b) (c ∷ word) v.1 w.1)
+          | inl s ↦ inl (inl (nil_before s w.1))
+          | inr v ↦ inr (v.0, nil_before v.1 w.1)
         ]
       ]
     ],
     λ h. elim h [
       | inl r ↦ elim r [
-        | inl j ↦ elim (joined_cons (Rest a before) (Words b) c word j) [
+        | inl j ↦ elim (joined_cons j) [
           | inl n ↦ inr ((hb.left word).1 (inr (ha.ends.is.1 (inl n.0), n.1)))
-          | inr k ↦ inl (record {
-            prefix = k.prefix;
-            suffix = k.suffix;
-            is = k.is;
-            first = (ha.left k.prefix).1 (inl k.first);
-            second = k.second;
-          })
+          | inr k ↦ inl (with_first k ((ha.left k.prefix).1 (inl k.first)))
         ]
         | inr s ↦ inr ((hb.left word).1 (inl s))
       ]
-      | inr w ↦ elim (joined_cons (Words a) (Words b) c word w.1) [
+      | inr w ↦ elim (joined_cons w.1) [
         | inl n ↦ inr ((hb.left word).1 (inr (ha.ends.is.1 (inr (w.0, n.0)), n.1)))
-        | inr k ↦ inl (record {
-          prefix = k.prefix;
-          suffix = k.suffix;
-          is = k.is;
-          first = (ha.left k.prefix).1 (inr (w.0, k.first));
-          second = k.second;
-        })
+        | inr k ↦ inl (with_first k ((ha.left k.prefix).1 (inr (w.0, k.first))))
       ]
     ],
   );
-  ends = ends_sequence a b entered before p q ha.ends hb.ends;
+  ends = ends_sequence ha.ends hb.ends;
 }
 
--- where the repeat is not entered, a round may begin where one has ended
-pub by_round : (a : Plain) (entered again : Bool) (before : List Bool) → entered ≡ false →
-    Ends a false before again → IsTrue again ↔ (IsTrue entered ⊎ Rest a before [])
-by_round a entered again before e probe = (
-  λ h. elim (probe.is.0 h) [ inl r ↦ inr r | inr w ↦ absurd (let f = w.0 in cc) ],
-  λ h. elim h [ inl f ↦ absurd (cc) | inr r ↦ probe.is.1 (inl r) ],
-)
-
 -- a round may begin where the repeat is entered or where a round has ended
-pub step_plus : (a : Plain) (c : ℕ) (entered again : Bool) (before after : List Bool) (p : Bool) →
+pub step_plus : {a : Plain} {c : ℕ} {entered again : Bool} {before after : List Bool} {p : Bool} →
     IsTrue again ↔ (IsTrue entered ⊎ Rest a before []) → Steps a c again before after p →
     Steps (plus a) c entered before after p
-step_plus a c entered again before after p may ha = record {
+step_plus {a} {c} {entered} {again} {before} {after} {p} may ha = record {
   left = λ word. (
     λ j. elim ((ha.left j.prefix).0 j.first) [
-      | inl s ↦ inl (cons_joined (Rest a before) (Star (Words a)) c word (record {
-        prefix = j.prefix;
-        suffix = j.suffix;
-        is = j.is;
-        first = s;
-        second = j.second;
-      }))
+      | inl s ↦ inl (cons_joined (with_first j s))
       | inr w ↦
           let (k, more) = j.second in
-          let words = cons_joined (Words a) (Power (Words a) k) c word (record {
+          let words : Concatenation (Words a) (Power (Words a) k) (c ∷ word) = cons_joined (record {
             prefix = j.prefix;
             suffix = j.suffix;
             is = j.is;
@@ -238,66 +187,32 @@ step_plus a c entered again before after p may ha = record {
           }) in
           elim (may.0 w.0) [
             | inl e ↦ inr (e, (k, words))
-            | inr r ↦ inl (nil_before (Rest a before) (Star (Words a)) (c ∷ word) r (
-              suc k,
-              words,
-            ))
+            | inr r ↦ inl (nil_before r (suc k, words))
           ]
     ],
     λ h. elim h [
-      | inl j ↦ elim (joined_cons (Rest a before) (Star (Words a)) c word j) [
+      | inl j ↦ elim (joined_cons j) [
         | inl n ↦ round word (may.1 (inr n.0)) n.1.0 n.1.1
-        | inr k ↦ record {
-          prefix = k.prefix;
-          suffix = k.suffix;
-          is = k.is;
-          first = (ha.left k.prefix).1
-              (inl k.first);
-          second = k.second;
-        }
+        | inr k ↦ with_first k ((ha.left k.prefix).1 (inl k.first))
       ]
       | inr w ↦ round word (may.1 (inl w.0)) (suc w.1.0) w.1.1
     ],
   );
-  ends = plus_ends;
+  ends = ends_plus (record {
+    is = (
+      λ t. elim (ha.ends.is.0 t) [
+        | inl r ↦ inl r
+        | inr w ↦ elim (may.0 w.0) [ inl e ↦ inr (e, w.1) | inr r ↦ inl r ]
+      ],
+      λ t. ha.ends.is.1 (elim t [ inl r ↦ inl r | inr w ↦ inr (may.1 (inl w.0), w.1) ]),
+    );
+  });
 } where
   round : (word : List ℕ) → IsTrue again → (k : ℕ) → Power (Words a) k (c ∷ word) →
       Rest (plus a) after word
   round word e k words =
       let j = power_cons (Words a) k c word words in
-      record {
-        prefix = j.prefix;
-        suffix = j.suffix;
-        is = j.is;
-        first = (ha.left j.prefix).1 (inr (
-          e,
-          j.first,
-        ));
-        second = j.second;
-      }
-
-  plus_ends : Ends (plus a) entered before p
-  plus_ends = ends_plus a entered before p (record {
-    is = (
-      λ t. elim (ha.ends.is.0 t) [
-        | inl r ↦ inl r
-        | inr w ↦ elim (may.0 w.0) [
-          | inl e ↦ inr (
-            e,
-            w.1,
-          )
-          | inr r ↦ inl r
-        ]
-      ],
-      λ t. ha.ends.is.1 (elim t [
-        | inl r ↦ inl r
-        | inr w ↦ inr (
-          may.1 (inl w.0),
-          w.1,
-        )
-      ]),
-    );
-  })
+      with_first j ((ha.left j.prefix).1 (inr (e, j.first)))
 
 pub none_dropped : (n : ℕ) (marks : List Bool) → ((k : ℕ) → IsTrue (get_or marks k false) → ⊥) →
     (k : ℕ) → IsTrue (get_or (drop n marks) k false) → ⊥
@@ -326,8 +241,7 @@ step_nowhere a c marks none = record {
     λ h. absurd (rest_none a marks word none h),
     λ h. elim h [
       | inl r ↦ absurd (rest_none a marks (c ∷ word) none r)
-      | inr w ↦ absurd (let e =
-          w.0 in cc)
+      | inr w ↦ absurd (let e = w.0 in cc)
     ],
   );
   ends = record {
@@ -335,8 +249,7 @@ step_nowhere a c marks none = record {
       λ h. absurd (cc),
       λ h. elim h [
         | inl r ↦ absurd (rest_none a marks [] none r)
-        | inr w ↦
-            absurd (let e = w.0 in cc)
+        | inr w ↦ absurd (let e = w.0 in cc)
       ],
     );
   };
@@ -380,26 +293,26 @@ rest_without (sequence a b) marks word none (inr r) =
 rest_without (plus a) marks word none r = rest_without a marks r.prefix none r.first
 
 -- the end is then reached by the empty word alone
-pub ends_without : (a : Plain) (entered : Bool) (marks : List Bool) (p : Bool) → size a ≡ 0 →
+pub ends_without : {a : Plain} {entered : Bool} {marks : List Bool} {p : Bool} → size a ≡ 0 →
     IsTrue p ↔ (IsTrue entered × Words a []) → Ends a entered marks p
-ends_without a entered marks p none is = record {
+ends_without {a} {marks} none is = record {
   is = (
     λ h. inr (is.0 h),
     λ h. elim h [ inl r ↦ absurd (rest_without a marks [] none r) | inr w ↦ is.1 w ],
   );
 }
 
-pub without_ends : (a : Plain) (entered : Bool) (marks : List Bool) (p : Bool) → size a ≡ 0 →
+pub without_ends : {a : Plain} {entered : Bool} {marks : List Bool} {p : Bool} → size a ≡ 0 →
     Ends a entered marks p → IsTrue p ↔ (IsTrue entered × Words a [])
-without_ends a entered marks p none ends = (
+without_ends {a} {marks} none ends = (
   λ h. elim (ends.is.0 h) [ inl r ↦ absurd (rest_without a marks [] none r) | inr w ↦ w ],
   λ w. ends.is.1 (inr w),
 )
 
 -- and a step takes nothing
-pub step_without : (a : Plain) (c : ℕ) (entered : Bool) (before after : List Bool) (p : Bool) →
+pub step_without : {a : Plain} {c : ℕ} {entered : Bool} {before after : List Bool} {p : Bool} →
     size a ≡ 0 → Ends a entered before p → Steps a c entered before after p
-step_without a c entered before after p none ends = record {
+step_without {a} {c} {before} {after} none ends = record {
   left = λ word. (
     λ h. absurd (rest_without a after word none h),
     λ h. elim h [
@@ -414,80 +327,58 @@ step_without a c entered before after p none ends = record {
 pub record IsSameBefore (n : ℕ) (marks others : List Bool) : Type 0 where
   pub each : (k : ℕ) → k < n → get_or marks k false ≡ get_or others k false
 
-pub same_back : (n : ℕ) (marks others : List Bool) → IsSameBefore n marks others →
+pub same_back : {n : ℕ} {marks others : List Bool} → IsSameBefore n marks others →
     IsSameBefore n others marks
-same_back n marks others same = record { each = λ k below. sym (same.each k below) }
+same_back same = record { each = λ k below. sym (same.each k below) }
 
-pub same_fewer : (m n : ℕ) (marks others : List Bool) → m ≤ n → IsSameBefore n marks others →
+pub same_fewer : {m n : ℕ} {marks others : List Bool} → IsSameBefore n marks others → m ≤ n →
     IsSameBefore m marks others
-same_fewer m n marks others few same = record { each = λ k below. same.each k (omega arith) }
+same_fewer same few = record { each = λ k below. same.each k (omega (arith, few, below)) }
 
-pub same_dropped : (m n : ℕ) (marks others : List Bool) → IsSameBefore (m + n) marks others →
+pub same_dropped : (m n : ℕ) {marks others : List Bool} → IsSameBefore (m + n) marks others →
     IsSameBefore n (drop m marks) (drop m others)
-same_dropped m n marks others same = record {
+same_dropped m n {marks} {others} same = record {
   each = λ k below. get_or-drop m marks k false ∙ same.each (m + k) (omega arith) ∙
       sym (get_or-drop m others k false);
 }
 
 -- what leads to the end is told by the first marks, one for each position
-pub rest_same : (a : Plain) (marks others : List Bool) (word : List ℕ) →
+pub rest_same : (a : Plain) {marks others : List Bool} (word : List ℕ) →
     IsSameBefore (size a) marks others → Rest a marks word → Rest a others word
-rest_same (class negated items) marks others word same r =
-    (sym (same.each 0 (omega arith)) ∙ r.0, r.1)
-rest_same nothing marks others word same r = r
-rest_same (either a b) marks others word same (inl r) =
-    inl (rest_same a marks others word (same_fewer (size a) (size a + size b) marks others (omega
-    arith) same) r)
-rest_same (either a b) marks others word same (inr r) =
-    inr (rest_same b (drop (size a) marks) (drop (size a) others) word (same_dropped (size a) (size
-    b) marks others same) r)
-rest_same empty marks others word same r = r
-rest_same (sequence a b) marks others word same (inl r) = inl (record {
-  prefix = r.prefix;
-  suffix = r.suffix;
-  is = r.is;
-  first = rest_same a marks others r.prefix (same_fewer (size a) (size a + size b) marks others
-      (omega arith) same) r.first;
-  second = r.second;
-})
-rest_same (sequence a b) marks others word same (inr r) =
-    inr (rest_same b (drop (size a) marks) (drop (size a) others) word (same_dropped (size a) (size
-    b) marks others same) r)
-rest_same (plus a) marks others word same r = record {
-  prefix = r.prefix;
-  suffix = r.suffix;
-  is = r.is;
-  first = rest_same a marks others r.prefix same r.first;
-  second = r.second;
-}
+rest_same (class negated items) word same r = (sym (same.each 0 (omega arith)) ∙ r.0, r.1)
+rest_same nothing word same r = r
+rest_same (either a b) word same (inl r) = inl (rest_same a word (same_fewer same (omega arith)) r)
+rest_same (either a b) word same (inr r) =
+    inr (rest_same b word (same_dropped (size a) (size b) same) r)
+rest_same empty word same r = r
+rest_same (sequence a b) word same (inl r) =
+    inl (with_first r (rest_same a r.prefix (same_fewer same (omega arith)) r.first))
+rest_same (sequence a b) word same (inr r) =
+    inr (rest_same b word (same_dropped (size a) (size b) same) r)
+rest_same (plus a) word same r = with_first r (rest_same a r.prefix same r.first)
 
-pub ends_same : (a : Plain) (entered : Bool) (marks others : List Bool) (p : Bool) →
+pub ends_same : {a : Plain} {entered : Bool} {marks others : List Bool} {p : Bool} →
     IsSameBefore (size a) marks others → Ends a entered marks p → Ends a entered others p
-ends_same a entered marks others p same ends = record {
+ends_same {a} same ends = record {
   is = (
-    λ h. elim (ends.is.0 h) [ inl r ↦ inl (rest_same a marks others [] same r) | inr w ↦ inr w ],
-    λ h. ends.is.1 (elim h [
-      | inl r ↦ inl (rest_same a others marks [] (same_back (size a) marks others same) r)
-      | inr w ↦ inr w
-    ]),
+    λ h. elim (ends.is.0 h) [ inl r ↦ inl (rest_same a [] same r) | inr w ↦ inr w ],
+    λ h. ends.is.1 (elim h [ inl r ↦ inl (rest_same a [] (same_back same) r) | inr w ↦ inr w ]),
   );
 }
 
-pub step_same : (a : Plain) (c : ℕ) (entered : Bool) (before before' after after' : List Bool) (p :
-    Bool) → IsSameBefore (size a) before before' → IsSameBefore (size a) after after' →
+pub step_same : {a : Plain} {c : ℕ} {entered : Bool} {before before' after after' : List Bool} {p :
+    Bool} → IsSameBefore (size a) before before' → IsSameBefore (size a) after after' →
     Steps a c entered before after p → Steps a c entered before' after' p
-step_same a c entered before before' after after' p same same' step = record {
+step_same {a} {c} same same' step = record {
   left = λ word. (
-    λ h. elim ((step.left word).0 (rest_same a after' after word (same_back (size a) after after'
-        same') h)) [
-          | inl r ↦ inl (rest_same a before before' (c ∷ word) same r)
-          | inr w ↦ inr w
-        ],
-    λ h. rest_same a after after' word same' ((step.left word).1 (elim h [
-      | inl r ↦ inl (rest_same a before' before (c ∷ word) (same_back (size a) before before' same)
-          r)
+    λ h. elim ((step.left word).0 (rest_same a word (same_back same') h)) [
+      | inl r ↦ inl (rest_same a (c ∷ word) same r)
+      | inr w ↦ inr w
+    ],
+    λ h. rest_same a word same' ((step.left word).1 (elim h [
+      | inl r ↦ inl (rest_same a (c ∷ word) (same_back same) r)
       | inr w ↦ inr w
     ])),
   );
-  ends = ends_same a entered before before' p same step.ends;
+  ends = ends_same same step.ends;
 }

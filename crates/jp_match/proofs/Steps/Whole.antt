@@ -4,20 +4,21 @@ use Rattle.std.proofs.Common.{drop, get_or, refl, sym, ◌∙◌, subst, arith}
 use Rattle.std.specs.Bool.{IsTrue}
 use Rattle.std.proofs.lemmas.List.{get_or_past}
 use Rattle.jp_iregexp.specs.Tree.{Tree, branches}
+use Rattle.jp_match.specs.declared.walk.Reach.{Reach}
 use Rattle.jp_match.specs.declared.walk.Walk.{Walk}
 use Rattle.jp_match.specs.Private.Plain.{Plain, nothing, either, unrolled}
 use Rattle.jp_match.specs.Private.Marks.{size, Ends, Steps}
 use Rattle.jp_match.specs.Private.Walks.{rounds_of, takes_none, Moves, IsAtStart, MovesAll}
+use Rattle.jp_match.specs.Private.Walks.{at_start, nowhere}
 use Rattle.jp_match.proofs.Bools.{or_false}
 use Rattle.jp_match.proofs.Steps.EndParts.{ends_either, ends_nothing}
-use Rattle.jp_match.proofs.Steps.Idle.{unmarked, moves_unmarked}
+use Rattle.jp_match.proofs.Steps.Idle.{by_none, unmarked, moves_unmarked}
 use Rattle.jp_match.proofs.Steps.StepParts.{step_either, step_nothing}
 use Rattle.jp_match.proofs.Steps.Walking.{Walked, moves_entered, before_first, as_sequence}
 
-pub all_moved : (a : Plain) (c end : ℕ) (e : Bool) (first last : Walk) (p f t : Bool) →
-    IsAtStart a end first → Moves a c e false true first last p f t →
-    MovesAll a c e first last p f t
-all_moved a c end e first last p f t start m = record {
+pub all_moved : {a : Plain} {c : ℕ} (end : ℕ) {e : Bool} {first last : Walk} {x : Reach} →
+    IsAtStart a end first → Moves a c (at_start e) first last x → MovesAll a c e first last x
+all_moved end {last = last} start m = record {
   marks = m.marks.same_length;
   rounds = m.rounds.same_length;
   within = omega (arith, m.at, start.at);
@@ -35,20 +36,18 @@ all_moved a c end e first last p f t start m = record {
   ends = m.ends;
   ends_too = m.ends_too;
   so = m.so;
+  counted = omega (arith, m.counted, start.at);
+  kept = m.kept;
 }
 
 -- where nothing is entered and no mark is left, the others stay as they are
-pub all_ended : (whole rest : Plain) (c end : ℕ) (begin e x y : Bool) (first now : Walk) →
-    IsAtStart whole end first → Walked whole rest c begin e x y first now false false false →
+pub all_ended : {whole rest : Plain} {c : ℕ} (end : ℕ) {begin : Bool} {through : Reach} {first now :
+    Walk} → IsAtStart whole end first → Walked whole rest c begin through first now nowhere →
     ((k : ℕ) → now.at ≤ k → get_or now.marks.items k false ≡ get_or first.marks.items k false) →
-    end ≤ now.at → e ≡ false → x ≡ false → y ≡ false →
-    MovesAll whole c begin first now false false false
-all_ended whole rest c end begin true x y first now start so_far ahead over e' x' y' = absurd (cc)
-all_ended whole rest c end begin false true y first now start so_far ahead over e' x' y' = absurd
-    (cc)
-all_ended whole rest c end begin false false true first now start so_far ahead over e' x' y' =
-    absurd (cc)
-all_ended whole rest c end begin false false false first now start so_far ahead over e' x' y' =
+    first.tests ≤ now.tests → now.tests ≤ now.at + first.tests → end ≤ now.at → through ≡ nowhere →
+    MovesAll whole c begin first now nowhere
+all_ended {whole} {rest} {c} end {begin} {through} {first} {now} start so_far ahead kept counted over
+    is =
     let none : (k : ℕ) → now.at ≤ k → IsTrue (get_or now.marks.items k false) → ⊥ = λ k beyond h.
     start.ended k (omega (arith, over, beyond)) (sym (ahead k beyond) ∙ h) in
     let same = unmarked (size rest) now.at now.marks.items (λ k below. none (now.at + k) (omega
@@ -58,15 +57,19 @@ all_ended whole rest c end begin false false false first now start so_far ahead 
       rounds = now.rounds;
       at = now.at + size rest;
       round = now.round + rounds_of rest;
+      tests = now.tests;
     } in
-    let still = moves_unmarked rest c (size rest) (rounds_of rest) now last refl refl same (record {
+    let still : Moves rest c (at_start false) now last (by_none (takes_none rest)) = moves_unmarked
+    {positions = size rest} {turns = rounds_of rest} refl refl refl same (record {
       at = refl;
       round = refl;
       marks = refl;
       rounds = refl;
+      tests = refl;
     }) so_far.before.so in
-    let all = so_far.completes last false false false (moves_entered rest c false false false now
-    last false false (takes_none rest) still) in
+    let here : Walked whole rest c begin nowhere first now nowhere = subst (λ r. Walked whole rest c
+    begin r first now nowhere) is so_far in
+    let all = here.completes last nowhere (moves_entered {e = nowhere} still) in
     record {
       marks = all.marks.same_length;
       rounds = all.rounds.same_length;
@@ -76,50 +79,52 @@ all_ended whole rest c end begin false false false first now start so_far ahead 
       ends = all.ends;
       ends_too = all.ends_too;
       so = all.so;
+      counted = counted;
+      kept = kept;
     }
 
 -- a pattern of one branch is as the branch
-pub start_branch : (a : Plain) (end : ℕ) (walk : Walk) → IsAtStart (either a nothing) end walk →
+pub start_branch : {a : Plain} {end : ℕ} {walk : Walk} → IsAtStart (either a nothing) end walk →
     IsAtStart a end walk
-start_branch a end walk start = record {
-  before = before_first a nothing walk (as_sequence a nothing walk start.before);
+start_branch start = record {
+  before = before_first {b = nothing} (as_sequence start.before);
   at = start.at;
-  sized = omega (arith, start.sized);
+  sized = let long = start.sized in omega (arith, long);
   ended = start.ended;
 }
 
-pub all_branch : (a : Plain) (c : ℕ) (e : Bool) (first last : Walk) (p f t : Bool) →
-    MovesAll a c e first last p f t → MovesAll (either a nothing) c e first last p f t
-all_branch a c e first last p f t m =
+pub all_branch : {a : Plain} {c : ℕ} {e : Bool} {first last : Walk} {x : Reach} →
+    MovesAll a c e first last x → MovesAll (either a nothing) c e first last x
+all_branch {a} {c} {e} {first} {last} {x} m =
     let before = drop first.at first.marks.items in
     let after = drop first.at last.marks.items in
     record {
       marks = m.marks;
       rounds = m.rounds;
-      within = omega (arith, m.within);
+      within = let few = m.within in omega (arith, few);
       none = m.none;
-      step = subst (Steps (either a nothing) c e before after) (or_false p) (step_either a nothing c
-          e before after p false m.step (step_nothing c e (drop (size a) before) (drop (size a)
-          after)));
-      ends = subst (Ends (either a nothing) false after) (or_false f) (ends_either a nothing false
-          after f false m.ends (ends_nothing false (drop (size a) after)));
-      ends_too = subst (Ends (either a nothing) true after) (or_false t) (ends_either a nothing true
-          after t false m.ends_too (ends_nothing true (drop (size a) after)));
+      step = subst (Steps (either a nothing) c e before after) (or_false x.before) (step_either m.step
+          step_nothing);
+      ends = subst (Ends (either a nothing) false after) (or_false x.after) (ends_either m.ends
+          ends_nothing);
+      ends_too = subst (Ends (either a nothing) true after) (or_false x.after_entered) (ends_either
+          m.ends_too ends_nothing);
       so = (m.so, tt);
+      counted = m.counted;
+      kept = m.kept;
     }
 
-pub start_only : (t u : Tree) (ts : List Tree) (end : ℕ) (walk : Walk) → ts ≡ t ∷ [] → t ≡ u →
+pub start_only : {t u : Tree} {ts : List Tree} {end : ℕ} {walk : Walk} → ts ≡ t ∷ [] → t ≡ u →
     IsAtStart (unrolled (branches ts)) end walk → IsAtStart (unrolled u) end walk
 unfolding unrolled
-start_only t u ts end walk one is start =
+start_only {t} {end = end} {walk} one is start =
     let whole : IsAtStart (either (unrolled t) nothing) end walk = rw one at start in
-    subst (λ t. IsAtStart (unrolled t) end walk) is (start_branch (unrolled t) end walk whole)
+    subst (λ t. IsAtStart (unrolled t) end walk) is (start_branch whole)
 
-pub all_only : (t u : Tree) (ts : List Tree) (c : ℕ) (e : Bool) (first last : Walk) (p f x : Bool) →
-    ts ≡ t ∷ [] → t ≡ u → MovesAll (unrolled u) c e first last p f x →
-    MovesAll (unrolled (branches ts)) c e first last p f x
+pub all_only : {t u : Tree} {ts : List Tree} {c : ℕ} {e : Bool} {first last : Walk} {x : Reach} →
+    ts ≡ t ∷ [] → t ≡ u → MovesAll (unrolled u) c e first last x →
+    MovesAll (unrolled (branches ts)) c e first last x
 unfolding unrolled
-all_only t u ts c e first last p f x one is m =
-    let whole : MovesAll (either (unrolled t) nothing) c e first last p f x = rw is (all_branch
-    (unrolled u) c e first last p f x m) in
+all_only {t} {c = c} {e} {first} {last} {x} one is m =
+    let whole : MovesAll (either (unrolled t) nothing) c e first last x = rw is (all_branch m) in
     rw one whole

@@ -2,6 +2,7 @@
 -- rounds of each repeat as it comes to them.
 use Rattle.std.specs.Prelude.{◌≡◌, ◌↔◌, ℕ, ◌+◌, ◌≤◌, ◌<◌, min, Bool, IsTrue, true, false, ◌||◌, ◌&&◌}
 use Rattle.std.specs.Prelude.{not, nat_le, ⊤, List, [], drop, length, get_or}
+use Rattle.jp_match.specs.declared.walk.Reach.{Reach}
 use Rattle.jp_match.specs.declared.walk.Walk.{Walk}
 use Rattle.jp_match.specs.Private.Plain.{Plain, class, nothing, either, empty, sequence, plus}
 use Rattle.jp_match.specs.Private.Marks.{size, Rest, Ends, Steps}
@@ -48,24 +49,58 @@ pub record IsSameOutside (first end : ℕ) (before after : List Bool) : Type 0 w
   pub below : (k : ℕ) → k < first → get_or after k false ≡ get_or before k false
   pub above : (k : ℕ) → end ≤ k → get_or after k false ≡ get_or before k false
 
--- the walk has gone over a part and moved its marks over the character c; told is whether its end was
--- reached before the character, and whether it is reached after it, by one entry and by another
-pub record Moves (a : Plain) (c : ℕ) (entered enters enters_too : Bool) (before after : Walk)
-    (was is is_too : Bool) : Type 0 where
-  pub at : after.at ≡ before.at + size a
-  pub round : after.round ≡ before.round + rounds_of a
-  pub marks : IsSameOutside before.at after.at before.marks.items after.marks.items
-  pub rounds : IsSameOutside before.round after.round before.rounds.items after.rounds.items
-  pub step : Steps a c entered (drop before.at before.marks.items)
-      (drop before.at after.marks.items) was
-  pub ends : Ends a enters (drop before.at after.marks.items) is
-  pub ends_too : Ends a enters_too (drop before.at after.marks.items) is_too
-  pub so : Rounds a (drop before.at after.marks.items) (drop before.round after.rounds.items)
+-- the end of a part is reached in no way
+abbrev pub nowhere : Reach
+nowhere = record { before = false; after = false; after_entered = false }
+
+-- the start of a part, which is entered before the character or not
+abbrev pub at_start : Bool → Reach
+at_start entered = record { before = entered; after = false; after_entered = true }
+
+-- by one part or by another
+abbrev pub by_either : Reach → Reach → Reach
+by_either r s = record {
+  before = r.before || s.before;
+  after = r.after || s.after;
+  after_entered = r.after_entered || s.after_entered;
+}
+
+-- the same where a condition holds, and else nowhere
+abbrev pub only_if : Bool → Reach → Reach
+only_if b r = record {
+  before = b && r.before;
+  after = b && r.after;
+  after_entered = b && r.after_entered;
+}
 
 -- whether the end of a part is reached, from the answers for one that is not entered and for one
 -- that is
 abbrev pub reached : Bool → Bool → Bool → Bool
 reached entered by_mark if_entered = by_mark || (entered && if_entered)
+
+-- by a part after another, which was walked as it was entered
+abbrev pub by_next : Reach → Reach → Reach
+by_next r next = record {
+  before = next.before;
+  after = reached r.after next.after next.after_entered;
+  after_entered = reached r.after_entered next.after next.after_entered;
+}
+
+-- the walk has gone over a part and moved its marks over the character c, by one class test for each
+-- position at most; told is how the part's end is reached where its start is reached so
+pub record Moves (a : Plain) (c : ℕ) (start : Reach) (before after : Walk) (end : Reach) :
+    Type 0 where
+  pub at : after.at ≡ before.at + size a
+  pub round : after.round ≡ before.round + rounds_of a
+  pub marks : IsSameOutside before.at after.at before.marks.items after.marks.items
+  pub rounds : IsSameOutside before.round after.round before.rounds.items after.rounds.items
+  pub step : Steps a c start.before (drop before.at before.marks.items)
+      (drop before.at after.marks.items) end.before
+  pub ends : Ends a start.after (drop before.at after.marks.items) end.after
+  pub ends_too : Ends a start.after_entered (drop before.at after.marks.items) end.after_entered
+  pub so : Rounds a (drop before.at after.marks.items) (drop before.round after.rounds.items)
+  pub counted : before.at + after.tests ≤ after.at + before.tests
+  pub kept : before.tests ≤ after.tests
 
 -- the same as tests, for what is kept from one character to the next: a pattern has the empty word
 abbrev pub takes_none : Plain → Bool
@@ -124,15 +159,17 @@ pub record IsAtStart (a : Plain) (end : ℕ) (walk : Walk) : Type 0 where
   pub ended : (k : ℕ) → end ≤ k → IsTrue (get_or walk.marks.items k false) → ⊥
 
 -- the walk has moved the marks of a whole pattern over the character c, and there is none from its
--- end on; told are the ends as for a part
-pub record MovesAll (a : Plain) (c : ℕ) (entered : Bool) (before after : Walk) (was is is_too :
-    Bool) : Type 0 where
+-- end on; told is how the end is reached, as for a part
+pub record MovesAll (a : Plain) (c : ℕ) (entered : Bool) (before after : Walk) (end : Reach) :
+    Type 0 where
   pub marks : length after.marks.items ≡ length before.marks.items
   pub rounds : length after.rounds.items ≡ length before.rounds.items
   pub within : after.at ≤ size a
   pub none : (k : ℕ) → after.at ≤ k → IsTrue (get_or after.marks.items k false) → ⊥
   pub step : Steps a c entered (drop before.at before.marks.items)
-      (drop before.at after.marks.items) was
-  pub ends : Ends a false (drop before.at after.marks.items) is
-  pub ends_too : Ends a true (drop before.at after.marks.items) is_too
+      (drop before.at after.marks.items) end.before
+  pub ends : Ends a false (drop before.at after.marks.items) end.after
+  pub ends_too : Ends a true (drop before.at after.marks.items) end.after_entered
   pub so : Rounds a (drop before.at after.marks.items) (drop before.round after.rounds.items)
+  pub counted : after.tests ≤ after.at + before.tests
+  pub kept : before.tests ≤ after.tests

@@ -1,4 +1,4 @@
-use Rattle.std.proofs.Common.{◌≡◌, ◌+◌, ◌*◌, ◌≤◌, ◌<◌, Bool, true, false, ◌||◌, List, length, drop, take, refl, sym, ap}
+use Rattle.std.proofs.Common.{◌≡◌, ◌+◌, ◌*◌, ◌≤◌, ◌<◌, Bool, false, ◌||◌, List, length, drop, take, refl, sym, ap}
 use Rattle.std.proofs.Common.{◌-◌, ◌++◌}
 use Rattle.std.proofs.Common.{◌∙◌, subst, arith, rules}
 use Rattle.std.proofs.lemmas.Bool.{leb-true, le-leb}
@@ -11,12 +11,14 @@ use Rattle.jp_iregexp.proofs.Trees.{tree_class, tree_either, tree_sequence, tree
 use Rattle.jp_match.specs.declared.walk.Walk.{Walk}
 use Rattle.jp_match.specs.Private.Plain.{class, plus, unrolled, counted}
 use Rattle.jp_match.specs.Private.Marks.{size}
-use Rattle.jp_match.specs.Private.Walks.{own_rounds, IsBefore, Moves}
+use Rattle.jp_match.specs.Private.Walks.{own_rounds, IsBefore}
+use Rattle.jp_match.proofs.Bools.{is_false}
 use Rattle.jp_match.proofs.Patterns.Variants.{either_is, sequence_is, repeat_is}
 use Rattle.jp_match.proofs.Patterns.Items.{drop_item, drop_all}
 use Rattle.jp_match.proofs.Steps.Copies.{moves_copies, put_length}
-use Rattle.jp_match.proofs.Steps.Idle.{moves_idle_part, moves_unmarked, unmarked, unmarked_slice}
+use Rattle.jp_match.proofs.Steps.Idle.{moves_idle_part, moves_idle_next, moves_unmarked, unmarked, unmarked_slice}
 use Rattle.jp_match.proofs.Steps.Idle.{takes_empty}
+use Rattle.jp_match.proofs.Steps.Walking.{moves_entered}
 use Rattle.jp_match.proofs.Steps.Walking.{before_branch, before_piece, walked_next_branch}
 use Rattle.jp_match.proofs.Steps.Walking.{walked_next_piece, walked_branches, walked_pieces}
 use Rattle.jp_match.proofs.Steps.Repeating.{walked_begin}
@@ -56,100 +58,102 @@ step-step_class-requires t c =
     subst (λ t. IsBefore (unrolled t) c.args.walk.now) (ap tree c.in-Class.is ∙ tree_class
     c.in-Class.class) c.requires
 
-pub step-returns-in-Either-clause-moves : goal.step-returns-in-Either-clause-moves
-step-returns-in-Either-clause-moves t c = rw (
+pub step-returns-in-Either : goal.step-returns-in-Either
+step-returns-in-Either t c = rw (
   c.in-Either.is,
   tree_either,
   ← c.deref.ensures.value,
-) c.step_either.ensures.moves
+) c.step_either.ensures
 
-pub step-returns-in-Sequence-clause-moves : goal.step-returns-in-Sequence-clause-moves
-step-returns-in-Sequence-clause-moves t c = rw (
+pub step-returns-in-Sequence : goal.step-returns-in-Sequence
+step-returns-in-Sequence t c = rw (
   c.in-Sequence.is,
   tree_sequence,
   ← c.deref-in-Sequence.ensures.value,
-) c.step_sequence.ensures.moves
+) c.step_sequence.ensures
 
-pub step-returns-in-Repeat-clause-moves : goal.step-returns-in-Repeat-clause-moves
-step-returns-in-Repeat-clause-moves t c = rw (
+pub step-returns-in-Repeat : goal.step-returns-in-Repeat
+step-returns-in-Repeat t c = rw (
   c.in-Repeat.is,
   tree_repeat,
   ← c.deref-in-Repeat.ensures,
-) c.step_repeat.ensures.moves
+) c.step_repeat.ensures
 
-pub step-returns-in-Class-clause-moves : goal.step-returns-in-Class-clause-moves
+pub step-returns-in-Class : goal.step-returns-in-Class
 unfolding unrolled
-step-returns-in-Class-clause-moves t c = rw (c.in-Class.is, tree_class) c.step_class.ensures.moves
+step-returns-in-Class t c = rw (c.in-Class.is, tree_class) c.step_class.ensures
 
-pub step-returns-clause-moves : goal.step-returns-clause-moves
-step-returns-clause-moves t c =
-    rw c.if-not-entered.true (moves_idle_part (unrolled (tree c.args.pattern.now))
-    c.args.c _ _ _ _ c.in-Some.ensures (record {
+pub step-returns : goal.step-returns
+step-returns t c =
+    rw c.if-not-entered.true (moves_idle_part c.in-Some.ensures (record {
       at = refl;
       round = omega arith;
       marks = refl;
       rounds = refl;
+      tests = refl;
     }) c.requires.so)
+
+pub step_next-returns-then-is_idle_class : goal.step_next-returns-then-is_idle_class
+step_next-returns-then-is_idle_class t c =
+    rw c.none.ensures (moves_idle_next (is_false _ c.if-not-through.true) (c.is_idle_class.ensures
+    c.if-is_idle_class.true) (record {
+      at = refl;
+      round = omega arith;
+      marks = refl;
+      rounds = refl;
+      tests = refl;
+    }) c.requires.so)
+
+pub step_next-returns : goal.step_next-returns
+step_next-returns t c = rw c.then.ensures (moves_entered {e = c.args.through} c.step.ensures)
 
 pub step_either-step-requires : goal.step_either-step-requires
 step_either-step-requires t c =
     let item = drop_item c.args.parts.now c.loop-branch.branch-index c.branch-item.result
     c.loop-branch-test.true c.branch-item.is in
-    let before = rw item at c.loop-branch.invariant.walked.before in
+    let before = rw item at c.loop-branch.invariant.before in
     let few = at_most the_size c.args.parts.now c.loop-branch.branch-index c.branch-item.result
     c.loop-branch-test.true in (
       omega (arith, c.decreases, few, ap the_size c.branch-item.is),
-      before_branch _ _ _ before,
+      before_branch _ _ before,
     )
 
 pub step_either-loop-branch-preserved : goal.step_either-loop-branch-preserved
 step_either-loop-branch-preserved t c =
     let item = drop_item c.args.parts.now c.loop-branch.branch-index c.branch-item.result
     c.loop-branch-test.true c.branch-item.is in
-    let so_far = rw item at c.loop-branch.invariant.walked in
-    let or = c.or-ended.ensures in
-    record {
-      walked = rw (or.before, or.after, or.after_entered) (walked_next_branch _ _ _ _ _ _ _ _ _ _ _
-          _ _ _ _ so_far c.step.ensures.moves);
-      counted = omega (arith, c.loop-branch.invariant.counted, c.step.ensures.counted);
-      kept = omega (arith, c.loop-branch.invariant.kept, c.step.ensures.kept);
-    }
+    let so_far = rw item at c.loop-branch.invariant in
+    rw c.or-ended.ensures (walked_next_branch _ _ so_far c.step.ensures)
 
-pub step_either-returns-clause-moves : goal.step_either-returns-clause-moves
-step_either-returns-clause-moves t c =
+pub step_either-returns : goal.step_either-returns
+step_either-returns t c =
     let end : c.loop-branch.branch-index ≡ length c.args.parts.now = omega arith in
     let none = ap (λ n. drop n c.args.parts.now) end ∙ drop_all c.args.parts.now in
-    walked_branches _ _ _ _ _ _ _ _ _ _ _ (rw none at c.loop-branch.invariant.walked)
+    walked_branches (rw none at c.loop-branch.invariant)
 
-pub step_sequence-step-requires : goal.step_sequence-step-requires
-step_sequence-step-requires t c =
+pub step_sequence-step_next-through-requires : goal.step_sequence-step_next-through-requires
+step_sequence-step_next-through-requires t c =
     let item = drop_item c.args.parts.now c.loop-piece.piece-index c.piece-item.result
     c.loop-piece-test.true c.piece-item.is in
-    let before = rw item at c.loop-piece.invariant.walked.before in
+    let before = rw item at c.loop-piece.invariant.before in
     let few = at_most the_size c.args.parts.now c.loop-piece.piece-index c.piece-item.result
     c.loop-piece-test.true in (
       omega (arith, c.decreases, few, ap the_size c.piece-item.is),
-      before_piece _ _ _ before,
+      before_piece _ _ before,
     )
 
 pub step_sequence-loop-piece-preserved : goal.step_sequence-loop-piece-preserved
 step_sequence-loop-piece-preserved t c =
     let item = drop_item c.args.parts.now c.loop-piece.piece-index c.piece-item.result
     c.loop-piece-test.true c.piece-item.is in
-    let so_far = rw item at c.loop-piece.invariant.walked in
-    let then = c.then-through.ensures in
-    record {
-      walked = rw (then.before, then.after, then.after_entered) (walked_next_piece _ _ _ _ _ _ _ _ _
-          _ _ _ _ _ so_far c.step.ensures.moves);
-      counted = omega (arith, c.loop-piece.invariant.counted, c.step.ensures.counted);
-      kept = omega (arith, c.loop-piece.invariant.kept, c.step.ensures.kept);
-    }
+    let so_far = rw item at c.loop-piece.invariant in
+    walked_next_piece _ _ so_far c.step_next-through.ensures
 
-pub step_sequence-returns-clause-moves : goal.step_sequence-returns-clause-moves
-step_sequence-returns-clause-moves t c =
+pub step_sequence-returns : goal.step_sequence-returns
+step_sequence-returns t c =
     let end : c.loop-piece.piece-index ≡ length c.args.parts.now = omega arith in
     let none = ap (λ n. drop n c.args.parts.now) end ∙ drop_all c.args.parts.now in
-    walked_pieces _ _ _ _ _ _ _ _ (rw none at c.loop-piece.invariant.walked)
+    walked_pieces (rw none at c.loop-piece.invariant)
 
 pub step_repeat-step_between-requires : goal.step_repeat-step_between-requires
 unfolding unrolled counted
@@ -162,7 +166,7 @@ pub step_repeat-step_plus-requires : goal.step_repeat-step_plus-requires
 unfolding unrolled counted
 step_repeat-step_plus-requires t c = (
   search rules,
-  before_star _ _ (rw (c.in-None.is, c.if-least-eq0.true) at c.requires),
+  before_star (rw (c.in-None.is, c.if-least-eq0.true) at c.requires),
 )
 
 pub step_repeat-step_at_least-requires : goal.step_repeat-step_at_least-requires
@@ -172,115 +176,68 @@ step_repeat-step_at_least-requires t c = (
   (rw c.in-None-2.is at c.requires, omega arith),
 )
 
-pub step_repeat-returns-in-Some-clause-moves : goal.step_repeat-returns-in-Some-clause-moves
+pub step_repeat-returns-in-Some : goal.step_repeat-returns-in-Some
 unfolding unrolled counted
-step_repeat-returns-in-Some-clause-moves t c = rw c.in-Some.is c.step_between.ensures.moves
+step_repeat-returns-in-Some t c = rw c.in-Some.is c.step_between.ensures
 
-pub step_repeat-returns-in-None-clause-moves : goal.step_repeat-returns-in-None-clause-moves
+pub step_repeat-returns-in-None : goal.step_repeat-returns-in-None
 unfolding unrolled counted
-step_repeat-returns-in-None-clause-moves t c =
-    let or = c.or.ensures in
-    let start = c.at_start.ensures in
-    rw (
-      c.in-None.is,
-      c.if-least-eq0.true,
-      or.before,
-      or.after,
-      or.after_entered,
-      start.before,
-      start.after,
-      start.after_entered,
-    ) (moves_star _ _ _ _ _ _ _ _ _ _ c.step_plus.ensures.moves)
+step_repeat-returns-in-None t c = rw (
+  c.in-None.is,
+  c.if-least-eq0.true,
+  c.or.ensures,
+  c.at_start.ensures,
+) (moves_star c.step_plus.ensures)
 
-pub step_repeat-returns-in-None-2-clause-moves : goal.step_repeat-returns-in-None-2-clause-moves
+pub step_repeat-returns-in-None-2 : goal.step_repeat-returns-in-None-2
 unfolding unrolled counted
-step_repeat-returns-in-None-2-clause-moves t c = rw c.in-None-2.is c.step_at_least.ensures.moves
+step_repeat-returns-in-None-2 t c = rw c.in-None-2.is c.step_at_least.ensures
 
 pub step_copies-step_copy-requires : goal.step_copies-step_copy-requires
 step_copies-step_copy-requires t c = (
   search rules,
   (
-    before_copy _ c.args.least c.args.most c.loop-copies.copies _ c.loop-copies-test.true
+    before_copy c.args.least c.args.most c.loop-copies.copies c.loop-copies-test.true
         c.loop-copies.invariant.walked.before,
     c.loop-copies.invariant.sized,
   ),
 )
 
 pub step_copies-loop-copies-init : goal.step_copies-loop-copies-init
-step_copies-loop-copies-init t c =
-    let start = c.at_start-through.ensures in
-    let none = c.none-ended.ensures in
-    record {
-      walked = rw (
-        start.before,
-        start.after,
-        start.after_entered,
-        none.before,
-        none.after,
-        none.after_entered,
-      ) (walked_begin _ _ _ c.args.least c.args.most _ c.requires);
-      sized = record {
-        positions_so = λ some. absurd (omega (arith, some, c.unknown-size.ensures));
-        rounds_so = λ some. absurd (omega (arith, some, c.unknown-size.ensures));
-      };
-      counted = omega arith;
-      kept = omega arith;
-    }
+step_copies-loop-copies-init t c = record {
+  walked = rw (c.at_start-through.ensures, c.none-ended.ensures) (walked_begin _ c.args.least
+      c.args.most c.requires);
+  sized = record {
+    positions_so = λ some. absurd (omega (arith, some, c.unknown-size.ensures));
+    rounds_so = λ some. absurd (omega (arith, some, c.unknown-size.ensures));
+  };
+}
 
 pub step_copies-loop-copies-preserved : goal.step_copies-loop-copies-preserved
-step_copies-loop-copies-preserved t c =
-    let then = c.then-through.ensures in
-    let or = c.or-ended.ensures in
-    let if = c.only_if.ensures in
-    record {
-      walked = rw (
-        then.before,
-        then.after,
-        then.after_entered,
-        or.before,
-        or.after,
-        or.after_entered,
-        if.before,
-        if.after,
-        if.after_entered,
-      ) (walked_copy _ _ _ _ _ _ _ _ c.args.least c.args.most c.loop-copies.copies _ _ _ _ _ _ _ _ _
-          c.loop-copies-test.true (leb-true _ _, le-leb _ _) c.loop-copies.invariant.walked
-          c.step_copy.ensures.moves);
-      sized = record {
-        positions_so = λ some. omega (arith, c.step_copy.ensures.moves.at);
-        rounds_so = λ some. omega (arith, c.step_copy.ensures.moves.round);
-      };
-      counted = omega (arith, c.loop-copies.invariant.counted, c.step_copy.ensures.counted);
-      kept = omega (arith, c.loop-copies.invariant.kept, c.step_copy.ensures.kept);
-    }
+step_copies-loop-copies-preserved t c = record {
+  walked = rw (c.then-through.ensures, c.or-ended.ensures, c.only_if.ensures) (walked_copy _
+      c.args.least c.args.most c.loop-copies.copies c.loop-copies-test.true (
+        leb-true _ _,
+        le-leb _
+            _,
+      ) c.loop-copies.invariant.walked c.step_copy.ensures);
+  sized = record {
+    positions_so = λ some. omega (arith, c.step_copy.ensures.at);
+    rounds_so = λ some. omega (arith, c.step_copy.ensures.round);
+  };
+}
 
-pub step_copies-returns-then-walk-at-clause-moves :
-    goal.step_copies-returns-then-walk-at-clause-moves
-step_copies-returns-then-walk-at-clause-moves t c =
-    let then = c.then-through.ensures in
-    let or = c.or-ended.ensures in
-    let if = c.only_if.ensures in
-    let last = c.or.ensures in
-    let within = c.only_if-then-walk-at.ensures in
+pub step_copies-returns-then-walk-at : goal.step_copies-returns-then-walk-at
+step_copies-returns-then-walk-at t c =
     rw (
-      last.before,
-      last.after,
-      last.after_entered,
-      within.before,
-      within.after,
-      within.after_entered,
-      then.before,
-      then.after,
-      then.after_entered,
-      or.before,
-      or.after,
-      or.after_entered,
-      if.before,
-      if.after,
-      if.after_entered,
-    ) (walked_still _ _ _ _ _ _ _ _ _ c.args.least c.args.most c.loop-copies.copies _ _ _ _ _ _ _ _ _
-    c.loop-copies-test.true (leb-true _ _, le-leb _ _) (leb-true _ _, le-leb _ _) c.if-walk-at.true
-    c.loop-copies.invariant.walked c.step_copy.ensures.moves)
+      c.or.ensures,
+      c.only_if-then-walk-at.ensures,
+      c.then-through.ensures,
+      c.or-ended.ensures,
+      c.only_if.ensures,
+    ) (walked_still _ _ c.args.least c.args.most c.loop-copies.copies c.loop-copies-test.true
+    (leb-true _ _, le-leb _ _) (leb-true _ _, le-leb _ _) c.if-walk-at.true
+    c.loop-copies.invariant.walked c.step_copy.ensures)
 
 pub step_copy-slice_bounds-is_any-end : goal.step_copy-slice_bounds-is_any-end
 step_copy-slice_bounds-is_any-end t c =
@@ -289,8 +246,8 @@ step_copy-slice_bounds-is_any-end t c =
     omega (arith, c.requires.before.marks, size) in
     search rules
 
-pub step_copy-returns-clause-moves : goal.step_copy-returns-clause-moves
-step_copy-returns-clause-moves t c =
+pub step_copy-returns : goal.step_copy-returns
+step_copy-returns t c =
     let a = unrolled (tree c.args.inner.now) in
     let now = c.args.walk.now in
     let known : 1 ≤ c.args.size.positions = omega (arith, c.if-size-eq0.false) in
@@ -298,18 +255,20 @@ step_copy-returns-clause-moves t c =
     let none = unmarked (size a) now.at now.marks.items (λ k below. unmarked_slice now.at
     c.args.size.positions now.marks.items _ c.if-is_any.false (rw c.deref.ensures.value at
     c.is_any.ensures) k (omega (arith, below, sized))) in
-    rw c.if-entered.false (subst (Moves a c.args.c false false true now _ false false) (takes_empty
-    (tree c.args.inner.now) ∙ sym c.has_empty_word.ensures) (moves_unmarked a c.args.c
-    c.args.size.positions c.args.size.rounds now _ sized (c.requires.sized.rounds_so known) none
-    (record { at = refl; round = refl; marks = refl; rounds = refl }) c.requires.before.so))
+    rw c.if-entered.false (moves_unmarked sized (c.requires.sized.rounds_so known) (takes_empty
+    (tree c.args.inner.now) ∙ sym c.has_empty_word.ensures) none (record {
+      at = refl;
+      round = refl;
+      marks = refl;
+      rounds = refl;
+      tests = refl;
+    }) c.requires.before.so)
 
-pub step_copies-returns-clause-moves : goal.step_copies-returns-clause-moves
-step_copies-returns-clause-moves t c =
-    let or = c.or-2.ensures in
-    let if = c.only_if-2.ensures in
-    rw (or.before, or.after, or.after_entered, if.before, if.after, if.after_entered)
-    (walked_copies _ _ _ _ _ _ _ _ c.args.least c.args.most c.loop-copies.copies _ _ _ _ _ (omega
-    arith) (omega arith) (leb-true _ _, le-leb _ _) c.loop-copies.invariant.walked)
+pub step_copies-returns : goal.step_copies-returns
+step_copies-returns t c =
+    rw (c.or-2.ensures, c.only_if-2.ensures) (walked_copies _ _ c.args.least c.args.most
+    c.loop-copies.copies (omega arith) (omega arith) (leb-true _ _, le-leb _ _)
+    c.loop-copies.invariant.walked)
 
 pub step_between-slice_bounds-step-end : goal.step_between-slice_bounds-step-end
 step_between-slice_bounds-step-end t c =
@@ -322,8 +281,8 @@ step_between-slice_bounds-step-end t c =
     ) in
     search rules
 
-pub step_between-returns-clause-moves : goal.step_between-returns-clause-moves
-step_between-returns-clause-moves t c =
+pub step_between-returns : goal.step_between-returns
+step_between-returns t c =
     let at = c.args.walk.now.at in
     let marks = c.args.walk.now.marks in
     let m = at + c.args.most - at in
@@ -336,59 +295,50 @@ step_between-returns-clause-moves t c =
     stepped.turned.same_length in
     let here = with_items_is marks (take at marks.items ++ (c.step-reach.new.marks ++ drop m (drop
     at marks.items))) (long ∙ sym (ap length value) ∙ c.deref_mut.ensures.len) in
-    moves_copies _ _ _ _ _ c.args.least c.args.most _ _ c.args.walk.now _ _ _ _ _
-    c.in-Some.ensures c.holds-holds.ensures.answer c.requires stepped (record {
+    moves_copies c.args.least c.args.most (omega arith) c.in-Some.ensures
+    c.holds-holds.ensures.answer c.requires stepped (record {
       at = refl;
       round = refl;
       rounds = refl;
+      counted = omega (arith, c.holds-holds.ensures.counted);
+      kept = c.holds-holds.ensures.kept;
       marks_are = rw value here;
     })
 
 pub step_at_least-step-requires : goal.step_at_least-step-requires
 step_at_least-step-requires t c = (
   search rules,
-  before_goes_on _ c.args.least c.loop.counter _ c.loop-test.true c.loop.invariant.walked.before,
+  before_goes_on c.args.least c.loop.counter c.loop-test.true c.loop.invariant.before,
 )
 
 pub step_at_least-step_plus-requires : goal.step_at_least-step_plus-requires
 step_at_least-step_plus-requires t c = (
   search rules,
-  before_still _ _ _ _ _ _ _ c.args.least c.loop.counter _ _ _ _ _ _ c.loop-test.true
-      c.if-walk-at.true c.loop.invariant.walked c.step.ensures.moves,
+  before_still c.args.least c.loop.counter c.loop-test.true c.if-walk-at.true c.loop.invariant
+      c.step.ensures,
 )
 
-pub step_at_least-returns-then-walk-at-clause-moves :
-    goal.step_at_least-returns-then-walk-at-clause-moves
-step_at_least-returns-then-walk-at-clause-moves t c =
-    let then = c.then-through.ensures in
-    let last = c.then.ensures in
-    rw (last.before, last.after, last.after_entered, then.after, then.after_entered)
-    (walked_still_plus _ _ _ _ _ _ _ c.args.least c.loop.counter _ _ _ _ _ _ _ _ _ _
-    c.loop-test.true c.if-walk-at.true c.loop.invariant.walked c.step.ensures.moves (rw then.before
-    at c.step_plus.ensures.moves))
+pub step_at_least-returns-then-walk-at : goal.step_at_least-returns-then-walk-at
+step_at_least-returns-then-walk-at t c =
+    rw (c.then.ensures, c.then-through.ensures) (walked_still_plus c.args.least c.loop.counter
+    c.loop-test.true c.if-walk-at.true c.loop.invariant c.step.ensures (rw c.then-through.ensures at
+    c.step_plus.ensures))
 
 pub step_at_least-loop-preserved : goal.step_at_least-loop-preserved
 step_at_least-loop-preserved t c =
-    let then = c.then-through.ensures in
-    record {
-      walked = rw (then.before, then.after, then.after_entered) (walked_goes_on _ _ _ _ _ _ _
-          c.args.least c.loop.counter _ _ _ _ _ _ _ _ _ c.loop-test.true c.loop.invariant.walked
-          c.step.ensures.moves);
-      counted = omega (arith, c.loop.invariant.counted, c.step.ensures.counted);
-      kept = omega (arith, c.loop.invariant.kept, c.step.ensures.kept);
-    }
+    rw c.then-through.ensures (walked_goes_on c.args.least c.loop.counter c.loop-test.true
+    c.loop.invariant c.step.ensures)
 
 pub step_at_least-step_plus-requires-2 : goal.step_at_least-step_plus-requires-2
 step_at_least-step_plus-requires-2 t c = (
   search rules,
-  before_plus _ c.args.least c.loop.counter _ c.loop-test.false c.loop.invariant.walked.before,
+  before_plus c.args.least c.loop.counter c.loop-test.false c.loop.invariant.before,
 )
 
-pub step_at_least-returns-clause-moves : goal.step_at_least-returns-clause-moves
-step_at_least-returns-clause-moves t c =
-    let last = c.then-2.ensures in
-    rw (last.before, last.after, last.after_entered) (walked_plus _ _ _ _ _ _ _ c.args.least
-    c.loop.counter _ _ _ _ _ _ c.loop-test.false c.loop.invariant.walked c.step_plus-2.ensures.moves)
+pub step_at_least-returns : goal.step_at_least-returns
+step_at_least-returns t c =
+    rw c.then-2.ensures (walked_plus c.args.least c.loop.counter c.loop-test.false c.loop.invariant
+    c.step_plus-2.ensures)
 
 pub step_plus-step_rounds-requires : goal.step_plus-step_rounds-requires
 step_plus-step_rounds-requires t c = (
@@ -426,44 +376,45 @@ pub step_plus-step_class-requires : goal.step_plus-step_class-requires
 step_plus-step_class-requires t c = (before_class _ _ _ (ap tree c.in-Class.is ∙ tree_class
     c.in-Class.class) c.requires).before
 
-pub step_plus-returns-in-Class-clause-moves : goal.step_plus-returns-in-Class-clause-moves
+pub step_plus-returns-in-Class : goal.step_plus-returns-in-Class
 unfolding unrolled
-step_plus-returns-in-Class-clause-moves t c =
+step_plus-returns-in-Class t c =
     let before = before_class _ _ _ (ap tree c.in-Class.is ∙ tree_class c.in-Class.class) c.requires
     in
     let mark = c.index.ensures ∙ get_or_default _ _ _ false before.within in
-    rw (c.in-Class.is, tree_class) (moves_class_plus _ _ _ _ _ _ _ _ _ _ (ap (λ b. c.args.entered
-    || b) mark) c.step_class.ensures.moves)
+    rw (c.in-Class.is, tree_class) (moves_class_plus (ap (λ b. c.args.entered || b) mark)
+    c.step_class.ensures)
 
 pub step_rounds-step-reach-requires : goal.step_rounds-step-reach-requires
 step_rounds-step-reach-requires t c = (
   search rules,
-  before_inner _ c.args.walk.now _ c.requires.own c.requires.before (record {
+  before_inner c.requires.own c.requires.before (record {
     at = refl;
     round = λ some. let fit = c.requires.before.rounds some in
         omega (arith, fit, c.requires.own, some, c.saturating_add-walk.ensures);
     marks = refl;
     rounds = refl;
+    tests = refl;
   }),
 )
 
-pub step_rounds-returns-then-walk-at-clause-moves :
-    goal.step_rounds-returns-then-walk-at-clause-moves
-step_rounds-returns-then-walk-at-clause-moves t c =
+pub step_rounds-returns-then-walk-at : goal.step_rounds-returns-then-walk-at
+step_rounds-returns-then-walk-at t c =
     let a = unrolled (tree c.args.inner.now) in
-    let none : size a ≡ 0 = omega (arith, c.step-reach.ensures.moves.at, c.if-walk-at.true) in
-    moves_idle a _ _ _ _ c.args.walk.now _ _ _ _ _ _ none (record {
+    let none : size a ≡ 0 = omega (arith, c.step-reach.ensures.at, c.if-walk-at.true) in
+    moves_idle {a = a} _ none (record {
       at = refl;
       round = λ some. absurd (omega (arith, some, none));
       marks = refl;
       rounds = refl;
-    }) (ap (λ b. c.args.entered || b) c.round_has_ended.ensures) c.step-reach.ensures.moves refl
-    refl refl refl
+      tests = refl;
+    }) (ap (λ b. c.args.entered || b) c.round_has_ended.ensures) c.step-reach.ensures refl refl refl
+    refl refl
 
-pub step_rounds-returns-clause-moves : goal.step_rounds-returns-clause-moves
-step_rounds-returns-clause-moves t c =
+pub step_rounds-returns : goal.step_rounds-returns
+step_rounds-returns t c =
     let a = unrolled (tree c.args.inner.now) in
-    let some : 1 ≤ size a = omega (arith, c.step-reach.ensures.moves.at, c.if-walk-at.false) in
+    let some : 1 ≤ size a = omega (arith, c.step-reach.ensures.at, c.if-walk-at.false) in
     let one : own_rounds a ≡ 1 = omega (arith, c.requires.own, some) in
     let fit = c.requires.before.rounds some in
     let next : c.saturating_add-walk.result ≡ c.args.walk.now.round + 1 = omega (
@@ -472,14 +423,16 @@ step_rounds-returns-clause-moves t c =
       one,
       c.saturating_add-walk.ensures,
     ) in
-    moves_rounds a _ _ _ c.args.walk.now _ _ _ _ _ _ one some c.requires.before (record {
+    moves_rounds one some c.requires.before (record {
       at = refl;
       round = λ more. next;
       marks = refl;
       rounds = refl;
-    }) (ap (λ b. c.args.entered || b) c.round_has_ended.ensures) c.step-reach.ensures.moves (record {
+      tests = refl;
+    }) (ap (λ b. c.args.entered || b) c.round_has_ended.ensures) c.step-reach.ensures (record {
       at = refl;
       round = refl;
       marks = refl;
       rounds = refl;
+      tests = refl;
     })

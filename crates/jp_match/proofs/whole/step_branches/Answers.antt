@@ -10,11 +10,11 @@ step_pieces-requires c =
     let only = only_item c.args.parts.now c.only-item.result c.in-len1.len_at_least
     c.in-len1.len_below c.only-item.is in
     let is = sequence_is _ _ _ c.in-Sequence.is c.deref.ensures.value in
-    start_only _ _ _ _ _ (ap (map tree) only) is.same c.requires
+    start_only (ap (map tree) only) is.same c.requires
 
-pub returns-in-Sequence-clause-moves : goal.returns-in-Sequence-clause-moves
-returns-in-Sequence-clause-moves c =
+pub returns-in-Sequence : goal.returns-in-Sequence
+returns-in-Sequence c =
     let only = only_item c.args.parts.now c.only-item.result c.in-len1.len_at_least
     c.in-len1.len_below c.only-item.is in
     let is = sequence_is _ _ _ c.in-Sequence.is c.deref.ensures.value in
-    all_only _ _ _ _ _ _ _ _ _ _ (ap (map tree) only) is.same c.step_pieces.ensures.moves
+    all_only (ap (map tree) only) is.same c.step_pieces.ensures

@@ -10,9 +10,9 @@ step_branches-requires c =
     let is = either_is _ _ _ c.in-Either.is c.deref.ensures.value in
     subst (λ t. IsAtStart (unrolled t) c.args.end c.args.walk.now) is.same c.requires
 
-pub returns-in-Either-clause-moves : goal.returns-in-Either-clause-moves
-returns-in-Either-clause-moves c = rw (
+pub returns-in-Either : goal.returns-in-Either
+returns-in-Either c = rw (
   c.in-Either.is,
   tree_either,
   ← c.deref.ensures.value,
-) c.step_branches.ensures.moves
+) c.step_branches.ensures

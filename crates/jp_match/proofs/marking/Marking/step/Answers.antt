@@ -21,7 +21,7 @@ step_whole-reach-requires c =
 
 pub invariant_of-self : goal.invariant_of-self
 invariant_of-self c =
-    let moves = c.step_whole-reach.ensures.moves in
+    let moves = c.step_whole-reach.ensures in
     let any = rw c.deref.ensures.value at c.is_any.ensures.1 in
     record {
       no_mark = λ e k m. not_both c.is_any.result e (any (k, m));
@@ -35,7 +35,7 @@ invariant_of-self c =
 
 pub invariant_of-self-else-self : goal.invariant_of-self-else-self
 invariant_of-self-else-self c =
-    let moves = c.step_whole-reach.ensures.moves in
+    let moves = c.step_whole-reach.ensures in
     let any = rw c.deref.ensures.value at c.is_any.ensures.1 in
     record {
       no_mark = λ e k m. not_both c.is_any.result e (any (k, m));
@@ -50,9 +50,11 @@ invariant_of-self-else-self c =
 pub returns-then-self-clause-counted : goal.returns-then-self-clause-counted
 returns-then-self-clause-counted c =
     let sizes = size_unrolled (tree c.args.self.now.pattern.now) in
-    omega (arith, c.step_whole-reach.ensures.counted, c.step_whole-reach.ensures.moves.within, sizes)
+    let moves = c.step_whole-reach.ensures in
+    omega (arith, moves.counted, moves.within, sizes)
 
 pub returns-else-self-clause-counted : goal.returns-else-self-clause-counted
 returns-else-self-clause-counted c =
     let sizes = size_unrolled (tree c.args.self.now.pattern.now) in
-    omega (arith, c.step_whole-reach.ensures.counted, c.step_whole-reach.ensures.moves.within, sizes)
+    let moves = c.step_whole-reach.ensures in
+    omega (arith, moves.counted, moves.within, sizes)
