@@ -4,11 +4,11 @@ ghost use Rattle.jp_document.specs.Document.{IsDocument};
 ghost use Rattle.jp_flat.specs.Flat.{is_flat, meaning, shown};
 ghost use Rattle.jp_flat.specs.Private.Reading.{ReadsFlatText};
 
+use crate::cursor::Cursor;
 use crate::flat_value::FlatValue;
 use crate::item::{Item, Named};
 use crate::reading::{Pending, value};
 use crate::tables::{MAX_DEPTH, Tables};
-use json::{Reader, Scratch};
 use std::alloc::Global;
 
 /// A document in tables, which are made of its text: `Document` without a tree.
@@ -17,7 +17,6 @@ pub struct Flat<'t> {
     tables: Tables<'t>,
     root: Item,
     pending: Pending,
-    scratch: Scratch,
     ghost sound: { is_flat (shown tables) root ≡ true },
 }
 
@@ -38,7 +37,6 @@ impl<'t> Flat<'t> {
             items: self.tables.items,
             members: self.tables.members,
             pending: self.pending,
-            scratch: self.scratch,
         }
     }
 }
@@ -58,7 +56,6 @@ pub struct Room {
     items: Vec<Item>,
     members: Vec<Named>,
     pending: Pending,
-    scratch: Scratch,
 }
 
 impl Room {
@@ -71,7 +68,6 @@ impl Room {
             items: Vec::new(alloc),
             members: Vec::new(alloc),
             pending: Pending::new(alloc),
-            scratch: Scratch::new(alloc),
         }
     }
 
@@ -85,36 +81,30 @@ impl Room {
             return Err(self);
         };
         let mut pending = self.pending;
-        let mut scratch = self.scratch;
         let mut tables = Tables::of(text, self.spare, self.items, self.members);
         pending.clear();
-        let read = root(&mut tables, &mut pending, &mut scratch);
+        let read = root(&mut tables, &mut pending);
         match read {
             Some(root) => Ok(Flat {
                 tables,
                 root,
                 pending,
-                scratch,
             }),
             None => Err(Room {
                 spare: tables.spare,
                 items: tables.items,
                 members: tables.members,
                 pending,
-                scratch,
             }),
         }
     }
 }
 
 /// Reads the value of a whole text.
-fn root(tables: &mut Tables<'_>, pending: &mut Pending, scratch: &mut Scratch) -> Option<Item>
+fn root(tables: &mut Tables<'_>, pending: &mut Pending) -> Option<Item>
     ensures { IfSome result (ReadsFlatText tables.old.text.now (shown tables.new)) }
 {
-    let mut reader = Reader::new(tables.text, scratch).ok()?;
+    let mut reader = Cursor::new(tables.text.as_bytes());
     let item = value(tables, pending, &mut reader, MAX_DEPTH)?;
-    match reader.next() {
-        Some(_) => None,
-        None => Some(item),
-    }
+    if reader.is_done() { Some(item) } else { None }
 }

@@ -15,12 +15,15 @@
 //! the bytes: `Document::read` has the answer.
 #![tactic(auto)]
 
+mod blanks;
 mod closing;
+mod cursor;
 mod flat;
 mod flat_value;
 mod form;
 mod item;
 mod leaf;
+mod lexing;
 mod moving;
 mod number;
 mod parts;
@@ -28,10 +31,12 @@ mod place;
 mod printing;
 mod reading;
 mod rising;
+mod runs;
 mod sorting;
 mod tables;
 #[cfg(test)]
 mod tests;
+mod token;
 
 pub use flat::{Flat, Room, flat_document};
 pub use flat_value::FlatValue;
