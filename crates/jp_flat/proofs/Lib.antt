@@ -1,10 +1,13 @@
+pub mod Blocks
 pub mod ByName
 pub mod Documents
 pub mod Growth
 pub mod Inside
 pub mod Leaves
+pub mod Lexed
 pub mod Lookups
 pub mod Loops
 pub mod Names
 pub mod Printed
+pub mod Punctuated
 pub mod Putting

@@ -1,7 +1,7 @@
 -- Whatever items and members are to come, they complete those that were read: for the loops of
 -- `items` and `members`.
 use Rattle.std.proofs.Common.{◌≡◌, ◌+◌, ◌-◌, ◌^◌, ◌<◌, ◌≤◌, ◌++◌, ℕ, suc, Bool, true, List, [], ◌∷◌}
-use Rattle.std.proofs.Common.{Some, None, length, drop, take, refl, sym, ap, subst, ◌∙◌, arith}
+use Rattle.std.proofs.Common.{IfSome, Option, Some, None, length, drop, take, refl, sym, ap, subst, ◌∙◌, arith}
 use Rattle.std.proofs.Common.{append_assoc, append-nil, option_map, option_and_then}
 use Rattle.std.specs.Map.{keys_of}
 use Rattle.std.proofs.Math.Seq.{drop-append_seam, take-append_seam}
@@ -226,6 +226,10 @@ pub record MembersSoFar (depth : ℕ) (initial ts : List Token) (before now : Sh
   pub at : base ≡ length old
   pub rise : rises ≡ true → names_rise (keys_of found) ≡ true
   pub grows : Grows before now
+
+pub above_said : (t : Shown) (ms : List Named) (o : Option (List ℕ)) (name : List ℕ) →
+    o ≡ Some name → IfSome o (IsAboveLast t ms) → IsAboveLast t ms name
+above_said t ms o name says above = subst (λ q. IfSome q (IsAboveLast t ms)) says above
 
 pub members_begin : (depth : ℕ) (ts : List Token) (t : Shown) (base : ℕ) (old : List Named) →
     base ≡ length old → MembersSoFar depth ts ts t t base true old old

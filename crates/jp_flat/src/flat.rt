@@ -4,11 +4,11 @@ ghost use Rattle.jp_document.specs.Document.{IsDocument};
 ghost use Rattle.jp_flat.specs.Flat.{is_flat, meaning, shown};
 ghost use Rattle.jp_flat.specs.Private.Reading.{ReadsFlatText};
 
+use crate::cursor::Cursor;
 use crate::flat_value::FlatValue;
 use crate::item::{Item, Named};
 use crate::reading::{Pending, value};
 use crate::tables::{MAX_DEPTH, Tables};
-use json::{Reader, Scratch};
 use std::alloc::Global;
 
 /// A document in tables, which are made of its text: `Document` without a tree.
@@ -17,8 +17,6 @@ pub struct Flat<'t> {
     tables: Tables<'t>,
     root: Item,
     pending: Pending,
-    scratch: Box<Scratch>,
-    alloc: Global,
     ghost sound: { is_flat (shown tables) root ≡ true },
 }
 
@@ -39,8 +37,6 @@ impl<'t> Flat<'t> {
             items: self.tables.items,
             members: self.tables.members,
             pending: self.pending,
-            scratch: Some(self.scratch),
-            alloc: self.alloc,
         }
     }
 }
@@ -60,9 +56,6 @@ pub struct Room {
     items: Vec<Item>,
     members: Vec<Named>,
     pending: Pending,
-    // Boxed, since it has 16 KiB inside, which would be copied with each move of a room.
-    scratch: Option<Box<Scratch>>,
-    alloc: Global,
 }
 
 impl Room {
@@ -75,64 +68,43 @@ impl Room {
             items: Vec::new(alloc),
             members: Vec::new(alloc),
             pending: Pending::new(alloc),
-            scratch: None,
-            alloc,
-        }
-    }
-
-    /// The reader's scratch, which is made for the first document. None where there is no memory.
-    fn take_scratch(&mut self) -> Option<Box<Scratch>> {
-        match self.scratch.take() {
-            Some(scratch) => Some(scratch),
-            None => Box::new(self.alloc, Scratch::new(self.alloc)).ok(),
         }
     }
 
     /// The document that these bytes are, in this memory. An `Err` gives the memory back, and says
     /// nothing of the bytes: they may be no document, too many for tables (2^32), or more than
     /// there is memory for.
-    pub fn read(mut self, bytes: &[u8]) -> Result<Flat<'_>, Room>
+    pub fn read(self, bytes: &[u8]) -> Result<Flat<'_>, Room>
         ensures { IfOk result (λ f. IsDocument bytes.now (document_in f)) }
     {
         let Ok(text) = simdutf8::compat::from_utf8(bytes) else {
             return Err(self);
         };
-        let Some(mut scratch) = self.take_scratch() else {
-            return Err(self);
-        };
-        let alloc = self.alloc;
         let mut pending = self.pending;
         let mut tables = Tables::of(text, self.spare, self.items, self.members);
         pending.clear();
-        let read = root(&mut tables, &mut pending, &mut scratch);
+        let read = root(&mut tables, &mut pending);
         match read {
             Some(root) => Ok(Flat {
                 tables,
                 root,
                 pending,
-                scratch,
-                alloc,
             }),
             None => Err(Room {
                 spare: tables.spare,
                 items: tables.items,
                 members: tables.members,
                 pending,
-                scratch: Some(scratch),
-                alloc,
             }),
         }
     }
 }
 
 /// Reads the value of a whole text.
-fn root(tables: &mut Tables<'_>, pending: &mut Pending, scratch: &mut Scratch) -> Option<Item>
+fn root(tables: &mut Tables<'_>, pending: &mut Pending) -> Option<Item>
     ensures { IfSome result (ReadsFlatText tables.old.text.now (shown tables.new)) }
 {
-    let mut reader = Reader::new(tables.text, scratch).ok()?;
+    let mut reader = Cursor::new(tables.text.as_bytes());
     let item = value(tables, pending, &mut reader, MAX_DEPTH)?;
-    match reader.next() {
-        Some(_) => None,
-        None => Some(item),
-    }
+    if reader.is_done() { Some(item) } else { None }
 }

@@ -1,5 +1,5 @@
 //! JSON documents in flat tables (RFC 9535 section 1.1): most are read about twice as fast as into a
-//! tree, and in two fifths of its memory.
+//! tree, and in a third of its memory.
 //!
 //! `flat_document` reads one, `Flat::value` is its value, and a `FlatValue` is a `Lent` one, which
 //! `FlatValue::push_value` prints. A `Room` takes the memory from one document to the next:
@@ -15,12 +15,15 @@
 //! the bytes: `Document::read` has the answer.
 #![tactic(auto)]
 
+mod blanks;
 mod closing;
+mod cursor;
 mod flat;
 mod flat_value;
 mod form;
 mod item;
 mod leaf;
+mod lexing;
 mod moving;
 mod number;
 mod parts;
@@ -28,10 +31,12 @@ mod place;
 mod printing;
 mod reading;
 mod rising;
+mod runs;
 mod sorting;
 mod tables;
 #[cfg(test)]
 mod tests;
+mod token;
 
 pub use flat::{Flat, Room, flat_document};
 pub use flat_value::FlatValue;

@@ -10,10 +10,9 @@ use crate::item::{Halves, Item};
 use fast_float::Numeral;
 
 /// The whole number of 64 bits that these characters of JSON write.
-pub(crate) fn number(text: &str) -> Option<Item>
-    ensures { IfSome result (IsWholeItem text.now) }
+pub(crate) fn number(bytes: &[u8]) -> Option<Item>
+    ensures { IfSome result (IsWholeItem bytes.now) }
 {
-    let bytes = text.as_bytes();
     if has_minus(bytes) {
         let below = below_zero(&Numeral::scan(&bytes[1..]))?;
         Some(Item::Below(halves(below)))

@@ -1,43 +1,83 @@
 //! Where texts stand.
 ghost use Rattle.std.specs.Prelude.{◌≡◌, ◌+◌, ◌≤◌, IfSome, OnSome, Some};
 ghost use Rattle.std.specs.Prelude.{drop, length, option_map, take};
+ghost use Rattle.json.specs.Text.{content, plain};
 ghost use Rattle.jp_flat.specs.Flat.{Grows, piece, shown, text_at};
+ghost use Rattle.jp_flat.specs.Private.Tokens.{IsPlaced, said};
 
 use crate::item::Span;
 use crate::tables::Tables;
+use crate::token::Spelled;
+use json::{Reader, Scratch, Token};
 
-/// Places a text: where the document spells it, after the quote at this offset, else behind the
-/// spare texts. None where no memory is left, or more than 2^32 bytes would be placed.
-pub(crate) fn place(tables: &mut Tables<'_>, at: usize, text: &str) -> Option<Span>
-    ensures spelled { IfSome result (λ s. text_at (shown tables.new) s ≡ Some text.now) }
+/// Places a text: where the document spells it, else, with its escapes undone in the room, behind the
+/// spare texts. None where its escapes are none, no memory is left, or more than 2^32 bytes would be
+/// placed.
+pub(crate) fn place(
+    tables: &mut Tables<'_>,
+    room: &mut Vec<Scratch>,
+    text: Spelled<'_>,
+) -> Option<Span>
+    ensures placed { IfSome result (λ s. IsPlaced (shown tables.new) s (said text.entry)) }
     ensures grows { OnSome result (Grows (shown tables.old) (shown tables.new)) }
-    ensures items { tables.new.items.items ≡ tables.old.items.items }
+    ensures items { OnSome result (tables.new.items.items ≡ tables.old.items.items) }
 {
-    match in_text(tables.text, at, text) {
-        Some(span) => Some(span),
-        None => spared(tables, text),
+    match text {
+        Spelled::Plain(first, bytes) => in_text(tables, first, bytes),
+        Spelled::Escaped(quoted) => unescaped(tables, room, quoted),
     }
 }
 
-/// The span after this offset, where the text stands there.
-fn in_text(whole: &str, at: usize, text: &str) -> Option<Span>
-    ensures within { IfSome result (λ s. s.first + s.count ≤ length whole.now) }
-    ensures spelled { IfSome result (λ s. take s.count (drop s.first whole.now) ≡ text.now) }
+/// The span from this place on, where the text stands there.
+#[inline(always)]
+fn in_text(tables: &Tables<'_>, first: usize, text: &[u8]) -> Option<Span>
+    ensures { IfSome result (λ s. text_at (shown tables.now) s ≡ Some text.now) }
 {
-    let first = at.checked_add(1)?;
-    let part = piece(whole.as_bytes(), first, text.len())?;
-    if part == text.as_bytes() {
+    let part = piece(tables.text.as_bytes(), first, text.len())?;
+    if part == text {
         span_of(first, text.len())
     } else {
         None
     }
 }
 
+/// A new spare text, which stands with escapes between these quotes.
+fn unescaped(tables: &mut Tables<'_>, room: &mut Vec<Scratch>, quoted: &[u8]) -> Option<Span>
+    ensures placed { IfSome result (λ s. IsPlaced (shown tables.new) s
+        (content plain (drop 1 quoted.now))) }
+    ensures grows { OnSome result (Grows (shown tables.old) (shown tables.new)) }
+    ensures items { OnSome result (tables.new.items.items ≡ tables.old.items.items) }
+{
+    if quoted.is_empty() || quoted[0] != b'"' {
+        return None;
+    }
+    let text = simdutf8::compat::from_utf8(quoted).ok()?;
+    if room.is_empty() {
+        take_room(room)?;
+    }
+    let scratch = room.first_mut()?;
+    let mut reader = Reader::new(text, scratch).ok()?;
+    let token = reader.next()?;
+    match token {
+        Token::String(text) => {
+            let span = spared(tables, text)?;
+            Some(span)
+        }
+        _ => None,
+    }
+}
+
+/// Takes room to unescape texts in.
+#[inline(never)]
+fn take_room(room: &mut Vec<Scratch>) -> Option<()> {
+    room.push(Scratch::new(*room.allocator())).ok()
+}
+
 /// A new spare text.
 fn spared(tables: &mut Tables<'_>, text: &str) -> Option<Span>
     ensures spelled { IfSome result (λ s. text_at (shown tables.new) s ≡ Some text.now) }
     ensures grows { OnSome result (Grows (shown tables.old) (shown tables.new)) }
-    ensures items { tables.new.items.items ≡ tables.old.items.items }
+    ensures items { OnSome result (tables.new.items.items ≡ tables.old.items.items) }
 {
     let first = tables.text.len().checked_add(tables.spare.len())?;
     tables.spare.push_str(text).ok()?;

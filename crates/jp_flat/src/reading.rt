@@ -1,18 +1,21 @@
 //! Values from the tokens of a text, into tables. What is no document, and what fits no table, is
 //! left to others.
-ghost use Rattle.std.specs.Prelude.{◌≡◌, ◌<◌, ◌∷◌, [], IfSome, OnSome, length};
-ghost use Rattle.json.specs.Reads.{token_of};
+ghost use Rattle.std.specs.Prelude.{◌≡◌, ◌<◌, ◌∷◌, [], IfSome, OnSome, length, true};
+ghost use Rattle.json.specs.Align.{is_good};
 ghost use Rattle.jp_flat.specs.Flat.{Grows, shown};
 ghost use Rattle.jp_flat.specs.Private.Reading.{ReadsFlat, ReadsFlatItems, ReadsFlatMembers};
+ghost use Rattle.jp_flat.specs.Private.Tokens.{token_of};
 
 use crate::closing::{close_list, close_object, list_from};
+use crate::cursor::Cursor;
 use crate::item::{Item, Named};
 use crate::leaf::{leaf, leaves};
 use crate::moving::move_parts;
 use crate::place::place;
 use crate::rising::still_rises;
 use crate::tables::Tables;
-use json::{Reader, Token};
+use crate::token::Token;
+use json::Scratch;
 use std::alloc::Global;
 
 /// The parts of the lists and objects that are being read, innermost last.
@@ -23,6 +26,9 @@ pub(crate) struct Pending {
 
     /// Room to sort the members of one object.
     pub(crate) sorted: Vec<Named>,
+
+    /// Room to unescape texts in, taken at the first that has escapes.
+    pub(crate) room: Vec<Scratch>,
 }
 
 impl Pending {
@@ -31,6 +37,7 @@ impl Pending {
             items: Vec::new(alloc),
             members: Vec::new(alloc),
             sorted: Vec::new(alloc),
+            room: Vec::new(alloc),
         }
     }
 
@@ -50,7 +57,7 @@ impl Pending {
 pub(crate) fn value(
     tables: &mut Tables<'_>,
     pending: &mut Pending,
-    reader: &mut Reader<'_>,
+    reader: &mut Cursor<'_>,
     depth: usize,
 ) -> Option<Item>
     ensures reads { IfSome result (λ i. ReadsFlat depth reader.old reader.new (shown tables.new) i) }
@@ -59,7 +66,6 @@ pub(crate) fn value(
     ensures members { OnSome result (pending.new.members.items ≡ pending.old.members.items) }
     ensures shorter { OnSome result (length reader.new < length reader.old) }
 {
-    let at = reader.offset();
     let token = reader.next()?;
     match token {
         Token::BeginArray | Token::BeginObject => {
@@ -67,7 +73,7 @@ pub(crate) fn value(
             Some(item)
         }
         _ => {
-            let item = leaf(tables, at, token)?;
+            let item = leaf(tables, &mut pending.room, token)?;
             Some(item)
         }
     }
@@ -79,7 +85,7 @@ pub(crate) fn value(
 fn container(
     tables: &mut Tables<'_>,
     pending: &mut Pending,
-    reader: &mut Reader<'_>,
+    reader: &mut Cursor<'_>,
     depth: usize,
     token: Token<'_>,
 ) -> Option<Item>
@@ -112,7 +118,7 @@ fn container(
 fn items(
     tables: &mut Tables<'_>,
     pending: &mut Pending,
-    reader: &mut Reader<'_>,
+    reader: &mut Cursor<'_>,
     depth: usize,
 ) -> Option<Item>
     ensures reads { IfSome result
@@ -123,7 +129,7 @@ fn items(
     ensures shorter { OnSome result (length reader.new < length reader.old) }
 {
     let first = tables.items.len();
-    let token = leaves(tables, reader)?;
+    let token = leaves(tables, &mut pending.room, reader)?;
     if let Token::EndArray = token {
         let list = list_from(tables, first)?;
         return Some(list);
@@ -144,7 +150,7 @@ fn items(
 fn members(
     tables: &mut Tables<'_>,
     pending: &mut Pending,
-    reader: &mut Reader<'_>,
+    reader: &mut Cursor<'_>,
     depth: usize,
 ) -> Option<Item>
     ensures reads { IfSome result
@@ -156,13 +162,11 @@ fn members(
 {
     let base = pending.members.len();
     let mut rises = true;
-    let mut at = reader.offset();
-    'members: while let Some(name) = reader.next_key().ok()? {
+    'members: while let Some(name) = reader.next_name()? {
         rises = still_rises(rises, tables, &pending.members, base, name);
-        let span = place(tables, at, name)?;
+        let span = place(tables, &mut pending.room, name)?;
         let item = value(tables, pending, reader, depth)?;
         pending.members.push(Named { name: span, item }).ok()?;
-        at = reader.offset();
     }
     let object = close_object(
         tables,

@@ -1,7 +1,8 @@
-use Rattle.std.proofs.Common.{◌≡◌, arith}
-use Rattle.json.specs.Reads.{token_of}
+use Rattle.std.proofs.Common.{◌≡◌, ap, ◌∙◌, arith}
+use Rattle.json.specs.Lex.{string_token}
 use Rattle.json.specs.Token.{Token}
 use Rattle.jp_flat.specs.Flat.{shown}
+use Rattle.jp_flat.specs.Private.Tokens.{said, token_of}
 use Rattle.jp_flat.proofs.Leaves.{leaf-boolean, leaf-null, leaf-text, leaf-whole}
 use Rattle.jp_flat.proofs.leaf.leaf.Goals as goal
 
@@ -24,10 +25,10 @@ returns-in_ok-item-in-Number-clause-leaf c =
     leaf-whole k (shown c.args.tables.now) c.in_ok-item-in-Number.item s is
     c.in_ok-item-in-Number.ensures
 
-pub returns-in_ok-span-in-String-clause-leaf : goal.returns-in_ok-span-in-String-clause-leaf
-returns-in_ok-span-in-String-clause-leaf c =
+pub returns-in_ok-span-in-Text-clause-leaf : goal.returns-in_ok-span-in-Text-clause-leaf
+returns-in_ok-span-in-Text-clause-leaf c =
     let k = token_of c.args.token in
-    let s = c.in-String.text.now in
-    let is : k ≡ Token.string s = grind arith in
-    leaf-text k (shown c.place.new.tables) c.in_ok-span-in-String.span s is
-    c.in_ok-span-in-String.ensures.spelled
+    let placed = c.in_ok-span-in-Text.ensures.placed in
+    let is : k ≡ string_token (said c.in-Text.text) = grind arith in
+    leaf-text k (shown c.place.new.tables) c.in_ok-span-in-Text.span placed.text
+    (is ∙ ap string_token placed.says) placed.there

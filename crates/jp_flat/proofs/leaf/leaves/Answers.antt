@@ -1,7 +1,7 @@
 use Rattle.std.proofs.Common.{◌≡◌, ◌∷◌, ◌++◌, [], arith, length, rules, ap}
-use Rattle.json.specs.Reads.{token_of}
 use Rattle.jp_flat.specs.Flat.{shown}
 use Rattle.jp_flat.specs.Private.Reading.{with_items}
+use Rattle.jp_flat.specs.Private.Tokens.{token_of}
 use Rattle.jp_flat.proofs.Loops.{leaves_begin, leaves_more}
 use Rattle.jp_flat.proofs.leaf.leaves.Goals as goal
 
@@ -19,7 +19,7 @@ leaves-preserved c =
     let done = c.in_ok-item-in_default.ensures in
     let u = shown c.leaf.new.tables in
     let w = shown (record c.leaf.new.tables { items = c.push.new.self }) in
-    let first : l.reader ≡ k ∷ c.next.new.self = grind arith in
+    let first : l.reader ≡ k ∷ c.next.new.self = c.in_ok-token.ensures done.good in
     let pushed : w ≡ with_items u (u.items ++ i ∷ []) = search rules in
     record {
       so =

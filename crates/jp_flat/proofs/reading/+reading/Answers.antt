@@ -1,22 +1,23 @@
 use Rattle.std.proofs.Common.{◌≡◌, ◌++◌, ◌∷◌, [], ◌<◌, Some, None, length, arith, rules, ap}
 use Rattle.std.proofs.Common.{◌∙◌, ◌≤◌, drop, subst, take}
 use Rattle.json.specs.Json.{after_end_array, read_key}
-use Rattle.json.specs.Reads.{token_of}
 use Rattle.json.specs.Token.{Token}
 use Rattle.json.proofs.Grammar.{read_key-shorter}
 use Rattle.jp_flat.specs.Flat.{Grows, shown}
 use Rattle.jp_flat.specs.Private.Reading.{ReadsFlat, with_items}
+use Rattle.jp_flat.specs.Private.Tokens.{ReadsName, said, token_of}
 use Rattle.jp_flat.specs.declared.item.Named.{Named}
 use Rattle.jp_flat.proofs.Leaves.{flat-list, flat-object, leaf-read}
 use Rattle.jp_flat.proofs.Loops.{items_begin, items_end, items_more, leaves_end, leaves_grow}
-use Rattle.jp_flat.proofs.Loops.{members_begin, members_end, members_more}
+use Rattle.jp_flat.proofs.Loops.{above_said, members_begin, members_end, members_more}
 use Rattle.jp_flat.proofs.reading.+reading.Goals as goal
 
 pub value-returns-in_ok-item-in_default-clause-reads :
     goal.value-returns-in_ok-item-in_default-clause-reads
 value-returns-in_ok-item-in_default-clause-reads t c =
     let k = token_of c.in_ok-token.token in
-    let first : c.args.reader.now ≡ k ∷ c.next.new.self = grind arith in
+    let first : c.args.reader.now ≡ k ∷ c.next.new.self =
+    c.in_ok-token.ensures c.in_ok-item-in_default.ensures.good in
     leaf-read c.args.depth c.args.reader.now c.next.new.self k (shown c.leaf.new.tables)
     c.in_ok-item-in_default.item first c.in_ok-item-in_default.ensures.leaf
 
@@ -123,12 +124,14 @@ members-members-init t c = record {
 pub members-members-preserved : goal.members-members-preserved
 members-members-preserved t c =
     let l = c.members in
-    let k = c.in-Some.name.now in
-    let a = c.next_key.new.self in
+    let placed = c.in_ok-span.ensures.placed in
+    let k = placed.text in
+    let a = c.next_name.new.self in
     let r = c.value.new.reader in
     let done = c.in_ok-item.ensures in
     let p : Named = record { name = c.in_ok-span.span; item = c.in_ok-item.item } in
-    let named : read_key l.reader ≡ Some (Some k, a) = grind arith in
+    let named : read_key l.reader ≡ Some (Some k, a) =
+    subst (ReadsName l.reader a) c.in-Some.is c.in_ok-name.ensures k placed.says in
     let less = read_key-shorter l.reader (Some k) a named in
     let lesser = done.shorter in
     let shorter : length r < length l.reader = omega arith in
@@ -138,17 +141,19 @@ members-members-preserved t c =
           (members_more c.args.depth c.args.reader.now l.reader a r (shown c.args.tables.now)
           (shown l.tables) (shown c.place.new.tables) (shown c.value.new.tables) c.len-base.result
           l.rises c.still_rises-rises.result c.args.pending.now.members.items
-          l.pending.members.items k p named shorter done.reads c.in_ok-span.ensures.spelled
+          l.pending.members.items k p named shorter done.reads placed.there
           c.in_ok-span.ensures.grows done.grows c.still_rises-rises.ensures.rose
-          (rw (← c.deref.ensures.value) c.still_rises-rises.ensures.above) l.invariant.so);
+          (λ rose. above_said (shown l.tables) (drop c.len-base.result l.pending.members.items)
+          (said c.in-Some.name) k placed.says
+          (rw (← c.deref.ensures.value) (c.still_rises-rises.ensures.above rose))) l.invariant.so);
       others = done.items ∙ l.invariant.others;
     }
 
 pub members-returns-clause-reads : goal.members-returns-clause-reads
 members-returns-clause-reads t c =
     let l = c.members in
-    let over : read_key l.reader ≡ Some (None, c.next_key.new.self) = grind arith in
-    members_end c.args.depth c.args.reader.now l.reader c.next_key.new.self
+    let over : read_key l.reader ≡ Some (None, c.next_name.new.self) = grind arith in
+    members_end c.args.depth c.args.reader.now l.reader c.next_name.new.self
     (shown c.args.tables.now) (shown l.tables) (shown c.close_object.new.tables) c.len-base.result
     l.rises c.args.pending.now.members.items l.pending.members.items c.in_ok-object.object over
     c.in_ok-object.ensures.object l.invariant.so

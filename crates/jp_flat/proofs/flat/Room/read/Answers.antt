@@ -7,11 +7,11 @@ use Rattle.jp_flat.proofs.flat.Room.read.Goals as goal
 pub invariant_of-result : goal.invariant_of-result
 invariant_of-result c =
     let t = shown c.root-read.new.tables in
-    let i = c.in-Some-read.root in
+    let i = c.in-Some.root in
     let both : (c.in-Ok.text.now ≡ c.args.bytes.now) × IsUtf8 c.args.bytes.now = search rules in
     let source : c.of-tables.result.text.now ≡ c.args.bytes.now =
     c.of-tables.ensures.source ∙ both.0 in
     record {
       sound = flat-sound c.args.bytes.now t i both.1
-          (subst (λ s. ReadsFlatText s t i) source c.in-Some-read.ensures);
+          (subst (λ s. ReadsFlatText s t i) source c.in-Some.ensures);
     }

@@ -1,0 +1,92 @@
+-- The tokens that a text has from a place on, and what the program's tokens stand for.
+use Rattle.std.specs.Prelude.{◌≡◌, ◌≤◌, ◌||◌, ◌==◌, ◌++◌, ℕ, Bool, true, List, ◌∷◌}
+use Rattle.std.specs.Prelude.{Option, Some, None, length, drop}
+use Rattle.json.specs.Align.{is_good}
+use Rattle.json.specs.Json.{read_key}
+use Rattle.json.specs.Lex.{Place, after_comma, after_value, between, fresh, in_string, lex}
+use Rattle.json.specs.Lex.{Lexeme, may_begin, punctuate, string_token}
+use Rattle.json.specs.Text.{content, plain}
+use Rattle.json.specs.Token as spec
+use Rattle.json.specs.Word.{after_exponent, after_fraction, ends_word, is_space}
+use Rattle.jp_flat.specs.declared.cursor.Place.{Place as At}
+use Rattle.jp_flat.specs.declared.cursor.Turn.{Turn}
+use Rattle.jp_flat.specs.declared.cursor.Turn.TheVariants.{AfterComma, AfterValue, Fresh}
+use Rattle.jp_flat.specs.declared.token.Spelled.{Spelled}
+use Rattle.jp_flat.specs.declared.token.Spelled.TheVariants.{Escaped, Plain}
+use Rattle.jp_flat.specs.declared.token.Token.{Token}
+use Rattle.jp_flat.specs.declared.item.Span.{Span}
+use Rattle.jp_flat.specs.Flat.{Shown, text_at}
+use Rattle.jp_flat.specs.declared.token.Token.TheVariants as code
+
+-- what may stand next
+abbrev pub turn_of : Turn → Place
+turn_of Fresh = fresh
+turn_of AfterValue = after_value
+turn_of AfterComma = after_comma
+
+-- the tokens of a text from a place on
+abbrev pub tokens_from : List ℕ → At → List spec.Token
+tokens_from d p = punctuate (turn_of p.turn) (lex between (drop p.at d))
+
+-- the text that is spelled so, None where its escapes are none
+abbrev pub said : Spelled → Option (List ℕ)
+said (Plain first s) = Some s.now
+said (Escaped s) = content plain (drop 1 s.now)
+
+abbrev pub key_token : Option (List ℕ) → spec.Token
+key_token None = spec.bad
+key_token (Some s) = spec.key s
+
+-- the token of JSON
+abbrev pub token_of : Token → spec.Token
+token_of code.BeginArray = spec.begin_array
+token_of code.EndArray = spec.end_array
+token_of code.BeginObject = spec.begin_object
+token_of code.EndObject = spec.end_object
+token_of (code.Key s) = key_token (said s)
+token_of (code.Text s) = string_token (said s)
+token_of (code.Number s) = spec.number s.now
+token_of (code.Bool b) = spec.boolean b
+token_of code.Null = spec.null
+
+-- the text goes on with the token from one place on, and then from another, if the token is one
+abbrev pub Gives : List ℕ → At → spec.Token → At → Type 0
+Gives d from token to = is_good token ≡ true → tokens_from d from ≡ token ∷ tokens_from d to
+
+-- the text is spelled so from the place behind the quote on, and its last quote stands before
+-- the other place
+pub record IsSpelled (d : List ℕ) (from to : ℕ) (s : Spelled) : Type 0 where
+  pub within : to ≤ length d
+  pub reads : (x : List ℕ) → said s ≡ Some x → content plain (drop from d) ≡ Some x
+  pub passes : lex in_string (drop from d) ≡ lex between (drop to d)
+
+-- a whole number may end before the byte
+abbrev pub ends_byte : ℕ → Bool
+ends_byte x = (x == 44) || (x == 125) || (x == 93) || is_space x
+
+-- the token is the literal of this name
+pub record IsLiteral (name : List ℕ) (token : spec.Token) : Type 0 where
+  pub lexes :
+      (rest : List ℕ) → ends_word rest ≡ true →
+      lex between (name ++ rest) ≡ Lexeme.token token ∷ lex between rest
+  pub goes :
+      (p : Place) (ls : List Lexeme) → may_begin p ≡ true →
+      punctuate p (Lexeme.token token ∷ ls) ≡ token ∷ punctuate after_value ls
+
+-- a whole number may end before the text: no point follows, and no exponent
+pub record EndsWhole (rest : List ℕ) : Type 0 where
+  pub word : ends_word rest ≡ true
+  pub point : after_fraction rest ≡ Some rest
+  pub power : after_exponent rest ≡ Some rest
+
+-- the tokens begin with the name, or with the end of an object where there is none
+abbrev pub ReadsName : List spec.Token → List spec.Token → Option Spelled → Type 0
+ReadsName ts rest None = read_key ts ≡ Some (None, rest)
+ReadsName ts rest (Some s) =
+    (x : List ℕ) → said s ≡ Some x → read_key ts ≡ Some (Some x, rest)
+
+-- the text stands at the span
+pub record IsPlaced (t : Shown) (s : Span) (o : Option (List ℕ)) : Type 0 where
+  pub text : List ℕ
+  pub says : o ≡ Some text
+  pub there : text_at t s ≡ Some text

@@ -1,0 +1,211 @@
+//! The token at a place (RFC 8259 sections 2, 3 and 6): whole numbers are the only ones.
+ghost use Rattle.std.specs.Prelude.{◌≡◌, ◌≤◌, ◌<◌, ◌+◌, ◌⊎◌, IfSome, Some, drop, length, slice_index, true, false};
+ghost use Rattle.json.specs.Lex.{after_value, begins_colon, between, fresh, lex, may_begin, punctuate};
+ghost use Rattle.json.specs.Word.{after_minus, after_number, ends_word};
+ghost use Rattle.jp_flat.specs.Private.Tokens.{Gives, IsLiteral, token_of, tokens_from, turn_of};
+
+use crate::blanks::{ends_whole, past_blanks};
+use crate::cursor::{Place, Turn, may_begin, may_close};
+use crate::place::piece;
+use crate::runs::{digits_end, spelled};
+use crate::token::Token;
+
+/// The token at a place, and where the text goes on behind it.
+#[inline(always)]
+pub(crate) fn token_at<'t>(bytes: &'t [u8], from: Place) -> Option<(Token<'t>, Place)>
+    requires { from.at ≤ length bytes.now }
+    ensures gives { IfSome result (λ r. Gives bytes.now from (token_of r.0) r.1) }
+    ensures within { IfSome result (λ r. r.1.at ≤ length bytes.now) }
+{
+    if from.at >= bytes.len() {
+        return None;
+    }
+    let byte = bytes[from.at];
+    if byte == b'}' || byte == b']' {
+        return closed(bytes, from, byte);
+    }
+    if !may_begin(from.turn) {
+        return None;
+    }
+    match byte {
+        b'"' => text(bytes, from),
+        b'{' => Some((Token::BeginObject, begun(bytes, from.at + 1))),
+        b'[' => Some((Token::BeginArray, begun(bytes, from.at + 1))),
+        b't' => literal(bytes, from, b"true", Token::Bool(true)),
+        b'f' => literal(bytes, from, b"false", Token::Bool(false)),
+        b'n' => literal(bytes, from, b"null", Token::Null),
+        _ => number(bytes, from),
+    }
+}
+
+/// Where a value or a name may begin, or a list or an object end.
+#[inline(always)]
+fn begun(bytes: &[u8], at: usize) -> Place
+    requires { at ≤ length bytes.now }
+    ensures goes { tokens_from bytes.now result ≡ punctuate fresh (lex between (drop at bytes.now)) }
+    ensures within { result.at ≤ length bytes.now }
+{
+    Place {
+        at: past_blanks(bytes, at),
+        turn: Turn::Fresh,
+    }
+}
+
+/// Behind a value, with the comma that may follow.
+#[inline(always)]
+pub(crate) fn passed(bytes: &[u8], end: usize) -> Place
+    requires { end ≤ length bytes.now }
+    ensures goes { tokens_from bytes.now result
+        ≡ punctuate after_value (lex between (drop end bytes.now)) }
+    ensures within { result.at ≤ length bytes.now }
+{
+    let at = past_blanks(bytes, end);
+    if at < bytes.len() && bytes[at] == b',' {
+        return Place {
+            at: past_blanks(bytes, at + 1),
+            turn: Turn::AfterComma,
+        };
+    }
+    Place {
+        at,
+        turn: Turn::AfterValue,
+    }
+}
+
+#[inline(always)]
+fn closed<'t>(bytes: &'t [u8], from: Place, byte: u8) -> Option<(Token<'t>, Place)>
+    requires inside { from.at < length bytes.now }
+    requires byte { (byte ≡ slice_index bytes.now from.at) × ((byte ≡ 125) ⊎ (byte ≡ 93)) }
+    ensures gives { IfSome result (λ r. Gives bytes.now from (token_of r.0) r.1) }
+    ensures within { IfSome result (λ r. r.1.at ≤ length bytes.now) }
+{
+    if !may_close(from.turn) {
+        return None;
+    }
+    let place = passed(bytes, from.at + 1);
+    if byte == b'}' {
+        Some((Token::EndObject, place))
+    } else {
+        Some((Token::EndArray, place))
+    }
+}
+
+/// A name with its colon, or a text.
+#[inline(always)]
+fn text<'t>(bytes: &'t [u8], from: Place) -> Option<(Token<'t>, Place)>
+    requires inside { from.at < length bytes.now }
+    requires byte { slice_index bytes.now from.at ≡ 34 }
+    requires begins { may_begin (turn_of from.turn) ≡ true }
+    ensures gives { IfSome result (λ r. Gives bytes.now from (token_of r.0) r.1) }
+    ensures within { IfSome result (λ r. r.1.at ≤ length bytes.now) }
+{
+    let (spelled, end) = spelled(bytes, from.at + 1)?;
+    let at = past_blanks(bytes, end);
+    if at < bytes.len() && bytes[at] == b':' {
+        return Some((Token::Key(spelled), begun(bytes, at + 1)));
+    }
+    let place = text_passed(bytes, at)?;
+    Some((Token::Text(spelled), place))
+}
+
+/// Behind a text, which is no name.
+#[inline(always)]
+fn text_passed(bytes: &[u8], at: usize) -> Option<Place>
+    requires { at ≤ length bytes.now }
+    ensures no_name { IfSome result (λ p. begins_colon (lex between (drop at bytes.now)) ≡ false) }
+    ensures goes { IfSome result (λ p. tokens_from bytes.now p
+        ≡ punctuate after_value (lex between (drop at bytes.now))) }
+    ensures within { IfSome result (λ p. p.at ≤ length bytes.now) }
+{
+    if is_last(bytes, at) {
+        Some(passed(bytes, at))
+    } else {
+        None
+    }
+}
+
+/// Whether a value may end before this place, and a name may not.
+#[inline(always)]
+fn is_last(bytes: &[u8], at: usize) -> bool
+    requires { at ≤ length bytes.now }
+    ensures { result ≡ true → begins_colon (lex between (drop at bytes.now)) ≡ false }
+{
+    if at == bytes.len() {
+        return true;
+    }
+    match bytes[at] {
+        b',' => true,
+        b'}' => true,
+        b']' => true,
+        _ => false,
+    }
+}
+
+#[inline(always)]
+fn literal<'t>(
+    bytes: &'t [u8],
+    from: Place,
+    name: &[u8],
+    token: Token<'t>,
+) -> Option<(Token<'t>, Place)>
+    requires inside { from.at ≤ length bytes.now }
+    requires begins { may_begin (turn_of from.turn) ≡ true }
+    requires name { IsLiteral name.now (token_of token) }
+    ensures gives { IfSome result (λ r. Gives bytes.now from (token_of r.0) r.1) }
+    ensures within { IfSome result (λ r. r.1.at ≤ length bytes.now) }
+{
+    let part = piece(bytes, from.at, name.len())?;
+    let end = from.at + name.len();
+    if part == name && ends_whole(bytes, end) {
+        Some((token, passed(bytes, end)))
+    } else {
+        None
+    }
+}
+
+#[inline(always)]
+fn number<'t>(bytes: &'t [u8], from: Place) -> Option<(Token<'t>, Place)>
+    requires inside { from.at < length bytes.now }
+    requires begins { may_begin (turn_of from.turn) ≡ true }
+    ensures gives { IfSome result (λ r. Gives bytes.now from (token_of r.0) r.1) }
+    ensures within { IfSome result (λ r. r.1.at ≤ length bytes.now) }
+{
+    let end = whole_end(bytes, from.at)?;
+    Some((Token::Number(&bytes[from.at..end]), passed(bytes, end)))
+}
+
+/// The end of the whole number that begins here.
+#[inline(always)]
+fn whole_end(bytes: &[u8], from: usize) -> Option<usize>
+    requires { from < length bytes.now }
+    ensures whole { IfSome result (λ e. after_number (drop from bytes.now) ≡ Some (drop e bytes.now)) }
+    ensures ends { IfSome result (λ e. ends_word (drop e bytes.now) ≡ true) }
+    ensures within { IfSome result (λ e. (from ≤ e) × (e ≤ length bytes.now)) }
+{
+    let first = past_minus(bytes, from);
+    let end = digits_end(bytes, first);
+    if is_whole(bytes, first, end) && ends_whole(bytes, end) {
+        Some(end)
+    } else {
+        None
+    }
+}
+
+#[inline(always)]
+fn past_minus(bytes: &[u8], from: usize) -> usize
+    requires { from < length bytes.now }
+    ensures minus { after_minus (drop from bytes.now) ≡ drop result bytes.now }
+    ensures within { (from ≤ result) × (result ≤ length bytes.now) }
+{
+    if bytes[from] == b'-' { from + 1 } else { from }
+}
+
+/// Whether there are digits, with no 0 before others.
+#[inline(always)]
+fn is_whole(bytes: &[u8], first: usize, end: usize) -> bool
+    requires { end ≤ length bytes.now }
+    ensures some { result ≡ true → first < end }
+    ensures zero { result ≡ true → slice_index bytes.now first ≡ 48 → end ≡ first + 1 }
+{
+    first < end && (bytes[first] != b'0' || end == first + 1)
+}
