@@ -1,6 +1,7 @@
 /* Measures the CPU time of a call over a document of about 1 KB, against libjq where it is:
  * `library [libjq.so.1]`, as bench/library runs it. A row: the query, microseconds a call of jp_eval (the query not read before), and
- * of libjq, its program compiled before, with parsing the document and printing what comes. */
+ * of libjq, its program compiled before, with parsing the document and printing what comes. Then ten queries
+ * over the one document: by ten calls of jp_eval, by one of jp_eval_many, and by ten of jp_select. */
 #define _POSIX_C_SOURCE 200809L
 #include "jp.h"
 
@@ -61,6 +62,86 @@ static double measure_jp(const char *query) {
     return report.status == JP_DONE && report.length > 0 ? best : -1;
 }
 
+/* Ten queries of as many bytes each, which stand one after another. */
+enum { TEN = 10, SIZE = 21 };
+static char ten[TEN * SIZE + 1];
+static uint8_t answer[4096];
+
+static void make_ten(void) {
+    for (int at = 0; at < TEN - 1; at += 1) {
+        sprintf(ten + at * SIZE, "$.store.book[%d].title", at);
+    }
+    sprintf(ten + (TEN - 1) * SIZE, "$.store.bicycle.color");
+}
+
+static int by_ten_calls(void) {
+    struct jp_report report;
+    int is_done = 1;
+    for (int at = 0; at < TEN; at += 1) {
+        uint32_t status = jp_eval((const uint8_t *)ten + at * SIZE, SIZE, (const uint8_t *)document, strlen(document),
+                                  JP_VALUES, JP_STANDARD, answer, sizeof answer, &report);
+        is_done = is_done && status == JP_DONE && report.length > 0;
+    }
+    return is_done;
+}
+
+static int by_one_call(void) {
+    struct jp_question questions[TEN];
+    for (size_t at = 0; at < TEN; at += 1) {
+        questions[at].place = at * SIZE;
+        questions[at].size = SIZE;
+    }
+    jp_eval_many((const uint8_t *)ten, TEN * SIZE, questions, TEN, (const uint8_t *)document, strlen(document),
+                 JP_VALUES, JP_STANDARD, answer, sizeof answer);
+    int is_done = 1;
+    for (size_t at = 0; at < TEN; at += 1) {
+        is_done = is_done && questions[at].report.status == JP_DONE && questions[at].report.length > 0;
+    }
+    return is_done;
+}
+
+static struct jp_handle kept_document = JP_EMPTY, kept_queries[TEN];
+
+static int by_handles(void) {
+    struct jp_report report;
+    int is_done = 1;
+    for (int at = 0; at < TEN; at += 1) {
+        uint32_t status = jp_select(&kept_queries[at], &kept_document, JP_VALUES, answer, sizeof answer, &report);
+        is_done = is_done && status == JP_DONE && report.length > 0;
+    }
+    return is_done;
+}
+
+static double measure(int (*work)(void)) {
+    double best = 1e9;
+    for (int round = 0; round < 5; round += 1) {
+        double start = seconds();
+        for (int call = 0; call < 500; call += 1) {
+            if (!work()) {
+                return -1;
+            }
+        }
+        double took = (seconds() - start) / 500;
+        best = took < best ? took : best;
+    }
+    return best;
+}
+
+static void measure_ten(void) {
+    struct jp_report report;
+    make_ten();
+    jp_document_new((const uint8_t *)document, strlen(document), &kept_document, answer, sizeof answer, &report);
+    for (int at = 0; at < TEN; at += 1) {
+        jp_query_new((const uint8_t *)ten + at * SIZE, SIZE, JP_STANDARD, &kept_queries[at], &report);
+    }
+    printf("ten queries: by jp_eval %.1f, by jp_eval_many %.1f, by jp_select %.1f\n", 1e6 * measure(by_ten_calls),
+           1e6 * measure(by_one_call), 1e6 * measure(by_handles));
+    jp_clear(&kept_document);
+    for (int at = 0; at < TEN; at += 1) {
+        jp_clear(&kept_queries[at]);
+    }
+}
+
 struct jq_calls {
     void *(*init)(void);
     int (*compile)(void *, const char *);
@@ -117,5 +198,6 @@ int main(int count, char **words) {
         }
         printf("\n");
     }
+    measure_ten();
     return 0;
 }

@@ -15,7 +15,7 @@
  * - 1 MiB of stack.
  *
  * Calls share nothing: they may be made at once from any threads. What was allocated for a call is
- * freed when it returns.
+ * freed when it returns, but for what a handle keeps.
  *
  * A query has to be UTF-8, as has a document. Numbers in documents are whole, of 64 bits.
  */
@@ -36,7 +36,7 @@ extern "C" {
 enum {
     JP_DONE = 0,
     JP_QUERY_REFUSED = 1,
-    JP_USAGE = 2, /* no form or no profile has that number */
+    JP_USAGE = 2, /* no form or no profile has that number, or a handle keeps no such thing */
     JP_DOCUMENT_REFUSED = 3,
     JP_NO_MEMORY = 4
 };
@@ -116,6 +116,40 @@ uint32_t jp_canon(const uint8_t *query, size_t query_length, uint32_t profile,
 /* JP_DONE where the query is accepted. There is no text. */
 uint32_t jp_check(const uint8_t *query, size_t query_length, uint32_t profile,
                   struct jp_report *report);
+
+/* What is kept from one call to the next: a query or a document, or nothing, as of JP_EMPTY. A handle
+ * that keeps nothing, or the other of the two, is JP_USAGE where it is asked of, and no harm.
+ *
+ * What the caller owes of a handle, beside what it owes of each pointer:
+ * - It is JP_EMPTY, or all bytes 0, before its first call, and no one but these calls changes it.
+ * - It may be moved, but of two copies only one is used from then on.
+ * - No two calls use it at once, and the two handles of jp_select are not the same.
+ * - jp_clear frees what it keeps; nothing else does when it is forgotten. */
+struct jp_handle {
+    void *at;
+    unsigned char full;
+};
+
+#define JP_EMPTY {0, 0}
+
+/* Keeps the query in place of what the handle kept. The report and the status are those of jp_check;
+ * where they are not JP_DONE the handle keeps nothing. */
+uint32_t jp_query_new(const uint8_t *query, size_t query_length, uint32_t profile,
+                      struct jp_handle *handle, struct jp_report *report);
+
+/* Keeps the document in place of what the handle kept. Nothing points to its bytes afterwards. Where it
+ * is refused the handle keeps nothing, and the buffer is for the path of a number that is not whole. */
+uint32_t jp_document_new(const uint8_t *document, size_t document_length,
+                         struct jp_handle *handle,
+                         uint8_t *out, size_t out_length, struct jp_report *report);
+
+/* What jp_eval writes for the query that one handle keeps and the document that the other does. Both
+ * keep them. */
+uint32_t jp_select(struct jp_handle *query, struct jp_handle *document, uint32_t form,
+                   uint8_t *out, size_t out_length, struct jp_report *report);
+
+/* Frees what the handle keeps, if anything. It then keeps nothing, and may be filled or cleared again. */
+void jp_clear(struct jp_handle *handle);
 
 #ifdef __cplusplus
 }

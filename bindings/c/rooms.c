@@ -1,5 +1,6 @@
-/* Tests what jp.h promises of buffers and bytes: rooms of 0, of one too little, of the length and of
- * more; a query and a document that are no UTF-8; no text at all. Prints nothing where all is so. */
+/* Tests what jp.h promises of buffers, bytes and handles: rooms of 0, of one too little, of the length and
+ * of more; a query and a document that are no UTF-8; no text at all; handles that are empty, cleared
+ * twice, filled again, used for the other kind. Prints nothing where all is so. */
 #include "jp.h"
 
 #include <stdio.h>
@@ -130,6 +131,68 @@ static void try_queries(void) {
     expect(jp_check((const uint8_t *)query, sizeof query - 1, 2, &report) == JP_USAGE, "no profile", 0);
 }
 
+static uint32_t keep_query(const char *query, struct jp_handle *handle) {
+    struct jp_report report;
+    return jp_query_new((const uint8_t *)query, strlen(query), JP_STANDARD, handle, &report);
+}
+
+static uint32_t keep_document(const char *document, struct jp_handle *handle) {
+    struct jp_report report;
+    uint8_t out[16];
+    /* Bytes that are gone when the call has returned. */
+    uint8_t *bytes = malloc(strlen(document) + 1);
+    memcpy(bytes, document, strlen(document));
+    uint32_t status = jp_document_new(bytes, strlen(document), handle, out, sizeof out, &report);
+    free(bytes);
+    return status;
+}
+
+/* Each row's query and document by way of handles: what jp_eval answers, of the document's fault too. */
+static void try_handles_as(const struct row *row) {
+    struct jp_handle query = JP_EMPTY, document = JP_EMPTY;
+    struct jp_report report = {9, 9, 9, 9};
+    uint8_t out[64] = {0};
+    uint32_t status = jp_query_new((const uint8_t *)row->query, row->query_length, JP_STANDARD, &query, &report);
+    if (status == JP_DONE) {
+        status = jp_document_new((const uint8_t *)row->document, row->document_length, &document, out,
+                                 sizeof out, &report);
+    }
+    for (int again = 0; status == JP_DONE && again < 2; again += 1) {
+        uint32_t answered = jp_select(&query, &document, row->form, out, sizeof out, &report);
+        status = again == 1 ? answered : status;
+    }
+    expect(status == row->expected.status, "the status by handles", sizeof out);
+    expect(memcmp(&report, &row->expected, sizeof report) == 0, "the report by handles", sizeof out);
+    expect(memcmp(out, row->text, row->expected.length) == 0, "the text by handles", sizeof out);
+    jp_clear(&query);
+    jp_clear(&document);
+}
+
+/* Handles that keep nothing, or the other kind, are a status. */
+static void try_no_handles(void) {
+    struct jp_handle query = JP_EMPTY, document = JP_EMPTY;
+    struct jp_report report;
+    uint8_t out[16];
+    expect(jp_select(&query, &document, JP_VALUES, out, sizeof out, &report) == JP_USAGE, "empty handles", 16);
+    jp_clear(&query);
+    expect(keep_query("$.a", &query) == JP_DONE, "a query kept", 16);
+    expect(jp_select(&query, &document, JP_VALUES, out, sizeof out, &report) == JP_USAGE, "no document", 16);
+    expect(keep_document("{\"a\":1}", &document) == JP_DONE, "a document kept", 16);
+    expect(jp_select(&document, &query, JP_VALUES, out, sizeof out, &report) == JP_USAGE, "changed over", 16);
+    expect(jp_select(&query, &document, JP_VALUES, out, sizeof out, &report) == JP_DONE && out[0] == '1',
+           "both kept", 16);
+    expect(keep_document("{\"a\":2}", &document) == JP_DONE, "another in its place", 16);
+    expect(jp_select(&query, &document, JP_VALUES, out, sizeof out, &report) == JP_DONE && out[0] == '2',
+           "the other", 16);
+    expect(keep_document("[2.5]", &document) == JP_DOCUMENT_REFUSED, "no document", 16);
+    expect(jp_select(&query, &document, JP_VALUES, out, sizeof out, &report) == JP_USAGE, "refused", 16);
+    expect(keep_document("{}", &query) == JP_DONE, "a document in place of a query", 16);
+    jp_clear(&query);
+    jp_clear(&query);
+    jp_clear(&document);
+    expect(jp_select(&query, &document, JP_VALUES, out, sizeof out, &report) == JP_USAGE, "cleared", 16);
+}
+
 int main(void) {
     for (size_t at = 0; at < sizeof rows / sizeof rows[0]; at += 1) {
         size_t length = rows[at].expected.length;
@@ -137,7 +200,9 @@ int main(void) {
         for (size_t room = 0; room < 4; room += 1) {
             try_room(&rows[at], rooms[room]);
         }
+        try_handles_as(&rows[at]);
     }
+    try_no_handles();
     const size_t rooms[] = {0, 26, 27, 32};
     for (size_t room = 0; room < 4; room += 1) {
         try_many(rooms[room]);

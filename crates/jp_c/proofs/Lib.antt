@@ -1,2 +1,4 @@
+mod HeldValues
 mod Outcomes
+mod Selecting
 mod Turns

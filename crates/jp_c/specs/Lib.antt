@@ -1,5 +1,7 @@
 pub mod Asked
 pub mod Calls
+pub mod Handles
+pub mod Held
 pub mod Many
 pub mod Numbers
 pub mod Outcome

@@ -1,4 +1,5 @@
-//! jp for C and for all that calls C: a query over a document in one call, with no handles.
+//! jp for C and for all that calls C: a query over a document in one call, or by way of handles, which
+//! keep a query or a document from one call to the next.
 //!
 //! Each call takes bytes and numbers, writes the text that is asked for into a buffer of the
 //! caller's, and fills a `Report`. The buffer is filled from its start where it has room for the
@@ -8,17 +9,25 @@
 //!
 //! The contract of each: there is an `Outcome` of the kind that the definitions of the crates below
 //! allow (`specs/Calls.antt`), and the status, the report and the buffer are the
-//! ones of that outcome (`specs/Outcome.antt`).
+//! ones of that outcome (`specs/Outcome.antt`); and what each handle keeps then (`specs/Handles.antt`).
 #![tactic(auto)]
 
 mod asked;
 mod exports;
+mod handle;
+mod held;
+mod kept;
 mod many;
 mod numbers;
 mod outcome;
+mod select;
 #[cfg(test)]
 mod tests;
 
 pub use exports::{VERSION, jp_canon, jp_check, jp_eval, jp_version};
+pub use handle::Handle;
+pub use held::Held;
+pub use kept::Kept;
 pub use many::{Question, jp_eval_many};
 pub use outcome::{Outcome, Report};
+pub use select::{jp_clear, jp_document_new, jp_query_new, jp_select};

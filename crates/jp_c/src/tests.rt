@@ -1,5 +1,8 @@
 //! The calls as C makes them, with values by hand.
-use crate::{Question, Report, jp_canon, jp_check, jp_eval, jp_eval_many, jp_version};
+use crate::{
+    Handle, Question, Report, jp_canon, jp_check, jp_clear, jp_document_new, jp_eval, jp_eval_many,
+    jp_query_new, jp_select, jp_version,
+};
 use std::alloc::Global;
 use std::test::Fail;
 
@@ -145,4 +148,70 @@ fn answers_many_over_no_document(rt: HostRuntime) {
     let (first, second) = (questions[0].report, questions[1].report);
     assert_eq!(rt; (first.status, first.kind, first.length), (3, 2, 4));
     assert_eq!(rt; second, no_query(0));
+}
+
+/// Two handles that keep this query and the document.
+fn kept(alloc: Global, query: &[u8]) -> Result<(Handle, Handle), Fail> {
+    let mut handles = (Handle::empty(alloc), Handle::empty(alloc));
+    let mut report = done(9);
+    let first = jp_query_new(alloc, query, 0, &mut handles.0, &mut report);
+    let second = jp_document_new(alloc, DOCUMENT, &mut handles.1, &mut [], &mut report);
+    match (first, second) {
+        (0, 0) => Ok(handles),
+        _ => Err("not kept")?,
+    }
+}
+
+/// The status of a selection in form 2 with a buffer of 32 bytes, and the buffer.
+fn selected(alloc: Global, query: &mut Handle, document: &mut Handle) -> (u32, [u8; 32]) {
+    let mut out = [b'#'; 32];
+    let mut report = done(9);
+    let status = jp_select(alloc, query, document, 2, &mut out, &mut report);
+    (status, out)
+}
+
+#[test]
+fn selects_again_and_again(rt: HostRuntime) -> Result<(), Fail> {
+    let alloc = rt.alloc();
+    let (mut query, mut document) = kept(alloc, b"$.a[0]")?;
+    let lines = (0, *b"$['a'][0]\t1\n####################");
+    assert_eq!(rt; selected(alloc, &mut query, &mut document), lines);
+    assert_eq!(rt; selected(alloc, &mut query, &mut document), lines);
+    let mut report = done(9);
+    jp_query_new(alloc, b"$.b", 0, &mut query, &mut report);
+    assert_eq!(rt; selected(alloc, &mut query, &mut document), (0, [b'#'; 32]));
+    Ok(())
+}
+
+#[test]
+fn selects_nothing_of_what_is_not_kept(rt: HostRuntime) -> Result<(), Fail> {
+    let alloc = rt.alloc();
+    let (mut query, mut document) = kept(alloc, b"$")?;
+    let none = (2, [b'#'; 32]);
+    assert_eq!(rt; selected(alloc, &mut document, &mut query), none);
+    jp_clear(alloc, &mut query);
+    assert_eq!(rt; selected(alloc, &mut query, &mut document), none);
+    jp_clear(alloc, &mut query);
+    jp_clear(alloc, &mut document);
+    assert_eq!(rt; selected(alloc, &mut query, &mut document), none);
+    Ok(())
+}
+
+#[test]
+fn keeps_nothing_of_what_is_refused(rt: HostRuntime) -> Result<(), Fail> {
+    let alloc = rt.alloc();
+    let (mut query, mut document) = kept(alloc, b"$")?;
+    let mut report = done(9);
+    assert_eq!(rt;
+        jp_query_new(alloc, b"$.a[01]", 0, &mut query, &mut report),
+        1
+    );
+    assert_eq!(rt; report, no_query(5));
+    let mut out = [b'#'; 5];
+    let status = jp_document_new(alloc, b"[2.5]", &mut document, &mut out, &mut report);
+    assert_eq!(rt; (status, report.kind, report.length), (3, 2, 4));
+    assert_eq!(rt; out.as_slice(), b"$[0]#".as_slice());
+    assert_eq!(rt; query.into_box().is_none(), true);
+    assert_eq!(rt; document.into_box().is_none(), true);
+    Ok(())
 }

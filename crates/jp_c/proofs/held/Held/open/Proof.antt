@@ -1,0 +1,50 @@
+-- `open` gives the box that is kept.
+use Rattle.std.proofs.Common.{◌≡◌, List, [], ◌∷◌, ◌++◌, refl, sym, subst, Some, true}
+use mir.Val.{Val, vptr}
+use base.Logic.{SProp, ent, emp, id⊢}
+use prog.Wp.{WpFn}
+use types.Kit.{‵, raw, ◌⊛◌, ◌$◌, ◌∵◌, !, qed, by, move, keep, split, fsplit, fjoin, use0, suffices}
+use types.Run.{stop, fld, of_opd, no_more, and_then, returns, enter}
+use types.ByLocal.{alloc_all, pass_all, free_all, look_at, get, get_in, sets}
+use types.Part.{agg, sub, whole}
+use contract.Monad.{fact, fact_i}
+use contract.Running.{tables}
+use denote.Exit.{yes}
+use denote.RattleType.{owns}
+use denote.Signature.{types_at, plain}
+use denote.RawPtr.{block_ptr}
+use denote.Steps.{nothing, heard}
+use denote.Triple.Entry.{alive}
+use denote.Triple.Walked.{Stays, stay_dropped, walk_of}
+use Rattle.core.proofs.alloc.Calls.{Goes-blank}
+use Rattle.std.specs.contracts.impls.GlobalAllocator.TheImpl.{ghosts}
+use Rattle.std.proofs.alloc.Global.TheLaws as heap_laws
+use Rattle.std.proofs.raw_atomic.Walks.{proved_at, leaves}
+use Rattle.jp_loose.proofs.Values.{both, Loose, loose_good, loose_in}
+use Rattle.jp_c.proofs.HeldValues.{R, Z, held_good, held_out, kept_there}
+use Rattle.std.specs.Option.{is_some}
+use Rattle.jp_c.specs.contracts.held.Held as held
+use Rattle.jp_c.specs.contracts.held.Held.open.{ended, clauses}
+use Rattle.jp_c.specs.contracts.held.Held.open.Key.{name as #self}
+use Rattle.jp_c.proofs.held.Held.open.Statement.{statement}
+use Rattle.jp_c.proofs.held.Held.open.Code as code
+
+pub open_spec : {M : Type 1} → statement M
+open_spec 𝓤 𝓛 𝓜 𝓡 wired =
+    let H = 𝓛.H in let 𝓣 = tables 𝓤 H 𝓜 𝓡 𝓡.env in let En = ended in let c = clauses 𝓛 𝓜.mem 𝓡.returns in let fn = code.function in
+    let LZ = heap_laws.the_row_laws in
+    let hs : Stays En.signature.params En.kept = (stay_dropped (plain (λ _. held.the_row)) yes, tt) in
+    proved_at 𝓛 En hs c 𝓜 𝓡 (Goes-blank 𝓛 0 (plain (λ _. held.the_row)) yes (λ κs x f. tt), tt) #self fn (code.unfolded 𝓤 H 𝓜 𝓡 wired) (λ z are.
+    let κs = z.0.0 in let qs = z.0.1 in let Post : Val → SProp 𝓤 = (walk_of 𝓛 En hs c).post z in let Run : List Val → SProp 𝓤 = λ ws. WpFn 𝓤 H 𝓣.C 𝓣.Λ fn ws Post in
+    let v = z.0.3.0 in let a = v.alloc in
+    qed 𝓛 ((raw (alive 𝓛 En.signature κs qs) ⊛ ‵ (owns (types_at En.signature.params κs) z.0.3 z.0.4)) ∷ raw (fact 𝓤 (is_some v.value ≡ true)) ∷ []) ∵
+    move ! (1 ∷ []) $ heard ! (is_some v.value ≡ true) (λ some. let full = kept_there v.value some in
+    split ! $ move ! (1 ∷ []) $ fsplit ! $ held_out ! v z.0.4.0 full.0 full.1 (λ b o h e ws fits.
+    let w : Val = both (vptr b o) h in let made : (Loose R Z LZ ghosts).Denot = record { at = block_ptr b o; alloc = a; value = full.0 } in
+    loose_in R Z LZ ghosts ! b o h a full.0 $
+    suffices ! (Run (w ∷ [])) (subst (λ (us : List Val). ent 𝓤 (Run (w ∷ [])) (Run us)) (sym (λ i. ws i ++ [])) (id⊢ 𝓤 (Run (w ∷ [])))) $
+    enter ! 𝓣.C 𝓣.Λ fn (w ∷ []) Post $ alloc_all ! (λ l. pass_all ! refl (held_good (block_ptr b o) h fits, tt) $
+    sets ! (of_opd ! (get_in ! (fld ! refl (stop !)) (sub ! 0 refl (whole !)))) refl (tt, tt) $ sets ! (of_opd ! (get_in ! (fld ! refl (stop !)) (sub ! 1 refl (whole !)))) refl fits $
+    sets ! (of_opd ! (get ! refl)) refl (tt, tt) $ sets ! (agg ! (and_then ! (get ! refl) (and_then ! (get ! refl) (no_more !)))) refl (loose_good R Z LZ ghosts b o h fits) $
+    use0 𝓛 (raw (fact 𝓤 (v.value ≡ Some made.value))) (fact_i 𝓤 (v.value ≡ Some made.value) (emp 𝓤) full.1) $ nothing ! $ nothing ! $ fjoin ! $
+    returns ! (look_at ! 0 refl) $ free_all ! refl $ keep ! (4 ∷ 0 ∷ 2 ∷ 1 ∷ []) $ by ! (leaves 𝓛 En hs c z w made (tt, tt) (tt, tt))))))
