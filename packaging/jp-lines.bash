@@ -1,0 +1,25 @@
+# Completion of jp-lines for bash: its subcommands and its flags. A query can't be completed.
+
+_jp_lines() {
+    local word=${COMP_WORDS[COMP_CWORD]}
+    COMPREPLY=()
+    # What follows one of these is the shell's, which completes it as a file's name.
+    if [[ ${COMP_WORDS[COMP_CWORD - 1]} =~ ^[0-9]*[\<\>]+$ ]]; then
+        compopt -o default
+    elif [ "$COMP_CWORD" -eq 1 ]; then
+        mapfile -t COMPREPLY < <(compgen -W "eval paths both count" -- "$word")
+    elif [[ $word == -* ]]; then
+        mapfile -t COMPREPLY < <(compgen -W "$(_jp_lines_flags)" -- "$word")
+    fi
+}
+
+# The flags that the words before this one don't have, each of which is taken once; none after `--`.
+_jp_lines_flags() {
+    local flag before=" ${COMP_WORDS[*]:2:COMP_CWORD-2} "
+    [[ $before != *" -- "* ]] || return 0
+    for flag in --extended --number --keep-going --line-buffered; do
+        [[ $before == *" $flag "* ]] || echo "$flag"
+    done
+}
+
+complete -F _jp_lines jp-lines
