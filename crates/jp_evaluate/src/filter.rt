@@ -1,5 +1,6 @@
 //! The truth of the expressions of filters (RFC 9535 section 2.3.5.2).
-ghost use Rattle.std.specs.Prelude.{◌≡◌, IfOk, map};
+ghost use Rattle.std.specs.Prelude.{◌≡◌, ◌⊎◌, IfOk, None, map, true};
+ghost use Rattle.jp_tree.specs.declared.tree.Op.TheVariants.{Greater, Less};
 ghost use Rattle.jp_tree.specs.Tree.{expr_of, exprs, operand_of, query_of};
 ghost use Rattle.jp_select.specs.Comparable.{comparable_of};
 ghost use Rattle.jp_evaluate.specs.Nodelist.{all_hold, any_holds, has_node, holds, nodelist_at};
@@ -11,10 +12,10 @@ use crate::evaluating::Evaluation;
 use crate::operand::literal_value;
 use crate::pattern::Patterns;
 use crate::walk::Walk;
-use jp_lent::Selectable;
+use jp_lent::{Lent, Selectable};
 use jp_match::Matching;
 use jp_select::{Comparable, compare};
-use jp_tree::{Expr, Operand, Query, Subject};
+use jp_tree::{Expr, Op, Operand, Query, Subject};
 use std::alloc::AllocError;
 
 /// What stays the same while an expression is evaluated: what the evaluation goes by, and the value
@@ -37,6 +38,9 @@ impl<'a, 'q, V: Selectable + 'q, M: Matching> Asking<'a, 'q, V, M> {
             Expr::Not(part) => Ok(!self.holds(patterns, part)?),
             Expr::Compare { left, op, right } => {
                 let left = self.operand_value(patterns, left)?;
+                if is_never(*op, &left) {
+                    return Ok(false);
+                }
                 let right = self.operand_value(patterns, right)?;
                 Ok(compare(*op, left, right))
             }
@@ -104,5 +108,17 @@ impl<'a, 'q, V: Selectable + 'q, M: Matching> Asking<'a, 'q, V, M> {
             Operand::Query(query) => Ok(Comparable::of(self.node_value(query))),
             Operand::Call(call) => self.call_value(patterns, call),
         }
+    }
+}
+
+/// Whether a comparison is false whatever stands on its right: Nothing is neither less nor greater
+/// (RFC 9535 section 2.3.5.2.2).
+fn is_never<V: Lent>(op: Op, left: &Comparable<'_, V>) -> bool
+    ensures nothing { result ≡ true → comparable_of V.meaning left.now ≡ None }
+    ensures order { result ≡ true → (op ≡ Less) ⊎ (op ≡ Greater) }
+{
+    match (left, op) {
+        (Comparable::Nothing, Op::Less | Op::Greater) => true,
+        _ => false,
     }
 }
