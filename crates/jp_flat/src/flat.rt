@@ -77,7 +77,7 @@ impl Room {
     pub fn read(self, bytes: &[u8]) -> Result<Flat<'_>, Room>
         ensures { IfOk result (λ f. IsDocument bytes.now (document_in f)) }
     {
-        let Ok(text) = simdutf8::compat::from_utf8(bytes) else {
+        let Ok(text) = simdutf8::basic::from_utf8(bytes) else {
             return Err(self);
         };
         let mut pending = self.pending;

@@ -51,7 +51,7 @@ fn unescaped(tables: &mut Tables<'_>, room: &mut Vec<Scratch>, quoted: &[u8]) ->
     if quoted.is_empty() || quoted[0] != b'"' {
         return None;
     }
-    let text = simdutf8::compat::from_utf8(quoted).ok()?;
+    let text = simdutf8::basic::from_utf8(quoted).ok()?;
     if room.is_empty() {
         take_room(room)?;
     }
