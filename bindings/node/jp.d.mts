@@ -72,6 +72,15 @@ export function parse(query: string, options?: Options): Query;
  */
 export function find(query: string, document: Document, options?: Options): Match[];
 
+/**
+ * What `find` gives for each query, over one document. A query that is refused has its `QueryError` in the
+ * list, and ends nothing. Throws `DocumentError` where a query that is accepted is asked of what is no
+ * document.
+ */
+export function findMany(
+  queries: Iterable<string>, document: Document, options?: Options,
+): (Match[] | QueryError)[];
+
 /** The normalized paths of the nodes that `find` gives. */
 export function paths(query: string, document: Document, options?: Options): string[];
 

@@ -115,6 +115,17 @@ export function find(query, document, options) {
   });
 }
 
+export function findMany(queries, document, options) {
+  return Array.from(queries, (query) => {
+    try {
+      return find(query, document, options);
+    } catch (fault) {
+      if (fault instanceof QueryError) return fault;
+      throw fault;
+    }
+  });
+}
+
 export function paths(query, document, options) {
   return linesOf(query, document, PATHS, options);
 }

@@ -150,6 +150,16 @@ test("the deepest query and document", () => {
   assert.equal(jp.canonical(query), "$[?@['a']]");
 });
 
+test("many queries are answered in turn, and a refused one ends nothing", () => {
+  const [prices, refused, none] = jp.findMany(["$..price", "$[01]", "$.none"], STORE);
+  assert.deepEqual(prices.map((match) => match.value), [399, 8, 12]);
+  assert.ok(refused instanceof jp.QueryError);
+  assert.deepEqual([refused.kind, refused.place], ["Syntax", 3]);
+  assert.deepEqual(none, []);
+  assert.ok(thrown(jp.DocumentError, () => jp.findMany(["$[01]", "$"], "[1.5]")));
+  assert.equal(jp.findMany(["$[01]"], "[1.5]").length, 1);
+});
+
 test("calls go on after the stack ran out", () => {
   const deep = (depth) => (depth === 0 ? jp.values("$..[?@..a]", "[1]") : deep(depth - 1));
   for (let depth = 1; depth < 40_000; depth += 1000) {
