@@ -6,7 +6,7 @@ use Rattle.jp_c.specs.declared.kept.Kept.TheVariants.{Query, Document}
 use Rattle.jp_check.specs.Checked.{Profiled}
 use Rattle.jp_document.specs.Document.{document_of}
 use Rattle.jp_document.specs.declared.document.Document as document
-use Rattle.jp_tree.specs.Tree.{query_of}
+use Rattle.jp_tree.specs.Views.{query_of}
 
 pub query_there : (kept : Option (Box Kept Global)) (b : Box Kept Global) (seen : Kept) (q : Profiled)
     → kept ≡ Some b → seen ≡ b.value → seen ≡ Query q

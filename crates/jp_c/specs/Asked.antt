@@ -13,12 +13,12 @@ use Rattle.jp_document.specs.declared.fault.DocumentFault.TheVariants as documen
 use Rattle.jp_query.specs.declared.refusal.Refusal.{Refusal}
 use Rattle.jp_query.specs.declared.refusal.RefusalKind.TheVariants.{Syntax}
 use Rattle.jp_tree.specs.Tree.{QueryTree}
-use Rattle.jsonpath.specs.Find.{RefusesQuery}
+use Rattle.jsonpath.specs.Find.{RefusesText}
 use Rattle.jsonpath.specs.declared.fault.FindFault.{FindFault}
 use Rattle.jsonpath.specs.declared.fault.FindFault.TheVariants.{Query, Document, NoMemory}
 
 -- the bytes are a text (RFC 3629), which in the profile is accepted as the tree q
-pub record IsAsked (profile : Profile) (bytes : List ℕ) (q : QueryTree) : Type 0 where
+pub record IsAcceptedInBytes (profile : Profile) (bytes : List ℕ) (q : QueryTree) : Type 0 where
   pub utf8 : IsUtf8 bytes
   pub accepted : IsAcceptedAs profile (chars bytes) q
 
@@ -30,7 +30,7 @@ pub record IsNoText (bytes : List ℕ) (r : Refusal) : Type 0 where
 -- the bytes are no text, or one that in the profile is refused so for what it is
 pub data RefusesBytes (profile : Profile) (bytes : List ℕ) (r : Refusal) : Type 0 where
   no_text : IsNoText bytes r → RefusesBytes profile bytes r
-  refused : IsUtf8 bytes → RefusesQuery profile (chars bytes) r → RefusesBytes profile bytes r
+  refused : IsUtf8 bytes → RefusesText profile (chars bytes) r → RefusesBytes profile bytes r
 
 -- why no query is read; running out of memory says nothing of the bytes
 abbrev pub IsQueryFault : Profile → List ℕ → FindFault → Type 0
@@ -42,7 +42,7 @@ IsQueryFault profile bytes NoMemory = Unit {0}
 pub record IsAnswer (profile : Profile) (form : Form) (query bytes text : List ℕ) : Type 0 where
   pub q : QueryTree
   pub d : Value
-  pub asked : IsAsked profile query q
+  pub asked : IsAcceptedInBytes profile query q
   pub document : IsDocument bytes d
   pub lines : text ≡ output_of form q d
 
@@ -51,12 +51,12 @@ pub record IsAnswer (profile : Profile) (form : Form) (query bytes text : List �
 abbrev pub IsNoAnswer : Profile → List ℕ → List ℕ → FindFault → Type 0
 IsNoAnswer profile query bytes (Query r) = RefusesBytes profile query r
 IsNoAnswer profile query bytes (Document f) =
-    ((q : QueryTree) × IsAsked profile query q) × IsDocumentFault bytes f
+    ((q : QueryTree) × IsAcceptedInBytes profile query q) × IsDocumentFault bytes f
     × (f ≢ document.NoMemory)
 IsNoAnswer profile query bytes NoMemory = Unit {0}
 
 -- the text is the canonical one of the query that the bytes are
 pub record IsCanonOf (profile : Profile) (query text : List ℕ) : Type 0 where
   pub q : QueryTree
-  pub asked : IsAsked profile query q
+  pub asked : IsAcceptedInBytes profile query q
   pub canonical : chars text ≡ canon_of q

@@ -3,7 +3,7 @@ use Rattle.std.specs.Prelude.{◌≡◌, ◌⊎◌, ℕ, List, [], Some, None, s
 use Rattle.jp_check.specs.declared.profile.Profile.{Profile}
 use Rattle.jp_command.specs.declared.lines.Form.{Form}
 use Rattle.jp_tree.specs.Tree.{QueryTree}
-use Rattle.jp_c.specs.Asked.{IsAnswer, IsAsked, IsCanonOf, IsNoAnswer, IsQueryFault}
+use Rattle.jp_c.specs.Asked.{IsAnswer, IsAcceptedInBytes, IsCanonOf, IsNoAnswer, IsQueryFault}
 use Rattle.jp_c.specs.Numbers.{form_of, profile_of}
 use Rattle.jp_c.specs.declared.outcome.Outcome as outcome
 use Rattle.jp_c.specs.declared.outcome.Outcome.TheVariants.{Text, Usage, Fault}
@@ -29,7 +29,7 @@ IsCanonOutcome profile query (Fault fault) =
 -- of `jp_check`: no text, and the query is accepted; or why it is not
 abbrev pub IsCheckOutcome : ℕ → List ℕ → outcome.Outcome → Type 0
 IsCheckOutcome profile query (Text text) =
-    (p : Profile) × (q : QueryTree) × (profile_of profile ≡ Some p) × IsAsked p query q
+    (p : Profile) × (q : QueryTree) × (profile_of profile ≡ Some p) × IsAcceptedInBytes p query q
     × (string_bytes text ≡ [])
 IsCheckOutcome profile query Usage = profile_of profile ≡ None
 IsCheckOutcome profile query (Fault fault) =

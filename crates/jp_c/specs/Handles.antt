@@ -6,10 +6,11 @@ use Rattle.jp_command.specs.declared.lines.Form.{Form}
 use Rattle.jp_document.specs.Document.{document_of, IsDocument, IsDocumentFault}
 use Rattle.jp_document.specs.Value.{Value}
 use Rattle.jp_document.specs.declared.fault.DocumentFault.TheVariants as document
-use Rattle.jp_tree.specs.Tree.{QueryTree, query_of}
+use Rattle.jp_tree.specs.Tree.{QueryTree}
+use Rattle.jp_tree.specs.Views.{query_of}
 use Rattle.jsonpath.specs.declared.fault.FindFault.{FindFault}
 use Rattle.jsonpath.specs.declared.fault.FindFault.TheVariants as find
-use Rattle.jp_c.specs.Asked.{IsAsked}
+use Rattle.jp_c.specs.Asked.{IsAcceptedInBytes}
 use Rattle.jp_c.specs.Calls.{IsCheckOutcome}
 use Rattle.jp_c.specs.Numbers.{form_of, profile_of}
 use Rattle.jp_c.specs.declared.handle.Handle.{Handle}
@@ -36,7 +37,7 @@ document_kept _ = None
 -- is kept
 abbrev pub IsQueryMade : ℕ → List ℕ → outcome.Outcome → Option Kept → Type 0
 IsQueryMade profile query (Text text) now =
-    (p : Profile) × (q : QueryTree) × (profile_of profile ≡ Some p) × IsAsked p query q
+    (p : Profile) × (q : QueryTree) × (profile_of profile ≡ Some p) × IsAcceptedInBytes p query q
     × (string_bytes text ≡ []) × (query_kept now ≡ Some q)
 IsQueryMade profile query o now = IsCheckOutcome profile query o × (now ≡ None)
 

@@ -4,8 +4,9 @@ ghost use Rattle.std.specs.Str.{IsUtf8};
 ghost use Rattle.jp_document.specs.Document.{IsDocument};
 ghost use Rattle.jp_flat.specs.FlatValue.{document_in};
 ghost use Rattle.jp_query.specs.declared.refusal.RefusalKind.TheVariants.{NoMemory};
-ghost use Rattle.jp_tree.specs.Tree.{query_of};
-ghost use Rattle.jp_c.specs.Asked.{IsAnswer, IsAsked, IsCanonOf, IsNoAnswer, IsNoText, IsQueryFault};
+ghost use Rattle.jp_tree.specs.Views.{query_of};
+ghost use Rattle.jp_c.specs.Asked.{IsAnswer, IsAcceptedInBytes, IsCanonOf, IsNoAnswer, IsNoText};
+ghost use Rattle.jp_c.specs.Asked.{IsQueryFault};
 ghost use Rattle.jp_c.specs.Asked.{RefusesBytes};
 
 use jp_canon::canon;
@@ -34,7 +35,7 @@ fn text_of(query: &[u8]) -> Result<&str, Refusal>
 
 /// The query that these bytes are in a profile.
 pub(crate) fn asked(alloc: Global, query: &[u8], profile: Profile) -> Result<Checked, FindFault>
-    ensures asked { IfOk result (λ c. IsAsked profile query.now (query_of c.query)) }
+    ensures asked { IfOk result (λ c. IsAcceptedInBytes profile query.now (query_of c.query)) }
     ensures fault { IfErr result (IsQueryFault profile query.now) }
 {
     Ok(read_bytes(alloc, query, profile)?)
@@ -42,7 +43,7 @@ pub(crate) fn asked(alloc: Global, query: &[u8], profile: Profile) -> Result<Che
 
 /// The same, or how it is refused.
 fn read_bytes(alloc: Global, query: &[u8], profile: Profile) -> Result<Checked, Refusal>
-    ensures asked { IfOk result (λ c. IsAsked profile query.now (query_of c.query)) }
+    ensures asked { IfOk result (λ c. IsAcceptedInBytes profile query.now (query_of c.query)) }
     ensures refused { IfErr result
         (λ r. (r.kind ≡ NoMemory) ⊎ RefusesBytes profile query.now r) }
 {
@@ -52,7 +53,7 @@ fn read_bytes(alloc: Global, query: &[u8], profile: Profile) -> Result<Checked, 
 
 /// The same of a text.
 fn read_text(alloc: Global, text: &str, profile: Profile) -> Result<Checked, Refusal>
-    ensures asked { IfOk result (λ c. IsAsked profile text.now (query_of c.query)) }
+    ensures asked { IfOk result (λ c. IsAcceptedInBytes profile text.now (query_of c.query)) }
     ensures refused { IfErr result
         (λ r. (r.kind ≡ NoMemory) ⊎ RefusesBytes profile text.now r) }
 {

@@ -1,6 +1,6 @@
 //! The calls with handles.
 ghost use Rattle.std.specs.Prelude.{◌≡◌, [], IfErr, IfOk, None, Some, option_map};
-ghost use Rattle.jp_c.specs.Asked.{IsAsked, IsQueryFault};
+ghost use Rattle.jp_c.specs.Asked.{IsAcceptedInBytes, IsQueryFault};
 ghost use Rattle.jp_c.specs.Handles.{IsDocumentMade, IsNoDocument, IsQueryMade, IsSelectOutcome};
 ghost use Rattle.jp_c.specs.Handles.{document_kept, kept_by, query_kept};
 ghost use Rattle.jp_c.specs.Outcome.{Answers};
@@ -52,7 +52,7 @@ fn query_made(alloc: Global, query: &[u8], profile_number: u32) -> (Outcome, Han
 
 /// A handle that keeps the query.
 fn kept_query(alloc: Global, query: &[u8], profile: Profile) -> Result<Handle, FindFault>
-    ensures kept { IfOk result (λ h. (q : QueryTree) × IsAsked profile query.now q
+    ensures kept { IfOk result (λ h. (q : QueryTree) × IsAcceptedInBytes profile query.now q
         × (query_kept (kept_by h) ≡ Some q)) }
     ensures fault { IfErr result (IsQueryFault profile query.now) }
 {

@@ -2,7 +2,7 @@
 use Rattle.std.proofs.Common.{◌≡◌, ℕ, ◌+◌, List, [], ◌∷◌, ◌++◌, map, Some, refl, sym, subst}
 use Rattle.std.proofs.Common.{append-nil}
 use Rattle.std.specs.List.{AllByRecursion, flat_map}
-use Rattle.jp_reading.specs.Forms.{Blank, Each, Form, Item, Omitted, Separated, ◌⌢◌}
+use Rattle.jp_reading.specs.Forms.{Blank, Each, Form, Component, Omitted, Separated, ◌⌢◌}
 use Rattle.jp_reading.specs.Texts.{Spans, Text, bytes}
 use Rattle.jp_canon.specs.Canon.{separated}
 pub use Rattle.jp_reading.proofs.HasForm.{HasForm as Has, has-word, has-one, both}
@@ -14,8 +14,8 @@ has-blank = record { at = λ o. ([], record { none = refl; blank = tt }) }
 pub has-omitted : Has Omitted []
 has-omitted = record { at = λ o. (_, record { spans = refl; is = refl }) }
 
-pub has-item : {P : Form} {t : Text} → Has P t → Has (Item P) t
-has-item {t} h = record {
+pub has-component : {P : Form} {t : Text} → Has P t → Has (Component P) t
+has-component {t} h = record {
   at =
       λ o.
       let a = h.at o in (
@@ -39,8 +39,8 @@ before-blank {t} h = has-same (append-nil t) (both h has-blank)
 -- ---- one text after another
 
 -- what each part's form gives
-pub each-gives : {A : Type 0} (P : A → Form) (R : A → Type 0) →
-    ((x : A) (s : Spans) (o : ℕ) (t : Text) → P x s o t → R x)
+pub each-gives : {A : Type 0} (P : A → Form) (R : A → Type 0)
+    → ((x : A) (s : Spans) (o : ℕ) (t : Text) → P x s o t → R x)
     → (xs : List A) (s : Spans) (o : ℕ) (t : Text) → Each P xs s o t → AllByRecursion R xs
 each-gives P R f [] s o t h = tt
 each-gives P R f (x ∷ xs) s o t h = (
@@ -56,8 +56,8 @@ has-each Q f (x ∷ xs) all = both all.0 (has-each Q f xs all.1)
 
 -- ---- with a mark between two neighbours
 
-pub separated-gives : {A : Type 0} (w : Form) (P : A → Form) (R : A → Type 0) →
-    ((x : A) (s : Spans) (o : ℕ) (t : Text) → P x s o t → R x)
+pub separated-gives : {A : Type 0} (w : Form) (P : A → Form) (R : A → Type 0)
+    → ((x : A) (s : Spans) (o : ℕ) (t : Text) → P x s o t → R x)
     → (xs : List A) (s : Spans) (o : ℕ) (t : Text) → Separated w P xs s o t → AllByRecursion R xs
 separated-gives w P R f [] s o t h = elim h [ ]
 separated-gives w P R f (x ∷ xs) s o t h = (
@@ -67,8 +67,8 @@ separated-gives w P R f (x ∷ xs) s o t h = (
       (o + bytes h.first) h.second h.two,
 )
 
-has-others : {A : Type 0} (w : Form) (mark : Text) (Q : A → Form) (f : A → Text) → Has w mark →
-    (xs : List A) → AllByRecursion (λ x. Has (Q x) (f x)) xs
+has-others : {A : Type 0} (w : Form) (mark : Text) (Q : A → Form) (f : A → Text) → Has w mark
+    → (xs : List A) → AllByRecursion (λ x. Has (Q x) (f x)) xs
     → Has (Each (λ y. w ⌢ Q y) xs) (flat_map (λ u. mark ++ u) (map f xs))
 has-others w mark Q f between [] all = has-word []
 has-others w mark Q f between (x ∷ xs) all = both (both between all.0)

@@ -9,7 +9,7 @@ use Rattle.jp_reading.specs.Texts.{Text}
 use Rattle.jp_document.specs.Path.{quoted}
 use Rattle.jp_document.specs.Spelling.{control, hex_digit, spelling}
 use Rattle.jp_document.proofs.Spellings.Characters.{each_spelling}
-use Rattle.jp_query.specs.Strings.{Character, Quoted, Unit as FourDigits, digits}
+use Rattle.jp_query.specs.Strings.{StringCharacter, Quoted, Unit as FourDigits, digits}
 use Rattle.jp_query.specs.Strings.{escape, escaped, hex, in_single, is_escapable}
 use Rattle.jp_query.specs.Strings.{is_hexdig, is_not_d, is_plain, not_d, plain, unit_of}
 use Rattle.jp_canon.proofs.Forms.{Has, both, has-as, has-each, has-one, has-word}
@@ -48,27 +48,27 @@ has-control c small =
 
 -- ---- characters
 
-by_letter : (c e : ℕ) → c ≡ escaped e → is_escapable char.single_quote e ≡ true →
-    Has (Character char.single_quote c) (char.backslash ∷ e ∷ [])
+by_letter : (c e : ℕ) → c ≡ escaped e → is_escapable char.single_quote e ≡ true
+    → Has (StringCharacter char.single_quote c) (char.backslash ∷ e ∷ [])
 by_letter c e means escapable =
     has-as (λ s o. escape e means)
     (both (has-word (codes "\\")) (has-one (is_escapable char.single_quote) e escapable))
 
-by_number : (c : ℕ) → c < 32 → Has (Character char.single_quote c) (control c)
+by_number : (c : ℕ) → c < 32 → Has (StringCharacter char.single_quote c) (control c)
 by_number c small =
     has-as (λ s o. hex)
     (both (has-word (codes "\\"))
     (both (has-word (codes "u")) (has-as (λ s o. not_d) (has-control c small))))
 
-by_itself : (c : ℕ) → 32 ≤ c → c ≢ char.single_quote → c ≢ char.backslash →
-    Has (Character char.single_quote c) (c ∷ [])
+by_itself : (c : ℕ) → 32 ≤ c → c ≢ char.single_quote → c ≢ char.backslash
+    → Has (StringCharacter char.single_quote c) (c ∷ [])
 by_itself c high quote slash =
     let is : is_plain char.single_quote c ≡ true = grind (arith, nat_tests) in
     has-as (λ s o. plain) (has-one (is_plain char.single_quote) c is)
 
-character : (c : ℕ) → Has (Character char.single_quote c) (spelling char.single_quote c)
+character : (c : ℕ) → Has (StringCharacter char.single_quote c) (spelling char.single_quote c)
 character =
-    each_spelling (λ c t. Has (Character char.single_quote c) t)
+    each_spelling (λ c t. Has (StringCharacter char.single_quote c) t)
     (by_letter char.backspace char.letter_b refl refl) (by_letter char.tab char.letter_t refl refl)
     (by_letter char.line_feed char.letter_n refl refl)
     (by_letter char.form_feed char.letter_f refl refl)
@@ -77,7 +77,7 @@ character =
     (by_letter char.backslash char.backslash refl refl) (λ c low none. by_number c low) by_itself
 
 characters : (cs : Text) → AllByRecursion
-    (λ c. Has (Character char.single_quote c) (spelling char.single_quote c)) cs
+    (λ c. Has (StringCharacter char.single_quote c) (spelling char.single_quote c)) cs
 characters [] = tt
 characters (c ∷ cs) = (character c, characters cs)
 
@@ -86,5 +86,5 @@ pub has-quoted : (cs : Text) → Has (Quoted cs) (quoted cs)
 has-quoted cs =
     has-as (λ s o. in_single)
     (both (has-word (codes "'"))
-    (both (has-each (Character char.single_quote) (spelling char.single_quote) cs (characters cs))
+    (both (has-each (StringCharacter char.single_quote) (spelling char.single_quote) cs (characters cs))
     (has-word (codes "'"))))

@@ -17,7 +17,8 @@ use Rattle.jp_document.proofs.Spellings.Indexes.{Begun, begun, decimal-index_tex
 use Rattle.jp_document.proofs.Spellings.Indexes.{value_from-index_text, zero_text}
 use Rattle.jp_tree.specs.declared.tree.Numeral.{Numeral}
 use Rattle.jp_tree.specs.declared.tree.Numeral.TheVariants.{Beyond, Fraction, Whole}
-use Rattle.jp_query.specs.Ints.{Int, is_leading_digit, negative_int}
+use Rattle.jp_query.specs.Ints.{Int, negative_int}
+use Rattle.jp_reading.specs.Numbers.{is_leading_digit}
 use Rattle.jp_query.specs.Ints.{negative_of, positive_int, whole_of, zero_int}
 use Rattle.jp_query.specs.Literals.{Decimals, DigitSequence, Exponent, Mantissa, Number, Optional}
 use Rattle.jp_query.specs.Literals.{decimals, left_out, minus_zero, number, whole, written}

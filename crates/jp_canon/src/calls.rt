@@ -1,7 +1,7 @@
 //! Function expressions in canonical texts (RFC 9535 section 2.4).
 
 ghost use Rattle.std.specs.Prelude.{◌≡◌, ◌++◌, OnOk};
-ghost use Rattle.jp_tree.specs.Tree.{argument_of, call_of, expr_of};
+ghost use Rattle.jp_tree.specs.Views.{argument_of, call_of, expr_of};
 ghost use Rattle.jp_canon.specs.Canon.{argument_text, call_text};
 ghost use Rattle.jp_canon.specs.Precedence.{is_test};
 

@@ -2,7 +2,7 @@
 
 ghost use Rattle.std.specs.Prelude.{◌≡◌, string_bytes, IfOk};
 ghost use Rattle.std.specs.Str.{chars};
-ghost use Rattle.jp_tree.specs.Tree.{query_of};
+ghost use Rattle.jp_tree.specs.Views.{query_of};
 ghost use Rattle.jp_canon.specs.Canon.{canon_of};
 
 use crate::segments::write_query;

@@ -3,7 +3,8 @@
 ghost use Rattle.std.specs.Prelude.{◌≡◌, ◌++◌, map, true, OnOk};
 ghost use Rattle.std.specs.Char.{is_ascii};
 ghost use Rattle.std.specs.List.{list_all};
-ghost use Rattle.jp_tree.specs.Tree.{expr_of, exprs, operand_of};
+ghost use Rattle.jp_tree.specs.Tree.{exprs};
+ghost use Rattle.jp_tree.specs.Views.{expr_of, operand_of};
 ghost use Rattle.jp_canon.specs.Canon.{expr_text, operand_text, part_texts, separated};
 ghost use Rattle.jp_canon.specs.Precedence.{is_grouped, precedence};
 

@@ -1,7 +1,7 @@
 //! Queries, segments and selectors in canonical texts (RFC 9535 sections 2.1 to 2.5).
 
 ghost use Rattle.std.specs.Prelude.{◌≡◌, ◌++◌, OnOk};
-ghost use Rattle.jp_tree.specs.Tree.{query_of, segment_of, selector_of};
+ghost use Rattle.jp_tree.specs.Views.{query_of, segment_of, selector_of};
 ghost use Rattle.jp_canon.specs.Canon.{canon_of, segment_text, selector_text};
 
 use crate::expressions::write_expr;

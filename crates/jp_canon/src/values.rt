@@ -2,7 +2,7 @@
 
 ghost use Rattle.std.specs.Prelude.{◌≡◌, ◌++◌, OnOk};
 ghost use Rattle.jp_query.specs.Literals.{spelling};
-ghost use Rattle.jp_tree.specs.Tree.{literal_of};
+ghost use Rattle.jp_tree.specs.Views.{literal_of};
 ghost use Rattle.jp_canon.specs.Canon.{bound_text, is_one, literal_text, numeral_text, slice_text};
 ghost use Rattle.jp_canon.specs.Canon.{step_text};
 

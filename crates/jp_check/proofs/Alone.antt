@@ -12,7 +12,8 @@ use Rattle.jp_query.specs.declared.refusal.RefusalKind.TheVariants.{NumberRange,
 use Rattle.jp_query.specs.declared.refusal.RefusalKind.TheVariants.{UnknownFunction, ArgumentCount}
 use Rattle.jp_query.specs.declared.refusal.RefusalKind.TheVariants.{NotSingular, IllTyped}
 use Rattle.jp_query.specs.declared.refusal.RefusalKind.TheVariants.{NoMemory, TextTooLong}
-use Rattle.jp_query.specs.Items.{QueryItem, int, constant, inner, called, logical, count, items_of}
+use Rattle.jp_query.specs.Components.{QueryComponent, int, constant, inner, called, logical, count}
+use Rattle.jp_query.specs.Components.{components_of}
 use Rattle.jp_query.specs.Grammar.{Spells}
 use Rattle.jp_query.specs.Levels.{level_limit}
 use Rattle.jp_query.specs.Laws.{OneReading, IsParseRefusal, OneRefusal}
@@ -23,14 +24,14 @@ use Rattle.jp_check.specs.Accepted.{IsAcceptedAs, IsNotAccepted}
 use Rattle.jp_check.specs.declared.functions.DataType.{DataType}
 use Rattle.jp_check.specs.declared.profile.Profile.{Profile}
 use Rattle.jp_check.specs.Faults.{HasCallFault, HasFault}
-use Rattle.jp_check.specs.First.{IsItemFault, IsNoLater, IsFirstFault}
+use Rattle.jp_check.specs.First.{IsComponentFault, IsNoLater, IsFirstFault}
 use Rattle.jp_check.specs.Functions.{Signature, signature_named}
 use Rattle.jp_check.specs.Types.{wanted}
 use Rattle.jp_check.specs.Laws.{OneAnswer}
 use Rattle.jp_check.specs.Refused.{IsFaulty, RefusalSays, IsRefused, IsRefusedForItself}
-use Rattle.jp_check.proofs.Least.{NoFault, of-cons, of-item, of-none, found}
+use Rattle.jp_check.proofs.Least.{NoFault, of-cons, of-component, of-none, found}
 use Rattle.jp_check.specs.Private.Walk.{Progress, steps}
-use Rattle.jp_query.proofs.ItemSpans.{spans-of_items}
+use Rattle.jp_query.proofs.ComponentSpans.{spans-of_components}
 
 -- ---- kinds have numbers of their own
 
@@ -78,22 +79,22 @@ no_later-both r f (inr a) (inl b) = absurd (omega arith)
 no_later-both r f (inr a) (inr b) =
     same-refusal r f (number_of-injective r.kind f.kind (omega arith)) a.0
 
-first-alone : (profile : Profile) (items : List QueryItem) (spans : Spans) (r f : Refusal)
-    → IsFirstFault profile items spans r
-    → IsFirstFault profile items spans f → r ≡ f
-first-alone profile items spans r f h g = no_later-both r f (h.first f g.is) (g.first r h.is)
+first-alone : (profile : Profile) (components : List QueryComponent) (spans : Spans) (r f : Refusal)
+    → IsFirstFault profile components spans r
+    → IsFirstFault profile components spans f → r ≡ f
+first-alone profile components spans r f h g = no_later-both r f (h.first f g.is) (g.first r h.is)
 
 -- ---- no fault without faults
 
-no_fault : (profile : Profile) (items : List QueryItem) (spans : Spans) (f : Refusal)
-    → All (NoFault profile) items
-    → IsItemFault profile items spans f → ⊥
+no_fault : (profile : Profile) (components : List QueryComponent) (spans : Spans) (f : Refusal)
+    → All (NoFault profile) components
+    → IsComponentFault profile components spans f → ⊥
 no_fault profile [] spans f all h = of-none profile [] spans f refl h
 no_fault profile (x ∷ xs) [] f all h = of-none profile (x ∷ xs) [] f refl h
 no_fault profile (x ∷ xs) (span ∷ spans) f all h =
     elim (of-cons profile x xs span spans f h) as (λ _. ⊥) [
       | inl q ↦ All-head (NoFault profile) x xs all f.kind
-          (rw (of-item profile x span f q).0 q.kind)
+          (rw (of-component profile x span f q).0 q.kind)
       | inr q ↦ no_fault profile xs spans f (All-tail (NoFault profile) x xs all) q
     ]
 
@@ -103,14 +104,14 @@ faults-same : (profile : Profile) → OneReading → (text : Text) (r f : Refusa
     → IsFaulty profile text r → IsFaulty profile text f → r ≡ f
 faults-same profile one text r f a b =
     let same = one level_limit level_limit a.tree b.tree a.spans b.spans text a.spelled b.spelled in
-    first-alone profile (items_of a.tree) a.spans r f a.first (rw (same.0, same.1) b.first)
+    first-alone profile (components_of a.tree) a.spans r f a.first (rw (same.0, same.1) b.first)
 
 not-faulty : (profile : Profile) → OneReading → (text : Text) (q : QueryTree) (r : Refusal)
     → IsAcceptedAs profile text q
     → IsFaulty profile text r → ⊥
 not-faulty profile one text q r a b =
     let same = one level_limit level_limit q b.tree a.spans b.spans text a.spelled b.spelled in
-    no_fault profile (items_of q) a.spans r a.faultless (rw (same.0, same.1) b.first.is)
+    no_fault profile (components_of q) a.spans r a.faultless (rw (same.0, same.1) b.first.is)
 
 -- why a text is refused: out of memory, that it is no query, or a fault
 data Why (profile : Profile) (text : Text) (r : Refusal) : Type 0 where
@@ -175,34 +176,34 @@ refused-result profile one once text (Err r) h =
 
 -- ---- a first fault refuses the text
 
--- none of the kinds that are no faults of items
+-- none of the kinds that are no faults of components
 abbrev HasNone : (RefusalKind → Type 0) → Type 0
 HasNone Has = (Has Syntax → ⊥) × (Has TooDeep → ⊥) × (Has NoMemory → ⊥) × (Has TextTooLong → ⊥)
 
-call-none : (function : Option Signature) (given : ℕ) (want : Option DataType) →
-    HasNone (HasCallFault function given want)
+call-none : (function : Option Signature) (given : ℕ) (want : Option DataType)
+    → HasNone (HasCallFault function given want)
 call-none None given want = (λ h. h, λ h. h, λ h. h, λ h. h)
 call-none (Some function) given want = (λ h. h, λ h. h, λ h. h, λ h. h)
 
-item-none : (profile : Profile) (x : QueryItem) → HasNone (HasFault profile x)
-item-none profile (int n role) = (λ h. h, λ h. h, λ h. h, λ h. h)
-item-none profile (constant l role) = (λ h. h, λ h. h, λ h. h, λ h. h)
-item-none profile (inner q role) = (λ h. h, λ h. h, λ h. h, λ h. h)
-item-none profile (called (call name all) role) =
+component-none : (profile : Profile) (x : QueryComponent) → HasNone (HasFault profile x)
+component-none profile (int n role) = (λ h. h, λ h. h, λ h. h, λ h. h)
+component-none profile (constant l role) = (λ h. h, λ h. h, λ h. h, λ h. h)
+component-none profile (inner q role) = (λ h. h, λ h. h, λ h. h, λ h. h)
+component-none profile (called (call name all) role) =
     call-none (signature_named profile name) (count all) (wanted profile role)
-item-none profile (logical e role) = (λ h. h, λ h. h, λ h. h, λ h. h)
+component-none profile (logical e role) = (λ h. h, λ h. h, λ h. h, λ h. h)
 
 faulty-refused : (profile : Profile) (text : Text) (kind : RefusalKind) (place : ℕ)
     → IsFaulty profile text (record { kind = kind; place = place })
     → RefusalSays profile text kind place
 faulty-refused profile text Syntax place h =
-    absurd ((item-none profile h.first.is.item).0 h.first.is.kind)
+    absurd ((component-none profile h.first.is.component).0 h.first.is.kind)
 faulty-refused profile text TooDeep place h =
-    absurd ((item-none profile h.first.is.item).1 h.first.is.kind)
+    absurd ((component-none profile h.first.is.component).1 h.first.is.kind)
 faulty-refused profile text NoMemory place h =
-    absurd ((item-none profile h.first.is.item).2 h.first.is.kind)
+    absurd ((component-none profile h.first.is.component).2 h.first.is.kind)
 faulty-refused profile text TextTooLong place h =
-    absurd ((item-none profile h.first.is.item).3 h.first.is.kind)
+    absurd ((component-none profile h.first.is.component).3 h.first.is.kind)
 faulty-refused profile text kind place h = h
 
 refused-for_itself : (profile : Profile) (text : Text) (kind : RefusalKind) (place : ℕ)
@@ -210,13 +211,13 @@ refused-for_itself : (profile : Profile) (text : Text) (kind : RefusalKind) (pla
     → IsRefusedForItself profile text (record { kind = kind; place = place })
 refused-for_itself profile text kind place h = (
   faulty-refused profile text kind place h,
-  λ e. (item-none profile h.first.is.item).2
-      (subst (HasFault profile h.first.is.item) e h.first.is.kind),
+  λ e. (component-none profile h.first.is.component).2
+      (subst (HasFault profile h.first.is.component) e h.first.is.kind),
 )
 
 pub first-refused : {T : Type 0} (profile : Profile) (text : Text) (q : QueryTree) (spans : Spans)
     (result : Result T Refusal) → Spells level_limit q spans text
-    → IfErr result (IsFirstFault profile (items_of q) spans) → IfErr result (IsRefused profile text)
+    → IfErr result (IsFirstFault profile (components_of q) spans) → IfErr result (IsRefused profile text)
 first-refused profile text q spans (Ok x) h e = tt
 first-refused profile text q spans (Err r) h e =
     faulty-refused profile text r.kind r.place
@@ -231,14 +232,14 @@ spelled-answered : (profile : Profile) (text : Text) (q : QueryTree) (spans : Sp
     ((r : Refusal) × IsRefusedForItself profile text r)
 spelled-answered profile text q spans h =
     let start : Progress = record { profile = profile; spans = spans; first = None } in
-    let first = (steps (items_of q) start).first in
+    let first = (steps (components_of q) start).first in
     told first
-    (found profile text (items_of q) spans first
-    (spans-of_items level_limit q spans text h).each refl)
+    (found profile text (components_of q) spans first
+    (spans-of_components level_limit q spans text h).each refl)
   where
     told : (o : Option Refusal)
-        → MatchOption o (All (NoFault profile) (items_of q))
-        (IsFirstFault profile (items_of q) spans)
+        → MatchOption o (All (NoFault profile) (components_of q))
+        (IsFirstFault profile (components_of q) spans)
         → ((u : QueryTree) × IsAcceptedAs profile text u) ⊎
         ((r : Refusal) × IsRefusedForItself profile text r)
     told None all = inl (q, record { spans = spans; spelled = h; faultless = all })

@@ -10,11 +10,14 @@ use Rattle.jp_reading.specs.Texts.{Text}
 use Rattle.jp_query.specs.declared.refusal.RefusalKind.TheVariants.{NotWhole, NumberRange}
 use Rattle.jp_query.specs.declared.refusal.RefusalKind.TheVariants.{IndexRange, UnknownFunction}
 use Rattle.jp_query.specs.declared.refusal.RefusalKind.TheVariants.{NotSingular, IllTyped}
-use Rattle.jp_query.specs.Items.{QueryItem, Use, int, constant, inner, called, logical}
-use Rattle.jp_query.specs.Items.{as_index, as_bound, as_step, as_side, as_test, as_argument}
-use Rattle.jp_query.specs.Items.{argument_items, arguments_items, bound_items, call_items, count}
-use Rattle.jp_query.specs.Items.{expr_items, exprs_items, items_of, operand_items, segment_items}
-use Rattle.jp_query.specs.Items.{segments_items, selector_items, selectors_items}
+use Rattle.jp_query.specs.Components.{QueryComponent, Use, int, constant, inner, called, logical}
+use Rattle.jp_query.specs.Components.{as_index, as_bound, as_step, as_side, as_test, as_argument}
+use Rattle.jp_query.specs.Components.{argument_components, arguments_components, bound_components}
+use Rattle.jp_query.specs.Components.{call_components, count}
+use Rattle.jp_query.specs.Components.{expr_components, exprs_components, components_of}
+use Rattle.jp_query.specs.Components.{operand_components, segment_components}
+use Rattle.jp_query.specs.Components.{segments_components, selector_components}
+use Rattle.jp_query.specs.Components.{selectors_components}
 use Rattle.jp_tree.specs.declared.tree.Numeral.{Numeral}
 use Rattle.jp_tree.specs.Tree.{ArgumentTree, ArgumentTrees, CallTree, ExprTree, ExprTrees}
 use Rattle.jp_tree.specs.Tree.{LiteralTree, OperandTree, QueryTree, SegmentTree, SegmentTrees}
@@ -63,9 +66,9 @@ SameTypes cs = signature_named Standard cs ≡ signature_named Extended cs
 abbrev SameWanted : Use → Type 0
 SameWanted role = wanted Standard role ≡ wanted Extended role
 
--- ---- items
+-- ---- components
 
--- the call has a function where the item has no fault
+-- the call has a function where the component has no fault
 known-types : (cs : List ℕ) (all : ArgumentTrees) (role : Use)
     → NoFault Standard (called (call cs all) role) → SameTypes cs
 known-types cs all role none =
@@ -110,34 +113,34 @@ logical-extended e role same none IllTyped h =
     none IllTyped (subst (IsMisfit Logical) (sym same) h)
 logical-extended e role same none _ h = absurd h
 
--- ---- items one after another
+-- ---- components one after another
 
 -- where none of these has a fault in `Standard`, none has one in `Extended`
-abbrev StaysFaultless : List QueryItem → Type 0
+abbrev StaysFaultless : List QueryComponent → Type 0
 StaysFaultless xs = All (NoFault Standard) xs → All (NoFault Extended) xs
 
 stays-nil : StaysFaultless []
 stays-nil none = All-nil (NoFault Extended)
 
-stays-cons : (x : QueryItem) (xs : List QueryItem)
+stays-cons : (x : QueryComponent) (xs : List QueryComponent)
     → (NoFault Standard x → NoFault Extended x) → StaysFaultless xs → StaysFaultless (x ∷ xs)
 stays-cons x xs one rest none =
     All-cons (NoFault Extended) x xs (one (All-head (NoFault Standard) x xs none))
     (rest (All-tail (NoFault Standard) x xs none))
 
-stays-append : (xs ys : List QueryItem) → StaysFaultless xs → StaysFaultless ys
+stays-append : (xs ys : List QueryComponent) → StaysFaultless xs → StaysFaultless ys
     → StaysFaultless (xs ++ ys)
 stays-append xs ys first rest none =
     All-append (NoFault Extended) xs ys (first (fronts xs none)) (rest (backs xs none))
   where
-    fronts : (zs : List QueryItem) → All (NoFault Standard) (zs ++ ys)
+    fronts : (zs : List QueryComponent) → All (NoFault Standard) (zs ++ ys)
         → All (NoFault Standard) zs
     fronts [] all = All-nil (NoFault Standard)
     fronts (z ∷ zs) all =
         All-cons (NoFault Standard) z zs (All-head (NoFault Standard) z (zs ++ ys) all)
         (fronts zs (All-tail (NoFault Standard) z (zs ++ ys) all))
 
-    backs : (zs : List QueryItem) → All (NoFault Standard) (zs ++ ys)
+    backs : (zs : List QueryComponent) → All (NoFault Standard) (zs ++ ys)
         → All (NoFault Standard) ys
     backs [] all = all
     backs (z ∷ zs) all = backs zs (All-tail (NoFault Standard) z (zs ++ ys) all)
@@ -145,92 +148,92 @@ stays-append xs ys first rest none =
 stays-int : (n : Numeral) (role : Use) → StaysFaultless (int n role ∷ [])
 stays-int n role = stays-cons (int n role) [] (int-extended n role) stays-nil
 
-stays-bound : (bound : Option Numeral) → StaysFaultless (bound_items bound)
+stays-bound : (bound : Option Numeral) → StaysFaultless (bound_components bound)
 stays-bound None = stays-nil
 stays-bound (Some n) = stays-int n as_bound
 
 -- ---- trees
 
 mutual
-  stays-query : (q : QueryTree) → StaysFaultless (items_of q)
+  stays-query : (q : QueryTree) → StaysFaultless (components_of q)
   stays-query (query absolute all) = stays-segments all
 
-  stays-segments : (all : SegmentTrees) → StaysFaultless (segments_items all)
+  stays-segments : (all : SegmentTrees) → StaysFaultless (segments_components all)
   stays-segments no_segments = stays-nil
   stays-segments (segment_then x rest) =
-      stays-append (segment_items x) (segments_items rest) (stays-segment x) (stays-segments rest)
+      stays-append (segment_components x) (segments_components rest) (stays-segment x) (stays-segments rest)
 
-  stays-segment : (x : SegmentTree) → StaysFaultless (segment_items x)
+  stays-segment : (x : SegmentTree) → StaysFaultless (segment_components x)
   stays-segment (segment descendant all) = stays-selectors all
 
-  stays-selectors : (all : SelectorTrees) → StaysFaultless (selectors_items all)
+  stays-selectors : (all : SelectorTrees) → StaysFaultless (selectors_components all)
   stays-selectors no_selectors = stays-nil
   stays-selectors (selector_then x rest) =
-      stays-append (selector_items x) (selectors_items rest) (stays-selector x)
+      stays-append (selector_components x) (selectors_components rest) (stays-selector x)
       (stays-selectors rest)
 
-  stays-selector : (x : SelectorTree) → StaysFaultless (selector_items x)
+  stays-selector : (x : SelectorTree) → StaysFaultless (selector_components x)
   stays-selector (name cs) = stays-nil
   stays-selector wildcard = stays-nil
   stays-selector (index n) = stays-int n as_index
   stays-selector (slice parts) =
-      stays-append (bound_items parts.start ++ bound_items parts.end) (int parts.step as_step ∷ [])
-      (stays-append (bound_items parts.start) (bound_items parts.end) (stays-bound parts.start)
+      stays-append (bound_components parts.start ++ bound_components parts.end) (int parts.step as_step ∷ [])
+      (stays-append (bound_components parts.start) (bound_components parts.end) (stays-bound parts.start)
       (stays-bound parts.end))
       (stays-int parts.step as_step)
   stays-selector (filter e) = stays-expr e
 
-  stays-expr : (e : ExprTree) → StaysFaultless (expr_items e)
+  stays-expr : (e : ExprTree) → StaysFaultless (expr_components e)
   stays-expr (any_of es) = stays-exprs es
   stays-expr (all_of es) = stays-exprs es
   stays-expr (negation e) = stays-expr e
   stays-expr (comparison left op right) =
-      stays-append (operand_items left) (operand_items right) (stays-operand left)
+      stays-append (operand_components left) (operand_components right) (stays-operand left)
       (stays-operand right)
   stays-expr (exists q) =
-      stays-cons (inner q as_test) (items_of q) (inner-extended q as_test refl) (stays-query q)
+      stays-cons (inner q as_test) (components_of q) (inner-extended q as_test refl) (stays-query q)
   stays-expr (call_test c) = stays-call c as_test refl
 
-  stays-exprs : (es : ExprTrees) → StaysFaultless (exprs_items es)
+  stays-exprs : (es : ExprTrees) → StaysFaultless (exprs_components es)
   stays-exprs no_exprs = stays-nil
   stays-exprs (expr_then e rest) =
-      stays-append (expr_items e) (exprs_items rest) (stays-expr e) (stays-exprs rest)
+      stays-append (expr_components e) (exprs_components rest) (stays-expr e) (stays-exprs rest)
 
-  stays-operand : (x : OperandTree) → StaysFaultless (operand_items x)
+  stays-operand : (x : OperandTree) → StaysFaultless (operand_components x)
   stays-operand (literal l) =
       stays-cons (constant l as_side) [] (constant-extended l as_side refl) stays-nil
   stays-operand (node_value q) =
-      stays-cons (inner q as_side) (items_of q) (inner-extended q as_side refl) (stays-query q)
+      stays-cons (inner q as_side) (components_of q) (inner-extended q as_side refl) (stays-query q)
   stays-operand (call_value c) = stays-call c as_side refl
 
   stays-call : (c : CallTree) (role : Use) → SameWanted role
-      → StaysFaultless (called c role ∷ call_items c)
+      → StaysFaultless (called c role ∷ call_components c)
   stays-call (call cs all) role same none =
       let own = All-head (NoFault Standard) (called (call cs all) role)
-      (call_items (call cs all)) none in
+      (call_components (call cs all)) none in
       let types = known-types cs all role own in
-      stays-cons (called (call cs all) role) (call_items (call cs all))
+      stays-cons (called (call cs all) role) (call_components (call cs all))
       (called-extended cs all role types same) (stays-arguments cs types zero (count all) all) none
 
   stays-arguments : (cs : List ℕ) → SameTypes cs → (before in_all : ℕ) (all : ArgumentTrees)
-      → StaysFaultless (arguments_items cs before in_all all)
+      → StaysFaultless (arguments_components cs before in_all all)
   stays-arguments cs types before in_all no_arguments = stays-nil
   stays-arguments cs types before in_all (argument_then x rest) =
-      stays-append (argument_items (as_argument cs before in_all) x)
-      (arguments_items cs (suc before) in_all rest)
+      stays-append (argument_components (as_argument cs before in_all) x)
+      (arguments_components cs (suc before) in_all rest)
       (stays-argument (as_argument cs before in_all)
       (ap (λ s. slice_get (wanted_of_arguments s in_all) before) types) x)
       (stays-arguments cs types (suc before) in_all rest)
 
   stays-argument : (role : Use) → SameWanted role → (x : ArgumentTree)
-      → StaysFaultless (argument_items role x)
+      → StaysFaultless (argument_components role x)
   stays-argument role same (literal_argument l) =
       stays-cons (constant l role) [] (constant-extended l role same) stays-nil
   stays-argument role same (query_argument q) =
-      stays-cons (inner q role) (items_of q) (inner-extended q role same) (stays-query q)
+      stays-cons (inner q role) (components_of q) (inner-extended q role same) (stays-query q)
   stays-argument role same (call_argument c) = stays-call c role same
   stays-argument role same (logical_argument e) =
-      stays-cons (logical e role) (expr_items e) (logical-extended e role same) (stays-expr e)
+      stays-cons (logical e role) (expr_components e) (logical-extended e role same) (stays-expr e)
 
 -- ---- what is accepted
 

@@ -8,4 +8,3 @@ pub mod OwnText
 pub mod Rows
 pub mod Segments
 pub mod Steps
-pub mod Trees

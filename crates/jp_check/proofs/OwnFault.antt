@@ -1,4 +1,4 @@
--- The fault of an item is the one with the least number that it has.
+-- The fault of a component is the one with the least number that it has.
 use Rattle.std.proofs.Common.{◌≡◌, ◌==◌, ◌≤◌, ℕ, Bool, true, false, cond}
 use Rattle.std.proofs.Common.{Option, Some, None, length, refl, arith}
 use Rattle.jp_query.specs.declared.refusal.RefusalKind.{RefusalKind}
@@ -8,7 +8,8 @@ use Rattle.jp_query.specs.declared.refusal.RefusalKind.TheVariants.{ArgumentCoun
 use Rattle.jp_query.specs.declared.refusal.RefusalKind.TheVariants.{IllTyped}
 use Rattle.jp_tree.specs.declared.tree.Numeral.{Numeral}
 use Rattle.jp_tree.specs.declared.tree.Numeral.TheVariants.{Whole, Beyond, Fraction}
-use Rattle.jp_query.specs.Items.{QueryItem, Use, int, constant, inner, called, logical, count}
+use Rattle.jp_query.specs.Components.{QueryComponent, Use, int, constant, inner, called, logical}
+use Rattle.jp_query.specs.Components.{count}
 use Rattle.jp_query.specs.Refusal.{number_of}
 use Rattle.jp_tree.specs.Singular.{is_singular}
 use Rattle.jp_tree.specs.Tree.{QueryTree, ExprTree, LiteralTree, number, text}
@@ -29,8 +30,8 @@ IsLeastKind P None = (kind : RefusalKind) → P kind → ⊥
 IsLeastKind P (Some kind) =
     P kind × ((other : RefusalKind) → P other → number_of kind ≤ number_of other)
 
--- of the kinds of the item's faults
-abbrev pub IsOwn : Profile → QueryItem → Option RefusalKind → Type 0
+-- of the kinds of the component's faults
+abbrev pub IsOwn : Profile → QueryComponent → Option RefusalKind → Type 0
 IsOwn profile x = IsLeastKind (HasFault profile x)
 
 -- an int has no fault but its range
@@ -163,8 +164,8 @@ logical-fault : (profile : Profile) (e : ExprTree) (role : Use) (kind : RefusalK
 logical-fault profile e role IllTyped h = (refl, h)
 logical-fault profile e role _ h = absurd h
 
--- the fault of an item is its own
-pub own-fault : (profile : Profile) (x : QueryItem) → IsOwn profile x (fault_of profile x)
+-- the fault of a component is its own
+pub own-fault : (profile : Profile) (x : QueryComponent) → IsOwn profile x (fault_of profile x)
 own-fault profile (int n role) = own-int profile n role (is_in_index_range n) refl
 own-fault profile (constant l role) = own-literal profile l role
 own-fault profile (inner q role) = own-query profile q role (wanted profile role) refl

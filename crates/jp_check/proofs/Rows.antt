@@ -1,8 +1,8 @@
 -- The definitions at work.
 use Rattle.std.proofs.Common.{◌≡◌, inl, inr, true, false, ℕ, pos, negsuc}
 use Rattle.std.proofs.Common.{List, [], ◌∷◌, Some, None, codes, refl, arith}
-use Rattle.jp_query.specs.Items.{int, constant, inner, called, logical, as_index}
-use Rattle.jp_query.specs.Items.{as_side, as_test, as_argument, items_of}
+use Rattle.jp_query.specs.Components.{int, constant, inner, called, logical, as_index}
+use Rattle.jp_query.specs.Components.{as_side, as_test, as_argument, components_of}
 use Rattle.jp_query.specs.declared.refusal.RefusalKind.TheVariants.{NotWhole, NumberRange}
 use Rattle.jp_query.specs.declared.refusal.RefusalKind.TheVariants.{IndexRange, UnknownFunction}
 use Rattle.jp_query.specs.declared.refusal.RefusalKind.TheVariants.{ArgumentCount, NotSingular}
@@ -17,7 +17,7 @@ use Rattle.jp_tree.specs.Tree.{selectors, segments, exprs}
 use Rattle.jp_check.specs.declared.functions.DataType.TheVariants.{Nodes, Value}
 use Rattle.jp_check.specs.declared.profile.Profile.TheVariants.{Standard, Extended}
 use Rattle.jp_check.specs.Faults.{HasFault}
-use Rattle.jp_check.specs.First.{IsItemFault, IsNoLater, IsFirstFault}
+use Rattle.jp_check.specs.First.{IsComponentFault, IsNoLater, IsFirstFault}
 use Rattle.jp_check.specs.Functions.{signature_named}
 use Rattle.jp_check.specs.Ranges.{is_in_index_range}
 use Rattle.jp_check.proofs.Least.{found-fault}
@@ -61,12 +61,12 @@ row-later (inr h) = absurd (omega (arith, h.0))
 
 -- ---- `$[0][9007199254740992]`: its one fault stands at 5
 
-row-fault : IsItemFault Standard
+row-fault : IsComponentFault Standard
     (int (Whole (pos 0)) as_index ∷ int (Whole (pos 9007199254740992)) as_index ∷ [])
     (Some (record { start = 2; end = 3 }) ∷ Some (record { start = 5; end = 21 }) ∷ [])
     (record { kind = IndexRange; place = 5 })
 row-fault = record {
-  item = int (Whole (pos 9007199254740992)) as_index;
+  component = int (Whole (pos 9007199254740992)) as_index;
   span = record { start = 5; end = 21 };
   among = (1, omega arith, refl);
   kind = refl;
@@ -203,7 +203,7 @@ filter_query e = query true (segments (segment false (selectors (filter e ∷ []
 
 -- `$[?@.*==1.0]`: of two faults the query's stands first, at 3
 row-query-first : IsFirstFault Standard
-    (items_of
+    (components_of
     (filter_query
     (comparison (node_value (at_current (wildcard ∷ []))) Equal
     (literal (number Fraction)))))
@@ -214,7 +214,7 @@ row-query-first = found-fault Standard _ _ (record { kind = NotSingular; place =
 
 -- `$[?@.a==1.0&&@.*==2]`: of two faults the literal's stands first, at 8
 row-literal-first : IsFirstFault Standard
-    (items_of (filter_query (all_of (exprs (
+    (components_of (filter_query (all_of (exprs (
     comparison (node_value (at_current (name (codes "a") ∷ []))) Equal (literal (number Fraction))
     ∷ comparison (node_value (at_current (wildcard ∷ []))) Equal (literal (number (Whole (pos 2))))
     ∷ [])))))
@@ -226,7 +226,7 @@ row-literal-first = found-fault Standard _ _ (record { kind = NotWhole; place = 
 
 -- `$[?foo(1.5)]`: of two faults the call's stands first, at 3
 row-call-first : IsFirstFault Standard
-    (items_of
+    (components_of
     (filter_query (call_test (calling (codes "foo") (literal_argument (number Fraction) ∷ [])))))
     (Some (record { start = 3; end = 11 }) ∷ Some (record { start = 7; end = 10 }) ∷ [])
     (record { kind = UnknownFunction; place = 3 })
@@ -316,7 +316,7 @@ nested_unknown =
     (distinct_of (call_argument (calling (codes "foo") (literal_argument (number (Whole (pos 1)))
     ∷ [])) ∷ [])) ∷ []))) Equal (literal (number (Whole (pos 1)))))
 
-row-unknown-extended : IsFirstFault Extended (items_of nested_unknown)
+row-unknown-extended : IsFirstFault Extended (components_of nested_unknown)
     (Some (record { start = 3; end = 26 }) ∷ Some (record { start = 9; end = 25 })
     ∷ Some (record { start = 18; end = 24 }) ∷ Some (record { start = 22; end = 23 })
     ∷ Some (record { start = 28; end = 29 }) ∷ [])
@@ -325,7 +325,7 @@ unfolding calling distinct_of filter_query nested_unknown
 row-unknown-extended =
     found-fault Extended _ _ (record { kind = UnknownFunction; place = 18 }) refl
 
-row-unknown-standard : IsFirstFault Standard (items_of nested_unknown)
+row-unknown-standard : IsFirstFault Standard (components_of nested_unknown)
     (Some (record { start = 3; end = 26 }) ∷ Some (record { start = 9; end = 25 })
     ∷ Some (record { start = 18; end = 24 }) ∷ Some (record { start = 22; end = 23 })
     ∷ Some (record { start = 28; end = 29 }) ∷ [])

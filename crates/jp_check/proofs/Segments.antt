@@ -2,10 +2,11 @@
 use Rattle.std.proofs.Common.{◌≡◌, ◌≤◌, Bool, true, false, List, [], ◌∷◌}
 use Rattle.std.proofs.Common.{length, map, refl, arith, sym, ap, ◌∙◌}
 use Rattle.jp_tree.specs.Singular.{is_single_segment}
-use Rattle.jp_tree.specs.Tree.{segment, segment_of, selector_of, selectors}
+use Rattle.jp_tree.specs.Tree.{segment, selectors}
+use Rattle.jp_tree.specs.Views.{segment_of, selector_of}
 use Rattle.jp_tree.specs.declared.tree.Segment.{Segment, out-Segment}
 use Rattle.jp_tree.specs.declared.tree.Selector.{Selector}
-use Rattle.jp_check.proofs.Trees.{segment_of-is}
+use Rattle.jp_tree.proofs.Views.{segment_of-is}
 
 -- a segment with several selectors is not singular
 several-trees : (deep : Bool) (ys : List Selector) → 2 ≤ length ys

@@ -1,4 +1,4 @@
--- The walk over the items of a query.
+-- The walk over the components of a query.
 use Rattle.std.proofs.Common.{◌≡◌, ◌<◌, ◌+◌, ℕ, suc, List, [], ◌∷◌, ◌++◌, Option}
 use Rattle.std.proofs.Common.{length, get_or, drop, map, refl, sym, ap, ◌∙◌, arith}
 use Rattle.std.specs.List.{slice_get}
@@ -8,35 +8,40 @@ use Rattle.jp_tree.specs.declared.tree.Expr.{Expr}
 use Rattle.jp_tree.specs.declared.tree.Expr.TheVariants.{Compare}
 use Rattle.jp_tree.specs.declared.tree.Op.{Op}
 use Rattle.jp_tree.specs.declared.tree.Operand.{Operand}
-use Rattle.jp_query.specs.Items.{QueryItem, Use, as_argument, argument_items, arguments_items}
-use Rattle.jp_query.specs.Items.{call_items, count, expr_items, exprs_items, items_of}
-use Rattle.jp_query.specs.Items.{operand_items, segment_items}
-use Rattle.jp_query.specs.Items.{segments_items, selector_items, selectors_items}
+use Rattle.jp_query.specs.Components.{QueryComponent, Use, as_argument, argument_components}
+use Rattle.jp_query.specs.Components.{arguments_components}
+use Rattle.jp_query.specs.Components.{call_components, count, expr_components, exprs_components}
+use Rattle.jp_query.specs.Components.{components_of}
+use Rattle.jp_query.specs.Components.{operand_components, segment_components}
+use Rattle.jp_query.specs.Components.{segments_components, selector_components}
+use Rattle.jp_query.specs.Components.{selectors_components}
 use Rattle.jp_tree.specs.Tree.{ArgumentTree, literal_argument, query_argument, call_argument}
-use Rattle.jp_tree.specs.Tree.{logical_argument, CallTree, call, argument_of, arguments, expr_of}
-use Rattle.jp_tree.specs.Tree.{exprs, operand_of, segment_of, segments, selector_of, selectors}
+use Rattle.jp_tree.specs.Tree.{logical_argument, CallTree, call, arguments}
+use Rattle.jp_tree.specs.Views.{argument_of, expr_of}
+use Rattle.jp_tree.specs.Tree.{exprs, segments, selectors}
+use Rattle.jp_tree.specs.Views.{operand_of, segment_of, selector_of}
 use Rattle.jp_check.specs.declared.functions.DataType.{DataType}
 use Rattle.jp_check.specs.Private.Calls.{arguments_from, wanted_of_call}
 use Rattle.jp_check.specs.Private.Walk.{Progress, fault_of, fault_of_call, fault_of_logical}
-use Rattle.jp_check.specs.Private.Walk.{fault_of_query, past_argument, past_item, steps}
+use Rattle.jp_check.specs.Private.Walk.{fault_of_query, past_argument, past_component, steps}
 use Rattle.jp_check.specs.Types.{wanted}
-use Rattle.jp_check.proofs.Trees.{expr_of-Compare}
+use Rattle.jp_tree.proofs.Views.{expr_of-Compare}
 
--- items one after another
-pub steps_append : (xs ys : List QueryItem) (p : Progress)
+-- components one after another
+pub steps_append : (xs ys : List QueryComponent) (p : Progress)
     → steps (xs ++ ys) p ≡ steps ys (steps xs p)
 steps_append [] ys p = refl
-steps_append (x ∷ xs) ys p = steps_append xs ys (past_item (fault_of p.profile x) p)
+steps_append (x ∷ xs) ys p = steps_append xs ys (past_component (fault_of p.profile x) p)
 
--- past one more part of a list, whose parts' items come one after another
-abbrev GoesOn : {A : Type 0} → (A → List QueryItem) → (List A → List QueryItem) → Type 0
+-- past one more part of a list, whose parts' components come one after another
+abbrev GoesOn : {A : Type 0} → (A → List QueryComponent) → (List A → List QueryComponent) → Type 0
 GoesOn {A} one all =
-    (xs : List A) (i : ℕ) (x : A) (end before after : Progress) →
-    end ≡ steps (all (drop i xs)) before → i < length xs → x ≡ get_or xs i x →
-    after ≡ steps (one x) before → end ≡ steps (all (drop (i + 1) xs)) after
+    (xs : List A) (i : ℕ) (x : A) (end before after : Progress)
+    → end ≡ steps (all (drop i xs)) before → i < length xs → x ≡ get_or xs i x
+    → after ≡ steps (one x) before → end ≡ steps (all (drop (i + 1) xs)) after
 
-goes-on : {A : Type 0} (one : A → List QueryItem) (all : List A → List QueryItem) →
-    ((x : A) (xs : List A) → all (x ∷ xs) ≡ one x ++ all xs) → GoesOn one all
+goes-on : {A : Type 0} (one : A → List QueryComponent) (all : List A → List QueryComponent)
+    → ((x : A) (xs : List A) → all (x ∷ xs) ≡ one x ++ all xs) → GoesOn one all
 goes-on one all cons xs i x end before after whole within here part =
     whole
     ∙ ap (λ ys. steps (all ys) before)
@@ -45,49 +50,49 @@ goes-on one all cons xs i x end before after whole within here part =
     ∙ steps_append (one x) (all (drop (i + 1) xs)) before
     ∙ ap (steps (all (drop (i + 1) xs))) (sym part)
 
-pub segments-on : GoesOn (λ x. segment_items (segment_of x))
-    (λ xs. segments_items (segments (map segment_of xs)))
+pub segments-on : GoesOn (λ x. segment_components (segment_of x))
+    (λ xs. segments_components (segments (map segment_of xs)))
 segments-on =
-    goes-on (λ x. segment_items (segment_of x))
-    (λ xs. segments_items (segments (map segment_of xs))) (λ x xs. refl)
+    goes-on (λ x. segment_components (segment_of x))
+    (λ xs. segments_components (segments (map segment_of xs))) (λ x xs. refl)
 
-pub selectors-on : GoesOn (λ x. selector_items (selector_of x))
-    (λ xs. selectors_items (selectors (map selector_of xs)))
+pub selectors-on : GoesOn (λ x. selector_components (selector_of x))
+    (λ xs. selectors_components (selectors (map selector_of xs)))
 selectors-on =
-    goes-on (λ x. selector_items (selector_of x))
-    (λ xs. selectors_items (selectors (map selector_of xs))) (λ x xs. refl)
+    goes-on (λ x. selector_components (selector_of x))
+    (λ xs. selectors_components (selectors (map selector_of xs))) (λ x xs. refl)
 
-pub exprs-on : GoesOn (λ x. expr_items (expr_of x)) (λ xs. exprs_items (exprs (map expr_of xs)))
+pub exprs-on : GoesOn (λ x. expr_components (expr_of x)) (λ xs. exprs_components (exprs (map expr_of xs)))
 exprs-on =
-    goes-on (λ x. expr_items (expr_of x)) (λ xs. exprs_items (exprs (map expr_of xs)))
+    goes-on (λ x. expr_components (expr_of x)) (λ xs. exprs_components (exprs (map expr_of xs)))
     (λ x xs. refl)
 
 -- past the left side, then past the right one
 pub sides-on : (e : Expr) (left right : Operand) (op : Op) (before between after : Progress)
     → e ≡ Compare left op right
-    → between ≡ steps (operand_items (operand_of left)) before
-    → after ≡ steps (operand_items (operand_of right)) between
-    → after ≡ steps (expr_items (expr_of e)) before
+    → between ≡ steps (operand_components (operand_of left)) before
+    → after ≡ steps (operand_components (operand_of right)) between
+    → after ≡ steps (expr_components (expr_of e)) before
 sides-on e left right op before between after is past_left past_right =
     past_right
-    ∙ ap (steps (operand_items (operand_of right))) past_left
-    ∙ sym (steps_append (operand_items (operand_of left)) (operand_items (operand_of right)) before)
-    ∙ ap (λ x. steps (expr_items x) before) (sym (ap expr_of is ∙ expr_of-Compare left right op))
+    ∙ ap (steps (operand_components (operand_of right))) past_left
+    ∙ sym (steps_append (operand_components (operand_of left)) (operand_components (operand_of right)) before)
+    ∙ ap (λ x. steps (expr_components x) before) (sym (ap expr_of is ∙ expr_of-Compare left right op))
 
 -- the walk stays in its profile
-steps-profile : (xs : List QueryItem) (p : Progress) → (steps xs p).profile ≡ p.profile
+steps-profile : (xs : List QueryComponent) (p : Progress) → (steps xs p).profile ≡ p.profile
 steps-profile [] p = refl
-steps-profile (x ∷ xs) p = steps-profile xs (past_item (fault_of p.profile x) p)
+steps-profile (x ∷ xs) p = steps-profile xs (past_component (fault_of p.profile x) p)
 
 argument-profile : (want : Option DataType) (x : ArgumentTree) (p : Progress)
     → (past_argument want x p).profile ≡ p.profile
 argument-profile want (literal_argument l) p = refl
 argument-profile want (query_argument q) p =
-    steps-profile (items_of q) (past_item (fault_of_query q want) p)
+    steps-profile (components_of q) (past_component (fault_of_query q want) p)
 argument-profile want (call_argument c) p =
-    steps-profile (call_items c) (past_item (fault_of_call p.profile c want) p)
+    steps-profile (call_components c) (past_component (fault_of_call p.profile c want) p)
 argument-profile want (logical_argument e) p =
-    steps-profile (expr_items e) (past_item (fault_of_logical want) p)
+    steps-profile (expr_components e) (past_component (fault_of_logical want) p)
 
 -- past an argument the same types are wanted of the call's others
 pub types-kept : (c : CallTree) (types : List DataType) (want : Option DataType)
@@ -100,7 +105,7 @@ types-kept c types want x before after are past =
 
 -- past an argument
 argument-steps : (role : Use) (x : ArgumentTree) (p : Progress)
-    → past_argument (wanted p.profile role) x p ≡ steps (argument_items role x) p
+    → past_argument (wanted p.profile role) x p ≡ steps (argument_components role x) p
 argument-steps role (literal_argument l) p = refl
 argument-steps role (query_argument q) p = refl
 argument-steps role (call_argument c) p = refl
@@ -115,19 +120,19 @@ pub arguments-on : (c : CallTree) (types : List DataType) (want : Option DataTyp
     → end ≡ steps (arguments_from c (i + 1) (map argument_of (drop (i + 1) xs))) after
 arguments-on (call name all) types want xs i x end before after are is whole within here part =
     whole
-    ∙ ap (λ ys. steps (arguments_items name i (count all) (arguments (map argument_of ys))) before)
+    ∙ ap (λ ys. steps (arguments_components name i (count all) (arguments (map argument_of ys))) before)
     (drop_more xs i x within ∙ ap (λ y. y ∷ drop (i + 1) xs) (sym here))
-    ∙ steps_append (argument_items (as_argument name i (count all)) (argument_of x))
-    (arguments_items name (suc i) (count all) (arguments (map argument_of (drop (i + 1) xs))))
+    ∙ steps_append (argument_components (as_argument name i (count all)) (argument_of x))
+    (arguments_components name (suc i) (count all) (arguments (map argument_of (drop (i + 1) xs))))
     before
     ∙ ap (steps
-    (arguments_items name (suc i) (count all) (arguments (map argument_of (drop (i + 1) xs)))))
+    (arguments_components name (suc i) (count all) (arguments (map argument_of (drop (i + 1) xs)))))
     (sym (argument-steps (as_argument name i (count all)) (argument_of x) before)
     ∙ ap (λ t. past_argument t (argument_of x) before)
     (sym (is ∙ ap (λ ts. slice_get ts i) are))
     ∙ sym part)
     ∙ ap (λ next. steps
-    (arguments_items name next (count all) (arguments (map argument_of (drop (i + 1) xs)))) after)
+    (arguments_components name next (count all) (arguments (map argument_of (drop (i + 1) xs)))) after)
     (suc-is i)
   where
     suc-is : (n : ℕ) → suc n ≡ n + 1

@@ -6,7 +6,7 @@ use Rattle.jp_tree.specs.Tree.{QueryTree}
 use Rattle.jp_check.specs.declared.profile.Profile.{Profile}
 use Rattle.jp_check.specs.Faults.{IsFaultless}
 
--- the text spells the tree within the limit of levels, and no item of the tree has a fault
+-- the text spells the tree within the limit of levels, and no component of the tree has a fault
 pub record IsAcceptedAs (profile : Profile) (text : Text) (q : QueryTree) : Type 0 where
   pub spans : Spans
   pub spelled : Spells level_limit q spans text

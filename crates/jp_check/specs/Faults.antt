@@ -1,4 +1,4 @@
--- The faults of a query's items (RFC 9535 sections 2.1, 2.3.5.1 and 2.4.3).
+-- The faults of a query's components (RFC 9535 sections 2.1, 2.3.5.1 and 2.4.3).
 use Rattle.std.specs.Prelude.{◌≡◌, ◌==◌, ℕ, false, Option, Some, None, length}
 use Rattle.std.specs.List.{All}
 use Rattle.jp_query.specs.declared.refusal.RefusalKind.{RefusalKind}
@@ -7,7 +7,8 @@ use Rattle.jp_query.specs.declared.refusal.RefusalKind.TheVariants.{IndexRange, 
 use Rattle.jp_query.specs.declared.refusal.RefusalKind.TheVariants.{ArgumentCount, NotSingular}
 use Rattle.jp_query.specs.declared.refusal.RefusalKind.TheVariants.{IllTyped}
 use Rattle.jp_tree.specs.declared.tree.Numeral.TheVariants.{Beyond, Fraction}
-use Rattle.jp_query.specs.Items.{QueryItem, int, constant, inner, called, logical, count, items_of}
+use Rattle.jp_query.specs.Components.{QueryComponent, int, constant, inner, called, logical, count}
+use Rattle.jp_query.specs.Components.{components_of}
 use Rattle.jp_tree.specs.Singular.{is_singular}
 use Rattle.jp_tree.specs.Tree.{QueryTree, number, call}
 use Rattle.jp_check.specs.declared.functions.DataType.{DataType}
@@ -26,12 +27,12 @@ HasCallFault (Some function) given want ArgumentCount =
 HasCallFault (Some function) given want IllTyped = IsMisfit function.result want
 HasCallFault _ _ _ _ = ⊥
 
--- in that profile the item has a fault of that kind: a literal is a number with a fraction or an
+-- in that profile the component has a fault of that kind: a literal is a number with a fraction or an
 -- exponent, or a whole number outside -(2^63) to (2^64)-1; an index or a part of a slice is out of
 -- range (section 2.1); a query that is not singular is where a value is wanted (section 2.3.5.1); a
 -- literal or a logical expression doesn't fit what is wanted (section 2.4.3); or it is a fault of a
 -- call
-abbrev pub HasFault : Profile → QueryItem → RefusalKind → Type 0
+abbrev pub HasFault : Profile → QueryComponent → RefusalKind → Type 0
 HasFault profile (constant l _) NotWhole = l ≡ number Fraction
 HasFault profile (constant l _) NumberRange = l ≡ number Beyond
 HasFault profile (constant _ role) IllTyped = IsMisfit Value (wanted profile role)
@@ -43,7 +44,7 @@ HasFault profile (called (call name all) role) kind =
 HasFault profile (logical _ role) IllTyped = IsMisfit Logical (wanted profile role)
 HasFault profile _ _ = ⊥
 
--- no item of the query has a fault
+-- no component of the query has a fault
 abbrev pub IsFaultless : Profile → QueryTree → Type 0
 IsFaultless profile q =
-    All (λ item. (kind : RefusalKind) → ¬ HasFault profile item kind) (items_of q)
+    All (λ component. (kind : RefusalKind) → ¬ HasFault profile component kind) (components_of q)

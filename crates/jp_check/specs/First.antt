@@ -5,18 +5,18 @@ use Rattle.std.specs.List.{Contains, zip}
 use Rattle.jp_reading.specs.Texts.{Spans}
 use Rattle.jp_reading.specs.declared.span.Span.{Span}
 use Rattle.jp_query.specs.declared.refusal.Refusal.{Refusal}
-use Rattle.jp_query.specs.Items.{QueryItem}
+use Rattle.jp_query.specs.Components.{QueryComponent}
 use Rattle.jp_query.specs.Refusal.{number_of}
 use Rattle.jp_check.specs.declared.profile.Profile.{Profile}
 use Rattle.jp_check.specs.Faults.{HasFault}
 
--- in that profile one of the items has a fault of that kind, and its span starts at that place
-pub record IsItemFault (profile : Profile) (items : List QueryItem) (spans : Spans)
+-- in that profile one of the components has a fault of that kind, and its span starts at that place
+pub record IsComponentFault (profile : Profile) (components : List QueryComponent) (spans : Spans)
     (fault : Refusal) : Type 0 where
-  pub item : QueryItem
+  pub component : QueryComponent
   pub span : Span
-  pub among : Contains (zip items spans) (item, Some span)
-  pub kind : HasFault profile item fault.kind
+  pub among : Contains (zip components spans) (component, Some span)
+  pub kind : HasFault profile component fault.kind
   pub place : fault.place ≡ span.start
 
 -- the one stands at a smaller place, or at the same place with a number that is no greater
@@ -25,8 +25,8 @@ IsNoLater one other =
     (one.place < other.place)
     ⊎ ((one.place ≡ other.place) × (number_of one.kind ≤ number_of other.kind))
 
--- the fault of one of the items, and none is before it
-pub record IsFirstFault (profile : Profile) (items : List QueryItem) (spans : Spans)
+-- the fault of one of the components, and none is before it
+pub record IsFirstFault (profile : Profile) (components : List QueryComponent) (spans : Spans)
     (fault : Refusal) : Type 0 where
-  pub is : IsItemFault profile items spans fault
-  pub first : (other : Refusal) → IsItemFault profile items spans other → IsNoLater fault other
+  pub is : IsComponentFault profile components spans fault
+  pub first : (other : Refusal) → IsComponentFault profile components spans other → IsNoLater fault other

@@ -4,8 +4,8 @@ use Rattle.std.specs.List.{Contains}
 use Rattle.jp_reading.specs.Texts.{Text}
 use Rattle.jp_reading.specs.declared.span.Span.{Span}
 use Rattle.jp_query.specs.declared.refusal.Refusal.{Refusal}
-use Rattle.jp_query.specs.Items.{QueryItem, items_of}
-use Rattle.jp_query.specs.ItemSpans.{IsSpanOf}
+use Rattle.jp_query.specs.Components.{QueryComponent, components_of}
+use Rattle.jp_query.specs.ComponentSpans.{IsSpanOf}
 use Rattle.jp_tree.specs.Tree.{QueryTree}
 use Rattle.jp_check.specs.declared.profile.Profile.{Profile}
 use Rattle.jp_check.specs.declared.profile.Profile.TheVariants.{Standard, Extended}
@@ -28,20 +28,20 @@ pub record OneAnswer (profile : Profile) (text : Text) : Type 0 where
   pub not_both : (q : QueryTree) (r : Refusal) → IsAcceptedAs profile text q
       → IsRefusedForItself profile text r → ⊥
 
--- in that profile one of the query's items has the fault, and the fault's place is where the text
--- of that item starts
+-- in that profile one of the query's components has the fault, and the fault's place is where the text
+-- of that component starts
 pub record IsFaultInText (profile : Profile) (text : Text) (q : QueryTree) (fault : Refusal)
     : Type 0 where
-  pub item : QueryItem
+  pub component : QueryComponent
   pub span : Span
-  pub among : Contains (items_of q) item
-  pub kind : HasFault profile item fault.kind
-  pub own : IsSpanOf text item span
+  pub among : Contains (components_of q) component
+  pub kind : HasFault profile component fault.kind
+  pub own : IsSpanOf text component span
   pub place : fault.place ≡ span.start
 
 -- whatever the text, and its fault
-abbrev pub FaultAtItsItem : Profile → Type 0
-FaultAtItsItem profile =
+abbrev pub FaultAtItsComponent : Profile → Type 0
+FaultAtItsComponent profile =
     (text : Text) (fault : Refusal) (h : IsFaulty profile text fault)
     → IsFaultInText profile text h.tree fault
 

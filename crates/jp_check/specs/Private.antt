@@ -1,4 +1,4 @@
--- What is true of each checked query, and how the walk over the items of a query finds the first
+-- What is true of each checked query, and how the walk over the components of a query finds the first
 -- fault: what private contracts cite.
 pub mod Calls
 pub mod Checked

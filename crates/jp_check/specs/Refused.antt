@@ -8,17 +8,17 @@ use Rattle.jp_query.specs.declared.refusal.RefusalKind.TheVariants.{NoMemory, Te
 use Rattle.jp_query.specs.ViablePrefix.{IsSyntaxAt, IsTooDeepAt}
 use Rattle.jp_query.specs.Grammar.{Spells}
 use Rattle.jp_query.specs.Levels.{level_limit}
-use Rattle.jp_query.specs.Items.{items_of}
+use Rattle.jp_query.specs.Components.{components_of}
 use Rattle.jp_tree.specs.Tree.{QueryTree}
 use Rattle.jp_check.specs.declared.profile.Profile.{Profile}
 use Rattle.jp_check.specs.First.{IsFirstFault}
 
--- the text spells a tree within the limit of levels, and this is the first fault of its items
+-- the text spells a tree within the limit of levels, and this is the first fault of its components
 pub record IsFaulty (profile : Profile) (text : Text) (fault : Refusal) : Type 0 where
   pub tree : QueryTree
   pub spans : Spans
   pub spelled : Spells level_limit tree spans text
-  pub first : IsFirstFault profile (items_of tree) spans fault
+  pub first : IsFirstFault profile (components_of tree) spans fault
 
 -- what a refusal of that kind, at that place, says of the text; out of memory says nothing of it
 abbrev pub RefusalSays : Profile → Text → RefusalKind → ℕ → Type 0

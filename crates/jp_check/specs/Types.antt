@@ -2,7 +2,7 @@
 use Rattle.std.specs.Prelude.{◌≡◌, ◌==◌, ℕ, Bool, true, false, List, []}
 use Rattle.std.specs.Prelude.{Option, Some, None, length, if◌then◌else◌}
 use Rattle.std.specs.List.{slice_get}
-use Rattle.jp_query.specs.Items.{Use, as_side, as_test, as_argument}
+use Rattle.jp_query.specs.Components.{Use, as_side, as_test, as_argument}
 use Rattle.jp_check.specs.declared.functions.DataType.{DataType}
 use Rattle.jp_check.specs.declared.functions.DataType.TheVariants.{Value, Logical, Nodes}
 use Rattle.jp_check.specs.declared.profile.Profile.{Profile}
@@ -24,7 +24,7 @@ wanted_of_arguments None in_all = []
 wanted_of_arguments (Some function) in_all =
     if length function.parameters == in_all then function.parameters else []
 
--- the type that is wanted where an item is, if one is: a value as a side of a comparison, a logical
+-- the type that is wanted where a component is, if one is: a value as a side of a comparison, a logical
 -- value as a test (section 2.3.5.1), and as an argument the type of the parameter
 abbrev pub wanted : Profile → Use → Option DataType
 wanted profile as_side = Some Value

@@ -2,8 +2,8 @@
 
 ghost use Rattle.std.specs.Prelude.{◌≡◌, ◌⊎◌, IfOk, IfErr};
 ghost use Rattle.std.specs.Str.{chars};
-ghost use Rattle.jp_query.specs.Items.{items_of};
-ghost use Rattle.jp_tree.specs.Tree.{query_of};
+ghost use Rattle.jp_query.specs.Components.{components_of};
+ghost use Rattle.jp_tree.specs.Views.{query_of};
 ghost use Rattle.jp_check.specs.Accepted.{IsAccepted, IsAcceptedAs, IsNotAccepted};
 ghost use Rattle.jp_check.specs.Faults.{IsFaultless};
 ghost use Rattle.jp_check.specs.First.{IsFirstFault};
@@ -75,7 +75,7 @@ pub fn check(parsed: Parsed, profile: Profile) -> Result<Checked, Refusal>
     ensures faultless { IfOk result (λ c. IsFaultless profile (query_of c.query)) }
     ensures first { IfErr
         result
-        (IsFirstFault profile (items_of (query_of parsed.query)) parsed.spans) }
+        (IsFirstFault profile (components_of (query_of parsed.query)) parsed.spans) }
 {
     match first_fault(&parsed, profile) {
         Some(fault) => Err(fault),

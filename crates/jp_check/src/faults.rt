@@ -1,7 +1,7 @@
-//! The faults of items, one by one.
+//! The faults of components, one by one.
 
 ghost use Rattle.std.specs.Prelude.{◌≡◌};
-ghost use Rattle.jp_tree.specs.Tree.{call_of, literal_of, query_of};
+ghost use Rattle.jp_tree.specs.Views.{call_of, literal_of, query_of};
 ghost use Rattle.jp_check.specs.Private.Walk.{fault_of_call, fault_of_int, fault_of_literal};
 ghost use Rattle.jp_check.specs.Private.Walk.{fault_of_logical, fault_of_query, ill_typed};
 

@@ -2,7 +2,7 @@
 
 ghost use Rattle.std.specs.Prelude.{◌≡◌, option_map};
 ghost use Rattle.std.specs.Str.{chars};
-ghost use Rattle.jp_tree.specs.Tree.{call_of};
+ghost use Rattle.jp_tree.specs.Views.{call_of};
 ghost use Rattle.jp_check.specs.Functions.{function_named, signature, signature_named};
 ghost use Rattle.jp_check.specs.Private.Calls.{signature_of, wanted_of_call};
 ghost use Rattle.jp_check.specs.Types.{fits};

@@ -1,10 +1,10 @@
 //! Laws of acceptance, each the contract of a function that does nothing.
 
 ghost use Rattle.jp_reading.specs.Texts.{Text};
-ghost use Rattle.jp_check.specs.Laws.{FaultAtItsItem, OneAnswer, StandardIsExtended};
+ghost use Rattle.jp_check.specs.Laws.{FaultAtItsComponent, OneAnswer, StandardIsExtended};
 ghost use Rattle.jp_check.specs.declared.profile.Profile.{Profile};
 
-use jp_query::laws::{one_reading, one_refusal, spans_of_items};
+use jp_query::laws::{one_reading, one_refusal, spans_of_components};
 
 /// In each profile a text is accepted as one tree, or is refused in one way, with its first fault
 /// or as no query, at one place; and not both, running out of memory aside.
@@ -15,12 +15,12 @@ pub fn one_answer()
     one_refusal();
 }
 
-/// A fault is that of one of the query's items, and its place is the byte where the text of that
-/// item starts.
-pub fn fault_at_its_item()
-    ensures { (profile : Profile) → FaultAtItsItem profile }
+/// A fault is that of one of the query's components, and its place is the byte where the text of that
+/// component starts.
+pub fn fault_at_its_component()
+    ensures { (profile : Profile) → FaultAtItsComponent profile }
 {
-    spans_of_items();
+    spans_of_components();
 }
 
 /// What is accepted in `Standard` is accepted in `Extended` as the same tree.

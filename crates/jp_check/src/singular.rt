@@ -2,7 +2,7 @@
 
 ghost use Rattle.std.specs.Prelude.{◌≡◌};
 ghost use Rattle.jp_tree.specs.Singular.{is_single, is_single_segment, is_singular};
-ghost use Rattle.jp_tree.specs.Tree.{query_of, segment_of, selector_of};
+ghost use Rattle.jp_tree.specs.Views.{query_of, segment_of, selector_of};
 
 use jp_tree::{Query, Segment, Selector};
 

@@ -1,14 +1,18 @@
-//! The walk over the items of a query, with their spans.
+//! The walk over the components of a query, with their spans.
 
 ghost use Rattle.std.specs.Prelude.{◌≡◌, map, MatchOption, Option, None};
-ghost use Rattle.jp_query.specs.Items.{bound_items, call_items, expr_items, exprs_items, items_of};
-ghost use Rattle.jp_query.specs.Items.{operand_items, segment_items, selector_items};
-ghost use Rattle.jp_tree.specs.Tree.{argument_of, call_of, expr_of, exprs, operand_of, query_of};
-ghost use Rattle.jp_tree.specs.Tree.{segment_of, selector_of, slice as slice_tree, subject_of};
+ghost use Rattle.jp_query.specs.Components.{bound_components, call_components, expr_components};
+ghost use Rattle.jp_query.specs.Components.{exprs_components, components_of};
+ghost use Rattle.jp_query.specs.Components.{operand_components, segment_components};
+ghost use Rattle.jp_query.specs.Components.{selector_components};
+ghost use Rattle.jp_tree.specs.Tree.{exprs};
+ghost use Rattle.jp_tree.specs.Views.{argument_of, call_of, expr_of, operand_of, query_of};
+ghost use Rattle.jp_tree.specs.Tree.{slice as slice_tree};
+ghost use Rattle.jp_tree.specs.Views.{segment_of, selector_of, subject_of};
 ghost use Rattle.jp_check.specs.Faults.{IsFaultless};
 ghost use Rattle.jp_check.specs.First.{IsFirstFault};
 ghost use Rattle.jp_check.specs.Private.Walk.{earlier, fault_of_call, fault_of_int, fault_of_query};
-ghost use Rattle.jp_check.specs.Private.Walk.{is_before, past_argument, past_item, steps};
+ghost use Rattle.jp_check.specs.Private.Walk.{is_before, past_argument, past_component, steps};
 
 use crate::faults::{
     fault_of_call, fault_of_int, fault_of_literal, fault_of_logical, fault_of_query,
@@ -23,21 +27,21 @@ use std::marker::Model;
 pub(crate) fn first_fault(parsed: &Parsed, profile: Profile) -> Option<Refusal>
     ensures { MatchOption result
         (IsFaultless profile (query_of parsed.now.query))
-        (IsFirstFault profile (items_of (query_of parsed.now.query)) parsed.now.spans) }
+        (IsFirstFault profile (components_of (query_of parsed.now.query)) parsed.now.spans) }
 {
     let mut walk = Walk::new(parsed.spans(), profile);
     walk.query(parsed.query());
     walk.first()
 }
 
-/// A walk over the items of a query, with their spans.
+/// A walk over the components of a query, with their spans.
 #[derive(Drop)]
 struct Walk<'s> {
     /// The profile, which has the functions that may be called.
     profile: Profile,
-    /// The spans of the items that are still to come.
+    /// The spans of the components that are still to come.
     spans: &'s [Option<Span>],
-    /// The first fault of the items that were.
+    /// The first fault of the components that were.
     first: Option<Refusal>,
 }
 
@@ -50,7 +54,7 @@ impl<'s> Model for Walk<'s> {
 }
 
 impl<'s> Walk<'s> {
-    /// A walk with all items to come.
+    /// A walk with all components to come.
     fn new(spans: &'s [Option<Span>], profile: Profile) -> Walk<'s>
         ensures { result ≡ record { profile = profile; spans = spans.now; first = None } }
     {
@@ -68,30 +72,30 @@ impl<'s> Walk<'s> {
         self.first
     }
 
-    /// Goes through the items of a query.
+    /// Goes through the components of a query.
     #[cycle(walk)]
     fn query(&mut self, query: &Query)
-        ensures { self.new ≡ steps (items_of (query_of query.now)) self.old }
+        ensures { self.new ≡ steps (components_of (query_of query.now)) self.old }
     {
         for segment in &query.segments {
             self.segment(segment);
         }
     }
 
-    /// Goes through the items of a segment.
+    /// Goes through the components of a segment.
     #[cycle(walk)]
     fn segment(&mut self, segment: &Segment)
-        ensures { self.new ≡ steps (segment_items (segment_of segment.now)) self.old }
+        ensures { self.new ≡ steps (segment_components (segment_of segment.now)) self.old }
     {
         for selector in &segment.selectors {
             self.selector(selector);
         }
     }
 
-    /// Goes through the items of a selector.
+    /// Goes through the components of a selector.
     #[cycle(walk)]
     fn selector(&mut self, selector: &Selector)
-        ensures { self.new ≡ steps (selector_items (selector_of selector.now)) self.old }
+        ensures { self.new ≡ steps (selector_components (selector_of selector.now)) self.old }
     {
         match selector {
             Selector::Name(_) | Selector::Wildcard => {}
@@ -101,10 +105,10 @@ impl<'s> Walk<'s> {
         }
     }
 
-    /// Goes through the items of a logical expression.
+    /// Goes through the components of a logical expression.
     #[cycle(walk)]
     fn expr(&mut self, expr: &Expr)
-        ensures { self.new ≡ steps (expr_items (expr_of expr.now)) self.old }
+        ensures { self.new ≡ steps (expr_components (expr_of expr.now)) self.old }
     {
         match expr {
             Expr::AnyOf(parts) | Expr::AllOf(parts) => self.parts(parts),
@@ -117,20 +121,20 @@ impl<'s> Walk<'s> {
         }
     }
 
-    /// Goes through the items of the parts of an expression.
+    /// Goes through the components of the parts of an expression.
     #[cycle(walk)]
     fn parts(&mut self, parts: &[Expr])
-        ensures { self.new ≡ steps (exprs_items (exprs (map expr_of parts.now))) self.old }
+        ensures { self.new ≡ steps (exprs_components (exprs (map expr_of parts.now))) self.old }
     {
         for part in parts {
             self.expr(part);
         }
     }
 
-    /// Goes through the items of a test, where a logical value is wanted.
+    /// Goes through the components of a test, where a logical value is wanted.
     #[cycle(walk)]
     fn test(&mut self, subject: &Subject)
-        ensures { self.new ≡ steps (expr_items (subject_of subject.now)) self.old }
+        ensures { self.new ≡ steps (expr_components (subject_of subject.now)) self.old }
     {
         match subject {
             Subject::Query(query) => self.inner(query, Some(DataType::Logical)),
@@ -138,10 +142,10 @@ impl<'s> Walk<'s> {
         }
     }
 
-    /// Goes through the items of a side of a comparison, where a value is wanted.
+    /// Goes through the components of a side of a comparison, where a value is wanted.
     #[cycle(walk)]
     fn side(&mut self, side: &Operand)
-        ensures { self.new ≡ steps (operand_items (operand_of side.now)) self.old }
+        ensures { self.new ≡ steps (operand_components (operand_of side.now)) self.old }
     {
         let wanted = Some(DataType::Value);
         match side {
@@ -151,25 +155,25 @@ impl<'s> Walk<'s> {
         }
     }
 
-    /// Goes through an inner query where that type is wanted, and then through the items in it.
+    /// Goes through an inner query where that type is wanted, and then through the components in it.
     #[cycle(walk)]
     fn inner(&mut self, query: &Query, wanted: Option<DataType>)
         ensures { self.new
             ≡ steps
-            (items_of (query_of query.now))
-            (past_item (fault_of_query (query_of query.now) wanted) self.old) }
+            (components_of (query_of query.now))
+            (past_component (fault_of_query (query_of query.now) wanted) self.old) }
     {
         self.pass(fault_of_query(query, wanted));
         self.query(query);
     }
 
-    /// Goes through a call where that type is wanted, and then through the items in it.
+    /// Goes through a call where that type is wanted, and then through the components in it.
     #[cycle(walk)]
     fn call(&mut self, call: &Call, wanted: Option<DataType>)
         ensures { self.new
             ≡ steps
-            (call_items (call_of call.now))
-            (past_item (fault_of_call self.old.profile (call_of call.now) wanted) self.old) }
+            (call_components (call_of call.now))
+            (past_component (fault_of_call self.old.profile (call_of call.now) wanted) self.old) }
     {
         self.pass(fault_of_call(call, wanted, self.profile));
         let types = wanted_of_arguments(call, self.profile);
@@ -178,7 +182,7 @@ impl<'s> Walk<'s> {
         }
     }
 
-    /// Goes through the items of an argument of which that type is wanted.
+    /// Goes through the components of an argument of which that type is wanted.
     #[cycle(walk)]
     fn argument(&mut self, argument: &Argument, wanted: Option<DataType>)
         ensures { self.new ≡ past_argument wanted (argument_of argument.now) self.old }
@@ -194,10 +198,10 @@ impl<'s> Walk<'s> {
         }
     }
 
-    /// Goes through the parts of a slice; an omitted step is an item without a span.
+    /// Goes through the parts of a slice; an omitted step is a component without a span.
     #[tactic(auto, using(crate::proofs::Steps::steps_append))]
     fn slice(&mut self, slice: &Slice)
-        ensures { self.new ≡ steps (selector_items (slice_tree slice.now)) self.old }
+        ensures { self.new ≡ steps (selector_components (slice_tree slice.now)) self.old }
     {
         self.bound(slice.start);
         self.bound(slice.end);
@@ -206,7 +210,7 @@ impl<'s> Walk<'s> {
 
     /// Goes through a bound of a slice, if it is there.
     fn bound(&mut self, bound: Option<Numeral>)
-        ensures { self.new ≡ steps (bound_items bound) self.old }
+        ensures { self.new ≡ steps (bound_components bound) self.old }
     {
         if let Some(number) = bound {
             self.int(number);
@@ -215,14 +219,14 @@ impl<'s> Walk<'s> {
 
     /// Passes an index or a part of a slice.
     fn int(&mut self, number: Numeral)
-        ensures { self.new ≡ past_item (fault_of_int number) self.old }
+        ensures { self.new ≡ past_component (fault_of_int number) self.old }
     {
         self.pass(fault_of_int(number));
     }
 
-    /// Passes the next item, which has that fault or none.
+    /// Passes the next component, which has that fault or none.
     fn pass(&mut self, fault: Option<RefusalKind>)
-        ensures { self.new ≡ past_item fault self.old }
+        ensures { self.new ≡ past_component fault self.old }
     {
         let Some((span, rest)) = self.spans.split_first() else {
             return;

@@ -6,7 +6,7 @@ use Rattle.std.specs.Prelude.{◌≡◌, ℕ, ◌≤◌, Bool, true, false, List
 use Rattle.std.specs.Prelude.{length, Option, Some, Result, Ok, Err}
 use Rattle.std.specs.Io.KnownBytes.{Appends}
 use Rattle.jp_canon.specs.Laws.{CanonTellsApart}
-use Rattle.jp_check.specs.Laws.{FaultAtItsItem, OneAnswer, StandardIsExtended}
+use Rattle.jp_check.specs.Laws.{FaultAtItsComponent, OneAnswer, StandardIsExtended}
 use Rattle.jp_check.specs.declared.profile.Profile.{Profile}
 use Rattle.jp_document.specs.Document.{IsDocument}
 use Rattle.jp_document.specs.Laws.{DocumentOrDefect, NodesDiffer}
@@ -110,4 +110,4 @@ module _ (profile : Profile) {R W : Type 0} (remaining : R → Option (List ℕ)
     -- A text that spells no query is refused with one kind and at one place,
     pub syntax_places : OneRefusal
     -- and one that spells a query with a fault, where the text of the faulty item starts.
-    pub fault_places : FaultAtItsItem profile
+    pub fault_places : FaultAtItsComponent profile

@@ -64,18 +64,18 @@ module _ {R W : Type 0} (remaining : R → Option (List ℕ)) (has_failed : R �
     (read_gives : R → Option (List ℕ) → R → Type 0) (contents : W → Option (List ℕ))
     (writes_failed : W → Bool) where
   -- what the words ask for, in that profile, ended with this answer
-  abbrev pub Ends : Profile → List (List ℕ) → R → R → W → W → Result (Unit {0}) Fault → Type 0
-  Ends profile = RunsWords profile remaining has_failed read_gives contents writes_failed
+  abbrev pub EndsAs : Profile → List (List ℕ) → R → R → W → W → Result (Unit {0}) Fault → Type 0
+  EndsAs profile = RunsWords profile remaining has_failed read_gives contents writes_failed
 
   -- what is said with a status; u and v are what takes the fault's line, before and after. Where
   -- the words are not ones that the command line takes, that is clap's text, of which its contract
   -- says nothing
   pub data RunsLine {E : Type 0} (reports : E → Option (List ℕ)) (words : List (List ℕ))
       (i j : R) (o p : W) (u v : E) (status : ℕ) : Type 0 where
-    done : (profile : Profile) → status ≡ 0 → Ends profile words i j o p (Ok tt) → v ≡ u
+    done : (profile : Profile) → status ≡ 0 → EndsAs profile words i j o p (Ok tt) → v ≡ u
         → RunsLine reports words i j o p u v status
     fault : (profile : Profile) (f : Fault) → status ≡ status_of f
-        → Ends profile words i j o p (Err f)
+        → EndsAs profile words i j o p (Err f)
         → AppendsPrefix (reports u) (reports v) (fault_line f)
         → RunsLine reports words i j o p u v status
     usage : status ≡ 2 → asked words ≡ None → j ≡ i → p ≡ o

@@ -1,4 +1,5 @@
--- What the contracts of private functions alone cite: lines written by turns, the front of paths, and how runs stop.
+-- What the contracts of private functions alone cite: lines written by turns, the front of paths,
+-- and how runs stop.
 pub mod ByTurns
 pub mod Faults
 pub mod Fronts

@@ -1,7 +1,7 @@
 //! A run that writes the canonical text of a query.
 
 ghost use Rattle.std.specs.Prelude.{◌≡◌, IfOk, string_bytes};
-ghost use Rattle.jp_tree.specs.Tree.{query_of};
+ghost use Rattle.jp_tree.specs.Views.{query_of};
 ghost use Rattle.jp_command.specs.Canon.{RunsCanon, canon_line};
 
 use crate::device::Writer;

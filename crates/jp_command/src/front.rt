@@ -1,9 +1,9 @@
 //! What the paths of nodes begin with.
 
 ghost use Rattle.std.specs.Prelude.{◌≡◌, ◌++◌, OnOk, map, string_bytes};
-ghost use Rattle.jp_document.specs.Location.{key_of};
+ghost use Rattle.jp_document.specs.Location.{step_of};
 ghost use Rattle.jp_document.specs.Path.{path_of};
-ghost use Rattle.jp_command.specs.Private.Fronts.{IsSpelled};
+ghost use Rattle.jp_command.specs.Private.Fronts.{HasPathText};
 
 use jp_document::{Step, push_path, push_step};
 use std::alloc::{AllocError, Global};
@@ -19,7 +19,7 @@ pub(crate) struct Front<'d> {
 impl<'d> Front<'d> {
     /// No steps.
     pub(crate) fn new(alloc: Global) -> Front<'d>
-        ensures { IsSpelled result }
+        ensures { HasPathText result }
     {
         Front {
             steps: Vec::new(alloc),
@@ -34,10 +34,10 @@ impl<'d> Front<'d> {
         location: &[Step<'d>],
         line: &mut String,
     ) -> Result<(), AllocError>
-        requires { IsSpelled self.old }
-        ensures kept { OnOk result (IsSpelled self.new) }
+        requires { HasPathText self.old }
+        ensures kept { OnOk result (HasPathText self.new) }
         ensures path { OnOk result (string_bytes line.new
-            ≡ string_bytes line.old ++ path_of (map key_of location.now)) }
+            ≡ string_bytes line.old ++ path_of (map step_of location.now)) }
     {
         match location.split_last() {
             Some((last, before)) if before.len() > 1 => {
@@ -52,9 +52,9 @@ impl<'d> Front<'d> {
 
     /// Keeps these steps.
     fn turn_to(&mut self, steps: &[Step<'d>]) -> Result<(), AllocError>
-        requires { IsSpelled self.old }
-        ensures kept { OnOk result (IsSpelled self.new) }
-        ensures steps { OnOk result (map key_of self.new.steps.items ≡ map key_of steps.now) }
+        requires { HasPathText self.old }
+        ensures kept { OnOk result (HasPathText self.new) }
+        ensures steps { OnOk result (map step_of self.new.steps.items ≡ map step_of steps.now) }
     {
         let rest = self.rest_of(steps);
         for step in rest {
@@ -67,10 +67,10 @@ impl<'d> Front<'d> {
     /// What these steps have behind those that are kept; where they do not begin with those, none
     /// are kept any more.
     fn rest_of<'s>(&mut self, steps: &'s [Step<'d>]) -> &'s [Step<'d>]
-        requires { IsSpelled self.old }
-        ensures kept { IsSpelled self.new }
-        ensures rest { map key_of self.new.steps.items ++ map key_of result.now
-            ≡ map key_of steps.entry.now }
+        requires { HasPathText self.old }
+        ensures kept { HasPathText self.new }
+        ensures rest { map step_of self.new.steps.items ++ map step_of result.now
+            ≡ map step_of steps.entry.now }
     {
         if let Some(rest) = steps.strip_prefix(self.steps.as_slice()) {
             return rest;

@@ -5,7 +5,7 @@ ghost use Rattle.jp_command.specs.Headline.{Headline};
 
 use crate::device::{Source, Writer};
 use jp_canon::laws::canon_tells_apart;
-use jp_check::laws::{fault_at_its_item, one_answer, standard_is_extended};
+use jp_check::laws::{fault_at_its_component, one_answer, standard_is_extended};
 use jp_document::laws::{document_or_defect, paths_differ};
 use jp_evaluate::laws::{path_selects_its_node, selects_nodes_alone};
 use jp_query::laws::one_refusal;
@@ -28,5 +28,5 @@ pub fn headline<R: Source, W: Writer>()
     standard_is_extended();
     canon_tells_apart();
     one_refusal();
-    fault_at_its_item();
+    fault_at_its_component();
 }

@@ -5,11 +5,11 @@ ghost use Rattle.std.specs.List.{flat_map};
 ghost use Rattle.jp_command.specs.Lines.{line_behind, line_of, lines_of, output_behind, output_of};
 ghost use Rattle.jp_command.specs.Output.{StopsWriting, WritesAll};
 ghost use Rattle.jp_command.specs.Private.ByTurns.{WritesByTurns};
-ghost use Rattle.jp_command.specs.Private.Fronts.{IsSpelled};
+ghost use Rattle.jp_command.specs.Private.Fronts.{HasPathText};
 ghost use Rattle.jp_evaluate.specs.Lent.{has_failed, rest_of};
-ghost use Rattle.jp_document.specs.Location.{key_of};
+ghost use Rattle.jp_document.specs.Location.{step_of};
 ghost use Rattle.jp_document.specs.Node.{node_at};
-ghost use Rattle.jp_tree.specs.Tree.{query_of};
+ghost use Rattle.jp_tree.specs.Views.{query_of};
 
 use crate::device::Writer;
 use crate::fault::Fault;
@@ -43,10 +43,10 @@ fn push_line<'d, V: Printed>(
     value: V,
     line: &mut String,
 ) -> Result<(), AllocError>
-    requires { IsSpelled front.old }
-    ensures kept { OnOk result (IsSpelled front.new) }
+    requires { HasPathText front.old }
+    ensures kept { OnOk result (HasPathText front.new) }
     ensures line { OnOk result (string_bytes line.new ≡ string_bytes line.old
-        ++ line_of form (node_at (map key_of location.now) (V.meaning value))) }
+        ++ line_of form (node_at (map step_of location.now) (V.meaning value))) }
 {
     match form {
         Form::Values => value.push_value(line)?,
@@ -116,8 +116,8 @@ impl Spare {
 
 /// Writes a line for each node that the query selects in the document whose value is the root, in
 /// the nodelist's order (RFC 9535 section 2.1.2), each behind the text `lead`; a node's line before
-/// the next node is looked for. `Write` says that the output failed, and `NoMemory` that memory ran out; after both a
-/// prefix of the lines is written. There are no other errors.
+/// the next node is looked for. `Write` says that the output failed, and `NoMemory` that memory ran
+/// out; after both a prefix of the lines is written. There are no other errors.
 pub fn write_selected<'d: 'q, 'q, V: Printed + 'd, W: Writer>(
     alloc: Global,
     form: Form,

@@ -4,5 +4,5 @@ pub mod Entries
 pub mod Exact
 pub mod Inside
 pub mod Items
-pub mod Keys
+pub mod Steps
 pub mod Nodes

@@ -1,5 +1,4 @@
 pub mod Completeness
-pub mod Conjunctions
 pub mod Descent
 pub mod Members
 pub mod Options

@@ -6,12 +6,12 @@ use Rattle.jp_document.specs.Value.{item_count, list_length}
 use Rattle.jp_document.specs.declared.value.Json.{Json, List as ListOf, Members, the_lemmas}
 use Rattle.jp_document.specs.declared.value.Member.{Member}
 
-pub value_of-List : (v : Vec Json Global) →
-    value_of (ListOf v) ≡ list (items_of (map value_of v.items))
+pub value_of-List : (v : Vec Json Global)
+    → value_of (ListOf v) ≡ list (items_of (map value_of v.items))
 value_of-List v = search (rules, the_lemmas)
 
-pub value_of-Members : (v : Vec Member Global) →
-    value_of (Members v) ≡ object (members_of (map member_of v.items))
+pub value_of-Members : (v : Vec Member Global)
+    → value_of (Members v) ≡ object (members_of (map member_of v.items))
 value_of-Members v = search (rules, the_lemmas)
 
 pub member_of_is : (m : Member) → member_of m ≡ (string_bytes m.name, value_of m.value)

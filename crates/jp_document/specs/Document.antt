@@ -7,7 +7,7 @@ use Rattle.std.specs.declared.cmp.Ordering.TheVariants.{Less}
 use Rattle.serde_json.specs.Data as parsed
 use Rattle.serde_json.specs.Data.{Data, unsigned, negative, float}
 use Rattle.serde_json.specs.Read.{read}
-use Rattle.jp_document.specs.Location.{Key, named, nth, key_cmp, Location, location_cmp}
+use Rattle.jp_document.specs.Location.{Step, named, nth, step_cmp, Location, location_cmp}
 use Rattle.jp_document.specs.Path.{path_of}
 use Rattle.jp_document.specs.Value.{Value, null, boolean, whole, text, list, object}
 use Rattle.jp_document.specs.Value.{Items, no_items, item, Members, no_members, member}
@@ -57,16 +57,16 @@ pub record IsDocument (bytes : List ℕ) (v : Value) : Type 0 where
 
 -- ---- the first number that is not whole
 
-abbrev pub data_items_from : ℕ → parsed.Items → List (Key × Data)
+abbrev pub data_items_from : ℕ → parsed.Items → List (Step × Data)
 data_items_from i parsed.no_items = []
 data_items_from i (parsed.item d ds) = (nth i, d) ∷ data_items_from (suc i) ds
 
-abbrev pub data_members : parsed.Members → List (Key × Data)
+abbrev pub data_members : parsed.Members → List (Step × Data)
 data_members parsed.no_members = []
 data_members (parsed.member n d ms) = (named n, d) ∷ data_members ms
 
 -- what a reading holds one step inside, each at its step
-abbrev pub data_entries : Data → List (Key × Data)
+abbrev pub data_entries : Data → List (Step × Data)
 data_entries (parsed.array ds) = data_items_from 0 ds
 data_entries (parsed.object ms) = data_members ms
 data_entries _ = []
@@ -74,7 +74,7 @@ data_entries _ = []
 -- what stands at a location in a reading, if anything does
 abbrev pub data_at : Data → Location → Option Data
 data_at d [] = Some d
-data_at d (k ∷ l) = option_and_then (λ e. data_at e l) (lookup (is_at (key_cmp k)) (data_entries d))
+data_at d (k ∷ l) = option_and_then (λ e. data_at e l) (lookup (is_at (step_cmp k)) (data_entries d))
 
 -- at l stands a number that is held neither as i64 nor as u64
 abbrev pub IsFraction : Data → Location → Type 0

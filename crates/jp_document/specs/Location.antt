@@ -7,7 +7,7 @@ use Rattle.std.specs.Map.{lookup}
 use Rattle.std.specs.Ordering.{nat_cmp}
 use Rattle.std.specs.declared.cmp.Ordering.{Ordering}
 use Rattle.std.specs.declared.cmp.Ordering.TheVariants.{Less, Greater}
-use Rattle.jp_document.specs.declared.location.Step.{Step}
+use Rattle.jp_document.specs.declared.location.Step as code
 use Rattle.jp_document.specs.declared.location.Step.TheVariants as step
 use Rattle.jp_document.specs.declared.location.OwnedStep.{OwnedStep}
 use Rattle.jp_document.specs.declared.location.OwnedStep.TheVariants as owned
@@ -15,54 +15,54 @@ use Rattle.jp_document.specs.Value.{Value, list, object, Items, no_items}
 use Rattle.jp_document.specs.Value.{item, Members, no_members, member}
 
 -- One step of a location: a member's name, by its bytes, or an item's index from 0.
-pub data Key : Type 0 where
-  named : List ℕ → Key
-  nth : ℕ → Key
+pub data Step : Type 0 where
+  named : List ℕ → Step
+  nth : ℕ → Step
 
 abbrev pub Location : Type 0
-Location = List Key
+Location = List Step
 
-abbrev pub key_of : Step → Key
-key_of (step.Name s) = named s.now
-key_of (step.Index i) = nth i
+abbrev pub step_of : code.Step → Step
+step_of (step.Name s) = named s.now
+step_of (step.Index i) = nth i
 
-abbrev pub owned_key : OwnedStep → Key
-owned_key (owned.Name s) = named (string_bytes s)
-owned_key (owned.Index i) = nth i
+abbrev pub owned_step : OwnedStep → Step
+owned_step (owned.Name s) = named (string_bytes s)
+owned_step (owned.Index i) = nth i
 
 -- names compare by bytes, indexes by number
-abbrev pub key_cmp : Key → Key → Ordering
-key_cmp (named s) (named t) = slice_cmp nat_cmp s t
-key_cmp (named s) (nth j) = Less
-key_cmp (nth i) (named t) = Greater
-key_cmp (nth i) (nth j) = nat_cmp i j
+abbrev pub step_cmp : Step → Step → Ordering
+step_cmp (named s) (named t) = slice_cmp nat_cmp s t
+step_cmp (named s) (nth j) = Less
+step_cmp (nth i) (named t) = Greater
+step_cmp (nth i) (nth j) = nat_cmp i j
 
 -- document order: a location is before each longer one that begins with it; else the first
 -- differing step decides
 abbrev pub location_cmp : Location → Location → Ordering
-location_cmp = slice_cmp key_cmp
+location_cmp = slice_cmp step_cmp
 
 -- the items, the first at index i
-abbrev pub items_from : ℕ → Items → List (Key × Value)
+abbrev pub items_from : ℕ → Items → List (Step × Value)
 items_from i no_items = []
 items_from i (item v vs) = (nth i, v) ∷ items_from (suc i) vs
 
-abbrev pub members_by_name : Members → List (Key × Value)
+abbrev pub members_by_name : Members → List (Step × Value)
 members_by_name no_members = []
 members_by_name (member n v ms) = (named n, v) ∷ members_by_name ms
 
 -- the values one step inside v, each at its step
-abbrev pub entries : Value → List (Key × Value)
+abbrev pub entries : Value → List (Step × Value)
 entries (list vs) = items_from 0 vs
 entries (object ms) = members_by_name ms
 entries _ = []
 
 -- the value one step inside v, if there is one
-abbrev pub child : Value → Key → Option Value
-child v k = lookup (is_at (key_cmp k)) (entries v)
+abbrev pub child : Value → Step → Option Value
+child v k = lookup (is_at (step_cmp k)) (entries v)
 
 -- the value one step inside v, with its step, if there is one
-abbrev pub child_entry : Value → Key → Option (Key × Value)
+abbrev pub child_entry : Value → Step → Option (Step × Value)
 child_entry v k = option_map (λ w. (k, w)) (child v k)
 
 -- the value that stands at a location in v, if there is one

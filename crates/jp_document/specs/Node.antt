@@ -2,7 +2,7 @@
 use Rattle.std.specs.Prelude.{◌≡◌, List, [], ◌∷◌, ◌++◌, Option, Some}
 use Rattle.std.specs.Prelude.{None, MatchOption, map, option_map}
 use Rattle.jp_document.specs.declared.value.Json.{Json}
-use Rattle.jp_document.specs.Location.{Key, Location, child, entries, value_at}
+use Rattle.jp_document.specs.Location.{Step, Location, child, entries, value_at}
 use Rattle.jp_document.specs.Value.{Value, IsDocumentValue, value_of}
 
 -- a node: a location and a value
@@ -31,11 +31,11 @@ abbrev pub root_of : Value → Node
 root_of d = node_at [] d
 
 -- the node one step below l, at the step e.0 with the value e.1
-abbrev pub node_below : Location → Key × Value → Node
+abbrev pub node_below : Location → Step × Value → Node
 node_below l e = node_at (l ++ e.0 ∷ []) e.1
 
 -- the child of a node at a step, if there is one
-abbrev pub child_of : Node → Key → Option Node
+abbrev pub child_of : Node → Step → Option Node
 child_of n k = option_map (λ v. node_below n.location (k, v)) (child n.value k)
 
 -- the children of a node, in document order

@@ -4,7 +4,7 @@ use Rattle.std.specs.Int.Digits.{digits_of}
 use Rattle.std.specs.List.{flat_map}
 use Rattle.jp_reading.specs.Characters.{closing_bracket, digit_zero, dollar, opening_bracket}
 use Rattle.jp_reading.specs.Characters.{single_quote}
-use Rattle.jp_document.specs.Location.{Key, named, nth, Location}
+use Rattle.jp_document.specs.Location.{Step, named, nth, Location}
 use Rattle.jp_document.specs.Spelling.{quoted_in}
 
 -- a name between single quotes
@@ -16,7 +16,7 @@ unfoldable pub index_text : ℕ → List ℕ
 index_text n = if n == 0 then digit_zero ∷ [] else map (λ d. digit_zero + d) (digits_of 10 n)
 
 -- a step between brackets
-abbrev pub step_text : Key → List ℕ
+abbrev pub step_text : Step → List ℕ
 step_text (named s) = opening_bracket ∷ (quoted s ++ closing_bracket ∷ [])
 step_text (nth i) = opening_bracket ∷ (index_text i ++ closing_bracket ∷ [])
 

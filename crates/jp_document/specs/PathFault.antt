@@ -7,11 +7,11 @@ use Rattle.jp_reading.specs.declared.reader.Stop.TheVariants as stop
 use Rattle.jp_document.specs.declared.path_fault.PathFault.{PathFault}
 use Rattle.jp_document.specs.declared.path_fault.PathFault.TheVariants.{NotNormalized}
 use Rattle.jp_document.specs.declared.path_fault.PathFault.TheVariants.{IndexRange, NoMemory}
-use Rattle.jp_document.specs.Location.{Key, named, nth, Location}
+use Rattle.jp_document.specs.Location.{Step, named, nth, Location}
 use Rattle.jp_document.specs.Path.{path_of}
 
 -- whether a step is an index above (2^53)-1
-abbrev pub is_large : Key → Bool
+abbrev pub is_large : Step → Bool
 is_large (named s) = false
 is_large (nth i) = nat_lt 9007199254740991 i
 

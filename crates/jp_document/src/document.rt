@@ -22,7 +22,7 @@ pub struct Document {
 impl Document {
     ghost use Rattle.jp_document.specs.Document.{document_of, IsDocument, IsDocumentFault};
     ghost use Rattle.jp_document.specs.DocumentValue.{lent_value};
-    ghost use Rattle.jp_document.specs.Location.{key_of, value_at};
+    ghost use Rattle.jp_document.specs.Location.{step_of, value_at};
     ghost use Rattle.jp_document.specs.Node.{StandsIn, node_of, root_of};
 
     /// The document that these bytes are. Refused are: bytes that `serde_json` reads no value from,
@@ -68,7 +68,7 @@ impl Document {
     /// The value at a location, None where there is none (RFC 9535 section 1.1).
     pub fn at(&self, location: &[Step]) -> Option<&Json>
         ensures { option_map (λ j. value_of j.now) result
-            ≡ value_at (document_of self.now) (map key_of location.now) }
+            ≡ value_at (document_of self.now) (map step_of location.now) }
     {
         let mut value = self.value();
         for step in location {

@@ -18,7 +18,7 @@ pub struct DocumentValue<'d> {
 
 impl<'d> DocumentValue<'d> {
     ghost use Rattle.jp_document.specs.DocumentValue.{lent_entry, lent_value};
-    ghost use Rattle.jp_document.specs.Location.{child, child_entry, entries, key_of, named, nth};
+    ghost use Rattle.jp_document.specs.Location.{child, child_entry, entries, step_of, named, nth};
 
     /// The value of a document.
     pub(crate) fn of(json: &'d Json) -> DocumentValue<'d>
@@ -89,7 +89,7 @@ impl<'d> DocumentValue<'d> {
         match self.json {
             Json::Members(members) => {
                 match members.binary_search_by(|member| name_order(member, name)) {
-                    Ok(place) => self.child(place),
+                    Ok(index) => self.child(index),
                     Err(_) => None,
                 }
             }
@@ -99,7 +99,7 @@ impl<'d> DocumentValue<'d> {
 
     /// The value at this step inside, None where there is none.
     pub(crate) fn at_step(self, step: Step) -> Option<DocumentValue<'d>>
-        ensures { option_map lent_value result ≡ child (lent_value self.entry) (key_of step.entry) }
+        ensures { option_map lent_value result ≡ child (lent_value self.entry) (step_of step.entry) }
     {
         match step {
             Step::Name(name) => Some(self.member(name)?.1),

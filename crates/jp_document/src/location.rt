@@ -21,11 +21,11 @@ pub enum OwnedStep {
 
 impl OwnedStep {
     ghost use Rattle.std.specs.Prelude.{◌≡◌};
-    ghost use Rattle.jp_document.specs.Location.{key_of, owned_key};
+    ghost use Rattle.jp_document.specs.Location.{step_of, owned_step};
 
     /// The same step, which borrows the name.
     pub(crate) fn as_step(&self) -> Step<'_>
-        ensures { key_of result ≡ owned_key self.now }
+        ensures { step_of result ≡ owned_step self.now }
     {
         match self {
             OwnedStep::Name(name) => Step::Name(name.as_str()),
@@ -42,27 +42,27 @@ pub struct OwnedLocation {
 
 impl Model for OwnedLocation {
     ghost use Rattle.std.specs.Prelude.{map};
-    ghost use Rattle.jp_document.specs.Location.{Location, owned_key};
+    ghost use Rattle.jp_document.specs.Location.{Location, owned_step};
 
     ghost Value = { Location };
 
-    ghost view = { λ l. map owned_key l.steps.items };
+    ghost view = { λ l. map owned_step l.steps.items };
 }
 
 impl OwnedLocation {
     ghost use Rattle.std.specs.Prelude.{◌≡◌, map};
-    ghost use Rattle.jp_document.specs.Location.{owned_key};
+    ghost use Rattle.jp_document.specs.Location.{owned_step};
 
     /// The location of these steps.
     pub(crate) fn of(steps: Vec<OwnedStep>) -> OwnedLocation
-        ensures { result ≡ map owned_key steps.items }
+        ensures { result ≡ map owned_step steps.items }
     {
         OwnedLocation { steps }
     }
 
     /// The steps, from the root on.
     pub fn steps(&self) -> &[OwnedStep]
-        ensures { map owned_key result.now ≡ self.now }
+        ensures { map owned_step result.now ≡ self.now }
     {
         &self.steps
     }

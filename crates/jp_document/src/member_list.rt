@@ -1,7 +1,7 @@
 //! The members of an object while it is read.
 ghost use Rattle.std.specs.Prelude.{◌≡◌, [], true, IfSome, map, string_bytes};
 ghost use Rattle.std.specs.BTreeMap.{insert_entry};
-ghost use Rattle.jp_document.specs.Private.Direct.{IsPlace};
+ghost use Rattle.jp_document.specs.Private.Direct.{IsInsertionPoint};
 ghost use Rattle.jp_document.specs.Private.MemberList.{names_cmp, entries_of, map_entry};
 ghost use Rattle.jp_document.specs.Value.{member_of, members_of, names_of, names_rise, value_of};
 
@@ -35,8 +35,8 @@ impl MemberList {
             ≡ insert_entry names_cmp (entries_of self) (string_bytes name) (value_of value)) }
     {
         match self {
-            MemberList::Vector(members) => match place_of(&members, name.as_str()) {
-                Some(place) => insert_at(members, place, name, value),
+            MemberList::Vector(members) => match insertion_point(&members, name.as_str()) {
+                Some(point) => insert_at(members, point, name, value),
                 None => insert_in_map(into_map(alloc, members)?, name, value),
             },
             MemberList::Map(members) => insert_in_map(members, name, value),
@@ -57,30 +57,30 @@ impl MemberList {
     }
 }
 
-/// Where a member of this name goes. None where the name is there, or the place is far from the
+/// Where a member of this name goes. None where the name is there, or the point is far from the
 /// end.
-fn place_of(members: &[Member], name: &str) -> Option<usize>
+fn insertion_point(members: &[Member], name: &str) -> Option<usize>
     requires { names_rise (names_of (members_of (map member_of members.now))) ≡ true }
-    ensures { IfSome result (IsPlace (map member_of members.now) name.now) }
+    ensures { IfSome result (IsInsertionPoint (map member_of members.now) name.now) }
 {
-    let mut place = members.len();
-    'down: while place > 0 && members.len() - place < MAX_MOVED {
-        match name_order(&members[place - 1], name) {
-            Ordering::Less => return Some(place),
+    let mut point = members.len();
+    'down: while point > 0 && members.len() - point < MAX_MOVED {
+        match name_order(&members[point - 1], name) {
+            Ordering::Less => return Some(point),
             Ordering::Equal => return None,
-            Ordering::Greater => place -= 1,
+            Ordering::Greater => point -= 1,
         }
     }
-    if place == 0 { Some(0) } else { None }
+    if point == 0 { Some(0) } else { None }
 }
 
-fn insert_at(members: Vec<Member>, place: usize, name: String, value: Json) -> Option<MemberList>
-    requires { IsPlace (map member_of members.items) (string_bytes name) place }
+fn insert_at(members: Vec<Member>, point: usize, name: String, value: Json) -> Option<MemberList>
+    requires { IsInsertionPoint (map member_of members.items) (string_bytes name) point }
     ensures { IfSome result (λ more. entries_of more ≡ insert_entry
         names_cmp (map member_of members.items) (string_bytes name) (value_of value)) }
 {
     let mut members = members;
-    members.insert(place, Member { name, value }).ok()?;
+    members.insert(point, Member { name, value }).ok()?;
     Some(MemberList::Vector(members))
 }
 

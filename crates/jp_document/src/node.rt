@@ -21,33 +21,33 @@ impl<'d> Model for Node<'d> {
     ghost use Rattle.std.specs.Prelude.{map};
     ghost use Rattle.jp_document.specs.contracts.value.Json as json;
     ghost use Rattle.std.specs.Coded.{codes};
-    ghost use Rattle.jp_document.specs.Location.{key_of};
+    ghost use Rattle.jp_document.specs.Location.{step_of};
     ghost use Rattle.jp_document.specs.Node.{NodeView};
 
     ghost Value = { NodeView };
 
     ghost coded = { Prim.hlevel (codes, json.the_row.coded) };
 
-    ghost view = { λ n. record { location = map key_of n.location.items; value = n.value.json.now } };
+    ghost view = { λ n. record { location = map step_of n.location.items; value = n.value.json.now } };
 }
 
 impl<'d> Node<'d> {
     ghost use Rattle.std.specs.Prelude.{map};
     ghost use Rattle.jp_document.specs.DocumentValue.{lent_entry, lent_value};
-    ghost use Rattle.jp_document.specs.Location.{key_of};
+    ghost use Rattle.jp_document.specs.Location.{step_of};
     ghost use Rattle.jp_document.specs.Node.{node_at, node_below, node_of};
     ghost use Rattle.jp_document.specs.Value.{IsDocumentValue, value_of};
 
     /// The node of these steps, where this value stands.
     pub fn of(location: Vec<Step<'d>>, value: DocumentValue<'d>) -> Node<'d>
-        ensures { node_of result ≡ node_at (map key_of location.entry.items) (lent_value value.entry) }
+        ensures { node_of result ≡ node_at (map step_of location.entry.items) (lent_value value.entry) }
     {
         Node { location, value }
     }
 
     /// The steps from the root to this node.
     pub fn location(&self) -> &[Step<'d>]
-        ensures { map key_of result.now ≡ (node_of self.now).location }
+        ensures { map step_of result.now ≡ (node_of self.now).location }
     {
         &self.location
     }
@@ -85,7 +85,7 @@ impl<'d> Node<'d> {
         value: DocumentValue<'d>,
     ) -> Result<Node<'d>, AllocError>
         ensures { IfOk result (λ n. node_of n
-            ≡ node_below (node_of self.now).location (key_of step.entry, lent_value value.entry)) }
+            ≡ node_below (node_of self.now).location (step_of step.entry, lent_value value.entry)) }
     {
         let steps = self.location();
         let mut location = Vec::with_capacity(alloc, steps.len() + 1)?;

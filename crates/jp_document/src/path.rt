@@ -1,7 +1,7 @@
 //! Normalized paths (RFC 9535 section 2.7).
 ghost use Rattle.std.specs.Prelude.{◌≡◌, ◌++◌, map, string_bytes, IfOk, OnOk};
 ghost use Rattle.jp_document.specs.Appending.{IsPartAppended};
-ghost use Rattle.jp_document.specs.Location.{key_of, owned_key};
+ghost use Rattle.jp_document.specs.Location.{step_of, owned_step};
 ghost use Rattle.jp_document.specs.Path.{path_of, quoted, step_text, index_text};
 
 use crate::location::{OwnedStep, Step};
@@ -11,7 +11,7 @@ use std::alloc::{AllocError, Global};
 
 /// The normalized path of a location (RFC 9535 section 2.7). The only error is that memory ran out.
 pub fn path_text(alloc: Global, location: &[Step]) -> Result<String, AllocError>
-    ensures { IfOk result (λ s. string_bytes s ≡ path_of (map key_of location.now)) }
+    ensures { IfOk result (λ s. string_bytes s ≡ path_of (map step_of location.now)) }
 {
     let mut text = String::new(alloc);
     push_path(&mut text, location)?;
@@ -42,8 +42,8 @@ pub fn push_quote(out: &mut String, text: &str) -> Result<(), AllocError>
 /// text still begins with what it held, and only a beginning of the path stands after it.
 pub fn push_path(out: &mut String, location: &[Step]) -> Result<(), AllocError>
     ensures ok { OnOk result
-        (string_bytes out.new ≡ string_bytes out.old ++ path_of (map key_of location.now)) }
-    ensures kept { IsPartAppended (string_bytes out.old) (path_of (map key_of location.now))
+        (string_bytes out.new ≡ string_bytes out.old ++ path_of (map step_of location.now)) }
+    ensures kept { IsPartAppended (string_bytes out.old) (path_of (map step_of location.now))
         (string_bytes out.new) }
 {
     out.push('$')?;
@@ -55,7 +55,7 @@ pub fn push_path(out: &mut String, location: &[Step]) -> Result<(), AllocError>
 
 /// The normalized path of a location that borrows nothing.
 pub(crate) fn owned_path_text(alloc: Global, location: &[OwnedStep]) -> Result<String, AllocError>
-    ensures { IfOk result (λ s. string_bytes s ≡ path_of (map owned_key location.now)) }
+    ensures { IfOk result (λ s. string_bytes s ≡ path_of (map owned_step location.now)) }
 {
     let mut text = String::from_str(alloc, "$")?;
     for step in location {
@@ -69,8 +69,8 @@ pub(crate) fn owned_path_text(alloc: Global, location: &[OwnedStep]) -> Result<S
 /// stands after it.
 pub fn push_step(out: &mut String, step: Step) -> Result<(), AllocError>
     ensures ok { OnOk result
-        (string_bytes out.new ≡ string_bytes out.old ++ step_text (key_of step.entry)) }
-    ensures kept { IsPartAppended (string_bytes out.old) (step_text (key_of step.entry))
+        (string_bytes out.new ≡ string_bytes out.old ++ step_text (step_of step.entry)) }
+    ensures kept { IsPartAppended (string_bytes out.old) (step_text (step_of step.entry))
         (string_bytes out.new) }
 {
     out.push('[')?;

@@ -2,7 +2,7 @@
 ghost use Rattle.std.specs.Prelude.{◌≡◌, map, false, IfOk, IfErr};
 ghost use Rattle.std.specs.List.{list_any};
 ghost use Rattle.jp_reading.specs.Views.{Gives};
-ghost use Rattle.jp_document.specs.Location.{owned_key};
+ghost use Rattle.jp_document.specs.Location.{owned_step};
 ghost use Rattle.jp_document.specs.Path.{path_of};
 ghost use Rattle.jp_document.specs.PathFault.{is_large, IsPathFaultOf};
 ghost use Rattle.jp_document.specs.Private.PathRules as rules;
@@ -32,13 +32,13 @@ pub fn read_path(alloc: Global, text: &str) -> Result<OwnedLocation, PathFault>
 
 /// Whether some index is above (2^53)-1.
 fn is_any_large(steps: &[OwnedStep]) -> bool
-    ensures { result ≡ list_any (λ s. is_large (owned_key s)) steps.now }
+    ensures { result ≡ list_any (λ s. is_large (owned_step s)) steps.now }
 {
     steps.iter().any(is_large)
 }
 
 fn is_large(step: &OwnedStep) -> bool
-    ensures { result ≡ is_large (owned_key step.now) }
+    ensures { result ≡ is_large (owned_step step.now) }
 {
     match step {
         OwnedStep::Name(_) => false,
@@ -52,7 +52,7 @@ const LARGEST_INDEX: u64 = 9_007_199_254_740_991;
 /// Takes a whole path: the text ends after it. An index above (2^53)-1 is read as 2^53.
 #[tactic(auto, unfolding(crate::specs::Private::PathReading::path_at, crate::specs::Private::PathRules::path,))]
 fn path(reader: &mut Reader) -> Result<Vec<OwnedStep>, Stop>
-    ensures { Gives (λ v. map owned_key v.items) result reader.new (path_at reader.old) }
+    ensures { Gives (λ v. map owned_step v.items) result reader.new (path_at reader.old) }
 {
     reader.expect('$')?;
     let steps = steps(reader)?;
@@ -65,7 +65,7 @@ fn path(reader: &mut Reader) -> Result<Vec<OwnedStep>, Stop>
 /// Takes step after step, as long as another begins.
 fn steps(reader: &mut Reader) -> Result<Vec<OwnedStep>, Stop>
     ensures { Gives
-        (λ v. map owned_key v.items)
+        (λ v. map owned_step v.items)
         result
         reader.new
         (read_rule rules.steps reader.old) }
@@ -81,18 +81,18 @@ fn steps(reader: &mut Reader) -> Result<Vec<OwnedStep>, Stop>
 /// Takes a step between brackets.
 #[tactic(auto, unfolding(crate::specs::Private::PathRules::step))]
 fn step(reader: &mut Reader) -> Result<OwnedStep, Stop>
-    ensures { Gives owned_key result reader.new (read_rule rules.step reader.old) }
+    ensures { Gives owned_step result reader.new (read_rule rules.step reader.old) }
 {
     reader.expect('[')?;
-    let key = key(reader)?;
+    let step = normal_selector(reader)?;
     reader.expect(']')?;
-    Ok(key)
+    Ok(step)
 }
 
 /// Takes a name or an index.
-#[tactic(auto, unfolding(crate::specs::Private::PathRules::key))]
-fn key(reader: &mut Reader) -> Result<OwnedStep, Stop>
-    ensures { Gives owned_key result reader.new (read_rule rules.key reader.old) }
+#[tactic(auto, unfolding(crate::specs::Private::PathRules::normal_selector))]
+fn normal_selector(reader: &mut Reader) -> Result<OwnedStep, Stop>
+    ensures { Gives owned_step result reader.new (read_rule rules.normal_selector reader.old) }
 {
     if reader.is_at('\'') {
         let name = name(reader)?;

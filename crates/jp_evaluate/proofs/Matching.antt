@@ -8,7 +8,7 @@ use Rattle.jp_check.specs.declared.functions.Function.TheVariants.{Search, Value
 use Rattle.jp_document.specs.Value.{text}
 use Rattle.jp_iregexp.proofs.Membership.{parts_are_tested, words_are_tested}
 use Rattle.jp_iregexp.specs.Language.{Language}
-use Rattle.jp_iregexp.specs.Matches.{has_match, is_match, is_passing}
+use Rattle.jp_iregexp.specs.MatchTests.{has_match, is_match, is_passing}
 use Rattle.jp_iregexp.specs.Membership.{has_word, is_word}
 use Rattle.jp_iregexp.specs.Part.{HasPart}
 use Rattle.jp_iregexp.specs.PatternOf.{pattern_of}

@@ -3,4 +3,3 @@ pub mod Arguments
 pub mod Counted
 pub mod Lengths
 pub mod Sizes
-pub mod Trees

@@ -1,7 +1,7 @@
 -- Worked rows of the definitions.
 use Rattle.std.proofs.Common.{◌≡◌, ℕ, pos, negsuc, true, false, List, [], ◌∷◌, codes, map, refl}
 use lib.Utf8.{encode}
-use Rattle.jp_document.specs.Location.{Key, Location, named, nth}
+use Rattle.jp_document.specs.Location.{Step, Location, named, nth}
 use Rattle.jp_document.specs.Node.{location_of}
 use Rattle.jp_document.specs.Value.{Value, null, list, object, no_items, item, no_members, member}
 use Rattle.jp_tree.specs.Tree.{ExprTree, QueryTree, SegmentTree, all_of, any_of}
@@ -19,10 +19,10 @@ nested_lists =
     (member (codes "a") (list (item null (item (list (item null no_items)) no_items)))
     (member (codes "b") null no_members))
 
-abbrev key_a : Key
+abbrev key_a : Step
 key_a = named (codes "a")
 
-abbrev key_b : Key
+abbrev key_b : Step
 key_b = named (codes "b")
 
 abbrev of_segments : List SegmentTree → List Location

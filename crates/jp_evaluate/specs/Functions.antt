@@ -7,7 +7,7 @@ use Rattle.std.specs.Str.{chars}
 use Rattle.jp_document.specs.Location.{location_cmp}
 use Rattle.jp_document.specs.Node.{Node}
 use Rattle.jp_document.specs.Value.{Value, item_count, list, names_of, object, text, whole}
-use Rattle.jp_iregexp.specs.Matches.{has_match, is_match}
+use Rattle.jp_iregexp.specs.MatchTests.{has_match, is_match}
 use Rattle.jp_check.specs.declared.functions.Function.{Function}
 use Rattle.jp_check.specs.declared.functions.Function.TheVariants.{Count, Distinct, Length, Match}
 use Rattle.jp_check.specs.declared.functions.Function.TheVariants.{Search, ValueOf}

@@ -39,8 +39,8 @@ SingularSelectsOne =
 -- is equality there (sections 2.3.5.1 and 2.3.5.2.2)
 abbrev pub NamesRiseInSides : Type 0
 NamesRiseInSides =
-    (x : OperandTree) (d : Value) (c : Node) (v : Value) → StandsIn d c →
-    operand_value x d c ≡ Some v → NamesRise v
+    (x : OperandTree) (d : Value) (c : Node) (v : Value) → StandsIn d c
+    → operand_value x d c ≡ Some v → NamesRise v
 
 -- a node of the list has the location of n
 abbrev pub is_there : List Node → Node → Bool
@@ -61,8 +61,8 @@ pub record DistinctIsExact : Type 0 where
   pub apart : (ns : List Node) → AreApart (without_repeats ns)
   -- they stand in the order of their first occurrences: one node more comes last, unless its
   -- location was there
-  pub first : (ns : List Node) (n : Node) →
-      without_repeats (ns ++ n ∷ []) ≡ without_repeats ns ++ (if is_there ns n then [] else n ∷ [])
+  pub first : (ns : List Node) (n : Node)
+      → without_repeats (ns ++ n ∷ []) ≡ without_repeats ns ++ (if is_there ns n then [] else n ∷ [])
   -- a list without repeats stays as it is
   pub unchanged : (ns : List Node) → AreApart ns → without_repeats ns ≡ ns
 

@@ -1,7 +1,7 @@
 -- What an iterator of nodes that are lent still has to give.
 use Rattle.std.specs.Prelude.{List, Bool, Vec, map}
 use Rattle.std.specs.declared.alloc.Global.{Global}
-use Rattle.jp_document.specs.Location.{key_of}
+use Rattle.jp_document.specs.Location.{step_of}
 use Rattle.jp_document.specs.Node.{Node, node_at}
 use Rattle.jp_document.specs.Value.{Value}
 use Rattle.jp_document.specs.declared.location.Step.{Step}
@@ -10,7 +10,7 @@ use Rattle.jp_evaluate.specs.declared.lent.LentNodes.{LentNodes}
 
 -- the node of these steps and this value, where m says what the value stands for
 abbrev pub lent_node : {V : Type 0} → (V → Value) → Vec Step Global × V → Node
-lent_node m n = node_at (map key_of n.0.items) (m n.1)
+lent_node m n = node_at (map step_of n.0.items) (m n.1)
 
 -- the nodes that it still has to give, told by what it holds now
 abbrev pub rest_of : {V M : Type 0} → (V → Value) → LentNodes V M → List Node

@@ -1,6 +1,6 @@
 //! The functions of filters (RFC 9535 section 2.4), over their arguments.
 ghost use Rattle.std.specs.Prelude.{◌≡◌, ◌<◌, IfOk, IfSome, length, option_map};
-ghost use Rattle.jp_tree.specs.Tree.{argument_of, call_of, query_of};
+ghost use Rattle.jp_tree.specs.Views.{argument_of, call_of, query_of};
 ghost use Rattle.jp_select.specs.Comparable.{comparable_of};
 ghost use Rattle.jp_evaluate.specs.Functions.{only_value};
 ghost use Rattle.jp_evaluate.specs.Nodelist.{argument_value, call_answer, call_holds, nodelist_at};
@@ -115,12 +115,12 @@ impl<'a, 'q, V: Selectable + 'q, M: Matching> Asking<'a, 'q, V, M> {
             (asked V.meaning self.now (nodelist_at (query_of nodes.entry.query.now))))) }
     {
         let mut selecting = Selecting::from(self.evaluation.alloc, nodes, self.start(nodes.query));
-        let Some(place) = selecting.next(self.evaluation, patterns)? else {
+        let Some(reached) = selecting.next(self.evaluation, patterns)? else {
             return Ok(None);
         };
         match selecting.next(self.evaluation, patterns)? {
             Some(_) => Ok(None),
-            None => Ok(Some(place.value)),
+            None => Ok(Some(reached.value)),
         }
     }
 }

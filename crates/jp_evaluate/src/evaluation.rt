@@ -2,7 +2,7 @@
 ghost use Rattle.std.specs.Prelude.{◌≡◌, IfOk, false, map};
 ghost use Rattle.jp_document.specs.Document.{document_of};
 ghost use Rattle.jp_document.specs.Node.{node_of};
-ghost use Rattle.jp_tree.specs.Tree.{query_of};
+ghost use Rattle.jp_tree.specs.Views.{query_of};
 ghost use Rattle.jp_evaluate.specs.Nodelist.{nodelist};
 ghost use Rattle.jp_evaluate.specs.Rest.{has_failed, rest_of};
 

@@ -1,7 +1,8 @@
 //! The truth of the expressions of filters (RFC 9535 section 2.3.5.2).
 ghost use Rattle.std.specs.Prelude.{◌≡◌, ◌⊎◌, IfOk, None, map, true};
 ghost use Rattle.jp_tree.specs.declared.tree.Op.TheVariants.{Greater, Less};
-ghost use Rattle.jp_tree.specs.Tree.{expr_of, exprs, operand_of, query_of};
+ghost use Rattle.jp_tree.specs.Tree.{exprs};
+ghost use Rattle.jp_tree.specs.Views.{expr_of, operand_of, query_of};
 ghost use Rattle.jp_select.specs.Comparable.{comparable_of};
 ghost use Rattle.jp_evaluate.specs.Nodelist.{all_hold, any_holds, has_node, holds, nodelist_at};
 ghost use Rattle.jp_evaluate.specs.Nodelist.{operand_value};

@@ -2,8 +2,8 @@
 ghost use Rattle.std.specs.Prelude.{◌≡◌, ◌+◌, ◌++◌, IfNone, IfOk, [], false, if◌then◌else◌, length};
 ghost use Rattle.std.specs.Prelude.{map, option_to_list};
 ghost use Rattle.std.specs.Iterator.{at_most};
-ghost use Rattle.jp_tree.specs.Tree.{query_of};
-ghost use Rattle.jp_select.specs.Giving.{Gives};
+ghost use Rattle.jp_tree.specs.Views.{query_of};
+ghost use Rattle.jp_select.specs.Giving.{GivesNextAs};
 ghost use Rattle.jp_evaluate.specs.Lent.{has_failed, lent_node, rest_of};
 ghost use Rattle.jp_evaluate.specs.Nodelist.{nodelist};
 
@@ -88,7 +88,7 @@ impl<'d: 'q, 'q, V: Selectable + 'd, M: Matching> LentNodes<'d, 'q, V, M> {
     /// at the end of the nodelist. An error says that there is no memory for it; there are no more
     /// then, and `location` may hold anything.
     pub fn next_at(&mut self, location: &mut Vec<Step<'d>>) -> Option<Result<V, AllocError>>
-        ensures { Gives (λ v. lent_node V.meaning (location.new, v)) (rest_of V.meaning) has_failed
+        ensures { GivesNextAs (λ v. lent_node V.meaning (location.new, v)) (rest_of V.meaning) has_failed
             self.old result self.new }
     {
         if self.failed {
@@ -115,9 +115,9 @@ impl<'d: 'q, 'q, V: Selectable + 'd, M: Matching> LentNodes<'d, 'q, V, M> {
             .walk
             .advance(&self.evaluation, &mut self.patterns, self.segments)?
         {
-            Some(place) => {
-                self.walk.locate(&place, location)?;
-                Ok(Some(place.value))
+            Some(reached) => {
+                self.walk.locate(&reached, location)?;
+                Ok(Some(reached.value))
             }
             None => Ok(None),
         }
@@ -127,7 +127,7 @@ impl<'d: 'q, 'q, V: Selectable + 'd, M: Matching> LentNodes<'d, 'q, V, M> {
 impl<'d: 'q, 'q, V: Selectable + 'd, M: Matching> Iterator for LentNodes<'d, 'q, V, M> {
     type Item = Result<(Vec<Step<'d>>, V), AllocError>;
 
-    ghost next_gives = { Gives (lent_node V.meaning) (rest_of V.meaning) has_failed };
+    ghost next_gives = { GivesNextAs (lent_node V.meaning) (rest_of V.meaning) has_failed };
 
     ghost remaining = { λ nodes. at_most (if has_failed nodes then 0 else length (rest_of V.meaning nodes) + 1) };
 

@@ -1,7 +1,7 @@
 //! The values of literals (RFC 9535 section 2.3.5.1).
 ghost use Rattle.std.specs.Prelude.{◌≡◌, Some, pos};
 ghost use Rattle.jp_document.specs.Value.{whole};
-ghost use Rattle.jp_tree.specs.Tree.{literal_of};
+ghost use Rattle.jp_tree.specs.Views.{literal_of};
 ghost use Rattle.jp_select.specs.Comparable.{comparable_of};
 ghost use Rattle.jp_evaluate.specs.Nodelist.{literal_value};
 

@@ -2,11 +2,11 @@
 ghost use Rattle.std.specs.Prelude.{◌≡◌, ◌∷◌, [], IfOk, MatchOption, Some};
 ghost use Rattle.jp_tree.specs.declared.tree.Query.{out-Query};
 ghost use Rattle.jp_evaluate.specs.Private.Selecting.{IsFresh, TellsNew, to_come};
-ghost use Rattle.jp_evaluate.specs.Private.Walk.{reached_place, walk_frames};
+ghost use Rattle.jp_evaluate.specs.Private.Walk.{reached_node, walk_frames};
 
 use crate::evaluating::Evaluation;
 use crate::pattern::Patterns;
-use crate::walk::{Place, Walk};
+use crate::walk::{Reached, Walk};
 use jp_document::Step;
 use jp_lent::Selectable;
 use jp_match::Matching;
@@ -56,15 +56,15 @@ impl<'q, V: Selectable + 'q> Selecting<'q, V> {
         &mut self,
         evaluation: &Evaluation<'q, V, M>,
         patterns: &mut Patterns,
-    ) -> Result<Option<Place<'q, V>>, AllocError>
+    ) -> Result<Option<Reached<'q, V>>, AllocError>
         ensures segments { self.new.segments ≡ self.old.segments }
         ensures gives { IfOk result (λ o. let left = to_come V.meaning (V.meaning evaluation.now.root)
             in MatchOption o ((left self.old ≡ []) × (left self.new ≡ []))
-            (λ p. left self.old ≡ reached_place V.meaning self.new.walk p ∷ left self.new)) }
+            (λ p. left self.old ≡ reached_node V.meaning self.new.walk p ∷ left self.new)) }
     {
-        while let Some(place) = self.walk.advance(evaluation, patterns, self.segments)? {
-            if self.is_new(evaluation.alloc, &place)? {
-                return Ok(Some(place));
+        while let Some(reached) = self.walk.advance(evaluation, patterns, self.segments)? {
+            if self.is_new(evaluation.alloc, &reached)? {
+                return Ok(Some(reached));
             }
         }
         Ok(None)
@@ -72,14 +72,14 @@ impl<'q, V: Selectable + 'q> Selecting<'q, V> {
 
     /// Whether a node counts, which the walk has reached: it did not come before, or each counts.
     #[inline(always)]
-    fn is_new(&mut self, alloc: Global, place: &Place<'q, V>) -> Result<bool, AllocError>
+    fn is_new(&mut self, alloc: Global, reached: &Reached<'q, V>) -> Result<bool, AllocError>
         ensures walk { self.new.walk ≡ self.old.walk }
         ensures segments { self.new.segments ≡ self.old.segments }
         ensures new { IfOk result (λ new. TellsNew self.old.seen
-            (reached_place V.meaning self.old.walk place.now) new self.new.seen) }
+            (reached_node V.meaning self.old.walk reached.now) new self.new.seen) }
     {
         match &mut self.seen {
-            Some(seen) => Ok(seen.insert(self.walk.location_at(alloc, place)?)?),
+            Some(seen) => Ok(seen.insert(self.walk.location_at(alloc, reached)?)?),
             None => Ok(true),
         }
     }

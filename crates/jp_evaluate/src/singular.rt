@@ -2,7 +2,7 @@
 ghost use Rattle.std.specs.Prelude.{◌≡◌, option_map};
 ghost use Rattle.jp_document.specs.Node.{root_of};
 ghost use Rattle.jp_tree.specs.declared.tree.Query.{out-Query};
-ghost use Rattle.jp_tree.specs.Tree.{query_of, segment_of};
+ghost use Rattle.jp_tree.specs.Views.{query_of, segment_of};
 ghost use Rattle.jp_evaluate.specs.Nodelist.{nodelist_at, single_node_value, start_of};
 ghost use Rattle.jp_evaluate.specs.Private.Asked.{asked};
 ghost use Rattle.jp_evaluate.specs.Private.Singular.{single_value};

@@ -1,15 +1,17 @@
 //! The walk of a query through a document, from choice to choice (RFC 9535 section 2.1.2). It keeps
 //! a frame for each value on the way from where it begins to where it stands, and no list of nodes.
 ghost use Rattle.std.specs.Prelude.{◌≡◌, ◌↔◌, ◌<◌, ◌++◌, ◌∷◌, [], IfNone, IfOk, IfSome, IsTrue};
-ghost use Rattle.std.specs.Prelude.{MatchOption, OnOk, OnSome, length, map, option_and_then, option_map, slice_get};
-ghost use Rattle.jp_document.specs.Location.{entries, key_of};
+ghost use Rattle.std.specs.Prelude.{MatchOption, OnOk, OnSome, length, map, option_and_then};
+ghost use Rattle.std.specs.Prelude.{option_map, slice_get};
+ghost use Rattle.jp_document.specs.Location.{entries, step_of};
 ghost use Rattle.jp_document.specs.Node.{root_of};
-ghost use Rattle.jp_tree.specs.Tree.{expr_of, segment_of, segments as segment_trees, selector_of};
+ghost use Rattle.jp_tree.specs.Tree.{segments as segment_trees};
+ghost use Rattle.jp_tree.specs.Views.{expr_of, segment_of, selector_of};
 ghost use Rattle.jp_lent.specs.Lending.{step_with};
 ghost use Rattle.jp_select.specs.Selectors.{candidates};
 ghost use Rattle.jp_evaluate.specs.Private.Sizes.{expr_size, segments_size, selector_size};
 ghost use Rattle.jp_evaluate.specs.Private.Walk.{choice_at, entered, frame_choices, offered};
-ghost use Rattle.jp_evaluate.specs.Private.Walk.{passes, pending, reached_at, reached_place};
+ghost use Rattle.jp_evaluate.specs.Private.Walk.{passes, pending, reached_at, reached_node};
 ghost use Rattle.jp_evaluate.specs.Private.Walk.{segments_left, steps_of, walk_reaches};
 ghost use Rattle.jp_evaluate.specs.Private.Walk.{test_of, turn_of, turn_selector, turns};
 ghost use Rattle.jp_evaluate.specs.Private.Walk.{walk_frames};
@@ -26,7 +28,7 @@ use std::alloc::{AllocError, Global};
 
 /// A value that segments led to.
 #[derive(Clone, Copy)]
-pub(crate) struct Place<'d, V> {
+pub(crate) struct Reached<'d, V> {
     /// How many segments are before it.
     done: usize,
     /// The step to it from the frame before it, None where the walk begins.
@@ -34,7 +36,7 @@ pub(crate) struct Place<'d, V> {
     pub(crate) value: V,
 }
 
-impl<'d, V: Selectable + 'd> Place<'d, V> {
+impl<'d, V: Selectable + 'd> Reached<'d, V> {
     /// Whether there is nothing inside its value, so that no segment chooses anything there.
     fn is_leaf(&self) -> bool
         ensures { IsTrue result ↔ (length (entries (V.meaning self.now.value)) ≡ 0) }
@@ -43,18 +45,18 @@ impl<'d, V: Selectable + 'd> Place<'d, V> {
     }
 }
 
-/// A place at which a segment chooses: by which turn, and the position of the next of its choices.
+/// A value at which a segment chooses: by which turn, and the position of the next of its choices.
 #[derive(Clone, Copy)]
 struct Frame<'d, V> {
-    place: Place<'d, V>,
+    reached: Reached<'d, V>,
     turn: usize,
     next: usize,
 }
 
-/// A place to go on from, where the test is passed.
+/// A value to go on from, where the test is passed.
 #[derive(Clone, Copy)]
 struct Offer<'q, 'd, V> {
-    place: Place<'d, V>,
+    reached: Reached<'d, V>,
     test: Option<&'q Expr>,
 }
 
@@ -88,7 +90,7 @@ impl<'d, V: Selectable + 'd> Walk<'d, V> {
         }
     }
 
-    /// The next place that segments reach, None at the end. After an error nothing is said of what
+    /// The next value that segments reach, None at the end. After an error nothing is said of what
     /// is left.
     #[cycle(filter)]
     pub(crate) fn advance<'q, M: Matching>(
@@ -96,21 +98,21 @@ impl<'d, V: Selectable + 'd> Walk<'d, V> {
         evaluation: &Evaluation<'q, V, M>,
         patterns: &mut Patterns,
         segments: &'q [Segment],
-    ) -> Result<Option<Place<'d, V>>, AllocError>
+    ) -> Result<Option<Reached<'d, V>>, AllocError>
     where
         'd: 'q,
         ensures { IfOk result (λ o. let left = walk_reaches V.meaning segments.now
             (V.meaning evaluation.now.root) in MatchOption o
             ((left self.old ≡ []) × (left self.new ≡ []))
-            (λ p. left self.old ≡ reached_place V.meaning self.new p ∷ left self.new)) }
+            (λ p. left self.old ≡ reached_node V.meaning self.new p ∷ left self.new)) }
     {
         while let Some(offer) = self.next_offer(segments) {
             if offer.passes(evaluation, patterns)? {
-                if offer.place.done >= segments.len() {
-                    return Ok(Some(offer.place));
+                if offer.reached.done >= segments.len() {
+                    return Ok(Some(offer.reached));
                 }
-                if !offer.place.is_leaf() {
-                    self.enter(offer.place)?;
+                if !offer.reached.is_leaf() {
+                    self.enter(offer.reached)?;
                 }
             }
         }
@@ -130,7 +132,7 @@ impl<'d, V: Selectable + 'd> Walk<'d, V> {
     {
         if let Some(start) = self.first.take() {
             return Some(Offer {
-                place: Place {
+                reached: Reached {
                     done: 0,
                     step: None,
                     value: start,
@@ -161,14 +163,14 @@ impl<'d, V: Selectable + 'd> Walk<'d, V> {
         }
     }
 
-    /// Goes on from a place.
-    fn enter(&mut self, place: Place<'d, V>) -> Result<(), AllocError>
+    /// Goes on from a value.
+    fn enter(&mut self, reached: Reached<'d, V>) -> Result<(), AllocError>
         ensures first { self.new.first ≡ self.old.first }
         ensures frames { OnOk result
-            (walk_frames self.new ≡ walk_frames self.old ++ entered place.entry ∷ []) }
+            (walk_frames self.new ≡ walk_frames self.old ++ entered reached.entry ∷ []) }
     {
         let frame = Frame {
-            place,
+            reached,
             turn: 0,
             next: 0,
         };
@@ -178,48 +180,48 @@ impl<'d, V: Selectable + 'd> Walk<'d, V> {
         Ok(())
     }
 
-    /// Where a place is that the last frame led to.
+    /// Where a value is that the last frame led to.
     #[inline(always)]
     pub(crate) fn location_at(
         &self,
         alloc: Global,
-        place: &Place<'d, V>,
+        reached: &Reached<'d, V>,
     ) -> Result<Vec<Step<'d>>, AllocError>
-        ensures { IfOk result (λ l. map key_of l.items
-            ≡ (reached_place V.meaning self.now place.now).location) }
+        ensures { IfOk result (λ l. map step_of l.items
+            ≡ (reached_node V.meaning self.now reached.now).location) }
     {
         let mut location = Vec::new(alloc);
-        self.locate(place, &mut location)?;
+        self.locate(reached, &mut location)?;
         Ok(location)
     }
 
-    /// Puts the steps to that place into the list, instead of what it holds.
+    /// Puts the steps to that value into the list, instead of what it holds.
     #[inline(always)]
     pub(crate) fn locate(
         &self,
-        place: &Place<'d, V>,
+        reached: &Reached<'d, V>,
         location: &mut Vec<Step<'d>>,
     ) -> Result<(), AllocError>
-        ensures { OnOk result (map key_of location.new.items
-            ≡ (reached_place V.meaning self.now place.now).location) }
+        ensures { OnOk result (map step_of location.new.items
+            ≡ (reached_node V.meaning self.now reached.now).location) }
     {
         location.clear();
         location.reserve(self.below.len() + 2)?;
         for frame in &self.below {
-            push_step(location, frame.place.step)?;
+            push_step(location, frame.reached.step)?;
         }
         push_step(location, self.last_step())?;
-        push_step(location, place.step)?;
+        push_step(location, reached.step)?;
         Ok(())
     }
 
     /// The step to the frame that stands apart.
     #[inline(always)]
     fn last_step(&self) -> Option<Step<'d>>
-        ensures { result ≡ option_and_then (λ f. f.place.step) self.now.top }
+        ensures { result ≡ option_and_then (λ f. f.reached.step) self.now.top }
     {
         match &self.top {
-            Some(frame) => frame.place.step,
+            Some(frame) => frame.reached.step,
             None => None,
         }
     }
@@ -227,7 +229,7 @@ impl<'d, V: Selectable + 'd> Walk<'d, V> {
 
 fn push_step<'d>(location: &mut Vec<Step<'d>>, step: Option<Step<'d>>) -> Result<(), AllocError>
     ensures { OnOk result
-        (map key_of location.new.items ≡ map key_of location.old.items ++ steps_of step.entry) }
+        (map step_of location.new.items ≡ map step_of location.old.items ++ steps_of step.entry) }
 {
     if let Some(step) = step {
         location.push(step)?;
@@ -240,18 +242,18 @@ fn frame_offer<'q, 'd, V: Selectable + 'd>(
     segments: &'q [Segment],
     frame: &mut Frame<'d, V>,
 ) -> Option<Offer<'q, 'd, V>>
-    ensures place { frame.new.place ≡ frame.old.place }
+    ensures reached { frame.new.reached ≡ frame.old.reached }
     ensures gives { let left = frame_choices V.meaning segments.now in
         MatchOption result (left frame.old ≡ [])
         (λ o. left frame.old ≡ offered V.meaning segments.now o ∷ left frame.new) }
     ensures smaller { IfSome result (λ o. IfSome o.test (λ e. expr_size (expr_of e.now)
         < segments_size (segment_trees (map segment_of segments.now)))) }
 {
-    while let Some(turn) = turn_at(segments, frame.place.done, frame.turn) {
-        if let Some(choice) = turn.choice(frame.place.value, frame.next) {
+    while let Some(turn) = turn_at(segments, frame.reached.done, frame.turn) {
+        if let Some(choice) = turn.choice(frame.reached.value, frame.next) {
             frame.next += 1;
             return Some(Offer {
-                place: Place {
+                reached: Reached {
                     done: turn.done,
                     step: Some(choice.0),
                     value: choice.1,
@@ -304,14 +306,14 @@ impl<'q, 'd, V: Selectable + 'd> Offer<'q, 'd, V> {
         'd: 'q,
         ensures { IfOk result (λ answer. answer
             ≡ passes (option_map (λ e. expr_of e.now) self.now.test)
-            (V.meaning evaluation.now.root) (root_of (V.meaning self.now.place.value))) }
+            (V.meaning evaluation.now.root) (root_of (V.meaning self.now.reached.value))) }
     {
         let Some(expr) = self.test else {
             return Ok(true);
         };
         let asking = Asking {
             evaluation,
-            current: self.place.value,
+            current: self.reached.value,
         };
         asking.holds(patterns, expr)
     }

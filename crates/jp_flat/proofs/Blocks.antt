@@ -51,34 +51,34 @@ hit a b = cond (eqb a b) 255 0
 abbrev pub below : ℕ → ℕ → ℕ
 below a b = cond (ltb a b) 255 0
 
-zip2-map : (f g : ℕ → ℕ) (xs : List ℕ) →
-    zip2 bit_or (map f xs) (map g xs) ≡ map (λ x. bit_or (f x) (g x)) xs
+zip2-map : (f g : ℕ → ℕ) (xs : List ℕ)
+    → zip2 bit_or (map f xs) (map g xs) ≡ map (λ x. bit_or (f x) (g x)) xs
 zip2-map f g [] = refl
 zip2-map f g (x ∷ xs) = ap (λ r. bit_or (f x) (g x) ∷ r) (zip2-map f g xs)
 
-either : (f g : ℕ → ℕ) (v : List ℕ) {a b : List ℕ} → a ≡ map f v → b ≡ map g v →
-    zip2 bit_or a b ≡ map (λ x. bit_or (f x) (g x)) v
+either : (f g : ℕ → ℕ) (v : List ℕ) {a b : List ℕ} → a ≡ map f v → b ≡ map g v
+    → zip2 bit_or a b ≡ map (λ x. bit_or (f x) (g x)) v
 either f g v p q = ap₂ (zip2 bit_or) p q ∙ zip2-map f g v
 
-each_byte : (f : ℕ → ℕ) (p : ℕ → Bool) → T (upto (λ x. same (top 7 (f x)) (p x)) 256) →
-    (v : List ℕ) → Each1 (Fits w8) v → map (top 7) (map f v) ≡ map p v
+each_byte : (f : ℕ → ℕ) (p : ℕ → Bool) → T (upto (λ x. same (top 7 (f x)) (p x)) 256)
+    → (v : List ℕ) → Each1 (Fits w8) v → map (top 7) (map f v) ≡ map p v
 each_byte f p all [] fits = refl
 each_byte f p all (x ∷ xs) fits =
     ap₂ (λ a b. a ∷ b)
     (same_is _ _ (upto_sound (λ y. same (top 7 (f y)) (p y)) 256 all x fits.0.fits))
     (each_byte f p all xs fits.1)
 
-masked : (f : ℕ → ℕ) (p : ℕ → Bool) (v z : List ℕ) → length v ≤ 64 → Each1 (Fits w8) v →
-    z ≡ map f v → T (upto (λ x. same (top 7 (f x)) (p x)) 256) →
-    mask_l (map (top 7) z) % 2 ^ 64 ≡ mask_l (map p v)
+masked : (f : ℕ → ℕ) (p : ℕ → Bool) (v z : List ℕ) → length v ≤ 64 → Each1 (Fits w8) v
+    → z ≡ map f v → T (upto (λ x. same (top 7 (f x)) (p x)) 256)
+    → mask_l (map (top 7) z) % 2 ^ 64 ≡ mask_l (map p v)
 masked f p v z short fits e all =
     ap (λ l. mask_l l % 2 ^ 64) (ap (map (top 7)) e ∙ each_byte f p all v fits)
     ∙ mask_l-mod (map p v) 64 (omega (arith, length-map v p))
 
-pub stops_of : (v a b c : List ℕ) → length v ≡ 16 → Each1 (Fits w8) v →
-    a ≡ zip2 hit v (replicate 16 34) → b ≡ zip2 hit v (replicate 16 92) →
-    c ≡ zip2 below v (replicate 16 32) →
-    mask_l (map (top 7) (zip2 bit_or (zip2 bit_or a b) c)) % 2 ^ 64 ≡ mask_l (map is_stop v)
+pub stops_of : (v a b c : List ℕ) → length v ≡ 16 → Each1 (Fits w8) v
+    → a ≡ zip2 hit v (replicate 16 34) → b ≡ zip2 hit v (replicate 16 92)
+    → c ≡ zip2 below v (replicate 16 32)
+    → mask_l (map (top 7) (zip2 bit_or (zip2 bit_or a b) c)) % 2 ^ 64 ≡ mask_l (map is_stop v)
 stops_of v a b c long fits one two three =
     masked _ is_stop v _ (omega arith) fits
     (either _ _ v

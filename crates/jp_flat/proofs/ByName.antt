@@ -27,8 +27,8 @@ abbrev pub lent_cmp : Bor (List ℕ) → Bor (List ℕ) → Ordering
 lent_cmp a b = bytes_cmp a.now b.now
 
 holds_push : (f : Item → Option Value) (t : Shown) (p : Pair) (ps : List Pair) (e : Entry)
-    (es : List Entry) → e.0.now ≡ p.0 → member_with f t e.1 ≡ Some p → HoldsByName f t ps es →
-    HoldsByName f t (p ∷ ps) (e ∷ es)
+    (es : List Entry) → e.0.now ≡ p.0 → member_with f t e.1 ≡ Some p → HoldsByName f t ps es
+    → HoldsByName f t (p ∷ ps) (e ∷ es)
 holds_push f t p ps e es named mean so = record {
   names = ap (λ n. n ∷ map (λ e. e.0.now) es) named ∙ ap (λ ns. p.0 ∷ ns) so.names;
   members =
@@ -58,10 +58,10 @@ holds_split f t p ps e es so =
     }
 
 holds_by : (f : Item → Option Value) (t : Shown) (k : Bor (List ℕ)) (m : Named) (v : Value)
-    (p : Pair) (ps more : List Pair) (e : Entry) (es rest : List Entry) (o : Ordering) →
-    bytes_cmp k.now p.0 ≡ o → member_with f t m ≡ Some (k.now, v) → Split f t p ps e es →
-    HoldsByName f t more rest →
-    HoldsByName f t (match_ordering o ((k.now, v) ∷ p ∷ ps) ((p.0, v) ∷ ps) (p ∷ more))
+    (p : Pair) (ps more : List Pair) (e : Entry) (es rest : List Entry) (o : Ordering)
+    → bytes_cmp k.now p.0 ≡ o → member_with f t m ≡ Some (k.now, v) → Split f t p ps e es
+    → HoldsByName f t more rest
+    → HoldsByName f t (match_ordering o ((k.now, v) ∷ p ∷ ps) ((p.0, v) ∷ ps) (p ∷ more))
     (match_ordering o ((k, m) ∷ e ∷ es) ((e.0, m) ∷ es) (e ∷ rest))
 holds_by f t k m v p ps more e es rest Less is mean so after =
     holds_push f t (k.now, v) (p ∷ ps) (k, m) (e ∷ es) refl mean
@@ -74,9 +74,9 @@ holds_by f t k m v p ps more e es rest Greater is mean so after =
     holds_push f t p more e rest so.named so.mean after
 
 pub holds_insert : (f : Item → Option Value) (t : Shown) (k : Bor (List ℕ)) (m : Named) (v : Value)
-    (ps : List Pair) (es : List Entry) → member_with f t m ≡ Some (k.now, v) →
-    HoldsByName f t ps es →
-    HoldsByName f t (insert_entry bytes_cmp ps k.now v) (insert_entry lent_cmp es k m)
+    (ps : List Pair) (es : List Entry) → member_with f t m ≡ Some (k.now, v)
+    → HoldsByName f t ps es
+    → HoldsByName f t (insert_entry bytes_cmp ps k.now v) (insert_entry lent_cmp es k m)
 holds_insert f t k m v [] [] mean so =
     holds_push f t (k.now, v) [] (k, m) [] refl mean so
 holds_insert f t k m v [] (e ∷ es) mean so = absurd (cc (so.names))
@@ -96,8 +96,8 @@ puts_none t f ms is =
     (record { names = refl; members = refl })
 
 pub puts_more : (t : Shown) (members : List Named) (m : Named) (k : Bor (List ℕ))
-    (es : List Entry) → text_at t m.name ≡ Some k.now → PutsByName t members es →
-    PutsByName t (members ++ m ∷ []) (insert_entry lent_cmp es k m)
+    (es : List Entry) → text_at t m.name ≡ Some k.now → PutsByName t members es
+    → PutsByName t (members ++ m ∷ []) (insert_entry lent_cmp es k m)
 puts_more t members m k es named so f ms is =
     let h = all_of_last (member_with f t) members m ms is in
     let g = some_from_both (λ name v. (name, v)) (text_at t m.name) (f m.item) h.1 h.4 in

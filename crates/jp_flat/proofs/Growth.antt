@@ -13,7 +13,7 @@ use Rattle.jp_document.specs.Value.{Value, text, list, object, items_of, members
 use Rattle.jp_document.proofs.Options.{some_from_both, some_from_map, some_from_then}
 use Rattle.jp_flat.specs.Flat.{BeginsWith, Grows, Shown, all_of, flat_value, member_with, piece}
 use Rattle.jp_flat.specs.Flat.{text_at, value_with}
-use Rattle.jp_flat.specs.Private.Reading.{IsListOf, with_items}
+use Rattle.jp_flat.specs.Private.Reading.{IsTheListOf, with_items}
 use Rattle.jp_flat.specs.declared.item.Item.{Item}
 use Rattle.jp_flat.specs.declared.item.Item.TheVariants as code
 use Rattle.jp_flat.specs.declared.item.Named.{Named}
@@ -40,9 +40,9 @@ piece_grows whole front ys first count more is =
     ap (λ xs. piece xs first count) more.is ∙ within_more front ys more.rest first count is
 
 -- the piece that was appended
-pub piece_appended : {A : Type 0} (whole front new : List A) (first count : ℕ) →
-    whole ≡ front ++ new → first ≡ length front → count ≡ length new →
-    piece whole first count ≡ Some new
+pub piece_appended : {A : Type 0} (whole front new : List A) (first count : ℕ)
+    → whole ≡ front ++ new → first ≡ length front → count ≡ length new
+    → piece whole first count ≡ Some new
 piece_appended whole front new first count is at many =
     let within : leb (first + count) (length whole) ≡ true =
     le-leb _ _ (omega (arith, ap length is, length-append front new)) in
@@ -80,8 +80,8 @@ grows_on t s r one two = record {
 }
 
 -- whatever items they hold
-pub grows_beside : (t s : Shown) (items : List Item) → Grows t s →
-    Grows (with_items t items) (with_items s items)
+pub grows_beside : (t s : Shown) (items : List Item) → Grows t s
+    → Grows (with_items t items) (with_items s items)
 grows_beside t s items more = record {
   source = more.source;
   spare = more.spare;
@@ -91,15 +91,15 @@ grows_beside t s items more = record {
 
 -- ---- texts and values in tables that grow
 
-spare_grows : (b c : Bool) (one : List ℕ) (o p : Option (List ℕ)) (x : List ℕ) →
-    ((y : List ℕ) → o ≡ Some y → p ≡ Some y) → cond b (Some one) (cond c o None) ≡ Some x →
-    cond b (Some one) (cond c p None) ≡ Some x
+spare_grows : (b c : Bool) (one : List ℕ) (o p : Option (List ℕ)) (x : List ℕ)
+    → ((y : List ℕ) → o ≡ Some y → p ≡ Some y) → cond b (Some one) (cond c o None) ≡ Some x
+    → cond b (Some one) (cond c p None) ≡ Some x
 spare_grows true c one o p x step is = is
 spare_grows false true one o p x step is = step x is
 spare_grows false false one o p x step is = is
 
-pub text_grows : (t s : Shown) (p : Span) (x : List ℕ) → Grows t s → text_at t p ≡ Some x →
-    text_at s p ≡ Some x
+pub text_grows : (t s : Shown) (p : Span) (x : List ℕ) → Grows t s → text_at t p ≡ Some x
+    → text_at s p ≡ Some x
 text_grows t s p x g is =
     let now = record s { source = t.source } in
     let grown : text_at now p ≡ Some x =
@@ -107,16 +107,16 @@ text_grows t s p x g is =
     (λ y. piece_grows s.spare t.spare y (p.first - length t.source) p.count g.spare) is in
     ap (λ w. text_at (record s { source = w }) p) g.source ∙ grown
 
-pub all_of_grows : {A B : Type 0} (f g : A → Option B) (xs : List A) (ys : List B) →
-    ((x : A) (y : B) → f x ≡ Some y → g x ≡ Some y) → all_of f xs ≡ Some ys → all_of g xs ≡ Some ys
+pub all_of_grows : {A B : Type 0} (f g : A → Option B) (xs : List A) (ys : List B)
+    → ((x : A) (y : B) → f x ≡ Some y → g x ≡ Some y) → all_of f xs ≡ Some ys → all_of g xs ≡ Some ys
 all_of_grows f g [] ys step is = is
 all_of_grows f g (x ∷ xs) ys step is =
     let h = some_from_both (λ y ys. y ∷ ys) (f x) (all_of f xs) ys is in
     ap (option_and_then (λ y. option_map (λ ys. y ∷ ys) (all_of g xs))) (step x h.0 h.2)
     ∙ ap (option_map (λ ys. h.0 ∷ ys)) (all_of_grows f g xs h.1 step h.3) ∙ ap Some h.4
 
-pub all_of_push : {A B : Type 0} (f : A → Option B) (xs : List A) (ys : List B) (x : A) (y : B) →
-    all_of f xs ≡ Some ys → f x ≡ Some y → all_of f (xs ++ x ∷ []) ≡ Some (ys ++ y ∷ [])
+pub all_of_push : {A B : Type 0} (f : A → Option B) (xs : List A) (ys : List B) (x : A) (y : B)
+    → all_of f xs ≡ Some ys → f x ≡ Some y → all_of f (xs ++ x ∷ []) ≡ Some (ys ++ y ∷ [])
 all_of_push f [] ys x y is here =
     let none : [] ≡ ys = same_Some [] ys is in
     ap (option_and_then (λ y. Some (y ∷ []))) here ∙ ap (λ zs. Some (zs ++ y ∷ [])) none
@@ -126,25 +126,25 @@ all_of_push f (w ∷ xs) ys x y is here =
     ∙ ap (option_map (λ zs. h.0 ∷ zs)) (all_of_push f xs h.1 x y h.3 here)
     ∙ ap (λ zs. Some (zs ++ y ∷ [])) h.4
 
-pub length-all_of : {A B : Type 0} (f : A → Option B) (xs : List A) (ys : List B) →
-    all_of f xs ≡ Some ys → length ys ≡ length xs
+pub length-all_of : {A B : Type 0} (f : A → Option B) (xs : List A) (ys : List B)
+    → all_of f xs ≡ Some ys → length ys ≡ length xs
 length-all_of f [] ys is = ap length (sym (same_Some [] ys is))
 length-all_of f (x ∷ xs) ys is =
     let h = some_from_both (λ y ys. y ∷ ys) (f x) (all_of f xs) ys is in
     ap length (sym h.4) ∙ ap suc (length-all_of f xs h.1 h.3)
 
-pub member_grows : (f g : Item → Option Value) (t s : Shown) → Grows t s →
-    ((i : Item) (v : Value) → f i ≡ Some v → g i ≡ Some v) → (m : Named) (p : List ℕ × Value) →
-    member_with f t m ≡ Some p → member_with g s m ≡ Some p
+pub member_grows : (f g : Item → Option Value) (t s : Shown) → Grows t s
+    → ((i : Item) (v : Value) → f i ≡ Some v → g i ≡ Some v) → (m : Named) (p : List ℕ × Value)
+    → member_with f t m ≡ Some p → member_with g s m ≡ Some p
 member_grows f g t s more step m p is =
     let h = some_from_both (λ name v. (name, v)) (text_at t m.name) (f m.item) p is in
     ap (option_and_then (λ name. option_map (λ v. (name, v)) (g m.item)))
     (text_grows t s m.name h.0 more h.2)
     ∙ ap (option_map (λ v. (h.0, v))) (step m.item h.1 h.3) ∙ ap Some h.4
 
-with_grows : (f g : Item → Option Value) (t s : Shown) → Grows t s →
-    ((i : Item) (v : Value) → f i ≡ Some v → g i ≡ Some v) → (i : Item) (v : Value) →
-    value_with f t i ≡ Some v → value_with g s i ≡ Some v
+with_grows : (f g : Item → Option Value) (t s : Shown) → Grows t s
+    → ((i : Item) (v : Value) → f i ≡ Some v → g i ≡ Some v) → (i : Item) (v : Value)
+    → value_with f t i ≡ Some v → value_with g s i ≡ Some v
 with_grows f g t s more step code.Null v is = is
 with_grows f g t s more step (code.Bool b) v is = is
 with_grows f g t s more step (code.Above h) v is = is
@@ -169,8 +169,8 @@ with_grows f g t s more step (code.Members p) v is =
     (all_of_grows (member_with f t) (member_with g s) k.0 h.0 (member_grows f g t s more step) k.2)
     ∙ ap Some h.2
 
-pub value_grows : (n : ℕ) (t s : Shown) → Grows t s → (i : Item) (v : Value) →
-    flat_value n t i ≡ Some v → flat_value n s i ≡ Some v
+pub value_grows : (n : ℕ) (t s : Shown) → Grows t s → (i : Item) (v : Value)
+    → flat_value n t i ≡ Some v → flat_value n s i ≡ Some v
 unfolding flat_value
 value_grows zero t s more i v is =
     with_grows (λ j. None) (λ j. None) t s more (λ j w h. h) i v is
@@ -178,8 +178,8 @@ value_grows (suc n) t s more i v is =
     with_grows (flat_value n t) (flat_value n s) t s more (value_grows n t s more) i v is
 
 -- what has a value with so many levels has it with one more
-pub flat_deeper : (n : ℕ) (t : Shown) (i : Item) (v : Value) → flat_value n t i ≡ Some v →
-    flat_value (suc n) t i ≡ Some v
+pub flat_deeper : (n : ℕ) (t : Shown) (i : Item) (v : Value) → flat_value n t i ≡ Some v
+    → flat_value (suc n) t i ≡ Some v
 unfolding flat_value
 flat_deeper zero t i v is =
     with_grows (λ j. None) (flat_value zero t) t t (grows_same t) (λ j w h. absurd (cc)) i v is
@@ -188,9 +188,9 @@ flat_deeper (suc n) t i v is =
 
 -- ---- lists and objects whose parts were appended
 
-pub list_closed : (n : ℕ) (t s : Shown) (new : List Item) (vs : List Value) (p : Span) → Grows t s →
-    s.items ≡ t.items ++ new → p.first ≡ length t.items → p.count ≡ length new →
-    all_of (flat_value n t) new ≡ Some vs → flat_value (suc n) s (code.List p) ≡ Some (list (items_of vs))
+pub list_closed : (n : ℕ) (t s : Shown) (new : List Item) (vs : List Value) (p : Span) → Grows t s
+    → s.items ≡ t.items ++ new → p.first ≡ length t.items → p.count ≡ length new
+    → all_of (flat_value n t) new ≡ Some vs → flat_value (suc n) s (code.List p) ≡ Some (list (items_of vs))
 unfolding flat_value
 list_closed n t s new vs p more is at many all =
     ap (λ o. option_map (λ ws. list (items_of ws)) (option_and_then (all_of (flat_value n s)) o))
@@ -199,9 +199,9 @@ list_closed n t s new vs p more is at many all =
     (all_of_grows (flat_value n t) (flat_value n s) new vs (value_grows n t s more) all)
 
 -- the list of the items from a place on
-pub list_from_there : (s : Shown) (first : ℕ) (p : Span) → first ≤ length s.items →
-    p.first ≡ first → p.count ≡ length s.items - first →
-    IsListOf (drop first s.items) (with_items s (take first s.items)) s (code.List p)
+pub list_from_there : (s : Shown) (first : ℕ) (p : Span) → first ≤ length s.items
+    → p.first ≡ first → p.count ≡ length s.items - first
+    → IsTheListOf (drop first s.items) (with_items s (take first s.items)) s (code.List p)
 list_from_there s first p within at many = λ n vs all.
     let t = with_items s (take first s.items) in
     let new = drop first s.items in
@@ -216,9 +216,9 @@ list_from_there s first p within at many = λ n vs all.
     (many ∙ sym (length-drop first s.items)) all
 
 pub object_closed : (n : ℕ) (t s : Shown) (new : List Named) (ms : List (List ℕ × Value)) (p : Span)
-    → Grows t s → s.members ≡ t.members ++ new → p.first ≡ length t.members →
-    p.count ≡ length new → all_of (member_with (flat_value n t) t) new ≡ Some ms →
-    flat_value (suc n) s (code.Members p) ≡ Some (object (members_of ms))
+    → Grows t s → s.members ≡ t.members ++ new → p.first ≡ length t.members
+    → p.count ≡ length new → all_of (member_with (flat_value n t) t) new ≡ Some ms
+    → flat_value (suc n) s (code.Members p) ≡ Some (object (members_of ms))
 unfolding flat_value
 object_closed n t s new ms p more is at many all =
     ap (λ o. option_map (λ ws. object (members_of ws))

@@ -1,7 +1,8 @@
 -- What stands one step inside a value in tables: for each call of `FlatValue`.
 use Rattle.std.proofs.Common.{◌≡◌, ◌≤◌, ◌+◌, ℕ, zero, suc, true, List, [], ◌∷◌, length, map}
 use Rattle.std.proofs.Common.{Option, Some, None, option_map, option_and_then, is_some, unwrap_or}
-use Rattle.std.proofs.Common.{refl, sym, ap, subst, ◌∙◌, arith, IsUtf8, take, drop, leb, length-drop}
+use Rattle.std.proofs.Common.{refl, sym, ap, subst, ◌∙◌, arith, IsUtf8, take, drop, leb}
+use Rattle.std.proofs.Common.{length-drop}
 use Rattle.std.proofs.Common.{Bool, pos, negsuc, ◌⊎◌, inl, inr}
 use Rattle.std.specs.BTreeMap.{is_at}
 use Rattle.std.specs.Map.{lookup}
@@ -10,17 +11,20 @@ use Rattle.std.proofs.lemmas.Bool.{leb-true}
 use Rattle.std.proofs.lemmas.List.{length-map, length-take-le}
 use Rattle.std.proofs.lemmas.Option.{cond_some, same_Some, slice_get-map}
 use Rattle.std.proofs.lemmas.Str.{IsUtf8-from_is_utf8}
-use Rattle.jp_document.specs.Location.{Key, child, entries, items_from, key_cmp, members_by_name, named, nth}
+use Rattle.jp_document.specs.Location.{Step, child, entries, items_from, step_cmp, members_by_name}
+use Rattle.jp_document.specs.Location.{named, nth}
 use Rattle.jp_document.specs.Value.{IsDocumentValue, Value, items_of, list, list_length}
-use Rattle.jp_document.specs.Value.{boolean, item_count, members_of, no_items, no_members, null, object, text, whole}
-use Rattle.jp_document.proofs.Conjunctions.{and-both, and-left, and-right}
+use Rattle.jp_document.specs.Value.{boolean, item_count, members_of, no_items, no_members, null}
+use Rattle.jp_document.specs.Value.{object, text, whole}
+use Rattle.jp_reading.proofs.Conjunctions.{and-both, and-left, and-right}
 use Rattle.jp_document.proofs.Descent.Entries.{IsDocumentValue-entry, at_index, child-entry}
 use Rattle.jp_document.proofs.Descent.Entries.{item_entry}
 use Rattle.jp_document.proofs.Members.ByName.{child-list_named}
 use Rattle.jp_document.proofs.Members.ByName.{child-object_nth}
 use Rattle.jp_document.proofs.Members.TextNames.{IsUtf8-child_named}
 use Rattle.jp_document.proofs.Options.{some_from_both, some_from_map, some_from_then}
-use Rattle.jp_flat.specs.Flat.{Shown, all_of, flat_value, is_flat, meaning, member_with, most_levels}
+use Rattle.jp_flat.specs.Flat.{Shown, all_of, flat_value, is_flat, meaning, member_with}
+use Rattle.jp_flat.specs.Flat.{most_levels}
 use Rattle.jp_flat.specs.Flat.{number_of, piece, text_at}
 use Rattle.jp_lent.specs.Lending.{bare}
 use Rattle.jp_flat.specs.Private.Parts.{HoldsText, item_at, member_at, name_in}
@@ -36,8 +40,8 @@ some_there None is = absurd (cc)
 some_there (Some x) is = (x, refl)
 
 -- what a value of tables means, and that it may be a document's
-has_value : (t : Shown) (i : Item) → is_flat t i ≡ true →
-    flat_value most_levels t i ≡ Some (meaning t i)
+has_value : (t : Shown) (i : Item) → is_flat t i ≡ true
+    → flat_value most_levels t i ≡ Some (meaning t i)
 has_value t i sound =
     let h = some_there (flat_value most_levels t i) (and-left _ _ sound) in
     h.1 ∙ ap Some (sym (ap (λ o. unwrap_or o null) h.1))
@@ -46,21 +50,21 @@ pub flat-valid : (t : Shown) (i : Item) → is_flat t i ≡ true → IsDocumentV
 flat-valid t i sound = and-right _ _ sound
 
 -- one level further down
-meaning_inside : (t : Shown) (i : Item) (v : Value) → flat_value 126 t i ≡ Some v →
-    meaning t i ≡ v
+meaning_inside : (t : Shown) (i : Item) (v : Value) → flat_value 126 t i ≡ Some v
+    → meaning t i ≡ v
 meaning_inside t i v is = ap (λ o. unwrap_or o null) (flat_deeper 126 t i v is)
 
-sound_inside : (t : Shown) (i : Item) (v : Value) → flat_value 126 t i ≡ Some v →
-    IsDocumentValue v → is_flat t i ≡ true
+sound_inside : (t : Shown) (i : Item) (v : Value) → flat_value 126 t i ≡ Some v
+    → IsDocumentValue v → is_flat t i ≡ true
 sound_inside t i v is valid =
     and-both _ _ (ap is_some (flat_deeper 126 t i v is))
     (subst IsDocumentValue (sym (meaning_inside t i v is)) valid)
 
 -- ---- what f gives at a position
 
-all_of-at : {A B : Type 0} (f : A → Option B) (g : A → B) (xs : List A) (ys : List B) (k : ℕ) →
-    ((x : A) (y : B) → f x ≡ Some y → g x ≡ y) → all_of f xs ≡ Some ys →
-    slice_get ys k ≡ option_map g (slice_get xs k)
+all_of-at : {A B : Type 0} (f : A → Option B) (g : A → B) (xs : List A) (ys : List B) (k : ℕ)
+    → ((x : A) (y : B) → f x ≡ Some y → g x ≡ y) → all_of f xs ≡ Some ys
+    → slice_get ys k ≡ option_map g (slice_get xs k)
 all_of-at f g [] ys k same is = ap (λ zs. slice_get zs k) (sym (same_Some [] ys is))
 all_of-at f g (x ∷ xs) ys zero same is =
     let h = some_from_both (λ y ys. y ∷ ys) (f x) (all_of f xs) ys is in
@@ -69,8 +73,8 @@ all_of-at f g (x ∷ xs) ys (suc k) same is =
     let h = some_from_both (λ y ys. y ∷ ys) (f x) (all_of f xs) ys is in
     ap (λ zs. slice_get zs (suc k)) (sym h.4) ∙ all_of-at f g xs h.1 k same h.3
 
-all_of-some : {A B : Type 0} (f : A → Option B) (xs : List A) (ys : List B) (k : ℕ) (x : A) →
-    all_of f xs ≡ Some ys → slice_get xs k ≡ Some x → (y : B) × (f x ≡ Some y)
+all_of-some : {A B : Type 0} (f : A → Option B) (xs : List A) (ys : List B) (k : ℕ) (x : A)
+    → all_of f xs ≡ Some ys → slice_get xs k ≡ Some x → (y : B) × (f x ≡ Some y)
 all_of-some f [] ys k x is at = absurd (cc)
 all_of-some f (w ∷ xs) ys zero x is at =
     let h = some_from_both (λ y ys. y ∷ ys) (f w) (all_of f xs) ys is in
@@ -79,8 +83,8 @@ all_of-some f (w ∷ xs) ys (suc k) x is at =
     let h = some_from_both (λ y ys. y ∷ ys) (f w) (all_of f xs) ys is in
     all_of-some f xs h.1 k x h.3 at
 
-piece-length : {A : Type 0} (xs ys : List A) (first count : ℕ) → piece xs first count ≡ Some ys →
-    length ys ≡ count
+piece-length : {A : Type 0} (xs ys : List A) (first count : ℕ) → piece xs first count ≡ Some ys
+    → length ys ≡ count
 piece-length xs ys first count is =
     let h = cond_some (leb (first + count) (length xs)) (take count (drop first xs)) ys is in
     let within : first + count ≤ length xs = leb-true _ _ h.0 in
@@ -114,8 +118,8 @@ option_map-then g f None = refl
 option_map-then g f (Some x) = refl
 
 -- the entry of a list at a position
-pub list-entry : (t : Shown) (p : Span) (k : ℕ) → is_flat t (code.List p) ≡ true →
-    option_map (λ i. (nth k, meaning t i)) (item_at t p k)
+pub list-entry : (t : Shown) (p : Span) (k : ℕ) → is_flat t (code.List p) ≡ true
+    → option_map (λ i. (nth k, meaning t i)) (item_at t p k)
     ≡ slice_get (entries (meaning t (code.List p))) k
 list-entry t p k sound =
     let x = list_inside t p sound in
@@ -126,8 +130,8 @@ list-entry t p k sound =
     (all_of-at (flat_value 126 t) (meaning t) x.parts x.values k (meaning_inside t) x.mean)
     ∙ option_map-then (at_index k) (meaning t) (slice_get x.parts k))
 
-pub item-sound : (t : Shown) (p : Span) (k : ℕ) (i : Item) → is_flat t (code.List p) ≡ true →
-    item_at t p k ≡ Some i → is_flat t i ≡ true
+pub item-sound : (t : Shown) (p : Span) (k : ℕ) (i : Item) → is_flat t (code.List p) ≡ true
+    → item_at t p k ≡ Some i → is_flat t i ≡ true
 item-sound t p k i sound at =
     let x = list_inside t p sound in
     let v = all_of-some (flat_value 126 t) x.parts x.values k i x.mean
@@ -152,15 +156,15 @@ list-many t p x =
     length-all_of (flat_value 126 t) x.parts x.values x.mean
     ∙ piece-length t.items x.parts p.first p.count x.there
 
-pub list-count : (t : Shown) (p : Span) → is_flat t (code.List p) ≡ true →
-    p.count ≡ length (entries (meaning t (code.List p)))
+pub list-count : (t : Shown) (p : Span) → is_flat t (code.List p) ≡ true
+    → p.count ≡ length (entries (meaning t (code.List p)))
 list-count t p sound =
     let x = list_inside t p sound in
     sym
     (ap (λ v. length (entries v)) x.is ∙ items-long 0 x.values ∙ list-many t p x)
 
-pub list-length : (t : Shown) (p : Span) → is_flat t (code.List p) ≡ true →
-    Some p.count ≡ list_length (meaning t (code.List p))
+pub list-length : (t : Shown) (p : Span) → is_flat t (code.List p) ≡ true
+    → Some p.count ≡ list_length (meaning t (code.List p))
 list-length t p sound =
     let x = list_inside t p sound in
     sym
@@ -189,21 +193,21 @@ object_inside t p sound =
 abbrev pub seen_member : Shown → Named → List ℕ × Value
 seen_member t m = (name_in t m, meaning t m.item)
 
-abbrev pub member_entry : Shown → Named → Key × Value
+abbrev pub member_entry : Shown → Named → Step × Value
 member_entry t m = (named (name_in t m), meaning t m.item)
 
-pub member_seen : (t : Shown) (m : Named) (p : List ℕ × Value) →
-    member_with (flat_value 126 t) t m ≡ Some p → seen_member t m ≡ p
+pub member_seen : (t : Shown) (m : Named) (p : List ℕ × Value)
+    → member_with (flat_value 126 t) t m ≡ Some p → seen_member t m ≡ p
 member_seen t m p is =
     let h = some_from_both (λ name v. (name, v)) (text_at t m.name) (flat_value 126 t m.item) p is in
     ap (λ o. (unwrap_or o [], meaning t m.item)) h.2
     ∙ ap (λ v. (h.0, v)) (meaning_inside t m.item h.1 h.3) ∙ h.4
 
-members_at : (t : Shown) (p : Span) (k : ℕ) (x : ObjectInside t p) →
-    member_at t p k ≡ slice_get x.parts k
+members_at : (t : Shown) (p : Span) (k : ℕ) (x : ObjectInside t p)
+    → member_at t p k ≡ slice_get x.parts k
 members_at t p k x = ap (option_and_then (λ xs. slice_get xs k)) x.there
 
-abbrev as_entry : List ℕ × Value → Key × Value
+abbrev as_entry : List ℕ × Value → Step × Value
 as_entry m = (named m.0, m.1)
 
 entries-members : (ms : List (List ℕ × Value)) → members_by_name (members_of ms) ≡ map as_entry ms
@@ -211,8 +215,8 @@ entries-members [] = refl
 entries-members (m ∷ ms) = ap (λ es. as_entry m ∷ es) (entries-members ms)
 
 -- the entry of an object at a position
-pub object-entry : (t : Shown) (p : Span) (k : ℕ) → is_flat t (code.Members p) ≡ true →
-    option_map (member_entry t) (member_at t p k)
+pub object-entry : (t : Shown) (p : Span) (k : ℕ) → is_flat t (code.Members p) ≡ true
+    → option_map (member_entry t) (member_at t p k)
     ≡ slice_get (entries (meaning t (code.Members p))) k
 object-entry t p k sound =
     let x = object_inside t p sound in
@@ -226,9 +230,9 @@ object-entry t p k sound =
     x.mean)
     ∙ option_map-then as_entry (seen_member t) (slice_get x.parts k))
 
-pub member-there : (t : Shown) (p : Span) (k : ℕ) (m : Named) → is_flat t (code.Members p) ≡ true →
-    member_at t p k ≡ Some m →
-    slice_get (entries (meaning t (code.Members p))) k ≡ Some (member_entry t m)
+pub member-there : (t : Shown) (p : Span) (k : ℕ) (m : Named) → is_flat t (code.Members p) ≡ true
+    → member_at t p k ≡ Some m
+    → slice_get (entries (meaning t (code.Members p))) k ≡ Some (member_entry t m)
 member-there t p k m sound at =
     sym (object-entry t p k sound) ∙ ap (option_map (member_entry t)) at
 
@@ -239,8 +243,8 @@ record MemberHas (t : Shown) (m : Named) : Type 0 where
   named : text_at t m.name ≡ Some name
   mean : flat_value 126 t m.item ≡ Some value
 
-member-has : (t : Shown) (p : Span) (k : ℕ) (m : Named) → is_flat t (code.Members p) ≡ true →
-    member_at t p k ≡ Some m → MemberHas t m
+member-has : (t : Shown) (p : Span) (k : ℕ) (m : Named) → is_flat t (code.Members p) ≡ true
+    → member_at t p k ≡ Some m → MemberHas t m
 member-has t p k m sound at =
     let x = object_inside t p sound in
     let v = all_of-some (member_with (flat_value 126 t) t) x.parts x.values k m x.mean
@@ -249,8 +253,8 @@ member-has t p k m sound at =
     v.1 in
     record { name = h.0; value = h.1; named = h.2; mean = h.3 }
 
-pub member-sound : (t : Shown) (p : Span) (k : ℕ) (m : Named) → is_flat t (code.Members p) ≡ true →
-    member_at t p k ≡ Some m → is_flat t m.item ≡ true
+pub member-sound : (t : Shown) (p : Span) (k : ℕ) (m : Named) → is_flat t (code.Members p) ≡ true
+    → member_at t p k ≡ Some m → is_flat t m.item ≡ true
 member-sound t p k m sound at =
     let x = member-has t p k m sound at in
     sound_inside t m.item x.value x.mean
@@ -258,8 +262,8 @@ member-sound t p k m sound at =
     (IsDocumentValue-entry (meaning t (code.Members p)) k (member_entry t m)
     (flat-valid t (code.Members p) sound) (member-there t p k m sound at)))
 
-pub member-name : (t : Shown) (p : Span) (k : ℕ) (m : Named) → is_flat t (code.Members p) ≡ true →
-    member_at t p k ≡ Some m → HoldsText t m.name
+pub member-name : (t : Shown) (p : Span) (k : ℕ) (m : Named) → is_flat t (code.Members p) ≡ true
+    → member_at t p k ≡ Some m → HoldsText t m.name
 member-name t p k m sound at =
     let x = member-has t p k m sound at in
     let v = meaning t (code.Members p) in
@@ -274,8 +278,8 @@ member-name t p k m sound at =
           (member-there t p k m sound at)));
     }
 
-pub object-count : (t : Shown) (p : Span) → is_flat t (code.Members p) ≡ true →
-    p.count ≡ length (entries (meaning t (code.Members p)))
+pub object-count : (t : Shown) (p : Span) → is_flat t (code.Members p) ≡ true
+    → p.count ≡ length (entries (meaning t (code.Members p)))
 object-count t p sound =
     let x = object_inside t p sound in
     sym
@@ -325,18 +329,18 @@ text-held t p sound =
           (subst IsDocumentValue x.is (flat-valid t (code.Text p) sound));
     }
 
-pub text-is : (t : Shown) (p : Span) (s : List ℕ) → is_flat t (code.Text p) ≡ true →
-    Some s ≡ text_at t p → text s ≡ meaning t (code.Text p)
+pub text-is : (t : Shown) (p : Span) (s : List ℕ) → is_flat t (code.Text p) ≡ true
+    → Some s ≡ text_at t p → text s ≡ meaning t (code.Text p)
 text-is t p s sound is =
     let x = text_inside t p sound in
     ap text (same_Some s x.held (is ∙ x.there)) ∙ sym x.is
 
-pub list-bare : (t : Shown) (p : Span) → is_flat t (code.List p) ≡ true →
-    list no_items ≡ bare (meaning t (code.List p))
+pub list-bare : (t : Shown) (p : Span) → is_flat t (code.List p) ≡ true
+    → list no_items ≡ bare (meaning t (code.List p))
 list-bare t p sound = sym (ap bare (list_inside t p sound).is)
 
-pub object-bare : (t : Shown) (p : Span) → is_flat t (code.Members p) ≡ true →
-    object no_members ≡ bare (meaning t (code.Members p))
+pub object-bare : (t : Shown) (p : Span) → is_flat t (code.Members p) ≡ true
+    → object no_members ≡ bare (meaning t (code.Members p))
 object-bare t p sound = sym (ap bare (object_inside t p sound).is)
 
 -- ---- values with nothing, no items or no members inside
@@ -366,8 +370,8 @@ IsLeafOr sort i =
     (((h : Halves) × (i ≡ code.Below h)) ⊎ (((p : Span) × (i ≡ code.Text p)) ⊎
     ((p : Span) × (i ≡ sort p))))))
 
-leaf_or : (sort : Span → Item) (i : Item) → IsLeafOr sort i →
-    IsLeaf i ⊎ ((p : Span) × (i ≡ sort p))
+leaf_or : (sort : Span → Item) (i : Item) → IsLeafOr sort i
+    → IsLeaf i ⊎ ((p : Span) × (i ≡ sort p))
 leaf_or sort i (inl e) = inl (inl e)
 leaf_or sort i (inr (inl e)) = inl (inr (inl e))
 leaf_or sort i (inr (inr (inl e))) = inl (inr (inr (inl e)))
@@ -375,10 +379,10 @@ leaf_or sort i (inr (inr (inr (inl e)))) = inl (inr (inr (inr (inl e))))
 leaf_or sort i (inr (inr (inr (inr (inl e))))) = inl (inr (inr (inr (inr e))))
 leaf_or sort i (inr (inr (inr (inr (inr e))))) = inr e
 
-pub no-item : (t : Shown) (i : Item) (k : ℕ) → is_flat t i ≡ true → IsLeafOr code.Members i →
-    child (meaning t i) (nth k) ≡ None
+pub no-item : (t : Shown) (i : Item) (k : ℕ) → is_flat t i ≡ true → IsLeafOr code.Members i
+    → child (meaning t i) (nth k) ≡ None
 no-item t i k sound other = elim (leaf_or code.Members i other) [
-  | inl leaf ↦ ap (lookup (is_at (key_cmp (nth k)))) (leaf-entries t i sound leaf)
+  | inl leaf ↦ ap (lookup (is_at (step_cmp (nth k)))) (leaf-entries t i sound leaf)
   | inr e ↦
       ap (λ j. child (meaning t j) (nth k)) e.1
       ∙ ap (λ v. child v (nth k))
@@ -386,10 +390,10 @@ no-item t i k sound other = elim (leaf_or code.Members i other) [
       ∙ child-object_nth k (members_of (object_inside t e.0 (subst (λ j. is_flat t j ≡ true) e.1 sound)).values)
 ]
 
-pub no-member : (t : Shown) (i : Item) (q : List ℕ) → is_flat t i ≡ true → IsLeafOr code.List i →
-    child (meaning t i) (named q) ≡ None
+pub no-member : (t : Shown) (i : Item) (q : List ℕ) → is_flat t i ≡ true → IsLeafOr code.List i
+    → child (meaning t i) (named q) ≡ None
 no-member t i q sound other = elim (leaf_or code.List i other) [
-  | inl leaf ↦ ap (lookup (is_at (key_cmp (named q)))) (leaf-entries t i sound leaf)
+  | inl leaf ↦ ap (lookup (is_at (step_cmp (named q)))) (leaf-entries t i sound leaf)
   | inr e ↦
       ap (λ j. child (meaning t j) (named q)) e.1
       ∙ ap (λ v. child v (named q))
@@ -397,8 +401,8 @@ no-member t i q sound other = elim (leaf_or code.List i other) [
       ∙ child-list_named q (items_of (list_inside t e.0 (subst (λ j. is_flat t j ≡ true) e.1 sound)).values)
 ]
 
-leaf-length : (t : Shown) (i : Item) → is_flat t i ≡ true → IsLeaf i →
-    list_length (meaning t i) ≡ None
+leaf-length : (t : Shown) (i : Item) → is_flat t i ≡ true → IsLeaf i
+    → list_length (meaning t i) ≡ None
 leaf-length t i sound (inl e) = ap (λ j. list_length (meaning t j)) e ∙ ap list_length (null-is t)
 leaf-length t i sound (inr (inl e)) =
     ap (λ j. list_length (meaning t j)) e.1 ∙ ap list_length (boolean-is t e.0)
@@ -410,8 +414,8 @@ leaf-length t i sound (inr (inr (inr (inr e)))) =
     ap (λ j. list_length (meaning t j)) e.1
     ∙ ap list_length (text_inside t e.0 (subst (λ j. is_flat t j ≡ true) e.1 sound)).is
 
-pub no-length : (t : Shown) (i : Item) → is_flat t i ≡ true → IsLeafOr code.Members i →
-    list_length (meaning t i) ≡ None
+pub no-length : (t : Shown) (i : Item) → is_flat t i ≡ true → IsLeafOr code.Members i
+    → list_length (meaning t i) ≡ None
 no-length t i sound other = elim (leaf_or code.Members i other) [
   | inl leaf ↦ leaf-length t i sound leaf
   | inr e ↦

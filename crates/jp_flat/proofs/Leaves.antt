@@ -13,7 +13,7 @@ use Rattle.serde_json.specs.Read.{converted, number_from, of_items, of_json, of_
 use Rattle.jp_document.specs.Private.Direct.{ReadsItems, ReadsMembers, ReadsValue}
 use Rattle.jp_document.specs.Value.{Value, null, boolean, text, whole, list, object}
 use Rattle.jp_document.specs.Value.{items_of, members_of}
-use Rattle.jp_document.proofs.Conjunctions.{and-both}
+use Rattle.jp_reading.proofs.Conjunctions.{and-both}
 use Rattle.jp_document.proofs.Tokens.Turns.{below_zero_text, converted-map, from_zero_text, one_token}
 use Rattle.jp_flat.specs.Flat.{Shown, flat_value, number_of, text_at}
 use Rattle.jp_flat.specs.Private.Reading.{ReadsLeaf, IsWholeItem, ReadsFlat, ReadsFlatItems}
@@ -35,37 +35,37 @@ unfolding flat_value
 boolean_means zero t b = refl
 boolean_means (suc n) t b = refl
 
-text_means : (n : ℕ) (t : Shown) (p : Span) (x : List ℕ) → text_at t p ≡ Some x →
-    flat_value n t (code.Text p) ≡ Some (text x)
+text_means : (n : ℕ) (t : Shown) (p : Span) (x : List ℕ) → text_at t p ≡ Some x
+    → flat_value n t (code.Text p) ≡ Some (text x)
 unfolding flat_value
 text_means zero t p x is = ap (option_map text) is
 text_means (suc n) t p x is = ap (option_map text) is
 
-pub above_means : (n : ℕ) (t : Shown) (h : Halves) →
-    flat_value n t (code.Above h) ≡ Some (whole (pos (number_of h)))
+pub above_means : (n : ℕ) (t : Shown) (h : Halves)
+    → flat_value n t (code.Above h) ≡ Some (whole (pos (number_of h)))
 unfolding flat_value
 above_means zero t h = refl
 above_means (suc n) t h = refl
 
-pub below_means : (n : ℕ) (t : Shown) (h : Halves) →
-    flat_value n t (code.Below h) ≡ Some (whole (negsuc (number_of h)))
+pub below_means : (n : ℕ) (t : Shown) (h : Halves)
+    → flat_value n t (code.Below h) ≡ Some (whole (negsuc (number_of h)))
 unfolding flat_value
 below_means zero t h = refl
 below_means (suc n) t h = refl
 
 -- ---- whole numbers
 
-pub above_item : (s : List ℕ) (n : ℕ) (h : Halves) → (slice_index s 0 == minus) ≡ false →
-    number_from false (scan s) ≡ Some (unsigned n) → number_of h ≡ n → IsWholeItem s (code.Above h)
+pub above_item : (s : List ℕ) (n : ℕ) (h : Halves) → (slice_index s 0 == minus) ≡ false
+    → number_from false (scan s) ≡ Some (unsigned n) → number_of h ≡ n → IsWholeItem s (code.Above h)
 above_item s n h first read is = record {
   number = pos (number_of h);
   written = from_zero_text s n (pos (number_of h)) first read (ap pos (sym is));
   means = λ m t. above_means m t h;
 }
 
-pub below_item : (s : List ℕ) (n : ℕ) (h : Halves) → (slice_index s 0 == minus) ≡ true →
-    number_from true (scan (drop 1 s)) ≡ Some (negative (negsuc n)) → number_of h ≡ n →
-    IsWholeItem s (code.Below h)
+pub below_item : (s : List ℕ) (n : ℕ) (h : Halves) → (slice_index s 0 == minus) ≡ true
+    → number_from true (scan (drop 1 s)) ≡ Some (negative (negsuc n)) → number_of h ≡ n
+    → IsWholeItem s (code.Below h)
 below_item s n h first read is = record {
   number = negsuc (number_of h);
   written = below_zero_text s (negsuc n) (negsuc (number_of h)) first read (ap negsuc (sym is));
@@ -83,8 +83,8 @@ leaf-null k t is = λ depth r items. record {
   means = null_means depth (with_items t items);
 }
 
-pub leaf-boolean : (k : Token) (t : Shown) (b : Bool) → k ≡ Token.boolean b →
-    ReadsLeaf k t (code.Bool b)
+pub leaf-boolean : (k : Token) (t : Shown) (b : Bool) → k ≡ Token.boolean b
+    → ReadsLeaf k t (code.Bool b)
 leaf-boolean k t b is = λ depth r items. record {
   value = boolean b;
   reads = one_token depth (k ∷ r) r (Token.boolean b) (parsed.boolean b) (boolean b)
@@ -93,8 +93,8 @@ leaf-boolean k t b is = λ depth r items. record {
   means = boolean_means depth (with_items t items) b;
 }
 
-pub leaf-text : (k : Token) (t : Shown) (p : Span) (x : List ℕ) → k ≡ Token.string x →
-    text_at t p ≡ Some x → ReadsLeaf k t (code.Text p)
+pub leaf-text : (k : Token) (t : Shown) (p : Span) (x : List ℕ) → k ≡ Token.string x
+    → text_at t p ≡ Some x → ReadsLeaf k t (code.Text p)
 leaf-text k t p x is at = λ depth r items. record {
   value = text x;
   reads = one_token depth (k ∷ r) r (Token.string x) (parsed.string x) (text x)
@@ -103,8 +103,8 @@ leaf-text k t p x is at = λ depth r items. record {
   means = text_means depth (with_items t items) p x at;
 }
 
-pub leaf-whole : (k : Token) (t : Shown) (i : Item) (s : List ℕ) → k ≡ Token.number s →
-    IsWholeItem s i → ReadsLeaf k t i
+pub leaf-whole : (k : Token) (t : Shown) (i : Item) (s : List ℕ) → k ≡ Token.number s
+    → IsWholeItem s i → ReadsLeaf k t i
 leaf-whole k t i s is x = λ depth r items. record {
   value = whole x.number;
   reads = one_token depth (k ∷ r) r (Token.number s) (parsed.number x.written.number)
@@ -116,21 +116,21 @@ leaf-whole k t i s is x = λ depth r items. record {
   means = x.means depth (with_items t items);
 }
 
-pub leaf-read : (depth : ℕ) (ts r : List Token) (token : Token) (t : Shown) (i : Item) →
-    ts ≡ token ∷ r → ReadsLeaf token t i → ReadsFlat depth ts r t i
+pub leaf-read : (depth : ℕ) (ts r : List Token) (token : Token) (t : Shown) (i : Item)
+    → ts ≡ token ∷ r → ReadsLeaf token t i → ReadsFlat depth ts r t i
 leaf-read depth ts r token t i first x =
     subst (λ ks. ReadsFlat depth ks r t i) (sym first) (x depth r t.items)
 
-no_value : (depth : ℕ) (ts r : List Token) (v : Value) → value depth ts ≡ None →
-    ReadsValue depth ts r v → ⊥
+no_value : (depth : ℕ) (ts r : List Token) (v : Value) → value depth ts ≡ None
+    → ReadsValue depth ts r v → ⊥
 no_value depth ts r v none x =
     let never : converted of_json None ≡ Some (x.reading, r) =
     sym (ap (converted of_json) none) ∙ x.read in
     absurd (cc)
 
 -- no list ends where a value begins
-pub value_goes : (depth : ℕ) (ts r : List Token) (t : Shown) (i : Item) → ReadsFlat depth ts r t i →
-    after_end_array ts ≡ None
+pub value_goes : (depth : ℕ) (ts r : List Token) (t : Shown) (i : Item) → ReadsFlat depth ts r t i
+    → after_end_array ts ≡ None
 value_goes depth [] r t i x = refl
 value_goes depth (Token.begin_object ∷ ts) r t i x = refl
 value_goes depth (Token.end_object ∷ ts) r t i x = refl
@@ -147,9 +147,9 @@ value_goes depth (Token.bad ∷ ts) r t i x = refl
 
 -- ---- lists and objects
 
-reads_list : (depth : ℕ) (ts s r : List Token) (vs : List Value) → 0 < depth →
-    ts ≡ Token.begin_array ∷ s → ReadsItems (depth - 1) (length s) s r (items_of vs) →
-    ReadsValue depth ts r (list (items_of vs))
+reads_list : (depth : ℕ) (ts s r : List Token) (vs : List Value) → 0 < depth
+    → ts ≡ Token.begin_array ∷ s → ReadsItems (depth - 1) (length s) s r (items_of vs)
+    → ReadsValue depth ts r (list (items_of vs))
 reads_list depth ts s r vs deep first x = record {
   reading = parsed.array x.reading;
   read =
@@ -160,9 +160,9 @@ reads_list depth ts s r vs deep first x = record {
   holds = ap (option_map list) x.holds;
 }
 
-reads_object : (depth : ℕ) (ts s r : List Token) (ms : List (List ℕ × Value)) → 0 < depth →
-    ts ≡ Token.begin_object ∷ s → ReadsMembers (depth - 1) (length s) s r (members_of ms) →
-    ReadsValue depth ts r (object (members_of ms))
+reads_object : (depth : ℕ) (ts s r : List Token) (ms : List (List ℕ × Value)) → 0 < depth
+    → ts ≡ Token.begin_object ∷ s → ReadsMembers (depth - 1) (length s) s r (members_of ms)
+    → ReadsValue depth ts r (object (members_of ms))
 reads_object depth ts s r ms deep first x = record {
   reading = parsed.object x.reading;
   read =
@@ -173,8 +173,8 @@ reads_object depth ts s r ms deep first x = record {
   holds = ap (option_map object) x.holds;
 }
 
-pub flat-list : (depth : ℕ) (ts s r : List Token) (t : Shown) (i : Item) → 0 < depth →
-    ts ≡ Token.begin_array ∷ s → ReadsFlatItems (depth - 1) s r t i → ReadsFlat depth ts r t i
+pub flat-list : (depth : ℕ) (ts s r : List Token) (t : Shown) (i : Item) → 0 < depth
+    → ts ≡ Token.begin_array ∷ s → ReadsFlatItems (depth - 1) s r t i → ReadsFlat depth ts r t i
 flat-list depth ts s r t i deep first x = record {
   value = list (items_of x.values);
   reads = reads_list depth ts s r x.values deep first x.reads;
@@ -184,8 +184,8 @@ flat-list depth ts s r t i deep first x = record {
       subst (λ n. flat_value n t i ≡ Some (list (items_of x.values))) same x.means;
 }
 
-pub flat-object : (depth : ℕ) (ts s r : List Token) (t : Shown) (i : Item) → 0 < depth →
-    ts ≡ Token.begin_object ∷ s → ReadsFlatMembers (depth - 1) s r t i → ReadsFlat depth ts r t i
+pub flat-object : (depth : ℕ) (ts s r : List Token) (t : Shown) (i : Item) → 0 < depth
+    → ts ≡ Token.begin_object ∷ s → ReadsFlatMembers (depth - 1) s r t i → ReadsFlat depth ts r t i
 flat-object depth ts s r t i deep first x = record {
   value = object (members_of x.members);
   reads = reads_object depth ts s r x.members deep first x.reads;

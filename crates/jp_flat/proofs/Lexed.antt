@@ -18,8 +18,8 @@ use Rattle.json.specs.Word.{is_operator, is_space}
 
 -- ---- bytes of a text that stand for themselves
 
-prepend-prepend : (a b : List ℕ) (r : Option (List ℕ)) →
-    prepend a (prepend b r) ≡ prepend (a ++ b) r
+prepend-prepend : (a b : List ℕ) (r : Option (List ℕ))
+    → prepend a (prepend b r) ≡ prepend (a ++ b) r
 prepend-prepend a b None = refl
 prepend-prepend a b (Some s) = ap Some (sym (append_assoc a b s))
 
@@ -32,14 +32,14 @@ record Passes (n : ℕ) (xs : List ℕ) : Type 0 where
   pub read : content plain xs ≡ prepend (take n xs) (content plain (drop n xs))
   pub lexed : lex in_string xs ≡ lex in_string (drop n xs)
 
-inside : (o s : Bool) (x : ℕ) (r : List ℕ) (k : Mode → List Lexeme) →
-    lex_byte in_string (cond o operator (cond s space other)) x r k ≡ k in_string
+inside : (o s : Bool) (x : ℕ) (r : List ℕ) (k : Mode → List Lexeme)
+    → lex_byte in_string (cond o operator (cond s space other)) x r k ≡ k in_string
 inside true s x r k = refl
 inside false true x r k = refl
 inside false false x r k = refl
 
-passes_byte : (p : Bool) (x n : ℕ) (xs : List ℕ) → p ≡ is_plain x → Passes n xs →
-    Passes (cond p (1 + n) 0) (x ∷ xs)
+passes_byte : (p : Bool) (x n : ℕ) (xs : List ℕ) → p ≡ is_plain x → Passes n xs
+    → Passes (cond p (1 + n) 0) (x ∷ xs)
 unfolding content lex
 passes_byte false x n xs e so = record { read = sym (prepend-nil _); lexed = refl }
 passes_byte true x n xs e so =
@@ -63,14 +63,14 @@ passes_run (x ∷ xs) =
     passes_byte (is_plain x) x (prefix_len is_plain xs) xs refl (passes_run xs)
 
 -- from a place on up to the place where the plain bytes stop
-pub run_to : (d : List ℕ) (from to : ℕ) → to ≡ from + prefix_len is_plain (drop from d) →
-    lex in_string (drop from d) ≡ lex in_string (drop to d)
+pub run_to : (d : List ℕ) (from to : ℕ) → to ≡ from + prefix_len is_plain (drop from d)
+    → lex in_string (drop from d) ≡ lex in_string (drop to d)
 run_to d from to is =
     (passes_run (drop from d)).lexed ∙ ap (lex in_string) (drop-drop _ from d)
     ∙ ap (λ k. lex in_string (drop k d)) (sym is)
 
-pub read_to : (d : List ℕ) (from to : ℕ) → to ≡ from + prefix_len is_plain (drop from d) →
-    content plain (drop from d) ≡ prepend (take (to - from) (drop from d)) (content plain (drop to d))
+pub read_to : (d : List ℕ) (from to : ℕ) → to ≡ from + prefix_len is_plain (drop from d)
+    → content plain (drop from d) ≡ prepend (take (to - from) (drop from d)) (content plain (drop to d))
 read_to d from to is =
     let n : prefix_len is_plain (drop from d) ≡ to - from = omega arith in
     (passes_run (drop from d)).read
@@ -80,22 +80,22 @@ read_to d from to is =
 
 -- ---- the end of a text
 
-pub first_is : (d : List ℕ) (at x : ℕ) → at < length d → get_or d at 0 ≡ x →
-    drop at d ≡ x ∷ drop (at + 1) d
+pub first_is : (d : List ℕ) (at x : ℕ) → at < length d → get_or d at 0 ≡ x
+    → drop at d ≡ x ∷ drop (at + 1) d
 first_is d at x within e = drop_more d at 0 within ∙ ap (λ y. y ∷ drop (at + 1) d) e
 
-pub string_ends : (d : List ℕ) (at : ℕ) → at < length d → get_or d at 0 ≡ 34 →
-    lex in_string (drop at d) ≡ lex between (drop (at + 1) d)
+pub string_ends : (d : List ℕ) (at : ℕ) → at < length d → get_or d at 0 ≡ 34
+    → lex in_string (drop at d) ≡ lex between (drop (at + 1) d)
 unfolding lex
 string_ends d at within e = ap (lex in_string) (first_is d at 34 within e)
 
-pub read_ends : (d : List ℕ) (at : ℕ) → at < length d → get_or d at 0 ≡ 34 →
-    content plain (drop at d) ≡ Some []
+pub read_ends : (d : List ℕ) (at : ℕ) → at < length d → get_or d at 0 ≡ 34
+    → content plain (drop at d) ≡ Some []
 unfolding content
 read_ends d at within e = ap (content plain) (first_is d at 34 within e)
 
-pub escape_passes : (d : List ℕ) (at : ℕ) → at + 2 ≤ length d → get_or d at 0 ≡ 92 →
-    lex in_string (drop at d) ≡ lex in_string (drop (at + 2) d)
+pub escape_passes : (d : List ℕ) (at : ℕ) → at + 2 ≤ length d → get_or d at 0 ≡ 92
+    → lex in_string (drop at d) ≡ lex in_string (drop (at + 2) d)
 unfolding lex
 escape_passes d at within e =
     let next : at + 1 + 1 ≡ at + 2 = omega arith in
@@ -103,9 +103,9 @@ escape_passes d at within e =
     ∙ ap (lex in_escape) (drop_more d (at + 1) 0 (omega arith))
     ∙ ap (λ k. lex in_string (drop k d)) next
 
-pub plain_text : (d : List ℕ) (from to : ℕ) → to ≡ from + prefix_len is_plain (drop from d) →
-    to < length d → get_or d to 0 ≡ 34 →
-    content plain (drop from d) ≡ Some (take (to - from) (drop from d))
+pub plain_text : (d : List ℕ) (from to : ℕ) → to ≡ from + prefix_len is_plain (drop from d)
+    → to < length d → get_or d to 0 ≡ 34
+    → content plain (drop from d) ≡ Some (take (to - from) (drop from d))
 plain_text d from to is within quote =
     read_to d from to is
     ∙ ap (prepend (take (to - from) (drop from d))) (read_ends d to within quote)
@@ -123,18 +123,18 @@ more_none more s e = absurd (cc e)
 more_same : (r : Option (List ℕ)) → More r r
 more_same r s e = e
 
-more_prepend : (bytes : List ℕ) (r more : Option (List ℕ)) → More r more →
-    More (prepend bytes r) (prepend bytes more)
+more_prepend : (bytes : List ℕ) (r more : Option (List ℕ)) → More r more
+    → More (prepend bytes r) (prepend bytes more)
 more_prepend bytes None more f s e = absurd (cc e)
 more_prepend bytes (Some t) more f s e = ap (prepend bytes) (f t refl) ∙ e
 
-more_cond : (b : Bool) (r q r2 q2 : Option (List ℕ)) → More r r2 → More q q2 →
-    More (cond b r q) (cond b r2 q2)
+more_cond : (b : Bool) (r q r2 q2 : Option (List ℕ)) → More r r2 → More q q2
+    → More (cond b r q) (cond b r2 q2)
 more_cond true r q r2 q2 one two = one
 more_cond false r q r2 q2 one two = two
 
-more_then : {A : Type 0} (o : Option A) (f g : A → Option (List ℕ)) →
-    ((a : A) → More (f a) (g a)) → More (option_and_then f o) (option_and_then g o)
+more_then : {A : Type 0} (o : Option A) (f g : A → Option (List ℕ))
+    → ((a : A) → More (f a) (g a)) → More (option_and_then f o) (option_and_then g o)
 more_then None f g all s e = absurd (cc e)
 more_then (Some a) f g all s e = all a s e
 
@@ -173,9 +173,9 @@ content_more (after_high h) (s ∷ u ∷ a ∷ b ∷ c ∷ d ∷ xs) ys =
     (more_prepend (encode_utf8 (surrogate_pair h l)) _ _ (content_more plain xs ys)) (more_same _)))
     (more_same _)
 
-pub escaped_text : (d : List ℕ) (from to : ℕ) (x : List ℕ) → 0 < from → from ≤ to → to ≤ length d →
-    content plain (drop 1 (take (to - (from - 1)) (drop (from - 1) d))) ≡ Some x →
-    content plain (drop from d) ≡ Some x
+pub escaped_text : (d : List ℕ) (from to : ℕ) (x : List ℕ) → 0 < from → from ≤ to → to ≤ length d
+    → content plain (drop 1 (take (to - (from - 1)) (drop (from - 1) d))) ≡ Some x
+    → content plain (drop from d) ≡ Some x
 escaped_text d from to x some after within e =
     let back : from - 1 + 1 ≡ from = omega arith in
     let more : to - (from - 1) ≡ 1 + (to - from) = omega arith in

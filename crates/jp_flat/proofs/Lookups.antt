@@ -8,7 +8,7 @@ use Rattle.std.proofs.lemmas.Map.Lookups.{exact_bytes}
 use Rattle.std.proofs.lemmas.Option.{same_Some, slice_get_cases}
 use Rattle.jp_document.specs.Location.{child, entries, named, nth}
 use Rattle.jp_document.specs.Value.{NamesRise, members_of, object}
-use Rattle.jp_document.proofs.Conjunctions.{and-left}
+use Rattle.jp_reading.proofs.Conjunctions.{and-left}
 use Rattle.jp_document.proofs.Descent.Entries.{at_index, child-entry, document-names_rise, item_entry}
 use Rattle.jp_document.proofs.Descent.Items.{child-nth}
 use Rattle.jp_document.proofs.Members.ByName.{absent_name, bytes_cmp, child-named, sorted_members}
@@ -21,16 +21,16 @@ use Rattle.jp_flat.specs.declared.item.Span.{Span}
 use Rattle.jp_flat.proofs.Inside.{flat-valid, list_inside, member-there, member_seen, object_inside}
 use Rattle.jp_flat.proofs.Inside.{seen_member}
 
-pub list-child : (t : Shown) (p : Span) (k : ℕ) → is_flat t (code.List p) ≡ true →
-    slice_get (entries (meaning t (code.List p))) k
+pub list-child : (t : Shown) (p : Span) (k : ℕ) → is_flat t (code.List p) ≡ true
+    → slice_get (entries (meaning t (code.List p))) k
     ≡ option_map (at_index k) (child (meaning t (code.List p)) (nth k))
 list-child t p k sound =
     let x = list_inside t p sound in
     subst (λ v. slice_get (entries v) k ≡ option_map (at_index k) (child v (nth k))) (sym x.is)
     (item_entry k x.values ∙ ap (option_map (at_index k)) (sym (child-nth k x.values)))
 
-all_of-map : {A B : Type 0} (f : A → Option B) (g : A → B) (xs : List A) (ys : List B) →
-    ((x : A) (y : B) → f x ≡ Some y → g x ≡ y) → all_of f xs ≡ Some ys → map g xs ≡ ys
+all_of-map : {A B : Type 0} (f : A → Option B) (g : A → B) (xs : List A) (ys : List B)
+    → ((x : A) (y : B) → f x ≡ Some y → g x ≡ y) → all_of f xs ≡ Some ys → map g xs ≡ ys
 all_of-map f g [] ys same is = same_Some [] ys is
 all_of-map f g (x ∷ xs) ys same is =
     let h = some_from_both (λ y ys. y ∷ ys) (f x) (all_of f xs) ys is in
@@ -42,8 +42,8 @@ record Searched (t : Shown) (p : Span) (xs : List Named) : Type 0 where
   is : meaning t (code.Members p) ≡ object (members_of (map (seen_member t) xs))
   there : piece t.members p.first p.count ≡ Some xs
 
-searched : (t : Shown) (p : Span) (xs : List Named) → is_flat t (code.Members p) ≡ true →
-    piece t.members p.first p.count ≡ Some xs → Searched t p xs
+searched : (t : Shown) (p : Span) (xs : List Named) → is_flat t (code.Members p) ≡ true
+    → piece t.members p.first p.count ≡ Some xs → Searched t p xs
 searched t p xs sound there =
     let x = object_inside t p sound in
     let same : x.parts ≡ xs = same_Some x.parts xs (sym x.there ∙ there) in
@@ -56,14 +56,14 @@ searched t p xs sound there =
       there = there;
     }
 
-pub members-there : (t : Shown) (p : Span) → is_flat t (code.Members p) ≡ true →
-    (xs : List Named) × (piece t.members p.first p.count ≡ Some xs)
+pub members-there : (t : Shown) (p : Span) → is_flat t (code.Members p) ≡ true
+    → (xs : List Named) × (piece t.members p.first p.count ≡ Some xs)
 members-there t p sound = let x = object_inside t p sound in (x.parts, x.there)
 
-pub missed : (t : Shown) (p : Span) (q : List ℕ) (xs : List Named) (i : ℕ) →
-    is_flat t (code.Members p) ≡ true → piece t.members p.first p.count ≡ Some xs →
-    IsBinarySearchResult (λ m. bytes_cmp (seen_member t m).0 q) xs (Err i) →
-    child (meaning t (code.Members p)) (named q) ≡ None
+pub missed : (t : Shown) (p : Span) (q : List ℕ) (xs : List Named) (i : ℕ)
+    → is_flat t (code.Members p) ≡ true → piece t.members p.first p.count ≡ Some xs
+    → IsBinarySearchResult (λ m. bytes_cmp (seen_member t m).0 q) xs (Err i)
+    → child (meaning t (code.Members p)) (named q) ≡ None
 missed t p q xs i sound there miss =
     let x = searched t p xs sound there in
     let ps = map (seen_member t) xs in
@@ -75,11 +75,11 @@ missed t p q xs i sound there miss =
     ap (λ v. child v (named q)) x.is ∙ child-named q ps
     ∙ absent_name (seen_member t) q xs i sorted miss
 
-pub hit : (t : Shown) (p : Span) (q : List ℕ) (xs : List Named) (i : ℕ) →
-    is_flat t (code.Members p) ≡ true → piece t.members p.first p.count ≡ Some xs →
-    i < length xs →
-    ((m : Named) → bytes_cmp (seen_member t (get_or xs i m)).0 q ≡ Equal) →
-    slice_get (entries (meaning t (code.Members p))) i
+pub hit : (t : Shown) (p : Span) (q : List ℕ) (xs : List Named) (i : ℕ)
+    → is_flat t (code.Members p) ≡ true → piece t.members p.first p.count ≡ Some xs
+    → i < length xs
+    → ((m : Named) → bytes_cmp (seen_member t (get_or xs i m)).0 q ≡ Equal)
+    → slice_get (entries (meaning t (code.Members p))) i
     ≡ option_map (λ w. (named q, w)) (child (meaning t (code.Members p)) (named q))
 hit t p q xs i sound there within found = elim ((slice_get_cases xs i).1) [
   | inl h ↦

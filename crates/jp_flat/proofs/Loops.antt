@@ -1,7 +1,8 @@
 -- Whatever items and members are to come, they complete those that were read: for the loops of
 -- `items` and `members`.
 use Rattle.std.proofs.Common.{◌≡◌, ◌+◌, ◌-◌, ◌^◌, ◌<◌, ◌≤◌, ◌++◌, ℕ, suc, Bool, true, List, [], ◌∷◌}
-use Rattle.std.proofs.Common.{IfSome, Option, Some, None, length, drop, take, refl, sym, ap, subst, ◌∙◌, arith}
+use Rattle.std.proofs.Common.{IfSome, Option, Some, None, length, drop, take, refl, sym, ap, subst}
+use Rattle.std.proofs.Common.{◌∙◌, arith}
 use Rattle.std.proofs.Common.{append_assoc, append-nil, option_map, option_and_then}
 use Rattle.std.specs.Map.{keys_of}
 use Rattle.std.proofs.Math.Seq.{drop-append_seam, take-append_seam}
@@ -17,7 +18,8 @@ use Rattle.jp_document.proofs.Descent.Inside.{all-items}
 use Rattle.jp_document.proofs.Tokens.Ahead.{MembersAhead, ahead_member, ahead_members_end}
 use Rattle.jp_document.proofs.Tokens.Turns.{items_over, items_turn}
 use Rattle.jp_flat.specs.Flat.{Grows, Shown, all_of, flat_value, member_with, text_at}
-use Rattle.jp_flat.specs.Private.Reading.{BeginsItems, IsAboveLast, ReadsLeaf, IsListOf, ReadsFlat}
+use Rattle.jp_flat.specs.Private.Reading.{BeginsItems, IsAboveLast, ReadsLeaf, IsTheListOf}
+use Rattle.jp_flat.specs.Private.Reading.{ReadsFlat}
 use Rattle.jp_flat.specs.Private.Reading.{ReadsFlatItems, ReadsFlatMembers, ReadsLeaves, put_all}
 use Rattle.jp_flat.specs.Private.Reading.{with_items}
 use Rattle.jp_flat.specs.declared.item.Item.{Item}
@@ -27,13 +29,13 @@ use Rattle.jp_flat.proofs.Growth.{grows_beside, member_grows, text_grows, value_
 use Rattle.jp_flat.proofs.Leaves.{value_goes}
 use Rattle.jp_flat.proofs.Names.{put_all-push, rise-push}
 
-pub cut_back : {A : Type 0} (base : ℕ) (old new all : List A) → all ≡ old ++ new → base ≡ length old →
-    drop base all ≡ new
+pub cut_back : {A : Type 0} (base : ℕ) (old new all : List A) → all ≡ old ++ new → base ≡ length old
+    → drop base all ≡ new
 cut_back base old new all pushed at =
     ap (λ n. drop n all) at ∙ ap (drop (length old)) pushed ∙ drop-append_seam old new
 
-pub cut_front : {A : Type 0} (base : ℕ) (old new all : List A) → all ≡ old ++ new →
-    base ≡ length old → take base all ≡ old
+pub cut_front : {A : Type 0} (base : ℕ) (old new all : List A) → all ≡ old ++ new
+    → base ≡ length old → take base all ≡ old
 cut_front base old new all pushed at =
     ap (λ n. take n all) at ∙ ap (take (length old)) pushed ∙ take-append_seam old new
 
@@ -49,17 +51,17 @@ begins_none depth ts t = record {
   mean = refl;
 }
 
-short_item : (values : List Value) (v : Value) →
-    everywhere_in_items list_fits (items_of values) ≡ true → everywhere list_fits v ≡ true →
-    everywhere_in_items list_fits (items_of (values ++ v ∷ [])) ≡ true
+short_item : (values : List Value) (v : Value)
+    → everywhere_in_items list_fits (items_of values) ≡ true → everywhere list_fits v ≡ true
+    → everywhere_in_items list_fits (items_of (values ++ v ∷ [])) ≡ true
 short_item values v before here =
     all-items list_fits (values ++ v ∷ [])
     ∙ list_all-append (everywhere list_fits) values (v ∷ [])
     ∙ and_from _ _ (sym (all-items list_fits values) ∙ before) (and_from _ _ here refl)
 
-begins_more : (depth : ℕ) (initial ts r : List Token) (s u : Shown) (items : List Item) (i : Item) →
-    length r < length ts → Grows s u → ReadsFlat depth ts r u i →
-    BeginsItems depth initial ts s items → BeginsItems depth initial r u (items ++ i ∷ [])
+begins_more : (depth : ℕ) (initial ts r : List Token) (s u : Shown) (items : List Item) (i : Item)
+    → length r < length ts → Grows s u → ReadsFlat depth ts r u i
+    → BeginsItems depth initial ts s items → BeginsItems depth initial r u (items ++ i ∷ [])
 begins_more depth initial ts r s u items i less more x so = record {
   values = so.values ++ x.value ∷ [];
   turns = so.turns - 1;
@@ -80,9 +82,9 @@ item_count-items_of : (vs : List Value) → item_count (items_of vs) ≡ length 
 item_count-items_of [] = refl
 item_count-items_of (v ∷ vs) = ap suc (item_count-items_of vs)
 
-begins_end : (depth : ℕ) (initial ts r : List Token) (s u : Shown) (items : List Item) (i : Item) →
-    after_end_array ts ≡ Some r → length items < 2 ^ 32 → IsListOf items s u i →
-    BeginsItems depth initial ts s items → ReadsFlatItems depth initial r u i
+begins_end : (depth : ℕ) (initial ts r : List Token) (s u : Shown) (items : List Item) (i : Item)
+    → after_end_array ts ≡ Some r → length items < 2 ^ 32 → IsTheListOf items s u i
+    → BeginsItems depth initial ts s items → ReadsFlatItems depth initial r u i
 begins_end depth initial ts r s u items i over few closed so = record {
   values = so.values;
   reads =
@@ -111,9 +113,9 @@ leaves_begin ts t = record {
   grows = grows_same t;
 }
 
-pub leaves_more : (initial ts r : List Token) (token : Token) (t s u w : Shown) (i : Item) →
-    ts ≡ token ∷ r → ReadsLeaf token u i → Grows s u → u.items ≡ s.items →
-    w ≡ with_items u (u.items ++ i ∷ []) → ReadsLeaves initial ts t s → ReadsLeaves initial r t w
+pub leaves_more : (initial ts r : List Token) (token : Token) (t s u w : Shown) (i : Item)
+    → ts ≡ token ∷ r → ReadsLeaf token u i → Grows s u → u.items ≡ s.items
+    → w ≡ with_items u (u.items ++ i ∷ []) → ReadsLeaves initial ts t s → ReadsLeaves initial r t w
 leaves_more initial ts r token t s u w i first leaf more same pushed so =
     let grown = grows_beside s u t.items more in
     subst (ReadsLeaves initial r t) (sym pushed) (record {
@@ -129,17 +131,17 @@ leaves_more initial ts r token t s u w i first leaf more same pushed so =
     })
 
 -- all the items of a list are leaves
-pub leaves_end : (depth : ℕ) (initial ts r : List Token) (t s : Shown) (first : ℕ) (i : Item) →
-    after_end_array ts ≡ Some r → first ≡ length t.items → length s.items < first + 2 ^ 32 →
-    IsListOf (drop first s.items) (with_items s (take first s.items)) s i →
-    ReadsLeaves initial ts t s → ReadsFlatItems depth initial r s i
+pub leaves_end : (depth : ℕ) (initial ts r : List Token) (t s : Shown) (first : ℕ) (i : Item)
+    → after_end_array ts ≡ Some r → first ≡ length t.items → length s.items < first + 2 ^ 32
+    → IsTheListOf (drop first s.items) (with_items s (take first s.items)) s i
+    → ReadsLeaves initial ts t s → ReadsFlatItems depth initial r s i
 leaves_end depth initial ts r t s first i over at few closed so =
     let back = cut_back first t.items so.new s.items so.behind at in
     let front = cut_front first t.items so.new s.items so.behind at in
     begins_end depth initial ts r (with_items s t.items) s so.new i over
     (omega (arith, few, at, ap length so.behind, length-append t.items so.new))
-    (subst (λ xs. IsListOf so.new (with_items s xs) s i) front
-    (subst (λ xs. IsListOf xs (with_items s (take first s.items)) s i) back closed))
+    (subst (λ xs. IsTheListOf so.new (with_items s xs) s i) front
+    (subst (λ xs. IsTheListOf xs (with_items s (take first s.items)) s i) back closed))
     (so.begins depth)
 
 pub leaves_grow : (ts rest : List Token) (t s : Shown) → ReadsLeaves ts rest t s → Grows t s
@@ -164,11 +166,11 @@ pub record ItemsSoFar (depth : ℕ) (initial ts : List Token) (before now : Show
 
 -- the leaves moved from the tables, and the first item that is none
 pub items_begin : (depth : ℕ) (initial ts r : List Token) (t s u : Shown) (first base : ℕ)
-    (old all : List Item) (i : Item) → first ≡ length t.items → base ≡ length old →
-    length ts ≤ length initial → ReadsLeaves initial ts t s →
-    all ≡ old ++ drop first s.items → Grows (with_items s (take first s.items)) u →
-    length r < length ts → ReadsFlat depth ts r u i →
-    ItemsSoFar depth initial r t u base old (all ++ i ∷ [])
+    (old all : List Item) (i : Item) → first ≡ length t.items → base ≡ length old
+    → length ts ≤ length initial → ReadsLeaves initial ts t s
+    → all ≡ old ++ drop first s.items → Grows (with_items s (take first s.items)) u
+    → length r < length ts → ReadsFlat depth ts r u i
+    → ItemsSoFar depth initial r t u base old (all ++ i ∷ [])
 items_begin depth initial ts r t s u first base old all i at here shorter leaves moved more less x =
     let back = cut_back first t.items leaves.new s.items leaves.behind at in
     let front = cut_front first t.items leaves.new s.items leaves.behind at in
@@ -188,9 +190,9 @@ items_begin depth initial ts r t s u first base old all i at here shorter leaves
     }
 
 pub items_more : (depth : ℕ) (initial ts r : List Token) (t s u : Shown) (base : ℕ)
-    (old all : List Item) (i : Item) → length r < length ts → ReadsFlat depth ts r u i →
-    Grows s u → ItemsSoFar depth initial ts t s base old all →
-    ItemsSoFar depth initial r t u base old (all ++ i ∷ [])
+    (old all : List Item) (i : Item) → length r < length ts → ReadsFlat depth ts r u i
+    → Grows s u → ItemsSoFar depth initial ts t s base old all
+    → ItemsSoFar depth initial r t u base old (all ++ i ∷ [])
 items_more depth initial ts r t s u base old all i less x more so = record {
   new = so.new ++ i ∷ [];
   begins = begins_more depth initial ts r s u so.new i less more x so.begins;
@@ -201,14 +203,14 @@ items_more depth initial ts r t s u base old all i less x more so = record {
 }
 
 pub items_end : (depth : ℕ) (initial ts r : List Token) (t s u : Shown) (base : ℕ)
-    (old all : List Item) (i : Item) → after_end_array ts ≡ Some r → length all < base + 2 ^ 32 →
-    IsListOf (drop base all) s u i → ItemsSoFar depth initial ts t s base old all →
-    ReadsFlatItems depth initial r u i
+    (old all : List Item) (i : Item) → after_end_array ts ≡ Some r → length all < base + 2 ^ 32
+    → IsTheListOf (drop base all) s u i → ItemsSoFar depth initial ts t s base old all
+    → ReadsFlatItems depth initial r u i
 items_end depth initial ts r t s u base old all i over few closed so =
     let back = cut_back base old so.new all so.pushed so.at in
     begins_end depth initial ts r s u so.new i over
     (omega (arith, few, so.at, ap length so.pushed, length-append old so.new))
-    (subst (λ xs. IsListOf xs s u i) back closed) so.begins
+    (subst (λ xs. IsTheListOf xs s u i) back closed) so.begins
 
 -- ---- members
 
@@ -227,12 +229,12 @@ pub record MembersSoFar (depth : ℕ) (initial ts : List Token) (before now : Sh
   pub rise : rises ≡ true → names_rise (keys_of found) ≡ true
   pub grows : Grows before now
 
-pub above_said : (t : Shown) (ms : List Named) (o : Option (List ℕ)) (name : List ℕ) →
-    o ≡ Some name → IfSome o (IsAboveLast t ms) → IsAboveLast t ms name
+pub above_said : (t : Shown) (ms : List Named) (o : Option (List ℕ)) (name : List ℕ)
+    → o ≡ Some name → IfSome o (IsAboveLast t ms) → IsAboveLast t ms name
 above_said t ms o name says above = subst (λ q. IfSome q (IsAboveLast t ms)) says above
 
-pub members_begin : (depth : ℕ) (ts : List Token) (t : Shown) (base : ℕ) (old : List Named) →
-    base ≡ length old → MembersSoFar depth ts ts t t base true old old
+pub members_begin : (depth : ℕ) (ts : List Token) (t : Shown) (base : ℕ) (old : List Named)
+    → base ≡ length old → MembersSoFar depth ts ts t t base true old old
 members_begin depth ts t base old at = record {
   turns = length ts;
   enough = omega arith;
@@ -248,12 +250,12 @@ members_begin depth ts t base old at = record {
 }
 
 pub members_more : (depth : ℕ) (initial ts a r : List Token) (t s w u : Shown) (base : ℕ)
-    (rises still : Bool) (old all : List Named) (name : List ℕ) (m : Named) →
-    read_key ts ≡ Some (Some name, a) → length r < length ts → ReadsFlat depth a r u m.item →
-    text_at w m.name ≡ Some name → Grows s w → Grows w u → (still ≡ true → rises ≡ true) →
-    (still ≡ true → IsAboveLast s (drop base all) name) →
-    MembersSoFar depth initial ts t s base rises old all →
-    MembersSoFar depth initial r t u base still old (all ++ m ∷ [])
+    (rises still : Bool) (old all : List Named) (name : List ℕ) (m : Named)
+    → read_key ts ≡ Some (Some name, a) → length r < length ts → ReadsFlat depth a r u m.item
+    → text_at w m.name ≡ Some name → Grows s w → Grows w u → (still ≡ true → rises ≡ true)
+    → (still ≡ true → IsAboveLast s (drop base all) name)
+    → MembersSoFar depth initial ts t s base rises old all
+    → MembersSoFar depth initial r t u base still old (all ++ m ∷ [])
 members_more depth initial ts a r t s w u base rises still old all name m key less x at one two rose
     above so =
     let more = grows_on s w u one two in
@@ -287,11 +289,11 @@ members_more depth initial ts a r t s w u base rises still old all name m key le
     }
 
 pub members_end : (depth : ℕ) (initial ts r : List Token) (t s u : Shown) (base : ℕ) (rises : Bool)
-    (old all : List Named) (i : Item) → read_key ts ≡ Some (None, r) →
-    ((n : ℕ) (ms : List (List ℕ × Value)) → (rises ≡ true → names_rise (keys_of ms) ≡ true) →
-    all_of (member_with (flat_value n s) s) (drop base all) ≡ Some ms →
-    flat_value (suc n) u i ≡ Some (object (members_of (put_all [] ms)))) →
-    MembersSoFar depth initial ts t s base rises old all → ReadsFlatMembers depth initial r u i
+    (old all : List Named) (i : Item) → read_key ts ≡ Some (None, r)
+    → ((n : ℕ) (ms : List (List ℕ × Value)) → (rises ≡ true → names_rise (keys_of ms) ≡ true)
+    → all_of (member_with (flat_value n s) s) (drop base all) ≡ Some ms
+    → flat_value (suc n) u i ≡ Some (object (members_of (put_all [] ms))))
+    → MembersSoFar depth initial ts t s base rises old all → ReadsFlatMembers depth initial r u i
 members_end depth initial ts r t s u base rises old all i over closed so = record {
   members = put_all [] so.found;
   reads = ahead_members_end depth initial so.turns ts r (put_all [] so.found) so.enough over

@@ -10,9 +10,9 @@ use Rattle.std.proofs.lemmas.List.{map-append}
 use Rattle.std.proofs.lemmas.List.Folds.{list_all-append}
 use Rattle.std.proofs.lemmas.Option.{same_Some}
 use Rattle.jp_document.specs.Value.{Value, names_rise}
-use Rattle.jp_document.proofs.Conjunctions.{and-left, and-right}
+use Rattle.jp_reading.proofs.Conjunctions.{and-left, and-right}
 use Rattle.jp_document.proofs.Members.ByName.{Less-from_is_lt, bytes_cmp}
-use Rattle.jp_document.proofs.Members.Places.{insert_last}
+use Rattle.jp_document.proofs.Members.Inserting.{insert_last}
 use Rattle.jp_document.proofs.Options.{some_from_both}
 use Rattle.jp_flat.specs.Flat.{Shown, all_of, member_with, text_at}
 use Rattle.jp_flat.specs.Private.Reading.{IsAboveLast, put_all}
@@ -23,13 +23,13 @@ abbrev Pair : Type 0
 Pair = List ℕ × Value
 
 -- one member more goes in last
-pub put_all-push : (found ms : List Pair) (m : Pair) →
-    put_all found (ms ++ m ∷ []) ≡ insert_entry bytes_cmp (put_all found ms) m.0 m.1
+pub put_all-push : (found ms : List Pair) (m : Pair)
+    → put_all found (ms ++ m ∷ []) ≡ insert_entry bytes_cmp (put_all found ms) m.0 m.1
 put_all-push found [] m = refl
 put_all-push found (p ∷ ms) m = put_all-push (insert_entry bytes_cmp found p.0 p.1) ms m
 
-put_rising : (found ms : List Pair) → names_rise (keys_of (found ++ ms)) ≡ true →
-    put_all found ms ≡ found ++ ms
+put_rising : (found ms : List Pair) → names_rise (keys_of (found ++ ms)) ≡ true
+    → put_all found ms ≡ found ++ ms
 put_rising found [] rise = sym (append-nil found)
 put_rising found (m ∷ ms) rise =
     ap (λ fs. put_all fs ms) (insert_last m.0 m.1 found ms rise)
@@ -50,9 +50,9 @@ last_of (x ∷ xs) = elim (last_of xs) [
   | inr some ↦ inr (x ∷ some.0, some.1, ap (λ zs. x ∷ zs) some.2)
 ]
 
-below_last : (k n : List ℕ) (ks : List (List ℕ)) (last : List ℕ) →
-    list_all (λ m. is_lt (bytes_cmp k m)) (ks ++ last ∷ []) ≡ true →
-    is_lt (bytes_cmp last n) ≡ true → is_lt (bytes_cmp k n) ≡ true
+below_last : (k n : List ℕ) (ks : List (List ℕ)) (last : List ℕ)
+    → list_all (λ m. is_lt (bytes_cmp k m)) (ks ++ last ∷ []) ≡ true
+    → is_lt (bytes_cmp last n) ≡ true → is_lt (bytes_cmp k n) ≡ true
 below_last k n ks last all less =
     let here : list_all (λ m. is_lt (bytes_cmp k m)) (last ∷ []) ≡ true =
     and-right _ _ (sym (list_all-append (λ m. is_lt (bytes_cmp k m)) ks (last ∷ [])) ∙ all) in
@@ -61,8 +61,8 @@ below_last k n ks last all less =
     (Less-from_is_lt _ less))
 
 -- names that rise, and one above the last of them
-rise_after : (ks : List (List ℕ)) (last n : List ℕ) → names_rise (ks ++ last ∷ []) ≡ true →
-    is_lt (bytes_cmp last n) ≡ true → names_rise ((ks ++ last ∷ []) ++ n ∷ []) ≡ true
+rise_after : (ks : List (List ℕ)) (last n : List ℕ) → names_rise (ks ++ last ∷ []) ≡ true
+    → is_lt (bytes_cmp last n) ≡ true → names_rise ((ks ++ last ∷ []) ++ n ∷ []) ≡ true
 rise_after [] last n rise less = and_from _ _ (and_from _ _ less refl) refl
 rise_after (k ∷ ks) last n rise less =
     and_from _ _
@@ -74,9 +74,9 @@ rise_after (k ∷ ks) last n rise less =
 keys-append : (ms ns : List Pair) → keys_of (ms ++ ns) ≡ keys_of ms ++ keys_of ns
 keys-append ms ns = map-append (λ m. m.0) ms ns
 
-pub all_of_last : {A B : Type 0} (f : A → Option B) (xs : List A) (x : A) (ys : List B) →
-    all_of f (xs ++ x ∷ []) ≡ Some ys →
-    (zs : List B) × (z : B) × (ys ≡ zs ++ z ∷ []) × (all_of f xs ≡ Some zs) × (f x ≡ Some z)
+pub all_of_last : {A B : Type 0} (f : A → Option B) (xs : List A) (x : A) (ys : List B)
+    → all_of f (xs ++ x ∷ []) ≡ Some ys
+    → (zs : List B) × (z : B) × (ys ≡ zs ++ z ∷ []) × (all_of f xs ≡ Some zs) × (f x ≡ Some z)
 all_of_last f [] x ys is =
     let h = some_from_both (λ y ys. y ∷ ys) (f x) (Some []) ys is in
     ([], h.0, sym h.4 ∙ ap (λ zs. h.0 ∷ zs) (sym (same_Some [] h.1 h.3)), refl, h.2)
@@ -92,9 +92,9 @@ all_of_last f (w ∷ xs) x ys is =
     )
 
 pub rise-push : (t : Shown) (new : List Named) (found : List Pair) (name : List ℕ) (v : Value)
-    (f : Item → Option Value) → all_of (member_with f t) new ≡ Some found →
-    names_rise (keys_of found) ≡ true → IsAboveLast t new name →
-    names_rise (keys_of (found ++ (name, v) ∷ [])) ≡ true
+    (f : Item → Option Value) → all_of (member_with f t) new ≡ Some found
+    → names_rise (keys_of found) ≡ true → IsAboveLast t new name
+    → names_rise (keys_of (found ++ (name, v) ∷ [])) ≡ true
 rise-push t new found name v f mean rise above = elim (last_of new) [
   | inl none ↦
       let empty : found ≡ [] =

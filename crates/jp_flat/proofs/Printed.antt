@@ -9,7 +9,7 @@ use Rattle.std.proofs.lemmas.Option.{none-some, same_Some}
 use Rattle.std.proofs.lemmas.Str.{IsUtf8-from_is_utf8}
 use Rattle.jp_document.specs.Value.{IsDocumentValue, Value, everywhere, is_allowed}
 use Rattle.jp_document.specs.Value.{items_of, list, members_of, null, object, text}
-use Rattle.jp_document.proofs.Conjunctions.{and-both, and-left, and-right}
+use Rattle.jp_reading.proofs.Conjunctions.{and-both, and-left, and-right}
 use Rattle.jp_document.proofs.Descent.Inside.{all-items, all-members}
 use Rattle.jp_document.proofs.Members.ByName.{names_of-members_of}
 use Rattle.jp_document.proofs.Options.{some_from_both, some_from_map, some_from_then}
@@ -26,20 +26,20 @@ some_there : {A : Type 0} (o : Option A) → is_some o ≡ true → (x : A) × (
 some_there None is = absurd (cc)
 some_there (Some x) is = (x, refl)
 
-there_at : (n : ℕ) (t : Shown) (i : Item) → is_flat_at n t i ≡ true →
-    flat_value n t i ≡ Some (meaning_at n t i)
+there_at : (n : ℕ) (t : Shown) (i : Item) → is_flat_at n t i ≡ true
+    → flat_value n t i ≡ Some (meaning_at n t i)
 there_at n t i sound =
     let h = some_there (flat_value n t i) (and-left _ _ sound) in
     h.1 ∙ ap Some (sym (ap (λ o. unwrap_or o null) h.1))
 
-valid_at : (n : ℕ) (t : Shown) (i : Item) → is_flat_at n t i ≡ true →
-    IsDocumentValue (meaning_at n t i)
+valid_at : (n : ℕ) (t : Shown) (i : Item) → is_flat_at n t i ≡ true
+    → IsDocumentValue (meaning_at n t i)
 valid_at n t i sound = and-right _ _ sound
 
 -- ---- texts
 
-pub text-printed : (n : ℕ) (t : Shown) (p : Span) → is_flat_at n t (code.Text p) ≡ true →
-    (x : List ℕ) × (text_at t p ≡ Some x) × (meaning_at n t (code.Text p) ≡ text x)
+pub text-printed : (n : ℕ) (t : Shown) (p : Span) → is_flat_at n t (code.Text p) ≡ true
+    → (x : List ℕ) × (text_at t p ≡ Some x) × (meaning_at n t (code.Text p) ≡ text x)
 unfolding flat_value
 text-printed zero t p sound =
     let h = some_from_map text (text_at t p) _ (there_at zero t (code.Text p) sound) in
@@ -48,8 +48,8 @@ text-printed (suc n) t p sound =
     let h = some_from_map text (text_at t p) _ (there_at (suc n) t (code.Text p) sound) in
     (h.0, h.1, sym h.2)
 
-pub text-holds : (n : ℕ) (t : Shown) (p : Span) → is_flat_at n t (code.Text p) ≡ true →
-    HoldsText t p
+pub text-holds : (n : ℕ) (t : Shown) (p : Span) → is_flat_at n t (code.Text p) ≡ true
+    → HoldsText t p
 text-holds n t p sound =
     let x = text-printed n t p sound in
     record {
@@ -59,8 +59,8 @@ text-holds n t p sound =
           (subst IsDocumentValue x.2 (valid_at n t (code.Text p) sound));
     }
 
-pub text-means : (n : ℕ) (t : Shown) (p : Span) (s : List ℕ) → is_flat_at n t (code.Text p) ≡ true →
-    Some s ≡ text_at t p → meaning_at n t (code.Text p) ≡ text s
+pub text-means : (n : ℕ) (t : Shown) (p : Span) (s : List ℕ) → is_flat_at n t (code.Text p) ≡ true
+    → Some s ≡ text_at t p → meaning_at n t (code.Text p) ≡ text s
 text-means n t p s sound is =
     let x = text-printed n t p sound in
     x.2 ∙ ap text (same_Some x.0 s (sym x.1 ∙ sym is))
@@ -73,17 +73,17 @@ given f i = unwrap_or (f i) null
 abbrev is_given : (Item → Option Value) → Item → Bool
 is_given f i = is_some (f i) && everywhere is_allowed (given f i)
 
-items-given : (f : Item → Option Value) (xs : List Item) (vs : List Value) →
-    all_of f xs ≡ Some vs → map (given f) xs ≡ vs
+items-given : (f : Item → Option Value) (xs : List Item) (vs : List Value)
+    → all_of f xs ≡ Some vs → map (given f) xs ≡ vs
 items-given f [] vs is = same_Some [] vs is
 items-given f (x ∷ xs) vs is =
     let h = some_from_both (λ y ys. y ∷ ys) (f x) (all_of f xs) vs is in
     ap (λ o. unwrap_or o null ∷ map (given f) xs) h.2
     ∙ ap (λ ys. h.0 ∷ ys) (items-given f xs h.1 h.3) ∙ h.4
 
-items-sound : (f : Item → Option Value) (xs : List Item) (vs : List Value) →
-    all_of f xs ≡ Some vs → list_all (everywhere is_allowed) vs ≡ true →
-    list_all (is_given f) xs ≡ true
+items-sound : (f : Item → Option Value) (xs : List Item) (vs : List Value)
+    → all_of f xs ≡ Some vs → list_all (everywhere is_allowed) vs ≡ true
+    → list_all (is_given f) xs ≡ true
 items-sound f [] vs is valid = refl
 items-sound f (x ∷ xs) vs is valid =
     let h = some_from_both (λ y ys. y ∷ ys) (f x) (all_of f xs) vs is in
@@ -102,8 +102,8 @@ is_member_given f t m =
     unwrap_or (option_map is_utf8 (text_at t m.name)) false && is_given f m.item
 
 members-given : (f : Item → Option Value) (t : Shown) (xs : List Named)
-    (ms : List (List ℕ × Value)) → all_of (member_with f t) xs ≡ Some ms →
-    map (pair_given f t) xs ≡ ms
+    (ms : List (List ℕ × Value)) → all_of (member_with f t) xs ≡ Some ms
+    → map (pair_given f t) xs ≡ ms
 members-given f t [] ms is = same_Some [] ms is
 members-given f t (x ∷ xs) ms is =
     let h = some_from_both (λ y ys. y ∷ ys) (member_with f t x) (all_of (member_with f t) xs) ms is
@@ -115,9 +115,9 @@ members-given f t (x ∷ xs) ms is =
     ∙ ap (λ ys. h.0 ∷ ys) (members-given f t xs h.1 h.3) ∙ h.4
 
 members-sound : (f : Item → Option Value) (t : Shown) (xs : List Named)
-    (ms : List (List ℕ × Value)) → all_of (member_with f t) xs ≡ Some ms →
-    list_all is_utf8 (keys_of ms) ≡ true → list_all (λ m. everywhere is_allowed m.1) ms ≡ true →
-    list_all (is_member_given f t) xs ≡ true
+    (ms : List (List ℕ × Value)) → all_of (member_with f t) xs ≡ Some ms
+    → list_all is_utf8 (keys_of ms) ≡ true → list_all (λ m. everywhere is_allowed m.1) ms ≡ true
+    → list_all (is_member_given f t) xs ≡ true
 members-sound f t [] ms is names valid = refl
 members-sound f t (x ∷ xs) ms is names valid =
     let h = some_from_both (λ y ys. y ∷ ys) (member_with f t x) (all_of (member_with f t) xs) ms is
@@ -143,8 +143,8 @@ record ListBy (f : Item → Option Value) (t : Shown) (p : Span) (v : Value) : T
   mean : all_of f (items_at t p) ≡ Some values
   is : v ≡ list (items_of values)
 
-list_by : (f : Item → Option Value) (t : Shown) (p : Span) (v : Value) →
-    option_map (λ vs. list (items_of vs)) (option_and_then (all_of f) (piece t.items p.first p.count))
+list_by : (f : Item → Option Value) (t : Shown) (p : Span) (v : Value)
+    → option_map (λ vs. list (items_of vs)) (option_and_then (all_of f) (piece t.items p.first p.count))
     ≡ Some v → ListBy f t p v
 list_by f t p v is =
     let h = some_from_map (λ vs. list (items_of vs))
@@ -165,8 +165,8 @@ pub record ListPrinted (n : ℕ) (t : Shown) (p : Span) : Type 0 where
   pub is : meaning_at n t (code.List p)
       ≡ list (items_of (map (meaning_at (n - 1) t) (items_at t p)))
 
-list_printed_suc : (n : ℕ) (t : Shown) (p : Span) → is_flat_at (suc n) t (code.List p) ≡ true →
-    (list_all (is_flat_at n t) (items_at t p) ≡ true)
+list_printed_suc : (n : ℕ) (t : Shown) (p : Span) → is_flat_at (suc n) t (code.List p) ≡ true
+    → (list_all (is_flat_at n t) (items_at t p) ≡ true)
     × (meaning_at (suc n) t (code.List p)
     ≡ list (items_of (map (meaning_at n t) (items_at t p))))
 unfolding flat_value
@@ -180,8 +180,8 @@ list_printed_suc n t p sound =
           (sym (items-given (flat_value n t) (items_at t p) x.values x.mean)),
     )
 
-list_printed_zero : (t : Shown) (p : Span) → is_flat_at zero t (code.List p) ≡ true →
-    (items_at t p ≡ []) × (meaning_at zero t (code.List p) ≡ list (items_of []))
+list_printed_zero : (t : Shown) (p : Span) → is_flat_at zero t (code.List p) ≡ true
+    → (items_at t p ≡ []) × (meaning_at zero t (code.List p) ≡ list (items_of []))
 unfolding flat_value
 list_printed_zero t p sound =
     let x = list_by (λ j. None) t p _ (there_at zero t (code.List p) sound) in
@@ -192,8 +192,8 @@ list_printed_zero t p sound =
           (sym (same_Some [] x.values (ap (all_of (λ j. None)) (sym none) ∙ x.mean))),
     )
 
-pub list-printed : (n : ℕ) (t : Shown) (p : Span) → is_flat_at n t (code.List p) ≡ true →
-    ListPrinted n t p
+pub list-printed : (n : ℕ) (t : Shown) (p : Span) → is_flat_at n t (code.List p) ≡ true
+    → ListPrinted n t p
 list-printed zero t p sound =
     let x = list_printed_zero t p sound in
     record {
@@ -219,10 +219,10 @@ record ObjectBy (f : Item → Option Value) (t : Shown) (p : Span) (v : Value) :
   mean : all_of (member_with f t) (members_at t p) ≡ Some values
   is : v ≡ object (members_of values)
 
-object_by : (f : Item → Option Value) (t : Shown) (p : Span) (v : Value) →
-    option_map (λ ms. object (members_of ms))
-    (option_and_then (all_of (member_with f t)) (piece t.members p.first p.count)) ≡ Some v →
-    ObjectBy f t p v
+object_by : (f : Item → Option Value) (t : Shown) (p : Span) (v : Value)
+    → option_map (λ ms. object (members_of ms))
+    (option_and_then (all_of (member_with f t)) (piece t.members p.first p.count)) ≡ Some v
+    → ObjectBy f t p v
 object_by f t p v is =
     let h = some_from_map (λ ms. object (members_of ms))
     (option_and_then (all_of (member_with f t)) (piece t.members p.first p.count)) v is in
@@ -233,8 +233,8 @@ object_by f t p v is =
       is = sym h.2;
     }
 
-nothing_with : (t : Shown) (xs : List Named) (ms : List (List ℕ × Value)) →
-    all_of (member_with (λ j. None) t) xs ≡ Some ms → xs ≡ []
+nothing_with : (t : Shown) (xs : List Named) (ms : List (List ℕ × Value))
+    → all_of (member_with (λ j. None) t) xs ≡ Some ms → xs ≡ []
 nothing_with t [] ms is = refl
 nothing_with t (x ∷ xs) ms is =
     let h = some_from_both (λ y ys. y ∷ ys) (member_with (λ j. None) t x)
@@ -247,8 +247,8 @@ pub record ObjectPrinted (n : ℕ) (t : Shown) (p : Span) : Type 0 where
   pub is : meaning_at n t (code.Members p)
       ≡ object (members_of (map (pair_at (n - 1) t) (members_at t p)))
 
-object_printed_suc : (n : ℕ) (t : Shown) (p : Span) → is_flat_at (suc n) t (code.Members p) ≡ true →
-    (list_all (is_member_at n t) (members_at t p) ≡ true)
+object_printed_suc : (n : ℕ) (t : Shown) (p : Span) → is_flat_at (suc n) t (code.Members p) ≡ true
+    → (list_all (is_member_at n t) (members_at t p) ≡ true)
     × (meaning_at (suc n) t (code.Members p)
     ≡ object (members_of (map (pair_at n t) (members_at t p))))
 unfolding flat_value
@@ -264,8 +264,8 @@ object_printed_suc n t p sound =
           (sym (members-given (flat_value n t) t (members_at t p) x.values x.mean)),
     )
 
-object_printed_zero : (t : Shown) (p : Span) → is_flat_at zero t (code.Members p) ≡ true →
-    (members_at t p ≡ []) × (meaning_at zero t (code.Members p) ≡ object (members_of []))
+object_printed_zero : (t : Shown) (p : Span) → is_flat_at zero t (code.Members p) ≡ true
+    → (members_at t p ≡ []) × (meaning_at zero t (code.Members p) ≡ object (members_of []))
 unfolding flat_value
 object_printed_zero t p sound =
     let x = object_by (λ j. None) t p _ (there_at zero t (code.Members p) sound) in
@@ -277,8 +277,8 @@ object_printed_zero t p sound =
           (same_Some [] x.values (ap (all_of (member_with (λ j. None) t)) (sym none) ∙ x.mean))),
     )
 
-pub object-printed : (n : ℕ) (t : Shown) (p : Span) → is_flat_at n t (code.Members p) ≡ true →
-    ObjectPrinted n t p
+pub object-printed : (n : ℕ) (t : Shown) (p : Span) → is_flat_at n t (code.Members p) ≡ true
+    → ObjectPrinted n t p
 object-printed zero t p sound =
     let x = object_printed_zero t p sound in
     record {
@@ -299,8 +299,8 @@ object-printed (suc n) t p sound =
 
 -- ---- one of the parts
 
-utf8_name : (o : Option (List ℕ)) → unwrap_or (option_map is_utf8 o) false ≡ true →
-    (x : List ℕ) × (o ≡ Some x) × (is_utf8 x ≡ true)
+utf8_name : (o : Option (List ℕ)) → unwrap_or (option_map is_utf8 o) false ≡ true
+    → (x : List ℕ) × (o ≡ Some x) × (is_utf8 x ≡ true)
 utf8_name None is = absurd (cc)
 utf8_name (Some x) is = (x, refl, is)
 

@@ -1,14 +1,18 @@
 -- The tokens from a place on, by what stands there.
-use Rattle.std.proofs.Common.{◌≡◌, ℕ, ◌+◌, ◌-◌, ◌<◌, ◌≤◌, Bool, true, false, ◌||◌, ◌==◌, cond, List, []}
-use Rattle.std.proofs.Common.{◌∷◌, ◌++◌, ◌⊎◌, inl, inr, length, take, drop, get_or, Option, Some, None}
+use Rattle.std.proofs.Common.{◌≡◌, ℕ, ◌+◌, ◌-◌, ◌<◌, ◌≤◌, Bool, true, false, ◌||◌, ◌==◌, cond, List}
+use Rattle.std.proofs.Common.{[]}
+use Rattle.std.proofs.Common.{◌∷◌, ◌++◌, ◌⊎◌, inl, inr, length, take, drop, get_or, Option, Some}
+use Rattle.std.proofs.Common.{None}
 use Rattle.std.proofs.Common.{nat_le, option_and_then, unwrap_or, refl, sym, ap, ◌∙◌, subst, arith}
 use Rattle.std.proofs.lemmas.Bool.{eqb-true, ne_eqb, or_cases}
 use Rattle.std.proofs.lemmas.List.{drop_all, drop-drop, take-append-drop}
 use Rattle.std.specs.Char.{is_ascii_digit}
 use Rattle.std.specs.List.{prefix_len}
 use Rattle.json.specs.Align.{is_good}
-use Rattle.json.specs.Lex.{Lexeme, Place, after_comma, after_key, after_value, begins_colon, between}
-use Rattle.json.specs.Lex.{colon, comma, fresh, in_string, in_word, lex, may_begin, may_close, tokens}
+use Rattle.json.specs.Lex.{Lexeme, Place, after_comma, after_key, after_value, begins_colon}
+use Rattle.json.specs.Lex.{between}
+use Rattle.json.specs.Lex.{colon, comma, fresh, in_string, in_word, lex, may_begin, may_close}
+use Rattle.json.specs.Lex.{tokens}
 use Rattle.json.specs.Lex.{place_token, punctuate, string_token}
 use Rattle.json.specs.Text.{content, plain}
 use Rattle.json.specs.Token as spec
@@ -16,7 +20,8 @@ use Rattle.json.specs.Word.{after_digits, after_exponent, after_fraction, after_
 use Rattle.json.specs.Word.{after_whole, ends_word, is_space, word}
 use Rattle.json.proofs.Printed.Numbers.{in_word-ended, lex-number, number_alone}
 use Rattle.jp_flat.specs.Flat.{piece}
-use Rattle.jp_flat.specs.Private.Tokens.{EndsWhole, Gives, IsLiteral, IsSpelled, ends_byte, key_token}
+use Rattle.jp_flat.specs.Private.Tokens.{EndsWhole, GivesToken, IsLiteral, IsSpelledFrom, ends_byte}
+use Rattle.jp_flat.specs.Private.Tokens.{key_token}
 use Rattle.jp_flat.specs.Private.Tokens.{said, tokens_from, turn_of}
 use Rattle.jp_flat.specs.declared.cursor.Place.{Place as At}
 use Rattle.jp_flat.specs.declared.token.Spelled.{Spelled}
@@ -24,85 +29,85 @@ use Rattle.jp_flat.proofs.Lexed.{first_is}
 
 -- ---- what stands at a place
 
-pub blank_at : (d : List ℕ) (at : ℕ) → at < length d → is_space (get_or d at 0) ≡ true →
-    lex between (drop at d) ≡ lex between (drop (at + 1) d)
+pub blank_at : (d : List ℕ) (at : ℕ) → at < length d → is_space (get_or d at 0) ≡ true
+    → lex between (drop at d) ≡ lex between (drop (at + 1) d)
 unfolding lex
 blank_at d at within e = go (or_cases _ _ e)
   where
     x : ℕ
     x = get_or d at 0
 
-    is : (y : ℕ) → lex between (y ∷ drop (at + 1) d) ≡ lex between (drop (at + 1) d) →
-        (x == y) ≡ true → lex between (drop at d) ≡ lex between (drop (at + 1) d)
+    is : (y : ℕ) → lex between (y ∷ drop (at + 1) d) ≡ lex between (drop (at + 1) d)
+        → (x == y) ≡ true → lex between (drop at d) ≡ lex between (drop (at + 1) d)
     is y so same = ap (lex between) (first_is d at y within (eqb-true _ _ same)) ∙ so
 
-    go3 : ((x == 32) ≡ true) ⊎ ((x == 9) ≡ true) →
-        lex between (drop at d) ≡ lex between (drop (at + 1) d)
+    go3 : ((x == 32) ≡ true) ⊎ ((x == 9) ≡ true)
+        → lex between (drop at d) ≡ lex between (drop (at + 1) d)
     go3 (inl a) = is 32 refl a
     go3 (inr a) = is 9 refl a
 
-    go2 : (((x == 32) || (x == 9)) ≡ true) ⊎ ((x == 10) ≡ true) →
-        lex between (drop at d) ≡ lex between (drop (at + 1) d)
+    go2 : (((x == 32) || (x == 9)) ≡ true) ⊎ ((x == 10) ≡ true)
+        → lex between (drop at d) ≡ lex between (drop (at + 1) d)
     go2 (inl a) = go3 (or_cases _ _ a)
     go2 (inr a) = is 10 refl a
 
-    go : (((x == 32) || (x == 9) || (x == 10)) ≡ true) ⊎ ((x == 13) ≡ true) →
-        lex between (drop at d) ≡ lex between (drop (at + 1) d)
+    go : (((x == 32) || (x == 9) || (x == 10)) ≡ true) ⊎ ((x == 13) ≡ true)
+        → lex between (drop at d) ≡ lex between (drop (at + 1) d)
     go (inl a) = go2 (or_cases _ _ a)
     go (inr a) = is 13 refl a
 
-pub comma_at : (d : List ℕ) (at : ℕ) → at < length d → get_or d at 0 ≡ 44 →
-    lex between (drop at d) ≡ comma ∷ lex between (drop (at + 1) d)
+pub comma_at : (d : List ℕ) (at : ℕ) → at < length d → get_or d at 0 ≡ 44
+    → lex between (drop at d) ≡ comma ∷ lex between (drop (at + 1) d)
 unfolding lex
 comma_at d at within e = ap (lex between) (first_is d at 44 within e)
 
-colon_at : (d : List ℕ) (at : ℕ) → at < length d → get_or d at 0 ≡ 58 →
-    lex between (drop at d) ≡ colon ∷ lex between (drop (at + 1) d)
+colon_at : (d : List ℕ) (at : ℕ) → at < length d → get_or d at 0 ≡ 58
+    → lex between (drop at d) ≡ colon ∷ lex between (drop (at + 1) d)
 unfolding lex
 colon_at d at within e = ap (lex between) (first_is d at 58 within e)
 
-quote_at : (d : List ℕ) (at : ℕ) → at < length d → get_or d at 0 ≡ 34 →
-    lex between (drop at d)
+quote_at : (d : List ℕ) (at : ℕ) → at < length d → get_or d at 0 ≡ 34
+    → lex between (drop at d)
     ≡ Lexeme.token (string_token (content plain (drop (at + 1) d))) ∷ lex in_string (drop (at + 1) d)
 unfolding lex
 quote_at d at within e = ap (lex between) (first_is d at 34 within e)
 
-end_object_at : (d : List ℕ) (at : ℕ) → at < length d → get_or d at 0 ≡ 125 →
-    lex between (drop at d) ≡ Lexeme.token spec.end_object ∷ lex between (drop (at + 1) d)
+end_object_at : (d : List ℕ) (at : ℕ) → at < length d → get_or d at 0 ≡ 125
+    → lex between (drop at d) ≡ Lexeme.token spec.end_object ∷ lex between (drop (at + 1) d)
 unfolding lex
 end_object_at d at within e = ap (lex between) (first_is d at 125 within e)
 
-end_array_at : (d : List ℕ) (at : ℕ) → at < length d → get_or d at 0 ≡ 93 →
-    lex between (drop at d) ≡ Lexeme.token spec.end_array ∷ lex between (drop (at + 1) d)
+end_array_at : (d : List ℕ) (at : ℕ) → at < length d → get_or d at 0 ≡ 93
+    → lex between (drop at d) ≡ Lexeme.token spec.end_array ∷ lex between (drop (at + 1) d)
 unfolding lex
 end_array_at d at within e = ap (lex between) (first_is d at 93 within e)
 
-object_at : (d : List ℕ) (at : ℕ) → at < length d → get_or d at 0 ≡ 123 →
-    lex between (drop at d) ≡ Lexeme.token spec.begin_object ∷ lex between (drop (at + 1) d)
+object_at : (d : List ℕ) (at : ℕ) → at < length d → get_or d at 0 ≡ 123
+    → lex between (drop at d) ≡ Lexeme.token spec.begin_object ∷ lex between (drop (at + 1) d)
 unfolding lex
 object_at d at within e = ap (lex between) (first_is d at 123 within e)
 
-array_at : (d : List ℕ) (at : ℕ) → at < length d → get_or d at 0 ≡ 91 →
-    lex between (drop at d) ≡ Lexeme.token spec.begin_array ∷ lex between (drop (at + 1) d)
+array_at : (d : List ℕ) (at : ℕ) → at < length d → get_or d at 0 ≡ 91
+    → lex between (drop at d) ≡ Lexeme.token spec.begin_array ∷ lex between (drop (at + 1) d)
 unfolding lex
 array_at d at within e = ap (lex between) (first_is d at 91 within e)
 
 -- no colon at the end, and none where one of these bytes stands
-pub no_colon_end : (d : List ℕ) (at : ℕ) → length d ≤ at →
-    begins_colon (lex between (drop at d)) ≡ false
+pub no_colon_end : (d : List ℕ) (at : ℕ) → length d ≤ at
+    → begins_colon (lex between (drop at d)) ≡ false
 unfolding lex
 no_colon_end d at over = ap (λ r. begins_colon (lex between r)) (drop_all at d over)
 
-pub no_colon_comma : (d : List ℕ) (at : ℕ) → at < length d → get_or d at 0 ≡ 44 →
-    begins_colon (lex between (drop at d)) ≡ false
+pub no_colon_comma : (d : List ℕ) (at : ℕ) → at < length d → get_or d at 0 ≡ 44
+    → begins_colon (lex between (drop at d)) ≡ false
 no_colon_comma d at within e = ap begins_colon (comma_at d at within e)
 
-pub no_colon_brace : (d : List ℕ) (at : ℕ) → at < length d → get_or d at 0 ≡ 125 →
-    begins_colon (lex between (drop at d)) ≡ false
+pub no_colon_brace : (d : List ℕ) (at : ℕ) → at < length d → get_or d at 0 ≡ 125
+    → begins_colon (lex between (drop at d)) ≡ false
 no_colon_brace d at within e = ap begins_colon (end_object_at d at within e)
 
-pub no_colon_bracket : (d : List ℕ) (at : ℕ) → at < length d → get_or d at 0 ≡ 93 →
-    begins_colon (lex between (drop at d)) ≡ false
+pub no_colon_bracket : (d : List ℕ) (at : ℕ) → at < length d → get_or d at 0 ≡ 93
+    → begins_colon (lex between (drop at d)) ≡ false
 no_colon_bracket d at within e = ap begins_colon (end_array_at d at within e)
 
 -- ---- what may stand there
@@ -123,10 +128,10 @@ pub comma_passes : (ls : List Lexeme) → punctuate after_value (comma ∷ ls) �
 unfolding punctuate
 comma_passes ls = refl
 
-pub gives_object : (d : List ℕ) (from to : At) → from.at < length d → get_or d from.at 0 ≡ 123 →
-    may_begin (turn_of from.turn) ≡ true →
-    tokens_from d to ≡ punctuate fresh (lex between (drop (from.at + 1) d)) →
-    Gives d from spec.begin_object to
+pub gives_object : (d : List ℕ) (from to : At) → from.at < length d → get_or d from.at 0 ≡ 123
+    → may_begin (turn_of from.turn) ≡ true
+    → tokens_from d to ≡ punctuate fresh (lex between (drop (from.at + 1) d))
+    → GivesToken d from spec.begin_object to
 unfolding punctuate
 gives_object d from to within byte begins goes good =
     let ls = lex between (drop (from.at + 1) d) in
@@ -134,10 +139,10 @@ gives_object d from to within byte begins goes good =
     ∙ by_begin (λ p. punctuate p (Lexeme.token spec.begin_object ∷ ls) ≡ spec.begin_object ∷ punctuate fresh ls)
     refl refl (turn_of from.turn) begins ∙ ap (λ ts. spec.begin_object ∷ ts) (sym goes)
 
-pub gives_array : (d : List ℕ) (from to : At) → from.at < length d → get_or d from.at 0 ≡ 91 →
-    may_begin (turn_of from.turn) ≡ true →
-    tokens_from d to ≡ punctuate fresh (lex between (drop (from.at + 1) d)) →
-    Gives d from spec.begin_array to
+pub gives_array : (d : List ℕ) (from to : At) → from.at < length d → get_or d from.at 0 ≡ 91
+    → may_begin (turn_of from.turn) ≡ true
+    → tokens_from d to ≡ punctuate fresh (lex between (drop (from.at + 1) d))
+    → GivesToken d from spec.begin_array to
 unfolding punctuate
 gives_array d from to within byte begins goes good =
     let ls = lex between (drop (from.at + 1) d) in
@@ -145,10 +150,10 @@ gives_array d from to within byte begins goes good =
     ∙ by_begin (λ p. punctuate p (Lexeme.token spec.begin_array ∷ ls) ≡ spec.begin_array ∷ punctuate fresh ls)
     refl refl (turn_of from.turn) begins ∙ ap (λ ts. spec.begin_array ∷ ts) (sym goes)
 
-pub gives_end_object : (d : List ℕ) (from to : At) → from.at < length d →
-    get_or d from.at 0 ≡ 125 → may_close (turn_of from.turn) ≡ true →
-    tokens_from d to ≡ punctuate after_value (lex between (drop (from.at + 1) d)) →
-    Gives d from spec.end_object to
+pub gives_end_object : (d : List ℕ) (from to : At) → from.at < length d
+    → get_or d from.at 0 ≡ 125 → may_close (turn_of from.turn) ≡ true
+    → tokens_from d to ≡ punctuate after_value (lex between (drop (from.at + 1) d))
+    → GivesToken d from spec.end_object to
 unfolding punctuate
 gives_end_object d from to within byte closes goes good =
     let ls = lex between (drop (from.at + 1) d) in
@@ -156,10 +161,10 @@ gives_end_object d from to within byte closes goes good =
     ∙ by_close (λ p. punctuate p (Lexeme.token spec.end_object ∷ ls) ≡ spec.end_object ∷ punctuate after_value ls)
     refl refl (turn_of from.turn) closes ∙ ap (λ ts. spec.end_object ∷ ts) (sym goes)
 
-pub gives_end_array : (d : List ℕ) (from to : At) → from.at < length d →
-    get_or d from.at 0 ≡ 93 → may_close (turn_of from.turn) ≡ true →
-    tokens_from d to ≡ punctuate after_value (lex between (drop (from.at + 1) d)) →
-    Gives d from spec.end_array to
+pub gives_end_array : (d : List ℕ) (from to : At) → from.at < length d
+    → get_or d from.at 0 ≡ 93 → may_close (turn_of from.turn) ≡ true
+    → tokens_from d to ≡ punctuate after_value (lex between (drop (from.at + 1) d))
+    → GivesToken d from spec.end_array to
 unfolding punctuate
 gives_end_array d from to within byte closes goes good =
     let ls = lex between (drop (from.at + 1) d) in
@@ -170,26 +175,26 @@ gives_end_array d from to within byte closes goes good =
 -- ---- names and texts
 
 -- the lexemes from a quote on, where the text between the quotes is x
-spelled_at : (d : List ℕ) (at end next : ℕ) (s : Spelled) (x : List ℕ) → at < length d →
-    get_or d at 0 ≡ 34 → IsSpelled d (at + 1) end s → said s ≡ Some x →
-    lex between (drop next d) ≡ lex between (drop end d) →
-    lex between (drop at d) ≡ Lexeme.token (spec.string x) ∷ lex between (drop next d)
+spelled_at : (d : List ℕ) (at end next : ℕ) (s : Spelled) (x : List ℕ) → at < length d
+    → get_or d at 0 ≡ 34 → IsSpelledFrom d (at + 1) end s → said s ≡ Some x
+    → lex between (drop next d) ≡ lex between (drop end d)
+    → lex between (drop at d) ≡ Lexeme.token (spec.string x) ∷ lex between (drop next d)
 spelled_at d at end next s x within byte is says same =
     quote_at d at within byte
     ∙ ap (λ o. Lexeme.token (string_token o) ∷ lex in_string (drop (at + 1) d)) (is.reads x says)
     ∙ ap (λ ls. Lexeme.token (spec.string x) ∷ ls) (is.passes ∙ sym same)
 
-pub gives_key : (d : List ℕ) (from to : At) (end next : ℕ) (s : Spelled) → from.at < length d →
-    get_or d from.at 0 ≡ 34 → may_begin (turn_of from.turn) ≡ true →
-    IsSpelled d (from.at + 1) end s → lex between (drop next d) ≡ lex between (drop end d) →
-    next < length d → get_or d next 0 ≡ 58 →
-    tokens_from d to ≡ punctuate fresh (lex between (drop (next + 1) d)) →
-    Gives d from (key_token (said s)) to
+pub gives_key : (d : List ℕ) (from to : At) (end next : ℕ) (s : Spelled) → from.at < length d
+    → get_or d from.at 0 ≡ 34 → may_begin (turn_of from.turn) ≡ true
+    → IsSpelledFrom d (from.at + 1) end s → lex between (drop next d) ≡ lex between (drop end d)
+    → next < length d → get_or d next 0 ≡ 58
+    → tokens_from d to ≡ punctuate fresh (lex between (drop (next + 1) d))
+    → GivesToken d from (key_token (said s)) to
 unfolding punctuate
 gives_key d from to end next s within byte begins is same room colon_there goes = go (said s) refl
   where
-    go : (o : Option (List ℕ)) → said s ≡ o → is_good (key_token (said s)) ≡ true →
-        tokens_from d from ≡ key_token (said s) ∷ tokens_from d to
+    go : (o : Option (List ℕ)) → said s ≡ o → is_good (key_token (said s)) ≡ true
+        → tokens_from d from ≡ key_token (said s) ∷ tokens_from d to
     go None says good = absurd (cc (sym good ∙ ap (λ o. is_good (key_token o)) says))
     go (Some x) says good =
         let ls = lex between (drop (next + 1) d) in
@@ -201,17 +206,17 @@ gives_key d from to end next s within byte begins is same room colon_there goes 
         ∙ ap (λ ts. spec.key x ∷ ts) (sym goes)
         ∙ ap (λ o. key_token o ∷ tokens_from d to) (sym says)
 
-pub gives_text : (d : List ℕ) (from to : At) (end next : ℕ) (s : Spelled) → from.at < length d →
-    get_or d from.at 0 ≡ 34 → may_begin (turn_of from.turn) ≡ true →
-    IsSpelled d (from.at + 1) end s → lex between (drop next d) ≡ lex between (drop end d) →
-    begins_colon (lex between (drop next d)) ≡ false →
-    tokens_from d to ≡ punctuate after_value (lex between (drop next d)) →
-    Gives d from (string_token (said s)) to
+pub gives_text : (d : List ℕ) (from to : At) (end next : ℕ) (s : Spelled) → from.at < length d
+    → get_or d from.at 0 ≡ 34 → may_begin (turn_of from.turn) ≡ true
+    → IsSpelledFrom d (from.at + 1) end s → lex between (drop next d) ≡ lex between (drop end d)
+    → begins_colon (lex between (drop next d)) ≡ false
+    → tokens_from d to ≡ punctuate after_value (lex between (drop next d))
+    → GivesToken d from (string_token (said s)) to
 unfolding punctuate
 gives_text d from to end next s within byte begins is same plain_next goes = go (said s) refl
   where
-    go : (o : Option (List ℕ)) → said s ≡ o → is_good (string_token (said s)) ≡ true →
-        tokens_from d from ≡ string_token (said s) ∷ tokens_from d to
+    go : (o : Option (List ℕ)) → said s ≡ o → is_good (string_token (said s)) ≡ true
+        → tokens_from d from ≡ string_token (said s) ∷ tokens_from d to
     go None says good = absurd (cc (sym good ∙ ap (λ o. is_good (string_token o)) says))
     go (Some x) says good =
         let ls = lex between (drop next d) in
@@ -258,19 +263,19 @@ is_null = record {
       refl refl p m;
 }
 
-pub piece_is : (xs : List ℕ) (first count : ℕ) (s : List ℕ) → Some s ≡ piece xs first count →
-    s ≡ take count (drop first xs)
+pub piece_is : (xs : List ℕ) (first count : ℕ) (s : List ℕ) → Some s ≡ piece xs first count
+    → s ≡ take count (drop first xs)
 piece_is xs first count s e = go (nat_le (first + count) (length xs)) e
   where
-    go : (b : Bool) → Some s ≡ cond b (Some (take count (drop first xs))) None →
-        s ≡ take count (drop first xs)
+    go : (b : Bool) → Some s ≡ cond b (Some (take count (drop first xs))) None
+        → s ≡ take count (drop first xs)
     go true e = ap (λ o. unwrap_or o []) e
     go false e = absurd (cc e)
 
-pub gives_literal : (d name : List ℕ) (token : spec.Token) (from to : At) (end : ℕ) →
-    IsLiteral name token → may_begin (turn_of from.turn) ≡ true → from.at ≤ end →
-    name ≡ take (end - from.at) (drop from.at d) → ends_word (drop end d) ≡ true →
-    tokens_from d to ≡ punctuate after_value (lex between (drop end d)) → Gives d from token to
+pub gives_literal : (d name : List ℕ) (token : spec.Token) (from to : At) (end : ℕ)
+    → IsLiteral name token → may_begin (turn_of from.turn) ≡ true → from.at ≤ end
+    → name ≡ take (end - from.at) (drop from.at d) → ends_word (drop end d) ≡ true
+    → tokens_from d to ≡ punctuate after_value (lex between (drop end d)) → GivesToken d from token to
 gives_literal d name token from to end is begins after there ends goes good =
     let back : from.at + (end - from.at) ≡ end = omega arith in
     let cut : name ++ drop end d ≡ drop from.at d =
@@ -282,9 +287,9 @@ gives_literal d name token from to end is begins after there ends goes good =
     ∙ ap (punctuate (turn_of from.turn)) (is.lexes (drop end d) ends)
     ∙ is.goes (turn_of from.turn) _ begins ∙ ap (λ ts. token ∷ ts) (sym goes)
 
-pub is_number : (d : List ℕ) (from end : ℕ) → from ≤ end →
-    after_number (drop from d) ≡ Some (drop end d) → ends_word (drop end d) ≡ true →
-    IsLiteral (take (end - from) (drop from d)) (spec.number (take (end - from) (drop from d)))
+pub is_number : (d : List ℕ) (from end : ℕ) → from ≤ end
+    → after_number (drop from d) ≡ Some (drop end d) → ends_word (drop end d) ≡ true
+    → IsLiteral (take (end - from) (drop from d)) (spec.number (take (end - from) (drop from d)))
 unfolding punctuate
 is_number d from end after whole ends =
     let s = take (end - from) (drop from d) in
@@ -301,11 +306,11 @@ is_number d from end after whole ends =
     }
 
 -- the digits from `first` to `end`, behind the minus, if there is one
-pub whole_there : (d : List ℕ) (from first end : ℕ) →
-    after_minus (drop from d) ≡ drop first d →
-    end ≡ first + prefix_len is_ascii_digit (drop first d) → first < end → first < length d →
-    (get_or d first 0 ≡ 48 → end ≡ first + 1) → EndsWhole (drop end d) →
-    after_number (drop from d) ≡ Some (drop end d)
+pub whole_there : (d : List ℕ) (from first end : ℕ)
+    → after_minus (drop from d) ≡ drop first d
+    → end ≡ first + prefix_len is_ascii_digit (drop first d) → first < end → first < length d
+    → (get_or d first 0 ≡ 48 → end ≡ first + 1) → EndsWhole (drop end d)
+    → after_number (drop from d) ≡ Some (drop end d)
 unfolding after_number
 whole_there d from first end minus is some within zero ends =
     ap (λ t. option_and_then after_exponent (option_and_then after_fraction (after_whole t))) minus
@@ -328,12 +333,12 @@ whole_there d from first end minus is some within zero ends =
         ∙ ap (λ b. cond b None (Some (drop (end - first) (drop first d)))) (ne_eqb (end - first) 0 (λ z. omega arith))
         ∙ ap Some (drop-drop (end - first) first d ∙ ap (λ k. drop k d) back)
 
-pub minus_there : (d : List ℕ) (from : ℕ) → from < length d → get_or d from 0 ≡ 45 →
-    after_minus (drop from d) ≡ drop (from + 1) d
+pub minus_there : (d : List ℕ) (from : ℕ) → from < length d → get_or d from 0 ≡ 45
+    → after_minus (drop from d) ≡ drop (from + 1) d
 minus_there d from within byte = ap after_minus (first_is d from 45 within byte)
 
-pub no_minus : (d : List ℕ) (from : ℕ) → from < length d → (get_or d from 0 == 45) ≡ false →
-    after_minus (drop from d) ≡ drop from d
+pub no_minus : (d : List ℕ) (from : ℕ) → from < length d → (get_or d from 0 == 45) ≡ false
+    → after_minus (drop from d) ≡ drop from d
 no_minus d from within e =
     let first = first_is d from (get_or d from 0) within refl in
     ap after_minus first
@@ -343,8 +348,8 @@ pub ends_nowhere : (d : List ℕ) (at : ℕ) → length d ≤ at → EndsWhole (
 ends_nowhere d at over =
     subst EndsWhole (sym (drop_all at d over)) (record { word = refl; point = refl; power = refl })
 
-pub ends_at : (d : List ℕ) (at : ℕ) → at < length d → ends_byte (get_or d at 0) ≡ true →
-    EndsWhole (drop at d)
+pub ends_at : (d : List ℕ) (at : ℕ) → at < length d → ends_byte (get_or d at 0) ≡ true
+    → EndsWhole (drop at d)
 ends_at d at within e = go (or_cases _ _ e)
   where
     x : ℕ
@@ -373,15 +378,15 @@ ends_at d at within e = go (or_cases _ _ e)
     go2 (inl a) = go3 (or_cases _ _ a)
     go2 (inr a) = is 93 (record { word = refl; point = refl; power = refl }) a
 
-    go : (((x == 44) || (x == 125) || (x == 93)) ≡ true) ⊎ (is_space x ≡ true) →
-        EndsWhole (drop at d)
+    go : (((x == 44) || (x == 125) || (x == 93)) ≡ true) ⊎ (is_space x ≡ true)
+        → EndsWhole (drop at d)
     go (inl a) = go2 (or_cases _ _ a)
     go (inr a) = go4 (or_cases _ _ a)
 
 -- ---- the end
 
-pub done_there : (d : List ℕ) (p : At) → length d ≤ p.at → may_close (turn_of p.turn) ≡ true →
-    tokens_from d p ≡ []
+pub done_there : (d : List ℕ) (p : At) → length d ≤ p.at → may_close (turn_of p.turn) ≡ true
+    → tokens_from d p ≡ []
 unfolding lex punctuate
 done_there d p over closes =
     ap (λ r. punctuate (turn_of p.turn) (lex between r)) (drop_all p.at d over)
@@ -402,8 +407,8 @@ first_said (spec.boolean b ∷ ts) = None
 first_said (spec.null ∷ ts) = None
 first_said (spec.bad ∷ ts) = None
 
-pub quoted_says : (q s : List ℕ) (r : List spec.Token) → 0 < length q → get_or q 0 0 ≡ 34 →
-    tokens q ≡ spec.string s ∷ r → content plain (drop 1 q) ≡ Some s
+pub quoted_says : (q s : List ℕ) (r : List spec.Token) → 0 < length q → get_or q 0 0 ≡ 34
+    → tokens q ≡ spec.string s ∷ r → content plain (drop 1 q) ≡ Some s
 unfolding punctuate first_said
 quoted_says q s r some quote read =
     go (content plain (drop 1 q)) (begins_colon (lex in_string (drop 1 q)))
@@ -416,8 +421,8 @@ quoted_says q s r some quote read =
     ls : List Lexeme
     ls = lex in_string (drop 1 q)
 
-    go : (o : Option (List ℕ)) (b : Bool) →
-        first_said (place_token fresh (string_token o) b (λ to. punctuate to ls)) ≡ Some s → o ≡ Some s
+    go : (o : Option (List ℕ)) (b : Bool)
+        → first_said (place_token fresh (string_token o) b (λ to. punctuate to ls)) ≡ Some s → o ≡ Some s
     go None true e = absurd (nothing e)
     go None false e = absurd (nothing e)
     go (Some x) true e = absurd (nothing e)

@@ -14,9 +14,9 @@ use Rattle.std.proofs.lemmas.Cmp.{nat_list_cmp_total}
 use Rattle.std.proofs.lemmas.Map.Lookups.{exact_bytes}
 use Rattle.std.proofs.lemmas.Option.{same_Some}
 use Rattle.jp_document.specs.Value.{Value, names_rise, null}
-use Rattle.jp_document.proofs.Conjunctions.{and-left, and-right}
+use Rattle.jp_reading.proofs.Conjunctions.{and-left, and-right}
 use Rattle.jp_document.proofs.Members.ByName.{Less-from_is_lt, bytes_cmp, searchable, sorted_from_rise}
-use Rattle.jp_document.proofs.Members.Places.{insert_place, keys_rise}
+use Rattle.jp_document.proofs.Members.Inserting.{insert_point, keys_rise}
 use Rattle.jp_document.proofs.Options.{some_from_both}
 use Rattle.jp_flat.specs.Flat.{Shown, all_of, member_with, text_at}
 use Rattle.jp_flat.specs.Private.Parts.{name_in}
@@ -32,8 +32,8 @@ Pair = List ℕ × Value
 
 -- ---- names of members
 
-named_as : (f : Item → Option Value) (t : Shown) (m : Named) (p : Pair) →
-    member_with f t m ≡ Some p → name_in t m ≡ p.0
+named_as : (f : Item → Option Value) (t : Shown) (m : Named) (p : Pair)
+    → member_with f t m ≡ Some p → name_in t m ≡ p.0
 named_as f t m p is =
     let h = some_from_both (λ name v. (name, v)) (text_at t m.name) (f m.item) p is in
     ap (λ o. unwrap_or o []) h.2 ∙ ap (λ q. q.0) h.4
@@ -42,8 +42,8 @@ named_as f t m p is =
 abbrev by_name : Shown → Named → List ℕ × Value
 by_name t m = (name_in t m, null)
 
-keys-named : (f : Item → Option Value) (t : Shown) (xs : List Named) (ps : List Pair) →
-    all_of (member_with f t) xs ≡ Some ps → keys_of (map (by_name t) xs) ≡ keys_of ps
+keys-named : (f : Item → Option Value) (t : Shown) (xs : List Named) (ps : List Pair)
+    → all_of (member_with f t) xs ≡ Some ps → keys_of (map (by_name t) xs) ≡ keys_of ps
 keys-named f t [] ps is = ap keys_of (same_Some [] ps is)
 keys-named f t (x ∷ xs) ps is =
     let h = some_from_both (λ y ys. y ∷ ys) (member_with f t x) (all_of (member_with f t) xs) ps is
@@ -52,8 +52,8 @@ keys-named f t (x ∷ xs) ps is =
     ∙ ap (λ ns. h.0.0 ∷ ns) (keys-named f t xs h.1 h.3) ∙ ap keys_of h.4
 
 name-at : (f : Item → Option Value) (t : Shown) (xs : List Named) (ps : List Pair) (k : ℕ)
-    (d : Named) (e : Pair) → all_of (member_with f t) xs ≡ Some ps → k < length xs →
-    name_in t (get_or xs k d) ≡ (get_or ps k e).0
+    (d : Named) (e : Pair) → all_of (member_with f t) xs ≡ Some ps → k < length xs
+    → name_in t (get_or xs k d) ≡ (get_or ps k e).0
 name-at f t [] ps k d e is within = absurd (omega (arith, within))
 name-at f t (x ∷ xs) ps zero d e is within =
     let h = some_from_both (λ y ys. y ∷ ys) (member_with f t x) (all_of (member_with f t) xs) ps is
@@ -66,9 +66,9 @@ name-at f t (x ∷ xs) ps (suc k) d e is within =
 
 -- ---- lists by their places
 
-all_before : {A : Type 0} (p : A → Bool) (xs : List A) (i : ℕ) →
-    ((k : ℕ) (d : A) → k < i → k < length xs → p (get_or xs k d) ≡ true) →
-    list_all p (take i xs) ≡ true
+all_before : {A : Type 0} (p : A → Bool) (xs : List A) (i : ℕ)
+    → ((k : ℕ) (d : A) → k < i → k < length xs → p (get_or xs k d) ≡ true)
+    → list_all p (take i xs) ≡ true
 all_before p [] zero each = refl
 all_before p [] (suc i) each = refl
 all_before p (x ∷ xs) zero each = refl
@@ -76,9 +76,9 @@ all_before p (x ∷ xs) (suc i) each =
     and_from _ _ (each 0 x (omega arith) (omega arith))
     (all_before p xs i (λ k d low within. each (suc k) d (omega arith) (omega arith)))
 
-all_from : {A : Type 0} (p : A → Bool) (xs : List A) (i : ℕ) →
-    ((k : ℕ) (d : A) → i ≤ k → k < length xs → p (get_or xs k d) ≡ true) →
-    list_all p (drop i xs) ≡ true
+all_from : {A : Type 0} (p : A → Bool) (xs : List A) (i : ℕ)
+    → ((k : ℕ) (d : A) → i ≤ k → k < length xs → p (get_or xs k d) ≡ true)
+    → list_all p (drop i xs) ≡ true
 all_from p [] zero each = refl
 all_from p [] (suc i) each = refl
 all_from p (x ∷ xs) zero each =
@@ -88,8 +88,8 @@ all_from p (x ∷ xs) (suc i) each =
     all_from p xs i (λ k d low within. each (suc k) d (omega arith) (omega arith))
 
 all_of-insert : {A B : Type 0} (g : A → Option B) (xs : List A) (ys : List B) (i : ℕ) (x : A)
-    (y : B) → all_of g xs ≡ Some ys → g x ≡ Some y →
-    all_of g (insert xs i x) ≡ Some (insert ys i y)
+    (y : B) → all_of g xs ≡ Some ys → g x ≡ Some y
+    → all_of g (insert xs i x) ≡ Some (insert ys i y)
 all_of-insert g [] ys zero x y is here =
     let none : [] ≡ ys = same_Some [] ys is in
     ap (option_and_then (λ z. Some (z ∷ []))) here ∙ ap (λ zs. Some (insert zs 0 y)) none
@@ -121,8 +121,8 @@ all_of-set g (w ∷ xs) ys (suc i) x y is here =
 
 -- ---- where a name is, or goes
 
-all_at : (q : List ℕ → Bool) (ps : List Pair) (i : ℕ) (e : Pair) → list_all q (keys_of ps) ≡ true →
-    i < length ps → q (get_or ps i e).0 ≡ true
+all_at : (q : List ℕ → Bool) (ps : List Pair) (i : ℕ) (e : Pair) → list_all q (keys_of ps) ≡ true
+    → i < length ps → q (get_or ps i e).0 ≡ true
 all_at q [] i e all within = absurd (omega (arith, within))
 all_at q (p ∷ ps) zero e all within = and-left _ _ all
 all_at q (p ∷ ps) (suc i) e all within = all_at q ps i e (and-right _ _ all) (omega (arith, within))
@@ -133,9 +133,9 @@ own_reverse Equal is = refl
 own_reverse Greater is = absurd (cc)
 
 -- a member takes the place of one of its name
-replace_place : (ps : List Pair) (i : ℕ) (e : Pair) (k : List ℕ) (v : Value) →
-    names_rise (keys_of ps) ≡ true → i < length ps → (get_or ps i e).0 ≡ k →
-    insert_entry bytes_cmp ps k v ≡ set ps i (k, v)
+replace_place : (ps : List Pair) (i : ℕ) (e : Pair) (k : List ℕ) (v : Value)
+    → names_rise (keys_of ps) ≡ true → i < length ps → (get_or ps i e).0 ≡ k
+    → insert_entry bytes_cmp ps k v ≡ set ps i (k, v)
 replace_place [] i e k v rise within at = absurd (omega (arith, within))
 replace_place (p ∷ ps) zero e k v rise within at =
     ap (λ o. match_ordering o ((k, v) ∷ p ∷ ps) ((p.0, v) ∷ ps) (p ∷ insert_entry bytes_cmp ps k v))
@@ -150,9 +150,9 @@ replace_place (p ∷ ps) (suc i) e k v rise within at =
     ∙ ap (λ qs. p ∷ qs)
     (replace_place ps i e k v (and-right _ _ rise) (omega (arith, within)) at)
 
-pub put-hit : (t : Shown) (m : Named) (q : List ℕ) (xs : List Named) (i : ℕ) →
-    text_at t m.name ≡ Some q → i < length xs →
-    ((d : Named) → bytes_cmp (name_in t (get_or xs i d)) q ≡ Equal) → Puts t m xs (set xs i m)
+pub put-hit : (t : Shown) (m : Named) (q : List ℕ) (xs : List Named) (i : ℕ)
+    → text_at t m.name ≡ Some q → i < length xs
+    → ((d : Named) → bytes_cmp (name_in t (get_or xs i d)) q ≡ Equal) → Puts t m xs (set xs i m)
 put-hit t m q xs i named within equal f ps p is rise here =
     let name : q ≡ p.0 =
     ap (λ o. unwrap_or o []) (sym named) ∙ named_as f t m p here in
@@ -164,9 +164,9 @@ put-hit t m q xs i named within equal f ps p is rise here =
     ∙ ap Some
     (sym (replace_place ps i p p.0 p.1 rise (omega (arith, long, within)) at))
 
-pub put-missed : (t : Shown) (m : Named) (q : List ℕ) (xs : List Named) (i : ℕ) →
-    text_at t m.name ≡ Some q →
-    IsBinarySearchResult (λ x. bytes_cmp (name_in t x) q) xs (Err i) → Puts t m xs (insert xs i m)
+pub put-missed : (t : Shown) (m : Named) (q : List ℕ) (xs : List Named) (i : ℕ)
+    → text_at t m.name ≡ Some q
+    → IsBinarySearchResult (λ x. bytes_cmp (name_in t x) q) xs (Err i) → Puts t m xs (insert xs i m)
 put-missed t m q xs i named miss f ps p is rise here =
     let name : q ≡ p.0 =
     ap (λ o. unwrap_or o []) (sym named) ∙ named_as f t m p here in
@@ -190,12 +190,12 @@ put-missed t m q xs i named miss f ps p is rise here =
     (nat_list_cmp_total.antisymm q (name_in t (get_or xs k m))
     ∙ ap ordering_reverse (parts.1 k m low (omega (arith, long, within))))) in
     all_of-insert (member_with f t) xs ps i m p is here
-    ∙ ap Some (insert_place p.0 p.1 ps i below above)
+    ∙ ap Some (insert_point p.0 p.1 ps i below above)
 
 -- ---- one after another
 
-put_all-rise : (found ms : List Pair) → names_rise (keys_of found) ≡ true →
-    names_rise (keys_of (put_all found ms)) ≡ true
+put_all-rise : (found ms : List Pair) → names_rise (keys_of found) ≡ true
+    → names_rise (keys_of (put_all found ms)) ≡ true
 put_all-rise found [] rise = rise
 put_all-rise found (m ∷ ms) rise =
     put_all-rise (insert_entry bytes_cmp found m.0 m.1) ms (keys_rise found m.0 m.1 rise)
@@ -203,8 +203,8 @@ put_all-rise found (m ∷ ms) rise =
 pub puts_none : (t : Shown) → PutsAll t [] []
 puts_none t f ms is = ap (λ ps. Some (put_all [] ps)) (same_Some [] ms is)
 
-pub puts_more : (t : Shown) (members before after : List Named) (m : Named) →
-    Puts t m before after → PutsAll t members before → PutsAll t (members ++ m ∷ []) after
+pub puts_more : (t : Shown) (members before after : List Named) (m : Named)
+    → Puts t m before after → PutsAll t members before → PutsAll t (members ++ m ∷ []) after
 puts_more t members before after m one so f ms is =
     let h = all_of_last (member_with f t) members m ms is in
     one f (put_all [] h.0) h.1 (so f h.0 h.3) (put_all-rise [] h.0 refl) h.4

@@ -4,7 +4,7 @@ ghost use Rattle.std.specs.Prelude.{List, [], OnSome, Some, drop, length, take};
 ghost use Rattle.std.specs.Map.{keys_of};
 ghost use Rattle.jp_document.specs.Value.{Value, members_of, names_rise, object};
 ghost use Rattle.jp_flat.specs.Flat.{Grows, all_of, flat_value, member_with, shown};
-ghost use Rattle.jp_flat.specs.Private.Reading.{IsListOf, IsObjectOf, put_all, with_items};
+ghost use Rattle.jp_flat.specs.Private.Reading.{IsTheListOf, IsObjectOf, put_all, with_items};
 
 use crate::item::{Item, Named};
 use crate::moving::move_parts;
@@ -22,7 +22,7 @@ pub(crate) fn close_list(
     base: usize,
 ) -> Option<Item>
     requires { base ≤ length items.old.items }
-    ensures list { IfSome result (IsListOf (drop base items.old.items) (shown tables.old)
+    ensures list { IfSome result (IsTheListOf (drop base items.old.items) (shown tables.old)
         (shown tables.new)) }
     ensures grows { OnSome result (Grows (shown tables.old) (shown tables.new)) }
     ensures rest { OnSome result (items.new.items ≡ take base items.old.items) }
@@ -37,7 +37,7 @@ pub(crate) fn close_list(
 /// The list of the items in the tables from the first on.
 pub(crate) fn list_from(tables: &Tables<'_>, first: usize) -> Option<Item>
     requires { first ≤ length tables.now.items.items }
-    ensures list { IfSome result (IsListOf (drop first tables.now.items.items)
+    ensures list { IfSome result (IsTheListOf (drop first tables.now.items.items)
         (with_items (shown tables.now) (take first tables.now.items.items)) (shown tables.now)) }
     ensures few { OnSome result (length tables.now.items.items < first + 2 ^ 32) }
 {

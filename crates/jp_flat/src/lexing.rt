@@ -1,8 +1,11 @@
 //! The token at a place (RFC 8259 sections 2, 3 and 6): whole numbers are the only ones.
-ghost use Rattle.std.specs.Prelude.{◌≡◌, ◌≤◌, ◌<◌, ◌+◌, ◌⊎◌, IfSome, Some, drop, length, slice_index, true, false};
-ghost use Rattle.json.specs.Lex.{after_value, begins_colon, between, fresh, lex, may_begin, punctuate};
+ghost use Rattle.std.specs.Prelude.{◌≡◌, ◌≤◌, ◌<◌, ◌+◌, ◌⊎◌, IfSome, Some, drop, length};
+ghost use Rattle.std.specs.Prelude.{slice_index, true, false};
+ghost use Rattle.json.specs.Lex.{after_value, begins_colon, between, fresh, lex, may_begin};
+ghost use Rattle.json.specs.Lex.{punctuate};
 ghost use Rattle.json.specs.Word.{after_minus, after_number, ends_word};
-ghost use Rattle.jp_flat.specs.Private.Tokens.{Gives, IsLiteral, token_of, tokens_from, turn_of};
+ghost use Rattle.jp_flat.specs.Private.Tokens.{GivesToken, IsLiteral, token_of, tokens_from};
+ghost use Rattle.jp_flat.specs.Private.Tokens.{turn_of};
 
 use crate::blanks::{ends_whole, past_blanks};
 use crate::cursor::{Place, Turn, may_begin, may_close};
@@ -14,7 +17,7 @@ use crate::token::Token;
 #[inline(always)]
 pub(crate) fn token_at<'t>(bytes: &'t [u8], from: Place) -> Option<(Token<'t>, Place)>
     requires { from.at ≤ length bytes.now }
-    ensures gives { IfSome result (λ r. Gives bytes.now from (token_of r.0) r.1) }
+    ensures gives { IfSome result (λ r. GivesToken bytes.now from (token_of r.0) r.1) }
     ensures within { IfSome result (λ r. r.1.at ≤ length bytes.now) }
 {
     if from.at >= bytes.len() {
@@ -76,7 +79,7 @@ pub(crate) fn passed(bytes: &[u8], end: usize) -> Place
 fn closed<'t>(bytes: &'t [u8], from: Place, byte: u8) -> Option<(Token<'t>, Place)>
     requires inside { from.at < length bytes.now }
     requires byte { (byte ≡ slice_index bytes.now from.at) × ((byte ≡ 125) ⊎ (byte ≡ 93)) }
-    ensures gives { IfSome result (λ r. Gives bytes.now from (token_of r.0) r.1) }
+    ensures gives { IfSome result (λ r. GivesToken bytes.now from (token_of r.0) r.1) }
     ensures within { IfSome result (λ r. r.1.at ≤ length bytes.now) }
 {
     if !may_close(from.turn) {
@@ -96,7 +99,7 @@ fn text<'t>(bytes: &'t [u8], from: Place) -> Option<(Token<'t>, Place)>
     requires inside { from.at < length bytes.now }
     requires byte { slice_index bytes.now from.at ≡ 34 }
     requires begins { may_begin (turn_of from.turn) ≡ true }
-    ensures gives { IfSome result (λ r. Gives bytes.now from (token_of r.0) r.1) }
+    ensures gives { IfSome result (λ r. GivesToken bytes.now from (token_of r.0) r.1) }
     ensures within { IfSome result (λ r. r.1.at ≤ length bytes.now) }
 {
     let (spelled, end) = spelled(bytes, from.at + 1)?;
@@ -151,7 +154,7 @@ fn literal<'t>(
     requires inside { from.at ≤ length bytes.now }
     requires begins { may_begin (turn_of from.turn) ≡ true }
     requires name { IsLiteral name.now (token_of token) }
-    ensures gives { IfSome result (λ r. Gives bytes.now from (token_of r.0) r.1) }
+    ensures gives { IfSome result (λ r. GivesToken bytes.now from (token_of r.0) r.1) }
     ensures within { IfSome result (λ r. r.1.at ≤ length bytes.now) }
 {
     let part = piece(bytes, from.at, name.len())?;
@@ -167,7 +170,7 @@ fn literal<'t>(
 fn number<'t>(bytes: &'t [u8], from: Place) -> Option<(Token<'t>, Place)>
     requires inside { from.at < length bytes.now }
     requires begins { may_begin (turn_of from.turn) ≡ true }
-    ensures gives { IfSome result (λ r. Gives bytes.now from (token_of r.0) r.1) }
+    ensures gives { IfSome result (λ r. GivesToken bytes.now from (token_of r.0) r.1) }
     ensures within { IfSome result (λ r. r.1.at ≤ length bytes.now) }
 {
     let end = whole_end(bytes, from.at)?;

@@ -5,7 +5,7 @@ ghost use Rattle.std.specs.List.{prefix_len};
 ghost use Rattle.std.specs.Simd.Lanes.{mask_l};
 ghost use Rattle.json.specs.Lex.{between, in_string, lex};
 ghost use Rattle.json.specs.Run.{is_plain, is_stop};
-ghost use Rattle.jp_flat.specs.Private.Tokens.{IsSpelled};
+ghost use Rattle.jp_flat.specs.Private.Tokens.{IsSpelledFrom};
 
 use crate::token::Spelled;
 use std::simd::prelude::*;
@@ -14,7 +14,7 @@ use std::simd::prelude::*;
 #[inline(always)]
 pub(crate) fn spelled<'t>(bytes: &'t [u8], first: usize) -> Option<(Spelled<'t>, usize)>
     requires { (0 < first) × (first ≤ length bytes.now) }
-    ensures { IfSome result (λ r. IsSpelled bytes.now first r.1 r.0) }
+    ensures { IfSome result (λ r. IsSpelledFrom bytes.now first r.1 r.0) }
 {
     let end = plain_end(bytes, first);
     if end < bytes.len() && bytes[end] == b'"' {

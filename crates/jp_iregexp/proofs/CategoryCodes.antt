@@ -13,8 +13,8 @@ use Rattle.jp_iregexp.specs.Codes.{letters}
 use Rattle.jp_iregexp.specs.Private.CodeReading.{pair, is_pair, code_of}
 
 -- what is found passes the test
-found-passes : {X : Type 0} (test : X → Bool) (xs : List X) (x : X) → find test xs ≡ Some x →
-    test x ≡ true
+found-passes : {X : Type 0} (test : X → Bool) (xs : List X) (x : X) → find test xs ≡ Some x
+    → test x ≡ true
 found-passes test [] x h = cc
 found-passes test (y ∷ ys) x h =
     elim (cases_Bool (test y)) [
@@ -38,8 +38,8 @@ is_pair-pair a (Some b) (c ∷ d ∷ []) h =
 is_pair-pair a (Some b) (c ∷ d ∷ e ∷ t) h = cc
 
 -- a code that is found has the letters
-pub code_of-letters : (a : ℕ) (b : Option ℕ) (k : Category) → code_of a b ≡ Some k →
-    letters k ≡ pair a b
+pub code_of-letters : (a : ℕ) (b : Option ℕ) (k : Category) → code_of a b ≡ Some k
+    → letters k ≡ pair a b
 unfolding code_of
 code_of-letters a b k h =
     is_pair-pair a b (letters k) (found-passes (λ x. is_pair a b (letters x)) ALL k h)
@@ -58,14 +58,14 @@ pub record Lettered (k : Category) : Type 0 where
   pub second_is : AreLetters second
   pub found : code_of first second ≡ Some k
 
-one_letter : (k : Category) (a : ℕ) → letters k ≡ pair a None → is_ascii_alphabetic a ≡ true →
-    code_of a None ≡ Some k → Lettered k
+one_letter : (k : Category) (a : ℕ) → letters k ≡ pair a None → is_ascii_alphabetic a ≡ true
+    → code_of a None ≡ Some k → Lettered k
 one_letter k a are first found =
     record { first = a; second = None; are = are; first_is = first; second_is = tt; found = found }
 
-two_letters : (k : Category) (a b : ℕ) → letters k ≡ pair a (Some b) →
-    is_ascii_alphabetic a ≡ true → is_ascii_alphabetic b ≡ true → code_of a (Some b) ≡ Some k →
-    Lettered k
+two_letters : (k : Category) (a b : ℕ) → letters k ≡ pair a (Some b)
+    → is_ascii_alphabetic a ≡ true → is_ascii_alphabetic b ≡ true → code_of a (Some b) ≡ Some k
+    → Lettered k
 two_letters k a b are first second found = record {
   first = a;
   second = Some b;

@@ -8,11 +8,11 @@ use denote.Enum.Bare.{same_true, true_same}
 use denote.Hole.Compared.{compared, compared_is}
 use lib.Pointwise.{pointwise}
 use Rattle.jp_iregexp.specs.contracts.category.Category.{the_type}
-use Rattle.jp_iregexp.specs.contracts.class.ClassItemPartialEq.TheImpl as items
+use Rattle.jp_iregexp.specs.contracts.class.ClassElementPartialEq.TheImpl as items
 use Rattle.jp_iregexp.specs.contracts.pattern.PatternPartialEq.TheImpl as patterns
 use Rattle.jp_iregexp.specs.contracts.pattern.PatternPartialEq.TheImpl.Laws.{local}
-use Rattle.jp_iregexp.specs.declared.class.ClassItem.{ClassItem}
-use Rattle.jp_iregexp.specs.declared.class.ClassItem.TheVariants.{Range, Category}
+use Rattle.jp_iregexp.specs.declared.class.ClassElement.{ClassElement}
+use Rattle.jp_iregexp.specs.declared.class.ClassElement.TheVariants.{Range, Category}
 use Rattle.jp_iregexp.specs.declared.pattern.Pattern.{Pattern, roll-Pattern, out-Pattern}
 use Rattle.jp_iregexp.specs.declared.pattern.Pattern.TheBlock as block
 use Rattle.jp_iregexp.specs.declared.pattern.Pattern.TheBlock.{member-Pattern}
@@ -30,22 +30,22 @@ Decides-most None None = (λ h. refl, λ e. refl)
 Decides-most (Some x) (Some y) = Decides-like _ (λ e. cc) (λ e. cc) (Decides-eqb x y)
 Decides-most _ _ = (λ h. cc, λ e. cc)
 
-Decides-class_item : (x y : ClassItem) → Decides (items.ghosts.eq x y) (x ≡ y)
-Decides-class_item (Range a b) (Range c d) =
+Decides-class_element : (x y : ClassElement) → Decides (items.ghosts.eq x y) (x ≡ y)
+Decides-class_element (Range a b) (Range c d) =
     Decides-like _ (λ e. cc) (λ e. (cc, cc)) (Decides-and _ _ (Decides-eqb a c) (Decides-eqb b d))
-Decides-class_item (Category c a) (Category d b) =
+Decides-class_element (Category c a) (Category d b) =
     Decides-like _ (λ e. cc) (λ e. (cc, cc))
     (Decides-and _ _ (same_true the_type (search rules) c d, true_same the_type c d)
     (booleans_Decides a b))
-Decides-class_item _ _ = (λ h. cc, λ e. cc)
+Decides-class_element _ _ = (λ h. cc, λ e. cc)
 
-Decides-class_items : (xs ys : List ClassItem)
+Decides-class_elements : (xs ys : List ClassElement)
     → Decides (pointwise items.ghosts.eq xs ys) (xs ≡ ys)
-Decides-class_items [] [] = (λ h. refl, λ e. refl)
-Decides-class_items (x ∷ xs) (y ∷ ys) =
+Decides-class_elements [] [] = (λ h. refl, λ e. refl)
+Decides-class_elements (x ∷ xs) (y ∷ ys) =
     Decides-like _ (λ e. cc) (λ e. (cc, cc))
-    (Decides-and _ _ (Decides-class_item x y) (Decides-class_items xs ys))
-Decides-class_items _ _ = (λ h. cc, λ e. cc)
+    (Decides-and _ _ (Decides-class_element x y) (Decides-class_elements xs ys))
+Decides-class_elements _ _ = (λ h. cc, λ e. cc)
 
 -- ---- trees of one layer
 
@@ -158,7 +158,7 @@ Decides-layers (Pattern-F.Repeat p least most) (Pattern-F.Repeat q from upto) =
 Decides-layers (Pattern-F.Class c) (Pattern-F.Class d) =
     said
     (Decides-and _ _ (booleans_Decides c.negated d.negated)
-    (Decides-class_items c.items.items d.items.items))
+    (Decides-class_elements c.items.items d.items.items))
     (λ e. cc) (λ e. (cc, cc)) (simp out-roll-Pattern)
 Decides-layers x y =
     unlike

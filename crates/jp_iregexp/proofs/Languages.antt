@@ -17,14 +17,14 @@ any_split : {X : Type 0} (P : X → Type 0) (x : X) (xs : List X) → Any P (x �
 any_split P x xs (zero, y, below, at, p) = inl (subst P (sym at) p)
 any_split P x xs (suc k, y, below, at, p) = inr (k, y, omega arith, at, p)
 
-to_branch : (bs : List Tree) (word : List ℕ) → Language (branches bs) word →
-    Any (λ b. Language b word) bs
+to_branch : (bs : List Tree) (word : List ℕ) → Language (branches bs) word
+    → Any (λ b. Language b word) bs
 to_branch [] word h = absurd h
 to_branch (b ∷ bs) word (inl h) = any_here (λ b. Language b word) b bs h
 to_branch (b ∷ bs) word (inr h) = any_later (λ b. Language b word) b bs (to_branch bs word h)
 
-of_branch : (bs : List Tree) (word : List ℕ) → Any (λ b. Language b word) bs →
-    Language (branches bs) word
+of_branch : (bs : List Tree) (word : List ℕ) → Any (λ b. Language b word) bs
+    → Language (branches bs) word
 of_branch [] word (k, b, below, at, h) = absurd (omega arith)
 of_branch (b ∷ bs) word any =
     elim (any_split (λ b. Language b word) b bs any) [
@@ -35,15 +35,15 @@ of_branch (b ∷ bs) word any =
 pub branches_unite : BranchesUnite
 branches_unite bs word = (to_branch bs word, of_branch bs word)
 
-to_cut : (ps : List Tree) (word : List ℕ) → Language (pieces ps) word →
-    (words : List (List ℕ)) × (word ≡ concat words) × AllZip Language ps words
+to_cut : (ps : List Tree) (word : List ℕ) → Language (pieces ps) word
+    → (words : List (List ℕ)) × (word ≡ concat words) × AllZip Language ps words
 to_cut [] word h = ([], h, tt)
 to_cut (p ∷ ps) word h =
     let (words, is, each) = to_cut ps h.suffix h.second in
     (h.prefix ∷ words, h.is ∙ ap (λ w. h.prefix ++ w) is, (h.first, each))
 
-of_cut : (ps : List Tree) (words : List (List ℕ)) → AllZip Language ps words →
-    Language (pieces ps) (concat words)
+of_cut : (ps : List Tree) (words : List (List ℕ)) → AllZip Language ps words
+    → Language (pieces ps) (concat words)
 of_cut [] [] each = refl
 of_cut [] (w ∷ words) each = absurd each
 of_cut (p ∷ ps) [] each = absurd each
@@ -59,8 +59,8 @@ pub sequences_cut : SequencesCut
 sequences_cut ps word =
     (to_cut ps word, λ c. subst (Language (pieces ps)) (sym c.1) (of_cut ps c.0 c.2))
 
-to_power : (a : Tree) (k : ℕ) (word : List ℕ) → Power (Language a) k word →
-    (words : List (List ℕ)) × (word ≡ concat words) × (length words ≡ k) × All (Language a) words
+to_power : (a : Tree) (k : ℕ) (word : List ℕ) → Power (Language a) k word
+    → (words : List (List ℕ)) × (word ≡ concat words) × (length words ≡ k) × All (Language a) words
 to_power a zero word h = ([], h, refl, All-nil (Language a))
 to_power a (suc k) word h =
     let (words, is, long, each) = to_power a k h.suffix h.second in (
@@ -70,8 +70,8 @@ to_power a (suc k) word h =
       All-cons (Language a) h.prefix words h.first each,
     )
 
-of_power : (a : Tree) (words : List (List ℕ)) → All (Language a) words →
-    Power (Language a) (length words) (concat words)
+of_power : (a : Tree) (words : List (List ℕ)) → All (Language a) words
+    → Power (Language a) (length words) (concat words)
 of_power a [] each = refl
 of_power a (w ∷ words) each = record {
   prefix = w;

@@ -9,7 +9,7 @@ use Rattle.jp_reading.proofs.Levels.{joined-lifts, each-lifts, separated-lifts}
 use Rattle.jp_iregexp.specs.Tree.{Tree}
 use Rattle.jp_iregexp.specs.Grammar as grammar
 use Rattle.jp_iregexp.specs.Grammar.{Quantifier, Atom, Piece, Branch}
-use Rattle.jp_iregexp.specs.Grammar.{Branches, Inside, SpellsPattern}
+use Rattle.jp_iregexp.specs.Grammar.{Branches, Grouped, SpellsPattern}
 
 module _ (G H : Tree → Form) (lift : (x : Tree) → Within (G x) (H x)) where
   lift-atom : (x : Tree) → Within (Atom G x) (Atom H x)
@@ -45,13 +45,13 @@ module _ (G H : Tree → Form) (lift : (x : Tree) → Within (G x) (H x)) where
     is = separated-lifts (word (codes "|")) (Branch G) (Branch H) lift-branch h.parts s o t h.is;
   }
 
-lift-inside : (n m : ℕ) → n ≤ m → (x : Tree) → Within (Inside n x) (Inside m x)
+lift-inside : (n m : ℕ) → n ≤ m → (x : Tree) → Within (Grouped n x) (Grouped m x)
 lift-inside zero m h x s o t g = elim g [ ]
 lift-inside (suc n) zero h x s o t g = absurd (omega arith)
 lift-inside (suc n) (suc m) h x s o t g =
-    lift-branches (Inside n) (Inside m) (lift-inside n m (omega arith)) x s o t g
+    lift-branches (Grouped n) (Grouped m) (lift-inside n m (omega arith)) x s o t g
 
 -- more groups may stand inside one another
 pub deeper : (n m : ℕ) → n ≤ m → (x : Tree) (t : Text) → SpellsPattern n x t → SpellsPattern m x t
 deeper n m h x t g =
-    record { is = lift-branches (Inside n) (Inside m) (lift-inside n m h) x [] 0 t g.is }
+    record { is = lift-branches (Grouped n) (Grouped m) (lift-inside n m h) x [] 0 t g.is }

@@ -4,7 +4,7 @@ use Rattle.std.proofs.Common.{◌≡◌, ◌↔◌, Bool, true, Option, Some, No
 use Rattle.jp_reading.specs.Texts.{Text}
 use Rattle.jp_iregexp.specs.Grammar.{SpellsPattern}
 use Rattle.jp_iregexp.specs.Groups.{group_limit}
-use Rattle.jp_iregexp.specs.Matches.{is_passing, is_match, has_match}
+use Rattle.jp_iregexp.specs.MatchTests.{is_passing, is_match, has_match}
 use Rattle.jp_iregexp.specs.Matches.{MatchesAreTested, PartMatchesAreTested}
 use Rattle.jp_iregexp.specs.PatternOf.{pattern_of}
 use Rattle.jp_iregexp.specs.Tree.{Tree}
@@ -12,8 +12,8 @@ use Rattle.jp_iregexp.proofs.Membership.{words_are_tested, parts_are_tested}
 use Rattle.jp_iregexp.proofs.PatternOf.{spelt_is_found}
 
 -- a pattern passes
-passed_by : (test : Tree → Bool) (found : Option Tree) → is_passing test found ≡ true →
-    (a : Tree) × (found ≡ Some a) × (test a ≡ true)
+passed_by : (test : Tree → Bool) (found : Option Tree) → is_passing test found ≡ true
+    → (a : Tree) × (found ≡ Some a) × (test a ≡ true)
 passed_by test None h = cc
 passed_by test (Some a) h = (a, refl, h)
 

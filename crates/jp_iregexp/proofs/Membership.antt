@@ -19,8 +19,8 @@ use Rattle.jp_iregexp.specs.Tree.{Tree, class, nothing, either, empty, sequence,
 
 -- ---- a number of a run that passes
 
-passing_number : (test : ℕ → Bool) (a n : ℕ) → list_any test (range_with_len a n) ≡ true →
-    (k : ℕ) × (a ≤ k) × (test k ≡ true)
+passing_number : (test : ℕ → Bool) (a n : ℕ) → list_any test (range_with_len a n) ≡ true
+    → (k : ℕ) × (a ≤ k) × (test k ≡ true)
 passing_number test a zero h = cc
 passing_number test a (suc n) h =
     elim (or_cases (test a) (list_any test (range_with_len (a + 1) n)) h) [
@@ -30,8 +30,8 @@ passing_number test a (suc n) h =
           (k, omega (arith, from), passes)
     ]
 
-passed : (test : ℕ → Bool) (a n k : ℕ) → a ≤ k → k < a + n → test k ≡ true →
-    list_any test (range_with_len a n) ≡ true
+passed : (test : ℕ → Bool) (a n k : ℕ) → a ≤ k → k < a + n → test k ≡ true
+    → list_any test (range_with_len a n) ≡ true
 passed test a zero k from below h = absurd (omega arith)
 passed test a (suc n) k from below h =
     elim (cases_eq k a) [
@@ -105,8 +105,8 @@ module _ (f g : List ℕ → Bool) (A B : List ℕ → Type 0) (one : Tells f A)
         second = two.sound (drop k word) sides.1;
       }
 
-  cut_passed : (prefix suffix : List ℕ) → A prefix → B suffix →
-      is_concatenation f g (prefix ++ suffix) ≡ true
+  cut_passed : (prefix suffix : List ℕ) → A prefix → B suffix
+      → is_concatenation f g (prefix ++ suffix) ≡ true
   cut_passed prefix suffix first second =
       let long = length-append prefix suffix in
       let here = ap f (take_at prefix suffix (length prefix) refl) ∙ one.whole prefix first in
@@ -138,9 +138,9 @@ at_most_below (Some most) k m below within = omega arith
 
 module _ (L : List ℕ → Type 0) where
   -- of more words than characters one is empty, and is left out
-  without_first : (k : ℕ) (prefix suffix : List ℕ) → length (prefix ++ suffix) ≤ suc k →
-      ((word : List ℕ) → length word ≤ k → Power L (suc k) word → Power L k word) →
-      L prefix → Power L (suc k) suffix → Power L (suc k) (prefix ++ suffix)
+  without_first : (k : ℕ) (prefix suffix : List ℕ) → length (prefix ++ suffix) ≤ suc k
+      → ((word : List ℕ) → length word ≤ k → Power L (suc k) word → Power L k word)
+      → L prefix → Power L (suc k) suffix → Power L (suc k) (prefix ++ suffix)
   without_first k [] suffix short fewer first second = second
   without_first k (c ∷ prefix) suffix short fewer first second =
       let long = length-append prefix suffix in
@@ -186,8 +186,8 @@ module _ (f : List ℕ → Bool) (A : List ℕ → Type 0) (told : Tells f A) wh
         let sides = and_parts (is_at_most most k) (is_power f k word) here in
         (k, from, at_most_from most k sides.0, (power_told k).sound word sides.1)
 
-    count_passed : (word : List ℕ) (k : ℕ) → least ≤ k → k < least + (length word + 1) →
-        IsAtMost most k → Power A k word → is_repeat f least most word ≡ true
+    count_passed : (word : List ℕ) (k : ℕ) → least ≤ k → k < least + (length word + 1)
+        → IsAtMost most k → Power A k word → is_repeat f least most word ≡ true
     count_passed word k from below within h =
         let here = and_from _ _ (to_at_most most k within) ((power_told k).whole word h) in
         passed (count_passes word) least (length word + 1) k from below here

@@ -4,41 +4,41 @@ use Rattle.jp_reading.specs.Texts.{Text, Spans}
 use Rattle.jp_reading.proofs.Bare.{Bare, bare-word, bare-one, bare-joined}
 use Rattle.jp_reading.proofs.Bare.{bare-each, bare-separated}
 use Rattle.jp_reading.specs.Forms.{Form, One, Each}
-use Rattle.jp_iregexp.specs.declared.class.ClassItem.{ClassItem}
-use Rattle.jp_iregexp.specs.Characters.{Character, itself, escaped}
+use Rattle.jp_iregexp.specs.declared.class.ClassElement.{ClassElement}
+use Rattle.jp_iregexp.specs.Characters.{PatternCharacter, itself, escaped}
 use Rattle.jp_iregexp.specs.Tree.{Tree}
 use Rattle.jp_iregexp.specs.Grammar as grammar
 use Rattle.jp_iregexp.specs.Grammar.{ClassEscape, Element, First, Last}
-use Rattle.jp_iregexp.specs.Grammar.{Items, Class, Number, Most, Quantifier}
-use Rattle.jp_iregexp.specs.Grammar.{Atom, Piece, Branch, Branches, Inside}
+use Rattle.jp_iregexp.specs.Grammar.{Elements, Class, QuantExact, Most, Quantifier}
+use Rattle.jp_iregexp.specs.Grammar.{Atom, Piece, Branch, Branches, Grouped}
 
-bare-character : (plain : ℕ → Bool) (c : ℕ) → Bare (Character plain c)
+bare-character : (plain : ℕ → Bool) (c : ℕ) → Bare (PatternCharacter plain c)
 bare-character plain c s o t (itself h) = h.none
 bare-character plain c s o t (escaped e is h) =
     bare-joined _ (One _ e) (bare-word _) (bare-one _ e) s o t h
 
-bare-escape : (x : ClassItem) → Bare (ClassEscape x)
+bare-escape : (x : ClassElement) → Bare (ClassEscape x)
 bare-escape x s o t (grammar.within k e h) =
     bare-joined _ _ (bare-word _) (bare-joined _ _ (bare-word _) (bare-word _)) s o t h
 bare-escape x s o t (grammar.outside k e h) =
     bare-joined _ _ (bare-word _) (bare-joined _ _ (bare-word _) (bare-word _)) s o t h
 
-bare-element : (x : ClassItem) → Bare (Element x)
+bare-element : (x : ClassElement) → Bare (Element x)
 bare-element x s o t (grammar.single c e h) = bare-character _ c s o t h
 bare-element x s o t (grammar.range c d e order h) =
     bare-joined _ _ (bare-character _ c) (bare-joined _ _ (bare-word _) (bare-character _ d))
     s o t h
 bare-element x s o t (grammar.class_escape h) = bare-escape x s o t h
 
-bare-first : (x : ClassItem) → Bare (First x)
+bare-first : (x : ClassElement) → Bare (First x)
 bare-first x s o t (grammar.first_hyphen h) = h.is.none
 bare-first x s o t (grammar.first_element h) = bare-element x s o t h
 
-bare-last : (xs : List ClassItem) → Bare (Last xs)
+bare-last : (xs : List ClassElement) → Bare (Last xs)
 bare-last xs s o t (grammar.no_hyphen e h) = h.none
 bare-last xs s o t (grammar.last_hyphen x e h) = h.is.none
 
-bare-items : (xs : List ClassItem) → Bare (Items xs)
+bare-items : (xs : List ClassElement) → Bare (Elements xs)
 bare-items xs s o t h =
     bare-joined (First h.first) _ (bare-first h.first)
     (bare-joined (Each Element h.others) (Last h.last) (bare-each Element bare-element h.others)
@@ -51,7 +51,7 @@ bare-class x s o t (grammar.plain xs e h) =
 bare-class x s o t (grammar.negated xs e h) =
     bare-joined _ _ (bare-word _) (bare-joined _ _ (bare-items xs) (bare-word _)) s o t h
 
-bare-number : (n : ℕ) → Bare (Number n)
+bare-number : (n : ℕ) → Bare (QuantExact n)
 bare-number n s o t h = h.is.none
 
 bare-most : (n : ℕ) (m : Option ℕ) → Bare (Most n m)
@@ -88,11 +88,11 @@ module _ (Group : Tree → Form) (bare : (x : Tree) → Bare (Group x)) where
   bare-branches x s o t h =
       bare-separated _ (Branch Group) (bare-word _) bare-branch h.parts s o t h.is
 
-bare-inside : (n : ℕ) (x : Tree) → Bare (Inside n x)
+bare-inside : (n : ℕ) (x : Tree) → Bare (Grouped n x)
 bare-inside zero x s o t h = elim h [ ]
-bare-inside (suc n) x s o t h = bare-branches (Inside n) (bare-inside n) x s o t h
+bare-inside (suc n) x s o t h = bare-branches (Grouped n) (bare-inside n) x s o t h
 
 -- the spans of a pattern
-pub no-spans : (n : ℕ) (x : Tree) (s : Spans) (o : ℕ) (t : Text) → Branches (Inside n) x s o t →
-    s ≡ []
-no-spans n x s o t h = bare-branches (Inside n) (bare-inside n) x s o t h
+pub no-spans : (n : ℕ) (x : Tree) (s : Spans) (o : ℕ) (t : Text) → Branches (Grouped n) x s o t
+    → s ≡ []
+no-spans n x s o t h = bare-branches (Grouped n) (bare-inside n) x s o t h

@@ -19,8 +19,8 @@ pub data Answered (n : ℕ) (text : Text) (answer : Option Tree) : Type 0 where
   spelt : (a : Tree) → answer ≡ Some a → SpellsPattern n a text → Answered n text answer
   none_spelt : answer ≡ None → SpellsNone n text → Answered n text answer
 
-outcome_answered : (n : ℕ) (text : Text) (o : Outcome Tree) → pattern_at n (start text) ≡ o →
-    Answered n text (taken o)
+outcome_answered : (n : ℕ) (text : Text) (o : Outcome Tree) → pattern_at n (start text) ≡ o
+    → Answered n text (taken o)
 outcome_answered n text (took a q) e = spelt a refl (read-spelt n a text q e)
 outcome_answered n text (stuck p) e =
     none_spelt refl (fails-spelt n text p.at (subst (Fails (Syntax p.at)) (sym e) refl))
@@ -32,15 +32,15 @@ pub pattern_answered : (text : Text) → Answered group_limit text (pattern_of t
 unfolding pattern_of
 pattern_answered text = outcome_answered group_limit text (pattern_at group_limit (start text)) refl
 
-to_spelt : (n : ℕ) (text : Text) (answer : Option Tree) (a : Tree) → Answered n text answer →
-    answer ≡ Some a → SpellsPattern n a text
+to_spelt : (n : ℕ) (text : Text) (answer : Option Tree) (a : Tree) → Answered n text answer
+    → answer ≡ Some a → SpellsPattern n a text
 to_spelt n text answer a (spelt b is h) e =
     let same : b ≡ a = cc in
     subst (λ x. SpellsPattern n x text) same h
 to_spelt n text answer a (none_spelt is h) e = absurd (cc)
 
-of_spelt : (n : ℕ) (text : Text) (answer : Option Tree) (a : Tree) → Answered n text answer →
-    SpellsPattern n a text → answer ≡ Some a
+of_spelt : (n : ℕ) (text : Text) (answer : Option Tree) (a : Tree) → Answered n text answer
+    → SpellsPattern n a text → answer ≡ Some a
 of_spelt n text answer a (spelt b is h) s = is ∙ ap Some (one_pattern n n b a text h s)
 of_spelt n text answer a (none_spelt is h) s = absurd (h a s)
 
@@ -50,13 +50,13 @@ spelt_is_found text a = (
   of_spelt group_limit text (pattern_of text) a (pattern_answered text),
 )
 
-to_none : (n : ℕ) (text : Text) (answer : Option Tree) → Answered n text answer →
-    answer ≡ None → SpellsNone n text
+to_none : (n : ℕ) (text : Text) (answer : Option Tree) → Answered n text answer
+    → answer ≡ None → SpellsNone n text
 to_none n text answer (spelt b is h) e = absurd (cc)
 to_none n text answer (none_spelt is h) e = h
 
-of_none : (n : ℕ) (text : Text) (answer : Option Tree) → Answered n text answer →
-    SpellsNone n text → answer ≡ None
+of_none : (n : ℕ) (text : Text) (answer : Option Tree) → Answered n text answer
+    → SpellsNone n text → answer ≡ None
 of_none n text answer (spelt b is h) s = absurd (s b h)
 of_none n text answer (none_spelt is h) s = is
 

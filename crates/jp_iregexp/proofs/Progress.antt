@@ -4,14 +4,14 @@ use Rattle.std.proofs.Common.{[], ◌∷◌, length, Option, Some, None, arith}
 use Rattle.jp_reading.specs.Characters as char
 use Rattle.jp_reading.specs.Outcome.{State, Outcome, took, stuck, deep, ◌>>=◌}
 use Rattle.jp_reading.specs.Outcome.{past, is, is_at, take_if, expect, each}
-use Rattle.jp_reading.specs.Views.{by, with_prefix}
-use Rattle.jp_reading.specs.Numbers.{digits_at, digit_at, is_at_digit, capped}
+use Rattle.jp_reading.specs.Views.{outcome_map, with_prefix}
+use Rattle.jp_reading.specs.NumberReading.{digits_at, digit_at, is_at_digit, capped}
 use Rattle.jp_reading.proofs.Chars.{past-shorter}
 use Rattle.jp_reading.proofs.Digits.{digit_at-progress}
 use Rattle.jp_reading.proofs.Progress.{Moves, Keeps, Progress, keeps-from_moves}
 use Rattle.jp_reading.proofs.Progress.{keeps-then, moves-then, moves-after, keeps-after}
-use Rattle.jp_reading.proofs.Progress.{moves-take_if, moves-by, keeps-each, past-keeps}
-use Rattle.jp_reading.proofs.Progress.{moves-if, keeps-if, keeps-by, keeps-take_if}
+use Rattle.jp_reading.proofs.Progress.{moves-take_if, moves-map, keeps-each, past-keeps}
+use Rattle.jp_reading.proofs.Progress.{moves-if, keeps-if, keeps-map, keeps-take_if}
 use Rattle.jp_iregexp.specs.Private.CodeReading.{code_of}
 use Rattle.jp_iregexp.specs.Characters.{is_plain, is_escaped, is_normal, meant}
 use Rattle.jp_iregexp.specs.Tree.{Tree}
@@ -30,7 +30,7 @@ keeps-there (Some x) p = omega arith
 
 moves-escaped : Progress escaped_at
 unfolding escaped_at
-moves-escaped p = moves-by meant p (take_if is_escaped p) (moves-take_if is_escaped p)
+moves-escaped p = moves-map meant p (take_if is_escaped p) (moves-take_if is_escaped p)
 
 moves-character : Progress character_at
 unfolding character_at
@@ -41,8 +41,8 @@ moves-character p =
 
 keeps-second : (p : State) → Keeps p (second_at p)
 keeps-second p =
-    keeps-if (is_at char.closing_brace p) p (took None p) (by Some (take_if _ p)) (omega arith)
-    (keeps-by Some p (take_if _ p) (keeps-take_if _ p))
+    keeps-if (is_at char.closing_brace p) p (took None p) (outcome_map Some (take_if _ p)) (omega arith)
+    (keeps-map Some p (take_if _ p) (keeps-take_if _ p))
 
 keeps-code : (p : State) → Keeps p (code_at p)
 unfolding code_at
@@ -69,7 +69,7 @@ keeps-range c p =
     (λ d q. keeps-if _ q (stuck q) (took _ q) tt (omega arith))))
     (omega arith)
 
--- an item of a class moves
+-- an element of a class moves
 pub moves-element : Progress element_at
 unfolding element_at
 moves-element p =
@@ -92,9 +92,9 @@ keeps-items p =
     (keeps-if (is_at char.hyphen p) p (hyphen_at p) (element_at p) (keeps-hyphen p)
     (keeps-element p))
     (λ x q. keeps-then q (with_prefix (x ∷ []) (elements_at q)) _
-    (keeps-by _ q (elements_at q) (keeps-each _ element_at moves-element q))
-    (λ xs q. keeps-if (is_at char.hyphen q) q (by _ (hyphen_at q)) (took xs q)
-    (keeps-by _ q (hyphen_at q) (keeps-hyphen q)) (omega arith)))
+    (keeps-map _ q (elements_at q) (keeps-each _ element_at moves-element q))
+    (λ xs q. keeps-if (is_at char.hyphen q) q (outcome_map _ (hyphen_at q)) (took xs q)
+    (keeps-map _ q (hyphen_at q) (keeps-hyphen q)) (omega arith)))
 
 moves-class : Progress class_at
 unfolding class_at
@@ -110,8 +110,8 @@ moves-class p =
 keeps-number : (p : State) → Keeps p (number_at p)
 unfolding number_at digits_at
 keeps-number p =
-    keeps-then p (by (capped 1000000000 0) (digits_at p)) _
-    (keeps-by _ p (digits_at p)
+    keeps-then p (outcome_map (capped 1000000000 0) (digits_at p)) _
+    (keeps-map _ p (digits_at p)
     (keeps-then p (digit_at p) _ (keeps-from_moves p (digit_at p) (digit_at-progress p))
     (λ d q. keeps-then q (each is_at_digit digit_at q) _
     (keeps-each is_at_digit digit_at digit_at-progress q) (λ ds r. omega arith))))
@@ -142,9 +142,9 @@ keeps-quantifier p =
 keeps-escape : (p : State) → Keeps p (escape_at p)
 unfolding escape_at
 keeps-escape p =
-    keeps-if _ p (by _ (category_at p)) (by _ (escaped_at p))
-    (keeps-by _ p (category_at p) (keeps-from_moves p (category_at p) (moves-category p)))
-    (keeps-by _ p (escaped_at p) (keeps-from_moves p (escaped_at p) (moves-escaped p)))
+    keeps-if _ p (outcome_map _ (category_at p)) (outcome_map _ (escaped_at p))
+    (keeps-map _ p (category_at p) (keeps-from_moves p (category_at p) (moves-category p)))
+    (keeps-map _ p (escaped_at p) (keeps-from_moves p (escaped_at p) (moves-escaped p)))
 
 module _ (inside : State → Outcome Tree) (keeps : (p : State) → Keeps p (inside p)) where
   moves-group : Progress (group_at inside)
@@ -156,12 +156,12 @@ module _ (inside : State → Outcome Tree) (keeps : (p : State) → Keeps p (ins
       (λ y q. keeps-then q (expect char.closing_parenthesis q) _
       (keeps-take_if (is char.closing_parenthesis) q) (λ z q. omega arith)))
 
-  moves-past : {A : Type 0} (c : ℕ) (p : State) (o : Outcome A) → is_at c p ≡ true →
-      Keeps (past p) o → Moves p o
+  moves-past : {A : Type 0} (c : ℕ) (p : State) (o : Outcome A) → is_at c p ≡ true
+      → Keeps (past p) o → Moves p o
   moves-past c p o at h = moves-beyond p (past p) o (past-shorter (is c) p at) h
     where
-      moves-beyond : {A : Type 0} (p q : State) (o : Outcome A) → length q.rest < length p.rest →
-          Keeps q o → Moves p o
+      moves-beyond : {A : Type 0} (p q : State) (o : Outcome A) → length q.rest < length p.rest
+          → Keeps q o → Moves p o
       moves-beyond p q (took x r) less h = omega arith
       moves-beyond p q (stuck r) less h = tt
       moves-beyond p q (deep r) less h = tt
@@ -176,19 +176,19 @@ module _ (inside : State → Outcome Tree) (keeps : (p : State) → Keeps p (ins
       (let still : length (past p).rest ≤ length (past p).rest = omega arith in still))
       (λ h. moves-if (is_at char.backslash p) p (escape_at (past p)) _
       (λ at. moves-past char.backslash p (escape_at (past p)) at (keeps-escape (past p)))
-      (λ h. moves-by _ p (take_if is_normal p) (moves-take_if is_normal p)))))
+      (λ h. moves-map _ p (take_if is_normal p) (moves-take_if is_normal p)))))
 
   -- a piece moves
   pub moves-piece : Progress (piece_at inside)
   unfolding piece_at
   moves-piece p =
       moves-then p (atom_at inside p) _ (moves-atom p)
-      (λ a q. keeps-if _ q (by _ (quantifier_at q)) (took a q)
-      (keeps-by _ q (quantifier_at q) (keeps-quantifier q)) (omega arith))
+      (λ a q. keeps-if _ q (outcome_map _ (quantifier_at q)) (took a q)
+      (keeps-map _ q (quantifier_at q) (keeps-quantifier q)) (omega arith))
 
   keeps-branch : (p : State) → Keeps p (branch_at inside p)
   unfolding branch_at
-  keeps-branch p = keeps-by _ p (pieces_at inside p) (keeps-each _ (piece_at inside) moves-piece p)
+  keeps-branch p = keeps-map _ p (pieces_at inside p) (keeps-each _ (piece_at inside) moves-piece p)
 
   -- a `|` and a branch move
   pub moves-next_branch : Progress (next_branch_at inside)
@@ -200,7 +200,7 @@ module _ (inside : State → Outcome Tree) (keeps : (p : State) → Keeps p (ins
   unfolding branches_at
   keeps-branches p =
       keeps-then p (branch_at inside p) _ (keeps-branch p)
-      (λ x q. keeps-by _ q (each (is_at char.bar) (next_branch_at inside) q)
+      (λ x q. keeps-map _ q (each (is_at char.bar) (next_branch_at inside) q)
       (keeps-each (is_at char.bar) (next_branch_at inside) moves-next_branch q))
 
 -- what stands in a group leaves no longer text

@@ -15,13 +15,13 @@ pub tree_class : (c : CharClass) → tree (pattern.Class c) ≡ class c.negated 
 unfolding tree
 tree_class c = ap tree (sym (rolls-Class c)) ∙ fold-roll-Pattern Tree node_tree (one.Class c)
 
-pub tree_either : (bs : Vec Pattern Global) →
-    tree (pattern.Either bs) ≡ branches (map tree bs.items)
+pub tree_either : (bs : Vec Pattern Global)
+    → tree (pattern.Either bs) ≡ branches (map tree bs.items)
 unfolding tree
 tree_either bs = ap tree (sym (rolls-Either bs)) ∙ fold-roll-Pattern Tree node_tree (one.Either bs)
 
-pub tree_sequence : (ps : Vec Pattern Global) →
-    tree (pattern.Sequence ps) ≡ pieces (map tree ps.items)
+pub tree_sequence : (ps : Vec Pattern Global)
+    → tree (pattern.Sequence ps) ≡ pieces (map tree ps.items)
 unfolding tree
 tree_sequence ps =
     ap tree (sym (rolls-Sequence ps)) ∙ fold-roll-Pattern Tree node_tree (one.Sequence ps)

@@ -3,12 +3,8 @@ use Rattle.std.specs.Prelude.{◌≡◌, ℕ, Bool, ◌==◌, not, if◌then◌e
 use Rattle.std.specs.List.{list_any}
 use Rattle.jp_reading.specs.Characters.{carriage_return, letter_n, letter_r, letter_t, line_feed}
 use Rattle.jp_reading.specs.Characters.{tab}
-use Rattle.jp_reading.specs.Texts.{Text, Spans}
+use Rattle.jp_reading.specs.Texts.{Text, Spans, is_among}
 use Rattle.jp_reading.specs.Forms.{Form, word, One, ◌⌢◌}
-
--- whether a character is one of a text's
-abbrev pub is_among : Text → ℕ → Bool
-is_among t c = list_any (λ d. c == d) t
 
 -- a character that stands for itself outside a class (RFC 9485 section 3, NormalChar)
 unfoldable pub is_normal : ℕ → Bool
@@ -37,6 +33,6 @@ abbrev pub SingleEscape : ℕ → Form
 SingleEscape e = word (codes "\\") ⌢ One is_escaped e
 
 -- the character c, by itself where it is plain or by its escape
-pub data Character (plain : ℕ → Bool) (c : ℕ) (s : Spans) (o : ℕ) (t : Text) : Type 0 where
-  itself : One plain c s o t → Character plain c s o t
-  escaped : (e : ℕ) → c ≡ meant e → SingleEscape e s o t → Character plain c s o t
+pub data PatternCharacter (plain : ℕ → Bool) (c : ℕ) (s : Spans) (o : ℕ) (t : Text) : Type 0 where
+  itself : One plain c s o t → PatternCharacter plain c s o t
+  escaped : (e : ℕ) → c ≡ meant e → SingleEscape e s o t → PatternCharacter plain c s o t

@@ -2,8 +2,8 @@
 use Rattle.std.specs.Prelude.{ℕ, Bool, List, true, false, ◌&&◌, not, nat_le}
 use Rattle.std.specs.List.{list_any}
 use Rattle.jp_iregexp.specs.Category.{in_category}
-use Rattle.jp_iregexp.specs.declared.class.ClassItem.{ClassItem}
-use Rattle.jp_iregexp.specs.declared.class.ClassItem.TheVariants.{Range, Category}
+use Rattle.jp_iregexp.specs.declared.class.ClassElement.{ClassElement}
+use Rattle.jp_iregexp.specs.declared.class.ClassElement.TheVariants.{Range, Category}
 
 -- a test, or with a negation its opposite
 abbrev pub negated_if : Bool → Bool → Bool
@@ -12,11 +12,11 @@ negated_if false b = b
 
 -- the characters of an item: those from the first to the last, or those of a category, negated
 -- those outside it (RFC 9485 section 3, CCE1 and charClassEsc)
-unfoldable pub item_holds : ℕ → ClassItem → Bool
-item_holds c (Range first last) = nat_le first c && nat_le c last
-item_holds c (Category code negated) = negated_if negated (in_category code c)
+unfoldable pub element_holds : ℕ → ClassElement → Bool
+element_holds c (Range first last) = nat_le first c && nat_le c last
+element_holds c (Category code negated) = negated_if negated (in_category code c)
 
 -- the characters of a class: those that an item holds, negated those that none holds (RFC 9485
 -- section 3, charClassExpr)
-unfoldable pub class_holds : Bool → List ClassItem → ℕ → Bool
-class_holds negated items c = negated_if negated (list_any (item_holds c) items)
+unfoldable pub class_holds : Bool → List ClassElement → ℕ → Bool
+class_holds negated items c = negated_if negated (list_any (element_holds c) items)

@@ -13,14 +13,14 @@ BranchesUnite =
 -- pieces, each in the language of its piece
 abbrev pub SequencesCut : Type 0
 SequencesCut =
-    (ps : List Tree) (word : List ℕ) →
-    Language (pieces ps) word
+    (ps : List Tree) (word : List ℕ)
+    → Language (pieces ps) word
     ↔ ((words : List (List ℕ)) × (word ≡ concat words) × AllZip Language ps words)
 
 -- a word is in the language of a repeat exactly if it can be cut into words of the inner pattern,
 -- at least the least and, where there is a most, at most the most of them
 abbrev pub RepeatsCut : Type 0
-RepeatsCut = (a : Tree) (least : ℕ) (most : Option ℕ) (word : List ℕ) →
-    Language (repeat a least most) word
+RepeatsCut = (a : Tree) (least : ℕ) (most : Option ℕ) (word : List ℕ)
+    → Language (repeat a least most) word
     ↔ ((words : List (List ℕ)) × (word ≡ concat words) × (least ≤ length words)
     × IsAtMost most (length words) × All (Language a) words)

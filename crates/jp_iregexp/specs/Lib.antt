@@ -4,6 +4,7 @@ pub mod Language
 pub mod Positions
 pub mod Laws
 pub mod Matches
+pub mod MatchTests
 pub mod Membership
 pub mod Part
 pub mod PatternOf

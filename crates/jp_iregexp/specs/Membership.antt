@@ -39,7 +39,7 @@ is_repeat test least most word =
     list_any (λ k. is_at_most most k && is_power test k word)
     (range_with_len least (length word + 1))
 
--- whether a word is in the language of a pattern (RFC 9485, section 4)
+-- whether a word is in the language of a pattern (RFC 9485 section 4)
 unfoldable pub is_word : Tree → List ℕ → Bool
 is_word (class negated items) word = is_one (class_holds negated items) word
 is_word nothing word = false
@@ -49,7 +49,7 @@ is_word (sequence a b) word = is_concatenation (is_word a) (is_word b) word
 is_word (repeat a least most) word = is_repeat (is_word a) least most word
 
 -- whether some part of a text is in the language of a pattern: the text is any text, then a word of
--- the pattern, then any text (RFC 9535, section 2.4.7)
+-- the pattern, then any text (RFC 9535 section 2.4.7)
 unfoldable pub has_word : Tree → List ℕ → Bool
 has_word a = is_concatenation (λ before. true) (is_concatenation (is_word a) (λ after. true))
 

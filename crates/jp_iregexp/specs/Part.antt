@@ -2,7 +2,7 @@
 use Rattle.std.specs.Prelude.{◌≡◌, ℕ, List, ◌++◌}
 
 -- some part of a text is in a language: what comes before it, the part and what comes after it are
--- the text, and each may be empty (RFC 9535, section 2.4.7)
+-- the text, and each may be empty (RFC 9535 section 2.4.7)
 pub record HasPart (L : List ℕ → Type 0) (text : List ℕ) : Type 0 where
   pub before : List ℕ
   pub part : List ℕ

@@ -14,15 +14,15 @@ taken (took x p) = Some x
 taken (stuck p) = None
 taken (deep p) = None
 
--- the pattern that a text spells within the limit of groups, if it does (RFC 9485, section 3), as
+-- the pattern that a text spells within the limit of groups, if it does (RFC 9485 section 3), as
 -- what the reader of patterns takes; `SpeltIsFound` and `OthersHaveNone` pin it by the grammar
 unfoldable pub pattern_of : Text → Option Tree
 pattern_of text = taken (pattern_at group_limit (record { at = 0; rest = text; found = [] }))
 
 -- a pattern is the pattern of a text exactly if the text spells it
 abbrev pub SpeltIsFound : Type 0
-SpeltIsFound = (text : Text) (a : Tree) →
-    (pattern_of text ≡ Some a) ↔ SpellsPattern group_limit a text
+SpeltIsFound = (text : Text) (a : Tree)
+    → (pattern_of text ≡ Some a) ↔ SpellsPattern group_limit a text
 
 -- a text has no pattern exactly if it spells none
 abbrev pub OthersHaveNone : Type 0

@@ -1,6 +1,6 @@
 -- Patterns as pure trees, and the tree of a pattern in code.
 use Rattle.std.specs.Prelude.{ℕ, Bool, List, Option, [], ◌∷◌}
-use Rattle.jp_iregexp.specs.declared.class.ClassItem.{ClassItem}
+use Rattle.jp_iregexp.specs.declared.class.ClassElement.{ClassElement}
 use Rattle.jp_iregexp.specs.declared.pattern.Pattern.{Pattern}
 use Rattle.jp_iregexp.specs.declared.pattern.Pattern.TheOpen as one
 use Rattle.jp_iregexp.specs.declared.pattern.Pattern.TheOpen.{Pattern-F}
@@ -9,7 +9,7 @@ use Rattle.jp_iregexp.specs.declared.pattern.Pattern.TheFolds.{fold-Pattern}
 -- a pattern as a pure tree: a class; no branch, or a branch beside other branches; no piece, or a
 -- piece before other pieces; a repeat (RFC 9485 section 3)
 pub data Tree : Type 0 where
-  class : Bool → List ClassItem → Tree
+  class : Bool → List ClassElement → Tree
   nothing : Tree
   either : Tree → Tree → Tree
   empty : Tree

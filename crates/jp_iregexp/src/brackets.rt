@@ -1,4 +1,4 @@
-//! Categories and classes as texts (RFC 9485, section 3).
+//! Categories and classes as texts (RFC 9485 section 3).
 
 ghost use Rattle.std.specs.Prelude.{◌≡◌};
 ghost use Rattle.jp_reading.specs.Outcome.{took};
@@ -11,20 +11,20 @@ ghost use Rattle.jp_iregexp.specs.Private.Reading.{range_at, is_at_category};
 
 use crate::category::Category;
 use crate::characters::{Characters, character};
-use crate::class::{CharClass, ClassItem};
+use crate::class::{CharClass, ClassElement};
 use jp_reading::{Reader, Stop};
 use std::alloc::AllocError;
 
 /// What stands after `\` for a category or for all characters outside it (charClassEsc).
 #[tactic(auto, unfolding(crate::specs::Private::Reading::category_at))]
-pub(crate) fn category(reader: &mut Reader) -> Result<ClassItem, Stop>
+pub(crate) fn category(reader: &mut Reader) -> Result<ClassElement, Stop>
     ensures { Gives (λ x. x) result reader.new (category_at reader.old) }
 {
     let sign = reader.take_one_of(Characters::CategorySign)?;
     reader.expect('{')?;
     let code = code(reader)?;
     reader.expect('}')?;
-    Ok(ClassItem::Category {
+    Ok(ClassElement::Category {
         code,
         negated: sign == 'P',
     })
@@ -76,9 +76,9 @@ fn negation(reader: &mut Reader) -> bool
     is_negated
 }
 
-/// The items of a class: a `-` may be the first or the last.
+/// The elements of a class: a `-` may be the first or the last.
 #[tactic(auto, unfolding(crate::specs::Private::Reading::items_at))]
-fn items(reader: &mut Reader) -> Result<Vec<ClassItem>, Stop>
+fn items(reader: &mut Reader) -> Result<Vec<ClassElement>, Stop>
     ensures { Gives (λ v. v.items) result reader.new (items_at reader.old) }
 {
     let first = first_item(reader)?;
@@ -88,8 +88,8 @@ fn items(reader: &mut Reader) -> Result<Vec<ClassItem>, Stop>
     last_item(reader, items)
 }
 
-/// These items, and item after item as long as another begins.
-fn elements(reader: &mut Reader, mut items: Vec<ClassItem>) -> Result<Vec<ClassItem>, Stop>
+/// These elements, and element after element as long as another begins.
+fn elements(reader: &mut Reader, mut items: Vec<ClassElement>) -> Result<Vec<ClassElement>, Stop>
     ensures { Gives (λ v. v.items) result reader.new
         (with_prefix items.items (elements_at reader.old)) }
 {
@@ -100,8 +100,8 @@ fn elements(reader: &mut Reader, mut items: Vec<ClassItem>) -> Result<Vec<ClassI
     Ok(items)
 }
 
-/// These items, and a `-` that ends the class.
-fn last_item(reader: &mut Reader, mut items: Vec<ClassItem>) -> Result<Vec<ClassItem>, Stop>
+/// These elements, and a `-` that ends the class.
+fn last_item(reader: &mut Reader, mut items: Vec<ClassElement>) -> Result<Vec<ClassElement>, Stop>
     ensures { Gives (λ v. v.items) result reader.new (last_at items.items reader.old) }
 {
     if reader.is_at('-') {
@@ -111,7 +111,7 @@ fn last_item(reader: &mut Reader, mut items: Vec<ClassItem>) -> Result<Vec<Class
     Ok(items)
 }
 
-fn first_item(reader: &mut Reader) -> Result<ClassItem, Stop>
+fn first_item(reader: &mut Reader) -> Result<ClassElement, Stop>
     ensures { Gives (λ x. x) result reader.new (first_at reader.old) }
 {
     if reader.is_at('-') {
@@ -122,16 +122,16 @@ fn first_item(reader: &mut Reader) -> Result<ClassItem, Stop>
 }
 
 // A `-` that stands for itself.
-fn hyphen(reader: &mut Reader) -> Result<ClassItem, Stop>
+fn hyphen(reader: &mut Reader) -> Result<ClassElement, Stop>
     ensures { Gives (λ x. x) result reader.new (hyphen_at reader.old) }
 {
     reader.expect('-')?;
-    Ok(ClassItem::Range('-', '-'))
+    Ok(ClassElement::Range('-', '-'))
 }
 
-/// An item of a class: a character, a range or a category (CCE1, charClassEsc).
+/// An element of a class: a character, a range or a category (CCE1, charClassEsc).
 #[tactic(auto, unfolding(crate::specs::Private::Reading::element_at))]
-fn element(reader: &mut Reader) -> Result<ClassItem, Stop>
+fn element(reader: &mut Reader) -> Result<ClassElement, Stop>
     ensures { Gives (λ x. x) result reader.new (element_at reader.old) }
 {
     if is_at_category(reader) {
@@ -151,16 +151,16 @@ fn is_at_category(reader: &Reader) -> bool
 /// The range that begins with a character: up to the one after a `-`, or, where the `-` ends the
 /// class or stands not there, that character alone.
 #[tactic(auto, unfolding(crate::specs::Private::Reading::range_at))]
-fn range(reader: &mut Reader, first: char) -> Result<ClassItem, Stop>
+fn range(reader: &mut Reader, first: char) -> Result<ClassElement, Stop>
     ensures { Gives (λ x. x) result reader.new (range_at first reader.old) }
 {
     if !reader.is_at('-') || reader.peek_second() == Some(']') {
-        return Ok(ClassItem::Range(first, first));
+        return Ok(ClassElement::Range(first, first));
     }
     reader.bump();
     let last = character(reader)?;
     if last < first {
         return Err(Stop::Syntax(reader.place()));
     }
-    Ok(ClassItem::Range(first, last))
+    Ok(ClassElement::Range(first, last))
 }

@@ -1,4 +1,4 @@
-//! Patterns as texts: branches, pieces and atoms (RFC 9485, section 3).
+//! Patterns as texts: branches, pieces and atoms (RFC 9485 section 3).
 
 ghost use Rattle.std.specs.Prelude.{◌≡◌, [], ◌∷◌, false, IfOk};
 ghost use Rattle.jp_reading.specs.Views.{Gives};
@@ -10,7 +10,7 @@ ghost use Rattle.jp_iregexp.specs.Private.Reading.{escape_at, pattern_at};
 
 use crate::brackets::{category, class};
 use crate::characters::{Characters, escaped};
-use crate::class::{CharClass, ClassItem};
+use crate::class::{CharClass, ClassElement};
 use crate::pattern::Pattern;
 use crate::quantifiers::quantifier;
 use jp_reading::{Reader, Stop};
@@ -142,12 +142,12 @@ fn escape(reader: &mut Reader) -> Result<Pattern, Stop>
 fn one(alloc: Global, c: char) -> Result<Pattern, AllocError>
     ensures { IfOk result (λ p. tree p ≡ one c) }
 {
-    plain(alloc, ClassItem::Range(c, c))
+    plain(alloc, ClassElement::Range(c, c))
 }
 
-/// The class of one item.
+/// The class of one element.
 #[tactic(auto, using(crate::proofs::Trees::tree_class))]
-fn plain(alloc: Global, item: ClassItem) -> Result<Pattern, AllocError>
+fn plain(alloc: Global, item: ClassElement) -> Result<Pattern, AllocError>
     ensures { IfOk result (λ p. tree p ≡ class false (item ∷ [])) }
 {
     let mut items = Vec::new(alloc);
@@ -164,8 +164,8 @@ fn dot(alloc: Global) -> Result<Pattern, AllocError>
     ensures { IfOk result (λ p. tree p ≡ dot) }
 {
     let mut items = Vec::new(alloc);
-    items.push(ClassItem::Range('\n', '\n'))?;
-    items.push(ClassItem::Range('\r', '\r'))?;
+    items.push(ClassElement::Range('\n', '\n'))?;
+    items.push(ClassElement::Range('\r', '\r'))?;
     Ok(Pattern::Class(CharClass {
         negated: true,
         items,

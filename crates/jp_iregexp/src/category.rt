@@ -1,4 +1,4 @@
-//! The codes of general categories (RFC 9485, section 3).
+//! The codes of general categories (RFC 9485 section 3).
 
 ghost use Rattle.std.specs.Prelude.{◌≡◌};
 ghost use Rattle.jp_iregexp.specs.Category.{in_category, stands_for};
@@ -8,7 +8,7 @@ ghost use Rattle.jp_iregexp.specs.Private.CodeReading.{code_of, is_pair, pair};
 use unicode::properties::{GeneralCategory, GeneralCategoryGroup};
 
 /// A code of `\p{..}`: one general category of Unicode by its two letters, or by one letter all
-/// that begin with it (RFC 9485, section 3).
+/// that begin with it (RFC 9485 section 3).
 #[derive(Clone, Copy, Debug, PartialEq, Eq)]
 pub enum Category {
     L,

@@ -1,4 +1,4 @@
-//! The characters of patterns, alone and after `\` (RFC 9485, section 3).
+//! The characters of patterns, alone and after `\` (RFC 9485 section 3).
 
 ghost use Rattle.std.specs.Prelude.{◌≡◌};
 ghost use Rattle.jp_reading.specs.Views.{Gives};
@@ -20,7 +20,7 @@ pub(crate) enum Characters {
     CategorySign,
     /// Those of which codes are made.
     Letter,
-    /// Those that begin an item of a class after its first one.
+    /// Those that begin an element of a class after its first one.
     Element,
     /// Those that begin a quantifier.
     Quantifier,

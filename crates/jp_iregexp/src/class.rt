@@ -1,22 +1,22 @@
-//! Character classes (RFC 9485, section 3).
+//! PatternCharacter classes (RFC 9485 section 3).
 
 ghost use Rattle.std.specs.Prelude.{◌≡◌};
 ghost use Rattle.std.specs.List.{list_any};
-ghost use Rattle.jp_iregexp.specs.Class.{item_holds, class_holds};
+ghost use Rattle.jp_iregexp.specs.Class.{element_holds, class_holds};
 
 use crate::category::Category;
 
-/// A character class: with `negated` it holds the characters that no item holds, else those that
+/// A character class: with `negated` it holds the characters that no element holds, else those that
 /// one does.
 #[derive(Debug, PartialEq, Eq, Drop)]
 pub struct CharClass {
     pub negated: bool,
-    pub items: Vec<ClassItem>,
+    pub items: Vec<ClassElement>,
 }
 
-/// An item of a character class.
+/// An element of a character class.
 #[derive(Clone, Copy, Debug, PartialEq, Eq)]
-pub enum ClassItem {
+pub enum ClassElement {
     /// The characters from the first to the last, both included; none where the last is below the
     /// first.
     Range(char, char),
@@ -34,20 +34,20 @@ impl CharClass {
     }
 }
 
-impl ClassItem {
-    #[tactic(auto, unfolding(crate::specs::Class::item_holds))]
+impl ClassElement {
+    #[tactic(auto, unfolding(crate::specs::Class::element_holds))]
     fn holds(&self, c: char) -> bool
-        ensures { result ≡ item_holds c self.now }
+        ensures { result ≡ element_holds c self.now }
     {
         match *self {
-            ClassItem::Range(first, last) => first <= c && c <= last,
-            ClassItem::Category { code, negated } => code.holds(c) != negated,
+            ClassElement::Range(first, last) => first <= c && c <= last,
+            ClassElement::Category { code, negated } => code.holds(c) != negated,
         }
     }
 }
 
-fn is_any_holding(items: &[ClassItem], c: char) -> bool
-    ensures { result ≡ list_any (item_holds c) items.now }
+fn is_any_holding(items: &[ClassElement], c: char) -> bool
+    ensures { result ≡ list_any (element_holds c) items.now }
 {
     items.iter().any(|item| item.holds(c))
 }

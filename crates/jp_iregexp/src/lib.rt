@@ -28,7 +28,7 @@ mod read;
 mod tests;
 
 pub use category::Category;
-pub use class::{CharClass, ClassItem};
+pub use class::{CharClass, ClassElement};
 pub use fault::PatternFault;
 pub use pattern::Pattern;
 pub use position_count::positions;

@@ -1,4 +1,4 @@
-//! Quantifiers (RFC 9485, section 3).
+//! Quantifiers (RFC 9485 section 3).
 
 ghost use Rattle.jp_reading.specs.Views.{Gives};
 ghost use Rattle.jp_iregexp.specs.Private.Reading.{quantifier_at, braces_at, most_at, number_at};

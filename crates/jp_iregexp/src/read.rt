@@ -16,7 +16,7 @@ use std::alloc::Global;
 /// How many groups may be inside one another at most.
 pub const GROUP_LIMIT: u32 = 64;
 
-/// The pattern that a text spells (RFC 9485, section 3), with at most [`GROUP_LIMIT`] groups inside
+/// The pattern that a text spells (RFC 9485 section 3), with at most [`GROUP_LIMIT`] groups inside
 /// one another. `NotConforming` says that it spells none so, `NoMemory` nothing of the text. It goes
 /// over the text once.
 pub fn read_pattern(alloc: Global, text: &str) -> Result<Pattern, PatternFault>

@@ -1,14 +1,14 @@
 -- What values that are lent stand for.
-use Rattle.jp_document.specs.Location.{Key, key_of}
+use Rattle.jp_document.specs.Location.{Step, step_of}
 use Rattle.jp_document.specs.Value.{Value, null, boolean, whole, text, list, object, no_items}
 use Rattle.jp_document.specs.Value.{no_members}
-use Rattle.jp_document.specs.declared.location.Step.{Step}
+use Rattle.jp_document.specs.declared.location.Step as code
 use Rattle.jp_lent.specs.declared.seen.Seen.{Seen}
 use Rattle.jp_lent.specs.declared.seen.Seen.TheVariants as seen
 
 -- a step with a value, where f says what the value stands for
-abbrev pub step_with : {V : Type 0} → (V → Value) → Step × V → Key × Value
-step_with f e = (key_of e.0, f e.1)
+abbrev pub step_with : {V : Type 0} → (V → Value) → code.Step × V → Step × Value
+step_with f e = (step_of e.0, f e.1)
 
 -- a value without what is in it: of a list and of an object the empty one
 abbrev pub bare : Value → Value

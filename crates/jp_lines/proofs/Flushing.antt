@@ -8,7 +8,7 @@ use Rattle.jp_tree.specs.Tree.{QueryTree}
 use Rattle.jp_command.specs.declared.fault.Fault.TheVariants as fault
 use Rattle.jp_command.proofs.Streams.{Appends-keeps, prefix-whole}
 use Rattle.jp_lines.specs.Lines.{lines_of_input}
-use Rattle.jp_lines.specs.Outcome.{Outcome}
+use Rattle.jp_lines.specs.Outcome.{LineOutcome}
 use Rattle.jp_lines.specs.Run.{Goes, RunsLines}
 use Rattle.jp_lines.specs.declared.defect.RefusedLine.{RefusedLine}
 use Rattle.jp_lines.specs.declared.options.Options.{Options}
@@ -26,11 +26,11 @@ module _ (profile : Profile) (options : Options) {R W E : Type 0}
   Runs output = RunsLines profile options remaining has_failed read_gives contents writes_failed
       reports reports_failed text i j o output u v
 
-  abbrev Go : QueryTree → ℕ → List (List ℕ) → List Outcome → W → Type 0
+  abbrev Go : QueryTree → ℕ → List (List ℕ) → List LineOutcome → W → Type 0
   Go q number lines outcomes output =
       Goes options contents writes_failed reports reports_failed q number lines outcomes o output u v
 
-  goes-kept : (q : QueryTree) (number : ℕ) (lines : List (List ℕ)) (outcomes : List Outcome)
+  goes-kept : (q : QueryTree) (number : ℕ) (lines : List (List ℕ)) (outcomes : List LineOutcome)
       → writes_failed r ≡ writes_failed p → Go q number lines outcomes p
       → Go q number lines outcomes r
   goes-kept q number lines outcomes works goes = record {

@@ -1,6 +1,7 @@
 -- Lines gone over after those before.
 use Rattle.std.proofs.Common.{◌≡◌, ◌≢◌, ◌⊎◌, inl, inr, ℕ, ◌+◌, Bool, true, false, ◌||◌, List, []}
-use Rattle.std.proofs.Common.{◌∷◌, ◌++◌, length, Option, subst, refl, sym, ◌∙◌, ap, append_assoc, arith}
+use Rattle.std.proofs.Common.{◌∷◌, ◌++◌, length, Option, subst, refl, sym, ◌∙◌, ap, append_assoc}
+use Rattle.std.proofs.Common.{arith}
 use Rattle.std.proofs.lemmas.Grind.{flat_map-append}
 use Rattle.std.proofs.lemmas.List.{append-nil, length-append}
 use Rattle.std.proofs.lemmas.List.Folds.{list_all-append, list_any-append}
@@ -11,7 +12,7 @@ use Rattle.jp_command.specs.declared.fault.Fault.TheVariants.{Query, Document, D
 use Rattle.jp_command.specs.declared.fault.Fault.TheVariants.{NoMemory, Read, Write}
 use Rattle.jp_command.proofs.Streams.{prefix-whole}
 use Rattle.jp_lines.specs.Lines.{lines_of_input, newline}
-use Rattle.jp_lines.specs.Outcome.{Outcome, Refused, ComesTo, ComeTo, none, written_of, told_of}
+use Rattle.jp_lines.specs.Outcome.{LineOutcome, Refused, ComesTo, ComeTo, none, written_of, told_of}
 use Rattle.jp_lines.specs.Outcome.{is_refused, some_refused}
 use Rattle.jp_lines.specs.Run.{Goes, GoesInPart, StopsAmong}
 use Rattle.jp_lines.specs.Told.{Tells, TellsPrefix}
@@ -21,7 +22,8 @@ use Rattle.jp_lines.specs.declared.stop.Stop.{Stop}
 use Rattle.jp_lines.specs.declared.stop.Stop.TheVariants.{Run, Line}
 use Rattle.jp_lines.proofs.Outcomes.{come-append}
 use Rattle.jp_lines.proofs.Splitting.{lines-ended}
-use Rattle.jp_lines.proofs.ToldLemmas.{writes-none, writes-more, tells-none, tells-more, prefix-after}
+use Rattle.jp_lines.proofs.ToldLemmas.{writes-none, writes-more, tells-none, tells-more}
+use Rattle.jp_lines.proofs.ToldLemmas.{prefix-after}
 use Rattle.jp_lines.proofs.ToldLemmas.{tells-prefix-whole, tells-prefix-after}
 
 one_of : (a b : Bool) → (a || b) ≡ true → (a ≡ true) ⊎ (b ≡ true)
@@ -48,7 +50,7 @@ append-some (x ∷ xs) ys some is = cc
 module _ (options : Options) {W E : Type 0} (contents : W → Option (List ℕ))
     (writes_failed : W → Bool) (reports : E → Option (List ℕ)) (reports_failed : E → Bool)
     (q : QueryTree) where
-  abbrev Go : ℕ → List (List ℕ) → List Outcome → W → W → E → E → Type 0
+  abbrev Go : ℕ → List (List ℕ) → List LineOutcome → W → W → E → E → Type 0
   Go = Goes options contents writes_failed reports reports_failed q
 
   abbrev Over : List (List ℕ) → Standing → Standing → W → W → E → E → Type 0
@@ -69,7 +71,7 @@ module _ (options : Options) {W E : Type 0} (contents : W → Option (List ℕ))
     quiet = λ is. refl;
   }
 
-  pub goes-more : (n : ℕ) (ls ms : List (List ℕ)) (xs ys : List Outcome) (o p r : W) (u v w : E)
+  pub goes-more : (n : ℕ) (ls ms : List (List ℕ)) (xs ys : List LineOutcome) (o p r : W) (u v w : E)
       → Go n ls xs o p u v → Go (n + length ls) ms ys p r v w
       → Go n (ls ++ ms) (xs ++ ys) o r u w
   goes-more n ls ms xs ys o p r u v w first second = record {

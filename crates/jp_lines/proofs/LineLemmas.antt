@@ -1,5 +1,6 @@
 -- One line: its answer, its refusal, and why a run stops at it.
-use Rattle.std.proofs.Common.{◌≡◌, ◌⊎◌, inl, inr, ℕ, suc, ◌≤◌, ◌||◌, Bool, true, false, List, [], ◌∷◌, ◌++◌}
+use Rattle.std.proofs.Common.{◌≡◌, ◌⊎◌, inl, inr, ℕ, suc, ◌≤◌, ◌||◌, Bool, true, false, List, []}
+use Rattle.std.proofs.Common.{◌∷◌, ◌++◌}
 use Rattle.std.proofs.Common.{length, Option, Result, Ok, Err, IfOk, IfErr, codes}
 use Rattle.std.proofs.Common.{subst, refl, sym, ◌∙◌, ap, arith}
 use Rattle.std.proofs.Math.Bool.{or-false}
@@ -17,12 +18,14 @@ use Rattle.jp_command.specs.declared.fault.Fault.{Fault}
 use Rattle.jp_command.specs.declared.fault.Fault.TheVariants as fault
 use Rattle.jp_command.proofs.Streams.{Appends-keeps, prefix-whole}
 use Rattle.jp_lines.specs.Lines.{is_blank_line}
-use Rattle.jp_lines.specs.Outcome.{Outcome, Answered, Refused, ComesTo, blank, document, no_document}
+use Rattle.jp_lines.specs.Outcome.{LineOutcome, Answered, Refused, ComesTo, blank, document}
+use Rattle.jp_lines.specs.Outcome.{no_document}
 use Rattle.jp_lines.specs.Outcome.{none, lead_of, wanted_output}
 use Rattle.jp_lines.specs.Outcome.{refused_for, refused_text}
 use Rattle.jp_lines.specs.Run.{Goes, GoesInPart}
 use Rattle.jp_lines.specs.Told.{Tells, TellsPrefix}
-use Rattle.jp_lines.specs.Private.Answers.{Answers, AnswersInPart, AnswersLine, StopsAnswering}
+use Rattle.jp_lines.specs.Private.Answers.{AnswersOrRefuses, AnswersInPart, AnswersLine}
+use Rattle.jp_lines.specs.Private.Answers.{StopsAnswering}
 use Rattle.jp_lines.specs.Private.Answers.{defect_of}
 use Rattle.jp_lines.specs.Private.Passing.{GoesOver, Standing, kept_of}
 use Rattle.jp_lines.specs.Private.Treating.{Treats, StopsEnding}
@@ -80,7 +83,7 @@ module _ {W : Type 0} (contents : W → Option (List ℕ)) (has_failed : W → B
   -- what is no document is refused, and want of memory stops
   pub refuses-document : (f : DocumentFault) (o : W) → length line ≤ document_limit
       → is_blank_line line ≡ false → IsDocumentFault line f
-      → IfOk (defect_of f) (Answers contents has_failed options q n line o o)
+      → IfOk (defect_of f) (AnswersOrRefuses contents has_failed options q n line o o)
       × IfErr (defect_of f) (StopsAnswering contents has_failed options q n line o o)
   refuses-document document.NoMemory o few some is = (tt, (inl refl, refl))
   refuses-document document.NotJson o few some is =
@@ -93,13 +96,13 @@ module _ {W : Type 0} (contents : W → Option (List ℕ)) (has_failed : W → B
 module _ (options : Options) {W E : Type 0} (contents : W → Option (List ℕ))
     (writes_failed : W → Bool) (reports : E → Option (List ℕ)) (reports_failed : E → Bool)
     (q : QueryTree) (n : ℕ) (kept line : List ℕ) (is : kept ≡ kept_of line) where
-  abbrev Comes : Outcome → Type 0
+  abbrev Comes : LineOutcome → Type 0
   Comes = ComesTo options q n kept
 
   abbrev Ends : W → W → E → E → Stop → Type 0
   Ends = StopsEnding options contents writes_failed reports reports_failed q n line
 
-  comes-line : (x : Outcome) → Comes x → ComesTo options q n line x
+  comes-line : (x : LineOutcome) → Comes x → ComesTo options q n line x
   comes-line x comes = comes-kept options q n line x (subst (λ l. ComesTo options q n l x) is comes)
 
   pub treats-answered : (o p r : W) (u : E)

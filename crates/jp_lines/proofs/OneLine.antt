@@ -11,7 +11,7 @@ use Rattle.jp_command.specs.declared.lines.Form.{Form}
 use Rattle.jp_tree.specs.Tree.{QueryTree}
 use Rattle.jp_lines.specs.Laws.{OneLineIsADocument}
 use Rattle.jp_lines.specs.Lines.{is_blank_line, lines_of_input}
-use Rattle.jp_lines.specs.Outcome.{Outcome, ComesTo, ComeTo, none, one_more, blank, document}
+use Rattle.jp_lines.specs.Outcome.{LineOutcome, ComesTo, ComeTo, none, one_more, blank, document}
 use Rattle.jp_lines.specs.Outcome.{no_document, too_large, is_refused, lead_of, some_refused}
 use Rattle.jp_lines.specs.Outcome.{wanted_output, written_of, written_of_all}
 use Rattle.jp_lines.specs.Reads.{ReadsToEnd}
@@ -33,15 +33,15 @@ consumed-all (Some xs) (Some ys) came bytes consumes ended is =
     some-same x y same = cc
 
 module _ (options : Options) (q : QueryTree) where
-  come-nil : (n : ℕ) (ls : List (List ℕ)) (xs : List Outcome) → ComeTo options q n ls xs → ls ≡ []
+  come-nil : (n : ℕ) (ls : List (List ℕ)) (xs : List LineOutcome) → ComeTo options q n ls xs → ls ≡ []
       → xs ≡ []
   come-nil n ls xs (none m) is = refl
   come-nil n ls xs (one_more m l more x rest comes come) is = cc
 
   -- one line has one outcome
-  come-single : (n : ℕ) (ls : List (List ℕ)) (xs : List Outcome) (line : List ℕ)
+  come-single : (n : ℕ) (ls : List (List ℕ)) (xs : List LineOutcome) (line : List ℕ)
       → ComeTo options q n ls xs → ls ≡ line ∷ []
-      → (x : Outcome) × (xs ≡ x ∷ []) × ComesTo options q n line x
+      → (x : LineOutcome) × (xs ≡ x ∷ []) × ComesTo options q n line x
   come-single n ls xs line (none m) is = cc
   come-single n ls xs line (one_more m l more x rest comes come) is = (
     x,
@@ -64,7 +64,7 @@ module _ (profile : Profile) {R W E : Type 0} (remaining : R → Option (List �
 
   -- the outcome of a line that is neither blank nor refused is what a run over it writes
   outcome-is : (form : Form) (options : Options) (q : QueryTree) (text bytes : List ℕ) (i j : R)
-      (x : Outcome) → options.wanted ≡ Nodes form → options.numbered ≡ false
+      (x : LineOutcome) → options.wanted ≡ Nodes form → options.numbered ≡ false
       → IsAsked profile text q → ReadsToEnd remaining has_failed read_gives i j bytes
       → is_blank_line bytes ≡ false → is_refused x ≡ false → ComesTo options q 1 bytes x
       → Output form text i j (written_of x)

@@ -3,7 +3,7 @@ use Rattle.std.proofs.Common.{◌≡◌, ℕ, suc, ◌+◌, ◌<◌, ◌≤◌, 
 use Rattle.std.proofs.Common.{arith}
 use Rattle.std.proofs.lemmas.List.{length-take, take_all}
 use Rattle.jp_command.specs.Limits.{document_limit}
-use Rattle.jp_lines.specs.Outcome.{Outcome, ComesTo, ComeTo, none, one_more}
+use Rattle.jp_lines.specs.Outcome.{LineOutcome, ComesTo, ComeTo, none, one_more}
 use Rattle.jp_lines.specs.Outcome.{blank, document, no_document, too_large}
 use Rattle.jp_lines.specs.Private.Passing.{kept_of}
 use Rattle.jp_lines.specs.declared.options.Options.{Options}
@@ -17,11 +17,11 @@ pub kept-many : (l : List ℕ) → document_limit < length (kept_of l) → docum
 kept-many l many = omega (arith, length-take (suc document_limit) l)
 
 module _ (options : Options) (q : QueryTree) where
-  pub come-one : (n : ℕ) (l : List ℕ) (x : Outcome) → ComesTo options q n l x
+  pub come-one : (n : ℕ) (l : List ℕ) (x : LineOutcome) → ComesTo options q n l x
       → ComeTo options q n (l ∷ []) (x ∷ [])
   come-one n l x comes = one_more n l [] x [] comes (none (suc n))
 
-  pub come-append : (n : ℕ) (ls ms : List (List ℕ)) (xs ys : List Outcome)
+  pub come-append : (n : ℕ) (ls ms : List (List ℕ)) (xs ys : List LineOutcome)
       → ComeTo options q n ls xs → ComeTo options q (n + length ls) ms ys
       → ComeTo options q n (ls ++ ms) (xs ++ ys)
   come-append n ls ms xs ys (none m) after =
@@ -32,7 +32,7 @@ module _ (options : Options) (q : QueryTree) where
       (subst (λ k. ComeTo options q k ms ys) (omega arith) after))
 
   -- what a line comes to is seen from what is kept of it
-  pub comes-kept : (n : ℕ) (l : List ℕ) (x : Outcome) → ComesTo options q n (kept_of l) x
+  pub comes-kept : (n : ℕ) (l : List ℕ) (x : LineOutcome) → ComesTo options q n (kept_of l) x
       → ComesTo options q n l x
   comes-kept n l x (blank few is) = subst (λ t. ComesTo options q n t x) (kept-all l few) (blank few is)
   comes-kept n l x (document d few some is) =

@@ -42,32 +42,32 @@ wanted_output Count lead q d = lead ++ decimal (length (nodelist q d)) ++ codes 
 
 -- ---- outcomes
 
-pub data Outcome : Type 0 where
-  Answered : List ℕ → Outcome
-  Refused : RefusedLine → Outcome
+pub data LineOutcome : Type 0 where
+  Answered : List ℕ → LineOutcome
+  Refused : RefusedLine → LineOutcome
 
 -- what is written of a line
-abbrev pub written_of : Outcome → List ℕ
+abbrev pub written_of : LineOutcome → List ℕ
 written_of (Answered output) = output
 written_of (Refused r) = []
 
 -- what is told of it
-abbrev pub told_of : Outcome → List ℕ
+abbrev pub told_of : LineOutcome → List ℕ
 told_of (Answered output) = []
 told_of (Refused r) = refused_text r ++ codes "\n"
 
-abbrev pub is_refused : Outcome → Bool
+abbrev pub is_refused : LineOutcome → Bool
 is_refused (Answered output) = false
 is_refused (Refused r) = true
 
 -- what is written and told of all, one after the other, and whether some are refused
-abbrev pub written_of_all : List Outcome → List ℕ
+abbrev pub written_of_all : List LineOutcome → List ℕ
 written_of_all xs = flat_map written_of xs
 
-abbrev pub told_of_all : List Outcome → List ℕ
+abbrev pub told_of_all : List LineOutcome → List ℕ
 told_of_all xs = flat_map told_of xs
 
-abbrev pub some_refused : List Outcome → Bool
+abbrev pub some_refused : List LineOutcome → Bool
 some_refused xs = list_any is_refused xs
 
 -- the refusal of the line of that number
@@ -77,7 +77,7 @@ refused_for number defect = record { number = number; defect = defect }
 -- what is asked of each document, and the query
 module _ (options : Options) (q : QueryTree) where
   -- the line of that number comes to this
-  pub data ComesTo (number : ℕ) (line : List ℕ) : Outcome → Type 0 where
+  pub data ComesTo (number : ℕ) (line : List ℕ) : LineOutcome → Type 0 where
     blank : length line ≤ document_limit → is_blank_line line ≡ true
         → ComesTo number line (Answered [])
     document : (d : Value) → length line ≤ document_limit → is_blank_line line ≡ false
@@ -91,8 +91,8 @@ module _ (options : Options) (q : QueryTree) where
         → ComesTo number line (Refused (refused_for number TooLarge))
 
   -- the lines, numbered from there on, come to these, each to one
-  pub data ComeTo : ℕ → List (List ℕ) → List Outcome → Type 0 where
+  pub data ComeTo : ℕ → List (List ℕ) → List LineOutcome → Type 0 where
     none : (number : ℕ) → ComeTo number [] []
-    one_more : (number : ℕ) (line : List ℕ) (lines : List (List ℕ)) (x : Outcome)
-        (xs : List Outcome) → ComesTo number line x → ComeTo (suc number) lines xs
+    one_more : (number : ℕ) (line : List ℕ) (lines : List (List ℕ)) (x : LineOutcome)
+        (xs : List LineOutcome) → ComesTo number line x → ComeTo (suc number) lines xs
         → ComeTo number (line ∷ lines) (x ∷ xs)

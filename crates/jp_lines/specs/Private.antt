@@ -1,4 +1,5 @@
--- What the contracts of private functions alone cite: what one line comes to, and how chunks are gone through.
+-- What the contracts of private functions alone cite: what one line comes to, and how chunks are
+-- gone through.
 pub mod Answers
 pub mod Passing
 pub mod Treating

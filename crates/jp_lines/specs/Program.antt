@@ -39,7 +39,7 @@ module _ {R W E : Type 0} (remaining : R → Option (List ℕ)) (has_failed : R 
     (read_gives : R → Option (List ℕ) → R → Type 0) (contents : W → Option (List ℕ))
     (writes_failed : W → Bool) (reports : E → Option (List ℕ)) (reports_failed : E → Bool) where
   -- the run that the words ask for ended with this answer
-  pub record Ends (words : List (List ℕ)) (i j : R) (o p : W) (u v : E)
+  pub record RunEnds (words : List (List ℕ)) (i j : R) (o p : W) (u v : E)
       (answer : Result Bool Stop) : Type 0 where
     pub options : Options
     pub query : List ℕ
@@ -51,12 +51,12 @@ module _ {R W E : Type 0} (remaining : R → Option (List ℕ)) (has_failed : R 
   -- What is said with a status. Where the words are not ones that the command line takes, clap's
   -- text is told, of which its contract says nothing.
   pub data RunsProgram (words : List (List ℕ)) (i j : R) (o p : W) (u v : E) (status : ℕ) : Type 0 where
-    none_refused : status ≡ 0 → Ends words i j o p u v (Ok false)
+    none_refused : status ≡ 0 → RunEnds words i j o p u v (Ok false)
         → RunsProgram words i j o p u v status
-    some_refused : status ≡ 3 → Ends words i j o p u v (Ok true)
+    some_refused : status ≡ 3 → RunEnds words i j o p u v (Ok true)
         → RunsProgram words i j o p u v status
     stopped : (stop : Stop) (between : E) → status ≡ status_of_stop stop
-        → Ends words i j o p u between (Err stop)
+        → RunEnds words i j o p u between (Err stop)
         → TellsStop reports reports_failed stop between v
         → RunsProgram words i j o p u v status
     usage : status ≡ 2 → asked words ≡ None → j ≡ i → p ≡ o

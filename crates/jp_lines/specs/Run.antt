@@ -7,7 +7,8 @@ use Rattle.jp_command.specs.Output.{AppendsPrefix, WritesAll}
 use Rattle.jp_command.specs.Run.{IsAsked, RefusesQuery}
 use Rattle.jp_command.specs.declared.fault.Fault.TheVariants.{Query, NoMemory, Read, Write}
 use Rattle.jp_lines.specs.Lines.{lines_of_input}
-use Rattle.jp_lines.specs.Outcome.{Outcome, Refused, ComesTo, ComeTo, written_of_all, told_of_all}
+use Rattle.jp_lines.specs.Outcome.{LineOutcome, Refused, ComesTo, ComeTo, written_of_all}
+use Rattle.jp_lines.specs.Outcome.{told_of_all}
 use Rattle.jp_lines.specs.Outcome.{some_refused}
 use Rattle.jp_lines.specs.Reads.{ReadsSome, ReadsToEnd, FailsToRead}
 use Rattle.jp_lines.specs.Told.{Tells, TellsPrefix}
@@ -23,7 +24,7 @@ module _ (options : Options) {W E : Type 0} (contents : W → Option (List ℕ))
   -- The lines, numbered from there on, came to these outcomes: what is to be written of them is
   -- written, what is to be told is told and nothing where no line is refused, and a line is refused
   -- only where the run is to go on.
-  pub record Goes (q : QueryTree) (number : ℕ) (lines : List (List ℕ)) (outcomes : List Outcome)
+  pub record Goes (q : QueryTree) (number : ℕ) (lines : List (List ℕ)) (outcomes : List LineOutcome)
       (o p : W) (u v : E) : Type 0 where
     pub come : ComeTo options q number lines outcomes
     pub writes : WritesAll contents writes_failed o p (written_of_all outcomes)
@@ -37,7 +38,7 @@ module _ (options : Options) {W E : Type 0} (contents : W → Option (List ℕ))
     pub lines : List (List ℕ)
     pub rest : List (List ℕ)
     pub front : all ≡ lines ++ rest
-    pub outcomes : List Outcome
+    pub outcomes : List LineOutcome
     pub come : ComeTo options q number lines outcomes
     pub writes : AppendsPrefix (contents o) (contents p) (written_of_all outcomes)
     pub tells : TellsPrefix reports reports_failed u v (told_of_all outcomes)
@@ -51,7 +52,7 @@ module _ (options : Options) {W E : Type 0} (contents : W → Option (List ℕ))
     pub line : List ℕ
     pub rest : List (List ℕ)
     pub split : all ≡ lines ++ line ∷ rest
-    pub outcomes : List Outcome
+    pub outcomes : List LineOutcome
     pub goes : Goes q number lines outcomes o p u v
     pub unrefused : some_refused outcomes ≡ false
     pub comes : ComesTo options q (number + length lines) line (Refused r)
@@ -85,7 +86,7 @@ module _ (profile : Profile) (options : Options) {R W E : Type 0}
     pub asked : IsAsked profile text q
     pub bytes : List ℕ
     pub reads : ReadsToEnd remaining has_failed read_gives i j bytes
-    pub outcomes : List Outcome
+    pub outcomes : List LineOutcome
     pub goes : Goes options contents writes_failed reports reports_failed q 1
         (lines_of_input bytes) outcomes o p u v
     pub is : refused ≡ some_refused outcomes
@@ -100,7 +101,7 @@ module _ (profile : Profile) (options : Options) {R W E : Type 0}
     pub lines : List (List ℕ)
     pub last : List ℕ
     pub split : lines_of_input bytes ≡ lines ++ last ∷ []
-    pub outcomes : List Outcome
+    pub outcomes : List LineOutcome
     pub goes : Goes options contents writes_failed reports reports_failed q 1 lines outcomes o p u v
 
   -- the query is asked, and among the lines of what was read the run stopped; the last of them is

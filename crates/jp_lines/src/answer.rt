@@ -4,11 +4,11 @@ ghost use Rattle.std.specs.Prelude.{◌≡◌, ◌++◌, ◌≤◌, IfErr, IfOk,
 ghost use Rattle.std.specs.Prelude.{string_bytes};
 ghost use Rattle.jp_command.specs.Limits.{document_limit};
 ghost use Rattle.std.specs.Fmt.{decimal};
-ghost use Rattle.jp_tree.specs.Tree.{query_of};
+ghost use Rattle.jp_tree.specs.Views.{query_of};
 ghost use Rattle.jp_command.specs.Output.{StopsWriting, WritesAll};
 ghost use Rattle.jp_lines.specs.Lines.{is_blank_line};
 ghost use Rattle.jp_lines.specs.Outcome.{lead_of, wanted_output};
-ghost use Rattle.jp_lines.specs.Private.Answers.{Answers, StopsAnswering, defect_of};
+ghost use Rattle.jp_lines.specs.Private.Answers.{AnswersOrRefuses, StopsAnswering, defect_of};
 
 use crate::count::count_selected;
 use crate::defect::Defect;
@@ -66,7 +66,7 @@ pub(crate) fn answer<W: Writer>(
     memory: &mut Memory,
     output: &mut W,
 ) -> Result<Option<Defect>, Fault>
-    ensures answers { IfOk result (Answers W.contents W.has_failed asked.entry.options
+    ensures answers { IfOk result (AnswersOrRefuses W.contents W.has_failed asked.entry.options
         (query_of asked.entry.query.now.query) number line.now output.old output.new) }
     ensures stopped { IfErr result (StopsAnswering W.contents W.has_failed asked.entry.options
         (query_of asked.entry.query.now.query) number line.now output.old output.new) }
@@ -101,7 +101,7 @@ fn answer_by_tree<W: Writer>(
 ) -> Result<Option<Defect>, Fault>
     requires few { length line.now ≤ document_limit }
     requires some { is_blank_line line.now ≡ false }
-    ensures answers { IfOk result (Answers W.contents W.has_failed asked.entry.options
+    ensures answers { IfOk result (AnswersOrRefuses W.contents W.has_failed asked.entry.options
         (query_of asked.entry.query.now.query) number line.now output.old output.new) }
     ensures stopped { IfErr result (StopsAnswering W.contents W.has_failed asked.entry.options
         (query_of asked.entry.query.now.query) number line.now output.old output.new) }

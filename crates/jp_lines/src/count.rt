@@ -1,7 +1,7 @@
 //! Counting nodes and lines.
 
 ghost use Rattle.std.specs.Prelude.{◌≡◌, IfOk, false, length, suc};
-ghost use Rattle.jp_tree.specs.Tree.{query_of};
+ghost use Rattle.jp_tree.specs.Views.{query_of};
 ghost use Rattle.jp_evaluate.specs.Lent.{has_failed, rest_of};
 ghost use Rattle.jp_evaluate.specs.Nodelist.{nodelist};
 

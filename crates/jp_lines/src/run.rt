@@ -2,7 +2,7 @@
 
 ghost use Rattle.std.specs.Prelude.{◌≡◌, List, ℕ, IfOk, vec_len};
 ghost use Rattle.jp_check.specs.declared.profile.Profile.{Profile};
-ghost use Rattle.jp_tree.specs.Tree.{query_of};
+ghost use Rattle.jp_tree.specs.Views.{query_of};
 ghost use Rattle.jp_command.specs.Limits.{chunk_size};
 ghost use Rattle.jp_command.specs.Run.{IsAsked};
 ghost use Rattle.jp_lines.specs.Run.{RunsLines};

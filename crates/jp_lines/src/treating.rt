@@ -3,7 +3,7 @@
 ghost use Rattle.std.specs.Prelude.{◌≡◌, ◌⊎◌, ◌++◌, List, ℕ, IfErr, IfOk, OnErr, OnOk, codes, true};
 ghost use Rattle.std.specs.Prelude.{false};
 ghost use Rattle.std.specs.Io.KnownBytes.{Keeps};
-ghost use Rattle.jp_tree.specs.Tree.{query_of};
+ghost use Rattle.jp_tree.specs.Views.{query_of};
 ghost use Rattle.jp_command.specs.declared.fault.Fault.TheVariants as fault;
 ghost use Rattle.jp_lines.specs.Outcome.{refused_for, refused_text};
 ghost use Rattle.jp_lines.specs.Told.{Tells};

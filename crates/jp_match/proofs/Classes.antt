@@ -1,9 +1,10 @@
 -- Classes of one range.
-use Rattle.std.proofs.Common.{◌≡◌, ℕ, Bool, true, false, not, ◌&&◌, ◌||◌, nat_le, List, [], ◌∷◌, refl}
+use Rattle.std.proofs.Common.{◌≡◌, ℕ, Bool, true, false, not, ◌&&◌, ◌||◌, nat_le, List, [], ◌∷◌}
+use Rattle.std.proofs.Common.{refl}
 use Rattle.std.proofs.Common.{ap, ◌∙◌, ◌≤◌, ◌<◌, length, get_or, arith}
-use Rattle.jp_iregexp.specs.declared.class.ClassItem.{ClassItem}
-use Rattle.jp_iregexp.specs.declared.class.ClassItem.TheVariants.{Range}
-use Rattle.jp_iregexp.specs.Class.{class_holds, item_holds, negated_if}
+use Rattle.jp_iregexp.specs.declared.class.ClassElement.{ClassElement}
+use Rattle.jp_iregexp.specs.declared.class.ClassElement.TheVariants.{Range}
+use Rattle.jp_iregexp.specs.Class.{class_holds, element_holds, negated_if}
 use mathlib.Core.Bool.{beq}
 
 negates : (r negated : Bool) → not (beq r negated) ≡ negated_if negated (r || false)
@@ -12,15 +13,15 @@ negates true false = refl
 negates false true = refl
 negates false false = refl
 
-pub one_range : (negated : Bool) (items : List ClassItem) (first last c : ℕ) (r : Bool) →
-    items ≡ Range first last ∷ [] → r ≡ (nat_le first c && nat_le c last) →
-    not (beq r negated) ≡ class_holds negated items c
-unfolding class_holds item_holds
+pub one_range : (negated : Bool) (items : List ClassElement) (first last c : ℕ) (r : Bool)
+    → items ≡ Range first last ∷ [] → r ≡ (nat_le first c && nat_le c last)
+    → not (beq r negated) ≡ class_holds negated items c
+unfolding class_holds element_holds
 one_range negated items first last c r is holds = rw is (negates r negated ∙ ap (λ b. negated_if
     negated (b || false)) holds)
 
-pub only_range : (xs : List ClassItem) (d x : ClassItem) → 1 ≤ length xs → length xs < 2 →
-    get_or xs 0 d ≡ x → xs ≡ x ∷ []
+pub only_range : (xs : List ClassElement) (d x : ClassElement) → 1 ≤ length xs → length xs < 2
+    → get_or xs 0 d ≡ x → xs ≡ x ∷ []
 only_range [] d x some few is = absurd (omega arith)
 only_range (y ∷ []) d x some few is = ap (λ z. z ∷ []) is
 only_range (y ∷ z ∷ xs) d x some few is = absurd (omega arith)

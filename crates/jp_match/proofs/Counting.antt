@@ -13,8 +13,8 @@ pub positions_of_parts : (ts : List Tree) → positions_of (branches ts) ≡ pos
 positions_of_parts [] = refl
 positions_of_parts (a ∷ others) = ap (λ n. positions_of a + n) (positions_of_parts others)
 
-pub rounds_of_parts : (ts : List Tree) →
-    rounds_of (unrolled (branches ts)) ≡ rounds_of (unrolled (pieces ts))
+pub rounds_of_parts : (ts : List Tree)
+    → rounds_of (unrolled (branches ts)) ≡ rounds_of (unrolled (pieces ts))
 unfolding unrolled
 rounds_of_parts [] = refl
 rounds_of_parts (a ∷ others) = ap (λ n. rounds_of (unrolled a) + n) (rounds_of_parts others)
@@ -34,8 +34,8 @@ times_more cap (suc k) x own = elim (cases_lt x cap) [
       rw e (omega (arith, mul-le-mul_left k above))
 ]
 
-pub rounds_repeat_most : (a : Tree) (least most : ℕ) →
-    rounds_of (unrolled (repeat a least (Some most))) ≡ most * rounds_of (unrolled a)
+pub rounds_repeat_most : (a : Tree) (least most : ℕ)
+    → rounds_of (unrolled (repeat a least (Some most))) ≡ most * rounds_of (unrolled a)
 unfolding unrolled counted
 rounds_repeat_most a least most = rounds_between (unrolled a) least most
 

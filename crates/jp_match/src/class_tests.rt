@@ -4,7 +4,7 @@ ghost use Rattle.std.specs.Prelude.{◌≡◌, ◌≤◌, ◌&&◌, nat_le};
 ghost use Rattle.jp_iregexp.specs.Class.{class_holds as holds_in};
 ghost use Rattle.jp_match.specs.Private.ClassTests.{count_after};
 
-use jp_iregexp::{CharClass, ClassItem};
+use jp_iregexp::{CharClass, ClassElement};
 use std::marker::Model;
 
 /// How often a matcher has tested whether a class holds a character; at most the greatest `u64`.
@@ -56,8 +56,8 @@ fn class_holds(class: &CharClass, c: char) -> bool
         return class.holds(c);
     };
     match *only {
-        ClassItem::Range(first, last) => is_between(first, last, c) != class.negated,
-        ClassItem::Category { .. } => class.holds(c),
+        ClassElement::Range(first, last) => is_between(first, last, c) != class.negated,
+        ClassElement::Category { .. } => class.holds(c),
     }
 }
 

@@ -33,7 +33,7 @@ use std::mem;
 pub struct Images;
 
 impl Images {
-    /// Whether the text is in the language of the pattern (RFC 9485, section 4; RFC 9535, section
+    /// Whether the text is in the language of the pattern (RFC 9485 section 4; RFC 9535, section
     /// 2.4.6).
     pub fn whole(
         &self,
@@ -55,7 +55,7 @@ impl Images {
     }
 
     /// Whether some part of the text is in the language of the pattern, the empty parts included
-    /// (RFC 9535, section 2.4.7).
+    /// (RFC 9535 section 2.4.7).
     pub fn part(
         &self,
         alloc: Global,

@@ -51,8 +51,8 @@ impl<'p> Marking<'p> {
         requires positions { counts.positions ≡ positions_of (tree pattern.now) }
         requires rounds { counts.rounds ≡ min (rounds_of (unrolled (tree pattern.now))) (2 ^ 31) }
         ensures of { IfOk result (λ marking. marking.pattern.now ≡ pattern.entry.now) }
-        ensures none { IfOk result (λ marking. (position : ℕ) →
-            IsTrue (get_or marking.walk.marks.items position false) → ⊥) }
+        ensures none { IfOk result (λ marking. (position : ℕ)
+            → IsTrue (get_or marking.walk.marks.items position false) → ⊥) }
     {
         if counts.rounds >= MANY_ROUNDS {
             return Err(AllocError);

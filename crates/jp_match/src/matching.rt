@@ -16,7 +16,7 @@ use std::alloc::{AllocError, Global};
 /// out. Where the pattern has at most 4,096 positions, a call makes at most one class test for each
 /// of them and each character, whatever its outcome.
 pub trait Matching {
-    /// Whether the text is in the language of the pattern (RFC 9485, section 4; RFC 9535, section
+    /// Whether the text is in the language of the pattern (RFC 9485 section 4; RFC 9535, section
     /// 2.4.6).
     fn whole(
         &self,
@@ -27,12 +27,12 @@ pub trait Matching {
     ) -> Result<bool, AllocError>
         ensures exact { IfOk result (λ answer. IsTrue answer ↔ Language (tree pattern.now) (chars
             text.now)) }
-        ensures bound { positions_of (tree pattern.now) ≤ 4096 →
-            tests.new ≤ tests.old + positions_of (tree pattern.now) * length (chars text.now) }
+        ensures bound { positions_of (tree pattern.now) ≤ 4096
+            → tests.new ≤ tests.old + positions_of (tree pattern.now) * length (chars text.now) }
         ensures kept { tests.old ≤ tests.new };
 
     /// Whether some part of the text is in the language of the pattern, the empty parts included
-    /// (RFC 9535, section 2.4.7).
+    /// (RFC 9535 section 2.4.7).
     fn part(
         &self,
         alloc: Global,
@@ -42,8 +42,8 @@ pub trait Matching {
     ) -> Result<bool, AllocError>
         ensures exact { IfOk result (λ answer. IsTrue answer ↔ HasPart (Language (tree
             pattern.now)) (chars text.now)) }
-        ensures bound { positions_of (tree pattern.now) ≤ 4096 →
-            tests.new ≤ tests.old + positions_of (tree pattern.now) * length (chars text.now) }
+        ensures bound { positions_of (tree pattern.now) ≤ 4096
+            → tests.new ≤ tests.old + positions_of (tree pattern.now) * length (chars text.now) }
         ensures kept { tests.old ≤ tests.new };
 
     /// The same as `whole`, for a pattern that was counted before.
@@ -56,8 +56,8 @@ pub trait Matching {
     ) -> Result<bool, AllocError>
         ensures exact { IfOk result (λ answer. IsTrue answer ↔ Language (tree pattern.now.pattern)
             (chars text.now)) }
-        ensures bound { positions_of (tree pattern.now.pattern) ≤ 4096 →
-            tests.new ≤ tests.old + positions_of (tree pattern.now.pattern) * length (chars text.now) }
+        ensures bound { positions_of (tree pattern.now.pattern) ≤ 4096
+            → tests.new ≤ tests.old + positions_of (tree pattern.now.pattern) * length (chars text.now) }
         ensures kept { tests.old ≤ tests.new }
     {
         self.whole(alloc, pattern.pattern(), text, tests)
@@ -73,8 +73,8 @@ pub trait Matching {
     ) -> Result<bool, AllocError>
         ensures exact { IfOk result (λ answer. IsTrue answer ↔ HasPart (Language (tree
             pattern.now.pattern)) (chars text.now)) }
-        ensures bound { positions_of (tree pattern.now.pattern) ≤ 4096 →
-            tests.new ≤ tests.old + positions_of (tree pattern.now.pattern) * length (chars text.now) }
+        ensures bound { positions_of (tree pattern.now.pattern) ≤ 4096
+            → tests.new ≤ tests.old + positions_of (tree pattern.now.pattern) * length (chars text.now) }
         ensures kept { tests.old ≤ tests.new }
     {
         self.part(alloc, pattern.pattern(), text, tests)

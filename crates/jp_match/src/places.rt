@@ -54,8 +54,8 @@ pub(crate) fn only(ground: Ground<'_>, place: usize) -> Result<Places, AllocErro
 pub(crate) fn every(ground: Ground<'_>) -> Result<Places, AllocError>
     ensures same_length { IfOk result (λ places. length places.items ≡ suc (length
         ground.entry.text.now)) }
-    ensures every { IfOk result (λ places. (place : ℕ) →
-        Marked places.items place ↔ (place ≤ length ground.entry.text.now)) }
+    ensures every { IfOk result (λ places. (place : ℕ)
+        → Marked places.items place ↔ (place ≤ length ground.entry.text.now)) }
 {
     vec![in ground.alloc; true; ground.text.len() + 1]
 }
@@ -86,8 +86,8 @@ pub(crate) fn is_any(places: &[bool]) -> bool
 /// Whether the steps that led from one set to the next lead no further: there is no place left, or
 /// the places are those of before.
 pub(crate) fn is_settled(places: &[bool], before: &[bool]) -> bool
-    ensures { IsTrue result ↔ (((place : ℕ) → Marked places.now place →
-        ⊥) ⊎ (places.now ≡ before.now)) }
+    ensures { IsTrue result ↔ (((place : ℕ) → Marked places.now place
+        → ⊥) ⊎ (places.now ≡ before.now)) }
 {
     !is_any(places) || is_same(places, before)
 }

@@ -21,8 +21,8 @@ pub(crate) fn rows_at(known: &[Rows], part: usize) -> &[Places]
 
 /// Replaces the places by those of their rows.
 pub(crate) fn follow(rows: &[Places], alloc: Global, places: &mut Places) -> Result<(), AllocError>
-    requires long { (start : ℕ) → start < length rows.now →
-        length (get_or (marks_of rows.now) start []) ≡ length places.old.items }
+    requires long { (start : ℕ) → start < length rows.now
+        → length (get_or (marks_of rows.now) start []) ≡ length places.old.items }
     requires count { length rows.now ≡ length places.old.items }
     ensures { OnOk result (IsUnion (marks_of rows.now) places.old.items places.new.items) }
 {

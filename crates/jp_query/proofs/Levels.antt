@@ -22,14 +22,16 @@ use Rattle.jp_reading.specs.Characters.{opening_parenthesis}
 use Rattle.jp_query.specs.Laws.{LevelsOnlyAdd}
 use Rattle.jp_query.specs.Names.{is_function_char}
 use Rattle.jp_query.specs.Grammar.{nested_expr, nested_arguments, without, Inside, Segments, Spells}
-use Rattle.jp_query.specs.Private.Rules.{nesting, opens, opened, inside_mark, expression, segments}
+use Rattle.jp_query.specs.Private.Rules.{nesting, opens, opened, inside_expression, expression}
+use Rattle.jp_query.specs.Private.Rules.{segments}
 use Rattle.jp_query.specs.Private.Rules as rule
 use Rattle.jp_query.specs.Private.Reading.{inside, read_inside}
 use Rattle.std.proofs.lemmas.Bool.{cases_Bool, eqb-true}
 use Rattle.jp_query.proofs.Soundness.Alive.{expression-alive}
 use Rattle.jp_query.proofs.Completeness.Apart.{closes, opened-alive, opened-apart}
-use Rattle.jp_query.proofs.Forms.Selectors.{marked, CallFrom, Parentheses, segments-same}
-use Rattle.jp_query.proofs.Forms.FunctionNames.{and-left, passed, from-letter}
+use Rattle.jp_query.proofs.Forms.Selectors.{opening_form, CallFrom, Parentheses, segments-same}
+use Rattle.jp_query.proofs.Forms.FunctionNames.{passed, from-letter}
+use Rattle.jp_reading.proofs.Conjunctions.{and-left}
 use Rattle.jp_query.proofs.Forms.Expressions.{expression-same}
 use Rattle.jp_query.proofs.Forms.Arguments.{opened-same}
 
@@ -38,25 +40,25 @@ pub inside-progress : (n : ℕ) (o : rule.Opening) → Progress (inside n o)
 inside-progress zero o p = tt
 inside-progress (suc n) o p = goes (inside n) (inside-progress n) (opened o) p
 
--- where a level is left the mark leads to an expression
-pub inside-entered : (n mark : ℕ) (p q : State) → (n ≡ 0 → ⊥) → expect mark p ≡ took mark q
-    → inside n (rule.mark mark) p ≡ read_inside (n - 1) expression (skip q)
-unfolding inside_mark
-inside-entered zero mark p q some e = absurd (some refl)
-inside-entered (suc n) mark p q some e =
+-- where a level is left the character leads to an expression
+pub inside-entered : (n opening : ℕ) (p q : State) → (n ≡ 0 → ⊥) → expect opening p ≡ took opening q
+    → inside n (rule.expression_after opening) p ≡ read_inside (n - 1) expression (skip q)
+unfolding inside_expression
+inside-entered zero opening p q some e = absurd (some refl)
+inside-entered (suc n) opening p q some e =
     let one : suc n - 1 ≡ n = omega arith in
     rw one (ap (λ (o : Outcome ℕ). o >>= λ d r. read_inside n expression (skip r)) e)
 
 -- ---- one level more
 
-pub marked-more : (n : ℕ) (o : rule.Opening) (x : rule.Opened o)
-    → Within (marked (Inside n) o x) (marked (Inside (suc n)) o x)
-marked-more zero (rule.mark m) e s o t h = absurd h.two.two
-marked-more zero (rule.name_from others) r s o t h = absurd h.is.two.two.two.one
-marked-more zero (rule.name_on other) r s o t h = absurd h.is.two.two.two.one
-marked-more (suc n) o x s i t h =
+pub opening_form-more : (n : ℕ) (o : rule.Opening) (x : rule.Opened o)
+    → Within (opening_form (Inside n) o x) (opening_form (Inside (suc n)) o x)
+opening_form-more zero (rule.expression_after m) e s o t h = absurd h.two.two
+opening_form-more zero (rule.name_from others) r s o t h = absurd h.is.two.two.two.one
+opening_form-more zero (rule.name_on other) r s o t h = absurd h.is.two.two.two.one
+opening_form-more (suc n) o x s i t h =
     (opened-same (Inside (suc n)) o x).to s i t
-    (lifts (marked (Inside n)) (marked (Inside (suc n))) (marked-more n) (opened o) x s i t
+    (lifts (opening_form (Inside n)) (opening_form (Inside (suc n))) (opening_form-more n) (opened o) x s i t
     ((opened-same (Inside n) o x).from s i t h))
 
 spells-lifts : (n : ℕ) (q : QueryTree) (s : Spans) (text : Text) → Spells n q s text
@@ -69,7 +71,7 @@ spells-lifts n q s text h =
       tree = h.tree;
       is = after-within (word (codes "$")) (Segments I h.parts) (Segments K h.parts)
           (λ v o t g. (segments-same K h.parts).to v o t
-          (lifts (marked I) (marked K) (marked-more n) segments h.parts v o t
+          (lifts (opening_form I) (opening_form K) (opening_form-more n) segments h.parts v o t
           ((segments-same I h.parts).from v o t g))) s 0 text h.is;
     }
 
@@ -118,17 +120,17 @@ or-second false b e h = h
 
 -- where no level is left, one level deeper the next character goes on
 opened-deeper : (o : rule.Opening) (c : ℕ) (p : State) → head p ≡ Some c → opens o c ≡ true
-    → Stops (marked (Inside (suc zero)) o) p (past p)
-opened-deeper (rule.mark m) c p e h = record {
+    → Stops (opening_form (Inside (suc zero)) o) p (past p)
+opened-deeper (rule.expression_after m) c p e h = record {
   value = x;
   prefix = prefix-then (word (m ∷ [])) (Blank ⌢ Inside (suc zero) (nested_expr x)) p (past p)
       (past p)
       (reads-word p m (e ∙ ap Some (eqb-true c m h)))
       (prefix-none (Blank ⌢ Inside (suc zero) (nested_expr x)) (past p)
       (joined-has Blank (Inside (suc zero) (nested_expr x)) blank-has
-      (has-as (form (marked (Inside zero)) expression x) (Inside (suc zero) (nested_expr x))
+      (has-as (form (opening_form (Inside zero)) expression x) (Inside (suc zero) (nested_expr x))
       (expression-same (Inside zero) x).to
-      (has (marked (Inside zero)) expression expression-alive))));
+      (has (opening_form (Inside zero)) expression expression-alive))));
 }
   where
     x : ExprTree
@@ -158,17 +160,17 @@ opened-deeper (rule.name_on other) c p e h = way (cases_Bool (is opening_parenth
     }
     way (inr letter) = named-deeper ok c p e (letter-of letter h) h
 
-pub inside-sound : (n : ℕ) → InnerIsSound nesting (marked (Inside n)) (marked (Inside (suc n)))
+pub inside-sound : (n : ℕ) → InnerIsSound nesting (opening_form (Inside n)) (opening_form (Inside (suc n)))
     (inside n)
 inside-sound zero o p on =
     let h = passed (opens o) (head p) on in none_left refl (opened-deeper o h.0 p h.1 h.2)
 inside-sound (suc n) o p on =
     let h = passed (opens o) (head p) on in
     some_left
-    (sound-as (form (marked (Inside n)) (opened o)) (form (marked (Inside (suc n))) (opened o))
-    (marked (Inside (suc n)) o) (marked (Inside (suc (suc n))) o) p (inside (suc n) o p)
+    (sound-as (form (opening_form (Inside n)) (opened o)) (form (opening_form (Inside (suc n))) (opened o))
+    (opening_form (Inside (suc n)) o) (opening_form (Inside (suc (suc n))) o) p (inside (suc n) o p)
     (λ x. (opened-same (Inside n) o x).to) (λ x. (opened-same (Inside (suc n)) o x).to)
-    (sound (marked (Inside n)) (marked (Inside (suc n))) (marked-more n) (inside n) (inside-sound n)
+    (sound (opening_form (Inside n)) (opening_form (Inside (suc n))) (opening_form-more n) (inside n) (inside-sound n)
     (opened o) (opened-alive o h.0 h.2) p))
 
 -- ---- completeness
@@ -209,15 +211,15 @@ call-first ok n r p q h = way r.rest refl
 
 -- what is opened begins with a character of its opening
 opened-first : (n : ℕ) (o : rule.Opening) (x : rule.Opened o) (p q : State)
-    → Reads (marked (Inside n) o x) p q → passes (opens o) (head p) ≡ true
-opened-first n (rule.mark m) x p q h =
+    → Reads (opening_form (Inside n) o x) p q → passes (opens o) (head p) ≡ true
+opened-first n (rule.expression_after m) x p q h =
     let parts = split (word (m ∷ [])) (Blank ⌢ Inside n (nested_expr x)) p q h in at-word m [] p
     parts.middle parts.one
 opened-first n (rule.name_from others) r p q h =
     call-first (opens (rule.name_from others)) n r p q h
 opened-first n (rule.name_on other) r p q h = call-first (opens (rule.name_on other)) n r p q h
 
-pub inside-complete : (n : ℕ) → InnerIsComplete nesting (marked (Inside n)) closes (inside n)
+pub inside-complete : (n : ℕ) → InnerIsComplete nesting (opening_form (Inside n)) closes (inside n)
 inside-complete zero = record {
   progress = inside-progress zero;
   again = λ o x p q h follow. absurd (nothing o x h.spans p.at h.text h.is);
@@ -225,17 +227,17 @@ inside-complete zero = record {
 }
   where
     nothing : (o : rule.Opening) (x : rule.Opened o) (s : Spans) (i : ℕ) (t : Text)
-        → marked (Inside zero) o x s i t → ⊥
-    nothing (rule.mark m) e s i t h = h.two.two
+        → opening_form (Inside zero) o x s i t → ⊥
+    nothing (rule.expression_after m) e s i t h = h.two.two
     nothing (rule.name_from others) r s i t h = h.is.two.two.two.one
     nothing (rule.name_on other) r s i t h = h.is.two.two.two.one
 inside-complete (suc n) = record {
   progress = inside-progress (suc n);
   again = λ o x p q h follow. (let c =
       passed (opens o) (head p) (opened-first (suc n) o x p q h) in
-      (done (marked (Inside n)) closes (inside n) (inside-complete n) (opened o)
+      (done (opening_form (Inside n)) closes (inside n) (inside-complete n) (opened o)
       (opened-alive o c.0 c.2) (closes o) (opened-apart o c.0 c.2) x p q
-      (reads-as (marked (Inside (suc n)) o x) (form (marked (Inside n)) (opened o) x) p q
+      (reads-as (opening_form (Inside (suc n)) o x) (form (opening_form (Inside n)) (opened o) x) p q
       (opened-same (Inside n) o x).from h) follow).reads);
   first = λ o x p q h. opened-first (suc n) o x p q h;
 }

@@ -1,7 +1,7 @@
 pub mod CappedIntegers
 pub mod Completeness
 pub mod Forms
-pub mod ItemSpans
+pub mod ComponentSpans
 pub mod Levels
 pub mod OneRefusal
 pub mod Readers

@@ -60,8 +60,8 @@ record Point (n : ℕ) (text : Text) (place : ℕ) : Type 0 where
   parts : text ≡ before ++ rest
   place_is : bytes before ≡ place
   is_viable : IsViablePrefix n before
-  no_further : (mark : ℕ) (after : Text) → rest ≡ mark ∷ after
-      → IsNoViablePrefix n (before ++ mark ∷ [])
+  no_further : (unexpected : ℕ) (after : Text) → rest ≡ unexpected ∷ after
+      → IsNoViablePrefix n (before ++ unexpected ∷ [])
 
 one-prefix : (n : ℕ) (text : Text) (place other : ℕ) (h : Point n text place)
     (g : Point n text other) → h.before ≡ g.before
@@ -83,14 +83,14 @@ one-point n text place other h g =
     sym h.place_is ∙ ap bytes (one-prefix n text place other h g) ∙ g.place_is
 
 -- at a character, and at the end
-mark-point : (n : ℕ) (text : Text) (place : ℕ) → EndsViablePrefix n text place → Point n text place
-mark-point n text place h = record {
+unexpected-point : (n : ℕ) (text : Text) (place : ℕ) → EndsViablePrefix n text place → Point n text place
+unexpected-point n text place h = record {
   before = h.before;
-  rest = h.mark ∷ h.after;
+  rest = h.unexpected ∷ h.after;
   parts = h.parts;
   place_is = h.place_is;
   is_viable = h.is_viable;
-  no_further = λ c t e. (let same : h.mark ≡ c = cc in subst
+  no_further = λ c t e. (let same : h.unexpected ≡ c = cc in subst
       (λ d. IsNoViablePrefix n (h.before ++ d ∷ [])) same h.is_not_viable);
 }
 
@@ -103,31 +103,31 @@ syntax-point n text place (inl h) = record {
   is_viable = h.is_viable;
   no_further = λ c t e. cc;
 }
-syntax-point n text place (inr h) = mark-point n text place h.end
+syntax-point n text place (inr h) = unexpected-point n text place h.end
 
 deep-point : (n : ℕ) (text : Text) (place : ℕ) → IsTooDeepAt n text place → Point n text place
-deep-point n text place h = mark-point n text place h.end
+deep-point n text place h = unexpected-point n text place h.end
 
--- through a mark that begins a level too many the text goes on one level deeper, through any other
+-- through a character that begins a level too many the text goes on one level deeper, through any other
 -- it does not
 not-both : (n : ℕ) (text : Text) (place other : ℕ) → IsSyntaxAt n text place
     → IsTooDeepAt n text other → ⊥
-unfolding syntax-point mark-point deep-point
+unfolding syntax-point unexpected-point deep-point
 not-both n text place other (inl h) g =
     let end = g.end in
-    end.is_not_viable (viable-less n (end.before ++ end.mark ∷ []) end.after
+    end.is_not_viable (viable-less n (end.before ++ end.unexpected ∷ []) end.after
     (subst (IsViablePrefix n)
-    (end.parts ∙ sym (append_assoc end.before (end.mark ∷ []) end.after)) h.is_viable))
+    (end.parts ∙ sym (append_assoc end.before (end.unexpected ∷ []) end.after)) h.is_viable))
 not-both n text place other (inr h) g =
     let before = one-prefix n text place other (syntax-point n text place (inr h))
     (deep-point n text other g) in
     let one = h.end in
     let two = g.end in
-    let left : one.mark ∷ one.after ≡ two.mark ∷ two.after =
-    append_cancel_left two.before (one.mark ∷ one.after) (two.mark ∷ two.after)
-    (ap (λ t. t ++ one.mark ∷ one.after) (sym before) ∙ sym one.parts ∙ two.parts) in
-    let mark : one.mark ≡ two.mark = cc in
-    h.none_deeper (rw (before, mark) g.deeper)
+    let left : one.unexpected ∷ one.after ≡ two.unexpected ∷ two.after =
+    append_cancel_left two.before (one.unexpected ∷ one.after) (two.unexpected ∷ two.after)
+    (ap (λ t. t ++ one.unexpected ∷ one.after) (sym before) ∙ sym one.parts ∙ two.parts) in
+    let unexpected : one.unexpected ≡ two.unexpected = cc in
+    h.none_deeper (rw (before, unexpected) g.deeper)
 
 -- ---- the law
 
@@ -151,9 +151,9 @@ once n text kind other place elsewhere (inr h) (inl g) =
 nothing-spelled : (n : ℕ) (text : Text) (place : ℕ) → EndsViablePrefix n text place
     → SpellsNothing n text
 nothing-spelled n text place end q s h =
-    let through = end.before ++ end.mark ∷ [] in
+    let through = end.before ++ end.unexpected ∷ [] in
     end.is_not_viable (spelled-viable n text through end.after q s
-    (end.parts ∙ sym (append_assoc end.before (end.mark ∷ []) end.after)) h)
+    (end.parts ∙ sym (append_assoc end.before (end.unexpected ∷ []) end.after)) h)
 
 only : (n : ℕ) (text : Text) (kind : RefusalKind) (place : ℕ) → IsParseRefusal n text kind place
     → SpellsNothing n text

@@ -12,7 +12,7 @@ use Rattle.jp_tree.specs.Tree.{comparison, exists, literal, node_value, number}
 use Rattle.jp_query.specs.Names.{is_name_first, is_name_char}
 use Rattle.jp_query.specs.Strings.{is_plain, scalar_of, escaped, is_escapable}
 use Rattle.jp_query.specs.Ints.{whole_of, negative_of}
-use Rattle.jp_query.specs.Items.{items_of, int, as_index, inner, constant, as_side}
+use Rattle.jp_query.specs.Components.{components_of, int, as_index, inner, constant, as_side}
 use Rattle.jp_query.specs.Grammar.{Spells}
 use Rattle.jp_query.specs.Private.Rules as rule
 use Rattle.jp_query.specs.Private.Reading.{query_at}
@@ -51,7 +51,7 @@ at_bytes from to = Some (record { start = from; end = to })
 abbrev ten : QueryTree
 ten = query true (segments (segment false (selectors (index (Whole (pos 10)) ∷ [])) ∷ []))
 
--- `$ .a['']`: two names, no item
+-- `$ .a['']`: two names, no component
 abbrev names : QueryTree
 names =
     query true (segments (segment false (selectors (name (codes "a") ∷ [])) ∷ segment false
@@ -131,7 +131,7 @@ compared =
     (comparison (literal (number (Whole (pos 0)))) LessEqual (node_value member_a)
     ∷ comparison (node_value here) Equal (literal (number Fraction)) ∷ [])))
 
--- a filter takes a level, and a parenthesis another one; each side and each test is an item
+-- a filter takes a level, and a parenthesis another one; each side and each test is a component
 filter-rows : Spells 1 test (at_bytes 3 4 ∷ []) (codes "$[?@]")
     × Spells 2 negated (at_bytes 5 6 ∷ []) (codes "$[?!(@)]")
     × Spells 1 several (at_bytes 5 6 ∷ at_bytes 8 9 ∷ at_bytes 12 15 ∷ [])
@@ -141,7 +141,7 @@ filter-rows : Spells 1 test (at_bytes 3 4 ∷ []) (codes "$[?@]")
 unfolding query_at rule.query rule.segments rule.segment rule.bracket rule.entries rule.entry
     rule.selector rule.member rule.selection rule.shorthand rule.query_within rule.identifier
     rule.side rule.side_within rule.word rule.comparison_with rule.subject rule.test_expr
-    rule.closed rule.negated rule.negation_on rule.basic rule.inside_mark rule.conjunction
+    rule.closed rule.negated rule.negation_on rule.basic rule.inside_expression rule.conjunction
     rule.expression
     rule.operator rule.plain_literal rule.number rule.mantissa rule.decimals rule.exponent
     rule.power rule.digits rule.int rule.unsigned rule.size past_blanks loop is_blank is_digit
@@ -155,8 +155,7 @@ filter-rows = (
 )
 
 -- with no level left, `?` and `(` are too deep; a literal is no test, parentheses are no side, a
--- comparison has two
--- sides, and no operator is `=`
+-- comparison has two sides, and no operator is `=`
 refused_filter-rows : (query_at 0 (start (codes "$[?@]")) ≡ deep (record {
   at = 2;
   rest = codes "?@]";
@@ -185,17 +184,17 @@ refused_filter-rows : (query_at 0 (start (codes "$[?@]")) ≡ deep (record {
 unfolding query_at rule.query rule.segments rule.segment rule.bracket rule.entries rule.entry
     rule.selector rule.member rule.selection rule.shorthand rule.query_within rule.identifier
     rule.side rule.side_within rule.word rule.comparison_with rule.subject rule.test_expr
-    rule.closed rule.negated rule.negation_on rule.basic rule.inside_mark rule.conjunction
+    rule.closed rule.negated rule.negation_on rule.basic rule.inside_expression rule.conjunction
     rule.expression
     rule.operator rule.plain_literal rule.number rule.mantissa rule.decimals rule.exponent
     rule.power rule.digits rule.int rule.unsigned rule.size past_blanks loop is_blank is_digit
 refused_filter-rows = (refl, refl, refl, refl, refl, refl)
 
--- the items of `$[10]`, and of comparisons
-items-rows : (items_of ten ≡ int (Whole (pos 10)) as_index ∷ [])
-    × (items_of compared ≡ constant (number (Whole (pos 0))) as_side ∷ inner member_a as_side
+-- the components of `$[10]`, and of comparisons
+components-rows : (components_of ten ≡ int (Whole (pos 10)) as_index ∷ [])
+    × (components_of compared ≡ constant (number (Whole (pos 0))) as_side ∷ inner member_a as_side
     ∷ inner here as_side ∷ constant (number Fraction) as_side ∷ [])
-items-rows = (refl, refl)
+components-rows = (refl, refl)
 
 -- `@.a` is singular, and `$[?@]` is not
 singular-rows : (is_singular member_a ≡ true) × (is_singular test ≡ false)

@@ -17,11 +17,11 @@ use Rattle.jp_query.specs.Private.Rules.{query}
 use Rattle.jp_query.specs.Private.Reading.{query_at, inside}
 use Rattle.jp_query.proofs.Soundness.Alive.{query-alive}
 use Rattle.jp_query.proofs.Completeness.Apart.{closes, at_end, query-apart}
-use Rattle.jp_query.proofs.Forms.Selectors.{marked, query-same}
+use Rattle.jp_query.proofs.Forms.Selectors.{opening_form, query-same}
 use Rattle.jp_query.proofs.Levels.{inside-complete, spells-more}
 
 query-spelt : (n : ℕ) (q : QueryTree) (s : Spans) (text : Text) → Spells n q s text
-    → form (marked (Inside n)) query q s 0 text
+    → form (opening_form (Inside n)) query q s 0 text
 query-spelt n q s text h =
     (query-same (Inside n) q).from s 0 text
     (joined-over (word (codes "$")) (Segments (Inside n) h.parts) _ s 0 text h.is
@@ -36,7 +36,7 @@ pub spells-read : (n : ℕ) (q : QueryTree) (s : Spans) (text : Text) → Spells
     → query_at n (start text) ≡ took q (finish text s)
 unfolding query_at
 spells-read n q s text h =
-    let F = marked (Inside n) in
+    let F = opening_form (Inside n) in
     rw (done F closes (inside n) (inside-complete n) query query-alive at_end query-apart q
     (start text) (finish text s)
     (reads-whole (form F query q) s text (query-spelt n q s text h)) (ends-meet text s)).reads refl

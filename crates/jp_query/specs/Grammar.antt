@@ -1,4 +1,4 @@
--- Which text spells which tree of a query, and where its items stand in it (RFC 9535 appendix A).
+-- Which text spells which tree of a query, and where its components stand in it (RFC 9535 appendix A).
 -- A filter, a parenthesis and the arguments of a function are a level each; at most n levels stand
 -- inside one another.
 use Rattle.std.specs.Prelude.{◌≡◌, ℕ, zero, suc, true, false, List, [], ◌∷◌, codes}
@@ -6,7 +6,7 @@ use Rattle.jp_tree.specs.declared.tree.Numeral.{Numeral}
 use Rattle.jp_tree.specs.declared.tree.Slice.{Slice}
 use Rattle.jp_tree.specs.declared.tree.Op.{Op}
 use Rattle.jp_reading.specs.Texts.{Text, Spans}
-use Rattle.jp_reading.specs.Forms.{Form, word, ◌⌢◌, Blank, Each, Separated, Item, Never}
+use Rattle.jp_reading.specs.Forms.{Form, word, ◌⌢◌, Blank, Each, Separated, Component, Never}
 use Rattle.jp_tree.specs.Tree.{SelectorTree, name, wildcard, index, slice, filter, SegmentTree}
 use Rattle.jp_tree.specs.Tree.{segment, QueryTree, query, ExprTree, ExprTrees, any_of, all_of}
 use Rattle.jp_tree.specs.Tree.{negation, comparison, exists, call_test, OperandTree, literal}
@@ -36,12 +36,12 @@ pub data Nested : Type 0 where
 
 -- the rules, where Inner is the form of what is one level further in
 module _ (Inner : Nested → Form) where
-  -- selector (section 2.3): a name between quotation marks, `*`, an index, which is an item, a
+  -- selector (section 2.3): a name between quotation marks, `*`, an index, which is a component, a
   -- slice, or `?` and an expression (section 2.3.5.1)
   pub data Selector (x : SelectorTree) (s : Spans) (o : ℕ) (t : Text) : Type 0 where
     named : (cs : Text) → x ≡ name cs → Quoted cs s o t → Selector x s o t
     any : x ≡ wildcard → word (codes "*") s o t → Selector x s o t
-    indexed : (i : Numeral) → x ≡ index i → Item (Int i) s o t → Selector x s o t
+    indexed : (i : Numeral) → x ≡ index i → Component (Int i) s o t → Selector x s o t
     sliced : (y : Slice) → x ≡ slice y → Sliced y s o t → Selector x s o t
     filtered : (e : ExprTree) → x ≡ filter e
         → (word (codes "?") ⌢ Blank ⌢ Inner (nested_expr e)) s o t → Selector x s o t
@@ -68,24 +68,24 @@ module _ (Inner : Nested → Form) where
   abbrev pub Segments : List SegmentTree → Form
   Segments = Each (λ x. Blank ⌢ Segment x)
 
-  -- filter-query (section 2.3.5.1), an item: from the root, or from the current node
+  -- filter-query (section 2.3.5.1), a component: from the root, or from the current node
   pub data InnerQuery (q : QueryTree) (s : Spans) (o : ℕ) (t : Text) : Type 0 where
     from_root : (xs : List SegmentTree) → q ≡ query true (segments xs)
-        → Item (word (codes "$") ⌢ Segments xs) s o t → InnerQuery q s o t
+        → Component (word (codes "$") ⌢ Segments xs) s o t → InnerQuery q s o t
     from_current : (xs : List SegmentTree) → q ≡ query false (segments xs)
-        → Item (word (codes "@") ⌢ Segments xs) s o t → InnerQuery q s o t
+        → Component (word (codes "@") ⌢ Segments xs) s o t → InnerQuery q s o t
 
-  -- function-expr (section 2.4), an item: a name and, after it, arguments in parentheses
+  -- function-expr (section 2.4), a component: a name and, after it, arguments in parentheses
   pub data FunctionCall (x : CallTree) (s : Spans) (o : ℕ) (t : Text) : Type 0 where
     function_call : (name : Text) (xs : List ArgumentTree) → x ≡ call name (arguments xs)
-        → Item (FunctionName name ⌢ word (codes "(") ⌢ Blank ⌢ Inner (nested_arguments xs)
+        → Component (FunctionName name ⌢ word (codes "(") ⌢ Blank ⌢ Inner (nested_arguments xs)
         ⌢ Blank ⌢ word (codes ")")) s o t
         → FunctionCall x s o t
 
-  -- comparable (section 2.3.5.1): a literal, which is an item, a query, or a function. That a query
+  -- comparable (section 2.3.5.1): a literal, which is a component, a query, or a function. That a query
   -- is singular, and that a function answers a value, is no rule of spelling here.
   pub data Side (x : OperandTree) (s : Spans) (o : ℕ) (t : Text) : Type 0 where
-    literal_side : (l : LiteralTree) → x ≡ literal l → Item (Literal l) s o t → Side x s o t
+    literal_side : (l : LiteralTree) → x ≡ literal l → Component (Literal l) s o t → Side x s o t
     query_side : (q : QueryTree) → x ≡ node_value q → InnerQuery q s o t → Side x s o t
     call_side : (c : CallTree) → x ≡ call_value c → FunctionCall c s o t → Side x s o t
 
@@ -145,13 +145,13 @@ module _ (Inner : Nested → Form) where
         → Disjoined (x ∷ y ∷ es) s o t → Logical e s o t
 
   -- function-argument (section 2.4): a literal, a query or a function that is all of it, or else a
-  -- logical expression, which is an item
+  -- logical expression, which is a component
   pub data Argument (x : ArgumentTree) (s : Spans) (o : ℕ) (t : Text) : Type 0 where
-    literal_alone : (l : LiteralTree) → x ≡ literal_argument l → Item (Literal l) s o t
+    literal_alone : (l : LiteralTree) → x ≡ literal_argument l → Component (Literal l) s o t
         → Argument x s o t
     query_alone : (q : QueryTree) → x ≡ query_argument q → InnerQuery q s o t → Argument x s o t
     call_alone : (c : CallTree) → x ≡ call_argument c → FunctionCall c s o t → Argument x s o t
-    logical_expr : (e : ExprTree) → x ≡ logical_argument e → Item (Logical e) s o t
+    logical_expr : (e : ExprTree) → x ≡ logical_argument e → Component (Logical e) s o t
         → Argument x s o t
 
   -- the arguments of a function (section 2.4), if it has any, with commas between them
@@ -165,13 +165,12 @@ module _ (Inner : Nested → Form) where
   Level (nested_arguments xs) = Arguments xs
 
 -- what is a level further in, where at most n - 1 levels stand inside one another; with n zero
--- there
--- is nothing
+-- there is nothing
 abbrev pub Inside : ℕ → Nested → Form
 Inside zero x = Never
 Inside (suc n) x = Level (Inside n) x
 
--- jsonpath-query (section 2.1.1): the text spells the tree q, with spans s for its items
+-- jsonpath-query (section 2.1.1): the text spells the tree q, with spans s for its components
 pub record Spells (n : ℕ) (q : QueryTree) (s : Spans) (text : Text) : Type 0 where
   pub parts : List SegmentTree
   pub tree : q ≡ query true (segments parts)

@@ -5,7 +5,7 @@ use Rattle.jp_tree.specs.declared.tree.Numeral.{Numeral}
 use Rattle.jp_tree.specs.declared.tree.Numeral.TheVariants.{Whole, Beyond}
 use Rattle.jp_reading.specs.Texts.{Text, Spans}
 use Rattle.jp_reading.specs.Forms.{Form, word, One, ◌⌢◌, Each}
-use Rattle.jp_reading.specs.Numbers.{is_digit, value_from}
+use Rattle.jp_reading.specs.Numbers.{is_digit, value_from, is_leading_digit}
 use Rattle.jp_reading.specs.Characters.{digit_one, digit_nine}
 
 -- the whole number of that size, or that it is outside -(2^63) to (2^64)-1
@@ -15,10 +15,6 @@ whole_of size = if nat_lt size (2 ^ 64) then Whole (pos size) else Beyond
 -- the same for the number below zero of that size
 abbrev pub negative_of : ℕ → Numeral
 negative_of size = if nat_le size (2 ^ 63) then Whole (neg_ℤ (pos size)) else Beyond
-
--- DIGIT1 (section 2.3.3.1): a digit other than zero
-abbrev pub is_leading_digit : ℕ → Bool
-is_leading_digit c = nat_le digit_one c && nat_le c digit_nine
 
 -- DIGIT1 *DIGIT: the digits c and more, without a leading zero
 abbrev pub Unsigned : ℕ → Text → Form

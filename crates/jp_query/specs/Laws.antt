@@ -3,8 +3,8 @@ use Rattle.std.specs.Prelude.{◌≡◌, ◌≤◌, ◌⊎◌, ℕ}
 use Rattle.jp_reading.specs.Texts.{Text, Spans}
 use Rattle.jp_tree.specs.Tree.{QueryTree}
 use Rattle.jp_query.specs.Grammar.{Spells}
-use Rattle.jp_query.specs.Items.{items_of}
-use Rattle.jp_query.specs.ItemSpans.{AreSpansOf}
+use Rattle.jp_query.specs.Components.{components_of}
+use Rattle.jp_query.specs.ComponentSpans.{AreSpansOf}
 use Rattle.jp_query.specs.Spelled.{SpellsNothing}
 use Rattle.jp_query.specs.ViablePrefix.{IsSyntaxAt, IsTooDeepAt}
 use Rattle.jp_query.specs.declared.refusal.RefusalKind.{RefusalKind}
@@ -22,11 +22,11 @@ LevelsOnlyAdd =
     (n m : ℕ) (q : QueryTree) (s : Spans) (text : Text) → n ≤ m → Spells n q s text
     → Spells m q s text
 
--- the spans of a text that spells a tree are those of its items, whatever the levels
-abbrev pub SpansOfItems : Type 0
-SpansOfItems =
+-- the spans of a text that spells a tree are those of its components, whatever the levels
+abbrev pub SpansOfComponents : Type 0
+SpansOfComponents =
     (n : ℕ) (q : QueryTree) (s : Spans) (text : Text) → Spells n q s text
-    → AreSpansOf text (items_of q) s
+    → AreSpansOf text (components_of q) s
 
 -- the parser refuses the text with that kind, at that place
 abbrev pub IsParseRefusal : ℕ → Text → RefusalKind → ℕ → Type 0

@@ -1,7 +1,7 @@
 pub mod Grammar
 pub mod Ints
-pub mod ItemSpans
-pub mod Items
+pub mod ComponentSpans
+pub mod Components
 pub mod Laws
 pub mod Levels
 pub mod Literals

@@ -5,7 +5,7 @@ use Rattle.jp_tree.specs.declared.tree.Query.{Query}
 use Rattle.jp_tree.specs.Tree.{QueryTree}
 use Rattle.jp_query.specs.Grammar.{Spells}
 
--- a query and the spans of its items, in the items' order
+-- a query and the spans of its components, in the components' order
 pub record Spanned : Type 0 where
   pub query : Query
   pub spans : Spans

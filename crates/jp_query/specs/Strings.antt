@@ -72,15 +72,15 @@ pub data Hexchar (c : ℕ) (s : Spans) (o : ℕ) (t : Text) : Type 0 where
       ⌢ Unit is_d is_c_to_f low) s o t → Hexchar c s o t
 
 -- double-quoted and single-quoted: a character between two of the quotation mark, and its text
-pub data Character (quote c : ℕ) (s : Spans) (o : ℕ) (t : Text) : Type 0 where
-  plain : One (is_plain quote) c s o t → Character quote c s o t
+pub data StringCharacter (quote c : ℕ) (s : Spans) (o : ℕ) (t : Text) : Type 0 where
+  plain : One (is_plain quote) c s o t → StringCharacter quote c s o t
   escape : (letter : ℕ) → c ≡ escaped letter
-      → (word (codes "\\") ⌢ One (is_escapable quote) letter) s o t → Character quote c s o t
-  hex : (word (codes "\\") ⌢ word (codes "u") ⌢ Hexchar c) s o t → Character quote c s o t
+      → (word (codes "\\") ⌢ One (is_escapable quote) letter) s o t → StringCharacter quote c s o t
+  hex : (word (codes "\\") ⌢ word (codes "u") ⌢ Hexchar c) s o t → StringCharacter quote c s o t
 
 -- the characters cs between two of the quotation mark
 abbrev pub Between : ℕ → Text → Form
-Between quote cs = word (quote ∷ []) ⌢ Each (Character quote) cs ⌢ word (quote ∷ [])
+Between quote cs = word (quote ∷ []) ⌢ Each (StringCharacter quote) cs ⌢ word (quote ∷ [])
 
 -- string-literal: double quotation marks, or single ones
 pub data Quoted (cs : Text) (s : Spans) (o : ℕ) (t : Text) : Type 0 where

@@ -18,22 +18,22 @@ IsNoViablePrefix n prefix = IsViablePrefix n prefix → ⊥
 -- through the character there it is not
 pub record EndsViablePrefix (n : ℕ) (text : Text) (place : ℕ) : Type 0 where
   pub before : Text
-  pub mark : ℕ
+  pub unexpected : ℕ
   pub after : Text
-  pub parts : text ≡ before ++ mark ∷ after
+  pub parts : text ≡ before ++ unexpected ∷ after
   pub place_is : bytes before ≡ place
   pub is_viable : IsViablePrefix n before
-  pub is_not_viable : IsNoViablePrefix n (before ++ mark ∷ [])
+  pub is_not_viable : IsNoViablePrefix n (before ++ unexpected ∷ [])
 
 -- the character there goes on to no query, nor does it with one level more
 pub record IsUnexpectedAt (n : ℕ) (text : Text) (place : ℕ) : Type 0 where
   pub end : EndsViablePrefix n text place
-  pub none_deeper : IsNoViablePrefix (suc n) (end.before ++ end.mark ∷ [])
+  pub none_deeper : IsNoViablePrefix (suc n) (end.before ++ end.unexpected ∷ [])
 
 -- the character there goes on to no query, but does with one level more
 pub record IsTooDeepAt (n : ℕ) (text : Text) (place : ℕ) : Type 0 where
   pub end : EndsViablePrefix n text place
-  pub deeper : IsViablePrefix (suc n) (end.before ++ end.mark ∷ [])
+  pub deeper : IsViablePrefix (suc n) (end.before ++ end.unexpected ∷ [])
 
 -- that byte is the end of the text, which is a viable prefix and spells no tree
 pub record IsUnfinishedAt (n : ℕ) (text : Text) (place : ℕ) : Type 0 where

@@ -4,8 +4,8 @@ ghost use Rattle.std.specs.Prelude.{◌≡◌, [], map, IfOk};
 ghost use Rattle.std.specs.Str.{chars};
 ghost use Rattle.std.specs.String.{string_bytes};
 ghost use Rattle.jp_reading.specs.Outcome.{after_blank, passes};
-ghost use Rattle.jp_reading.specs.Views.{Gives, by};
-ghost use Rattle.jp_tree.specs.Tree.{argument_of, call_of, operand_of};
+ghost use Rattle.jp_reading.specs.Views.{Gives, outcome_map};
+ghost use Rattle.jp_tree.specs.Views.{argument_of, call_of, operand_of};
 ghost use Rattle.jp_query.specs.Private.Rules as rules;
 ghost use Rattle.jp_query.specs.Private.Rules.{is_logical};
 ghost use Rattle.jp_query.specs.Private.Parts.{begins_part, boxed_argument, boxed_expr};
@@ -28,7 +28,7 @@ pub(crate) fn call(reader: &mut Reader, levels: u32) -> Result<Call, Stop>
         call_of
         result
         reader.new
-        (by (rules.call_with []) (call_inside levels reader.old)) }
+        (outcome_map (rules.call_with []) (call_inside levels reader.old)) }
 {
     let name = String::new(reader.alloc());
     call_from(reader, levels, name)
@@ -41,7 +41,7 @@ pub(crate) fn call_from(reader: &mut Reader, levels: u32, name: String) -> Resul
         call_of
         result
         reader.new
-        (by (rules.call_with (chars (string_bytes name))) (call_inside levels reader.old)) }
+        (outcome_map (rules.call_with (chars (string_bytes name))) (call_inside levels reader.old)) }
 {
     if levels == 0 {
         return Err(Stop::TooDeep(reader.place()));
@@ -120,20 +120,20 @@ fn next_argument(reader: &mut Reader, levels: u32) -> Result<Box<Argument>, Stop
     argument(reader, levels)
 }
 
-/// An argument, which is an item of its own where it is a logical expression.
+/// An argument, which is a component of its own where it is a logical expression.
 #[cycle(nested)]
 #[tactic(auto, unfolding(crate::specs::Private::Rules::argument))]
 fn argument(reader: &mut Reader, levels: u32) -> Result<Box<Argument>, Stop>
     ensures { Gives boxed_argument result reader.new (read_inside levels rules.argument reader.old) }
 {
     let start = reader.place();
-    let before = reader.items();
+    let before = reader.components();
     let first = argument_start(reader, levels)?;
     let argument = argument_from(reader, levels, first)?;
     if !is_logical(&argument) {
         return Ok(argument);
     }
-    reader.add_item(start, before)?;
+    reader.add_component(start, before)?;
     Ok(argument)
 }
 

@@ -3,8 +3,10 @@
 ghost use Rattle.std.specs.Prelude.{◌≡◌, map, IfOk};
 ghost use Rattle.jp_reading.specs.Outcome.{after_blank, is, passes};
 ghost use Rattle.jp_reading.specs.Views.{Gives};
-ghost use Rattle.jp_tree.specs.Tree.{comparison, expr_of, exprs, negation, operand_of, subject_of};
-ghost use Rattle.jp_query.specs.Private.Parts.{boxed_expr, joined_at, mark_of, part_of, several};
+ghost use Rattle.jp_tree.specs.Tree.{comparison, exprs, negation};
+ghost use Rattle.jp_tree.specs.Views.{expr_of, operand_of, subject_of};
+ghost use Rattle.jp_query.specs.Private.Parts.{boxed_expr, joined_at, character_of, part_of};
+ghost use Rattle.jp_query.specs.Private.Parts.{several};
 ghost use Rattle.jp_query.specs.Private.Rules as rules;
 ghost use Rattle.jp_query.specs.Private.Reading.{inside, parenthesis_at, read_flat, read_inside};
 
@@ -17,16 +19,16 @@ use jp_reading::{Reader, Stop};
 use jp_tree::{Expr, Op, Operand, Subject};
 use std::alloc::{AllocError, Global};
 
-/// An expression after the mark that opens it, one level further in than the text around.
+/// An expression after the character that opens it, one level further in than the text around.
 #[cycle(nested)]
-#[tactic(auto, unfolding(crate::specs::Private::Rules::inside_mark))]
-pub(crate) fn inside(reader: &mut Reader, mark: char, levels: u32) -> Result<Box<Expr>, Stop>
-    ensures { Gives boxed_expr result reader.new (inside levels (rules.mark mark) reader.old) }
+#[tactic(auto, unfolding(crate::specs::Private::Rules::inside_expression))]
+pub(crate) fn inside(reader: &mut Reader, opening: char, levels: u32) -> Result<Box<Expr>, Stop>
+    ensures { Gives boxed_expr result reader.new (inside levels (rules.expression_after opening) reader.old) }
 {
     if levels == 0 {
         return Err(Stop::TooDeep(reader.place()));
     }
-    reader.expect(mark)?;
+    reader.expect(opening)?;
     reader.skip();
     expression(reader, levels - 1)
 }
@@ -40,8 +42,8 @@ pub(crate) enum Connective {
 
 impl Connective {
     /// The character that stands twice between two parts.
-    fn mark(self) -> char
-        ensures { result ≡ mark_of self }
+    fn character(self) -> char
+        ensures { result ≡ character_of self }
     {
         match self {
             Connective::Or => '|',
@@ -128,26 +130,26 @@ fn part(reader: &mut Reader, levels: u32, connective: Connective) -> Result<Box<
     }
 }
 
-/// Whether the connective's mark comes past the blanks.
+/// Whether the connective's character comes past the blanks.
 fn is_before_joint(reader: &Reader, connective: Connective) -> bool
-    ensures { result ≡ passes (is (mark_of connective)) (after_blank reader.now) }
+    ensures { result ≡ passes (is (character_of connective)) (after_blank reader.now) }
 {
-    reader.is_before(connective.mark())
+    reader.is_before(connective.character())
 }
 
-/// The connective's mark twice, with blanks before and after it.
+/// The connective's character twice, with blanks before and after it.
 #[tactic(auto, unfolding(crate::specs::Private::Rules::joint))]
 fn joint(reader: &mut Reader, connective: Connective) -> Result<(), Stop>
     ensures { Gives
-        (λ _. mark_of connective)
+        (λ _. character_of connective)
         result
         reader.new
-        (read_flat (rules.joint (mark_of connective)) reader.old) }
+        (read_flat (rules.joint (character_of connective)) reader.old) }
 {
-    let mark = connective.mark();
+    let character = connective.character();
     reader.skip();
-    reader.expect(mark)?;
-    reader.expect(mark)?;
+    reader.expect(character)?;
+    reader.expect(character)?;
     reader.skip();
     Ok(())
 }
@@ -202,16 +204,16 @@ fn negated(reader: &mut Reader, levels: u32) -> Result<Box<Expr>, Stop>
     test(reader, levels)
 }
 
-/// A test, which is an item: a function, or a query.
+/// A test, which is a component: a function, or a query.
 #[cycle(nested)]
 #[tactic(auto, unfolding(crate::specs::Private::Rules::test_expr))]
 fn test(reader: &mut Reader, levels: u32) -> Result<Box<Expr>, Stop>
     ensures { Gives boxed_expr result reader.new (read_inside levels rules.test_expr reader.old) }
 {
     let start = reader.place();
-    let before = reader.items();
+    let before = reader.components();
     let subject = subject(reader, levels)?;
-    reader.add_item(start, before)?;
+    reader.add_component(start, before)?;
     Ok(tested(reader.alloc(), subject)?)
 }
 

@@ -2,24 +2,25 @@
 
 ghost use Rattle.std.specs.Prelude.{◌≡◌, ◌^◌, ◌<◌, min};
 ghost use Rattle.jp_reading.specs.Outcome.{passes};
-ghost use Rattle.jp_reading.specs.Rule.{item};
-ghost use Rattle.jp_reading.specs.Views.{Gives, by};
+ghost use Rattle.jp_reading.specs.Rule.{component};
+ghost use Rattle.jp_reading.specs.Views.{Gives, outcome_map};
 ghost use Rattle.jp_query.specs.Private.Rules as rules;
 ghost use Rattle.jp_query.specs.Private.Rules.{begins_int};
 ghost use Rattle.jp_query.specs.Private.Reading.{read_flat};
-ghost use Rattle.jp_query.specs.Ints.{whole_of, negative_of, is_leading_digit};
+ghost use Rattle.jp_query.specs.Ints.{whole_of, negative_of};
+ghost use Rattle.jp_reading.specs.Numbers.{is_leading_digit};
 
 use jp_reading::{Reader, Stop, natural};
 use jp_tree::Numeral;
 
-/// A whole number, which is an item.
-pub(crate) fn int_item(reader: &mut Reader) -> Result<Numeral, Stop>
-    ensures { Gives (λ x. x) result reader.new (read_flat (item rules.int) reader.old) }
+/// A whole number, which is a component.
+pub(crate) fn int_component(reader: &mut Reader) -> Result<Numeral, Stop>
+    ensures { Gives (λ x. x) result reader.new (read_flat (component rules.int) reader.old) }
 {
     let start = reader.place();
-    let before = reader.items();
+    let before = reader.components();
     let number = int(reader)?;
-    reader.add_item(start, before)?;
+    reader.add_component(start, before)?;
     Ok(number)
 }
 
@@ -61,7 +62,7 @@ pub(crate) fn size(reader: &mut Reader) -> Result<u128, Stop>
         (λ n. n)
         result
         reader.new
-        (by (λ n. min n (2 ^ 64)) (read_flat rules.size reader.old)) }
+        (outcome_map (λ n. min n (2 ^ 64)) (read_flat rules.size reader.old)) }
 {
     match reader.peek() {
         Some(first) if is_leading_digit(first) => natural(reader, 1 << 64),

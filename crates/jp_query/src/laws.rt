@@ -1,6 +1,6 @@
 //! Laws of the grammar, each the contract of a function that does nothing.
 
-ghost use Rattle.jp_query.specs.Laws.{LevelsOnlyAdd, OneReading, OneRefusal, SpansOfItems};
+ghost use Rattle.jp_query.specs.Laws.{LevelsOnlyAdd, OneReading, OneRefusal, SpansOfComponents};
 
 /// No text spells two trees, or one tree with two lists of spans, whatever the levels.
 pub fn one_reading()
@@ -14,10 +14,10 @@ pub fn levels_only_add()
     ensures { LevelsOnlyAdd }
 {}
 
-/// The spans of a text that spells a tree are those of its items: within each is the text of that
-/// item, only an omitted step has none, and they start one after the other, whatever the levels.
-pub fn spans_of_items()
-    ensures { SpansOfItems }
+/// The spans of a text that spells a tree are those of its components: within each is the text of that
+/// component, only an omitted step has none, and they start one after the other, whatever the levels.
+pub fn spans_of_components()
+    ensures { SpansOfComponents }
 {}
 
 /// Each text spells a tree, or is refused with one kind and at one place, and not both, whatever

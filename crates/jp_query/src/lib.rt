@@ -1,5 +1,5 @@
 //! Queries of JSONPath (RFC 9535): the reader of their texts, which gives trees of `jp_tree` and
-//! the spans of their items.
+//! the spans of their components.
 //!
 //! ```text
 //! let parsed = parse(alloc, "$.store['book'][0]")?;
@@ -9,7 +9,7 @@
 //!
 //! The contract for the crates above: `parse` answers a query exactly for the texts that spell one
 //! within `LEVEL_LIMIT` levels by the grammar of `specs/Grammar.antt`, with its tree and the spans
-//! of its items; and no text spells two.
+//! of its components; and no text spells two.
 #![tactic(auto)]
 
 mod calls;

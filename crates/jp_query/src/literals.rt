@@ -2,7 +2,7 @@
 
 ghost use Rattle.std.specs.Prelude.{true};
 ghost use Rattle.jp_reading.specs.Views.{Gives};
-ghost use Rattle.jp_tree.specs.Tree.{literal_of};
+ghost use Rattle.jp_tree.specs.Views.{literal_of};
 ghost use Rattle.jp_query.specs.Private.Rules as rules;
 ghost use Rattle.jp_query.specs.Private.Reading.{read_flat};
 

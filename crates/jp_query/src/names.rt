@@ -5,7 +5,7 @@ ghost use Rattle.std.specs.Prelude.{◌≡◌, ◌++◌};
 ghost use Rattle.std.specs.Str.{chars};
 ghost use Rattle.std.specs.String.{string_bytes};
 ghost use Rattle.jp_reading.specs.Outcome.{head, passes};
-ghost use Rattle.jp_reading.specs.Views.{Gives, by};
+ghost use Rattle.jp_reading.specs.Views.{Gives, outcome_map};
 ghost use Rattle.jp_query.specs.Names.{is_name_first, is_name_char, is_function_first};
 ghost use Rattle.jp_query.specs.Names.{is_function_char};
 ghost use Rattle.jp_query.specs.Private.Rules as rules;
@@ -64,7 +64,7 @@ pub(crate) fn name_from(
         (λ s. chars (string_bytes s))
         result
         reader.new
-        (by
+        (outcome_map
         (λ w. chars (string_bytes name) ++ w)
         (read_flat (rules.run (is_one_of class)) reader.old)) }
 {

@@ -2,8 +2,8 @@
 
 ghost use Rattle.std.specs.Prelude.{◌≡◌, ◌⊎◌, IfOk, IfErr};
 ghost use Rattle.std.specs.Str.{chars};
-ghost use Rattle.jp_tree.specs.Tree.{query_of};
-ghost use Rattle.jp_query.specs.ItemSpans.{IsSpelledWithSpans};
+ghost use Rattle.jp_tree.specs.Views.{query_of};
+ghost use Rattle.jp_query.specs.ComponentSpans.{IsSpelledWithSpans};
 ghost use Rattle.jp_query.specs.Grammar.{Spells};
 ghost use Rattle.jp_query.specs.Spelled.{IsSpelled, SpellsNothing};
 ghost use Rattle.jp_query.specs.Levels.{level_limit};
@@ -19,7 +19,7 @@ use std::marker::Model;
 /// How many filters, parentheses and calls may be inside one another at most.
 pub const LEVEL_LIMIT: u32 = 128;
 
-/// A query and the spans of its items, as some text spells them.
+/// A query and the spans of its components, as some text spells them.
 #[derive(Debug, Drop)]
 pub struct Parsed {
     query: Query,
@@ -87,8 +87,8 @@ impl Parsed {
         &self.query
     }
 
-    /// From which byte to which each item of the query stands in the text, in the items' order;
-    /// None for a step of a slice that is left out.
+    /// From which byte to which each component of the query stands in the text, in the components'
+    /// order; None for a step of a slice that is left out.
     pub fn spans(&self) -> &[Option<Span>]
         ensures same { result.now ≡ self.now.spans }
         ensures each { IsSpelledWithSpans level_limit (query_of self.now.query) result.now }

@@ -3,7 +3,8 @@
 ghost use Rattle.std.specs.Prelude.{◌≡◌, [], ◌∷◌, map, IfOk};
 ghost use Rattle.jp_reading.specs.Outcome.{after_blank, passes};
 ghost use Rattle.jp_reading.specs.Views.{Gives};
-ghost use Rattle.jp_tree.specs.Tree.{segment, selectors, selector_of, segment_of, query_of};
+ghost use Rattle.jp_tree.specs.Tree.{segment, selectors};
+ghost use Rattle.jp_tree.specs.Views.{selector_of, segment_of, query_of};
 ghost use Rattle.jp_query.specs.Private.Rules as rules;
 ghost use Rattle.jp_query.specs.Private.Rules.{begins_segment};
 ghost use Rattle.jp_query.specs.Private.Reading.{query_at, read_flat, read_inside};

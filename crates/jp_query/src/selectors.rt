@@ -1,14 +1,15 @@
 //! Selectors (RFC 9535 section 2.3), and what stands between brackets (section 2.5.1.1).
 
 ghost use Rattle.std.specs.Prelude.{◌≡◌, map, IfOk};
-ghost use Rattle.jp_reading.specs.Views.{Gives, by};
-ghost use Rattle.jp_tree.specs.Tree.{filter, name, selector_of, slice};
+ghost use Rattle.jp_reading.specs.Views.{Gives, outcome_map};
+ghost use Rattle.jp_tree.specs.Tree.{filter, name, slice};
+ghost use Rattle.jp_tree.specs.Views.{selector_of};
 ghost use Rattle.jp_query.specs.Private.Rules as rules;
 ghost use Rattle.jp_query.specs.Private.Parts.{boxed_expr, boxed_selector, next_entry};
 ghost use Rattle.jp_query.specs.Private.Reading.{read_flat, read_inside};
 
 use crate::expressions::inside;
-use crate::ints::int_item;
+use crate::ints::int_component;
 use crate::lists::{append_boxed, boxed};
 use crate::slices::slice;
 use crate::strings::quoted;
@@ -91,7 +92,7 @@ fn name_selector(reader: &mut Reader, quote: char) -> Result<Box<Selector>, Stop
         boxed_selector
         result
         reader.new
-        (by name (read_flat (rules.quoted quote) reader.old)) }
+        (outcome_map name (read_flat (rules.quoted quote) reader.old)) }
 {
     let name = quoted(reader, quote)?;
     Ok(boxed(reader.alloc(), Selector::Name(name))?)
@@ -104,7 +105,7 @@ fn slice_selector(reader: &mut Reader, start: Option<Numeral>) -> Result<Box<Sel
         boxed_selector
         result
         reader.new
-        (by slice (read_flat (rules.slice_from start) reader.old)) }
+        (outcome_map slice (read_flat (rules.slice_from start) reader.old)) }
 {
     let slice = slice(reader, start)?;
     Ok(boxed(reader.alloc(), Selector::Slice(slice))?)
@@ -124,7 +125,7 @@ fn filter_selector(alloc: Global, condition: Box<Expr>) -> Result<Box<Selector>,
 fn number(reader: &mut Reader) -> Result<Box<Selector>, Stop>
     ensures { Gives boxed_selector result reader.new (read_flat rules.number_selector reader.old) }
 {
-    let index = int_item(reader)?;
+    let index = int_component(reader)?;
     if reader.is_before(':') {
         reader.skip();
         return slice_selector(reader, Some(index));

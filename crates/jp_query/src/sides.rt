@@ -3,8 +3,9 @@
 ghost use Rattle.std.specs.Prelude.{◌≡◌};
 ghost use Rattle.std.specs.Str.{chars};
 ghost use Rattle.std.specs.String.{string_bytes};
-ghost use Rattle.jp_reading.specs.Views.{Gives, by};
-ghost use Rattle.jp_tree.specs.Tree.{call_value, literal_of, operand_of, query_of};
+ghost use Rattle.jp_reading.specs.Views.{Gives, outcome_map};
+ghost use Rattle.jp_tree.specs.Tree.{call_value};
+ghost use Rattle.jp_tree.specs.Views.{literal_of, operand_of, query_of};
 ghost use Rattle.jp_query.specs.Private.Rules as rules;
 ghost use Rattle.jp_query.specs.Private.Rules.{opens};
 ghost use Rattle.jp_query.specs.Private.Reading.{call_inside, read_flat, read_inside};
@@ -18,16 +19,16 @@ use crate::segments::segments;
 use jp_reading::{Reader, Stop};
 use jp_tree::{Literal, Operand, Query};
 
-/// A side of a comparison, which is an item.
+/// A side of a comparison, which is a component.
 #[cycle(nested)]
 #[tactic(auto, unfolding(crate::specs::Private::Rules::side))]
 pub(crate) fn side(reader: &mut Reader, levels: u32) -> Result<Operand, Stop>
     ensures { Gives operand_of result reader.new (read_inside levels rules.side reader.old) }
 {
     let start = reader.place();
-    let before = reader.items();
+    let before = reader.components();
     let side = side_within(reader, levels)?;
-    reader.add_item(start, before)?;
+    reader.add_component(start, before)?;
     Ok(side)
 }
 
@@ -148,9 +149,9 @@ fn called(reader: &mut Reader, levels: u32, name: String) -> Result<Operand, Sto
         operand_of
         result
         reader.new
-        (by
+        (outcome_map
         call_value
-        (by (rules.call_with (chars (string_bytes name))) (call_inside levels reader.old))) }
+        (outcome_map (rules.call_with (chars (string_bytes name))) (call_inside levels reader.old))) }
 {
     Ok(Operand::Call(call_from(reader, levels, name)?))
 }

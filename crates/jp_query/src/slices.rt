@@ -4,7 +4,7 @@ ghost use Rattle.jp_reading.specs.Views.{Gives};
 ghost use Rattle.jp_query.specs.Private.Rules as rules;
 ghost use Rattle.jp_query.specs.Private.Reading.{read_flat};
 
-use crate::ints::{begins_int, int_item};
+use crate::ints::{begins_int, int_component};
 use jp_reading::{Reader, Stop};
 use jp_tree::{Numeral, Slice};
 
@@ -28,7 +28,7 @@ fn bound(reader: &mut Reader) -> Result<Option<Numeral>, Stop>
         return Ok(None);
     }
     reader.skip();
-    let bound = int_item(reader)?;
+    let bound = int_component(reader)?;
     Ok(Some(bound))
 }
 
@@ -42,7 +42,7 @@ fn step(reader: &mut Reader) -> Result<Numeral, Stop>
         reader.bump();
         return later_step(reader);
     }
-    reader.omit_item()?;
+    reader.omit_component()?;
     Ok(Numeral::Whole(1))
 }
 
@@ -53,8 +53,8 @@ fn later_step(reader: &mut Reader) -> Result<Numeral, Stop>
 {
     if begins_int(reader.peek_past_blank()) {
         reader.skip();
-        return int_item(reader);
+        return int_component(reader);
     }
-    reader.omit_item()?;
+    reader.omit_component()?;
     Ok(Numeral::Whole(1))
 }

@@ -30,7 +30,7 @@ pub(crate) fn quoted(reader: &mut Reader, quote: char) -> Result<String, Stop>
     Ok(text)
 }
 
-/// Character after character, as long as one begins.
+/// StringCharacter after character, as long as one begins.
 fn characters(reader: &mut Reader, quote: char) -> Result<String, Stop>
     ensures { Gives
         (λ s. chars (string_bytes s))

@@ -1,4 +1,4 @@
-//! The trees of queries and the spans of their items, and a refusal of each kind. Each other text
+//! The trees of queries and the spans of their components, and a refusal of each kind. Each other text
 //! that is refused is a row of jp_command's table.
 mod filters;
 mod queries;
@@ -9,10 +9,10 @@ use std::alloc::Global;
 use std::process::Abort;
 use std::test::Fail;
 
-/// A query, its tree as `Debug` writes it, and the spans of its items.
+/// A query, its tree as `Debug` writes it, and the spans of its components.
 type Row = (&'static str, &'static str, &'static [Option<Span>]);
 
-/// Asserts the tree of each query and the spans of its items.
+/// Asserts the tree of each query and the spans of its components.
 fn assert_trees(rt: &impl Abort, alloc: Global, rows: &[Row]) -> Result<(), Fail> {
     for (text, tree, spans) in rows {
         let parsed = parse(alloc, text).ok().ok_or("refused")?;

@@ -3,10 +3,12 @@ use Rattle.std.proofs.Common.{◌≡◌, ℕ, ◌+◌, Bool, true, false, List, 
 use Rattle.std.proofs.Common.{refl, sym, ap, ◌∙◌, subst, append_assoc, append-nil, eq-eqb, arith}
 use Rattle.std.specs.Char.{len_utf8}
 use Rattle.jp_reading.specs.Texts.{Text, Spans, bytes, is_blank}
-use Rattle.jp_reading.specs.Forms.{Form, ◌⌢◌, word, One, Blank, AllPassing, Each, Separated, Item}
-use Rattle.jp_reading.specs.Outcome.{State, Outcome, took, head, first_of, past, past_first}
+use Rattle.jp_reading.specs.Forms.{Form, ◌⌢◌, word, One, Blank, AllPassing, Each, Separated}
+use Rattle.jp_reading.specs.Forms.{Component}
+use Rattle.jp_reading.specs.Outcome.{State, Outcome, took, head, past, past_first}
+use Rattle.jp_reading.specs.Texts.{first_of}
 use Rattle.jp_reading.specs.Outcome.{past_blanks, skip, passes, is, is_at, take_if, expect, each}
-use Rattle.jp_reading.specs.Outcome.{item_since}
+use Rattle.jp_reading.specs.Outcome.{component_since}
 use Rattle.jp_reading.proofs.Between.{reads-as, Between, Reads, bytes-append, between-none}
 use Rattle.jp_reading.proofs.Between.{state-same}
 use Rattle.jp_reading.proofs.Steps.{take_if-takes}
@@ -154,16 +156,16 @@ again-skip p q h off =
     }) q (sym h.way.at) refl
     (sym (h.way.found ∙ ap (λ v. p.found ++ v) h.is.none ∙ append-nil p.found))
 
--- ---- items and loops
+-- ---- components and loops
 
--- what lies inside an item, and that its span makes the item
+-- what lies inside a component, and that its span makes the component
 pub record Inside (P : Form) (p q : State) : Type 0 where
   pub middle : State
   pub reads : Reads P p middle
   pub rest : middle.rest ≡ q.rest
-  pub spanned : item_since p.at (length p.found) middle ≡ q
+  pub spanned : component_since p.at (length p.found) middle ≡ q
 
-pub inside : (P : Form) (p q : State) → Reads (Item P) p q → Inside P p q
+pub inside : (P : Form) (p q : State) → Reads (Component P) p q → Inside P p q
 inside P p q h = record {
   middle = record { at = q.at; rest = q.rest; found = p.found ++ h.is.inside };
   reads = record {

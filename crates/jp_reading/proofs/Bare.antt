@@ -1,4 +1,4 @@
--- Forms whose texts have no items, and so no spans.
+-- Forms whose texts have no components, and so no spans.
 use Rattle.std.proofs.Common.{◌≡◌, ℕ, ◌+◌, List, [], ◌∷◌, Bool, refl, ◌∙◌}
 use Rattle.jp_reading.specs.Texts.{Text, Spans, bytes}
 use Rattle.jp_reading.specs.Forms.{Form, ◌⌢◌, word, One, Each, Separated}

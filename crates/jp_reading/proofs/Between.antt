@@ -5,7 +5,7 @@ use Rattle.jp_reading.specs.Texts.{Text, Spans, bytes}
 use Rattle.jp_reading.specs.Forms.{Form, ◌⌢◌}
 use Rattle.jp_reading.specs.Outcome.{State, past}
 
--- q is p past the text t, whose items have the spans s
+-- q is p past the text t, whose components have the spans s
 pub record Between (p : State) (s : Spans) (t : Text) (q : State) : Type 0 where
   pub rest : p.rest ≡ t ++ q.rest
   pub at : q.at ≡ p.at + bytes t

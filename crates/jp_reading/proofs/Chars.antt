@@ -6,7 +6,8 @@ use Rattle.std.proofs.lemmas.Str.{chars_past_char, chars-append, chars-nil, IsUt
 use Rattle.std.specs.Char.{len_utf8, encode_utf8, IsScalar}
 use Rattle.std.specs.Str.{chars, IsUtf8}
 use Rattle.jp_reading.specs.Texts.{Text, Spans, is_blank}
-use Rattle.jp_reading.specs.Outcome.{State, head, first_of, past, past_first, past_blanks, skip}
+use Rattle.jp_reading.specs.Outcome.{State, head, past, past_first, past_blanks, skip}
+use Rattle.jp_reading.specs.Texts.{first_of}
 use Rattle.jp_reading.specs.Outcome.{after_blank, passes}
 
 past_first-shorter : (ok : ℕ → Bool) (at : ℕ) (found : Spans) (t : Text)

@@ -6,8 +6,9 @@ use Rattle.jp_reading.specs.Characters as char
 use Rattle.jp_reading.specs.declared.reader.Stop.{Stop}
 use Rattle.jp_reading.specs.Texts.{Text}
 use Rattle.jp_reading.specs.Outcome.{State, Outcome, took, stuck, deep, ◌>>=◌, each}
-use Rattle.jp_reading.specs.Views.{by, Fails}
-use Rattle.jp_reading.specs.Numbers.{is_digit, is_at_digit, digit_at, digits_at, value_from, capped}
+use Rattle.jp_reading.specs.Views.{outcome_map, Fails}
+use Rattle.jp_reading.specs.Numbers.{is_digit, value_from}
+use Rattle.jp_reading.specs.NumberReading.{is_at_digit, digit_at, digits_at, capped}
 use Rattle.jp_reading.proofs.Progress.{Progress, moves-take_if}
 use Rattle.jp_reading.proofs.Folds.{fails-then}
 
@@ -25,23 +26,23 @@ capped-digit most n d ds =
 
 -- the first digit
 pub digits_at-first : {B : Type 0} (f g : Text → B) (p q : State) (c : ℕ) → digit_at p ≡ took c q
-    → ((ds : Text) → f (c ∷ ds) ≡ g ds) → by f (digits_at p) ≡ by g (each is_at_digit digit_at q)
+    → ((ds : Text) → f (c ∷ ds) ≡ g ds) → outcome_map f (digits_at p) ≡ outcome_map g (each is_at_digit digit_at q)
 unfolding digits_at
 digits_at-first f g p q c e same =
-    ap (λ (o : Outcome ℕ). by f
+    ap (λ (o : Outcome ℕ). outcome_map f
     (o >>= λ d q. each is_at_digit digit_at q >>= λ ds r. took (d ∷ ds) r)) e
-    ∙ by-cons f g c (each is_at_digit digit_at q) same
+    ∙ outcome_map-cons f g c (each is_at_digit digit_at q) same
   where
-    by-cons : {B : Type 0} (f g : Text → B) (c : ℕ) (o : Outcome Text)
+    outcome_map-cons : {B : Type 0} (f g : Text → B) (c : ℕ) (o : Outcome Text)
         → ((ds : Text) → f (c ∷ ds) ≡ g ds)
-        → by f (o >>= λ ds r. took (c ∷ ds) r) ≡ by g o
-    by-cons f g c (took ds r) same = ap (λ y. took y r) (same ds)
-    by-cons f g c (stuck r) same = refl
-    by-cons f g c (deep r) same = refl
+        → outcome_map f (o >>= λ ds r. took (c ∷ ds) r) ≡ outcome_map g o
+    outcome_map-cons f g c (took ds r) same = ap (λ y. took y r) (same ds)
+    outcome_map-cons f g c (stuck r) same = refl
+    outcome_map-cons f g c (deep r) same = refl
 
 -- no digit at all
 pub digits_at-fails : {B : Type 0} (f : Text → B) (p : State) (e : Stop) → Fails e (digit_at p)
-    → Fails e (by f (digits_at p))
+    → Fails e (outcome_map f (digits_at p))
 unfolding digits_at
 digits_at-fails f p e h = fails-then e (digits_at p) _ (fails-then e (digit_at p) _ h)
 
@@ -78,7 +79,7 @@ capped-is_min most n (d ∷ ds) h =
     ∙ value_from-capped most (n * 10 + (d - char.digit_zero)) ds
 
 -- no digits write more than the cap
-pub capped-took : (most n : ℕ) (o : Outcome Text) (q : State) → by (capped most 0) o ≡ took n q
+pub capped-took : (most n : ℕ) (o : Outcome Text) (q : State) → outcome_map (capped most 0) o ≡ took n q
     → n ≤ most
 capped-took most n (took ds r) q e =
     let same : capped most 0 ds ≡ n = cc in

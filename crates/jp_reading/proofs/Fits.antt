@@ -4,10 +4,11 @@ use Rattle.std.proofs.Common.{Option, Some, None, inl, inr, refl, subst, arith}
 use Rattle.std.proofs.lemmas.Bool.{cases_Bool, eqb-true}
 use Rattle.jp_reading.specs.Texts.{Text}
 use Rattle.jp_reading.specs.Forms.{Form, ◌⌢◌, word, One, Each}
-use Rattle.jp_reading.specs.Numbers.{Digits, is_digit, is_at_digit, digit_at, digits_at}
+use Rattle.jp_reading.specs.Numbers.{Digits, is_digit}
+use Rattle.jp_reading.specs.NumberReading.{is_at_digit, digit_at, digits_at}
 use Rattle.jp_reading.specs.Outcome.{State, Outcome, took, stuck, deep, ◌>>=◌, head, past, is}
 use Rattle.jp_reading.specs.Outcome.{is_at, take_passing, take_if, expect, loop, each}
-use Rattle.jp_reading.specs.Views.{by}
+use Rattle.jp_reading.specs.Views.{outcome_map}
 use Rattle.jp_reading.proofs.Between.{Reads, Within, between-same, reads-then, reads-as}
 use Rattle.jp_reading.proofs.Runs.{each-run}
 use Rattle.jp_reading.proofs.Steps.{past-way, head-is}
@@ -33,9 +34,9 @@ fits-if F true p o r f g = f refl
 fits-if F false p o r f g = g refl
 
 -- values made by f
-pub fits-by : {A B : Type 0} (f : A → B) (F : A → Form) (G : B → Form) (p q : State) (o : Outcome A)
-    → Fits F q o → ((x : A) (r : State) → Reads (F x) q r → Reads (G (f x)) p r) → Fits G p (by f o)
-fits-by f F G p q o h g = fits-then F G p q o (λ x r. took (f x) r) h g
+pub fits-map : {A B : Type 0} (f : A → B) (F : A → Form) (G : B → Form) (p q : State) (o : Outcome A)
+    → Fits F q o → ((x : A) (r : State) → Reads (F x) q r → Reads (G (f x)) p r) → Fits G p (outcome_map f o)
+fits-map f F G p q o h g = fits-then F G p q o (λ x r. took (f x) r) h g
 
 pub fits-as : {A : Type 0} (F G : A → Form) (p : State) (o : Outcome A)
     → ((x : A) → Within (F x) (G x)) → Fits F p o → Fits G p o
@@ -97,7 +98,7 @@ unfolding loop
 fits-loop F zero begins rule h p = reads-nothing p
 fits-loop F (suc n) begins rule h p =
     fits-if (Each F) (begins p) p _ (took [] p) (λ on. fits-then F (Each F) p p (rule p) _ (h p)
-    (λ x q one. fits-by (λ xs. x ∷ xs) (Each F) (Each F) p q (loop n begins rule q)
+    (λ x q one. fits-map (λ xs. x ∷ xs) (Each F) (Each F) p q (loop n begins rule q)
     (fits-loop F n begins rule h q)
     (λ xs r more. reads-then (F x) (Each F xs) p q r one more))) (λ off. reads-nothing p)
 
@@ -111,7 +112,7 @@ pub fits-digits : (p : State) → Fits Digits p (digits_at p)
 unfolding digits_at
 fits-digits p =
     fits-then (One is_digit) Digits p p (digit_at p) _ (fits-take_if is_digit p)
-    (λ d q one. fits-by (λ ds. d ∷ ds) (Each (One is_digit)) Digits p q
+    (λ d q one. fits-map (λ ds. d ∷ ds) (Each (One is_digit)) Digits p q
     (each is_at_digit digit_at q)
     (fits-each (One is_digit) is_at_digit digit_at (fits-take_if is_digit) q)
     (λ ds r more. reads-as (One is_digit d ⌢ Each (One is_digit) ds) (Digits (d ∷ ds)) p r

@@ -2,7 +2,7 @@
 -- each, joined.
 use Rattle.std.proofs.Common.{◌≡◌, ℕ, ◌+◌, List, [], ◌∷◌, ◌++◌, Some, refl}
 use Rattle.jp_reading.specs.Texts.{Text, Spans, bytes}
-use Rattle.jp_reading.specs.Forms.{Form, ◌⌢◌, word, Blank, Each, Separated, Item}
+use Rattle.jp_reading.specs.Forms.{Form, ◌⌢◌, word, Blank, Each, Separated, Component}
 use Rattle.jp_reading.proofs.Between.{Has, Within, joined-both}
 
 -- the value y alone, with texts of the form
@@ -70,11 +70,11 @@ then-has F H x y f g o =
     let both = joined-has (F x) (H x y) f g o in
     (both.0, both.1, record { part = x; is = both.2 })
 
-pub item-lifts : (P Q : Form) → Within P Q → Within (Item P) (Item Q)
-item-lifts P Q f s o t h = record { inside = h.inside; spans = h.spans; is = f h.inside o t h.is }
+pub component-lifts : (P Q : Form) → Within P Q → Within (Component P) (Component Q)
+component-lifts P Q f s o t h = record { inside = h.inside; spans = h.spans; is = f h.inside o t h.is }
 
-pub item-has : (P : Form) → Has P → Has (Item P)
-item-has P f o =
+pub component-has : (P : Form) → Has P → Has (Component P)
+component-has P f o =
     let text = f o in (
       Some (record { start = o; end = o + bytes text.1 }) ∷ text.0,
       text.1,

@@ -2,6 +2,7 @@ pub mod Again
 pub mod Bare
 pub mod Between
 pub mod Chars
+pub mod Conjunctions
 pub mod Digits
 pub mod Fits
 pub mod Folds

@@ -6,10 +6,11 @@ use Rattle.std.proofs.Common.{length-append, arith}
 use Rattle.std.proofs.lemmas.Bool.{cases_Bool}
 use Rattle.std.specs.Char.{len_utf8}
 use Rattle.jp_reading.specs.Texts.{Text, Spans, is_blank}
-use Rattle.jp_reading.specs.Outcome.{State, Outcome, took, stuck, deep, ◌>>=◌, head, first_of, past}
+use Rattle.jp_reading.specs.Outcome.{State, Outcome, took, stuck, deep, ◌>>=◌, head, past}
+use Rattle.jp_reading.specs.Texts.{first_of}
 use Rattle.jp_reading.specs.Outcome.{past_first, past_blanks, skip, after_blank, passes}
 use Rattle.jp_reading.specs.Outcome.{take_passing, take_if, loop, each, omit}
-use Rattle.jp_reading.specs.Views.{by}
+use Rattle.jp_reading.specs.Views.{outcome_map}
 use Rattle.jp_reading.specs.RuleReading.{spanned_if, spanned}
 use Rattle.jp_reading.proofs.Chars.{past_blanks-rest, skip-shorter}
 use Rattle.jp_reading.proofs.Progress.{Progress, past-keeps}
@@ -95,9 +96,9 @@ local-then a b c rule k f g = record {
 pub local-took : {A : Type 0} (a : Text → ℕ) (x : A) → Local a a (took x)
 local-took a x = record { ends = λ m p e. e; agrees = λ u p. same refl }
 
-pub local-by : {A B : Type 0} (a b : Text → ℕ) (f : A → B) (rule : State → Outcome A)
-    → Local a b rule → Local a b (λ p. by f (rule p))
-local-by a b f rule h = local-then a b b rule (λ x q. took (f x) q) h (λ x. local-took b (f x))
+pub local-map : {A B : Type 0} (a b : Text → ℕ) (f : A → B) (rule : State → Outcome A)
+    → Local a b rule → Local a b (λ p. outcome_map f (rule p))
+local-map a b f rule h = local-then a b b rule (λ x q. took (f x) q) h (λ x. local-took b (f x))
 
 pub local-omit : {A : Type 0} (a : Text → ℕ) (x : A) → Local a a (λ p. took x (omit p))
 local-omit a x = record { ends = λ m p e. e; agrees = λ u p. same refl }
@@ -110,7 +111,7 @@ local-spanned {A} a b ok rule h = record {
       (h.agrees u p);
 }
   where
-    taken : (p : State) (x : A) (is_item : Bool) → Local b b (λ q. took x (spanned_if is_item p q))
+    taken : (p : State) (x : A) (is_component : Bool) → Local b b (λ q. took x (spanned_if is_component p q))
     taken p x true = record { ends = λ m q e. e; agrees = λ u q. same refl }
     taken p x false = record { ends = λ m q e. e; agrees = λ u q. same refl }
 

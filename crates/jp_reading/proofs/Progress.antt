@@ -5,7 +5,7 @@ use Rattle.jp_reading.specs.Texts.{Text, Spans}
 use Rattle.std.proofs.lemmas.Bool.{cases_Bool}
 use Rattle.jp_reading.specs.Outcome.{State, Outcome, took, stuck, deep, ◌>>=◌, head, past}
 use Rattle.jp_reading.specs.Outcome.{past_first, skip, take_passing, take_if, loop, each}
-use Rattle.jp_reading.specs.Views.{by}
+use Rattle.jp_reading.specs.Views.{outcome_map}
 use Rattle.jp_reading.proofs.Chars.{past-shorter, skip-shorter}
 
 -- what a rule took from p on leaves a shorter text
@@ -118,16 +118,16 @@ moves-take_if ok p = taken (head p) refl
 pub keeps-take_if : (ok : ℕ → Bool) (p : State) → Keeps p (take_if ok p)
 keeps-take_if ok p = keeps-from_moves p (take_if ok p) (moves-take_if ok p)
 
--- a value made into another, and an item
-pub keeps-by : {A B : Type 0} (f : A → B) (p : State) (o : Outcome A) → Keeps p o → Keeps p (by f o)
-keeps-by f p (took x q) h = h
-keeps-by f p (stuck q) h = tt
-keeps-by f p (deep q) h = tt
+-- a value made into another, and a component
+pub keeps-map : {A B : Type 0} (f : A → B) (p : State) (o : Outcome A) → Keeps p o → Keeps p (outcome_map f o)
+keeps-map f p (took x q) h = h
+keeps-map f p (stuck q) h = tt
+keeps-map f p (deep q) h = tt
 
-pub moves-by : {A B : Type 0} (f : A → B) (p : State) (o : Outcome A) → Moves p o → Moves p (by f o)
-moves-by f p (took x q) h = h
-moves-by f p (stuck q) h = tt
-moves-by f p (deep q) h = tt
+pub moves-map : {A B : Type 0} (f : A → B) (p : State) (o : Outcome A) → Moves p o → Moves p (outcome_map f o)
+moves-map f p (took x q) h = h
+moves-map f p (stuck q) h = tt
+moves-map f p (deep q) h = tt
 
 -- a loop keeps, where each round does
 pub keeps-loop : {A : Type 0} (n : ℕ) (begins : State → Bool) (rule : State → Outcome A)

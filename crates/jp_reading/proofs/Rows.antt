@@ -2,9 +2,11 @@
 use Rattle.std.proofs.Common.{◌≡◌, ℕ, true, false, [], ◌∷◌, Some, codes, refl}
 use Rattle.jp_reading.specs.Characters as char
 use Rattle.jp_reading.specs.Texts.{bytes, is_blank}
-use Rattle.jp_reading.specs.Outcome.{took, stuck, deep, past_blanks, skip, expect, loop, item_since}
+use Rattle.jp_reading.specs.Outcome.{took, stuck, deep, past_blanks, skip, expect, loop}
+use Rattle.jp_reading.specs.Outcome.{component_since}
 use Rattle.jp_reading.specs.Outcome.{enter}
-use Rattle.jp_reading.specs.Numbers.{is_digit, digits_at, value_from, capped}
+use Rattle.jp_reading.specs.Numbers.{is_digit, value_from}
+use Rattle.jp_reading.specs.NumberReading.{digits_at, capped}
 
 -- `é[` takes three bytes, `😀` four
 bytes-row : bytes (233 ∷ char.opening_bracket ∷ []) ≡ 3
@@ -67,8 +69,8 @@ value-row = refl
 capped-row : capped 53 0 (codes "340") ≡ 53
 capped-row = refl
 
--- an item from byte 0 to byte 4, around one from 1 to 3
-item-row : item_since 0 0 (record {
+-- a component from byte 0 to byte 4, around one from 1 to 3
+component-row : component_since 0 0 (record {
   at = 4;
   rest = [];
   found = Some (record { start = 1; end = 3 }) ∷ [];
@@ -78,7 +80,7 @@ item-row : item_since 0 0 (record {
       rest = [];
       found = Some (record { start = 0; end = 4 }) ∷ Some (record { start = 1; end = 3 }) ∷ [];
     }
-item-row = refl
+component-row = refl
 
 -- with no level left nothing is entered
 enter-row : enter {A = ℕ} 0 (record { at = 7; rest = codes "("; found = [] })

@@ -2,8 +2,10 @@
 use Rattle.std.proofs.Common.{◌≡◌, ℕ, ◌+◌, Bool, true, false, [], ◌∷◌, ◌++◌, refl, ap, ◌∙◌, arith}
 use Rattle.jp_reading.specs.Texts.{Text, Spans, bytes}
 use Rattle.jp_reading.specs.Forms.{◌⌢◌, One, AllPassing, Each}
-use Rattle.jp_reading.specs.Outcome.{State, took, head, first_of, passes, take_if, each}
-use Rattle.jp_reading.specs.Numbers.{is_digit, Digits, is_at_digit, digit_at, digits_at}
+use Rattle.jp_reading.specs.Outcome.{State, took, head, passes, take_if, each}
+use Rattle.jp_reading.specs.Texts.{first_of}
+use Rattle.jp_reading.specs.Numbers.{is_digit, Digits}
+use Rattle.jp_reading.specs.NumberReading.{is_at_digit, digit_at, digits_at}
 use Rattle.jp_reading.proofs.Between.{Reads, Within, reads-as}
 use Rattle.jp_reading.proofs.Progress.{moves-take_if}
 use Rattle.jp_reading.proofs.Again.{split, again-take_if, again-each, again-round, one-first}

@@ -1,12 +1,13 @@
 -- Forms that the same texts have: what may stand in place of what, part by part.
 use Rattle.std.proofs.Common.{◌≡◌, ℕ, ◌+◌, Bool, true, false, List, [], ◌∷◌, ◌++◌, refl, ap, ◌∙◌}
 use Rattle.jp_reading.specs.Texts.{Text, Spans, bytes}
-use Rattle.jp_reading.specs.Forms.{Form, ◌⌢◌, word, One, AllPassing, Each, Separated, Item, Never}
+use Rattle.jp_reading.specs.Forms.{Form, ◌⌢◌, word, One, AllPassing, Each, Separated, Component}
+use Rattle.jp_reading.specs.Forms.{Never}
 use Rattle.jp_reading.proofs.Between.{Within, joined-both}
-use Rattle.jp_reading.proofs.Levels.{Only, Then, Made, joined-lifts, item-lifts, each-lifts}
+use Rattle.jp_reading.proofs.Levels.{Only, Then, Made, joined-lifts, component-lifts, each-lifts}
 use Rattle.jp_reading.proofs.Words.{words-join, words-apart}
 use Rattle.jp_reading.proofs.Joining as text
-use Rattle.jp_reading.proofs.Rules.Form.{Either, left, right, ItemIf}
+use Rattle.jp_reading.proofs.Rules.Form.{Either, left, right, ComponentIf}
 
 -- whatever has one of the forms has the other
 pub record Same (P Q : Form) : Type 0 where
@@ -71,8 +72,8 @@ then {y} g = record {
   from = λ s o t h. record { part = h.part; is = (g h.part y).from s o t h.is };
 }
 
-pub item : {P Q : Form} → Same P Q → Same (Item P) (Item Q)
-item {P} {Q} f = record { to = item-lifts P Q f.to; from = item-lifts Q P f.from }
+pub component : {P Q : Form} → Same P Q → Same (Component P) (Component Q)
+component {P} {Q} f = record { to = component-lifts P Q f.to; from = component-lifts Q P f.from }
 
 pub each : {A : Type 0} {F G : A → Form} → ((x : A) → Same (F x) (G x)) → (xs : List A)
     → Same (Each F xs) (Each G xs)
@@ -389,10 +390,10 @@ then-then {F} {G} {H} {y} = record {
   };
 }
 
--- ---- items
+-- ---- components
 
-pub item-either : {P Q : Form} → Same (Item (Either P Q)) (Either (Item P) (Item Q))
-item-either = record {
+pub component-either : {P Q : Form} → Same (Component (Either P Q)) (Either (Component P) (Component Q))
+component-either = record {
   to = λ s o t h. elim h.is [
     | left g ↦ left (record { inside = h.inside; spans = h.spans; is = g })
     | right g ↦ right (record { inside = h.inside; spans = h.spans; is = g })
@@ -401,9 +402,9 @@ item-either = record {
       (λ s o t h. record { inside = h.inside; spans = h.spans; is = right h.is });
 }
 
-pub item-made : {A B : Type 0} {f : A → B} {F : A → Form} {y : B}
-    → Same (Item (Made f F y)) (Made f (λ x. Item (F x)) y)
-item-made = record {
+pub component-made : {A B : Type 0} {f : A → B} {F : A → Form} {y : B}
+    → Same (Component (Made f F y)) (Made f (λ x. Component (F x)) y)
+component-made = record {
   to = λ s o t h. record {
     part = h.is.part;
     same = h.is.same;
@@ -416,9 +417,9 @@ item-made = record {
   };
 }
 
-pub item_if : {P Q : Form} (b : Bool) → Same P Q → Same (ItemIf b P) (ItemIf b Q)
-item_if true f = item f
-item_if false f = f
+pub component_if : {P Q : Form} (b : Bool) → Same P Q → Same (ComponentIf b P) (ComponentIf b Q)
+component_if true f = component f
+component_if false f = f
 
 -- ---- for some value
 

@@ -1,11 +1,11 @@
--- What was read before a stop begins a text, put together from the parts; and what an item reads.
+-- What was read before a stop begins a text, put together from the parts; and what a component reads.
 use Rattle.std.proofs.Common.{◌≡◌, ℕ, ◌+◌, ◌∷◌, ◌++◌, length, Some, refl, ap}
 use Rattle.std.proofs.Math.Seq.{take-append_seam, drop-append_seam}
 use Rattle.std.specs.List.{insert}
 use Rattle.jp_reading.specs.declared.span.Span.{Span}
 use Rattle.jp_reading.specs.Texts.{Spans, bytes}
-use Rattle.jp_reading.specs.Forms.{Form, ◌⌢◌, Item}
-use Rattle.jp_reading.specs.Outcome.{State, item_since}
+use Rattle.jp_reading.specs.Forms.{Form, ◌⌢◌, Component}
+use Rattle.jp_reading.specs.Outcome.{State, component_since}
 use Rattle.jp_reading.proofs.Between.{Prefix, Reads, Stops, Has, Within, prefix-then, prefix-first}
 use Rattle.jp_reading.proofs.Between.{prefix-as}
 use Rattle.jp_reading.proofs.Levels.{Then, Made}
@@ -50,8 +50,8 @@ stops-made f F p r h = record {
   }) h.prefix;
 }
 
-pub prefix-item : (P : Form) (p r : State) → Prefix P p r → Prefix (Item P) p r
-prefix-item P p r h = record {
+pub prefix-component : (P : Form) (p r : State) → Prefix P p r → Prefix (Component P) p r
+prefix-component P p r h = record {
   read = h.read;
   more = h.more;
   spans = Some (record { start = p.at; end = p.at + bytes (h.read ++ h.more) }) ∷ h.spans;
@@ -60,16 +60,16 @@ prefix-item P p r h = record {
   is = record { inside = h.spans; spans = refl; is = h.is };
 }
 
--- the span of an item stands before those found since
+-- the span of a component stands before those found since
 pub span_inserted : (before inside found : Spans) (a b : Span) → found ≡ before ++ inside → a ≡ b
     → insert found (length before) (Some a) ≡ before ++ (Some b ∷ inside)
 span_inserted before inside found a b e same =
     rw (e, same, take-append_seam before inside, drop-append_seam before inside) refl
 
--- an item ends where its text does
-pub reads-item : (P : Form) (p q : State) → Reads P p q
-    → Reads (Item P) p (item_since p.at (length p.found) q)
-reads-item P p q h =
+-- a component ends where its text does
+pub reads-component : (P : Form) (p q : State) → Reads P p q
+    → Reads (Component P) p (component_since p.at (length p.found) q)
+reads-component P p q h =
     let span : Span = record { start = p.at; end = p.at + bytes h.text } in
     record {
       spans = Some span ∷ h.spans;

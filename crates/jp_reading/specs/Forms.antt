@@ -2,12 +2,12 @@
 use Rattle.std.specs.Prelude.{◌≡◌, ℕ, ◌+◌, Bool, true, List, [], ◌∷◌, ◌++◌, Some, None}
 use Rattle.jp_reading.specs.Texts.{Text, Spans, bytes, is_blank}
 
--- a form says of the spans of the items in a text, the byte where the text begins, and the text,
+-- a form says of the spans of the components in a text, the byte where the text begins, and the text,
 -- that they belong together
 abbrev pub Form : Type 1
 Form = Spans → ℕ → Text → Type 0
 
--- just the characters w, and no item (RFC 5234 section 2.3)
+-- just the characters w, and no component (RFC 5234 section 2.3)
 pub record word (w : Text) (s : Spans) (o : ℕ) (t : Text) : Type 0 where
   pub none : s ≡ []
   pub is : t ≡ w
@@ -57,13 +57,13 @@ abbrev pub Separated : {A : Type 0} → Form → (A → Form) → List A → For
 Separated w P [] = Never
 Separated w P (x ∷ xs) = P x ⌢ Each (λ y. w ⌢ P y) xs
 
--- an item: its own span stands before those of the items inside it
-pub record Item (P : Form) (s : Spans) (o : ℕ) (t : Text) : Type 0 where
+-- a component: its own span stands before those of the components inside it
+pub record Component (P : Form) (s : Spans) (o : ℕ) (t : Text) : Type 0 where
   pub inside : Spans
   pub spans : s ≡ Some (record { start = o; end = o + bytes t }) ∷ inside
   pub is : P inside o t
 
--- an omitted item: no text, and no span
+-- an omitted component: no text, and no span
 pub record Omitted (s : Spans) (o : ℕ) (t : Text) : Type 0 where
   pub spans : s ≡ None ∷ []
   pub is : t ≡ []

@@ -1,6 +1,7 @@
 pub mod Characters
 pub mod Forms
 pub mod Numbers
+pub mod NumberReading
 pub mod Outcome
 pub mod Rule
 pub mod RuleReading

@@ -2,9 +2,9 @@
 use Rattle.std.specs.Prelude.{ℕ, zero, suc, ◌+◌, ◌==◌, Bool, false, if◌then◌else◌, List, [], ◌∷◌}
 use Rattle.std.specs.Prelude.{length, Option, Some, None, insert, ◌++◌}
 use Rattle.std.specs.Char.{len_utf8}
-use Rattle.jp_reading.specs.Texts.{Text, Spans, is_blank}
+use Rattle.jp_reading.specs.Texts.{Text, Spans, first_of, is_blank}
 
--- a reader: the byte where it stands, the text from there on, and the spans of the items so far
+-- a reader: the byte where it stands, the text from there on, and the spans of the components so far
 pub record State : Type 0 where
   pub at : ℕ
   pub rest : Text
@@ -23,11 +23,6 @@ abbrev pub ◌>>=◌ : {A B : Type 0} → Outcome A → (A → State → Outcome
 took x p >>= f = f x p
 stuck p >>= f = stuck p
 deep p >>= f = deep p
-
--- the first character of a text
-abbrev pub first_of : Text → Option ℕ
-first_of [] = None
-first_of (c ∷ t) = Some c
 
 -- the next character
 abbrev pub head : State → Option ℕ
@@ -99,24 +94,24 @@ loop (suc n) begins item p =
 abbrev pub each : {A : Type 0} → (State → Bool) → (State → Outcome A) → State → Outcome (List A)
 each begins item p = loop (suc (length p.rest)) begins item p
 
--- an item began at byte `start`, when there were so many spans, and ends here: its span goes before
+-- a component began at byte `start`, when there were so many spans, and ends here: its span goes before
 -- those inside it
-abbrev pub item_since : ℕ → ℕ → State → State
-item_since start before p = record {
+abbrev pub component_since : ℕ → ℕ → State → State
+component_since start before p = record {
   at = p.at;
   rest = p.rest;
   found = insert p.found before (Some (record { start = start; end = p.at }));
 }
 
--- an item: what the rule reads from the state p, with its span
-abbrev pub item : {A : Type 0} → State → Outcome A → Outcome A
-item p o = o >>= λ x q. took x (item_since p.at (length p.found) q)
+-- a component: what the rule reads from the state p, with its span
+abbrev pub component : {A : Type 0} → State → Outcome A → Outcome A
+component p o = o >>= λ x q. took x (component_since p.at (length p.found) q)
 
 -- one level further in; with no level left the rule would need one more here
 abbrev pub enter : {A : Type 0} → ℕ → State → (ℕ → Outcome A) → Outcome A
 enter zero p inside = deep p
 enter (suc n) p inside = inside n
 
--- an item that the text omits has no span
+-- a component that the text omits has no span
 abbrev pub omit : State → State
 omit p = record { at = p.at; rest = p.rest; found = p.found ++ None ∷ [] }

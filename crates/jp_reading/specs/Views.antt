@@ -30,9 +30,9 @@ Gives view (Ok x) p o = o ≡ took (view x) p
 Gives view (Err e) p o = Fails e o
 
 -- the rule with its value made into another
-abbrev pub by : {A B : Type 0} → (A → B) → Outcome A → Outcome B
-by f o = o >>= λ x p. took (f x) p
+abbrev pub outcome_map : {A B : Type 0} → (A → B) → Outcome A → Outcome B
+outcome_map f o = o >>= λ x p. took (f x) p
 
 -- the rule's list after another
 abbrev pub with_prefix : {A : Type 0} → List A → Outcome (List A) → Outcome (List A)
-with_prefix xs o = by (λ ys. xs ++ ys) o
+with_prefix xs o = outcome_map (λ ys. xs ++ ys) o

@@ -1,5 +1,5 @@
 //! Reading texts by a grammar: a `Reader` goes over a text character by character, knows the byte
-//! where it stands, and keeps the spans of the items that it has passed. Functions over it take a
+//! where it stands, and keeps the spans of the components that it has passed. Functions over it take a
 //! rule's text each:
 //!
 //! ```text

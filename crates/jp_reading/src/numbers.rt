@@ -1,8 +1,9 @@
 //! Digits and the numbers that they write.
 
 ghost use Rattle.std.specs.Prelude.{◌≡◌, ◌+◌, ◌≤◌, IfOk, IfErr, IsTrue};
-ghost use Rattle.jp_reading.specs.Numbers.{is_digit, is_at_digit, digit_at, digits_at, capped};
-ghost use Rattle.jp_reading.specs.Views.{Gives, by};
+ghost use Rattle.jp_reading.specs.Numbers.{is_digit};
+ghost use Rattle.jp_reading.specs.NumberReading.{is_at_digit, digit_at, digits_at, capped};
+ghost use Rattle.jp_reading.specs.Views.{Gives, outcome_map};
 
 use crate::reader::{Reader, Stop};
 
@@ -41,7 +42,7 @@ pub fn natural(reader: &mut Reader, cap: u128) -> Result<u128, Stop>
         (λ number. number)
         result
         reader.new
-        (by (capped cap 0) (digits_at reader.old)) }
+        (outcome_map (capped cap 0) (digits_at reader.old)) }
     ensures refused { IfErr result
         (λ stop. (stop ≡ Stop.Syntax reader.old.at) × (reader.new ≡ reader.old)) }
 {

@@ -1,12 +1,13 @@
-//! The reader: a text, where reading stands in it, and the spans of the items before it.
+//! The reader: a text, where reading stands in it, and the spans of the components before it.
 
 ghost use Rattle.std.specs.Prelude.{◌≡◌, ◌∷◌, [], ◌+◌, true, length};
 ghost use Rattle.std.specs.Prelude.{MatchOption, IfSome, IfOk, IfErr, OnOk, OnErr};
 ghost use Rattle.std.specs.Char.{len_utf8};
 ghost use Rattle.std.specs.Str.{chars, IsUtf8};
 ghost use Rattle.jp_reading.specs.Texts.{is_blank};
-ghost use Rattle.jp_reading.specs.Outcome.{State, head, first_of, passes, past, skip, after_blank};
-ghost use Rattle.jp_reading.specs.Outcome.{is_at, take_if, expect, item_since, omit};
+ghost use Rattle.jp_reading.specs.Outcome.{State, head, passes, past, skip, after_blank};
+ghost use Rattle.jp_reading.specs.Texts.{first_of};
+ghost use Rattle.jp_reading.specs.Outcome.{is_at, take_if, expect, component_since, omit};
 ghost use Rattle.jp_reading.specs.Views.{Gives};
 
 use crate::character_class::CharacterClass;
@@ -72,7 +73,7 @@ impl<'t> Model for Reader<'t> {
 }
 
 impl<'t> Reader<'t> {
-    /// A reader at the start of the text, with no item passed.
+    /// A reader at the start of the text, with no component passed.
     pub fn new(alloc: Global, text: &'t str) -> Reader<'t>
         ensures { result ≡ record { at = 0; rest = chars text.now; found = [] } }
     {
@@ -204,25 +205,25 @@ impl<'t> Reader<'t> {
         self.peek_past_blank() == Some(wanted)
     }
 
-    /// How many items the reader has passed.
-    pub fn items(&self) -> usize
+    /// How many components the reader has passed.
+    pub fn components(&self) -> usize
         ensures { result ≡ length self.now.found }
     {
         self.spans.len()
     }
 
-    /// Ends an item here that began at the byte `start`, when the reader had passed `before` items:
-    /// its span goes in before the spans of the items inside it. Where memory runs out the reader
-    /// stays as it was.
-    pub fn add_item(&mut self, start: usize, before: usize) -> Result<(), AllocError>
-        ensures added { OnOk result (self.new ≡ item_since start before self.old) }
+    /// Ends a component here that began at the byte `start`, when the reader had passed `before`
+    /// components: its span goes in before the spans of the components inside it. Where memory runs
+    /// out the reader stays as it was.
+    pub fn add_component(&mut self, start: usize, before: usize) -> Result<(), AllocError>
+        ensures added { OnOk result (self.new ≡ component_since start before self.old) }
         ensures refused { OnErr result (self.new ≡ self.old) }
     {
         let span = Span {
             start,
             end: self.place,
         };
-        if before < self.items() {
+        if before < self.components() {
             self.spans.insert(before, Some(span))?;
         } else {
             self.spans.push(Some(span))?;
@@ -230,9 +231,9 @@ impl<'t> Reader<'t> {
         Ok(())
     }
 
-    /// Counts an item that the text omits: it has no span. Where memory runs out the reader stays
+    /// Counts a component that the text omits: it has no span. Where memory runs out the reader stays
     /// as it was.
-    pub fn omit_item(&mut self) -> Result<(), AllocError>
+    pub fn omit_component(&mut self) -> Result<(), AllocError>
         ensures added { OnOk result (self.new ≡ omit self.old) }
         ensures refused { OnErr result (self.new ≡ self.old) }
     {
@@ -245,7 +246,8 @@ impl<'t> Reader<'t> {
         self.alloc
     }
 
-    /// The spans of the items that the reader has passed, an outer item's before those inside it.
+    /// The spans of the components that the reader has passed, an outer component's before those
+    /// inside it.
     pub fn into_spans(self) -> Vec<Option<Span>>
         ensures { result.items ≡ self.entry.found }
     {

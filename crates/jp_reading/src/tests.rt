@@ -63,17 +63,17 @@ fn reads_numbers_up_to_a_cap(rt: HostRuntime) -> Result<(), Fail> {
 }
 
 #[test]
-fn keeps_outer_items_before_inner_ones(rt: HostRuntime) -> Result<(), Fail> {
+fn keeps_outer_components_before_inner_ones(rt: HostRuntime) -> Result<(), Fail> {
     let mut reader = Reader::new(rt.alloc(), "[42]");
-    let outer = (reader.place(), reader.items());
+    let outer = (reader.place(), reader.components());
     reader.expect('[')?;
-    let inner = (reader.place(), reader.items());
+    let inner = (reader.place(), reader.components());
     natural(&mut reader, 100)?;
-    reader.add_item(inner.0, inner.1)?;
+    reader.add_component(inner.0, inner.1)?;
     reader.expect(']')?;
-    reader.add_item(outer.0, outer.1)?;
-    reader.omit_item()?;
-    assert_eq!(rt; reader.items(), 3);
+    reader.add_component(outer.0, outer.1)?;
+    reader.omit_component()?;
+    assert_eq!(rt; reader.components(), 3);
     let spans = reader.into_spans();
     let expected = [
         Some(Span { start: 0, end: 4 }),

@@ -7,7 +7,7 @@ use Rattle.std.specs.Option.{option_map_or}
 use Rattle.std.specs.Str.{encode_utf8_all}
 use Rattle.std.proofs.lemmas.List.Elements.{All-append, All-cons, All-nil}
 use Rattle.jp_document.proofs.Descent.Entries.{child-entry}
-use Rattle.jp_document.specs.Location.{Key, child, entries}
+use Rattle.jp_document.specs.Location.{Step, child, entries}
 use Rattle.jp_document.specs.Location.{named, nth}
 use Rattle.jp_document.specs.Value.{IsDocumentValue, Value}
 use Rattle.jp_tree.specs.Tree.{SelectorTree, filter, index, name, slice, wildcard}
@@ -17,7 +17,7 @@ use Rattle.jp_document.specs.Value.{list_length}
 
 -- ---- each candidate stands in the value
 
-abbrev pub StandsBelow : Value → Key × Value → Type 0
+abbrev pub StandsBelow : Value → Step × Value → Type 0
 StandsBelow v e = child v e.0 ≡ Some e.1
 
 All-each : {X : Type 0} (P : X → Type 0) (xs : List X)
@@ -31,7 +31,7 @@ entries_stand v document =
     All-each (StandsBelow v) (entries v) (λ i e is. child-entry v i e.0 e.1 document is)
 
 -- the value one step inside, if there is one
-entry_stands : (v : Value) (k : Key) (o : Option Value) → child v k ≡ o
+entry_stands : (v : Value) (k : Step) (o : Option Value) → child v k ≡ o
     → All (StandsBelow v) (option_to_list (option_map (λ w. (k, w)) o))
 entry_stands v k None is = All-nil (StandsBelow v)
 entry_stands v k (Some w) is = All-cons (StandsBelow v) (k, w) [] is (All-nil (StandsBelow v))

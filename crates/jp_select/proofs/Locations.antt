@@ -6,7 +6,7 @@ use Rattle.std.specs.Option.{option_and_then}
 use Rattle.std.proofs.lemmas.List.{append-nil, map-append}
 use Rattle.std.proofs.lemmas.List.Elements.{All-cons, All-nil, All-append, All-map, All-weaker}
 use Rattle.std.proofs.lemmas.Option.{same_Some}
-use Rattle.jp_document.specs.Location.{Key, named, nth, Location, items_from}
+use Rattle.jp_document.specs.Location.{Step, named, nth, Location, items_from}
 use Rattle.jp_document.specs.Location.{members_by_name, entries, child, value_at}
 use Rattle.jp_document.specs.Node.{Node, StandsIn, node_at, node_below, root_of}
 use Rattle.jp_document.specs.Value.{Value, null, boolean, whole, text, list, object, Items}
@@ -19,22 +19,22 @@ use Rattle.jp_select.specs.Subtree.{nodes_in_members, subtree_of}
 
 -- ---- values at longer locations
 
-append_inside : (o : Option Value) (l t : Location) →
-    ((w : Value) → value_at w (l ++ t) ≡ option_and_then (λ x. value_at x t) (value_at w l)) →
-    option_and_then (λ w. value_at w (l ++ t)) o ≡
+append_inside : (o : Option Value) (l t : Location)
+    → ((w : Value) → value_at w (l ++ t) ≡ option_and_then (λ x. value_at x t) (value_at w l))
+    → option_and_then (λ w. value_at w (l ++ t)) o ≡
     option_and_then (λ x. value_at x t) (option_and_then (λ w. value_at w l) o)
 append_inside None l t each = refl
 append_inside (Some w) l t each = each w
 
-pub value_at-append : (d : Value) (l t : Location) →
-    value_at d (l ++ t) ≡ option_and_then (λ w. value_at w t) (value_at d l)
+pub value_at-append : (d : Value) (l t : Location)
+    → value_at d (l ++ t) ≡ option_and_then (λ w. value_at w t) (value_at d l)
 value_at-append d [] t = refl
 value_at-append d (k ∷ l) t = append_inside (child d k) l t (λ w. value_at-append w l t)
 
 -- ---- a value and its children
 
 -- the nodes in a child, as seen from its parent
-abbrev pub inner : Key × Value → List Node
+abbrev pub inner : Step × Value → List Node
 inner e = map (after e.0) (nodes_in e.1)
 
 items-inner : (i : ℕ) (vs : Items) → nodes_in_items i vs ≡ flat_map inner (items_from i vs)
@@ -53,13 +53,13 @@ nodes_in-entries (text s) = refl
 nodes_in-entries (list vs) = ap (λ t. root_of (list vs) ∷ t) (items-inner 0 vs)
 nodes_in-entries (object ms) = ap (λ t. root_of (object ms) ∷ t) (members-inner ms)
 
-abbrev pub HoldsUnder : (Value → Type 0) → List (Key × Value) → Type 0
-HoldsUnder P es = (i : ℕ) (k : Key) (w : Value) → slice_get es i ≡ Some (k, w) → P w
+abbrev pub HoldsUnder : (Value → Type 0) → List (Step × Value) → Type 0
+HoldsUnder P es = (i : ℕ) (k : Step) (w : Value) → slice_get es i ≡ Some (k, w) → P w
 
 -- what holds of a value where it holds of its children holds of all values
 mutual
-  pub by_children : (P : Value → Type 0) → ((v : Value) → HoldsUnder P (entries v) → P v) →
-      (v : Value) → P v
+  pub by_children : (P : Value → Type 0) → ((v : Value) → HoldsUnder P (entries v) → P v)
+      → (v : Value) → P v
   by_children P step null = step null (λ i k w is. absurd (cc))
   by_children P step (boolean b) = step (boolean b) (λ i k w is. absurd (cc))
   by_children P step (whole z) = step (whole z) (λ i k w is. absurd (cc))
@@ -67,15 +67,15 @@ mutual
   by_children P step (list vs) = step (list vs) (by_items P step vs 0)
   by_children P step (object ms) = step (object ms) (by_members P step ms)
 
-  by_items : (P : Value → Type 0) → ((v : Value) → HoldsUnder P (entries v) → P v) →
-      (vs : Items) (n : ℕ) → HoldsUnder P (items_from n vs)
+  by_items : (P : Value → Type 0) → ((v : Value) → HoldsUnder P (entries v) → P v)
+      → (vs : Items) (n : ℕ) → HoldsUnder P (items_from n vs)
   by_items P step no_items n i k w is = absurd (cc)
   by_items P step (item v vs) n zero k w is =
       subst P (ap (λ e. e.1) (same_Some (nth n, v) (k, w) is)) (by_children P step v)
   by_items P step (item v vs) n (suc i) k w is = by_items P step vs (suc n) i k w is
 
-  by_members : (P : Value → Type 0) → ((v : Value) → HoldsUnder P (entries v) → P v) →
-      (ms : Members) → HoldsUnder P (members_by_name ms)
+  by_members : (P : Value → Type 0) → ((v : Value) → HoldsUnder P (entries v) → P v)
+      → (ms : Members) → HoldsUnder P (members_by_name ms)
   by_members P step no_members i k w is = absurd (cc)
   by_members P step (member n v ms) zero k w is =
       subst P (ap (λ e. e.1) (same_Some (named n, v) (k, w) is)) (by_children P step v)
@@ -83,8 +83,8 @@ mutual
 
 -- ---- each node in a value stands at its location
 
-pub All-flat_map_each : {X Y : Type 0} (P : Y → Type 0) (f : X → List Y) (xs : List X) →
-    ((i : ℕ) (x : X) → slice_get xs i ≡ Some x → All P (f x)) → All P (flat_map f xs)
+pub All-flat_map_each : {X Y : Type 0} (P : Y → Type 0) (f : X → List Y) (xs : List X)
+    → ((i : ℕ) (x : X) → slice_get xs i ≡ Some x → All P (f x)) → All P (flat_map f xs)
 All-flat_map_each P f [] each = All-nil P
 All-flat_map_each P f (x ∷ xs) each =
     All-append P (f x) (flat_map f xs) (each 0 x refl)
@@ -93,8 +93,8 @@ All-flat_map_each P f (x ∷ xs) each =
 abbrev pub Stands : Value → Node → Type 0
 Stands v n = value_at v n.location ≡ Some n.value
 
-stands_under : (v : Value) (k : Key) (w : Value) → child v k ≡ Some w →
-    All (Stands w) (nodes_in w) → All (Stands v) (inner (k, w))
+stands_under : (v : Value) (k : Step) (w : Value) → child v k ≡ Some w
+    → All (Stands w) (nodes_in w) → All (Stands v) (inner (k, w))
 stands_under v k w is all =
     All-map (Stands v) (after k) (nodes_in w)
     (All-weaker (Stands w) (λ e. Stands v (after k e))
@@ -123,14 +123,14 @@ subtree-stands d n stands =
     (nodes_stand n.value
     (IsDocumentValue-at d n.value n.location stands.document stands.there)))
 
-beyond-after : (l : Location) (k : Key) (ns : List Node)
+beyond-after : (l : Location) (k : Step) (ns : List Node)
     → map (beyond l) (map (after k) ns) ≡ map (beyond (l ++ k ∷ [])) ns
 beyond-after l k [] = refl
 beyond-after l k (n ∷ ns) =
     ap₂ (λ m t. node_at m n.value ∷ t) (sym (append_assoc l (k ∷ []) n.location))
     (beyond-after l k ns)
 
-beyond-inner : (l : Location) (es : List (Key × Value))
+beyond-inner : (l : Location) (es : List (Step × Value))
     → map (beyond l) (flat_map inner es) ≡ flat_map subtree_of (map (node_below l) es)
 beyond-inner l [] = refl
 beyond-inner l (e ∷ es) =

@@ -13,14 +13,14 @@ use Rattle.std.proofs.lemmas.List.Elements.{Contains-append_left, Contains-appen
 use Rattle.std.proofs.lemmas.Map.Views.{Contains-from_lookup, tells_apart}
 use Rattle.std.proofs.lemmas.Option.{same_Some}
 use Rattle.jp_document.specs.ChildNodes.{IsListOf}
-use Rattle.jp_document.specs.Location.{Key, key_cmp, Location}
+use Rattle.jp_document.specs.Location.{Step, step_cmp, Location}
 use Rattle.jp_document.specs.Location.{location_cmp, entries, child, value_at}
 use Rattle.jp_document.specs.Node.{Node, StandsIn, location_of, node_at, root_of}
 use Rattle.jp_document.specs.Value.{Value, IsDocumentValue}
 use Rattle.jp_document.proofs.Descent.Entries.{entries-rise, child-entry}
 use Rattle.jp_document.proofs.Descent.Exact.{Contains-map}
 use Rattle.jp_document.proofs.Descent.Inside.{IsDocumentValue-child}
-use Rattle.jp_document.proofs.Descent.Keys.{key_exact, key_same}
+use Rattle.jp_document.proofs.Descent.Steps.{step_exact, step_same}
 use Rattle.jp_document.proofs.Descent.Nodes.{IsDocumentValue-at}
 use Rattle.jp_document.proofs.Options.{some_from_then}
 use Rattle.jp_select.specs.Laws.{SubtreeRises}
@@ -42,41 +42,41 @@ IsBefore l ns = AllByRecursion (λ m. location_cmp l m ≡ Less) (places ns)
 pub cancel : (k l m : Location) → location_cmp (k ++ l) (k ++ m) ≡ location_cmp l m
 cancel [] l m = refl
 cancel (j ∷ k) l m =
-    ap (λ o. ordering_then o (location_cmp (k ++ l) (k ++ m))) (key_same j) ∙ cancel k l m
+    ap (λ o. ordering_then o (location_cmp (k ++ l) (k ++ m))) (step_same j) ∙ cancel k l m
 
 -- nodes that rise do so further inside, and before others that they precede
-beyond_rise : (l : Location) (xs ys : List Node) → Rise xs → Rise ys →
-    ((m : Location) → IsBefore (l ++ m) ys) → Rise (map (beyond l) xs ++ ys)
+beyond_rise : (l : Location) (xs ys : List Node) → Rise xs → Rise ys
+    → ((m : Location) → IsBefore (l ++ m) ys) → Rise (map (beyond l) xs ++ ys)
 unfolding IsStrictlySortedBy
 beyond_rise l [] ys a b before = b
 beyond_rise l (x ∷ xs) ys a b before = (further xs a.0, beyond_rise l xs ys a.1 b before)
   where
-    further : (zs : List Node) → IsBefore x.location zs →
-        IsBefore (l ++ x.location) (map (beyond l) zs ++ ys)
+    further : (zs : List Node) → IsBefore x.location zs
+        → IsBefore (l ++ x.location) (map (beyond l) zs ++ ys)
     further [] h = before x.location
     further (z ∷ zs) h = (cancel l x.location z.location ∙ h.0, further zs h.1)
 
--- what precedes each location that begins with a key, and more, precedes both
-before_both : (l : Location) (k : Key) (xs ys : List Node) →
-    ((t : Location) → location_cmp l (k ∷ t) ≡ Less) → IsBefore l ys →
-    IsBefore l (map (after k) xs ++ ys)
+-- what precedes each location that begins with a step, and more, precedes both
+before_both : (l : Location) (k : Step) (xs ys : List Node)
+    → ((t : Location) → location_cmp l (k ∷ t) ≡ Less) → IsBefore l ys
+    → IsBefore l (map (after k) xs ++ ys)
 before_both l k [] ys less h = h
 before_both l k (x ∷ xs) ys less h = (less x.location, before_both l k xs ys less h)
 
-before_later : (k : Key) (t : Location) (es : List (Key × Value)) →
-    AllByRecursion (λ y. key_cmp k y ≡ Less) (keys_of es) → IsBefore (k ∷ t) (flat_map inner es)
+before_later : (k : Step) (t : Location) (es : List (Step × Value))
+    → AllByRecursion (λ y. step_cmp k y ≡ Less) (keys_of es) → IsBefore (k ∷ t) (flat_map inner es)
 before_later k t [] h = tt
 before_later k t (e ∷ es) h =
     before_both (k ∷ t) e.0 (nodes_in e.1) (flat_map inner es)
     (λ s. ap (λ o. ordering_then o (location_cmp t s)) h.0) (before_later k t es h.1)
 
-root_first : (es : List (Key × Value)) → IsBefore [] (flat_map inner es)
+root_first : (es : List (Step × Value)) → IsBefore [] (flat_map inner es)
 root_first [] = tt
 root_first (e ∷ es) =
     before_both [] e.0 (nodes_in e.1) (flat_map inner es) (λ t. refl) (root_first es)
 
-inner_rise : (es : List (Key × Value)) → IsStrictlySortedBy key_cmp (keys_of es) →
-    HoldsUnder (λ w. Rise (nodes_in w)) es → Rise (flat_map inner es)
+inner_rise : (es : List (Step × Value)) → IsStrictlySortedBy step_cmp (keys_of es)
+    → HoldsUnder (λ w. Rise (nodes_in w)) es → Rise (flat_map inner es)
 unfolding IsStrictlySortedBy
 inner_rise [] h each = tt
 inner_rise (e ∷ es) h each =
@@ -98,22 +98,22 @@ no_nodes_rise = tt
 
 -- ---- each node is among them
 
-contained_in : {X Y : Type 0} (f : X → List Y) (xs : List X) (x : X) (y : Y) (i : ℕ) →
-    i < length xs → get_or xs i x ≡ x → Contains (f x) y → Contains (flat_map f xs) y
+contained_in : {X Y : Type 0} (f : X → List Y) (xs : List X) (x : X) (y : Y) (i : ℕ)
+    → i < length xs → get_or xs i x ≡ x → Contains (f x) y → Contains (flat_map f xs) y
 contained_in f [] x y i within is h = absurd (omega arith)
 contained_in f (z ∷ xs) x y zero within is h =
     Contains-append_left (f z) (flat_map f xs) y (subst (λ w. Contains (f w) y) (sym is) h)
 contained_in f (z ∷ xs) x y (suc i) within is h =
     Contains-append_right (f z) (flat_map f xs) y (contained_in f xs x y i (omega arith) is h)
 
-nodes_all : (v : Value) (t : Location) (w : Value) → value_at v t ≡ Some w →
-    Contains (nodes_in v) (node_at t w)
+nodes_all : (v : Value) (t : Location) (w : Value) → value_at v t ≡ Some w
+    → Contains (nodes_in v) (node_at t w)
 nodes_all v [] w is =
     subst (λ ns. Contains ns (root_of w)) (sym (nodes_in-entries v))
     (0, omega arith, ap root_of (same_Some v w is))
 nodes_all v (k ∷ t) w is =
     let x = some_from_then (λ x. value_at x t) (child v k) w is in
-    let here = Contains-from_lookup (tells_apart key_exact) k x.0 (entries v) x.1 in
+    let here = Contains-from_lookup (tells_apart step_exact) k x.0 (entries v) x.1 in
     subst (λ ns. Contains ns (node_at (k ∷ t) w)) (sym (nodes_in-entries v))
     (Contains-append_right (root_of v ∷ []) (flat_map inner (entries v)) (node_at (k ∷ t) w)
     (contained_in inner (entries v) (k, x.0) (node_at (k ∷ t) w) here.0 here.1 here.2
@@ -128,8 +128,8 @@ some_there (Some w) h = (w, refl)
 pub subtree_law : SubtreeRises
 subtree_law = record { listed = listed; stand = subtree-stands }
   where
-    listed : (d : Value) (n : Node) → StandsIn d n →
-        IsListOf (IsInSubtree d n.location) (map location_of (subtree_of n))
+    listed : (d : Value) (n : Node) → StandsIn d n
+        → IsListOf (IsInSubtree d n.location) (map location_of (subtree_of n))
     listed d n stands =
         let l = n.location in
         let ns = nodes_in n.value in

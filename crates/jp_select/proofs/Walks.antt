@@ -8,11 +8,11 @@ use Rattle.std.proofs.lemmas.List.{length-map, length_push, map-append, reverse-
 use Rattle.std.proofs.Math.Seq.{take-append_seam}
 use Rattle.std.proofs.lemmas.Option.{same_Some, slice_get-map}
 use Rattle.jp_document.specs.DocumentValue.{lent_entry, lent_value}
-use Rattle.jp_document.specs.Location.{Key, Location, entries, key_of}
+use Rattle.jp_document.specs.Location.{Step, Location, entries, step_of}
 use Rattle.jp_document.specs.Node.{Node, NodeView, children, node_at, node_below, node_of}
 use Rattle.jp_document.specs.Value.{Value}
 use Rattle.jp_document.specs.declared.document_value.DocumentValue.{DocumentValue}
-use Rattle.jp_document.specs.declared.location.Step.{Step}
+use Rattle.jp_document.specs.declared.location.Step as code
 use Rattle.jp_select.specs.Subtree.{subtree_of}
 use Rattle.jp_select.specs.Walk.{child_subtrees, frame_node, frames_give, given_by, parent}
 use Rattle.jp_select.specs.declared.descent.Frame.{Frame}
@@ -32,7 +32,7 @@ drop_past [] (suc i) is = refl
 drop_past (y ∷ ys) zero is = cc
 drop_past (y ∷ ys) (suc i) is = drop_past ys i is
 
-child_there : (n : Node) (i : ℕ) (o : Option (Key × Value)) → o ≡ slice_get (entries n.value) i
+child_there : (n : Node) (i : ℕ) (o : Option (Step × Value)) → o ≡ slice_get (entries n.value) i
     → slice_get (children n) i ≡ option_map (node_below n.location) o
 child_there n i o is =
     slice_get-map (node_below n.location) (entries n.value) i
@@ -40,7 +40,7 @@ child_there n i o is =
 
 -- ---- frames
 
-parent-push : (l : Location) (k : Key) → parent (l ++ k ∷ []) ≡ l
+parent-push : (l : Location) (k : Step) → parent (l ++ k ∷ []) ≡ l
 parent-push l k =
     let longer = length_push l k in
     let same : length (l ++ k ∷ []) - 1 ≡ length l = omega arith in
@@ -53,24 +53,24 @@ abbrev pub advanced : Frame → Frame
 advanced f = record { value = f.value; next = f.next + 1 }
 
 -- the last frame gives its next child, and goes on with what is in it
-pub child_gives : (was : List Step) (fs : List Frame) (f : Frame) (s : Step) (v : DocumentValue) →
-    Some (lent_entry (s, v)) ≡ slice_get (entries (lent_value f.value)) f.next →
-    frames_give was (fs ++ f ∷ []) ≡
-    node_at (map key_of (was ++ s ∷ [])) (lent_value v)
+pub child_gives : (was : List code.Step) (fs : List Frame) (f : Frame) (s : code.Step) (v : DocumentValue)
+    → Some (lent_entry (s, v)) ≡ slice_get (entries (lent_value f.value)) f.next
+    → frames_give was (fs ++ f ∷ []) ≡
+    node_at (map step_of (was ++ s ∷ [])) (lent_value v)
     ∷ frames_give (was ++ s ∷ []) ((fs ++ advanced f ∷ []) ++ entered v ∷ [])
 child_gives was fs f s v is =
-    let l = map key_of was in
+    let l = map step_of was in
     let n = frame_node l f in
-    let m = node_at (l ++ key_of s ∷ []) (lent_value v) in
+    let m = node_at (l ++ step_of s ∷ []) (lent_value v) in
     let same : suc f.next ≡ f.next + 1 = omega arith in
     let more = child_subtrees n (f.next + 1) in
     let rest = given_by (parent l) (reverse fs) in
     rw (
-      map-append key_of was (s ∷ []),
+      map-append step_of was (s ∷ []),
       reverse-append fs (f ∷ []),
       reverse-append (fs ++ advanced f ∷ []) (entered v ∷ []),
       reverse-append fs (advanced f ∷ []),
-      parent-push l (key_of s),
+      parent-push l (step_of s),
     )
     (ap (λ ns. flat_map subtree_of ns ++ rest)
     (drop_at (children n) f.next m (child_there n f.next (Some (lent_entry (s, v))) is))
@@ -79,14 +79,14 @@ child_gives was fs f s v is =
     ∙ ap (λ ns. ns ++ (more ++ rest)) (nodes-children m.location m.value))
 
 -- a last frame without a next child gives nothing
-pub frame_ends : (n : ℕ) (was is : List Step) (fs : List Frame) (f : Frame) → n ≡ length was →
-    is ≡ take (n - 1) was → None ≡ slice_get (entries (lent_value f.value)) f.next →
-    frames_give is fs ≡ frames_give was (fs ++ f ∷ [])
+pub frame_ends : (n : ℕ) (was is : List code.Step) (fs : List Frame) (f : Frame) → n ≡ length was
+    → is ≡ take (n - 1) was → None ≡ slice_get (entries (lent_value f.value)) f.next
+    → frames_give is fs ≡ frames_give was (fs ++ f ∷ [])
 frame_ends n was is fs f long rest end =
-    let l = map key_of was in
-    let up : map key_of is ≡ parent l =
-    ap (map key_of) rest ∙ sym (take-map key_of (n - 1) was)
-    ∙ ap (λ m. take (m - 1) l) (long ∙ sym (length-map was key_of)) in
+    let l = map step_of was in
+    let up : map step_of is ≡ parent l =
+    ap (map step_of) rest ∙ sym (take-map step_of (n - 1) was)
+    ∙ ap (λ m. take (m - 1) l) (long ∙ sym (length-map was step_of)) in
     let m = frame_node l f in
     ap (λ t. given_by t (reverse fs)) up
     ∙ sym
@@ -96,13 +96,13 @@ frame_ends n was is fs f long rest end =
 
 -- ---- walks
 
-pub node_left : (o : Option NodeView) (n : NodeView) (ns : List Node) → Some n ≡ o →
-    option_map_or (λ m. subtree_of (node_of m)) o ns ≡ subtree_of (node_of n)
+pub node_left : (o : Option NodeView) (n : NodeView) (ns : List Node) → Some n ≡ o
+    → option_map_or (λ m. subtree_of (node_of m)) o ns ≡ subtree_of (node_of n)
 node_left o n ns is = ap (λ x. option_map_or (λ m. subtree_of (node_of m)) x ns) (sym is)
 
-pub frames_left : (o : Option NodeView) (was is : List Step) (fs gs : List Frame) → o ≡ None →
-    was ≡ is → fs ≡ gs →
-    option_map_or (λ n. subtree_of (node_of n)) o (frames_give was fs) ≡ frames_give is gs
+pub frames_left : (o : Option NodeView) (was is : List code.Step) (fs gs : List Frame) → o ≡ None
+    → was ≡ is → fs ≡ gs
+    → option_map_or (λ n. subtree_of (node_of n)) o (frames_give was fs) ≡ frames_give is gs
 frames_left o was is fs gs first location frames =
     ap (λ x. option_map_or (λ n. subtree_of (node_of n)) x (frames_give was fs)) first
     ∙ ap₂ frames_give location frames

@@ -16,9 +16,9 @@ pub data IsEqual : Value → Value → Type 0 where
   truths : (b : Bool) → IsEqual (boolean b) (boolean b)
   numbers : (z : ℤ) → IsEqual (whole z) (whole z)
   texts : (s : List ℕ) → IsEqual (text s) (text s)
-  lists : (vs ws : Items) → item_count vs ≡ item_count ws →
-      ((i : ℕ) (v w : Value) → child (list vs) (nth i) ≡ Some v → child (list ws) (nth i) ≡ Some w →
-      IsEqual v w) → IsEqual (list vs) (list ws)
-  objects : (ms ns : Members) → ((n : List ℕ) → HasMember ms n ↔ HasMember ns n) →
-      ((n : List ℕ) (v w : Value) → child (object ms) (named n) ≡ Some v →
-      child (object ns) (named n) ≡ Some w → IsEqual v w) → IsEqual (object ms) (object ns)
+  lists : (vs ws : Items) → item_count vs ≡ item_count ws
+      → ((i : ℕ) (v w : Value) → child (list vs) (nth i) ≡ Some v → child (list ws) (nth i) ≡ Some w
+      → IsEqual v w) → IsEqual (list vs) (list ws)
+  objects : (ms ns : Members) → ((n : List ℕ) → HasMember ms n ↔ HasMember ns n)
+      → ((n : List ℕ) (v w : Value) → child (object ms) (named n) ≡ Some v
+      → child (object ns) (named n) ≡ Some w → IsEqual v w) → IsEqual (object ms) (object ns)

@@ -4,7 +4,7 @@ use Rattle.std.specs.Prelude.{map, option_map, option_and_then, option_to_list, 
 use Rattle.std.specs.List.{flat_map}
 use Rattle.std.specs.Option.{option_map_or}
 use Rattle.std.specs.Str.{encode_utf8_all}
-use Rattle.jp_document.specs.Location.{Key, child_entry, entries, named, nth}
+use Rattle.jp_document.specs.Location.{Step, child_entry, entries, named, nth}
 use Rattle.jp_document.specs.Node.{Node, node_below}
 use Rattle.jp_document.specs.Value.{Value, list_length}
 use Rattle.jp_tree.specs.Tree.{SelectorTree, name, wildcard, index, slice, filter}
@@ -41,24 +41,24 @@ abbrev pub indexes_chosen : Slice → ℕ → List ℕ
 indexes_chosen s n = indexes_of n (bound_of s.start) (bound_of s.end) (whole_of s.step)
 
 -- the item of v with index i, if it is there
-abbrev pub item_of : Value → ℕ → Option (Key × Value)
+abbrev pub item_of : Value → ℕ → Option (Step × Value)
 item_of v i = child_entry v (nth i)
 
 -- the one value that a name selects in v, or an index, if it is there; other selectors have none
-abbrev pub single : SelectorTree → Value → Option (Key × Value)
+abbrev pub single : SelectorTree → Value → Option (Step × Value)
 single (name cs) v = child_entry v (named (encode_utf8_all cs))
 single (index (Whole i)) v =
     option_and_then (item_of v) (option_and_then (λ n. item_at n i) (list_length v))
 single _ v = None
 
 -- the same as a list
-abbrev pub item_entry : Value → ℕ → List (Key × Value)
+abbrev pub item_entry : Value → ℕ → List (Step × Value)
 item_entry v i = option_to_list (item_of v i)
 
 -- what a selector chooses from at v, in its order: a name that member, an index that item, a slice
 -- its items, a wildcard and a filter all children, of which a filter takes those for which its
 -- expression is true
-abbrev pub candidates : SelectorTree → Value → List (Key × Value)
+abbrev pub candidates : SelectorTree → Value → List (Step × Value)
 candidates (name cs) v = option_to_list (single (name cs) v)
 candidates wildcard v = entries v
 candidates (index i) v = option_to_list (single (index i) v)

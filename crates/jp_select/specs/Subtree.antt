@@ -1,12 +1,12 @@
 -- A node and its descendants in document order (RFC 9535 section 2.5.2.2).
 use Rattle.std.specs.Prelude.{◌≡◌, ℕ, suc, List, [], ◌∷◌, ◌++◌, map, IsSome}
-use Rattle.jp_document.specs.Location.{Key, named, nth, Location, value_at}
+use Rattle.jp_document.specs.Location.{Step, named, nth, Location, value_at}
 use Rattle.jp_document.specs.Node.{Node, root_of}
 use Rattle.jp_document.specs.Value.{Value, null, boolean, whole, text, list, object, Items}
 use Rattle.jp_document.specs.Value.{no_items, item, Members, no_members, member}
 
 -- a node, as seen from one step before
-abbrev pub after : Key → Node → Node
+abbrev pub after : Step → Node → Node
 after k n = record { location = k ∷ n.location; value = n.value }
 
 -- the nodes in v, each located from v on: v itself, then those in each child in turn

@@ -4,7 +4,7 @@ use Rattle.std.specs.Prelude.{reverse, take}
 use Rattle.std.specs.List.{flat_map}
 use Rattle.std.specs.Option.{option_map_or}
 use Rattle.jp_document.specs.DocumentValue.{lent_value}
-use Rattle.jp_document.specs.Location.{Location, key_of}
+use Rattle.jp_document.specs.Location.{Location, step_of}
 use Rattle.jp_document.specs.Node.{Node, children, node_of}
 use Rattle.jp_document.specs.declared.location.Step.{Step}
 use Rattle.jp_select.specs.Subtree.{subtree_of}
@@ -30,7 +30,7 @@ given_by l (f ∷ fs) = child_subtrees (frame_node l f) f.next ++ given_by (pare
 
 -- the same where these steps are the location of the last one's value
 abbrev pub frames_give : List Step → List Frame → List Node
-frames_give steps fs = given_by (map key_of steps) (reverse fs)
+frames_give steps fs = given_by (map step_of steps) (reverse fs)
 
 -- what a walk still gives: before its first node was given, that node and its descendants; after
 -- that, what its frames give

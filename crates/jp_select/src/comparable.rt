@@ -1,6 +1,6 @@
 //! The sides of comparisons (RFC 9535 section 2.3.5.1), and how two of them compare.
 ghost use Rattle.std.specs.Prelude.{◌≡◌, ◌↔◌, IsTrue, MatchOption, Some, chars, false, option_map};
-ghost use Rattle.jp_document.specs.Location.{entries, key_of};
+ghost use Rattle.jp_document.specs.Location.{entries, step_of};
 ghost use Rattle.jp_lent.specs.Lending.{bare, seen_value, step_with};
 ghost use Rattle.jp_select.specs.Comparable.{comparable_of};
 ghost use Rattle.jp_select.specs.Comparison.{equals, is_less, precedes};
@@ -155,7 +155,7 @@ fn same_part<'a, V: Lent + 'a>(left: (Step<'a>, V), right: (Step<'a>, V)) -> boo
 }
 
 fn same_step(left: Step, right: Step) -> bool
-    ensures { result ≡ same_key (key_of left.entry) (key_of right.entry) }
+    ensures { result ≡ same_key (step_of left.entry) (step_of right.entry) }
 {
     match (left, right) {
         (Step::Name(left), Step::Name(right)) => left == right,

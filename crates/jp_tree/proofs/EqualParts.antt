@@ -21,7 +21,8 @@ use Rattle.jp_tree.specs.declared.tree.Numeral.{Numeral}
 use Rattle.jp_tree.specs.declared.tree.Numeral.TheVariants.{Whole, Beyond, Fraction}
 use Rattle.jp_tree.specs.declared.tree.Op.{Op}
 use Rattle.jp_tree.specs.declared.tree.Slice.{Slice}
-use Rattle.jp_tree.specs.Tree.{ExprTree, ArgumentTree, SegmentTree, SelectorTree, literal_of}
+use Rattle.jp_tree.specs.Tree.{ExprTree, ArgumentTree, SegmentTree, SelectorTree}
+use Rattle.jp_tree.specs.Views.{literal_of}
 use Rattle.jp_tree.specs.Tree.{all_of, any_of, arguments, call, exprs, query, segment, segments}
 use Rattle.jp_tree.specs.Tree.{selectors}
 

@@ -20,9 +20,9 @@ use Rattle.jp_tree.specs.declared.tree.Subject.{Subject}
 use Rattle.jp_tree.specs.Tree.{ArgumentTree, CallTree, ExprTree, OperandTree, QueryTree}
 use Rattle.jp_tree.specs.Tree.{SegmentTree, SelectorTree, all_of, any_of, arguments, call}
 use Rattle.jp_tree.specs.Tree.{call_test, exists, exprs, query, segment, segments, selectors}
-use Rattle.jp_tree.specs.Tree.{argument_of, argument_step, call_of, call_step, expr_of, expr_step}
-use Rattle.jp_tree.specs.Tree.{operand_of, operand_step, query_of, query_step, segment_of}
-use Rattle.jp_tree.specs.Tree.{segment_step, selector_of, selector_step, subject_of, subject_step}
+use Rattle.jp_tree.specs.Views.{argument_of, argument_step, call_of, call_step, expr_of, expr_step}
+use Rattle.jp_tree.specs.Views.{operand_of, operand_step, query_of, query_step, segment_of}
+use Rattle.jp_tree.specs.Views.{segment_step, selector_of, selector_step, subject_of, subject_step}
 use Rattle.jp_tree.proofs.EqualParts.{Decides-op, Decides-literal, Decides-numeral, Decides-slice}
 use Rattle.jp_tree.proofs.EqualParts.{Decides-text, Decides-items, any_of-injective}
 use Rattle.jp_tree.proofs.EqualParts.{all_of-injective, call-injective, query-injective}

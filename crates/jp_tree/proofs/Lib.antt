@@ -1,3 +1,4 @@
 pub mod EqualParts
 pub mod EqualTrees
 pub mod Trees
+pub mod Views

@@ -15,12 +15,16 @@ use Rattle.jp_tree.specs.declared.tree.Operand.TheVariants as operand
 use Rattle.jp_tree.specs.declared.tree.Query.{Query}
 use Rattle.jp_tree.specs.declared.tree.Subject.{Subject}
 use Rattle.jp_tree.specs.declared.tree.Subject.TheVariants as subject
-use Rattle.jp_tree.specs.Tree.{argument_of, arguments, call, call_of, call_test}
-use Rattle.jp_tree.specs.Tree.{call_argument, exists, literal, literal_of}
-use Rattle.jp_tree.specs.Tree.{logical_argument, operand_of, query_argument, query_of, subject_of}
-use Rattle.jp_tree.specs.Tree.{expr_of}
-use Rattle.jp_tree.specs.Tree.{segment, segment_of, selectors}
-use Rattle.jp_tree.specs.Tree.{selector_of}
+use Rattle.jp_tree.specs.Tree.{arguments, call, call_test}
+use Rattle.jp_tree.specs.Views.{argument_of, call_of}
+use Rattle.jp_tree.specs.Tree.{call_argument, exists, literal}
+use Rattle.jp_tree.specs.Views.{literal_of}
+use Rattle.jp_tree.specs.Tree.{logical_argument, query_argument}
+use Rattle.jp_tree.specs.Views.{operand_of, query_of, subject_of}
+use Rattle.jp_tree.specs.Views.{expr_of}
+use Rattle.jp_tree.specs.Tree.{segment, selectors}
+use Rattle.jp_tree.specs.Views.{segment_of}
+use Rattle.jp_tree.specs.Views.{selector_of}
 
 pub tree_segment : (descendant : Bool) (all : Vec Selector Global) → segment_of
     (roll-Segment (record { descendant = descendant; selectors = all })) ≡ segment descendant

@@ -1,2 +1,3 @@
 pub mod Singular
 pub mod Tree
+pub mod Views

@@ -44,17 +44,17 @@ pub record Finds (profile : Profile) (text bytes : List ℕ) (texts : List (List
   pub are : texts ≡ map texts_of nodes
 
 -- the text is accepted as no query, and is refused so for what it is
-abbrev pub RefusesQuery : Profile → Text → Refusal → Type 0
-RefusesQuery profile text r = IsNotAccepted profile text × IsRefusedForItself profile text r
+abbrev pub RefusesText : Profile → Text → Refusal → Type 0
+RefusesText profile text r = IsNotAccepted profile text × IsRefusedForItself profile text r
 
 -- the same, or memory ran out
 abbrev pub RefusesOrRanOut : Profile → Text → Refusal → Type 0
-RefusesOrRanOut profile text r = (r.kind ≡ kind.NoMemory) ⊎ RefusesQuery profile text r
+RefusesOrRanOut profile text r = (r.kind ≡ kind.NoMemory) ⊎ RefusesText profile text r
 
 -- why nothing is found: the query is refused; or it is accepted, and the bytes are no document, with
 -- that fault; running out of memory says nothing of either
 abbrev pub FindsNot : Profile → List ℕ → List ℕ → FindFault → Type 0
-FindsNot profile text bytes (Query r) = RefusesQuery profile (chars text) r
+FindsNot profile text bytes (Query r) = RefusesText profile (chars text) r
 FindsNot profile text bytes (Document f) =
     ((q : QueryTree) × IsAcceptedAs profile (chars text) q) × IsDocumentFault bytes f
     × (f ≢ document.NoMemory)

@@ -5,7 +5,7 @@ ghost use Rattle.jp_check.specs.Accepted.{IsAcceptedAs};
 ghost use Rattle.jp_document.specs.Document.{document_of};
 ghost use Rattle.jp_document.specs.Node.{node_of};
 ghost use Rattle.jp_evaluate.specs.Nodelist.{nodelist};
-ghost use Rattle.jp_tree.specs.Tree.{query_of};
+ghost use Rattle.jp_tree.specs.Views.{query_of};
 ghost use Rattle.jsonpath.specs.Find.{Finds, FindsNot, RefusesOrRanOut, Selects, match_texts, texts_of};
 
 use crate::fault::FindFault;

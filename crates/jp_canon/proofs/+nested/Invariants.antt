@@ -1,6 +1,8 @@
 use Rattle.std.proofs.Common.{◌≡◌, ◌++◌, drop, map, codes}
-use Rattle.jp_tree.specs.Tree.{argument_of, arguments, call_of, expr_of, exprs}
-use Rattle.jp_tree.specs.Tree.{query_of, segment_of, segments, selector_of, selectors}
+use Rattle.jp_tree.specs.Tree.{arguments, exprs}
+use Rattle.jp_tree.specs.Views.{argument_of, call_of, expr_of}
+use Rattle.jp_tree.specs.Tree.{segments, selectors}
+use Rattle.jp_tree.specs.Views.{query_of, segment_of, selector_of}
 use Rattle.jp_canon.specs.Canon.{argument_texts, call_text, canon_of, part_texts}
 use Rattle.jp_canon.specs.Canon.{segment_text, segments_text, selector_texts, separated}
 use Rattle.jp_canon.proofs.Parts.{texts_from}

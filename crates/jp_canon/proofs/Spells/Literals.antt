@@ -14,7 +14,7 @@ use Rattle.jp_tree.specs.Tree.{LiteralTree}
 use Rattle.jp_canon.specs.Canon.{bound_text, is_one, literal_text}
 use Rattle.jp_canon.specs.Canon.{numeral_text, slice_text, step_text}
 use Rattle.jp_canon.proofs.Forms.{Has, after-blank, before-blank, both}
-use Rattle.jp_canon.proofs.Forms.{has-as, has-equal_tree, has-item, has-omitted, has-word}
+use Rattle.jp_canon.proofs.Forms.{has-as, has-equal_tree, has-component, has-omitted, has-word}
 use Rattle.jp_canon.proofs.Names.{has-quoted}
 use Rattle.jp_canon.proofs.Numbers.{int, number-text}
 
@@ -32,7 +32,7 @@ has-bound x s o t (no_bound is h) = has-equal_tree Bound bound_text is
     (has-as (λ r p. no_bound refl) (has-word []))
 has-bound x s o t (bound i is h) =
     has-equal_tree Bound bound_text is
-    (has-as (λ r p. bound i refl) (before-blank (has-item (int i h.one.inside o h.first h.one.is))))
+    (has-as (λ r p. bound i refl) (before-blank (has-component (int i h.one.inside o h.first h.one.is))))
 
 no-step : Has (Step (Whole (pos 1))) []
 no-step = has-as (λ s o. no_step refl) has-omitted
@@ -41,7 +41,7 @@ given : (i : Numeral) (b : Bool) → is_one i ≡ b → Has (Int i) (numeral_tex
     → Has (Step i) (cond b [] (codes ":" ++ numeral_text i))
 given i true is h = subst (λ j. Has (Step j) []) (sym (is_one-is i is)) no-step
 given i false is h = has-as (λ s o. given_step)
-    (both (has-word (codes ":")) (after-blank (has-item h)))
+    (both (has-word (codes ":")) (after-blank (has-component h)))
 
 has-step : (i : Numeral) (s : Spans) (o : ℕ) (t : Text) → Step i s o t → Has (Step i) (step_text i)
 has-step i s o t (no_step is h) = has-equal_tree Step step_text is no-step

@@ -24,7 +24,7 @@ use Rattle.jp_canon.specs.Canon.{canon_of, expr_text, operand_text, segment_text
 use Rattle.jp_canon.specs.Canon.{segments_text, selector_text, separated}
 use Rattle.jp_canon.specs.Precedence.{and_precedence, is_grouped, is_test, or_precedence}
 use Rattle.jp_canon.proofs.Forms.{Has, after-blank, before-blank, both, has-as, has-equal_tree}
-use Rattle.jp_canon.proofs.Forms.{has-item}
+use Rattle.jp_canon.proofs.Forms.{has-component}
 use Rattle.jp_canon.proofs.Forms.{has-same, has-separated, has-word, separated-gives}
 use Rattle.jp_canon.proofs.Bracketed.{Comma, HasSelector, bracket-of}
 use Rattle.jp_canon.proofs.Bracketed.{bracket_text, dotted-bracket, two-dots}
@@ -79,7 +79,7 @@ module _ (I K : Nested → Form)
       (has-as (λ r p. any refl) (has-word _))
   selector x s o t (indexed i is h) =
       has-equal_tree (Selector K) selector_text is
-      (has-as (λ r p. indexed i refl) (has-item (int i h.inside o t h.is)))
+      (has-as (λ r p. indexed i refl) (has-component (int i h.inside o t h.is)))
   selector x s o t (sliced y is h) =
       has-equal_tree (Selector K) selector_text is
       (has-as (λ r p. sliced y refl) (sliced-text y s o t h))
@@ -127,18 +127,18 @@ module _ (I K : Nested → Form)
   inner q s o t (from_root xs is h) =
       has-equal_tree (InnerQuery K) canon_of is
       (has-as (λ r p. from_root xs refl)
-      (has-item (both (has-word (codes "$")) (segments-text xs _ _ _ h.is.two))))
+      (has-component (both (has-word (codes "$")) (segments-text xs _ _ _ h.is.two))))
   inner q s o t (from_current xs is h) =
       has-equal_tree (InnerQuery K) canon_of is
       (has-as (λ r p. from_current xs refl)
-      (has-item (both (has-word (codes "@")) (segments-text xs _ _ _ h.is.two))))
+      (has-component (both (has-word (codes "@")) (segments-text xs _ _ _ h.is.two))))
 
   call-text : (c : CallTree) (s : Spans) (o : ℕ) (t : Text) → FunctionCall I c s o t
       → Has (FunctionCall K c) (call_text c)
   call-text c s o t (function_call name xs is h) =
       has-equal_tree (FunctionCall K) call_text is
       (has-as (λ r p. function_call name xs refl)
-      (has-item
+      (has-component
       (both (has-function_name name _ _ _ h.is.one)
       (both (has-word (codes "("))
       (after-blank
@@ -151,7 +151,7 @@ module _ (I K : Nested → Form)
       → Has (Side K x) (operand_text x)
   side x s o t (literal_side l is h) =
       has-equal_tree (Side K) operand_text is
-      (has-as (λ r p. literal_side l refl) (has-item (literal-text l h.inside o t h.is)))
+      (has-as (λ r p. literal_side l refl) (has-component (literal-text l h.inside o t h.is)))
   side x s o t (query_side q is h) =
       has-equal_tree (Side K) operand_text is
       (has-as (λ r p. query_side q refl) (inner q s o t h))
@@ -289,7 +289,7 @@ module _ (I K : Nested → Form)
       → Has (Argument K x) (argument_text x)
   argument x s o t (literal_alone l is h) =
       has-equal_tree (Argument K) argument_text is
-      (has-as (λ r p. literal_alone l refl) (has-item (literal-text l h.inside o t h.is)))
+      (has-as (λ r p. literal_alone l refl) (has-component (literal-text l h.inside o t h.is)))
   argument x s o t (query_alone q is h) =
       has-equal_tree (Argument K) argument_text is
       (has-as (λ r p. query_alone q refl) (inner q s o t h))
@@ -299,7 +299,7 @@ module _ (I K : Nested → Form)
   argument x s o t (logical_expr e is h) =
       has-equal_tree (Argument K) argument_text is
       (has-as (λ r p. logical_expr e refl)
-      (has-item (logical-part K e (logical-text e h.inside o t h.is))))
+      (has-component (logical-part K e (logical-text e h.inside o t h.is))))
 
   several-arguments : (xs : List ArgumentTree) (s : Spans) (o : ℕ) (t : Text)
       → Separated (Blank ⌢ word (codes ",") ⌢ Blank) (Argument I) xs s o t

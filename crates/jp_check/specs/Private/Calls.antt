@@ -1,6 +1,6 @@
 -- Calls as the code goes through them.
 use Rattle.std.specs.Prelude.{ℕ, List}
-use Rattle.jp_query.specs.Items.{QueryItem, arguments_items, count}
+use Rattle.jp_query.specs.Components.{QueryComponent, arguments_components, count}
 use Rattle.jp_tree.specs.Tree.{ArgumentTree, CallTree, arguments, call}
 use Rattle.jp_check.specs.declared.functions.DataType.{DataType}
 use Rattle.jp_check.specs.declared.functions.Signature as declared
@@ -17,6 +17,6 @@ abbrev pub wanted_of_call : Profile → CallTree → List DataType
 wanted_of_call profile (call name all) =
     wanted_of_arguments (signature_named profile name) (count all)
 
--- the items of the arguments of a call from the one after so many others, which are these
-abbrev pub arguments_from : CallTree → ℕ → List ArgumentTree → List QueryItem
-arguments_from (call name all) before xs = arguments_items name before (count all) (arguments xs)
+-- the components of the arguments of a call from the one after so many others, which are these
+abbrev pub arguments_from : CallTree → ℕ → List ArgumentTree → List QueryComponent
+arguments_from (call name all) before xs = arguments_components name before (count all) (arguments xs)

@@ -1,6 +1,6 @@
 -- What is true of each checked query.
 use Rattle.jp_check.specs.declared.checked.Checked.TheInside.{Inside}
-use Rattle.jp_tree.specs.Tree.{query_of}
+use Rattle.jp_tree.specs.Views.{query_of}
 use Rattle.jp_check.specs.Accepted.{IsAccepted}
 use Rattle.jp_check.specs.Checked.{Profiled}
 

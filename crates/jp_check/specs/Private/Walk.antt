@@ -1,4 +1,4 @@
--- How the items of a query are gone through: in their order, one span an item.
+-- How the components of a query are gone through: in their order, one span a component.
 use Rattle.std.specs.Prelude.{◌==◌, ◌&&◌, ◌||◌, nat_lt, ℕ, Bool, List, []}
 use Rattle.std.specs.Prelude.{◌∷◌, Option, Some, None, length, if◌then◌else◌}
 use Rattle.jp_reading.specs.Texts.{Spans}
@@ -8,8 +8,8 @@ use Rattle.jp_query.specs.declared.refusal.RefusalKind.TheVariants.{NotWhole, Nu
 use Rattle.jp_query.specs.declared.refusal.RefusalKind.TheVariants.{IndexRange, UnknownFunction}
 use Rattle.jp_query.specs.declared.refusal.RefusalKind.TheVariants.{ArgumentCount, NotSingular}
 use Rattle.jp_query.specs.declared.refusal.RefusalKind.TheVariants.{IllTyped}
-use Rattle.jp_query.specs.Items.{QueryItem, int, constant, inner, called, logical}
-use Rattle.jp_query.specs.Items.{count, items_of, expr_items, call_items}
+use Rattle.jp_query.specs.Components.{QueryComponent, int, constant, inner, called, logical}
+use Rattle.jp_query.specs.Components.{count, components_of, expr_components, call_components}
 use Rattle.jp_query.specs.Refusal.{number_of}
 use Rattle.jp_tree.specs.Singular.{is_singular}
 use Rattle.jp_tree.specs.Tree.{LiteralTree, number, QueryTree, CallTree, call, ArgumentTree}
@@ -23,7 +23,7 @@ use Rattle.jp_check.specs.Functions.{Signature, signature_named}
 use Rattle.jp_check.specs.Types.{fits, wanted}
 use Rattle.jp_check.specs.Ranges.{is_in_index_range}
 
--- how far the walk is: its profile, the spans of the items that are still to come, and the first
+-- how far the walk is: its profile, the spans of the components that are still to come, and the first
 -- fault of those that were
 pub record Progress : Type 0 where
   pub profile : Profile
@@ -66,8 +66,8 @@ fault_of_call profile (call name all) want =
 abbrev pub fault_of_logical : Option DataType → Option RefusalKind
 fault_of_logical want = ill_typed Logical want
 
--- the fault of an item, if it has one; of several the one with the least number
-abbrev pub fault_of : Profile → QueryItem → Option RefusalKind
+-- the fault of a component, if it has one; of several the one with the least number
+abbrev pub fault_of : Profile → QueryComponent → Option RefusalKind
 fault_of profile (int n _) = fault_of_int n
 fault_of profile (constant l role) = fault_of_literal l (wanted profile role)
 fault_of profile (inner q role) = fault_of_query q (wanted profile role)
@@ -85,36 +85,36 @@ abbrev pub earlier : Option Refusal → Refusal → Option Refusal
 earlier None fault = Some fault
 earlier (Some first) fault = if is_before fault first then Some fault else Some first
 
--- the spans past the next item
+-- the spans past the next component
 abbrev pub spans_past : Spans → Spans
 spans_past [] = []
 spans_past (_ ∷ rest) = rest
 
--- the first fault past an item with that fault or none, whose span comes next
+-- the first fault past a component with that fault or none, whose span comes next
 abbrev pub first_past : Option RefusalKind → Spans → Option Refusal → Option Refusal
 first_past fault [] first = first
 first_past (Some kind) (Some span ∷ rest) first =
     earlier first (record { kind = kind; place = span.start })
 first_past _ (_ ∷ rest) first = first
 
--- past an item with that fault or none
-abbrev pub past_item : Option RefusalKind → Progress → Progress
-past_item fault p = record {
+-- past a component with that fault or none
+abbrev pub past_component : Option RefusalKind → Progress → Progress
+past_component fault p = record {
   profile = p.profile;
   spans = spans_past p.spans;
   first = first_past fault p.spans p.first;
 }
 
--- past these items
-abbrev pub steps : List QueryItem → Progress → Progress
+-- past these components
+abbrev pub steps : List QueryComponent → Progress → Progress
 steps [] p = p
-steps (x ∷ xs) p = steps xs (past_item (fault_of p.profile x) p)
+steps (x ∷ xs) p = steps xs (past_component (fault_of p.profile x) p)
 
--- past an argument of which that type is wanted, and past the items in it
+-- past an argument of which that type is wanted, and past the components in it
 abbrev pub past_argument : Option DataType → ArgumentTree → Progress → Progress
-past_argument want (literal_argument l) p = past_item (fault_of_literal l want) p
-past_argument want (query_argument q) p = steps (items_of q) (past_item (fault_of_query q want) p)
+past_argument want (literal_argument l) p = past_component (fault_of_literal l want) p
+past_argument want (query_argument q) p = steps (components_of q) (past_component (fault_of_query q want) p)
 past_argument want (call_argument c) p =
-    steps (call_items c) (past_item (fault_of_call p.profile c want) p)
+    steps (call_components c) (past_component (fault_of_call p.profile c want) p)
 past_argument want (logical_argument e) p =
-    steps (expr_items e) (past_item (fault_of_logical want) p)
+    steps (expr_components e) (past_component (fault_of_logical want) p)

@@ -15,27 +15,28 @@ use Rattle.serde_json.specs.Data.{Data}
 use Rattle.serde_json.specs.Read as parsed
 use Rattle.jp_reading.specs.Texts.{Text, Spans, is_blank}
 use Rattle.jp_reading.specs.Outcome.{State, Outcome, took, stuck, deep, past_blanks, loop}
-use Rattle.jp_reading.specs.Numbers.{is_digit, digits_at}
+use Rattle.jp_reading.specs.Numbers.{is_digit}
+use Rattle.jp_reading.specs.NumberReading.{digits_at}
 use Rattle.jp_reading.proofs.Again.{start}
 use Rattle.jp_document.specs.Document.{IsDocument, value_of_data}
 use Rattle.jp_document.specs.Path.{index_text}
 use Rattle.jp_document.specs.Spelling.{spelling}
 use Rattle.jp_document.specs.Value.{Value, everywhere, is_allowed}
 use Rattle.jp_iregexp.specs.Characters.{is_plain}
-use Rattle.jp_iregexp.specs.Class.{class_holds, item_holds}
-use Rattle.jp_iregexp.specs.Matches.{has_match, is_match}
+use Rattle.jp_iregexp.specs.Class.{class_holds, element_holds}
+use Rattle.jp_iregexp.specs.MatchTests.{has_match, is_match}
 use Rattle.jp_iregexp.specs.Membership.{has_word, is_word}
 use Rattle.jp_iregexp.specs.PatternOf.{pattern_of}
 use Rattle.jp_iregexp.specs.Private.Reading as pattern
 use Rattle.jp_tree.specs.Tree.{QueryTree}
 use Rattle.jp_query.specs.Grammar.{Spells}
-use Rattle.jp_query.specs.Items.{items_of}
+use Rattle.jp_query.specs.Components.{items_of}
 use Rattle.jp_query.specs.Levels.{level_limit}
 use Rattle.jp_query.specs.Strings.{is_hexdig, is_d, is_not_d, is_0_to_7, is_8_to_b, is_c_to_f}
 use Rattle.jp_query.specs.Private.Reading.{query_at}
 use Rattle.jp_query.specs.Private.Rules as rule
 use Rattle.jp_query.specs.declared.refusal.Refusal.{Refusal}
-use Rattle.jp_query.proofs.ItemSpans.{spans-of_items}
+use Rattle.jp_query.proofs.ComponentSpans.{spans-of_items}
 use Rattle.jp_query.proofs.Soundness.Whole.{read-spells}
 use Rattle.jp_check.specs.Accepted.{IsAcceptedAs}
 use Rattle.jp_check.specs.Refused.{IsFaulty}
@@ -207,7 +208,7 @@ value-document bytes v h = of_utf8 (is_utf8 bytes) refl h
 -- the lines that a query gives over a document
 unfoldable pub answer : List ℕ → List ℕ → Option (List ℕ)
 unfolding tree value index_text spelling digits is_match has_match is_word has_word class_holds
-    item_holds pattern_of pattern.pattern_at pattern.branches_at pattern.branch_at pattern.piece_at
+    element_holds pattern_of pattern.pattern_at pattern.branches_at pattern.branch_at pattern.piece_at
     pattern.atom_at pattern.class_at pattern.items_at pattern.element_at pattern.character_at
     pattern.range_at is_plain
 answer document text =

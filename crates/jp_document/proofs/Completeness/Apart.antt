@@ -62,7 +62,7 @@ index-apart K off = (
 )
 
 step-apart : (K : Follow) → Apart {N = nesting} (λ o. any) rule.step step-alive K
-unfolding rule.step rule.key rule.name rule.index rule.size is_digit
+unfolding rule.step rule.normal_selector rule.name rule.index rule.size is_digit
 step-apart K = (
   tt,
   (

@@ -19,10 +19,11 @@ use Rattle.jp_reading.proofs.HasForm.{has-same, has-each_passing, reads-all}
 use Rattle.jp_reading.proofs.Rules.Completeness.{done, no_inner}
 use Rattle.jp_reading.proofs.Rules.Follow.{any}
 use Rattle.jp_reading.proofs.Rules.Form.{left, right, none_inside}
-use Rattle.jp_document.specs.Location.{Key, named, nth, Location}
+use Rattle.jp_document.specs.Location.{Step, named, nth, Location}
 use Rattle.jp_document.specs.Path.{index_text, step_text, path_of}
 use Rattle.jp_document.specs.Private.PathReading.{path_at}
-use Rattle.jp_document.specs.Private.PathRules.{nesting, is_leading_digit}
+use Rattle.jp_document.specs.Private.PathRules.{nesting}
+use Rattle.jp_reading.specs.Numbers.{is_leading_digit}
 use Rattle.jp_document.specs.Private.PathRules as rule
 use Rattle.jp_document.proofs.Paths.Alive.{path-alive}
 use Rattle.jp_document.proofs.Completeness.Apart.{at_end, path-apart}
@@ -30,7 +31,7 @@ use Rattle.jp_document.proofs.Completeness.Names.{Begins, enclosed-has, name-beg
 use Rattle.jp_document.proofs.Spellings.Encoded.{prefix-ascii, first-ascii, digits-ascii}
 use Rattle.jp_document.proofs.Spellings.Indexes.{value_from-index_text, digits-index_text}
 use Rattle.jp_document.proofs.Spellings.Indexes.{Begun, zero_text, other_text, begun}
-use Rattle.jp_document.proofs.Paths.LargeIndexes.{capped_key}
+use Rattle.jp_document.proofs.Paths.LargeIndexes.{capped_step}
 use Rattle.jp_document.proofs.Paths.Differ.{step-named, step-nth}
 use Rattle.jp_document.proofs.Soundness.Names.{form_of}
 
@@ -58,9 +59,9 @@ index-has n w (other_text d ds is digit all above) text =
     (has-as (λ s o h. record { part = ds; same = value; is = h })
     (has-each_passing is_digit ds all))))
 
-key-begins : (k : Key) (t : Text) (w : List ℕ) → encode_utf8_all t ≡ step_text k ++ w
-    → Begins (form_of rule.step (capped_key k)) t w
-unfolding rule.step rule.key
+key-begins : (k : Step) (t : Text) (w : List ℕ) → encode_utf8_all t ≡ step_text k ++ w
+    → Begins (form_of rule.step (capped_step k)) t w
+unfolding rule.step rule.normal_selector
 key-begins (named s) t w h =
     let bracket = first-ascii char.opening_bracket t _ (omega arith) (h ∙ step-named s w) in
     let name = name-begins s bracket.0 (char.closing_bracket ∷ w) bracket.2 in
@@ -71,7 +72,7 @@ key-begins (named s) t w h =
       is = bracket.1 ∙ ap (λ x. char.opening_bracket ∷ x)
           (name.is ∙ ap (λ x. name.text ++ x) end.1
           ∙ sym (append_assoc name.text (char.closing_bracket ∷ []) end.0));
-      has = enclosed-has (form_of rule.key) char.opening_bracket char.closing_bracket (named s)
+      has = enclosed-has (form_of rule.normal_selector) char.opening_bracket char.closing_bracket (named s)
           name.text
           (has-as (λ s o g. left (record { part = _; same = refl; is = g })) name.has);
       leaves = end.2;
@@ -87,7 +88,7 @@ key-begins (nth n) t w h =
       is = bracket.1 ∙ ap (λ x. char.opening_bracket ∷ x)
           (index.1 ∙ ap (λ x. index_text n ++ x) end.1
           ∙ sym (append_assoc (index_text n) (char.closing_bracket ∷ []) end.0));
-      has = enclosed-has (form_of rule.key) char.opening_bracket char.closing_bracket
+      has = enclosed-has (form_of rule.normal_selector) char.opening_bracket char.closing_bracket
           (nth (min n 9007199254740992)) (index_text n)
           (has-as (λ s o g. right (record { part = _; same = refl; is = g }))
           (index-has n (index_text n) (begun n) refl));
@@ -103,14 +104,14 @@ no_text (c ∷ t) h =
     absurd (omega (arith, ap length h, longer, length-encode c, (len_utf8_bounds c).0))
 
 steps-has : (l : Location) (t : Text) → encode_utf8_all t ≡ flat_map step_text l
-    → HasForm (Each (form_of rule.step) (map capped_key l)) t
+    → HasForm (Each (form_of rule.step) (map capped_step l)) t
 steps-has [] t h = has-same (sym (no_text t (sym h))) (has-word [])
 steps-has (k ∷ l) t h =
     let one = key-begins k t (flat_map step_text l) h in
     has-same (sym one.is) (both one.has (steps-has l one.rest one.leaves))
 
 path-has : (t : Text) (l : Location) → encode_utf8_all t ≡ path_of l
-    → HasForm (form_of rule.path (map capped_key l)) t
+    → HasForm (form_of rule.path (map capped_step l)) t
 unfolding rule.path rule.steps
 path-has t l h =
     let dollar = first-ascii char.dollar t (flat_map step_text l) (omega arith) h in
@@ -118,12 +119,12 @@ path-has t l h =
 
 -- the path of each list of steps is read
 pub path-complete : (t : Text) (l : Location) → encode_utf8_all t ≡ path_of l
-    → (q : State) × (path_at (start t) ≡ took (map capped_key l) q)
+    → (q : State) × (path_at (start t) ≡ took (map capped_step l) q)
 unfolding path_at
 path-complete t l h =
     let has = path-has t l h in
     let read = done (none_inside nesting) (λ o. any) (nothing nesting)
     (no_inner nesting) rule.path path-alive at_end path-apart
-    (map capped_key l) (start t) (finish t (has.at 0).0) (reads-all has)
+    (map capped_step l) (start t) (finish t (has.at 0).0) (reads-all has)
     (record { near = refl; far = refl }) in
     (finish t (has.at 0).0, rw read.reads refl)

@@ -12,7 +12,7 @@ use Rattle.std.proofs.lemmas.Cmp.{eq_by_cmp_equiv}
 use Rattle.std.proofs.lemmas.Map.Entries.{lookup_from_place}
 use Rattle.std.proofs.lemmas.Map.Keys.{IsDistinct-from_sorted}
 use Rattle.std.proofs.lemmas.Option.{slice_get-map}
-use Rattle.jp_document.specs.Location.{Key, named, nth, key_cmp, Location}
+use Rattle.jp_document.specs.Location.{Step, named, nth, step_cmp, Location}
 use Rattle.jp_document.specs.Location.{items_from, members_by_name, entries, child}
 use Rattle.jp_document.specs.Node.{node_below}
 use Rattle.jp_document.specs.Value.{Value, list, object, Items}
@@ -24,10 +24,10 @@ use Rattle.jp_document.specs.declared.value.Member.{Member}
 use Rattle.jp_document.proofs.Values.{member_of_is}
 use Rattle.jp_document.proofs.Members.ByName.{bytes_cmp, sorted_from_rise}
 use Rattle.jp_document.proofs.Descent.Inside.{IsDocumentValue-child, everywhere-weaker}
-use Rattle.jp_document.proofs.Descent.Keys.{key_cmp_total}
-use Rattle.jp_document.proofs.Conjunctions.{and-left}
+use Rattle.jp_document.proofs.Descent.Steps.{step_cmp_total}
+use Rattle.jp_reading.proofs.Conjunctions.{and-left}
 
-abbrev pub at_index : ℕ → Value → Key × Value
+abbrev pub at_index : ℕ → Value → Step × Value
 at_index i v = (nth i, v)
 
 -- ---- by positions
@@ -44,7 +44,7 @@ pub item_entry : (i : ℕ) (vs : List Value)
 item_entry i vs = entry_of_item i 0 i vs (omega arith)
 
 -- the entry of a member
-abbrev pub entry_of : Member → Key × Value
+abbrev pub entry_of : Member → Step × Value
 entry_of m = (named (string_bytes m.name), value_of m.value)
 
 pub members-entries : (ms : List Member)
@@ -54,37 +54,37 @@ members-entries (m ∷ ms) =
     ap₂ (λ p es. (named p.0, p.1) ∷ es) (member_of_is m) (members-entries ms)
 
 -- the child at a position, beside the entry
-pub child_at_position : (l : Location) (es : List (Key × Value)) (i : ℕ) (o : Option (Key × Value))
+pub child_at_position : (l : Location) (es : List (Step × Value)) (i : ℕ) (o : Option (Step × Value))
     → o ≡ slice_get es i → option_map (node_below l) o ≡ slice_get (map (node_below l) es) i
 child_at_position l es i o is =
     ap (option_map (node_below l)) is ∙ sym (slice_get-map (node_below l) es i)
 
 -- ---- the steps rise
 
-above : (j k : ℕ) (vs : Items) → j < k →
-    AllByRecursion (λ y. key_cmp (nth j) y ≡ Less) (keys_of (items_from k vs))
+above : (j k : ℕ) (vs : Items) → j < k
+    → AllByRecursion (λ y. step_cmp (nth j) y ≡ Less) (keys_of (items_from k vs))
 above j k no_items less = tt
 above j k (item v vs) less = (sym (nat_cmp_is j k Less less), above j (suc k) vs (omega arith))
 
-items-rise : (k : ℕ) (vs : Items) → IsStrictlySortedBy key_cmp (keys_of (items_from k vs))
+items-rise : (k : ℕ) (vs : Items) → IsStrictlySortedBy step_cmp (keys_of (items_from k vs))
 unfolding IsStrictlySortedBy
 items-rise k no_items = tt
 items-rise k (item v vs) = (above k (suc k) vs (omega arith), items-rise (suc k) vs)
 
-named_above : (n : List ℕ) (ms : Members) →
-    AllByRecursion (λ m. bytes_cmp n m ≡ Less) (names_of ms) →
-    AllByRecursion (λ y. key_cmp (named n) y ≡ Less) (keys_of (members_by_name ms))
+named_above : (n : List ℕ) (ms : Members)
+    → AllByRecursion (λ m. bytes_cmp n m ≡ Less) (names_of ms)
+    → AllByRecursion (λ y. step_cmp (named n) y ≡ Less) (keys_of (members_by_name ms))
 named_above n no_members h = tt
 named_above n (member m v ms) h = (h.0, named_above n ms h.1)
 
-members-rise : (ms : Members) → IsStrictlySortedBy bytes_cmp (names_of ms) →
-    IsStrictlySortedBy key_cmp (keys_of (members_by_name ms))
+members-rise : (ms : Members) → IsStrictlySortedBy bytes_cmp (names_of ms)
+    → IsStrictlySortedBy step_cmp (keys_of (members_by_name ms))
 unfolding IsStrictlySortedBy
 members-rise no_members h = tt
 members-rise (member n v ms) h = (named_above n ms h.0, members-rise ms h.1)
 
 pub entries-rise_by_names : (v : Value) → NamesRise v
-    → IsStrictlySortedBy key_cmp (keys_of (entries v))
+    → IsStrictlySortedBy step_cmp (keys_of (entries v))
 unfolding IsStrictlySortedBy
 entries-rise_by_names (list vs) rise = items-rise 0 vs
 entries-rise_by_names (object ms) rise =
@@ -99,17 +99,17 @@ pub document-names_rise : (v : Value) → IsDocumentValue v → NamesRise v
 document-names_rise = everywhere-weaker is_allowed has_rising_names allowed-rising
 
 pub entries-rise : (v : Value) → IsDocumentValue v
-    → IsStrictlySortedBy key_cmp (keys_of (entries v))
+    → IsStrictlySortedBy step_cmp (keys_of (entries v))
 entries-rise v document = entries-rise_by_names v (document-names_rise v document)
 
 -- the value one step inside at an entry's step is the entry's
-pub child-entry : (v : Value) (i : ℕ) (k : Key) (w : Value) → IsDocumentValue v
+pub child-entry : (v : Value) (i : ℕ) (k : Step) (w : Value) → IsDocumentValue v
     → slice_get (entries v) i ≡ Some (k, w) → child v k ≡ Some w
 child-entry v i k w document is =
-    lookup_from_place (eq_by_cmp_equiv key_cmp_total) (entries v) i k w
-    (IsDistinct-from_sorted key_cmp (keys_of (entries v)) (entries-rise v document)) is
+    lookup_from_place (eq_by_cmp_equiv step_cmp_total) (entries v) i k w
+    (IsDistinct-from_sorted step_cmp (keys_of (entries v)) (entries-rise v document)) is
 
-pub IsDocumentValue-entry : (v : Value) (i : ℕ) (e : Key × Value) → IsDocumentValue v
+pub IsDocumentValue-entry : (v : Value) (i : ℕ) (e : Step × Value) → IsDocumentValue v
     → slice_get (entries v) i ≡ Some e → IsDocumentValue e.1
 IsDocumentValue-entry v i e document is =
     IsDocumentValue-child v e.1 e.0 document (child-entry v i e.0 e.1 document is)

@@ -10,32 +10,32 @@ use Rattle.std.proofs.lemmas.List.Elements.{All-contains, All-map}
 use Rattle.std.proofs.lemmas.Map.Views.{Contains-from_lookup, tells_apart}
 use Rattle.std.proofs.lemmas.Option.{slice_get-get_or}
 use Rattle.jp_document.specs.ChildNodes.{ChildrenAreExact, IsChild, IsListOf}
-use Rattle.jp_document.specs.Location.{Key, key_cmp, Location, location_cmp}
+use Rattle.jp_document.specs.Location.{Step, step_cmp, Location, location_cmp}
 use Rattle.jp_document.specs.Location.{entries, child, value_at}
 use Rattle.jp_document.specs.Node.{Node, StandsIn, children, location_of, node_below}
 use Rattle.jp_document.specs.Value.{Value}
 use Rattle.jp_document.proofs.Descent.Inside.{value_at-step}
-use Rattle.jp_document.proofs.Descent.Keys.{key_same, key_exact}
+use Rattle.jp_document.proofs.Descent.Steps.{step_same, step_exact}
 use Rattle.jp_document.proofs.Descent.Entries.{entries-rise}
 use Rattle.jp_document.proofs.Descent.Nodes.{IsDocumentValue-at, child_there, child-stands}
 use Rattle.jp_document.proofs.Descent.Nodes.{children-stand}
 
-step_less : (l : Location) (a b : Key) → key_cmp a b ≡ Less →
-    location_cmp (l ++ a ∷ []) (l ++ b ∷ []) ≡ Less
+step_less : (l : Location) (a b : Step) → step_cmp a b ≡ Less
+    → location_cmp (l ++ a ∷ []) (l ++ b ∷ []) ≡ Less
 step_less [] a b less = ap (λ o. ordering_then o Equal) less
 step_less (k ∷ l) a b less =
-    ap (λ o. ordering_then o (location_cmp (l ++ a ∷ []) (l ++ b ∷ []))) (key_same k)
+    ap (λ o. ordering_then o (location_cmp (l ++ a ∷ []) (l ++ b ∷ []))) (step_same k)
     ∙ step_less l a b less
 
-all_less : (l : Location) (k : Key) (es : List (Key × Value)) →
-    AllByRecursion (λ y. key_cmp k y ≡ Less) (keys_of es) →
-    AllByRecursion (λ m. location_cmp (l ++ k ∷ []) m ≡ Less)
+all_less : (l : Location) (k : Step) (es : List (Step × Value))
+    → AllByRecursion (λ y. step_cmp k y ≡ Less) (keys_of es)
+    → AllByRecursion (λ m. location_cmp (l ++ k ∷ []) m ≡ Less)
     (map location_of (map (node_below l) es))
 all_less l k [] h = tt
 all_less l k (e ∷ es) h = (step_less l k e.0 h.0, all_less l k es h.1)
 
-steps_rise : (l : Location) (es : List (Key × Value)) → IsStrictlySortedBy key_cmp (keys_of es) →
-    IsStrictlySortedBy location_cmp (map location_of (map (node_below l) es))
+steps_rise : (l : Location) (es : List (Step × Value)) → IsStrictlySortedBy step_cmp (keys_of es)
+    → IsStrictlySortedBy location_cmp (map location_of (map (node_below l) es))
 unfolding IsStrictlySortedBy
 steps_rise l [] h = tt
 steps_rise l (e ∷ es) h = (all_less l e.0 es h.0, steps_rise l es h.1)
@@ -51,8 +51,8 @@ are_children d n stands =
       ((get_or es i e).0, refl),
     )))
 
-pub Contains-map : {A B : Type 0} (f : A → B) (xs : List A) (x : A) → Contains xs x →
-    Contains (map f xs) (f x)
+pub Contains-map : {A B : Type 0} (f : A → B) (xs : List A) (x : A) → Contains xs x
+    → Contains (map f xs) (f x)
 Contains-map f xs x has = (
   has.0,
   subst (λ n. has.0 < n) (sym (length-map xs f)) has.1,
@@ -75,7 +75,7 @@ contains_child d n m stands is =
     subst (Contains (map location_of (children n))) (sym is.1.1)
     (Contains-map location_of (children n) (node_below n.location (k, w.0))
     (Contains-map (node_below n.location) es (k, w.0)
-    (Contains-from_lookup (tells_apart key_exact) k w.0 es w.1)))
+    (Contains-from_lookup (tells_apart step_exact) k w.0 es w.1)))
 
 listed : (d : Value) (n : Node) → StandsIn d n
     → IsListOf (IsChild d n.location) (map location_of (children n))

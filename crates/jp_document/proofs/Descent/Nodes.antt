@@ -8,7 +8,7 @@ use Rattle.std.specs.Option.{option_map, option_and_then}
 use Rattle.std.proofs.lemmas.List.{length_push, map-append, take_more}
 use Rattle.std.proofs.lemmas.List.Elements.{All-map}
 use Rattle.std.proofs.lemmas.Option.{slice_get-get_or, slice_get_within, same_Some}
-use Rattle.jp_document.specs.Location.{Key, Location}
+use Rattle.jp_document.specs.Location.{Step, Location}
 use Rattle.jp_document.specs.Location.{entries, child, value_at}
 use Rattle.jp_document.specs.Node.{IsNodeAt, Node, NodeView, StandsIn}
 use Rattle.jp_document.specs.Node.{child_of, children, node_below, node_of}
@@ -19,8 +19,8 @@ use Rattle.jp_document.proofs.Descent.Entries.{child-entry}
 
 -- ---- the list that a loop makes
 
-one_more : {X : Type 0} (xs : List X) (i : ℕ) (x : X) → Some x ≡ slice_get xs i →
-    take (i + 1) xs ≡ take i xs ++ x ∷ []
+one_more : {X : Type 0} (xs : List X) (i : ℕ) (x : X) → Some x ≡ slice_get xs i
+    → take (i + 1) xs ≡ take i xs ++ x ∷ []
 one_more xs i x is =
     let within = slice_get_within xs i x (sym is) in
     take_more xs i x within
@@ -46,8 +46,8 @@ finished ns all so is = so ∙ no_more all (length ns) is
 
 -- ---- where the children stand
 
-pub IsDocumentValue-at : (d v : Value) (l : Location) → IsDocumentValue d → value_at d l ≡ Some v →
-    IsDocumentValue v
+pub IsDocumentValue-at : (d v : Value) (l : Location) → IsDocumentValue d → value_at d l ≡ Some v
+    → IsDocumentValue v
 IsDocumentValue-at d v [] document is = subst IsDocumentValue (same_Some _ _ is) document
 IsDocumentValue-at d v (k ∷ l) document is =
     let w = some_from_then (λ w. value_at w l) (child d k) v is in
@@ -55,7 +55,7 @@ IsDocumentValue-at d v (k ∷ l) document is =
     (sym (ap (option_and_then (λ x. value_at x l)) w.1) ∙ is)
 
 -- the value of the document at a child's location
-pub child_there : (d : Value) (n : Node) (i : ℕ) (e : Key × Value) → StandsIn d n
+pub child_there : (d : Value) (n : Node) (i : ℕ) (e : Step × Value) → StandsIn d n
     → slice_get (entries n.value) i ≡ Some e → value_at d (n.location ++ e.0 ∷ []) ≡ Some e.1
 child_there d n i e stands is =
     value_at-step d n.value n.location e.0 stands.there
@@ -71,14 +71,14 @@ children-stand d n stands =
       there = child_there d n i (get_or es i e) stands (slice_get-get_or es i e within);
     })
 
-child_stands_by : (d : Value) (n : Node) (k : Key) (o : Option Value)
+child_stands_by : (d : Value) (n : Node) (k : Step) (o : Option Value)
     → value_at d (n.location ++ k ∷ []) ≡ o → StandsIn d n
     → IsNodeAt d (n.location ++ k ∷ []) (option_map (λ v. node_below n.location (k, v)) o)
 child_stands_by d n k None at stands = at
 child_stands_by d n k (Some v) at stands = (refl, record { document = stands.document; there = at })
 
 -- the child at a step stands there too, or there is none
-pub child-stands : (d : Value) (n : Node) (k : Key) → StandsIn d n
+pub child-stands : (d : Value) (n : Node) (k : Step) → StandsIn d n
     → IsNodeAt d (n.location ++ k ∷ []) (child_of n k)
 child-stands d n k stands =
     child_stands_by d n k (child n.value k) (value_at-step d n.value n.location k stands.there)

@@ -22,7 +22,7 @@ unfolding rule.index rule.size is_digit
 index-alive = (tt, ((char.digit_one, refl), λ d. (char.digit_zero, refl)))
 
 abbrev pub step-alive : Alive rule.step
-unfolding rule.step rule.key
+unfolding rule.step rule.normal_selector
 step-alive = ((name-alive, index-alive), λ k. tt)
 
 abbrev pub path-alive : Alive rule.path

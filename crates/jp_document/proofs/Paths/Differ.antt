@@ -7,7 +7,7 @@ use Rattle.jp_reading.specs.Characters as char
 use Rattle.jp_reading.specs.Forms.{AllPassing}
 use Rattle.jp_reading.specs.Numbers.{is_digit, value_from}
 use Rattle.jp_document.specs.Laws.{PathsDiffer, NodesDiffer}
-use Rattle.jp_document.specs.Location.{Key, named, nth, Location, value_at}
+use Rattle.jp_document.specs.Location.{Step, named, nth, Location, value_at}
 use Rattle.jp_document.specs.Node.{Node}
 use Rattle.jp_document.specs.Value.{Value}
 use Rattle.jp_document.specs.Path.{index_text, step_text, path_of}
@@ -26,8 +26,8 @@ hex-same : (m n : ℕ) → m < 16 → n < 16 → hex_digit m ≡ hex_digit n →
 hex-same m n a b e = sym (hex_digit_is m a).1 ∙ ap hex_value e ∙ (hex_digit_is n b).1
 
 -- what follows two equal prefixes, with the prefixes as they are spelled
-spelled-same : {v w a b : List ℕ} (x y : List ℕ) → v ≡ a → w ≡ b → v ++ x ≡ w ++ y →
-    a ++ x ≡ b ++ y
+spelled-same : {v w a b : List ℕ} (x y : List ℕ) → v ≡ a → w ≡ b → v ++ x ≡ w ++ y
+    → a ++ x ≡ b ++ y
 spelled-same x y is was h = ap (λ t. t ++ x) (sym is) ∙ h ∙ ap (λ t. t ++ y) was
 
 plain-no_slash : (c : ℕ) (x y : List ℕ) → is_plain c ≡ true → char.backslash ∷ x ≡ c ∷ y → ⊥
@@ -89,8 +89,8 @@ no_quote c w x y (by_itself p is) h =
     cc
 
 -- the characters of names, up to the quote
-names-cancel : (s t x y : List ℕ) →
-    flat_map (spelling char.single_quote) s ++ char.single_quote ∷ x
+names-cancel : (s t x y : List ℕ)
+    → flat_map (spelling char.single_quote) s ++ char.single_quote ∷ x
     ≡ flat_map (spelling char.single_quote) t ++ char.single_quote ∷ y → Same s t x y
 names-cancel [] [] x y h = (refl, cc)
 names-cancel [] (d ∷ t) x y h =
@@ -110,8 +110,8 @@ names-cancel (c ∷ s) (d ∷ t) x y h =
     (ap (λ n. n ∷ s) one.0 ∙ ap (λ n. d ∷ n) more.0, more.1)
 
 -- digits, up to a character that is none
-digits-cancel : (c : ℕ) (v w x y : List ℕ) → is_digit c ≡ false → AllPassing is_digit v →
-    AllPassing is_digit w → v ++ c ∷ x ≡ w ++ c ∷ y → Same v w x y
+digits-cancel : (c : ℕ) (v w x y : List ℕ) → is_digit c ≡ false → AllPassing is_digit v
+    → AllPassing is_digit w → v ++ c ∷ x ≡ w ++ c ∷ y → Same v w x y
 digits-cancel c [] [] x y off a b h = (refl, cc)
 digits-cancel c [] (e ∷ w) x y off a b h =
     let at : c ≡ e = cc in let no : true ≡ false = sym b.0 ∙ ap is_digit (sym at) ∙ off in cc
@@ -136,8 +136,8 @@ no_index i w x y (other_text d ds is digit all above) h =
     let at : char.single_quote ≡ d = ap (λ t. get_or t 0 0) (h ∙ ap (λ t. t ++ y) is) in omega arith
 
 -- a step and what follows
-pub step-named : (s x : List ℕ) →
-    step_text (named s) ++ x ≡ char.opening_bracket ∷ char.single_quote ∷
+pub step-named : (s x : List ℕ)
+    → step_text (named s) ++ x ≡ char.opening_bracket ∷ char.single_quote ∷
     (flat_map (spelling char.single_quote) s ++ char.single_quote ∷ char.closing_bracket ∷ x)
 step-named s x =
     ap (λ t. char.opening_bracket ∷ char.single_quote ∷ t)
@@ -152,7 +152,7 @@ step-nth i x = ap (λ t. char.opening_bracket ∷ t)
     (append_assoc (index_text i) (char.closing_bracket ∷ []) x)
 
 -- no step's text begins another's
-steps-cancel : (k j : Key) (x y : List ℕ) → step_text k ++ x ≡ step_text j ++ y → Same k j x y
+steps-cancel : (k j : Step) (x y : List ℕ) → step_text k ++ x ≡ step_text j ++ y → Same k j x y
 steps-cancel (named s) (named t) x y h =
     let same : char.opening_bracket ∷ char.single_quote ∷
     (flat_map (spelling char.single_quote) s ++ char.single_quote ∷ char.closing_bracket ∷ x) ≡
@@ -199,7 +199,7 @@ steps-cancel (nth i) (nth j) x y h =
     )
 
 -- a step's text is not empty
-no_step : (k : Key) (x : List ℕ) → [] ≡ step_text k ++ x → ⊥
+no_step : (k : Step) (x : List ℕ) → [] ≡ step_text k ++ x → ⊥
 no_step (named s) x h =
     let e : [] ≡ char.opening_bracket ∷ char.single_quote ∷
     (flat_map (spelling char.single_quote) s ++ char.single_quote ∷ char.closing_bracket ∷ x) =

@@ -5,11 +5,13 @@ use Rattle.jp_reading.specs.Characters as char
 use Rattle.jp_reading.specs.Outcome.{State, Outcome, took, stuck, deep, ◌>>=◌, head}
 use Rattle.jp_reading.specs.Outcome.{passes, is, is_at, take_passing, take_if, each}
 use Rattle.jp_reading.specs.Texts.{Text}
-use Rattle.jp_reading.specs.Numbers.{is_digit, is_at_digit, digit_at, digits_at, capped}
-use Rattle.jp_reading.specs.Views.{by}
-use Rattle.jp_reading.proofs.Folds.{by-by}
+use Rattle.jp_reading.specs.Numbers.{is_digit}
+use Rattle.jp_reading.specs.NumberReading.{is_at_digit, digit_at, digits_at, capped}
+use Rattle.jp_reading.specs.Views.{outcome_map}
+use Rattle.jp_reading.proofs.Folds.{outcome_map-twice_made}
 use Rattle.jp_document.specs.Private.PathReading.{read_rule}
-use Rattle.jp_document.specs.Private.PathRules.{is_leading_digit, index, size}
+use Rattle.jp_document.specs.Private.PathRules.{index, size}
+use Rattle.jp_reading.specs.Numbers.{is_leading_digit}
 
 leading-digit : (c : ℕ) → is char.digit_zero c ≡ false → is_leading_digit c ≡ is_digit c
 unfolding is_digit
@@ -26,16 +28,16 @@ first-digit p off = taken (head p) off
 
 -- the index as `natural` reads it
 pub index-natural : (p : State) → is_at char.digit_zero p ≡ false
-    → read_rule index p ≡ by (capped 9007199254740992 0) (digits_at p)
+    → read_rule index p ≡ outcome_map (capped 9007199254740992 0) (digits_at p)
 unfolding index size digits_at
 index-natural p off = rw (off, first-digit p off) (along (digit_at p))
   where
     along : (o : Outcome ℕ)
-        → (o >>= λ d q. by (λ ds. capped 9007199254740992 0 (d ∷ ds)) (each is_at_digit digit_at q))
-        ≡ by (capped 9007199254740992 0)
+        → (o >>= λ d q. outcome_map (λ ds. capped 9007199254740992 0 (d ∷ ds)) (each is_at_digit digit_at q))
+        ≡ outcome_map (capped 9007199254740992 0)
         (o >>= λ d q. each is_at_digit digit_at q >>= λ ds r. took (d ∷ ds) r)
     along (took d q) =
-        sym (by-by (capped 9007199254740992 0) (λ (ds : Text). d ∷ ds)
+        sym (outcome_map-twice_made (capped 9007199254740992 0) (λ (ds : Text). d ∷ ds)
         (λ ds. capped 9007199254740992 0 (d ∷ ds)) (λ ds. refl)
         (each is_at_digit digit_at q))
     along (stuck q) = refl

@@ -4,44 +4,44 @@ use Rattle.std.proofs.Common.{List, [], ◌∷◌, map, refl, ap, ◌∙◌, ari
 use Rattle.std.proofs.lemmas.Bool.{or_parts}
 use Rattle.std.proofs.lemmas.Bool.Decides.{nat_tests}
 use Rattle.std.specs.List.{list_any}
-use Rattle.jp_document.specs.Location.{Key, named, nth, Location}
+use Rattle.jp_document.specs.Location.{Step, named, nth, Location}
 use Rattle.jp_document.specs.PathFault.{is_large}
 
 -- what is read for a step
-abbrev pub capped_key : Key → Key
-capped_key (named s) = named s
-capped_key (nth i) = nth (min i 9007199254740992)
+abbrev pub capped_step : Step → Step
+capped_step (named s) = named s
+capped_step (nth i) = nth (min i 9007199254740992)
 
-pub list_any-map : {A B : Type 0} (p : B → Bool) (f : A → B) (xs : List A) →
-    list_any p (map f xs) ≡ list_any (λ x. p (f x)) xs
+pub list_any-map : {A B : Type 0} (p : B → Bool) (f : A → B) (xs : List A)
+    → list_any p (map f xs) ≡ list_any (λ x. p (f x)) xs
 list_any-map p f [] = refl
 list_any-map p f (x ∷ xs) = ap (λ b. p (f x) || b) (list_any-map p f xs)
 
 large-min : (i : ℕ) → nat_lt 9007199254740991 (min i 9007199254740992) ≡ nat_lt 9007199254740991 i
 large-min i = grind (arith, nat_tests)
 
-is_large-capped : (k : Key) → is_large (capped_key k) ≡ is_large k
+is_large-capped : (k : Step) → is_large (capped_step k) ≡ is_large k
 is_large-capped (named s) = refl
 is_large-capped (nth i) = large-min i
 
 -- what is read has a large index exactly where the path has one
-pub any_large-capped : (l : Location) → list_any is_large (map capped_key l) ≡ list_any is_large l
+pub any_large-capped : (l : Location) → list_any is_large (map capped_step l) ≡ list_any is_large l
 any_large-capped [] = refl
 any_large-capped (k ∷ l) =
-    ap (λ b. b || list_any is_large (map capped_key l)) (is_large-capped k)
+    ap (λ b. b || list_any is_large (map capped_step l)) (is_large-capped k)
     ∙ ap (λ b. is_large k || b) (any_large-capped l)
 
 small-min : (i : ℕ) → nat_lt 9007199254740991 i ≡ false → min i 9007199254740992 ≡ i
 small-min i h = grind (arith, nat_tests)
 
-small-capped : (k : Key) → is_large k ≡ false → capped_key k ≡ k
+small-capped : (k : Step) → is_large k ≡ false → capped_step k ≡ k
 small-capped (named s) h = refl
 small-capped (nth i) h = ap nth (small-min i h)
 
 -- where it has none the path itself was read
-pub all_small-capped : (l : Location) → list_any is_large l ≡ false → map capped_key l ≡ l
+pub all_small-capped : (l : Location) → list_any is_large l ≡ false → map capped_step l ≡ l
 all_small-capped [] h = refl
 all_small-capped (k ∷ l) h =
     let parts = or_parts (is_large k) (list_any is_large l) h in
-    ap (λ j. j ∷ map capped_key l) (small-capped k parts.0)
+    ap (λ j. j ∷ map capped_step l) (small-capped k parts.0)
     ∙ ap (λ m. k ∷ m) (all_small-capped l parts.1)

@@ -17,15 +17,15 @@ use Rattle.jp_document.proofs.Completeness.Paths.{path-complete}
 use Rattle.jp_document.proofs.Soundness.Paths.{path-sound}
 
 -- a rule that takes a value does not stop
-no_stop : (e : Stop) (o : Outcome Location) (l : Location) (q : State) → o ≡ took l q → Fails e o →
-    e ≡ Memory
+no_stop : (e : Stop) (o : Outcome Location) (l : Location) (q : State) → o ≡ took l q → Fails e o
+    → e ≡ Memory
 no_stop Memory o l q is h = refl
 no_stop (Syntax n) o l q is h = elim (subst (Fails (Syntax n)) is h) [ ]
 no_stop (TooDeep n) o l q is h = elim (subst (Fails (TooDeep n)) is h) [ ]
 
 -- reading stops at no path
-pub refused : (text : List ℕ) (e : Stop) → IsUtf8 text → Fails e (path_at (start (chars text))) →
-    IsPathFaultOf text (fault_of e)
+pub refused : (text : List ℕ) (e : Stop) → IsUtf8 text → Fails e (path_at (start (chars text)))
+    → IsPathFaultOf text (fault_of e)
 refused text Memory utf8 h = tt
 refused text (Syntax n) utf8 h = λ l is.
     let read = path-complete (chars text) l (encodes-chars text utf8 ∙ is) in
@@ -37,9 +37,9 @@ refused text (TooDeep n) utf8 h = λ l is.
     cc
 
 -- a path with an index that is too large was read
-pub too_large : (text : List ℕ) (l : Location) (q : State) → IsUtf8 text →
-    path_at (start (chars text)) ≡ took l q → list_any is_large l ≡ true →
-    (m : Location) × (text ≡ path_of m) × (list_any is_large m ≡ true)
+pub too_large : (text : List ℕ) (l : Location) (q : State) → IsUtf8 text
+    → path_at (start (chars text)) ≡ took l q → list_any is_large l ≡ true
+    → (m : Location) × (text ≡ path_of m) × (list_any is_large m ≡ true)
 too_large text l q utf8 is large =
     let read = path-sound (chars text) q l is in (
       read.0,
@@ -48,8 +48,8 @@ too_large text l q utf8 is large =
     )
 
 -- the path of these very steps was read
-pub path_read : (text : List ℕ) (l : Location) (q : State) → IsUtf8 text →
-    path_at (start (chars text)) ≡ took l q → list_any is_large l ≡ false → text ≡ path_of l
+pub path_read : (text : List ℕ) (l : Location) (q : State) → IsUtf8 text
+    → path_at (start (chars text)) ≡ took l q → list_any is_large l ≡ false → text ≡ path_of l
 path_read text l q utf8 is small =
     let read = path-sound (chars text) q l is in
     let same =

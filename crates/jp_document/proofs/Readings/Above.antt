@@ -14,24 +14,24 @@ use Rattle.serde_json.specs.Data.{Data}
 use Rattle.serde_json.specs.View.{members_view}
 use Rattle.serde_json.specs.declared.value.Value.{Value as Reading}
 use Rattle.jp_document.specs.Document.{data_items_from, data_members}
-use Rattle.jp_document.specs.Location.{Key, named, nth, key_cmp}
-use Rattle.jp_document.proofs.Descent.Keys.{key_exact}
+use Rattle.jp_document.specs.Location.{Step, named, nth, step_cmp}
+use Rattle.jp_document.proofs.Descent.Steps.{step_exact}
 use Rattle.jp_document.proofs.Members.ByName.{bytes_cmp}
 use Rattle.jp_document.proofs.Readings.Fractions.{IsAbove}
 use Rattle.jp_document.proofs.Readings.Ranges.{members_read}
 
-above_by : (q k n : Key) (d e : Data) (rest : Option Data) (o : Ordering) → key_cmp q n ≡ o →
-    cond (is_eq o) (Some d) rest ≡ Some e → key_cmp n k ≡ Greater →
-    (rest ≡ Some e → key_cmp q k ≡ Greater) → key_cmp q k ≡ Greater
+above_by : (q k n : Step) (d e : Data) (rest : Option Data) (o : Ordering) → step_cmp q n ≡ o
+    → cond (is_eq o) (Some d) rest ≡ Some e → step_cmp n k ≡ Greater
+    → (rest ≡ Some e → step_cmp q k ≡ Greater) → step_cmp q k ≡ Greater
 above_by q k n d e rest Less at is here later = later is
-above_by q k n d e rest Equal at is here later = ap (λ j. key_cmp j k) (key_exact q n at) ∙ here
+above_by q k n d e rest Equal at is here later = ap (λ j. step_cmp j k) (step_exact q n at) ∙ here
 above_by q k n d e rest Greater at is here later = later is
 
-above_in_items : (i n : ℕ) (ds : parsed.Items) (q : Key) (e : Data) → i < n →
-    lookup (is_at (key_cmp q)) (data_items_from n ds) ≡ Some e → key_cmp q (nth i) ≡ Greater
+above_in_items : (i n : ℕ) (ds : parsed.Items) (q : Step) (e : Data) → i < n
+    → lookup (is_at (step_cmp q)) (data_items_from n ds) ≡ Some e → step_cmp q (nth i) ≡ Greater
 above_in_items i n parsed.no_items q e below is = cc
 above_in_items i n (parsed.item d ds) q e below is =
-    above_by q (nth i) (nth n) d e _ (key_cmp q (nth n)) refl is
+    above_by q (nth i) (nth n) d e _ (step_cmp q (nth n)) refl is
     (sym (nat_cmp_is n i Greater below)) (above_in_items i (suc n) ds q e (omega arith))
 
 pub IsAbove-items : (i : ℕ) (ds : parsed.Items) → IsAbove (nth i) (data_items_from (suc i) ds)
@@ -41,25 +41,25 @@ IsAbove-items i ds = record { above = λ q e is. above_in_items i (suc i) ds q e
 abbrev IsBelowNames : List ℕ → parsed.Members → Type 0
 IsBelowNames n ms = AllByRecursion (λ m. bytes_cmp n m ≡ Less) (keys_of (members_read ms))
 
-above_in_members : (n : List ℕ) (ms : parsed.Members) (q : Key) (e : Data) → IsBelowNames n ms →
-    lookup (is_at (key_cmp q)) (data_members ms) ≡ Some e → key_cmp q (named n) ≡ Greater
+above_in_members : (n : List ℕ) (ms : parsed.Members) (q : Step) (e : Data) → IsBelowNames n ms
+    → lookup (is_at (step_cmp q)) (data_members ms) ≡ Some e → step_cmp q (named n) ≡ Greater
 above_in_members n parsed.no_members q e below is = absurd (cc)
 above_in_members n (parsed.member m d ms) q e below is =
-    above_by q (named n) (named m) d e _ (key_cmp q (named m)) refl is
+    above_by q (named n) (named m) d e _ (step_cmp q (named m)) refl is
     (nat_list_cmp_total.antisymm m n ∙ ap ordering_reverse below.0)
     (above_in_members n ms q e below.1)
 
-pub IsAbove-members : (n : List ℕ) (ms : parsed.Members) → IsBelowNames n ms →
-    IsAbove (named n) (data_members ms)
+pub IsAbove-members : (n : List ℕ) (ms : parsed.Members) → IsBelowNames n ms
+    → IsAbove (named n) (data_members ms)
 IsAbove-members n ms below = record { above = λ q e is. above_in_members n ms q e below is }
 
-below_view : (k : String Global) (es : List (String Global × Reading)) →
-    AllByRecursion (λ y. string_cmp k y ≡ Less) (keys_of es) →
-    IsBelowNames (string_bytes k) (members_view es)
+below_view : (k : String Global) (es : List (String Global × Reading))
+    → AllByRecursion (λ y. string_cmp k y ≡ Less) (keys_of es)
+    → IsBelowNames (string_bytes k) (members_view es)
 below_view k [] below = tt
 below_view k (m ∷ es) below = (below.0, below_view k es below.1)
 
-pub IsAbove-view : (k : String Global) (es : List (String Global × Reading)) →
-    AllByRecursion (λ y. string_cmp k y ≡ Less) (keys_of es) →
-    IsAbove (named (string_bytes k)) (data_members (members_view es))
+pub IsAbove-view : (k : String Global) (es : List (String Global × Reading))
+    → AllByRecursion (λ y. string_cmp k y ≡ Less) (keys_of es)
+    → IsAbove (named (string_bytes k)) (data_members (members_view es))
 IsAbove-view k es below = IsAbove-members (string_bytes k) (members_view es) (below_view k es below)

@@ -21,10 +21,10 @@ use Rattle.serde_json.specs.Read.{number_of, of_items, of_json, of_members}
 use Rattle.jp_document.specs.Document.{IsReading}
 use Rattle.jp_document.specs.Value.{fits_64_bits, names_fit}
 use Rattle.jp_document.proofs.Members.ByName.{bytes_cmp}
-use Rattle.jp_document.proofs.Conjunctions.{and-left, and-right}
+use Rattle.jp_reading.proofs.Conjunctions.{and-left, and-right}
 use Rattle.jp_document.proofs.Utf8.Parsed.{items_texts, json_texts, members_texts}
 use Rattle.jp_document.proofs.Utf8.Parsed.{text_of_texts}
-use Rattle.jp_document.proofs.Members.Places.{all_insert, keys_by, keys_rise, through}
+use Rattle.jp_document.proofs.Members.Inserting.{all_insert, keys_by, keys_rise, through}
 use Rattle.jp_document.proofs.Options.{some_from_then}
 
 -- ---- what may be read
@@ -65,19 +65,19 @@ fits_none fits = record { each = λ a is. absurd (none-some a is) }
 fits_some : {A : Type 0} (fits : A → Bool) (a : A) → fits a ≡ true → EachFits fits (Some a)
 fits_some fits a here = record { each = λ b is. ap fits (sym (same_Some a b is)) ∙ here }
 
-fits_if : {A : Type 0} (fits : A → Bool) (t : Bool) (a : A) (o : Option A) →
-    (t ≡ true → fits a ≡ true) → EachFits fits o → EachFits fits (if t then Some a else o)
+fits_if : {A : Type 0} (fits : A → Bool) (t : Bool) (a : A) (o : Option A)
+    → (t ≡ true → fits a ≡ true) → EachFits fits o → EachFits fits (if t then Some a else o)
 fits_if fits true a o here later = fits_some fits a (here refl)
 fits_if fits false a o here later = later
 
-fits_map : {A B : Type 0} (fits : A → Bool) (more : B → Bool) (f : A → B) (o : Option A) →
-    ((a : A) → fits a ≡ true → more (f a) ≡ true) → EachFits fits o → EachFits more (option_map f o)
+fits_map : {A B : Type 0} (fits : A → Bool) (more : B → Bool) (f : A → B) (o : Option A)
+    → ((a : A) → fits a ≡ true → more (f a) ≡ true) → EachFits fits o → EachFits more (option_map f o)
 fits_map fits more f None grows is = fits_none more
 fits_map fits more f (Some a) grows is = fits_some more (f a) (grows a (is.each a refl))
 
-fits_then : {A B : Type 0} (fits : A → Bool) (more : B → Bool) (o : Option A) (k : A → Option B) →
-    ((a : A) → fits a ≡ true → EachFits more (k a)) → EachFits fits o →
-    EachFits more (option_and_then k o)
+fits_then : {A B : Type 0} (fits : A → Bool) (more : B → Bool) (o : Option A) (k : A → Option B)
+    → ((a : A) → fits a ≡ true → EachFits more (k a)) → EachFits fits o
+    → EachFits more (option_and_then k o)
 fits_then fits more None k next is = fits_none more
 fits_then fits more (Some a) k next is = next a (is.each a refl)
 
@@ -106,8 +106,8 @@ from_fits true p =
     (leb-true (digits_of p) (2 ^ 63) parts.1))
     (float_fits true p)
 
-either_fits : (b : Bool) (o p : Option Num) → EachFits number_fits o → EachFits number_fits p →
-    EachFits number_fits (if b then o else p)
+either_fits : (b : Bool) (o p : Option Num) → EachFits number_fits o → EachFits number_fits p
+    → EachFits number_fits (if b then o else p)
 either_fits true o p one two = one
 either_fits false o p one two = two
 
@@ -119,19 +119,19 @@ number_of_fits s =
 
 -- ---- members
 
-entries-put : (n : List ℕ) (d : Data) (ms : parsed.Members) →
-    members_read (put n d ms) ≡ insert_entry bytes_cmp (members_read ms) n d
+entries-put : (n : List ℕ) (d : Data) (ms : parsed.Members)
+    → members_read (put n d ms) ≡ insert_entry bytes_cmp (members_read ms) n d
 entries-put n d parsed.no_members = refl
 entries-put n d (parsed.member m e ms) =
     through members_read (bytes_cmp n m) _ _ _ ∙ rw (entries-put n d ms)
 
-members_fit-entries : (ms : parsed.Members) →
-    members_fit ms ≡ list_all (λ e. data_fits e.1) (members_read ms)
+members_fit-entries : (ms : parsed.Members)
+    → members_fit ms ≡ list_all (λ e. data_fits e.1) (members_read ms)
 members_fit-entries parsed.no_members = refl
 members_fit-entries (parsed.member n d ms) = ap (λ b. data_fits d && b) (members_fit-entries ms)
 
-put_fits : (n : List ℕ) (d : Data) (ms : parsed.Members) → is_utf8 n ≡ true → data_fits d ≡ true →
-    data_fits (parsed.object ms) ≡ true → data_fits (parsed.object (put n d ms)) ≡ true
+put_fits : (n : List ℕ) (d : Data) (ms : parsed.Members) → is_utf8 n ≡ true → data_fits d ≡ true
+    → data_fits (parsed.object ms) ≡ true → data_fits (parsed.object (put n d ms)) ≡ true
 put_fits n d ms name here before =
     let es = members_read ms in
     let names = and-left _ _ before in
@@ -168,9 +168,9 @@ mutual
       (λ ds there. and_from _ _ here there) (json_items_fit js (and-right _ _ texts)))
       (json_fits j (and-left _ _ texts))
 
-  json_members_fit : (ms : json.Members) (found : parsed.Members) → members_texts ms ≡ true →
-      data_fits (parsed.object found) ≡ true →
-      EachFits (λ found. data_fits (parsed.object found)) (of_members ms found)
+  json_members_fit : (ms : json.Members) (found : parsed.Members) → members_texts ms ≡ true
+      → data_fits (parsed.object found) ≡ true
+      → EachFits (λ found. data_fits (parsed.object found)) (of_members ms found)
   json_members_fit json.no_members found texts before =
       fits_some (λ found. data_fits (parsed.object found)) found before
   json_members_fit (json.member n j ms) found texts before =

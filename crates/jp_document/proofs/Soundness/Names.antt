@@ -93,9 +93,9 @@ control-is : (c a b : ℕ) → hex_digit (c / 16) ≡ a → hex_digit (c % 16) �
     → char.backslash ∷ char.letter_u ∷ char.digit_zero ∷ char.digit_zero ∷ a ∷ b ∷ [] ≡ control c
 control-is c a b high low = rw (sym high, sym low) refl
 
-by_digits : (c k a d : ℕ) (s : Spans) (o : ℕ) (t : Text) → c ≡ 16 * k + hex_value d → k < 2 →
-    hex_value d < 16 → hex_digit k ≡ a → hex_digit (hex_value d) ≡ d → has_letter c ≡ false →
-    t ≡ char.digit_zero ∷ char.digit_zero ∷ a ∷ d ∷ [] → Numbered c s o t
+by_digits : (c k a d : ℕ) (s : Spans) (o : ℕ) (t : Text) → c ≡ 16 * k + hex_value d → k < 2
+    → hex_value d < 16 → hex_digit k ≡ a → hex_digit (hex_value d) ≡ d → has_letter c ≡ false
+    → t ≡ char.digit_zero ∷ char.digit_zero ∷ a ∷ d ∷ [] → Numbered c s o t
 by_digits c k a d s o t number high low first second none text =
     let quotient : c / 16 ≡ k = omega arith in
     let remainder : c % 16 ≡ hex_value d = omega arith in

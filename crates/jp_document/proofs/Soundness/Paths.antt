@@ -21,15 +21,16 @@ use Rattle.jp_reading.proofs.Joining.{joined-both}
 use Rattle.jp_reading.proofs.Rules.Form.{left, right, none_inside}
 use Rattle.jp_reading.proofs.Rules.Soundness.{IsSound, shut, sound}
 use Rattle.jp_reading.proofs.Runs.{each-run}
-use Rattle.jp_document.specs.Location.{Key, nth, Location}
+use Rattle.jp_document.specs.Location.{Step, nth, Location}
 use Rattle.jp_document.specs.Path.{index_text, step_text, path_of}
 use Rattle.jp_document.specs.Private.PathReading.{read_rule, path_at}
-use Rattle.jp_document.specs.Private.PathRules.{nesting, is_leading_digit}
+use Rattle.jp_document.specs.Private.PathRules.{nesting}
+use Rattle.jp_reading.specs.Numbers.{is_leading_digit}
 use Rattle.jp_document.specs.Private.PathRules as rule
 use Rattle.jp_document.proofs.Paths.Alive.{path-alive}
 use Rattle.jp_document.proofs.Spellings.Encoded.{encode-ascii, digits-ascii}
 use Rattle.jp_document.proofs.Spellings.Indexes.{index_text-value, index_text-zero}
-use Rattle.jp_document.proofs.Paths.LargeIndexes.{capped_key}
+use Rattle.jp_document.proofs.Paths.LargeIndexes.{capped_step}
 use Rattle.jp_document.proofs.Soundness.Names.{form_of, enclosed, enclosed-is, name-within}
 
 -- ---- steps
@@ -69,16 +70,16 @@ index-within n s o t (right h) =
           ∙ sym (index_text-value d ds (first.0, run.all) first.1);
     }
 
--- the text of a key between brackets that is read so
-record Stepped (k : Key) (s : Spans) (o : ℕ) (t : Text) : Type 0 where
-  key : Key
-  read : capped_key key ≡ k
+-- the text of a step between brackets that is read so
+record Stepped (k : Step) (s : Spans) (o : ℕ) (t : Text) : Type 0 where
+  key : Step
+  read : capped_step key ≡ k
   is : encode_utf8_all t ≡ step_text key
 
-key-within : (k : Key) → Within
-    (word (char.opening_bracket ∷ []) ⌢ form_of rule.key k ⌢ word (char.closing_bracket ∷ []))
+key-within : (k : Step) → Within
+    (word (char.opening_bracket ∷ []) ⌢ form_of rule.normal_selector k ⌢ word (char.closing_bracket ∷ []))
     (Stepped k)
-unfolding rule.key
+unfolding rule.normal_selector
 key-within k s o t h = way _ h.two.one
   where
     bracketed : (w : List ℕ) → encode_utf8_all h.two.first ≡ w
@@ -89,14 +90,14 @@ key-within k s o t h = way _ h.two.one
         (λ s o u same. record { is = ap encode_utf8_all same ∙ e }) s o t
         (joined-both (word (char.opening_bracket ∷ [])) (word (char.opening_bracket ∷ [])) _ _ s o t
         h h.one
-        (joined-both (form_of rule.key k) (λ s o u. u ≡ h.two.first)
+        (joined-both (form_of rule.normal_selector k) (λ s o u. u ≡ h.two.first)
         (word (char.closing_bracket ∷ []))
         (word (char.closing_bracket ∷ [])) h.second_spans _ h.second h.two refl h.two.two))).is
 
-    way : (i : ℕ) → form_of rule.key k h.two.first_spans i h.two.first → Stepped k s o t
+    way : (i : ℕ) → form_of rule.normal_selector k h.two.first_spans i h.two.first → Stepped k s o t
     way i (left g) = record {
       key = k;
-      read = ap capped_key g.same ∙ sym g.same;
+      read = ap capped_step g.same ∙ sym g.same;
       is = bracketed _ (name-within g.part h.two.first_spans _ h.two.first g.is).is
           ∙ ap step_text (sym g.same);
     }
@@ -108,17 +109,17 @@ key-within k s o t h = way _ h.two.one
           is = bracketed (index_text i.index) i.is;
         }
 
-step-within : (k : Key) → Within (form_of rule.step k) (Stepped k)
+step-within : (k : Step) → Within (form_of rule.step k) (Stepped k)
 unfolding rule.step
 step-within k s o t h = key-within k s o t
-    (enclosed-is (form_of rule.key) char.opening_bracket char.closing_bracket k s o t h)
+    (enclosed-is (form_of rule.normal_selector) char.opening_bracket char.closing_bracket k s o t h)
 
 -- ---- whole paths
 
 -- the location whose path it is, and that it is read so
 record IsPathTo (l : Location) (w : List ℕ) : Type 0 where
   location : Location
-  read : map capped_key location ≡ l
+  read : map capped_step location ≡ l
   is : w ≡ flat_map step_text location
 
 located : (l : Location) (s : Spans) (o : ℕ) (t : Text) → Each (λ k. form_of rule.step k) l s o t
@@ -129,7 +130,7 @@ located (k ∷ l) s o t h =
     let rest = located l h.second_spans _ h.second h.two in
     record {
       location = one.key ∷ rest.location;
-      read = ap (λ j. j ∷ map capped_key rest.location) one.read ∙ ap (λ m. k ∷ m) rest.read;
+      read = ap (λ j. j ∷ map capped_step rest.location) one.read ∙ ap (λ m. k ∷ m) rest.read;
       is = ap encode_utf8_all h.is ∙ encodes-append h.first h.second
           ∙ ap (λ x. x ++ encode_utf8_all h.second) one.is
           ∙ ap (λ x. step_text one.key ++ x) rest.is;
@@ -153,7 +154,7 @@ ended p (stuck r) h l q e = cc
 ended p (deep r) h l q e = cc
 
 pub path-sound : (t : Text) (q : State) (l : Location) → path_at (start t) ≡ took l q
-    → (m : Location) × (map capped_key m ≡ l) × (encode_utf8_all t ≡ path_of m)
+    → (m : Location) × (map capped_step m ≡ l) × (encode_utf8_all t ≡ path_of m)
 unfolding path_at rule.path rule.steps
 path-sound t q l e =
     let judged = sound (none_inside nesting) (none_inside nesting) (λ o x s n u g. g)

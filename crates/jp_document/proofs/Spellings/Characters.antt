@@ -22,17 +22,17 @@ pub data Spelled (c : ℕ) (w : List ℕ) : Type 0 where
 -- What holds of each character with a letter, of the quote and of `\` after a `\`, of the other
 -- characters below U+0020 by their number, and of all others by themselves, holds of every
 -- character as it is spelled.
-pub each_spelling : (P : ℕ → List ℕ → Type 0) →
-    P char.backspace (char.backslash ∷ char.letter_b ∷ []) →
-    P char.tab (char.backslash ∷ char.letter_t ∷ []) →
-    P char.line_feed (char.backslash ∷ char.letter_n ∷ []) →
-    P char.form_feed (char.backslash ∷ char.letter_f ∷ []) →
-    P char.carriage_return (char.backslash ∷ char.letter_r ∷ []) →
-    P char.single_quote (char.backslash ∷ char.single_quote ∷ []) →
-    P char.backslash (char.backslash ∷ char.backslash ∷ []) →
-    ((c : ℕ) → c < 32 → has_letter c ≡ false → P c (control c)) →
-    ((c : ℕ) → 32 ≤ c → c ≢ char.single_quote → c ≢ char.backslash → P c (c ∷ [])) →
-    (c : ℕ) → P c (spelling char.single_quote c)
+pub each_spelling : (P : ℕ → List ℕ → Type 0)
+    → P char.backspace (char.backslash ∷ char.letter_b ∷ [])
+    → P char.tab (char.backslash ∷ char.letter_t ∷ [])
+    → P char.line_feed (char.backslash ∷ char.letter_n ∷ [])
+    → P char.form_feed (char.backslash ∷ char.letter_f ∷ [])
+    → P char.carriage_return (char.backslash ∷ char.letter_r ∷ [])
+    → P char.single_quote (char.backslash ∷ char.single_quote ∷ [])
+    → P char.backslash (char.backslash ∷ char.backslash ∷ [])
+    → ((c : ℕ) → c < 32 → has_letter c ≡ false → P c (control c))
+    → ((c : ℕ) → 32 ≤ c → c ≢ char.single_quote → c ≢ char.backslash → P c (c ∷ []))
+    → (c : ℕ) → P c (spelling char.single_quote c)
 unfolding spelling has_letter
 each_spelling P backspace tab line feed return quote slash number itself c =
     let Q : ℕ → Type 0 = λ x. P x (spelling char.single_quote x) in
@@ -83,8 +83,8 @@ spelled =
     (λ c high quote slash. by_itself (plain c high quote slash) refl)
 
 -- what holds of a character and of those before it in a row of tests holds where one test passes
-one_of : (P : ℕ → Type 0) (e a : ℕ) (before : Bool) → P a → (before ≡ true → P e) →
-    (before || eqb e a) ≡ true → P e
+one_of : (P : ℕ → Type 0) (e a : ℕ) (before : Bool) → P a → (before ≡ true → P e)
+    → (before || eqb e a) ≡ true → P e
 one_of P e a true here earlier is = earlier refl
 one_of P e a false here earlier is = subst P (sym (eqb-true e a is)) here
 
@@ -140,8 +140,8 @@ pub low-hex : (d : ℕ) → is_low_digit d ≡ true → is_hex_digit d ≡ true
 unfolding is_low_digit is_hex_digit
 low-hex d h = grind (arith, nat_tests)
 
-pub hex_digit_is : (n : ℕ) → n < 16 →
-    (is_hex_digit (hex_digit n) ≡ true) × (hex_value (hex_digit n) ≡ n)
+pub hex_digit_is : (n : ℕ) → n < 16
+    → (is_hex_digit (hex_digit n) ≡ true) × (hex_value (hex_digit n) ≡ n)
 unfolding is_hex_digit hex_value
 hex_digit_is n small =
     elim (cases_Bool (nat_lt n 10)) [

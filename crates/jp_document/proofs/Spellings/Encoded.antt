@@ -28,14 +28,14 @@ encode-ascii (c ∷ cs) h =
     ap (λ t. t ++ encode_utf8_all cs) (encode_ascii c h.0) ∙ ap (λ t. c ∷ t) (encode-ascii cs h.1)
 
 -- a text whose first byte is an ASCII character begins with that character
-pub first-ascii : (c : ℕ) (t w : List ℕ) → c < 128 → encode_utf8_all t ≡ c ∷ w →
-    (u : List ℕ) × (t ≡ c ∷ u) × (encode_utf8_all u ≡ w)
+pub first-ascii : (c : ℕ) (t w : List ℕ) → c < 128 → encode_utf8_all t ≡ c ∷ w
+    → (u : List ℕ) × (t ≡ c ∷ u) × (encode_utf8_all u ≡ w)
 first-ascii c t w low is =
     cons_from_encodes t w c (is ∙ ap (λ v. v ++ w) (sym (encode_ascii c low)))
 
 -- and one whose first bytes are such characters begins with them
-pub prefix-ascii : (v t w : List ℕ) → Ascii v → encode_utf8_all t ≡ v ++ w →
-    (u : List ℕ) × (t ≡ v ++ u) × (encode_utf8_all u ≡ w)
+pub prefix-ascii : (v t w : List ℕ) → Ascii v → encode_utf8_all t ≡ v ++ w
+    → (u : List ℕ) × (t ≡ v ++ u) × (encode_utf8_all u ≡ w)
 prefix-ascii [] t w low is = (t, refl, is)
 prefix-ascii (c ∷ v) t w low is =
     let one = first-ascii c t (v ++ w) low.0 is in
@@ -53,8 +53,8 @@ pub high-plain : (c : ℕ) → 128 ≤ c → is_plain c ≡ true
 unfolding is_plain
 high-plain c high = grind (arith, nat_tests)
 
-all-plain : (bs : List ℕ) → ((k : ℕ) → k < length bs → is_plain (get_or bs k 0) ≡ true) →
-    AllPassing is_plain bs
+all-plain : (bs : List ℕ) → ((k : ℕ) → k < length bs → is_plain (get_or bs k 0) ≡ true)
+    → AllPassing is_plain bs
 all-plain [] h = tt
 all-plain (b ∷ bs) h = (h 0 (omega arith), all-plain bs (λ k within. h (suc k) (omega arith)))
 
@@ -128,8 +128,8 @@ spelling-encode c =
     ]
 
 -- and so is a text
-pub names-encode : (cs : List ℕ) →
-    encode_utf8_all (flat_map (spelling char.single_quote) cs)
+pub names-encode : (cs : List ℕ)
+    → encode_utf8_all (flat_map (spelling char.single_quote) cs)
     ≡ flat_map (spelling char.single_quote) (encode_utf8_all cs)
 names-encode [] = refl
 names-encode (c ∷ cs) =
@@ -141,9 +141,9 @@ names-encode (c ∷ cs) =
 -- ---- from bytes back to characters
 
 -- bytes that stand for themselves, before the text of other bytes up to a quote
-pub peel : (v s x w : List ℕ) → ((k : ℕ) → k < length v → 128 ≤ get_or v k 0) →
-    v ++ x ≡ flat_map (spelling char.single_quote) s ++ char.single_quote ∷ w →
-    (r : List ℕ) × (s ≡ v ++ r) × (x ≡ flat_map (spelling char.single_quote) r
+pub peel : (v s x w : List ℕ) → ((k : ℕ) → k < length v → 128 ≤ get_or v k 0)
+    → v ++ x ≡ flat_map (spelling char.single_quote) s ++ char.single_quote ∷ w
+    → (r : List ℕ) × (s ≡ v ++ r) × (x ≡ flat_map (spelling char.single_quote) r
     ++ char.single_quote ∷ w)
 peel [] s x w high is = (s, refl, is)
 peel (b ∷ v) [] x w high is =
@@ -161,8 +161,8 @@ peel (b ∷ v) (c ∷ s) x w high is =
     let more = peel v s x w (λ k within. high (suc k) (omega arith)) same.1 in
     (more.0, ap (λ n. n ∷ s) (sym same.0) ∙ ap (λ t. b ∷ t) more.1, more.2)
   where
-    high_first : (b c : ℕ) (x y w : List ℕ) → 128 ≤ b → Spelled c w → b ∷ x ≡ w ++ y →
-        (b ≡ c) × (x ≡ y)
+    high_first : (b c : ℕ) (x y w : List ℕ) → 128 ≤ b → Spelled c w → b ∷ x ≡ w ++ y
+        → (b ≡ c) × (x ≡ y)
     high_first b c x y w high (by_letter e l m is) h =
         absurd (let at : b ≡ char.backslash = ap (λ t. get_or t 0 0) (h ∙ ap (λ t. t ++ y) is) in
         omega arith)
@@ -172,8 +172,8 @@ peel (b ∷ v) (c ∷ s) x w high is =
     high_first b c x y w high (by_itself plain is) h =
         let same : b ∷ x ≡ c ∷ y = h ∙ ap (λ t. t ++ y) is in (cc, cc)
 
-pub high-bytes : (c : ℕ) → 128 ≤ c → (k : ℕ) → k < length (encode_utf8 c) →
-    128 ≤ get_or (encode_utf8 c) k 0
+pub high-bytes : (c : ℕ) → 128 ≤ c → (k : ℕ) → k < length (encode_utf8 c)
+    → 128 ≤ get_or (encode_utf8 c) k 0
 high-bytes c high k within =
     elim (cases_lt (get_or (encode_utf8 c) k 0) 128) [
       | inl low ↦

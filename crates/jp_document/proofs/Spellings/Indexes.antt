@@ -21,8 +21,8 @@ use Rattle.jp_document.specs.Path.{index_text}
 abbrev digit_text : ℕ → ℕ
 digit_text d = char.digit_zero + d
 
-value_from-digit_texts : (n : ℕ) (ds : List ℕ) →
-    value_from n (map digit_text ds) ≡ number_from_digits_after 10 n ds
+value_from-digit_texts : (n : ℕ) (ds : List ℕ)
+    → value_from n (map digit_text ds) ≡ number_from_digits_after 10 n ds
 value_from-digit_texts n [] = refl
 value_from-digit_texts n (d ∷ ds) =
     ap (λ (x : ℕ). value_from (n * 10 + x) (map digit_text ds))
@@ -56,11 +56,11 @@ digits-index_text n =
 -- a first digit, and the others
 pub data Begun (n : ℕ) (w : List ℕ) : Type 0 where
   zero_text : n ≡ 0 → w ≡ char.digit_zero ∷ [] → Begun n w
-  other_text : (d : ℕ) (ds : List ℕ) → w ≡ d ∷ ds → is_digit d ≡ true → AllPassing is_digit ds →
-      char.digit_zero < d → Begun n w
+  other_text : (d : ℕ) (ds : List ℕ) → w ≡ d ∷ ds → is_digit d ≡ true → AllPassing is_digit ds
+      → char.digit_zero < d → Begun n w
 
-begun_by : (n : ℕ) (ds : List ℕ) → 0 < get_or ds 0 0 → AllBelowBase 10 ds →
-    Begun n (map digit_text ds)
+begun_by : (n : ℕ) (ds : List ℕ) → 0 < get_or ds 0 0 → AllBelowBase 10 ds
+    → Begun n (map digit_text ds)
 unfolding is_digit
 begun_by n [] first h = absurd (omega arith)
 begun_by n (d ∷ ds) first h =
@@ -97,8 +97,8 @@ digit-small : (c : ℕ) → is_digit c ≡ true → (char.digit_zero ≤ c) × (
 unfolding is_digit
 digit-small c h = (grind (arith, nat_tests), grind (arith, nat_tests))
 
-digits_of-value : (m : ℕ) (ds : List ℕ) → 0 < m → AllPassing is_digit ds →
-    digits_of 10 (value_from m ds) ≡ digits_of 10 m ++ map digit_of ds
+digits_of-value : (m : ℕ) (ds : List ℕ) → 0 < m → AllPassing is_digit ds
+    → digits_of 10 (value_from m ds) ≡ digits_of 10 m ++ map digit_of ds
 digits_of-value m [] above h = sym (append-nil (digits_of 10 m))
 digits_of-value m (d ∷ ds) above h =
     digits_of-value (m * 10 + (d - char.digit_zero)) ds (omega arith) h.1
@@ -122,8 +122,8 @@ texts (d ∷ ds) h =
 
 -- digits without a leading zero are the text of the index that they write
 pub index_text-value : (d : ℕ) (ds : List ℕ) → AllPassing is_digit (d ∷ ds) → eqb d char.digit_zero
-    ≡ false →
-    index_text (value_from 0 (d ∷ ds)) ≡ d ∷ ds
+    ≡ false
+    → index_text (value_from 0 (d ∷ ds)) ≡ d ∷ ds
 unfolding index_text
 index_text-value d ds h other =
     let small = digit-small d h.0 in

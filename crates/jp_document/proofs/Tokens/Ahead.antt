@@ -16,9 +16,9 @@ use Rattle.jp_document.specs.Value.{Value, everywhere, everywhere_in_items, ever
 use Rattle.jp_document.specs.Value.{list_fits, items_of, members_of, names_of, names_rise, value_of}
 use Rattle.jp_document.specs.declared.value.Json.{Json}
 use Rattle.jp_document.proofs.Tokens.Turns.{items_turn, items_over, member_turn, members_over}
-use Rattle.jp_document.proofs.Members.Places.{ReadMember, pair, data_of, put_entry}
-use Rattle.jp_document.proofs.Members.Places.{members_of_data-entries, pairs-put_entry}
-use Rattle.jp_document.proofs.Members.Places.{data_of-put_entry, rise_insert, sound_insert}
+use Rattle.jp_document.proofs.Members.Inserting.{ReadMember, pair, data_of, put_entry}
+use Rattle.jp_document.proofs.Members.Inserting.{members_of_data-entries, pairs-put_entry}
+use Rattle.jp_document.proofs.Members.Inserting.{data_of-put_entry, rise_insert, sound_insert}
 use Rattle.jp_document.proofs.Members.ByName.{bytes_cmp}
 use Rattle.jp_document.proofs.Descent.Inside.{all-items}
 use Rattle.std.proofs.lemmas.Bool.{and_from}
@@ -30,12 +30,12 @@ use Rattle.jp_document.proofs.Readings.Defects.{document_by}
 -- whatever the items to come are, they complete the list
 abbrev pub ItemsAhead : ℕ → List Token → ℕ → List Token → List Json → Type 0
 ItemsAhead depth initial n ts found =
-    (vs : List Value) (r : List Token) → ReadsItems depth n ts r (items_of vs) →
-    ReadsItems depth (length initial) initial r (items_of (map value_of found ++ vs))
+    (vs : List Value) (r : List Token) → ReadsItems depth n ts r (items_of vs)
+    → ReadsItems depth (length initial) initial r (items_of (map value_of found ++ vs))
 
 pub ahead_item : (depth : ℕ) (initial : List Token) (n : ℕ) (ts r : List Token) (found : List Json)
-    (j : Json) → 0 < n → after_end_array ts ≡ None → ReadsValue depth ts r (value_of j) →
-    ItemsAhead depth initial n ts found → ItemsAhead depth initial (n - 1) r (found ++ j ∷ [])
+    (j : Json) → 0 < n → after_end_array ts ≡ None → ReadsValue depth ts r (value_of j)
+    → ItemsAhead depth initial n ts found → ItemsAhead depth initial (n - 1) r (found ++ j ∷ [])
 ahead_item depth initial n ts r found j some going x ahead vs s later =
     subst (λ ws. ReadsItems depth (length initial) initial s (items_of ws))
     (sym
@@ -45,17 +45,17 @@ ahead_item depth initial n ts r found j some going x ahead vs s later =
     (items_turn depth n ts r s (value_of j) (items_of vs) some going x later))
 
 pub ahead_items_end : (depth : ℕ) (initial : List Token) (n : ℕ) (ts r : List Token)
-    (found : List Json) → length ts ≤ n → after_end_array ts ≡ Some r →
-    ItemsAhead depth initial n ts found →
-    ReadsItems depth (length initial) initial r (items_of (map value_of found))
+    (found : List Json) → length ts ≤ n → after_end_array ts ≡ Some r
+    → ItemsAhead depth initial n ts found
+    → ReadsItems depth (length initial) initial r (items_of (map value_of found))
 ahead_items_end depth initial n ts r found enough over ahead =
     subst (λ ws. ReadsItems depth (length initial) initial r (items_of ws))
     (append-nil (map value_of found)) (ahead [] r (items_over depth n ts r enough over))
 
-pub ahead_item_short : (found : List Json) (j : Json) →
-    everywhere_in_items list_fits (items_of (map value_of found)) ≡ true →
-    everywhere list_fits (value_of j) ≡ true →
-    everywhere_in_items list_fits (items_of (map value_of (found ++ j ∷ []))) ≡ true
+pub ahead_item_short : (found : List Json) (j : Json)
+    → everywhere_in_items list_fits (items_of (map value_of found)) ≡ true
+    → everywhere list_fits (value_of j) ≡ true
+    → everywhere_in_items list_fits (items_of (map value_of (found ++ j ∷ []))) ≡ true
 ahead_item_short found j before here =
     all-items list_fits (map value_of (found ++ j ∷ []))
     ∙ subst (λ vs. list_all (everywhere list_fits) vs ≡ true)
@@ -78,9 +78,9 @@ pub record MembersAhead (depth : ℕ) (initial : List Token) (n : ℕ) (ts : Lis
   pub short : everywhere_in_members list_fits (members_of found) ≡ true
 
 pub ahead_member : (depth : ℕ) (initial : List Token) (n : ℕ) (k : List ℕ) (ts s r : List Token)
-    (found : List (List ℕ × Value)) (v : Value) → 0 < n → read_key ts ≡ Some (Some k, s) →
-    ReadsValue depth s r v → everywhere list_fits v ≡ true → MembersAhead depth initial n ts found →
-    MembersAhead depth initial (n - 1) r (insert_entry bytes_cmp found k v)
+    (found : List (List ℕ × Value)) (v : Value) → 0 < n → read_key ts ≡ Some (Some k, s)
+    → ReadsValue depth s r v → everywhere list_fits v ≡ true → MembersAhead depth initial n ts found
+    → MembersAhead depth initial (n - 1) r (insert_entry bytes_cmp found k v)
 ahead_member depth initial n k ts s r found v some key x short so =
     let e : ReadMember = record { name = k; reading = x.reading; value = v; holds = x.holds } in
     record {
@@ -94,9 +94,9 @@ ahead_member depth initial n k ts s r found v some key x short so =
     }
 
 pub ahead_members_end : (depth : ℕ) (initial : List Token) (n : ℕ) (ts r : List Token)
-    (found : List (List ℕ × Value)) → length ts ≤ n → read_key ts ≡ Some (None, r) →
-    MembersAhead depth initial n ts found →
-    ReadsMembers depth (length initial) initial r (members_of found)
+    (found : List (List ℕ × Value)) → length ts ≤ n → read_key ts ≡ Some (None, r)
+    → MembersAhead depth initial n ts found
+    → ReadsMembers depth (length initial) initial r (members_of found)
 ahead_members_end depth initial n ts r found enough over so = record {
   reading = data_of so.entries;
   read = so.ahead ∙ members_over depth n (data_of so.entries) ts r enough over;
@@ -105,7 +105,7 @@ ahead_members_end depth initial n ts r found enough over so = record {
 
 -- ---- documents
 
-pub document_from_text : (bytes : List ℕ) (v : Value) → IsUtf8 bytes → ReadsText bytes v →
-    everywhere list_fits v ≡ true → IsDocument bytes v
+pub document_from_text : (bytes : List ℕ) (v : Value) → IsUtf8 bytes → ReadsText bytes v
+    → everywhere list_fits v ≡ true → IsDocument bytes v
 document_from_text bytes v utf8 x short =
     document_by bytes x.reading v (record { utf8 = utf8; reading = x.read }) x.holds short

@@ -27,8 +27,8 @@ use Rattle.jp_document.specs.declared.value.Json.{List as ListOf, Members as Mem
 use Rattle.jp_document.specs.declared.value.Member.{Member}
 use Rattle.jp_document.proofs.Values.{value_of-List, value_of-Members}
 
-same_parts : {B : Type 0} (r s : List Token) (x : Option B) (b : B) →
-    option_map {U = B × List Token} (λ y. (y, r)) x ≡ Some (b, s) → (r ≡ s) × (x ≡ Some b)
+same_parts : {B : Type 0} (r s : List Token) (x : Option B) (b : B)
+    → option_map {U = B × List Token} (λ y. (y, r)) x ≡ Some (b, s) → (r ≡ s) × (x ≡ Some b)
 same_parts r s None b e = absurd (cc)
 same_parts r s (Some y) b e =
     let same = some_pair_parts y b r s e in (same.1, ap Some same.0)
@@ -42,39 +42,39 @@ parsed_before f (Some p) b r e =
 
 -- ---- a value of one token
 
-pub one_token : (depth : ℕ) (ts r : List Token) (t : Token) (d : Data) (v : Value) → ts ≡ t ∷ r →
-    converted of_json (value depth (t ∷ r)) ≡ Some (d, r) → value_of_data d ≡ Some v →
-    ReadsValue depth ts r v
+pub one_token : (depth : ℕ) (ts r : List Token) (t : Token) (d : Data) (v : Value) → ts ≡ t ∷ r
+    → converted of_json (value depth (t ∷ r)) ≡ Some (d, r) → value_of_data d ≡ Some v
+    → ReadsValue depth ts r v
 one_token depth ts r t d v first is holds = record {
   reading = d;
   read = ap (λ s. converted of_json (value depth s)) first ∙ is;
   holds = holds;
 }
 
-pub reads-null : (depth : ℕ) (ts r : List Token) → ts ≡ Token.null ∷ r →
-    ReadsValue depth ts r (value_of Null)
+pub reads-null : (depth : ℕ) (ts r : List Token) → ts ≡ Token.null ∷ r
+    → ReadsValue depth ts r (value_of Null)
 reads-null depth ts r first =
     one_token depth ts r Token.null parsed.null _ first
     (ap (converted of_json) (value_is depth (Token.null ∷ r)))
     (let seen : value_of Null ≡ null = search (rules, the_lemmas) in ap Some (sym seen))
 
-pub reads-boolean : (depth : ℕ) (ts r : List Token) (b : Bool) → ts ≡ Token.boolean b ∷ r →
-    ReadsValue depth ts r (value_of (Truth b))
+pub reads-boolean : (depth : ℕ) (ts r : List Token) (b : Bool) → ts ≡ Token.boolean b ∷ r
+    → ReadsValue depth ts r (value_of (Truth b))
 reads-boolean depth ts r b first =
     one_token depth ts r (Token.boolean b) (parsed.boolean b) _ first
     (ap (converted of_json) (value_is depth (Token.boolean b ∷ r)))
     (let seen : value_of (Truth b) ≡ boolean b = search (rules, the_lemmas) in ap Some (sym seen))
 
-pub reads-text : (depth : ℕ) (ts r : List Token) (s : String Global) →
-    ts ≡ Token.string (string_bytes s) ∷ r → ReadsValue depth ts r (value_of (Text s))
+pub reads-text : (depth : ℕ) (ts r : List Token) (s : String Global)
+    → ts ≡ Token.string (string_bytes s) ∷ r → ReadsValue depth ts r (value_of (Text s))
 reads-text depth ts r s first =
     one_token depth ts r (Token.string (string_bytes s)) (parsed.string (string_bytes s)) _ first
     (ap (converted of_json) (value_is depth (Token.string (string_bytes s) ∷ r)))
     (let seen : value_of (Text s) ≡ text (string_bytes s) = search (rules, the_lemmas) in
     ap Some (sym seen))
 
-pub reads-whole : (depth : ℕ) (ts r : List Token) (s : List ℕ) (z : ℤ) → ts ≡ Token.number s ∷ r →
-    IsWholeText s z → ReadsValue depth ts r (value_of (Whole z))
+pub reads-whole : (depth : ℕ) (ts r : List Token) (s : List ℕ) (z : ℤ) → ts ≡ Token.number s ∷ r
+    → IsWholeText s z → ReadsValue depth ts r (value_of (Whole z))
 reads-whole depth ts r s z first x =
     one_token depth ts r (Token.number s) (parsed.number x.number) _ first
     (ap (converted of_json) (value_is depth (Token.number s ∷ r))
@@ -84,23 +84,23 @@ reads-whole depth ts r s z first x =
 
 -- ---- lists and objects
 
-twice : {A B : Type 0} (g : A → B) (r : List Token) (x : Option A) →
-    option_map (λ b. (b, r)) (option_map g x) ≡ parse_map g (option_map (λ a. (a, r)) x)
+twice : {A B : Type 0} (g : A → B) (r : List Token) (x : Option A)
+    → option_map (λ b. (b, r)) (option_map g x) ≡ parse_map g (option_map (λ a. (a, r)) x)
 twice g r None = refl
 twice g r (Some a) = refl
 
 -- a part that is read with its parts
-pub converted-map : {A B C D : Type 0} (f : A → Option B) (g : C → Option D) (h : A → C) (k : B → D) →
-    ((a : A) → g (h a) ≡ option_map k (f a)) → (o : Option (A × List Token)) →
-    converted g (parse_map h o) ≡ parse_map k (converted f o)
+pub converted-map : {A B C D : Type 0} (f : A → Option B) (g : C → Option D) (h : A → C) (k : B → D)
+    → ((a : A) → g (h a) ≡ option_map k (f a)) → (o : Option (A × List Token))
+    → converted g (parse_map h o) ≡ parse_map k (converted f o)
 converted-map f g h k same None = refl
 converted-map {D = D} f g h k same (Some p) =
     ap (option_map {U = D × List Token} (λ d. (d, p.1))) (same p.0) ∙ twice k p.1 (f p.0)
 
-pub reads-list : (depth : ℕ) (ts s r : List Token) (v : Vec Json Global) → 0 < depth →
-    ts ≡ Token.begin_array ∷ s →
-    ReadsItems (depth - 1) (length s) s r (items_of (map value_of v.items)) →
-    ReadsValue depth ts r (value_of (ListOf v))
+pub reads-list : (depth : ℕ) (ts s r : List Token) (v : Vec Json Global) → 0 < depth
+    → ts ≡ Token.begin_array ∷ s
+    → ReadsItems (depth - 1) (length s) s r (items_of (map value_of v.items))
+    → ReadsValue depth ts r (value_of (ListOf v))
 reads-list depth ts s r v deep first x = record {
   reading = parsed.array x.reading;
   read =
@@ -111,10 +111,10 @@ reads-list depth ts s r v deep first x = record {
   holds = ap (option_map list) x.holds ∙ ap Some (sym (value_of-List v));
 }
 
-pub reads-object : (depth : ℕ) (ts s r : List Token) (v : Vec Member Global) → 0 < depth →
-    ts ≡ Token.begin_object ∷ s →
-    ReadsMembers (depth - 1) (length s) s r (members_of (map member_of v.items)) →
-    ReadsValue depth ts r (value_of (MembersOf v))
+pub reads-object : (depth : ℕ) (ts s r : List Token) (v : Vec Member Global) → 0 < depth
+    → ts ≡ Token.begin_object ∷ s
+    → ReadsMembers (depth - 1) (length s) s r (members_of (map member_of v.items))
+    → ReadsValue depth ts r (value_of (MembersOf v))
 reads-object depth ts s r v deep first x = record {
   reading = parsed.object x.reading;
   read =
@@ -141,9 +141,9 @@ reads-all s v x = record {
 
 -- ---- one item more
 
-pub items_turn : (depth n : ℕ) (ts r s : List Token) (v : Value) (vs : Items) → 0 < n →
-    after_end_array ts ≡ None → ReadsValue depth ts r v → ReadsItems depth (n - 1) r s vs →
-    ReadsItems depth n ts s (item v vs)
+pub items_turn : (depth n : ℕ) (ts r s : List Token) (v : Value) (vs : Items) → 0 < n
+    → after_end_array ts ≡ None → ReadsValue depth ts r v → ReadsItems depth (n - 1) r s vs
+    → ReadsItems depth n ts s (item v vs)
 items_turn depth n ts r s v vs some going x later = record {
   reading = parsed.item x.reading later.reading;
   read =
@@ -157,8 +157,8 @@ items_turn depth n ts r s v vs some going x later = record {
       ∙ ap (option_map (item v)) later.holds;
 }
 
-pub items_over : (depth n : ℕ) (ts r : List Token) → length ts ≤ n → after_end_array ts ≡ Some r →
-    ReadsItems depth n ts r no_items
+pub items_over : (depth n : ℕ) (ts r : List Token) → length ts ≤ n → after_end_array ts ≡ Some r
+    → ReadsItems depth n ts r no_items
 items_over depth n ts r enough e = record {
   reading = parsed.no_items;
   read = ap (converted of_items) (items_end (value depth) n ts r enough e);
@@ -167,16 +167,16 @@ items_over depth n ts r enough e = record {
 
 -- ---- one member more, beside those that were read
 
-with_member : (k : List ℕ) (j : json.Json) (d : Data) (old : parsed.Members) → of_json j ≡ Some d →
-    (o : Option (json.Members × List Token)) →
-    converted (λ ms. of_members ms old) (parse_map (json.member k j) o) ≡
+with_member : (k : List ℕ) (j : json.Json) (d : Data) (old : parsed.Members) → of_json j ≡ Some d
+    → (o : Option (json.Members × List Token))
+    → converted (λ ms. of_members ms old) (parse_map (json.member k j) o) ≡
     converted (λ ms. of_members ms (put k d old)) o
 with_member k j d old e None = refl
 with_member k j d old e (Some p) = rw e
 
 pub member_turn : (depth n : ℕ) (old : parsed.Members) (k : List ℕ) (ts s r : List Token)
-    (v : Value) (x : ReadsValue depth s r v) → 0 < n → read_key ts ≡ Some (Some k, s) →
-    converted (λ ms. of_members ms old) (members (value depth) n ts) ≡
+    (v : Value) (x : ReadsValue depth s r v) → 0 < n → read_key ts ≡ Some (Some k, s)
+    → converted (λ ms. of_members ms old) (members (value depth) n ts) ≡
     converted (λ ms. of_members ms (put k x.reading old)) (members (value depth) (n - 1) r)
 member_turn depth n old k ts s r v x some key =
     let j = parsed_before of_json (value depth s) x.reading r x.read in
@@ -184,22 +184,22 @@ member_turn depth n old k ts s r v x some key =
     (members_more (value depth) n k ts s r j.0 some key j.1)
     ∙ with_member k j.0 x.reading old j.2 _
 
-pub members_over : (depth n : ℕ) (old : parsed.Members) (ts r : List Token) → length ts ≤ n →
-    read_key ts ≡ Some (None, r) →
-    converted (λ ms. of_members ms old) (members (value depth) n ts) ≡ Some (old, r)
+pub members_over : (depth n : ℕ) (old : parsed.Members) (ts r : List Token) → length ts ≤ n
+    → read_key ts ≡ Some (None, r)
+    → converted (λ ms. of_members ms old) (members (value depth) n ts) ≡ Some (old, r)
 members_over depth n old ts r enough e =
     ap (converted (λ ms. of_members ms old)) (members_end (value depth) n ts r enough e)
 
 -- ---- whole numbers
 
-pub from_zero_text : (s : List ℕ) (n : ℕ) (z : ℤ) → (slice_index s 0 == minus) ≡ false →
-    number_from false (scan s) ≡ Some (unsigned n) → pos n ≡ z → IsWholeText s z
+pub from_zero_text : (s : List ℕ) (n : ℕ) (z : ℤ) → (slice_index s 0 == minus) ≡ false
+    → number_from false (scan s) ≡ Some (unsigned n) → pos n ≡ z → IsWholeText s z
 unfolding number_of
 from_zero_text s n z first x same =
     record { number = unsigned n; read = rw first x; holds = ap (λ z. Some (whole z)) same }
 
-pub below_zero_text : (s : List ℕ) (y z : ℤ) → (slice_index s 0 == minus) ≡ true →
-    number_from true (scan (drop 1 s)) ≡ Some (negative y) → y ≡ z → IsWholeText s z
+pub below_zero_text : (s : List ℕ) (y z : ℤ) → (slice_index s 0 == minus) ≡ true
+    → number_from true (scan (drop 1 s)) ≡ Some (negative y) → y ≡ z → IsWholeText s z
 unfolding number_of
 below_zero_text s y z first x same =
     record { number = negative y; read = rw first x; holds = ap (λ z. Some (whole z)) same }

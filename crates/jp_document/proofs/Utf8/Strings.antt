@@ -20,8 +20,8 @@ use Rattle.json.specs.Text.{plain, prepend, short_escape, surrogate_pair}
 
 -- ---- a text is cut around an ASCII byte
 
-seam_boundary : (p : List ℕ) (b : ℕ) (xs : List ℕ) → b < 128 →
-    IsCharBoundary (p ++ b ∷ xs) (length p)
+seam_boundary : (p : List ℕ) (b : ℕ) (xs : List ℕ) → b < 128
+    → IsCharBoundary (p ++ b ∷ xs) (length p)
 seam_boundary p b xs low =
     let long = length-append p (b ∷ xs) in
     let at : get_or (p ++ b ∷ xs) (length p) 0 ≡ b = get_or-append_seam p b xs 0 in
@@ -44,8 +44,8 @@ text_after p b xs low utf8 =
 pub text_past : (b : ℕ) (xs : List ℕ) → b < 128 → IsUtf8 (b ∷ xs) → IsUtf8 xs
 text_past b xs low utf8 = text_after [] b xs low utf8
 
-pub text_moved : (p : List ℕ) (b : ℕ) (xs : List ℕ) → IsUtf8 (p ++ b ∷ xs) →
-    IsUtf8 ((p ++ b ∷ []) ++ xs)
+pub text_moved : (p : List ℕ) (b : ℕ) (xs : List ℕ) → IsUtf8 (p ++ b ∷ xs)
+    → IsUtf8 ((p ++ b ∷ []) ++ xs)
 text_moved p b xs utf8 = rw append_assoc utf8
 
 text_of_one : (b : ℕ) → b < 128 → IsUtf8 (b ∷ [])
@@ -87,12 +87,12 @@ four_digits a b c d u is =
 
 -- ---- characters that an escape writes
 
-surrogate : (u : ℕ) → u < 65536 → is_high_surrogate u ≡ false → is_low_surrogate u ≡ false →
-    IsScalar u
+surrogate : (u : ℕ) → u < 65536 → is_high_surrogate u ≡ false → is_low_surrogate u ≡ false
+    → IsScalar u
 surrogate u small high low = grind (arith, nat_tests)
 
-pair_of : (h l : ℕ) → is_high_surrogate h ≡ true → is_low_surrogate l ≡ true →
-    IsScalar (surrogate_pair h l)
+pair_of : (h l : ℕ) → is_high_surrogate h ≡ true → is_low_surrogate l ≡ true
+    → IsScalar (surrogate_pair h l)
 pair_of h l high low = grind (arith, nat_tests)
 
 abbrev Low : Option ℕ → Type 0
@@ -126,33 +126,33 @@ short_high x high = grind (arith, nat_tests)
 -- what is read of each shorter text completes a text
 abbrev Shorter : ℕ → Type 0
 Shorter n =
-    (p xs s : List ℕ) → length xs < n → IsUtf8 (p ++ xs) → content plain xs ≡ Some s →
-    IsUtf8 (p ++ s)
+    (p xs s : List ℕ) → length xs < n → IsUtf8 (p ++ xs) → content plain xs ≡ Some s
+    → IsUtf8 (p ++ s)
 
-prepended : (bs : List ℕ) (o : Option (List ℕ)) (s : List ℕ) → prepend bs o ≡ Some s →
-    (t : List ℕ) × (o ≡ Some t) × (bs ++ t ≡ s)
+prepended : (bs : List ℕ) (o : Option (List ℕ)) (s : List ℕ) → prepend bs o ≡ Some s
+    → (t : List ℕ) × (o ≡ Some t) × (bs ++ t ≡ s)
 prepended bs None s is = absurd (cc)
 prepended bs (Some t) s is = (t, refl, same_Some (bs ++ t) s is)
 
 -- a character that an escape writes, and what comes after it
-after_character : (n : ℕ) (bs xs p s : List ℕ) → Shorter n → length xs < n → IsUtf8 p → IsUtf8 bs →
-    IsUtf8 xs → prepend bs (content plain xs) ≡ Some s → IsUtf8 (p ++ s)
+after_character : (n : ℕ) (bs xs p s : List ℕ) → Shorter n → length xs < n → IsUtf8 p → IsUtf8 bs
+    → IsUtf8 xs → prepend bs (content plain xs) ≡ Some s → IsUtf8 (p ++ s)
 after_character n bs xs p s each short before here later is =
     let t = prepended bs (content plain xs) s is in
     subst (λ x. IsUtf8 (p ++ x)) t.2
     (IsUtf8-append p (bs ++ t.0) before
     (IsUtf8-append bs t.0 here (each [] xs t.0 short later t.1)))
 
-text_past_four : (a b c d u : ℕ) (xs : List ℕ) → FourDigits a b c d u →
-    IsUtf8 (a ∷ b ∷ c ∷ d ∷ xs) → IsUtf8 xs
+text_past_four : (a b c d u : ℕ) (xs : List ℕ) → FourDigits a b c d u
+    → IsUtf8 (a ∷ b ∷ c ∷ d ∷ xs) → IsUtf8 xs
 text_past_four a b c d u xs digits utf8 =
     text_past d xs digits.fourth
     (text_past c (d ∷ xs) digits.third
     (text_past b (c ∷ d ∷ xs) digits.second (text_past a (b ∷ c ∷ d ∷ xs) digits.first utf8)))
 
 -- the low surrogate that comes after a high one, and what comes after both
-high_half : (n h : ℕ) (xs p s : List ℕ) → Shorter n → length xs < n → is_high_surrogate h ≡ true →
-    IsUtf8 p → IsUtf8 xs → content (after_high h) xs ≡ Some s → IsUtf8 (p ++ s)
+high_half : (n h : ℕ) (xs p s : List ℕ) → Shorter n → length xs < n → is_high_surrogate h ≡ true
+    → IsUtf8 p → IsUtf8 xs → content (after_high h) xs ≡ Some s → IsUtf8 (p ++ s)
 unfolding content
 high_half n h (x ∷ y ∷ a ∷ b ∷ c ∷ d ∷ xs) p s each short high before utf8 is =
     let marks = some_from_if ((x == char.backslash) && (y == char.letter_u)) _ s is in
@@ -168,9 +168,9 @@ high_half n h (x ∷ y ∷ a ∷ b ∷ c ∷ d ∷ xs) p s each short high befor
     low.1
 high_half n h xs p s each short high before utf8 is = absurd (cc)
 
-by_surrogate : (t w : Bool) (n u : ℕ) (xs p s : List ℕ) → Shorter n → length xs < n → u < 65536 →
-    is_high_surrogate u ≡ t → is_low_surrogate u ≡ w → IsUtf8 p → IsUtf8 xs →
-    cond t (content (after_high u) xs) (cond w None (prepend (encode_utf8 u) (content plain xs))) ≡
+by_surrogate : (t w : Bool) (n u : ℕ) (xs p s : List ℕ) → Shorter n → length xs < n → u < 65536
+    → is_high_surrogate u ≡ t → is_low_surrogate u ≡ w → IsUtf8 p → IsUtf8 xs
+    → cond t (content (after_high u) xs) (cond w None (prepend (encode_utf8 u) (content plain xs))) ≡
     Some s → IsUtf8 (p ++ s)
 by_surrogate true w n u xs p s each short small high low before utf8 is =
     high_half n u xs p s each short high before utf8 is
@@ -179,8 +179,8 @@ by_surrogate false false n u xs p s each short small high low before utf8 is =
     after_character n (encode_utf8 u) xs p s each short before
     (IsUtf8-encode u (surrogate u small high low)) utf8 is
 
-numbered_text : (n : ℕ) (xs p s : List ℕ) → Shorter n → length xs < n → IsUtf8 p → IsUtf8 xs →
-    content after_u xs ≡ Some s → IsUtf8 (p ++ s)
+numbered_text : (n : ℕ) (xs p s : List ℕ) → Shorter n → length xs < n → IsUtf8 p → IsUtf8 xs
+    → content after_u xs ≡ Some s → IsUtf8 (p ++ s)
 unfolding content
 numbered_text n (a ∷ b ∷ c ∷ d ∷ xs) p s each short before utf8 is =
     let unit = some_from_then _ (code_unit a b c d) s is in
@@ -190,10 +190,10 @@ numbered_text n (a ∷ b ∷ c ∷ d ∷ xs) p s each short before utf8 is =
     unit.2
 numbered_text n xs p s each short before utf8 is = absurd (cc)
 
-lettered_text : (n x : ℕ) (xs p s : List ℕ) → Shorter n → length xs < n → IsUtf8 p →
-    IsUtf8 (x ∷ xs) →
-    option_and_then (λ c. prepend (c ∷ []) (content plain xs)) (short_escape x) ≡ Some s →
-    IsUtf8 (p ++ s)
+lettered_text : (n x : ℕ) (xs p s : List ℕ) → Shorter n → length xs < n → IsUtf8 p
+    → IsUtf8 (x ∷ xs)
+    → option_and_then (λ c. prepend (c ∷ []) (content plain xs)) (short_escape x) ≡ Some s
+    → IsUtf8 (p ++ s)
 lettered_text n x xs p s each short before utf8 is =
     let letter = some_from_then _ (short_escape x) s is in
     elim (cases_lt x 128) [
@@ -206,28 +206,28 @@ lettered_text n x xs p s each short before utf8 is =
     ]
 
 escape_text : (t : Bool) (n x : ℕ) (xs p s : List ℕ) → Shorter n → length xs < n
-    → (x == char.letter_u) ≡ t →
-    IsUtf8 p → IsUtf8 (x ∷ xs) →
-    cond t (content after_u xs)
-    (option_and_then (λ c. prepend (c ∷ []) (content plain xs)) (short_escape x)) ≡ Some s →
-    IsUtf8 (p ++ s)
+    → (x == char.letter_u) ≡ t
+    → IsUtf8 p → IsUtf8 (x ∷ xs)
+    → cond t (content after_u xs)
+    (option_and_then (λ c. prepend (c ∷ []) (content plain xs)) (short_escape x)) ≡ Some s
+    → IsUtf8 (p ++ s)
 escape_text true n x xs p s each short mark before utf8 is =
     let low : x < 128 = grind (arith, nat_tests) in
     numbered_text n xs p s each short before (text_past x xs low utf8) is
 escape_text false n x xs p s each short mark before utf8 is =
     lettered_text n x xs p s each short before utf8 is
 
-escaped_text : (n : ℕ) (xs p s : List ℕ) → Shorter n → length xs < n → IsUtf8 p → IsUtf8 xs →
-    content after_backslash xs ≡ Some s → IsUtf8 (p ++ s)
+escaped_text : (n : ℕ) (xs p s : List ℕ) → Shorter n → length xs < n → IsUtf8 p → IsUtf8 xs
+    → content after_backslash xs ≡ Some s → IsUtf8 (p ++ s)
 unfolding content
 escaped_text n [] p s each short before utf8 is = absurd (cc)
 escaped_text n (x ∷ xs) p s each short before utf8 is =
     escape_text (x == char.letter_u) n x xs p s each (omega arith) refl before utf8 is
 
 -- the byte itself, and what comes after it
-itself_text : (t : Bool) (n x : ℕ) (xs p s : List ℕ) → Shorter n → length xs < n →
-    IsUtf8 (p ++ x ∷ xs) → cond t None (prepend (x ∷ []) (content plain xs)) ≡ Some s →
-    IsUtf8 (p ++ s)
+itself_text : (t : Bool) (n x : ℕ) (xs p s : List ℕ) → Shorter n → length xs < n
+    → IsUtf8 (p ++ x ∷ xs) → cond t None (prepend (x ∷ []) (content plain xs)) ≡ Some s
+    → IsUtf8 (p ++ s)
 itself_text true n x xs p s each short utf8 is = absurd (cc)
 itself_text false n x xs p s each short utf8 is =
     let t = prepended (x ∷ []) (content plain xs) s is in
@@ -235,9 +235,9 @@ itself_text false n x xs p s each short utf8 is =
     (rw append_assoc at (each (p ++ x ∷ []) xs t.0 short (text_moved p x xs utf8) t.1))
 
 by_byte : (t w : Bool) (n x : ℕ) (xs p s : List ℕ) → Shorter n → length xs < n
-    → (x == char.double_quote) ≡ t →
-    (x == char.backslash) ≡ w → IsUtf8 (p ++ x ∷ xs) →
-    cond t (Some [])
+    → (x == char.double_quote) ≡ t
+    → (x == char.backslash) ≡ w → IsUtf8 (p ++ x ∷ xs)
+    → cond t (Some [])
     (cond w (content after_backslash xs)
     (cond (nat_lt x 32) None (prepend (x ∷ []) (content plain xs)))) ≡ Some s → IsUtf8 (p ++ s)
 by_byte true w n x xs p s each short quote mark utf8 is =

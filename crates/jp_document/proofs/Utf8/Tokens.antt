@@ -16,7 +16,7 @@ use Rattle.json.specs.Lex.{place_token, punctuate, quote, space, string_token, t
 use Rattle.json.specs.Text.{content, plain}
 use Rattle.json.specs.Token.{Token}
 use Rattle.json.specs.Word.{after_number, ends_word, literal, number_before, word}
-use Rattle.jp_document.proofs.Conjunctions.{and-left, and-right}
+use Rattle.jp_reading.proofs.Conjunctions.{and-left, and-right}
 use Rattle.jp_document.proofs.Utf8.Strings.{content-IsUtf8, text_after, text_moved}
 
 -- what a token holds between quotes is a text
@@ -48,13 +48,13 @@ token_if : (t : Bool) (a b : Token) → HoldsText a → HoldsText b → HoldsTex
 token_if true a b here there = here
 token_if false a b here there = there
 
-lexeme_if : (t : Bool) (a b : Lexeme) → lexeme_is_text a ≡ true → LexemeHoldsText b →
-    LexemeHoldsText (cond t a b)
+lexeme_if : (t : Bool) (a b : Lexeme) → lexeme_is_text a ≡ true → LexemeHoldsText b
+    → LexemeHoldsText (cond t a b)
 lexeme_if true a b here there = record { is = here }
 lexeme_if false a b here there = there
 
-literal_text : (name : List ℕ) (a : Token) (t : List ℕ) → token_is_text a ≡ true →
-    HoldsText (literal name a t)
+literal_text : (name : List ℕ) (a : Token) (t : List ℕ) → token_is_text a ≡ true
+    → HoldsText (literal name a t)
 literal_text name a t is = token_if _ a Token.bad (record { is = is }) (record { is = refl })
 
 number_text : (t : List ℕ) (o : Option (List ℕ)) → HoldsText (number_before t o)
@@ -70,8 +70,8 @@ word_text t =
     (token_if _ _ _ (literal_text ascii.null_text Token.null t refl)
     (number_text t (after_number t))))
 
-string_token_text : (xs : List ℕ) (o : Option (List ℕ)) → IsUtf8 xs → content plain xs ≡ o →
-    token_is_text (string_token o) ≡ true
+string_token_text : (xs : List ℕ) (o : Option (List ℕ)) → IsUtf8 xs → content plain xs ≡ o
+    → token_is_text (string_token o) ≡ true
 string_token_text xs None utf8 is = refl
 string_token_text xs (Some s) utf8 is = is_utf8-from_IsUtf8 s (content-IsUtf8 xs s utf8 is)
 
@@ -86,9 +86,9 @@ operator_text x =
 -- ---- the lexemes of a text
 
 -- a byte of a class, where the lexemes after it hold texts
-byte_texts : (m : Mode) (c : Class) (x : ℕ) (xs : List ℕ) → (c ≡ quote → IsUtf8 xs) →
-    ((next : Mode) → LexemesAreTexts (lex next xs)) →
-    LexemesAreTexts (lex_byte m c x xs (λ next. lex next xs))
+byte_texts : (m : Mode) (c : Class) (x : ℕ) (xs : List ℕ) → (c ≡ quote → IsUtf8 xs)
+    → ((next : Mode) → LexemesAreTexts (lex next xs))
+    → LexemesAreTexts (lex_byte m c x xs (λ next. lex next xs))
 byte_texts between quote x xs utf8 later =
     and_from _ _ (string_token_text xs (content plain xs) (utf8 refl) refl) (later in_string)
 byte_texts between backslash x xs utf8 later = later in_word
@@ -109,8 +109,8 @@ not_quote false true u is = cc
 not_quote false false true is = cc
 not_quote false false false is = cc
 
-quote_by : (t s u w : Bool) →
-    cond t quote (cond s backslash (cond u operator (cond w space other))) ≡ quote → t ≡ true
+quote_by : (t s u w : Bool)
+    → cond t quote (cond s backslash (cond u operator (cond w space other))) ≡ quote → t ≡ true
 quote_by true s u w is = refl
 quote_by false s u w is = absurd (not_quote s u w is)
 
@@ -127,14 +127,14 @@ lexemes_are_texts p (x ∷ xs) m utf8 =
 
 -- ---- the tokens of lexemes
 
-allowed_texts : (b : Bool) (t : Token) (k : Place → List Token) (next : Place) →
-    token_is_text t ≡ true → are_texts (k next) ≡ true → are_texts (if_allowed b t k next) ≡ true
+allowed_texts : (b : Bool) (t : Token) (k : Place → List Token) (next : Place)
+    → token_is_text t ≡ true → are_texts (k next) ≡ true → are_texts (if_allowed b t k next) ≡ true
 allowed_texts true t k next here later = and_from _ _ here later
 allowed_texts false t k next here later = refl
 
-placed_texts : (p : Place) (t : Token) (b : Bool) (k : Place → List Token) →
-    token_is_text t ≡ true → ((next : Place) → are_texts (k next) ≡ true) →
-    are_texts (place_token p t b k) ≡ true
+placed_texts : (p : Place) (t : Token) (b : Bool) (k : Place → List Token)
+    → token_is_text t ≡ true → ((next : Place) → are_texts (k next) ≡ true)
+    → are_texts (place_token p t b k) ≡ true
 placed_texts p Token.begin_object b k here later =
     allowed_texts (may_begin p) Token.begin_object k fresh here (later fresh)
 placed_texts p Token.end_object b k here later =
@@ -152,8 +152,8 @@ placed_texts p Token.bad b k here later = refl
 placed_texts p t b k here later =
     allowed_texts (may_begin p) t k after_value here (later after_value)
 
-punctuated_texts : (p : Place) (ls : List Lexeme) → LexemesAreTexts ls →
-    are_texts (punctuate p ls) ≡ true
+punctuated_texts : (p : Place) (ls : List Lexeme) → LexemesAreTexts ls
+    → are_texts (punctuate p ls) ≡ true
 unfolding punctuate
 punctuated_texts after_value (comma ∷ ls) all = punctuated_texts after_comma ls all
 punctuated_texts after_key (colon ∷ ls) all = punctuated_texts fresh ls all

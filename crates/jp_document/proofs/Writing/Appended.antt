@@ -21,8 +21,8 @@ all_of before whole now is = record {
 }
 
 -- a part of the first piece
-pub first : (before piece more now : List ℕ) → IsPartAppended before piece now →
-    IsPartAppended before (piece ++ more) now
+pub first : (before piece more now : List ℕ) → IsPartAppended before piece now
+    → IsPartAppended before (piece ++ more) now
 first before piece more now p = record {
   done = p.done;
   rest = p.rest ++ more;
@@ -31,8 +31,8 @@ first before piece more now p = record {
 }
 
 -- the first piece, and a part of the rest
-pub after : (before piece more reached now : List ℕ) → reached ≡ before ++ piece →
-    IsPartAppended reached more now → IsPartAppended before (piece ++ more) now
+pub after : (before piece more reached now : List ℕ) → reached ≡ before ++ piece
+    → IsPartAppended reached more now → IsPartAppended before (piece ++ more) now
 after before piece more reached now wrote p = record {
   done = piece ++ p.done;
   rest = p.rest;
@@ -41,9 +41,9 @@ after before piece more reached now wrote p = record {
 }
 
 -- a part, and then a part of the piece that comes next
-pub on : (before whole reached piece more now : List ℕ) → IsPartAppended before whole reached →
-    reached ++ (piece ++ more) ≡ before ++ whole → IsPartAppended reached piece now →
-    IsPartAppended before whole now
+pub on : (before whole reached piece more now : List ℕ) → IsPartAppended before whole reached
+    → reached ++ (piece ++ more) ≡ before ++ whole → IsPartAppended reached piece now
+    → IsPartAppended before whole now
 on before whole reached piece more now p next q =
     let cut : p.done ++ (piece ++ more) ≡ whole =
     append_cancel_left before (p.done ++ (piece ++ more)) whole
@@ -61,10 +61,10 @@ on before whole reached piece more now p next q =
     }
 
 -- a mark, a piece, and a mark or nothing
-pub between : (before piece opened written now : List ℕ) (left right : ℕ) →
-    opened ≡ before ++ left ∷ [] → written ≡ opened ++ piece →
-    IsPartAppended written (right ∷ []) now →
-    IsPartAppended before (left ∷ (piece ++ right ∷ [])) now
+pub between : (before piece opened written now : List ℕ) (left right : ℕ)
+    → opened ≡ before ++ left ∷ [] → written ≡ opened ++ piece
+    → IsPartAppended written (right ∷ []) now
+    → IsPartAppended before (left ∷ (piece ++ right ∷ [])) now
 between before piece opened written now left right e f p =
     after before (left ∷ []) (piece ++ right ∷ []) opened now e
     (after opened piece (right ∷ []) written now f p)

@@ -19,8 +19,8 @@ join-cons : (t : List ℕ) (ts : List (List ℕ)) → join_with_byte char.comma 
 join-cons t [] = sym (append-nil t)
 join-cons t (u ∷ us) = ap (λ xs. t ++ (char.comma ∷ xs)) (join-cons u us)
 
-parts_step : (first : Bool) (t : List ℕ) (ts : List (List ℕ)) →
-    cond first (join_with_byte char.comma (t ∷ ts)) (commas_before (t ∷ ts)) ≡
+parts_step : (first : Bool) (t : List ℕ) (ts : List (List ℕ))
+    → cond first (join_with_byte char.comma (t ∷ ts)) (commas_before (t ∷ ts)) ≡
     cond first [] (char.comma ∷ []) ++ (t ++ commas_before ts)
 parts_step true t ts = join-cons t ts
 parts_step false t ts = refl
@@ -31,9 +31,9 @@ later i ts =
     ∙ ap (λ b. cond b (join_with_byte char.comma ts) (commas_before ts)) (eqb-suc-zero i)
 
 -- a text so far, with the next part written
-pub joined_more : (now after part all : List ℕ) (rest more : List (List ℕ)) (i : ℕ) →
-    rest ≡ part ∷ more → after ≡ (now ++ cond (eqb i 0) [] (char.comma ∷ [])) ++ part →
-    now ++ parts_from i rest ≡ all → after ++ parts_from (i + 1) more ≡ all
+pub joined_more : (now after part all : List ℕ) (rest more : List (List ℕ)) (i : ℕ)
+    → rest ≡ part ∷ more → after ≡ (now ++ cond (eqb i 0) [] (char.comma ∷ [])) ++ part
+    → now ++ parts_from i rest ≡ all → after ++ parts_from (i + 1) more ≡ all
 joined_more now after part all rest more i next wrote before =
     ap (λ xs. xs ++ parts_from (i + 1) more) wrote
     ∙ ap (λ xs. ((now ++ cond (eqb i 0) [] (char.comma ∷ [])) ++ part) ++ xs) (later i more)
@@ -43,10 +43,10 @@ joined_more now after part all rest more i next wrote before =
     ∙ before
 
 -- and with a part of the next part written
-pub part_more : (before whole now part after : List ℕ) (rest more : List (List ℕ)) (i : ℕ) →
-    rest ≡ part ∷ more → IsPartAppended before whole now → now ++ parts_from i rest ≡ before
-    ++ whole → IsPartAppended now (cond (eqb i 0) [] (char.comma ∷ []) ++ part) after →
-    IsPartAppended before whole after
+pub part_more : (before whole now part after : List ℕ) (rest more : List (List ℕ)) (i : ℕ)
+    → rest ≡ part ∷ more → IsPartAppended before whole now → now ++ parts_from i rest ≡ before
+    ++ whole → IsPartAppended now (cond (eqb i 0) [] (char.comma ∷ []) ++ part) after
+    → IsPartAppended before whole after
 part_more before whole now part after rest more i next kept begun wrote =
     let comma = cond (eqb i 0) [] (char.comma ∷ []) in
     on before whole now (comma ++ part) (commas_before more) after kept
@@ -56,8 +56,8 @@ part_more before whole now part after rest more i next kept begun wrote =
     wrote
 
 -- a name, a colon and a value, written one after another
-pub wrote_member : (before named coloned after name value : List ℕ) → named ≡ before ++ name →
-    coloned ≡ named ++ char.colon ∷ [] → after ≡ coloned ++ value → after ≡ before
+pub wrote_member : (before named coloned after name value : List ℕ) → named ≡ before ++ name
+    → coloned ≡ named ++ char.colon ∷ [] → after ≡ coloned ++ value → after ≡ before
     ++ (name ++ char.colon ∷ value)
 wrote_member before named coloned after name value e f g =
     g ∙ ap (λ xs. xs ++ value) (f ∙ ap (λ xs. xs ++ char.colon ∷ []) e)

@@ -43,8 +43,8 @@ pub record IsWholeText (s : List ℕ) (z : ℤ) : Type 0 where
   pub read : number_of s ≡ Some number
   pub holds : value_of_data (parsed.number number) ≡ Some (whole z)
 
--- the members before the place are below the name, and those from there on above it
-pub record IsPlace (ms : List (List ℕ × Value)) (name : List ℕ) (place : ℕ) : Type 0 where
-  pub within : place ≤ length ms
-  pub below : list_all (λ m. is_lt (slice_cmp nat_cmp m.0 name)) (take place ms) ≡ true
-  pub above : list_all (λ m. is_lt (slice_cmp nat_cmp name m.0)) (drop place ms) ≡ true
+-- the members before the point are below the name, and those from there on above it
+pub record IsInsertionPoint (ms : List (List ℕ × Value)) (name : List ℕ) (point : ℕ) : Type 0 where
+  pub within : point ≤ length ms
+  pub below : list_all (λ m. is_lt (slice_cmp nat_cmp m.0 name)) (take point ms) ≡ true
+  pub above : list_all (λ m. is_lt (slice_cmp nat_cmp name m.0)) (drop point ms) ≡ true

@@ -5,12 +5,13 @@ use Rattle.std.specs.Prelude.{Bool, true, false, if◌then◌else◌, List, ◌�
 use Rattle.std.specs.Str.{encode_utf8_all}
 use Rattle.jp_reading.specs.Characters as char
 use Rattle.jp_reading.specs.Outcome.{is}
-use Rattle.jp_reading.specs.Numbers.{is_digit, capped}
+use Rattle.jp_reading.specs.Numbers.{is_digit, is_leading_digit}
+use Rattle.jp_reading.specs.NumberReading.{capped}
 use Rattle.jp_reading.specs.Rule.{here, Nesting, the, Rule, value, character}
 use Rattle.jp_reading.specs.Rule.{made, look, upon, some, ◌>>=◌, ◌>>◌}
 use Rattle.jp_document.specs.declared.characters.Characters.{Characters}
 use Rattle.jp_document.specs.declared.characters.Characters.TheVariants as characters
-use Rattle.jp_document.specs.Location.{Key, named, nth, Location}
+use Rattle.jp_document.specs.Location.{Step, named, nth, Location}
 
 -- ---- characters of names
 
@@ -96,10 +97,6 @@ name = do
   the char.single_quote
   value {m = here} s
 
--- DIGIT1: a digit other than zero
-abbrev pub is_leading_digit : ℕ → Bool
-is_leading_digit c = nat_le char.digit_one c && nat_le c char.digit_nine
-
 -- digits without a leading zero: what they write, or 2^53 where it is larger
 unfoldable pub size : PathRule true ℕ
 size = do
@@ -111,14 +108,14 @@ unfoldable pub index : PathRule true ℕ
 index = upon char.digit_zero (value {m = here} 0) size
 
 -- normal-selector
-unfoldable pub key : PathRule true Key
-key = look here (is char.single_quote) (made named name) (made nth index)
+unfoldable pub normal_selector : PathRule true Step
+normal_selector = look here (is char.single_quote) (made named name) (made nth index)
 
 -- normal-index-segment
-unfoldable pub step : PathRule true Key
+unfoldable pub step : PathRule true Step
 step = do
   the char.opening_bracket
-  k ← key
+  k ← normal_selector
   the char.closing_bracket
   value {m = here} k
 

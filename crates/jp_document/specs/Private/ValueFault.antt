@@ -10,7 +10,7 @@ use Rattle.jp_document.specs.declared.fault.DocumentFault.TheVariants.{NotJson, 
 use Rattle.jp_document.specs.declared.fault.DocumentFault.TheVariants.{ListTooLong, NoMemory}
 use Rattle.jp_document.specs.Path.{path_of}
 use Rattle.jp_document.specs.Document.{IsFirstFraction}
-use Rattle.jp_document.specs.Location.{owned_key}
+use Rattle.jp_document.specs.Location.{owned_step}
 
 -- the fault one step further out: the same steps, and then that step
 abbrev pub IsFaultWithin : ValueFault → OwnedStep → ValueFault → Type 0
@@ -21,7 +21,7 @@ IsFaultWithin fault step ValueFault.NoMemory = Unit {0}
 -- the path of a fraction with these steps, reversed; running out of memory says nothing
 abbrev pub IsFaultAt : ValueFault → DocumentFault → Type 0
 IsFaultAt (Fraction steps) (NotWhole path) =
-    string_bytes path ≡ path_of (reverse (map owned_key steps.items))
+    string_bytes path ≡ path_of (reverse (map owned_step steps.items))
 IsFaultAt (Fraction steps) NoMemory = Unit {0}
 IsFaultAt (Fraction steps) NotJson = ⊥
 IsFaultAt (Fraction steps) ListTooLong = ⊥
@@ -29,5 +29,5 @@ IsFaultAt ValueFault.NoMemory fault = fault ≡ NoMemory
 
 -- the steps are those of the first fraction, reversed
 abbrev pub IsValueFaultOf : Data → ValueFault → Type 0
-IsValueFaultOf d (Fraction steps) = IsFirstFraction d (reverse (map owned_key steps.items))
+IsValueFaultOf d (Fraction steps) = IsFirstFraction d (reverse (map owned_step steps.items))
 IsValueFaultOf d ValueFault.NoMemory = Unit {0}

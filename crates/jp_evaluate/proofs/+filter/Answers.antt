@@ -3,12 +3,13 @@ use Rattle.jp_document.specs.Location.{entries}
 use Rattle.jp_document.specs.Node.{root_of}
 use Rattle.jp_document.specs.Value.{whole}
 use Rattle.jp_tree.specs.declared.tree.Expr.{the_lemmas}
-use Rattle.jp_tree.specs.Tree.{argument_of, call_of, call_test, expr_of}
+use Rattle.jp_tree.specs.Tree.{call_test}
+use Rattle.jp_tree.specs.Views.{argument_of, call_of, expr_of}
 use Rattle.jp_check.specs.declared.functions.Function.TheVariants.{Count, ValueOf}
 use Rattle.jp_evaluate.specs.Functions.{only_value, value_answer}
 use Rattle.jp_evaluate.specs.Nodelist.{argument_value, holds}
 use Rattle.jp_evaluate.specs.Private.Selecting.{nodes_query}
-use Rattle.jp_evaluate.specs.Private.Walk.{reached_place}
+use Rattle.jp_evaluate.specs.Private.Walk.{reached_node}
 use Rattle.jp_evaluate.proofs.Parts.Counted.{counted_nodes, one-answer, test-logical, test-nodes}
 use Rattle.jp_evaluate.proofs.Walks.Selects.{begun_to_come}
 use Rattle.jp_evaluate.proofs.Walks.Advances.{ends_at, ends_in_leaf, goes_on, goes_on_less, offer_less, passed_over}
@@ -126,7 +127,7 @@ filter::Asking::only_value-returns-in_default g t c =
     begun_to_come m c.args.nodes.query.now (m c.args.self.now.evaluation.now.root)
     (root_of (m c.args.self.now.current)) c.from-selecting.result c.start.result
     c.args.nodes.distinct new.segments c.start.ensures new.first new.frames new.seen in
-    let none = rw c.in_default.is at c.in_ok-place.ensures.gives in
+    let none = rw c.in_default.is at c.in_ok-reached.ensures.gives in
     sym (ap only_value (sym begun ∙ none.0))
 
 pub filter::Asking::only_value-returns-in-Some-2 : goal.filter::Asking::only_value-returns-in-Some-2
@@ -137,9 +138,9 @@ filter::Asking::only_value-returns-in-Some-2 g t c =
     begun_to_come m c.args.nodes.query.now (m c.args.self.now.evaluation.now.root)
     (root_of (m c.args.self.now.current)) c.from-selecting.result c.start.result
     c.args.nodes.distinct new.segments c.start.ensures new.first new.frames new.seen in
-    let first = rw c.in-Some.is at c.in_ok-place.ensures.gives in
+    let first = rw c.in-Some.is at c.in_ok-reached.ensures.gives in
     let second = rw c.in-Some-2.is at c.in_ok-next.ensures.gives in
-    sym (ap only_value (sym begun ∙ first ∙ ap (λ ns. reached_place m c.next.new.self.walk c.in-Some.place ∷ ns) second))
+    sym (ap only_value (sym begun ∙ first ∙ ap (λ ns. reached_node m c.next.new.self.walk c.in-Some.reached ∷ ns) second))
 
 pub filter::Asking::only_value-returns : goal.filter::Asking::only_value-returns
 filter::Asking::only_value-returns g t c =
@@ -149,9 +150,9 @@ filter::Asking::only_value-returns g t c =
     begun_to_come m c.args.nodes.query.now (m c.args.self.now.evaluation.now.root)
     (root_of (m c.args.self.now.current)) c.from-selecting.result c.start.result
     c.args.nodes.distinct new.segments c.start.ensures new.first new.frames new.seen in
-    let first = rw c.in-Some.is at c.in_ok-place.ensures.gives in
+    let first = rw c.in-Some.is at c.in_ok-reached.ensures.gives in
     let second = rw c.in-None.is at c.in_ok-next.ensures.gives in
-    sym (ap only_value (sym begun ∙ first ∙ ap (λ ns. reached_place m c.next.new.self.walk c.in-Some.place ∷ ns) second.0))
+    sym (ap only_value (sym begun ∙ first ∙ ap (λ ns. reached_node m c.next.new.self.walk c.in-Some.reached ∷ ns) second.0))
 
 -- ---- the walk
 
@@ -202,7 +203,7 @@ walk::Walk::advance-loop-offer-preserved-else-not-is_leaf g t c =
     let all = c.args.segments.now in
     let d = g.V.Lent.meaning c.args.evaluation.now.root in
     let o = c.in-Some.offer in
-    let leaf : length (entries (g.V.Lent.meaning o.place.value)) ≡ 0 = search rules in
+    let leaf : length (entries (g.V.Lent.meaning o.reached.value)) ≡ 0 = search rules in
     ends_in_leaf g.V.Lent.meaning all d c.loop-offer.self c.next_offer.new.self o c.in-Some.ensures.gives
     (sym c.in_ok-passes.ensures ∙ c.if-branch.true) c.if-offer-segments.false leaf
     ∙ c.loop-offer.invariant

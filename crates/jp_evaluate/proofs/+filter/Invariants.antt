@@ -4,8 +4,10 @@ use Rattle.jp_document.specs.Node.{Node}
 use Rattle.jp_document.specs.Value.{Value}
 use Rattle.jp_tree.specs.declared.tree.Expr.{Expr}
 use Rattle.jp_tree.specs.declared.tree.Query.{out-Query}
-use Rattle.jp_tree.specs.Tree.{ExprTrees, argument_of, call_of, expr_of, exprs}
-use Rattle.jp_tree.specs.Tree.{operand_of, query_of, segment_of, segments}
+use Rattle.jp_tree.specs.Tree.{ExprTrees, exprs}
+use Rattle.jp_tree.specs.Views.{argument_of, call_of, expr_of}
+use Rattle.jp_tree.specs.Tree.{segments}
+use Rattle.jp_tree.specs.Views.{operand_of, query_of, segment_of}
 use Rattle.jp_evaluate.specs.Nodelist.{all_hold, any_holds, nodelist_at}
 use Rattle.jp_evaluate.specs.Private.Asked.{asked}
 use Rattle.jp_evaluate.specs.Private.Sizes.{argument_size, call_size, expr_size, exprs_size}
@@ -100,14 +102,14 @@ decreases-filter::Asking::node_count-loop-selecting g l =
     length (to_come g.V.Lent.meaning (g.V.Lent.meaning l.self.evaluation.now.root) l.selecting)
 
 -- what was passed over did not count
-abbrev pub invariant-selecting::Selecting::next-loop-place :
-    goal.invariant-selecting::Selecting::next-loop-place
-invariant-selecting::Selecting::next-loop-place g l =
+abbrev pub invariant-selecting::Selecting::next-loop-reached :
+    goal.invariant-selecting::Selecting::next-loop-reached
+invariant-selecting::Selecting::next-loop-reached g l =
     (l.self.segments ≡ l.fn.self.segments)
     × (to_come g.V.Lent.meaning (g.V.Lent.meaning l.evaluation.root) l.self
     ≡ to_come g.V.Lent.meaning (g.V.Lent.meaning l.evaluation.root) l.fn.self)
 
-abbrev pub decreases-selecting::Selecting::next-loop-place :
-    goal.decreases-selecting::Selecting::next-loop-place
-decreases-selecting::Selecting::next-loop-place g l =
+abbrev pub decreases-selecting::Selecting::next-loop-reached :
+    goal.decreases-selecting::Selecting::next-loop-reached
+decreases-selecting::Selecting::next-loop-reached g l =
     length (walk_reaches g.V.Lent.meaning l.self.segments.now (g.V.Lent.meaning l.evaluation.root) l.self.walk)

@@ -7,13 +7,15 @@ use Rattle.std.specs.List.{slice_get}
 use Rattle.std.specs.Str.{chars, encode_utf8_all}
 use Rattle.std.proofs.lemmas.Option.{same_Some}
 use Rattle.std.proofs.lemmas.Str.{encodes-chars}
-use Rattle.jp_document.specs.Location.{Key, Location}
+use Rattle.jp_document.specs.Location.{Step, Location}
 use Rattle.jp_document.specs.Node.{Node, node_below, root_of}
 use Rattle.jp_document.specs.Value.{Value}
 use Rattle.jp_tree.specs.Singular.{are_single}
 use Rattle.jp_tree.specs.Tree.{SegmentTrees, SelectorTree, filter, index, name, no_segments}
-use Rattle.jp_tree.specs.Tree.{no_selectors, query_of, segment, segment_of, segment_then, segments}
-use Rattle.jp_tree.specs.Tree.{selector_of, selector_then, selectors, slice, wildcard}
+use Rattle.jp_tree.specs.Tree.{no_selectors, segment, segment_then, segments}
+use Rattle.jp_tree.specs.Views.{query_of, segment_of}
+use Rattle.jp_tree.specs.Tree.{selector_then, selectors, slice, wildcard}
+use Rattle.jp_tree.specs.Views.{selector_of}
 use Rattle.jp_tree.specs.declared.tree.Query.{Query, out-Query}
 use Rattle.jp_tree.specs.declared.tree.Segment.{Segment, out-Segment}
 use Rattle.jp_tree.specs.declared.tree.Selector.{Selector}
@@ -22,34 +24,34 @@ use Rattle.jp_evaluate.specs.Nodelist.{nodelist_at, result, single_node_value, s
 use Rattle.jp_evaluate.specs.Functions.{only_value}
 use Rattle.jp_evaluate.specs.Private.Singular.{chosen_value, single_value, values_along}
 use Rattle.jp_evaluate.proofs.Nodelists.Joined.{result-none}
-use Rattle.jp_evaluate.proofs.Parts.Trees.{query_of-is, segment_of-is}
+use Rattle.jp_tree.proofs.Views.{query_of-is, segment_of-is}
 
 -- the characters of a text spell its bytes
-pub text-spelled : (bytes text : List ℕ) → IsUtf8 bytes → bytes ≡ text →
-    encode_utf8_all (chars text) ≡ bytes
+pub text-spelled : (bytes text : List ℕ) → IsUtf8 bytes → bytes ≡ text
+    → encode_utf8_all (chars text) ≡ bytes
 text-spelled bytes text utf8 same =
     let P : List ℕ → Type 0 = λ b. encode_utf8_all (chars b) ≡ bytes in
     subst P same (encodes-chars bytes utf8)
 
 -- ---- one segment
 
-none_of_several : (b : Bool) (xs : List Selector) (v : Value) → length xs ≢ 1 →
-    single_value (segment b (selectors (map selector_of xs))) v ≡ None
+none_of_several : (b : Bool) (xs : List Selector) (v : Value) → length xs ≢ 1
+    → single_value (segment b (selectors (map selector_of xs))) v ≡ None
 none_of_several true xs v not = refl
 none_of_several false [] v not = refl
 none_of_several false (x ∷ []) v not = absurd (not refl)
 none_of_several false (x ∷ y ∷ xs) v not = refl
 
 -- segments with several selectors or none, and descendant segments, select no single value
-pub not_single : (s : Segment) (v : Value) → length (out-Segment s).selectors.items ≢ 1 →
-    single_value (segment_of s) v ≡ None
+pub not_single : (s : Segment) (v : Value) → length (out-Segment s).selectors.items ≢ 1
+    → single_value (segment_of s) v ≡ None
 not_single s v not =
     ap (λ t. single_value t v) (segment_of-is s)
     ∙ none_of_several (out-Segment s).descendant (out-Segment s).selectors.items v not
 
-chosen_by_only : (b : Bool) (xs : List Selector) (x : Selector) (v : Value) → b ≡ false →
-    length xs ≡ 1 → Some x ≡ slice_get xs 0 →
-    chosen_value (selector_of x) v ≡ single_value (segment b (selectors (map selector_of xs))) v
+chosen_by_only : (b : Bool) (xs : List Selector) (x : Selector) (v : Value) → b ≡ false
+    → length xs ≡ 1 → Some x ≡ slice_get xs 0
+    → chosen_value (selector_of x) v ≡ single_value (segment b (selectors (map selector_of xs))) v
 chosen_by_only true xs x v child one first = absurd (cc)
 chosen_by_only false [] x v child one first = absurd (cc)
 chosen_by_only false (y ∷ []) x v child one first =
@@ -57,21 +59,21 @@ chosen_by_only false (y ∷ []) x v child one first =
 chosen_by_only false (y ∷ z ∷ xs) x v child one first = absurd (omega arith)
 
 -- a child segment with one selector selects what the selector does
-pub single : (s : Segment) (x : Selector) (v : Value) → (out-Segment s).descendant ≡ false →
-    length (out-Segment s).selectors.items ≡ 1 →
-    Some x ≡ slice_get (out-Segment s).selectors.items 0 →
-    chosen_value (selector_of x) v ≡ single_value (segment_of s) v
+pub single : (s : Segment) (x : Selector) (v : Value) → (out-Segment s).descendant ≡ false
+    → length (out-Segment s).selectors.items ≡ 1
+    → Some x ≡ slice_get (out-Segment s).selectors.items 0
+    → chosen_value (selector_of x) v ≡ single_value (segment_of s) v
 single s x v child one first =
     chosen_by_only (out-Segment s).descendant (out-Segment s).selectors.items x v child one first
     ∙ sym (ap (λ t. single_value t v) (segment_of-is s))
 
-descends : (b : Bool) (s : List Selector) (v : Value) → b ≡ true →
-    single_value (segment b (selectors (map selector_of s))) v ≡ None
+descends : (b : Bool) (s : List Selector) (v : Value) → b ≡ true
+    → single_value (segment b (selectors (map selector_of s))) v ≡ None
 descends true s v is = refl
 descends false s v is = absurd (cc)
 
-pub not_child : (s : Segment) (v : Value) → (out-Segment s).descendant ≡ true →
-    single_value (segment_of s) v ≡ None
+pub not_child : (s : Segment) (v : Value) → (out-Segment s).descendant ≡ true
+    → single_value (segment_of s) v ≡ None
 not_child s v is =
     ap (λ t. single_value t v) (segment_of-is s)
     ∙ descends (out-Segment s).descendant (out-Segment s).selectors.items v is
@@ -91,7 +93,7 @@ none_if true = refl
 none_if false = refl
 
 -- at the one value that a selector chose, or at none
-along_entry : (rest : SegmentTrees) (d : Value) (l : Location) (o : Option (Key × Value))
+along_entry : (rest : SegmentTrees) (d : Value) (l : Location) (o : Option (Step × Value))
     → ((n : Node) → values_along rest n.value ≡ singular_value rest d n)
     → option_and_then (values_along rest) (option_map (λ e. e.1) o)
     ≡
@@ -102,9 +104,9 @@ along_entry rest d l None each =
     ∙ ap (λ ns. if are_single rest then only_value ns else None) (sym (result-none rest d))
 along_entry rest d l (Some e) each = each (node_below l e)
 
-along_one : (x : SelectorTree) (rest : SegmentTrees) (d : Value) (n : Node) →
-    ((m : Node) → values_along rest m.value ≡ singular_value rest d m) →
-    option_and_then (values_along rest) (chosen_value x n.value) ≡
+along_one : (x : SelectorTree) (rest : SegmentTrees) (d : Value) (n : Node)
+    → ((m : Node) → values_along rest m.value ≡ singular_value rest d m)
+    → option_and_then (values_along rest) (chosen_value x n.value) ≡
     singular_value (segment_then (segment false (selector_then x no_selectors)) rest) d n
 along_one (name cs) rest d n each =
     along_entry rest d n.location (single_entry (name cs) n.value) each
@@ -115,8 +117,8 @@ along_one (slice s) rest d n each = refl
 along_one (filter e) rest d n each = refl
 
 -- the segments of a singular query lead to the value of its node, others to none
-pub along : (all : SegmentTrees) (d : Value) (n : Node) →
-    values_along all n.value ≡ singular_value all d n
+pub along : (all : SegmentTrees) (d : Value) (n : Node)
+    → values_along all n.value ≡ singular_value all d n
 along no_segments d n = refl
 along (segment_then (segment true ss) rest) d n = refl
 along (segment_then (segment false no_selectors) rest) d n = refl

@@ -4,7 +4,7 @@ use Rattle.std.proofs.Common.{List, [], ◌∷◌, ◌++◌, Option, Some, None,
 use Rattle.std.proofs.Common.{refl, ap, ap₂, sym, ◌∙◌, append_assoc}
 use Rattle.std.specs.List.{filter as those_of, flat_map}
 use Rattle.std.proofs.lemmas.List.{append-nil, length-map, map-append}
-use Rattle.jp_document.specs.Location.{Key, Location, entries}
+use Rattle.jp_document.specs.Location.{Step, Location, entries}
 use Rattle.jp_document.specs.Node.{Node, children, node_at, node_below, root_of}
 use Rattle.jp_document.specs.Value.{Value, whole}
 use Rattle.jp_tree.specs.Singular.{is_singular}
@@ -35,7 +35,7 @@ use Rattle.jp_evaluate.specs.Nodelist.{single_node_value, visited}
 
 -- ---- lists of nodes further on
 
-nodes_below-beyond : (l m : Location) (es : List (Key × Value))
+nodes_below-beyond : (l m : Location) (es : List (Step × Value))
     → map (node_below (l ++ m)) es ≡ map (beyond l) (map (node_below m) es)
 nodes_below-beyond l m [] = refl
 nodes_below-beyond l m (e ∷ es) =
@@ -67,8 +67,8 @@ those_of-beyond l p q (n ∷ ns) same =
     ap₂ (λ b xs. if b then beyond l n ∷ xs else xs) (same n) (those_of-beyond l p q ns same)
     ∙ kept (q n)
   where
-    kept : (b : Bool) →
-        (if b then beyond l n ∷ map (beyond l) (those_of q ns)
+    kept : (b : Bool)
+        → (if b then beyond l n ∷ map (beyond l) (those_of q ns)
         else map (beyond l) (those_of q ns)) ≡
         map (beyond l) (if b then n ∷ those_of q ns else those_of q ns)
     kept true = refl
@@ -218,16 +218,16 @@ mutual
   argument_value-beyond (call_argument f) d l n = call_answer-beyond f d l n
   argument_value-beyond (logical_argument e) d l n = refl
 
-  argument_nodes-beyond : (x : ArgumentTree) (d : Value) (l : Location) (n : Node) →
-      argument_nodes x d (beyond l n) ≡
+  argument_nodes-beyond : (x : ArgumentTree) (d : Value) (l : Location) (n : Node)
+      → argument_nodes x d (beyond l n) ≡
       option_map (map (beyond (argument_further x l))) (argument_nodes x d n)
   argument_nodes-beyond (query_argument q) d l n = ap Some (query-beyond q d l n)
   argument_nodes-beyond (literal_argument x) d l n = refl
   argument_nodes-beyond (call_argument f) d l n = call_nodes-beyond f d l n
   argument_nodes-beyond (logical_argument e) d l n = refl
 
-  call_nodes-beyond : (f : CallTree) (d : Value) (l : Location) (n : Node) →
-      call_nodes f d (beyond l n) ≡
+  call_nodes-beyond : (f : CallTree) (d : Value) (l : Location) (n : Node)
+      → call_nodes f d (beyond l n) ≡
       option_map (map (beyond (call_further f l))) (call_nodes f d n)
   call_nodes-beyond (call cs no_arguments) d l n = refl
   call_nodes-beyond (call cs (argument_then x no_arguments)) d l n =

@@ -10,14 +10,14 @@ use Rattle.std.proofs.lemmas.List.Elements.{All-cons, All-filter, All-nil, All-w
 use Rattle.std.proofs.lemmas.List.Elements.{Contains-append_right, filter-append}
 use Rattle.jp_document.specs.Location.{location_cmp}
 use Rattle.jp_document.specs.Node.{Node}
-use Rattle.jp_document.proofs.Descent.Keys.{key_cmp_total}
+use Rattle.jp_document.proofs.Descent.Steps.{step_cmp_total}
 use Rattle.jp_evaluate.specs.Functions.{is_same_node, without_repeats}
 use Rattle.jp_evaluate.specs.Laws.{AreApart, DistinctIsExact, is_there}
 
 -- ---- nodes at one location
 
 pub location_cmp_total : IsTotalOrder location_cmp
-location_cmp_total = lists_total key_cmp_total
+location_cmp_total = lists_total step_cmp_total
 
 equal_from : (o : Ordering) → is_eq o ≡ true → o ≡ Equal
 equal_from Less is = absurd (cc)
@@ -52,8 +52,8 @@ those-of_those p q (n ∷ ns) = decided (q n) (those-of_those p q ns)
     rest : List Node
     rest = those_of (λ m. q m && p m) ns
 
-    decided : (b : Bool) → those_of p (those_of q ns) ≡ rest →
-        those_of p (if b then n ∷ those_of q ns else those_of q ns)
+    decided : (b : Bool) → those_of p (those_of q ns) ≡ rest
+        → those_of p (if b then n ∷ those_of q ns else those_of q ns)
         ≡ (if b && p n then n ∷ rest else rest)
     decided true later = ap (λ t. if p n then n ∷ t else t) later
     decided false later = later
@@ -115,9 +115,9 @@ others-differ : (n : Node) (ns : List Node)
 others-differ n [] = tt
 others-differ n (m ∷ ns) = decided (is_same_node n m) refl (others-differ n ns)
   where
-    decided : (b : Bool) → is_same_node n m ≡ b →
-        AllByRecursion (λ x. is_same_node n x ≡ false) (those_of (others n) ns) →
-        AllByRecursion (λ x. is_same_node n x ≡ false)
+    decided : (b : Bool) → is_same_node n m ≡ b
+        → AllByRecursion (λ x. is_same_node n x ≡ false) (those_of (others n) ns)
+        → AllByRecursion (λ x. is_same_node n x ≡ false)
         (if not b then m ∷ those_of (others n) ns else those_of (others n) ns)
     decided true is later = later
     decided false is later = (is, later)
@@ -128,8 +128,8 @@ those-differ : (p : Node → Bool) (n : Node) (ns : List Node)
 those-differ p n [] differ = tt
 those-differ p n (m ∷ ns) differ = decided (p m) (those-differ p n ns differ.1)
   where
-    decided : (b : Bool) → AllByRecursion (λ x. is_same_node n x ≡ false) (those_of p ns) →
-        AllByRecursion (λ x. is_same_node n x ≡ false)
+    decided : (b : Bool) → AllByRecursion (λ x. is_same_node n x ≡ false) (those_of p ns)
+        → AllByRecursion (λ x. is_same_node n x ≡ false)
         (if b then m ∷ those_of p ns else those_of p ns)
     decided true later = (differ.0, later)
     decided false later = later
@@ -139,8 +139,8 @@ those-apart : (p : Node → Bool) (ns : List Node) → AreApart ns
 those-apart p [] differ = tt
 those-apart p (n ∷ ns) differ = decided (p n) (those-apart p ns differ.1)
   where
-    decided : (b : Bool) → AreApart (those_of p ns) →
-        AreApart (if b then n ∷ those_of p ns else those_of p ns)
+    decided : (b : Bool) → AreApart (those_of p ns)
+        → AreApart (if b then n ∷ those_of p ns else those_of p ns)
     decided true later = (those-differ p n ns differ.0, later)
     decided false later = later
 
@@ -161,8 +161,8 @@ there-among_others n x (m ∷ ns) other =
     decided (is_same_node n m) refl (there-among_others n x ns other)
   where
     decided : (b : Bool) → is_same_node n m ≡ b
-        → is_there (those_of (others n) ns) x ≡ is_there ns x →
-        is_there (if not b then m ∷ those_of (others n) ns else those_of (others n) ns) x
+        → is_there (those_of (others n) ns) x ≡ is_there ns x
+        → is_there (if not b then m ∷ those_of (others n) ns else those_of (others n) ns) x
         ≡ (is_same_node x m || is_there ns x)
     decided true is later =
         let away : is_same_node x m ≡ false =
@@ -177,8 +177,8 @@ same (n ∷ ns) x = decided (is_same_node x n) refl (same ns x)
     left : List Node
     left = without_repeats ns
 
-    decided : (b : Bool) → is_same_node x n ≡ b → is_there left x ≡ is_there ns x →
-        (b || is_there (those_of (others n) left) x) ≡ (b || is_there ns x)
+    decided : (b : Bool) → is_same_node x n ≡ b → is_there left x ≡ is_there ns x
+        → (b || is_there (those_of (others n) left) x) ≡ (b || is_there ns x)
     decided true is later = refl
     decided false is later = there-among_others n x left is ∙ later
 
@@ -191,8 +191,8 @@ own (n ∷ ns) =
     (All-weaker (Contains ns) (Contains (n ∷ ns)) (λ m is. Contains-append_right (n ∷ []) ns m is)
     (without_repeats ns) (own ns)))
 
-first : (ns : List Node) (n : Node) →
-    without_repeats (ns ++ n ∷ []) ≡ without_repeats ns ++ (if is_there ns n then [] else n ∷ [])
+first : (ns : List Node) (n : Node)
+    → without_repeats (ns ++ n ∷ []) ≡ without_repeats ns ++ (if is_there ns n then [] else n ∷ [])
 first [] n = refl
 first (m ∷ ns) n =
     let left = without_repeats ns in
@@ -203,8 +203,8 @@ first (m ∷ ns) n =
     (decided (is_there ns n) (is_same_node m n) refl
     ∙ ap (λ b. if b || is_there ns n then [] else n ∷ []) (same-symmetric m n)))
   where
-    decided : (b c : Bool) → is_same_node m n ≡ c →
-        those_of (others m) (if b then [] else n ∷ []) ≡ (if c || b then [] else n ∷ [])
+    decided : (b c : Bool) → is_same_node m n ≡ c
+        → those_of (others m) (if b then [] else n ∷ []) ≡ (if c || b then [] else n ∷ [])
     decided true true is = refl
     decided true false is = refl
     decided false true is = ap (λ x. if not x then n ∷ [] else []) is

@@ -8,7 +8,7 @@ use Rattle.std.proofs.lemmas.List.Elements.{All-append, All-cons, All-filter, Al
 use Rattle.std.proofs.lemmas.List.Elements.{All-tail}
 use Rattle.std.specs.List.{filter as those_of}
 use Rattle.std.specs.Option.{IfSome}
-use Rattle.jp_document.specs.Location.{Key, Location}
+use Rattle.jp_document.specs.Location.{Step, Location}
 use Rattle.jp_document.specs.Node.{Node, StandsIn, children, node_below}
 use Rattle.jp_document.specs.Value.{Value}
 use Rattle.jp_tree.specs.Singular.{are_single, is_single, is_single_segment}
@@ -117,21 +117,21 @@ mutual
 
 -- ---- at most one node
 
-one_entry : (l : Location) (o : Option (Key × Value)) →
-    length (map (node_below l) (option_to_list o)) ≤ 1
+one_entry : (l : Location) (o : Option (Step × Value))
+    → length (map (node_below l) (option_to_list o)) ≤ 1
 one_entry l None = omega arith
 one_entry l (Some e) = omega arith
 
-single_selection : (x : SelectorTree) (d : Value) (n : Node) → is_single x ≡ true →
-    length (selection x d n) ≤ 1
+single_selection : (x : SelectorTree) (d : Value) (n : Node) → is_single x ≡ true
+    → length (selection x d n) ≤ 1
 single_selection (name cs) d n is = one_entry n.location (single (name cs) n.value)
 single_selection (index i) d n is = one_entry n.location (single (index i) n.value)
 single_selection wildcard d n is = absurd (cc)
 single_selection (slice s) d n is = absurd (cc)
 single_selection (filter e) d n is = absurd (cc)
 
-single_step : (x : SelectorTree) (d : Value) (ns : List Node) → is_single x ≡ true →
-    length ns ≤ 1 → length (segment_result (segment false (selector_then x no_selectors)) d ns) ≤ 1
+single_step : (x : SelectorTree) (d : Value) (ns : List Node) → is_single x ≡ true
+    → length ns ≤ 1 → length (segment_result (segment false (selector_then x no_selectors)) d ns) ≤ 1
 single_step x d [] is few = omega arith
 single_step x d (n ∷ []) is few =
     let same : (selection x d n ++ []) ++ [] ≡ selection x d n =
@@ -139,16 +139,16 @@ single_step x d (n ∷ []) is few =
     subst (λ ms. length ms ≤ 1) (sym same) (single_selection x d n is)
 single_step x d (n ∷ m ∷ ns) is few = absurd (omega arith)
 
-single_segment : (s : SegmentTree) (d : Value) (ns : List Node) → is_single_segment s ≡ true →
-    length ns ≤ 1 → length (segment_result s d ns) ≤ 1
+single_segment : (s : SegmentTree) (d : Value) (ns : List Node) → is_single_segment s ≡ true
+    → length ns ≤ 1 → length (segment_result s d ns) ≤ 1
 single_segment (segment true xs) d ns is few = absurd (cc)
 single_segment (segment false no_selectors) d ns is few = absurd (cc)
 single_segment (segment false (selector_then x no_selectors)) d ns is few =
     single_step x d ns is few
 single_segment (segment false (selector_then x (selector_then y xs))) d ns is few = absurd (cc)
 
-single_result : (ss : SegmentTrees) (d : Value) (ns : List Node) → are_single ss ≡ true →
-    length ns ≤ 1 → length (result ss d ns) ≤ 1
+single_result : (ss : SegmentTrees) (d : Value) (ns : List Node) → are_single ss ≡ true
+    → length ns ≤ 1 → length (result ss d ns) ≤ 1
 single_result no_segments d ns are few = few
 single_result (segment_then s rest) d ns are few =
     let both = and_parts (is_single_segment s) (are_single rest) are in

@@ -1,7 +1,8 @@
 -- The parts of queries are smaller.
 use Rattle.std.proofs.Common.{◌≡◌, ℕ, zero, suc, ◌<◌, ◌≤◌, List, [], ◌∷◌}
 use Rattle.std.proofs.Common.{length, map, slice_index_or, ap, subst, arith}
-use Rattle.jp_tree.specs.Tree.{expr_of, exprs, segment_of, segments, selector_of, selectors}
+use Rattle.jp_tree.specs.Tree.{exprs, segments, selectors}
+use Rattle.jp_tree.specs.Views.{expr_of, segment_of, selector_of}
 use Rattle.jp_tree.specs.declared.tree.Expr.{Expr}
 use Rattle.jp_tree.specs.declared.tree.Segment.{Segment}
 use Rattle.jp_tree.specs.declared.tree.Selector.{Selector}
@@ -23,9 +24,9 @@ pub part_less : (es : List Expr) (i : ℕ) (e : Expr) (n : ℕ) → i < length e
 part_less es i e n within at is =
     subst (λ (k : ℕ). expr_size (expr_of e) < k) is (part_size es i e within at)
 
-pub selector_part : (xs : List Selector) (i : ℕ) (x : Selector) → i < length xs →
-    x ≡ slice_index_or xs i x →
-    selector_size (selector_of x) < selectors_size (selectors (map selector_of xs))
+pub selector_part : (xs : List Selector) (i : ℕ) (x : Selector) → i < length xs
+    → x ≡ slice_index_or xs i x
+    → selector_size (selector_of x) < selectors_size (selectors (map selector_of xs))
 selector_part [] i x within at = absurd (omega arith)
 selector_part (y ∷ xs) zero x within at =
     let same = ap (λ z. selector_size (selector_of z)) at in omega (arith, same)

@@ -10,7 +10,7 @@ use Rattle.jp_reading.specs.Characters as char
 use lib.Utf8.{low_scalar, scalar, scalars}
 use Rattle.jp_reading.specs.Forms.{Form}
 use Rattle.jp_reading.specs.Texts.{Spans, Text}
-use Rattle.jp_document.specs.Location.{Key, Location, named, nth}
+use Rattle.jp_document.specs.Location.{Step, Location, named, nth}
 use Rattle.jp_document.specs.Path.{index_text, path_of, quoted, step_text}
 use Rattle.jp_document.specs.Spelling.{spelling}
 use Rattle.jp_document.proofs.Spellings.Encoded.{Ascii, digits-ascii, encode-ascii, high-plain}
@@ -39,13 +39,13 @@ has-step_index i small =
     subst (λ n. Has (Int n) (decimal i)) (rw (lt-ltb i (2 ^ 64) fits) refl) (has-decimal i fits)
 
 module _ (K : Nested → Form) where
-  has-selector : (k : Key) → StepFits k
+  has-selector : (k : Step) → StepFits k
       → Has (Selector K (step_selector k)) (selector_text (step_selector k))
   has-selector (named s) fits = has-as (λ r p. by_name (chars s) refl) (has-quoted (chars s))
   has-selector (nth i) fits = has-as (λ r p. indexed (Whole (pos i)) refl)
       (has-item (has-step_index i fits))
 
-  has-segment : (k : Key) → StepFits k
+  has-segment : (k : Step) → StepFits k
       → Has (Segment K (step_segment k)) (segment_text (step_segment k))
   has-segment k fits = has-as (λ r p. bracketed (step_selector k ∷ []) refl)
       (bracket-of K (step_selector k) [] (before-blank (has-selector k fits), tt))

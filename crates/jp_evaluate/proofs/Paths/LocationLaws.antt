@@ -1,7 +1,8 @@
 -- The location of a node as a query.
 use Rattle.std.proofs.Common.{true, pos, ◌≡◌, ℕ, ◌<◌, ◌≤◌, ◌-◌, ◌^◌, List, [], ◌∷◌, ◌++◌}
 use Rattle.std.proofs.Common.{map, Option, Some, ap, ap₂, sym, ◌∙◌}
-use Rattle.std.proofs.Common.{append_assoc, arith, option_and_then, option_map, option_to_list, lt-ltb}
+use Rattle.std.proofs.Common.{append_assoc, arith, option_and_then, option_map, option_to_list}
+use Rattle.std.proofs.Common.{lt-ltb}
 use Rattle.std.specs.List.{All}
 use Rattle.std.proofs.lemmas.Bool.{leb-true}
 use Rattle.std.proofs.lemmas.List.{append-nil}
@@ -9,20 +10,20 @@ use Rattle.std.proofs.lemmas.List.Elements.{All-cons, All-nil}
 use Rattle.std.proofs.lemmas.Option.{option_and_then_some, same_Some, slice_get_within}
 use Rattle.jp_document.proofs.Descent.Inside.{IsDocumentValue-child}
 use Rattle.jp_document.proofs.Members.ByName.{child-object_nth}
-use Rattle.jp_document.proofs.Conjunctions.{and-left}
+use Rattle.jp_reading.proofs.Conjunctions.{and-left}
 use Rattle.jp_document.proofs.Members.TextNames.{IsUtf8-child_named}
-use Rattle.jp_document.specs.Location.{Key, Location, child, child_entry, named, nth, value_at}
+use Rattle.jp_document.specs.Location.{Step, Location, child, child_entry, named, nth, value_at}
 use Rattle.jp_document.specs.Node.{Node, node_at, node_below}
 use Rattle.jp_document.specs.Value.{IsDocumentValue, Items, Value, boolean, item_count}
 use Rattle.jp_document.specs.Value.{list, null, object, text, whole}
-use Rattle.jp_query.specs.Items.{segments_items}
+use Rattle.jp_query.specs.Components.{segments_items}
 use Rattle.jp_tree.specs.Tree.{segments}
 use Rattle.jp_check.specs.declared.profile.Profile.{Profile}
 use Rattle.jp_check.specs.Faults.{HasFault}
 use Rattle.jp_check.proofs.OwnFault.{int-fault}
 use Rattle.jp_check.specs.Ranges.{is_in_index_range}
 use Rattle.jp_query.specs.Levels.{level_limit}
-use Rattle.jp_query.specs.Items.{QueryItem, as_index, int}
+use Rattle.jp_query.specs.Components.{QueryComponent, as_index, int}
 use Rattle.jp_query.specs.declared.refusal.RefusalKind.{RefusalKind}
 use Rattle.jp_tree.specs.declared.tree.Numeral.TheVariants.{Whole}
 use Rattle.jp_evaluate.specs.Laws.{PathSelectsItsNode}
@@ -46,11 +47,11 @@ first_step_there : (o : Option Value) (w : Value) (m : Location)
 first_step_there o w m e = option_and_then_some (λ u. value_at u m) o w e (λ u at end. (u, at, end))
 
 -- what stands a step below, as a list
-abbrev below : Location → Key → Option Value → List Node
+abbrev below : Location → Step → Option Value → List Node
 below l k o = map (node_below l) (option_to_list (option_map (λ w. (k, w)) o))
 
 -- one step as a segment
-step_result : (d v u : Value) (l : Location) (k : Key) → child v k ≡ Some u → StepFits k
+step_result : (d v u : Value) (l : Location) (k : Step) → child v k ≡ Some u → StepFits k
     → segment_result (step_segment k) d (node_at l v ∷ []) ≡ node_at (l ++ k ∷ []) u ∷ []
 step_result d v u l (named s) there utf8 =
     append-nil _ ∙ append-nil _
@@ -90,7 +91,7 @@ index_fits (boolean b) u i document there = absurd (cc)
 index_fits (whole z) u i document there = absurd (cc)
 index_fits (text s) u i document there = absurd (cc)
 
-step_fits : (v u : Value) (k : Key) → IsDocumentValue v → child v k ≡ Some u → StepFits k
+step_fits : (v u : Value) (k : Step) → IsDocumentValue v → child v k ≡ Some u → StepFits k
 step_fits v u (named s) document there = IsUtf8-child_named v u s document there
 step_fits v u (nth i) document there = index_fits v u i document there
 
@@ -102,7 +103,7 @@ steps_fit v w (k ∷ m) document end =
       steps_fit u.0 w m (IsDocumentValue-child v u.0 k document u.1) u.2,
     )
 
-abbrev NoFault : Profile → QueryItem → Type 0
+abbrev NoFault : Profile → QueryComponent → Type 0
 NoFault profile x = (kind : RefusalKind) → ¬ HasFault profile x kind
 
 index_faultless : (profile : Profile) (i : ℕ) → i < 2 ^ 53

@@ -8,18 +8,19 @@ use Rattle.std.proofs.lemmas.List.Sums.{sum_by-append, sum_by-cons}
 use Rattle.jp_document.specs.Location.{entries}
 use Rattle.jp_document.specs.Node.{Node, node_at, root_of}
 use Rattle.jp_document.specs.Value.{Value}
-use Rattle.jp_tree.specs.Tree.{ExprTree, segment_of, segment_then, segments}
+use Rattle.jp_tree.specs.Tree.{ExprTree, segment_then, segments}
+use Rattle.jp_tree.specs.Views.{segment_of}
 use Rattle.jp_tree.specs.declared.tree.Segment.{Segment}
 use Rattle.jp_select.proofs.Walks.{drop_past}
 use Rattle.std.proofs.lemmas.Option.{slice_get_past}
 use Rattle.jp_evaluate.specs.Private.Walk.{choice_at, chosen_node, choice_reaches}
 use Rattle.jp_evaluate.specs.Private.Walk.{choice_weight, choices_from, entered, frames_pending}
-use Rattle.jp_evaluate.specs.Private.Walk.{offered, passes, pending, reached_at, reached_place}
+use Rattle.jp_evaluate.specs.Private.Walk.{offered, passes, pending, reached_at, reached_node}
 use Rattle.jp_evaluate.specs.Private.Walk.{reaches}
 use Rattle.jp_evaluate.specs.Private.Walk.{segments_left, start_choice, steps_of, turns}
 use Rattle.jp_evaluate.specs.Private.Walk.{walk_frames, walk_reaches, walk_weight}
 use Rattle.jp_evaluate.specs.declared.walk.Offer.{Offer}
-use Rattle.jp_evaluate.specs.declared.walk.Place.{Place}
+use Rattle.jp_evaluate.specs.declared.walk.Place.{Reached}
 use Rattle.jp_evaluate.specs.declared.walk.Walk.{Walk}
 use Rattle.jp_evaluate.proofs.Nodelists.Anywhere.{holds-anywhere}
 use Rattle.jp_evaluate.proofs.Walks.Choices.{drop_none, pending-push}
@@ -61,21 +62,21 @@ offer_less means all w v o gives =
 
 pub ends_at : {V : Type 0} (means : V → Value) (all : List Segment) (d : Value) (w v : Walk V) (o : Offer V) → Offers means all w o v
     → passes (offered means all o).test d (root_of (offered means all o).value) ≡ true
-    → length all ≤ o.place.done
-    → walk_reaches means all d w ≡ reached_place means v o.place ∷ walk_reaches means all d v
+    → length all ≤ o.reached.done
+    → walk_reaches means all d w ≡ reached_node means v o.reached ∷ walk_reaches means all d v
 ends_at means all d w v o gives passed past =
-    let n = reached_place means v o.place in
+    let n = reached_node means v o.reached in
     ap (flat_map (choice_reaches d)) gives
     ∙ ap (λ b. (if b then reaches (offered means all o).left d n else []) ++ walk_reaches means all d v)
     (passes-anywhere (offered means all o).test d n ∙ passed)
     ∙ ap (λ xs. reaches (segments (map segment_of xs)) d n ++ walk_reaches means all d v)
-    (drop_past all o.place.done (slice_get_past all o.place.done past))
+    (drop_past all o.reached.done (slice_get_past all o.reached.done past))
 
 -- ---- a choice to go on from
 
-entered_pending : {V : Type 0} (means : V → Value) (all : List Segment) (v u : Walk V) (p : Place V) → v.first ≡ None →
-    u.first ≡ v.first → walk_frames u ≡ walk_frames v ++ entered p ∷ [] →
-    pending means all u ≡
+entered_pending : {V : Type 0} (means : V → Value) (all : List Segment) (v u : Walk V) (p : Reached V) → v.first ≡ None
+    → u.first ≡ v.first → walk_frames u ≡ walk_frames v ++ entered p ∷ []
+    → pending means all u ≡
     map (choice_at (reached_at [] (walk_frames v) ++ steps_of p.step))
     (choices_from (means p.value) (turns (segments_left all p.done)) 0) ++ pending means all v
 entered_pending means all v u p begun same frames =
@@ -116,11 +117,11 @@ there (x ∷ xs) i within = (
 
 pub goes_on : {V : Type 0} (means : V → Value) (all : List Segment) (d : Value) (w v u : Walk V) (o : Offer V) → Offers means all w o v
     → v.first ≡ None → passes (offered means all o).test d (root_of (offered means all o).value) ≡ true
-    → o.place.done < length all → u.first ≡ v.first
-    → walk_frames u ≡ walk_frames v ++ entered o.place ∷ []
+    → o.reached.done < length all → u.first ≡ v.first
+    → walk_frames u ≡ walk_frames v ++ entered o.reached ∷ []
     → walk_reaches means all d u ≡ walk_reaches means all d w
 goes_on means all d w v u o gives begun passed more same frames =
-    let p = o.place in
+    let p = o.reached in
     let l = reached_at [] (walk_frames v) ++ steps_of p.step in
     let left = segments_left all p.done in
     let next = there all p.done more in
@@ -139,11 +140,11 @@ goes_on means all d w v u o gives begun passed more same frames =
 
 pub goes_on_less : {V : Type 0} (means : V → Value) (all : List Segment) (w v u : Walk V) (o : Offer V) → Offers means all w o v
     → v.first ≡ None
-    → o.place.done < length all → u.first ≡ v.first
-    → walk_frames u ≡ walk_frames v ++ entered o.place ∷ []
+    → o.reached.done < length all → u.first ≡ v.first
+    → walk_frames u ≡ walk_frames v ++ entered o.reached ∷ []
     → walk_weight means all u < walk_weight means all w
 goes_on_less means all w v u o gives begun more same frames =
-    let p = o.place in
+    let p = o.reached in
     let l = reached_at [] (walk_frames v) ++ steps_of p.step in
     let left = segments_left all p.done in
     let next = there all p.done more in
@@ -162,11 +163,11 @@ goes_on_less means all w v u o gives begun more same frames =
 pub ends_in_leaf : {V : Type 0} (means : V → Value) (all : List Segment) (d : Value) (w v : Walk V) (o : Offer V)
     → Offers means all w o v
     → passes (offered means all o).test d (root_of (offered means all o).value) ≡ true
-    → o.place.done < length all
-    → length (entries (means o.place.value)) ≡ 0
+    → o.reached.done < length all
+    → length (entries (means o.reached.value)) ≡ 0
     → walk_reaches means all d v ≡ walk_reaches means all d w
 ends_in_leaf means all d w v o gives passed more leaf =
-    let p = o.place in
+    let p = o.reached in
     let l = reached_at [] (walk_frames v) ++ steps_of p.step in
     let left = segments_left all p.done in
     let next = there all p.done more in

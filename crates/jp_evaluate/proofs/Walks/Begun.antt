@@ -4,7 +4,8 @@ use Rattle.std.specs.List.{flat_map}
 use Rattle.std.proofs.lemmas.List.{append-nil}
 use Rattle.jp_document.specs.Node.{Node, root_of}
 use Rattle.jp_document.specs.Value.{Value}
-use Rattle.jp_tree.specs.Tree.{query_of, segment_of, segments}
+use Rattle.jp_tree.specs.Tree.{segments}
+use Rattle.jp_tree.specs.Views.{query_of, segment_of}
 use Rattle.jp_tree.specs.declared.tree.Query.{Query, out-Query}
 use Rattle.jp_tree.specs.declared.tree.Segment.{Segment}
 use Rattle.jp_evaluate.specs.Nodelist.{nodelist_at, result, start_of}
@@ -12,7 +13,7 @@ use Rattle.jp_evaluate.specs.Private.Walk.{choice_at, choice_reaches, frames_pen
 use Rattle.jp_evaluate.specs.Private.Walk.{reaches, start_choice, walk_frames, walk_reaches}
 use Rattle.jp_evaluate.specs.declared.walk.Walk.{Walk}
 use Rattle.jp_evaluate.proofs.Walks.Choices.{drop_none}
-use Rattle.jp_evaluate.proofs.Parts.Trees.{query_of-is}
+use Rattle.jp_tree.proofs.Views.{query_of-is}
 
 -- a walk that begins with v reaches what the segments do
 begun_reaches : {V : Type 0} (means : V → Value) (all : List Segment) (d : Value) (w : Walk V) (v : V)

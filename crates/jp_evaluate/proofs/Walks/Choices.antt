@@ -5,7 +5,7 @@ use Rattle.std.proofs.Common.{Global, refl, ap, ap₂, sym, ◌∙◌, append_as
 use Rattle.std.specs.List.{flat_map, slice_get}
 use Rattle.std.proofs.lemmas.List.{append-nil}
 use Rattle.std.proofs.lemmas.Option.{slice_get-map}
-use Rattle.jp_document.specs.Location.{Key, Location}
+use Rattle.jp_document.specs.Location.{Step, Location}
 use Rattle.jp_document.specs.Value.{Value}
 use Rattle.jp_tree.specs.Tree.{SegmentTrees, SelectorTree}
 use Rattle.jp_tree.specs.declared.tree.Segment.{Segment}
@@ -15,16 +15,16 @@ use Rattle.jp_evaluate.specs.Private.Walk.{Choice, choice_at, choice_of, choices
 use Rattle.jp_evaluate.specs.Private.Walk.{frame_choices, frames_pending, pending, reached_at}
 use Rattle.jp_evaluate.specs.Private.Walk.{start_choice, steps_of, turn_choices, walk_frames}
 use Rattle.jp_evaluate.specs.declared.walk.Frame.{Frame}
-use Rattle.jp_evaluate.specs.declared.walk.Place.{Place}
+use Rattle.jp_evaluate.specs.declared.walk.Place.{Reached}
 use Rattle.jp_evaluate.specs.declared.walk.Walk.{Walk}
 
 -- ---- the choices of turns
 
 -- the next of a turn
 pub choice_next : (v : Value) (ts : List (SelectorTree × SegmentTrees)) (i k : ℕ)
-    (t : SelectorTree × SegmentTrees) (e : Key × Value) → slice_get ts i ≡ Some t →
-    slice_get (candidates t.0 v) k ≡ Some e →
-    choices_from v (drop i ts) k ≡ choice_of t e ∷ choices_from v (drop i ts) (k + 1)
+    (t : SelectorTree × SegmentTrees) (e : Step × Value) → slice_get ts i ≡ Some t
+    → slice_get (candidates t.0 v) k ≡ Some e
+    → choices_from v (drop i ts) k ≡ choice_of t e ∷ choices_from v (drop i ts) (k + 1)
 choice_next v ts i k t e at entry =
     let here : slice_get (turn_choices v t) k ≡ Some (choice_of t e) =
     slice_get-map (choice_of t) (candidates t.0 v) k ∙ ap (option_map (choice_of t)) entry in
@@ -46,16 +46,16 @@ choices_all v [] = refl
 choices_all v (t ∷ ts) =
     ap (λ cs. cs ++ flat_map (turn_choices v) ts) (drop_none (turn_choices v t))
 
-none_of : (t : SelectorTree × SegmentTrees) (o : Option (Key × Value)) → o ≡ None
+none_of : (t : SelectorTree × SegmentTrees) (o : Option (Step × Value)) → o ≡ None
     → option_map (choice_of t) o ≡ None
 none_of t None is = refl
 none_of t (Some e) is = absurd (cc)
 
 -- a turn without more goes over to the next
 pub turn_next : (v : Value) (ts : List (SelectorTree × SegmentTrees)) (i k : ℕ)
-    (t : SelectorTree × SegmentTrees) → slice_get ts i ≡ Some t →
-    slice_get (candidates t.0 v) k ≡ None →
-    choices_from v (drop (i + 1) ts) 0 ≡ choices_from v (drop i ts) k
+    (t : SelectorTree × SegmentTrees) → slice_get ts i ≡ Some t
+    → slice_get (candidates t.0 v) k ≡ None
+    → choices_from v (drop (i + 1) ts) 0 ≡ choices_from v (drop i ts) k
 turn_next v ts i k t at past =
     let none : slice_get (turn_choices v t) k ≡ None =
     slice_get-map (choice_of t) (candidates t.0 v) k
@@ -75,34 +75,34 @@ turns_end v ts i k past = ap (λ us. choices_from v us k) (drop_past ts i past)
 -- ---- frames
 
 pub reached-push : {V : Type 0} (l : Location) (fs : List (Frame V)) (f : Frame V)
-    → reached_at l (fs ++ f ∷ []) ≡ reached_at l fs ++ steps_of f.place.step
+    → reached_at l (fs ++ f ∷ []) ≡ reached_at l fs ++ steps_of f.reached.step
 reached-push l [] f = refl
-reached-push l (g ∷ fs) f = reached-push (l ++ steps_of g.place.step) fs f
+reached-push l (g ∷ fs) f = reached-push (l ++ steps_of g.reached.step) fs f
 
 -- a last frame that stands apart
-pub reached-top : {V : Type 0} (l : Location) (fs : List (Frame V)) (o : Option (Frame V)) →
-    reached_at l (fs ++ option_to_list o) ≡
-    reached_at l fs ++ steps_of (option_and_then (λ f. f.place.step) o)
+pub reached-top : {V : Type 0} (l : Location) (fs : List (Frame V)) (o : Option (Frame V))
+    → reached_at l (fs ++ option_to_list o) ≡
+    reached_at l fs ++ steps_of (option_and_then (λ f. f.reached.step) o)
 reached-top l fs None = ap (reached_at l) (append-nil fs) ∙ sym (append-nil (reached_at l fs))
 reached-top l fs (Some f) = reached-push l fs f
 
 -- the last frame's choices come first
 pub pending-push : {V : Type 0} (means : V → Value) (all : List Segment) (l : Location)
-    (fs : List (Frame V)) (f : Frame V) →
-    frames_pending means all l (fs ++ f ∷ []) ≡
-    map (choice_at (reached_at l fs ++ steps_of f.place.step)) (frame_choices means all f)
+    (fs : List (Frame V)) (f : Frame V)
+    → frames_pending means all l (fs ++ f ∷ []) ≡
+    map (choice_at (reached_at l fs ++ steps_of f.reached.step)) (frame_choices means all f)
     ++ frames_pending means all l fs
 pending-push means all l [] f =
-    append_nil_again (map (choice_at (l ++ steps_of f.place.step)) (frame_choices means all f))
+    append_nil_again (map (choice_at (l ++ steps_of f.reached.step)) (frame_choices means all f))
   where
     append_nil_again : {X : Type 0} (xs : List X) → [] ++ xs ≡ xs ++ []
     append_nil_again [] = refl
     append_nil_again (x ∷ xs) = ap (λ t. x ∷ t) (append_nil_again xs)
 pending-push means all l (g ∷ fs) f =
-    let m = l ++ steps_of g.place.step in
+    let m = l ++ steps_of g.reached.step in
     ap (λ t. t ++ map (choice_at m) (frame_choices means all g)) (pending-push means all m fs f)
     ∙ append_assoc
-    (map (choice_at (reached_at m fs ++ steps_of f.place.step)) (frame_choices means all f))
+    (map (choice_at (reached_at m fs ++ steps_of f.reached.step)) (frame_choices means all f))
     (frames_pending means all m fs) (map (choice_at m) (frame_choices means all g))
 
 -- ---- walks
@@ -124,35 +124,35 @@ frames_alone means all w v first begun same =
 
 -- the last frame's next choice
 pub frame_next : {V : Type 0} (means : V → Value) (all : List Segment)
-    (before : List (Location × Choice)) (w v : Walk V) (f g : Frame V) (c : Choice) → w.first ≡ None → v.first ≡ None → pending means all w ≡ before → w.top ≡ Some f →
-    v.top ≡ Some g → v.below ≡ w.below → g.place ≡ f.place →
-    frame_choices means all f ≡ c ∷ frame_choices means all g →
-    before ≡ choice_at (reached_at [] (walk_frames v)) c ∷ pending means all v
-frame_next {V = X} means all before w v f g c first begun rest top new below place choices =
+    (before : List (Location × Choice)) (w v : Walk V) (f g : Frame V) (c : Choice) → w.first ≡ None → v.first ≡ None → pending means all w ≡ before → w.top ≡ Some f
+    → v.top ≡ Some g → v.below ≡ w.below → g.reached ≡ f.reached
+    → frame_choices means all f ≡ c ∷ frame_choices means all g
+    → before ≡ choice_at (reached_at [] (walk_frames v)) c ∷ pending means all v
+frame_next {V = X} means all before w v f g c first begun rest top new below reached choices =
     let b = w.below.items in
-    let m = reached_at [] b ++ steps_of f.place.step in
+    let m = reached_at [] b ++ steps_of f.reached.step in
     let was = pending_frames means all w (b ++ f ∷ []) first (ap (λ t. b ++ option_to_list t) top) in
     let frames : walk_frames v ≡ b ++ g ∷ [] =
     ap₂ (λ (x : Vec (Frame X) Global) t. x.items ++ option_to_list t) below new in
     let is = pending_frames means all v (b ++ g ∷ []) begun frames in
     let at : reached_at [] (walk_frames v) ≡ m =
     ap (reached_at []) frames
-    ∙ reached-push [] b g ∙ ap (λ (p : Place X). reached_at [] b ++ steps_of p.step) place in
+    ∙ reached-push [] b g ∙ ap (λ (p : Reached X). reached_at [] b ++ steps_of p.step) reached in
     sym rest ∙ was ∙ pending-push means all [] b f
     ∙ ap (λ cs. map (choice_at m) cs ++ frames_pending means all [] b) choices
     ∙ ap₂ (λ l t. choice_at l c ∷ t) (sym at)
     (ap
-    (λ (p : Place X). map (choice_at (reached_at [] b ++ steps_of p.step)) (frame_choices means all g)
-    ++ frames_pending means all [] b) (sym place) ∙ sym (is ∙ pending-push means all [] b g))
+    (λ (p : Reached X). map (choice_at (reached_at [] b ++ steps_of p.step)) (frame_choices means all g)
+    ++ frames_pending means all [] b) (sym reached) ∙ sym (is ∙ pending-push means all [] b g))
 
 -- a frame without more choices is left
 pub frame_left : {V : Type 0} (means : V → Value) (all : List Segment)
-    (before : List (Location × Choice)) (w v : Walk V) (f : Frame V) →
-    w.first ≡ None → v.first ≡ None → pending means all w ≡ before → w.top ≡ Some f → v.top ≡ None →
-    v.below ≡ w.below → frame_choices means all f ≡ [] → pending means all v ≡ before
+    (before : List (Location × Choice)) (w v : Walk V) (f : Frame V)
+    → w.first ≡ None → v.first ≡ None → pending means all w ≡ before → w.top ≡ Some f → v.top ≡ None
+    → v.below ≡ w.below → frame_choices means all f ≡ [] → pending means all v ≡ before
 frame_left {V = X} means all before w v f first begun rest top new below choices =
     let b = w.below.items in
-    let m = reached_at [] b ++ steps_of f.place.step in
+    let m = reached_at [] b ++ steps_of f.reached.step in
     let was = pending_frames means all w (b ++ f ∷ []) first (ap (λ t. b ++ option_to_list t) top) in
     let is =
     pending_frames means all v (b ++ []) begun

@@ -7,7 +7,7 @@ use Rattle.std.specs.BTreeMap.{is_at}
 use Rattle.std.specs.List.{flat_map}
 use Rattle.std.specs.Option.{option_map_or}
 use Rattle.std.specs.Str.{encode_utf8_all}
-use Rattle.jp_document.specs.Location.{Key, child_entry, entries, key_cmp, named, nth}
+use Rattle.jp_document.specs.Location.{Step, child_entry, entries, step_cmp, named, nth}
 use Rattle.jp_document.specs.Value.{Value, list_length}
 use Rattle.jp_tree.specs.Tree.{SelectorTree, SegmentTrees, name, wildcard, index, slice, filter}
 use Rattle.jp_tree.specs.declared.tree.Numeral.TheVariants.{Whole, Beyond, Fraction}
@@ -22,9 +22,9 @@ no_entries v none = empty (entries v) none
     empty [] h = refl
     empty (x ∷ xs) h = absurd (omega arith)
 
-none_there : (v : Value) (k : Key) → entries v ≡ [] → child_entry v k ≡ None
+none_there : (v : Value) (k : Step) → entries v ≡ [] → child_entry v k ≡ None
 none_there v k none =
-    ap (λ es. option_map (λ w. (k, w)) (lookup (is_at (key_cmp k)) es)) none
+    ap (λ es. option_map (λ w. (k, w)) (lookup (is_at (step_cmp k)) es)) none
 
 no_item : (v : Value) (o : Option ℕ) → entries v ≡ [] → option_and_then (item_of v) o ≡ None
 no_item v None none = refl

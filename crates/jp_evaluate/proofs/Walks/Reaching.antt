@@ -5,7 +5,7 @@ use Rattle.std.specs.List.{filter as those_of, flat_map, sum_by}
 use Rattle.std.proofs.lemmas.Grind.{flat_map-append}
 use Rattle.std.proofs.lemmas.List.{append-nil, map-append}
 use Rattle.std.proofs.lemmas.List.Sums.{sum_by-append, sum_by-cons}
-use Rattle.jp_document.specs.Location.{Key, Location, entries}
+use Rattle.jp_document.specs.Location.{Step, Location, entries}
 use Rattle.jp_document.specs.Node.{Node, children, node_at, node_below, root_of}
 use Rattle.jp_document.specs.Value.{Value}
 use Rattle.jp_tree.specs.Tree.{SegmentTree, SegmentTrees, SelectorTree, SelectorTrees}
@@ -32,8 +32,8 @@ taken_if false f x xs rest is = is
 
 -- the choices that pass their test are those of which it is true
 kept_reach : (s : SelectorTree) (rest : SegmentTrees) (d : Value) (l : Location)
-    (es : List (Key × Value)) →
-    flat_map (reaches rest d) (those_of (passes (test_of s) d) (map (node_below l) es)) ≡
+    (es : List (Step × Value))
+    → flat_map (reaches rest d) (those_of (passes (test_of s) d) (map (node_below l) es)) ≡
     flat_map (choice_reaches d) (map (choice_at l) (map (choice_of (s, rest)) es))
 kept_reach s rest d l [] = refl
 kept_reach s rest d l (e ∷ es) =
@@ -44,14 +44,14 @@ all_kept : (d : Value) (ns : List Node) → those_of (passes None d) ns ≡ ns
 all_kept d [] = refl
 all_kept d (n ∷ ns) = ap (λ t. n ∷ t) (all_kept d ns)
 
-selection-kept : (s : SelectorTree) (d : Value) (n : Node) →
-    selection s d n ≡
+selection-kept : (s : SelectorTree) (d : Value) (n : Node)
+    → selection s d n ≡
     those_of (passes (test_of s) d) (map (node_below n.location) (candidates s n.value))
 selection-kept (filter e) d n = refl
 selection-kept s d n = sym (all_kept d (map (node_below n.location) (candidates s n.value)))
 
-selectors_reach : (ss : SelectorTrees) (rest : SegmentTrees) (d : Value) (n : Node) →
-    result rest d (selected ss d n) ≡
+selectors_reach : (ss : SelectorTrees) (rest : SegmentTrees) (d : Value) (n : Node)
+    → result rest d (selected ss d n) ≡
     flat_map (choice_reaches d)
     (map (choice_at n.location) (flat_map (turn_choices n.value) (selector_turns rest ss)))
 selectors_reach no_selectors rest d n = result-none rest d
@@ -68,8 +68,8 @@ selectors_reach (selector_then s ss) rest d n =
     ∙ flat_map-append (choice_reaches d) (map (choice_at n.location) here)
     (map (choice_at n.location) more))
 
-children_reach : (all : SegmentTrees) (d : Value) (n : Node) →
-    result all d (children n) ≡
+children_reach : (all : SegmentTrees) (d : Value) (n : Node)
+    → result all d (children n) ≡
     flat_map (choice_reaches d)
     (map (choice_at n.location) (turn_choices n.value (wildcard, all)))
 children_reach all d n =
@@ -77,9 +77,9 @@ children_reach all d n =
     ∙ ap (flat_map (reaches all d)) (sym (all_kept d (children n)))
     ∙ kept_reach wildcard all d n.location (entries n.value)
 
-all_reach : (all : SegmentTrees) (d : Value) (n : Node) → (s : SegmentTree) (rest : SegmentTrees) →
-    all ≡ segment_then s rest →
-    reaches all d n ≡
+all_reach : (all : SegmentTrees) (d : Value) (n : Node) → (s : SegmentTree) (rest : SegmentTrees)
+    → all ≡ segment_then s rest
+    → reaches all d n ≡
     flat_map (choice_reaches d)
     (map (choice_at n.location) (flat_map (turn_choices n.value) (turns all)))
 all_reach no_segments d n s rest is = absurd (cc)
@@ -109,9 +109,9 @@ all_reach (segment_then (segment true ss) rest) d n s more is =
     (map (choice_at n.location) below))
 
 -- going on from a node reaches what its choices do
-pub enters : (s : SegmentTree) (rest all : SegmentTrees) (d v : Value) (l : Location) →
-    all ≡ segment_then s rest →
-    reaches all d (node_at l v) ≡
+pub enters : (s : SegmentTree) (rest all : SegmentTrees) (d v : Value) (l : Location)
+    → all ≡ segment_then s rest
+    → reaches all d (node_at l v) ≡
     flat_map (choice_reaches d) (map (choice_at l) (choices_from v (turns all) 0))
 enters s rest all d v l is =
     all_reach all d (node_at l v) s rest is
@@ -121,8 +121,8 @@ enters s rest all d v l is =
 -- ---- how many choices there are
 
 candidates_weight : (l : Location) (s : SelectorTree) (rest : SegmentTrees)
-    (es : List (Key × Value)) →
-    sum_by choice_weight (map (choice_at l) (map (choice_of (s, rest)) es)) ≡
+    (es : List (Step × Value))
+    → sum_by choice_weight (map (choice_at l) (map (choice_of (s, rest)) es)) ≡
     sum_by (λ e. weight rest e.1) es
 candidates_weight l s rest [] = refl
 candidates_weight l s rest (e ∷ es) =
@@ -131,8 +131,8 @@ candidates_weight l s rest (e ∷ es) =
     ∙ ap (λ n. weight rest e.1 + n) (candidates_weight l s rest es)
     ∙ sym (sum_by-cons (λ e. weight rest e.1) e es)
 
-selectors_weigh : (l : Location) (v : Value) (ss : SelectorTrees) (rest : SegmentTrees) →
-    sum_by choice_weight (map (choice_at l) (flat_map (turn_choices v) (selector_turns rest ss))) ≡
+selectors_weigh : (l : Location) (v : Value) (ss : SelectorTrees) (rest : SegmentTrees)
+    → sum_by choice_weight (map (choice_at l) (flat_map (turn_choices v) (selector_turns rest ss))) ≡
     selectors_weight ss (weight rest) v
 selectors_weigh l v no_selectors rest = refl
 selectors_weigh l v (selector_then s ss) rest =
@@ -143,7 +143,7 @@ selectors_weigh l v (selector_then s ss) rest =
     ∙ ap₂ (λ m n. m + n) (candidates_weight l s rest (candidates s v)) (selectors_weigh l v ss rest)
 
 -- the weight of what is in values
-inner_weight : (f : Value → ℕ) (k : Key) (ns : List Node)
+inner_weight : (f : Value → ℕ) (k : Step) (ns : List Node)
     → sum_by (λ n. f n.value) (map (after k) ns) ≡ sum_by (λ n. f n.value) ns
 inner_weight f k [] = refl
 inner_weight f k (n ∷ ns) =
@@ -151,18 +151,18 @@ inner_weight f k (n ∷ ns) =
     ∙ ap (λ m. f n.value + m) (inner_weight f k ns)
     ∙ sym (sum_by-cons (λ (m : Node). f m.value) n ns)
 
-inners_weight : (f : Value → ℕ) (es : List (Key × Value)) →
-    sum_by (λ n. f n.value) (flat_map inner es) ≡
+inners_weight : (f : Value → ℕ) (es : List (Step × Value))
+    → sum_by (λ n. f n.value) (flat_map inner es) ≡
     sum_by (λ e. sum_by (λ n. f n.value) (nodes_in e.1)) es
 inners_weight f [] = refl
 inners_weight f (e ∷ es) =
     sum_by-append (λ (m : Node). f m.value) (inner e) (flat_map inner es)
     ∙ ap₂ (λ m n. m + n) (inner_weight f e.0 (nodes_in e.1)) (inners_weight f es)
-    ∙ sym (sum_by-cons (λ (x : Key × Value). sum_by (λ n. f n.value) (nodes_in x.1)) e es)
+    ∙ sym (sum_by-cons (λ (x : Step × Value). sum_by (λ n. f n.value) (nodes_in x.1)) e es)
 
 all_weigh : (l : Location) (v : Value) (all : SegmentTrees) (s : SegmentTree)
-    (rest : SegmentTrees) → all ≡ segment_then s rest →
-    weight all v ≡
+    (rest : SegmentTrees) → all ≡ segment_then s rest
+    → weight all v ≡
     suc (sum_by choice_weight (map (choice_at l) (flat_map (turn_choices v) (turns all))))
 all_weigh l v no_segments s rest is = absurd (cc)
 all_weigh l v (segment_then (segment false ss) rest) s more is =

@@ -8,12 +8,12 @@ use Rattle.std.specs.BTreeSet.{BTreeSet, insert_key}
 use Rattle.std.specs.List.{filter as those_of, list_any}
 use Rattle.std.specs.Ordering.{match_ordering, ordering_then}
 use Rattle.std.specs.Cmp.Lexicographic.{slice_cmp}
-use Rattle.jp_document.specs.Location.{Location, key_cmp, key_of, location_cmp}
+use Rattle.jp_document.specs.Location.{Location, step_cmp, step_of, location_cmp}
 use Rattle.jp_document.specs.contracts.location.StepOrd.TheImpl.{ghosts as steps}
 use Rattle.jp_document.specs.declared.location.Step.TheVariants.{Index, Name}
 use Rattle.jp_document.specs.Node.{Node, node_at, root_of}
 use Rattle.jp_document.specs.declared.location.Step.{Step}
-use Rattle.jp_tree.specs.Tree.{query_of}
+use Rattle.jp_tree.specs.Views.{query_of}
 use Rattle.jp_tree.specs.declared.tree.Query.{Query, out-Query}
 use Rattle.jp_document.specs.Value.{Value, null}
 use Rattle.jp_evaluate.specs.Functions.{is_same_node, without_repeats}
@@ -22,42 +22,43 @@ use Rattle.jp_evaluate.specs.Private.Calls.{counted}
 use Rattle.jp_evaluate.specs.Private.Walk.{walk_frames, walk_reaches}
 use Rattle.jp_evaluate.specs.declared.selecting.Selecting.{Selecting}
 use Rattle.jp_evaluate.proofs.Walks.Begun.{begun_nodelist}
-use Rattle.jp_evaluate.specs.Private.Selecting.{IsFresh, Steps, TellsNew, counted_of, is_among, to_come}
+use Rattle.jp_evaluate.specs.Private.Selecting.{IsFresh, LocationSteps, TellsNew, counted_of}
+use Rattle.jp_evaluate.specs.Private.Selecting.{is_among, to_come}
 use Rattle.jp_evaluate.proofs.Nodelists.Repeats.{Respects, counts-new, counts-not, others}
 use Rattle.jp_evaluate.proofs.Nodelists.Repeats.{same-beside, same-symmetric, those-same}
 
 -- where steps lead
-abbrev pub place_of : Steps → Location
-place_of l = map key_of l.items
+abbrev pub steps_location : LocationSteps → Location
+steps_location l = map step_of l.items
 
 -- a node there, of whatever value
-abbrev spot : Steps → Node
-spot l = node_at (place_of l) null
+abbrev spot : LocationSteps → Node
+spot l = node_at (steps_location l) null
 
 -- ---- among locations
 
-among-respects : (ls : List Steps) (n m : Node) → is_same_node n m ≡ true
+among-respects : (ls : List LocationSteps) (n m : Node) → is_same_node n m ≡ true
     → is_among ls n ≡ is_among ls m
 among-respects [] n m same = refl
 among-respects (l ∷ ls) n m same =
     ap₂ (λ a b. a || b) (same-beside n m (spot l) same) (among-respects ls n m same)
 
-new-respects : (ls : List Steps) → Respects (λ n. not (is_among ls n))
+new-respects : (ls : List LocationSteps) → Respects (λ n. not (is_among ls n))
 new-respects ls n m same = ap not (among-respects ls n m same)
 
 -- an order of steps that is that of locations
-abbrev pub IsPlaceOrder : (Steps → Steps → Ordering) → Type 0
-IsPlaceOrder cmp = (k l : Steps) → cmp k l ≡ location_cmp (place_of k) (place_of l)
+abbrev pub IsLocationOrder : (LocationSteps → LocationSteps → Ordering) → Type 0
+IsLocationOrder cmp = (k l : LocationSteps) → cmp k l ≡ location_cmp (steps_location k) (steps_location l)
 
 -- the order of steps is that of keys
-step-order : (s t : Step) → steps.cmp s t ≡ key_cmp (key_of s) (key_of t)
+step-order : (s t : Step) → steps.cmp s t ≡ step_cmp (step_of s) (step_of t)
 step-order (Name s) (Name t) = refl
 step-order (Name s) (Index j) = refl
 step-order (Index i) (Name t) = refl
 step-order (Index i) (Index j) = refl
 
 lists-order : (ks ls : List Step)
-    → slice_cmp steps.cmp ks ls ≡ location_cmp (map key_of ks) (map key_of ls)
+    → slice_cmp steps.cmp ks ls ≡ location_cmp (map step_of ks) (map step_of ls)
 lists-order [] [] = refl
 lists-order [] (t ∷ ls) = refl
 lists-order (s ∷ ks) [] = refl
@@ -65,17 +66,17 @@ lists-order (s ∷ ks) (t ∷ ls) =
     ap₂ (λ o rest. ordering_then o rest) (step-order s t) (lists-order ks ls)
 
 -- the order by which a set keeps steps
-pub steps-order : IsPlaceOrder (λ k l. slice_cmp steps.cmp k.items l.items)
+pub steps-order : IsLocationOrder (λ k l. slice_cmp steps.cmp k.items l.items)
 steps-order k l = lists-order k.items l.items
 
 -- what the set was asked
-found-among : (cmp : Steps → Steps → Ordering) (k : Steps) (n : Node) (ls : List Steps)
-    → IsPlaceOrder cmp → place_of k ≡ n.location
+found-among : (cmp : LocationSteps → LocationSteps → Ordering) (k : LocationSteps) (n : Node) (ls : List LocationSteps)
+    → IsLocationOrder cmp → steps_location k ≡ n.location
     → list_any (is_at (cmp k)) ls ≡ is_among ls n
 found-among cmp k n [] order at = refl
 found-among cmp k n (l ∷ ls) order at =
     ap₂ (λ o b. is_eq o || b)
-    (order k l ∙ ap (λ p. location_cmp p (place_of l)) at)
+    (order k l ∙ ap (λ p. location_cmp p (steps_location l)) at)
     (found-among cmp k n ls order at)
 
 or-swap : (a b c : Bool) → (a || (b || c)) ≡ (b || (a || c))
@@ -85,7 +86,7 @@ or-swap false true c = refl
 or-swap false false c = refl
 
 -- after it was put in
-insert-among : (cmp : Steps → Steps → Ordering) (k : Steps) (ls : List Steps) (x : Node)
+insert-among : (cmp : LocationSteps → LocationSteps → Ordering) (k : LocationSteps) (ls : List LocationSteps) (x : Node)
     → list_any (is_at (cmp k)) ls ≡ false
     → is_among (insert_key cmp ls k) x ≡ (is_same_node x (spot k) || is_among ls x)
 insert-among cmp k [] x absent = refl
@@ -97,8 +98,8 @@ insert-among cmp k (l ∷ ls) x absent =
 
     decided : (o : Ordering) → cmp k l ≡ o
         → (rest ≡ (is_eq (cmp k l) || rest)
-        → is_among (insert_key cmp ls k) x ≡ (is_same_node x (spot k) || is_among ls x)) →
-        is_among (match_ordering o (k ∷ l ∷ ls) (l ∷ ls) (l ∷ insert_key cmp ls k)) x
+        → is_among (insert_key cmp ls k) x ≡ (is_same_node x (spot k) || is_among ls x))
+        → is_among (match_ordering o (k ∷ l ∷ ls) (l ∷ ls) (l ∷ insert_key cmp ls k)) x
         ≡ (is_same_node x (spot k) || (is_same_node x (spot l) || is_among ls x))
     decided Less is later = refl
     decided Equal is later = absurd (let there = ap is_eq is in cc)
@@ -112,13 +113,13 @@ neither false b = refl
 
 -- ---- a node that was reached
 
-tells-old : (s t : BTreeSet Steps) (n : Node) → is_among s.keys n ≡ true → t.keys ≡ s.keys
+tells-old : (s t : BTreeSet LocationSteps) (n : Node) → is_among s.keys n ≡ true → t.keys ≡ s.keys
     → TellsNew (Some s) n false (Some t)
 tells-old s t n among same ns =
     counts-not (λ m. not (is_among s.keys m)) n ns (new-respects s.keys) (ap not among)
     ∙ ap (λ ks. those_of (λ m. not (is_among ks m)) (without_repeats ns)) (sym same)
 
-tells-new : (s t : BTreeSet Steps) (n : Node) → is_among s.keys n ≡ false
+tells-new : (s t : BTreeSet LocationSteps) (n : Node) → is_among s.keys n ≡ false
     → ((x : Node) → is_among t.keys x ≡ (is_same_node x n || is_among s.keys x))
     → TellsNew (Some s) n true (Some t)
 tells-new s t n absent more ns =
@@ -131,8 +132,8 @@ tells-new s t n absent more ns =
     ∙ neither (is_same_node n m) (is_among s.keys m))))
 
 -- what putting its location into the set tells of a node
-pub tells : (cmp : Steps → Steps → Ordering) (s t : BTreeSet Steps) (k : Steps) (n : Node)
-    (added : Bool) → IsPlaceOrder cmp → place_of k ≡ n.location
+pub tells : (cmp : LocationSteps → LocationSteps → Ordering) (s t : BTreeSet LocationSteps) (k : LocationSteps) (n : Node)
+    (added : Bool) → IsLocationOrder cmp → steps_location k ≡ n.location
     → added ≡ not (list_any (is_at (cmp k)) s.keys)
     → t.keys ≡ insert_key cmp s.keys k → OnFalse added (t.keys ≡ s.keys)
     → TellsNew (Some s) n added (Some t)
@@ -161,7 +162,7 @@ all-new [] = refl
 all-new (n ∷ ns) = ap (λ t. n ∷ t) (all-new ns)
 
 -- nothing was seen, so that those count that are asked for
-pub fresh-counts : (distinct : Bool) (seen : Option (BTreeSet Steps)) (ns : List Node)
+pub fresh-counts : (distinct : Bool) (seen : Option (BTreeSet LocationSteps)) (ns : List Node)
     → IsFresh distinct seen → counted_of seen ns ≡ counted distinct ns
 fresh-counts false seen ns fresh = ap (λ o. counted_of o ns) fresh
 fresh-counts true None ns fresh = absurd fresh

@@ -3,20 +3,23 @@ use Rattle.std.specs.Prelude.{ℕ, suc, ◌+◌, List, [], ◌∷◌, ◌++◌, 
 use Rattle.std.specs.Prelude.{Option, Some, None, drop, map, option_map, option_to_list, sum_by}
 use Rattle.std.specs.List.{flat_map}
 use Rattle.std.specs.Option.{option_map_or}
-use Rattle.jp_document.specs.Location.{Key, Location, key_of}
+use Rattle.jp_document.specs.Location.{Step, Location, step_of}
 use Rattle.jp_document.specs.Node.{Node}
 use Rattle.jp_document.specs.Value.{Value}
-use Rattle.jp_document.specs.declared.location.Step.{Step}
-use Rattle.jp_tree.specs.Tree.{ExprTree, SegmentTrees, SelectorTree, SelectorTrees, expr_of}
-use Rattle.jp_tree.specs.Tree.{filter, no_segments, no_selectors, segment, segment_of}
-use Rattle.jp_tree.specs.Tree.{segment_then, segments, selector_of, selector_then, wildcard}
+use Rattle.jp_document.specs.declared.location.Step as code
+use Rattle.jp_tree.specs.Tree.{ExprTree, SegmentTrees, SelectorTree, SelectorTrees}
+use Rattle.jp_tree.specs.Views.{expr_of}
+use Rattle.jp_tree.specs.Tree.{filter, no_segments, no_selectors, segment}
+use Rattle.jp_tree.specs.Views.{segment_of}
+use Rattle.jp_tree.specs.Tree.{segment_then, segments, selector_then, wildcard}
+use Rattle.jp_tree.specs.Views.{selector_of}
 use Rattle.jp_tree.specs.declared.tree.Segment.{Segment}
 use Rattle.jp_select.specs.Selectors.{candidates}
 use Rattle.jp_select.specs.Subtree.{nodes_in}
 use Rattle.jp_evaluate.specs.Nodelist.{holds, result}
 use Rattle.jp_evaluate.specs.declared.walk.Frame.{Frame}
 use Rattle.jp_evaluate.specs.declared.walk.Offer.{Offer}
-use Rattle.jp_evaluate.specs.declared.walk.Place.{Place}
+use Rattle.jp_evaluate.specs.declared.walk.Place.{Reached}
 use Rattle.jp_evaluate.specs.declared.walk.Turn.{Turn}
 use Rattle.jp_evaluate.specs.declared.walk.Walk.{Walk}
 
@@ -34,7 +37,7 @@ abbrev pub test_of : SelectorTree → Option ExprTree
 test_of (filter e) = Some e
 test_of _ = None
 
-abbrev pub choice_of : SelectorTree × SegmentTrees → Key × Value → Choice
+abbrev pub choice_of : SelectorTree × SegmentTrees → Step × Value → Choice
 choice_of t e = record { test = test_of t.0; left = t.1; step = e.0 ∷ []; value = e.1 }
 
 -- a selector with the segments after it
@@ -43,8 +46,7 @@ selector_turns rest no_selectors = []
 selector_turns rest (selector_then s ss) = (s, rest) ∷ selector_turns rest ss
 
 -- what a first segment has to choose by: each selector, and where it is a descendant segment, the
--- children, at which the
--- same segments are left
+-- children, at which the same segments are left
 abbrev pub turns : SegmentTrees → List (SelectorTree × SegmentTrees)
 turns no_segments = []
 turns (segment_then (segment descendant ss) rest) =
@@ -70,16 +72,16 @@ turn_selector t = option_map_or (λ s. selector_of s.now) t.selector wildcard
 abbrev pub turn_of : List Segment → Turn → SelectorTree × SegmentTrees
 turn_of all t = (turn_selector t, segments_left all t.done)
 
-abbrev pub steps_of : Option Step → Location
+abbrev pub steps_of : Option code.Step → Location
 steps_of None = []
-steps_of (Some s) = key_of s ∷ []
+steps_of (Some s) = step_of s ∷ []
 
 abbrev pub offered : {V : Type 0} → (V → Value) → List Segment → Offer V → Choice
 offered m all o = record {
   test = option_map (λ e. expr_of e.now) o.test;
-  left = segments_left all o.place.done;
-  step = steps_of o.place.step;
-  value = m o.place.value;
+  left = segments_left all o.reached.done;
+  step = steps_of o.reached.step;
+  value = m o.reached.value;
 }
 
 -- where a walk begins
@@ -91,16 +93,16 @@ start_choice m all v =
 
 abbrev pub frame_choices : {V : Type 0} → (V → Value) → List Segment → Frame V → List Choice
 frame_choices m all f =
-    choices_from (m f.place.value) (drop f.turn (turns (segments_left all f.place.done))) f.next
+    choices_from (m f.reached.value) (drop f.turn (turns (segments_left all f.reached.done))) f.next
 
 -- a frame at its first choice
-abbrev pub entered : {V : Type 0} → Place V → Frame V
-entered p = record { place = p; turn = 0; next = 0 }
+abbrev pub entered : {V : Type 0} → Reached V → Frame V
+entered p = record { reached = p; turn = 0; next = 0 }
 
 -- where the last frame stands, if the first begins at l
 abbrev pub reached_at : {V : Type 0} → Location → List (Frame V) → Location
 reached_at l [] = l
-reached_at l (f ∷ fs) = reached_at (l ++ steps_of f.place.step) fs
+reached_at l (f ∷ fs) = reached_at (l ++ steps_of f.reached.step) fs
 
 abbrev pub choice_at : Location → Choice → Location × Choice
 choice_at l c = (l, c)
@@ -110,8 +112,8 @@ abbrev pub frames_pending : {V : Type 0} → (V → Value) → List Segment → 
     → List (Location × Choice)
 frames_pending m all l [] = []
 frames_pending m all l (f ∷ fs) =
-    frames_pending m all (l ++ steps_of f.place.step) fs
-    ++ map (choice_at (l ++ steps_of f.place.step)) (frame_choices m all f)
+    frames_pending m all (l ++ steps_of f.reached.step) fs
+    ++ map (choice_at (l ++ steps_of f.reached.step)) (frame_choices m all f)
 
 abbrev pub walk_frames : {V : Type 0} → Walk V → List (Frame V)
 walk_frames w = w.below.items ++ option_to_list w.top
@@ -145,9 +147,9 @@ choice_reaches d c =
 abbrev pub walk_reaches : {V : Type 0} → (V → Value) → List Segment → Value → Walk V → List Node
 walk_reaches m all d w = flat_map (choice_reaches d) (pending m all w)
 
--- where a place of the walk stands, with its value
-abbrev pub reached_place : {V : Type 0} → (V → Value) → Walk V → Place V → Node
-reached_place m w p = record {
+-- where a value that the walk reached stands, with the value
+abbrev pub reached_node : {V : Type 0} → (V → Value) → Walk V → Reached V → Node
+reached_node m w p = record {
   location = reached_at [] (walk_frames w) ++ steps_of p.step;
   value = m p.value;
 }

@@ -44,9 +44,9 @@ pub record BeginsItems (depth : ℕ) (ts rest : List Token) (t : Shown) (items :
     pub values : List Value
     pub turns : ℕ
     pub enough : length rest ≤ turns
-    pub ahead : (vs : List Value) (end : List Token) →
-        ReadsItems depth turns rest end (items_of vs) →
-        ReadsItems depth (length ts) ts end (items_of (values ++ vs))
+    pub ahead : (vs : List Value) (end : List Token)
+        → ReadsItems depth turns rest end (items_of vs)
+        → ReadsItems depth (length ts) ts end (items_of (values ++ vs))
     pub short : everywhere_in_items list_fits (items_of values) ≡ true
     pub mean : all_of (flat_value depth t) items ≡ Some values
 
@@ -57,8 +57,8 @@ with_items t items = record t { items = items }
 -- the token alone is the value of the item, whatever items the tables hold
 abbrev pub ReadsLeaf : Token → Shown → Item → Type 0
 ReadsLeaf token t i =
-    (depth : ℕ) (rest : List Token) (items : List Item) →
-    ReadsFlat depth (token ∷ rest) rest (with_items t items) i
+    (depth : ℕ) (rest : List Token) (items : List Item)
+    → ReadsFlat depth (token ∷ rest) rest (with_items t items) i
 
 -- the tokens begin with the values of the items in a list that the later tables hold behind those
 -- of the earlier ones, and need none of them
@@ -69,17 +69,17 @@ pub record ReadsLeaves (ts rest : List Token) (before after : Shown) : Type 0 wh
   pub grows : Grows before (with_items after before.items)
 
 -- whatever values the items have in the earlier tables, the item is their list in the later ones
-abbrev pub IsListOf : List Item → Shown → Shown → Item → Type 0
-IsListOf items before after i =
-    (n : ℕ) (vs : List Value) → all_of (flat_value n before) items ≡ Some vs →
-    flat_value (suc n) after i ≡ Some (list (items_of vs))
+abbrev pub IsTheListOf : List Item → Shown → Shown → Item → Type 0
+IsTheListOf items before after i =
+    (n : ℕ) (vs : List Value) → all_of (flat_value n before) items ≡ Some vs
+    → flat_value (suc n) after i ≡ Some (list (items_of vs))
 
 -- the same of members and their object
 abbrev pub IsObjectOf : List Named → Shown → Shown → Item → Type 0
 IsObjectOf members before after i =
-    (n : ℕ) (ms : List (List ℕ × Value)) →
-    all_of (member_with (flat_value n before) before) members ≡ Some ms →
-    flat_value (suc n) after i ≡ Some (object (members_of ms))
+    (n : ℕ) (ms : List (List ℕ × Value))
+    → all_of (member_with (flat_value n before) before) members ≡ Some ms
+    → flat_value (suc n) after i ≡ Some (object (members_of ms))
 
 -- a reading of the text holds the value of the item
 pub record ReadsFlatText (source : List ℕ) (t : Shown) (i : Item) : Type 0 where
@@ -102,5 +102,5 @@ put_all found (m ∷ ms) = put_all (insert_entry (slice_cmp nat_cmp) found m.0 m
 -- the name is above that of the last of the members, if there is one
 abbrev pub IsAboveLast : Shown → List Named → List ℕ → Type 0
 IsAboveLast t ms name =
-    (front : List Named) (last : Named) (x : List ℕ) → ms ≡ front ++ last ∷ [] →
-    text_at t last.name ≡ Some x → is_lt (slice_cmp nat_cmp x name) ≡ true
+    (front : List Named) (last : Named) (x : List ℕ) → ms ≡ front ++ last ∷ []
+    → text_at t last.name ≡ Some x → is_lt (slice_cmp nat_cmp x name) ≡ true

@@ -15,17 +15,17 @@ use Rattle.jp_flat.specs.declared.item.Named.{Named}
 -- after another
 abbrev pub PutsAll : Shown → List Named → List Named → Type 0
 PutsAll t members sorted =
-    (f : Item → Option Value) (ms : List (List ℕ × Value)) →
-    all_of (member_with f t) members ≡ Some ms →
-    all_of (member_with f t) sorted ≡ Some (put_all [] ms)
+    (f : Item → Option Value) (ms : List (List ℕ × Value))
+    → all_of (member_with f t) members ≡ Some ms
+    → all_of (member_with f t) sorted ≡ Some (put_all [] ms)
 
 -- whatever the items are, where the names of the members rise, this one is put among them
 abbrev pub Puts : Shown → Named → List Named → List Named → Type 0
 Puts t member before after =
-    (f : Item → Option Value) (ms : List (List ℕ × Value)) (m : List ℕ × Value) →
-    all_of (member_with f t) before ≡ Some ms → names_rise (keys_of ms) ≡ true →
-    member_with f t member ≡ Some m →
-    all_of (member_with f t) after ≡ Some (insert_entry (slice_cmp nat_cmp) ms m.0 m.1)
+    (f : Item → Option Value) (ms : List (List ℕ × Value)) (m : List ℕ × Value)
+    → all_of (member_with f t) before ≡ Some ms → names_rise (keys_of ms) ≡ true
+    → member_with f t member ≡ Some m
+    → all_of (member_with f t) after ≡ Some (insert_entry (slice_cmp nat_cmp) ms m.0 m.1)
 
 -- the entries are these members under their names
 pub record HoldsByName (f : Item → Option Value) (t : Shown) (ms : List (List ℕ × Value))
@@ -36,5 +36,5 @@ pub record HoldsByName (f : Item → Option Value) (t : Shown) (ms : List (List 
 -- the same of members under their names
 abbrev pub PutsByName : Shown → List Named → List (Bor (List ℕ) × Named) → Type 0
 PutsByName t members entries =
-    (f : Item → Option Value) (ms : List (List ℕ × Value)) →
-    all_of (member_with f t) members ≡ Some ms → HoldsByName f t (put_all [] ms) entries
+    (f : Item → Option Value) (ms : List (List ℕ × Value))
+    → all_of (member_with f t) members ≡ Some ms → HoldsByName f t (put_all [] ms) entries

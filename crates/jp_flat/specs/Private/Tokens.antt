@@ -50,12 +50,12 @@ token_of (code.Bool b) = spec.boolean b
 token_of code.Null = spec.null
 
 -- the text goes on with the token from one place on, and then from another, if the token is one
-abbrev pub Gives : List ℕ → At → spec.Token → At → Type 0
-Gives d from token to = is_good token ≡ true → tokens_from d from ≡ token ∷ tokens_from d to
+abbrev pub GivesToken : List ℕ → At → spec.Token → At → Type 0
+GivesToken d from token to = is_good token ≡ true → tokens_from d from ≡ token ∷ tokens_from d to
 
 -- the text is spelled so from the place behind the quote on, and its last quote stands before
 -- the other place
-pub record IsSpelled (d : List ℕ) (from to : ℕ) (s : Spelled) : Type 0 where
+pub record IsSpelledFrom (d : List ℕ) (from to : ℕ) (s : Spelled) : Type 0 where
   pub within : to ≤ length d
   pub reads : (x : List ℕ) → said s ≡ Some x → content plain (drop from d) ≡ Some x
   pub passes : lex in_string (drop from d) ≡ lex between (drop to d)
@@ -67,11 +67,11 @@ ends_byte x = (x == 44) || (x == 125) || (x == 93) || is_space x
 -- the token is the literal of this name
 pub record IsLiteral (name : List ℕ) (token : spec.Token) : Type 0 where
   pub lexes :
-      (rest : List ℕ) → ends_word rest ≡ true →
-      lex between (name ++ rest) ≡ Lexeme.token token ∷ lex between rest
+      (rest : List ℕ) → ends_word rest ≡ true
+      → lex between (name ++ rest) ≡ Lexeme.token token ∷ lex between rest
   pub goes :
-      (p : Place) (ls : List Lexeme) → may_begin p ≡ true →
-      punctuate p (Lexeme.token token ∷ ls) ≡ token ∷ punctuate after_value ls
+      (p : Place) (ls : List Lexeme) → may_begin p ≡ true
+      → punctuate p (Lexeme.token token ∷ ls) ≡ token ∷ punctuate after_value ls
 
 -- a whole number may end before the text: no point follows, and no exponent
 pub record EndsWhole (rest : List ℕ) : Type 0 where

@@ -11,9 +11,10 @@ use Rattle.jp_reading.proofs.Between.{Reads, reads-then, reads-is}
 use Rattle.jp_reading.proofs.Again.{split-word, split, word-first, one-first}
 use Rattle.jp_reading.proofs.Again.{again-take_if, again-expect, at-word, past-word}
 use Rattle.jp_iregexp.specs.declared.category.Category.{Category}
-use Rattle.jp_iregexp.specs.declared.class.ClassItem.{ClassItem}
-use Rattle.jp_iregexp.specs.declared.class.ClassItem.TheVariants as item
-use Rattle.jp_iregexp.specs.Characters.{Character, itself, escaped, is_plain, is_escaped, meant}
+use Rattle.jp_iregexp.specs.declared.class.ClassElement.{ClassElement}
+use Rattle.jp_iregexp.specs.declared.class.ClassElement.TheVariants as item
+use Rattle.jp_iregexp.specs.Characters.{PatternCharacter, itself, escaped, is_plain, is_escaped}
+use Rattle.jp_iregexp.specs.Characters.{meant}
 use Rattle.jp_iregexp.specs.Codes.{letters}
 use Rattle.jp_iregexp.specs.Private.CodeReading.{pair, code_of}
 use Rattle.jp_iregexp.specs.Grammar as grammar
@@ -45,8 +46,8 @@ escaped-no-sign e h = rw (
 ) refl
 
 -- after the `\`
-pub again-escaped : (e : ℕ) (p q : State) → Reads (One is_escaped e) p q →
-    escaped_at p ≡ took (meant e) q
+pub again-escaped : (e : ℕ) (p q : State) → Reads (One is_escaped e) p q
+    → escaped_at p ≡ took (meant e) q
 unfolding escaped_at
 again-escaped e p q h = rw (again-take_if is_escaped e p q h) refl
 
@@ -56,8 +57,8 @@ character-itself c p q h =
     rw (is_at-other is_plain c char.backslash p (one-first is_plain c p q h) h.is.passes refl)
     (again-take_if is_plain c p q h)
 
-character-escaped : (c e : ℕ) (p q : State) → c ≡ meant e →
-    Reads (word (codes "\\") ⌢ One is_escaped e) p q → character_at p ≡ took c q
+character-escaped : (c e : ℕ) (p q : State) → c ≡ meant e
+    → Reads (word (codes "\\") ⌢ One is_escaped e) p q → character_at p ≡ took c q
 unfolding character_at
 character-escaped c e p q is h =
     let parts = split (word (codes "\\")) (One is_escaped e) p q h in
@@ -68,19 +69,19 @@ character-escaped c e p q is h =
     )
     (again-escaped e parts.middle q parts.two)
 
-pub again-character : (c : ℕ) (p q : State) → Reads (Character is_plain c) p q →
-    character_at p ≡ took c q
+pub again-character : (c : ℕ) (p q : State) → Reads (PatternCharacter is_plain c) p q
+    → character_at p ≡ took c q
 again-character c p q h = elim h.is [
-  | itself g ↦ character-itself c p q (reads-is (Character is_plain c) (One is_plain c) p q h g)
+  | itself g ↦ character-itself c p q (reads-is (PatternCharacter is_plain c) (One is_plain c) p q h g)
   | escaped e is g ↦
       character-escaped c e p q is
-      (reads-is (Character is_plain c) (word (codes "\\") ⌢ One is_escaped e) p q h g)
+      (reads-is (PatternCharacter is_plain c) (word (codes "\\") ⌢ One is_escaped e) p q h g)
 ]
 
 -- how a code's letters are read
-code-one : (k : Category) (a : ℕ) (p q : State) → Reads (word (a ∷ [])) p q →
-    is_ascii_alphabetic a ≡ true → code_of a None ≡ Some k → is_at char.closing_brace q ≡ true →
-    code_at p ≡ took k q
+code-one : (k : Category) (a : ℕ) (p q : State) → Reads (word (a ∷ [])) p q
+    → is_ascii_alphabetic a ≡ true → code_of a None ≡ Some k → is_at char.closing_brace q ≡ true
+    → code_at p ≡ took k q
 unfolding code_at
 code-one k a p q h letter found ends =
     rw (
@@ -90,9 +91,9 @@ code-one k a p q h letter found ends =
       found,
     ) refl
 
-code-two : (k : Category) (a b : ℕ) (p q : State) → Reads (word (a ∷ b ∷ [])) p q →
-    is_ascii_alphabetic a ≡ true → is_ascii_alphabetic b ≡ true → code_of a (Some b) ≡ Some k →
-    code_at p ≡ took k q
+code-two : (k : Category) (a b : ℕ) (p q : State) → Reads (word (a ∷ b ∷ [])) p q
+    → is_ascii_alphabetic a ≡ true → is_ascii_alphabetic b ≡ true → code_of a (Some b) ≡ Some k
+    → code_at p ≡ took k q
 unfolding code_at
 code-two k a b p q h first second found =
     let parts = split-word a (b ∷ []) p q h in
@@ -108,22 +109,22 @@ code-two k a b p q h first second found =
     ) refl
 
 again-code : (k : Category) (p q : State) → Reads (word (letters k)) p q
-    → is_at char.closing_brace q ≡ true →
-    code_at p ≡ took k q
+    → is_at char.closing_brace q ≡ true
+    → code_at p ≡ took k q
 again-code k p q h ends =
     let l = lettered k in
     spelled l.first l.second l.first_is l.second_is l.found
     (subst (λ w. Reads (word w) p q) l.are h)
   where
-    spelled : (a : ℕ) (b : Option ℕ) → is_ascii_alphabetic a ≡ true → AreLetters b →
-        code_of a b ≡ Some k → Reads (word (pair a b)) p q → code_at p ≡ took k q
+    spelled : (a : ℕ) (b : Option ℕ) → is_ascii_alphabetic a ≡ true → AreLetters b
+        → code_of a b ≡ Some k → Reads (word (pair a b)) p q → code_at p ≡ took k q
     spelled a None first second found h = code-one k a p q h first found ends
     spelled a (Some b) first second found h = code-two k a b p q h first second found
 
 -- after the `\`: `p` or `P`, and a code in braces
-again-category : (c : ℕ) (k : Category) (p q : State) →
-    Reads (word (c ∷ codes "{") ⌢ word (letters k) ⌢ word (codes "}")) p q →
-    is_category_sign c ≡ true → category_at p ≡ took (item.Category k (is char.capital_p c)) q
+again-category : (c : ℕ) (k : Category) (p q : State)
+    → Reads (word (c ∷ codes "{") ⌢ word (letters k) ⌢ word (codes "}")) p q
+    → is_category_sign c ≡ true → category_at p ≡ took (item.Category k (is char.capital_p c)) q
 unfolding category_at
 again-category c k p q h sign =
     let parts = split (word (c ∷ codes "{")) (word (letters k) ⌢ word (codes "}")) p q h in
@@ -139,14 +140,14 @@ again-category c k p q h sign =
     ) refl
 
 -- an escape is its `\` and what stands after it
-pub record Escaped (x : ClassItem) (p q : State) : Type 0 where
+pub record Escaped (x : ClassElement) (p q : State) : Type 0 where
   pub at : is_at char.backslash p ≡ true
   pub sign : passes is_category_sign (head (past p)) ≡ true
   pub is : category_at (past p) ≡ took x q
 
-escape-of : (c : ℕ) (k : Category) (p q : State) →
-    Reads (word (char.backslash ∷ c ∷ codes "{") ⌢ word (letters k) ⌢ word (codes "}")) p q →
-    is_category_sign c ≡ true → Escaped (item.Category k (is char.capital_p c)) p q
+escape-of : (c : ℕ) (k : Category) (p q : State)
+    → Reads (word (char.backslash ∷ c ∷ codes "{") ⌢ word (letters k) ⌢ word (codes "}")) p q
+    → is_category_sign c ≡ true → Escaped (item.Category k (is char.capital_p c)) p q
 escape-of c k p q h sign =
     let parts = split (word (char.backslash ∷ c ∷ codes "{")) (word (letters k) ⌢ word (codes "}"))
     p q h in
@@ -165,7 +166,7 @@ escape-of c k p q h sign =
           q prefix.two parts.two) sign;
     }
 
-pub again-escape : (x : ClassItem) (p q : State) → Reads (ClassEscape x) p q → Escaped x p q
+pub again-escape : (x : ClassElement) (p q : State) → Reads (ClassEscape x) p q → Escaped x p q
 again-escape x p q h = elim h.is [
   | grammar.within k e g ↦
       subst (λ y. Escaped y p q) (sym e)

@@ -1,4 +1,4 @@
--- What spells the items of a class, and a class, is read as them: for the atoms of patterns.
+-- What spells the elements of a class, and a class, is read as them: for the atoms of patterns.
 use Rattle.std.proofs.Common.{◌≡◌, ◌≢◌, ℕ, ◌≤◌, Bool, true, false, nat_lt, ◌&&◌, not, List, [], ◌∷◌}
 use Rattle.std.proofs.Common.{◌++◌, Some, inl, inr, refl, sym, ap, ◌∙◌, subst, append-nil, arith}
 use Rattle.std.specs.Prelude.{codes}
@@ -7,18 +7,19 @@ use Rattle.std.proofs.lemmas.Bool.Decides.{nat_tests}
 use Rattle.jp_reading.specs.Characters as char
 use Rattle.jp_reading.specs.Texts.{Text, Spans}
 use Rattle.jp_reading.specs.Forms.{◌⌢◌, word, One, Each}
-use Rattle.jp_reading.specs.Outcome.{State, took, head, first_of, past}
+use Rattle.jp_reading.specs.Outcome.{State, took, head, past}
+use Rattle.jp_reading.specs.Texts.{first_of}
 use Rattle.jp_reading.specs.Outcome.{past_first, passes, is, is_at, expect}
 use Rattle.jp_reading.proofs.Steps.{head-is, is_at-other}
 use Rattle.jp_reading.proofs.Between.{Reads, reads-then, reads-is}
 use Rattle.jp_reading.proofs.Again.{split-word, Starts, Split, split, reads-none, word-first}
 use Rattle.jp_reading.proofs.Again.{one-first, again-expect, again-each, at-word, past-word}
-use Rattle.jp_iregexp.specs.declared.class.ClassItem.{ClassItem}
-use Rattle.jp_iregexp.specs.declared.class.ClassItem.TheVariants as item
-use Rattle.jp_iregexp.specs.Characters.{Character, itself, escaped, is_plain, is_escaped}
+use Rattle.jp_iregexp.specs.declared.class.ClassElement.{ClassElement}
+use Rattle.jp_iregexp.specs.declared.class.ClassElement.TheVariants as item
+use Rattle.jp_iregexp.specs.Characters.{PatternCharacter, itself, escaped, is_plain, is_escaped}
 use Rattle.jp_iregexp.specs.Tree.{Tree, class}
 use Rattle.jp_iregexp.specs.Grammar as grammar
-use Rattle.jp_iregexp.specs.Grammar.{ClassEscape, Hyphen, Element, First, Last, Items}
+use Rattle.jp_iregexp.specs.Grammar.{ClassEscape, Hyphen, Element, First, Last, Elements}
 use Rattle.jp_iregexp.specs.Grammar.{NotAtCaret, Class, one}
 use Rattle.jp_iregexp.specs.Private.Reading.{is_category_sign, is_at_category, range_at}
 use Rattle.jp_iregexp.specs.Private.Reading.{element_at, begins_element, elements_at, hyphen_at}
@@ -67,16 +68,16 @@ record Begins (p : State) : Type 0 where
   at : head p ≡ Some first
   is : begins_element first ≡ true
 
-begins-character : (c : ℕ) (p q : State) → Reads (Character is_plain c) p q → Begins p
+begins-character : (c : ℕ) (p q : State) → Reads (PatternCharacter is_plain c) p q → Begins p
 begins-character c p q h = elim h.is [
   | itself g ↦
       plain-begins c
-      (one-first is_plain c p q (reads-is (Character is_plain c) (One is_plain c) p q h g))
+      (one-first is_plain c p q (reads-is (PatternCharacter is_plain c) (One is_plain c) p q h g))
       g.passes
   | escaped e is g ↦
       backslash
       (split (word (codes "\\")) (One is_escaped e) p q
-      (reads-is (Character is_plain c) (word (codes "\\") ⌢ One is_escaped e) p q h g))
+      (reads-is (PatternCharacter is_plain c) (word (codes "\\") ⌢ One is_escaped e) p q h g))
 ]
   where
     plain-begins : (c : ℕ) → head p ≡ Some c → is_plain c ≡ true → Begins p
@@ -91,16 +92,16 @@ begins-character c p q h = elim h.is [
         }
 
 -- a character is no category
-no-category : (c : ℕ) (p q : State) → Reads (Character is_plain c) p q → is_at_category p ≡ false
+no-category : (c : ℕ) (p q : State) → Reads (PatternCharacter is_plain c) p q → is_at_category p ≡ false
 no-category c p q h = elim h.is [
   | itself g ↦
       plain-none
-      (one-first is_plain c p q (reads-is (Character is_plain c) (One is_plain c) p q h g))
+      (one-first is_plain c p q (reads-is (PatternCharacter is_plain c) (One is_plain c) p q h g))
       g.passes
   | escaped e is g ↦
       escaped-none e
       (split (word (codes "\\")) (One is_escaped e) p q
-      (reads-is (Character is_plain c) (word (codes "\\") ⌢ One is_escaped e) p q h g))
+      (reads-is (PatternCharacter is_plain c) (word (codes "\\") ⌢ One is_escaped e) p q h g))
 ]
   where
     plain-none : head p ≡ Some c → is_plain c ≡ true → is_at_category p ≡ false
@@ -108,8 +109,8 @@ no-category c p q h = elim h.is [
         ap (λ b. b && passes is_category_sign (head (past p)))
         (ap (passes (is char.backslash)) e ∙ plain-no-backslash c passing)
 
-    escaped-none : (e : ℕ) → Split (word (codes "\\")) (One is_escaped e) p q →
-        is_at_category p ≡ false
+    escaped-none : (e : ℕ) → Split (word (codes "\\")) (One is_escaped e) p q
+        → is_at_category p ≡ false
     escaped-none e parts =
         rw (
           at-word char.backslash [] p parts.middle parts.one,
@@ -122,11 +123,11 @@ range-alone : (c : ℕ) (p : State) → AfterElement p.rest → range_at c p ≡
 unfolding range_at
 range-alone c p h = rw (range-off p h) refl
 
-range-to : (c d : ℕ) (p q : State) → c ≤ d → Reads (word (codes "-") ⌢ Character is_plain d) p q →
-    range_at c p ≡ took (item.Range c d) q
+range-to : (c d : ℕ) (p q : State) → c ≤ d → Reads (word (codes "-") ⌢ PatternCharacter is_plain d) p q
+    → range_at c p ≡ took (item.Range c d) q
 unfolding range_at
 range-to c d p q order h =
-    let parts = split (word (codes "-")) (Character is_plain d) p q h in
+    let parts = split (word (codes "-")) (PatternCharacter is_plain d) p q h in
     let m = parts.middle in
     let begins = begins-character d m q parts.two in
     let low : nat_lt d c ≡ false = grind (arith, nat_tests) in
@@ -138,25 +139,25 @@ range-to c d p q order h =
       low,
     ) refl
 
-element-character : (c : ℕ) (x : ClassItem) (p m q : State) → Reads (Character is_plain c) p m →
-    range_at c m ≡ took x q → element_at p ≡ took x q
+element-character : (c : ℕ) (x : ClassElement) (p m q : State) → Reads (PatternCharacter is_plain c) p m
+    → range_at c m ≡ took x q → element_at p ≡ took x q
 unfolding element_at
 element-character c x p m q h e = rw (no-category c p m h, again-character c p m h) e
 
-element-escape : (x : ClassItem) (p q : State) → Escaped x p q → element_at p ≡ took x q
+element-escape : (x : ClassElement) (p q : State) → Escaped x p q → element_at p ≡ took x q
 unfolding element_at
 element-escape x p q h = rw (h.at, h.sign) h.is
 
-again-element : (x : ClassItem) (p q : State) → Reads (Element x) p q → AfterElement q.rest →
-    element_at p ≡ took x q
+again-element : (x : ClassElement) (p q : State) → Reads (Element x) p q → AfterElement q.rest
+    → element_at p ≡ took x q
 again-element x p q h after = elim h.is [
   | grammar.single c e g ↦
-      element-character c x p q q (reads-is (Element x) (Character is_plain c) p q h g)
+      element-character c x p q q (reads-is (Element x) (PatternCharacter is_plain c) p q h g)
       (range-alone c q after ∙ ap (λ y. took y q) (sym e))
   | grammar.range c d e order g ↦
       (let parts =
-      split (Character is_plain c) (word (codes "-") ⌢ Character is_plain d) p q
-      (reads-is (Element x) (Character is_plain c ⌢ word (codes "-") ⌢ Character is_plain d) p
+      split (PatternCharacter is_plain c) (word (codes "-") ⌢ PatternCharacter is_plain d) p q
+      (reads-is (Element x) (PatternCharacter is_plain c ⌢ word (codes "-") ⌢ PatternCharacter is_plain d) p
       q h g) in
       element-character c x p parts.middle q parts.one
       (range-to c d parts.middle q order parts.two ∙ ap (λ y. took y q) (sym e)))
@@ -164,14 +165,14 @@ again-element x p q h after = elim h.is [
       element-escape x p q (again-escape x p q (reads-is (Element x) (ClassEscape x) p q h g))
 ]
 
-begins-element : (x : ClassItem) (p q : State) → Reads (Element x) p q → Begins p
+begins-element : (x : ClassElement) (p q : State) → Reads (Element x) p q → Begins p
 begins-element x p q h = elim h.is [
   | grammar.single c e g ↦
-      begins-character c p q (reads-is (Element x) (Character is_plain c) p q h g)
+      begins-character c p q (reads-is (Element x) (PatternCharacter is_plain c) p q h g)
   | grammar.range c d e order g ↦
       (let parts =
-      split (Character is_plain c) (word (codes "-") ⌢ Character is_plain d) p q
-      (reads-is (Element x) (Character is_plain c ⌢ word (codes "-") ⌢ Character is_plain d) p
+      split (PatternCharacter is_plain c) (word (codes "-") ⌢ PatternCharacter is_plain d) p q
+      (reads-is (Element x) (PatternCharacter is_plain c ⌢ word (codes "-") ⌢ PatternCharacter is_plain d) p
       q h g) in
       begins-character c p parts.middle parts.one)
   | grammar.class_escape g ↦
@@ -187,29 +188,29 @@ starts-element x p q h =
           refl),
     )
 
-again-elements : (xs : List ClassItem) (p q : State) → Reads (Each Element xs) p q →
-    passes begins_element (head q) ≡ false → AfterElement q.rest → elements_at p ≡ took xs q
+again-elements : (xs : List ClassElement) (p q : State) → Reads (Each Element xs) p q
+    → passes begins_element (head q) ≡ false → AfterElement q.rest → elements_at p ≡ took xs q
 again-elements xs p q h ends after =
     again-each Element AfterElement (λ r. passes begins_element (head r)) element_at moves-element
     again-element starts-element xs p q h ends after
 
 -- what follows an item where others stand
-each-after : (xs : List ClassItem) (p q : State) → Reads (Each Element xs) p q →
-    AfterElement q.rest → AfterElement p.rest
+each-after : (xs : List ClassElement) (p q : State) → Reads (Each Element xs) p q
+    → AfterElement q.rest → AfterElement p.rest
 each-after [] p q h after =
     subst (λ (r : State). AfterElement r.rest) (sym (reads-none p q h)) after
 each-after (x ∷ xs) p q h after =
     let parts = split (Element x) (Each Element xs) p q h in
     (starts-element x p parts.middle parts.one).1
 
--- the end of a class, after these items
-record LastRead (xs ys : List ClassItem) (p q : State) : Type 0 where
+-- the end of a class, after these elements
+record LastRead (xs ys : List ClassElement) (p q : State) : Type 0 where
   ends : passes begins_element (head p) ≡ false
   after : AfterElement p.rest
   is : last_at xs p ≡ took (xs ++ ys) q
 
-hyphen-read : (x : ClassItem) (p q : State) → Reads (Hyphen x) p q →
-    (is_at char.hyphen p ≡ true) × (past p ≡ q) × (hyphen_at p ≡ took x q)
+hyphen-read : (x : ClassElement) (p q : State) → Reads (Hyphen x) p q
+    → (is_at char.hyphen p ≡ true) × (past p ≡ q) × (hyphen_at p ≡ took x q)
 hyphen-read x p q h =
     let w = reads-is (Hyphen x) (word (codes "-")) p q h h.is.is in (
       at-word char.hyphen [] p q w,
@@ -218,7 +219,7 @@ hyphen-read x p q h =
           (again-expect char.hyphen p q w, h.is.item) refl,
     )
 
-last-none : (xs : List ClassItem) (p : State) → is_at char.closing_bracket p ≡ true
+last-none : (xs : List ClassElement) (p : State) → is_at char.closing_bracket p ≡ true
     → LastRead xs [] p p
 last-none xs p at =
     let e = head-is char.closing_bracket p at in
@@ -228,8 +229,8 @@ last-none xs p at =
       is = rw (ap (passes (is char.hyphen)) e, append-nil xs) refl;
     }
 
-last-one : (xs : List ClassItem) (x : ClassItem) (p q : State) → Reads (Hyphen x) p q →
-    is_at char.closing_bracket q ≡ true → LastRead xs (x ∷ []) p q
+last-one : (xs : List ClassElement) (x : ClassElement) (p q : State) → Reads (Hyphen x) p q
+    → is_at char.closing_bracket q ≡ true → LastRead xs (x ∷ []) p q
 last-one xs x p q h at =
     let (hyphen, behind_it, read) = hyphen-read x p q h in
     record {
@@ -244,9 +245,9 @@ last-one xs x p q h at =
       is = rw (hyphen, read) refl;
     }
 
-again-last : (xs ys : List ClassItem) (p q : State) → Reads (Last ys) p q
-    → is_at char.closing_bracket q ≡ true →
-    LastRead xs ys p q
+again-last : (xs ys : List ClassElement) (p q : State) → Reads (Last ys) p q
+    → is_at char.closing_bracket q ≡ true
+    → LastRead xs ys p q
 again-last xs ys p q h at = elim h.is [
   | grammar.no_hyphen e g ↦
       (let same = reads-none p q (reads-is (Last ys) (word []) p q h g) in
@@ -257,8 +258,8 @@ again-last xs ys p q h at = elim h.is [
       (last-one xs x p q (reads-is (Last ys) (Hyphen x) p q h g) at)
 ]
 
-again-first : (x : ClassItem) (p q : State) → Reads (First x) p q → AfterElement q.rest →
-    first_at p ≡ took x q
+again-first : (x : ClassElement) (p q : State) → Reads (First x) p q → AfterElement q.rest
+    → first_at p ≡ took x q
 again-first x p q h after = elim h.is [
   | grammar.first_hyphen g ↦
       (let (hyphen, behind_it, read) = hyphen-read x p q (reads-is (First x) (Hyphen x) p q h g) in
@@ -270,9 +271,9 @@ again-first x p q h after = elim h.is [
       (again-element x p q element after))
 ]
 
-again-items : (zs : List ClassItem) (p q : State) → Reads (Items zs) p q
-    → is_at char.closing_bracket q ≡ true →
-    items_at p ≡ took zs q
+again-items : (zs : List ClassElement) (p q : State) → Reads (Elements zs) p q
+    → is_at char.closing_bracket q ≡ true
+    → items_at p ≡ took zs q
 unfolding items_at
 again-items zs p q h at =
     let x = h.is.first in
@@ -280,7 +281,7 @@ again-items zs p q h at =
     let ys = h.is.last in
     let parts =
     split (First x) (Each Element xs ⌢ Last ys) p q
-    (reads-is (Items zs) (First x ⌢ Each Element xs ⌢ Last ys) p q h h.is.is) in
+    (reads-is (Elements zs) (First x ⌢ Each Element xs ⌢ Last ys) p q h h.is.is) in
     let m = parts.middle in
     let tail = split (Each Element xs) (Last ys) m q parts.two in
     let r = tail.middle in
@@ -293,13 +294,13 @@ again-items zs p q h at =
     ) refl
 
 -- items before the end of the class, where the class begins at p
-class-rest : (b : Bool) (xs : List ClassItem) (p m r q : State) → expect char.opening_bracket p
-    ≡ took char.opening_bracket m →
-    negation_at m ≡ took b r → Reads (Items xs ⌢ word (codes "]")) r q →
-    class_at p ≡ took (class b xs) q
+class-rest : (b : Bool) (xs : List ClassElement) (p m r q : State) → expect char.opening_bracket p
+    ≡ took char.opening_bracket m
+    → negation_at m ≡ took b r → Reads (Elements xs ⌢ word (codes "]")) r q
+    → class_at p ≡ took (class b xs) q
 unfolding class_at
 class-rest b xs p m r q opening negation h =
-    let parts = split (Items xs) (word (codes "]")) r q h in
+    let parts = split (Elements xs) (word (codes "]")) r q h in
     rw (
       opening,
       negation,
@@ -309,8 +310,8 @@ class-rest b xs p m r q opening negation h =
     ) refl
 
 -- items that do not begin with `^` before a `]` do not stand at a `^`
-not-caret : (t : Text) (m r : State) → m.rest ≡ t ++ r.rest → first_of t ≢ Some char.caret →
-    is_at char.closing_bracket r ≡ true → is_at char.caret m ≡ false
+not-caret : (t : Text) (m r : State) → m.rest ≡ t ++ r.rest → first_of t ≢ Some char.caret
+    → is_at char.closing_bracket r ≡ true → is_at char.caret m ≡ false
 not-caret [] m r e begins at =
     ap (λ u. passes (is char.caret) (first_of u)) e
     ∙ ap (passes (is char.caret)) (head-is char.closing_bracket r at)
@@ -334,13 +335,13 @@ again-class x p q h = elim h.is [
       not-caret items.text m tail.middle items.way.rest items.is.begins
       (at-word char.closing_bracket [] tail.middle q tail.two) in
       class-rest false xs p m m q (again-expect char.opening_bracket p m parts.one) (rw none refl)
-      (reads-then (Items xs) (word (codes "]")) m tail.middle q
-      (reads-is (NotAtCaret xs) (Items xs) m tail.middle items items.is.is) tail.two)
+      (reads-then (Elements xs) (word (codes "]")) m tail.middle q
+      (reads-is (NotAtCaret xs) (Elements xs) m tail.middle items items.is.is) tail.two)
       ∙ ap (λ y. took y q) (sym e))
   | grammar.negated xs e g ↦
       (let parts =
-      split (word (codes "[^")) (Items xs ⌢ word (codes "]")) p q
-      (reads-is (Class x) (word (codes "[^") ⌢ Items xs ⌢ word (codes "]")) p q h g) in
+      split (word (codes "[^")) (Elements xs ⌢ word (codes "]")) p q
+      (reads-is (Class x) (word (codes "[^") ⌢ Elements xs ⌢ word (codes "]")) p q h g) in
       let prefix = split-word char.opening_bracket (codes "^") p parts.middle parts.one in
       let m = prefix.middle in
       class-rest true xs p m parts.middle q (again-expect char.opening_bracket p m prefix.one)

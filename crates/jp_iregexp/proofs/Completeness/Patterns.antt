@@ -7,21 +7,23 @@ use Rattle.jp_reading.specs.Characters as char
 use Rattle.jp_reading.specs.Texts.{Text}
 use Rattle.jp_reading.specs.Forms.{Form, ◌⌢◌, word, One, Each, Separated}
 use Rattle.jp_reading.specs.Outcome.{State, Outcome, took, stuck, deep, ◌>>=◌}
-use Rattle.jp_reading.specs.Outcome.{head, first_of, past, passes, is, is_at, each}
-use Rattle.jp_reading.specs.Views.{by}
+use Rattle.jp_reading.specs.Outcome.{head, past, passes, is, is_at, each}
+use Rattle.jp_reading.specs.Texts.{first_of}
+use Rattle.jp_reading.specs.Views.{outcome_map}
 use Rattle.jp_reading.proofs.Steps.{head-is, is-other, is_at-other}
 use Rattle.jp_reading.proofs.Between.{Reads, reads-is}
 use Rattle.jp_reading.proofs.Again.{Again, Starts, split, word-first, one-first, again-take_if}
 use Rattle.jp_reading.proofs.Again.{again-expect, again-each, again-separated, at-word, past-word}
 use Rattle.jp_reading.proofs.Loops.{round}
 use Rattle.jp_reading.proofs.Progress.{Keeps}
-use Rattle.jp_iregexp.specs.declared.class.ClassItem.{ClassItem}
-use Rattle.jp_iregexp.specs.Characters.{Character, itself, escaped, is_normal, is_escaped, meant}
+use Rattle.jp_iregexp.specs.declared.class.ClassElement.{ClassElement}
+use Rattle.jp_iregexp.specs.Characters.{PatternCharacter, itself, escaped, is_normal, is_escaped}
+use Rattle.jp_iregexp.specs.Characters.{meant}
 use Rattle.jp_iregexp.specs.Tree.{Tree, class, repeat, branches}
 use Rattle.jp_iregexp.specs.Grammar as grammar
-use Rattle.jp_iregexp.specs.Grammar.{ClassEscape, Items}
+use Rattle.jp_iregexp.specs.Grammar.{ClassEscape, Elements}
 use Rattle.jp_iregexp.specs.Grammar.{NotAtCaret, Class, Quantifier, one, dot}
-use Rattle.jp_iregexp.specs.Grammar.{Atom, Piece, Branch, Branches, Inside}
+use Rattle.jp_iregexp.specs.Grammar.{Atom, Piece, Branch, Branches, Grouped}
 use Rattle.jp_iregexp.specs.Private.Reading.{is_category_sign, escape_at, group_at, atom_at}
 use Rattle.jp_iregexp.specs.Private.Reading.{piece_at, branch_at, next_branch_at, branches_at}
 use Rattle.jp_iregexp.specs.Private.Reading.{inside_at, pattern_at, begins_piece, begins_quantifier}
@@ -61,8 +63,8 @@ record AfterBranches (t : Text) : Type 0 where
   branch : AfterBranch t
   bar : passes (is char.bar) (first_of t) ≡ false
 
-branch-quantifier : (o : Option ℕ) → passes begins_piece o ≡ false →
-    passes begins_quantifier o ≡ false
+branch-quantifier : (o : Option ℕ) → passes begins_piece o ≡ false
+    → passes begins_quantifier o ≡ false
 branch-quantifier None h = refl
 branch-quantifier (Some c) h =
     elim (cases_Bool (is char.bar c)) [
@@ -83,18 +85,18 @@ class-first x p q h = elim h.is [
       word-first char.opening_bracket [] p parts.middle parts.one)
   | grammar.negated xs e g ↦
       (let parts =
-      split (word (codes "[^")) (Items xs ⌢ word (codes "]")) p q
-      (reads-is (Class x) (word (codes "[^") ⌢ Items xs ⌢ word (codes "]")) p q h g) in
+      split (word (codes "[^")) (Elements xs ⌢ word (codes "]")) p q
+      (reads-is (Class x) (word (codes "[^") ⌢ Elements xs ⌢ word (codes "]")) p q h g) in
       word-first char.opening_bracket (codes "^") p parts.middle parts.one)
 ]
 
 -- branches as a list of one or more
-branches-round : (o : Outcome Tree) (f : State → Outcome (List Tree)) →
-    (o >>= λ x q. by (λ xs. branches (x ∷ xs)) (f q)) ≡ by branches (round o f)
+branches-round : (o : Outcome Tree) (f : State → Outcome (List Tree))
+    → (o >>= λ x q. outcome_map (λ xs. branches (x ∷ xs)) (f q)) ≡ outcome_map branches (round o f)
 branches-round (took x q) f = along (f q)
   where
-    along : (r : Outcome (List Tree)) →
-        by (λ xs. branches (x ∷ xs)) r ≡ by branches (r >>= λ xs q. took (x ∷ xs) q)
+    along : (r : Outcome (List Tree))
+        → outcome_map (λ xs. branches (x ∷ xs)) r ≡ outcome_map branches (r >>= λ xs q. took (x ∷ xs) q)
     along (took xs q) = refl
     along (stuck q) = refl
     along (deep q) = refl
@@ -103,8 +105,8 @@ branches-round (deep q) f = refl
 
 module _ (Group : Tree → Form) (inside : State → Outcome Tree)
     (again : (x : Tree) (p q : State) → Reads (Group x) p q → is_at char.closing_parenthesis q
-    ≡ true →
-    inside p ≡ took x q)
+    ≡ true
+    → inside p ≡ took x q)
     (keeps : (p : State) → Keeps p (inside p)) where
   -- an atom is read where it begins
   record AtomRead (x : Tree) (p q : State) : Type 0 where
@@ -134,17 +136,17 @@ module _ (Group : Tree → Form) (inside : State → Outcome Tree)
       }
 
   -- an atom that begins with a sign: neither a plain character nor a quantifier does
-  atom-sign : (sign : ℕ) (x : Tree) (p q : State) → head p ≡ Some sign →
-      begins_piece sign ≡ true → begins_quantifier sign ≡ false → atom_at inside p ≡ took x q →
-      AtomRead x p q
+  atom-sign : (sign : ℕ) (x : Tree) (p q : State) → head p ≡ Some sign
+      → begins_piece sign ≡ true → begins_quantifier sign ≡ false → atom_at inside p ≡ took x q
+      → AtomRead x p q
   atom-sign sign x p q at piece none is =
       record { first = sign; at = at; piece = piece; none = none; is = is }
 
   -- after a `\`
   atom-after_backslash : (x : Tree) (p q : State) → is_at char.backslash p ≡ true
       → escape_at (past p)
-      ≡ took x q →
-      AtomRead x p q
+      ≡ took x q
+      → AtomRead x p q
   unfolding atom_at
   atom-after_backslash x p q at read =
       let e = head-is char.backslash p at in
@@ -156,8 +158,8 @@ module _ (Group : Tree → Form) (inside : State → Outcome Tree)
         at,
       ) read)
 
-  atom-escaped : (c e : ℕ) (p q : State) → c ≡ meant e →
-      Reads (word (codes "\\") ⌢ One is_escaped e) p q → AtomRead (one c) p q
+  atom-escaped : (c e : ℕ) (p q : State) → c ≡ meant e
+      → Reads (word (codes "\\") ⌢ One is_escaped e) p q → AtomRead (one c) p q
   unfolding escape_at
   atom-escaped c e p q is_meant h =
       let parts = split (word (codes "\\")) (One is_escaped e) p q h in
@@ -171,8 +173,8 @@ module _ (Group : Tree → Form) (inside : State → Outcome Tree)
         is_meant,
       ) refl)
 
-  atom-category : (i : ClassItem) (p q : State) → Escaped i p q →
-      AtomRead (class false (i ∷ [])) p q
+  atom-category : (i : ClassElement) (p q : State) → Escaped i p q
+      → AtomRead (class false (i ∷ [])) p q
   unfolding escape_at
   atom-category i p q h = atom-after_backslash (class false (i ∷ [])) p q h.at
       (rw (h.sign, h.is) refl)
@@ -196,8 +198,8 @@ module _ (Group : Tree → Form) (inside : State → Outcome Tree)
       (rw (ap (passes (is char.opening_parenthesis)) e, ap (passes (is char.opening_bracket)) e)
       (again-class x p q h))
 
-  atom-group : (x : Tree) (p q : State) →
-      Reads (word (codes "(") ⌢ Group x ⌢ word (codes ")")) p q → AtomRead x p q
+  atom-group : (x : Tree) (p q : State)
+      → Reads (word (codes "(") ⌢ Group x ⌢ word (codes ")")) p q → AtomRead x p q
   unfolding atom_at group_at
   atom-group x p q h =
       let parts = split (word (codes "(")) (Group x ⌢ word (codes ")")) p q h in
@@ -217,7 +219,7 @@ module _ (Group : Tree → Form) (inside : State → Outcome Tree)
   again-atom x p q h = elim h.is [
     | grammar.character c e g ↦
         subst (λ y. AtomRead y p q) (sym e)
-        (character-read c (reads-is (Atom Group x) (Character is_normal c) p q h g))
+        (character-read c (reads-is (Atom Group x) (PatternCharacter is_normal c) p q h g))
     | grammar.anything e g ↦
         subst (λ y. AtomRead y p q) (sym e)
         (atom-dot p q (reads-is (Atom Group x) (word (codes ".")) p q h g))
@@ -233,21 +235,21 @@ module _ (Group : Tree → Form) (inside : State → Outcome Tree)
         (reads-is (Atom Group x) (word (codes "(") ⌢ Group x ⌢ word (codes ")")) p q h g)
   ]
     where
-      character-read : (c : ℕ) → Reads (Character is_normal c) p q → AtomRead (one c) p q
+      character-read : (c : ℕ) → Reads (PatternCharacter is_normal c) p q → AtomRead (one c) p q
       character-read c g = elim g.is [
-        | itself k ↦ atom-normal c p q (reads-is (Character is_normal c) (One is_normal c) p q g k)
+        | itself k ↦ atom-normal c p q (reads-is (PatternCharacter is_normal c) (One is_normal c) p q g k)
         | escaped e is k ↦
             atom-escaped c e p q is
-            (reads-is (Character is_normal c) (word (codes "\\") ⌢ One is_escaped e) p q g k)
+            (reads-is (PatternCharacter is_normal c) (word (codes "\\") ⌢ One is_escaped e) p q g k)
       ]
 
-  piece-once : (x : Tree) (p q : State) → AtomRead x p q → AfterPiece q.rest →
-      piece_at inside p ≡ took x q
+  piece-once : (x : Tree) (p q : State) → AtomRead x p q → AfterPiece q.rest
+      → piece_at inside p ≡ took x q
   unfolding piece_at
   piece-once x p q h after = rw (h.is, after.none) refl
 
-  piece-repeated : (a : Tree) (least : ℕ) (most : Option ℕ) (p m q : State) → AtomRead a p m →
-      QuantifierRead least most m q → piece_at inside p ≡ took (repeat a least most) q
+  piece-repeated : (a : Tree) (least : ℕ) (most : Option ℕ) (p m q : State) → AtomRead a p m
+      → QuantifierRead least most m q → piece_at inside p ≡ took (repeat a least most) q
   unfolding piece_at
   piece-repeated a least most p m q h k = rw (h.is, k.begins, k.is) refl
 
@@ -264,8 +266,8 @@ module _ (Group : Tree → Form) (inside : State → Outcome Tree)
         ∙ ap (λ y. took y q) (sym e))
   ]
 
-  atom-starts : (x : Tree) (p q : State) → AtomRead x p q →
-      (passes begins_piece (head p) ≡ true) × AfterPiece p.rest
+  atom-starts : (x : Tree) (p q : State) → AtomRead x p q
+      → (passes begins_piece (head p) ≡ true) × AfterPiece p.rest
   atom-starts x p q h = (
     ap (passes begins_piece) h.at ∙ h.piece,
     record { none = ap (passes begins_quantifier) h.at ∙ h.none },
@@ -314,7 +316,7 @@ module _ (Group : Tree → Form) (inside : State → Outcome Tree)
   again-branches x p q h after =
       let parts = h.is.parts in
       branches-round (branch_at inside p) (each (is_at char.bar) (next_branch_at inside))
-      ∙ ap (by branches)
+      ∙ ap (outcome_map branches)
       (again-separated (word (codes "|")) (Branch Group) AfterBranch (is_at char.bar)
       (branch_at inside) (next_branch_at inside) (moves-next_branch inside keeps) again-branch
       again-next_branch starts-next_branch parts p q
@@ -322,22 +324,22 @@ module _ (Group : Tree → Form) (inside : State → Outcome Tree)
       h.is.is) after.bar after.branch)
       ∙ ap (λ y. took y q) (sym h.is.tree)
 
-again-inside : (n : ℕ) (x : Tree) (p q : State) → Reads (Inside n x) p q
-    → is_at char.closing_parenthesis q ≡ true →
-    inside_at n p ≡ took x q
+again-inside : (n : ℕ) (x : Tree) (p q : State) → Reads (Grouped n x) p q
+    → is_at char.closing_parenthesis q ≡ true
+    → inside_at n p ≡ took x q
 unfolding inside_at
 again-inside zero x p q h at = elim h.is [ ]
 again-inside (suc n) x p q h at =
     let e = head-is char.closing_parenthesis q at in
-    again-branches (Inside n) (inside_at n) (again-inside n) (keeps-inside n) x p q h
+    again-branches (Grouped n) (inside_at n) (again-inside n) (keeps-inside n) x p q h
     (record {
       branch = record { none = ap (passes begins_piece) e };
       bar = ap (passes (is char.bar)) e;
     })
 
 -- a whole pattern
-pub again-pattern : (n : ℕ) (x : Tree) (p q : State) → Reads (Branches (Inside n) x) p q →
-    q.rest ≡ [] → pattern_at n p ≡ took x q
+pub again-pattern : (n : ℕ) (x : Tree) (p q : State) → Reads (Branches (Grouped n) x) p q
+    → q.rest ≡ [] → pattern_at n p ≡ took x q
 unfolding pattern_at
 again-pattern n x p q h e =
     let after : AfterBranches q.rest = record {
@@ -345,6 +347,6 @@ again-pattern n x p q h e =
       bar = ap (λ t. passes (is char.bar) (first_of t)) e;
     } in
     rw (
-      again-branches (Inside n) (inside_at n) (again-inside n) (keeps-inside n) x p q h after,
+      again-branches (Grouped n) (inside_at n) (again-inside n) (keeps-inside n) x p q h after,
       ap (λ (t : Text). length t == 0) e,
     ) refl

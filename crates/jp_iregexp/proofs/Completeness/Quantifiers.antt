@@ -5,7 +5,8 @@ use Rattle.std.specs.Prelude.{codes}
 use Rattle.std.proofs.lemmas.Bool.Decides.{nat_tests}
 use Rattle.jp_reading.specs.Characters as char
 use Rattle.jp_reading.specs.Forms.{◌⌢◌, word}
-use Rattle.jp_reading.specs.Numbers.{Digits, is_at_digit, is_digit, capped}
+use Rattle.jp_reading.specs.Numbers.{Digits, is_digit}
+use Rattle.jp_reading.specs.NumberReading.{is_at_digit, capped}
 use Rattle.jp_reading.specs.Outcome.{State, took, head, passes, is, is_at}
 use Rattle.jp_reading.proofs.Steps.{head-is, is-other}
 use Rattle.jp_reading.proofs.Between.{Reads, reads-is}
@@ -13,28 +14,28 @@ use Rattle.jp_reading.proofs.Digits.{capped-is_min}
 use Rattle.jp_reading.proofs.Again.{split, reads-none, word-first, again-expect, at-word, past-word}
 use Rattle.jp_reading.proofs.Runs.{again-digits, digits-first}
 use Rattle.jp_iregexp.specs.Grammar as grammar
-use Rattle.jp_iregexp.specs.Grammar.{Number, Most, Quantifier, one}
+use Rattle.jp_iregexp.specs.Grammar.{QuantExact, Most, Quantifier, one}
 use Rattle.jp_iregexp.specs.Private.Reading.{number_at, most_at, braces_at}
 use Rattle.jp_iregexp.specs.Private.Reading.{quantifier_at, begins_quantifier}
 
-digit-off : (c : ℕ) (o : Option ℕ) → passes is_digit o ≡ true → is_digit c ≡ false →
-    passes (is c) o ≡ false
+digit-off : (c : ℕ) (o : Option ℕ) → passes is_digit o ≡ true → is_digit c ≡ false
+    → passes (is c) o ≡ false
 digit-off c None h e = refl
 digit-off c (Some d) h e = is-other is_digit d c h e
 
-again-number : (n : ℕ) (p q : State) → Reads (Number n) p q → is_at_digit q ≡ false →
-    number_at p ≡ took n q
+again-number : (n : ℕ) (p q : State) → Reads (QuantExact n) p q → is_at_digit q ≡ false
+    → number_at p ≡ took n q
 unfolding number_at
 again-number n p q h ends =
     let ds = h.is.digits in
     let least = capped-is_min 1000000000 0 ds (omega arith) in
     let value : capped 1000000000 0 ds ≡ n = omega (arith, h.is.value, h.is.small, least) in
     let low : nat_lt 999999999 n ≡ false = (let small = h.is.small in grind (arith, nat_tests)) in
-    rw (again-digits ds p q (reads-is (Number n) (Digits ds) p q h h.is.is) ends, value, low) refl
+    rw (again-digits ds p q (reads-is (QuantExact n) (Digits ds) p q h h.is.is) ends, value, low) refl
 
-number-first : (n : ℕ) (p q : State) → Reads (Number n) p q → is_at_digit p ≡ true
+number-first : (n : ℕ) (p q : State) → Reads (QuantExact n) p q → is_at_digit p ≡ true
 number-first n p q h =
-    digits-first h.is.digits p q (reads-is (Number n) (Digits h.is.digits) p q h h.is.is)
+    digits-first h.is.digits p q (reads-is (QuantExact n) (Digits h.is.digits) p q h h.is.is)
 
 -- what stands between a least number and its closing brace
 record MostRead (n : ℕ) (m : Option ℕ) (p q : State) : Type 0 where
@@ -50,8 +51,7 @@ most-exactly n p at = record {
 }
 
 most-from : (n : ℕ) (p q : State) → Reads (word (codes ",")) p q → is_at char.closing_brace q ≡ true
-    →
-    MostRead n None p q
+    → MostRead n None p q
 unfolding most_at is_digit
 most-from n p q h at =
     let e = word-first char.comma [] p q h in
@@ -60,11 +60,11 @@ most-from n p q h at =
       is = rw (ap (passes (is char.closing_brace)) e, again-expect char.comma p q h, at) refl;
     }
 
-most-to : (n k : ℕ) (p q : State) → n ≤ k → Reads (word (codes ",") ⌢ Number k) p q →
-    is_at char.closing_brace q ≡ true → MostRead n (Some k) p q
+most-to : (n k : ℕ) (p q : State) → n ≤ k → Reads (word (codes ",") ⌢ QuantExact k) p q
+    → is_at char.closing_brace q ≡ true → MostRead n (Some k) p q
 unfolding most_at is_digit
 most-to n k p q order h at =
-    let parts = split (word (codes ",")) (Number k) p q h in
+    let parts = split (word (codes ",")) (QuantExact k) p q h in
     let m = parts.middle in
     let e = word-first char.comma [] p m parts.one in
     let low : nat_lt k n ≡ false = grind (arith, nat_tests) in
@@ -80,8 +80,8 @@ most-to n k p q order h at =
     }
 
 again-most : (n : ℕ) (m : Option ℕ) (p q : State) → Reads (Most n m) p q
-    → is_at char.closing_brace q ≡ true →
-    MostRead n m p q
+    → is_at char.closing_brace q ≡ true
+    → MostRead n m p q
 again-most n m p q h at = elim h.is [
   | grammar.exactly e g ↦
       (let same = reads-none p q (reads-is (Most n m) (word []) p q h g) in
@@ -92,7 +92,7 @@ again-most n m p q h at = elim h.is [
       (most-from n p q (reads-is (Most n m) (word (codes ",")) p q h g) at)
   | grammar.to k e order g ↦
       subst (λ l. MostRead n l p q) (sym e)
-      (most-to n k p q order (reads-is (Most n m) (word (codes ",") ⌢ Number k) p q h g) at)
+      (most-to n k p q order (reads-is (Most n m) (word (codes ",") ⌢ QuantExact k) p q h g) at)
 ]
 
 -- a quantifier is read where it begins
@@ -137,13 +137,13 @@ quantifier-optional p q h =
           ) refl;
     }
 
-quantifier-braces : (n : ℕ) (m : Option ℕ) (p q : State) →
-    Reads (word (codes "{") ⌢ Number n ⌢ Most n m ⌢ word (codes "}")) p q → QuantifierRead n m p q
+quantifier-braces : (n : ℕ) (m : Option ℕ) (p q : State)
+    → Reads (word (codes "{") ⌢ QuantExact n ⌢ Most n m ⌢ word (codes "}")) p q → QuantifierRead n m p q
 unfolding quantifier_at braces_at
 quantifier-braces n m p q h =
-    let parts = split (word (codes "{")) (Number n ⌢ Most n m ⌢ word (codes "}")) p q h in
+    let parts = split (word (codes "{")) (QuantExact n ⌢ Most n m ⌢ word (codes "}")) p q h in
     let a = parts.middle in
-    let numbers = split (Number n) (Most n m ⌢ word (codes "}")) a q parts.two in
+    let numbers = split (QuantExact n) (Most n m ⌢ word (codes "}")) a q parts.two in
     let b = numbers.middle in
     let ends = split (Most n m) (word (codes "}")) b q numbers.two in
     let c = ends.middle in
@@ -162,8 +162,8 @@ quantifier-braces n m p q h =
       ) refl;
     }
 
-pub again-quantifier : (least : ℕ) (most : Option ℕ) (p q : State) →
-    Reads (Quantifier least most) p q → QuantifierRead least most p q
+pub again-quantifier : (least : ℕ) (most : Option ℕ) (p q : State)
+    → Reads (Quantifier least most) p q → QuantifierRead least most p q
 again-quantifier least most p q h = elim h.is [
   | grammar.any e f g ↦
       rw (e, f) (quantifier-any p q (reads-is (Quantifier least most) (word (codes "*")) p q h g))
@@ -175,5 +175,5 @@ again-quantifier least most p q h = elim h.is [
   | grammar.braces g ↦
       quantifier-braces least most p q
       (reads-is (Quantifier least most)
-      (word (codes "{") ⌢ Number least ⌢ Most least most ⌢ word (codes "}")) p q h g)
+      (word (codes "{") ⌢ QuantExact least ⌢ Most least most ⌢ word (codes "}")) p q h g)
 ]

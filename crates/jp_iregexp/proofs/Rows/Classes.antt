@@ -2,8 +2,8 @@
 use Rattle.std.proofs.Common.{◌≡◌, true, false, [], ◌∷◌, refl}
 use Rattle.jp_reading.specs.Characters as char
 use Rattle.jp_iregexp.specs.Category.{stands_for}
-use Rattle.jp_iregexp.specs.Class.{class_holds, item_holds}
-use Rattle.jp_iregexp.specs.declared.class.ClassItem.TheVariants.{Range}
+use Rattle.jp_iregexp.specs.Class.{class_holds, element_holds}
+use Rattle.jp_iregexp.specs.declared.class.ClassElement.TheVariants.{Range}
 use Rattle.jp_iregexp.specs.declared.category.Category.TheVariants.{L, Lu}
 use Rattle.unicode.specs.declared.properties.GeneralCategory.TheVariants.{UppercaseLetter}
 use Rattle.unicode.specs.declared.properties.GeneralCategory.TheVariants.{LowercaseLetter}
@@ -16,10 +16,10 @@ ranges : (class_holds false (Range char.letter_a char.letter_c ∷ []) char.lett
     (class_holds false (Range char.letter_a char.letter_c ∷ []) char.letter_c ≡ true) ×
     (class_holds false (Range char.letter_a char.letter_c ∷ []) char.letter_d ≡ false) ×
     (class_holds false (Range char.letter_c char.letter_a ∷ []) char.letter_b ≡ false)
-unfolding class_holds item_holds
+unfolding class_holds element_holds
 ranges = (refl, refl, refl, refl)
 
--- the class of no items holds nothing, and its negation all
+-- the class of no elements holds nothing, and its negation all
 no_items : (class_holds false [] char.letter_a ≡ false) × (class_holds true [] char.letter_a ≡ true)
 unfolding class_holds
 no_items = (refl, refl)
@@ -29,7 +29,7 @@ dots : (class_holds true (Range char.line_feed char.line_feed ∷ Range char.car
     char.carriage_return ∷ []) 0x85 ≡ true) ×
     (class_holds true (Range char.line_feed char.line_feed ∷ Range char.carriage_return
     char.carriage_return ∷ []) char.line_feed ≡ false)
-unfolding class_holds item_holds
+unfolding class_holds element_holds
 dots = (refl, refl)
 
 -- `Lu` stands for one general category, `L` for all that begin with that letter

@@ -3,7 +3,7 @@ use Rattle.std.proofs.Common.{◌≡◌, true, [], ◌∷◌, Some, None, refl}
 use Rattle.std.specs.Prelude.{codes}
 use Rattle.jp_reading.specs.Characters as char
 use Rattle.jp_reading.specs.Outcome.{loop}
-use Rattle.jp_iregexp.specs.declared.class.ClassItem.TheVariants.{Range}
+use Rattle.jp_iregexp.specs.declared.class.ClassElement.TheVariants.{Range}
 use Rattle.jp_iregexp.specs.Characters.{is_plain}
 use Rattle.jp_iregexp.specs.PatternOf.{pattern_of}
 use Rattle.jp_iregexp.specs.Private.Reading.{pattern_at, branches_at, branch_at, piece_at, atom_at}

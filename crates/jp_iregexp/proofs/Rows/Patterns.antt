@@ -4,10 +4,11 @@ use Rattle.std.specs.Prelude.{codes}
 use Rattle.jp_reading.specs.Characters as char
 use Rattle.jp_reading.specs.Texts.{Text}
 use Rattle.jp_reading.specs.Outcome.{loop, took}
-use Rattle.jp_reading.specs.Numbers.{digits_at, is_digit}
+use Rattle.jp_reading.specs.Numbers.{is_digit}
+use Rattle.jp_reading.specs.NumberReading.{digits_at}
 use Rattle.jp_reading.proofs.Again.{start, finish}
 use Rattle.jp_iregexp.specs.declared.category.Category.TheVariants.{Lu}
-use Rattle.jp_iregexp.specs.declared.class.ClassItem.TheVariants as item
+use Rattle.jp_iregexp.specs.declared.class.ClassElement.TheVariants as item
 use Rattle.jp_iregexp.specs.Characters.{is_normal, is_plain, is_escaped, meant}
 use Rattle.jp_iregexp.specs.Codes.{letters}
 use Rattle.jp_iregexp.specs.Private.CodeReading.{code_of}
@@ -26,8 +27,8 @@ abbrev branch : List Tree → Tree
 branch xs = branches (pieces xs ∷ [])
 
 -- a text that is read spells what is read
-spells : (n : ℕ) (x : Tree) (t : Text) → pattern_at n (start t) ≡ took x (finish t []) →
-    SpellsPattern n x t
+spells : (n : ℕ) (x : Tree) (t : Text) → pattern_at n (start t) ≡ took x (finish t [])
+    → SpellsPattern n x t
 spells n x t is = read-spelt n x t (finish t []) is
 
 -- `a|` spells two branches, the second one empty; the empty text one empty branch; `[a-]` the

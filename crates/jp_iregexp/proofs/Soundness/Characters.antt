@@ -10,13 +10,14 @@ use Rattle.jp_reading.specs.Characters as char
 use Rattle.jp_reading.specs.Texts.{Text}
 use Rattle.jp_reading.specs.Forms.{◌⌢◌, word, One}
 use Rattle.jp_reading.specs.Outcome.{State, took, past, passes, is, is_at, take_if, expect}
-use Rattle.jp_reading.specs.Views.{by}
+use Rattle.jp_reading.specs.Views.{outcome_map}
 use Rattle.jp_reading.proofs.Between.{Reads, reads-then, reads-as}
-use Rattle.jp_reading.proofs.Fits.{reads-words, reads-next, Fits, fits-then, fits-if, fits-by}
+use Rattle.jp_reading.proofs.Fits.{reads-words, reads-next, Fits, fits-then, fits-if, fits-map}
 use Rattle.jp_reading.proofs.Fits.{fits-as, reads-nothing, fits-take_if, fits-expect}
 use Rattle.jp_iregexp.specs.declared.category.Category.{Category}
-use Rattle.jp_iregexp.specs.declared.class.ClassItem.TheVariants as item
-use Rattle.jp_iregexp.specs.Characters.{Character, itself, escaped, is_plain, is_escaped, meant}
+use Rattle.jp_iregexp.specs.declared.class.ClassElement.TheVariants as item
+use Rattle.jp_iregexp.specs.Characters.{PatternCharacter, itself, escaped, is_plain, is_escaped}
+use Rattle.jp_iregexp.specs.Characters.{meant}
 use Rattle.jp_iregexp.specs.Codes.{letters}
 use Rattle.jp_iregexp.specs.Private.CodeReading.{pair, code_of}
 use Rattle.jp_iregexp.specs.Grammar as grammar
@@ -26,23 +27,23 @@ use Rattle.jp_iregexp.specs.Private.Reading.{there, escaped_at, character_at, is
 use Rattle.jp_iregexp.specs.Private.Reading.{second_at, code_at, category_at}
 use Rattle.jp_iregexp.proofs.CategoryCodes.{code_of-letters}
 
-pub fits-escaped : (plain : ℕ → Bool) (p q : State) → Reads (word (codes "\\")) p q →
-    Fits (Character plain) p (escaped_at q)
+pub fits-escaped : (plain : ℕ → Bool) (p q : State) → Reads (word (codes "\\")) p q
+    → Fits (PatternCharacter plain) p (escaped_at q)
 unfolding escaped_at
 fits-escaped plain p q beyond =
-    fits-then (One is_escaped) (Character plain) p q (take_if is_escaped q)
+    fits-then (One is_escaped) (PatternCharacter plain) p q (take_if is_escaped q)
     (λ e r. took (meant e) r) (fits-take_if is_escaped q)
-    (λ e r h. reads-as (word (codes "\\") ⌢ One is_escaped e) (Character plain (meant e)) p r
+    (λ e r h. reads-as (word (codes "\\") ⌢ One is_escaped e) (PatternCharacter plain (meant e)) p r
     (λ s o t k. escaped e refl k)
     (reads-then (word (codes "\\")) (One is_escaped e) p q r beyond h))
 
-pub fits-character : (p : State) → Fits (Character is_plain) p (character_at p)
+pub fits-character : (p : State) → Fits (PatternCharacter is_plain) p (character_at p)
 unfolding character_at
 fits-character p =
-    fits-if (Character is_plain) (is_at char.backslash p) p (escaped_at (past p))
+    fits-if (PatternCharacter is_plain) (is_at char.backslash p) p (escaped_at (past p))
     (take_if is_plain p)
     (λ h. fits-escaped is_plain p (past p) (reads-next char.backslash p h))
-    (λ h. fits-as (One is_plain) (Character is_plain) p (take_if is_plain p) (λ c s o t k. itself k)
+    (λ h. fits-as (One is_plain) (PatternCharacter is_plain) p (take_if is_plain p) (λ c s o t k. itself k)
     (fits-take_if is_plain p))
 
 -- the second letter of a code, where there is one
@@ -53,9 +54,9 @@ second (Some b) = b ∷ []
 fits-second : (p : State) → Fits (λ b. word (second b)) p (second_at p)
 fits-second p =
     fits-if (λ b. word (second b)) (is_at char.closing_brace p) p (took None p)
-    (by Some (take_if is_ascii_alphabetic p))
+    (outcome_map Some (take_if is_ascii_alphabetic p))
     (λ h. reads-nothing p)
-    (λ h. fits-by Some (One is_ascii_alphabetic) (λ b. word (second b)) p p
+    (λ h. fits-map Some (One is_ascii_alphabetic) (λ b. word (second b)) p p
     (take_if is_ascii_alphabetic p) (fits-take_if is_ascii_alphabetic p)
     (λ b r k. reads-as (One is_ascii_alphabetic b) (word (b ∷ [])) p r (λ s o t g. record {
       none = g.none;
@@ -80,16 +81,16 @@ fits-code p =
       is = g.is;
     }) one) two)))
   where
-    found : (a : ℕ) (b : Option ℕ) (p r : State) (o : Option Category) → code_of a b ≡ o →
-        Reads (word (a ∷ [] ++ second b)) p r → Fits (λ k. word (letters k)) p (there o r)
+    found : (a : ℕ) (b : Option ℕ) (p r : State) (o : Option Category) → code_of a b ≡ o
+        → Reads (word (a ∷ [] ++ second b)) p r → Fits (λ k. word (letters k)) p (there o r)
     found a b p r None e h = tt
     found a b p r (Some k) e h = rw (code_of-letters a b k e, pair-second a b) h
 
 sign-is : (c : ℕ) → is_category_sign c ≡ true → is char.capital_p c ≡ false → c ≡ char.letter_p
 sign-is c h e = grind (arith, nat_tests)
 
-pub fits-category : (p q : State) → Reads (word (codes "\\")) p q →
-    Fits ClassEscape p (category_at q)
+pub fits-category : (p q : State) → Reads (word (codes "\\")) p q
+    → Fits ClassEscape p (category_at q)
 unfolding category_at
 fits-category p q beyond =
     fits-then (One is_category_sign) ClassEscape p q (take_if is_category_sign q) _
@@ -104,9 +105,9 @@ fits-category p q beyond =
     (λ y q4 last. escape c k p q1 q2 q3 q4 (sign_of c p q q1 beyond sign).0
     (sign_of c p q q1 beyond sign).1 brace code last))))
   where
-    sign_of : (c : ℕ) (p q q1 : State) → Reads (word (codes "\\")) p q →
-        Reads (One is_category_sign c) q q1 →
-        (is_category_sign c ≡ true) × Reads (word (char.backslash ∷ c ∷ [])) p q1
+    sign_of : (c : ℕ) (p q q1 : State) → Reads (word (codes "\\")) p q
+        → Reads (One is_category_sign c) q q1
+        → (is_category_sign c ≡ true) × Reads (word (char.backslash ∷ c ∷ [])) p q1
     sign_of c p q q1 h g = (
       g.is.passes,
       reads-words (char.backslash ∷ []) (c ∷ []) p q q1 h
@@ -116,10 +117,10 @@ fits-category p q beyond =
           }) g),
     )
 
-    escape : (c : ℕ) (k : Category) (p q1 q2 q3 q4 : State) → is_category_sign c ≡ true →
-        Reads (word (char.backslash ∷ c ∷ [])) p q1 → Reads (word (codes "{")) q1 q2 →
-        Reads (word (letters k)) q2 q3 → Reads (word (codes "}")) q3 q4 →
-        Reads (ClassEscape (item.Category k (is char.capital_p c))) p q4
+    escape : (c : ℕ) (k : Category) (p q1 q2 q3 q4 : State) → is_category_sign c ≡ true
+        → Reads (word (char.backslash ∷ c ∷ [])) p q1 → Reads (word (codes "{")) q1 q2
+        → Reads (word (letters k)) q2 q3 → Reads (word (codes "}")) q3 q4
+        → Reads (ClassEscape (item.Category k (is char.capital_p c))) p q4
     escape c k p q1 q2 q3 q4 passes sign brace code last =
         elim (cases_Bool (is char.capital_p c)) [
           | inl h ↦

@@ -8,18 +8,19 @@ use Rattle.std.proofs.lemmas.Bool.Decides.{nat_tests}
 use Rattle.jp_reading.specs.Characters as char
 use Rattle.jp_reading.specs.Texts.{Text, Spans}
 use Rattle.jp_reading.specs.Forms.{◌⌢◌, word, Each}
-use Rattle.jp_reading.specs.Outcome.{State, took, stuck, ◌>>=◌, head, first_of}
+use Rattle.jp_reading.specs.Outcome.{State, took, stuck, ◌>>=◌, head}
+use Rattle.jp_reading.specs.Texts.{first_of}
 use Rattle.jp_reading.specs.Outcome.{past, passes, is, is_at, expect}
-use Rattle.jp_reading.specs.Views.{by, with_prefix}
+use Rattle.jp_reading.specs.Views.{outcome_map, with_prefix}
 use Rattle.jp_reading.proofs.Between.{Reads, reads-then, reads-as}
 use Rattle.jp_reading.proofs.Fits.{reads-words, reads-next, Fits, fits-then, fits-if}
-use Rattle.jp_reading.proofs.Fits.{fits-by, fits-as, reads-nothing, fits-expect, fits-each}
-use Rattle.jp_iregexp.specs.declared.class.ClassItem.{ClassItem}
-use Rattle.jp_iregexp.specs.declared.class.ClassItem.TheVariants as item
-use Rattle.jp_iregexp.specs.Characters.{Character, is_plain}
+use Rattle.jp_reading.proofs.Fits.{fits-map, fits-as, reads-nothing, fits-expect, fits-each}
+use Rattle.jp_iregexp.specs.declared.class.ClassElement.{ClassElement}
+use Rattle.jp_iregexp.specs.declared.class.ClassElement.TheVariants as item
+use Rattle.jp_iregexp.specs.Characters.{PatternCharacter, is_plain}
 use Rattle.jp_iregexp.specs.Tree.{class}
 use Rattle.jp_iregexp.specs.Grammar as grammar
-use Rattle.jp_iregexp.specs.Grammar.{ClassEscape, Hyphen, Element, First, Last, Items}
+use Rattle.jp_iregexp.specs.Grammar.{ClassEscape, Hyphen, Element, First, Last, Elements}
 use Rattle.jp_iregexp.specs.Grammar.{NotAtCaret, Class, one}
 use Rattle.jp_iregexp.specs.Private.Reading.{character_at, is_category_sign, category_at}
 use Rattle.jp_iregexp.specs.Private.Reading.{is_at_category, range_at, element_at}
@@ -27,23 +28,23 @@ use Rattle.jp_iregexp.specs.Private.Reading.{begins_element, elements_at, hyphen
 use Rattle.jp_iregexp.specs.Private.Reading.{first_at, last_at, items_at, class_at}
 use Rattle.jp_iregexp.proofs.Soundness.Characters.{fits-character, fits-category}
 
-fits-range : (c : ℕ) (p q : State) → Reads (Character is_plain c) p q →
-    Fits Element p (range_at c q)
+fits-range : (c : ℕ) (p q : State) → Reads (PatternCharacter is_plain c) p q
+    → Fits Element p (range_at c q)
 unfolding range_at
 fits-range c p q first =
     fits-if Element (is_at char.hyphen q && not (is_at char.closing_bracket (past q))) p _
     (took (item.Range c c) q)
     (λ h. let beyond = reads-next char.hyphen q
     (and_parts (is_at char.hyphen q) (not (is_at char.closing_bracket (past q))) h).0 in
-    fits-then (Character is_plain) Element p (past q) (character_at (past q)) _
+    fits-then (PatternCharacter is_plain) Element p (past q) (character_at (past q)) _
     (fits-character (past q))
     (λ d r two. fits-if Element (nat_lt d c) p (stuck r) (took (item.Range c d) r) (λ less. tt)
-    (λ more. reads-as (Character is_plain c ⌢ word (codes "-") ⌢ Character is_plain d)
+    (λ more. reads-as (PatternCharacter is_plain c ⌢ word (codes "-") ⌢ PatternCharacter is_plain d)
     (Element (item.Range c d)) p r
     (λ s o t g. grammar.range c d refl (grind (arith, nat_tests)) g)
-    (reads-then (Character is_plain c) (word (codes "-") ⌢ Character is_plain d) p q r first
-    (reads-then (word (codes "-")) (Character is_plain d) q (past q) r beyond two)))))
-    (λ h. reads-as (Character is_plain c) (Element (item.Range c c)) p q
+    (reads-then (PatternCharacter is_plain c) (word (codes "-") ⌢ PatternCharacter is_plain d) p q r first
+    (reads-then (word (codes "-")) (PatternCharacter is_plain d) q (past q) r beyond two)))))
+    (λ h. reads-as (PatternCharacter is_plain c) (Element (item.Range c c)) p q
     (λ s o t g. grammar.single c refl g) first)
 
 fits-element : (p : State) → Fits Element p (element_at p)
@@ -55,7 +56,7 @@ fits-element p =
     (fits-category p (past p)
     (reads-next char.backslash p (and_parts (is_at char.backslash p)
     (passes is_category_sign (head (past p))) h).0)))
-    (λ h. fits-then (Character is_plain) Element p p (character_at p) (λ c q. range_at c q)
+    (λ h. fits-then (PatternCharacter is_plain) Element p p (character_at p) (λ c q. range_at c q)
     (fits-character p) (λ c q one. fits-range c p q one))
 
 fits-hyphen : (p : State) → Fits Hyphen p (hyphen_at p)
@@ -76,30 +77,30 @@ fits-first p =
     (λ h. fits-as Element First p (element_at p) (λ x s o t g. grammar.first_element g)
     (fits-element p))
 
--- the items of a class, part by part
-reads-items : (zs : List ClassItem) (x : ClassItem) (xs ys : List ClassItem) (p q r u : State) →
-    zs ≡ x ∷ (xs ++ ys) → Reads (First x) p q → Reads (Each Element xs) q r → Reads (Last ys) r u →
-    Reads (Items zs) p u
+-- the elements of a class, part by part
+reads-items : (zs : List ClassElement) (x : ClassElement) (xs ys : List ClassElement) (p q r u : State)
+    → zs ≡ x ∷ (xs ++ ys) → Reads (First x) p q → Reads (Each Element xs) q r → Reads (Last ys) r u
+    → Reads (Elements zs) p u
 reads-items zs x xs ys p q r u e a b c =
-    reads-as (First x ⌢ Each Element xs ⌢ Last ys) (Items zs) p u
+    reads-as (First x ⌢ Each Element xs ⌢ Last ys) (Elements zs) p u
     (λ s o t g. record { first = x; others = xs; last = ys; are = e; is = g })
     (reads-then (First x) (Each Element xs ⌢ Last ys) p q u a
     (reads-then (Each Element xs) (Last ys) q r u b c))
 
 -- items after a first one
-record AfterFirst (x : ClassItem) (zs : List ClassItem) (s : Spans) (o : ℕ) (t : Text) : Type 0
+record AfterFirst (x : ClassElement) (zs : List ClassElement) (s : Spans) (o : ℕ) (t : Text) : Type 0
   where
-    others : List ClassItem
+    others : List ClassElement
     are : zs ≡ x ∷ others
     is : Each Element others s o t
 
-fits-items : (p : State) → Fits Items p (items_at p)
+fits-items : (p : State) → Fits Elements p (items_at p)
 unfolding items_at
 fits-items p =
-    fits-then First Items p p (first_at p) _ (fits-first p)
-    (λ x q a. fits-then (AfterFirst x) Items p q (with_prefix (x ∷ []) (elements_at q))
+    fits-then First Elements p p (first_at p) _ (fits-first p)
+    (λ x q a. fits-then (AfterFirst x) Elements p q (with_prefix (x ∷ []) (elements_at q))
     (λ zs r. last_at zs r)
-    (fits-by (λ xs. x ∷ xs) (Each Element) (AfterFirst x) q q (elements_at q)
+    (fits-map (λ xs. x ∷ xs) (Each Element) (AfterFirst x) q q (elements_at q)
     (fits-each Element (λ m. passes begins_element (head m)) element_at fits-element q)
     (λ xs r h. reads-as (Each Element xs) (AfterFirst x (x ∷ xs)) q r (λ s o t g. record {
       others = xs;
@@ -109,8 +110,8 @@ fits-items p =
     (λ zs r b. (let xs = b.is.others in
     let each : Reads (Each Element xs) q r =
     record { spans = b.spans; text = b.text; way = b.way; is = b.is.is } in
-    fits-if Items (is_at char.hyphen r) p (by (λ y. zs ++ y ∷ []) (hyphen_at r)) (took zs r)
-    (λ h. fits-by (λ y. zs ++ y ∷ []) Hyphen Items p r (hyphen_at r) (fits-hyphen r)
+    fits-if Elements (is_at char.hyphen r) p (outcome_map (λ y. zs ++ y ∷ []) (hyphen_at r)) (took zs r)
+    (λ h. fits-map (λ y. zs ++ y ∷ []) Hyphen Elements p r (hyphen_at r) (fits-hyphen r)
     (λ y u c. reads-items (zs ++ y ∷ []) x xs (y ∷ []) p q r u (ap (λ l. l ++ y ∷ []) b.is.are) a
     each (reads-as (Hyphen y) (Last (y ∷ [])) r u (λ s o t g. grammar.last_hyphen y refl g) c)))
     (λ h. reads-items zs x xs [] p q r r (b.is.are ∙ ap (λ l. x ∷ l) (sym (append-nil xs))) a each
@@ -123,13 +124,13 @@ begins-not c (d ∷ t) u h e =
     let same : d ≡ c = cc in (let on : is c d ≡ true = eq-eqb d c same in cc)
 
 -- the rest of a class
-fits-class-rest : (b : Bool) (p q r : State) →
-    ((xs : List ClassItem) (u : State) → Reads (Items xs) r u → (m : State) →
-    Reads (word (codes "]")) u m → Reads (Class (class b xs)) p m) →
-    Fits Class p (items_at r >>= λ xs u. expect char.closing_bracket u
+fits-class-rest : (b : Bool) (p q r : State)
+    → ((xs : List ClassElement) (u : State) → Reads (Elements xs) r u → (m : State)
+    → Reads (word (codes "]")) u m → Reads (Class (class b xs)) p m)
+    → Fits Class p (items_at r >>= λ xs u. expect char.closing_bracket u
     >>= λ _ m. took (class b xs) m)
 fits-class-rest b p q r build =
-    fits-then Items Class p r (items_at r) _ (fits-items r)
+    fits-then Elements Class p r (items_at r) _ (fits-items r)
     (λ xs u items. fits-then (λ x. word (codes "]")) Class p u (expect char.closing_bracket u) _
     (fits-expect char.closing_bracket u)
     (λ y m end. build xs u items m end))
@@ -141,11 +142,11 @@ fits-class p =
     (fits-expect char.opening_bracket p)
     (λ x q opening. (elim (cases_Bool (is_at char.caret q)) [
       | inl caret ↦ rw caret (fits-class-rest true p q (past q) (λ xs u items m end.
-          reads-as (word (codes "[^") ⌢ Items xs ⌢ word (codes "]")) (Class (class true xs)) p m
+          reads-as (word (codes "[^") ⌢ Elements xs ⌢ word (codes "]")) (Class (class true xs)) p m
           (λ s o t g. grammar.negated xs refl g)
-          (reads-then (word (codes "[^")) (Items xs ⌢ word (codes "]")) p (past q) m
+          (reads-then (word (codes "[^")) (Elements xs ⌢ word (codes "]")) p (past q) m
           (reads-words (codes "[") (codes "^") p q (past q) opening (reads-next char.caret q caret))
-          (reads-then (Items xs) (word (codes "]")) (past q) u m items end))))
+          (reads-then (Elements xs) (word (codes "]")) (past q) u m items end))))
       | inr none ↦ rw none (fits-class-rest false p q q (λ xs u items m end.
           reads-as (word (codes "[") ⌢ NotAtCaret xs ⌢ word (codes "]")) (Class (class false xs)) p
           m (λ s o t g. grammar.plain xs refl g)

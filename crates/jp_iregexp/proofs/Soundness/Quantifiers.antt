@@ -5,16 +5,17 @@ use Rattle.std.proofs.lemmas.Bool.Decides.{nat_tests}
 use Rattle.jp_reading.specs.Characters as char
 use Rattle.jp_reading.specs.Texts.{Text, Spans}
 use Rattle.jp_reading.specs.Forms.{Form, ◌⌢◌, word}
-use Rattle.jp_reading.specs.Numbers.{Digits, digits_at, value_from, capped}
+use Rattle.jp_reading.specs.Numbers.{Digits, value_from}
+use Rattle.jp_reading.specs.NumberReading.{digits_at, capped}
 use Rattle.jp_reading.specs.Outcome.{State, took, stuck, past, is_at, expect}
-use Rattle.jp_reading.specs.Views.{by}
+use Rattle.jp_reading.specs.Views.{outcome_map}
 use Rattle.jp_reading.proofs.Between.{reads-then, reads-as}
 use Rattle.jp_reading.proofs.Digits.{capped-is_min}
-use Rattle.jp_reading.proofs.Fits.{reads-next, Fits, fits-then, fits-if, fits-by}
+use Rattle.jp_reading.proofs.Fits.{reads-next, Fits, fits-then, fits-if, fits-map}
 use Rattle.jp_reading.proofs.Fits.{reads-nothing, fits-expect, fits-digits}
 use Rattle.jp_iregexp.specs.declared.quantifiers.Count.{Count}
 use Rattle.jp_iregexp.specs.Grammar as grammar
-use Rattle.jp_iregexp.specs.Grammar.{Number, Most, Quantifier, one}
+use Rattle.jp_iregexp.specs.Grammar.{QuantExact, Most, Quantifier, one}
 use Rattle.jp_iregexp.specs.Private.Reading.{number_at, most_at, braces_at, quantifier_at}
 
 -- a number as it is read, capped
@@ -23,21 +24,21 @@ record Capped (n : ℕ) (s : Spans) (o : ℕ) (t : Text) : Type 0 where
   value : n ≡ capped 1000000000 0 digits
   is : Digits digits s o t
 
-small-number : (n : ℕ) (ds : Text) → n ≡ capped 1000000000 0 ds → n ≤ 999999999 →
-    n ≡ value_from 0 ds
+small-number : (n : ℕ) (ds : Text) → n ≡ capped 1000000000 0 ds → n ≤ 999999999
+    → n ≡ value_from 0 ds
 small-number n ds e h = let is = capped-is_min 1000000000 0 ds (omega arith) in omega arith
 
-fits-number : (p : State) → Fits Number p (number_at p)
+fits-number : (p : State) → Fits QuantExact p (number_at p)
 unfolding number_at
 fits-number p =
-    fits-then Capped Number p p (by (capped 1000000000 0) (digits_at p)) _
-    (fits-by (capped 1000000000 0) Digits Capped p p (digits_at p) (fits-digits p)
+    fits-then Capped QuantExact p p (outcome_map (capped 1000000000 0) (digits_at p)) _
+    (fits-map (capped 1000000000 0) Digits Capped p p (digits_at p) (fits-digits p)
     (λ ds q h. reads-as (Digits ds) (Capped (capped 1000000000 0 ds)) p q (λ s o t g. record {
       digits = ds;
       value = refl;
       is = g;
     }) h))
-    (λ n q h. fits-if Number (nat_lt 999999999 n) p (stuck q) (took n q) (λ large. tt)
+    (λ n q h. fits-if QuantExact (nat_lt 999999999 n) p (stuck q) (took n q) (λ large. tt)
     (λ small. (let low : n ≤ 999999999 = grind (arith, nat_tests) in
     record {
       spans = h.spans;
@@ -61,11 +62,11 @@ fits-most n p =
     (fits-expect char.comma p)
     (λ x q comma. fits-if (Most n) (is_at char.closing_brace q) p (took None q) _
     (λ h. reads-as (word (codes ",")) (Most n None) p q (λ s o t g. grammar.from refl g) comma)
-    (λ h. fits-then Number (Most n) p q (number_at q) _ (fits-number q)
+    (λ h. fits-then QuantExact (Most n) p q (number_at q) _ (fits-number q)
     (λ m r number. fits-if (Most n) (nat_lt m n) p (stuck r) (took (Some m) r) (λ less. tt)
-    (λ more. reads-as (word (codes ",") ⌢ Number m) (Most n (Some m)) p r
+    (λ more. reads-as (word (codes ",") ⌢ QuantExact m) (Most n (Some m)) p r
     (λ s o t g. grammar.to m refl (grind (arith, nat_tests)) g)
-    (reads-then (word (codes ",")) (Number m) p q r comma number))))))
+    (reads-then (word (codes ",")) (QuantExact m) p q r comma number))))))
 
 -- how often, by both counts
 abbrev pub Counted : Count → Form
@@ -85,12 +86,12 @@ fits-quantifier p =
     (λ s o t g. grammar.optional refl refl g) (reads-next char.question_mark p h))
     (λ h. fits-then (λ x. word (codes "{")) Counted p p (expect char.opening_brace p) _
     (fits-expect char.opening_brace p)
-    (λ x q opening. fits-then Number Counted p q (number_at q) _ (fits-number q)
+    (λ x q opening. fits-then QuantExact Counted p q (number_at q) _ (fits-number q)
     (λ n r number. fits-then (Most n) Counted p r (most_at n r) _ (fits-most n r)
     (λ m u most. fits-then (λ x. word (codes "}")) Counted p u (expect char.closing_brace u) _
     (fits-expect char.closing_brace u)
-    (λ y v closing. reads-as (word (codes "{") ⌢ Number n ⌢ Most n m ⌢ word (codes "}"))
+    (λ y v closing. reads-as (word (codes "{") ⌢ QuantExact n ⌢ Most n m ⌢ word (codes "}"))
     (Quantifier n m) p v (λ s o t g. grammar.braces g)
-    (reads-then (word (codes "{")) (Number n ⌢ Most n m ⌢ word (codes "}")) p q v opening
-    (reads-then (Number n) (Most n m ⌢ word (codes "}")) q r v number
+    (reads-then (word (codes "{")) (QuantExact n ⌢ Most n m ⌢ word (codes "}")) p q v opening
+    (reads-then (QuantExact n) (Most n m ⌢ word (codes "}")) q r v number
     (reads-then (Most n m) (word (codes "}")) r u v most closing))))))))))

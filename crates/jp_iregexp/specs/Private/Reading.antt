@@ -5,11 +5,11 @@ use Rattle.std.specs.Char.{is_ascii_alphabetic}
 use Rattle.jp_reading.specs.Characters as char
 use Rattle.jp_reading.specs.Outcome.{State, Outcome, took, stuck, deep, ◌>>=◌, head, past}
 use Rattle.jp_reading.specs.Outcome.{passes, is, is_at, is_end, take_if, expect, each}
-use Rattle.jp_reading.specs.Numbers.{digits_at, capped}
-use Rattle.jp_reading.specs.Views.{by, with_prefix}
+use Rattle.jp_reading.specs.NumberReading.{digits_at, capped}
+use Rattle.jp_reading.specs.Views.{outcome_map, with_prefix}
 use Rattle.jp_iregexp.specs.declared.category.Category.{Category}
-use Rattle.jp_iregexp.specs.declared.class.ClassItem.{ClassItem}
-use Rattle.jp_iregexp.specs.declared.class.ClassItem.TheVariants as item
+use Rattle.jp_iregexp.specs.declared.class.ClassElement.{ClassElement}
+use Rattle.jp_iregexp.specs.declared.class.ClassElement.TheVariants as item
 use Rattle.jp_iregexp.specs.declared.quantifiers.Count.{Count}
 use Rattle.jp_iregexp.specs.Characters.{is_normal, is_plain, is_escaped, meant}
 use Rattle.jp_iregexp.specs.declared.characters.Characters.{Characters}
@@ -61,7 +61,7 @@ character_at p = if is_at char.backslash p then escaped_at (past p) else take_if
 
 -- the letters of a code, up to the brace after it
 abbrev pub second_at : State → Outcome (Option ℕ)
-second_at p = if is_at char.closing_brace p then took None p else by Some
+second_at p = if is_at char.closing_brace p then took None p else outcome_map Some
     (take_if is_ascii_alphabetic p)
 
 -- the code of a category
@@ -69,7 +69,7 @@ unfoldable pub code_at : State → Outcome Category
 code_at p = take_if is_ascii_alphabetic p >>= λ a q. second_at q >>= λ b r. there (code_of a b) r
 
 -- after `\`: a category, or what is outside it
-unfoldable pub category_at : State → Outcome ClassItem
+unfoldable pub category_at : State → Outcome ClassElement
 category_at p =
     take_if is_category_sign p >>= λ c q. expect char.opening_brace q >>= λ _ q. code_at q
     >>= λ k q. expect char.closing_brace q
@@ -77,7 +77,7 @@ category_at p =
 
 -- the range that begins with a character: of that character alone, unless a `-` stands next that
 -- does not end the class
-unfoldable pub range_at : ℕ → State → Outcome ClassItem
+unfoldable pub range_at : ℕ → State → Outcome ClassElement
 range_at c p =
     if is_at char.hyphen p
     && not (is_at char.closing_bracket (past p)) then
@@ -89,29 +89,29 @@ range_at c p =
 abbrev pub is_at_category : State → Bool
 is_at_category p = is_at char.backslash p && passes is_category_sign (head (past p))
 
--- an item of a class
-unfoldable pub element_at : State → Outcome ClassItem
+-- an element of a class
+unfoldable pub element_at : State → Outcome ClassElement
 element_at p =
     if is_at_category p then category_at (past p) else (character_at p >>= λ c q. range_at c q)
 
 -- a `-` that stands for itself
-abbrev pub hyphen_at : State → Outcome ClassItem
+abbrev pub hyphen_at : State → Outcome ClassElement
 hyphen_at p = expect char.hyphen p >>= λ _ q. took (item.Range char.hyphen char.hyphen) q
 
 -- the first item of a class
-abbrev pub first_at : State → Outcome ClassItem
+abbrev pub first_at : State → Outcome ClassElement
 first_at p = if is_at char.hyphen p then hyphen_at p else element_at p
 
--- item after item, as long as another begins
-abbrev pub elements_at : State → Outcome (List ClassItem)
+-- element after element, as long as another begins
+abbrev pub elements_at : State → Outcome (List ClassElement)
 elements_at = each (λ q. passes begins_element (head q)) element_at
 
--- the end of a class, after these items
-abbrev pub last_at : List ClassItem → State → Outcome (List ClassItem)
-last_at xs p = if is_at char.hyphen p then by (λ x. xs ++ x ∷ []) (hyphen_at p) else took xs p
+-- the end of a class, after these elements
+abbrev pub last_at : List ClassElement → State → Outcome (List ClassElement)
+last_at xs p = if is_at char.hyphen p then outcome_map (λ x. xs ++ x ∷ []) (hyphen_at p) else took xs p
 
--- the items of a class
-unfoldable pub items_at : State → Outcome (List ClassItem)
+-- the elements of a class
+unfoldable pub items_at : State → Outcome (List ClassElement)
 items_at p = first_at p >>= λ x q. with_prefix (x ∷ []) (elements_at q) >>= λ xs q. last_at xs q
 
 -- whether a class is negated
@@ -128,7 +128,7 @@ class_at p =
 -- a number of a quantifier
 unfoldable pub number_at : State → Outcome ℕ
 number_at p =
-    by (capped 1000000000 0) (digits_at p)
+    outcome_map (capped 1000000000 0) (digits_at p)
     >>= λ n q. if nat_lt 999999999 n then stuck q else took n q
 
 -- after the least number of a quantifier: its most
@@ -161,8 +161,8 @@ quantifier_at p =
 -- after `\` outside a class: a category or a character
 unfoldable pub escape_at : State → Outcome Tree
 escape_at p =
-    if passes is_category_sign (head p) then by (λ i. class false (i ∷ []))
-    (category_at p) else by one (escaped_at p)
+    if passes is_category_sign (head p) then outcome_map (λ i. class false (i ∷ []))
+    (category_at p) else outcome_map one (escaped_at p)
 
 module _ (inside : State → Outcome Tree) where
   -- a pattern in parentheses
@@ -177,13 +177,13 @@ module _ (inside : State → Outcome Tree) where
       else if is_at char.opening_bracket p then class_at p
       else if is_at char.dot p then took dot (past p)
       else if is_at char.backslash p then escape_at (past p)
-      else by one (take_if is_normal p)
+      else outcome_map one (take_if is_normal p)
 
   -- a piece
   unfoldable pub piece_at : State → Outcome Tree
   piece_at p =
       atom_at p
-      >>= λ a q. if passes begins_quantifier (head q) then by (λ k. repeat a k.least k.most)
+      >>= λ a q. if passes begins_quantifier (head q) then outcome_map (λ k. repeat a k.least k.most)
       (quantifier_at q) else took a q
 
   -- piece after piece, as long as another begins
@@ -192,7 +192,7 @@ module _ (inside : State → Outcome Tree) where
 
   -- a branch
   unfoldable pub branch_at : State → Outcome Tree
-  branch_at p = by pieces (pieces_at p)
+  branch_at p = outcome_map pieces (pieces_at p)
 
   -- a `|` and the branch after it
   unfoldable pub next_branch_at : State → Outcome Tree
@@ -201,7 +201,7 @@ module _ (inside : State → Outcome Tree) where
   -- branches
   unfoldable pub branches_at : State → Outcome Tree
   branches_at p =
-      branch_at p >>= λ x q. by (λ xs. branches (x ∷ xs)) (each (is_at char.bar) next_branch_at q)
+      branch_at p >>= λ x q. outcome_map (λ xs. branches (x ∷ xs)) (each (is_at char.bar) next_branch_at q)
 
 -- the pattern of a group; with no level left it would need one more
 unfoldable pub inside_at : ℕ → State → Outcome Tree

@@ -31,9 +31,9 @@ module _ {W : Type 0} (contents : W → Option (List ℕ)) (has_failed : W → B
     pub comes : ComesTo options q number line (Answered output)
     pub writes : AppendsPrefix (contents o) (contents p) output
 
-  abbrev pub Answers : Option Defect → Type 0
-  Answers None = AnswersLine
-  Answers (Some defect) =
+  abbrev pub AnswersOrRefuses : Option Defect → Type 0
+  AnswersOrRefuses None = AnswersLine
+  AnswersOrRefuses (Some defect) =
       ComesTo options q number line (Refused (refused_for number defect)) × (p ≡ o)
 
   abbrev pub StopsAnswering : Fault → Type 0

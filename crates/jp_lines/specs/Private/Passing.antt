@@ -5,7 +5,7 @@ use Rattle.std.specs.List.{flat_map, list_all}
 use Rattle.jp_tree.specs.Tree.{QueryTree}
 use Rattle.jp_command.specs.Limits.{document_limit}
 use Rattle.jp_lines.specs.Lines.{lines_of_input, newline}
-use Rattle.jp_lines.specs.Outcome.{Outcome, some_refused}
+use Rattle.jp_lines.specs.Outcome.{LineOutcome, some_refused}
 use Rattle.jp_lines.specs.Run.{Goes, StopsAmong}
 use Rattle.jp_lines.specs.declared.options.Options.{Options}
 use Rattle.jp_lines.specs.declared.passing.Progress.{Progress}
@@ -47,7 +47,7 @@ module _ (options : Options) {W E : Type 0} (contents : W → Option (List ℕ))
     (q : QueryTree) where
   -- lines came to outcomes, which leads from s to t
   pub record GoesOver (lines : List (List ℕ)) (s t : Standing) (o p : W) (u v : E) : Type 0 where
-    pub outcomes : List Outcome
+    pub outcomes : List LineOutcome
     pub goes : Goes options contents writes_failed reports reports_failed q s.number lines outcomes
         o p u v
     pub number : t.number ≡ s.number + length lines

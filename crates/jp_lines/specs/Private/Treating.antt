@@ -2,7 +2,7 @@
 use Rattle.std.specs.Prelude.{◌≡◌, ⊤, ℕ, Bool, true, false, List, [], ◌∷◌, Option}
 use Rattle.jp_tree.specs.Tree.{QueryTree}
 use Rattle.jp_command.specs.Output.{WritesAll}
-use Rattle.jp_lines.specs.Outcome.{Outcome, ComesTo, written_of, told_of, is_refused}
+use Rattle.jp_lines.specs.Outcome.{LineOutcome, ComesTo, written_of, told_of, is_refused}
 use Rattle.jp_lines.specs.Run.{StopsAmong}
 use Rattle.jp_lines.specs.Told.{Tells}
 use Rattle.jp_lines.specs.declared.options.Options.{Options}
@@ -14,7 +14,7 @@ module _ (options : Options) {W E : Type 0} (contents : W → Option (List ℕ))
     (q : QueryTree) (number : ℕ) (line : List ℕ) where
   -- the line came to its outcome, which is written and told, and is a refusal or none
   pub record Treats (refused : Bool) (o p : W) (u v : E) : Type 0 where
-    pub outcome : Outcome
+    pub outcome : LineOutcome
     pub comes : ComesTo options q number line outcome
     pub writes : WritesAll contents writes_failed o p (written_of outcome)
     pub tells : Tells reports reports_failed u v (told_of outcome)

@@ -5,8 +5,8 @@ use Rattle.std.proofs.lemmas.List.{length-take, take-append-drop}
 use Rattle.jp_match.specs.Private.Place.{Marked}
 
 -- two ways to cut a text at one length give the same parts
-pub cut_apart : (xs ys xs' ys' : List ℕ) → xs ++ ys ≡ xs' ++ ys' → length xs ≡ length xs' →
-    (xs ≡ xs') × (ys ≡ ys')
+pub cut_apart : (xs ys xs' ys' : List ℕ) → xs ++ ys ≡ xs' ++ ys' → length xs ≡ length xs'
+    → (xs ≡ xs') × (ys ≡ ys')
 cut_apart [] ys [] ys' e h = (refl, e)
 cut_apart [] ys (x ∷ xs') ys' e h = absurd (omega arith)
 cut_apart (x ∷ xs) ys [] ys' e h = absurd (omega arith)

@@ -14,8 +14,8 @@ true_or_not : (b : Bool) → (b ≡ true) ⊎ (b ≡ true → ⊥)
 true_or_not true = inl refl
 true_or_not false = inr (λ h. cc)
 
-pub marked_or_not : (places : List Bool) (place : ℕ) → Marked places place ⊎ (Marked places place →
-    ⊥)
+pub marked_or_not : (places : List Bool) (place : ℕ) → Marked places place ⊎ (Marked places place
+    → ⊥)
 marked_or_not places place = true_or_not (get_or places place false)
 
 -- what rounds over the new places alone have reached: with what the new places reach it is all, no
@@ -36,10 +36,10 @@ pub record LeadsOn (L : List ℕ → Type 0) (text : List ℕ) (now : List Bool)
     pub fewer : words ≤ k
     pub way : Reached (Power L words) text now place
 
-pub leads_on : (L : List ℕ → Type 0) (text : List ℕ) (reached now : List Bool) → ((place : ℕ) →
-    Reached L text reached place → Marked reached place ⊎ Marked now place) →
-    (k place : ℕ) → Reached (Power L k) text reached place →
-    Marked reached place ⊎ LeadsOn L text now k place
+pub leads_on : (L : List ℕ → Type 0) (text : List ℕ) (reached now : List Bool) → ((place : ℕ)
+    → Reached L text reached place → Marked reached place ⊎ Marked now place)
+    → (k place : ℕ) → Reached (Power L k) text reached place
+    → Marked reached place ⊎ LeadsOn L text now k place
 leads_on L text reached now closed zero place r = inl (still_reached text reached place r)
 leads_on L text reached now closed (suc k) place r =
     let way = halfway L (Power L k) text reached place r in
@@ -60,9 +60,9 @@ by_no_word L text now most place long marked =
 
 -- a place by a word more
 by_one_more : (L : List ℕ → Type 0) (text : List ℕ) (now stepped next : List Bool) (left fewer :
-    Option ℕ) (place : ℕ) → IsMostAfter left 1 (Some fewer) → IsImage L text now stepped →
-    ((place : ℕ) → Marked next place → Marked stepped place) →
-    Reached (Times L fewer) text next place → Reached (Times L left) text now place
+    Option ℕ) (place : ℕ) → IsMostAfter left 1 (Some fewer) → IsImage L text now stepped
+    → ((place : ℕ) → Marked next place → Marked stepped place)
+    → Reached (Times L fewer) text next place → Reached (Times L left) text now place
 by_one_more L text now stepped next left fewer place h step within r =
     let first = (step.reached (length r.before)).0 (within (length r.before) r.begins) in
     let whole = onward L (Times L fewer) text now next place r first in
@@ -83,12 +83,12 @@ by_one_more L text now stepped next left fewer place h step within r =
 
 -- from the new places by some words: none, or one and then others from where it leads
 from_now : (L : List ℕ → Type 0) (text : List ℕ) (now united stepped next : List Bool) (left fewer
-    : Option ℕ) → IsMostAfter left 1 (Some fewer) →
-    ((place : ℕ) → Marked now place → Marked united place) → IsImage L text now stepped →
-    ((place : ℕ) → Marked stepped place → (Marked united place → ⊥) → Marked next place) →
-    ((place : ℕ) → Reached L text united place → Marked united place ⊎ Marked next place) →
-    (k place : ℕ) → IsAtMost left k → Reached (Power L k) text now place →
-    Marked united place ⊎ Reached (Times L fewer) text next place
+    : Option ℕ) → IsMostAfter left 1 (Some fewer)
+    → ((place : ℕ) → Marked now place → Marked united place) → IsImage L text now stepped
+    → ((place : ℕ) → Marked stepped place → (Marked united place → ⊥) → Marked next place)
+    → ((place : ℕ) → Reached L text united place → Marked united place ⊎ Marked next place)
+    → (k place : ℕ) → IsAtMost left k → Reached (Power L k) text now place
+    → Marked united place ⊎ Reached (Times L fewer) text next place
 from_now L text now united stepped next left fewer h kept step fresh closed zero place within r =
     inl (kept place (still_reached text now place r))
 from_now L text now united stepped next left fewer h kept step fresh closed (suc k) place within r =
@@ -107,26 +107,26 @@ from_now L text now united stepped next left fewer h kept step fresh closed (suc
     ]
 
 -- where no word may be taken, only the places themselves are reached
-still_now : (L : List ℕ → Type 0) (text : List ℕ) (now : List Bool) (left : Option ℕ) (place : ℕ) →
-    IsMostAfter left 1 None → (k : ℕ) → IsAtMost left k → Reached (Power L k) text now place →
-    Marked now place
+still_now : (L : List ℕ → Type 0) (text : List ℕ) (now : List Bool) (left : Option ℕ) (place : ℕ)
+    → IsMostAfter left 1 None → (k : ℕ) → IsAtMost left k → Reached (Power L k) text now place
+    → Marked now place
 still_now L text now left place h zero within r = still_reached text now place r
 still_now L text now left place h (suc k) within r = absurd (not_at_most left 1 (suc k) h (omega
     arith) within)
 
 pub grows_more : (L : List ℕ → Type 0) (text : List ℕ) (first : List Bool) (most left fewer :
-    Option ℕ) (reached now united stepped next : List Bool) →
-    Grows L text first most left reached now → IsMostAfter left 1 (Some fewer) →
-    length united ≡ length reached → ((place : ℕ) →
-    Marked united place ↔ (Marked reached place ⊎ Marked now place)) →
-    IsImage L text now stepped →
-    length next ≡ length stepped → ((place : ℕ) →
-    Marked next place ↔ (Marked stepped place × (Marked united place → ⊥))) →
-    Grows L text first most fewer united next
+    Option ℕ) (reached now united stepped next : List Bool)
+    → Grows L text first most left reached now → IsMostAfter left 1 (Some fewer)
+    → length united ≡ length reached → ((place : ℕ)
+    → Marked united place ↔ (Marked reached place ⊎ Marked now place))
+    → IsImage L text now stepped
+    → length next ≡ length stepped → ((place : ℕ)
+    → Marked next place ↔ (Marked stepped place × (Marked united place → ⊥)))
+    → Grows L text first most fewer united next
 grows_more L text first most left fewer reached now united stepped next so_far h united_long both
     step next_long rest =
-    let closed : (place : ℕ) → Reached L text united place →
-    Marked united place ⊎ Marked next place =
+    let closed : (place : ℕ) → Reached L text united place
+    → Marked united place ⊎ Marked next place =
     λ place r. elim (marked_or_not united place) [
       | inl marked ↦ inl marked
       | inr fresh ↦ elim ((both (length r.before)).0 r.begins) [
@@ -168,9 +168,9 @@ grows_more L text first most left fewer reached now united stepped next so_far h
     }
 
 pub grows_all : (L : List ℕ → Type 0) (text : List ℕ) (first : List Bool) (most left : Option ℕ)
-    (reached now : List Bool) → length first ≡ suc (length text) →
-    Grows L text first most left reached now → ((place : ℕ) → Marked now place → ⊥) →
-    IsImage (Times L most) text first reached
+    (reached now : List Bool) → length first ≡ suc (length text)
+    → Grows L text first most left reached now → ((place : ℕ) → Marked now place → ⊥)
+    → IsImage (Times L most) text first reached
 grows_all L text first most left reached now long so_far none = record {
   same_length = so_far.reached_length ∙ sym long;
   reached = λ place. (
@@ -184,11 +184,11 @@ grows_all L text first most left reached now long so_far none = record {
 }
 
 pub grows_last : (L : List ℕ → Type 0) (text : List ℕ) (first : List Bool) (most left : Option ℕ)
-    (reached now united : List Bool) → length first ≡ suc (length text) →
-    Grows L text first most left reached now → IsMostAfter left 1 None →
-    length united ≡ length reached →
-    ((place : ℕ) → Marked united place ↔ (Marked reached place ⊎ Marked now place)) →
-    IsImage (Times L most) text first united
+    (reached now united : List Bool) → length first ≡ suc (length text)
+    → Grows L text first most left reached now → IsMostAfter left 1 None
+    → length united ≡ length reached
+    → ((place : ℕ) → Marked united place ↔ (Marked reached place ⊎ Marked now place))
+    → IsImage (Times L most) text first united
 grows_last L text first most left reached now united long so_far h united_long both = record {
   same_length = united_long ∙ so_far.reached_length ∙ sym long;
   reached = λ place. (
@@ -211,16 +211,16 @@ absent [] = 0
 absent (true ∷ places) = absent places
 absent (false ∷ places) = suc (absent places)
 
-absent_both : (x y : Bool) (xs ys : List Bool) → (x ≡ true → y ≡ true) → absent ys ≤ absent xs →
-    absent (y ∷ ys) ≤ absent (x ∷ xs)
+absent_both : (x y : Bool) (xs ys : List Bool) → (x ≡ true → y ≡ true) → absent ys ≤ absent xs
+    → absent (y ∷ ys) ≤ absent (x ∷ xs)
 unfolding absent
 absent_both true true xs ys h rest = rest
 absent_both true false xs ys h rest = absurd (let e = h refl in cc)
 absent_both false true xs ys h rest = omega arith
 absent_both false false xs ys h rest = omega arith
 
-absent_le : (xs ys : List Bool) → length xs ≡ length ys → ((k : ℕ) → Marked xs k → Marked ys k) →
-    absent ys ≤ absent xs
+absent_le : (xs ys : List Bool) → length xs ≡ length ys → ((k : ℕ) → Marked xs k → Marked ys k)
+    → absent ys ≤ absent xs
 unfolding absent
 absent_le [] [] long more = omega arith
 absent_le [] (y ∷ ys) long more = absurd (omega (arith, long))
@@ -229,8 +229,8 @@ absent_le (x ∷ xs) (y ∷ ys) long more = absent_both x y xs ys (more 0) (abse
     (arith, long)) (λ k. more (suc k)))
 
 -- a place more in the set is one absent place less
-pub absent_falls : (xs ys : List Bool) → length xs ≡ length ys → ((k : ℕ) → Marked xs k →
-    Marked ys k) → (place : ℕ) → Marked ys place → (Marked xs place → ⊥) → absent ys < absent xs
+pub absent_falls : (xs ys : List Bool) → length xs ≡ length ys → ((k : ℕ) → Marked xs k
+    → Marked ys k) → (place : ℕ) → Marked ys place → (Marked xs place → ⊥) → absent ys < absent xs
 unfolding absent
 absent_falls [] [] long more place new old = absurd (let e = new in cc)
 absent_falls [] (y ∷ ys) long more place new old = absurd (omega (arith, long))

@@ -7,8 +7,8 @@ use Rattle.jp_match.specs.Private.Place.{Marked, Reached, IsImage}
 use Rattle.jp_match.proofs.Sets.Cuts.{cut_apart, cut_at, marked_below}
 
 -- the way is also one by another language that holds its word
-pub reached_as : (L M : List ℕ → Type 0) (text : List ℕ) (from : List Bool) (place : ℕ) →
-    (r : Reached L text from place) → M r.word → Reached M text from place
+pub reached_as : (L M : List ℕ → Type 0) (text : List ℕ) (from : List Bool) (place : ℕ)
+    → (r : Reached L text from place) → M r.word → Reached M text from place
 reached_as L M text from place r holds = record {
   before = r.before;
   word = r.word;
@@ -20,8 +20,8 @@ reached_as L M text from place r holds = record {
 }
 
 -- the way is also one from another set that has its beginning
-pub reached_from : (L : List ℕ → Type 0) (text : List ℕ) (from other : List Bool) (place : ℕ) →
-    (r : Reached L text from place) → Marked other (length r.before) → Reached L text other place
+pub reached_from : (L : List ℕ → Type 0) (text : List ℕ) (from other : List Bool) (place : ℕ)
+    → (r : Reached L text from place) → Marked other (length r.before) → Reached L text other place
 reached_from L text from other place r begins = record {
   before = r.before;
   word = r.word;
@@ -33,13 +33,13 @@ reached_from L text from other place r begins = record {
 }
 
 -- words of one language are words of another
-pub reached_by : (L M : List ℕ → Type 0) (text : List ℕ) (from : List Bool) (place : ℕ) →
-    ((w : List ℕ) → L w → M w) → Reached L text from place → Reached M text from place
+pub reached_by : (L M : List ℕ → Type 0) (text : List ℕ) (from : List Bool) (place : ℕ)
+    → ((w : List ℕ) → L w → M w) → Reached L text from place → Reached M text from place
 reached_by L M text from place each r = reached_as L M text from place r (each r.word r.holds)
 
 -- no word leads from a place to itself, and nowhere else
-pub reached_still : (text : List ℕ) (from : List Bool) (place : ℕ) →
-    length from ≡ suc (length text) → Marked from place → Reached (λ w. w ≡ []) text from place
+pub reached_still : (text : List ℕ) (from : List Bool) (place : ℕ)
+    → length from ≡ suc (length text) → Marked from place → Reached (λ w. w ≡ []) text from place
 reached_still text from place long marked =
     let below = marked_below from place marked in
     let cut = cut_at text place (omega arith) in
@@ -53,21 +53,21 @@ reached_still text from place long marked =
       ends = omega (arith, cut.ends);
     }
 
-pub still_reached : (text : List ℕ) (from : List Bool) (place : ℕ) →
-    Reached (λ w. w ≡ []) text from place → Marked from place
+pub still_reached : (text : List ℕ) (from : List Bool) (place : ℕ)
+    → Reached (λ w. w ≡ []) text from place → Marked from place
 still_reached text from place r =
     let at : length r.before ≡ place = omega (arith, r.ends, ap length r.holds) in
     subst (Marked from) at r.begins
 
 -- a way by a word of two parts goes by a place between them
-pub record Halfway (L M : List ℕ →
-    Type 0) (text : List ℕ) (from : List Bool) (place : ℕ) : Type 0 where
+pub record Halfway (L M : List ℕ
+    → Type 0) (text : List ℕ) (from : List Bool) (place : ℕ) : Type 0 where
   pub middle : ℕ
   pub first : Reached L text from middle
   pub second : (places : List Bool) → Marked places middle → Reached M text places place
 
-pub halfway : (L M : List ℕ → Type 0) (text : List ℕ) (from : List Bool) (place : ℕ) →
-    Reached (Concatenation L M) text from place → Halfway L M text from place
+pub halfway : (L M : List ℕ → Type 0) (text : List ℕ) (from : List Bool) (place : ℕ)
+    → Reached (Concatenation L M) text from place → Halfway L M text from place
 halfway L M text from place r =
     let cut = r.holds in
     let first : Reached L text from (length (r.before ++ cut.prefix)) = record {
@@ -101,9 +101,9 @@ halfway L M text from place r =
     }
 
 -- a word leads on from where another has led
-pub onward : (L M : List ℕ → Type 0) (text : List ℕ) (from through : List Bool) (place : ℕ) →
-    (second : Reached M text through place) → Reached L text from (length second.before) →
-    Reached (Concatenation L M) text from place
+pub onward : (L M : List ℕ → Type 0) (text : List ℕ) (from through : List Bool) (place : ℕ)
+    → (second : Reached M text through place) → Reached L text from (length second.before)
+    → Reached (Concatenation L M) text from place
 onward L M text from through place second first =
     let same = cut_apart (first.before ++ first.word) first.after second.before (second.word ++
     second.after) (append_assoc first.before first.word first.after ∙ sym first.is ∙
@@ -126,8 +126,8 @@ onward L M text from through place second first =
     }
 
 -- the image of words of two parts is the image of an image
-pub image_joined : (L M : List ℕ → Type 0) (text : List ℕ) (a b c : List Bool) →
-    IsImage L text a b → IsImage M text b c → IsImage (Concatenation L M) text a c
+pub image_joined : (L M : List ℕ → Type 0) (text : List ℕ) (a b c : List Bool)
+    → IsImage L text a b → IsImage M text b c → IsImage (Concatenation L M) text a c
 image_joined L M text a b c ab bc = record {
   same_length = bc.same_length ∙ ab.same_length;
   reached = λ place. (
@@ -141,8 +141,8 @@ image_joined L M text a b c ab bc = record {
 }
 
 -- the image by the empty word is the set
-pub image_still : (text : List ℕ) (a : List Bool) → length a ≡ suc (length text) →
-    IsImage (λ w. w ≡ []) text a a
+pub image_still : (text : List ℕ) (a : List Bool) → length a ≡ suc (length text)
+    → IsImage (λ w. w ≡ []) text a a
 image_still text a long = record {
   same_length = refl;
   reached = λ place. (
@@ -153,8 +153,8 @@ image_still text a long = record {
 }
 
 -- two languages of the same words have the same image
-pub image_by : (L M : List ℕ → Type 0) (text : List ℕ) (a b : List Bool) → ((w : List ℕ) →
-    L w ↔ M w) → IsImage L text a b → IsImage M text a b
+pub image_by : (L M : List ℕ → Type 0) (text : List ℕ) (a b : List Bool) → ((w : List ℕ)
+    → L w ↔ M w) → IsImage L text a b → IsImage M text a b
 image_by L M text a b same image = record {
   same_length = image.same_length;
   reached = λ place. (
@@ -164,33 +164,33 @@ image_by L M text a b same image = record {
 }
 
 -- whatever the rest reaches from the set, the whole reaches from the first set
-pub record Completes (whole rest : List ℕ →
-    Type 0) (text : List ℕ) (first now : List Bool) : Type 0 where
+pub record Completes (whole rest : List ℕ
+    → Type 0) (text : List ℕ) (first now : List Bool) : Type 0 where
   pub ends : (to : List Bool) → IsImage rest text now to → IsImage whole text first to
 
-pub completes_more : (whole L M : List ℕ → Type 0) (text : List ℕ) (first now next : List Bool) →
-    Completes whole (Concatenation L M) text first now → IsImage L text now next →
-    Completes whole M text first next
+pub completes_more : (whole L M : List ℕ → Type 0) (text : List ℕ) (first now next : List Bool)
+    → Completes whole (Concatenation L M) text first now → IsImage L text now next
+    → Completes whole M text first next
 completes_more whole L M text first now next so_far step = record {
   ends = λ to image. so_far.ends
       to (image_joined L M text now next to step image);
 }
 
-pub completes_all : (whole : List ℕ → Type 0) (text : List ℕ) (first now : List Bool) →
-    length now ≡ suc (length text) → Completes whole (λ w. w ≡ []) text first now →
-    IsImage whole text first now
+pub completes_all : (whole : List ℕ → Type 0) (text : List ℕ) (first now : List Bool)
+    → length now ≡ suc (length text) → Completes whole (λ w. w ≡ []) text first now
+    → IsImage whole text first now
 completes_all whole text first now long so_far = so_far.ends now (image_still text now long)
 
 -- what is reached already, with what the rest reaches, is what the whole reaches
-pub record Covers (whole rest : List ℕ →
-    Type 0) (text : List ℕ) (from reached : List Bool) : Type 0 where
+pub record Covers (whole rest : List ℕ
+    → Type 0) (text : List ℕ) (from reached : List Bool) : Type 0 where
   pub each : (place : ℕ) → (Marked reached place ⊎ Reached rest text from place) ↔ Reached whole
       text from place
 
-pub covers_more : (whole L M : List ℕ →
-    Type 0) (text : List ℕ) (from reached now next : List Bool) →
-    Covers whole (λ w. L w ⊎ M w) text from reached → IsImage L text from now → ((place : ℕ) →
-    Marked next place ↔ (Marked reached place ⊎ Marked now place)) → Covers whole M text from next
+pub covers_more : (whole L M : List ℕ
+    → Type 0) (text : List ℕ) (from reached now next : List Bool)
+    → Covers whole (λ w. L w ⊎ M w) text from reached → IsImage L text from now → ((place : ℕ)
+    → Marked next place ↔ (Marked reached place ⊎ Marked now place)) → Covers whole M text from next
 covers_more whole L M text from reached now next so_far step both = record {
   each = λ place. (
     λ h. elim h [

@@ -10,8 +10,8 @@ use Rattle.jp_match.proofs.Sets.Reaching.{Completes, completes_more, image_by}
 use Rattle.jp_match.proofs.Sets.Reaching.{image_joined, image_still}
 
 -- so many words are first some of them and then the others
-pub power_split : (L : List ℕ → Type 0) (m n s : ℕ) (w : List ℕ) → s ≡ m + n → Power L s w →
-    Concatenation (Power L m) (Power L n) w
+pub power_split : (L : List ℕ → Type 0) (m n s : ℕ) (w : List ℕ) → s ≡ m + n → Power L s w
+    → Concatenation (Power L m) (Power L n) w
 power_split L zero n s w e h = record {
   prefix = [];
   suffix = w;
@@ -39,8 +39,8 @@ power_split L (suc m) n (suc s) w e h =
       second = rest.second;
     }
 
-pub power_join : (L : List ℕ → Type 0) (m n s : ℕ) (w : List ℕ) → s ≡ m + n →
-    Concatenation (Power L m) (Power L n) w → Power L s w
+pub power_join : (L : List ℕ → Type 0) (m n s : ℕ) (w : List ℕ) → s ≡ m + n
+    → Concatenation (Power L m) (Power L n) w → Power L s w
 power_join L zero n s w e h =
     let whole : h.suffix ≡ w = sym (h.is ∙ ap (λ x. x ++ h.suffix) h.first) in
     let count : n ≡ s = omega (arith, e) in
@@ -66,23 +66,23 @@ power_join L (suc m) n (suc s) w e h = record {
 }
 
 -- a set that one word more leaves as it is stays so
-pub image_settled : (L : List ℕ → Type 0) (text : List ℕ) (a : List Bool) →
-    length a ≡ suc (length text) → IsImage L text a a → (k : ℕ) → IsImage (Power L k) text a a
+pub image_settled : (L : List ℕ → Type 0) (text : List ℕ) (a : List Bool)
+    → length a ≡ suc (length text) → IsImage L text a a → (k : ℕ) → IsImage (Power L k) text a a
 image_settled L text a long same zero = image_still text a long
 image_settled L text a long same (suc k) = image_joined L (Power L k) text a a a same
     (image_settled L text a long same k)
 
 -- so many words may be taken exactly if, once some are taken, the others may follow
-pub at_most_after : (most : Option ℕ) (taken : ℕ) (after : Option ℕ) (k : ℕ) →
-    IsMostAfter most taken (Some after) → IsAtMost after k ↔ IsAtMost most (taken + k)
+pub at_most_after : (most : Option ℕ) (taken : ℕ) (after : Option ℕ) (k : ℕ)
+    → IsMostAfter most taken (Some after) → IsAtMost after k ↔ IsAtMost most (taken + k)
 at_most_after None taken None k h = (λ _. tt, λ _. tt)
 at_most_after None taken (Some more) k h = absurd (cc)
 at_most_after (Some most) taken None k h = absurd h
 at_most_after (Some most) taken (Some more) k h = (λ w. omega arith, λ w. omega arith)
 
 -- where so many may not be taken, more may not be either
-pub not_at_most : (most : Option ℕ) (taken k : ℕ) → IsMostAfter most taken None → taken ≤ k →
-    IsAtMost most k → ⊥
+pub not_at_most : (most : Option ℕ) (taken k : ℕ) → IsMostAfter most taken None → taken ≤ k
+    → IsAtMost most k → ⊥
 not_at_most None taken k h least within = absurd (cc)
 not_at_most (Some most) taken k h least within = omega arith
 
@@ -92,9 +92,9 @@ at_most_zero (Some most) = omega arith
 
 -- a repeat takes the least words and then not more than the most after those
 pub image_repeat : (a : Tree) (least : ℕ) (most after : Option ℕ) (text : List ℕ) (x y z : List
-    Bool) → IsMostAfter most least (Some after) →
-    IsImage (Power (Language a) least) text x y → IsImage (Times (Language a) after) text y z →
-    IsImage (Language (repeat a least most)) text x z
+    Bool) → IsMostAfter most least (Some after)
+    → IsImage (Power (Language a) least) text x y → IsImage (Times (Language a) after) text y z
+    → IsImage (Language (repeat a least most)) text x z
 image_repeat a least most after text x y z h first second =
     image_by (Concatenation (Power (Language a) least) (Times (Language a) after)) (Language
     (repeat a least most)) text x z
@@ -133,8 +133,8 @@ image_repeat a least most after text x y z h first second =
     (image_joined (Power (Language a) least) (Times (Language a) after) text x y z first second)
 
 -- a set without places leads nowhere
-image_of_none : (L : List ℕ → Type 0) (text : List ℕ) (a : List Bool) → ((place : ℕ) →
-    Marked a place → ⊥) → IsImage L text a a
+image_of_none : (L : List ℕ → Type 0) (text : List ℕ) (a : List Bool) → ((place : ℕ)
+    → Marked a place → ⊥) → IsImage L text a a
 image_of_none L text a none = record {
   same_length = refl;
   reached = λ place. (
@@ -144,11 +144,11 @@ image_of_none L text a none = record {
 }
 
 -- once no place is left, or a word more leaves the set as it is, all further words do
-pub settled_ends : (L whole : List ℕ →
-    Type 0) (text : List ℕ) (first now next : List Bool) (k n : ℕ) →
-    length now ≡ suc (length text) → ((place : ℕ) → Marked next place → ⊥) ⊎ (next ≡ now) →
-    k ≡ suc n → IsImage L text now next →
-    Completes whole (Power L k) text first now → IsImage whole text first next
+pub settled_ends : (L whole : List ℕ
+    → Type 0) (text : List ℕ) (first now next : List Bool) (k n : ℕ)
+    → length now ≡ suc (length text) → ((place : ℕ) → Marked next place → ⊥) ⊎ (next ≡ now)
+    → k ≡ suc n → IsImage L text now next
+    → Completes whole (Power L k) text first now → IsImage whole text first next
 settled_ends L whole text first now next k n long (inl none) more step so_far =
     let further = completes_more whole L (Power L n) text first now next (subst (λ k. Completes
     whole (Power L k) text first now) more so_far) step in

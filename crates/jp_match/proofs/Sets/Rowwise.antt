@@ -17,8 +17,8 @@ use Rattle.jp_match.proofs.Sets.Cuts.{marked_below}
 use Rattle.jp_match.proofs.Sets.Reaching.{reached_from}
 
 -- the marks of one set of a list
-pub mark_at : (sets : List (Vec Bool Global)) (i : ℕ) (set : Vec Bool Global) → i < length sets →
-    set ≡ get_or sets i set → get_or (marks_of sets) i [] ≡ set.items
+pub mark_at : (sets : List (Vec Bool Global)) (i : ℕ) (set : Vec Bool Global) → i < length sets
+    → set ≡ get_or sets i set → get_or (marks_of sets) i [] ≡ set.items
 mark_at sets i set below is =
     get_or-map (λ s. s.items) sets i set [] below ∙ ap (λ s. s.items) (sym is)
 
@@ -28,10 +28,10 @@ pub record Unites (rows : List (List Bool)) (from now : List Bool) (count : ℕ)
   pub each : (place : ℕ) → Marked now place ↔ ((start : ℕ) × (start < count) × Marked from start ×
       Marked (get_or rows start []) place)
 
-pub unites_more : (rows : List (List Bool)) (from now next : List Bool) (count : ℕ) →
-    Marked from count → length next ≡ length now → ((place : ℕ) → Marked next place ↔ (Marked now
-    place ⊎ Marked (get_or rows count []) place)) → Unites rows from now count →
-    Unites rows from next (suc count)
+pub unites_more : (rows : List (List Bool)) (from now next : List Bool) (count : ℕ)
+    → Marked from count → length next ≡ length now → ((place : ℕ) → Marked next place ↔ (Marked now
+    place ⊎ Marked (get_or rows count []) place)) → Unites rows from now count
+    → Unites rows from next (suc count)
 unites_more rows from now next count marked long both so_far = record {
   same_length = long ∙ so_far.same_length;
   each = λ place. (
@@ -52,8 +52,8 @@ unites_more rows from now next count marked long both so_far = record {
   );
 }
 
-pub unites_same : (rows : List (List Bool)) (from now : List Bool) (count : ℕ) →
-    (Marked from count → ⊥) → Unites rows from now count → Unites rows from now (suc count)
+pub unites_same : (rows : List (List Bool)) (from now : List Bool) (count : ℕ)
+    → (Marked from count → ⊥) → Unites rows from now count → Unites rows from now (suc count)
 unites_same rows from now count not so_far = record {
   same_length = so_far.same_length;
   each = λ place. (
@@ -71,8 +71,8 @@ unites_same rows from now count not so_far = record {
   );
 }
 
-pub unites_all : (rows : List (List Bool)) (from now : List Bool) (count : ℕ) →
-    length from ≤ count → Unites rows from now count → IsUnion rows from now
+pub unites_all : (rows : List (List Bool)) (from now : List Bool) (count : ℕ)
+    → length from ≤ count → Unites rows from now count → IsUnion rows from now
 unites_all rows from now count all so_far = record {
   same_length = so_far.same_length;
   each = λ place. (
@@ -88,8 +88,8 @@ unites_all rows from now count all so_far = record {
 
 -- the rows of the places of a set are together its image
 pub image_rows : (L : List ℕ → Type 0) (text : List ℕ) (rows : List (List Bool)) (from to : List
-    Bool) → length from ≡ suc (length text) → AreRows L text rows → IsUnion rows from to →
-    IsImage L text from to
+    Bool) → length from ≡ suc (length text) → AreRows L text rows → IsUnion rows from to
+    → IsImage L text from to
 image_rows L text rows from to long are union = record {
   same_length = union.same_length;
   reached = λ place. (
@@ -115,8 +115,8 @@ image_rows L text rows from to long are union = record {
 }
 
 -- where there is a row, the rows are known
-pub rows_when_known : (L : List ℕ → Type 0) (text : List ℕ) (rows : List (List Bool)) →
-    AreKnown L text rows → (rows ≡ [] → ⊥) → AreRows L text rows
+pub rows_when_known : (L : List ℕ → Type 0) (text : List ℕ) (rows : List (List Bool))
+    → AreKnown L text rows → (rows ≡ [] → ⊥) → AreRows L text rows
 rows_when_known L text rows known some = elim known.known [
   | inl none ↦ absurd (some none)
   | inr are ↦ are
@@ -132,37 +132,37 @@ parts_pieces [] = refl
 parts_pieces (t ∷ ts) = ap (λ us. t ∷ us) (parts_pieces ts)
 
 -- a list that is not empty has marks
-pub some_marks : (sets : List (Vec Bool Global)) → false ≡ nat_eq (length sets) 0 →
-    marks_of sets ≡ [] → ⊥
+pub some_marks : (sets : List (Vec Bool Global)) → false ≡ nat_eq (length sets) 0
+    → marks_of sets ≡ [] → ⊥
 some_marks [] not none = let e = not in cc
 some_marks (set ∷ sets) not none = let e = none in cc
 
 -- the parts of a pattern
-pub either_parts : (p : Pattern) (bs : Vec Pattern Global) (ps : List Pattern) →
-    p ≡ pattern.Either bs → ps ≡ bs.items → parts_of (tree p) ≡ map tree ps
+pub either_parts : (p : Pattern) (bs : Vec Pattern Global) (ps : List Pattern)
+    → p ≡ pattern.Either bs → ps ≡ bs.items → parts_of (tree p) ≡ map tree ps
 either_parts p bs ps is items =
     ap parts_of (either_is p bs ps is items).same ∙ parts_branches (map tree ps)
 
-pub sequence_parts : (p : Pattern) (bs : Vec Pattern Global) (ps : List Pattern) →
-    p ≡ pattern.Sequence bs → ps ≡ bs.items → parts_of (tree p) ≡ map tree ps
+pub sequence_parts : (p : Pattern) (bs : Vec Pattern Global) (ps : List Pattern)
+    → p ≡ pattern.Sequence bs → ps ≡ bs.items → parts_of (tree p) ≡ map tree ps
 sequence_parts p bs ps is items =
     ap parts_of (sequence_is p bs ps is items).same ∙ parts_pieces (map tree ps)
 
-repeat_parts : (p : Pattern) (inner : Box Pattern Global) (least : ℕ) (most : Option ℕ) →
-    p ≡ pattern.Repeat inner least most → parts_of (tree p) ≡ tree inner.value ∷ []
+repeat_parts : (p : Pattern) (inner : Box Pattern Global) (least : ℕ) (most : Option ℕ)
+    → p ≡ pattern.Repeat inner least most → parts_of (tree p) ≡ tree inner.value ∷ []
 repeat_parts p inner least most is =
     ap (λ q. parts_of (tree q)) is ∙ ap parts_of (tree_repeat inner least most)
 
 -- what is known of a list is known of the same list
-pub known_as : (ts us : List Tree) (text : List ℕ) (known : List (List (List Bool))) → ts ≡ us →
-    EachKnown ts text known → EachKnown us text known
+pub known_as : (ts us : List Tree) (text : List ℕ) (known : List (List (List Bool))) → ts ≡ us
+    → EachKnown ts text known → EachKnown us text known
 known_as ts us text known same each = subst (λ ts. EachKnown ts text known) same each
 
 -- what is known of the part of a repeat is known of what it repeats
 pub known_inner : (p : Pattern) (inner : Box Pattern Global) (least : ℕ) (most : Option ℕ) (q :
-    Pattern) (text : List ℕ) (known : List (List (List Bool))) (rows : List (List Bool)) →
-    EachKnown (parts_of (tree p)) text known → p ≡ pattern.Repeat inner least most →
-    q ≡ inner.value → rows ≡ get_or known 0 [] → AreKnown (Language (tree q)) text rows
+    Pattern) (text : List ℕ) (known : List (List (List Bool))) (rows : List (List Bool))
+    → EachKnown (parts_of (tree p)) text known → p ≡ pattern.Repeat inner least most
+    → q ≡ inner.value → rows ≡ get_or known 0 [] → AreKnown (Language (tree q)) text rows
 known_inner p inner least most q text known rows each is same at =
     let parts_is = repeat_parts p inner least most is in
     let first = (subst (λ ts. EachKnown ts text known) parts_is each).each 0 (omega arith) in
@@ -176,17 +176,17 @@ pub record KnownTo (ps : List Pattern) (text : List ℕ) (known : List (List (Li
   pub each : (i : ℕ) → i < count → AreKnown (Language (get_or (map tree ps) i nothing)) text (get_or
       known i [])
 
-only_known : (a : Tree) (text : List ℕ) (rows : List (List Bool)) (i : ℕ) → i < 1 →
-    AreKnown (Language a) text rows →
-    AreKnown (Language (get_or (a ∷ []) i nothing)) text (get_or (rows ∷ []) i [])
+only_known : (a : Tree) (text : List ℕ) (rows : List (List Bool)) (i : ℕ) → i < 1
+    → AreKnown (Language a) text rows
+    → AreKnown (Language (get_or (a ∷ []) i nothing)) text (get_or (rows ∷ []) i [])
 only_known a text rows zero below known = known
 only_known a text rows (suc i) below known = absurd (omega arith)
 
 -- what is known of what a repeat is made of
 pub known_repeat : (p : Pattern) (inner : Box Pattern Global) (least : ℕ) (most : Option ℕ) (q :
-    Pattern) (text : List ℕ) (rows : List (List Bool)) → p ≡ pattern.Repeat inner least most →
-    q ≡ inner.value → AreKnown (Language (tree q)) text rows →
-    EachKnown (parts_of (tree p)) text (rows ∷ [])
+    Pattern) (text : List ℕ) (rows : List (List Bool)) → p ≡ pattern.Repeat inner least most
+    → q ≡ inner.value → AreKnown (Language (tree q)) text rows
+    → EachKnown (parts_of (tree p)) text (rows ∷ [])
 known_repeat p inner least most q text rows is same here =
     let parts_is = repeat_parts p inner least most is in
     let known : AreKnown (Language (tree inner.value)) text rows = subst (λ t. AreKnown (Language

@@ -7,7 +7,7 @@ use Rattle.std.proofs.lemmas.List.{length-append, length-take, take-append-drop,
 use Rattle.std.proofs.Math.Seq.{get_or-append_seam}
 use Rattle.std.proofs.lemmas.Bool.{cases_lt}
 use Rattle.std.proofs.lemmas.List.Sums.{count_by_more_no, count_by_more_yes}
-use Rattle.jp_iregexp.specs.declared.class.ClassItem.{ClassItem}
+use Rattle.jp_iregexp.specs.declared.class.ClassElement.{ClassElement}
 use Rattle.jp_iregexp.specs.Class.{class_holds}
 use Rattle.jp_iregexp.specs.Tree.{class}
 use Rattle.jp_iregexp.specs.Language.{Language}
@@ -38,10 +38,10 @@ cut_round text place h = record {
   ends = omega (arith, length-take place text);
 }
 
-to_reached : (negated : Bool) (items : List ClassItem) (text : List ℕ) (from : List Bool) →
-    length from ≡ suc (length text) → (place : ℕ) → place ≤ length text →
-    shifted (class_holds negated items) text from place ≡ true →
-    Reached (Language (class negated items)) text from place
+to_reached : (negated : Bool) (items : List ClassElement) (text : List ℕ) (from : List Bool)
+    → length from ≡ suc (length text) → (place : ℕ) → place ≤ length text
+    → shifted (class_holds negated items) text from place ≡ true
+    → Reached (Language (class negated items)) text from place
 to_reached negated items text from long zero within h = absurd (cc)
 to_reached negated items text from long (suc k) within h =
     let both = (and_is (get_or from k false) (class_holds negated items (get_or text k 0))).0 h in
@@ -56,11 +56,11 @@ to_reached negated items text from long (suc k) within h =
       ends = omega (arith, cut.ends);
     }
 
-of_reached : (negated : Bool) (items : List ClassItem) (text : List ℕ) (from : List Bool) (before
-    word after : List ℕ) (c : ℕ) →
-    text ≡ before ++ (word ++ after) → Marked from (length before) →
-    class_holds negated items c ≡ true → word ≡ c ∷ [] →
-    (length before < length text) × (shifted (class_holds negated items) text from (suc (length
+of_reached : (negated : Bool) (items : List ClassElement) (text : List ℕ) (from : List Bool) (before
+    word after : List ℕ) (c : ℕ)
+    → text ≡ before ++ (word ++ after) → Marked from (length before)
+    → class_holds negated items c ≡ true → word ≡ c ∷ []
+    → (length before < length text) × (shifted (class_holds negated items) text from (suc (length
     before)) ≡ true)
 of_reached negated items text from before word after c is begins holds one =
     let whole : text ≡ before ++ c ∷ after = is ∙ ap (λ w. before ++ (w ++ after)) one in
@@ -69,10 +69,10 @@ of_reached negated items text from before word after c is begins holds one =
     (omega (arith, ap length whole, length-append before (c ∷ after)), rw (begins, here) holds)
 
 -- the last place is written once all others are
-pub last_entered : (enters : ℕ → Bool) (places : List Bool) (i last : ℕ) (arrives : Bool) →
-    ((k : ℕ) → k < i → get_or places k false ≡ enters k) → arrives ≡ enters i → i ≡ last →
-    last < length places →
-    (k : ℕ) → k ≤ last → get_or (set places last arrives) k false ≡ enters k
+pub last_entered : (enters : ℕ → Bool) (places : List Bool) (i last : ℕ) (arrives : Bool)
+    → ((k : ℕ) → k < i → get_or places k false ≡ enters k) → arrives ≡ enters i → i ≡ last
+    → last < length places
+    → (k : ℕ) → k ≤ last → get_or (set places last arrives) k false ≡ enters k
 last_entered enters places i last arrives done carried at inside k within = elim (cases_lt k last) [
   | inl below ↦ let ne : k ≢ last = omega arith in rw get_or-set_other (done k (omega arith))
   | inr above ↦
@@ -82,11 +82,11 @@ last_entered enters places i last arrives done carried at inside k within = elim
 ]
 
 -- the words of a class lead over the characters that it holds
-pub image_shift : (negated : Bool) (items : List ClassItem) (text : List ℕ) (from to : List Bool) →
-    length from ≡ suc (length text) → length to ≡ length from →
-    ((k : ℕ) → k ≤ length text → get_or to k false ≡ shifted (class_holds negated items) text from
-    k) →
-    IsImage (Language (class negated items)) text from to
+pub image_shift : (negated : Bool) (items : List ClassElement) (text : List ℕ) (from to : List Bool)
+    → length from ≡ suc (length text) → length to ≡ length from
+    → ((k : ℕ) → k ≤ length text → get_or to k false ≡ shifted (class_holds negated items) text from
+    k)
+    → IsImage (Language (class negated items)) text from to
 image_shift negated items text from to long same marks = record {
   same_length = same;
   reached = λ place. (
@@ -107,10 +107,10 @@ abbrev pub counted_to : List Bool → ℕ → ℕ → ℕ
 counted_to from made i = count_after (count_by (λ marked. marked) (take i from)) made
 
 -- a place of the set adds a test
-pub counted_more : (from : List Bool) (i made now next : ℕ) → i < length from →
-    get_or from i false ≡ true →
-    now ≡ counted_to from made i → next ≡ min (now + 1) (2 ^ 64 - 1) →
-    next ≡ counted_to from made (i + 1)
+pub counted_more : (from : List Bool) (i made now next : ℕ) → i < length from
+    → get_or from i false ≡ true
+    → now ≡ counted_to from made i → next ≡ min (now + 1) (2 ^ 64 - 1)
+    → next ≡ counted_to from made (i + 1)
 counted_more from i made now next below marked so_far step =
     step ∙ ap (λ n. min (n + 1) (2 ^ 64 - 1)) so_far
     ∙ ap (λ n. count_after n made)
@@ -118,9 +118,9 @@ counted_more from i made now next below marked so_far step =
     sym (count_by_more_yes (λ m. m) from i false below marked))
 
 -- a place that is not in the set adds none
-pub counted_same : (from : List Bool) (i made now : ℕ) → i < length from →
-    get_or from i false ≡ false →
-    now ≡ counted_to from made i → now ≡ counted_to from made (i + 1)
+pub counted_same : (from : List Bool) (i made now : ℕ) → i < length from
+    → get_or from i false ≡ false
+    → now ≡ counted_to from made i → now ≡ counted_to from made (i + 1)
 counted_same from i made now below unmarked so_far =
     so_far ∙ ap (λ n. count_after n made) (sym (count_by_more_no (λ m. m) from i false below
     unmarked))

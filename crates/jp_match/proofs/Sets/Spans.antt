@@ -26,8 +26,8 @@ span_all text from within =
     ap (λ n. drop n (take from text ++ [])) at ∙ drop-append_seam (take from text) []
 
 -- the span to the next place has a character more
-span_more : (text : List ℕ) (from to : ℕ) (w : List ℕ) → from ≤ to → to < length text →
-    span text from (suc to) ++ w ≡ span text from to ++ (get_or text to 0 ∷ w)
+span_more : (text : List ℕ) (from to : ℕ) (w : List ℕ) → from ≤ to → to < length text
+    → span text from (suc to) ++ w ≡ span text from to ++ (get_or text to 0 ∷ w)
 span_more text from to w before below =
     let more : take (suc to) text ≡ take to text ++ (get_or text to 0 ∷ []) = ap (λ n. take n
     text) (sym (add-one to)) ∙ take_more text to 0 below in
@@ -46,14 +46,14 @@ pub record Begun (L : List ℕ → Type 0) (text : List ℕ) (from : List Bool) 
   pub begins : Marked from start
   pub holds : L (span text start place ++ w)
 
-pub begun_none : (L : List ℕ → Type 0) (text : List ℕ) (from : List Bool) (w : List ℕ) →
-    Begun L text from 0 w → ⊥
+pub begun_none : (L : List ℕ → Type 0) (text : List ℕ) (from : List Bool) (w : List ℕ)
+    → Begun L text from 0 w → ⊥
 begun_none L text from w h = let earlier = h.earlier in omega arith
 
 -- one character on, a word is begun at this place or before it
-pub begun_more : (L : List ℕ → Type 0) (text : List ℕ) (from : List Bool) (place : ℕ) (w : List ℕ) →
-    place < length text →
-    Begun L text from (suc place) w ↔ (Begun L text from place (get_or text place 0 ∷ w) ⊎ (Marked
+pub begun_more : (L : List ℕ → Type 0) (text : List ℕ) (from : List Bool) (place : ℕ) (w : List ℕ)
+    → place < length text
+    → Begun L text from (suc place) w ↔ (Begun L text from place (get_or text place 0 ∷ w) ⊎ (Marked
     from place × L (get_or text place 0 ∷ w)))
 begun_more L text from place w below = (
   λ h. elim (cases_lt h.start place) [
@@ -92,9 +92,9 @@ begun_more L text from place w below = (
   ],
 )
 
-reached_by_span : (L : List ℕ → Type 0) (text : List ℕ) (from : List Bool) (start place : ℕ) →
-    start ≤ place → place ≤ length text → Marked from start → L (span text start place) →
-    Reached L text from place
+reached_by_span : (L : List ℕ → Type 0) (text : List ℕ) (from : List Bool) (start place : ℕ)
+    → start ≤ place → place ≤ length text → Marked from start → L (span text start place)
+    → Reached L text from place
 reached_by_span L text from start place before within begins holds =
     let prefix = take-append-drop start (take place text) in
     let long : length (take start (take place text)) ≡ start = omega (
@@ -121,8 +121,8 @@ reached_by_span L text from start place before within begins holds =
       );
     }
 
-span_reached : (L : List ℕ → Type 0) (text : List ℕ) (from : List Bool) (place : ℕ) →
-    (r : Reached L text from place) → span text (length r.before) place ≡ r.word
+span_reached : (L : List ℕ → Type 0) (text : List ℕ) (from : List Bool) (place : ℕ)
+    → (r : Reached L text from place) → span text (length r.before) place ≡ r.word
 span_reached L text from place r =
     let whole : text ≡ (r.before ++ r.word) ++ r.after = r.is ∙ sym (append_assoc r.before r.word
     r.after) in
@@ -131,9 +131,9 @@ span_reached L text from place r =
     ap (drop (length r.before)) taken ∙ drop-append_seam r.before r.word
 
 -- a place is reached from one before it, or from itself by the empty word
-pub reached_begun : (L : List ℕ → Type 0) (text : List ℕ) (from : List Bool) (place : ℕ) →
-    place ≤ length text →
-    Reached L text from place ↔ (Begun L text from place [] ⊎ (Marked from place × L []))
+pub reached_begun : (L : List ℕ → Type 0) (text : List ℕ) (from : List Bool) (place : ℕ)
+    → place ≤ length text
+    → Reached L text from place ↔ (Begun L text from place [] ⊎ (Marked from place × L []))
 reached_begun L text from place within = (
   λ r.
       let is = span_reached L text from place r in
@@ -175,9 +175,9 @@ carries_first t text from marks none = record {
 }
 
 pub carries_more : (t : Tree) (text : List ℕ) (from : List Bool) (place c : ℕ) (entered ended :
-    Bool) (before after : List Bool) → place < length text → c ≡ get_or text place 0 →
-    entered ≡ get_or from place false → Carries t text from place before →
-    Steps (unrolled t) c entered before after ended → Carries t text from (suc place) after
+    Bool) (before after : List Bool) → place < length text → c ≡ get_or text place 0
+    → entered ≡ get_or from place false → Carries t text from place before
+    → Steps (unrolled t) c entered before after ended → Carries t text from (suc place) after
 carries_more t text from place c entered ended before after below is at so_far step = record {
   rest = λ w.
       let more = begun_more (Language t) text from place w below in (
@@ -204,9 +204,9 @@ carries_more t text from place c entered ended before after below is at so_far s
 
 -- the end of the pattern is reached exactly at the places that a word reaches
 pub carries_ends : (t : Tree) (text : List ℕ) (from : List Bool) (place : ℕ) (entered ended : Bool)
-    (marks : List Bool) → place ≤ length text → entered ≡ get_or from place false →
-    Carries t text from place marks → Ends (unrolled t) entered marks ended →
-    IsTrue ended ↔ Reached (Language t) text from place
+    (marks : List Bool) → place ≤ length text → entered ≡ get_or from place false
+    → Carries t text from place marks → Ends (unrolled t) entered marks ended
+    → IsTrue ended ↔ Reached (Language t) text from place
 carries_ends t text from place entered ended marks within at so_far ends =
     let reached = reached_begun (Language t) text from place within in (
       λ e. reached.1 (elim (ends.is.0 e) [
@@ -232,9 +232,9 @@ passes_first t text from = record {
   left = λ k above. refl;
 }
 
-pub passes_more : (t : Tree) (text : List ℕ) (from now : List Bool) (place : ℕ) (ended : Bool) →
-    place < length now → (IsTrue ended ↔ Reached (Language t) text from place) →
-    Passes t text from now place → Passes t text from (set now place ended) (suc place)
+pub passes_more : (t : Tree) (text : List ℕ) (from now : List Bool) (place : ℕ) (ended : Bool)
+    → place < length now → (IsTrue ended ↔ Reached (Language t) text from place)
+    → Passes t text from now place → Passes t text from (set now place ended) (suc place)
 passes_more t text from now place ended below is so_far = record {
   same_length = length-set now place ended ∙ so_far.same_length;
   done = λ k under. elim (cases_lt k place) [
@@ -248,9 +248,9 @@ passes_more t text from now place ended below is so_far = record {
       arith));
 }
 
-pub passes_all : (t : Tree) (text : List ℕ) (from now : List Bool) →
-    length from ≡ suc (length text) → Passes t text from now (suc (length text)) →
-    IsImage (Language t) text from now
+pub passes_all : (t : Tree) (text : List ℕ) (from now : List Bool)
+    → length from ≡ suc (length text) → Passes t text from now (suc (length text))
+    → IsImage (Language t) text from now
 passes_all t text from now long so_far = record {
   same_length = so_far.same_length;
   reached = λ place. (

@@ -10,8 +10,8 @@ no_length [] h = refl
 no_length (x ∷ xs) h = absurd (omega (arith, h))
 
 -- from the first place alone, the last is reached exactly by the whole text
-pub whole_reached : (L : List ℕ → Type 0) (text : List ℕ) (from to : List Bool) → ((place : ℕ) →
-    Marked from place ↔ (place ≡ 0)) → IsImage L text from to → Marked to (length text) ↔ L text
+pub whole_reached : (L : List ℕ → Type 0) (text : List ℕ) (from to : List Bool) → ((place : ℕ)
+    → Marked from place ↔ (place ≡ 0)) → IsImage L text from to → Marked to (length text) ↔ L text
 whole_reached L text from to first image = (
   λ marked.
       let r = (image.reached (length text)).0 marked in
@@ -38,9 +38,9 @@ whole_reached L text from to first image = (
 )
 
 -- from every place, a place is reached exactly if some part of the text is a word
-pub part_reached : (L : List ℕ → Type 0) (text : List ℕ) (from to : List Bool) → ((place : ℕ) →
-    Marked from place ↔ (place ≤ length text)) → IsImage L text from to →
-    ((place : ℕ) × Marked to place) ↔ HasPart L text
+pub part_reached : (L : List ℕ → Type 0) (text : List ℕ) (from to : List Bool) → ((place : ℕ)
+    → Marked from place ↔ (place ≤ length text)) → IsImage L text from to
+    → ((place : ℕ) × Marked to place) ↔ HasPart L text
 part_reached L text from to every image = (
   λ any.
       let r = (image.reached any.0).0 any.1 in

@@ -1,12 +1,14 @@
 -- Marks of copies of one class, which move at once.
 use Rattle.std.proofs.Common.{◌≡◌, ◌↔◌, ◌⊎◌, inl, inr, ℕ, zero, suc, ◌+◌, ◌-◌, ◌*◌, ◌≤◌, ◌<◌, Bool}
-use Rattle.std.proofs.Common.{true, false, ◌||◌, ◌&&◌, List, [], ◌∷◌, ◌++◌, length, drop, take, get_or}
+use Rattle.std.proofs.Common.{true, false, ◌||◌, ◌&&◌, List, [], ◌∷◌, ◌++◌, length, drop, take}
+use Rattle.std.proofs.Common.{get_or}
 use Rattle.std.proofs.Common.{refl, sym, ap, ◌∙◌, subst, arith}
 use Rattle.std.specs.Bool.{IsTrue}
 use Rattle.std.proofs.lemmas.Bool.{cases_lt}
-use Rattle.std.proofs.lemmas.List.{get_or-drop, get_or-take, get_or_append_left, get_or-append_right}
+use Rattle.std.proofs.lemmas.List.{get_or-drop, get_or-take, get_or_append_left}
+use Rattle.std.proofs.lemmas.List.{get_or-append_right}
 use Rattle.std.proofs.lemmas.List.{length-take, length-drop, length-append, get_or_past, take_all}
-use Rattle.jp_iregexp.specs.declared.class.ClassItem.{ClassItem}
+use Rattle.jp_iregexp.specs.declared.class.ClassElement.{ClassElement}
 use Rattle.jp_iregexp.specs.Class.{class_holds}
 use Rattle.jp_iregexp.specs.Language.{Power}
 use Rattle.jp_match.specs.declared.walk.Reach.{Reach}
@@ -28,7 +30,7 @@ use Rattle.jp_match.proofs.Steps.Unrolled.{between_to, between_of}
 use Rattle.jp_match.proofs.Steps.Walking.{same_outside}
 
 -- the mark of one position tells whether its end is reached
-mark_ends : (a : Plain) (negated : Bool) (items : List ClassItem) (optional : Bool) (marks : List
+mark_ends : (a : Plain) (negated : Bool) (items : List ClassElement) (optional : Bool) (marks : List
     Bool) → IsOneClass a negated items optional → IsTrue (get_or marks 0 false) ↔ Rest a marks []
 mark_ends a negated items optional marks one =
     let m = get_or marks 0 false in
@@ -40,8 +42,8 @@ mark_ends a negated items optional marks one =
     )
 
 -- and it has the empty word where it is optional
-optional_is : (a : Plain) (negated : Bool) (items : List ClassItem) (optional : Bool) →
-    IsOneClass a negated items optional → IsTrue optional ↔ Words a []
+optional_is : (a : Plain) (negated : Bool) (items : List ClassElement) (optional : Bool)
+    → IsOneClass a negated items optional → IsTrue optional ↔ Words a []
 optional_is a negated items optional one =
     let none = mark_ends a negated items optional (false ∷ []) one in
     let ends = rw (and_true optional) at (one.steps 0 true false (true && class_holds negated items
@@ -50,14 +52,14 @@ optional_is a negated items optional one =
       λ w. ends.is.1 (inr (refl, w)),
     )
 
-powers_enough : (L : List ℕ → Type 0) (optional : Bool) (least k : ℕ) → (L [] → IsTrue optional) →
-    least ≤ k → Power L k [] → IsTrue optional ⊎ (least ≡ 0)
+powers_enough : (L : List ℕ → Type 0) (optional : Bool) (least k : ℕ) → (L [] → IsTrue optional)
+    → least ≤ k → Power L k [] → IsTrue optional ⊎ (least ≡ 0)
 powers_enough L optional least zero is some words = inr (omega (arith, some))
 powers_enough L optional least (suc k) is some words = inl (is (joined_nil {L = L} {M = Power L k} words).0)
 
-none_enough : (a : Plain) (negated : Bool) (items : List ClassItem) (optional : Bool) (least most :
-    ℕ) → IsOneClass a negated items optional →
-    Words (between a least most) [] ↔ IsNoneEnough optional least most
+none_enough : (a : Plain) (negated : Bool) (items : List ClassElement) (optional : Bool) (least most :
+    ℕ) → IsOneClass a negated items optional
+    → Words (between a least most) [] ↔ IsNoneEnough optional least most
 none_enough a negated items optional least most one =
     let word = optional_is a negated items optional one in (
       λ w.
@@ -74,18 +76,18 @@ none_enough a negated items optional least most one =
       ],
     )
 
-later_mark : (n k : ℕ) (marks : List Bool) → n ≡ 1 →
-    get_or (drop n marks) k false ≡ get_or marks (suc k) false
+later_mark : (n k : ℕ) (marks : List Bool) → n ≡ 1
+    → get_or (drop n marks) k false ≡ get_or marks (suc k) false
 later_mark n k marks one =
     let place : n + k ≡ suc k = omega (arith, one) in
     get_or-drop n marks k false ∙ ap (λ i. get_or marks i false) place
 
-module _ (a : Plain) (negated : Bool) (items : List ClassItem) (optional : Bool)
+module _ (a : Plain) (negated : Bool) (items : List ClassElement) (optional : Bool)
     (one : IsOneClass a negated items optional) where
   -- the end is reached from the first copy, or from another one
   marked_first : (least fewer most : ℕ) (marks : List Bool) → fewer ≡ least - 1 → least ≤ suc most
-      → Rest a marks [] → Words (between a fewer most) [] →
-      IsEndMarked optional least (suc most) marks
+      → Rest a marks [] → Words (between a fewer most) []
+      → IsEndMarked optional least (suc most) marks
   marked_first least fewer most marks is may r w =
       let none = (none_enough a negated items optional fewer most one).0 w in
       record {
@@ -96,9 +98,9 @@ module _ (a : Plain) (negated : Bool) (items : List ClassItem) (optional : Bool)
         enough = elim none.enough [ inl o ↦ inl o | inr z ↦ inr (omega (arith, is, z)) ];
       }
 
-  marked_later : (least fewer most : ℕ) (marks : List Bool) → fewer ≡ least - 1 →
-      IsEndMarked optional fewer most (drop (size a) marks) →
-      IsEndMarked optional least (suc most) marks
+  marked_later : (least fewer most : ℕ) (marks : List Bool) → fewer ≡ least - 1
+      → IsEndMarked optional fewer most (drop (size a) marks)
+      → IsEndMarked optional least (suc most) marks
   marked_later least fewer most marks is h =
       let within = h.within in
       let may = h.may in
@@ -110,8 +112,8 @@ module _ (a : Plain) (negated : Bool) (items : List ClassItem) (optional : Bool)
         enough = elim h.enough [ inl o ↦ inl o | inr few ↦ inr (omega (arith, is)) ];
       }
 
-  marked_of : (least most : ℕ) (marks : List Bool) → Rest (between a least most) marks [] →
-      IsEndMarked optional least most marks
+  marked_of : (least most : ℕ) (marks : List Bool) → Rest (between a least most) marks []
+      → IsEndMarked optional least most marks
   unfolding between
   marked_of zero zero marks r = absurd r
   marked_of zero (suc most) marks (inl r) = absurd r
@@ -130,24 +132,24 @@ module _ (a : Plain) (negated : Bool) (items : List ClassItem) (optional : Bool)
       marked_later (suc least) least most marks (omega arith) (marked_of least most (drop (size a)
       marks) r)
 
-  none_after : (least fewer most : ℕ) → fewer ≡ least - 1 → least ≤ suc most →
-      (IsTrue optional ⊎ (least ≤ 1)) → Words (between a fewer most) []
+  none_after : (least fewer most : ℕ) → fewer ≡ least - 1 → least ≤ suc most
+      → (IsTrue optional ⊎ (least ≤ 1)) → Words (between a fewer most) []
   none_after least fewer most is may enough =
       (none_enough a negated items optional fewer most one).1 (record {
         may = omega (arith, is);
         enough = elim enough [ inl o ↦ inl o | inr few ↦ inr (omega (arith, is)) ];
       })
 
-  fewer_enough : (least fewer copy : ℕ) → fewer ≡ least - 1 →
-      (IsTrue optional ⊎ (least ≤ suc (suc copy))) → IsTrue optional ⊎ (fewer ≤ suc copy)
+  fewer_enough : (least fewer copy : ℕ) → fewer ≡ least - 1
+      → (IsTrue optional ⊎ (least ≤ suc (suc copy))) → IsTrue optional ⊎ (fewer ≤ suc copy)
   fewer_enough least fewer copy is enough = elim enough [
     | inl o ↦ inl o
     | inr few ↦ inr (omega (arith, is))
   ]
 
-  marked_to : (least most copy : ℕ) (marks : List Bool) → copy < most →
-      IsTrue (get_or marks copy false) → least ≤ most → (IsTrue optional ⊎ (least ≤ suc copy)) →
-      Rest (between a least most) marks []
+  marked_to : (least most copy : ℕ) (marks : List Bool) → copy < most
+      → IsTrue (get_or marks copy false) → least ≤ most → (IsTrue optional ⊎ (least ≤ suc copy))
+      → Rest (between a least most) marks []
   unfolding between
   marked_to least zero copy marks within marked may enough = absurd (omega arith)
   marked_to zero (suc most) zero marks within marked may enough =
@@ -165,8 +167,8 @@ module _ (a : Plain) (negated : Bool) (items : List ClassItem) (optional : Bool)
       marks one.sized ∙ marked) (omega arith) (fewer_enough (suc least) least copy (omega arith)
       enough))
 
-  ends_marked : (least most : ℕ) (marks : List Bool) (entered ended : Bool) →
-      IsTrue ended ↔ (IsEndMarked optional least most marks ⊎ (IsTrue entered × IsNoneEnough
+  ends_marked : (least most : ℕ) (marks : List Bool) (entered ended : Bool)
+      → IsTrue ended ↔ (IsEndMarked optional least most marks ⊎ (IsTrue entered × IsNoneEnough
       optional least most)) → Ends (between a least most) entered marks ended
   ends_marked least most marks entered ended is =
       let none = none_enough a negated items optional least most one in
@@ -184,8 +186,8 @@ module _ (a : Plain) (negated : Bool) (items : List ClassItem) (optional : Bool)
       }
 
   -- a copy is entered as if it were the first of those that are left
-  enters_later : (entered : Bool) (k : ℕ) (marks : List Bool) →
-      enters optional entered marks (suc k) ≡
+  enters_later : (entered : Bool) (k : ℕ) (marks : List Bool)
+      → enters optional entered marks (suc k) ≡
       enters optional (get_or marks 0 false || (optional && entered)) (drop (size a) marks) k
   enters_later entered zero marks = refl
   enters_later entered (suc k) marks =
@@ -194,17 +196,17 @@ module _ (a : Plain) (negated : Bool) (items : List ClassItem) (optional : Bool)
       ap (λ m. m || (optional && enters optional entered marks (suc k))) (sym mark) ∙
       ap (λ e. get_or (drop (size a) marks) k false || (optional && e)) before
 
-  step_first : (c : ℕ) (entered holds : Bool) (before after : List Bool) →
-      holds ≡ class_holds negated items c → get_or after 0 false ≡ (entered && holds) →
-      Steps a c entered before after (get_or before 0 false || (optional && entered))
+  step_first : (c : ℕ) (entered holds : Bool) (before after : List Bool)
+      → holds ≡ class_holds negated items c → get_or after 0 false ≡ (entered && holds)
+      → Steps a c entered before after (get_or before 0 false || (optional && entered))
   step_first c entered holds before after is turned =
       let m = get_or before 0 false in
       let next = get_or after 0 false in
       step_same (first_same (size a) 0 m before one.sized refl) (first_same (size a) 0 next after
       one.sized refl) (one.steps c entered m next (turned ∙ ap (λ h. entered && h) is))
 
-  turned_later : (most : ℕ) (entered holds : Bool) (before after : List Bool) →
-      ((k : ℕ) → k < suc most → get_or after k false ≡ (enters optional entered before k && holds))
+  turned_later : (most : ℕ) (entered holds : Bool) (before after : List Bool)
+      → ((k : ℕ) → k < suc most → get_or after k false ≡ (enters optional entered before k && holds))
       → (k : ℕ) → k < most → get_or (drop (size a) after) k false ≡
       (enters optional (get_or before 0 false || (optional && entered)) (drop (size a) before) k &&
       holds)
@@ -212,10 +214,10 @@ module _ (a : Plain) (negated : Bool) (items : List ClassItem) (optional : Bool)
       later_mark (size a) k after one.sized ∙ turned (suc k) (omega arith) ∙
       ap (λ e. e && holds) (enters_later entered k before)
 
-  steps_copies : (c least most : ℕ) (entered holds : Bool) (before after : List Bool) →
-      holds ≡ class_holds negated items c → ((k : ℕ) → k < most →
-      get_or after k false ≡ (enters optional entered before k && holds)) →
-      (ended : Bool) × Steps (between a least most) c entered before after ended
+  steps_copies : (c least most : ℕ) (entered holds : Bool) (before after : List Bool)
+      → holds ≡ class_holds negated items c → ((k : ℕ) → k < most
+      → get_or after k false ≡ (enters optional entered before k && holds))
+      → (ended : Bool) × Steps (between a least most) c entered before after ended
   unfolding between
   steps_copies c zero zero entered holds before after is turned =
       (entered, step_empty)
@@ -240,8 +242,8 @@ module _ (a : Plain) (negated : Bool) (items : List ClassItem) (optional : Bool)
 front_length : (at : ℕ) (xs : List Bool) → at ≤ length xs → length (take at xs) ≡ at
 front_length at xs fit = let e = length-take at xs in omega (arith, e)
 
-put_outside : (at n m : ℕ) (xs ys : List Bool) → at + n ≤ length xs → length ys ≡ n → m ≡ n →
-    IsSameOutside at (at + n) xs (take at xs ++ (ys ++ drop m (drop at xs)))
+put_outside : (at n m : ℕ) (xs ys : List Bool) → at + n ≤ length xs → length ys ≡ n → m ≡ n
+    → IsSameOutside at (at + n) xs (take at xs ++ (ys ++ drop m (drop at xs)))
 put_outside at n m xs ys fit long is =
     let back = drop m (drop at xs) in
     let front = front_length at xs (omega arith) in
@@ -261,17 +263,17 @@ put_outside at n m xs ys fit long is =
           get_or-drop at xs (m + (k - at - n)) false ∙ ap (λ i. get_or xs i false) place;
     }
 
-pub put_length : (at n m : ℕ) (xs ys : List Bool) → at + n ≤ length xs → m ≡ n →
-    length ys ≡ length (take m (drop at xs)) →
-    length (take at xs ++ (ys ++ drop m (drop at xs))) ≡ length xs
+pub put_length : (at n m : ℕ) (xs ys : List Bool) → at + n ≤ length xs → m ≡ n
+    → length ys ≡ length (take m (drop at xs))
+    → length (take at xs ++ (ys ++ drop m (drop at xs))) ≡ length xs
 put_length at n m xs ys fit is long =
     let after = length-drop at xs in
     let part = length-take m (drop at xs) in
     let sized : length ys ≡ n = omega (arith, after, part, long, is) in
     (put_outside at n m xs ys fit sized is).same_length
 
-put_there : (at n : ℕ) (xs ys back : List Bool) → at + n ≤ length xs → length ys ≡ n →
-    IsSameBefore n ys (drop at (take at xs ++ (ys ++ back)))
+put_there : (at n : ℕ) (xs ys back : List Bool) → at + n ≤ length xs → length ys ≡ n
+    → IsSameBefore n ys (drop at (take at xs ++ (ys ++ back)))
 put_there at n xs ys back fit long =
     let front = front_length at xs (omega arith) in
     let rest = ys ++ back in
@@ -293,13 +295,13 @@ pub record GoesOver (now last : Walk) (count : ℕ) (marks : List Bool) : Type 0
   pub marks_are : last.marks.items ≡ take now.at now.marks.items ++ (marks ++ drop (now.at +
       count - now.at) (drop now.at now.marks.items))
 
-pub moves_copies : {a : Plain} {negated : Bool} {items : List ClassItem} {optional : Bool} {c : ℕ}
-    (least most : ℕ) {e holds : Bool} {now last : Walk} {marks : List Bool} {x : Reach} → 1 ≤ most →
-    IsOneClass a negated items optional → holds ≡ class_holds negated items c →
-    IsBefore (between a least most) now →
-    AreStepped optional e holds least (take (now.at + most - now.at) (drop now.at now.marks.items))
-    marks x.before x.after x.after_entered → GoesOver now last most marks →
-    Moves (between a least most) c (at_start e) now last x
+pub moves_copies : {a : Plain} {negated : Bool} {items : List ClassElement} {optional : Bool} {c : ℕ}
+    (least most : ℕ) {e holds : Bool} {now last : Walk} {marks : List Bool} {x : Reach} → 1 ≤ most
+    → IsOneClass a negated items optional → holds ≡ class_holds negated items c
+    → IsBefore (between a least most) now
+    → AreStepped optional e holds least (take (now.at + most - now.at) (drop now.at now.marks.items))
+    marks x.before x.after x.after_entered → GoesOver now last most marks
+    → Moves (between a least most) c (at_start e) now last x
 moves_copies {a} {negated} {items} {optional} {c} least most {e} {holds} {now} {last} {marks} {x}
     some one is before stepped over =
     let p = x.before in
@@ -331,8 +333,8 @@ moves_copies {a} {negated} {items} {optional} {c} least most {e} {holds} {now} {
     let steps = steps_copies a negated items optional one c least most e holds old marks is
     (λ k below. stepped.turned.each k (omega (arith, long))) in
     let ends_as : (zs : List Bool) (entered ended : Bool) → IsTrue ended ↔ (IsEndMarked optional
-    least most zs ⊎ (IsTrue entered × IsNoneEnough optional least most)) →
-    Ends whole entered zs ended = λ zs. ends_marked a negated items optional one least most zs in
+    least most zs ⊎ (IsTrue entered × IsNoneEnough optional least most))
+    → Ends whole entered zs ended = λ zs. ends_marked a negated items optional one least most zs in
     record {
       at = omega (arith, over.at, sized);
       round = omega (arith, over.round, still);
@@ -359,9 +361,9 @@ moves_copies {a} {negated} {items} {optional} {c} least most {e} {holds} {now} {
     }
 
 -- a mark in the copies from one on, which reach the end
-pub marked_from : (optional any : Bool) (least first : ℕ) (marks : List Bool) →
-    first ≡ least - 1 → least ≤ length marks → optional ≡ false →
-    IsTrue any ↔ ((k : ℕ) × IsTrue (get_or (take (length marks - first) (drop first marks)) k
+pub marked_from : (optional any : Bool) (least first : ℕ) (marks : List Bool)
+    → first ≡ least - 1 → least ≤ length marks → optional ≡ false
+    → IsTrue any ↔ ((k : ℕ) × IsTrue (get_or (take (length marks - first) (drop first marks)) k
     false)) → IsTrue any ↔ IsEndMarked optional least (length marks) marks
 marked_from optional any least first marks place may not slice = (
   λ h.
@@ -392,8 +394,8 @@ marked_from optional any least first marks place may not slice = (
   is : IsTrue any ↔ ((k : ℕ) × IsTrue (get_or (drop first marks) k false))
   is = rw all at slice
 
-  marked_within : (copy : ℕ) (marks : List Bool) → IsTrue (get_or marks copy false) →
-      copy < length marks
+  marked_within : (copy : ℕ) (marks : List Bool) → IsTrue (get_or marks copy false)
+      → copy < length marks
   marked_within copy marks marked = elim (cases_lt copy (length marks)) [
     | inl below ↦ below
     | inr over ↦ absurd (let e = get_or_past marks copy false over in cc)

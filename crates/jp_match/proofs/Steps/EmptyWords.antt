@@ -23,8 +23,8 @@ pub powers_nil : (L : List ℕ → Type 0) (k : ℕ) → L [] → Power L k []
 powers_nil L zero h = refl
 powers_nil L (suc k) h = nil_before h (powers_nil L k h)
 
-none_or_first : (L : List ℕ → Type 0) (least k : ℕ) → least ≤ k → Power L k [] → (b : Bool) →
-    (L [] → IsTrue b) → IsTrue (nat_le least 0) ⊎ IsTrue b
+none_or_first : (L : List ℕ → Type 0) (least k : ℕ) → least ≤ k → Power L k [] → (b : Bool)
+    → (L [] → IsTrue b) → IsTrue (nat_le least 0) ⊎ IsTrue b
 none_or_first L least zero enough words b is = inl (le-leb least 0 enough)
 none_or_first L least (suc k) enough words b is = inr (is (joined_nil {L = L} {M = Power L k} words).0)
 

@@ -1,7 +1,7 @@
 -- Where the end is reached, part by part.
 use Rattle.std.proofs.Common.{◌≡◌, inl, inr, ℕ, Bool, false, ◌||◌, List, [], ◌∷◌, ◌++◌, drop}
 use Rattle.std.proofs.Common.{get_or, refl, sym, subst}
-use Rattle.jp_iregexp.specs.declared.class.ClassItem.{ClassItem}
+use Rattle.jp_iregexp.specs.declared.class.ClassElement.{ClassElement}
 use Rattle.jp_iregexp.specs.Language.{Concatenation}
 use Rattle.jp_match.specs.Private.Plain.{Plain, class, nothing, either, empty, sequence}
 use Rattle.jp_match.specs.Private.Plain.{plus}
@@ -24,8 +24,8 @@ nil_before {w} first second = record {
   second = second;
 }
 
-pub ends_class : {negated : Bool} {items : List ClassItem} {entered : Bool} {marks : List Bool} →
-    Ends (class negated items) entered marks (get_or marks 0 false)
+pub ends_class : {negated : Bool} {items : List ClassElement} {entered : Bool} {marks : List Bool}
+    → Ends (class negated items) entered marks (get_or marks 0 false)
 ends_class = record {
   is = (λ h. inl (h, refl), λ h. elim h [ inl x ↦ x.0 | inr y ↦ absurd (let e = y.1.2 in cc) ]);
 }
@@ -40,9 +40,9 @@ ends_nothing = record {
   is = (λ h. absurd (cc), λ h. elim h [ inl x ↦ absurd x | inr y ↦ absurd y.1 ]);
 }
 
-pub ends_either : {a b : Plain} {entered : Bool} {marks : List Bool} {x y : Bool} →
-    Ends a entered marks x → Ends b entered (drop (size a) marks) y →
-    Ends (either a b) entered marks (x || y)
+pub ends_either : {a b : Plain} {entered : Bool} {marks : List Bool} {x y : Bool}
+    → Ends a entered marks x → Ends b entered (drop (size a) marks) y
+    → Ends (either a b) entered marks (x || y)
 ends_either {x} {y} ha hb = record {
   is = (
     λ h. elim ((or_is x y).0 h) [
@@ -59,9 +59,9 @@ ends_either {x} {y} ha hb = record {
   );
 }
 
-pub ends_sequence : {a b : Plain} {entered : Bool} {marks : List Bool} {x y : Bool} →
-    Ends a entered marks x → Ends b x (drop (size a) marks) y →
-    Ends (sequence a b) entered marks y
+pub ends_sequence : {a b : Plain} {entered : Bool} {marks : List Bool} {x y : Bool}
+    → Ends a entered marks x → Ends b x (drop (size a) marks) y
+    → Ends (sequence a b) entered marks y
 ends_sequence ha hb = record {
   is = (
     λ h. elim (hb.is.0 h) [
@@ -81,8 +81,8 @@ ends_sequence ha hb = record {
   );
 }
 
-pub ends_plus : {a : Plain} {entered : Bool} {marks : List Bool} {x : Bool} →
-    Ends a entered marks x → Ends (plus a) entered marks x
+pub ends_plus : {a : Plain} {entered : Bool} {marks : List Bool} {x : Bool}
+    → Ends a entered marks x → Ends (plus a) entered marks x
 ends_plus h = record {
   is = (
     λ t. elim (h.is.0 t) [

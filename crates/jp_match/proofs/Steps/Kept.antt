@@ -87,8 +87,8 @@ alike false true to from = from refl
 alike false false to from = refl
 
 -- an answer that is exact is the test's
-pub ends_are : (a : Plain) (marks : List Bool) (p : Bool) → Ends a false marks p →
-    p ≡ marks_end a marks
+pub ends_are : (a : Plain) (marks : List Bool) (p : Bool) → Ends a false marks p
+    → p ≡ marks_end a marks
 ends_are a marks p ends = alike p (marks_end a marks)
     (λ h. elim (ends.is.0 h) [
       | inl r ↦ (marks_end_is a marks).1 r
@@ -96,8 +96,8 @@ ends_are a marks p ends = alike p (marks_end a marks)
     ])
     (λ h. ends.is.1 (inl ((marks_end_is a marks).0 h)))
 
-pub ends_are_entered : (a : Plain) (marks : List Bool) (p : Bool) → Ends a true marks p →
-    p ≡ (marks_end a marks || takes_none a)
+pub ends_are_entered : (a : Plain) (marks : List Bool) (p : Bool) → Ends a true marks p
+    → p ≡ (marks_end a marks || takes_none a)
 ends_are_entered a marks p ends = alike p (marks_end a marks || takes_none a)
     (λ h. (or_is (marks_end a marks) (takes_none a)).1 (elim (ends.is.0 h) [
       | inl r ↦ inl ((marks_end_is a marks).1 r)
@@ -109,9 +109,9 @@ ends_are_entered a marks p ends = alike p (marks_end a marks || takes_none a)
     ]))
 
 -- and the test is exact
-pub ends_by : (a : Plain) (entered : Bool) (marks : List Bool) (p q : Bool) →
-    p ≡ marks_end a marks → q ≡ (marks_end a marks || takes_none a) →
-    Ends a entered marks (p || (entered && q))
+pub ends_by : (a : Plain) (entered : Bool) (marks : List Bool) (p q : Bool)
+    → p ≡ marks_end a marks → q ≡ (marks_end a marks || takes_none a)
+    → Ends a entered marks (p || (entered && q))
 ends_by a entered marks p q is too = record {
   is = (
     λ h. elim ((or_is p (entered && q)).0 h) [
@@ -144,8 +144,8 @@ is_same_of true b h = sym h
 is_same_of false true h = absurd (cc)
 is_same_of false false h = refl
 
-pub rounds_of_test : (a : Plain) (marks rounds : List Bool) → IsTrue (rounds_end a marks rounds) →
-    Rounds a marks rounds
+pub rounds_of_test : (a : Plain) (marks rounds : List Bool) → IsTrue (rounds_end a marks rounds)
+    → Rounds a marks rounds
 rounds_of_test (class negated items) marks rounds h = tt
 rounds_of_test nothing marks rounds h = tt
 rounds_of_test (either a b) marks rounds h =
@@ -175,8 +175,8 @@ rounds_of_test (plus a) marks rounds h =
       rounds_of_test a marks (drop (own_rounds a) rounds) p.1,
     )
 
-pub test_of_rounds : (a : Plain) (marks rounds : List Bool) → Rounds a marks rounds →
-    IsTrue (rounds_end a marks rounds)
+pub test_of_rounds : (a : Plain) (marks rounds : List Bool) → Rounds a marks rounds
+    → IsTrue (rounds_end a marks rounds)
 test_of_rounds (class negated items) marks rounds so = refl
 test_of_rounds nothing marks rounds so = refl
 test_of_rounds (either a b) marks rounds so =
@@ -212,9 +212,9 @@ test_of_rounds (plus a) marks rounds so =
       ]
 
 -- without marks and rounds what is kept is so
-pub rounds_fresh : (a : Plain) (marks rounds : List Bool) →
-    ((k : ℕ) → IsTrue (get_or marks k false) → ⊥) →
-    ((k : ℕ) → IsTrue (get_or rounds k false) → ⊥) → Rounds a marks rounds
+pub rounds_fresh : (a : Plain) (marks rounds : List Bool)
+    → ((k : ℕ) → IsTrue (get_or marks k false) → ⊥)
+    → ((k : ℕ) → IsTrue (get_or rounds k false) → ⊥) → Rounds a marks rounds
 rounds_fresh (class negated items) marks rounds none still = tt
 rounds_fresh nothing marks rounds none still = tt
 rounds_fresh (either a b) marks rounds none still = (
@@ -234,8 +234,8 @@ rounds_fresh (plus a) marks rounds none still = (
 )
 
 -- the end is then reached by the empty word alone
-pub ends_fresh : (t : Tree) (marks : List Bool) → ((k : ℕ) → IsTrue (get_or marks k false) → ⊥) →
-    Ends (unrolled t) true marks (has_empty t)
+pub ends_fresh : (t : Tree) (marks : List Bool) → ((k : ℕ) → IsTrue (get_or marks k false) → ⊥)
+    → Ends (unrolled t) true marks (has_empty t)
 ends_fresh t marks none = record {
   is = (
     λ h. inr (refl, (unrolled-words t []).1 ((empty_is t).0 h)),

@@ -31,9 +31,9 @@ before_second h = record {
 
 -- a counted repeat may end here once there are enough copies, and else goes on
 walked_here : {whole a : Plain} {c : ℕ} {begin : Bool} (enough : Bool) (least most : ℕ) {through
-    ended : Reach} {first now : Walk} → IsTrue enough ↔ (least ≡ 0) →
-    Walked whole (between a least (suc most)) c begin through first now ended →
-    Walked whole (sequence a (between a (least - 1) most)) c begin through first now
+    ended : Reach} {first now : Walk} → IsTrue enough ↔ (least ≡ 0)
+    → Walked whole (between a least (suc most)) c begin through first now ended
+    → Walked whole (sequence a (between a (least - 1) most)) c begin through first now
     (by_either ended (only_if enough through))
 unfolding between
 walked_here {whole} {a} {c} {begin} true zero most {through} {ended} {first} {now} is so_far =
@@ -51,8 +51,8 @@ walked_here {whole} {a} {c} {begin} false (suc least) most {through} {ended} {fi
     rw (one, either_nowhere ended) so_far
 
 -- before the first copy
-pub walked_begin : (a : Plain) {c : ℕ} {e : Bool} (least most : ℕ) {walk : Walk} →
-    IsBefore (between a least most) walk → Walked (between a least most)
+pub walked_begin : (a : Plain) {c : ℕ} {e : Bool} (least most : ℕ) {walk : Walk}
+    → IsBefore (between a least most) walk → Walked (between a least most)
     (between a (least - 0) (most - 0)) c e (at_start e) walk walk nowhere
 walked_begin a least most before =
     let all : least - 0 ≡ least = omega arith in
@@ -62,9 +62,9 @@ walked_begin a least most before =
 -- one copy more of a counted repeat
 pub walked_copy : {whole a : Plain} {c : ℕ} {begin : Bool} (enough : Bool) (least most done : ℕ)
     {through x ended : Reach} {first now next : Walk} → done < most → IsTrue enough ↔ (least ≤ done)
-    → Walked whole (between a (least - done) (most - done)) c begin through first now ended →
-    Moves a c (at_start through.before) now next x →
-    Walked whole (between a (least - (done + 1)) (most - (done + 1))) c begin (by_next through x)
+    → Walked whole (between a (least - done) (most - done)) c begin through first now ended
+    → Moves a c (at_start through.before) now next x
+    → Walked whole (between a (least - (done + 1)) (most - (done + 1))) c begin (by_next through x)
     first next (by_either ended (only_if enough through))
 walked_copy {whole} {a} {c} {begin} enough least most done {through} {x} {ended} {first} {now} more
     is so_far moved =
@@ -78,9 +78,9 @@ walked_copy {whole} {a} {c} {begin} enough least most done {through} {x} {ended}
     walked_piece (subst (λ l. Walked whole (sequence a (between a l (most - (done + 1)))) c begin
     through first now (by_either ended (only_if enough through))) fewer here) moved
 
-moves_last : (a : Plain) {c : ℕ} (enough : Bool) (least : ℕ) {through : Reach} {walk : Walk} →
-    IsTrue enough ↔ (least ≡ 0) →
-    Moves (between a least 0) c through walk walk (only_if enough through)
+moves_last : (a : Plain) {c : ℕ} (enough : Bool) (least : ℕ) {through : Reach} {walk : Walk}
+    → IsTrue enough ↔ (least ≡ 0)
+    → Moves (between a least 0) c through walk walk (only_if enough through)
 unfolding between
 moves_last a true zero is = moves_empty
 moves_last a false zero is = absurd (let h = is.1 refl in cc)
@@ -89,10 +89,10 @@ moves_last a false (suc least) is = moves_nothing
 
 -- after the last copy it may end, if it may take so many
 pub walked_copies : {whole : Plain} (a : Plain) {c : ℕ} {begin : Bool} (enough : Bool) (least most done : ℕ)
-    {through ended : Reach} {first now : Walk} → most ≤ done → done ≤ most →
-    IsTrue enough ↔ (least ≤ most) →
-    Walked whole (between a (least - done) (most - done)) c begin through first now ended →
-    Moves whole c (at_start begin) first now (by_either ended (only_if enough through))
+    {through ended : Reach} {first now : Walk} → most ≤ done → done ≤ most
+    → IsTrue enough ↔ (least ≤ most)
+    → Walked whole (between a (least - done) (most - done)) c begin through first now ended
+    → Moves whole c (at_start begin) first now (by_either ended (only_if enough through))
 walked_copies {whole} a {c} {begin} enough least most done {through} {ended} {first} {now} all
     within is so_far =
     let none : most - done ≡ 0 = omega arith in
@@ -103,11 +103,11 @@ walked_copies {whole} a {c} {begin} enough least most done {through} {ended} {fi
     ))
 
 -- without positions nothing moves, and the end is reached by the empty word alone
-moves_without : {a : Plain} {c : ℕ} (through end : Reach) {walk : Walk} → size a ≡ 0 →
-    ((marks : List Bool) → Ends a through.before marks end.before) →
-    ((marks : List Bool) → Ends a through.after marks end.after) →
-    ((marks : List Bool) → Ends a through.after_entered marks end.after_entered) →
-    Moves a c through walk walk end
+moves_without : {a : Plain} {c : ℕ} (through end : Reach) {walk : Walk} → size a ≡ 0
+    → ((marks : List Bool) → Ends a through.before marks end.before)
+    → ((marks : List Bool) → Ends a through.after marks end.after)
+    → ((marks : List Bool) → Ends a through.after_entered marks end.after_entered)
+    → Moves a c through walk walk end
 moves_without {a} through end {walk} none before after too =
     let marks = drop walk.at walk.marks.items in
     let still = rounds_without a none in
@@ -125,9 +125,9 @@ moves_without {a} through end {walk} none before after too =
     }
 
 -- copies without positions: where one of them is gone through, so are all
-ends_copies : (a : Plain) (e enough : Bool) (least most : ℕ) {marks : List Bool} → size a ≡ 0 →
-    IsTrue enough ↔ (least ≤ most) → (IsTrue e → Words a []) →
-    Ends (between a least most) e marks (enough && e)
+ends_copies : (a : Plain) (e enough : Bool) (least most : ℕ) {marks : List Bool} → size a ≡ 0
+    → IsTrue enough ↔ (least ≤ most) → (IsTrue e → Words a [])
+    → Ends (between a least most) e marks (enough && e)
 ends_copies a e enough least most none is words =
     let sizes : size (between a least most) ≡ 0 = size_between a least most ∙ ap (λ n. most * n)
     none ∙ omega arith in
@@ -143,8 +143,8 @@ ends_copies a e enough least most none is words =
     )
 
 -- where nothing moves, only the empty word counts
-ends_as : {a b : Plain} {entered : Bool} {marks : List Bool} {q : Bool} → size a ≡ 0 → size b ≡ 0 →
-    Words a [] ↔ Words b [] → Ends a entered marks q → Ends b entered marks q
+ends_as : {a b : Plain} {entered : Bool} {marks : List Bool} {q : Bool} → size a ≡ 0 → size b ≡ 0
+    → Words a [] ↔ Words b [] → Ends a entered marks q → Ends b entered marks q
 ends_as none also is ends =
     let word = without_ends none ends in
     ends_without also (
@@ -152,8 +152,8 @@ ends_as none also is ends =
       λ w. word.1 (w.0, is.1 w.1),
     )
 
-moves_as : {a b : Plain} {c : ℕ} {e x : Reach} {first last : Walk} → size a ≡ 0 → size b ≡ 0 →
-    Words a [] ↔ Words b [] → Moves a c e first last x → Moves b c e first last x
+moves_as : {a b : Plain} {c : ℕ} {e x : Reach} {first last : Walk} → size a ≡ 0 → size b ≡ 0
+    → Words a [] ↔ Words b [] → Moves a c e first last x → Moves b c e first last x
 moves_as {a} {b} {first} {last} none also is h =
     let still = rounds_without b also in
     record {
@@ -171,10 +171,10 @@ moves_as {a} {b} {first} {last} none also is h =
 
 -- one copy more of a repeat without a most, and others after it
 pub walked_goes_on : {whole a : Plain} {c : ℕ} {begin : Bool} (least done : ℕ) {through x ended :
-    Reach} {first now next : Walk} → done < least →
-    Walked whole (at_least a (suc (least - done))) c begin through first now ended →
-    Moves a c (at_start through.before) now next x →
-    Walked whole (at_least a (suc (least - (done + 1)))) c begin (by_next through x) first next
+    Reach} {first now next : Walk} → done < least
+    → Walked whole (at_least a (suc (least - done))) c begin through first now ended
+    → Moves a c (at_start through.before) now next x
+    → Walked whole (at_least a (suc (least - (done + 1)))) c begin (by_next through x) first next
     ended
 unfolding at_least
 walked_goes_on {whole} {a} {c} {begin} least done {through} {ended = ended} {first} {now} more
@@ -187,10 +187,10 @@ walked_goes_on {whole} {a} {c} {begin} least done {through} {ended = ended} {fir
 
 -- the last copy goes on
 pub walked_plus : {whole a : Plain} {c : ℕ} {begin : Bool} (least done : ℕ) {through x : Reach}
-    {first now last : Walk} → least ≤ done →
-    Walked whole (at_least a (suc (least - done))) c begin through first now nowhere →
-    Moves (plus a) c (at_start through.before) now last x →
-    Moves whole c (at_start begin) first last (by_next through x)
+    {first now last : Walk} → least ≤ done
+    → Walked whole (at_least a (suc (least - done))) c begin through first now nowhere
+    → Moves (plus a) c (at_start through.before) now last x
+    → Moves whole c (at_start begin) first last (by_next through x)
 unfolding at_least
 walked_plus {whole} {a} {c} {begin} least done {through} {x} {first} {now} {last} all so_far moved =
     let none : least - done ≡ 0 = omega arith in
@@ -215,8 +215,8 @@ at_least_nil a n = (
 )
 
 -- what stands before each copy
-pub before_copy : {a : Plain} (least most done : ℕ) {walk : Walk} → done < most →
-    IsBefore (between a (least - done) (most - done)) walk → IsBefore a walk
+pub before_copy : {a : Plain} (least most done : ℕ) {walk : Walk} → done < most
+    → IsBefore (between a (least - done) (most - done)) walk → IsBefore a walk
 unfolding between
 before_copy {a} least most done {walk} more h =
     let left : most - done ≡ suc (most - (done + 1)) = omega arith in
@@ -226,16 +226,16 @@ before_copy {a} least most done {walk} more h =
       some zero most h = before_first {b = between a zero most} (before_second h)
       some (suc least) most h = before_first {b = between a least most} h
 
-pub before_goes_on : {a : Plain} (least done : ℕ) {walk : Walk} → done < least →
-    IsBefore (at_least a (suc (least - done))) walk → IsBefore a walk
+pub before_goes_on : {a : Plain} (least done : ℕ) {walk : Walk} → done < least
+    → IsBefore (at_least a (suc (least - done))) walk → IsBefore a walk
 unfolding at_least
 before_goes_on {a} least done {walk} more h =
     let left : least - done ≡ suc (least - (done + 1)) = omega arith in
     before_first {b = at_least a (suc (least - (done + 1)))} (subst (λ m. IsBefore (at_least a (suc
     m)) walk) left h)
 
-pub before_plus : {a : Plain} (least done : ℕ) {walk : Walk} → least ≤ done →
-    IsBefore (at_least a (suc (least - done))) walk → IsBefore (plus a) walk
+pub before_plus : {a : Plain} (least done : ℕ) {walk : Walk} → least ≤ done
+    → IsBefore (at_least a (suc (least - done))) walk → IsBefore (plus a) walk
 unfolding at_least
 before_plus {a} least done {walk} all h =
     let none : least - done ≡ 0 = omega arith in
@@ -246,18 +246,18 @@ unfolding at_least
 before_star h = before_second h
 
 -- a repeat that may also be left out
-pub moves_star : {a : Plain} {c : ℕ} {e x : Reach} {first last : Walk} →
-    Moves (plus a) c e first last x → Moves (at_least a 0) c e first last (by_either e x)
+pub moves_star : {a : Plain} {c : ℕ} {e x : Reach} {first last : Walk}
+    → Moves (plus a) c e first last x → Moves (at_least a 0) c e first last (by_either e x)
 unfolding at_least
 moves_star h = moves_either moves_empty h
 
 -- a copy that moved nothing is all that there is to walk
 pub walked_still : {whole a : Plain} {c : ℕ} {begin : Bool} (enough within : Bool) (least most done :
-    ℕ) {through x ended : Reach} {first now next : Walk} → done < most →
-    IsTrue enough ↔ (least ≤ done) → IsTrue within ↔ (least ≤ most) → next.at ≡ now.at →
-    Walked whole (between a (least - done) (most - done)) c begin through first now ended →
-    Moves a c (at_start through.before) now next x →
-    Moves whole c (at_start begin) first next
+    ℕ) {through x ended : Reach} {first now next : Walk} → done < most
+    → IsTrue enough ↔ (least ≤ done) → IsTrue within ↔ (least ≤ most) → next.at ≡ now.at
+    → Walked whole (between a (least - done) (most - done)) c begin through first now ended
+    → Moves a c (at_start through.before) now next x
+    → Moves whole c (at_start begin) first next
     (by_either (by_either ended (only_if enough through)) (only_if within (by_next through x)))
 walked_still {a} enough within least most done {through} {x} {next = next} more is may still so_far
     moved =
@@ -281,11 +281,11 @@ walked_still {a} enough within least most done {through} {x} {next = next} more 
     here.ends_too).0 h).1)))
 
 pub walked_still_plus : {whole a : Plain} {c : ℕ} {begin : Bool} (least done : ℕ) {through x x' :
-    Reach} {first now next last : Walk} → done < least → next.at ≡ now.at →
-    Walked whole (at_least a (suc (least - done))) c begin through first now nowhere →
-    Moves a c (at_start through.before) now next x →
-    Moves (plus a) c (at_start x.before) next last x' →
-    Moves whole c (at_start begin) first last (by_next (by_next through x) x')
+    Reach} {first now next last : Walk} → done < least → next.at ≡ now.at
+    → Walked whole (at_least a (suc (least - done))) c begin through first now nowhere
+    → Moves a c (at_start through.before) now next x
+    → Moves (plus a) c (at_start x.before) next last x'
+    → Moves whole c (at_start begin) first last (by_next (by_next through x) x')
 walked_still_plus {a} least done {through} {x} {x'} {last = last} more still so_far moved again =
     let none : size a ≡ 0 = omega (arith, moved.at, still) in
     let n = least - (done + 1) in
@@ -301,9 +301,9 @@ walked_still_plus {a} least done {through} {x} {x'} {last = last} more still so_
 
 -- without positions a walk stands before any number of copies
 pub before_still : {whole a : Plain} {c : ℕ} {begin : Bool} (least done : ℕ) {through x ended : Reach}
-    {first now next : Walk} → done < least → next.at ≡ now.at →
-    Walked whole (at_least a (suc (least - done))) c begin through first now ended →
-    Moves a c (at_start through.before) now next x → IsBefore (plus a) next
+    {first now next : Walk} → done < least → next.at ≡ now.at
+    → Walked whole (at_least a (suc (least - done))) c begin through first now ended
+    → Moves a c (at_start through.before) now next x → IsBefore (plus a) next
 before_still {a} least done {next = next} more still so_far moved =
     let none : size a ≡ 0 = omega (arith, moved.at, still) in
     let own = own_few a in

@@ -1,11 +1,12 @@
 -- Walks over one position, and over the rounds of a repeat.
 use Rattle.std.proofs.Common.{◌≡◌, ◌↔◌, ◌⊎◌, inl, inr, ℕ, ◌+◌, ◌≤◌, ◌<◌, min, Bool, true}
-use Rattle.std.proofs.Common.{false, ◌||◌, ◌&&◌, List, [], ◌∷◌, length, drop, set, get_or, refl, sym}
+use Rattle.std.proofs.Common.{false, ◌||◌, ◌&&◌, List, [], ◌∷◌, length, drop, set, get_or, refl}
+use Rattle.std.proofs.Common.{sym}
 use Rattle.std.proofs.Common.{ap, ◌∙◌, subst, arith, ◌≢◌}
 use Rattle.std.specs.Bool.{IsTrue}
 use Rattle.std.proofs.lemmas.Bool.{cases_lt}
 use Rattle.std.proofs.lemmas.List.{get_or-drop, length-set, get_or-set_other, get_or-set_same}
-use Rattle.jp_iregexp.specs.declared.class.ClassItem.{ClassItem}
+use Rattle.jp_iregexp.specs.declared.class.ClassElement.{ClassElement}
 use Rattle.jp_iregexp.specs.Class.{class_holds}
 use Rattle.jp_match.specs.declared.walk.Reach.{Reach}
 use Rattle.jp_match.specs.declared.walk.Walk.{Walk}
@@ -17,12 +18,13 @@ use Rattle.jp_match.proofs.Bools.{or_is, and_is}
 use Rattle.jp_match.proofs.Steps.EndParts.{ends_class, ends_plus}
 use Rattle.jp_match.proofs.Steps.Repeating.{plus_nil}
 use Rattle.jp_match.proofs.Steps.Sizes.{own_few, rounds_without, rounds_free}
-use Rattle.jp_match.proofs.Steps.StepParts.{IsSameBefore, same_back, step_class, step_same, ends_same, step_plus}
+use Rattle.jp_match.proofs.Steps.StepParts.{IsSameBefore, same_back, step_class, step_same}
+use Rattle.jp_match.proofs.Steps.StepParts.{ends_same, step_plus}
 use Rattle.jp_match.proofs.Steps.StepParts.{ends_without, without_ends, step_without}
 use Rattle.jp_match.proofs.Steps.Walking.{rounds_same, same_outside, same_there}
 
-pub first_same : (n at : ℕ) (b : Bool) (xs : List Bool) → n ≡ 1 → b ≡ get_or xs at false →
-    IsSameBefore n (b ∷ []) (drop at xs)
+pub first_same : (n at : ℕ) (b : Bool) (xs : List Bool) → n ≡ 1 → b ≡ get_or xs at false
+    → IsSameBefore n (b ∷ []) (drop at xs)
 first_same n at b xs one is = record {
   each = λ k below.
       let zero_is : 0 ≡ k = omega (arith, one) in
@@ -31,8 +33,8 @@ first_same n at b xs one is = record {
       (is ∙ ap (λ i. get_or xs i false) place ∙ sym (get_or-drop at xs 0 false));
 }
 
-pub set_outside : (at : ℕ) (b : Bool) (xs : List Bool) →
-    IsSameOutside at (at + 1) xs (set xs at b)
+pub set_outside : (at : ℕ) (b : Bool) (xs : List Bool)
+    → IsSameOutside at (at + 1) xs (set xs at b)
 set_outside at b xs = record {
   same_length = length-set xs at b;
   below = λ k under. let ne : k ≢ at = omega arith in rw get_or-set_other refl;
@@ -49,10 +51,10 @@ pub record WalkedOne (now last : Walk) (next : Bool) : Type 0 where
   pub counted : last.tests ≤ now.tests + 1
   pub kept : now.tests ≤ last.tests
 
-pub moves_class : {negated : Bool} {items : List ClassItem} {c : ℕ} {e : Bool} {now last : Walk}
-    {marked next : Bool} → marked ≡ get_or now.marks.items now.at false →
-    next ≡ (e && class_holds negated items c) → WalkedOne now last next →
-    Moves (class negated items) c (at_start e) now last (record {
+pub moves_class : {negated : Bool} {items : List ClassElement} {c : ℕ} {e : Bool} {now last : Walk}
+    {marked next : Bool} → marked ≡ get_or now.marks.items now.at false
+    → next ≡ (e && class_holds negated items c) → WalkedOne now last next
+    → Moves (class negated items) c (at_start e) now last (record {
       before = marked;
       after = next;
       after_entered = next;
@@ -81,10 +83,10 @@ moves_class {negated} {items} {c} {e} {now} {last} {marked} {next} was is moved 
     }
 
 -- a class that is repeated needs no round: its mark tells whether one has ended
-pub moves_class_plus : {negated : Bool} {items : List ClassItem} {c : ℕ} {e again : Bool} {now last
-    : Walk} {x : Reach} → again ≡ (e || get_or now.marks.items now.at false) →
-    Moves (class negated items) c (at_start again) now last x →
-    Moves (plus (class negated items)) c (at_start e) now last x
+pub moves_class_plus : {negated : Bool} {items : List ClassElement} {c : ℕ} {e again : Bool} {now last
+    : Walk} {x : Reach} → again ≡ (e || get_or now.marks.items now.at false)
+    → Moves (class negated items) c (at_start again) now last x
+    → Moves (plus (class negated items)) c (at_start e) now last x
 moves_class_plus {e} {now} is h =
     let place : now.at + 0 ≡ now.at = omega arith in
     let first = get_or-drop now.at now.marks.items 0 false ∙
@@ -119,8 +121,8 @@ pub record GoesIn (now inner : Walk) (a : Plain) : Type 0 where
   pub rounds : inner.rounds.items ≡ now.rounds.items
   pub tests : inner.tests ≡ now.tests
 
-pub before_inner : {a : Plain} {now inner : Walk} → own_rounds a ≡ min (size a) 1 →
-    IsBefore (plus a) now → GoesIn now inner a → IsBefore a inner
+pub before_inner : {a : Plain} {now inner : Walk} → own_rounds a ≡ min (size a) 1
+    → IsBefore (plus a) now → GoesIn now inner a → IsBefore a inner
 before_inner {a} {now} {inner} own h in_ =
     let marks : drop inner.at inner.marks.items ≡ drop now.at now.marks.items =
     ap (λ n. drop n inner.marks.items) in_.at ∙ ap (drop now.at) in_.marks in
@@ -150,15 +152,15 @@ before_inner {a} {now} {inner} own h in_ =
     }
 
 -- a round may begin again where the repeat is entered or a round has ended
-may_begin : (a : Plain) (e again bit : Bool) (marks : List Bool) → again ≡ (e || bit) →
-    (IsTrue bit ↔ Rest a marks []) → IsTrue again ↔ (IsTrue e ⊎ Rest a marks [])
+may_begin : (a : Plain) (e again bit : Bool) (marks : List Bool) → again ≡ (e || bit)
+    → (IsTrue bit ↔ Rest a marks []) → IsTrue again ↔ (IsTrue e ⊎ Rest a marks [])
 may_begin a e again bit marks is so = (
   λ h. elim ((or_is e bit).0 (sym is ∙ h)) [ inl l ↦ inl l | inr r ↦ inr (so.0 r) ],
   λ w. is ∙ (or_is e bit).1 (elim w [ inl l ↦ inl l | inr r ↦ inr (so.1 r) ]),
 )
 
-ends_rest : {a : Plain} {marks : List Bool} {f : Bool} → Ends a false marks f →
-    IsTrue f ↔ Rest a marks []
+ends_rest : {a : Plain} {marks : List Bool} {f : Bool} → Ends a false marks f
+    → IsTrue f ↔ Rest a marks []
 ends_rest ends = (
   λ h. elim (ends.is.0 h) [ inl r ↦ r | inr w ↦ absurd (let e = w.0 in cc) ],
   λ r. ends.is.1 (inl r),
@@ -172,11 +174,11 @@ pub record ComesOut (now moved last : Walk) (f : Bool) : Type 0 where
   pub rounds : last.rounds.items ≡ set moved.rounds.items now.round f
   pub tests : last.tests ≡ moved.tests
 
-pub moves_rounds : {a : Plain} {c : ℕ} {e again : Bool} {now inner moved last : Walk} {x : Reach} →
-    own_rounds a ≡ 1 → 1 ≤ size a → IsBefore (plus a) now → GoesIn now inner a →
-    again ≡ (e || get_or now.rounds.items now.round false) →
-    Moves a c (at_start again) inner moved x → ComesOut now moved last x.after →
-    Moves (plus a) c (at_start e) now last x
+pub moves_rounds : {a : Plain} {c : ℕ} {e again : Bool} {now inner moved last : Walk} {x : Reach}
+    → own_rounds a ≡ 1 → 1 ≤ size a → IsBefore (plus a) now → GoesIn now inner a
+    → again ≡ (e || get_or now.rounds.items now.round false)
+    → Moves a c (at_start again) inner moved x → ComesOut now moved last x.after
+    → Moves (plus a) c (at_start e) now last x
 moves_rounds {a} {e = e} {again = again} {now} {inner} {moved} {last} {x} one some is in_ begins h
     out =
     let f = x.after in
@@ -250,8 +252,8 @@ moves_rounds {a} {e = e} {again = again} {now} {inner} {moved} {last} {x} one so
     }
 
 -- a list that is the same outside of no place is the same
-outside_nothing : (n m : ℕ) (xs ys : List Bool) → IsSameOutside n n xs ys →
-    IsSameOutside m m xs ys
+outside_nothing : (n m : ℕ) (xs ys : List Bool) → IsSameOutside n n xs ys
+    → IsSameOutside m m xs ys
 outside_nothing n m xs ys h = record {
   same_length = h.same_length;
   below = λ k under. everywhere k;
@@ -264,11 +266,11 @@ outside_nothing n m xs ys h = record {
   ]
 
 -- a repeat without positions: a round of it is there only where it is entered
-pub moves_idle : {a : Plain} {c : ℕ} {e again : Bool} (bit : Bool) {now inner moved last : Walk} {x : Reach} →
-    size a ≡ 0 → GoesIn now inner a → again ≡ (e || bit) →
-    Moves a c (at_start again) inner moved x → last.at ≡ moved.at → last.round ≡ now.round →
-    last.marks.items ≡ moved.marks.items → last.rounds.items ≡ moved.rounds.items →
-    last.tests ≡ moved.tests → Moves (plus a) c (at_start e) now last (record {
+pub moves_idle : {a : Plain} {c : ℕ} {e again : Bool} (bit : Bool) {now inner moved last : Walk} {x : Reach}
+    → size a ≡ 0 → GoesIn now inner a → again ≡ (e || bit)
+    → Moves a c (at_start again) inner moved x → last.at ≡ moved.at → last.round ≡ now.round
+    → last.marks.items ≡ moved.marks.items → last.rounds.items ≡ moved.rounds.items
+    → last.tests ≡ moved.tests → Moves (plus a) c (at_start e) now last (record {
       before = x.before && e;
       after = x.after;
       after_entered = x.after_entered;

@@ -49,16 +49,16 @@ size_unrolled (tree.repeat a least None) = size_at_least (unrolled a) least ∙
 size_unrolled (tree.repeat a least (Some most)) = size_between (unrolled a) least most ∙
     ap (λ n. most * n) (size_unrolled a)
 
-pub rounds_between : (a : Plain) (least most : ℕ) →
-    rounds_of (between a least most) ≡ most * rounds_of a
+pub rounds_between : (a : Plain) (least most : ℕ)
+    → rounds_of (between a least most) ≡ most * rounds_of a
 unfolding between
 rounds_between a zero zero = omega arith
 rounds_between a zero (suc most) = omega (arith, rounds_between a zero most)
 rounds_between a (suc least) zero = omega arith
 rounds_between a (suc least) (suc most) = omega (arith, rounds_between a least most)
 
-pub rounds_at_least : (a : Plain) (least : ℕ) →
-    rounds_of (at_least a least) ≡ max least 1 * rounds_of a + own_rounds a
+pub rounds_at_least : (a : Plain) (least : ℕ)
+    → rounds_of (at_least a least) ≡ max least 1 * rounds_of a + own_rounds a
 unfolding at_least
 rounds_at_least a zero = omega arith
 rounds_at_least a (suc zero) = omega arith
@@ -120,20 +120,20 @@ rounds_free (plus a) marks rounds none = (
   rounds_free a marks (drop (own_rounds a) rounds) (omega (arith, none)),
 )
 
-own_branches : (ts : List Tree) →
-    own_rounds (unrolled (branches ts)) ≡ min (size (unrolled (branches ts))) 1
+own_branches : (ts : List Tree)
+    → own_rounds (unrolled (branches ts)) ≡ min (size (unrolled (branches ts))) 1
 unfolding unrolled
 own_branches [] = refl
 own_branches (t ∷ ts) = refl
 
-own_pieces : (ts : List Tree) →
-    own_rounds (unrolled (pieces ts)) ≡ min (size (unrolled (pieces ts))) 1
+own_pieces : (ts : List Tree)
+    → own_rounds (unrolled (pieces ts)) ≡ min (size (unrolled (pieces ts))) 1
 unfolding unrolled
 own_pieces [] = refl
 own_pieces (t ∷ ts) = refl
 
-own_repeat : (a : Tree) (least : ℕ) (most : Option ℕ) →
-    own_rounds (unrolled (tree.repeat a least most))
+own_repeat : (a : Tree) (least : ℕ) (most : Option ℕ)
+    → own_rounds (unrolled (tree.repeat a least most))
     ≡ min (size (unrolled (tree.repeat a least most))) 1
 unfolding unrolled counted between at_least
 own_repeat a zero None = refl
@@ -147,8 +147,8 @@ own_repeat a (suc least) (Some (suc most)) = refl
 abbrev IsOwn : Pattern → Type 0
 IsOwn p = own_rounds (unrolled (tree_of p)) ≡ min (size (unrolled (tree_of p))) 1
 
-own_layer : (x : Pattern-F Pattern) → ((k : CharClass) → roll-Pattern x ≡ pattern.Class k → ⊥) →
-    IsOwn (roll-Pattern x)
+own_layer : (x : Pattern-F Pattern) → ((k : CharClass) → roll-Pattern x ≡ pattern.Class k → ⊥)
+    → IsOwn (roll-Pattern x)
 own_layer (Pattern-F.Either bs) other =
     rw (rolls-Either bs, tree_either bs) (own_branches (map tree_of bs.items))
 own_layer (Pattern-F.Sequence ps) other =
@@ -159,8 +159,8 @@ own_layer (Pattern-F.Repeat inner least most) other =
 own_layer (Pattern-F.Class k) other = absurd (other k (rolls-Class k))
 
 -- a repeat of a pattern that is no class keeps its round where there is a position
-pub own_other : (p : Pattern) → ((k : CharClass) → p ≡ pattern.Class k → ⊥) →
-    own_rounds (unrolled (tree_of p)) ≡ min (size (unrolled (tree_of p))) 1
+pub own_other : (p : Pattern) → ((k : CharClass) → p ≡ pattern.Class k → ⊥)
+    → own_rounds (unrolled (tree_of p)) ≡ min (size (unrolled (tree_of p))) 1
 own_other p other =
     subst IsOwn (roll-out-Pattern p) (own_layer (out-Pattern p) (λ k is. other k (sym
     (roll-out-Pattern p) ∙ is)))

@@ -1,10 +1,11 @@
 -- A step over one character, part by part.
-use Rattle.std.proofs.Common.{◌≡◌, ◌↔◌, ◌⊎◌, inl, inr, ℕ, zero, suc, ◌+◌, ◌≤◌, ◌<◌, Bool, true, false}
+use Rattle.std.proofs.Common.{◌≡◌, ◌↔◌, ◌⊎◌, inl, inr, ℕ, zero, suc, ◌+◌, ◌≤◌, ◌<◌, Bool, true}
+use Rattle.std.proofs.Common.{false}
 use Rattle.std.proofs.Common.{◌||◌, ◌&&◌, List, [], ◌∷◌, ◌++◌, drop, get_or, sym, ap}
 use Rattle.std.proofs.Common.{◌∙◌, subst, arith}
 use Rattle.std.specs.Bool.{IsTrue}
 use Rattle.std.proofs.lemmas.List.{get_or-drop}
-use Rattle.jp_iregexp.specs.declared.class.ClassItem.{ClassItem}
+use Rattle.jp_iregexp.specs.declared.class.ClassElement.{ClassElement}
 use Rattle.jp_iregexp.specs.Class.{class_holds}
 use Rattle.jp_iregexp.specs.Language.{Concatenation, Power}
 use Rattle.jp_match.specs.Private.Plain.{Plain, Words, class, nothing, either, empty, sequence}
@@ -15,8 +16,8 @@ use Rattle.jp_match.proofs.Steps.EndParts.{ends_class, ends_empty, ends_nothing,
 use Rattle.jp_match.proofs.Steps.EndParts.{ends_sequence, ends_plus, nil_before}
 
 -- the same cut of a word, with another first part
-pub with_first : {L M N : List ℕ → Type 0} {w : List ℕ} (j : Concatenation L M w) → N j.prefix →
-    Concatenation N M w
+pub with_first : {L M N : List ℕ → Type 0} {w : List ℕ} (j : Concatenation L M w) → N j.prefix
+    → Concatenation N M w
 with_first j h = record {
   prefix = j.prefix;
   suffix = j.suffix;
@@ -26,11 +27,11 @@ with_first j h = record {
 }
 
 -- a word that begins with a character is joined so that the first part is empty or begins with it
-pub joined_cons : {L M : List ℕ → Type 0} {c : ℕ} {w : List ℕ} → Concatenation L M (c ∷ w) →
-    (L [] × M (c ∷ w)) ⊎ Concatenation (λ v. L (c ∷ v)) M w
+pub joined_cons : {L M : List ℕ → Type 0} {c : ℕ} {w : List ℕ} → Concatenation L M (c ∷ w)
+    → (L [] × M (c ∷ w)) ⊎ Concatenation (λ v. L (c ∷ v)) M w
 joined_cons {L} {M} {c} {w} j = parts j.prefix j.suffix j.is j.first j.second where
-  parts : (prefix suffix : List ℕ) → c ∷ w ≡ prefix ++ suffix → L prefix → M suffix →
-      (L [] × M (c ∷ w)) ⊎ Concatenation (λ v. L (c ∷ v)) M w
+  parts : (prefix suffix : List ℕ) → c ∷ w ≡ prefix ++ suffix → L prefix → M suffix
+      → (L [] × M (c ∷ w)) ⊎ Concatenation (λ v. L (c ∷ v)) M w
   parts [] suffix is first second = inl (first, subst M (sym is) second)
   parts (x ∷ prefix) suffix is first second =
       let head : c ≡ x = cc in
@@ -43,8 +44,8 @@ joined_cons {L} {M} {c} {w} j = parts j.prefix j.suffix j.is j.first j.second wh
         second = second;
       })
 
-pub cons_joined : {L M : List ℕ → Type 0} {c : ℕ} {w : List ℕ} →
-    Concatenation (λ v. L (c ∷ v)) M w → Concatenation L M (c ∷ w)
+pub cons_joined : {L M : List ℕ → Type 0} {c : ℕ} {w : List ℕ}
+    → Concatenation (λ v. L (c ∷ v)) M w → Concatenation L M (c ∷ w)
 cons_joined {c} j = record {
   prefix = c ∷ j.prefix;
   suffix = j.suffix;
@@ -54,8 +55,8 @@ cons_joined {c} j = record {
 }
 
 -- words that together begin with a character: the first that is not empty begins with it
-pub power_cons : (L : List ℕ → Type 0) (k c : ℕ) (w : List ℕ) → Power L k (c ∷ w) →
-    Concatenation (λ v. L (c ∷ v)) (Star L) w
+pub power_cons : (L : List ℕ → Type 0) (k c : ℕ) (w : List ℕ) → Power L k (c ∷ w)
+    → Concatenation (λ v. L (c ∷ v)) (Star L) w
 power_cons L zero c w h = absurd (cc)
 power_cons L (suc k) c w h = elim (joined_cons {L = L} {M = Power L k} h) [
   | inl none ↦ power_cons L k c w none.1
@@ -68,9 +69,9 @@ power_cons L (suc k) c w h = elim (joined_cons {L = L} {M = Power L k} h) [
   }
 ]
 
-pub step_class : {negated : Bool} {items : List ClassItem} {c : ℕ} {entered : Bool} {before after :
-    List Bool} → get_or after 0 false ≡ (entered && class_holds negated items c) →
-    Steps (class negated items) c entered before after (get_or before 0 false)
+pub step_class : {negated : Bool} {items : List ClassElement} {c : ℕ} {entered : Bool} {before after :
+    List Bool} → get_or after 0 false ≡ (entered && class_holds negated items c)
+    → Steps (class negated items) c entered before after (get_or before 0 false)
 step_class {negated} {items} {c} {entered} is = record {
   left = λ word. (
     λ h. let t = (and_is entered (class_holds negated items c)).0 (sym is ∙ h.0) in
@@ -92,8 +93,8 @@ step_class {negated} {items} {c} {entered} is = record {
   ends = ends_class;
 }
 
-pub step_empty : {c : ℕ} {entered : Bool} {before after : List Bool} →
-    Steps empty c entered before after entered
+pub step_empty : {c : ℕ} {entered : Bool} {before after : List Bool}
+    → Steps empty c entered before after entered
 step_empty = record {
   left = λ word. (
     λ h. absurd h,
@@ -102,17 +103,17 @@ step_empty = record {
   ends = ends_empty;
 }
 
-pub step_nothing : {c : ℕ} {entered : Bool} {before after : List Bool} →
-    Steps nothing c entered before after false
+pub step_nothing : {c : ℕ} {entered : Bool} {before after : List Bool}
+    → Steps nothing c entered before after false
 step_nothing = record {
   left = λ word. (λ h. absurd h, λ h. elim h [ inl x ↦ absurd x | inr y ↦ absurd y.1 ]);
   ends = ends_nothing;
 }
 
-pub step_either : {a b : Plain} {c : ℕ} {entered : Bool} {before after : List Bool} {p q : Bool} →
-    Steps a c entered before after p →
-    Steps b c entered (drop (size a) before) (drop (size a) after) q →
-    Steps (either a b) c entered before after (p || q)
+pub step_either : {a b : Plain} {c : ℕ} {entered : Bool} {before after : List Bool} {p q : Bool}
+    → Steps a c entered before after p
+    → Steps b c entered (drop (size a) before) (drop (size a) after) q
+    → Steps (either a b) c entered before after (p || q)
 step_either ha hb = record {
   left = λ word. (
     λ h. elim h [
@@ -133,9 +134,9 @@ step_either ha hb = record {
   ends = ends_either ha.ends hb.ends;
 }
 
-pub step_sequence : {a b : Plain} {c : ℕ} {entered : Bool} {before after : List Bool} {p q : Bool} →
-    Steps a c entered before after p → Steps b c p (drop (size a) before) (drop (size a) after) q →
-    Steps (sequence a b) c entered before after q
+pub step_sequence : {a b : Plain} {c : ℕ} {entered : Bool} {before after : List Bool} {p q : Bool}
+    → Steps a c entered before after p → Steps b c p (drop (size a) before) (drop (size a) after) q
+    → Steps (sequence a b) c entered before after q
 step_sequence ha hb = record {
   left = λ word. (
     λ h. elim h [
@@ -169,9 +170,9 @@ step_sequence ha hb = record {
 }
 
 -- a round may begin where the repeat is entered or where a round has ended
-pub step_plus : {a : Plain} {c : ℕ} {entered again : Bool} {before after : List Bool} {p : Bool} →
-    IsTrue again ↔ (IsTrue entered ⊎ Rest a before []) → Steps a c again before after p →
-    Steps (plus a) c entered before after p
+pub step_plus : {a : Plain} {c : ℕ} {entered again : Bool} {before after : List Bool} {p : Bool}
+    → IsTrue again ↔ (IsTrue entered ⊎ Rest a before []) → Steps a c again before after p
+    → Steps (plus a) c entered before after p
 step_plus {a} {c} {entered} {again} {before} {after} {p} may ha = record {
   left = λ word. (
     λ j. elim ((ha.left j.prefix).0 j.first) [
@@ -208,19 +209,19 @@ step_plus {a} {c} {entered} {again} {before} {after} {p} may ha = record {
     );
   });
 } where
-  round : (word : List ℕ) → IsTrue again → (k : ℕ) → Power (Words a) k (c ∷ word) →
-      Rest (plus a) after word
+  round : (word : List ℕ) → IsTrue again → (k : ℕ) → Power (Words a) k (c ∷ word)
+      → Rest (plus a) after word
   round word e k words =
       let j = power_cons (Words a) k c word words in
       with_first j ((ha.left j.prefix).1 (inr (e, j.first)))
 
-pub none_dropped : (n : ℕ) (marks : List Bool) → ((k : ℕ) → IsTrue (get_or marks k false) → ⊥) →
-    (k : ℕ) → IsTrue (get_or (drop n marks) k false) → ⊥
+pub none_dropped : (n : ℕ) (marks : List Bool) → ((k : ℕ) → IsTrue (get_or marks k false) → ⊥)
+    → (k : ℕ) → IsTrue (get_or (drop n marks) k false) → ⊥
 none_dropped n marks none k h = none (n + k) (sym (get_or-drop n marks k false) ∙ h)
 
 -- no mark leads anywhere
-pub rest_none : (a : Plain) (marks : List Bool) (word : List ℕ) → ((k : ℕ) →
-    IsTrue (get_or marks k false) → ⊥) → Rest a marks word → ⊥
+pub rest_none : (a : Plain) (marks : List Bool) (word : List ℕ) → ((k : ℕ)
+    → IsTrue (get_or marks k false) → ⊥) → Rest a marks word → ⊥
 rest_none (class negated items) marks word none r = none 0 r.0
 rest_none nothing marks word none r = r
 rest_none (either a b) marks word none (inl r) = rest_none a marks word none r
@@ -234,8 +235,8 @@ rest_none (sequence a b) marks word none (inr r) = rest_none b (drop (size a) ma
 rest_none (plus a) marks word none r = rest_none a marks r.prefix none r.first
 
 -- where no mark is and the pattern is not entered, nothing happens
-pub step_nowhere : (a : Plain) (c : ℕ) (marks : List Bool) → ((k : ℕ) →
-    IsTrue (get_or marks k false) → ⊥) → Steps a c false marks marks false
+pub step_nowhere : (a : Plain) (c : ℕ) (marks : List Bool) → ((k : ℕ)
+    → IsTrue (get_or marks k false) → ⊥) → Steps a c false marks marks false
 step_nowhere a c marks none = record {
   left = λ word. (
     λ h. absurd (rest_none a marks word none h),
@@ -258,8 +259,8 @@ step_nowhere a c marks none = record {
 no_sum : (m n : ℕ) → m + n ≡ 0 → (m ≡ 0) × (n ≡ 0)
 no_sum m n h = (omega arith, omega arith)
 
-power_of_nil : (L : List ℕ → Type 0) → ((w : List ℕ) → L w → w ≡ []) → (k : ℕ) (w : List ℕ) →
-    Power L k w → w ≡ []
+power_of_nil : (L : List ℕ → Type 0) → ((w : List ℕ) → L w → w ≡ []) → (k : ℕ) (w : List ℕ)
+    → Power L k w → w ≡ []
 power_of_nil L only zero w h = h
 power_of_nil L only (suc k) w h = h.is ∙ ap (λ v. v ++ h.suffix) (only h.prefix h.first) ∙
     power_of_nil L only k h.suffix h.second
@@ -277,8 +278,8 @@ only_nil (sequence a b) none w h =
 only_nil (plus a) none w h = power_of_nil (Words a) (only_nil a none) (suc h.0) w h.1
 
 -- without positions no mark leads anywhere
-pub rest_without : (a : Plain) (marks : List Bool) (word : List ℕ) → size a ≡ 0 →
-    Rest a marks word → ⊥
+pub rest_without : (a : Plain) (marks : List Bool) (word : List ℕ) → size a ≡ 0
+    → Rest a marks word → ⊥
 rest_without (class negated items) marks word none r = absurd (omega (arith, none))
 rest_without nothing marks word none r = r
 rest_without (either a b) marks word none (inl r) =
@@ -293,8 +294,8 @@ rest_without (sequence a b) marks word none (inr r) =
 rest_without (plus a) marks word none r = rest_without a marks r.prefix none r.first
 
 -- the end is then reached by the empty word alone
-pub ends_without : {a : Plain} {entered : Bool} {marks : List Bool} {p : Bool} → size a ≡ 0 →
-    IsTrue p ↔ (IsTrue entered × Words a []) → Ends a entered marks p
+pub ends_without : {a : Plain} {entered : Bool} {marks : List Bool} {p : Bool} → size a ≡ 0
+    → IsTrue p ↔ (IsTrue entered × Words a []) → Ends a entered marks p
 ends_without {a} {marks} none is = record {
   is = (
     λ h. inr (is.0 h),
@@ -302,16 +303,16 @@ ends_without {a} {marks} none is = record {
   );
 }
 
-pub without_ends : {a : Plain} {entered : Bool} {marks : List Bool} {p : Bool} → size a ≡ 0 →
-    Ends a entered marks p → IsTrue p ↔ (IsTrue entered × Words a [])
+pub without_ends : {a : Plain} {entered : Bool} {marks : List Bool} {p : Bool} → size a ≡ 0
+    → Ends a entered marks p → IsTrue p ↔ (IsTrue entered × Words a [])
 without_ends {a} {marks} none ends = (
   λ h. elim (ends.is.0 h) [ inl r ↦ absurd (rest_without a marks [] none r) | inr w ↦ w ],
   λ w. ends.is.1 (inr w),
 )
 
 -- and a step takes nothing
-pub step_without : {a : Plain} {c : ℕ} {entered : Bool} {before after : List Bool} {p : Bool} →
-    size a ≡ 0 → Ends a entered before p → Steps a c entered before after p
+pub step_without : {a : Plain} {c : ℕ} {entered : Bool} {before after : List Bool} {p : Bool}
+    → size a ≡ 0 → Ends a entered before p → Steps a c entered before after p
 step_without {a} {c} {before} {after} none ends = record {
   left = λ word. (
     λ h. absurd (rest_without a after word none h),
@@ -327,24 +328,24 @@ step_without {a} {c} {before} {after} none ends = record {
 pub record IsSameBefore (n : ℕ) (marks others : List Bool) : Type 0 where
   pub each : (k : ℕ) → k < n → get_or marks k false ≡ get_or others k false
 
-pub same_back : {n : ℕ} {marks others : List Bool} → IsSameBefore n marks others →
-    IsSameBefore n others marks
+pub same_back : {n : ℕ} {marks others : List Bool} → IsSameBefore n marks others
+    → IsSameBefore n others marks
 same_back same = record { each = λ k below. sym (same.each k below) }
 
-pub same_fewer : {m n : ℕ} {marks others : List Bool} → IsSameBefore n marks others → m ≤ n →
-    IsSameBefore m marks others
+pub same_fewer : {m n : ℕ} {marks others : List Bool} → IsSameBefore n marks others → m ≤ n
+    → IsSameBefore m marks others
 same_fewer same few = record { each = λ k below. same.each k (omega (arith, few, below)) }
 
-pub same_dropped : (m n : ℕ) {marks others : List Bool} → IsSameBefore (m + n) marks others →
-    IsSameBefore n (drop m marks) (drop m others)
+pub same_dropped : (m n : ℕ) {marks others : List Bool} → IsSameBefore (m + n) marks others
+    → IsSameBefore n (drop m marks) (drop m others)
 same_dropped m n {marks} {others} same = record {
   each = λ k below. get_or-drop m marks k false ∙ same.each (m + k) (omega arith) ∙
       sym (get_or-drop m others k false);
 }
 
 -- what leads to the end is told by the first marks, one for each position
-pub rest_same : (a : Plain) {marks others : List Bool} (word : List ℕ) →
-    IsSameBefore (size a) marks others → Rest a marks word → Rest a others word
+pub rest_same : (a : Plain) {marks others : List Bool} (word : List ℕ)
+    → IsSameBefore (size a) marks others → Rest a marks word → Rest a others word
 rest_same (class negated items) word same r = (sym (same.each 0 (omega arith)) ∙ r.0, r.1)
 rest_same nothing word same r = r
 rest_same (either a b) word same (inl r) = inl (rest_same a word (same_fewer same (omega arith)) r)
@@ -357,8 +358,8 @@ rest_same (sequence a b) word same (inr r) =
     inr (rest_same b word (same_dropped (size a) (size b) same) r)
 rest_same (plus a) word same r = with_first r (rest_same a r.prefix same r.first)
 
-pub ends_same : {a : Plain} {entered : Bool} {marks others : List Bool} {p : Bool} →
-    IsSameBefore (size a) marks others → Ends a entered marks p → Ends a entered others p
+pub ends_same : {a : Plain} {entered : Bool} {marks others : List Bool} {p : Bool}
+    → IsSameBefore (size a) marks others → Ends a entered marks p → Ends a entered others p
 ends_same {a} same ends = record {
   is = (
     λ h. elim (ends.is.0 h) [ inl r ↦ inl (rest_same a [] same r) | inr w ↦ inr w ],
@@ -367,8 +368,8 @@ ends_same {a} same ends = record {
 }
 
 pub step_same : {a : Plain} {c : ℕ} {entered : Bool} {before before' after after' : List Bool} {p :
-    Bool} → IsSameBefore (size a) before before' → IsSameBefore (size a) after after' →
-    Steps a c entered before after p → Steps a c entered before' after' p
+    Bool} → IsSameBefore (size a) before before' → IsSameBefore (size a) after after'
+    → Steps a c entered before after p → Steps a c entered before' after' p
 step_same {a} {c} same same' step = record {
   left = λ word. (
     λ h. elim ((step.left word).0 (rest_same a word (same_back same') h)) [

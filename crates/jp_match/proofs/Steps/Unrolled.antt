@@ -6,8 +6,8 @@ use Rattle.jp_iregexp.specs.Language.{Concatenation, Power, Language}
 use Rattle.jp_match.specs.Private.Plain.{Plain, Words, at_least, between, counted, unrolled}
 
 -- words of languages with the same words, joined
-joined_as : (L L' M M' : List ℕ → Type 0) → ((w : List ℕ) → L w → L' w) → ((w : List ℕ) → M w →
-    M' w) → (w : List ℕ) → Concatenation L M w → Concatenation L' M' w
+joined_as : (L L' M M' : List ℕ → Type 0) → ((w : List ℕ) → L w → L' w) → ((w : List ℕ) → M w
+    → M' w) → (w : List ℕ) → Concatenation L M w → Concatenation L' M' w
 joined_as L L' M M' first second w j = record {
   prefix = j.prefix;
   suffix = j.suffix;
@@ -17,14 +17,14 @@ joined_as L L' M M' first second w j = record {
   second = second j.suffix j.second;
 }
 
-power_as : (L L' : List ℕ → Type 0) → ((w : List ℕ) → L w → L' w) → (k : ℕ) (w : List ℕ) →
-    Power L k w → Power L' k w
+power_as : (L L' : List ℕ → Type 0) → ((w : List ℕ) → L w → L' w) → (k : ℕ) (w : List ℕ)
+    → Power L k w → Power L' k w
 power_as L L' each zero w p = p
 power_as L L' each (suc k) w p = joined_as L L' (Power L k) (Power L' k) each (power_as L L' each
     k) w p
 
-pub at_least_to : (a : Plain) (least : ℕ) (w : List ℕ) → Words (at_least a least) w →
-    (k : ℕ) × (least ≤ k) × Power (Words a) k w
+pub at_least_to : (a : Plain) (least : ℕ) (w : List ℕ) → Words (at_least a least) w
+    → (k : ℕ) × (least ≤ k) × Power (Words a) k w
 unfolding at_least
 at_least_to a zero w (inl none) = (0, omega arith, none)
 at_least_to a zero w (inr some) = (suc some.0, omega arith, some.1)
@@ -43,8 +43,8 @@ at_least_to a (suc (suc n)) w h =
       },
     )
 
-pub at_least_of : (a : Plain) (least k : ℕ) (w : List ℕ) → least ≤ k → Power (Words a) k w →
-    Words (at_least a least) w
+pub at_least_of : (a : Plain) (least k : ℕ) (w : List ℕ) → least ≤ k → Power (Words a) k w
+    → Words (at_least a least) w
 unfolding at_least
 at_least_of a zero zero w enough p = inl p
 at_least_of a zero (suc k) w enough p = inr (k, p)
@@ -55,8 +55,8 @@ at_least_of a (suc (suc n)) (suc k) w enough p =
     joined_as (Words a) (Words a) (Power (Words a) k) (Words (at_least a (suc n))) (λ v l. l)
     (λ v q. at_least_of a (suc n) k v (omega arith) q) w p
 
-pub between_to : (a : Plain) (least most : ℕ) (w : List ℕ) → Words (between a least most) w →
-    (k : ℕ) × (least ≤ k) × (k ≤ most) × Power (Words a) k w
+pub between_to : (a : Plain) (least most : ℕ) (w : List ℕ) → Words (between a least most) w
+    → (k : ℕ) × (least ≤ k) × (k ≤ most) × Power (Words a) k w
 unfolding between
 between_to a zero zero w h = (0, omega arith, omega arith, h)
 between_to a zero (suc most) w (inl none) = (0, omega arith, omega arith, none)
@@ -76,8 +76,8 @@ between_to a (suc least) (suc most) w j =
       record { prefix = j.prefix; suffix = j.suffix; is = j.is; first = j.first; second = words },
     )
 
-pub between_of : (a : Plain) (least most k : ℕ) (w : List ℕ) → least ≤ k → k ≤ most →
-    Power (Words a) k w → Words (between a least most) w
+pub between_of : (a : Plain) (least most k : ℕ) (w : List ℕ) → least ≤ k → k ≤ most
+    → Power (Words a) k w → Words (between a least most) w
 unfolding between
 between_of a zero zero zero w enough within p = p
 between_of a zero zero (suc k) w enough within p = absurd (omega arith)

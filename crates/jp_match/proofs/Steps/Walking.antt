@@ -18,9 +18,9 @@ use Rattle.jp_match.proofs.Steps.StepParts.{same_back, ends_same, step_same, ste
 use Rattle.jp_match.proofs.Steps.StepParts.{step_nothing, step_either, step_sequence}
 
 -- what is kept of the rounds is told by the first marks and the first rounds
-pub rounds_same : (a : Plain) {marks others rounds kept : List Bool} →
-    IsSameBefore (size a) marks others → IsSameBefore (rounds_of a) rounds kept →
-    Rounds a marks rounds → Rounds a others kept
+pub rounds_same : (a : Plain) {marks others rounds kept : List Bool}
+    → IsSameBefore (size a) marks others → IsSameBefore (rounds_of a) rounds kept
+    → Rounds a marks rounds → Rounds a others kept
 rounds_same (class negated items) same alike so = tt
 rounds_same nothing same alike so = tt
 rounds_same (either a b) same alike so = (
@@ -49,8 +49,8 @@ same_outside is = record {
   above = λ k h. rw is refl;
 }
 
-outside_then : {first at end : ℕ} {xs ys zs : List Bool} → first ≤ at → at ≤ end →
-    IsSameOutside first at xs ys → IsSameOutside at end ys zs → IsSameOutside first end xs zs
+outside_then : {first at end : ℕ} {xs ys zs : List Bool} → first ≤ at → at ≤ end
+    → IsSameOutside first at xs ys → IsSameOutside at end ys zs → IsSameOutside first end xs zs
 outside_then some more h k = record {
   same_length = k.same_length ∙ h.same_length;
   below = λ i under. k.below i (omega (arith, some)) ∙ h.below i under;
@@ -58,17 +58,17 @@ outside_then some more h k = record {
 }
 
 -- the places before one on are as they were
-same_here : (first n : ℕ) {at end : ℕ} {xs ys : List Bool} → at ≡ first + n →
-    IsSameOutside at end xs ys → IsSameBefore n (drop first xs) (drop first ys)
+same_here : (first n : ℕ) {at end : ℕ} {xs ys : List Bool} → at ≡ first + n
+    → IsSameOutside at end xs ys → IsSameBefore n (drop first xs) (drop first ys)
 same_here first n {xs} {ys} is h = record {
   each = λ k below. get_or-drop first xs k false ∙ sym (h.below (first + k) (omega (arith, is))) ∙
       sym (get_or-drop first ys k false);
 }
 
 -- from a place on, by its distance from another
-pub same_there : (first n at m : ℕ) (xs ys : List Bool) → at ≡ first + n →
-    ((k : ℕ) → at ≤ k → get_or xs k false ≡ get_or ys k false) →
-    IsSameBefore m (drop at xs) (drop n (drop first ys))
+pub same_there : (first n at m : ℕ) (xs ys : List Bool) → at ≡ first + n
+    → ((k : ℕ) → at ≤ k → get_or xs k false ≡ get_or ys k false)
+    → IsSameBefore m (drop at xs) (drop n (drop first ys))
 same_there first n at m xs ys is same = record {
   each = λ k below.
       let place : at + k ≡ first + (n + k) = omega (arith, is) in
@@ -94,8 +94,8 @@ record Beside (a b : Plain) (first next last : Walk) : Type 0 where
   counted : first.at + last.tests ≤ last.at + first.tests
   kept : first.tests ≤ last.tests
 
-beside : {a b : Plain} {c : ℕ} {e e' x x' : Reach} {first next last : Walk} →
-    Moves a c e first next x → Moves b c e' next last x' → Beside a b first next last
+beside : {a b : Plain} {c : ℕ} {e e' x x' : Reach} {first next last : Walk}
+    → Moves a c e first next x → Moves b c e' next last x' → Beside a b first next last
 beside {a} {b} {first} {next} {last} h k =
     let here = same_here first.at (size a) h.at k.marks in
     let after = same_there first.at (size a) next.at (size b) last.marks.items last.marks.items h.at
@@ -121,8 +121,8 @@ beside {a} {b} {first} {next} {last} h k =
 same_itself : {n : ℕ} {marks : List Bool} → IsSameBefore n marks marks
 same_itself = record { each = λ k below. refl }
 
-pub moves_sequence : {a b : Plain} {c : ℕ} {e x y : Reach} {first next last : Walk} →
-    Moves a c e first next x → Moves b c x next last y → Moves (sequence a b) c e first last y
+pub moves_sequence : {a b : Plain} {c : ℕ} {e x y : Reach} {first next last : Walk}
+    → Moves a c e first next x → Moves b c x next last y → Moves (sequence a b) c e first last y
 moves_sequence h k =
     let s = beside h k in
     record {
@@ -138,9 +138,9 @@ moves_sequence h k =
       kept = s.kept;
     }
 
-pub moves_either : {a b : Plain} {c : ℕ} {e x y : Reach} {first next last : Walk} →
-    Moves a c e first next x → Moves b c e next last y →
-    Moves (either a b) c e first last (by_either x y)
+pub moves_either : {a b : Plain} {c : ℕ} {e x y : Reach} {first next last : Walk}
+    → Moves a c e first next x → Moves b c e next last y
+    → Moves (either a b) c e first last (by_either x y)
 moves_either h k =
     let s = beside h k in
     record {
@@ -185,8 +185,8 @@ moves_nothing = record {
 }
 
 -- the end for any entry
-ends_reached : {a : Plain} (entered : Bool) {marks : List Bool} {f t : Bool} → Ends a false marks f →
-    Ends a true marks t → Ends a entered marks (reached entered f t)
+ends_reached : {a : Plain} (entered : Bool) {marks : List Bool} {f t : Bool} → Ends a false marks f
+    → Ends a true marks t → Ends a entered marks (reached entered f t)
 ends_reached true {f} {t} off on = record {
   is = (
     λ h. elim ((or_is f t).0 h) [
@@ -198,8 +198,8 @@ ends_reached true {f} {t} off on = record {
 }
 ends_reached {a} false {marks} {f} off on = subst (Ends a false marks) (sym (or_false f)) off
 
-pub moves_entered : {a : Plain} {c : ℕ} {e x : Reach} {first next : Walk} →
-    Moves a c (at_start e.before) first next x → Moves a c e first next (by_next e x)
+pub moves_entered : {a : Plain} {c : ℕ} {e x : Reach} {first next : Walk}
+    → Moves a c (at_start e.before) first next x → Moves a c e first next (by_next e x)
 moves_entered {e} h = record {
   at = h.at;
   round = h.round;
@@ -217,8 +217,8 @@ by_nowhere : (r : Reach) → by_next r nowhere ≡ nowhere
 by_nowhere r = rw (and_false r.after, and_false r.after_entered) refl
 
 -- where nothing is entered and no mark leads to the end
-pub moves_nowhere : {a : Plain} {c : ℕ} {e : Reach} {first next : Walk} → e.before ≡ false →
-    Moves a c (at_start false) first next nowhere → Moves a c e first next nowhere
+pub moves_nowhere : {a : Plain} {c : ℕ} {e : Reach} {first next : Walk} → e.before ≡ false
+    → Moves a c (at_start false) first next nowhere → Moves a c e first next nowhere
 moves_nowhere {a} {c} {e} {first} {next} is h = subst (Moves a c e first next) (by_nowhere e)
     (moves_entered {e = e} {x = nowhere} (rw is h))
 
@@ -230,8 +230,8 @@ before_first h = record {
   so = h.so.0;
 }
 
-before_next : {a b : Plain} {c : ℕ} {e x : Reach} {walk next : Walk} →
-    IsBefore (sequence a b) walk → Moves a c e walk next x → IsBefore b next
+before_next : {a b : Plain} {c : ℕ} {e x : Reach} {walk next : Walk}
+    → IsBefore (sequence a b) walk → Moves a c e walk next x → IsBefore b next
 before_next {a} {b} {walk} {next} h m = record {
   marks = omega (arith, h.marks, m.at, m.marks.same_length);
   rounds = λ some. let fit = h.rounds (omega (arith, some)) in
@@ -243,8 +243,8 @@ before_next {a} {b} {walk} {next} h m = record {
       walk.rounds.items m.round m.rounds.above)) h.so.1;
 }
 
-pub as_sequence : {a b : Plain} {walk : Walk} → IsBefore (either a b) walk →
-    IsBefore (sequence a b) walk
+pub as_sequence : {a b : Plain} {walk : Walk} → IsBefore (either a b) walk
+    → IsBefore (sequence a b) walk
 as_sequence h = record { marks = h.marks; rounds = h.rounds; so = h.so }
 
 -- a walk so far, and how the ends of the parts before are reached: whatever the rest does completes
@@ -252,25 +252,25 @@ as_sequence h = record { marks = h.marks; rounds = h.rounds; so = h.so }
 pub record Walked (whole todo : Plain) (c : ℕ) (begin : Bool) (through : Reach) (first now : Walk)
     (ended : Reach) : Type 0 where
   pub before : IsBefore todo now
-  pub completes : (last : Walk) (end : Reach) → Moves todo c through now last end →
-      Moves whole c (at_start begin) first last (by_either ended end)
+  pub completes : (last : Walk) (end : Reach) → Moves todo c through now last end
+      → Moves whole c (at_start begin) first last (by_either ended end)
 
-pub walked_none : {whole : Plain} {c : ℕ} {e : Bool} {walk : Walk} → IsBefore whole walk →
-    Walked whole whole c e (at_start e) walk walk nowhere
+pub walked_none : {whole : Plain} {c : ℕ} {e : Bool} {walk : Walk} → IsBefore whole walk
+    → Walked whole whole c e (at_start e) walk walk nowhere
 walked_none before = record { before = before; completes = λ last end h. h }
 
 pub walked_next : {whole a b : Plain} {c : ℕ} {begin : Bool} {through x ended : Reach} {first now
-    next : Walk} → Walked whole (sequence a b) c begin through first now ended →
-    Moves a c through now next x → Walked whole b c begin x first next ended
+    next : Walk} → Walked whole (sequence a b) c begin through first now ended
+    → Moves a c through now next x → Walked whole b c begin x first next ended
 walked_next so_far here = record {
   before = before_next so_far.before here;
   completes = λ last end h. so_far.completes last end (moves_sequence here h);
 }
 
 pub walked_piece : {whole a b : Plain} {c : ℕ} {begin : Bool} {through x ended : Reach} {first now
-    next : Walk} → Walked whole (sequence a b) c begin through first now ended →
-    Moves a c (at_start through.before) now next x →
-    Walked whole b c begin (by_next through x) first next ended
+    next : Walk} → Walked whole (sequence a b) c begin through first now ended
+    → Moves a c (at_start through.before) now next x
+    → Walked whole b c begin (by_next through x) first next ended
 walked_piece {through} so_far moved = walked_next so_far (moves_entered {e = through} moved)
 
 either_assoc : (r s t : Reach) → by_either (by_either r s) t ≡ by_either r (by_either s t)
@@ -285,50 +285,50 @@ either_nowhere r = rw (or_false r.before, or_false r.after, or_false r.after_ent
 
 -- the walk may end here, and goes on
 pub walked_either : {whole a b : Plain} {c : ℕ} {begin : Bool} {through x ended : Reach} {first now
-    next : Walk} → Walked whole (either a b) c begin through first now ended →
-    Moves a c through now next x → Walked whole b c begin through first next (by_either ended x)
+    next : Walk} → Walked whole (either a b) c begin through first now ended
+    → Moves a c through now next x → Walked whole b c begin through first next (by_either ended x)
 walked_either {whole} {c} {begin} {x} {ended} {first} so_far here = record {
   before = before_next (as_sequence so_far.before) here;
   completes = λ last end h. subst (Moves whole c (at_start begin) first last) (sym (either_assoc
       ended x end)) (so_far.completes last (by_either x end) (moves_either here h));
 }
 
-pub before_branch : (a : Tree) (others : List Tree) {walk : Walk} →
-    IsBefore (unrolled (branches (a ∷ others))) walk → IsBefore (unrolled a) walk
+pub before_branch : (a : Tree) (others : List Tree) {walk : Walk}
+    → IsBefore (unrolled (branches (a ∷ others))) walk → IsBefore (unrolled a) walk
 unfolding unrolled
 before_branch a others h = before_first {b = unrolled (branches others)} (as_sequence h)
 
-pub before_piece : (a : Tree) (others : List Tree) {walk : Walk} →
-    IsBefore (unrolled (pieces (a ∷ others))) walk → IsBefore (unrolled a) walk
+pub before_piece : (a : Tree) (others : List Tree) {walk : Walk}
+    → IsBefore (unrolled (pieces (a ∷ others))) walk → IsBefore (unrolled a) walk
 unfolding unrolled
 before_piece a others h = before_first {b = unrolled (pieces others)} h
 
 pub walked_next_branch : {whole : Plain} (a : Tree) (others : List Tree) {c : ℕ} {begin e : Bool}
-    {x ended : Reach} {first now next : Walk} →
-    Walked whole (unrolled (branches (a ∷ others))) c begin (at_start e) first now ended →
-    Moves (unrolled a) c (at_start e) now next x →
-    Walked whole (unrolled (branches others)) c begin (at_start e) first next (by_either ended x)
+    {x ended : Reach} {first now next : Walk}
+    → Walked whole (unrolled (branches (a ∷ others))) c begin (at_start e) first now ended
+    → Moves (unrolled a) c (at_start e) now next x
+    → Walked whole (unrolled (branches others)) c begin (at_start e) first next (by_either ended x)
 unfolding unrolled
 walked_next_branch a others so_far moved = walked_either so_far moved
 
 pub walked_next_piece : {whole : Plain} (a : Tree) (others : List Tree) {c : ℕ} {begin : Bool}
-    {through x ended : Reach} {first now next : Walk} →
-    Walked whole (unrolled (pieces (a ∷ others))) c begin through first now ended →
-    Moves (unrolled a) c through now next x →
-    Walked whole (unrolled (pieces others)) c begin x first next ended
+    {through x ended : Reach} {first now next : Walk}
+    → Walked whole (unrolled (pieces (a ∷ others))) c begin through first now ended
+    → Moves (unrolled a) c through now next x
+    → Walked whole (unrolled (pieces others)) c begin x first next ended
 unfolding unrolled
 walked_next_piece a others so_far moved = walked_next so_far moved
 
 -- no branch, or no piece, is left
 pub walked_branches : {whole : Plain} {c : ℕ} {begin : Bool} {through ended : Reach} {first now :
-    Walk} → Walked whole (unrolled (branches [])) c begin through first now ended →
-    Moves whole c (at_start begin) first now ended
+    Walk} → Walked whole (unrolled (branches [])) c begin through first now ended
+    → Moves whole c (at_start begin) first now ended
 unfolding unrolled
 walked_branches {whole} {c} {begin} {ended} {first} {now} so_far = subst (Moves whole c (at_start
     begin) first now) (either_nowhere ended) (so_far.completes now nowhere moves_nothing)
 
-pub walked_pieces : {whole : Plain} {c : ℕ} {begin : Bool} {through : Reach} {first now : Walk} →
-    Walked whole (unrolled (pieces [])) c begin through first now nowhere →
-    Moves whole c (at_start begin) first now through
+pub walked_pieces : {whole : Plain} {c : ℕ} {begin : Bool} {through : Reach} {first now : Walk}
+    → Walked whole (unrolled (pieces [])) c begin through first now nowhere
+    → Moves whole c (at_start begin) first now through
 unfolding unrolled
 walked_pieces {through} {now} so_far = so_far.completes now through moves_empty

@@ -16,8 +16,8 @@ use Rattle.jp_match.proofs.Steps.Idle.{by_none, unmarked, moves_unmarked}
 use Rattle.jp_match.proofs.Steps.StepParts.{step_either, step_nothing}
 use Rattle.jp_match.proofs.Steps.Walking.{Walked, moves_entered, before_first, as_sequence}
 
-pub all_moved : {a : Plain} {c : ℕ} (end : ℕ) {e : Bool} {first last : Walk} {x : Reach} →
-    IsAtStart a end first → Moves a c (at_start e) first last x → MovesAll a c e first last x
+pub all_moved : {a : Plain} {c : ℕ} (end : ℕ) {e : Bool} {first last : Walk} {x : Reach}
+    → IsAtStart a end first → Moves a c (at_start e) first last x → MovesAll a c e first last x
 all_moved end {last = last} start m = record {
   marks = m.marks.same_length;
   rounds = m.rounds.same_length;
@@ -42,10 +42,10 @@ all_moved end {last = last} start m = record {
 
 -- where nothing is entered and no mark is left, the others stay as they are
 pub all_ended : {whole rest : Plain} {c : ℕ} (end : ℕ) {begin : Bool} {through : Reach} {first now :
-    Walk} → IsAtStart whole end first → Walked whole rest c begin through first now nowhere →
-    ((k : ℕ) → now.at ≤ k → get_or now.marks.items k false ≡ get_or first.marks.items k false) →
-    first.tests ≤ now.tests → now.tests ≤ now.at + first.tests → end ≤ now.at → through ≡ nowhere →
-    MovesAll whole c begin first now nowhere
+    Walk} → IsAtStart whole end first → Walked whole rest c begin through first now nowhere
+    → ((k : ℕ) → now.at ≤ k → get_or now.marks.items k false ≡ get_or first.marks.items k false)
+    → first.tests ≤ now.tests → now.tests ≤ now.at + first.tests → end ≤ now.at → through ≡ nowhere
+    → MovesAll whole c begin first now nowhere
 all_ended {whole} {rest} {c} end {begin} {through} {first} {now} start so_far ahead kept counted over
     is =
     let none : (k : ℕ) → now.at ≤ k → IsTrue (get_or now.marks.items k false) → ⊥ = λ k beyond h.
@@ -84,8 +84,8 @@ all_ended {whole} {rest} {c} end {begin} {through} {first} {now} start so_far ah
     }
 
 -- a pattern of one branch is as the branch
-pub start_branch : {a : Plain} {end : ℕ} {walk : Walk} → IsAtStart (either a nothing) end walk →
-    IsAtStart a end walk
+pub start_branch : {a : Plain} {end : ℕ} {walk : Walk} → IsAtStart (either a nothing) end walk
+    → IsAtStart a end walk
 start_branch start = record {
   before = before_first {b = nothing} (as_sequence start.before);
   at = start.at;
@@ -93,8 +93,8 @@ start_branch start = record {
   ended = start.ended;
 }
 
-pub all_branch : {a : Plain} {c : ℕ} {e : Bool} {first last : Walk} {x : Reach} →
-    MovesAll a c e first last x → MovesAll (either a nothing) c e first last x
+pub all_branch : {a : Plain} {c : ℕ} {e : Bool} {first last : Walk} {x : Reach}
+    → MovesAll a c e first last x → MovesAll (either a nothing) c e first last x
 all_branch {a} {c} {e} {first} {last} {x} m =
     let before = drop first.at first.marks.items in
     let after = drop first.at last.marks.items in
@@ -114,16 +114,16 @@ all_branch {a} {c} {e} {first} {last} {x} m =
       kept = m.kept;
     }
 
-pub start_only : {t u : Tree} {ts : List Tree} {end : ℕ} {walk : Walk} → ts ≡ t ∷ [] → t ≡ u →
-    IsAtStart (unrolled (branches ts)) end walk → IsAtStart (unrolled u) end walk
+pub start_only : {t u : Tree} {ts : List Tree} {end : ℕ} {walk : Walk} → ts ≡ t ∷ [] → t ≡ u
+    → IsAtStart (unrolled (branches ts)) end walk → IsAtStart (unrolled u) end walk
 unfolding unrolled
 start_only {t} {end = end} {walk} one is start =
     let whole : IsAtStart (either (unrolled t) nothing) end walk = rw one at start in
     subst (λ t. IsAtStart (unrolled t) end walk) is (start_branch whole)
 
-pub all_only : {t u : Tree} {ts : List Tree} {c : ℕ} {e : Bool} {first last : Walk} {x : Reach} →
-    ts ≡ t ∷ [] → t ≡ u → MovesAll (unrolled u) c e first last x →
-    MovesAll (unrolled (branches ts)) c e first last x
+pub all_only : {t u : Tree} {ts : List Tree} {c : ℕ} {e : Bool} {first last : Walk} {x : Reach}
+    → ts ≡ t ∷ [] → t ≡ u → MovesAll (unrolled u) c e first last x
+    → MovesAll (unrolled (branches ts)) c e first last x
 unfolding unrolled
 all_only {t} {c = c} {e} {first} {last} {x} one is m =
     let whole : MovesAll (either (unrolled t) nothing) c e first last x = rw is (all_branch m) in

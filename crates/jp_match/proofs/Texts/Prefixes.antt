@@ -7,35 +7,35 @@ use Rattle.std.proofs.Math.Nat.{mul-le-mul_left}
 use Rattle.jp_match.specs.Part.{HasPart}
 use Rattle.jp_match.specs.Scan.{HasSuffix}
 
-pub taken_more : (text taken : List ℕ) (x : ℕ) → taken ≡ take (length taken) text →
-    length taken < length text → x ≡ get_or text (length taken) x →
-    taken ++ x ∷ [] ≡ take (length (taken ++ x ∷ [])) text
+pub taken_more : (text taken : List ℕ) (x : ℕ) → taken ≡ take (length taken) text
+    → length taken < length text → x ≡ get_or text (length taken) x
+    → taken ++ x ∷ [] ≡ take (length (taken ++ x ∷ [])) text
 taken_more text taken x is below item =
     let more = take_more text (length taken) x below in
     ap (λ ys. ys ++ x ∷ []) is ∙ ap (λ y. take (length taken) text ++ y ∷ []) item ∙ sym more ∙
     ap (λ n. take n text) (sym (length_push taken x))
 
-pub taken_all : (text taken : List ℕ) → taken ≡ take (length taken) text →
-    length taken ≡ length text → taken ≡ text
+pub taken_all : (text taken : List ℕ) → taken ≡ take (length taken) text
+    → length taken ≡ length text → taken ≡ text
 taken_all text taken is all = is ∙ take_all (length taken) text (omega arith)
 
-pub taken_rest : (text taken : List ℕ) → taken ≡ take (length taken) text →
-    text ≡ taken ++ drop (length taken) text
+pub taken_rest : (text taken : List ℕ) → taken ≡ take (length taken) text
+    → text ≡ taken ++ drop (length taken) text
 taken_rest text taken is = sym (take-append-drop (length taken) text) ∙
     ap (λ t. t ++ drop (length taken) text) (sym is)
 
 -- what is left after a character more
-pub left_more : (L L' : List ℕ → Type 0) (First : List ℕ → Type 0) (taken : List ℕ) (x : ℕ) →
-    ((w : List ℕ) → L w ↔ First (taken ++ w)) → ((w : List ℕ) → L' w ↔ L (x ∷ w)) →
-    (w : List ℕ) → L' w ↔ First ((taken ++ x ∷ []) ++ w)
+pub left_more : (L L' : List ℕ → Type 0) (First : List ℕ → Type 0) (taken : List ℕ) (x : ℕ)
+    → ((w : List ℕ) → L w ↔ First (taken ++ w)) → ((w : List ℕ) → L' w ↔ L (x ∷ w))
+    → (w : List ℕ) → L' w ↔ First ((taken ++ x ∷ []) ++ w)
 left_more L L' First taken x so_far step w =
     let joined = append_assoc taken (x ∷ []) w in (
       λ h. subst First (sym joined) ((so_far (x ∷ w)).0 ((step w).0 h)),
       λ h. (step w).1 ((so_far (x ∷ w)).1 (subst First joined h)),
     )
 
-pub left_nil : (L First : List ℕ → Type 0) (taken : List ℕ) → ((w : List ℕ) →
-    L w ↔ First (taken ++ w)) → L [] ↔ First taken
+pub left_nil : (L First : List ℕ → Type 0) (taken : List ℕ) → ((w : List ℕ)
+    → L w ↔ First (taken ++ w)) → L [] ↔ First taken
 left_nil L First taken so_far = (
   λ h. subst First (append-nil taken) ((so_far []).0 h),
   λ h. (so_far []).1 (subst First (sym (append-nil taken)) h),
@@ -46,8 +46,8 @@ pub within_all : (p n all : ℕ) → n ≤ all → p * n ≤ p * all
 within_all p n all h = mul-le-mul_left p h
 
 -- a part of a text is a suffix of one of its prefixes
-pub part_is : (L : List ℕ → Type 0) (text : List ℕ) →
-    ((count : ℕ) × (count ≤ length text) × HasSuffix L (take count text)) ↔ HasPart L text
+pub part_is : (L : List ℕ → Type 0) (text : List ℕ)
+    → ((count : ℕ) × (count ≤ length text) × HasSuffix L (take count text)) ↔ HasPart L text
 part_is L text = (
   λ h.
       let (count, within, s) = h in

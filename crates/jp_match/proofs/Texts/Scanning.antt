@@ -11,8 +11,8 @@ use Rattle.jp_match.proofs.Steps.StepParts.{rest_none}
 use Rattle.jp_match.proofs.Steps.Unrolled.{unrolled-words}
 
 -- a suffix of a word is the word, or one of what is after its first character
-pub suffix_cons : (L : List ℕ → Type 0) (c : ℕ) (w : List ℕ) → HasSuffix L (c ∷ w) →
-    L (c ∷ w) ⊎ HasSuffix L w
+pub suffix_cons : (L : List ℕ → Type 0) (c : ℕ) (w : List ℕ) → HasSuffix L (c ∷ w)
+    → L (c ∷ w) ⊎ HasSuffix L w
 suffix_cons L c w h = parts h.before h.suffix h.is h.holds where
   parts : (before suffix : List ℕ) → c ∷ w ≡ before ++ suffix → L suffix → L (c ∷ w) ⊎ HasSuffix L w
   parts [] suffix is holds = inl (subst L (sym is) holds)
@@ -38,8 +38,8 @@ nil_suffix L h = parts h.before h.suffix h.is h.holds where
   parts (x ∷ before) suffix is holds = absurd (cc)
 
 pub left_step : (t : Tree) (anywhere start : Bool) (c : ℕ) (before after : List Bool) (ended :
-    Bool) → Steps (unrolled t) c start before after ended → (w : List ℕ) →
-    (Rest (unrolled t) after w ⊎ (IsTrue (start && anywhere) × Sought t anywhere w)) ↔ (Rest
+    Bool) → Steps (unrolled t) c start before after ended → (w : List ℕ)
+    → (Rest (unrolled t) after w ⊎ (IsTrue (start && anywhere) × Sought t anywhere w)) ↔ (Rest
     (unrolled t) before (c ∷ w) ⊎ (IsTrue start × Sought t anywhere (c ∷ w)))
 left_step t false start c before after ended h w = (
   λ e. elim e [
@@ -94,9 +94,9 @@ sought_nil : (t : Tree) (anywhere : Bool) → Sought t anywhere [] ↔ Language 
 sought_nil t false = (λ h. h, λ h. h)
 sought_nil t true = (nil_suffix (Language t), whole_suffix (Language t) [])
 
-pub left_ends : (t : Tree) (anywhere start : Bool) (row : List Bool) (ended : Bool) →
-    Ends (unrolled t) start row ended →
-    IsTrue ended ↔ (Rest (unrolled t) row [] ⊎ (IsTrue start × Sought t anywhere []))
+pub left_ends : (t : Tree) (anywhere start : Bool) (row : List Bool) (ended : Bool)
+    → Ends (unrolled t) start row ended
+    → IsTrue ended ↔ (Rest (unrolled t) row [] ⊎ (IsTrue start × Sought t anywhere []))
 left_ends t anywhere start row ended h = (
   λ e. elim (h.is.0 e) [
     | inl r ↦ inl r
@@ -114,9 +114,9 @@ left_ends t anywhere start row ended h = (
   ]),
 )
 
-pub left_first : (t : Tree) (anywhere : Bool) (row : List Bool) → ((k : ℕ) →
-    IsTrue (get_or row k false) → ⊥) → (w : List ℕ) →
-    (Rest (unrolled t) row w ⊎ (IsTrue true × Sought t anywhere w)) ↔ Sought t anywhere w
+pub left_first : (t : Tree) (anywhere : Bool) (row : List Bool) → ((k : ℕ)
+    → IsTrue (get_or row k false) → ⊥) → (w : List ℕ)
+    → (Rest (unrolled t) row w ⊎ (IsTrue true × Sought t anywhere w)) ↔ Sought t anywhere w
 left_first t anywhere row none w = (
   λ e. elim e [
     | inl r ↦ absurd (rest_none (unrolled t) row w none

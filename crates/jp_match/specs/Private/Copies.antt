@@ -11,8 +11,8 @@ enters optional entered marks (suc k) = get_or marks k false || (optional && ent
 -- copies take a character where they are entered and their class holds it
 pub record IsTurned (optional entered holds : Bool) (before after : List Bool) : Type 0 where
   pub same_length : length after ≡ length before
-  pub each : (k : ℕ) → k < length before →
-      get_or after k false ≡ (enters optional entered before k && holds)
+  pub each : (k : ℕ) → k < length before
+      → get_or after k false ≡ (enters optional entered before k && holds)
 
 -- a mark reaches the end: there may be so many copies, and none is wanted after the one that is
 -- marked

@@ -1,6 +1,6 @@
 -- Patterns with their counted repeats written out.
 use Rattle.std.specs.Prelude.{◌≡◌, ◌⊎◌, ℕ, zero, suc, Bool, true, List, [], ◌∷◌, Option, Some, None}
-use Rattle.jp_iregexp.specs.declared.class.ClassItem.{ClassItem}
+use Rattle.jp_iregexp.specs.declared.class.ClassElement.{ClassElement}
 use Rattle.jp_iregexp.specs.Class.{class_holds}
 use Rattle.jp_iregexp.specs.Tree as tree
 use Rattle.jp_iregexp.specs.Tree.{Tree}
@@ -8,7 +8,7 @@ use Rattle.jp_iregexp.specs.Language.{Concatenation, Power}
 
 -- a pattern whose only repeat is one or more
 pub data Plain : Type 0 where
-  class : Bool → List ClassItem → Plain
+  class : Bool → List ClassElement → Plain
   nothing : Plain
   either : Plain → Plain → Plain
   empty : Plain

@@ -46,8 +46,8 @@ parts_of (repeat a least most) = a ∷ []
 -- what is known of each pattern of a list; nothing of those that the other list is too short for
 pub record EachKnown (ts : List Tree) (text : List ℕ) (known : List (List (List Bool))) : Type 0
   where
-    pub each : (i : ℕ) → i < length ts →
-        AreKnown (Language (get_or ts i nothing)) text (get_or known i [])
+    pub each : (i : ℕ) → i < length ts
+        → AreKnown (Language (get_or ts i nothing)) text (get_or known i [])
 
 -- a set holds exactly the places of the rows whose own place is in another
 pub record IsUnion (rows : List (List Bool)) (from to : List Bool) : Type 0 where

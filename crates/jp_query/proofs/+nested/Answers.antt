@@ -6,16 +6,17 @@ use Rattle.std.proofs.lemmas.Str.{chars-nil}
 use Rattle.std.proofs.lemmas.List.{length-map, length-append, drop_more, drop_all}
 use Rattle.jp_reading.specs.Texts.{Text}
 use Rattle.jp_reading.specs.Outcome.{State, Outcome, took, ◌>>=◌, skip, expect, passes, is}
-use Rattle.jp_reading.specs.Outcome.{after_blank, item_since}
-use Rattle.jp_reading.specs.Views.{Fails, Gives, by}
+use Rattle.jp_reading.specs.Outcome.{after_blank, component_since}
+use Rattle.jp_reading.specs.Views.{Fails, Gives, outcome_map}
 use Rattle.jp_reading.specs.Rule.{here, beyond, blanks, relaxed, ◌>>◌}
 use Rattle.jp_reading.specs.RuleReading.{spanned_if}
 use Rattle.jp_reading.proofs.Folds.{fails-then}
 use Rattle.jp_reading.proofs.Rules.Rounds as loops
 use Rattle.jp_tree.specs.declared.tree.Operand.TheVariants as operand
 use Rattle.jp_tree.specs.declared.tree.Subject.{the_lemmas}
-use Rattle.jp_tree.specs.Tree.{SegmentTree, argument_of, call_of, expr_of}
-use Rattle.jp_tree.specs.Tree.{literal_of, operand_of, selector_of, segment_of, query_of}
+use Rattle.jp_tree.specs.Tree.{SegmentTree}
+use Rattle.jp_tree.specs.Views.{argument_of, call_of, expr_of}
+use Rattle.jp_tree.specs.Views.{literal_of, operand_of, selector_of, segment_of, query_of}
 use Rattle.jp_tree.specs.Tree.{ArgumentTree, OperandTree, true_literal, false_literal}
 use Rattle.jp_tree.specs.Tree.{null_literal, query_argument, call_argument, logical_argument}
 use Rattle.jp_tree.specs.Tree.{exists, any_of, all_of, call_test}
@@ -27,10 +28,10 @@ use Rattle.jp_query.specs.Private.Rules.{segments, begins_segment, entry, basic}
 use Rattle.jp_query.specs.Private.Rules.{conjunction, other_parts, call_with}
 use Rattle.jp_query.specs.Private.Rules.{argument, argument_start, argument_on}
 use Rattle.jp_query.specs.Private.Rules.{next_argument, some_arguments, is_logical, query_within}
-use Rattle.jp_query.specs.Private.Rules.{inside_mark, side, word_from, word_of}
+use Rattle.jp_query.specs.Private.Rules.{inside_expression, side, word_from, word_of}
 use Rattle.jp_query.specs.Private.Parts.{boxed_argument, boxed_expr, boxed_selector}
 use Rattle.jp_query.specs.Private.Parts.{first_argument}
-use Rattle.jp_query.specs.Private.Parts.{next_entry, logical_at, mark_of, part_of, several}
+use Rattle.jp_query.specs.Private.Parts.{next_entry, logical_at, character_of, part_of, several}
 use Rattle.jp_query.specs.Private.Reading.{inside, call_inside, read_inside}
 use Rattle.jp_query.proofs.Levels.{inside-progress, inside-entered}
 use Rattle.jp_tree.proofs.Trees.{tree_operand_literal}
@@ -135,20 +136,20 @@ selectors::next_entry-returns t c =
 pub expressions::joined_from-returns-then-not-is_before_joint :
     goal.expressions::joined_from-returns-then-not-is_before_joint
 expressions::joined_from-returns-then-not-is_before_joint t c =
-    ap (by (λ es. joined (several c.args.connective) (boxed_expr c.args.first ∷ es)))
-    (rounds.parts-none (inside c.args.levels) (mark_of c.args.connective)
+    ap (outcome_map (λ es. joined (several c.args.connective) (boxed_expr c.args.first ∷ es)))
+    (rounds.parts-none (inside c.args.levels) (character_of c.args.connective)
     (part_of c.args.connective) c.args.reader.now
     (sym c.is_before_joint.ensures ∙ c.if-not-is_before_joint.true))
 
 pub expressions::joined_from-parts-init : goal.expressions::joined_from-parts-init
 expressions::joined_from-parts-init t c =
-    let items : c.append_boxed.new.list.items ≡ c.args.first.value ∷ [] =
+    let components : c.append_boxed.new.list.items ≡ c.args.first.value ∷ [] =
     c.in_ok-append_boxed.ensures ∙ ap (λ xs. xs ++ c.args.first.value ∷ []) c.new-parts.ensures.items in
-    let on : passes (is (mark_of c.args.connective)) (after_blank c.args.reader.now) ≡ true =
+    let on : passes (is (character_of c.args.connective)) (after_blank c.args.reader.now) ≡ true =
     sym c.is_before_joint.ensures ∙ c.if-not-is_before_joint.false in
     record {
-      total = rw (ap (map expr_of) items) refl;
-      some = rw items (omega arith);
+      total = rw (ap (map expr_of) components) refl;
+      some = rw components (omega arith);
       several = λ off. absurd (true≢false (sym on ∙ off));
     }
 
@@ -160,7 +161,7 @@ expressions::joined_from-returns-in_err-joint t c =
     (rounds.parts-fail c.args.levels c.args.connective (boxed_expr c.args.first) c.args.reader.now
     e (map expr_of c.parts.parts.items) c.parts.reader c.parts.invariant.total
     (sym c.is_before_joint-in-parts.ensures ∙ c.parts-test.true)
-    (rounds.mark-fails (inside c.args.levels) (mark_of c.args.connective)
+    (rounds.joint-fails (inside c.args.levels) (character_of c.args.connective)
     (part_of c.args.connective) c.parts.reader e
     c.in_err-joint.ensures))
 
@@ -172,9 +173,9 @@ expressions::joined_from-returns-in_err-next t c =
     (rounds.parts-fail c.args.levels c.args.connective (boxed_expr c.args.first) c.args.reader.now
     e (map expr_of c.parts.parts.items) c.parts.reader c.parts.invariant.total
     (sym c.is_before_joint-in-parts.ensures ∙ c.parts-test.true)
-    (rounds.part-fails (inside c.args.levels) (mark_of c.args.connective)
+    (rounds.part-fails (inside c.args.levels) (character_of c.args.connective)
     (part_of c.args.connective) c.parts.reader c.joint.new.reader
-    (mark_of c.args.connective) e c.in_ok-joint.ensures c.in_err-next.ensures))
+    (character_of c.args.connective) e c.in_ok-joint.ensures c.in_err-next.ensures))
 
 pub expressions::joined_from-parts-smaller : goal.expressions::joined_from-parts-smaller
 expressions::joined_from-parts-smaller t c =
@@ -202,7 +203,7 @@ expressions::joined_from-parts-preserved t c =
 
 pub expressions::joined_from-returns : goal.expressions::joined_from-returns
 expressions::joined_from-returns t c =
-    let off : passes (is (mark_of c.args.connective)) (after_blank c.parts.reader) ≡ false =
+    let off : passes (is (character_of c.args.connective)) (after_blank c.parts.reader) ≡ false =
     sym c.is_before_joint-in-parts.ensures ∙ c.parts-test.false in
     let two = c.parts.invariant.several off in
     rounds.parts-end c.args.levels c.args.connective (boxed_expr c.args.first) c.args.reader.now
@@ -212,12 +213,12 @@ expressions::joined_from-returns t c =
 -- ---- levels and brackets
 
 pub expressions::inside-returns-then-levels-eq0 : goal.expressions::inside-returns-then-levels-eq0
-unfolding inside_mark
+unfolding inside_expression
 expressions::inside-returns-then-levels-eq0 t c = search rules
 
 pub expressions::inside-returns : goal.expressions::inside-returns
 expressions::inside-returns t c =
-    let entered = inside-entered c.args.levels c.args.mark c.args.reader.now c.expect.new.self
+    let entered = inside-entered c.args.levels c.args.opening c.args.reader.now c.expect.new.self
     (λ none. (let some = c.if-levels-eq0.false in omega arith)) c.in_ok-expect.ensures.taken in
     rw (entered, ← c.skip.ensures) c.expression.ensures
 
@@ -346,9 +347,9 @@ calls::argument-returns t c =
     let x = boxed_argument c.in_ok-argument.argument in
     let on : is_logical x ≡ true = ap (λ a. is_logical (argument_of a)) (sym c.deref.ensures)
     ∙ sym c.is_logical.ensures ∙ c.if-not-is_logical.false in
-    let added : c.add_item.new.self ≡ item_since c.args.reader.now.at
+    let added : c.add_component.new.self ≡ component_since c.args.reader.now.at
     (length c.args.reader.now.found) c.argument_from.new.reader =
-    rw (c.place-start.ensures, c.items-before.ensures) at c.in_ok-add_item.ensures.added in
+    rw (c.place-start.ensures, c.components-before.ensures) at c.in_ok-add_component.ensures.added in
     parts.argument-took (inside c.args.levels) c.args.reader.now c.argument_start.new.reader
     c.argument_from.new.reader
     (first_argument c.in_ok-first.first) x c.in_ok-first.ensures c.in_ok-argument.ensures
@@ -405,7 +406,7 @@ pub calls::logical-returns-in_err-conjunction : goal.calls::logical-returns-in_e
 calls::logical-returns-in_err-conjunction t c =
     rw (err_is c.from_residual.result c.from_residual.ensures.1)
     (fails-then c.in_err-conjunction.field-0.0
-    (by (λ es. joined all_of (boxed_expr c.args.first ∷ es))
+    (outcome_map (λ es. joined all_of (boxed_expr c.args.first ∷ es))
     (read_inside c.args.levels (other_parts ampersand basic) c.args.reader.now)) _
     c.in_err-conjunction.ensures)
 
@@ -416,7 +417,7 @@ calls::logical-returns-in_err-expression t c =
       err_is c.from_residual-in_err-expression.result c.from_residual-in_err-expression.ensures.1,
       c.in_ok-conjunction.ensures,
     ) (fails-then c.in_err-expression.field-0.0
-    (by (λ es. joined any_of (boxed_expr c.in_ok-conjunction.conjunction ∷ es))
+    (outcome_map (λ es. joined any_of (boxed_expr c.in_ok-conjunction.conjunction ∷ es))
     (read_inside c.args.levels (other_parts bar conjunction) c.joined_from.new.reader))
     (λ e q. took (logical_argument e) q) c.in_err-expression.ensures)
 
@@ -434,14 +435,14 @@ expressions::subject-returns-in_err-call t c =
       openings.subject-called c.args.levels c.args.reader.now
           (sym c.is_at_function.ensures ∙ c.if-is_at_function.true),
     ) (fails-then c.in_err-call.field-0.0
-    (by (call_with []) (call_inside c.args.levels c.args.reader.now)) _ c.in_err-call.ensures)
+    (outcome_map (call_with []) (call_inside c.args.levels c.args.reader.now)) _ c.in_err-call.ensures)
 
 pub expressions::subject-returns-then-is_at_function :
     goal.expressions::subject-returns-then-is_at_function
 expressions::subject-returns-then-is_at_function t c =
     openings.subject-called c.args.levels c.args.reader.now
     (sym c.is_at_function.ensures ∙ c.if-is_at_function.true)
-    ∙ ap (by call_test) c.in_ok-call.ensures
+    ∙ ap (outcome_map call_test) c.in_ok-call.ensures
     ∙ ap (λ x. took x c.call.new.reader) (sym (tree_subject_call c.in_ok-call.field-0))
 
 pub expressions::subject-returns-in_err-query_within :

@@ -2,13 +2,13 @@ use Rattle.std.proofs.Common.{◌≡◌, ℕ, ◌+◌, ◌*◌, ◌≤◌, ◌�
 use Rattle.std.specs.Str.{chars}
 use Rattle.std.specs.String.{string_bytes}
 use Rattle.jp_reading.specs.Outcome.{after_blank, passes, is}
-use Rattle.jp_reading.specs.Views.{by, with_prefix}
-use Rattle.jp_tree.specs.Tree.{argument_of, expr_of, literal_of, selector_of, segment_of}
+use Rattle.jp_reading.specs.Views.{outcome_map, with_prefix}
+use Rattle.jp_tree.specs.Views.{argument_of, expr_of, literal_of, selector_of, segment_of}
 use Rattle.jp_reading.specs.Rule.{beyond, some}
 use Rattle.jp_reading.specs.Characters.{comma}
 use Rattle.jp_query.specs.declared.expressions.Connective.{Connective}
 use Rattle.jp_query.specs.declared.expressions.Connective.TheVariants.{Or, And}
-use Rattle.jp_query.specs.Private.Parts.{boxed_expr, mark_of, part_of}
+use Rattle.jp_query.specs.Private.Parts.{boxed_expr, character_of, part_of}
 use Rattle.jp_query.specs.Private.Rules.{segments, entries, other_parts, next_argument, word_from}
 use Rattle.jp_query.specs.Private.Rules.{word_of}
 use Rattle.jp_query.specs.Private.Reading.{read_inside}
@@ -153,12 +153,12 @@ decreases-selectors::entries-entries l = length l.reader.rest
 abbrev pub invariant-expressions::joined_from-parts : goal.invariant-expressions::joined_from-parts
 invariant-expressions::joined_from-parts l = record {
   total : with_prefix (map expr_of l.parts.items)
-      (read_inside l.levels (other_parts (mark_of l.connective) (part_of l.connective)) l.reader)
-      ≡ by (λ es. boxed_expr l.fn.first ∷ es)
-      (read_inside l.levels (other_parts (mark_of l.connective)
+      (read_inside l.levels (other_parts (character_of l.connective) (part_of l.connective)) l.reader)
+      ≡ outcome_map (λ es. boxed_expr l.fn.first ∷ es)
+      (read_inside l.levels (other_parts (character_of l.connective)
       (part_of l.connective)) l.fn.reader);
   some : 1 ≤ length l.parts.items;
-  several : passes (is (mark_of l.connective)) (after_blank l.reader) ≡ false
+  several : passes (is (character_of l.connective)) (after_blank l.reader) ≡ false
       → 2 ≤ length l.parts.items;
 }
 

@@ -6,13 +6,13 @@ use Rattle.std.specs.Prelude.{codes}
 use Rattle.std.proofs.lemmas.Bool.{cases_Bool, eqb-true}
 use Rattle.std.proofs.lemmas.Bool.Decides.{nat_tests}
 use Rattle.jp_reading.specs.Characters as char
-use Rattle.jp_reading.specs.Texts.{Text, is_blank}
+use Rattle.jp_reading.specs.Texts.{Text, is_blank, is_among}
 use Rattle.jp_reading.specs.Forms.{AllPassing}
 use Rattle.jp_reading.specs.Rule.{beyond, blanks}
 use Rattle.jp_reading.specs.Outcome.{is}
 use Rattle.jp_reading.specs.Numbers.{is_digit}
 use Rattle.jp_reading.proofs.Rules.Form.{Alive}
-use Rattle.jp_reading.proofs.Rules.Follow.{Follow, any, beginning, either_of, blanked, stepping}
+use Rattle.jp_reading.proofs.Rules.Follow.{Follow, any, beginning, either_of, blanked, leading}
 use Rattle.jp_reading.proofs.Rules.Follow.{begins, at, Under, Implies, Excludes, Apart, under-same}
 use Rattle.jp_reading.proofs.Rules.Follow.{under-left, implies-same, apart-run}
 use Rattle.jp_query.specs.Names.{is_name_char, is_function_char}
@@ -40,7 +40,7 @@ use Rattle.jp_query.proofs.Soundness.Alive.{conjunction-alive, expression-alive}
 use Rattle.jp_query.proofs.Soundness.Alive.{compared_or_alone-alive, argument_start-alive}
 use Rattle.jp_query.proofs.Soundness.Alive.{argument_on-alive, argument-alive, some_arguments-alive}
 use Rattle.jp_query.proofs.Soundness.Alive.{after_parenthesis-alive, named_call-alive}
-use Rattle.jp_query.proofs.Soundness.Alive.{inside_mark-alive}
+use Rattle.jp_query.proofs.Soundness.Alive.{inside_expression-alive}
 use Rattle.jp_query.proofs.Completeness.ApartFlat.{EndsNumber, EndsSlice, either-excludes}
 use Rattle.jp_query.proofs.Completeness.ApartFlat.{shorthand-apart, quoted-apart}
 use Rattle.jp_query.proofs.Completeness.ApartFlat.{plain_literal-apart, operator-apart, slice-apart}
@@ -55,7 +55,7 @@ after_expression = blanked (beginning is_closing)
 
 -- a function expression ends with its closing parenthesis, whatever follows
 abbrev pub closes : rule.Opening → Follow
-closes (rule.mark m) = after_expression
+closes (rule.expression_after m) = after_expression
 closes (rule.name_from others) = any
 closes (rule.name_on other) = any
 
@@ -353,7 +353,7 @@ comparison-apart first = (
 )
 
 -- a comparison from its operator on, or none
-compared-apart : (first : OperandTree) → Implies (at beyond (stepping (blanks {m = beyond})
+compared-apart : (first : OperandTree) → Implies (at beyond (leading (blanks {m = beyond})
     (begins (rule.comparison_with first) (comparison-alive first) after_basic))) begins_operator
     × Excludes after_basic.far begins_operator
     × (Excludes (begins (rule.comparison_with first) (comparison-alive first) after_basic).near
@@ -596,16 +596,16 @@ named_call-apart ok some K = (
 
 -- ---- levels
 
-pub inside_mark-apart : (m : ℕ) → Apart {N = nesting} closes (rule.inside_mark m)
-    (inside_mark-alive m) after_expression
-unfolding rule.inside_mark rule.expression rule.conjunction rule.basic rule.negation_on rule.side
+pub inside_expression-apart : (m : ℕ) → Apart {N = nesting} closes (rule.inside_expression m)
+    (inside_expression-alive m) after_expression
+unfolding rule.inside_expression rule.expression rule.conjunction rule.basic rule.negation_on rule.side
     rule.side_within rule.query_within rule.identifier rule.word rule.plain_literal rule.quoted
     rule.number rule.mantissa rule.unsigned rule.size is_blank
-inside_mark-apart m = (tt, (λ c h. grind (arith, nat_tests), expression-apart))
+inside_expression-apart m = (tt, (λ c h. grind (arith, nat_tests), expression-apart))
 
 -- a character that goes on with a name, and is not that one
 abbrev pub passed-on : (other : Option ℕ)
-    → (c : ℕ) × ((is_function_char c && not (rule.is_among (rule.only_this other) c)) ≡ true)
+    → (c : ℕ) × ((is_function_char c && not (is_among (rule.only_this other) c)) ≡ true)
 passed-on None = (letter_a, refl)
 passed-on (Some d) =
     elim (cases_Bool (is d char.letter_a)) [
@@ -618,24 +618,24 @@ passed-on (Some d) =
     ]
 
 abbrev pub opened-alive : (o : rule.Opening) (c : ℕ) → opens o c ≡ true → Alive (rule.opened o)
-opened-alive (rule.mark m) c h = inside_mark-alive m
+opened-alive (rule.expression_after m) c h = inside_expression-alive m
 opened-alive (rule.name_from others) c h = named_call-alive (opens (rule.name_from others)) (c, h)
 opened-alive (rule.name_on other) c h = (
   after_parenthesis-alive,
   named_call-alive
-      (λ d. is_function_char d && not (rule.is_among (rule.only_this other) d)) (passed-on other),
+      (λ d. is_function_char d && not (is_among (rule.only_this other) d)) (passed-on other),
 )
 
 pub opened-apart : (o : rule.Opening) (c : ℕ) (h : opens o c ≡ true)
     → Apart {N = nesting} closes (rule.opened o) (opened-alive o c h) (closes o)
 unfolding rule.named_call is_digit
-opened-apart (rule.mark m) c h = inside_mark-apart m
+opened-apart (rule.expression_after m) c h = inside_expression-apart m
 opened-apart (rule.name_from others) c h =
     named_call-apart (opens (rule.name_from others)) (c, h) any
 opened-apart (rule.name_on other) c h = (
-  λ d g. not_parenthesis (is_function_char d) (rule.is_among (rule.only_this other) d) d refl g,
+  λ d g. not_parenthesis (is_function_char d) (is_among (rule.only_this other) d) d refl g,
   after_parenthesis-apart any,
-  named_call-apart (λ d. is_function_char d && not (rule.is_among (rule.only_this other) d))
+  named_call-apart (λ d. is_function_char d && not (is_among (rule.only_this other) d))
       (passed-on other) any,
 )
   where

@@ -5,22 +5,24 @@ use Rattle.std.proofs.Common.{◌++◌, Option, refl, ap, ◌∙◌, sym, subst}
 use Rattle.std.specs.Prelude.{codes}
 use Rattle.std.proofs.lemmas.Bool.Decides.{nat_tests}
 use Rattle.jp_reading.specs.Texts.{Text, Spans, is_blank}
-use Rattle.jp_reading.specs.Forms.{Form, ◌⌢◌, word, Blank, Each, AllPassing, Separated, Item}
-use Rattle.jp_reading.specs.Outcome.{is, passes, first_of}
+use Rattle.jp_reading.specs.Forms.{Form, ◌⌢◌, word, Blank, Each, AllPassing, Separated, Component}
+use Rattle.jp_reading.specs.Outcome.{is, passes}
+use Rattle.jp_reading.specs.Texts.{first_of}
 use Rattle.jp_reading.specs.Numbers.{is_digit}
 use Rattle.jp_reading.proofs.Rules.Follow.{or-right}
 use Rattle.jp_reading.proofs.Between.{Within, joined-both}
 use Rattle.jp_reading.proofs.Joining.{before-within}
 use Rattle.jp_reading.proofs.Levels.{Only, Then, Made}
 use Rattle.jp_reading.proofs.Same.{Same, same, back, ways, ◌⨾◌, after, before, joined, either, only}
-use Rattle.jp_reading.proofs.Same.{made, then, each, item_if, assoc, nothing-before, nothing-after}
+use Rattle.jp_reading.proofs.Same.{made, then, each, component_if, assoc, nothing-before}
+use Rattle.jp_reading.proofs.Same.{nothing-after}
 use Rattle.jp_reading.proofs.Same.{after-either, either-before, either-assoc, either-cross}
 use Rattle.jp_reading.proofs.Same.{after-only, only-before, after-made, after-value, made-before}
 use Rattle.jp_reading.proofs.Same.{made-made, made-either, either-then, then-only, then-value}
 use Rattle.jp_reading.proofs.Same.{then-made, then-made_out, then-of_made, then-either, Some_of}
 use Rattle.jp_reading.proofs.Same.{some, some-either, some-only, some-made, then-some, Given}
 use Rattle.jp_reading.proofs.Same.{word-on, passing-word}
-use Rattle.jp_reading.proofs.Rules.Form.{Either, left, right, ItemIf, form}
+use Rattle.jp_reading.proofs.Rules.Form.{Either, left, right, ComponentIf, form}
 use Rattle.jp_tree.specs.Tree.{ExprTree, any_of, all_of, exists, call_test, exprs, ArgumentTree}
 use Rattle.jp_tree.specs.Tree.{literal_argument, query_argument, call_argument, logical_argument}
 use Rattle.jp_reading.specs.Characters.{ampersand, bar, opening_parenthesis}
@@ -31,11 +33,13 @@ use Rattle.jp_query.specs.Grammar.{Composed, Basic, Conjunction, conjunction, Lo
 use Rattle.jp_query.specs.Grammar.{parts_all, parts_any, Argument, literal_alone, query_alone}
 use Rattle.jp_query.specs.Grammar.{call_alone, logical_expr, Arguments, without, with_some, Level}
 use Rattle.jp_query.specs.Private.Rules.{opens, CallRest, part, argument_of_parts}
-use Rattle.jp_query.specs.Private.Rules.{is_among, only_this}
+use Rattle.jp_query.specs.Private.Rules.{only_this}
+use Rattle.jp_reading.specs.Texts.{is_among}
 use Rattle.jp_query.specs.Private.Rules as rule
 use Rattle.jp_query.proofs.Forms.Slices.{all-append, blank-before}
-use Rattle.jp_query.proofs.Forms.Selectors.{marked, CallFrom, Parentheses}
-use Rattle.jp_query.proofs.Forms.FunctionNames.{and-left, from-letter}
+use Rattle.jp_query.proofs.Forms.Selectors.{opening_form, CallFrom, Parentheses}
+use Rattle.jp_query.proofs.Forms.FunctionNames.{from-letter}
+use Rattle.jp_reading.proofs.Conjunctions.{and-left}
 use Rattle.jp_query.proofs.Forms.Expressions.{side-ways, side-same, composed-same, test-ways}
 use Rattle.jp_query.proofs.Forms.Expressions.{basic-ways, basic-same, twice, twice-same}
 use Rattle.jp_query.proofs.Forms.Expressions.{conjunction-same, expression-same}
@@ -43,9 +47,9 @@ use Rattle.jp_query.proofs.Forms.Expressions.{conjunction-same, expression-same}
 module _ (I : Nested → Form) where
   -- ---- the first part of an argument
 
-  start-same : (x : ArgumentTree) → Same (form (marked I) rule.argument_start x)
+  start-same : (x : ArgumentTree) → Same (form (opening_form I) rule.argument_start x)
       (Either (Made logical_argument (Composed I) x)
-      (Either (Made literal_argument (λ l. Item (Literal l)) x)
+      (Either (Made literal_argument (λ l. Component (Literal l)) x)
       (Either (Made query_argument (InnerQuery I) x) (Made call_argument (FunctionCall I) x))))
   unfolding rule.argument_start
   start-same x =
@@ -175,7 +179,7 @@ module _ (I : Nested → Form) where
   -- first parts of a kind, and what goes on from them
   kind-same : {A : Type 0} (F : A → Form) (x : A → ArgumentTree) (e : A → ExprTree)
       (y : ArgumentTree)
-      → Same (Then F (λ a z. form (marked I) (rule.other_argument_parts (x a) (e a)) z) y)
+      → Same (Then F (λ a z. form (opening_form I) (rule.other_argument_parts (x a) (e a)) z) y)
       (Either (Made x F y) (Made logical_argument (λ z. Some_of (λ a. Several (F a) (e a) z)) y))
   kind-same F x e y =
       then-some (λ a. after
@@ -237,12 +241,12 @@ module _ (I : Nested → Form) where
   -- an argument without the span of its own
   abbrev Unspanned : ArgumentTree → Form
   Unspanned y =
-      Either (Made literal_argument (λ l. Item (Literal l)) y)
+      Either (Made literal_argument (λ l. Component (Literal l)) y)
       (Either (Made query_argument (InnerQuery I) y)
       (Either (Made call_argument (FunctionCall I) y) (Made logical_argument (Logical I) y)))
 
-  unspanned-same : (y : ArgumentTree) → Same (Then (λ x. form (marked I) rule.argument_start x)
-      (λ x z. form (marked I) (rule.argument_on x) z) y) (Unspanned y)
+  unspanned-same : (y : ArgumentTree) → Same (Then (λ x. form (opening_form I) rule.argument_start x)
+      (λ x z. form (opening_form I) (rule.argument_on x) z) y) (Unspanned y)
   unspanned-same y =
       then (λ x z. before (start-same x))
       ⨾ either-then
@@ -267,9 +271,9 @@ module _ (I : Nested → Form) where
       ⨾ back made-either
       ⨾ made (λ z. back (logical-same z)))))
 
-  argument-same : (y : ArgumentTree) → Same (form (marked I) rule.argument y) (Argument I y)
+  argument-same : (y : ArgumentTree) → Same (form (opening_form I) rule.argument y) (Argument I y)
   unfolding rule.argument
-  argument-same y = item_if (rule.is_logical y) (unspanned-same y) ⨾ spanned y
+  argument-same y = component_if (rule.is_logical y) (unspanned-same y) ⨾ spanned y
     where
       plain : (z : ArgumentTree) → rule.is_logical z ≡ false → Same (Unspanned z) (Argument I z)
       plain z e = record {
@@ -286,13 +290,13 @@ module _ (I : Nested → Form) where
         ];
       }
 
-      spanned : (z : ArgumentTree) → Same (ItemIf (rule.is_logical z) (Unspanned z)) (Argument I z)
+      spanned : (z : ArgumentTree) → Same (ComponentIf (rule.is_logical z) (Unspanned z)) (Argument I z)
       spanned (literal_argument l) = plain (literal_argument l) refl
       spanned (query_argument q) = plain (query_argument q) refl
       spanned (call_argument c) = plain (call_argument c) refl
       spanned (logical_argument e) = record { to = λ s o t h. to s o t h h.is; from = from }
         where
-          to : (s : Spans) (o : ℕ) (t : Text) (h : Item (Unspanned (logical_argument e)) s o t)
+          to : (s : Spans) (o : ℕ) (t : Text) (h : Component (Unspanned (logical_argument e)) s o t)
               → Unspanned (logical_argument e) h.inside o t → Argument I (logical_argument e) s o t
           to s o t h (left g) = let no = g.same in absurd cc
           to s o t h (right (left g)) = let no = g.same in absurd cc
@@ -300,7 +304,7 @@ module _ (I : Nested → Form) where
           to s o t h (right (right (right g))) =
               logical_expr g.part g.same (record { inside = h.inside; spans = h.spans; is = g.is })
 
-          from : Within (Argument I (logical_argument e)) (Item (Unspanned (logical_argument e)))
+          from : Within (Argument I (logical_argument e)) (Component (Unspanned (logical_argument e)))
           from s o t (literal_alone l f g) = absurd cc
           from s o t (query_alone q f g) = absurd cc
           from s o t (call_alone c f g) = absurd cc
@@ -318,13 +322,13 @@ module _ (I : Nested → Form) where
   abbrev End : Form
   End = Blank ⌢ word (codes ")")
 
-  next-same : (x : ArgumentTree) → Same (form (marked I) rule.next_argument x)
+  next-same : (x : ArgumentTree) → Same (form (opening_form I) rule.next_argument x)
       (Comma ⌢ Argument I x)
   unfolding rule.next_argument
   next-same x = after (after (after (argument-same x)) ⨾ back assoc) ⨾ back assoc
 
   some-same : (xs : List ArgumentTree)
-      → Same (form (marked I) rule.some_arguments xs) (Separated Comma (Argument I) xs ⌢ End)
+      → Same (form (opening_form I) rule.some_arguments xs) (Separated Comma (Argument I) xs ⌢ End)
   unfolding rule.some_arguments
   some-same xs =
       then (λ x z. joined (argument-same x)
@@ -360,7 +364,7 @@ module _ (I : Nested → Form) where
   }
 
   pub arguments-same : (xs : List ArgumentTree)
-      → Same (form (marked I) rule.after_parenthesis xs) (Blank ⌢ Arguments I xs ⌢ End)
+      → Same (form (opening_form I) rule.after_parenthesis xs) (Blank ⌢ Arguments I xs ⌢ End)
   unfolding rule.after_parenthesis
   arguments-same xs =
       after (either after-value (some-same xs))
@@ -374,7 +378,7 @@ module _ (I : Nested → Form) where
   -- ---- what opens a level
 
   -- the rest of a function expression from a letter of its name on
-  named-ways : (pass : ℕ → Bool) (r : CallRest) → Same (form (marked I) (rule.named_call pass) r)
+  named-ways : (pass : ℕ → Bool) (r : CallRest) → Same (form (opening_form I) (rule.named_call pass) r)
       (Made (λ (p : ℕ × (Text × List ArgumentTree)). rule.call_rest (p.0 ∷ p.1.0) p.1.1)
       (λ p. Given ((pass p.0 ≡ true) × AllPassing is_function_char p.1.0)
       (word (p.0 ∷ p.1.0) ⌢ Parentheses (Level I) p.1.1)) r)
@@ -387,13 +391,13 @@ module _ (I : Nested → Form) where
 
   -- the same from the parenthesis on
   ended-ways : (r : CallRest) → Same
-      (word (codes "(") ⌢ Made (rule.call_rest []) (λ xs. form (marked I) rule.after_parenthesis xs)
+      (word (codes "(") ⌢ Made (rule.call_rest []) (λ xs. form (opening_form I) rule.after_parenthesis xs)
       r) (Made (rule.call_rest []) (λ xs. Parentheses (Level I) xs) r)
   ended-ways r = after (made arguments-same) ⨾ after-made
 
   named-within : (ok pass : ℕ → Bool) → ((c : ℕ) → pass c ≡ true → is_function_char c ≡ true)
       → ((c : ℕ) → pass c ≡ true → ok c ≡ true)
-      → (r : CallRest) → Within (form (marked I) (rule.named_call pass) r) (CallFrom ok (Level I) r)
+      → (r : CallRest) → Within (form (opening_form I) (rule.named_call pass) r) (CallFrom ok (Level I) r)
   named-within ok pass letter passed r s o t h =
       let g = (named-ways pass r).to s o t h in
       let holds = g.is.holds in
@@ -405,7 +409,7 @@ module _ (I : Nested → Form) where
 
   named-spelt : (pass : ℕ → Bool) (r : CallRest) (c : ℕ) (w : Text) → r.rest ≡ c ∷ w → pass c ≡ true
       → AllPassing is_function_char w → Within (word r.rest ⌢ Parentheses (Level I) r.arguments)
-      (form (marked I) (rule.named_call pass) r)
+      (form (opening_form I) (rule.named_call pass) r)
   named-spelt pass r c w e passes all s o t h = (named-ways pass r).from s o t (record {
     part = (c, (w, r.arguments));
     same = ap (λ (v : Text). record { rest = v; arguments = r.arguments }) e;
@@ -436,9 +440,9 @@ module _ (I : Nested → Form) where
 
   -- what opens a level, one level further out
   pub opened-same : (o : rule.Opening) (x : rule.Opened o)
-      → Same (form (marked I) (rule.opened o) x) (marked (Level I) o x)
-  unfolding rule.inside_mark
-  opened-same (rule.mark m) e = after (after (expression-same I e))
+      → Same (form (opening_form I) (rule.opened o) x) (opening_form (Level I) o x)
+  unfolding rule.inside_expression
+  opened-same (rule.expression_after m) e = after (after (expression-same I e))
   opened-same (rule.name_from others) r = record {
     to = named-within (opens (rule.name_from others)) (opens (rule.name_from others))
         (from-letter others) (λ c g. g) r;
@@ -447,7 +451,7 @@ module _ (I : Nested → Form) where
     where
       from : (s : Spans) (o : ℕ) (t : Text)
           → CallFrom (opens (rule.name_from others)) (Level I) r s o t
-          → (w : Text) → r.rest ≡ w → form (marked I) (rule.opened (rule.name_from others)) r s o t
+          → (w : Text) → r.rest ≡ w → form (opening_form I) (rule.opened (rule.name_from others)) r s o t
       from s o t h [] e = let no : passes (opens (rule.name_from others))
           (first_of (codes "(")) ≡ true = subst
           (λ (v : Text). passes (opens (rule.name_from others)) (first_of (v ++ codes "(")) ≡ true)
@@ -467,7 +471,7 @@ module _ (I : Nested → Form) where
     where
       from : (s : Spans) (o : ℕ) (t : Text)
           → CallFrom (opens (rule.name_on other)) (Level I) r s o t
-          → (w : Text) → r.rest ≡ w → form (marked I) (rule.opened (rule.name_on other)) r s o t
+          → (w : Text) → r.rest ≡ w → form (opening_form I) (rule.opened (rule.name_on other)) r s o t
       from s o t h [] e = left ((ended-ways r).from s o t (record {
         part = r.arguments;
         same = ap (λ (v : Text). record { rest = v; arguments = r.arguments }) e;

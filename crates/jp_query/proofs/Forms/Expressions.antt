@@ -2,14 +2,15 @@
 use Rattle.std.proofs.Common.{◌≡◌, ℕ, [], ◌∷◌, refl}
 use Rattle.std.specs.Prelude.{codes}
 use Rattle.jp_reading.specs.Texts.{Text, Spans}
-use Rattle.jp_reading.specs.Forms.{Form, ◌⌢◌, word, Blank, Item, Never}
+use Rattle.jp_reading.specs.Forms.{Form, ◌⌢◌, word, Blank, Component, Never}
 use Rattle.jp_reading.proofs.Between.{Within}
 use Rattle.jp_reading.proofs.Levels.{Only, Then, Made}
 use Rattle.jp_reading.proofs.Same.{Same, same, back, ways, ◌⨾◌, after, joined, either, made, then}
-use Rattle.jp_reading.proofs.Same.{item, words, assoc, after-either, either-assoc, either-flip}
+use Rattle.jp_reading.proofs.Same.{component, words, assoc, after-either, either-assoc, either-flip}
 use Rattle.jp_reading.proofs.Same.{either-swap, or-never, after-made, after-only, after-value}
 use Rattle.jp_reading.proofs.Same.{made-either, made-made, made-same, then-only, then-value}
-use Rattle.jp_reading.proofs.Same.{then-made, then-either, item-either, item-made, separated}
+use Rattle.jp_reading.proofs.Same.{then-made, then-either, component-either, component-made}
+use Rattle.jp_reading.proofs.Same.{separated}
 use Rattle.jp_reading.proofs.Rules.Form.{Either, left, right, form}
 use Rattle.jp_tree.specs.declared.tree.Op.{Op}
 use Rattle.jp_reading.specs.Characters.{ampersand, bar, opening_parenthesis}
@@ -26,7 +27,7 @@ use Rattle.jp_query.specs.Grammar.{conjunction, Expression, disjunction}
 use Rattle.jp_query.specs.Private.Rules as rule
 use Rattle.jp_query.proofs.Forms.Numbers.{plain_literal-same, operator-same}
 use Rattle.jp_query.proofs.Forms.FunctionNames.{Word, Whole, whole-same, word-same}
-use Rattle.jp_query.proofs.Forms.Selectors.{marked, none, inner_query-same}
+use Rattle.jp_query.proofs.Forms.Selectors.{opening_form, none, inner_query-same}
 
 module _ (I : Nested → Form) where
   -- ---- sides
@@ -47,7 +48,7 @@ module _ (I : Nested → Form) where
     ];
   }
 
-  pub side-ways : (x : OperandTree) → Same (Either (Made literal (λ l. Item (Literal l)) x)
+  pub side-ways : (x : OperandTree) → Same (Either (Made literal (λ l. Component (Literal l)) x)
       (Either (Made node_value (InnerQuery I) x) (Made call_value (FunctionCall I) x))) (Side I x)
   side-ways x = record {
     to = ways (λ s o t h. literal_side h.part h.same h.is)
@@ -60,7 +61,7 @@ module _ (I : Nested → Form) where
   }
 
   call-ways : (c : CallTree)
-      → Same (Made (rule.call_with []) (λ r. Item (Whole I r)) c) (FunctionCall I c)
+      → Same (Made (rule.call_with []) (λ r. Component (Whole I r)) c) (FunctionCall I c)
   call-ways c = record {
     to = λ s o t h. function_call h.part.rest h.part.arguments h.same h.is;
     from = λ s o t h. elim h [
@@ -68,19 +69,19 @@ module _ (I : Nested → Form) where
     ];
   }
 
-  pub side-same : (x : OperandTree) → Same (form (marked I) rule.side x) (Side I x)
+  pub side-same : (x : OperandTree) → Same (form (opening_form I) rule.side x) (Side I x)
   unfolding rule.side rule.side_within
   side-same x =
-      item (either same (either (word-same I x) (made (plain_literal-same none))
+      component (either same (either (word-same I x) (made (plain_literal-same none))
       ⨾ either-assoc
       ⨾ either-swap
       ⨾ either same (back made-either ⨾ made literal-ways)
       ⨾ either-flip)
       ⨾ either-swap)
-      ⨾ item-either
-      ⨾ either item-made (item-either
-      ⨾ either (item-made ⨾ made (inner_query-same I))
-      (item-made ⨾ back made-made ⨾ made call-ways))
+      ⨾ component-either
+      ⨾ either component-made (component-either
+      ⨾ either (component-made ⨾ made (inner_query-same I))
+      (component-made ⨾ back made-made ⨾ made call-ways))
       ⨾ side-ways x
 
   -- a side of that kind
@@ -104,7 +105,7 @@ module _ (I : Nested → Form) where
 
   -- a first side, an operator and a second one
   abbrev pub Compared : ExprTree → Form
-  Compared = Then (λ x. Side I x) (λ x e. Blank ⌢ form (marked I) (rule.comparison_with x) e)
+  Compared = Then (λ x. Side I x) (λ x e. Blank ⌢ form (opening_form I) (rule.comparison_with x) e)
 
   compared-same : (e : ExprTree) → Same (Compared e)
       (Made (λ (p : OperandTree × (Op × OperandTree)). comparison p.0 p.1.0 p.1.1)
@@ -158,14 +159,14 @@ module _ (I : Nested → Form) where
           let g = after-value.to s o t h in function_test c g.same ((call_of_side c).to s o t g.is)
 
   -- what goes on from a first side
-  on-side : (x : OperandTree) (e : ExprTree) → Same (form (marked I) (rule.compared_or_test x) e)
-      (Either (Blank ⌢ form (marked I) (rule.comparison_with x) e) (TestAlone x e))
+  on-side : (x : OperandTree) (e : ExprTree) → Same (form (opening_form I) (rule.compared_or_test x) e)
+      (Either (Blank ⌢ form (opening_form I) (rule.comparison_with x) e) (TestAlone x e))
   on-side (literal l) e = or-never
   on-side (node_value q) e = same
   on-side (call_value c) e = same
 
   first-same : (e : ExprTree) → Same
-      (Then (λ x. form (marked I) rule.side x) (λ x y. form (marked I) (rule.compared_or_test x) y)
+      (Then (λ x. form (opening_form I) rule.side x) (λ x y. form (opening_form I) (rule.compared_or_test x) y)
       e) (Either (Compared e) (Test I e))
   first-same e =
       then (λ x z. joined (side-same x) (on-side x z)) ⨾ then-either ⨾ either same (test-alone e)
@@ -173,8 +174,8 @@ module _ (I : Nested → Form) where
   -- ---- parentheses and negations
 
   abbrev pub Grouped : ExprTree → Form
-  Grouped = Then (λ x. marked I (rule.mark opening_parenthesis) x)
-      (λ x. form (marked I) (rule.closed x))
+  Grouped = Then (λ x. opening_form I (rule.expression_after opening_parenthesis) x)
+      (λ x. form (opening_form I) (rule.closed x))
 
   parenthesis-same : (e : ExprTree) → Same (Grouped e) (Parenthesis I e)
   unfolding rule.closed
@@ -182,20 +183,20 @@ module _ (I : Nested → Form) where
       then (λ x z. after (after after-value ⨾ after-only)) ⨾ then-only ⨾ made-same ⨾ assoc
       ⨾ after assoc
 
-  -- a test, which is an item
-  test-same : (e : ExprTree) → Same (form (marked I) rule.test_expr e) (Test I e)
+  -- a test, which is a component
+  test-same : (e : ExprTree) → Same (form (opening_form I) rule.test_expr e) (Test I e)
   unfolding rule.test_expr rule.subject
   test-same e =
-      item-either
-      ⨾ either (item (then-value ⨾ made (whole-same I)) ⨾ item-made ⨾ back made-made
-      ⨾ made call-ways) (item-made ⨾ made (inner_query-same I))
+      component-either
+      ⨾ either (component (then-value ⨾ made (whole-same I)) ⨾ component-made ⨾ back made-made
+      ⨾ made call-ways) (component-made ⨾ made (inner_query-same I))
       ⨾ either-flip
       ⨾ test-ways e
 
   -- ---- basic expressions
 
   abbrev pub Negated : ExprTree → Form
-  Negated e = word (codes "!") ⌢ form (marked I) rule.negation_on e
+  Negated e = word (codes "!") ⌢ form (opening_form I) rule.negation_on e
 
   negation-same : (e : ExprTree) → Same (Negated e)
       (Either (Made negation (λ x. word (codes "!") ⌢ Blank ⌢ Parenthesis I x) e)
@@ -233,7 +234,7 @@ module _ (I : Nested → Form) where
     from = λ s o t h. elim h [ composed g ↦ left g | tested g ↦ right g ];
   }
 
-  pub basic-same : (e : ExprTree) → Same (form (marked I) rule.basic e) (Basic I e)
+  pub basic-same : (e : ExprTree) → Same (form (opening_form I) rule.basic e) (Basic I e)
   unfolding rule.basic
   basic-same e =
       either same (either same (first-same e) ⨾ back either-assoc)
@@ -241,9 +242,9 @@ module _ (I : Nested → Form) where
       ⨾ either (composed-same e) same
       ⨾ basic-ways e
 
-  -- ---- parts with a mark twice between them
+  -- ---- parts with a character twice between them
 
-  -- the mark twice, and blanks around it
+  -- the character twice, and blanks around it
   abbrev pub twice : ℕ → Form
   twice c = Blank ⌢ word (c ∷ c ∷ []) ⌢ Blank
 
@@ -253,7 +254,7 @@ module _ (I : Nested → Form) where
       after (back assoc ⨾ joined (words (c ∷ []) (c ∷ [])) (after f) ⨾ back assoc) ⨾ back assoc
 
   pub conjunction-same : (e : ExprTree)
-      → Same (form (marked I) rule.conjunction e) (Conjunction I e)
+      → Same (form (opening_form I) rule.conjunction e) (Conjunction I e)
   unfolding rule.conjunction
   conjunction-same e =
       made (separated basic-same (λ x. twice-same ampersand (basic-same x)))
@@ -262,7 +263,7 @@ module _ (I : Nested → Form) where
         from = λ s o t h. elim h [ conjunction es f g ↦ record { part = es; same = f; is = g } ];
       }
 
-  pub expression-same : (e : ExprTree) → Same (form (marked I) rule.expression e) (Expression I e)
+  pub expression-same : (e : ExprTree) → Same (form (opening_form I) rule.expression e) (Expression I e)
   unfolding rule.expression
   expression-same e =
       made (separated conjunction-same (λ x. twice-same bar (conjunction-same x)))

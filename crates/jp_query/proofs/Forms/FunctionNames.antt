@@ -7,7 +7,8 @@ use Rattle.std.proofs.lemmas.Bool.{cases_Bool, eqb-true}
 use Rattle.std.proofs.lemmas.Bool.Decides.{nat_tests}
 use Rattle.jp_reading.specs.Texts.{Text, Spans}
 use Rattle.jp_reading.specs.Forms.{Form, ◌⌢◌, word, AllPassing}
-use Rattle.jp_reading.specs.Outcome.{is, passes, first_of}
+use Rattle.jp_reading.specs.Outcome.{is, passes}
+use Rattle.jp_reading.specs.Texts.{first_of}
 use Rattle.jp_reading.specs.Numbers.{is_digit}
 use Rattle.jp_reading.proofs.Between.{Within, joined-both}
 use Rattle.jp_reading.proofs.Levels.{Only, Made}
@@ -21,15 +22,13 @@ use Rattle.jp_tree.specs.Tree.{LiteralTree, true_literal, false_literal, null_li
 use Rattle.jp_reading.specs.Characters.{opening_parenthesis, letter_t, letter_f, letter_n}
 use Rattle.jp_query.specs.Names.{is_function_first, is_function_char, FunctionName, function_name}
 use Rattle.jp_query.specs.Grammar.{Nested}
-use Rattle.jp_query.specs.Private.Rules.{opens, CallRest, is_among}
+use Rattle.jp_query.specs.Private.Rules.{opens, CallRest}
+use Rattle.jp_reading.specs.Texts.{is_among}
 use Rattle.jp_query.specs.Private.Rules as rule
-use Rattle.jp_query.proofs.Forms.Selectors.{marked, CallFrom, Parentheses}
+use Rattle.jp_query.proofs.Forms.Selectors.{opening_form, CallFrom, Parentheses}
+use Rattle.jp_reading.proofs.Conjunctions.{and-left}
 
 -- ---- letters
-
-pub and-left : (a b : Bool) → (a && b) ≡ true → a ≡ true
-and-left true b h = refl
-and-left false b h = h
 
 -- a character that passes
 pub passed : (ok : ℕ → Bool) (o : Option ℕ) → passes ok o ≡ true
@@ -230,7 +229,7 @@ module _ (I : Nested → Form) where
 
   -- the rest of a word, or a function whose name begins like it
   word_from-same : (l : LiteralTree) (w more : Text) → AllPassing is_function_char more
-      → (x : OperandTree) → Same (form (marked I) (rule.word_from l w more) x)
+      → (x : OperandTree) → Same (form (opening_form I) (rule.word_from l w more) x)
       (Either (Only (literal l) (word more) x) (Calls names_on w x))
   word_from-same l w [] all x = either-flip ⨾ either same then-value
   word_from-same l w (c ∷ more) all x =
@@ -256,7 +255,7 @@ module _ (I : Nested → Form) where
       (Either (Only false_literal (word (codes "false")) l)
       (Only null_literal (word (codes "null")) l))
 
-  pub word-same : (x : OperandTree) → Same (form (marked I) rule.word x)
+  pub word-same : (x : OperandTree) → Same (form (opening_form I) rule.word x)
       (Either (Made literal Word x) (Made (λ r. call_value (rule.call_with [] r)) Whole x))
   unfolding rule.word
   word-same x =

@@ -3,11 +3,12 @@ use Rattle.std.proofs.Common.{◌≡◌, ℕ, Bool, true, false, List, [], ◌�
 use Rattle.std.proofs.Common.{◌∙◌}
 use Rattle.std.specs.Prelude.{codes}
 use Rattle.jp_reading.specs.Texts.{Text, Spans}
-use Rattle.jp_reading.specs.Forms.{Form, ◌⌢◌, word, AllPassing, Blank, Separated, Item}
-use Rattle.jp_reading.specs.Outcome.{passes, first_of}
+use Rattle.jp_reading.specs.Forms.{Form, ◌⌢◌, word, AllPassing, Blank, Separated, Component}
+use Rattle.jp_reading.specs.Outcome.{passes}
+use Rattle.jp_reading.specs.Texts.{first_of}
 use Rattle.jp_reading.proofs.Levels.{Only, Then, Made}
 use Rattle.jp_reading.proofs.Same.{Same, same, back, ways, ◌⨾◌, after, before, joined, either, only}
-use Rattle.jp_reading.proofs.Same.{made, then, each, item, assoc, nothing-before, after-either}
+use Rattle.jp_reading.proofs.Same.{made, then, each, component, assoc, nothing-before, after-either}
 use Rattle.jp_reading.proofs.Same.{either-before, either-assoc, either-flip, either-swap, in-first}
 use Rattle.jp_reading.proofs.Same.{in-second, after-only, only-before, after-made, after-value}
 use Rattle.jp_reading.proofs.Same.{made-before, made-same, made-either, then-only, then-value}
@@ -28,7 +29,7 @@ use Rattle.jp_query.specs.Grammar.{Segments, InnerQuery, from_root, from_current
 use Rattle.jp_query.specs.Private.Rules.{nesting, opens, CallRest, segment_of_one}
 use Rattle.jp_query.specs.Private.Rules as rule
 use Rattle.jp_query.proofs.Forms.Strings.{shorthand-same, quoted-same}
-use Rattle.jp_query.proofs.Forms.Slices.{int_item-same, bound-ways, FromColon, slice-same}
+use Rattle.jp_query.proofs.Forms.Slices.{int_component-same, bound-ways, FromColon, slice-same}
 
 -- the arguments of a function in parentheses, where I is the form of what is one level further in
 abbrev pub Parentheses : (Nested → Form) → List ArgumentTree → Form
@@ -42,10 +43,10 @@ pub record CallFrom (ok : ℕ → Bool) (I : Nested → Form) (r : CallRest) (s 
   pub is : (word r.rest ⌢ Parentheses I r.arguments) s o t
 
 -- what an opening opens
-abbrev pub marked : (Nested → Form) → Inside nesting
-marked I (rule.mark m) e = word (m ∷ []) ⌢ Blank ⌢ I (nested_expr e)
-marked I (rule.name_from others) r = CallFrom (opens (rule.name_from others)) I r
-marked I (rule.name_on other) r = CallFrom (opens (rule.name_on other)) I r
+abbrev pub opening_form : (Nested → Form) → Inside nesting
+opening_form I (rule.expression_after m) e = word (m ∷ []) ⌢ Blank ⌢ I (nested_expr e)
+opening_form I (rule.name_from others) r = CallFrom (opens (rule.name_from others)) I r
+opening_form I (rule.name_on other) r = CallFrom (opens (rule.name_on other)) I r
 
 -- where nothing is nested
 abbrev pub none : Inside nesting
@@ -60,11 +61,11 @@ module _ (I : Nested → Form) where
 
   abbrev Started : SelectorTree → Form
   Started =
-      Then (λ i. Item (Int i))
+      Then (λ i. Component (Int i))
       (λ i x. Blank ⌢ Made slice (λ y. form none (rule.slice_from (Some i)) y) x)
 
   sliced-parts : (y : Slice) → Same (Sliced y ⌢ Blank) (Either (Only None (FromColon y) y.start)
-      (Made Some (λ i. Item (Int i) ⌢ Blank ⌢ FromColon y) y.start))
+      (Made Some (λ i. Component (Int i) ⌢ Blank ⌢ FromColon y) y.start))
   sliced-parts y =
       assoc
       ⨾ joined (back (bound-ways y.start)) (assoc ⨾ after (assoc ⨾ after assoc))
@@ -97,13 +98,13 @@ module _ (I : Nested → Form) where
 
   -- ---- selectors
 
-  selector-same : (x : SelectorTree) → Same (form (marked I) rule.selector x ⌢ Blank)
+  selector-same : (x : SelectorTree) → Same (form (opening_form I) rule.selector x ⌢ Blank)
       (Selector I x ⌢ Blank)
   unfolding rule.selector rule.number_selector
   selector-same x =
       before (either (made (quoted-same none double_quote))
       (either (made (quoted-same none single_quote)) (either after-value (either same
-      (either then-value (then (λ i z. before (int_item-same none i)) ⨾ then-either
+      (either then-value (then (λ i z. before (int_component-same none i)) ⨾ then-either
       ⨾ either same then-value)
       ⨾ either-swap)
       ⨾ back either-assoc))))
@@ -139,12 +140,12 @@ module _ (I : Nested → Form) where
   abbrev Entry : SelectorTree → Form
   Entry x = Selector I x ⌢ Blank
 
-  entry-same : (x : SelectorTree) → Same (form (marked I) rule.entry x) (Entry x)
+  entry-same : (x : SelectorTree) → Same (form (opening_form I) rule.entry x) (Entry x)
   unfolding rule.entry
   entry-same x = then (λ y z. after after-value) ⨾ then-only ⨾ made-same ⨾ selector-same x
 
   entries-same : (xs : List SelectorTree)
-      → Same (form (marked I) rule.entries xs) (Separated Comma Entry xs)
+      → Same (form (opening_form I) rule.entries xs) (Separated Comma Entry xs)
   unfolding rule.entries
   entries-same = separated entry-same (λ x. after (after (entry-same x)) ⨾ back assoc)
 
@@ -153,7 +154,7 @@ module _ (I : Nested → Form) where
   of_all d xs = segment d (selectors xs)
 
   bracket-same : (d : Bool) (x : SegmentTree)
-      → Same (form (marked I) (rule.bracket d) x) (Made (of_all d) (Bracket I) x)
+      → Same (form (opening_form I) (rule.bracket d) x) (Made (of_all d) (Bracket I) x)
   unfolding rule.bracket
   bracket-same d x =
       after (after (then (λ xs z. joined (entries-same xs) after-value) ⨾ then-only) ⨾ after-made)
@@ -179,7 +180,7 @@ module _ (I : Nested → Form) where
       (Either (Made f (λ y. word (codes ".") ⌢ F y) x) (Made g (λ y. word (codes ".") ⌢ G y) x))
   dotted-ways p q = after-either ⨾ either (after p ⨾ after-made) (after q ⨾ after-made)
 
-  pub segment-same : (x : SegmentTree) → Same (form (marked I) rule.segment x) (Segment I x)
+  pub segment-same : (x : SegmentTree) → Same (form (opening_form I) rule.segment x) (Segment I x)
   unfolding rule.segment rule.selection
   segment-same x =
       either (bracket-same false x) (after-either
@@ -199,17 +200,17 @@ module _ (I : Nested → Form) where
       }
 
   pub segments-same : (xs : List SegmentTree)
-      → Same (form (marked I) rule.segments xs) (Segments I xs)
+      → Same (form (opening_form I) rule.segments xs) (Segments I xs)
   unfolding rule.segments
   segments-same = each (λ x. after (segment-same x))
 
   -- ---- queries inside others
 
-  pub inner_query-same : (q : QueryTree) → Same (Item (form (marked I) rule.query_within q))
+  pub inner_query-same : (q : QueryTree) → Same (Component (form (opening_form I) rule.query_within q))
       (InnerQuery I q)
   unfolding rule.query_within rule.identifier
   inner_query-same q =
-      item (then (λ absolute z. joined (either after-value after-value) (made segments-same))
+      component (then (λ absolute z. joined (either after-value after-value) (made segments-same))
       ⨾ then-made
       ⨾ made (λ p. either-before ⨾ either only-before only-before))
       ⨾ record {
@@ -244,7 +245,7 @@ module _ (I : Nested → Form) where
       }
 
   -- a whole query, by its segments
-  pub query-same : (q : QueryTree) → Same (form (marked I) rule.query q)
+  pub query-same : (q : QueryTree) → Same (form (opening_form I) rule.query q)
       (word (codes "$") ⌢ Made (λ xs. query true (segments xs)) (Segments I) q)
   unfolding rule.query
   query-same q = after (made segments-same)

@@ -2,19 +2,19 @@
 use Rattle.std.proofs.Common.{ℕ, Bool, [], ◌∷◌, ◌++◌, Option, Some, None, refl, ap, ◌∙◌}
 use Rattle.std.specs.Prelude.{codes, pos}
 use Rattle.jp_reading.specs.Texts.{Text, is_blank}
-use Rattle.jp_reading.specs.Forms.{Form, ◌⌢◌, word, Blank, Item, Omitted, AllPassing}
+use Rattle.jp_reading.specs.Forms.{Form, ◌⌢◌, word, Blank, Component, Omitted, AllPassing}
 use Rattle.jp_reading.proofs.Between.{Within}
 use Rattle.jp_reading.proofs.Levels.{Only, Made}
 use Rattle.jp_reading.proofs.Joining.{before-within}
 use Rattle.jp_reading.proofs.Same.{Same, same, back, ways, ◌⨾◌, after, before, either, only, made}
-use Rattle.jp_reading.proofs.Same.{item, assoc, nothing-before, after-either, either-before}
+use Rattle.jp_reading.proofs.Same.{component, assoc, nothing-before, after-either, either-before}
 use Rattle.jp_reading.proofs.Same.{after-only, only-before, after-value, made-before, then-made}
 use Rattle.jp_reading.proofs.Rules.Form.{Either, left, right, Inside, form}
 use Rattle.jp_tree.specs.declared.tree.Numeral.{Numeral}
 use Rattle.jp_tree.specs.declared.tree.Numeral.TheVariants.{Whole}
 use Rattle.jp_tree.specs.declared.tree.Slice.{Slice}
 use Rattle.jp_query.specs.Ints.{Int}
-use Rattle.jp_query.specs.Slices.{Bound, no_bound, bound, Step, no_step, empty_step, given_step}
+use Rattle.jp_query.specs.Slices.{Bound, no_bound, bound, SliceStep, no_step, empty_step, given_step}
 use Rattle.jp_query.specs.Private.Rules.{nesting, slice_of}
 use Rattle.jp_query.specs.Private.Rules as rule
 use Rattle.jp_query.proofs.Forms.Numbers.{int-same}
@@ -31,7 +31,7 @@ blank-before P s o t h =
     before-within (word []) Blank P (λ v i u w. record { none = w.none; blank = rw w.is tt }) s o t
     ((nothing-before {P = P}).from s o t h)
 
--- blanks around an omitted item may all come after it
+-- blanks around an omitted component may all come after it
 blanks-omitted : Same (Blank ⌢ Omitted ⌢ Blank) (Omitted ⌢ Blank)
 blanks-omitted = record {
   to = λ s o t h. record {
@@ -52,7 +52,7 @@ blanks-omitted = record {
 
 -- a bound, or none
 pub bound-ways : (x : Option Numeral)
-    → Same (Either (Made Some (λ i. Item (Int i) ⌢ Blank) x) (Only None (word []) x)) (Bound x)
+    → Same (Either (Made Some (λ i. Component (Int i) ⌢ Blank) x) (Only None (word []) x)) (Bound x)
 bound-ways x = record {
   to = ways (λ s o t h. bound h.part h.same h.is) (λ s o t h. no_bound h.same h.is);
   from = λ s o t h. elim h [
@@ -63,20 +63,20 @@ bound-ways x = record {
 
 -- a slice from its first colon on, and the blanks after it
 abbrev pub FromColon : Slice → Form
-FromColon y = word (codes ":") ⌢ Blank ⌢ Bound y.end ⌢ Step y.step ⌢ Blank
+FromColon y = word (codes ":") ⌢ Blank ⌢ Bound y.end ⌢ SliceStep y.step ⌢ Blank
 
 module _ (F : Inside nesting) where
-  pub int_item-same : (x : Numeral) → Same (Item (form F rule.int x)) (Item (Int x))
-  int_item-same x = item (int-same F x)
+  pub int_component-same : (x : Numeral) → Same (Component (form F rule.int x)) (Component (Int x))
+  int_component-same x = component (int-same F x)
 
   -- ---- steps
 
   step-ways : (x : Numeral)
       → Same (Either (word (codes ":") ⌢ form F rule.later_step x) (Only (Whole (pos 1)) Omitted x))
-      (Step x)
+      (SliceStep x)
   unfolding rule.later_step
   step-ways x =
-      either (after-either ⨾ either (after (after (int_item-same x))) after-only) same
+      either (after-either ⨾ either (after (after (int_component-same x))) after-only) same
       ⨾ record {
         to = ways (ways (λ s o t. given_step) (λ s o t h. empty_step h.same h.is))
             (λ s o t h. no_step h.same h.is);
@@ -93,7 +93,7 @@ module _ (F : Inside nesting) where
   omitted-same x y =
       only-before ⨾ only (back blanks-omitted) ⨾ back after-only ⨾ after (back only-before)
 
-  step-same : (x : Numeral) → Same (form F rule.step x ⌢ Blank) (Blank ⌢ Step x ⌢ Blank)
+  step-same : (x : Numeral) → Same (form F rule.step x ⌢ Blank) (Blank ⌢ SliceStep x ⌢ Blank)
   unfolding rule.step
   step-same x =
       either-before
@@ -107,7 +107,7 @@ module _ (F : Inside nesting) where
   unfolding rule.bound
   bound-same x =
       either-before
-      ⨾ either (assoc ⨾ after (before (made int_item-same) ⨾ made-before))
+      ⨾ either (assoc ⨾ after (before (made int_component-same) ⨾ made-before))
       (only-before ⨾ only nothing-before ⨾ back after-value)
       ⨾ back after-either
       ⨾ after (bound-ways x)

@@ -12,7 +12,8 @@ use Rattle.jp_reading.proofs.Rules.Form.{left, right, Inside, form}
 use Rattle.jp_query.specs.Names.{Shorthand, shorthand}
 use Rattle.jp_query.specs.Strings.{is_hexdig, is_d, is_not_d, is_0_to_7, is_8_to_b, is_c_to_f}
 use Rattle.jp_query.specs.Strings.{scalar_of, Unit as HexUnit, digits, Hexchar, not_d}
-use Rattle.jp_query.specs.Strings.{below_surrogates, surrogates, Character, plain, escape, hex}
+use Rattle.jp_query.specs.Strings.{below_surrogates, surrogates, StringCharacter, plain, escape}
+use Rattle.jp_query.specs.Strings.{hex}
 use Rattle.jp_query.specs.Strings.{Between}
 use Rattle.jp_query.specs.Private.Rules.{nesting}
 use Rattle.jp_query.specs.Private.Rules as rule
@@ -82,7 +83,7 @@ module _ (F : Inside nesting) where
 
   -- ---- strings
 
-  character-same : (quote c : ℕ) → Same (form F (rule.string_character quote) c) (Character quote c)
+  character-same : (quote c : ℕ) → Same (form F (rule.string_character quote) c) (StringCharacter quote c)
   unfolding rule.string_character rule.escape
   character-same quote c =
       either (after-either ⨾ either (after (after (hexchar-same c))) after-made) same

@@ -5,7 +5,7 @@ use Rattle.std.proofs.Common.{◌∷◌, inl, inr, refl, sym, ap, ◌∙◌, sub
 use Rattle.std.proofs.lemmas.Bool.{cases_Bool}
 use Rattle.jp_reading.specs.Outcome.{State, Outcome, took, stuck, deep, ◌>>=◌, skip, after_blank}
 use Rattle.jp_reading.specs.Outcome.{passes, is, expect}
-use Rattle.jp_reading.specs.Views.{by}
+use Rattle.jp_reading.specs.Views.{outcome_map}
 use Rattle.jp_reading.specs.Rule.{here, beyond, some}
 use Rattle.jp_reading.specs.RuleReading.{Inner, read, spanned, spanned_if}
 use Rattle.jp_reading.proofs.Loops.{each-on, round}
@@ -23,7 +23,7 @@ use Rattle.jp_query.specs.Private.Rules.{next_argument, some_arguments, is_logic
 use Rattle.jp_query.specs.Private.Rules.{comparison_with, compared_or_test}
 use Rattle.jp_query.specs.Private.Parts.{begins_part}
 use Rattle.jp_query.proofs.Levels.{or-second}
-use Rattle.jp_query.proofs.Readers.Rounds.{along, by-twice, listed, parts-none}
+use Rattle.jp_query.proofs.Readers.Rounds.{along, outcome_map-twice, listed, parts-none}
 
 -- ---- tests of a character
 
@@ -47,17 +47,17 @@ module _ (inner : Inner nesting) (moves : (o : Opening) → Progress (inner o)) 
   -- a logical expression from its first part on
   abbrev pub logical_parts : ExprTree → State → Outcome ArgumentTree
   logical_parts e p =
-      by (λ es. joined all_of (e ∷ es)) (read inner (other_parts ampersand basic) p)
-      >>= λ a q. by logical_argument
-      (by (λ es. joined any_of (a ∷ es)) (read inner (other_parts bar conjunction) q))
+      outcome_map (λ es. joined all_of (e ∷ es)) (read inner (other_parts ampersand basic) p)
+      >>= λ a q. outcome_map logical_argument
+      (outcome_map (λ es. joined any_of (a ∷ es)) (read inner (other_parts bar conjunction) q))
 
   alone : (x : ArgumentTree) (e : ExprTree) (p : State)
       → passes (is ampersand) (after_blank p) ≡ false
       → passes (is bar) (after_blank p) ≡ false → read inner (other_argument_parts x e) p ≡ took x p
   alone x e p a b =
-      ap (λ (o : Outcome (List ExprTree)). o >>= λ es q. by (argument_of_parts x e es)
+      ap (λ (o : Outcome (List ExprTree)). o >>= λ es q. outcome_map (argument_of_parts x e es)
       (read inner (other_parts bar conjunction) q)) (parts-none inner ampersand basic p a)
-      ∙ ap (λ (o : Outcome (List ExprTree)). by (argument_of_parts x e []) o)
+      ∙ ap (λ (o : Outcome (List ExprTree)). outcome_map (argument_of_parts x e []) o)
       (parts-none inner bar conjunction p b)
 
   -- no empty list
@@ -85,19 +85,19 @@ module _ (inner : Inner nesting) (moves : (o : Opening) → Progress (inner o)) 
       one (deep q) = tt
 
   with-and : (x : ArgumentTree) (e : ExprTree) (o : Outcome (List ExprTree)) → Filled o
-      → (o >>= λ es q. by (argument_of_parts x e es) (read inner (other_parts bar conjunction) q))
-      ≡ by (λ es. joined all_of (e ∷ es)) o >>= λ a q. by logical_argument
-      (by (λ es. joined any_of (a ∷ es)) (read inner (other_parts bar conjunction) q))
+      → (o >>= λ es q. outcome_map (argument_of_parts x e es) (read inner (other_parts bar conjunction) q))
+      ≡ outcome_map (λ es. joined all_of (e ∷ es)) o >>= λ a q. outcome_map logical_argument
+      (outcome_map (λ es. joined any_of (a ∷ es)) (read inner (other_parts bar conjunction) q))
   with-and x e (took [] q) full = absurd full
   with-and x e (took (b ∷ bs) q) full =
-      sym (by-twice logical_argument (λ fs. joined any_of (joined all_of (e ∷ b ∷ bs) ∷ fs))
+      sym (outcome_map-twice logical_argument (λ fs. joined any_of (joined all_of (e ∷ b ∷ bs) ∷ fs))
       (read inner (other_parts bar conjunction) q))
   with-and x e (stuck q) full = refl
   with-and x e (deep q) full = refl
 
   with-or : (x : ArgumentTree) (e : ExprTree) (o : Outcome (List ExprTree)) → Filled o
-      → by (argument_of_parts x e []) o
-      ≡ by logical_argument (by (λ es. joined any_of (e ∷ es)) o)
+      → outcome_map (argument_of_parts x e []) o
+      ≡ outcome_map logical_argument (outcome_map (λ es. joined any_of (e ∷ es)) o)
   with-or x e (took [] q) full = absurd full
   with-or x e (took (f ∷ fs) q) full = refl
   with-or x e (stuck q) full = refl
@@ -115,13 +115,13 @@ module _ (inner : Inner nesting) (moves : (o : Opening) → Progress (inner o)) 
           with-and x e (read inner (other_parts ampersand basic) p) (filled ampersand basic p and)
       way (inr off) =
           let none = parts-none inner ampersand basic p off in
-          ap (λ (o : Outcome (List ExprTree)). o >>= λ es q. by (argument_of_parts x e es)
+          ap (λ (o : Outcome (List ExprTree)). o >>= λ es q. outcome_map (argument_of_parts x e es)
           (read inner (other_parts bar conjunction) q)) none
           ∙ with-or x e (read inner (other_parts bar conjunction) p)
           (filled bar conjunction p (second-part (after_blank p) on off))
-          ∙ sym (ap (λ (o : Outcome (List ExprTree)). by (λ es. joined all_of (e ∷ es)) o
-          >>= λ a q. by logical_argument
-          (by (λ es. joined any_of (a ∷ es)) (read inner (other_parts bar conjunction) q))) none)
+          ∙ sym (ap (λ (o : Outcome (List ExprTree)). outcome_map (λ es. joined all_of (e ∷ es)) o
+          >>= λ a q. outcome_map logical_argument
+          (outcome_map (λ es. joined any_of (a ∷ es)) (read inner (other_parts bar conjunction) q))) none)
 
   -- no other part
   pub argument-alone : (x : ArgumentTree) (p : State) → passes begins_part (after_blank p) ≡ false
@@ -155,7 +155,7 @@ module _ (inner : Inner nesting) where
       closing : (o : Outcome ArgumentTree)
           → (o >>= λ x q. read inner (some beyond (is comma) next_argument) q >>= λ xs r. expect
           closing_parenthesis (skip r) >>= λ d s. took (x ∷ xs) s)
-          ≡ (o >>= λ x q. by (λ xs. x ∷ xs) (read inner (some beyond (is comma) next_argument) q))
+          ≡ (o >>= λ x q. outcome_map (λ xs. x ∷ xs) (read inner (some beyond (is comma) next_argument) q))
           >>= λ xs q. expect closing_parenthesis (skip q) >>= λ d r. took xs r
       closing (took x q) =
           sym (along (read inner (some beyond (is comma) next_argument) q) (λ xs r. took (x ∷ xs) r)

@@ -5,10 +5,11 @@ use Rattle.std.specs.Prelude.{codes}
 use Rattle.std.proofs.lemmas.Bool.{cases_Bool}
 use Rattle.jp_reading.specs.Texts.{Text}
 use Rattle.jp_reading.specs.declared.reader.Stop.{Stop}
-use Rattle.jp_reading.specs.Outcome.{State, Outcome, took, stuck, deep, ◌>>=◌, head, first_of, past}
+use Rattle.jp_reading.specs.Outcome.{State, Outcome, took, stuck, deep, ◌>>=◌, head, past}
+use Rattle.jp_reading.specs.Texts.{first_of}
 use Rattle.jp_reading.specs.Outcome.{passes, is, is_at, take_passing, take_if, expect}
 use Rattle.jp_reading.specs.Numbers.{is_digit}
-use Rattle.jp_reading.specs.Views.{Fails, by}
+use Rattle.jp_reading.specs.Views.{Fails, outcome_map}
 use Rattle.jp_reading.specs.RuleReading.{Inner, read}
 use Rattle.jp_reading.proofs.Loops.{each-on, each-off, round}
 use Rattle.jp_reading.proofs.Folds.{fails-then}
@@ -18,22 +19,24 @@ use Rattle.jp_tree.specs.Tree.{exists, call_test, literal, call_value, call, arg
 use Rattle.jp_tree.specs.Tree.{LiteralTree, true_literal, false_literal, null_literal}
 use Rattle.jp_reading.specs.Characters.{opening_parenthesis, letter_t, letter_f, letter_n}
 use Rattle.jp_query.specs.Names.{is_function_first, is_function_char}
-use Rattle.jp_query.specs.Private.Rules.{nesting, name_from, name_on, opens, is_among, only_this}
+use Rattle.jp_query.specs.Private.Rules.{nesting, name_from, name_on, opens, only_this}
+use Rattle.jp_reading.specs.Texts.{is_among}
 use Rattle.jp_query.specs.Private.Rules.{CallRest, call_rest, call_with, run, after_parenthesis}
 use Rattle.jp_query.specs.Private.Rules.{any_call, named_call, opened, word, word_of, word_from}
 use Rattle.jp_query.specs.Private.Rules.{subject, query_within}
 use Rattle.jp_query.specs.Private.Parts.{rest_of_call}
 use Rattle.jp_query.specs.Private.Reading.{inside, call_inside, read_flat, read_inside}
-use Rattle.jp_query.proofs.Forms.FunctionNames.{and-left, passed, from-letter}
+use Rattle.jp_query.proofs.Forms.FunctionNames.{passed, from-letter}
+use Rattle.jp_reading.proofs.Conjunctions.{and-left}
 use Rattle.jp_query.proofs.Levels.{or-second}
-use Rattle.jp_query.proofs.Readers.Rounds.{along, by-twice}
+use Rattle.jp_query.proofs.Readers.Rounds.{along, outcome_map-twice}
 
 -- ---- openings
 
 -- what comes after a function's name
 abbrev after_name : Inner nesting → Text → State → Outcome CallRest
 after_name inner w p =
-    expect opening_parenthesis p >>= λ d q. by (call_rest w) (read inner after_parenthesis q)
+    expect opening_parenthesis p >>= λ d q. outcome_map (call_rest w) (read inner after_parenthesis q)
 
 module _ (inner : Inner nesting) where
   -- from a character of the name on
@@ -54,14 +57,14 @@ module _ (inner : Inner nesting) where
 
   -- from the parenthesis on
   ending-any : (p : State) → is_at opening_parenthesis p ≡ true
-      → by (call_rest []) (read inner after_parenthesis (past p)) ≡ read inner any_call p
+      → outcome_map (call_rest []) (read inner after_parenthesis (past p)) ≡ read inner any_call p
   unfolding any_call is_digit
   ending-any p on =
       let e : head p ≡ Some opening_parenthesis = head-is opening_parenthesis p on in
       let off : passes is_function_char (head p) ≡ false = ap (passes is_function_char) e in
       sym (ap (λ (o : Outcome Text). o >>= λ w q. after_name inner w q)
       (each-off (λ q. passes is_function_char (head q)) (take_if is_function_char) p off)
-      ∙ ap (λ (o : Outcome ℕ). o >>= λ d q. by (call_rest []) (read inner after_parenthesis q))
+      ∙ ap (λ (o : Outcome ℕ). o >>= λ d q. outcome_map (call_rest []) (read inner after_parenthesis q))
       (take_if-takes (is opening_parenthesis) p opening_parenthesis e refl))
 
   from-any : (others : Text) (p : State) → passes (opens (name_from others)) (head p) ≡ true
@@ -102,22 +105,22 @@ called-on (suc n) other p on = on-any (inside n) other p on
 -- ---- function expressions
 
 respelt : (n : ℕ) (w : Text) (o : Outcome Text)
-    → by (call_with w) (o >>= λ u q. after_name (inside n) u q)
-    ≡ by (λ u. w ++ u) o >>= λ name q. expect opening_parenthesis q
-    >>= λ d r. by (λ xs. call name (arguments xs)) (read_inside n after_parenthesis r)
+    → outcome_map (call_with w) (o >>= λ u q. after_name (inside n) u q)
+    ≡ outcome_map (λ u. w ++ u) o >>= λ name q. expect opening_parenthesis q
+    >>= λ d r. outcome_map (λ xs. call name (arguments xs)) (read_inside n after_parenthesis r)
 respelt n w (took u q) = marked (expect opening_parenthesis q)
   where
     marked : (o : Outcome ℕ)
-        → by (call_with w) (o >>= λ d r. by (call_rest u) (read_inside n after_parenthesis r))
-        ≡ o >>= λ d r. by (λ xs. call (w ++ u) (arguments xs)) (read_inside n after_parenthesis r)
-    marked (took d r) = by-twice (call_with w) (call_rest u) (read_inside n after_parenthesis r)
+        → outcome_map (call_with w) (o >>= λ d r. outcome_map (call_rest u) (read_inside n after_parenthesis r))
+        ≡ o >>= λ d r. outcome_map (λ xs. call (w ++ u) (arguments xs)) (read_inside n after_parenthesis r)
+    marked (took d r) = outcome_map-twice (call_with w) (call_rest u) (read_inside n after_parenthesis r)
     marked (stuck r) = refl
     marked (deep r) = refl
 respelt n w (stuck q) = refl
 respelt n w (deep q) = refl
 
 pub call-entered : (n : ℕ) (w : Text) (p : State) → (n ≡ 0 → ⊥)
-    → by (call_with w) (call_inside n p) ≡ rest_of_call (n - 1) w p
+    → outcome_map (call_with w) (call_inside n p) ≡ rest_of_call (n - 1) w p
 unfolding any_call
 call-entered zero w p some = absurd (some refl)
 call-entered (suc n) w p some =
@@ -130,13 +133,13 @@ module _ (n : ℕ) (l : LiteralTree) (w : Text) where
   -- another name
   pub word-called : (more : Text) (p : State)
       → passes (opens (name_on (first_of more))) (head p) ≡ true
-      → read_inside n (word_from l w more) p ≡ by call_value (by (call_with w) (call_inside n p))
+      → read_inside n (word_from l w more) p ≡ outcome_map call_value (outcome_map (call_with w) (call_inside n p))
   word-called [] p on =
       rw on (ap (λ (o : Outcome CallRest). o >>= λ r q. took (call_value (call_with w r)) q)
-      (called-on n None p on) ∙ sym (by-twice call_value (call_with w) (call_inside n p)))
+      (called-on n None p on) ∙ sym (outcome_map-twice call_value (call_with w) (call_inside n p)))
   word-called (c ∷ more) p on =
       rw on (ap (λ (o : Outcome CallRest). o >>= λ r q. took (call_value (call_with w r)) q)
-      (called-on n (Some c) p on) ∙ sym (by-twice call_value (call_with w) (call_inside n p)))
+      (called-on n (Some c) p on) ∙ sym (outcome_map-twice call_value (call_with w) (call_inside n p)))
 
   -- a letter of the word
   word-letter : (c : ℕ) (more : Text) (p : State)
@@ -196,13 +199,13 @@ opens-none others (Some c) h = rw h refl
 -- any other first letter
 pub word-other : (n : ℕ) (p : State) → passes is_function_first (head p) ≡ true
     → is_at letter_t p ≡ false → is_at letter_f p ≡ false → is_at letter_n p ≡ false
-    → read_inside n word p ≡ by call_value (by (call_with []) (call_inside n p))
+    → read_inside n word p ≡ outcome_map call_value (outcome_map (call_with []) (call_inside n p))
 unfolding word
 word-other n p h t f l =
     let on : passes (opens (name_from (codes "tfn"))) (head p) ≡ true =
     opens-other (head p) h t f l in
     rw on (ap (λ (o : Outcome CallRest). o >>= λ r q. took (call_value (call_with [] r)) q)
-    (called-from n (codes "tfn") p on) ∙ sym (by-twice call_value (call_with []) (call_inside n p)))
+    (called-from n (codes "tfn") p on) ∙ sym (outcome_map-twice call_value (call_with []) (call_inside n p)))
 
 not-taken : (ok : ℕ → Bool) (p : State) (o : Option ℕ) → passes ok o ≡ false
     → take_passing ok p o ≡ stuck p
@@ -229,15 +232,15 @@ opens-first None h = h
 opens-first (Some c) h = rw h refl
 
 pub subject-called : (n : ℕ) (p : State) → passes is_function_first (head p) ≡ true
-    → read_inside n subject p ≡ by call_test (by (call_with []) (call_inside n p))
+    → read_inside n subject p ≡ outcome_map call_test (outcome_map (call_with []) (call_inside n p))
 unfolding subject
 subject-called n p h =
     let on : passes (opens (name_from [])) (head p) ≡ true = opens-first (head p) h in
     rw on (ap (λ (o : Outcome CallRest). o >>= λ r q. took (call_test (call_with [] r)) q)
-    (called-from n [] p on) ∙ sym (by-twice call_test (call_with []) (call_inside n p)))
+    (called-from n [] p on) ∙ sym (outcome_map-twice call_test (call_with []) (call_inside n p)))
 
 pub subject-query : (n : ℕ) (p : State) → passes is_function_first (head p) ≡ false
-    → read_inside n subject p ≡ by exists (read_inside n query_within p)
+    → read_inside n subject p ≡ outcome_map exists (read_inside n query_within p)
 unfolding subject
 subject-query n p h =
     let off : passes (opens (name_from [])) (head p) ≡ false = opens-none [] (head p) h in

@@ -5,7 +5,7 @@ use Rattle.std.proofs.lemmas.List.{map-append}
 use Rattle.jp_reading.specs.declared.reader.Stop.{Stop}
 use Rattle.jp_reading.specs.Outcome.{State, Outcome, took, stuck, deep, ◌>>=◌, skip}
 use Rattle.jp_reading.specs.Outcome.{after_blank, passes, is, expect}
-use Rattle.jp_reading.specs.Views.{Fails, by, with_prefix}
+use Rattle.jp_reading.specs.Views.{Fails, outcome_map, with_prefix}
 use Rattle.jp_reading.specs.Rule.{here, beyond, some, made, seq}
 use Rattle.jp_reading.specs.RuleReading.{Inner, read}
 use Rattle.jp_reading.proofs.Loops.{each-off}
@@ -18,7 +18,7 @@ use Rattle.jp_query.specs.Grammar.{joined}
 use Rattle.jp_query.specs.Private.Rules.{nesting, QueryRule}
 use Rattle.jp_query.specs.Private.Rules.{joint, part, other_parts, argument, next_argument}
 use Rattle.jp_query.specs.declared.expressions.Connective.{Connective}
-use Rattle.jp_query.specs.Private.Parts.{next_entry, mark_of, part_of, several}
+use Rattle.jp_query.specs.Private.Parts.{next_entry, character_of, part_of, several}
 use Rattle.jp_query.specs.Private.Reading.{inside, read_flat, read_inside}
 use Rattle.jp_query.proofs.Levels.{inside-progress}
 
@@ -38,7 +38,7 @@ along (stuck q) f g = refl
 along (deep q) f g = refl
 
 module _ {A : Type 0} (inner : Inner nesting) (c : ℕ) (r : QueryRule true here beyond A) where
-  -- a part comes after its mark
+  -- a part comes after its character
   part-joint : (p : State)
       → read inner (part c r) p ≡ read_flat (joint c) p >>= λ d q. read inner r q
   unfolding joint
@@ -54,10 +54,10 @@ module _ {A : Type 0} (inner : Inner nesting) (c : ℕ) (r : QueryRule true here
       → read inner r q ≡ took x w → read inner (part c r) p ≡ took x w
   part-took p q w d x e f = part-is p q d e ∙ f
 
-  -- a mark that is not there whole, or a part that fails after it
-  pub mark-fails : (p : State) (e : Stop) → Fails e (read_flat (joint c) p)
+  -- a joint that is not there whole, or a part that fails after it
+  pub joint-fails : (p : State) (e : Stop) → Fails e (read_flat (joint c) p)
       → Fails e (read inner (part c r) p)
-  mark-fails p e h =
+  joint-fails p e h =
       rw (part-joint p) (fails-then e (read_flat (joint c) p) (λ d q. read inner r q) h)
 
   pub part-fails : (p q : State) (d : ℕ) (e : Stop) → read_flat (joint c) p ≡ took d q
@@ -71,11 +71,11 @@ module _ {A : Type 0} (inner : Inner nesting) (c : ℕ) (r : QueryRule true here
       off
 
 -- a value made into another, twice
-pub by-twice : {A B C : Type 0} (f : B → C) (g : A → B) (o : Outcome A)
-    → by f (by g o) ≡ by (λ x. f (g x)) o
-by-twice f g (took x q) = refl
-by-twice f g (stuck q) = refl
-by-twice f g (deep q) = refl
+pub outcome_map-twice : {A B C : Type 0} (f : B → C) (g : A → B) (o : Outcome A)
+    → outcome_map f (outcome_map g o) ≡ outcome_map (λ x. f (g x)) o
+outcome_map-twice f g (took x q) = refl
+outcome_map-twice f g (stuck q) = refl
+outcome_map-twice f g (deep q) = refl
 
 -- arguments without the parenthesis after them
 abbrev pub listed : QueryRule true here beyond (List ArgumentTree)
@@ -97,59 +97,59 @@ pub map-first : {A B : Type 0} (f : A → B) {ys xs : List A} {x : A} → ys ≡
     → map f ys ≡ f x ∷ []
 map-first f {x} e none = ap (map f) (e ∙ ap (λ zs. zs ++ x ∷ []) none)
 
--- ---- several parts with a mark twice between them, once the first is read
+-- ---- several parts with a character twice between them, once the first is read
 
 module _ (n : ℕ) (j : Connective) (first : ExprTree) (from : State) where
   abbrev others : QueryRule false beyond beyond (List ExprTree)
-  others = other_parts (mark_of j) (part_of j)
+  others = other_parts (character_of j) (part_of j)
 
   -- the loop goes on from p with these parts
   abbrev pub StillMakes : List ExprTree → State → Type 0
   StillMakes xs p =
       with_prefix xs (read_inside n others p)
-      ≡ by (λ es. first ∷ es) (read_inside n others from)
+      ≡ outcome_map (λ es. first ∷ es) (read_inside n others from)
 
   -- a part that fails
   pub parts-fail : (e : Stop) (xs : List ExprTree) (p : State)
       → StillMakes xs p
-      → passes (is (mark_of j)) (after_blank p) ≡ true → Fails e (read_inside n (part (mark_of j)
+      → passes (is (character_of j)) (after_blank p) ≡ true → Fails e (read_inside n (part (character_of j)
       (part_of j)) p)
-      → Fails e (by (λ es. joined (several j) (first ∷ es)) (read_inside n others from))
+      → Fails e (outcome_map (λ es. joined (several j) (first ∷ es)) (read_inside n others from))
   parts-fail e xs p total on failed =
-      let o = by (λ es. first ∷ es) (read_inside n others from) in
+      let o = outcome_map (λ es. first ∷ es) (read_inside n others from) in
       let made : Fails e o = rw (← total)
-      (loops.some_fail (inside n) (inside-progress n) beyond (is (mark_of j)) (part (mark_of j)
+      (loops.some_fail (inside n) (inside-progress n) beyond (is (character_of j)) (part (character_of j)
       (part_of j)) p xs e on failed) in
-      rw (← by-twice (joined (several j)) (λ es. first ∷ es) (read_inside n others from))
+      rw (← outcome_map-twice (joined (several j)) (λ es. first ∷ es) (read_inside n others from))
       (fails-then e o _ made)
 
   -- another part
   pub parts-on : (xs : List ExprTree) (p q w : State) (x : ExprTree) → StillMakes xs p
-      → passes (is (mark_of j)) (after_blank p) ≡ true → read_flat (joint (mark_of j)) p
-      ≡ took (mark_of j) q
+      → passes (is (character_of j)) (after_blank p) ≡ true → read_flat (joint (character_of j)) p
+      ≡ took (character_of j) q
       → read_inside n (part_of j) q ≡ took x w → StillMakes (xs ++ x ∷ []) w
-  parts-on xs p q w x total on mark one =
-      sym (loops.some_on (inside n) (inside-progress n) beyond (is (mark_of j)) (part (mark_of j)
+  parts-on xs p q w x total on joint one =
+      sym (loops.some_on (inside n) (inside-progress n) beyond (is (character_of j)) (part (character_of j)
       (part_of j)) p w xs x on
-      (part-took (inside n) (mark_of j) (part_of j) p q w (mark_of j) x mark one)) ∙ total
+      (part-took (inside n) (character_of j) (part_of j) p q w (character_of j) x joint one)) ∙ total
 
-  pub parts-smaller : (p q w : State) (x : ExprTree) → read_flat (joint (mark_of j)) p
-      ≡ took (mark_of j) q
+  pub parts-smaller : (p q w : State) (x : ExprTree) → read_flat (joint (character_of j)) p
+      ≡ took (character_of j) q
       → read_inside n (part_of j) q ≡ took x w → length w.rest < length p.rest
-  parts-smaller p q w x mark one =
-      loops.some-smaller (inside n) (inside-progress n) beyond (is (mark_of j)) (part (mark_of j)
+  parts-smaller p q w x joint one =
+      loops.some-smaller (inside n) (inside-progress n) beyond (is (character_of j)) (part (character_of j)
       (part_of j)) p w x
-      (part-took (inside n) (mark_of j) (part_of j) p q w (mark_of j) x mark one)
+      (part-took (inside n) (character_of j) (part_of j) p q w (character_of j) x joint one)
 
   -- no part more
   pub parts-end : (xs : List ExprTree) (p : State)
       → StillMakes xs p
-      → passes (is (mark_of j)) (after_blank p) ≡ false → 2 ≤ length xs
-      → by (λ es. joined (several j) (first ∷ es)) (read_inside n others from)
+      → passes (is (character_of j)) (after_blank p) ≡ false → 2 ≤ length xs
+      → outcome_map (λ es. joined (several j) (first ∷ es)) (read_inside n others from)
       ≡ took (several j (exprs xs)) p
   parts-end xs p total off many =
-      sym (by-twice (joined (several j)) (λ es. first ∷ es) (read_inside n others from))
-      ∙ ap (by (joined (several j)))
-      (sym total ∙ loops.some_end (inside n) (inside-progress n) beyond (is (mark_of j)) (part
-      (mark_of j) (part_of j)) p xs off)
+      sym (outcome_map-twice (joined (several j)) (λ es. first ∷ es) (read_inside n others from))
+      ∙ ap (outcome_map (joined (several j)))
+      (sym total ∙ loops.some_end (inside n) (inside-progress n) beyond (is (character_of j)) (part
+      (character_of j) (part_of j)) p xs off)
       ∙ ap (λ e. took e p) (joined-several (several j) xs many)

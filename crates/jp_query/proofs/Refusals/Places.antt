@@ -55,17 +55,17 @@ apart c u t (deep q) (deep r) w (same e) (ended g k) stops takes =
     let f : r ≡ longer u q = cc in too-short c u q (ap (λ (p : State). p.rest) (sym f) ∙ stops) g
 
 -- through the character at which reading a query stops no text goes on to one
-pub no-further : (n : ℕ) (before after : Text) (mark : ℕ)
-    → StopsAt (mark ∷ after) (query_at n (start (before ++ mark ∷ after)))
-    → IsNoViablePrefix n (before ++ mark ∷ [])
-no-further n before after mark stops spelled =
-    let through = before ++ mark ∷ [] in
+pub no-further : (n : ℕ) (before after : Text) (unexpected : ℕ)
+    → StopsAt (unexpected ∷ after) (query_at n (start (before ++ unexpected ∷ after)))
+    → IsNoViablePrefix n (before ++ unexpected ∷ [])
+no-further n before after unexpected stops spelled =
+    let through = before ++ unexpected ∷ [] in
     let alike = (local-query n).agrees in
     let read = spells-read n spelled.1 spelled.2 (through ++ spelled.0) spelled.3 in
-    apart mark after spelled.0 (query_at n (start through))
+    apart unexpected after spelled.0 (query_at n (start through))
     (query_at n (start (through ++ after))) (query_at n (start (through ++ spelled.0)))
     (alike after (start through)) (alike spelled.0 (start through))
-    (rw (append_assoc before (mark ∷ []) after) stops) (rw read tt)
+    (rw (append_assoc before (unexpected ∷ []) after) stops) (rw read tt)
 
 -- ---- places
 
@@ -84,16 +84,16 @@ place-of : (n : ℕ) (text : Text) (r : State) (h : Stops (whole n) (start text)
 place-of n text r h = sym (h.prefix.at ∙ omega arith)
 
 -- a stop before a character with which nothing goes on
-abbrev ends-at : (n : ℕ) (text : Text) (at mark : ℕ) (after : Text) (found : Spans)
-    (h : Stops (whole n) (start text) (record { at = at; rest = mark ∷ after; found = found }))
-    → IsNoViablePrefix n (h.prefix.read ++ mark ∷ []) → EndsViablePrefix n text at
-ends-at n text at mark after found h halts = record {
+abbrev ends-at : (n : ℕ) (text : Text) (at unexpected : ℕ) (after : Text) (found : Spans)
+    (h : Stops (whole n) (start text) (record { at = at; rest = unexpected ∷ after; found = found }))
+    → IsNoViablePrefix n (h.prefix.read ++ unexpected ∷ []) → EndsViablePrefix n text at
+ends-at n text at unexpected after found h halts = record {
   before = h.prefix.read;
-  mark = mark;
+  unexpected = unexpected;
   after = after;
   parts = h.prefix.rest;
-  place_is = place-of n text (record { at = at; rest = mark ∷ after; found = found }) h;
-  is_viable = prefix-of n text (record { at = at; rest = mark ∷ after; found = found }) h;
+  place_is = place-of n text (record { at = at; rest = unexpected ∷ after; found = found }) h;
+  is_viable = prefix-of n text (record { at = at; rest = unexpected ∷ after; found = found }) h;
   is_not_viable = halts;
 }
 
@@ -109,12 +109,12 @@ syntax-parts n text at [] found e h =
       is_viable = subst (IsViablePrefix n) all_read (prefix-of n text r h);
       nothing = unread-spells_nothing n text r e;
     })
-syntax-parts n text at (mark ∷ after) found e h =
-    let r : State = record { at = at; rest = mark ∷ after; found = found } in
+syntax-parts n text at (unexpected ∷ after) found e h =
+    let r : State = record { at = at; rest = unexpected ∷ after; found = found } in
     let stops = λ (k : ℕ) (f : query_at k (start text) ≡ stuck r). no-further k h.prefix.read after
-    mark (rw (sym h.prefix.rest, f) refl) in
+    unexpected (rw (sym h.prefix.rest, f) refl) in
     inr (record {
-      end = ends-at n text at mark after found h (stops n e);
+      end = ends-at n text at unexpected after found h (stops n e);
       none_deeper = stops (suc n) (stuck-deeper n (start text) r e);
     })
 
@@ -131,16 +131,16 @@ deep-parts : (n : ℕ) (text : Text) (at : ℕ) (rest : Text) (found : Spans)
     → Passes (whole (suc n)) (start text) (record { at = at; rest = rest; found = found })
     → IsTooDeepAt n text at
 deep-parts n text at [] found e h g = absurd (let none = g.next in omega arith)
-deep-parts n text at (mark ∷ after) found e h g =
-    let r : State = record { at = at; rest = mark ∷ after; found = found } in
+deep-parts n text at (unexpected ∷ after) found e h g =
+    let r : State = record { at = at; rest = unexpected ∷ after; found = found } in
     let before = h.prefix.read in
     let through = g.stops.prefix in
-    let same_text : through.read ≡ before ++ mark ∷ [] =
-    append_cancel_right through.read (before ++ mark ∷ []) after
-    (sym through.rest ∙ h.prefix.rest ∙ sym (append_assoc before (mark ∷ []) after)) in
+    let same_text : through.read ≡ before ++ unexpected ∷ [] =
+    append_cancel_right through.read (before ++ unexpected ∷ []) after
+    (sym through.rest ∙ h.prefix.rest ∙ sym (append_assoc before (unexpected ∷ []) after)) in
     record {
-      end = ends-at n text at mark after found h
-          (no-further n before after mark (rw (sym h.prefix.rest, e) refl));
+      end = ends-at n text at unexpected after found h
+          (no-further n before after unexpected (rw (sym h.prefix.rest, e) refl));
       deeper = subst (IsViablePrefix (suc n)) same_text (prefix-of (suc n) text (past r) g.stops);
     }
 

@@ -315,6 +315,6 @@ named_call-alive ok some = (some, λ c. ((letter_a, refl), λ w. after_parenthes
 
 -- ---- levels
 
-abbrev pub inside_mark-alive : (m : ℕ) → Alive (rule.inside_mark m)
-unfolding rule.inside_mark
-inside_mark-alive m = expression-alive
+abbrev pub inside_expression-alive : (m : ℕ) → Alive (rule.inside_expression m)
+unfolding rule.inside_expression
+inside_expression-alive m = expression-alive

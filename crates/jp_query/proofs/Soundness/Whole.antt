@@ -21,8 +21,8 @@ use Rattle.jp_query.specs.Grammar.{Segment, Segments, Inside, Spells}
 use Rattle.jp_query.specs.Private.Rules as rule
 use Rattle.jp_query.specs.Private.Reading.{inside, query_at}
 use Rattle.jp_query.proofs.Soundness.Alive.{segment-alive, query-alive}
-use Rattle.jp_query.proofs.Forms.Selectors.{marked, segment-same, query-same}
-use Rattle.jp_query.proofs.Levels.{marked-more, inside-sound}
+use Rattle.jp_query.proofs.Forms.Selectors.{opening_form, segment-same, query-same}
+use Rattle.jp_query.proofs.Levels.{opening_form-more, inside-sound}
 
 -- the query of these segments
 abbrev pub query_of_parts : List SegmentTree → QueryTree
@@ -66,8 +66,8 @@ another-segment n x p r h = record {
 
     some : Has (Segment (Inside n) y)
     some =
-        has-as (form (marked (Inside n)) rule.segment y) (Segment (Inside n) y)
-        (segment-same (Inside n) y).to (has (marked (Inside n)) rule.segment segment-alive)
+        has-as (form (opening_form (Inside n)) rule.segment y) (Segment (Inside n) y)
+        (segment-same (Inside n) y).to (has (opening_form (Inside n)) rule.segment segment-alive)
 
 ends-sound : (n : ℕ) (p : State) (o : Outcome QueryTree) → IsSound (whole n) (whole (suc n)) p o
     → IsSound (whole n) (whole (suc n)) p
@@ -84,13 +84,13 @@ ends-sound n p (deep r) h = h
 pub query-sound : (n : ℕ) (p : State) → IsSound (whole n) (whole (suc n)) p (query_at n p)
 unfolding query_at
 query-sound n p =
-    let F = marked (Inside n) in
-    let G = marked (Inside (suc n)) in
+    let F = opening_form (Inside n) in
+    let G = opening_form (Inside (suc n)) in
     ends-sound n p (read (inside n) rule.query p)
     (sound-as (form F rule.query) (form G rule.query) (whole n) (whole (suc n)) p
     (read (inside n) rule.query p)
     (λ q. (query-same (Inside n) q).to) (λ q. (query-same (Inside (suc n)) q).to)
-    (sound F G (marked-more n) (inside n) (inside-sound n) rule.query query-alive p))
+    (sound F G (opening_form-more n) (inside n) (inside-sound n) rule.query query-alive p))
 
 -- what is read ends with the text
 record Ends {A : Type 0} (o : Outcome A) : Type 0 where

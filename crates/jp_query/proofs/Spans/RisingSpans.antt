@@ -3,7 +3,7 @@ use Rattle.std.proofs.Common.{◌≡◌, ℕ, ◌<◌, ◌≤◌, ◌⊎◌, [],
 use Rattle.std.proofs.Math.Nat.{eq-or-lt_of_le}
 use Rattle.jp_reading.specs.Texts.{Spans}
 use Rattle.jp_reading.specs.declared.span.Span.{Span}
-use Rattle.jp_query.specs.ItemSpans.{ComesAfter, AllComeAfter, Rise}
+use Rattle.jp_query.specs.ComponentSpans.{ComesAfter, AllComeAfter, Rise}
 
 -- each starts at one of the bytes from low up to high, and ends at high or before
 abbrev pub StartWithin : ℕ → ℕ → Spans → Type 0

@@ -8,23 +8,24 @@ use Rattle.std.specs.Prelude.{codes}
 use Rattle.jp_reading.specs.Characters as char
 use Rattle.jp_tree.specs.declared.tree.Numeral.TheVariants.{Whole}
 use Rattle.jp_reading.specs.Texts.{Text, Spans, bytes}
-use Rattle.jp_query.specs.Ints.{Int, is_leading_digit, zero_int, positive_int, negative_int}
-use Rattle.jp_query.specs.Items.{QueryItem, as_bound, as_step, int}
-use Rattle.jp_query.specs.ItemSpans.{AreSpansOf}
+use Rattle.jp_query.specs.Ints.{Int, zero_int, positive_int, negative_int}
+use Rattle.jp_reading.specs.Numbers.{is_leading_digit}
+use Rattle.jp_query.specs.Components.{QueryComponent, as_bound, as_step, int}
+use Rattle.jp_query.specs.ComponentSpans.{AreSpansOf}
 use Rattle.jp_reading.specs.Characters.{digit_zero}
 
 -- of 0, 9, and the omitted step
 spans : Spans
 spans = Some (record { start = 2; end = 3 }) ∷ Some (record { start = 4; end = 5 }) ∷ None ∷ []
 
-zero_item : QueryItem
-zero_item = int (Whole (pos 0)) as_bound
+zero_component : QueryComponent
+zero_component = int (Whole (pos 0)) as_bound
 
-nine_item : QueryItem
-nine_item = int (Whole (pos 9)) as_bound
+nine_component : QueryComponent
+nine_component = int (Whole (pos 9)) as_bound
 
-step_item : QueryItem
-step_item = int (Whole (pos 1)) as_step
+step_component : QueryComponent
+step_component = int (Whole (pos 1)) as_step
 
 -- no text that begins with 0 spells 9
 not-nine : (o : ℕ) (t : Text) → Int (Whole (pos 9)) [] o (char.digit_zero ∷ t) → ⊥
@@ -59,14 +60,14 @@ after-two (a ∷ b ∷ c ∷ before) own after e two three h =
     let third = (len_utf8_bounds c).0 in
     absurd (omega (arith, two, first, second, third))
 
--- the spans are not those of the items with the bounds the other way around
-row-swapped : AreSpansOf (codes "$[0:9]") (nine_item ∷ zero_item ∷ step_item ∷ []) spans → ⊥
-unfolding spans nine_item
+-- the spans are not those of the components with the bounds the other way around
+row-swapped : AreSpansOf (codes "$[0:9]") (nine_component ∷ zero_component ∷ step_component ∷ []) spans → ⊥
+unfolding spans nine_component
 row-swapped h =
     let it = h.each.0 in
     after-two it.before it.own it.after it.parts it.start it.end it.spells
 
 -- without a span is no bound, though it be 1
-row-bound : AreSpansOf (codes "$[1:]") (int (Whole (pos 1)) as_bound ∷ step_item ∷ [])
+row-bound : AreSpansOf (codes "$[1:]") (int (Whole (pos 1)) as_bound ∷ step_component ∷ [])
     (None ∷ None ∷ []) → ⊥
 row-bound h = let same = h.each.0 in cc

@@ -7,7 +7,8 @@ use Rattle.jp_reading.specs.Texts.{Text, Spans, bytes}
 use Rattle.jp_reading.specs.Forms.{Form, ◌⌢◌, word, One}
 use Rattle.jp_reading.proofs.Between.{bytes-append}
 use Rattle.jp_tree.specs.Tree.{LiteralTree}
-use Rattle.jp_query.specs.Ints.{Int, is_leading_digit, Unsigned, zero_int, positive_int}
+use Rattle.jp_query.specs.Ints.{Int, Unsigned, zero_int, positive_int}
+use Rattle.jp_reading.specs.Numbers.{is_leading_digit}
 use Rattle.jp_query.specs.Ints.{negative_int}
 use Rattle.jp_query.specs.Literals.{Literal, Number, Mantissa, whole, minus_zero, number, of_number}
 use Rattle.jp_query.specs.Literals.{of_text, of_true, of_false, of_null}

@@ -1,7 +1,7 @@
 -- What is true of each parsed query.
 use Rattle.jp_query.specs.declared.parsed.Parsed.TheInside.{Inside}
 use Rattle.jp_query.specs.Levels.{level_limit}
-use Rattle.jp_tree.specs.Tree.{query_of}
+use Rattle.jp_tree.specs.Views.{query_of}
 use Rattle.jp_query.specs.Spelled.{Spanned, IsSpelled}
 
 -- the fields without their memory

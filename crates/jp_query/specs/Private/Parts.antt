@@ -5,7 +5,7 @@ use Rattle.std.specs.Global.{Box}
 use Rattle.jp_reading.specs.Outcome.{State, Outcome, ◌>>=◌, is, expect}
 use Rattle.jp_reading.specs.Texts.{Text}
 use Rattle.jp_reading.specs.Rule.{here, beyond, the, blanks, ◌>>◌}
-use Rattle.jp_reading.specs.Views.{by}
+use Rattle.jp_reading.specs.Views.{outcome_map}
 use Rattle.jp_query.specs.declared.expressions.Connective.{Connective}
 use Rattle.jp_query.specs.declared.expressions.Connective.TheVariants.{Or, And}
 use Rattle.jp_query.specs.declared.calls.FirstPart.{FirstPart}
@@ -13,7 +13,7 @@ use Rattle.jp_query.specs.declared.calls.FirstPart.TheVariants as first
 use Rattle.jp_tree.specs.declared.tree.Expr.{Expr}
 use Rattle.jp_tree.specs.declared.tree.Selector.{Selector}
 use Rattle.jp_tree.specs.declared.tree.Argument.{Argument}
-use Rattle.jp_tree.specs.Tree.{expr_of, selector_of, argument_of, literal_of, query_of, call_of}
+use Rattle.jp_tree.specs.Views.{expr_of, selector_of, argument_of, literal_of, query_of, call_of}
 use Rattle.jp_tree.specs.Tree.{literal_argument, query_argument, call_argument}
 use Rattle.jp_tree.specs.Tree.{SelectorTree, ExprTree, ExprTrees, any_of, all_of, CallTree, call}
 use Rattle.jp_tree.specs.Tree.{arguments, ArgumentTree, logical_argument}
@@ -45,10 +45,10 @@ first_argument (first.Logical b) = logical_argument (boxed_expr b)
 abbrev pub next_entry : QueryRule true here here SelectorTree
 next_entry = the comma >> (blanks {m = here} >> entry)
 
--- the mark that stands twice between two parts
-abbrev pub mark_of : Connective → ℕ
-mark_of Or = bar
-mark_of And = ampersand
+-- the character that stands twice between two parts
+abbrev pub character_of : Connective → ℕ
+character_of Or = bar
+character_of And = ampersand
 
 -- the parts that the connective joins
 abbrev pub part_of : Connective → QueryRule true here beyond ExprTree
@@ -63,7 +63,7 @@ several And = all_of
 -- how parts are read inside n levels from the first on; a single one stands for itself
 abbrev pub joined_at : Connective → ℕ → ExprTree → State → Outcome ExprTree
 joined_at c n e p =
-    by (λ es. joined (several c) (e ∷ es)) (read_inside n (other_parts (mark_of c) (part_of c)) p)
+    outcome_map (λ es. joined (several c) (e ∷ es)) (read_inside n (other_parts (character_of c) (part_of c)) p)
 
 -- whether a character begins another part of a logical expression
 abbrev pub begins_part : ℕ → Bool
@@ -71,10 +71,10 @@ begins_part c = is ampersand c || is bar c
 
 -- how an argument that is a logical expression is read inside n levels from its first part on
 abbrev pub logical_at : ℕ → ExprTree → State → Outcome ArgumentTree
-logical_at n e p = joined_at And n e p >>= λ a q. by logical_argument (joined_at Or n a q)
+logical_at n e p = joined_at And n e p >>= λ a q. outcome_map logical_argument (joined_at Or n a q)
 
 -- how the rest of a function's name that begins so, and arguments inside n levels, are read
 abbrev pub rest_of_call : ℕ → Text → State → Outcome CallTree
 rest_of_call n w p =
-    by (λ u. w ++ u) (read_flat (run is_function_char) p) >>= λ name q. expect opening_parenthesis q
-    >>= λ d r. by (λ xs. call name (arguments xs)) (read_inside n after_parenthesis r)
+    outcome_map (λ u. w ++ u) (read_flat (run is_function_char) p) >>= λ name q. expect opening_parenthesis q
+    >>= λ d r. outcome_map (λ xs. call name (arguments xs)) (read_inside n after_parenthesis r)

@@ -1,11 +1,12 @@
 -- What the reader of queries does, at each number of levels, and with a whole text.
 use Rattle.std.specs.Prelude.{ℕ, Bool, zero, suc, if◌then◌else◌}
 use Rattle.jp_reading.specs.Outcome.{State, Outcome, took, stuck, deep, ◌>>=◌, skip, is_end}
-use Rattle.jp_reading.specs.Rule.{Mark}
+use Rattle.jp_reading.specs.Rule.{Look}
 use Rattle.jp_reading.specs.RuleReading.{Inner, nothing, read}
 use Rattle.jp_tree.specs.Tree.{QueryTree, ExprTree}
 use Rattle.jp_reading.specs.Characters.{opening_parenthesis}
-use Rattle.jp_query.specs.Private.Rules.{nesting, QueryRule, mark, CallRest, any_call, closed}
+use Rattle.jp_query.specs.Private.Rules.{nesting, QueryRule, expression_after, CallRest, any_call}
+use Rattle.jp_query.specs.Private.Rules.{closed}
 use Rattle.jp_query.specs.Private.Rules.{opened, query}
 
 -- how what opens a level is read inside n levels. With no level left, one more would be needed at
@@ -15,11 +16,11 @@ inside zero o p = deep p
 inside (suc n) o p = read (inside n) (opened o) p
 
 -- what a rule reads, where nothing is nested in it
-abbrev pub read_flat : {u : Bool} {a b : Mark} {A : Type 0} → QueryRule u a b A → State → Outcome A
+abbrev pub read_flat : {u : Bool} {a b : Look} {A : Type 0} → QueryRule u a b A → State → Outcome A
 read_flat r p = read (nothing nesting) r p
 
 -- what a rule reads inside n levels
-abbrev pub read_inside : {u : Bool} {a b : Mark} {A : Type 0} → ℕ → QueryRule u a b A → State
+abbrev pub read_inside : {u : Bool} {a b : Look} {A : Type 0} → ℕ → QueryRule u a b A → State
     → Outcome A
 read_inside n r p = read (inside n) r p
 
@@ -30,7 +31,7 @@ call_inside (suc n) p = read (inside n) any_call p
 
 -- paren-expr (section 2.3.5.1), without its `!`
 abbrev pub parenthesis_at : ℕ → State → Outcome ExprTree
-parenthesis_at n p = inside n (mark opening_parenthesis) p >>= λ e q. read_inside n (closed e) q
+parenthesis_at n p = inside n (expression_after opening_parenthesis) p >>= λ e q. read_inside n (closed e) q
 
 -- a whole query: the text ends after its segments; at what else comes there reading is stuck, past
 -- the blanks

@@ -3,11 +3,12 @@
 use Rattle.std.specs.Char.{digit_value}
 use Rattle.std.specs.Prelude.{◌+◌, ◌*◌, ℕ, ◌||◌, ◌&&◌, not, Bool, true, false, List, [], ◌∷◌, ◌++◌}
 use Rattle.std.specs.Prelude.{Option, Some, None, pos, codes}
-use Rattle.jp_reading.specs.Texts.{Text}
+use Rattle.jp_reading.specs.Texts.{Text, is_among}
 use Rattle.jp_reading.specs.Outcome.{is}
 use Rattle.jp_reading.specs.Numbers.{is_digit, value_from}
-use Rattle.jp_reading.specs.Rule.{Mark, here, beyond, Nesting, the, blanks, Rule, value, character}
-use Rattle.jp_reading.specs.Rule.{made, look, upon, nested, item, item_where, omitted, some}
+use Rattle.jp_reading.specs.Rule.{Look, here, beyond, Nesting, the, blanks, Rule, value, character}
+use Rattle.jp_reading.specs.Rule.{made, look, upon, nested, component, component_where, omitted}
+use Rattle.jp_reading.specs.Rule.{some}
 use Rattle.jp_reading.specs.Rule.{relaxed, loose, until, flat, ◌>>=◌, ◌>>◌}
 use Rattle.jp_tree.specs.declared.tree.Numeral.{Numeral}
 use Rattle.jp_tree.specs.declared.tree.Numeral.TheVariants.{Whole}
@@ -32,16 +33,18 @@ use Rattle.jp_reading.specs.Characters.{greater_sign, question_mark, at_sign, op
 use Rattle.jp_reading.specs.Characters.{backslash, closing_bracket, letter_f, letter_n, letter_t}
 use Rattle.jp_reading.specs.Characters.{letter_u, bar}
 use Rattle.jp_query.specs.Grammar.{joined}
-use Rattle.jp_query.specs.Ints.{is_leading_digit, whole_of, negative_of}
+use Rattle.jp_query.specs.Ints.{whole_of, negative_of}
+use Rattle.jp_reading.specs.Numbers.{is_leading_digit}
 use Rattle.jp_query.specs.Literals.{is_e, is_sign, numeral}
 use Rattle.jp_query.specs.Names.{is_name_first, is_name_char, is_function_first, is_function_char}
 use Rattle.jp_query.specs.Strings.{is_plain, is_escapable, escaped, is_hexdig, is_d, is_not_d}
 use Rattle.jp_query.specs.Strings.{is_0_to_7, is_8_to_b, is_c_to_f, scalar_of}
 
--- what opens a level: the mark of an expression, the first letter of a function's name, which is
--- none of some others, or what goes on with such a name or ends it, and not with another character
+-- what opens a level: the character before an expression, the first letter of a function's name,
+-- which is none of some others, or what goes on with such a name or ends it, and not with another
+-- character
 pub data Opening : Type 0 where
-  mark : ℕ → Opening
+  expression_after : ℕ → Opening
   name_from : Text → Opening
   name_on : Option ℕ → Opening
 
@@ -51,11 +54,6 @@ pub record CallRest : Type 0 where
   pub rest : Text
   pub arguments : List ArgumentTree
 
--- whether a character is one of these
-abbrev pub is_among : Text → ℕ → Bool
-is_among [] c = false
-is_among (d ∷ ds) c = is d c || is_among ds c
-
 -- that character alone, if there is one
 abbrev pub only_this : Option ℕ → Text
 only_this None = []
@@ -63,14 +61,14 @@ only_this (Some c) = c ∷ []
 
 -- whether a character begins what the opening opens
 abbrev pub opens : Opening → ℕ → Bool
-opens (mark m) c = is m c
+opens (expression_after m) c = is m c
 opens (name_from others) c = is_function_first c && not (is_among others c)
 opens (name_on other) c =
     is opening_parenthesis c || (is_function_char c && not (is_among (only_this other) c))
 
 -- what is one level further in
 abbrev pub Opened : Opening → Type 0
-Opened (mark m) = ExprTree
+Opened (expression_after m) = ExprTree
 Opened (name_from others) = CallRest
 Opened (name_on other) = CallRest
 
@@ -79,7 +77,7 @@ abbrev pub nesting : Nesting
 nesting = record { Opening = Opening; opens = opens; Inner = Opened }
 
 -- a rule of queries, with how far the text is looked at as it begins and as it ends
-abbrev pub QueryRule : Bool → Mark → Mark → Type 0 → Type 1
+abbrev pub QueryRule : Bool → Look → Look → Type 0 → Type 1
 QueryRule = Rule nesting
 
 -- ---- names (section 2.5.1.1)
@@ -176,13 +174,13 @@ begins_int c = is digit_zero c || is minus c || is_leading_digit c
 -- a bound, if one comes
 unfoldable pub bound : QueryRule false beyond beyond (Option Numeral)
 bound =
-    look beyond begins_int (blanks {m = beyond} >> relaxed (made Some (item int)))
+    look beyond begins_int (blanks {m = beyond} >> relaxed (made Some (component int)))
     (value {m = beyond} None)
 
 -- a step after its colon, if one comes
 unfoldable pub later_step : QueryRule false beyond beyond Numeral
 later_step =
-    look beyond begins_int (blanks {m = beyond} >> relaxed (item int))
+    look beyond begins_int (blanks {m = beyond} >> relaxed (component int))
     (omitted {m = beyond} (Whole (pos 1)))
 
 -- a colon and a step, if there is one
@@ -264,7 +262,7 @@ begins_operator c = is equals_sign c || is exclamation_mark c || is less_sign c 
 -- an index, or a slice that starts with it
 unfoldable pub number_selector : QueryRule true here beyond SelectorTree
 number_selector = do
-  i ← relaxed (item int)
+  i ← relaxed (component int)
   look beyond (is colon) (blanks {m = beyond} >> made slice (slice_from (Some i)))
       (value {m = beyond} (index i))
 
@@ -275,7 +273,7 @@ selector =
     (look here (is single_quote) (relaxed (flat (made name (quoted single_quote))))
     (upon star (value {m = beyond} wildcard)
     (look here (is colon) (flat (made slice (slice_from None)))
-    (nested (mark question_mark) (λ e. value {m = beyond} (filter e)) (flat number_selector)))))
+    (nested (expression_after question_mark) (λ e. value {m = beyond} (filter e)) (flat number_selector)))))
 
 -- a selector and the blanks after it
 unfoldable pub entry : QueryRule true here here SelectorTree
@@ -388,9 +386,9 @@ side_within =
     look here begins_query (made node_value query_within)
     (look here is_function_first word (relaxed (flat (made literal_operand plain_literal))))
 
--- comparable, which is an item
+-- comparable, which is a component
 unfoldable pub side : QueryRule true here beyond OperandTree
-side = item side_within
+side = component side_within
 
 -- the operator and the second side of a comparison
 unfoldable pub comparison_with : OperandTree → QueryRule true here beyond ExprTree
@@ -409,13 +407,13 @@ subject =
     nested (name_from []) (λ r. value {m = beyond} (call_test (call_with [] r)))
     (made exists query_within)
 
--- test-expr, which is an item
+-- test-expr, which is a component
 unfoldable pub test_expr : QueryRule true here beyond ExprTree
-test_expr = item subject
+test_expr = component subject
 
 -- what comes after a `!`
 unfoldable pub negated : QueryRule true here beyond ExprTree
-negated = nested (mark opening_parenthesis) closed test_expr
+negated = nested (expression_after opening_parenthesis) closed test_expr
 
 -- what goes on from the first side: a literal has to be compared, all else may be a test
 abbrev pub compared_or_test : OperandTree → QueryRule false beyond beyond ExprTree
@@ -436,22 +434,22 @@ negation_on = blanks {m = here} >> made negation negated
 unfoldable pub basic : QueryRule true here beyond ExprTree
 basic =
     upon exclamation_mark negation_on
-    (nested (mark opening_parenthesis) closed (side >>= compared_or_test))
+    (nested (expression_after opening_parenthesis) closed (side >>= compared_or_test))
 
--- the mark c twice with blanks around it
+-- the character c twice with blanks around it
 unfoldable pub joint : ℕ → QueryRule true beyond here ℕ
 joint c = blanks {m = beyond} >> (the c >> (the c >> (blanks {m = here} >> value {m = here} c)))
 
--- the mark c twice with blanks around it, and another part
+-- the character c twice with blanks around it, and another part
 abbrev pub part : {A : Type 0} → ℕ → QueryRule true here beyond A → QueryRule true beyond beyond A
 part c rule = blanks {m = beyond} >> (the c >> (the c >> (blanks {m = here} >> rule)))
 
--- further parts, each after the mark c twice
+-- further parts, each after the character c twice
 abbrev pub other_parts : {A : Type 0} → ℕ → QueryRule true here beyond A
     → QueryRule false beyond beyond (List A)
 other_parts c rule = some beyond (is c) (part c rule)
 
--- parts with the mark c twice between them
+-- parts with the character c twice between them
 abbrev pub parts : {A : Type 0} → ℕ → QueryRule true here beyond A
     → QueryRule true here beyond (List A)
 parts c rule = rule >>= λ x. made (λ xs. x ∷ xs) (other_parts c rule)
@@ -482,7 +480,7 @@ compared_or_alone x =
 unfoldable pub argument_start : QueryRule true here beyond ArgumentTree
 argument_start =
     upon exclamation_mark (made logical_argument negation_on)
-    (nested (mark opening_parenthesis) (λ e. made logical_argument (closed e))
+    (nested (expression_after opening_parenthesis) (λ e. made logical_argument (closed e))
     (side >>= compared_or_alone))
 
 -- the first part of an argument, as an expression too, and others after it
@@ -505,7 +503,7 @@ argument_on (query_argument q) = other_argument_parts (query_argument q) (exists
 argument_on (call_argument c) = other_argument_parts (call_argument c) (call_test c)
 argument_on (logical_argument e) = other_argument_parts (logical_argument e) e
 
--- whether an argument is a logical expression, which is an item
+-- whether an argument is a logical expression, which is a component
 abbrev pub is_logical : ArgumentTree → Bool
 is_logical (logical_argument e) = true
 is_logical x = false
@@ -516,7 +514,7 @@ is_closing c = is comma c || is closing_bracket c || is closing_parenthesis c
 
 -- function-argument
 unfoldable pub argument : QueryRule true here beyond ArgumentTree
-argument = until is_closing (item_where is_logical (argument_start >>= argument_on))
+argument = until is_closing (component_where is_logical (argument_start >>= argument_on))
 
 -- another argument after a comma
 unfoldable pub next_argument : QueryRule true beyond beyond ArgumentTree
@@ -557,13 +555,13 @@ named_call ok = do
 
 -- ---- levels
 
--- an expression one level further in, with the mark that opens it
-unfoldable pub inside_mark : ℕ → QueryRule true here beyond ExprTree
-inside_mark m = the m >> (blanks {m = here} >> expression)
+-- an expression one level further in, with the character that opens it
+unfoldable pub inside_expression : ℕ → QueryRule true here beyond ExprTree
+inside_expression m = the m >> (blanks {m = here} >> expression)
 
 -- what is one level further in, from its opening on
 abbrev pub opened : (o : Opening) → QueryRule true here beyond (Opened o)
-opened (mark m) = inside_mark m
+opened (expression_after m) = inside_expression m
 opened (name_from others) = named_call (opens (name_from others))
 opened (name_on other) =
     upon opening_parenthesis (made (call_rest []) after_parenthesis)

@@ -1,4 +1,4 @@
-//! Filters and functions in them: their trees, and the spans of their items.
+//! Filters and functions in them: their trees, and the spans of their components.
 
 use super::{Row, assert_trees};
 use crate::{Span, parse};
@@ -36,7 +36,7 @@ fn a_filter_is_read(rt: HostRuntime) -> Result<(), Fail> {
 }
 
 #[test]
-fn items_inside_items_have_spans(rt: HostRuntime) -> Result<(), Fail> {
+fn components_inside_components_have_spans(rt: HostRuntime) -> Result<(), Fail> {
     let text = "$[?@[?@.b==$[1]] , ?'1.5'==1.5]";
     let parsed = parse(rt.alloc(), text).ok().ok_or("refused")?;
     let spans = [

@@ -1,4 +1,4 @@
-//! Segments and selectors but for filters: their trees, and the spans of their items.
+//! Segments and selectors but for filters: their trees, and the spans of their components.
 
 use super::{Row, assert_trees};
 use crate::Span;

@@ -4,13 +4,14 @@ use Rattle.std.proofs.Common.{◌≡◌, ℕ, ◌+◌, Bool, true, false, ◌||�
 use Rattle.std.proofs.Common.{◌++◌, Option, Some, None, refl, sym, ap, ◌∙◌, subst, arith}
 use Rattle.jp_reading.specs.Texts.{Text, bytes, is_blank}
 use Rattle.jp_reading.specs.Forms.{Form, ◌⌢◌, word, Blank, AllPassing, Each, Omitted}
-use Rattle.jp_reading.specs.Outcome.{State, Outcome, took, ◌>>=◌, head, first_of, past, after_blank}
+use Rattle.jp_reading.specs.Outcome.{State, Outcome, took, ◌>>=◌, head, past, after_blank}
+use Rattle.jp_reading.specs.Texts.{first_of}
 use Rattle.jp_reading.specs.Outcome.{passes, is, is_at, each, omit}
-use Rattle.jp_reading.specs.Views.{by}
-use Rattle.jp_reading.specs.Rule.{Mark, here, beyond, Nesting, Step, the, blanks, Rule, value}
-use Rattle.jp_reading.specs.Rule.{character, after, seq, made, look, upon, nested, item_where}
+use Rattle.jp_reading.specs.Views.{outcome_map}
+use Rattle.jp_reading.specs.Rule.{Look, here, beyond, Nesting, Lead, the, blanks, Rule, value}
+use Rattle.jp_reading.specs.Rule.{character, after, seq, made, look, upon, nested, component_where}
 use Rattle.jp_reading.specs.Rule.{omitted, some, relaxed, loose, until, flat}
-use Rattle.jp_reading.specs.RuleReading.{Inner, nothing, next, stepped, spanned_if, spanned, read}
+use Rattle.jp_reading.specs.RuleReading.{Inner, nothing, next, led, spanned_if, spanned, read}
 use Rattle.jp_reading.proofs.Between.{Reads, reads-is, state-same}
 use Rattle.jp_reading.proofs.Chars.{after_blank-same}
 use Rattle.jp_reading.proofs.Levels.{Only, Then}
@@ -19,10 +20,11 @@ use Rattle.jp_reading.proofs.Loops.{each-on, each-off}
 use Rattle.jp_reading.proofs.Again.{split, reads-none, one-first, again-take_if, again-expect}
 use Rattle.jp_reading.proofs.Again.{again-skip, again-round, at-word, past-word, inside}
 use Rattle.jp_reading.proofs.Rules.Progress.{goes}
-use Rattle.jp_reading.proofs.Rules.Form.{Either, left, right, ItemIf, Inside, none_inside, text_of}
+use Rattle.jp_reading.proofs.Rules.Form.{Either, left, right, ComponentIf, Inside, none_inside}
+use Rattle.jp_reading.proofs.Rules.Form.{text_of}
 use Rattle.jp_reading.proofs.Rules.Form.{form, Alive, least}
 use Rattle.jp_reading.proofs.Rules.Follow.{Follow, Meets, any, beginning, blanked, either_of}
-use Rattle.jp_reading.proofs.Rules.Follow.{stepping, begins, Passing, Under, Implies, or-left}
+use Rattle.jp_reading.proofs.Rules.Follow.{leading, begins, Passing, Under, Implies, or-left}
 use Rattle.jp_reading.proofs.Rules.Follow.{or-right, Excludes, at, Repeats, Ends, Apart}
 
 -- the rule took the value, and its text begins as the tests say
@@ -80,8 +82,8 @@ excluded : (T : Option ℕ → Bool) (ok : ℕ → Bool) → Excludes T ok → (
 excluded T ok h None e = refl
 excluded T ok h (Some c) e = h c e
 
--- the test at a mark, of what comes next there
-at-next : (m : Mark) (K : Follow) (p : State) → Meets K p → at m K (next m p) ≡ true
+-- the test of the character that is looked at, of what comes next there
+at-next : (m : Look) (K : Follow) (p : State) → Meets K p → at m K (next m p) ≡ true
 at-next here K p h = h.near
 at-next beyond K p h = h.far
 
@@ -102,15 +104,15 @@ blank-near T p q h e = rw h.way.rest (along h.text h.is.blank)
     along [] all = or-right (passes is_blank (first_of q.rest)) (T (first_of q.rest)) e
     along (c ∷ t) all = or-left (is_blank c) (T (Some c)) all.0
 
-done-stepped : {A : Type 0} {m : Mark} {t : Bool} (s : Step m t) (K : Follow)
+done-led : {A : Type 0} {m : Look} {t : Bool} (s : Lead m t) (K : Follow)
     (k : State → Outcome A) (x : A) (p middle q : State)
     → Ends s K → Reads (text_of s) p middle → Done K (k middle) x middle q
-    → Done (stepping s K) (stepped s k p) x p q
-done-stepped (the c) K k x p middle q ends h d = record {
+    → Done (leading s K) (led s k p) x p q
+done-led (the c) K k x p middle q ends h d = record {
   reads = rw (again-expect c p middle h) d.reads;
   begins = record { near = at-word c [] p middle h; far = refl };
 }
-done-stepped blanks K k x p middle q ends h d =
+done-led blanks K k x p middle q ends h d =
     let skipped =
     again-skip p middle h (excluded K.near is_blank ends (head middle) d.begins.near) in
     record {
@@ -127,27 +129,27 @@ omitted-state p q h =
     (h.way.rest ∙ ap (λ t. t ++ q.rest) h.is.is)
     (sym (h.way.found ∙ ap (λ s. p.found ++ s) h.is.spans))
 
--- what is within an item, or is no item of its own, and that its span makes the item
-record Within_item (is_item : Bool) (P : Form) (p q : State) : Type 0 where
+-- what is within a component, or is no component of its own, and that its span makes the component
+record Within_component (is_component : Bool) (P : Form) (p q : State) : Type 0 where
   middle : State
   reads : Reads P p middle
   rest : middle.rest ≡ q.rest
-  spans : spanned_if is_item p middle ≡ q
+  spans : spanned_if is_component p middle ≡ q
 
-within_item : (is_item : Bool) (P : Form) (p q : State) → Reads (ItemIf is_item P) p q
-    → Within_item is_item P p q
-within_item true P p q h =
+within_component : (is_component : Bool) (P : Form) (p q : State) → Reads (ComponentIf is_component P) p q
+    → Within_component is_component P p q
+within_component true P p q h =
     let i = inside P p q h in record {
       middle = i.middle;
       reads = i.reads;
       rest = i.rest;
       spans = i.spanned;
     }
-within_item false P p q h = record { middle = q; reads = h; rest = refl; spans = refl }
+within_component false P p q h = record { middle = q; reads = h; rest = refl; spans = refl }
 
 -- ---- loops
 
-done-each : {A : Type 0} (F : A → Form) (m : Mark) (ok : ℕ → Bool) (first some_follow K : Follow)
+done-each : {A : Type 0} (F : A → Form) (m : Look) (ok : ℕ → Bool) (first some_follow K : Follow)
     (rule : State → Outcome A) → Progress rule
     → Repeats m ok first (either_of some_follow K) K
     → ((x : A) (p q : State) → Reads (F x) p q → Meets (either_of some_follow K) q
@@ -182,7 +184,7 @@ no_inner N = record {
   first = λ o x p q h. absurd h.is;
 }
 
-pub done : {N : Nesting} {u : Bool} {a b : Mark} {A : Type 0} (F : Inside N)
+pub done : {N : Nesting} {u : Bool} {a b : Look} {A : Type 0} (F : Inside N)
     (closes : N.Opening → Follow) (inner : Inner N)
     → InnerIsComplete N F closes inner → (r : Rule N u a b A) (w : Alive r) (K : Follow)
     → Apart closes r w K
@@ -197,7 +199,7 @@ done F closes inner known (character ok) w K apart x p q h follow = record {
 }
 done F closes inner known (after s r) w K apart x p q h follow =
     let parts = split (text_of s) (form F r x) p q h in
-    done-stepped s (begins r w K) (λ m. read inner r m) x p parts.middle q apart.0 parts.one
+    done-led s (begins r w K) (λ m. read inner r m) x p parts.middle q apart.0 parts.one
     (done F closes inner known r w K apart.1 x parts.middle q parts.two follow)
 done F closes inner known (seq r k) w K apart x p q h follow =
     let y = h.is.part in
@@ -212,7 +214,7 @@ done F closes inner known (seq r k) w K apart x p q h follow =
 done F closes inner known (made f r) w K apart x p q h follow =
     let d = done F closes inner known r w K apart h.is.part p q
     (reads-is (form F (made f r) x) (form F r h.is.part) p q h h.is.is) follow in
-    record { reads = ap (by f) d.reads ∙ ap (λ y. took y q) (sym h.is.same); begins = d.begins }
+    record { reads = ap (outcome_map f) d.reads ∙ ap (λ y. took y q) (sym h.is.same); begins = d.begins }
 done F closes inner known (look m ok r s) w K apart x p q h follow =
     way h.is (λ g. done F closes inner known r w.0 K apart.2 x p q g follow)
     (λ g. done F closes inner known s w.1 K apart.3 x p q g follow)
@@ -295,8 +297,8 @@ done {N} F closes inner known (nested o k s) w K apart x p q h follow =
             far = refl;
           };
         }
-done F closes inner known (item_where ok r) w K apart x p q h follow =
-    let i = within_item (ok x) (form F r x) p q h in
+done F closes inner known (component_where ok r) w K apart x p q h follow =
+    let i = within_component (ok x) (form F r x) p q h in
     let d = done F closes inner known r w K apart x p i.middle i.reads
     (meets-same K q i.middle (sym i.rest) follow) in
     record { reads = ap (spanned ok p) d.reads ∙ ap (took x) i.spans; begins = d.begins }

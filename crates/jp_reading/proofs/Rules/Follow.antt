@@ -1,11 +1,10 @@
 -- With which characters a text may begin or go on, and when a rule tells its own texts from what
--- follows them: no more than
--- the next character, or the next that is no blank, has to be looked at.
+-- follows them: no more than the next character, or the next that is no blank, has to be looked at.
 use Rattle.std.proofs.Common.{◌≡◌, ℕ, Bool, true, false, ◌||◌, Option, Some, None, refl}
 use Rattle.jp_reading.specs.Texts.{is_blank}
 use Rattle.jp_reading.specs.Outcome.{State, head, after_blank, passes, is}
-use Rattle.jp_reading.specs.Rule.{Mark, here, beyond, Nesting, Step, the, blanks, Rule, value}
-use Rattle.jp_reading.specs.Rule.{character, after, seq, made, look, upon, nested, item_where}
+use Rattle.jp_reading.specs.Rule.{Look, here, beyond, Nesting, Lead, the, blanks, Rule, value}
+use Rattle.jp_reading.specs.Rule.{character, after, seq, made, look, upon, nested, component_where}
 use Rattle.jp_reading.specs.Rule.{omitted, some, relaxed, loose, until, flat}
 use Rattle.jp_reading.proofs.Rules.Form.{Alive, least}
 
@@ -38,22 +37,22 @@ abbrev pub blanked : Follow → Follow
 blanked K = record { near = λ o. passes is_blank o || K.near o; far = K.near }
 
 -- how a step and what comes after it begin
-abbrev pub stepping : {m : Mark} {t : Bool} → Step m t → Follow → Follow
-stepping (the c) K = beginning (is c)
-stepping blanks K = blanked K
+abbrev pub leading : {m : Look} {t : Bool} → Lead m t → Follow → Follow
+leading (the c) K = beginning (is c)
+leading blanks K = blanked K
 
 -- how the texts of a rule begin, or what follows them where they are empty
-abbrev pub begins : {N : Nesting} {u : Bool} {a b : Mark} {A : Type 0} (r : Rule N u a b A)
+abbrev pub begins : {N : Nesting} {u : Bool} {a b : Look} {A : Type 0} (r : Rule N u a b A)
     → Alive r → Follow → Follow
 begins (value x) w K = K
 begins (character ok) w K = beginning ok
-begins (after s r) w K = stepping s (begins r w K)
+begins (after s r) w K = leading s (begins r w K)
 begins (seq r k) w K = begins r w.0 (begins (k (least r w.0)) (w.1 (least r w.0)) K)
 begins (made f r) w K = begins r w K
 begins (look m ok r s) w K = either_of (begins r w.0 K) (begins s w.1 K)
 begins (upon c r s) w K = either_of (beginning (is c)) (begins s w.1 K)
 begins {N} (nested o k s) w K = either_of (beginning (N.opens o)) (begins s w.1 K)
-begins (item_where ok r) w K = begins r w K
+begins (component_where ok r) w K = begins r w K
 begins (omitted x) w K = K
 begins (some m ok r) w K = either_of (begins r w any) K
 begins (relaxed r) w K = begins r w K
@@ -81,25 +80,25 @@ pub record Implies (T : Option ℕ → Bool) (ok : ℕ → Bool) : Type 0 where
 abbrev pub Excludes : (Option ℕ → Bool) → (ℕ → Bool) → Type 0
 Excludes T ok = (c : ℕ) → T (Some c) ≡ true → ok c ≡ false
 
--- the test at a mark
-abbrev pub at : Mark → Follow → Option ℕ → Bool
+-- the test of the character that is looked at
+abbrev pub at : Look → Follow → Option ℕ → Bool
 at here K = K.near
 at beyond K = K.far
 
 -- a loop over a rule is told from what follows
-pub record Repeats (m : Mark) (ok : ℕ → Bool) (first J K : Follow) : Type 0 where
+pub record Repeats (m : Look) (ok : ℕ → Bool) (first J K : Follow) : Type 0 where
   pub again : Under first J
   pub on : Implies (at m first) ok
   pub off : Excludes (at m K) ok
 
 -- a step is told from what comes after it
-abbrev pub Ends : {m : Mark} {t : Bool} → Step m t → Follow → Type 0
+abbrev pub Ends : {m : Look} {t : Bool} → Lead m t → Follow → Type 0
 Ends (the c) K = Unit {0}
 Ends blanks K = Excludes K.near is_blank
 
 -- each way of the rule is told from the others, where K follows, and `closes` what stands one level
 -- further in
-abbrev pub Apart : {N : Nesting} {u : Bool} {a b : Mark} {A : Type 0} → (N.Opening → Follow)
+abbrev pub Apart : {N : Nesting} {u : Bool} {a b : Look} {A : Type 0} → (N.Opening → Follow)
     → (r : Rule N u a b A) → Alive r → Follow → Type 0
 Apart closes (value x) w K = Unit {0}
 Apart closes (character ok) w K = Unit {0}
@@ -118,7 +117,7 @@ Apart {N} closes (nested o k s) w K =
     Excludes (begins s w.1 K).near
     (N.opens o) × ((x : N.Inner o) → Under (begins (k x) (w.0 x) K) (closes o))
     × ((x : N.Inner o) → Apart closes (k x) (w.0 x) K) × Apart closes s w.1 K
-Apart closes (item_where ok r) w K = Apart closes r w K
+Apart closes (component_where ok r) w K = Apart closes r w K
 Apart closes (omitted x) w K = Unit {0}
 Apart closes (some m ok r) w K =
     Repeats m ok (begins r w (either_of (begins r w any) K)) (either_of (begins r w any) K) K

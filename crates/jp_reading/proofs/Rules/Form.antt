@@ -2,13 +2,15 @@
 -- each rule takes a text.
 use Rattle.std.proofs.Common.{◌≡◌, ℕ, Bool, true, false, [], ◌∷◌, None, refl}
 use Rattle.jp_reading.specs.Texts.{Text, Spans}
-use Rattle.jp_reading.specs.Forms.{Form, ◌⌢◌, word, One, Blank, Each, Item, Omitted, Never}
-use Rattle.jp_reading.specs.Rule.{Mark, Nesting, Step, the, blanks, Rule, value, character, after}
-use Rattle.jp_reading.specs.Rule.{seq, made, look, upon, nested, item_where, omitted, some, relaxed}
+use Rattle.jp_reading.specs.Forms.{Form, ◌⌢◌, word, One, Blank, Each, Component, Omitted, Never}
+use Rattle.jp_reading.specs.Rule.{Look, Nesting, Lead, the, blanks, Rule, value, character, after}
+use Rattle.jp_reading.specs.Rule.{seq, made, look, upon, nested, component_where, omitted, some}
+use Rattle.jp_reading.specs.Rule.{relaxed}
 use Rattle.jp_reading.specs.Rule.{loose, until, flat}
 use Rattle.jp_reading.proofs.Between.{Has, Within, has-as}
 use Rattle.jp_reading.proofs.Levels.{Only, Then, Made, joined-lifts, joined-has, word-has}
-use Rattle.jp_reading.proofs.Levels.{blank-has, then-lifts, then-has, item-lifts, item-has}
+use Rattle.jp_reading.proofs.Levels.{blank-has, then-lifts, then-has, component-lifts}
+use Rattle.jp_reading.proofs.Levels.{component-has}
 use Rattle.jp_reading.proofs.Levels.{each-lifts}
 
 -- a text of one of two forms
@@ -20,18 +22,18 @@ either-lifts : (P P' Q Q' : Form) → Within P P' → Within Q Q' → Within (Ei
 either-lifts P P' Q Q' f g s o t (left h) = left (f s o t h)
 either-lifts P P' Q Q' f g s o t (right h) = right (g s o t h)
 
--- an item, or no item of its own
-abbrev pub ItemIf : Bool → Form → Form
-ItemIf true P = Item P
-ItemIf false P = P
+-- a component, or no component of its own
+abbrev pub ComponentIf : Bool → Form → Form
+ComponentIf true P = Component P
+ComponentIf false P = P
 
-item_if-lifts : (b : Bool) (P Q : Form) → Within P Q → Within (ItemIf b P) (ItemIf b Q)
-item_if-lifts true P Q f = item-lifts P Q f
-item_if-lifts false P Q f = f
+component_if-lifts : (b : Bool) (P Q : Form) → Within P Q → Within (ComponentIf b P) (ComponentIf b Q)
+component_if-lifts true P Q f = component-lifts P Q f
+component_if-lifts false P Q f = f
 
-item_if-has : (b : Bool) (P : Form) → Has P → Has (ItemIf b P)
-item_if-has true P f = item-has P f
-item_if-has false P f = f
+component_if-has : (b : Bool) (P : Form) → Has P → Has (ComponentIf b P)
+component_if-has true P f = component-has P f
+component_if-has false P f = f
 
 -- the forms of what stands one level further in, from its opening on
 abbrev pub Inside : Nesting → Type 1
@@ -40,12 +42,12 @@ Inside N = (o : N.Opening) → N.Inner o → Form
 abbrev pub none_inside : (N : Nesting) → Inside N
 none_inside N o x = Never
 
-abbrev pub text_of : {m : Mark} {t : Bool} → Step m t → Form
+abbrev pub text_of : {m : Look} {t : Bool} → Lead m t → Form
 text_of (the c) = word (c ∷ [])
 text_of blanks = Blank
 
 -- which texts a rule takes for a value
-abbrev pub form : {N : Nesting} {u : Bool} {a b : Mark} {A : Type 0} → Inside N → Rule N u a b A → A
+abbrev pub form : {N : Nesting} {u : Bool} {a b : Look} {A : Type 0} → Inside N → Rule N u a b A → A
     → Form
 form F (value x) y = Only x (word []) y
 form F (character ok) y = One ok y
@@ -55,7 +57,7 @@ form F (made f r) y = Made f (λ x. form F r x) y
 form F (look m ok r s) y = Either (form F r y) (form F s y)
 form F (upon c r s) y = Either (word (c ∷ []) ⌢ form F r y) (form F s y)
 form F (nested o k s) y = Either (Then (λ x. F o x) (λ x z. form F (k x) z) y) (form F s y)
-form F (item_where ok r) y = ItemIf (ok y) (form F r y)
+form F (component_where ok r) y = ComponentIf (ok y) (form F r y)
 form F (omitted x) y = Only x Omitted y
 form F (some m ok r) y = Each (λ x. form F r x) y
 form F (relaxed r) y = form F r y
@@ -63,7 +65,7 @@ form F (loose r) y = form F r y
 form F (until ok r) y = form F r y
 form {N} F (flat r) y = form (none_inside N) r y
 
-pub lifts : {N : Nesting} {u : Bool} {a b : Mark} {A : Type 0} (F G : Inside N)
+pub lifts : {N : Nesting} {u : Bool} {a b : Look} {A : Type 0} (F G : Inside N)
     → ((o : N.Opening) (x : N.Inner o) → Within (F o x) (G o x))
     → (r : Rule N u a b A) (y : A) → Within (form F r y) (form G r y)
 lifts F G h (value x) y = λ s o t w. w
@@ -91,7 +93,7 @@ lifts F G h (nested o k s) y =
     (then-lifts (λ x. F o x) (λ x. G o x) (λ x z. form F (k x) z) (λ x z. form G (k x) z)
     (λ x. h o x) (λ x z. lifts F G h (k x) z) y)
     (lifts F G h s y)
-lifts F G h (item_where ok r) y = item_if-lifts (ok y) (form F r y) (form G r y) (lifts F G h r y)
+lifts F G h (component_where ok r) y = component_if-lifts (ok y) (form F r y) (form G r y) (lifts F G h r y)
 lifts F G h (omitted x) y = λ s o t w. w
 lifts F G h (some m ok r) y =
     each-lifts (λ x. form F r x) (λ x. form G r x) (λ x. lifts F G h r x) y
@@ -102,7 +104,7 @@ lifts F G h (flat r) y = λ s o t w. w
 
 -- ---- each rule takes a text, where each of its classes of characters has one
 
-abbrev pub Alive : {N : Nesting} {u : Bool} {a b : Mark} {A : Type 0} → Rule N u a b A → Type 0
+abbrev pub Alive : {N : Nesting} {u : Bool} {a b : Look} {A : Type 0} → Rule N u a b A → Type 0
 Alive (value x) = Unit {0}
 Alive (character ok) = (c : ℕ) × (ok c ≡ true)
 Alive (after s r) = Alive r
@@ -111,7 +113,7 @@ Alive (made f r) = Alive r
 Alive (look m ok r s) = Alive r × Alive s
 Alive (upon c r s) = Alive r × Alive s
 Alive {N} (nested o k s) = ((x : N.Inner o) → Alive (k x)) × Alive s
-Alive (item_where ok r) = Alive r
+Alive (component_where ok r) = Alive r
 Alive (omitted x) = Unit {0}
 Alive (some m ok r) = Alive r
 Alive (relaxed r) = Alive r
@@ -120,7 +122,7 @@ Alive (until ok r) = Alive r
 Alive (flat r) = Alive r
 
 -- a value that has a text
-abbrev pub least : {N : Nesting} {u : Bool} {a b : Mark} {A : Type 0} (r : Rule N u a b A) → Alive r
+abbrev pub least : {N : Nesting} {u : Bool} {a b : Look} {A : Type 0} (r : Rule N u a b A) → Alive r
     → A
 least (value x) w = x
 least (character ok) w = w.0
@@ -130,7 +132,7 @@ least (made f r) w = f (least r w)
 least (look m ok r s) w = least r w.0
 least (upon c r s) w = least s w.1
 least (nested o k s) w = least s w.1
-least (item_where ok r) w = least r w
+least (component_where ok r) w = least r w
 least (omitted x) w = x
 least (some m ok r) w = []
 least (relaxed r) w = least r w
@@ -138,15 +140,15 @@ least (loose r) w = least r w
 least (until ok r) w = least r w
 least (flat r) w = least r w
 
-step-has : {m : Mark} {t : Bool} (s : Step m t) → Has (text_of s)
-step-has (the c) = word-has (c ∷ [])
-step-has blanks = blank-has
+lead-has : {m : Look} {t : Bool} (s : Lead m t) → Has (text_of s)
+lead-has (the c) = word-has (c ∷ [])
+lead-has blanks = blank-has
 
-pub has : {N : Nesting} {u : Bool} {a b : Mark} {A : Type 0} (F : Inside N) (r : Rule N u a b A)
+pub has : {N : Nesting} {u : Bool} {a b : Look} {A : Type 0} (F : Inside N) (r : Rule N u a b A)
     (w : Alive r) → Has (form F r (least r w))
 has F (value x) w = λ o. ([], [], record { same = refl; is = record { none = refl; is = refl } })
 has F (character ok) w = λ o. ([], w.0 ∷ [], record { none = refl; is = refl; passes = w.1 })
-has F (after s r) w = joined-has (text_of s) (form F r (least r w)) (step-has s) (has F r w)
+has F (after s r) w = joined-has (text_of s) (form F r (least r w)) (lead-has s) (has F r w)
 has F (seq r k) w =
     let x = least r w.0 in
     then-has (λ z. form F r z) (λ z y. form F (k z) y) x (least (k x) (w.1 x)) (has F r w.0)
@@ -171,7 +173,7 @@ has F (nested o k s) w =
     has-as (form F s (least s w.1))
     (Either (Then (λ x. F o x) (λ x z. form F (k x) z) (least s w.1)) (form F s (least s w.1)))
     (λ v i t h. right h) (has F s w.1)
-has F (item_where ok r) w = item_if-has (ok (least r w)) (form F r (least r w)) (has F r w)
+has F (component_where ok r) w = component_if-has (ok (least r w)) (form F r (least r w)) (has F r w)
 has F (omitted x) w = λ o. (
   None ∷ [],
   [],

@@ -2,10 +2,11 @@
 use Rattle.std.proofs.Common.{◌≡◌, ℕ, zero, suc, Bool, true, false, if◌then◌else◌, length, refl}
 use Rattle.jp_reading.specs.Outcome.{State, Outcome, took, stuck, deep, ◌>>=◌, head, past, skip}
 use Rattle.jp_reading.specs.Outcome.{passes, is_at, expect, loop}
-use Rattle.jp_reading.specs.Rule.{Mark, Nesting, Step, the, blanks, Rule, value, character, after}
-use Rattle.jp_reading.specs.Rule.{seq, made, look, upon, nested, item_where, omitted, some, relaxed}
+use Rattle.jp_reading.specs.Rule.{Look, Nesting, Lead, the, blanks, Rule, value, character, after}
+use Rattle.jp_reading.specs.Rule.{seq, made, look, upon, nested, component_where, omitted, some}
+use Rattle.jp_reading.specs.Rule.{relaxed}
 use Rattle.jp_reading.specs.Rule.{loose, until, flat}
-use Rattle.jp_reading.specs.RuleReading.{Inner, next, stepped, read}
+use Rattle.jp_reading.specs.RuleReading.{Inner, next, led, read}
 
 -- the second outcome is the first, or the first needs a level more
 pub data Stays {A : Type 0} (o v : Outcome A) : Type 0 where
@@ -41,19 +42,19 @@ stays-loop (suc n) begins rule other h p =
     (stays-loop n begins rule other h q) (λ xs r. stays refl)))
     (stays refl)
 
-stays-stepped : {A : Type 0} {m : Mark} {t : Bool} (s : Step m t) (k j : State → Outcome A)
+stays-led : {A : Type 0} {m : Look} {t : Bool} (s : Lead m t) (k j : State → Outcome A)
     → ((q : State) → Stays (k q) (j q)) → (p : State)
-    → Stays (stepped s k p) (stepped s j p)
-stays-stepped (the c) k j h p = stays-on (expect c p) (λ d q. k q) (λ d q. j q) (λ d q. h q)
-stays-stepped blanks k j h p = h (skip p)
+    → Stays (led s k p) (led s j p)
+stays-led (the c) k j h p = stays-on (expect c p) (λ d q. k q) (λ d q. j q) (λ d q. h q)
+stays-led blanks k j h p = h (skip p)
 
-pub stays-rule : {N : Nesting} {u : Bool} {a b : Mark} {A : Type 0} (f g : Inner N)
+pub stays-rule : {N : Nesting} {u : Bool} {a b : Look} {A : Type 0} (f g : Inner N)
     → ((o : N.Opening) (p : State) → Stays (f o p) (g o p))
     → (r : Rule N u a b A) (p : State) → Stays (read f r p) (read g r p)
 stays-rule f g h (value x) p = stays refl
 stays-rule f g h (character ok) p = stays refl
 stays-rule f g h (after s r) p =
-    stays-stepped s (λ q. read f r q) (λ q. read g r q) (λ q. stays-rule f g h r q) p
+    stays-led s (λ q. read f r q) (λ q. read g r q) (λ q. stays-rule f g h r q) p
 stays-rule f g h (seq r k) p =
     stays-then (read f r p) (read g r p) _ _ (stays-rule f g h r p)
     (λ x q. stays-rule f g h (k x) q)
@@ -67,7 +68,7 @@ stays-rule {N} f g h (nested o k s) p =
     stays-if (passes (N.opens o) (head p)) _ _ _ _
     (stays-then (f o p) (g o p) _ _ (h o p) (λ x q. stays-rule f g h (k x) q))
     (stays-rule f g h s p)
-stays-rule f g h (item_where ok r) p =
+stays-rule f g h (component_where ok r) p =
     stays-then (read f r p) (read g r p) _ _ (stays-rule f g h r p) (λ x q. stays refl)
 stays-rule f g h (omitted x) p = stays refl
 stays-rule f g h (some m ok r) p =

@@ -2,15 +2,16 @@
 use Rattle.std.proofs.Common.{◌≡◌, ℕ, Bool, true, false, ◌||◌, ◌&&◌, if◌then◌else◌, refl, arith}
 use Rattle.jp_reading.specs.Outcome.{State, Outcome, took, stuck, deep, ◌>>=◌, head, past, skip}
 use Rattle.jp_reading.specs.Outcome.{passes, is, is_at, expect}
-use Rattle.jp_reading.specs.Views.{by}
-use Rattle.jp_reading.specs.Rule.{Mark, Nesting, Step, the, blanks, Rule, value, character, after}
-use Rattle.jp_reading.specs.Rule.{seq, made, look, upon, nested, item_where, omitted, some, relaxed}
+use Rattle.jp_reading.specs.Views.{outcome_map}
+use Rattle.jp_reading.specs.Rule.{Look, Nesting, Lead, the, blanks, Rule, value, character, after}
+use Rattle.jp_reading.specs.Rule.{seq, made, look, upon, nested, component_where, omitted, some}
+use Rattle.jp_reading.specs.Rule.{relaxed}
 use Rattle.jp_reading.specs.Rule.{loose, until, flat}
-use Rattle.jp_reading.specs.RuleReading.{Inner, nothing, next, stepped, spanned_if, spanned, read}
+use Rattle.jp_reading.specs.RuleReading.{Inner, nothing, next, led, spanned_if, spanned, read}
 use Rattle.jp_reading.proofs.Chars.{past-shorter}
 use Rattle.jp_reading.proofs.Progress.{Moves, Keeps, Progress, keeps-from_moves, keeps-then}
 use Rattle.jp_reading.proofs.Progress.{moves-then, moves-later, moves-skip, keeps-skip}
-use Rattle.jp_reading.proofs.Progress.{moves-take_if, moves-by, keeps-by, keeps-each}
+use Rattle.jp_reading.proofs.Progress.{moves-take_if, moves-map, keeps-map, keeps-each}
 
 -- whether it takes a character at least
 abbrev pub Goes : {A : Type 0} → Bool → State → Outcome A → Type 0
@@ -35,10 +36,10 @@ goes-skip : {A : Type 0} (u : Bool) (p : State) (o : Outcome A) → Goes u (skip
 goes-skip true p o h = moves-skip p o h
 goes-skip false p o h = keeps-skip p o h
 
-goes-by : {A B : Type 0} (u : Bool) (f : A → B) (p : State) (o : Outcome A) → Goes u p o
-    → Goes u p (by f o)
-goes-by true f p o h = moves-by f p o h
-goes-by false f p o h = keeps-by f p o h
+goes-map : {A B : Type 0} (u : Bool) (f : A → B) (p : State) (o : Outcome A) → Goes u p o
+    → Goes u p (outcome_map f o)
+goes-map true f p o h = moves-map f p o h
+goes-map false f p o h = keeps-map f p o h
 
 -- a span changes nothing of what is left
 goes-spanned : {A : Type 0} (u : Bool) (ok : A → Bool) (p : State) (o : Outcome A) → Goes u p o
@@ -75,24 +76,24 @@ moves-past c p (took x q) on h = let less = past-shorter (is c) p on in omega ar
 moves-past c p (stuck q) on h = tt
 moves-past c p (deep q) on h = tt
 
-goes-stepped : {A : Type 0} {m : Mark} {t : Bool} (u : Bool) (s : Step m t) (k : State → Outcome A)
+goes-led : {A : Type 0} {m : Look} {t : Bool} (u : Bool) (s : Lead m t) (k : State → Outcome A)
     → ((q : State) → Goes u q (k q)) → (p : State)
-    → Goes (t || u) p (stepped s k p)
-goes-stepped u (the c) k h p =
+    → Goes (t || u) p (led s k p)
+goes-led u (the c) k h p =
     goes-then true u p (expect c p) (λ d q. k q) (moves-take_if (is c) p) (λ d q. h q)
-goes-stepped u blanks k h p = goes-skip u p (k (skip p)) (h (skip p))
+goes-led u blanks k h p = goes-skip u p (k (skip p)) (h (skip p))
 
-pub goes : {N : Nesting} {u : Bool} {a b : Mark} {A : Type 0} (inner : Inner N)
+pub goes : {N : Nesting} {u : Bool} {a b : Look} {A : Type 0} (inner : Inner N)
     → ((o : N.Opening) → Progress (inner o))
     → (r : Rule N u a b A) (p : State) → Goes u p (read inner r p)
 goes inner moves (value x) p = omega arith
 goes inner moves (character ok) p = moves-take_if ok p
 goes inner moves (after {u = u} s r) p =
-    goes-stepped u s (λ q. read inner r q) (λ q. goes inner moves r q) p
+    goes-led u s (λ q. read inner r q) (λ q. goes inner moves r q) p
 goes inner moves (seq {u = u} {v = v} r k) p =
     goes-then u v p (read inner r p) (λ x q. read inner (k x) q) (goes inner moves r p)
     (λ x q. goes inner moves (k x) q)
-goes inner moves (made {u = u} f r) p = goes-by u f p (read inner r p) (goes inner moves r p)
+goes inner moves (made {u = u} f r) p = goes-map u f p (read inner r p) (goes inner moves r p)
 goes inner moves (look {u = u} {v = v} m ok r s) p =
     goes-look u v (passes ok (next m p)) p (read inner r p) (read inner s p) (goes inner moves r p)
     (goes inner moves s p)
@@ -106,7 +107,7 @@ goes {N} inner moves (nested {u = u} {v = v} o k s) p =
     (read inner s p)
     (λ on. moves-then p (inner o p) (λ x q. read inner (k x) q) (moves o p)
     (λ x q. goes-keeps u q (read inner (k x) q) (goes inner moves (k x) q))) (goes inner moves s p)
-goes inner moves (item_where {u = u} ok r) p =
+goes inner moves (component_where {u = u} ok r) p =
     goes-spanned u ok p (read inner r p) (goes inner moves r p)
 goes inner moves (omitted x) p = omega arith
 goes inner moves (some m ok r) p =

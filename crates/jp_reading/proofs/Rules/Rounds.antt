@@ -3,14 +3,14 @@ use Rattle.std.proofs.Common.{◌≡◌, ℕ, ◌<◌, true, false, List, [], �
 use Rattle.jp_reading.specs.declared.reader.Stop.{Stop}
 use Rattle.jp_reading.specs.Outcome.{State, took, passes}
 use Rattle.jp_reading.specs.Views.{Fails, with_prefix}
-use Rattle.jp_reading.specs.Rule.{Mark, Nesting, Rule, some}
+use Rattle.jp_reading.specs.Rule.{Look, Nesting, Rule, some}
 use Rattle.jp_reading.specs.RuleReading.{Inner, next, read}
 use Rattle.jp_reading.proofs.Progress.{Progress, moved}
 use Rattle.jp_reading.proofs.Folds.{pushes_on, pushes_end, folds_fail}
 use Rattle.jp_reading.proofs.Rules.Progress.{goes}
 
 module _ {N : Nesting} {A : Type 0} (inner : Inner N) (moves : (o : N.Opening) → Progress (inner o))
-    (m : Mark) (ok : ℕ → Bool) (r : Rule N true m m A) where
+    (m : Look) (ok : ℕ → Bool) (r : Rule N true m m A) where
   -- another value
   pub some_on : (p q : State) (xs : List A) (x : A) → passes ok (next m p) ≡ true
       → read inner r p ≡ took x q

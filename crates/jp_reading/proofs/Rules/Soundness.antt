@@ -5,27 +5,28 @@ use Rattle.std.proofs.lemmas.Bool.{cases_Bool, eqb-true}
 use Rattle.jp_reading.specs.Forms.{Form, ◌⌢◌, word, One, Blank, Each, Omitted}
 use Rattle.jp_reading.specs.Outcome.{State, Outcome, took, stuck, deep, ◌>>=◌, head, past, skip}
 use Rattle.jp_reading.specs.Outcome.{passes, is, is_at, take_passing, take_if, expect, loop, omit}
-use Rattle.jp_reading.specs.Views.{by}
-use Rattle.jp_reading.specs.Rule.{Mark, Nesting, Step, the, blanks, Rule, value, character, after}
-use Rattle.jp_reading.specs.Rule.{seq, made, look, upon, nested, item_where, omitted, some, relaxed}
+use Rattle.jp_reading.specs.Views.{outcome_map}
+use Rattle.jp_reading.specs.Rule.{Look, Nesting, Lead, the, blanks, Rule, value, character, after}
+use Rattle.jp_reading.specs.Rule.{seq, made, look, upon, nested, component_where, omitted, some}
+use Rattle.jp_reading.specs.Rule.{relaxed}
 use Rattle.jp_reading.specs.Rule.{loose, until, flat}
-use Rattle.jp_reading.specs.RuleReading.{Inner, nothing, next, stepped, spanned_if, spanned, read}
+use Rattle.jp_reading.specs.RuleReading.{Inner, nothing, next, led, spanned_if, spanned, read}
 use Rattle.jp_reading.proofs.Between.{Reads, Prefix, Stops, Passes, Has, Within, reads-then}
 use Rattle.jp_reading.proofs.Between.{prefix-then, prefix-none, reads-as}
 use Rattle.jp_reading.proofs.Chars.{past-shorter}
 use Rattle.jp_reading.proofs.Steps.{skip-way, head-is}
 use Rattle.jp_reading.proofs.Fits.{reads-nothing, reads-one, reads-word}
 use Rattle.jp_reading.proofs.Levels.{Only, Then, Made, word-has, joined-has}
-use Rattle.jp_reading.proofs.Stopping.{stops-first, stops-then, stops-as, stops-made, prefix-item}
-use Rattle.jp_reading.proofs.Stopping.{reads-item}
-use Rattle.jp_reading.proofs.Rules.Form.{Either, left, right, ItemIf, Inside, none_inside, text_of}
+use Rattle.jp_reading.proofs.Stopping.{stops-first, stops-then, stops-as, stops-made}
+use Rattle.jp_reading.proofs.Stopping.{prefix-component}
+use Rattle.jp_reading.proofs.Stopping.{reads-component}
+use Rattle.jp_reading.proofs.Rules.Form.{Either, left, right, ComponentIf, Inside, none_inside}
+use Rattle.jp_reading.proofs.Rules.Form.{text_of}
 use Rattle.jp_reading.proofs.Rules.Form.{form, lifts, Alive, least, has}
 
 -- what an outcome at p promises, where F says which texts a value has, and G which it has one level
--- deeper: what was taken
--- is a text of the value; what was read before it stuck begins a text; and where a level is missing
--- that is so too, and one
--- level deeper the next character goes on
+-- deeper: what was taken is a text of the value; what was read before it stuck begins a text; and
+-- where a level is missing that is so too, and one level deeper the next character goes on
 abbrev pub Promised : {A : Type 0} → (F G : A → Form) → State → Outcome A → Type 0
 Promised F G p (took x q) = Reads (F x) p q
 Promised F G p (stuck r) = Stops F p r
@@ -116,7 +117,7 @@ sound-then F G H K p (deep r) k w f g h i = record {
 
 sound-made : {A B : Type 0} (f : A → B) (F G : A → Form) (p : State) (o : Outcome A)
     → IsSound F G p o
-    → IsSound (Made f F) (Made f G) p (by f o)
+    → IsSound (Made f F) (Made f G) p (outcome_map f o)
 sound-made f F G p (took x q) h = record {
   is = reads-as (F x) (Made f F (f x)) p q (λ s o t g. record { part = x; same = refl; is = g })
       h.is;
@@ -134,31 +135,30 @@ sound-made f F G p (deep r) h = record {
 
 sound-spanned : {A : Type 0} (ok : A → Bool) (F G : A → Form) (p : State) (o : Outcome A)
     → IsSound F G p o
-    → IsSound (λ x. ItemIf (ok x) (F x)) (λ x. ItemIf (ok x) (G x)) p (spanned ok p o)
+    → IsSound (λ x. ComponentIf (ok x) (F x)) (λ x. ComponentIf (ok x) (G x)) p (spanned ok p o)
 sound-spanned {A} ok F G p o h = way o h
   where
     taken : (b : Bool) (P : Form) (q : State) → Reads P p q
-        → Reads (ItemIf b P) p (spanned_if b p q)
-    taken true P q g = reads-item P p q g
+        → Reads (ComponentIf b P) p (spanned_if b p q)
+    taken true P q g = reads-component P p q g
     taken false P q g = g
 
-    stopped : (b : Bool) (P : Form) (r : State) → Prefix P p r → Prefix (ItemIf b P) p r
-    stopped true P r g = prefix-item P p r g
+    stopped : (b : Bool) (P : Form) (r : State) → Prefix P p r → Prefix (ComponentIf b P) p r
+    stopped true P r g = prefix-component P p r g
     stopped false P r g = g
 
-    stops : (H : A → Form) (r : State) → Stops H p r → Stops (λ x. ItemIf (ok x) (H x)) p r
+    stops : (H : A → Form) (r : State) → Stops H p r → Stops (λ x. ComponentIf (ok x) (H x)) p r
     stops H r g = record { value = g.value; prefix = stopped (ok g.value) (H g.value) r g.prefix }
 
     way : (o : Outcome A) → IsSound F G p o
-        → IsSound (λ x. ItemIf (ok x) (F x)) (λ x. ItemIf (ok x) (G x)) p (spanned ok p o)
+        → IsSound (λ x. ComponentIf (ok x) (F x)) (λ x. ComponentIf (ok x) (G x)) p (spanned ok p o)
     way (took x q) g = record { is = taken (ok x) (F x) q g.is }
     way (stuck r) g = record { is = stops F r g.is }
     way (deep r) g = record {
       is = (stops F r g.is.0, record { next = g.is.1.next; stops = stops G (past r) g.is.1.stops });
     }
 
--- of two ways one is taken
--- an omitted item
+-- of two ways one is taken an omitted component
 reads-omitted : {A : Type 0} (x : A) (p : State) → Reads (Only x Omitted x) p (omit p)
 reads-omitted x p = record {
   spans = None ∷ [];
@@ -222,12 +222,12 @@ sound-expect {A} c F G x h p k g = taken (head p) refl
           | inr other ↦ rw other none
         ]
 
-sound-stepped : {A : Type 0} {m : Mark} {t : Bool} (s : Step m t) (F G : A → Form) (x : A)
+sound-led : {A : Type 0} {m : Look} {t : Bool} (s : Lead m t) (F G : A → Form) (x : A)
     → Has (F x) → (k : State → Outcome A)
     → ((q : State) → IsSound F G q (k q)) → (p : State)
-    → IsSound (λ y. text_of s ⌢ F y) (λ y. text_of s ⌢ G y) p (stepped s k p)
-sound-stepped (the c) F G x h k g p = sound-expect c F G x h p k g
-sound-stepped blanks F G x h k g p =
+    → IsSound (λ y. text_of s ⌢ F y) (λ y. text_of s ⌢ G y) p (led s k p)
+sound-led (the c) F G x h k g p = sound-expect c F G x h p k g
+sound-led blanks F G x h k g p =
     sound-after Blank F G p (skip p) (k (skip p)) (skip-way p) (g (skip p))
 
 -- a loop, however many rounds it may make
@@ -312,7 +312,7 @@ sound-nested F G H K S T p o k more w f g z has_z (some_left h) i =
 
 -- ---- rules
 
-pub sound : {N : Nesting} {u : Bool} {a b : Mark} {A : Type 0} (F G : Inside N)
+pub sound : {N : Nesting} {u : Bool} {a b : Look} {A : Type 0} (F G : Inside N)
     → ((o : N.Opening) (x : N.Inner o) → Within (F o x) (G o x))
     → (inner : Inner N) → InnerIsSound N F G inner → (r : Rule N u a b A) → Alive r → (p : State)
     → IsSound (form F r) (form G r) p (read inner r p)
@@ -322,7 +322,7 @@ sound F G l inner h (value x) w p = record {
 }
 sound F G l inner h (character ok) w p = sound-take_if ok w.0 w.1 p
 sound F G l inner h (after s r) w p =
-    sound-stepped s (λ x. form F r x) (λ x. form G r x) (least r w) (has F r w)
+    sound-led s (λ x. form F r x) (λ x. form G r x) (least r w) (has F r w)
     (λ q. read inner r q) (λ q. sound F G l inner h r w q) p
 sound F G l inner h (seq r k) w p =
     sound-then (λ x. form F r x) (λ x. form G r x) (λ x z. form F (k x) z) (λ x z. form G (k x) z) p
@@ -365,7 +365,7 @@ sound {N} F G l inner h (nested o k s) w p =
         sound-as (λ z. form F s z) (λ z. form G s z) (form F (nested o k s)) (form G (nested o k s))
         p (read inner s p) (λ x v n t e. right e)
         (λ x v n t e. right e) g
-sound F G l inner h (item_where ok r) w p =
+sound F G l inner h (component_where ok r) w p =
     sound-spanned ok (λ x. form F r x) (λ x. form G r x) p (read inner r p)
     (sound F G l inner h r w p)
 sound F G l inner h (omitted x) w p = record { is = reads-omitted x p }

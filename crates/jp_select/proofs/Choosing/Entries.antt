@@ -7,9 +7,10 @@ use Rattle.std.specs.Option.{is_some}
 use Rattle.std.specs.Str.{chars, encode_utf8_all}
 use Rattle.std.proofs.lemmas.List.Elements.{All-head, All-nil, All-tail, All-weaker}
 use Rattle.std.proofs.lemmas.Str.{encodes-chars}
-use Rattle.jp_document.specs.Location.{Key, child, child_entry, named, nth}
+use Rattle.jp_document.specs.Location.{Step, child, child_entry, named, nth}
 use Rattle.jp_document.specs.Value.{Value}
-use Rattle.jp_tree.specs.Tree.{name, selector_of, slice}
+use Rattle.jp_tree.specs.Tree.{name, slice}
+use Rattle.jp_tree.specs.Views.{selector_of}
 use Rattle.jp_tree.specs.declared.tree.Expr.{the_lemmas}
 use Rattle.jp_tree.specs.declared.tree.Selector.{Name}
 use Rattle.jp_tree.specs.declared.tree.Slice.{Slice}
@@ -38,19 +39,19 @@ single-name v s bytes utf8 same =
 abbrev IsThere : Value → ℕ → Type 0
 IsThere v i = is_some (item_of v i) ≡ true
 
-item-first : (o : Option (Key × Value)) (more : List (Key × Value)) → is_some o ≡ true
+item-first : (o : Option (Step × Value)) (more : List (Step × Value)) → is_some o ≡ true
     → slice_get (option_to_list o ++ more) 0 ≡ o
 item-first None more there = absurd (cc)
 item-first (Some e) more there = refl
 
-item-later : (o : Option (Key × Value)) (p : ℕ) (more : List (Key × Value)) → is_some o ≡ true
+item-later : (o : Option (Step × Value)) (p : ℕ) (more : List (Step × Value)) → is_some o ≡ true
     → slice_get (option_to_list o ++ more) (suc p) ≡ slice_get more p
 item-later None p more there = absurd (cc)
 item-later (Some e) p more there = refl
 
 -- items that are there, by their positions
-items-at : (v : Value) (is : List ℕ) (p : ℕ) → All (IsThere v) is →
-    slice_get (flat_map (item_entry v) is) p ≡ option_and_then (item_of v) (slice_get is p)
+items-at : (v : Value) (is : List ℕ) (p : ℕ) → All (IsThere v) is
+    → slice_get (flat_map (item_entry v) is) p ≡ option_and_then (item_of v) (slice_get is p)
 items-at v [] p all = refl
 items-at v (i ∷ is) zero all =
     item-first (item_of v i) (flat_map (item_entry v) is) (All-head (IsThere v) i is all)
@@ -58,10 +59,10 @@ items-at v (i ∷ is) (suc p) all =
     item-later (item_of v i) p (flat_map (item_entry v) is) (All-head (IsThere v) i is all)
     ∙ items-at v is p (All-tail (IsThere v) i is all)
 
-abbrev with_key : Key → Value → Key × Value
+abbrev with_key : Step → Value → Step × Value
 with_key k w = (k, w)
 
-is_some-entry : (k : Key) (o : Option Value) → is_some (option_map (with_key k) o) ≡ is_some o
+is_some-entry : (k : Step) (o : Option Value) → is_some (option_map (with_key k) o) ≡ is_some o
 is_some-entry k None = refl
 is_some-entry k (Some w) = refl
 
@@ -73,8 +74,8 @@ chosen-within n (Some a) (Some b) None = All-nil (λ i. i < n)
 chosen-within n (Some a) (Some b) (Some k) = slice_within n a b k
 
 -- what a slice selects at a position is the item with the index at that position
-pub slice-entry : (v : Value) (s : Slice) (p n : ℕ) → list_length v ≡ Some n →
-    slice_get (candidates (slice s) v) p ≡
+pub slice-entry : (v : Value) (s : Slice) (p n : ℕ) → list_length v ≡ Some n
+    → slice_get (candidates (slice s) v) p ≡
     option_and_then (item_of v) (slice_get (indexes_chosen s n) p)
 slice-entry v s p n is =
     let within = chosen-within n (bound_of s.start) (bound_of s.end) (whole_of s.step) in

@@ -7,10 +7,11 @@ use Rattle.std.proofs.lemmas.List.{append-nil, length_push, map-append}
 use Rattle.std.proofs.lemmas.List.Elements.{All-map, All-nil, All-weaker}
 use Rattle.std.specs.Str.{chars}
 use Rattle.jp_document.proofs.Descent.Inside.{value_at-step}
-use Rattle.jp_document.specs.Location.{Key, Location, value_at}
+use Rattle.jp_document.specs.Location.{Step, Location, value_at}
 use Rattle.jp_document.specs.Node.{Node, NodeView, StandsIn, node_below, node_of}
 use Rattle.jp_document.specs.Value.{IsDocumentValue, Value}
-use Rattle.jp_tree.specs.Tree.{SelectorTree, filter, index, name, selector_of, slice, wildcard}
+use Rattle.jp_tree.specs.Tree.{SelectorTree, filter, index, name, slice, wildcard}
+use Rattle.jp_tree.specs.Views.{selector_of}
 use Rattle.jp_tree.specs.declared.tree.Expr.{Expr, the_lemmas}
 use Rattle.jp_tree.specs.declared.tree.Selector.{Selector}
 use Rattle.jp_tree.specs.declared.tree.Selector.TheVariants as one
@@ -21,11 +22,11 @@ use Rattle.jp_select.specs.Laws.{ChoosesNodesAlone}
 use Rattle.jp_select.specs.Selectors.{candidates, chosen}
 
 -- one node more
-pub next_chosen : (l : Location) (cs : List (Key × Value)) (all : List Node)
-    (nodes new : List NodeView) (n : NodeView) (e : Key × Value) (i : ℕ) → i ≡ length nodes →
-    slice_get cs i ≡ Some e → node_of n ≡ node_below l e → new ≡ nodes ++ n ∷ [] →
-    map node_of nodes ++ map (node_below l) (drop (length nodes) cs) ≡ all →
-    map node_of new ++ map (node_below l) (drop (length new) cs) ≡ all
+pub next_chosen : (l : Location) (cs : List (Step × Value)) (all : List Node)
+    (nodes new : List NodeView) (n : NodeView) (e : Step × Value) (i : ℕ) → i ≡ length nodes
+    → slice_get cs i ≡ Some e → node_of n ≡ node_below l e → new ≡ nodes ++ n ∷ []
+    → map node_of nodes ++ map (node_below l) (drop (length nodes) cs) ≡ all
+    → map node_of new ++ map (node_below l) (drop (length new) cs) ≡ all
 next_chosen l cs all nodes new n e i at entry is more before =
     let f = node_below l in
     let longer : length new ≡ suc i = ap length more ∙ length_push nodes n ∙ omega arith in
@@ -38,7 +39,7 @@ next_chosen l cs all nodes new n e i at entry is more before =
     ∙ ap (λ k. map node_of nodes ++ map f (drop k cs)) at
     ∙ before
 
-pub all_chosen : (l : Location) (cs : List (Key × Value)) (nodes : List NodeView) (i : ℕ)
+pub all_chosen : (l : Location) (cs : List (Step × Value)) (nodes : List NodeView) (i : ℕ)
     → i ≡ length nodes → slice_get cs i ≡ None
     → map node_of nodes ++ map (node_below l) (drop (length nodes) cs) ≡ map (node_below l) cs
     → map node_of nodes ≡ map (node_below l) cs
@@ -48,7 +49,7 @@ all_chosen l cs nodes i at past before =
     (sym (drop_past cs i past) ∙ ap (λ k. drop k cs) at)
     ∙ before
 
-nodes_below-stand : (d v : Value) (l : Location) (es : List (Key × Value)) → IsDocumentValue d
+nodes_below-stand : (d v : Value) (l : Location) (es : List (Step × Value)) → IsDocumentValue d
     → value_at d l ≡ Some v → All (StandsBelow v) es
     → All (StandsIn d) (map (node_below l) es)
 nodes_below-stand d v l es document at all =

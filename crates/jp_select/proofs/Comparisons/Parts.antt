@@ -6,7 +6,7 @@ use Rattle.std.specs.List.{slice_get}
 use Rattle.std.specs.Str.{bytes_eq}
 use Rattle.std.proofs.lemmas.Bool.{and_right}
 use Rattle.std.proofs.lemmas.Bool.Decides.{Decides-eqb}
-use Rattle.jp_document.specs.Location.{Key, entries, items_from, members_by_name}
+use Rattle.jp_document.specs.Location.{Step, entries, items_from, members_by_name}
 use Rattle.jp_document.specs.Value.{Value, null, boolean, whole, text, list, object}
 use Rattle.jp_document.specs.Value.{Items, no_items, item, Members, no_members, member}
 use Rattle.jp_lent.specs.Lending.{bare}
@@ -72,7 +72,7 @@ by_parts a b v w left right h =
 -- ---- part by part
 
 -- as many parts on both sides
-pub unlike-lengths : (es fs : List (Key × Value)) → (length es ≢ length fs)
+pub unlike-lengths : (es fs : List (Step × Value)) → (length es ≢ length fs)
     → false ≡ same_parts es fs
 unlike-lengths [] [] unlike = absurd (unlike refl)
 unlike-lengths [] (f ∷ fs) unlike = refl
@@ -83,10 +83,10 @@ unlike-lengths (e ∷ es) (f ∷ fs) unlike =
     (sym (unlike-lengths es fs (λ same. unlike (ap suc same)))))
 
 -- from a position on
-abbrev pub parts_from : List (Key × Value) → List (Key × Value) → ℕ → Bool
+abbrev pub parts_from : List (Step × Value) → List (Step × Value) → ℕ → Bool
 parts_from es fs i = same_parts (drop i es) (drop i fs)
 
-pub part_next : (es fs : List (Key × Value)) (i : ℕ) (e f : Key × Value) (same : Bool)
+pub part_next : (es fs : List (Step × Value)) (i : ℕ) (e f : Step × Value) (same : Bool)
     → slice_get es i ≡ Some e → slice_get fs i ≡ Some f → same_part e f ≡ same
     → parts_from es fs i ≡ (same && parts_from es fs (i + 1))
 part_next es fs i e f same left right is =
@@ -94,12 +94,12 @@ part_next es fs i e f same left right is =
     ap₂ same_parts (drop_at es i e left) (drop_at fs i f right)
     ∙ ap₂ (λ b j. b && parts_from es fs j) is next
 
-pub part_missing : (es fs : List (Key × Value)) (i : ℕ) (e : Key × Value)
+pub part_missing : (es fs : List (Step × Value)) (i : ℕ) (e : Step × Value)
     → slice_get es i ≡ Some e → slice_get fs i ≡ None → parts_from es fs i ≡ false
 part_missing es fs i e left right =
     ap₂ same_parts (drop_at es i e left) (drop_past fs i right)
 
-pub parts_done : (es fs : List (Key × Value)) (i : ℕ) → length es ≡ length fs
+pub parts_done : (es fs : List (Step × Value)) (i : ℕ) → length es ≡ length fs
     → slice_get es i ≡ None → parts_from es fs i ≡ true
 parts_done [] [] zero long none = refl
 parts_done [] [] (suc i) long none = refl

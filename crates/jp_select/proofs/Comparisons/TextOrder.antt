@@ -40,8 +40,8 @@ by_bits : (c d : ℕ) → c < d → (c / 64 < d / 64) ⊎ ((c / 64 ≡ d / 64) �
 by_bits c d less =
     elim (cases_lt (c / 64) (d / 64)) [ inl h ↦ inl h | inr h ↦ inr (omega arith, omega arith) ]
 
-two_lower : (k c d : ℕ) (x y : List ℕ) → c < d →
-    bytes_cmp ((k + c / 64) ∷ last_byte c ∷ x) ((k + d / 64) ∷ last_byte d ∷ y) ≡ Less
+two_lower : (k c d : ℕ) (x y : List ℕ) → c < d
+    → bytes_cmp ((k + c / 64) ∷ last_byte c ∷ x) ((k + d / 64) ∷ last_byte d ∷ y) ≡ Less
 two_lower k c d x y less =
     elim (by_bits c d less) [
       | inl h ↦
@@ -51,8 +51,8 @@ two_lower k c d x y less =
           (ap (λ q. k + q) h.0) ∙ lower_first (last_byte c) (last_byte d) x y h.1
     ]
 
-three_lower : (k c d : ℕ) (x y : List ℕ) → c < d →
-    bytes_cmp ((k + c / 64 / 64) ∷ last_byte (c / 64) ∷ last_byte c ∷ x)
+three_lower : (k c d : ℕ) (x y : List ℕ) → c < d
+    → bytes_cmp ((k + c / 64 / 64) ∷ last_byte (c / 64) ∷ last_byte c ∷ x)
     ((k + d / 64 / 64) ∷ last_byte (d / 64) ∷ last_byte d ∷ y) ≡ Less
 three_lower k c d x y less =
     elim (by_bits c d less) [
@@ -65,8 +65,8 @@ three_lower k c d x y less =
           ∙ lower_first (last_byte c) (last_byte d) x y h.1
     ]
 
-four_lower : (k c d : ℕ) (x y : List ℕ) → c < d →
-    bytes_cmp
+four_lower : (k c d : ℕ) (x y : List ℕ) → c < d
+    → bytes_cmp
     ((k + c / 64 / 64 / 64) ∷ last_byte (c / 64 / 64) ∷ last_byte (c / 64) ∷ last_byte c ∷ x)
     ((k + d / 64 / 64 / 64) ∷ last_byte (d / 64 / 64) ∷ last_byte (d / 64) ∷ last_byte d ∷ y) ≡
     Less
@@ -92,10 +92,10 @@ four_lower k c d x y less =
 data Bytes (c : ℕ) : List ℕ → Type 0 where
   one : c < 128 → Bytes c (c ∷ [])
   two : 128 ≤ c → c < 2048 → Bytes c ((192 + c / 64) ∷ last_byte c ∷ [])
-  three : 2048 ≤ c → c < 65536 →
-      Bytes c ((224 + c / 64 / 64) ∷ last_byte (c / 64) ∷ last_byte c ∷ [])
-  four : 65536 ≤ c →
-      Bytes c
+  three : 2048 ≤ c → c < 65536
+      → Bytes c ((224 + c / 64 / 64) ∷ last_byte (c / 64) ∷ last_byte c ∷ [])
+  four : 65536 ≤ c
+      → Bytes c
       ((240 + c / 64 / 64 / 64) ∷ last_byte (c / 64 / 64) ∷ last_byte (c / 64) ∷ last_byte c ∷ [])
 
 thousands : (c : ℕ) → c / 4096 ≡ c / 64 / 64
@@ -133,8 +133,8 @@ bytes c =
     ]
 
 -- a lower character has lower bytes, whatever follows
-lower_bytes : (c d : ℕ) (bs cs x y : List ℕ) → Bytes c bs → Bytes d cs → c < d →
-    bytes_cmp (bs ++ x) (cs ++ y) ≡ Less
+lower_bytes : (c d : ℕ) (bs cs x y : List ℕ) → Bytes c bs → Bytes d cs → c < d
+    → bytes_cmp (bs ++ x) (cs ++ y) ≡ Less
 lower_bytes c d bs cs x y (one h) (one g) less = lower_first c d x y less
 lower_bytes c d bs cs x y (two l h) (two m g) less = two_lower 192 c d x y less
 lower_bytes c d bs cs x y (three l h) (three m g) less = three_lower 224 c d x y less
@@ -160,8 +160,8 @@ lower_bytes c d bs cs x y (three l h) (two m g) less = absurd (omega arith)
 lower_bytes c d bs cs x y (four h) (two m g) less = absurd (omega arith)
 lower_bytes c d bs cs x y (four h) (three m g) less = absurd (omega arith)
 
-lower_character : (c d : ℕ) (x y : List ℕ) → c < d →
-    bytes_cmp (encode_utf8 c ++ x) (encode_utf8 d ++ y) ≡ Less
+lower_character : (c d : ℕ) (x y : List ℕ) → c < d
+    → bytes_cmp (encode_utf8 c ++ x) (encode_utf8 d ++ y) ≡ Less
 lower_character c d x y less =
     lower_bytes c d (encode_utf8 c) (encode_utf8 d) x y (bytes c) (bytes d) less
 
@@ -186,8 +186,8 @@ precedes-same c d cs ds same = grind (arith, nat_tests)
 precedes-higher : (c d : ℕ) (cs ds : List ℕ) → d < c → precedes (c ∷ cs) (d ∷ ds) ≡ false
 precedes-higher c d cs ds more = grind (arith, nat_tests)
 
-encoded : (cs ds : List ℕ) →
-    is_lt (bytes_cmp (encode_utf8_all cs) (encode_utf8_all ds)) ≡ precedes cs ds
+encoded : (cs ds : List ℕ)
+    → is_lt (bytes_cmp (encode_utf8_all cs) (encode_utf8_all ds)) ≡ precedes cs ds
 encoded [] [] = refl
 encoded [] (d ∷ ds) = ap is_lt (some_byte d (encode_utf8 d) (encode_utf8_all ds) (bytes d))
 encoded (c ∷ cs) [] =
@@ -214,8 +214,8 @@ encoded (c ∷ cs) (d ∷ ds) =
     ]
 
 -- the order of two texts by their bytes is that of their scalar values
-pub bytes-precedes : (s t : List ℕ) → IsUtf8 s → IsUtf8 t →
-    is_lt (slice_cmp nat_cmp s t) ≡ precedes (chars s) (chars t)
+pub bytes-precedes : (s t : List ℕ) → IsUtf8 s → IsUtf8 t
+    → is_lt (slice_cmp nat_cmp s t) ≡ precedes (chars s) (chars t)
 bytes-precedes s t u v =
     ap₂ (λ x y. is_lt (bytes_cmp x y)) (sym (encodes-chars s u)) (sym (encodes-chars t v))
     ∙ encoded (chars s) (chars t)

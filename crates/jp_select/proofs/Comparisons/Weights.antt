@@ -3,8 +3,9 @@ use Rattle.std.proofs.Common.{◌≡◌, ℕ, zero, suc, ◌+◌, ◌<◌, Optio
 use Rattle.std.proofs.Common.{ap, subst, sym}
 use Rattle.std.specs.List.{slice_get}
 use Rattle.std.proofs.lemmas.Option.{same_Some}
-use Rattle.jp_document.specs.Location.{Key, named, nth, entries, items_from, members_by_name}
-use Rattle.jp_document.specs.Value.{Value, null, boolean, whole, text, list, object, Items, no_items}
+use Rattle.jp_document.specs.Location.{Step, named, nth, entries, items_from, members_by_name}
+use Rattle.jp_document.specs.Value.{Value, null, boolean, whole, text, list, object, Items}
+use Rattle.jp_document.specs.Value.{no_items}
 use Rattle.jp_document.specs.Value.{item, Members, no_members, member}
 
 abbrev mutual
@@ -47,25 +48,25 @@ side_less a v t is at =
     let less = inside_less v in
     omega arith
 
-item_less : (k : ℕ) (vs : Items) (i : ℕ) (e : Key × Value)
+item_less : (k : ℕ) (vs : Items) (i : ℕ) (e : Step × Value)
     → slice_get (items_from k vs) i ≡ Some e → suc (weight e.1) < weight_items vs
 item_less k no_items i e at = absurd (cc)
 item_less k (item v vs) zero e at =
     let same : (nth k, v) ≡ e = same_Some _ _ at in
-    subst (λ (f : Key × Value). suc (weight f.1) < suc (suc (weight v + weight_items vs))) same
+    subst (λ (f : Step × Value). suc (weight f.1) < suc (suc (weight v + weight_items vs))) same
     (omega arith)
 item_less k (item v vs) (suc i) e at = let less = item_less (suc k) vs i e at in omega arith
 
-member_less : (ms : Members) (i : ℕ) (e : Key × Value)
+member_less : (ms : Members) (i : ℕ) (e : Step × Value)
     → slice_get (members_by_name ms) i ≡ Some e → suc (weight e.1) < weight_members ms
 member_less no_members i e at = absurd (cc)
 member_less (member n v ms) zero e at =
     let same : (named n, v) ≡ e = same_Some _ _ at in
-    subst (λ (f : Key × Value). suc (weight f.1) < suc (suc (weight v + weight_members ms))) same
+    subst (λ (f : Step × Value). suc (weight f.1) < suc (suc (weight v + weight_members ms))) same
     (omega arith)
 member_less (member n v ms) (suc i) e at = let less = member_less ms i e at in omega arith
 
-part_less : (v : Value) (i : ℕ) (e : Key × Value) → slice_get (entries v) i ≡ Some e
+part_less : (v : Value) (i : ℕ) (e : Step × Value) → slice_get (entries v) i ≡ Some e
     → suc (weight e.1) < weight_inside v
 part_less null i e at = absurd (cc)
 part_less (boolean b) i e at = absurd (cc)
@@ -75,6 +76,6 @@ part_less (list vs) i e at = item_less 0 vs i e at
 part_less (object ms) i e at = member_less ms i e at
 
 -- a part weighs less than all parts
-pub part_within : (v : Value) (i t : ℕ) (e : Key × Value) → Some e ≡ slice_get (entries v) i
+pub part_within : (v : Value) (i t : ℕ) (e : Step × Value) → Some e ≡ slice_get (entries v) i
     → weight_inside v ≡ t → suc (weight e.1) < t
 part_within v i t e at is = let less = part_less v i e (sym at) in omega arith

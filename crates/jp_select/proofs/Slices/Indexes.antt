@@ -24,24 +24,24 @@ distance i j h = omega (arith, ints)
 
 -- ---- filters over indexes
 
-filter_same : (p q : ℕ → Bool) (a n : ℕ) → ((j : ℕ) → a ≤ j → p j ≡ q j) →
-    filter p (range_with_len a n) ≡ filter q (range_with_len a n)
+filter_same : (p q : ℕ → Bool) (a n : ℕ) → ((j : ℕ) → a ≤ j → p j ≡ q j)
+    → filter p (range_with_len a n) ≡ filter q (range_with_len a n)
 filter_same p q a zero each = refl
 filter_same p q a (suc n) each =
     ap₂ (λ b t. cond b (a ∷ t) t) (each a (omega arith))
     (filter_same p q (a + 1) n (λ j h. each j (omega arith)))
 
-pub filter_none : (p : ℕ → Bool) (a n : ℕ) → ((j : ℕ) → a ≤ j → p j ≡ false) →
-    filter p (range_with_len a n) ≡ []
+pub filter_none : (p : ℕ → Bool) (a n : ℕ) → ((j : ℕ) → a ≤ j → p j ≡ false)
+    → filter p (range_with_len a n) ≡ []
 filter_none p a zero each = refl
 filter_none p a (suc n) each =
     ap₂ (λ b t. cond b (a ∷ t) t) (each a (omega arith))
     (filter_none p (a + 1) n (λ j h. each j (omega arith)))
 
 -- p passes i first, and q what p passes after it
-filter_first : (p q : ℕ → Bool) (i a n : ℕ) → a ≤ i → i < a + n → ((j : ℕ) → j < i → p j ≡ false) →
-    p i ≡ true → ((j : ℕ) → j ≤ i → q j ≡ false) → ((j : ℕ) → i < j → p j ≡ q j) →
-    filter p (range_with_len a n) ≡ i ∷ filter q (range_with_len a n)
+filter_first : (p q : ℕ → Bool) (i a n : ℕ) → a ≤ i → i < a + n → ((j : ℕ) → j < i → p j ≡ false)
+    → p i ≡ true → ((j : ℕ) → j ≤ i → q j ≡ false) → ((j : ℕ) → i < j → p j ≡ q j)
+    → filter p (range_with_len a n) ≡ i ∷ filter q (range_with_len a n)
 filter_first p q i a zero from to before here none same = absurd (omega arith)
 filter_first p q i a (suc n) from to before here none same =
     elim (cases_lt a i) [
@@ -64,9 +64,9 @@ filter_first p q i a (suc n) from to before here none same =
     ]
 
 -- p passes i last, and q what p passes before it
-filter_last : (p q : ℕ → Bool) (i a n : ℕ) → a ≤ i → i < a + n → ((j : ℕ) → i < j → p j ≡ false) →
-    p i ≡ true → ((j : ℕ) → i ≤ j → q j ≡ false) → ((j : ℕ) → j < i → p j ≡ q j) →
-    filter p (range_with_len a n) ≡ filter q (range_with_len a n) ++ i ∷ []
+filter_last : (p q : ℕ → Bool) (i a n : ℕ) → a ≤ i → i < a + n → ((j : ℕ) → i < j → p j ≡ false)
+    → p i ≡ true → ((j : ℕ) → i ≤ j → q j ≡ false) → ((j : ℕ) → j < i → p j ≡ q j)
+    → filter p (range_with_len a n) ≡ filter q (range_with_len a n) ++ i ∷ []
 filter_last p q i a zero from to after here none same = absurd (omega arith)
 filter_last p q i a (suc n) from to after here none same =
     elim (cases_lt a i) [
@@ -81,8 +81,8 @@ filter_last p q i a (suc n) from to after here none same =
           ∙ ap (λ t. t ++ i ∷ []) (sym (filter_none q a (suc n) (λ j h. none j (omega arith))))
     ]
   where
-    kept : (b c : Bool) → b ≡ c →
-        filter p (range_with_len (a + 1) n) ≡ filter q (range_with_len (a + 1) n) ++ i ∷ []
+    kept : (b c : Bool) → b ≡ c
+        → filter p (range_with_len (a + 1) n) ≡ filter q (range_with_len (a + 1) n) ++ i ∷ []
         → cond b (a ∷ filter p (range_with_len (a + 1) n)) (filter p (range_with_len (a + 1) n))
         ≡
         cond c (a ∷ filter q (range_with_len (a + 1) n)) (filter q (range_with_len (a + 1) n))
@@ -115,8 +115,8 @@ short_rest : (m s : ℕ) → 0 < m → m < s → nat_eq (m % s) 0 ≡ false
 short_rest m s some less =
     let same : m % s ≡ m = mod-eq_of_lt less in ap (λ r. nat_eq r 0) same ∙ eq_no m some
 
-rising_later : (i u s j : ℕ) → i < j → 0 < s →
-    is_rising (pos i) (pos u) s j ≡ is_rising (pos (i + s)) (pos u) s j
+rising_later : (i u s j : ℕ) → i < j → 0 < s
+    → is_rising (pos i) (pos u) s j ≡ is_rising (pos (i + s)) (pos u) s j
 rising_later i u s j less positive =
     elim (cases_lt j (i + s)) [
       | inl below ↦
@@ -133,8 +133,8 @@ rising_later i u s j less positive =
           (sym (distance (i + s) j above))
     ]
 
-pub rising-next : (i u s n : ℕ) → i < u → u ≤ n → 0 < s →
-    filter (is_rising (pos i) (pos u) s) (indexes n) ≡
+pub rising-next : (i u s n : ℕ) → i < u → u ≤ n → 0 < s
+    → filter (is_rising (pos i) (pos u) s) (indexes n) ≡
     i ∷ filter (is_rising (pos (i + s)) (pos u) s) (indexes n)
 rising-next i u s n within fits positive =
     filter_first (is_rising (pos i) (pos u) s) (is_rising (pos (i + s)) (pos u) s) i 0 n
@@ -150,9 +150,9 @@ rising-end i u s n past =
     ])
 
 -- the bounds that the code found are the slice's
-pub rising-starts : (n : ℕ) (start end : Option ℤ) (s lower upper : ℕ) → 0 < s →
-    pos lower ≡ rising_lower n start → pos upper ≡ rising_upper n end →
-    filter (is_rising (pos lower) (pos upper) s) (indexes n) ≡ slice_of n start end (pos s)
+pub rising-starts : (n : ℕ) (start end : Option ℤ) (s lower upper : ℕ) → 0 < s
+    → pos lower ≡ rising_lower n start → pos upper ≡ rising_upper n end
+    → filter (is_rising (pos lower) (pos upper) s) (indexes n) ≡ slice_of n start end (pos s)
 rising-starts n start end zero lower upper positive low up = absurd (omega arith)
 rising-starts n start end (suc k) lower upper positive low up =
     ap₂ (λ l u. filter (is_rising l u (suc k)) (indexes n)) low up
@@ -205,8 +205,8 @@ falling_here l i a s within at positive =
     ap₂ (λ b c. b && c && divides s ((pos a -ℤ pos 1) -ℤ pos i)) (above_lower l i within)
     (below_upper a i (omega arith)) ∙ ap (λ r. nat_eq r 0) none
 
-falling_sooner : (l i a s j : ℕ) → a ≡ i + 1 → j < i → 0 < s →
-    falls_between l a s j ≡ falls_between l (a - s) s j
+falling_sooner : (l i a s j : ℕ) → a ≡ i + 1 → j < i → 0 < s
+    → falls_between l a s j ≡ falls_between l (a - s) s j
 falling_sooner l i a s j at less positive =
     let low = int_lt (pos l -ℤ pos 1) (pos j) in
     elim (cases_lt j (a - s)) [
@@ -228,8 +228,8 @@ falling_sooner l i a s j at less positive =
           ∙ sym (falling_after l (a - s) s j above)
     ]
 
-pub falling-next : (l a s n : ℕ) → l < a → a ≤ n → 0 < s →
-    reverse (filter (falls_between l a s) (indexes n)) ≡
+pub falling-next : (l a s n : ℕ) → l < a → a ≤ n → 0 < s
+    → reverse (filter (falls_between l a s) (indexes n)) ≡
     (a - 1) ∷ reverse (filter (falls_between l (a - s) s) (indexes n))
 falling-next l a s n within fits positive =
     let i = a - 1 in
@@ -251,9 +251,9 @@ falling-end l a s n past =
 one_lower : (a : ℕ) (z : ℤ) → pos a ≡ z +ℤ pos 1 → pos a -ℤ pos 1 ≡ z
 one_lower a z is = omega (arith, ints)
 
-pub falling-starts : (n : ℕ) (start end : Option ℤ) (s lower above : ℕ) → 0 < s →
-    pos lower ≡ falling_lower n end +ℤ pos 1 → pos above ≡ falling_upper n start +ℤ pos 1 →
-    reverse (filter (falls_between lower above s) (indexes n)) ≡
+pub falling-starts : (n : ℕ) (start end : Option ℤ) (s lower above : ℕ) → 0 < s
+    → pos lower ≡ falling_lower n end +ℤ pos 1 → pos above ≡ falling_upper n start +ℤ pos 1
+    → reverse (filter (falls_between lower above s) (indexes n)) ≡
     slice_of n start end (negsuc (s - 1))
 falling-starts n start end s lower above positive low up =
     let size : s ≡ suc (s - 1) = omega arith in

@@ -17,7 +17,7 @@ use Rattle.std.proofs.lemmas.List.Sorted.{Contains-permutation}
 use Rattle.std.proofs.lemmas.List.Sorted.{IsPermutation-reverse, IsPermutation-sym}
 use Rattle.std.proofs.lemmas.Nat.{div-add-mod'}
 use Rattle.std.proofs.Math.Nat.{add-mul-mod_self_right}
-use Rattle.jp_document.proofs.Conjunctions.{and-left, and-right}
+use Rattle.jp_reading.proofs.Conjunctions.{and-left, and-right}
 use Rattle.jp_select.specs.Laws.{IsRisingSlice, IsFallingSlice, SlicesAreExact}
 use Rattle.jp_select.specs.Slice.{normalized, held_within, rising_lower, rising_upper}
 use Rattle.jp_select.specs.Slice.{falling_lower, falling_upper, is_rising, is_falling, indexes}
@@ -47,8 +47,8 @@ kept_first : (b : Bool) (a i : ℕ) (xs : List ℕ) → b ≡ true → i ≡ a �
 kept_first true a i xs passes at = subst (Contains (a ∷ xs)) (sym at) (0, omega arith, refl)
 kept_first false a i xs passes at = absurd (cc)
 
-filter_has : (p : ℕ → Bool) (i a n : ℕ) → a ≤ i → i < a + n → p i ≡ true →
-    Contains (filter p (range_with_len a n)) i
+filter_has : (p : ℕ → Bool) (i a n : ℕ) → a ≤ i → i < a + n → p i ≡ true
+    → Contains (filter p (range_with_len a n)) i
 filter_has p i a zero from to passes = absurd (omega arith)
 filter_has p i a (suc n) from to passes =
     elim (cases_lt a i) [
@@ -81,8 +81,8 @@ no_rest m s positive =
     ap (λ n. n % s) (sym (zero-add (m * s))) ∙ add-mul-mod_self_right 0 m s ∙ omega arith in
     ap (λ r. nat_eq r 0) none
 
-rising_means : (a u s i : ℕ) → is_rising (pos a) (pos u) s i ≡ true →
-    (pos i <ℤ pos u) × ((m : ℕ) × (pos i ≡ pos a +ℤ pos (m * s)))
+rising_means : (a u s i : ℕ) → is_rising (pos a) (pos u) s i ≡ true
+    → (pos i <ℤ pos u) × ((m : ℕ) × (pos i ≡ pos a +ℤ pos (m * s)))
 rising_means a u s i h =
     let within = and-left (leb a i && ltb i u) _ h in
     let low : a ≤ i = leb-true a i (and-left (leb a i) (ltb i u) within) in
@@ -109,8 +109,8 @@ rising_from a u s i m positive high at =
     gap : (a x i : ℕ) → i ≡ a + x → i - a ≡ x
     gap a x i at = omega arith
 
-falling_means : (l y s i : ℕ) → falls_between l y s i ≡ true →
-    ((pos l -ℤ pos 1) <ℤ pos i) × ((m : ℕ) × (pos i +ℤ pos (m * s) ≡ pos y -ℤ pos 1))
+falling_means : (l y s i : ℕ) → falls_between l y s i ≡ true
+    → ((pos l -ℤ pos 1) <ℤ pos i) × ((m : ℕ) × (pos i +ℤ pos (m * s) ≡ pos y -ℤ pos 1))
 falling_means l y s i h =
     let lows = int_lt (pos l -ℤ pos 1) (pos i) in
     let highs = int_le (pos i) (pos y -ℤ pos 1) in
@@ -151,8 +151,8 @@ falling_from l y s i m positive low at =
 
 -- ---- the law
 
-rising_exact : (n k : ℕ) (lower upper : ℤ) → pos 0 ≤ℤ lower → pos 0 ≤ℤ upper → upper ≤ℤ pos n →
-    IsRisingSlice lower upper (suc k) (filter (is_rising lower upper (suc k)) (indexes n))
+rising_exact : (n k : ℕ) (lower upper : ℤ) → pos 0 ≤ℤ lower → pos 0 ≤ℤ upper → upper ≤ℤ pos n
+    → IsRisingSlice lower upper (suc k) (filter (is_rising lower upper (suc k)) (indexes n))
 rising_exact n k (negsuc a) upper low up most = absurd (omega (arith, ints))
 rising_exact n k (pos a) (negsuc u) low up most = absurd (omega (arith, ints))
 rising_exact n k (pos a) (pos u) low up most =
@@ -168,8 +168,8 @@ rising_exact n k (pos a) (pos u) low up most =
       );
     }
 
-falling_exact : (n k l y : ℕ) → y ≤ n →
-    IsFallingSlice (pos l -ℤ pos 1) (pos y -ℤ pos 1) (suc k)
+falling_exact : (n k l y : ℕ) → y ≤ n
+    → IsFallingSlice (pos l -ℤ pos 1) (pos y -ℤ pos 1) (suc k)
     (reverse (filter (falls_between l y (suc k)) (indexes n)))
 falling_exact n k l y most =
     let p = falls_between l y (suc k) in
@@ -202,9 +202,9 @@ natural (pos a) low = (suc a, omega (arith, ints))
 natural (negsuc zero) low = (0, refl)
 natural (negsuc (suc a)) low = absurd (omega (arith, ints))
 
-falling_between : (n k : ℕ) (lower upper : ℤ) → negsuc 0 ≤ℤ lower → negsuc 0 ≤ℤ upper →
-    upper ≤ℤ (pos n -ℤ pos 1) →
-    IsFallingSlice lower upper (suc k)
+falling_between : (n k : ℕ) (lower upper : ℤ) → negsuc 0 ≤ℤ lower → negsuc 0 ≤ℤ upper
+    → upper ≤ℤ (pos n -ℤ pos 1)
+    → IsFallingSlice lower upper (suc k)
     (reverse (filter (is_falling lower upper (suc k)) (indexes n)))
 falling_between n k lower upper low up most =
     let l = natural lower low in

@@ -1,7 +1,7 @@
 use Rattle.std.proofs.Common.{◌∙◌, ap, refl, sym}
 use Rattle.jp_command.specs.Lines.{output_of}
 use Rattle.jp_document.specs.Document.{document_of}
-use Rattle.jp_tree.specs.Tree.{query_of}
+use Rattle.jp_tree.specs.Views.{query_of}
 use Rattle.jp_c.proofs.Selecting.{document_there, query_there}
 use Rattle.jp_c.proofs.select.select_outcome.Goals as goal
 

@@ -3,7 +3,7 @@ use Rattle.std.proofs.lemmas.Grind.{common_steps}
 use Rattle.std.specs.Str.{chars}
 use Rattle.jp_query.proofs.OneRefusal.{one-refusal}
 use Rattle.jp_query.proofs.Unique.{one-reading}
-use Rattle.jp_tree.specs.Tree.{query_of}
+use Rattle.jp_tree.specs.Views.{query_of}
 use Rattle.jp_check.specs.Refused.{IsRefused}
 use Rattle.jp_check.proofs.Alone.{first-refused, refused-result}
 use Rattle.jp_check.proofs.checked.read_query.Goals as goal

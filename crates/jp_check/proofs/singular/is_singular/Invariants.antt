@@ -1,6 +1,7 @@
 use Rattle.std.proofs.Common.{◌≡◌, drop, map}
 use Rattle.jp_tree.specs.Singular.{are_single, is_singular}
-use Rattle.jp_tree.specs.Tree.{query_of, segment_of, segments}
+use Rattle.jp_tree.specs.Tree.{segments}
+use Rattle.jp_tree.specs.Views.{query_of, segment_of}
 use Rattle.jp_check.proofs.singular.is_singular.Given as goal
 
 -- the query is singular exactly if the segments still to come are

@@ -1,6 +1,6 @@
 use Rattle.std.proofs.Common.{refl}
-use Rattle.jp_query.specs.Items.{items_of}
-use Rattle.jp_tree.specs.Tree.{query_of}
+use Rattle.jp_query.specs.Components.{components_of}
+use Rattle.jp_tree.specs.Views.{query_of}
 use Rattle.jp_check.proofs.Least.{found}
 use Rattle.jp_check.proofs.walk.first_fault.Goals as goal
 
@@ -8,7 +8,7 @@ pub returns : goal.returns
 returns c =
     let spelled = rw c.spans.ensures.same at c.spans.ensures.each in
     found c.args.profile spelled.0
-    (items_of
+    (components_of
     (query_of c.args.parsed.now.query)) c.args.parsed.now.spans c.first.result spelled.2.each
     (rw (
       c.first.ensures,

@@ -1,5 +1,5 @@
 use Rattle.std.proofs.Common.{◌≡◌, rules}
-use Rattle.jp_tree.specs.Tree.{query_of}
+use Rattle.jp_tree.specs.Views.{query_of}
 use Rattle.jp_command.specs.Canon.{canon_line}
 use Rattle.jp_command.proofs.canon.run_canon.Goals as goal
 

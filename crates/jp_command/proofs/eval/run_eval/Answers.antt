@@ -2,7 +2,7 @@ use Rattle.std.proofs.Common.{ap, rules}
 use Rattle.jp_document.specs.Document.{IsDocument, document_of}
 use Rattle.jp_document.specs.DocumentValue.{lent_value}
 use Rattle.jp_flat.specs.FlatValue.{document_in, lent_flat}
-use Rattle.jp_tree.specs.Tree.{query_of}
+use Rattle.jp_tree.specs.Views.{query_of}
 use Rattle.jp_command.specs.Lines.{output_of}
 use Rattle.jp_command.proofs.Runs.{run-ends}
 use Rattle.jp_command.proofs.eval.run_eval.Goals as goal

@@ -22,5 +22,5 @@ returns g c profile = record {
   canonical_lines = line-is_written profile _ _ _ _ _ canon_line;
   checked_lines = line-is_written profile _ _ _ _ _ accepted_line;
   syntax_places = c.one_refusal.ensures;
-  fault_places = c.fault_at_its_item.ensures profile;
+  fault_places = c.fault_at_its_component.ensures profile;
 }

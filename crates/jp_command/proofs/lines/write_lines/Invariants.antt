@@ -2,13 +2,13 @@ use Rattle.std.proofs.Common.{◌≡◌, false, length}
 use Rattle.jp_evaluate.specs.Lent.{has_failed, rest_of}
 use Rattle.jp_command.specs.Lines.{line_behind}
 use Rattle.jp_command.specs.Private.ByTurns.{WritesGiven}
-use Rattle.jp_command.specs.Private.Fronts.{IsSpelled}
+use Rattle.jp_command.specs.Private.Fronts.{HasPathText}
 use Rattle.jp_command.proofs.lines.write_lines.Given as goal
 
 -- the lines of the nodes so far are written
 abbrev pub invariant-loop-next : goal.invariant-loop-next
 invariant-loop-next g l = record {
-  front : IsSpelled l.front;
+  front : HasPathText l.front;
   working : has_failed l.nodes ≡ false;
   written : WritesGiven g.W.Writer.contents (line_behind l.lead l.form) (rest_of g.V.Lent.meaning l.fn.nodes) (rest_of g.V.Lent.meaning l.nodes)
       l.fn.output l.output;

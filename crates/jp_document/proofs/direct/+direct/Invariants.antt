@@ -18,8 +18,8 @@ decreases-members l = 2 * l.depth + 1
 abbrev pub invariant-items-items : goal.invariant-items-items
 invariant-items-items l =
     (n : ℕ) × (length l.reader ≤ n) × (length l.reader ≤ length l.initial.reader)
-    × ((vs : List Value) (r : List Token) → ReadsItems l.depth n l.reader r (items_of vs) →
-    ReadsItems l.depth (length l.initial.reader) l.initial.reader r
+    × ((vs : List Value) (r : List Token) → ReadsItems l.depth n l.reader r (items_of vs)
+    → ReadsItems l.depth (length l.initial.reader) l.initial.reader r
     (items_of (map value_of l.found.items ++ vs)))
     × (everywhere_in_items list_fits (items_of (map value_of l.found.items)) ≡ true)
 

@@ -1,7 +1,7 @@
 use Rattle.std.proofs.Common.{◌≡◌, map, string_cmp, ap, ◌∙◌, rules}
 use Rattle.std.specs.BTreeMap.{insert_entry}
 use Rattle.jp_document.specs.Private.MemberList.{map_entry}
-use Rattle.jp_document.proofs.Members.Places.{entries_of-insert_entry}
+use Rattle.jp_document.proofs.Members.Inserting.{entries_of-insert_entry}
 use Rattle.jp_document.proofs.member_list.insert_in_map.Goals as goal
 
 pub returns : goal.returns

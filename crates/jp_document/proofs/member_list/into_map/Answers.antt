@@ -6,7 +6,7 @@ use Rattle.std.specs.Vec.Iter.{into_iter_items}
 use Rattle.jp_document.specs.Private.MemberList.{map_entry}
 use Rattle.jp_document.specs.Value.{member_of, value_of, names_rise}
 use Rattle.jp_document.proofs.Members.ByName.{names_of-members_of}
-use Rattle.jp_document.proofs.Members.Places.{insert_last, entries_of-insert_entry}
+use Rattle.jp_document.proofs.Members.Inserting.{insert_last, entries_of-insert_entry}
 use Rattle.jp_document.proofs.Values.{member_of_is}
 use Rattle.jp_document.proofs.member_list.into_map.Goals as goal
 

@@ -1,7 +1,7 @@
 use Rattle.std.proofs.Common.{◌≡◌, ℕ, List, [], ◌∷◌, ◌++◌, string_bytes, ap, sym, subst, rules}
 use Rattle.jp_reading.specs.Characters as char
 use Rattle.jp_document.specs.Appending.{IsPartAppended}
-use Rattle.jp_document.specs.Location.{key_of}
+use Rattle.jp_document.specs.Location.{step_of}
 use Rattle.jp_document.specs.Path.{index_text, quoted, step_text}
 use Rattle.jp_document.proofs.Writing.Appended.{after, between, first}
 use Rattle.jp_document.proofs.path.push_step.Goals as goal
@@ -16,7 +16,7 @@ returns-in_err-push_quoted-in-Name-clause-kept c =
     let opened : string_bytes c.push.new.self ≡ before ++ char.opening_bracket ∷ [] =
     search rules in
     subst (λ t. IsPartAppended before t (string_bytes c.push_quoted.new.out))
-    (ap (λ s. step_text (key_of s)) (sym c.in-Name.is))
+    (ap (λ s. step_text (step_of s)) (sym c.in-Name.is))
     (after _ (char.opening_bracket ∷ []) (name ++ char.closing_bracket ∷ []) _ _ opened
     (first _ name (char.closing_bracket ∷ []) _ c.in_err-push_quoted-in-Name.ensures.kept))
 
@@ -32,13 +32,13 @@ returns-clause-kept c =
       | in-Name+in_ok-push_quoted-in-Name w ↦
           let written : string_bytes c.match-step.out ≡ string_bytes c.push.new.self
           ++ quoted w.in-Name.name.now = search rules in
-          subst P (ap (λ s. step_text (key_of s)) (sym w.in-Name.is))
+          subst P (ap (λ s. step_text (step_of s)) (sym w.in-Name.is))
           (between _ (quoted w.in-Name.name.now) _ _ _ char.opening_bracket char.closing_bracket
           opened written closed)
       | in-Index+in_ok-push_index-in-Index w ↦
           let written : string_bytes c.match-step.out ≡ string_bytes c.push.new.self
           ++ index_text w.in-Index.index = search rules in
-          subst P (ap (λ s. step_text (key_of s)) (sym w.in-Index.is))
+          subst P (ap (λ s. step_text (step_of s)) (sym w.in-Index.is))
           (between _ (index_text w.in-Index.index) _ _ _ char.opening_bracket char.closing_bracket
           opened written closed)
     ]

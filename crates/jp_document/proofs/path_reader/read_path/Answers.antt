@@ -4,7 +4,7 @@ use Rattle.std.specs.List.{list_any}
 use Rattle.jp_reading.specs.Outcome.{State}
 use Rattle.jp_reading.specs.Views.{Fails}
 use Rattle.jp_document.specs.declared.location.OwnedStep.{OwnedStep}
-use Rattle.jp_document.specs.Location.{owned_key}
+use Rattle.jp_document.specs.Location.{owned_step}
 use Rattle.jp_document.specs.Path.{path_of}
 use Rattle.jp_document.specs.PathFault.{is_large}
 use Rattle.jp_document.specs.Private.PathReading.{path_at}
@@ -20,23 +20,23 @@ returns-in_err-steps-clause-fault c =
     c.in_err-steps.ensures))
 
 -- whether an index is too large, by the steps that were looked at
-any_large : (steps seen : List OwnedStep) (answer : Bool) → seen ≡ steps →
-    answer ≡ list_any (λ s. is_large (owned_key s)) seen →
-    list_any is_large (map owned_key steps) ≡ answer
+any_large : (steps seen : List OwnedStep) (answer : Bool) → seen ≡ steps
+    → answer ≡ list_any (λ s. is_large (owned_step s)) seen
+    → list_any is_large (map owned_step steps) ≡ answer
 any_large steps seen answer same is =
-    list_any-map is_large owned_key steps ∙ ap (list_any (λ s. is_large (owned_key s))) (sym same)
+    list_any-map is_large owned_step steps ∙ ap (list_any (λ s. is_large (owned_step s))) (sym same)
     ∙ sym is
 
 pub returns-then-is_any_large-clause-fault : goal.returns-then-is_any_large-clause-fault
 returns-then-is_any_large-clause-fault c =
-    too_large c.args.text.now (map owned_key c.in_ok-steps.steps.items) c.path.new.reader
+    too_large c.args.text.now (map owned_step c.in_ok-steps.steps.items) c.path.new.reader
     c.utf8.text (ap path_at (sym c.new.ensures) ∙ c.in_ok-steps.ensures)
     (any_large c.in_ok-steps.steps.items _ _ c.deref.ensures.value c.is_any_large.ensures
     ∙ c.if-is_any_large.true)
 
 pub returns-clause-path : goal.returns-clause-path
 returns-clause-path c =
-    path_read c.args.text.now (map owned_key c.in_ok-steps.steps.items) c.path.new.reader
+    path_read c.args.text.now (map owned_step c.in_ok-steps.steps.items) c.path.new.reader
     c.utf8.text (ap path_at (sym c.new.ensures) ∙ c.in_ok-steps.ensures)
     (any_large c.in_ok-steps.steps.items _ _ c.deref.ensures.value c.is_any_large.ensures
     ∙ c.if-is_any_large.false)

@@ -39,10 +39,10 @@ json_items-returns-in-Err-clause-fault t c =
     let done = c.loop-item.found.items in
     let rest = into_iter_items c.next.new.self in
     let so = subst (λ r. ItemsSoFar all r done) c.in-Some.ensures.steps.0 c.loop-item.invariant.0 in
-    let place : length done ≡ c.len-in-Err.result = search rules in
+    let index : length done ≡ c.len-in-Err.result = search rules in
     value_fault-within (view c.in-Some.item) (parsed.array (items_view all)) c.in-Err.fault
     c.within.result (Index c.len-in-Err.result)
-    (λ l first. subst (λ n. IsFirstFraction (parsed.array (items_view all)) (nth n ∷ l)) place
+    (λ l first. subst (λ n. IsFirstFraction (parsed.array (items_view all)) (nth n ∷ l)) index
     (items_stop all rest done c.in-Some.item l first so)) c.in-Err.ensures.fault c.within.ensures
 
 pub json_items-returns-clause-value : goal.json_items-returns-clause-value

@@ -3,7 +3,7 @@ use Rattle.serde_json.specs.View.{view}
 use Rattle.jp_document.specs.Document.{IsReading}
 use Rattle.jp_document.specs.Value.{everywhere, list_fits, value_of}
 use Rattle.jp_document.proofs.Readings.Defects.{document_by}
-use Rattle.jp_document.proofs.Conjunctions.{and-left}
+use Rattle.jp_reading.proofs.Conjunctions.{and-left}
 use Rattle.jp_document.proofs.reading.parsed_value.Goals as goal
 
 pub returns-then-fits-clause-ok : goal.returns-then-fits-clause-ok

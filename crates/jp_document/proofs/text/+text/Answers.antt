@@ -18,8 +18,8 @@ use Rattle.jp_document.proofs.text.+text.Goals as goal
 -- ---- items
 
 -- the texts of the items to come begin with that of the next
-next_item : (xs : List Json) (i : ℕ) (x : Json) → i < length xs → x ≡ get_or xs i x →
-    item_texts (items_of (map value_of (drop i xs))) ≡ text_of (value_of x)
+next_item : (xs : List Json) (i : ℕ) (x : Json) → i < length xs → x ≡ get_or xs i x
+    → item_texts (items_of (map value_of (drop i xs))) ≡ text_of (value_of x)
     ∷ item_texts (items_of (map value_of (drop (i + 1) xs)))
 next_item xs i x within is =
     ap (λ ys. item_texts (items_of (map value_of ys)))
@@ -68,8 +68,8 @@ push_items-returns-in_err-push_value-clause-kept t c =
 -- ---- members
 
 -- the texts of the members to come begin with that of the next
-next_member : (ms : List Member) (i : ℕ) (m : Member) → i < length ms → m ≡ get_or ms i m →
-    member_texts (members_of (map member_of (drop i ms))) ≡
+next_member : (ms : List Member) (i : ℕ) (m : Member) → i < length ms → m ≡ get_or ms i m
+    → member_texts (members_of (map member_of (drop i ms))) ≡
     (string_text (string_bytes m.name) ++ char.colon ∷ text_of (value_of m.value))
     ∷ member_texts (members_of (map member_of (drop (i + 1) ms)))
 next_member ms i m within is =

@@ -1,4 +1,4 @@
-use Rattle.jp_tree.specs.Tree.{argument_of, call_of}
+use Rattle.jp_tree.specs.Views.{argument_of, call_of}
 use Rattle.jp_evaluate.specs.Private.Sizes.{argument_size, call_size}
 use Rattle.jp_evaluate.proofs.calls.+arguments.Given as goal
 

@@ -1,7 +1,7 @@
 use Rattle.std.proofs.Common.{◌≡◌, IfOk, ap, option_map, rules, ◌∙◌}
 use Rattle.std.specs.Str.{chars}
 use Rattle.std.proofs.lemmas.Result.{IfOk-weaker}
-use Rattle.jp_iregexp.specs.Matches.{has_match, is_match}
+use Rattle.jp_iregexp.specs.MatchTests.{has_match, is_match}
 use Rattle.jp_iregexp.specs.Tree.{tree}
 use Rattle.jp_evaluate.proofs.Matching.{no_answer, part_answer, whole_answer}
 use Rattle.jp_evaluate.proofs.evaluating.text_answer.Goals as goal

@@ -1,7 +1,7 @@
 use Rattle.std.proofs.Common.{◌≡◌, ◌++◌, false, map}
 use Rattle.jp_document.specs.Document.{document_of}
 use Rattle.jp_document.specs.Node.{node_of}
-use Rattle.jp_tree.specs.Tree.{query_of}
+use Rattle.jp_tree.specs.Views.{query_of}
 use Rattle.jp_evaluate.specs.Nodelist.{nodelist}
 use Rattle.jp_evaluate.specs.Rest.{has_failed, rest_of}
 use Rattle.jp_evaluate.proofs.evaluation.evaluate.Given as goal

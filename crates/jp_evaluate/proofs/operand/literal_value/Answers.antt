@@ -1,6 +1,6 @@
 use Rattle.std.proofs.Common.{Some, ap, sym, string_bytes, ◌∙◌}
 use Rattle.jp_document.specs.Value.{text}
-use Rattle.jp_tree.specs.Tree.{literal_of}
+use Rattle.jp_tree.specs.Views.{literal_of}
 use Rattle.jp_evaluate.specs.Nodelist.{literal_value}
 use Rattle.jp_evaluate.proofs.Nodelists.Along.{text-spelled}
 use Rattle.jp_evaluate.proofs.operand.literal_value.Goals as goal

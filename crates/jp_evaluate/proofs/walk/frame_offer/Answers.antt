@@ -9,12 +9,12 @@ pub loop-turn-preserved : goal.loop-turn-preserved
 loop-turn-preserved g c =
     let f = c.loop-turn.frame in
     let all = c.args.segments.now in
-    let v = g.V.Lent.meaning f.place.value in
+    let v = g.V.Lent.meaning f.reached.value in
     let t = turn_of all c.in-Some.turn in
     record {
-      place = c.loop-turn.invariant.place;
+      reached = c.loop-turn.invariant.reached;
       same =
-          turn_next v (turns (segments_left all f.place.done)) f.turn f.next t
+          turn_next v (turns (segments_left all f.reached.done)) f.turn f.next t
           (sym c.in-Some.ensures.gives) (sym c.in_default-choice.ensures.entry)
           ∙ c.loop-turn.invariant.same;
     }
@@ -23,8 +23,8 @@ pub loop-turn-smaller : goal.loop-turn-smaller
 loop-turn-smaller g c =
     let f = c.loop-turn.frame in
     let all = c.args.segments.now in
-    let within : f.turn < length (turns (segments_left all f.place.done)) =
-    slice_get_within (turns (segments_left all f.place.done)) f.turn (turn_of all c.in-Some.turn)
+    let within : f.turn < length (turns (segments_left all f.reached.done)) =
+    slice_get_within (turns (segments_left all f.reached.done)) f.turn (turn_of all c.in-Some.turn)
     (sym c.in-Some.ensures.gives) in
     omega arith
 
@@ -32,10 +32,10 @@ pub returns-in-Some-choice-clause-gives : goal.returns-in-Some-choice-clause-giv
 returns-in-Some-choice-clause-gives g c =
     let f = c.loop-turn.frame in
     let all = c.args.segments.now in
-    let v = g.V.Lent.meaning f.place.value in
+    let v = g.V.Lent.meaning f.reached.value in
     let t = turn_of all c.in-Some.turn in
     let e = step_with g.V.Lent.meaning c.in-Some-choice.choice in
-    let ts = turns (segments_left all f.place.done) in
+    let ts = turns (segments_left all f.reached.done) in
     sym c.loop-turn.invariant.same
     ∙ choice_next v ts f.turn f.next t e (sym c.in-Some.ensures.gives)
     (sym c.in-Some-choice.ensures.entry)
@@ -51,5 +51,5 @@ returns-clause-gives g c =
     let f = c.loop-turn.frame in
     let all = c.args.segments.now in
     sym c.loop-turn.invariant.same
-    ∙ turns_end (g.V.Lent.meaning f.place.value) (turns (segments_left all f.place.done)) f.turn f.next
+    ∙ turns_end (g.V.Lent.meaning f.reached.value) (turns (segments_left all f.reached.done)) f.turn f.next
     (sym c.in_default.ensures.gives)

@@ -2,7 +2,8 @@ use Rattle.std.proofs.Common.{◌≡◌, ◌≢◌, ◌+◌, ◌≤◌, true, So
 use Rattle.std.specs.List.{slice_get}
 use Rattle.std.proofs.lemmas.List.{length-map}
 use Rattle.jp_document.proofs.Descent.Items.{get_seen}
-use Rattle.jp_tree.specs.Tree.{selector_of, wildcard}
+use Rattle.jp_tree.specs.Tree.{wildcard}
+use Rattle.jp_tree.specs.Views.{selector_of}
 use Rattle.jp_tree.specs.declared.tree.Segment.{out-Segment}
 use Rattle.jp_evaluate.specs.Private.Walk.{segments_left, turns}
 use Rattle.jp_evaluate.proofs.Walks.Turns.{children_turn, left_there, no_turn}

@@ -154,9 +154,9 @@ OnOk_then (Ok x) step h = step h
 OnOk_then (Err e) step h = h
 
 -- a mark, a piece and a mark
-enclosed : (before piece opened written now : List ℕ) (left right : ℕ) →
-    opened ≡ before ++ left ∷ [] → written ≡ opened ++ piece → now ≡ written ++ right ∷ [] →
-    now ≡ before ++ left ∷ (piece ++ right ∷ [])
+enclosed : (before piece opened written now : List ℕ) (left right : ℕ)
+    → opened ≡ before ++ left ∷ [] → written ≡ opened ++ piece → now ≡ written ++ right ∷ []
+    → now ≡ before ++ left ∷ (piece ++ right ∷ [])
 enclosed before piece opened written now left right e f g =
     g ∙ ap (λ xs. xs ++ right ∷ []) (f ∙ ap (λ xs. xs ++ piece) e)
     ∙ ap (λ xs. xs ++ right ∷ []) (append_assoc before (left ∷ []) piece)
@@ -274,13 +274,13 @@ push_item-returns-in_ok-push_members-in-Members-clause-kept t c =
 
 -- ---- their parts
 
-next_item : (g : Item → Value) (xs : List Item) (i : ℕ) (d : Item) → i < length xs →
-    item_texts (items_of (map g (drop i xs)))
+next_item : (g : Item → Value) (xs : List Item) (i : ℕ) (d : Item) → i < length xs
+    → item_texts (items_of (map g (drop i xs)))
     ≡ text_of (g (get_or xs i d)) ∷ item_texts (items_of (map g (drop (i + 1) xs)))
 next_item g xs i d within = ap (λ ys. item_texts (items_of (map g ys))) (drop_more xs i d within)
 
-next_member : (g : Named → List ℕ × Value) (xs : List Named) (i : ℕ) (d : Named) → i < length xs →
-    member_texts (members_of (map g (drop i xs)))
+next_member : (g : Named → List ℕ × Value) (xs : List Named) (i : ℕ) (d : Named) → i < length xs
+    → member_texts (members_of (map g (drop i xs)))
     ≡ pair_text (g (get_or xs i d)) ∷ member_texts (members_of (map g (drop (i + 1) xs)))
 next_member g xs i d within = ap (λ ys. member_texts (members_of (map g ys))) (drop_more xs i d within)
 

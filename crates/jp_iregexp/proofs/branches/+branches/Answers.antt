@@ -3,7 +3,7 @@ use Rattle.std.proofs.Common.{◌∷◌, []}
 use Rattle.std.proofs.lemmas.Result.{err_from_is_err_and}
 use Rattle.jp_reading.specs.Characters as char
 use Rattle.jp_reading.specs.Outcome.{State, Outcome, each, took, is_at, passes, head}
-use Rattle.jp_reading.specs.Views.{by}
+use Rattle.jp_reading.specs.Views.{outcome_map}
 use Rattle.jp_reading.proofs.Folds.{folds_on, folds_end, folds_fail}
 use Rattle.jp_iregexp.specs.declared.pattern.Pattern.{Pattern}
 use Rattle.jp_iregexp.specs.Tree.{Tree, tree, branches, pieces}
@@ -23,8 +23,8 @@ next_branch-moves groups = moves-next_branch (inside_at groups) (keeps-inside gr
 pushed_on : (begins : State → Bool) (rule : State → Outcome Tree) → Progress rule
     → (whole : List Tree → Tree) (parts more : List Pattern) (x : Pattern) (p q : State)
     → begins p ≡ true → rule p ≡ took (tree x) q → more ≡ parts ++ x ∷ []
-    → by (λ xs. whole (map tree parts ++ xs)) (each begins rule p)
-    ≡ by (λ xs. whole (map tree more ++ xs)) (each begins rule q)
+    → outcome_map (λ xs. whole (map tree parts ++ xs)) (each begins rule p)
+    ≡ outcome_map (λ xs. whole (map tree more ++ xs)) (each begins rule q)
 pushed_on begins rule moves whole parts more x p q on read pushed =
     folds_on begins rule moves (λ xs. whole (map tree parts ++ xs))
     (λ xs. whole (map tree more ++ xs)) p q (tree x) on read

@@ -1,7 +1,7 @@
 use Rattle.std.proofs.Common.{◌≡◌, ◌+◌, ◌*◌, ◌++◌, length, map}
 use Rattle.jp_reading.specs.Characters as char
 use Rattle.jp_reading.specs.Outcome.{is_at, each}
-use Rattle.jp_reading.specs.Views.{by}
+use Rattle.jp_reading.specs.Views.{outcome_map}
 use Rattle.jp_iregexp.specs.Tree.{tree, branches, pieces}
 use Rattle.jp_iregexp.specs.Private.Reading.{inside_at, branches_at}
 use Rattle.jp_iregexp.specs.Private.Reading.{next_branch_at, branch_at, pieces_at}
@@ -28,7 +28,7 @@ decreases-group l = l.groups * 8 + 2
 abbrev pub invariant-branch-pieces : goal.invariant-branch-pieces
 invariant-branch-pieces l =
     branch_at (inside_at l.groups) l.initial.reader ≡
-    by (λ xs. pieces (map tree l.pieces.items ++ xs)) (pieces_at (inside_at l.groups) l.reader)
+    outcome_map (λ xs. pieces (map tree l.pieces.items ++ xs)) (pieces_at (inside_at l.groups) l.reader)
 
 abbrev pub decreases-branch-pieces : goal.decreases-branch-pieces
 decreases-branch-pieces l = length l.reader.rest
@@ -36,7 +36,7 @@ decreases-branch-pieces l = length l.reader.rest
 abbrev pub invariant-branches-branches : goal.invariant-branches-branches
 invariant-branches-branches l =
     branches_at (inside_at l.groups) l.fn.reader ≡
-    by (λ xs. branches (map tree l.branches.items ++ xs))
+    outcome_map (λ xs. branches (map tree l.branches.items ++ xs))
     (each (is_at char.bar) (next_branch_at (inside_at l.groups)) l.reader)
 
 abbrev pub decreases-branches-branches : goal.decreases-branches-branches

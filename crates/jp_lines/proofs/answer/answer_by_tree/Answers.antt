@@ -1,7 +1,7 @@
 use Rattle.std.proofs.Common.{subst, sym}
 use Rattle.jp_document.specs.Document.{IsDocument}
 use Rattle.jp_document.specs.DocumentValue.{lent_value}
-use Rattle.jp_tree.specs.Tree.{query_of}
+use Rattle.jp_tree.specs.Views.{query_of}
 use Rattle.jp_lines.proofs.LineLemmas.{answers-document, err-is, refuses-document, stops-document}
 use Rattle.jp_lines.proofs.answer.answer_by_tree.Goals as goal
 

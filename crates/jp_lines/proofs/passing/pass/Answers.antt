@@ -1,6 +1,6 @@
 use Rattle.std.proofs.Common.{◌≡◌, ◌++◌, ◌∷◌, [], refl, rules, sym, take, drop, suc, ◌∙◌}
 use Rattle.std.proofs.Common.{append_assoc, ap, arith}
-use Rattle.jp_tree.specs.Tree.{query_of}
+use Rattle.jp_tree.specs.Views.{query_of}
 use Rattle.jp_command.specs.declared.fault.Fault.TheVariants as fault
 use Rattle.jp_lines.specs.Lines.{newline}
 use Rattle.jp_lines.specs.declared.stop.Stop.TheVariants as stop

@@ -1,5 +1,5 @@
 use Rattle.std.proofs.Common.{◌≡◌, ℕ, List, ◌++◌, length}
-use Rattle.jp_tree.specs.Tree.{query_of}
+use Rattle.jp_tree.specs.Views.{query_of}
 use Rattle.jp_lines.specs.Private.Passing.{Keeps, PassesOn}
 use Rattle.jp_lines.proofs.passing.pass.Given as goal
 

@@ -1,6 +1,6 @@
 use Rattle.std.proofs.Common.{◌≡◌, ◌<◌, ◌++◌, [], refl, rules, take, length, arith}
 use Rattle.std.proofs.lemmas.Grind.{common_steps}
-use Rattle.jp_tree.specs.Tree.{query_of}
+use Rattle.jp_tree.specs.Views.{query_of}
 use Rattle.jp_lines.specs.Run.{RunsLines}
 use Rattle.jp_lines.specs.Private.Passing.{standing}
 use Rattle.jp_lines.proofs.Ending.{at_start, err-so, reads-end, reads-fail, reads-more, reads-none}

@@ -1,5 +1,5 @@
 use Rattle.std.proofs.Common.{◌≡◌, ℕ, List, vec_len}
-use Rattle.jp_tree.specs.Tree.{query_of}
+use Rattle.jp_tree.specs.Views.{query_of}
 use Rattle.jp_command.specs.Limits.{chunk_size}
 use Rattle.jp_lines.specs.Reads.{ReadsSome}
 use Rattle.jp_lines.specs.Private.Passing.{Keeps, Passes, standing}

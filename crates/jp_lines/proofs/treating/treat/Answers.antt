@@ -1,5 +1,5 @@
 use Rattle.std.proofs.Common.{sym, subst}
-use Rattle.jp_tree.specs.Tree.{query_of}
+use Rattle.jp_tree.specs.Views.{query_of}
 use Rattle.jp_lines.specs.Private.Treating.{StopsEnding}
 use Rattle.jp_lines.specs.declared.stop.Stop.TheVariants as stop
 use Rattle.jp_lines.proofs.LineLemmas.{err-is, stops-answering, stops-flushing, stops-refusing}

@@ -7,8 +7,8 @@ use Rattle.jp_match.proofs.Sets.Spans.{passes_first, passes_more, passes_all}
 use Rattle.jp_match.proofs.passing.pass.Goals as goal
 
 -- a place that the loop has not come to is read as it was
-unwritten : (t : Tree) (text : List ℕ) (from now : List Bool) (i : ℕ) (b : Bool) → i < length now →
-    b ≡ get_or now i b → Passes t text from now i → b ≡ get_or from i false
+unwritten : (t : Tree) (text : List ℕ) (from now : List Bool) (i : ℕ) (b : Bool) → i < length now
+    → b ≡ get_or now i b → Passes t text from now i → b ≡ get_or from i false
 unwritten t text from now i b below is so_far =
     is ∙ get_or_default now i b false below ∙ so_far.left i (omega arith)
 

@@ -1,11 +1,12 @@
-use Rattle.std.proofs.Common.{◌≡◌, ◌+◌, ◌*◌, ◌≤◌, ◌<◌, Bool, false, ◌||◌, List, length, drop, take, refl, sym, ap}
+use Rattle.std.proofs.Common.{◌≡◌, ◌+◌, ◌*◌, ◌≤◌, ◌<◌, Bool, false, ◌||◌, List, length, drop, take}
+use Rattle.std.proofs.Common.{refl, sym, ap}
 use Rattle.std.proofs.Common.{◌-◌, ◌++◌}
 use Rattle.std.proofs.Common.{◌∙◌, subst, arith, rules}
 use Rattle.std.proofs.lemmas.Bool.{leb-true, le-leb}
 use Rattle.std.proofs.lemmas.List.{get_or_default, with_items_is}
 use denote.Param.Weighed.{at_most}
 use Rattle.jp_iregexp.proofs.pattern.Pattern.TheLaws.{the_size}
-use Rattle.jp_iregexp.specs.declared.class.ClassItem.{ClassItem}
+use Rattle.jp_iregexp.specs.declared.class.ClassElement.{ClassElement}
 use Rattle.jp_iregexp.specs.Tree.{Tree, tree, class as class_tree}
 use Rattle.jp_iregexp.proofs.Trees.{tree_class, tree_either, tree_sequence, tree_repeat}
 use Rattle.jp_match.specs.declared.walk.Walk.{Walk}
@@ -16,14 +17,16 @@ use Rattle.jp_match.proofs.Bools.{is_false}
 use Rattle.jp_match.proofs.Patterns.Variants.{either_is, sequence_is, repeat_is}
 use Rattle.jp_match.proofs.Patterns.Items.{drop_item, drop_all}
 use Rattle.jp_match.proofs.Steps.Copies.{moves_copies, put_length}
-use Rattle.jp_match.proofs.Steps.Idle.{moves_idle_part, moves_idle_next, moves_unmarked, unmarked, unmarked_slice}
+use Rattle.jp_match.proofs.Steps.Idle.{moves_idle_part, moves_idle_next, moves_unmarked, unmarked}
+use Rattle.jp_match.proofs.Steps.Idle.{unmarked_slice}
 use Rattle.jp_match.proofs.Steps.Idle.{takes_empty}
 use Rattle.jp_match.proofs.Steps.Walking.{moves_entered}
 use Rattle.jp_match.proofs.Steps.Walking.{before_branch, before_piece, walked_next_branch}
 use Rattle.jp_match.proofs.Steps.Walking.{walked_next_piece, walked_branches, walked_pieces}
 use Rattle.jp_match.proofs.Steps.Repeating.{walked_begin}
 use Rattle.jp_match.proofs.Steps.Repeating.{before_copy, walked_copy, walked_copies, walked_still}
-use Rattle.jp_match.proofs.Steps.Repeating.{before_goes_on, walked_goes_on, before_plus, walked_plus}
+use Rattle.jp_match.proofs.Steps.Repeating.{before_goes_on, walked_goes_on, before_plus}
+use Rattle.jp_match.proofs.Steps.Repeating.{walked_plus}
 use Rattle.jp_match.proofs.Steps.Repeating.{before_star, moves_star, before_still}
 use Rattle.jp_match.proofs.Steps.Repeating.{walked_still_plus}
 use Rattle.jp_match.proofs.Steps.Rounding.{moves_class_plus, before_inner}
@@ -347,13 +350,13 @@ step_plus-step_rounds-requires t c = (
 )
 
 -- a walk stands before a class that is repeated
-record BeforeClass (negated : Bool) (items : List ClassItem) (walk : Walk) : Type 0 where
+record BeforeClass (negated : Bool) (items : List ClassElement) (walk : Walk) : Type 0 where
   within : walk.at < length walk.marks.items
   before : IsBefore (class negated items) walk
 
-before_class : (negated : Bool) (items : List ClassItem) (walk : Walk) {t : Tree} →
-    t ≡ class_tree negated items → IsBefore (plus (unrolled t)) walk →
-    BeforeClass negated items walk
+before_class : (negated : Bool) (items : List ClassElement) (walk : Walk) {t : Tree}
+    → t ≡ class_tree negated items → IsBefore (plus (unrolled t)) walk
+    → BeforeClass negated items walk
 unfolding unrolled
 before_class negated items walk {t} is h =
     let all : IsBefore (plus (class negated items)) walk = rw is at h in

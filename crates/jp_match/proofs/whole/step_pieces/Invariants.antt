@@ -9,8 +9,8 @@ abbrev pub invariant-loop-piece : goal.invariant-loop-piece
 invariant-loop-piece l = record {
   walked : Walked (unrolled (pieces (map tree l.parts))) (unrolled (pieces (map tree (drop
       l.piece-index l.parts)))) l.c l.entered l.through l.fn.walk l.walk nowhere;
-  ahead : (k : ℕ) → l.walk.at ≤ k →
-      get_or l.walk.marks.items k false ≡ get_or l.fn.walk.marks.items k false;
+  ahead : (k : ℕ) → l.walk.at ≤ k
+      → get_or l.walk.marks.items k false ≡ get_or l.fn.walk.marks.items k false;
   counted : l.walk.tests ≤ l.walk.at + l.fn.walk.tests;
   kept : l.fn.walk.tests ≤ l.walk.tests;
 }

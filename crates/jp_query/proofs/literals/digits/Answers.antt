@@ -1,6 +1,6 @@
 use Rattle.std.proofs.Common.{ℕ, true, ap, ◌∙◌}
 use Rattle.jp_query.proofs.Readers.Exits.{err_is}
-use Rattle.jp_reading.specs.Views.{by}
+use Rattle.jp_reading.specs.Views.{outcome_map}
 use Rattle.jp_query.proofs.Readers.WordsAndDigits.{digits-natural, digits-fail}
 use Rattle.jp_query.proofs.literals.digits.Goals as goal
 
@@ -11,4 +11,4 @@ returns-in_err-natural c =
 
 pub returns : goal.returns
 returns c =
-    digits-natural c.args.reader.now ∙ ap (by (λ (n : ℕ). true)) c.in_ok-natural.ensures.taken
+    digits-natural c.args.reader.now ∙ ap (outcome_map (λ (n : ℕ). true)) c.in_ok-natural.ensures.taken

@@ -1,7 +1,7 @@
 use Rattle.std.proofs.Common.{sym, ap, ◌∙◌}
 use Rattle.std.specs.Str.{chars}
 use Rattle.jp_query.specs.Levels.{level_limit}
-use Rattle.jp_tree.specs.Tree.{query_of}
+use Rattle.jp_tree.specs.Views.{query_of}
 use Rattle.jp_query.specs.Grammar.{Spells}
 use Rattle.jp_query.specs.Private.Reading.{query_at}
 use Rattle.jp_query.proofs.Soundness.Whole.{read-spells}

@@ -1,7 +1,7 @@
 use Rattle.std.proofs.Common.{◌≡◌, ◌+◌, ◌-◌, ◌*◌, ◌^◌, min, sym, ◌∙◌, ap, arith}
 use Rattle.std.proofs.lemmas.Result.{err_from_is_err_and}
 use Rattle.jp_reading.specs.Characters as char
-use Rattle.jp_reading.specs.Numbers.{capped, digit_at, is_at_digit}
+use Rattle.jp_reading.specs.NumberReading.{capped, digit_at, is_at_digit}
 use Rattle.jp_reading.proofs.Digits.{digit_at-progress, digits_at-first, digits_at-fails}
 use Rattle.jp_reading.proofs.Digits.{capped-digit, saturated}
 use Rattle.jp_reading.proofs.Folds.{folds_on, folds_end}

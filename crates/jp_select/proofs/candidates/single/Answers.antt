@@ -1,5 +1,5 @@
 use Rattle.std.proofs.Common.{sym, ap, ◌∙◌}
-use Rattle.jp_tree.specs.Tree.{selector_of}
+use Rattle.jp_tree.specs.Views.{selector_of}
 use Rattle.jp_select.specs.Selectors.{single}
 use Rattle.jp_select.proofs.Choosing.Entries.{single-name}
 use Rattle.jp_select.proofs.candidates.single.Goals as goal

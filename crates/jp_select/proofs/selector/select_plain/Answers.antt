@@ -5,7 +5,7 @@ use Rattle.std.proofs.lemmas.Option.{slice_get_within}
 use Rattle.jp_document.specs.DocumentValue.{lent_entry}
 use Rattle.jp_document.specs.Node.{node_of}
 use Rattle.jp_document.specs.Value.{value_of}
-use Rattle.jp_tree.specs.Tree.{selector_of}
+use Rattle.jp_tree.specs.Views.{selector_of}
 use Rattle.jp_select.specs.Selectors.{candidates}
 use Rattle.jp_select.proofs.Choosing.Nodes.{all_chosen, next_chosen, plain_chosen}
 use Rattle.jp_select.proofs.selector.select_plain.Goals as goal

@@ -1,7 +1,7 @@
 use Rattle.std.proofs.Common.{◌≡◌, ◌-◌, ◌++◌, drop, length, map}
 use Rattle.jp_document.specs.Node.{node_below, node_of}
 use Rattle.jp_document.specs.Value.{value_of}
-use Rattle.jp_tree.specs.Tree.{selector_of}
+use Rattle.jp_tree.specs.Views.{selector_of}
 use Rattle.jp_select.specs.Selectors.{candidates}
 use Rattle.jp_select.proofs.selector.select_plain.Given as goal
 

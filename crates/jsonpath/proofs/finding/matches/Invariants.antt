@@ -2,7 +2,7 @@ use Rattle.std.proofs.Common.{◌≡◌, ◌++◌, false, map}
 use Rattle.jp_document.specs.Document.{document_of}
 use Rattle.jp_evaluate.specs.Nodelist.{nodelist}
 use Rattle.jp_evaluate.specs.Rest.{has_failed, rest_of}
-use Rattle.jp_tree.specs.Tree.{query_of}
+use Rattle.jp_tree.specs.Views.{query_of}
 use Rattle.jsonpath.specs.Find.{match_texts, texts_of}
 use Rattle.jsonpath.proofs.finding.matches.Given as goal
 

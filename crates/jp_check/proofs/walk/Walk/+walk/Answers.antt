@@ -1,5 +1,5 @@
 use Rattle.std.proofs.Common.{◌≡◌, ◌∙◌, slice_get, rules}
-use Rattle.jp_check.proofs.Calls.{copied_item}
+use Rattle.jp_check.proofs.Calls.{copied_component}
 use Rattle.jp_check.proofs.Steps.{arguments-on, exprs-on, segments-on, selectors-on, sides-on}
 use Rattle.jp_check.proofs.Steps.{types-kept}
 use Rattle.jp_check.proofs.walk.Walk.+walk.Goals as goal
@@ -21,6 +21,6 @@ call-loop-index-preserved t c =
     let want : c.copied.result
     ≡ slice_get c.wanted_of_arguments-types.result.now c.loop-index.index =
     c.copied.ensures
-    ∙ copied_item c.wanted_of_arguments-types.result.now c.loop-index.index c.get.result
+    ∙ copied_component c.wanted_of_arguments-types.result.now c.loop-index.index c.get.result
     c.get.ensures.lookup in
     (search (rules, types-kept), search (rules, want, arguments-on))

@@ -1,6 +1,6 @@
 use Rattle.std.proofs.Common.{◌++◌, ap, map, drop, ◌+◌, ◌∙◌, sym}
 use Rattle.std.specs.List.{flat_map}
-use Rattle.jp_document.specs.Location.{key_of}
+use Rattle.jp_document.specs.Location.{step_of}
 use Rattle.jp_document.specs.Path.{step_text}
 use Rattle.jp_command.proofs.Fronts.{all_kept, left_after, spelled_more}
 use Rattle.jp_command.proofs.front.Front.turn_to.Goals as goal
@@ -14,9 +14,9 @@ loop-step-preserved c =
       kept =
           c.in_ok-push_step.ensures.ok
           ∙ spelled_more ks _ _ c.loop-step.invariant.kept
-          ∙ ap (λ l. flat_map step_text (map key_of l)) (sym c.in_ok-push.ensures.items);
+          ∙ ap (λ l. flat_map step_text (map step_of l)) (sym c.in_ok-push.ensures.items);
       rest =
-          ap (λ l. map key_of l ++ map key_of (drop (i + 1) rest)) c.in_ok-push.ensures.items
+          ap (λ l. map step_of l ++ map step_of (drop (i + 1) rest)) c.in_ok-push.ensures.items
           ∙ left_after ks rest i _ _ c.loop-step-test.true c.loop-step.invariant.rest;
     }
 

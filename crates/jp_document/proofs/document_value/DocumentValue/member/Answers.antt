@@ -4,7 +4,7 @@ use Rattle.jp_document.specs.DocumentValue.{lent_value}
 use Rattle.jp_document.specs.Location.{child, named}
 use Rattle.jp_document.specs.Value.{NamesRise, items_of, member_of, members_of, object, value_of}
 use Rattle.jp_document.specs.declared.value.Json.{List as ListOf}
-use Rattle.jp_document.proofs.Conjunctions.{and-left}
+use Rattle.jp_reading.proofs.Conjunctions.{and-left}
 use Rattle.jp_document.proofs.Descent.Entries.{document-names_rise}
 use Rattle.jp_document.proofs.Descent.Inside.{no_child_unless}
 use Rattle.jp_document.proofs.Descent.Items.{name_found}
@@ -17,7 +17,7 @@ pub returns-in-Ok : goal.returns-in-Ok
 returns-in-Ok c =
     let q = c.args.name.now in
     c.child.ensures.entry
-    ∙ name_found _ c.in-Members.members c.deref.result.now c.in-Ok.place q c.args.self.sound
+    ∙ name_found _ c.in-Members.members c.deref.result.now c.in-Ok.index q c.args.self.sound
     c.in-Members.is c.deref.ensures.value c.in-Ok.ensures.bound
     (c.in-Ok.ensures.position (λ m. bytes_cmp (member_of m).0 q)
     (always_returns_same _ _ _ (λ a r f k. search rules)))

@@ -1,5 +1,5 @@
 use Rattle.std.proofs.Common.{◌≡◌, map, reverse, sym, ap, ◌∙◌, subst, rules}
-use Rattle.jp_document.specs.Location.{owned_key}
+use Rattle.jp_document.specs.Location.{owned_step}
 use Rattle.jp_document.specs.Path.{path_of}
 use Rattle.jp_document.specs.Private.ValueFault.{IsFaultAt}
 use Rattle.jp_document.specs.declared.fault.DocumentFault.TheVariants.{NotWhole}
@@ -11,5 +11,5 @@ returns-in-Ok c =
     let steps = c.in-Fraction.steps in
     let turned : c.deref.result.now ≡ reverse steps.items = search rules in
     subst (λ s. IsFaultAt s (NotWhole c.in-Ok.path)) (sym c.in-Fraction.is)
-    (c.in-Ok.ensures ∙ ap (λ xs. path_of (map owned_key xs)) turned
-    ∙ ap path_of (map-reverse owned_key steps.items))
+    (c.in-Ok.ensures ∙ ap (λ xs. path_of (map owned_step xs)) turned
+    ∙ ap path_of (map-reverse owned_step steps.items))

@@ -1,5 +1,5 @@
 use Rattle.std.proofs.Common.{◌≡◌, drop}
-use Rattle.jp_tree.specs.Tree.{query_of}
+use Rattle.jp_tree.specs.Views.{query_of}
 use Rattle.jp_evaluate.specs.Nodelist.{nodelist_at, single_node_value}
 use Rattle.jp_evaluate.specs.Private.Asked.{asked}
 use Rattle.jp_evaluate.specs.Private.Singular.{values_along}

@@ -37,4 +37,4 @@ returns-in-Some-frame_offer-clause-gives g c =
     let v : Walk g.row.V.Denot = record { first = w.first; top = Some h; below = w.below } in
     frame_next m all _ w v f h (offered m all c.in-Some-frame_offer.offer) begun begun rest
     c.in-Some-top.is refl refl
-    c.frame_offer.ensures.place c.in-Some-frame_offer.ensures.gives
+    c.frame_offer.ensures.reached c.in-Some-frame_offer.ensures.gives

@@ -1,6 +1,6 @@
 use Rattle.jp_query.specs.Levels.{level_limit}
-use Rattle.jp_tree.specs.Tree.{query_of}
-use Rattle.jp_query.proofs.ItemSpans.{spans-of_items}
+use Rattle.jp_tree.specs.Views.{query_of}
+use Rattle.jp_query.proofs.ComponentSpans.{spans-of_components}
 use Rattle.jp_query.proofs.parsed.Parsed.spans.Goals as goal
 
 pub returns-clause-each : goal.returns-clause-each
@@ -10,6 +10,6 @@ returns-clause-each c =
     rw (c.deref.ensures.value, ← c.self.view_is) (
       text,
       spelled,
-      spans-of_items level_limit
+      spans-of_components level_limit
           (query_of c.self.inside.query) c.self.inside.spans.items text spelled,
     )

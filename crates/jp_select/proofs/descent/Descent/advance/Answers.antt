@@ -1,7 +1,7 @@
 use Rattle.std.proofs.Common.{[], ◌∷◌, ◌++◌, map, ap, ap₂, sym, ◌∙◌}
 use Rattle.std.proofs.lemmas.List.{append-nil}
 use Rattle.jp_document.specs.DocumentValue.{lent_value}
-use Rattle.jp_document.specs.Location.{key_of}
+use Rattle.jp_document.specs.Location.{step_of}
 use Rattle.jp_document.specs.Node.{node_at, node_of}
 use Rattle.jp_select.specs.Walk.{child_subtrees, frames_give}
 use Rattle.jp_select.proofs.Locations.{nodes-children}
@@ -30,7 +30,7 @@ returns-in-Some-child-clause-gives c =
     ∙ sym
     (ap₂ (λ n t. n ∷ t)
     (c.of.ensures
-    ∙ ap (λ steps. node_at (map key_of steps) (lent_value c.in-Some-child.value))
+    ∙ ap (λ steps. node_at (map step_of steps) (lent_value c.in-Some-child.value))
     (c.in_ok-location.ensures.items ∙ c.deref.ensures.value ∙ c.in_ok-push-3.ensures.items))
     (frames_left _ _ _ _ _ c.loop-frame.invariant.begun c.in_ok-push-3.ensures.items
     (c.in_ok-push-2.ensures.items

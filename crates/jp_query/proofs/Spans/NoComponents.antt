@@ -1,4 +1,4 @@
--- Texts without items: names, strings, numbers and words.
+-- Texts without components: names, strings, numbers and words.
 use Rattle.std.proofs.Common.{ℕ, Bool, [], ◌∷◌, codes}
 use Rattle.jp_tree.specs.declared.tree.Numeral.{Numeral}
 use Rattle.jp_reading.specs.Texts.{Text}
@@ -9,9 +9,10 @@ use Rattle.jp_tree.specs.Tree.{LiteralTree}
 use Rattle.jp_query.specs.Names.{is_name_first, is_name_char, Shorthand, shorthand}
 use Rattle.jp_query.specs.Strings.{is_escapable, is_hexdig, is_d, is_not_d, is_0_to_7, is_8_to_b}
 use Rattle.jp_query.specs.Strings.{is_c_to_f, Unit, digits, Hexchar, not_d, below_surrogates}
-use Rattle.jp_query.specs.Strings.{surrogates, Character, plain, escape, hex, Between, Quoted}
+use Rattle.jp_query.specs.Strings.{surrogates, StringCharacter, plain, escape, hex, Between, Quoted}
 use Rattle.jp_query.specs.Strings.{in_double, in_single}
-use Rattle.jp_query.specs.Ints.{is_leading_digit, Int, zero_int, positive_int}
+use Rattle.jp_query.specs.Ints.{Int, zero_int, positive_int}
+use Rattle.jp_reading.specs.Numbers.{is_leading_digit}
 use Rattle.jp_query.specs.Ints.{negative_int}
 use Rattle.jp_query.specs.Literals.{Optional, left_out, written, Decimals, decimals}
 use Rattle.jp_query.specs.Literals.{is_e, is_sign, Exponent, unsigned, signed, Mantissa, whole}
@@ -35,7 +36,7 @@ hexchar-bare c s o t (surrogates high low e h) =
     then-bare (unit-bare is_d is_8_to_b high) (then-bare (bare-word (codes "\\"))
     (then-bare (bare-word (codes "u")) (unit-bare is_d is_c_to_f low))) s o t h
 
-character-bare : (quote c : ℕ) → Bare (Character quote c)
+character-bare : (quote c : ℕ) → Bare (StringCharacter quote c)
 character-bare quote c s o t (plain h) = h.none
 character-bare quote c s o t (escape letter e h) =
     then-bare (bare-word (codes "\\")) (bare-one (is_escapable quote) letter) s o t h
@@ -45,7 +46,7 @@ character-bare quote c s o t (hex h) =
 between-bare : (quote : ℕ) (cs : Text) → Bare (Between quote cs)
 between-bare quote cs =
     then-bare (bare-word (quote ∷ []))
-    (then-bare (bare-each (Character quote) (character-bare quote) cs) (bare-word (quote ∷ [])))
+    (then-bare (bare-each (StringCharacter quote) (character-bare quote) cs) (bare-word (quote ∷ [])))
 
 pub quoted-bare : (cs : Text) → Bare (Quoted cs)
 quoted-bare cs s o t (in_double h) = between-bare double_quote cs s o t h

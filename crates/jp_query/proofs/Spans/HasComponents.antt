@@ -1,19 +1,20 @@
--- Forms whose texts have items, with their spans.
+-- Forms whose texts have components, with their spans.
 use Rattle.std.proofs.Common.{◌≡◌, ℕ, ◌+◌, ◌<◌, ◌≤◌, List, [], ◌∷◌, ◌++◌, Some, refl, sym, ap, ◌∙◌}
 use Rattle.std.proofs.Common.{subst, arith, append-nil, append_assoc}
 use Rattle.jp_reading.specs.Texts.{Text, Spans, bytes}
-use Rattle.jp_reading.specs.Forms.{Form, ◌⌢◌, Each, Blank, Separated, Item}
+use Rattle.jp_reading.specs.Forms.{Form, ◌⌢◌, Each, Blank, Separated, Component}
 use Rattle.jp_reading.proofs.Bare.{Bare, bare-word}
 use Rattle.jp_reading.proofs.Between.{bytes-append}
-use Rattle.jp_query.specs.Items.{QueryItem}
+use Rattle.jp_query.specs.Components.{QueryComponent}
 use Rattle.jp_reading.specs.declared.span.Span.{Span}
-use Rattle.jp_query.specs.ItemSpans.{SpellsItem, IsSpanOf, EachSpanned, AllComeAfter, Rise}
+use Rattle.jp_query.specs.ComponentSpans.{SpellsComponent, IsSpanOf, EachSpanned, AllComeAfter}
+use Rattle.jp_query.specs.ComponentSpans.{Rise}
 use Rattle.jp_query.proofs.Spans.RisingSpans.{StartWithin, within-wider, within-append}
 use Rattle.jp_query.proofs.Spans.RisingSpans.{comes_after-within, after-sooner, after-append}
 use Rattle.jp_query.proofs.Spans.RisingSpans.{rise-append}
 use Rattle.jp_query.proofs.Spans.Written.{Written}
 
-pub each_spanned-append : (text : Text) (xs ys : List QueryItem) (s t : Spans)
+pub each_spanned-append : (text : Text) (xs ys : List QueryComponent) (s t : Spans)
     → EachSpanned text xs s
     → EachSpanned text ys t → EachSpanned text (xs ++ ys) (s ++ t)
 each_spanned-append text [] ys [] t h g = g
@@ -22,7 +23,7 @@ each_spanned-append text (x ∷ xs) ys [] t h g = absurd h
 each_spanned-append text (x ∷ xs) ys (one ∷ s) t h g =
     (h.0, each_spanned-append text xs ys s t h.1 g)
 
--- ---- forms that have items
+-- ---- forms that have components
 
 -- the text t stands in the whole text from byte o on
 pub record Part (text : Text) (o : ℕ) (t : Text) : Type 0 where
@@ -31,17 +32,17 @@ pub record Part (text : Text) (o : ℕ) (t : Text) : Type 0 where
   pub is : text ≡ before ++ t ++ after
   pub at : o ≡ bytes before
 
--- the items have these spans, which rise within the text t from byte o on
-pub record Placed (text : Text) (items : List QueryItem) (s : Spans) (o : ℕ) (t : Text)
+-- the components have these spans, which rise within the text t from byte o on
+pub record Placed (text : Text) (components : List QueryComponent) (s : Spans) (o : ℕ) (t : Text)
     : Type 0 where
-  pub each : EachSpanned text items s
+  pub each : EachSpanned text components s
   pub rise : Rise s
   pub within : StartWithin o (o + bytes t) s
 
--- wherever a text of the form is, it has these items
-abbrev pub HasItems : Form → List QueryItem → Type 0
-HasItems P items =
-    (text : Text) (s : Spans) (o : ℕ) (t : Text) → P s o t → Part text o t → Placed text items s o t
+-- wherever a text of the form is, it has these components
+abbrev pub HasComponents : Form → List QueryComponent → Type 0
+HasComponents P components =
+    (text : Text) (s : Spans) (o : ℕ) (t : Text) → P s o t → Part text o t → Placed text components s o t
 
 pub part-first : (text : Text) (o : ℕ) (t u : Text) → Part text o (t ++ u) → Part text o t
 part-first text o t u p = record {
@@ -61,7 +62,7 @@ part-second text o t u p = record {
   at = ap (λ n. n + bytes t) p.at ∙ sym (bytes-append p.before t);
 }
 
-pub placed-append : (text : Text) (xs ys : List QueryItem) (s r : Spans) (o : ℕ) (t u : Text)
+pub placed-append : (text : Text) (xs ys : List QueryComponent) (s r : Spans) (o : ℕ) (t u : Text)
     → Placed text xs s o t → Placed text ys r (o + bytes t) u
     → Placed text (xs ++ ys) (s ++ r) o (t ++ u)
 placed-append text xs ys s r o t u h g =
@@ -79,47 +80,47 @@ placed-append text xs ys s r o t u h g =
           (within-wider middle (middle + bytes u) o end start two r g.within);
     }
 
-pub bare-has_items : {P : Form} → Bare P → HasItems P []
-bare-has_items bare text s o t h p =
+pub bare-has_components : {P : Form} → Bare P → HasComponents P []
+bare-has_components bare text s o t h p =
     rw (bare s o t h) (record { each = tt; rise = tt; within = tt })
 
-pub joined-has_items : {P Q : Form} {xs ys : List QueryItem} → HasItems P xs → HasItems Q ys
-    → HasItems (P ⌢ Q) (xs ++ ys)
-joined-has_items {xs} {ys} f g text s o t h p =
+pub joined-has_components : {P Q : Form} {xs ys : List QueryComponent} → HasComponents P xs → HasComponents Q ys
+    → HasComponents (P ⌢ Q) (xs ++ ys)
+joined-has_components {xs} {ys} f g text s o t h p =
     let whole : Part text o (h.first ++ h.second) = subst (Part text o) h.is p in
     rw (h.spans, h.is) (placed-append text xs ys h.first_spans h.second_spans o h.first h.second
     (f text h.first_spans o h.first h.one (part-first text o h.first h.second whole))
     (g text h.second_spans (o + bytes h.first) h.second h.two
     (part-second text o h.first h.second whole)))
 
--- with a form that has no items before or after it
-pub after-bare : {P Q : Form} {xs : List QueryItem} → Bare P → HasItems Q xs → HasItems (P ⌢ Q) xs
-after-bare bare f = joined-has_items (bare-has_items bare) f
+-- with a form that has no components before or after it
+pub after-bare : {P Q : Form} {xs : List QueryComponent} → Bare P → HasComponents Q xs → HasComponents (P ⌢ Q) xs
+after-bare bare f = joined-has_components (bare-has_components bare) f
 
-pub before-bare : {P Q : Form} {xs : List QueryItem} → HasItems P xs → Bare Q → HasItems (P ⌢ Q) xs
+pub before-bare : {P Q : Form} {xs : List QueryComponent} → HasComponents P xs → Bare Q → HasComponents (P ⌢ Q) xs
 before-bare {P} {Q} {xs} f bare =
-    subst (HasItems (P ⌢ Q)) (append-nil xs) (joined-has_items f (bare-has_items bare))
+    subst (HasComponents (P ⌢ Q)) (append-nil xs) (joined-has_components f (bare-has_components bare))
 
 pub blank-bare : Bare Blank
 blank-bare s o t h = h.none
 
--- the parts of a list, whose items come one after another
-module _ {A : Type 0} (one : A → List QueryItem) (all : List A → List QueryItem)
+-- the parts of a list, whose components come one after another
+module _ {A : Type 0} (one : A → List QueryComponent) (all : List A → List QueryComponent)
     (none : all [] ≡ []) (cons : (x : A) (xs : List A) → all (x ∷ xs) ≡ one x ++ all xs) where
-  pub each-has_items : {P : A → Form} → ((x : A) → HasItems (P x) (one x)) → (xs : List A)
-      → HasItems (Each P xs) (all xs)
-  each-has_items f [] = rw none (bare-has_items (bare-word []))
-  each-has_items f (x ∷ xs) = rw (cons x xs) (joined-has_items (f x) (each-has_items f xs))
+  pub each-has_components : {P : A → Form} → ((x : A) → HasComponents (P x) (one x)) → (xs : List A)
+      → HasComponents (Each P xs) (all xs)
+  each-has_components f [] = rw none (bare-has_components (bare-word []))
+  each-has_components f (x ∷ xs) = rw (cons x xs) (joined-has_components (f x) (each-has_components f xs))
 
-  pub separated-has_items : {w : Form} {P : A → Form} → Bare w → ((x : A) → HasItems (P x) (one x))
-      → (xs : List A) → HasItems (Separated w P xs) (all xs)
-  separated-has_items bare f [] = λ text s o t h p. absurd h
-  separated-has_items bare f (x ∷ xs) =
-      rw (cons x xs) (joined-has_items (f x) (each-has_items (λ y. after-bare bare (f y)) xs))
+  pub separated-has_components : {w : Form} {P : A → Form} → Bare w → ((x : A) → HasComponents (P x) (one x))
+      → (xs : List A) → HasComponents (Separated w P xs) (all xs)
+  separated-has_components bare f [] = λ text s o t h p. absurd h
+  separated-has_components bare f (x ∷ xs) =
+      rw (cons x xs) (joined-has_components (f x) (each-has_components (λ y. after-bare bare (f y)) xs))
 
--- ---- items
+-- ---- components
 
-pub own-span : (text : Text) (x : QueryItem) (o : ℕ) (t : Text) → Part text o t → SpellsItem x o t
+pub own-span : (text : Text) (x : QueryComponent) (o : ℕ) (t : Text) → Part text o t → SpellsComponent x o t
     → IsSpanOf text x (record { start = o; end = o + bytes t })
 own-span text x o t p h = record {
   before = p.before;
@@ -131,43 +132,43 @@ own-span text x o t p h = record {
   spells = h;
 }
 
--- an item and those inside it, which come after it
-pub item-over : (text : Text) (x : QueryItem) (xs : List QueryItem) (inside : Spans) (o : ℕ)
-    (t : Text) → Part text o t → SpellsItem x o t → 0 < bytes t → EachSpanned text xs inside
+-- a component and those inside it, which come after it
+pub component-over : (text : Text) (x : QueryComponent) (xs : List QueryComponent) (inside : Spans) (o : ℕ)
+    (t : Text) → Part text o t → SpellsComponent x o t → 0 < bytes t → EachSpanned text xs inside
     → Rise inside → AllComeAfter (record { start = o; end = o + bytes t }) inside
     → StartWithin o (o + bytes t) inside
     → Placed text (x ∷ xs) (Some (record { start = o; end = o + bytes t }) ∷ inside) o t
-item-over text x xs inside o t p h written each rise after within = record {
+component-over text x xs inside o t p h written each rise after within = record {
   each = (own-span text x o t p h, each);
   rise = (after, rise);
   within = (omega arith, omega (arith, written), omega arith, within);
 }
 
 -- and those inside it, which start after it
-pub item-placed : (text : Text) (x : QueryItem) (xs : List QueryItem) (inside : Spans) (o : ℕ)
-    (t : Text) → Part text o t → SpellsItem x o t → 0 < bytes t
+pub component-placed : (text : Text) (x : QueryComponent) (xs : List QueryComponent) (inside : Spans) (o : ℕ)
+    (t : Text) → Part text o t → SpellsComponent x o t → 0 < bytes t
     → EachSpanned text xs inside → Rise inside → StartWithin (o + 1) (o + bytes t) inside
     → Placed text (x ∷ xs) (Some (record { start = o; end = o + bytes t }) ∷ inside) o t
-item-placed text x xs inside o t p h written each rise within =
+component-placed text x xs inside o t p h written each rise within =
     let own : Span = record { start = o; end = o + bytes t } in
     let low : o ≤ o + 1 = omega arith in
     let high : o + bytes t ≤ o + bytes t = omega arith in
-    item-over text x xs inside o t p h written each rise
+    component-over text x xs inside o t p h written each rise
     (comes_after-within own (o + 1) (o + bytes t) (omega arith) inside within)
     (within-wider (o + 1) (o + bytes t) o (o + bytes t) low high inside within)
 
--- an item with none inside it
-pub leaf-has_items : {P : Form} (x : QueryItem) → Bare P → Written P
-    → ((o : ℕ) (t : Text) → P [] o t → SpellsItem x o t) → HasItems (Item P) (x ∷ [])
-leaf-has_items {P} x bare written spells text s o t h p =
+-- a component with none inside it
+pub leaf-has_components : {P : Form} (x : QueryComponent) → Bare P → Written P
+    → ((o : ℕ) (t : Text) → P [] o t → SpellsComponent x o t) → HasComponents (Component P) (x ∷ [])
+leaf-has_components {P} x bare written spells text s o t h p =
     let none = bare h.inside o t h.is in
     let own : P [] o t = subst (λ (r : Spans). P r o t) none h.is in
     rw (h.spans, none)
-    (item-placed text x [] [] o t p (spells o t own) (written [] o t own) tt tt tt)
+    (component-placed text x [] [] o t p (spells o t own) (written [] o t own) tt tt tt)
 
--- ---- forms whose items come after the whole text of the form
+-- ---- forms whose components come after the whole text of the form
 
--- each text of the form takes a byte at least, and its items start after its first byte
+-- each text of the form takes a byte at least, and its components start after its first byte
 abbrev pub Later : Form → Type 0
 Later P =
     (text : Text) (s : Spans) (o : ℕ) (t : Text) → P s o t → Part text o t
@@ -195,7 +196,7 @@ later-blank later text s o t h p =
           (o + bytes t) low high h.second_spans two.1,
     )
 
-pub later-with : {P Q : Form} {ys : List QueryItem} → Later P → HasItems Q ys → Later (P ⌢ Q)
+pub later-with : {P Q : Form} {ys : List QueryComponent} → Later P → HasComponents Q ys → Later (P ⌢ Q)
 later-with later f text s o t h p =
     let whole : Part text o (h.first ++ h.second) = subst (Part text o) h.is p in
     let size = ap bytes h.is ∙ bytes-append h.first h.second in
@@ -216,24 +217,24 @@ later-with later f text s o t h p =
           (o + bytes t) low high h.second_spans body.within),
     )
 
--- a form without items, and one with
+-- a form without components, and one with
 later-bare : {P : Form} → Bare P → Written P → Later P
 later-bare bare written text s o t h p = rw (bare s o t h) (written s o t h, tt)
 
-pub later-word : {P Q : Form} {ys : List QueryItem} → Bare P → Written P → HasItems Q ys
+pub later-word : {P Q : Form} {ys : List QueryComponent} → Bare P → Written P → HasComponents Q ys
     → Later (P ⌢ Q)
 later-word bare written f = later-with (later-bare bare written) f
 
--- an item whose own text begins before the items inside it
-pub item-after : {P Q : Form} {xs : List QueryItem} (x : QueryItem) → Bare P → Written P
-    → HasItems Q xs
-    → (text : Text) (s : Spans) (o : ℕ) (t : Text) → SpellsItem x o t → Item (P ⌢ Q) s o t
+-- a component whose own text begins before the components inside it
+pub component-after : {P Q : Form} {xs : List QueryComponent} (x : QueryComponent) → Bare P → Written P
+    → HasComponents Q xs
+    → (text : Text) (s : Spans) (o : ℕ) (t : Text) → SpellsComponent x o t → Component (P ⌢ Q) s o t
     → Part text o t → Placed text (x ∷ xs) s o t
-item-after {xs} x bare written f text s o t spelled h p =
+component-after {xs} x bare written f text s o t spelled h p =
     let body = after-bare bare f text h.inside o t h.is p in
     let later = later-word bare written f text h.inside o t h.is p in
     rw h.spans
-    (item-placed text x xs h.inside o t p spelled later.0 body.each body.rise later.1)
+    (component-placed text x xs h.inside o t p spelled later.0 body.each body.rise later.1)
 
 pub sooner-later : {P : Form} → Later P → Sooner P
 sooner-later later text s o t h p =
@@ -244,7 +245,7 @@ sooner-later later text s o t h p =
     )
 
 -- a form that others follow
-pub sooner-first : {P Q : Form} {xs : List QueryItem} → HasItems P xs → Later Q → Sooner (P ⌢ Q)
+pub sooner-first : {P Q : Form} {xs : List QueryComponent} → HasComponents P xs → Later Q → Sooner (P ⌢ Q)
 sooner-first f later text s o t h p =
     let own : Span = record { start = o; end = o + bytes t } in
     let whole : Part text o (h.first ++ h.second) = subst (Part text o) h.is p in

@@ -1,4 +1,4 @@
--- The trees of some values of the program.
+-- The trees of the program's values, one layer at a time.
 use Rattle.std.proofs.Common.{◌≡◌, map, rules}
 use Rattle.std.specs.Str.{chars}
 use Rattle.std.specs.String.{string_bytes}
@@ -7,13 +7,19 @@ use Rattle.jp_tree.specs.declared.tree.Expr.{the_lemmas}
 use Rattle.jp_tree.specs.declared.tree.Expr.TheVariants.{Compare}
 use Rattle.jp_tree.specs.declared.tree.Op.{Op}
 use Rattle.jp_tree.specs.declared.tree.Operand.{Operand}
+use Rattle.jp_tree.specs.declared.tree.Query.{Query, out-Query}
 use Rattle.jp_tree.specs.declared.tree.Segment.{Segment, out-Segment}
-use Rattle.jp_tree.specs.Tree.{argument_of, arguments, call, call_of, comparison, expr_of}
-use Rattle.jp_tree.specs.Tree.{operand_of, segment, segment_of, selector_of, selectors}
+use Rattle.jp_tree.specs.Tree.{arguments, call, comparison, query, segment, segments, selectors}
+use Rattle.jp_tree.specs.Views.{argument_of, call_of, expr_of, operand_of, query_of, segment_of}
+use Rattle.jp_tree.specs.Views.{selector_of}
 
 pub expr_of-Compare : (left right : Operand) (op : Op)
     → expr_of (Compare left op right) ≡ comparison (operand_of left) op (operand_of right)
 expr_of-Compare left right op = search (rules, the_lemmas)
+
+pub query_of-is : (q : Query)
+    → query_of q ≡ query (out-Query q).absolute (segments (map segment_of (out-Query q).segments.items))
+query_of-is q = search (rules, the_lemmas)
 
 pub segment_of-is : (s : Segment)
     → segment_of s ≡ segment (out-Segment s).descendant
