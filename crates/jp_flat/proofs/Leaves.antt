@@ -1,15 +1,21 @@
 -- What single tokens are read as: for `value`.
 use Rattle.std.proofs.Common.{◌≡◌, ◌-◌, ◌<◌, ℕ, zero, suc, Bool, true, List, [], ◌∷◌, Some, length}
 use Rattle.std.proofs.Common.{option_map, refl, sym, ap, subst, ◌∙◌, arith, false, pos, negsuc, drop}
-use Rattle.std.proofs.Common.{◌==◌, slice_index, None}
-use Rattle.fast_float.specs.Text.{minus, scan}
+use Rattle.std.proofs.Common.{◌==◌, ◌^◌, ◌&&◌, nat_lt, slice_index, None}
+use Rattle.std.specs.Str.Parse.{AllDigits, digits_value}
+use Rattle.std.proofs.lemmas.Bool.{and_from, cond-true, lt-ltb}
+use Rattle.std.proofs.lemmas.Bool.Decides.{nat_tests}
+use Rattle.std.proofs.lemmas.Float.Parse.{scan_numeral-text_of}
+use Rattle.std.proofs.lemmas.List.{append-nil}
+use Rattle.std.proofs.lemmas.Str.Parse.{digit_at}
+use Rattle.fast_float.specs.Text.{IsWellFormed, Parts, digits_of, minus, scan, text_of}
 use Rattle.json.specs.Json as json
 use Rattle.json.specs.Json.{after_end_array, items, members, parse_map, value}
 use Rattle.json.specs.Token.{Token}
 use Rattle.json.proofs.Grammar.{value_is, value-begin_array, value-begin_object}
 use Rattle.serde_json.specs.Data as parsed
 use Rattle.serde_json.specs.Data.{negative, unsigned}
-use Rattle.serde_json.specs.Read.{converted, number_from, of_items, of_json, of_members}
+use Rattle.serde_json.specs.Read.{converted, is_integer, number_from, of_items, of_json, of_members}
 use Rattle.jp_document.specs.Private.Direct.{ReadsItems, ReadsMembers, ReadsValue}
 use Rattle.jp_document.specs.Value.{Value, null, boolean, text, whole, list, object}
 use Rattle.jp_document.specs.Value.{items_of, members_of}
@@ -71,6 +77,42 @@ below_item s n h first read is = record {
   written = below_zero_text s (negsuc n) (negsuc (number_of h)) first read (ap negsuc (sym is));
   means = λ m t. below_means m t h;
 }
+
+-- digits alone are read as the number that they write
+digits_read : (s : List ℕ) (n : ℕ) → 0 < length s → AllDigits 10 s → digits_value 10 s ≡ n
+    → n < 2 ^ 64 → number_from false (scan s) ≡ Some (unsigned n)
+digits_read [] n some digits is fits = absurd (omega (arith, some))
+digits_read (c ∷ cs) n some digits write fits =
+    let p : Parts = record {
+      whole = c ∷ cs;
+      point = false;
+      fraction = [];
+      exponent_negative = false;
+      exponent = [];
+      len = length (c ∷ cs);
+    } in
+    let written : text_of p ≡ c ∷ cs = append-nil (c ∷ cs) in
+    let well : IsWellFormed p = record {
+      whole_digits = digits;
+      fraction_digits = tt;
+      exponent_digits = tt;
+      no_point = λ e. refl;
+      no_exponent = λ e. refl;
+      len_is = ap length (sym written);
+    } in
+    let is : digits_of p ≡ n = ap (digits_value 10) (append-nil (c ∷ cs)) ∙ write in
+    ap (λ t. number_from false (scan t)) (sym written)
+    ∙ ap (number_from false) (scan_numeral-text_of p well)
+    ∙ cond-true (is_integer p && nat_lt (digits_of p) (2 ^ 64)) _ _
+    (and_from _ _ (and_from _ _ (and_from _ _ (lt-ltb _ _ some) refl) refl)
+    (lt-ltb (digits_of p) (2 ^ 64) (omega (arith, is, fits))))
+    ∙ ap (λ k. Some (unsigned k)) is
+
+pub digits_item : (s : List ℕ) (n : ℕ) (h : Halves) → 0 < length s → AllDigits 10 s
+    → digits_value 10 s ≡ n → n < 2 ^ 64 → number_of h ≡ n → IsWholeItem s (code.Above h)
+digits_item s n h some digits write fits is =
+    let first = digit_at s 0 digits some in
+    above_item s n h (grind (arith, nat_tests, first)) (digits_read s n some digits write fits) is
 
 -- ---- tokens
 

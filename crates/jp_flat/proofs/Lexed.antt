@@ -5,7 +5,7 @@ use Rattle.std.proofs.Common.{List, [], ◌∷◌, ◌++◌, length, take, drop,
 use Rattle.std.proofs.Common.{option_and_then, refl, sym, ap, ◌∙◌, arith}
 use Rattle.std.proofs.lemmas.Bool.{not-true, or_parts}
 use Rattle.std.proofs.lemmas.List.{append_assoc, append-nil, drop_more, drop-drop, drop-take}
-use Rattle.std.proofs.lemmas.List.{take-append-drop}
+use Rattle.std.proofs.lemmas.List.{length-drop, length-take-le, take-append-drop}
 use Rattle.std.specs.Char.{encode_utf8}
 use Rattle.std.specs.List.{prefix_len}
 use Rattle.json.specs.Lex.{Mode, Lexeme, between, in_escape, in_string, lex, lex_byte}
@@ -15,6 +15,7 @@ use Rattle.json.specs.Text.{Within, after_backslash, after_high, after_u, code_u
 use Rattle.json.specs.Text.{is_high_surrogate, is_low_surrogate, plain, prepend, short_escape}
 use Rattle.json.specs.Text.{surrogate_pair}
 use Rattle.json.specs.Word.{is_operator, is_space}
+use Rattle.jp_flat.specs.Private.Tokens.{StandsAt}
 
 -- ---- bytes of a text that stand for themselves
 
@@ -110,6 +111,14 @@ plain_text d from to is within quote =
     read_to d from to is
     ∙ ap (prepend (take (to - from) (drop from d))) (read_ends d to within quote)
     ∙ ap Some (append-nil _)
+
+-- a part of a text stands where it is cut
+pub part_stands : (d : List ℕ) (first end : ℕ) → first ≤ end → end ≤ length d
+    → StandsAt d first (take (end - first) (drop first d))
+part_stands d first end after within =
+    let long : length (take (end - first) (drop first d)) ≡ end - first =
+    length-take-le (end - first) (drop first d) (omega (arith, length-drop first d)) in
+    record { within = omega (arith, long); is = ap (λ n. take n (drop first d)) long }
 
 -- ---- a text with escapes is read alike whatever stands behind its last quote
 

@@ -1,5 +1,6 @@
 pub mod Blocks
 pub mod ByName
+pub mod Digits
 pub mod Documents
 pub mod Growth
 pub mod Inside
@@ -11,3 +12,4 @@ pub mod Names
 pub mod Printed
 pub mod Punctuated
 pub mod Putting
+pub mod Searched

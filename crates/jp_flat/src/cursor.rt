@@ -1,10 +1,10 @@
 //! A place in a text, and the token that stands there.
-ghost use Rattle.std.specs.Prelude.{◌≡◌, ◌∷◌, [], true, IfSome, Some};
+ghost use Rattle.std.specs.Prelude.{◌≡◌, ◌∷◌, [], true, IfSome, OnSome, Some};
 ghost use Rattle.std.specs.Bool.{MatchBool};
 ghost use Rattle.json.specs.Align.{is_good};
 ghost use Rattle.json.specs.Json.{after_end_array};
 ghost use Rattle.json.specs.Lex.{may_begin, may_close, tokens};
-ghost use Rattle.jp_flat.specs.Private.Tokens.{ReadsName, token_of, turn_of};
+ghost use Rattle.jp_flat.specs.Private.Tokens.{ReadsName, StandsIn, TokenHolds, token_of, turn_of};
 
 use crate::blanks::past_blanks;
 use crate::lexing::{passed, token_at};
@@ -26,7 +26,7 @@ pub(crate) struct Place {
     pub(crate) turn: Turn,
 }
 
-/// A text from a place on. A clause sees the tokens that are left.
+/// A text from a place on. A clause sees the text and the tokens that are left.
 #[derive(Drop)]
 pub(crate) struct Cursor<'t> {
     bytes: &'t [u8],
@@ -34,15 +34,14 @@ pub(crate) struct Cursor<'t> {
 }
 
 impl<'t> Model for Cursor<'t> {
-    ghost use Rattle.std.specs.Prelude.{◌≤◌, List, length};
-    ghost use Rattle.json.specs.Token.{Token as SpecToken, tokens_code};
-    ghost use Rattle.jp_flat.specs.Private.Tokens.{tokens_from};
+    ghost use Rattle.std.specs.Prelude.{◌≤◌, length};
+    ghost use Rattle.jp_flat.specs.Private.Tokens.{Rest, rest_code, tokens_from};
 
-    ghost Value = { List SpecToken };
+    ghost Value = { Rest };
 
-    ghost coded = { tokens_code };
+    ghost coded = { rest_code };
 
-    ghost view = { λ a. tokens_from a.bytes.now a.place };
+    ghost view = { λ a. record { text = a.bytes.now; tokens = tokens_from a.bytes.now a.place } };
 
     ghost invariant = { λ a. a.place.at ≤ length a.bytes.now };
 }
@@ -50,7 +49,8 @@ impl<'t> Model for Cursor<'t> {
 impl<'t> Cursor<'t> {
     /// The start of a text.
     pub(crate) fn new(bytes: &'t [u8]) -> Cursor<'t>
-        ensures { result ≡ tokens bytes.now }
+        ensures tokens { result.tokens ≡ tokens bytes.now }
+        ensures text { result.text ≡ bytes.now }
     {
         Cursor {
             bytes,
@@ -65,18 +65,23 @@ impl<'t> Cursor<'t> {
     /// text whose escapes are none is found only where it is unescaped.
     #[inline(always)]
     pub(crate) fn next(&mut self) -> Option<Token<'t>>
-        ensures { IfSome result (λ t. is_good (token_of t) ≡ true
-            → self.old ≡ token_of t ∷ self.new) }
+        ensures reads { IfSome result (λ t. is_good (token_of t) ≡ true
+            → self.old.tokens ≡ token_of t ∷ self.new.tokens) }
+        ensures stands { IfSome result (TokenHolds self.old.text) }
+        ensures text { self.new.text ≡ self.old.text }
     {
         let (token, place) = token_at(self.bytes, self.place)?;
-        self.place = place;
+        self.place.at = place.at;
+        self.place.turn = place.turn;
         Some(token)
     }
 
     /// The next name, or None in it at the end of an object.
     #[inline(always)]
     pub(crate) fn next_name(&mut self) -> Option<Option<Spelled<'t>>>
-        ensures { IfSome result (ReadsName self.old self.new) }
+        ensures reads { IfSome result (ReadsName self.old.tokens self.new.tokens) }
+        ensures stands { IfSome result (λ o. IfSome o (StandsIn self.old.text)) }
+        ensures text { self.new.text ≡ self.old.text }
     {
         let token = self.next()?;
         match token {
@@ -89,12 +94,15 @@ impl<'t> Cursor<'t> {
     /// Takes the end of a list, if it stands here.
     #[inline(always)]
     pub(crate) fn take_end_array(&mut self) -> bool
-        ensures { MatchBool result (after_end_array self.old ≡ Some self.new)
+        ensures takes { MatchBool result (after_end_array self.old.tokens ≡ Some self.new.tokens)
             (self.new ≡ self.old) }
+        ensures text { self.new.text ≡ self.old.text }
     {
         let at = self.place.at;
         if at < self.bytes.len() && self.bytes[at] == b']' && may_close(self.place.turn) {
-            self.place = passed(self.bytes, at + 1);
+            let place = passed(self.bytes, at + 1);
+            self.place.at = place.at;
+            self.place.turn = place.turn;
             return true;
         }
         false
@@ -102,7 +110,7 @@ impl<'t> Cursor<'t> {
 
     /// Whether the text ends here, as it may.
     pub(crate) fn is_done(&self) -> bool
-        ensures { result ≡ true → self.now ≡ [] }
+        ensures { result ≡ true → self.now.tokens ≡ [] }
     {
         self.place.at == self.bytes.len() && may_close(self.place.turn)
     }

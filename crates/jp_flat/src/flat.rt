@@ -8,7 +8,7 @@ use crate::cursor::Cursor;
 use crate::flat_value::FlatValue;
 use crate::item::{Item, Named};
 use crate::reading::{Pending, value};
-use crate::tables::{MAX_DEPTH, Tables};
+use crate::tables::{MAX_DEPTH, Tables, parts_in};
 use std::alloc::Global;
 
 /// A document in tables, which are made of its text: `Document` without a tree.
@@ -83,6 +83,7 @@ impl Room {
         let mut pending = self.pending;
         let mut tables = Tables::of(text, self.spare, self.items, self.members);
         pending.clear();
+        pending.reserve(parts_in(bytes, 16));
         let read = root(&mut tables, &mut pending);
         match read {
             Some(root) => Ok(Flat {

@@ -3,7 +3,7 @@ ghost use Rattle.std.specs.Prelude.{◌≡◌, ◌<◌, ◌∷◌, IfSome, OnSom
 ghost use Rattle.json.specs.Align.{is_good};
 ghost use Rattle.jp_flat.specs.Flat.{Grows, shown};
 ghost use Rattle.jp_flat.specs.Private.Reading.{ReadsLeaf, ReadsLeaves};
-ghost use Rattle.jp_flat.specs.Private.Tokens.{token_of};
+ghost use Rattle.jp_flat.specs.Private.Tokens.{TokenHolds, token_of};
 
 use crate::cursor::Cursor;
 use crate::item::Item;
@@ -20,10 +20,12 @@ pub(crate) fn leaves<'a>(
     room: &mut Vec<Scratch>,
     reader: &mut Cursor<'a>,
 ) -> Option<Token<'a>>
-    ensures reads { IfSome result (λ t. ReadsLeaves reader.old (token_of t ∷ reader.new)
+    requires { reader.old.text ≡ tables.old.text.now }
+    ensures reads { IfSome result (λ t. ReadsLeaves reader.old.tokens (token_of t ∷ reader.new.tokens)
         (shown tables.old) (shown tables.new)) }
     ensures good { IfSome result (λ t. is_good (token_of t) ≡ true) }
-    ensures shorter { OnSome result (length reader.new < length reader.old) }
+    ensures shorter { OnSome result (length reader.new.tokens < length reader.old.tokens) }
+    ensures text { reader.new.text ≡ reader.old.text }
 {
     'leaves: loop {
         let token = reader.next()?;
@@ -44,6 +46,7 @@ pub(crate) fn leaf(
     room: &mut Vec<Scratch>,
     token: Token<'_>,
 ) -> Option<Item>
+    requires { TokenHolds tables.old.text.now token }
     ensures leaf { IfSome result (ReadsLeaf (token_of token.entry) (shown tables.new)) }
     ensures good { OnSome result (is_good (token_of token.entry) ≡ true) }
     ensures grows { OnSome result (Grows (shown tables.old) (shown tables.new)) }
@@ -52,8 +55,8 @@ pub(crate) fn leaf(
     match token {
         Token::Null => Some(Item::Null),
         Token::Bool(truth) => Some(Item::Bool(truth)),
-        Token::Number(text) => {
-            let item = number(text)?;
+        Token::Number(text, size) => {
+            let item = number(text, size)?;
             Some(item)
         }
         Token::Text(text) => {

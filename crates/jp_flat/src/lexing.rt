@@ -1,11 +1,11 @@
 //! The token at a place (RFC 8259 sections 2, 3 and 6): whole numbers are the only ones.
-ghost use Rattle.std.specs.Prelude.{◌≡◌, ◌≤◌, ◌<◌, ◌+◌, ◌⊎◌, IfSome, Some, drop, length};
-ghost use Rattle.std.specs.Prelude.{slice_index, true, false};
+ghost use Rattle.std.specs.Prelude.{◌≡◌, ◌≤◌, ◌<◌, ◌+◌, ◌-◌, ◌==◌, ◌⊎◌, IfSome, Some, drop, length};
+ghost use Rattle.std.specs.Prelude.{slice_index, take, true, false};
 ghost use Rattle.json.specs.Lex.{after_value, begins_colon, between, fresh, lex, may_begin};
 ghost use Rattle.json.specs.Lex.{punctuate};
 ghost use Rattle.json.specs.Word.{after_minus, after_number, ends_word};
-ghost use Rattle.jp_flat.specs.Private.Tokens.{GivesToken, IsLiteral, token_of, tokens_from};
-ghost use Rattle.jp_flat.specs.Private.Tokens.{turn_of};
+ghost use Rattle.jp_flat.specs.Private.Tokens.{GivesToken, IsLiteral, IsSized, TokenHolds};
+ghost use Rattle.jp_flat.specs.Private.Tokens.{token_of, tokens_from, turn_of};
 
 use crate::blanks::{ends_whole, past_blanks};
 use crate::cursor::{Place, Turn, may_begin, may_close};
@@ -18,6 +18,7 @@ use crate::token::Token;
 pub(crate) fn token_at<'t>(bytes: &'t [u8], from: Place) -> Option<(Token<'t>, Place)>
     requires { from.at ≤ length bytes.now }
     ensures gives { IfSome result (λ r. GivesToken bytes.now from (token_of r.0) r.1) }
+    ensures stands { IfSome result (λ r. TokenHolds bytes.now r.0) }
     ensures within { IfSome result (λ r. r.1.at ≤ length bytes.now) }
 {
     if from.at >= bytes.len() {
@@ -80,6 +81,7 @@ fn closed<'t>(bytes: &'t [u8], from: Place, byte: u8) -> Option<(Token<'t>, Plac
     requires inside { from.at < length bytes.now }
     requires byte { (byte ≡ slice_index bytes.now from.at) × ((byte ≡ 125) ⊎ (byte ≡ 93)) }
     ensures gives { IfSome result (λ r. GivesToken bytes.now from (token_of r.0) r.1) }
+    ensures stands { IfSome result (λ r. TokenHolds bytes.now r.0) }
     ensures within { IfSome result (λ r. r.1.at ≤ length bytes.now) }
 {
     if !may_close(from.turn) {
@@ -100,6 +102,7 @@ fn text<'t>(bytes: &'t [u8], from: Place) -> Option<(Token<'t>, Place)>
     requires byte { slice_index bytes.now from.at ≡ 34 }
     requires begins { may_begin (turn_of from.turn) ≡ true }
     ensures gives { IfSome result (λ r. GivesToken bytes.now from (token_of r.0) r.1) }
+    ensures stands { IfSome result (λ r. TokenHolds bytes.now r.0) }
     ensures within { IfSome result (λ r. r.1.at ≤ length bytes.now) }
 {
     let (spelled, end) = spelled(bytes, from.at + 1)?;
@@ -154,7 +157,9 @@ fn literal<'t>(
     requires inside { from.at ≤ length bytes.now }
     requires begins { may_begin (turn_of from.turn) ≡ true }
     requires name { IsLiteral name.now (token_of token) }
+    requires stands { TokenHolds bytes.now token }
     ensures gives { IfSome result (λ r. GivesToken bytes.now from (token_of r.0) r.1) }
+    ensures stands { IfSome result (λ r. TokenHolds bytes.now r.0) }
     ensures within { IfSome result (λ r. r.1.at ≤ length bytes.now) }
 {
     let part = piece(bytes, from.at, name.len())?;
@@ -171,24 +176,30 @@ fn number<'t>(bytes: &'t [u8], from: Place) -> Option<(Token<'t>, Place)>
     requires inside { from.at < length bytes.now }
     requires begins { may_begin (turn_of from.turn) ≡ true }
     ensures gives { IfSome result (λ r. GivesToken bytes.now from (token_of r.0) r.1) }
+    ensures stands { IfSome result (λ r. TokenHolds bytes.now r.0) }
     ensures within { IfSome result (λ r. r.1.at ≤ length bytes.now) }
 {
-    let end = whole_end(bytes, from.at)?;
-    Some((Token::Number(&bytes[from.at..end]), passed(bytes, end)))
+    let (end, size) = whole_end(bytes, from.at)?;
+    Some((
+        Token::Number(&bytes[from.at..end], size),
+        passed(bytes, end),
+    ))
 }
 
-/// The end of the whole number that begins here.
+/// The end of the whole number that begins here, and the number that its digits write.
 #[inline(always)]
-fn whole_end(bytes: &[u8], from: usize) -> Option<usize>
+fn whole_end(bytes: &[u8], from: usize) -> Option<(usize, u64)>
     requires { from < length bytes.now }
-    ensures whole { IfSome result (λ e. after_number (drop from bytes.now) ≡ Some (drop e bytes.now)) }
-    ensures ends { IfSome result (λ e. ends_word (drop e bytes.now) ≡ true) }
-    ensures within { IfSome result (λ e. (from ≤ e) × (e ≤ length bytes.now)) }
+    ensures whole { IfSome result
+        (λ r. after_number (drop from bytes.now) ≡ Some (drop r.0 bytes.now)) }
+    ensures sized { IfSome result (λ r. IsSized (take (r.0 - from) (drop from bytes.now)) r.1) }
+    ensures ends { IfSome result (λ r. ends_word (drop r.0 bytes.now) ≡ true) }
+    ensures within { IfSome result (λ r. (from ≤ r.0) × (r.0 ≤ length bytes.now)) }
 {
     let first = past_minus(bytes, from);
-    let end = digits_end(bytes, first);
+    let (end, size) = digits_end(bytes, first);
     if is_whole(bytes, first, end) && ends_whole(bytes, end) {
-        Some(end)
+        Some((end, size))
     } else {
         None
     }
@@ -198,6 +209,7 @@ fn whole_end(bytes: &[u8], from: usize) -> Option<usize>
 fn past_minus(bytes: &[u8], from: usize) -> usize
     requires { from < length bytes.now }
     ensures minus { after_minus (drop from bytes.now) ≡ drop result bytes.now }
+    ensures bare { (slice_index bytes.now from == 45) ≡ false → result ≡ from }
     ensures within { (from ≤ result) × (result ≤ length bytes.now) }
 {
     if bytes[from] == b'-' { from + 1 } else { from }

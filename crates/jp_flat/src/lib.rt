@@ -1,5 +1,5 @@
-//! JSON documents in flat tables (RFC 9535 section 1.1): most are read about twice as fast as into a
-//! tree, and in a third of its memory.
+//! JSON documents in flat tables (RFC 9535 section 1.1): most are read more than twice as fast as into
+//! a tree, and in a third of its memory.
 //!
 //! `flat_document` reads one, `Flat::value` is its value, and a `FlatValue` is a `Lent` one, which
 //! `FlatValue::push_value` prints. A `Room` takes the memory from one document to the next:

@@ -5,12 +5,26 @@ ghost use Rattle.serde_json.specs.Data.{negative, unsigned};
 ghost use Rattle.serde_json.specs.Read.{number_from};
 ghost use Rattle.jp_flat.specs.Flat.{number_of};
 ghost use Rattle.jp_flat.specs.Private.Reading.{IsWholeItem};
+ghost use Rattle.jp_flat.specs.Private.Tokens.{IsSized};
 
 use crate::item::{Halves, Item};
 use fast_float::Numeral;
 
+/// The whole number of 64 bits that these characters of JSON write. `size` is what their digits write,
+/// if they are at most 18.
+#[inline(always)]
+pub(crate) fn number(bytes: &[u8], size: u64) -> Option<Item>
+    requires { IsSized bytes.now size }
+    ensures { IfSome result (IsWholeItem bytes.now) }
+{
+    if bytes.len() <= 18 && !has_minus(bytes) {
+        return Some(Item::Above(halves(size)));
+    }
+    long_number(bytes)
+}
+
 /// The whole number of 64 bits that these characters of JSON write.
-pub(crate) fn number(bytes: &[u8]) -> Option<Item>
+fn long_number(bytes: &[u8]) -> Option<Item>
     ensures { IfSome result (IsWholeItem bytes.now) }
 {
     if has_minus(bytes) {
@@ -22,6 +36,7 @@ pub(crate) fn number(bytes: &[u8]) -> Option<Item>
     }
 }
 
+#[inline(always)]
 fn has_minus(bytes: &[u8]) -> bool
     ensures value { result ≡ (slice_index bytes.now 0 == 45) }
     ensures some { IsTrue result → 0 < length bytes.now }
@@ -47,6 +62,7 @@ fn below_zero(numeral: &Numeral<'_>) -> Option<u64>
     }
 }
 
+#[inline(always)]
 fn halves(number: u64) -> Halves
     ensures { number_of result ≡ number }
 {

@@ -3,7 +3,7 @@ ghost use Rattle.std.specs.Prelude.{◌≡◌, ◌+◌, ◌≤◌, IfSome, OnSom
 ghost use Rattle.std.specs.Prelude.{drop, length, option_map, take};
 ghost use Rattle.json.specs.Text.{content, plain};
 ghost use Rattle.jp_flat.specs.Flat.{Grows, piece, shown, text_at};
-ghost use Rattle.jp_flat.specs.Private.Tokens.{IsPlaced, said};
+ghost use Rattle.jp_flat.specs.Private.Tokens.{IsPlaced, StandsAt, StandsIn, said};
 
 use crate::item::Span;
 use crate::tables::Tables;
@@ -13,11 +13,13 @@ use json::{Reader, Scratch, Token};
 /// Places a text: where the document spells it, else, with its escapes undone in the room, behind the
 /// spare texts. None where its escapes are none, no memory is left, or more than 2^32 bytes would be
 /// placed.
+#[inline(always)]
 pub(crate) fn place(
     tables: &mut Tables<'_>,
     room: &mut Vec<Scratch>,
     text: Spelled<'_>,
 ) -> Option<Span>
+    requires { StandsIn tables.old.text.now text }
     ensures placed { IfSome result (λ s. IsPlaced (shown tables.new) s (said text.entry)) }
     ensures grows { OnSome result (Grows (shown tables.old) (shown tables.new)) }
     ensures items { OnSome result (tables.new.items.items ≡ tables.old.items.items) }
@@ -28,20 +30,18 @@ pub(crate) fn place(
     }
 }
 
-/// The span from this place on, where the text stands there.
+/// The span of a text that stands in the document from this place on.
 #[inline(always)]
 fn in_text(tables: &Tables<'_>, first: usize, text: &[u8]) -> Option<Span>
+    requires { StandsAt tables.now.text.now first text.now }
     ensures { IfSome result (λ s. text_at (shown tables.now) s ≡ Some text.now) }
 {
-    let part = piece(tables.text.as_bytes(), first, text.len())?;
-    if part == text {
-        span_of(first, text.len())
-    } else {
-        None
-    }
+    let span = span_of(first, text.len())?;
+    Some(span)
 }
 
 /// A new spare text, which stands with escapes between these quotes.
+#[inline(never)]
 fn unescaped(tables: &mut Tables<'_>, room: &mut Vec<Scratch>, quoted: &[u8]) -> Option<Span>
     ensures placed { IfSome result (λ s. IsPlaced (shown tables.new) s
         (content plain (drop 1 quoted.now))) }
@@ -97,6 +97,7 @@ pub(crate) fn piece<T>(all: &[T], first: usize, count: usize) -> Option<&[T]>
 }
 
 /// The span of these numbers, where they are below 2^32.
+#[inline(always)]
 pub(crate) fn span_of(first: usize, count: usize) -> Option<Span>
     ensures first { IfSome result (λ s. s.first ≡ first) }
     ensures count { IfSome result (λ s. s.count ≡ count) }

@@ -49,6 +49,17 @@ impl Pending {
         self.items.clear();
         self.members.clear();
     }
+
+    /// Takes memory for so many parts of a list or an object at once. Where there is none, it is
+    /// taken as they are read.
+    pub(crate) fn reserve(&mut self, count: usize)
+        ensures items { self.new.items.items ≡ self.old.items.items }
+        ensures members { self.new.members.items ≡ self.old.members.items }
+    {
+        let _ = self.items.reserve(count);
+        let _ = self.members.reserve(count);
+        let _ = self.sorted.reserve(count);
+    }
 }
 
 /// Reads one value, with its parts into the tables.
@@ -60,11 +71,13 @@ pub(crate) fn value(
     reader: &mut Cursor<'_>,
     depth: usize,
 ) -> Option<Item>
-    ensures reads { IfSome result (λ i. ReadsFlat depth reader.old reader.new (shown tables.new) i) }
+    requires { reader.old.text ≡ tables.old.text.now }
+    ensures reads { IfSome result (λ i. ReadsFlat depth reader.old.tokens reader.new.tokens (shown tables.new) i) }
     ensures grows { OnSome result (Grows (shown tables.old) (shown tables.new)) }
     ensures items { OnSome result (pending.new.items.items ≡ pending.old.items.items) }
     ensures members { OnSome result (pending.new.members.items ≡ pending.old.members.items) }
-    ensures shorter { OnSome result (length reader.new < length reader.old) }
+    ensures shorter { OnSome result (length reader.new.tokens < length reader.old.tokens) }
+    ensures text { reader.new.text ≡ reader.old.text }
 {
     let token = reader.next()?;
     match token {
@@ -89,12 +102,14 @@ fn container(
     depth: usize,
     token: Token<'_>,
 ) -> Option<Item>
-    ensures reads { IfSome result (λ i. ReadsFlat depth (token_of token.entry ∷ reader.old)
-        reader.new (shown tables.new) i) }
+    requires { reader.old.text ≡ tables.old.text.now }
+    ensures reads { IfSome result (λ i. ReadsFlat depth (token_of token.entry ∷ reader.old.tokens)
+        reader.new.tokens (shown tables.new) i) }
     ensures grows { OnSome result (Grows (shown tables.old) (shown tables.new)) }
     ensures items { OnSome result (pending.new.items.items ≡ pending.old.items.items) }
     ensures members { OnSome result (pending.new.members.items ≡ pending.old.members.items) }
-    ensures shorter { OnSome result (length reader.new < length reader.old) }
+    ensures shorter { OnSome result (length reader.new.tokens < length reader.old.tokens) }
+    ensures text { reader.new.text ≡ reader.old.text }
 {
     if depth == 0 {
         return None;
@@ -121,12 +136,14 @@ fn items(
     reader: &mut Cursor<'_>,
     depth: usize,
 ) -> Option<Item>
+    requires { reader.old.text ≡ tables.old.text.now }
     ensures reads { IfSome result
-        (λ i. ReadsFlatItems depth reader.old reader.new (shown tables.new) i) }
+        (λ i. ReadsFlatItems depth reader.old.tokens reader.new.tokens (shown tables.new) i) }
     ensures grows { OnSome result (Grows (shown tables.old) (shown tables.new)) }
     ensures items { OnSome result (pending.new.items.items ≡ pending.old.items.items) }
     ensures members { OnSome result (pending.new.members.items ≡ pending.old.members.items) }
-    ensures shorter { OnSome result (length reader.new < length reader.old) }
+    ensures shorter { OnSome result (length reader.new.tokens < length reader.old.tokens) }
+    ensures text { reader.new.text ≡ reader.old.text }
 {
     let first = tables.items.len();
     let token = leaves(tables, &mut pending.room, reader)?;
@@ -153,12 +170,14 @@ fn members(
     reader: &mut Cursor<'_>,
     depth: usize,
 ) -> Option<Item>
+    requires { reader.old.text ≡ tables.old.text.now }
     ensures reads { IfSome result
-        (λ i. ReadsFlatMembers depth reader.old reader.new (shown tables.new) i) }
+        (λ i. ReadsFlatMembers depth reader.old.tokens reader.new.tokens (shown tables.new) i) }
     ensures grows { OnSome result (Grows (shown tables.old) (shown tables.new)) }
     ensures items { OnSome result (pending.new.items.items ≡ pending.old.items.items) }
     ensures members { OnSome result (pending.new.members.items ≡ pending.old.members.items) }
-    ensures shorter { OnSome result (length reader.new < length reader.old) }
+    ensures shorter { OnSome result (length reader.new.tokens < length reader.old.tokens) }
+    ensures text { reader.new.text ≡ reader.old.text }
 {
     let base = pending.members.len();
     let mut rises = true;

@@ -1,11 +1,12 @@
 //! Runs of digits, and of the bytes of a text that stand for themselves.
-ghost use Rattle.std.specs.Prelude.{◌≡◌, ◌≤◌, ◌<◌, ◌+◌, IfSome, drop, get_or, length, map, take};
+ghost use Rattle.std.specs.Prelude.{◌≡◌, ◌≤◌, ◌<◌, ◌+◌, ◌-◌, IfSome, drop, get_or, length, map};
+ghost use Rattle.std.specs.Prelude.{take};
 ghost use Rattle.std.specs.Char.{is_ascii_digit};
 ghost use Rattle.std.specs.List.{prefix_len};
 ghost use Rattle.std.specs.Simd.Lanes.{mask_l};
 ghost use Rattle.json.specs.Lex.{between, in_string, lex};
 ghost use Rattle.json.specs.Run.{is_plain, is_stop};
-ghost use Rattle.jp_flat.specs.Private.Tokens.{IsSpelledFrom};
+ghost use Rattle.jp_flat.specs.Private.Tokens.{IsDigits, IsSpelledFrom};
 
 use crate::token::Spelled;
 use std::simd::prelude::*;
@@ -81,16 +82,20 @@ fn plain_end_slowly(bytes: &[u8], from: usize) -> usize
     at
 }
 
-/// The end of the digits from a place on.
+/// The end of the digits from a place on, and the number that they write, if they are at most 18.
 #[inline(always)]
-pub(crate) fn digits_end(bytes: &[u8], from: usize) -> usize
+pub(crate) fn digits_end(bytes: &[u8], from: usize) -> (usize, u64)
     requires { from ≤ length bytes.now }
-    ensures value { result ≡ from + prefix_len is_ascii_digit (drop from bytes.now) }
-    ensures within { result ≤ length bytes.now }
+    ensures end { result.0 ≡ from + prefix_len is_ascii_digit (drop from bytes.now) }
+    ensures within { result.0 ≤ length bytes.now }
+    ensures digits { IsDigits (take (result.0 - from) (drop from bytes.now)) result.1 }
 {
     let mut at = from;
+    let mut number = 0u64;
     'digits: while at < bytes.len() && bytes[at].is_ascii_digit() {
+        let digit = u64::from(bytes[at] - b'0');
+        number = number.wrapping_mul(10).wrapping_add(digit);
         at += 1;
     }
-    at
+    (at, number)
 }

@@ -1,12 +1,17 @@
 //! Members put in the order of their names.
 ghost use Rattle.std.specs.Prelude.{◌≡◌, ◌≤◌, ◌++◌, IfSome, OnSome, drop, length, map, take};
+ghost use Rattle.std.specs.Cmp.Lexicographic.{slice_cmp};
+ghost use Rattle.std.specs.List.Sorted.{IsBinarySearchResult, IsSearchInRange};
+ghost use Rattle.std.specs.Ordering.{nat_cmp};
 ghost use Rattle.jp_flat.specs.Flat.{shown};
+ghost use Rattle.jp_flat.specs.Private.Parts.{name_in};
 ghost use Rattle.jp_flat.specs.Private.Sorting.{Puts, PutsAll, PutsByName};
 
 use crate::item::Named;
 use crate::parts::{bytes_at, bytes_order};
 use crate::tables::Tables;
 use std::alloc::Global;
+use std::cmp::Ordering;
 use std::collections::BTreeMap;
 
 /// Fills `found` with the members in the order of their names, each in the place of an earlier one
@@ -26,7 +31,7 @@ fn put(tables: &Tables<'_>, found: &mut Vec<Named>, member: Named) -> Option<()>
     ensures { OnSome result (Puts (shown tables.now) member found.old.items found.new.items) }
 {
     let name = bytes_at(tables, member.name)?;
-    match found.binary_search_by(|other| bytes_order(tables, other, name)) {
+    match search(tables, found, name) {
         Ok(place) => {
             found[place] = member;
             Some(())
@@ -36,6 +41,27 @@ fn put(tables: &Tables<'_>, found: &mut Vec<Named>, member: Named) -> Option<()>
             Some(())
         }
     }
+}
+
+/// Where a name is among those of members, or where it goes, if theirs rise: a binary search that
+/// looks at the last one first, since names often come in order.
+fn search(tables: &Tables<'_>, members: &[Named], name: &[u8]) -> Result<usize, usize>
+    ensures within { IsSearchInRange result (length members.now) }
+    ensures place { IsBinarySearchResult
+        (λ m. slice_cmp nat_cmp (name_in (shown tables.now) m) name.now) members.now result }
+{
+    let mut low = 0;
+    let mut high = members.len();
+    let mut next = high.saturating_sub(1);
+    'halves: while low < high {
+        match bytes_order(tables, &members[next], name) {
+            Ordering::Less => low = next + 1,
+            Ordering::Equal => return Ok(next),
+            Ordering::Greater => high = next,
+        }
+        next = low + (high - low) / 2;
+    }
+    Err(low)
 }
 
 /// Puts the members from the base on in the order of their names, each in the place of an earlier

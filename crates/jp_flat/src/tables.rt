@@ -39,6 +39,21 @@ impl<'t> Tables<'t> {
         tables.spare.clear();
         tables.items.clear();
         tables.members.clear();
+        tables.reserve(parts_in(text.as_bytes(), 64));
         tables
     }
+
+    /// Takes memory for so many items and members at once. Where there is none, the tables grow as
+    /// they are filled.
+    fn reserve(&mut self, count: usize)
+        ensures { shown self.new ≡ shown self.old }
+    {
+        let _ = self.items.reserve(count);
+        let _ = self.members.reserve(count);
+    }
+}
+
+/// About as many parts as a document of these bytes has, and not more than the most.
+pub(crate) fn parts_in(bytes: &[u8], most: usize) -> usize {
+    (bytes.len() / 16).min(most)
 }

@@ -8,7 +8,8 @@ pub(crate) enum Spelled<'t> {
     Escaped(&'t [u8]),
 }
 
-/// A token. The colon behind a key goes with it, and so does the comma behind a value.
+/// A token. The colon behind a key goes with it, and so does the comma behind a value. A number has
+/// its characters, and the number that its digits write, if they are at most 18.
 #[derive(Clone, Copy, Drop)]
 pub(crate) enum Token<'t> {
     BeginArray,
@@ -17,7 +18,7 @@ pub(crate) enum Token<'t> {
     EndObject,
     Key(Spelled<'t>),
     Text(Spelled<'t>),
-    Number(&'t [u8]),
+    Number(&'t [u8], u64),
     Bool(bool),
     Null,
 }

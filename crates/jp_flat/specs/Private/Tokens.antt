@@ -1,6 +1,8 @@
 -- The tokens that a text has from a place on, and what the program's tokens stand for.
-use Rattle.std.specs.Prelude.{◌≡◌, ◌≤◌, ◌||◌, ◌==◌, ◌++◌, ℕ, Bool, true, List, ◌∷◌}
-use Rattle.std.specs.Prelude.{Option, Some, None, length, drop}
+use Rattle.std.specs.Prelude.{◌≡◌, ◌+◌, ◌<◌, ◌≤◌, ◌||◌, ◌==◌, ◌++◌, ℕ, Bool, true, false, List, ◌∷◌}
+use Rattle.std.specs.Prelude.{Option, Some, None, length, drop, refl, slice_index, take}
+use Rattle.std.specs.Coded.{Coded, code_by, coded×, coded_list, coded_ℕ}
+use Rattle.std.specs.Str.Parse.{AllDigits, digits_value}
 use Rattle.json.specs.Align.{is_good}
 use Rattle.json.specs.Json.{read_key}
 use Rattle.json.specs.Lex.{Place, after_comma, after_value, between, fresh, in_string, lex}
@@ -28,6 +30,42 @@ turn_of AfterComma = after_comma
 abbrev pub tokens_from : List ℕ → At → List spec.Token
 tokens_from d p = punctuate (turn_of p.turn) (lex between (drop p.at d))
 
+-- a text, and the tokens that are left of it
+pub record Rest : Type 0 where
+  pub text : List ℕ
+  pub tokens : List spec.Token
+
+abbrev pub rest_code : Coded Rest
+rest_code =
+    code_by (List ℕ × List spec.Token) (coded× (coded_list coded_ℕ) spec.tokens_code) (λ r. (r.text, r.tokens))
+    (λ p. record { text = p.0; tokens = p.1 }) (λ _. refl)
+
+-- the bytes stand in the text from a place on
+pub record StandsAt (d : List ℕ) (first : ℕ) (s : List ℕ) : Type 0 where
+  pub within : first + length s ≤ length d
+  pub is : take (length s) (drop first d) ≡ s
+
+-- a text that is spelled by itself stands where it says
+abbrev pub StandsIn : List ℕ → Spelled → Type 0
+StandsIn d (Plain first s) = StandsAt d first s.now
+StandsIn d (Escaped s) = Unit {0}
+
+-- the characters are digits, and write the number, if they are at most 18
+pub record IsDigits (s : List ℕ) (n : ℕ) : Type 0 where
+  pub digits : AllDigits 10 s
+  pub value : length s ≤ 18 → digits_value 10 s ≡ n
+
+-- so are those of a number with no minus
+abbrev pub IsSized : List ℕ → ℕ → Type 0
+IsSized s n = (slice_index s 0 == 45) ≡ false → (0 < length s) × IsDigits s n
+
+-- the name or the text of a token stands where it says, and its number is that of its digits
+abbrev pub TokenHolds : List ℕ → Token → Type 0
+TokenHolds d (code.Key s) = StandsIn d s
+TokenHolds d (code.Text s) = StandsIn d s
+TokenHolds d (code.Number s n) = IsSized s.now n
+TokenHolds d _ = Unit {0}
+
 -- the text that is spelled so, None where its escapes are none
 abbrev pub said : Spelled → Option (List ℕ)
 said (Plain first s) = Some s.now
@@ -45,7 +83,7 @@ token_of code.BeginObject = spec.begin_object
 token_of code.EndObject = spec.end_object
 token_of (code.Key s) = key_token (said s)
 token_of (code.Text s) = string_token (said s)
-token_of (code.Number s) = spec.number s.now
+token_of (code.Number s n) = spec.number s.now
 token_of (code.Bool b) = spec.boolean b
 token_of code.Null = spec.null
 
@@ -57,6 +95,7 @@ GivesToken d from token to = is_good token ≡ true → tokens_from d from ≡ t
 -- the other place
 pub record IsSpelledFrom (d : List ℕ) (from to : ℕ) (s : Spelled) : Type 0 where
   pub within : to ≤ length d
+  pub stands : StandsIn d s
   pub reads : (x : List ℕ) → said s ≡ Some x → content plain (drop from d) ≡ Some x
   pub passes : lex in_string (drop from d) ≡ lex between (drop to d)
 

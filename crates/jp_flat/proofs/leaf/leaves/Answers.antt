@@ -7,7 +7,8 @@ use Rattle.jp_flat.proofs.leaf.leaves.Goals as goal
 
 pub leaves-init : goal.leaves-init
 leaves-init c = record {
-  so = leaves_begin c.args.reader.now (shown c.args.tables.now);
+  so = leaves_begin c.args.reader.now.tokens (shown c.args.tables.now);
+  text = search rules;
   shorter = search rules;
 }
 
@@ -19,11 +20,12 @@ leaves-preserved c =
     let done = c.in_ok-item-in_default.ensures in
     let u = shown c.leaf.new.tables in
     let w = shown (record c.leaf.new.tables { items = c.push.new.self }) in
-    let first : l.reader ≡ k ∷ c.next.new.self = c.in_ok-token.ensures done.good in
+    let first : l.reader.tokens ≡ k ∷ c.next.new.self.tokens = c.in_ok-token.ensures.reads done.good in
     let pushed : w ≡ with_items u (u.items ++ i ∷ []) = search rules in
     record {
       so =
-          leaves_more c.args.reader.now l.reader c.next.new.self k (shown c.args.tables.now)
+          leaves_more c.args.reader.now.tokens l.reader.tokens c.next.new.self.tokens k (shown c.args.tables.now)
           (shown l.tables) u w i first done.leaf done.grows done.items pushed l.invariant.so;
+      text = search rules;
       shorter = omega (arith, ap length first, l.invariant.shorter);
     }

@@ -16,9 +16,9 @@ pub value-returns-in_ok-item-in_default-clause-reads :
     goal.value-returns-in_ok-item-in_default-clause-reads
 value-returns-in_ok-item-in_default-clause-reads t c =
     let k = token_of c.in_ok-token.token in
-    let first : c.args.reader.now ≡ k ∷ c.next.new.self =
-    c.in_ok-token.ensures c.in_ok-item-in_default.ensures.good in
-    leaf-read c.args.depth c.args.reader.now c.next.new.self k (shown c.leaf.new.tables)
+    let first : c.args.reader.now.tokens ≡ k ∷ c.next.new.self.tokens =
+    c.in_ok-token.ensures.reads c.in_ok-item-in_default.ensures.good in
+    leaf-read c.args.depth c.args.reader.now.tokens c.next.new.self.tokens k (shown c.leaf.new.tables)
     c.in_ok-item-in_default.item first c.in_ok-item-in_default.ensures.leaf
 
 pub container-returns-in_ok-item-in-BeginArray-clause-reads :
@@ -26,8 +26,8 @@ pub container-returns-in_ok-item-in-BeginArray-clause-reads :
 container-returns-in_ok-item-in-BeginArray-clause-reads t c =
     let k = token_of c.args.token in
     let is : k ≡ Token.begin_array = grind arith in
-    flat-list c.args.depth (k ∷ c.args.reader.now) c.args.reader.now c.items.new.reader
-    (shown c.items.new.tables) _ (omega arith) (ap (λ k. k ∷ c.args.reader.now) is)
+    flat-list c.args.depth (k ∷ c.args.reader.now.tokens) c.args.reader.now.tokens c.items.new.reader.tokens
+    (shown c.items.new.tables) _ (omega arith) (ap (λ k. k ∷ c.args.reader.now.tokens) is)
     c.in_ok-item-in-BeginArray.ensures.reads
 
 pub container-returns-in_ok-item-in-BeginObject-clause-reads :
@@ -35,32 +35,32 @@ pub container-returns-in_ok-item-in-BeginObject-clause-reads :
 container-returns-in_ok-item-in-BeginObject-clause-reads t c =
     let k = token_of c.args.token in
     let is : k ≡ Token.begin_object = grind arith in
-    flat-object c.args.depth (k ∷ c.args.reader.now) c.args.reader.now c.members.new.reader
-    (shown c.members.new.tables) _ (omega arith) (ap (λ k. k ∷ c.args.reader.now) is)
+    flat-object c.args.depth (k ∷ c.args.reader.now.tokens) c.args.reader.now.tokens c.members.new.reader.tokens
+    (shown c.members.new.tables) _ (omega arith) (ap (λ k. k ∷ c.args.reader.now.tokens) is)
     c.in_ok-item-in-BeginObject.ensures.reads
 
 pub items-returns-in-EndArray-clause-reads : goal.items-returns-in-EndArray-clause-reads
 items-returns-in-EndArray-clause-reads t c =
     let k = token_of c.in_ok-token.token in
-    let r = c.leaves.new.reader in
+    let r = c.leaves.new.reader.tokens in
     let is : k ≡ Token.end_array = grind arith in
     let over : after_end_array (k ∷ r) ≡ Some r = ap (λ k. after_end_array (k ∷ r)) is in
     let at : c.len-first.result ≡ length c.args.tables.now.items.items = search rules in
-    leaves_end c.args.depth c.args.reader.now (k ∷ r) r (shown c.args.tables.now)
+    leaves_end c.args.depth c.args.reader.now.tokens (k ∷ r) r (shown c.args.tables.now)
     (shown c.leaves.new.tables) c.len-first.result c.in_ok-list.list over at
     c.in_ok-list.ensures.few c.in_ok-list.ensures.list c.in_ok-token.ensures.reads
 
 pub items-returns-in-EndArray-clause-grows : goal.items-returns-in-EndArray-clause-grows
 items-returns-in-EndArray-clause-grows t c =
-    leaves_grow c.args.reader.now (token_of c.in_ok-token.token ∷ c.leaves.new.reader)
+    leaves_grow c.args.reader.now.tokens (token_of c.in_ok-token.token ∷ c.leaves.new.reader.tokens)
     (shown c.args.tables.now) (shown c.leaves.new.tables) c.in_ok-token.ensures.reads
 
 pub items-items-init : goal.items-items-init
 items-items-init t c =
     let k = token_of c.in_ok-token.token in
     let s = c.leaves.new.tables in
-    let q = c.leaves.new.reader in
-    let r = c.container.new.reader in
+    let q = c.leaves.new.reader.tokens in
+    let r = c.container.new.reader.tokens in
     let i = c.in_ok-item.item in
     let done = c.in_ok-item.ensures in
     let first = c.len-first.result in
@@ -68,7 +68,7 @@ items-items-init t c =
     let moved = c.move_parts.new.table.items in
     let at : first ≡ length c.args.tables.now.items.items = search rules in
     let here : c.len-base.result ≡ length old = search rules in
-    let leaf : length (k ∷ q) ≤ length c.args.reader.now =
+    let leaf : length (k ∷ q) ≤ length c.args.reader.now.tokens =
     omega (arith, c.in_ok-token.ensures.shorter) in
     let less : length r < length (k ∷ q) = omega (arith, done.shorter) in
     let put : moved ≡ old ++ drop first s.items.items = search rules in
@@ -78,36 +78,38 @@ items-items-init t c =
     let pushed : c.push.new.self.items ≡ moved ++ i ∷ [] = search rules in
     record {
       so = rw pushed
-          (items_begin c.args.depth c.args.reader.now (k ∷ q) r (shown c.args.tables.now) (shown s)
+          (items_begin c.args.depth c.args.reader.now.tokens (k ∷ q) r (shown c.args.tables.now) (shown s)
           (shown c.container.new.tables) first c.len-base.result old moved i at here leaf
           c.in_ok-token.ensures.reads put more less done.reads);
       others = search rules;
+      text = search rules;
     }
 
 pub items-items-preserved : goal.items-items-preserved
 items-items-preserved t c =
     let l = c.items in
-    let same : c.take_end_array.new.self ≡ l.reader = grind arith in
+    let same : c.take_end_array.new.self.tokens ≡ l.reader.tokens = grind arith in
     let done = c.in_ok-item-2.ensures in
     let i = c.in_ok-item-2.item in
-    let r = c.value.new.reader in
+    let r = c.value.new.reader.tokens in
     let s = shown c.value.new.tables in
-    let less : length r < length l.reader = rw (← same) done.shorter in
+    let less : length r < length l.reader.tokens = rw (← same) done.shorter in
     let pushed : c.push-in-items.new.self.items ≡ l.pending.items.items ++ i ∷ [] = search rules in
-    let read : ReadsFlat c.args.depth l.reader r s i = rw (← same) done.reads in
+    let read : ReadsFlat c.args.depth l.reader.tokens r s i = rw (← same) done.reads in
     record {
       so = rw pushed
-          (items_more c.args.depth c.args.reader.now l.reader r (shown c.args.tables.now)
+          (items_more c.args.depth c.args.reader.now.tokens l.reader.tokens r (shown c.args.tables.now)
           (shown l.tables) s c.len-base.result c.args.pending.now.items.items l.pending.items.items i
           less read done.grows l.invariant.so);
       others = done.members ∙ l.invariant.others;
+      text = search rules;
     }
 
 pub items-returns-clause-reads : goal.items-returns-clause-reads
 items-returns-clause-reads t c =
     let l = c.items in
-    let over : after_end_array l.reader ≡ Some c.take_end_array.new.self = grind arith in
-    items_end c.args.depth c.args.reader.now l.reader c.take_end_array.new.self
+    let over : after_end_array l.reader.tokens ≡ Some c.take_end_array.new.self.tokens = grind arith in
+    items_end c.args.depth c.args.reader.now.tokens l.reader.tokens c.take_end_array.new.self.tokens
     (shown c.args.tables.now) (shown l.tables) (shown c.close_list.new.tables) c.len-base.result
     c.args.pending.now.items.items l.pending.items.items c.in_ok-list-2.list over
     c.in_ok-list-2.ensures.few c.in_ok-list-2.ensures.list l.invariant.so
@@ -116,9 +118,10 @@ pub members-members-init : goal.members-members-init
 members-members-init t c = record {
   so =
       let at : c.len-base.result ≡ length c.args.pending.now.members.items = search rules in
-      members_begin c.args.depth c.args.reader.now (shown c.args.tables.now) c.len-base.result
+      members_begin c.args.depth c.args.reader.now.tokens (shown c.args.tables.now) c.len-base.result
       c.args.pending.now.members.items at;
   others = search rules;
+  text = search rules;
 }
 
 pub members-members-preserved : goal.members-members-preserved
@@ -126,19 +129,19 @@ members-members-preserved t c =
     let l = c.members in
     let placed = c.in_ok-span.ensures.placed in
     let k = placed.text in
-    let a = c.next_name.new.self in
-    let r = c.value.new.reader in
+    let a = c.next_name.new.self.tokens in
+    let r = c.value.new.reader.tokens in
     let done = c.in_ok-item.ensures in
     let p : Named = record { name = c.in_ok-span.span; item = c.in_ok-item.item } in
-    let named : read_key l.reader ≡ Some (Some k, a) =
-    subst (ReadsName l.reader a) c.in-Some.is c.in_ok-name.ensures k placed.says in
-    let less = read_key-shorter l.reader (Some k) a named in
+    let named : read_key l.reader.tokens ≡ Some (Some k, a) =
+    subst (ReadsName l.reader.tokens a) c.in-Some.is c.in_ok-name.ensures.reads k placed.says in
+    let less = read_key-shorter l.reader.tokens (Some k) a named in
     let lesser = done.shorter in
-    let shorter : length r < length l.reader = omega arith in
+    let shorter : length r < length l.reader.tokens = omega arith in
     let pushed : c.push.new.self.items ≡ l.pending.members.items ++ p ∷ [] = search rules in
     record {
       so = rw pushed
-          (members_more c.args.depth c.args.reader.now l.reader a r (shown c.args.tables.now)
+          (members_more c.args.depth c.args.reader.now.tokens l.reader.tokens a r (shown c.args.tables.now)
           (shown l.tables) (shown c.place.new.tables) (shown c.value.new.tables) c.len-base.result
           l.rises c.still_rises-rises.result c.args.pending.now.members.items
           l.pending.members.items k p named shorter done.reads placed.there
@@ -147,13 +150,14 @@ members-members-preserved t c =
           (said c.in-Some.name) k placed.says
           (rw (← c.deref.ensures.value) (c.still_rises-rises.ensures.above rose))) l.invariant.so);
       others = done.items ∙ l.invariant.others;
+      text = search rules;
     }
 
 pub members-returns-clause-reads : goal.members-returns-clause-reads
 members-returns-clause-reads t c =
     let l = c.members in
-    let over : read_key l.reader ≡ Some (None, c.next_name.new.self) = grind arith in
-    members_end c.args.depth c.args.reader.now l.reader c.next_name.new.self
+    let over : read_key l.reader.tokens ≡ Some (None, c.next_name.new.self.tokens) = grind arith in
+    members_end c.args.depth c.args.reader.now.tokens l.reader.tokens c.next_name.new.self.tokens
     (shown c.args.tables.now) (shown l.tables) (shown c.close_object.new.tables) c.len-base.result
     l.rises c.args.pending.now.members.items l.pending.members.items c.in_ok-object.object over
     c.in_ok-object.ensures.object l.invariant.so

@@ -17,20 +17,22 @@ decreases-members l = 3 * l.depth + 2
 
 abbrev pub invariant-items-items : goal.invariant-items-items
 invariant-items-items l = record {
-  so : ItemsSoFar l.depth l.fn.reader l.reader (shown l.fn.tables) (shown l.tables) l.base
+  so : ItemsSoFar l.depth l.fn.reader.tokens l.reader.tokens (shown l.fn.tables) (shown l.tables) l.base
       l.fn.pending.items.items l.pending.items.items;
   others : l.pending.members.items ≡ l.fn.pending.members.items;
+  text : (l.reader.text ≡ l.tables.text.now) × (l.reader.text ≡ l.fn.reader.text);
 }
 
 abbrev pub decreases-items-items : goal.decreases-items-items
-decreases-items-items l = length l.reader
+decreases-items-items l = length l.reader.tokens
 
 abbrev pub invariant-members-members : goal.invariant-members-members
 invariant-members-members l = record {
-  so : MembersSoFar l.depth l.initial.reader l.reader (shown l.initial.tables) (shown l.tables)
+  so : MembersSoFar l.depth l.initial.reader.tokens l.reader.tokens (shown l.initial.tables) (shown l.tables)
       l.base l.rises l.initial.pending.members.items l.pending.members.items;
   others : l.pending.items.items ≡ l.initial.pending.items.items;
+  text : (l.reader.text ≡ l.tables.text.now) × (l.reader.text ≡ l.initial.reader.text);
 }
 
 abbrev pub decreases-members-members : goal.decreases-members-members
-decreases-members-members l = length l.reader
+decreases-members-members l = length l.reader.tokens

@@ -1,5 +1,5 @@
 use Rattle.std.proofs.Common.{◌≡◌, ◌+◌, ◌<◌, get_or, length, ◌∙◌, arith}
-use Rattle.jp_flat.proofs.Lexed.{escaped_text, plain_text, run_to, string_ends}
+use Rattle.jp_flat.proofs.Lexed.{escaped_text, part_stands, plain_text, run_to, string_ends}
 use Rattle.jp_flat.proofs.runs.spelled.Goals as goal
 
 pub returns-then-bytes-end-eq34 : goal.returns-then-bytes-end-eq34
@@ -12,6 +12,7 @@ returns-then-bytes-end-eq34 c =
     let byte : get_or d end 0 ≡ 34 = grind arith in
     record {
       within = omega (arith, room);
+      stands = part_stands d first end (omega (arith, is)) (omega (arith, room));
       reads = λ x e. plain_text d first end is room byte ∙ e;
       passes = run_to d first end is ∙ string_ends d end room byte;
     }
@@ -28,6 +29,7 @@ returns c =
     let range = c.in_ok-quote.ensures.within in
     record {
       within = omega (arith, range.1);
+      stands = tt;
       reads = λ x e. escaped_text d first (quote + 1) x c.requires.0 (omega (arith, range.0)) (omega (arith, range.1)) e;
       passes = c.in_ok-quote.ensures.passes;
     }

@@ -1,10 +1,7 @@
 use Rattle.std.proofs.Common.{◌≡◌, subst, sym, rules}
 use Rattle.std.specs.List.{insert}
 use Rattle.std.proofs.Math.ListN.{set}
-use Rattle.std.proofs.lemmas.Fn.{always_returns_same}
-use Rattle.jp_document.proofs.Members.ByName.{bytes_cmp}
 use Rattle.jp_flat.specs.Flat.{shown}
-use Rattle.jp_flat.specs.Private.Parts.{name_in}
 use Rattle.jp_flat.specs.Private.Sorting.{Puts}
 use Rattle.jp_flat.proofs.Putting.{put-hit, put-missed}
 use Rattle.jp_flat.proofs.sorting.put.Goals as goal
@@ -16,9 +13,8 @@ returns-in-Ok c =
     let i = c.in-Ok.place in
     let m = c.args.member in
     subst (λ xs. Puts t m xs (set xs i m)) c.deref.ensures.value
-    (put-hit t m q c.deref.result.now i (sym c.in_ok-name.ensures) c.in-Ok.ensures.bound
-    (c.in-Ok.ensures.position (λ x. bytes_cmp (name_in t x) q)
-    (always_returns_same _ _ _ (λ a r f k. search rules))))
+    (put-hit t m q c.deref.result.now i (sym c.in_ok-name.ensures) c.in-Ok.ensures.within
+    c.in-Ok.ensures.place)
 
 pub returns-in_ok-ok-in-Err : goal.returns-in_ok-ok-in-Err
 returns-in_ok-ok-in-Err c =
@@ -30,5 +26,4 @@ returns-in_ok-ok-in-Err c =
     subst (Puts t m c.args.found.now.items) (sym inserted)
     (subst (λ xs. Puts t m xs (insert xs i m)) c.deref.ensures.value
     (put-missed t m q c.deref.result.now i (sym c.in_ok-name.ensures)
-    (c.in-Err.ensures.position (λ x. bytes_cmp (name_in t x) q)
-    (always_returns_same _ _ _ (λ a r f k. search rules)))))
+    c.in-Err.ensures.place))

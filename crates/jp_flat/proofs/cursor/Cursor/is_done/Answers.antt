@@ -1,4 +1,4 @@
-use Rattle.std.proofs.Common.{◌≡◌, ◌≤◌, true, length, sym, ◌∙◌, arith}
+use Rattle.std.proofs.Common.{◌≡◌, ◌≤◌, true, ap, length, sym, ◌∙◌, arith}
 use Rattle.json.specs.Lex.{may_close}
 use Rattle.jp_flat.specs.Private.Tokens.{turn_of}
 use Rattle.jp_flat.proofs.Punctuated.{done_there}
@@ -9,4 +9,4 @@ returns-then-self c closes =
     let a = c.self.inside in
     let over : length a.bytes.now ≤ a.place.at = grind arith in
     let may : may_close (turn_of a.place.turn) ≡ true = sym c.may_close.ensures ∙ closes in
-    sym c.self.view_is ∙ done_there a.bytes.now a.place over may
+    ap (λ r. r.tokens) (sym c.self.view_is) ∙ done_there a.bytes.now a.place over may

@@ -5,14 +5,13 @@ use Rattle.jp_flat.specs.Private.Tokens.{turn_of}
 use Rattle.jp_flat.proofs.Punctuated.{gives_end_array}
 use Rattle.jp_flat.proofs.cursor.Cursor.take_end_array.Goals as goal
 
-pub returns-then-may_close : goal.returns-then-may_close
-returns-then-may_close c =
+pub returns-then-may_close-clause-takes : goal.returns-then-may_close-clause-takes
+returns-then-may_close-clause-takes c =
     let d = c.self.inside.bytes.now in
     let from = c.self.inside.place in
     let room : from.at < length d = grind arith in
     let byte : get_or d from.at 0 ≡ 93 = grind arith in
     let closes : may_close (turn_of from.turn) ≡ true = grind arith in
     ap after_end_array
-    (sym c.self.view_is
-    ∙ gives_end_array d from c.passed-self-inside.result room byte closes
-    c.passed-self-inside.ensures.goes refl)
+    (ap (λ r. r.tokens) (sym c.self.view_is)
+    ∙ gives_end_array d from c.passed-place.result room byte closes c.passed-place.ensures.goes refl)
