@@ -2,7 +2,7 @@
 use Rattle.std.proofs.Common.{◌≡◌, ℕ, suc, List, [], ◌∷◌, length, map, Option, Some}
 use Rattle.std.proofs.Common.{None, option_copied, slice_get, refl, sym, ap, ◌∙◌}
 use Rattle.std.specs.Borrow.{Bor}
-use Rattle.std.specs.Slice.{IsComponentAt}
+use Rattle.std.specs.Slice.{IsItemAt}
 use Rattle.std.specs.Str.{chars}
 use Rattle.std.specs.String.{string_bytes}
 use Rattle.std.proofs.lemmas.Option.{slice_get_past, slice_get_read}
@@ -43,7 +43,7 @@ wanted_of_call_is profile c =
     (count-arguments (out-Call c).arguments.items)
 
 -- what is copied of a component that a list has, or has not, at that place
-pub copied_component : (types : List DataType) (i : ℕ) (r : Option (Bor DataType)) → IsComponentAt types i r
+pub copied_component : (types : List DataType) (i : ℕ) (r : Option (Bor DataType)) → IsItemAt types i r
     → option_copied r ≡ slice_get types i
 copied_component types i None h = sym (slice_get_past types i h.3)
 copied_component types i (Some x) h = sym (slice_get_read types (length types) i x.now refl h.3.0 h.1)
