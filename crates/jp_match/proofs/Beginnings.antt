@@ -3,6 +3,7 @@ use Rattle.std.proofs.Common.{◌≡◌, ◌↔◌, ◌⊎◌, inl, inr, ℕ, ze
 use Rattle.std.proofs.Common.{false}
 use Rattle.std.proofs.Common.{List, [], ◌∷◌, Option, get_or, refl, subst, arith}
 use Rattle.std.specs.Bool.{IsTrue}
+use Rattle.std.proofs.Math.ListN.{replicate}
 use Rattle.std.proofs.Math.Nat.{le-mul_of_pos_right, mul_comm}
 use Rattle.jp_iregexp.specs.declared.class.ClassElement.{ClassElement}
 use Rattle.jp_iregexp.specs.Class.{class_holds}
@@ -102,3 +103,9 @@ left_never t true start row c is none never (inr s) = never.not_empty (nil_suffi
 -- a repeat of at least one copy has the positions of one
 pub one_of_copies : (copies n : ℕ) → 0 < copies → n ≤ copies * n
 one_of_copies copies n some = subst (λ m. n ≤ m) (mul_comm n copies) (le-mul_of_pos_right n some)
+
+-- a row of false has no mark
+pub none_in : (n k : ℕ) → IsTrue (get_or (replicate n false) k false) → ⊥
+none_in zero k h = cc
+none_in (suc n) zero h = cc
+none_in (suc n) (suc k) h = none_in n k h

@@ -43,3 +43,22 @@ and_false false = refl
 pub and_true : (b : Bool) → (b && true) ≡ b
 and_true true = refl
 and_true false = refl
+
+-- facts that stand together as their tests do
+pub then_iff : {P Q R : Type 0} → P ↔ Q → Q ↔ R → P ↔ R
+then_iff h k = (λ p. k.0 (h.0 p), λ r. h.1 (k.1 r))
+
+pub or_iff : {a b : Bool} {P Q : Type 0} → IsTrue a ↔ P → IsTrue b ↔ Q → IsTrue (a || b) ↔ (P ⊎ Q)
+or_iff {a} {b} h k = then_iff (or_is a b) (
+  λ e. elim e [ inl x ↦ inl (h.0 x) | inr y ↦ inr (k.0 y) ],
+  λ e. elim e [ inl p ↦ inl (h.1 p) | inr q ↦ inr (k.1 q) ],
+)
+
+pub and_iff : {a b : Bool} {P Q : Type 0} → IsTrue a ↔ P → IsTrue b ↔ Q → IsTrue (a && b) ↔ (P × Q)
+and_iff {a} {b} h k = then_iff (and_is a b) (
+  λ both. (h.0 both.0, k.0 both.1),
+  λ both. (h.1 both.0, k.1 both.1),
+)
+
+pub same_iff : (a : Bool) → IsTrue a ↔ IsTrue a
+same_iff a = (λ h. h, λ h. h)

@@ -1,4 +1,5 @@
 -- A scan over a text: for the scan and the matcher of positions.
 pub mod Cutting
+pub mod OnlyWords
 pub mod Prefixes
 pub mod Scanning

@@ -1,4 +1,4 @@
--- How the matchers go: patterns with their counts written out, rows of marks, sets of places and
+-- How the matchers go: patterns with their counts written out, rows of marks, sets of offsets and
 -- class tests counted. Beside `Scan`, the contracts of private functions alone cite it.
 pub mod Beginning
 pub mod ClassTests
@@ -8,7 +8,9 @@ pub mod Cutting
 pub mod EmptyWord
 pub mod Marks
 pub mod OneClass
-pub mod Place
+pub mod Offset
+pub mod OnlyWords
 pub mod Plain
 pub mod Rows
+pub mod Search
 pub mod Walks

@@ -49,7 +49,7 @@ impl Tests {
 }
 
 /// Whether the class holds the character. A class of one range, as most are, is tested in place.
-fn class_holds(class: &CharClass, c: char) -> bool
+pub(crate) fn class_holds(class: &CharClass, c: char) -> bool
     ensures { result ≡ holds_in class.now.negated class.now.items.items c }
 {
     let [only] = class.items.as_slice() else {

@@ -3,7 +3,7 @@
 ghost use Rattle.std.specs.Prelude.{◌≡◌, ◌↔◌, IsTrue, length};
 ghost use Rattle.jp_match.specs.Private.Copies.{IsTurned, IsEndMarked, IsNoneEnough, AreStepped};
 
-use crate::places::is_any;
+use crate::offsets::is_any;
 use crate::walk::Reach;
 
 /// Copies of one class, of which there must be so many, and each may be left out or none.

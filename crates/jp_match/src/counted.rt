@@ -1,13 +1,22 @@
 //! Patterns whose positions are counted once for many texts.
 
-ghost use Rattle.std.specs.Prelude.{◌≡◌, ◌^◌, min};
+ghost use Rattle.std.specs.Prelude.{◌≡◌, ◌^◌, ℕ, Bool, List, IfSome, Some, min};
 ghost use Rattle.jp_iregexp.specs.Tree.{tree};
+ghost use Rattle.jp_iregexp.specs.Language.{Language};
 ghost use Rattle.jp_iregexp.specs.Positions.{positions_of};
 ghost use Rattle.jp_match.specs.Private.Plain.{unrolled};
+ghost use Rattle.jp_match.specs.Private.Beginning.{RulesOut};
+ghost use Rattle.jp_match.specs.Private.OnlyWords.{HasOnlyWords};
 ghost use Rattle.jp_match.specs.Private.Walks.{rounds_of};
 
 use crate::counts::{Counts, counts_of};
+use crate::first_chars::FirstChars;
+use crate::only_words::OnlyWords;
 use jp_iregexp::Pattern;
+
+/// A pattern of more positions has no table of first characters, since each position may have a class
+/// that stands first.
+const MOST_TABLED: u64 = 256;
 
 /// A pattern with its counts.
 #[derive(Clone, Copy)]
@@ -29,22 +38,41 @@ impl<'p> Counted<'p> {
 }
 
 /// A pattern whose positions were counted when it was made, so that a matcher need not count them
-/// for each text.
+/// for each text. Where it has few words and no others, as `timeout|refused` has two, it keeps them,
+/// so that a matcher looks for them as they are; of other patterns it keeps which characters no word
+/// begins with.
 #[derive(Drop)]
 pub struct CountedPattern {
     pub(crate) pattern: Pattern,
     counts: Counts,
+    only_words: Option<OnlyWords>,
+    first_chars: Option<FirstChars>,
     ghost positions: { counts.positions ≡ min (positions_of (tree pattern)) 4097 },
     ghost rounds: { counts.rounds ≡ min (rounds_of (unrolled (tree pattern))) (2 ^ 31) },
+    ghost spelled: { (words : List (List ℕ)) → only_words ≡ Some words → HasOnlyWords (tree pattern)
+        words },
+    ghost begins: { (table : List Bool) → first_chars ≡ Some table → RulesOut table (Language (tree
+        pattern)) },
 }
 
 impl CountedPattern {
-    /// Counts the positions of the pattern.
+    /// Counts the positions of the pattern. Where there is no memory to keep its words, it is matched
+    /// without them.
     pub fn new(pattern: Pattern) -> CountedPattern
         ensures { tree result.pattern ≡ tree pattern }
     {
         let counts = counts_of(&pattern);
-        CountedPattern { pattern, counts }
+        let only_words = OnlyWords::of(&pattern);
+        let first_chars = match only_words {
+            None if counts.positions <= MOST_TABLED => Some(FirstChars::of(&pattern)),
+            _ => None,
+        };
+        CountedPattern {
+            pattern,
+            counts,
+            only_words,
+            first_chars,
+        }
     }
 
     /// The pattern.
@@ -62,5 +90,19 @@ impl CountedPattern {
             pattern: &self.pattern,
             counts: self.counts,
         }
+    }
+
+    /// The only words of the pattern, where it has some that are known.
+    pub(crate) fn only_words(&self) -> Option<&OnlyWords>
+        ensures { IfSome result (λ words. HasOnlyWords (tree self.now.pattern) words.now) }
+    {
+        self.only_words.as_ref()
+    }
+
+    /// The characters that no word of the pattern begins with, where they are known.
+    pub(crate) fn first_chars(&self) -> Option<&FirstChars>
+        ensures { IfSome result (λ first. RulesOut first.now (Language (tree self.now.pattern))) }
+    {
+        self.first_chars.as_ref()
     }
 }

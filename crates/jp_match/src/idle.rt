@@ -5,7 +5,6 @@ ghost use Rattle.jp_iregexp.specs.Tree.{tree, repeat};
 ghost use Rattle.jp_match.specs.Private.Plain.{unrolled};
 ghost use Rattle.jp_match.specs.Private.Walks.{IsBefore, IsIdle};
 
-use crate::places::is_any;
 use crate::walk::Walk;
 use jp_iregexp::Pattern;
 
@@ -80,12 +79,11 @@ fn idle_copies(inner: &Pattern, least: u32, most: Option<u32>, walk: &Walk) -> O
     let Pattern::Class(_) = inner else {
         return None;
     };
-    let end = walk.at + most as usize;
-    if is_any(&walk.marks[walk.at..end]) {
-        return None;
+    if walk.is_unmarked(most as usize) {
+        return Some(Idle {
+            positions: most as usize,
+            has_empty_word: least == 0,
+        });
     }
-    Some(Idle {
-        positions: most as usize,
-        has_empty_word: least == 0,
-    })
+    None
 }

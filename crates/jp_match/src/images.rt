@@ -1,34 +1,36 @@
-//! The plain matcher: for each part of a pattern, the places that its words reach.
+//! The plain matcher: for each part of a pattern, the offsets that its words reach.
 
-ghost use Rattle.std.specs.Prelude.{◌≡◌, ◌↔◌, ◌≤◌, suc, IfOk, IsTrue, OnOk, length, map};
+ghost use Rattle.std.specs.Prelude.{◌≡◌, ◌↔◌, ◌≤◌, suc, IfOk, IsTrue, length, map, ◌∷◌, []};
 ghost use Rattle.std.specs.Str.{chars};
 ghost use Rattle.jp_iregexp.specs.Tree.{tree, pieces, branches, repeat};
 ghost use Rattle.jp_iregexp.specs.Language.{Language, Power};
 ghost use Rattle.jp_match.specs.Private.Counts.{IsMostAfter, Times};
 ghost use Rattle.jp_match.specs.Part.{HasPart};
-ghost use Rattle.jp_match.specs.Private.Place.{IsImage};
+ghost use Rattle.jp_match.specs.Private.Offset.{IsImage};
 ghost use Rattle.jp_match.specs.Private.Rows.{AreKnown, EachKnown, marks_of, rows_of, parts_of};
+ghost use Rattle.jp_match.specs.Private.Search.{Finds, Leads};
 
 use crate::class_tests::Tests;
-use crate::passing::pass;
-use crate::places::{
-    Ground, Places, assign, clear, copy_of, every, is_any, is_settled, only, remove, shift, unite,
+use crate::offsets::{
+    Offsets, assign, clear, copy_of, every, is_any, is_settled, none, only, remove, shift, unite,
 };
+use crate::passing::pass;
 use crate::relations::known_parts;
 use crate::rows::{Rows, follow, rows_at};
 use crate::scan::MOST_POSITIONS;
+use crate::search::{Ground, Search};
 use jp_iregexp::{Pattern, positions};
 use std::alloc::{AllocError, Global};
 use std::mem;
 
-/// The plain matcher. It goes down the pattern and keeps sets of places in the text, a mark for
-/// each place. A repeat of few positions is one pass over the text. Any other goes on only while
+/// The plain matcher. It goes down the pattern and keeps sets of offsets in the text, a mark for
+/// each offset. A repeat of few positions is one pass over the text. Any other goes on only while
 /// its set changes, so it ends after about as many rounds as the text has characters, however large
 /// its counts.
 ///
 /// Where repeats stand more than two deep inside one another, each part in which they still stand
-/// two deep is gone over once from each single place, and a round puts these images together. For a
-/// text of n characters they take a block of `n^2` bytes for each such part of the pattern.
+/// two deep is gone over once from each single offset, and a round puts these images together. For
+/// a text of n characters they take a block of `n^2` bytes for each such part of the pattern.
 #[derive(Clone, Copy, Debug, Default)]
 pub struct Images;
 
@@ -48,10 +50,9 @@ impl Images {
     {
         let text = characters(alloc, text)?;
         let ground = Ground { alloc, text: &text };
-        let mut places = only(ground, 0)?;
-        let known = known_parts(pattern, ground, tests)?;
-        image(pattern, &known, ground, &mut places, tests)?;
-        Ok(places[text.len()])
+        let start = only(ground, 0)?;
+        let offsets = reached_from(pattern, ground, start, tests)?;
+        Ok(offsets[text.len()])
     }
 
     /// Whether some part of the text is in the language of the pattern, the empty parts included
@@ -69,10 +70,9 @@ impl Images {
     {
         let text = characters(alloc, text)?;
         let ground = Ground { alloc, text: &text };
-        let mut places = every(ground)?;
-        let known = known_parts(pattern, ground, tests)?;
-        image(pattern, &known, ground, &mut places, tests)?;
-        Ok(is_any(&places))
+        let start = every(ground)?;
+        let offsets = reached_from(pattern, ground, start, tests)?;
+        Ok(is_any(&offsets))
     }
 }
 
@@ -83,33 +83,68 @@ fn characters(alloc: Global, text: &str) -> Result<Vec<char>, AllocError>
     text.chars().collect(alloc)
 }
 
-/// Replaces the places by those that a word of the pattern reaches from them.
-#[cycle(images)]
-pub(crate) fn image(
+/// The offsets that a word of the pattern reaches from these.
+fn reached_from(
+    pattern: &Pattern,
+    ground: Ground<'_>,
+    offsets: Offsets,
+    tests: &mut Tests,
+) -> Result<Offsets, AllocError>
+    requires { length offsets.items ≡ suc (length ground.text.now) }
+    ensures { Finds (λ to. IsImage (Language (tree pattern.now)) ground.entry.text.now
+        offsets.items to.items) tests.old tests.new result }
+{
+    let known = known_parts(pattern, ground, tests)?;
+    image_of(pattern, &known, ground, offsets, tests)
+}
+
+/// The same by what is known of its parts.
+pub(crate) fn image_of(
     pattern: &Pattern,
     known: &[Rows],
     ground: Ground<'_>,
-    places: &mut Places,
+    offsets: Offsets,
     tests: &mut Tests,
-) -> Result<(), AllocError>
-    requires sized { length places.old.items ≡ suc (length ground.text.now) }
+) -> Result<Offsets, AllocError>
+    requires sized { length offsets.items ≡ suc (length ground.text.now) }
     requires known { EachKnown (parts_of (tree pattern.now)) ground.text.now (rows_of known.now) }
-    ensures image { OnOk result (IsImage (Language (tree pattern.now)) ground.entry.text.now
-        places.old.items places.new.items) }
-    ensures counted { tests.old ≤ tests.new }
+    ensures { Finds (λ to. IsImage (Language (tree pattern.now)) ground.entry.text.now
+        offsets.items to.items) tests.old tests.new result }
+{
+    let mut search = Search {
+        ground,
+        offsets,
+        tests: Tests::new(),
+    };
+    mem::swap(&mut search.tests, tests);
+    let led = image(pattern, known, &mut search);
+    mem::swap(&mut search.tests, tests);
+    led?;
+    let Search { offsets, .. } = search;
+    Ok(offsets)
+}
+
+/// Replaces the offsets by those that a word of the pattern reaches from them.
+#[cycle(images)]
+fn image(pattern: &Pattern, known: &[Rows], search: &mut Search<'_>) -> Result<(), AllocError>
+    requires { EachKnown (parts_of (tree pattern.now)) search.old.ground.text.now (rows_of
+        known.now) }
+    ensures { Leads (Language (tree pattern.now)) search.old search.new result }
 {
     match pattern {
-        Pattern::Either(branches) => either_image(branches, known, ground, places, tests),
-        Pattern::Sequence(pieces) => sequence_image(pieces, known, ground, places, tests),
-        Pattern::Repeat { .. } if positions(pattern) <= MOST_POSITIONS => {
-            pass(pattern, ground, places, tests)
-        }
+        Pattern::Either(branches) => either_image(branches, known, search),
+        Pattern::Sequence(pieces) => sequence_image(pieces, known, search),
+        Pattern::Repeat { .. } if positions(pattern) <= MOST_POSITIONS => pass(pattern, search),
         Pattern::Repeat { inner, least, most } => {
-            let rows = rows_at(known, 0);
-            repeat_image(inner, rows, *least, *most, ground, places, tests)
+            repeat_image(inner, known, *least, *most, search)
         }
         Pattern::Class(class) => {
-            shift(class, ground.text, places, tests);
+            shift(
+                class,
+                search.ground.text,
+                &mut search.offsets,
+                &mut search.tests,
+            );
             Ok(())
         }
     }
@@ -117,50 +152,35 @@ pub(crate) fn image(
 
 /// The same for a part of a pattern: by its rows, where they are known.
 #[cycle(images)]
-fn part_image(
-    part: &Pattern,
-    rows: &[Places],
-    ground: Ground<'_>,
-    places: &mut Places,
-    tests: &mut Tests,
-) -> Result<(), AllocError>
-    requires sized { length places.old.items ≡ suc (length ground.text.now) }
-    requires known { AreKnown (Language (tree part.now)) ground.text.now (marks_of
-        rows.now) }
-    ensures image { OnOk result (IsImage (Language (tree part.now)) ground.entry.text.now
-        places.old.items places.new.items) }
-    ensures counted { tests.old ≤ tests.new }
+fn part_image(part: &Pattern, rows: &[Offsets], search: &mut Search<'_>) -> Result<(), AllocError>
+    requires { AreKnown (Language (tree part.now)) search.old.ground.text.now (marks_of rows.now) }
+    ensures { Leads (Language (tree part.now)) search.old search.new result }
 {
     if rows.is_empty() {
-        return image(part, &[], ground, places, tests);
+        return image(part, &[], search);
     }
-    follow(rows, ground.alloc, places)
+    follow(rows, search.ground.alloc, &mut search.offsets)
 }
 
-/// The same for branches: from the same places each, and together what they reach.
+/// The same for branches: from the same offsets each, and together what they reach.
 #[cycle(images)]
 fn either_image(
     parts: &[Pattern],
     known: &[Rows],
-    ground: Ground<'_>,
-    places: &mut Places,
-    tests: &mut Tests,
+    search: &mut Search<'_>,
 ) -> Result<(), AllocError>
-    requires sized { length places.old.items ≡ suc (length ground.text.now) }
-    requires known { EachKnown (map tree parts.now) ground.text.now (rows_of known.now) }
-    ensures image { OnOk result (IsImage (Language (branches (map tree parts.now)))
-        ground.entry.text.now places.old.items places.new.items) }
-    ensures counted { tests.old ≤ tests.new }
+    requires { EachKnown (map tree parts.now) search.old.ground.text.now (rows_of known.now) }
+    ensures { Leads (Language (branches (map tree parts.now))) search.old search.new result }
 {
-    let from = copy_of(ground.alloc, places)?;
-    let mut reached = copy_of(ground.alloc, places)?;
-    clear(&mut reached);
+    let alloc = search.ground.alloc;
+    let from = copy_of(alloc, &search.offsets)?;
+    let mut reached = none(alloc, from.len())?;
     for (i, branch) in parts.iter().enumerate() {
-        assign(places, &from)?;
-        part_image(branch, rows_at(known, i), ground, places, tests)?;
-        unite(&mut reached, places);
+        assign(&mut search.offsets, &from);
+        part_image(branch, rows_at(known, i), search)?;
+        unite(&mut reached, &search.offsets);
     }
-    mem::swap(places, &mut reached);
+    mem::swap(&mut search.offsets, &mut reached);
     Ok(())
 }
 
@@ -169,18 +189,13 @@ fn either_image(
 fn sequence_image(
     parts: &[Pattern],
     known: &[Rows],
-    ground: Ground<'_>,
-    places: &mut Places,
-    tests: &mut Tests,
+    search: &mut Search<'_>,
 ) -> Result<(), AllocError>
-    requires sized { length places.old.items ≡ suc (length ground.text.now) }
-    requires known { EachKnown (map tree parts.now) ground.text.now (rows_of known.now) }
-    ensures image { OnOk result (IsImage (Language (pieces (map tree parts.now)))
-        ground.entry.text.now places.old.items places.new.items) }
-    ensures counted { tests.old ≤ tests.new }
+    requires { EachKnown (map tree parts.now) search.old.ground.text.now (rows_of known.now) }
+    ensures { Leads (Language (pieces (map tree parts.now))) search.old search.new result }
 {
     for (i, piece) in parts.iter().enumerate() {
-        part_image(piece, rows_at(known, i), ground, places, tests)?;
+        part_image(piece, rows_at(known, i), search)?;
     }
     Ok(())
 }
@@ -189,26 +204,21 @@ fn sequence_image(
 #[cycle(images)]
 fn repeat_image(
     inner: &Pattern,
-    rows: &[Places],
+    known: &[Rows],
     least: u32,
     most: Option<u32>,
-    ground: Ground<'_>,
-    places: &mut Places,
-    tests: &mut Tests,
+    search: &mut Search<'_>,
 ) -> Result<(), AllocError>
-    requires sized { length places.old.items ≡ suc (length ground.text.now) }
-    requires known { AreKnown (Language (tree inner.now)) ground.text.now (marks_of
-        rows.now) }
-    ensures image { OnOk result (IsImage (Language (repeat (tree inner.now) least most))
-        ground.entry.text.now places.old.items places.new.items) }
-    ensures counted { tests.old ≤ tests.new }
+    requires { EachKnown (tree inner.now ∷ []) search.old.ground.text.now (rows_of known.now) }
+    ensures { Leads (Language (repeat (tree inner.now) least most)) search.old search.new result }
 {
     let Some(more) = most_after(most, least) else {
-        clear(places);
+        clear(&mut search.offsets);
         return Ok(());
     };
-    exactly_image(inner, rows, least, ground, places, tests)?;
-    at_most_image(inner, rows, more, ground, places, tests)
+    let rows = rows_at(known, 0);
+    exactly_image(inner, rows, least, search)?;
+    at_most_image(inner, rows, more, search)
 }
 
 /// The most words that may still follow once some are taken, where there is a most; none where so
@@ -222,64 +232,51 @@ fn most_after(most: Option<u32>, taken: u32) -> Option<Option<u32>>
     }
 }
 
-/// The same for exactly so many words of the pattern. Once a word more reaches the same places, so
+/// The same for exactly so many words of the pattern. Once a word more reaches the same offsets, so
 /// do all further ones.
 #[cycle(images)]
 fn exactly_image(
     inner: &Pattern,
-    rows: &[Places],
+    rows: &[Offsets],
     count: u32,
-    ground: Ground<'_>,
-    places: &mut Places,
-    tests: &mut Tests,
+    search: &mut Search<'_>,
 ) -> Result<(), AllocError>
-    requires sized { length places.old.items ≡ suc (length ground.text.now) }
-    requires known { AreKnown (Language (tree inner.now)) ground.text.now (marks_of
-        rows.now) }
-    ensures image { OnOk result (IsImage (Power (Language (tree inner.now)) count)
-        ground.entry.text.now places.old.items places.new.items) }
-    ensures counted { tests.old ≤ tests.new }
+    requires { AreKnown (Language (tree inner.now)) search.old.ground.text.now (marks_of rows.now) }
+    ensures { Leads (Power (Language (tree inner.now)) count) search.old search.new result }
 {
-    let mut before = copy_of(ground.alloc, places)?;
+    let mut before = copy_of(search.ground.alloc, &search.offsets)?;
     for _ in 0..count {
-        part_image(inner, rows, ground, places, tests)?;
-        if is_settled(places, &before) {
+        part_image(inner, rows, search)?;
+        if is_settled(&search.offsets, &before) {
             break;
         }
-        assign(&mut before, places)?;
+        assign(&mut before, &search.offsets);
     }
     Ok(())
 }
 
-/// The same for at most so many words of the pattern. Only the places that are new go on.
+/// The same for at most so many words of the pattern. Only the offsets that are new go on.
 #[cycle(images)]
 fn at_most_image(
     inner: &Pattern,
-    rows: &[Places],
+    rows: &[Offsets],
     most: Option<u32>,
-    ground: Ground<'_>,
-    places: &mut Places,
-    tests: &mut Tests,
+    search: &mut Search<'_>,
 ) -> Result<(), AllocError>
-    requires sized { length places.old.items ≡ suc (length ground.text.now) }
-    requires known { AreKnown (Language (tree inner.now)) ground.text.now (marks_of
-        rows.now) }
-    ensures image { OnOk result (IsImage (Times (Language (tree inner.now)) most)
-        ground.entry.text.now places.old.items places.new.items) }
-    ensures counted { tests.old ≤ tests.new }
+    requires { AreKnown (Language (tree inner.now)) search.old.ground.text.now (marks_of rows.now) }
+    ensures { Leads (Times (Language (tree inner.now)) most) search.old search.new result }
 {
-    let mut reached = copy_of(ground.alloc, places)?;
-    clear(&mut reached);
+    let mut reached = none(search.ground.alloc, search.offsets.len())?;
     let mut left = most;
-    while is_any(places) {
-        unite(&mut reached, places);
+    while is_any(&search.offsets) {
+        unite(&mut reached, &search.offsets);
         let Some(fewer) = most_after(left, 1) else {
             break;
         };
         left = fewer;
-        part_image(inner, rows, ground, places, tests)?;
-        remove(places, &reached);
+        part_image(inner, rows, search)?;
+        remove(&mut search.offsets, &reached);
     }
-    mem::swap(places, &mut reached);
+    mem::swap(&mut search.offsets, &mut reached);
     Ok(())
 }

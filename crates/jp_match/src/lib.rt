@@ -2,7 +2,7 @@
 //!
 //! A layer above takes a matcher by the bound [`Matching`], whose two answers are language
 //! membership, and counts class tests in a [`Tests`]. [`Marks`] is that matcher: it steps a
-//! [`Scan`] over the text, a character at a time. [`Images`] answers the same from sets of places,
+//! [`Scan`] over the text, a character at a time. [`Images`] answers the same from sets of offsets,
 //! for patterns of more positions than a scan takes.
 //!
 //! ```text
@@ -20,17 +20,20 @@ mod counted;
 mod counts;
 mod cutting;
 mod empty_word;
+mod first_chars;
 mod idle;
 mod images;
 mod marking;
 mod marks;
 mod matching;
+mod offsets;
 mod one_class;
+mod only_words;
 mod passing;
-mod places;
 mod relations;
 mod rows;
 mod scan;
+mod search;
 mod stepping;
 #[cfg(test)]
 mod tests;

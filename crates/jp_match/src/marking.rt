@@ -12,7 +12,7 @@ ghost use Rattle.jp_match.specs.Private.Walks.{takes_none};
 use crate::class_tests::Tests;
 use crate::counts::{Counts, MANY_ROUNDS};
 use crate::empty_word::has_empty_word;
-use crate::places::{is_any, none};
+use crate::offsets::{is_any, none};
 use crate::walk::Walk;
 use crate::whole::step_whole;
 use jp_iregexp::Pattern;
@@ -91,9 +91,7 @@ impl<'p> Marking<'p> {
         self.ends = reach.after;
         self.ends_entered = reach.after_entered;
         self.is_idle = !is_any(&self.walk.marks);
-        if self.is_idle {
-            self.walk.at = 0;
-        }
+        self.walk.at = if self.is_idle { 0 } else { self.walk.at };
         reach.before
     }
 

@@ -1,17 +1,19 @@
 //! The matcher of positions: a scan stepped once over the text.
 
-ghost use Rattle.std.specs.Prelude.{◌≡◌, ◌↔◌, ◌⊎◌, ◌+◌, ◌*◌, ◌≤◌, ℕ, IfOk, IsTrue, List, [], ◌∷◌};
+ghost use Rattle.std.specs.Prelude.{◌≡◌, ◌↔◌, ◌⊎◌, ◌+◌, ◌*◌, ◌≤◌, ℕ, IfOk, IfSome, IsTrue, List, [], ◌∷◌};
 ghost use Rattle.std.specs.Prelude.{length, take};
 ghost use Rattle.std.specs.Str.{chars};
 ghost use Rattle.jp_iregexp.specs.Tree.{tree};
 ghost use Rattle.jp_iregexp.specs.Language.{Language};
 ghost use Rattle.jp_iregexp.specs.Positions.{positions_of};
 ghost use Rattle.jp_match.specs.Part.{HasPart};
+ghost use Rattle.jp_match.specs.Private.Beginning.{RulesOut};
 ghost use Rattle.jp_match.specs.Scan.{Left, tree_of};
 
 use crate::class_tests::Tests;
 use crate::counted::{Counted, CountedPattern};
 use crate::cutting::cut;
+use crate::first_chars::FirstChars;
 use crate::images::Images;
 use crate::matching::Matching;
 use crate::scan::Scan;
@@ -43,7 +45,7 @@ impl Matching for Marks {
         text: &str,
         tests: &mut Tests,
     ) -> Result<bool, AllocError> {
-        part_of(alloc, Counted::of(pattern), text, tests)
+        part_of(alloc, Counted::of(pattern), None, text, tests)
     }
 
     fn whole_counted(
@@ -53,7 +55,10 @@ impl Matching for Marks {
         text: &str,
         tests: &mut Tests,
     ) -> Result<bool, AllocError> {
-        whole_of(alloc, pattern.counted(), text, tests)
+        match pattern.only_words() {
+            Some(words) => Ok(words.contain(text)),
+            None => whole_of(alloc, pattern.counted(), text, tests),
+        }
     }
 
     fn part_counted(
@@ -63,7 +68,10 @@ impl Matching for Marks {
         text: &str,
         tests: &mut Tests,
     ) -> Result<bool, AllocError> {
-        part_of(alloc, pattern.counted(), text, tests)
+        match pattern.only_words() {
+            Some(words) => Ok(words.occur_in(text)),
+            None => part_of(alloc, pattern.counted(), pattern.first_chars(), text, tests),
+        }
     }
 }
 
@@ -90,9 +98,12 @@ fn whole_of(
 fn part_of(
     alloc: Global,
     counted: Counted<'_>,
+    first_chars: Option<&FirstChars>,
     text: &str,
     tests: &mut Tests,
 ) -> Result<bool, AllocError>
+    requires { IfSome first_chars (λ first. RulesOut first.now (Language (tree
+        counted.pattern.now))) }
     ensures exact { IfOk result (λ answer. IsTrue answer ↔ HasPart (Language (tree
         counted.entry.pattern.now)) (chars text.entry.now)) }
     ensures bound { positions_of (tree counted.entry.pattern.now) ≤ 4096 → tests.new ≤ tests.old +
@@ -100,7 +111,7 @@ fn part_of(
     ensures kept { tests.old ≤ tests.new }
 {
     match Scan::of_counted(alloc, counted, true)? {
-        Some(mut scan) => Ok(accepts_prefix(&mut scan, text, tests)),
+        Some(mut scan) => Ok(accepts_prefix(&mut scan, first_chars, text, tests)),
         None => part_of_many(alloc, counted.pattern, text, tests),
     }
 }
@@ -137,7 +148,7 @@ fn part_of_many(
 {
     let cut = cut(alloc, pattern, char_count(text))?;
     match Scan::new(alloc, &cut, true)? {
-        Some(mut scan) => Ok(accepts_prefix(&mut scan, text, tests)),
+        Some(mut scan) => Ok(accepts_prefix(&mut scan, None, text, tests)),
         None => Images.part(alloc, &cut, text, tests),
     }
 }
@@ -167,7 +178,13 @@ fn accepts_whole(scan: &mut Scan<'_>, text: &str, tests: &mut Tests) -> bool
 
 /// Whether the scan accepts once it has taken some prefix of the text. It ends at the first one, and
 /// passes over the characters that no word begins with.
-fn accepts_prefix(scan: &mut Scan<'_>, text: &str, tests: &mut Tests) -> bool
+fn accepts_prefix(
+    scan: &mut Scan<'_>,
+    first_chars: Option<&FirstChars>,
+    text: &str,
+    tests: &mut Tests,
+) -> bool
+    requires { IfSome first_chars (λ first. RulesOut first.now (Language (tree_of scan.old))) }
     ensures accepted { IsTrue result
         ↔ ((count : ℕ) × (count ≤ length (chars text.now))
         × Left scan.old (take count (chars text.now))) }
@@ -178,7 +195,7 @@ fn accepts_prefix(scan: &mut Scan<'_>, text: &str, tests: &mut Tests) -> bool
     let mut budget = tests.count();
     for c in text.chars() {
         budget = budget.saturating_add(scan.positions());
-        if stays_within(scan, c, tests, budget) {
+        if stays_within(scan, first_chars, c, tests, budget) {
             continue;
         }
         if scan.advance(c, tests) {
@@ -188,9 +205,16 @@ fn accepts_prefix(scan: &mut Scan<'_>, text: &str, tests: &mut Tests) -> bool
     scan.accepts()
 }
 
-/// Whether the scan stays as it is over the character. It asks only where the tests that this takes
-/// leave those of a step within the budget, since a step may follow.
-fn stays_within(scan: &Scan<'_>, c: char, tests: &mut Tests, budget: u64) -> bool
+/// Whether the scan stays as it is over the character. It tests classes only where their tests leave
+/// those of a step within the budget, since a step may follow.
+fn stays_within(
+    scan: &Scan<'_>,
+    first_chars: Option<&FirstChars>,
+    c: char,
+    tests: &mut Tests,
+    budget: u64,
+) -> bool
+    requires { IfSome first_chars (λ first. RulesOut first.now (Language (tree_of scan.now))) }
     ensures stays { IsTrue result → (word : List ℕ) → Left scan.now word ↔ Left scan.now (c ∷
         word) }
     ensures refuses { IsTrue result → Left scan.now [] → ⊥ }
@@ -198,8 +222,16 @@ fn stays_within(scan: &Scan<'_>, c: char, tests: &mut Tests, budget: u64) -> boo
         budget) }
     ensures kept { tests.old ≤ tests.new }
 {
+    if !scan.is_at_rest() {
+        return false;
+    }
+    if let Some(first_chars) = first_chars
+        && first_chars.rule_out(c)
+    {
+        return true;
+    }
     if budget.saturating_sub(tests.count()) / 2 < scan.positions() {
         return false;
     }
-    scan.stays(c, tests)
+    !scan.may_begin(c, tests)
 }

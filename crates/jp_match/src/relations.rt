@@ -1,16 +1,18 @@
-//! What is known of the parts of a pattern before its places are followed.
+//! What is known of the parts of a pattern before its offsets are followed.
 
-ghost use Rattle.std.specs.Prelude.{◌≤◌, IfOk, map};
+ghost use Rattle.std.specs.Prelude.{map};
 ghost use Rattle.jp_iregexp.specs.Tree.{tree};
 ghost use Rattle.jp_iregexp.specs.Language.{Language};
 ghost use Rattle.jp_match.specs.Private.Rows.{AreRows, AreKnown, EachKnown, marks_of, rows_of};
 ghost use Rattle.jp_match.specs.Private.Rows.{parts_of};
+ghost use Rattle.jp_match.specs.Private.Search.{Finds};
 
 use crate::class_tests::Tests;
-use crate::images::image;
-use crate::places::{Ground, only};
+use crate::images::image_of;
+use crate::offsets::only;
 use crate::rows::Rows;
 use crate::scan::MOST_POSITIONS;
+use crate::search::Ground;
 use jp_iregexp::{Pattern, positions};
 use std::alloc::AllocError;
 
@@ -43,9 +45,8 @@ pub(crate) fn known_parts(
     ground: Ground<'_>,
     tests: &mut Tests,
 ) -> Result<Vec<Rows>, AllocError>
-    ensures known { IfOk result (λ known. EachKnown (parts_of (tree pattern.now))
-        ground.entry.text.now (rows_of known.items)) }
-    ensures kept { tests.old ≤ tests.new }
+    ensures { Finds (λ known. EachKnown (parts_of (tree pattern.now)) ground.entry.text.now (rows_of
+        known.items)) tests.old tests.new result }
 {
     if depth(pattern) <= 2 {
         return Ok(Vec::new(ground.alloc));
@@ -68,9 +69,8 @@ fn each_known(
     ground: Ground<'_>,
     tests: &mut Tests,
 ) -> Result<Vec<Rows>, AllocError>
-    ensures known { IfOk result (λ known. EachKnown (map tree parts.now) ground.entry.text.now
-        (rows_of known.items)) }
-    ensures kept { tests.old ≤ tests.new }
+    ensures { Finds (λ known. EachKnown (map tree parts.now) ground.entry.text.now (rows_of
+        known.items)) tests.old tests.new result }
 {
     let mut known = Vec::new(ground.alloc);
     for part in parts {
@@ -83,9 +83,8 @@ fn each_known(
 /// The rows of a pattern whose repeats stand at least two deep.
 #[cycle(relations)]
 fn known_rows(pattern: &Pattern, ground: Ground<'_>, tests: &mut Tests) -> Result<Rows, AllocError>
-    ensures known { IfOk result (λ rows. AreKnown (Language (tree pattern.now))
-        ground.entry.text.now (marks_of rows.items)) }
-    ensures kept { tests.old ≤ tests.new }
+    ensures { Finds (λ rows. AreKnown (Language (tree pattern.now)) ground.entry.text.now (marks_of
+        rows.items)) tests.old tests.new result }
 {
     if depth(pattern) < 2 {
         return Ok(Vec::new(ground.alloc));
@@ -93,18 +92,16 @@ fn known_rows(pattern: &Pattern, ground: Ground<'_>, tests: &mut Tests) -> Resul
     rows(pattern, ground, tests)
 }
 
-/// What words of the pattern reach from each place alone.
+/// What words of the pattern reach from each offset alone.
 #[cycle(relations)]
 fn rows(pattern: &Pattern, ground: Ground<'_>, tests: &mut Tests) -> Result<Rows, AllocError>
-    ensures rows { IfOk result (λ rows. AreRows (Language (tree pattern.now)) ground.entry.text.now
-        (marks_of rows.items)) }
-    ensures kept { tests.old ≤ tests.new }
+    ensures { Finds (λ rows. AreRows (Language (tree pattern.now)) ground.entry.text.now (marks_of
+        rows.items)) tests.old tests.new result }
 {
     let known = known_parts(pattern, ground, tests)?;
     let mut rows = Vec::new(ground.alloc);
     for start in 0..ground.text.len() + 1 {
-        let mut row = only(ground, start)?;
-        image(pattern, &known, ground, &mut row, tests)?;
+        let row = image_of(pattern, &known, ground, only(ground, start)?, tests)?;
         rows.push(row)?;
     }
     Ok(rows)

@@ -1,8 +1,10 @@
 //! A scan, which takes a text one character at a time.
 
-ghost use Rattle.std.specs.Prelude.{◌≡◌, ◌↔◌, ℕ, ◌+◌, ◌≤◌, IfOk, IsTrue, List, [], ◌∷◌};
+ghost use Rattle.std.specs.Prelude.{◌≡◌, ◌↔◌, ℕ, ◌+◌, ◌≤◌, IfOk, IsTrue, List, [], ◌∷◌, false};
 ghost use Rattle.jp_iregexp.specs.Tree.{tree};
+ghost use Rattle.jp_iregexp.specs.Language.{Language};
 ghost use Rattle.jp_iregexp.specs.Positions.{positions_of};
+ghost use Rattle.jp_match.specs.Private.Beginning.{NeverBegins};
 ghost use Rattle.jp_match.specs.Scan.{Begins, Left, tree_of};
 
 use crate::beginning::may_begin;
@@ -104,18 +106,27 @@ impl<'p> Scan<'p> {
         self.marking.walk.marks.len() as u64
     }
 
-    /// Whether the scan stays as it is over the character, and does not accept before it: it has no
-    /// mark, and no word begins so. That makes at most one class test for each position.
-    pub(crate) fn stays(&self, c: char, tests: &mut Tests) -> bool
-        ensures stays { IsTrue result → (word : List ℕ) → Left self.now word ↔ Left self.now
-            (c ∷ word) }
-        ensures refuses { IsTrue result → Left self.now [] → ⊥ }
+    /// Whether the scan stays as it is over a character that no word begins with, and does not accept
+    /// before it: it looks anywhere, and has no mark.
+    pub(crate) fn is_at_rest(&self) -> bool
+        ensures stays { IsTrue result → (c : ℕ) → NeverBegins (Language (tree_of self.now)) c
+            → (word : List ℕ) → Left self.now word ↔ Left self.now (c ∷ word) }
+        ensures refuses { IsTrue result → (c : ℕ) → NeverBegins (Language (tree_of self.now)) c
+            → Left self.now [] → ⊥ }
+    {
+        if !self.anywhere || !self.at_start {
+            return false;
+        }
+        self.marking.is_idle
+    }
+
+    /// Whether a word may begin with the character. That makes at most one class test for each
+    /// position.
+    pub(crate) fn may_begin(&self, c: char, tests: &mut Tests) -> bool
+        ensures never { result ≡ false → NeverBegins (Language (tree_of self.now)) c }
         ensures counted { tests.new ≤ tests.old + positions_of (tree_of self.now) }
         ensures kept { tests.old ≤ tests.new }
     {
-        if !self.anywhere || !self.at_start || !self.marking.is_idle {
-            return false;
-        }
-        !may_begin(self.marking.pattern, c, tests)
+        may_begin(self.marking.pattern, c, tests)
     }
 }

@@ -11,7 +11,6 @@ use crate::copies::Copies;
 use crate::empty_word::has_empty_word;
 use crate::idle::{Size, idle_part, is_idle_class};
 use crate::one_class::one_class;
-use crate::places::is_any;
 use crate::walk::{Reach, Walk};
 use jp_iregexp::{CharClass, Pattern};
 
@@ -200,16 +199,16 @@ fn step_copy(inner: &Pattern, size: Size, walk: &mut Walk, entered: bool, c: cha
         return step(inner, walk, entered, c);
     }
     let end = walk.at + size.positions;
-    if is_any(&walk.marks[walk.at..end]) {
-        return step(inner, walk, entered, c);
+    if walk.is_unmarked(size.positions) {
+        walk.at = end;
+        walk.round += size.rounds;
+        return Reach {
+            before: false,
+            after: false,
+            after_entered: has_empty_word(inner),
+        };
     }
-    walk.at = end;
-    walk.round += size.rounds;
-    Reach {
-        before: false,
-        after: false,
-        after_entered: has_empty_word(inner),
-    }
+    step(inner, walk, entered, c)
 }
 
 /// The same for a repeat with a least and no most: the last copy goes on.

@@ -1,9 +1,11 @@
 //! A walk over the parts of a pattern, from the left.
 
-ghost use Rattle.std.specs.Prelude.{◌≡◌, IsTrue, false, get_or};
-ghost use Rattle.jp_match.specs.Private.Walks.{at_start, by_either, by_next, nowhere, only_if};
+ghost use Rattle.std.specs.Prelude.{◌≡◌, ◌+◌, ◌≤◌, IsTrue, false, length, get_or};
+ghost use Rattle.jp_match.specs.Private.Walks.{IsUnmarked, at_start, by_either, by_next, nowhere};
+ghost use Rattle.jp_match.specs.Private.Walks.{only_if};
 
 use crate::class_tests::Tests;
+use crate::offsets::is_any;
 
 /// The marks of a pattern, what is kept of its repeats, and where a walk over its parts stands: it
 /// comes to the positions and to the repeats one after another, so nothing is counted or looked up.
@@ -20,6 +22,15 @@ pub(crate) struct Walk {
 }
 
 impl Walk {
+    /// Whether none of the next positions, as many as that, has a mark.
+    #[inline(always)]
+    pub(crate) fn is_unmarked(&self, positions: usize) -> bool
+        requires { self.now.at + positions ≤ length self.now.marks.items }
+        ensures { IsTrue result → IsUnmarked self.now positions }
+    {
+        !is_any(&self.marks[self.at..self.at + positions])
+    }
+
     /// Whether a round of the next repeat has ended.
     pub(crate) fn round_has_ended(&self) -> bool
         ensures { result ≡ get_or self.now.rounds.items self.now.round false }

@@ -8,7 +8,7 @@ use Rattle.jp_tree.specs.declared.tree.Numeral.TheVariants.{Beyond, Fraction, Wh
 use Rattle.jp_tree.specs.declared.tree.Slice.{Slice}
 use Rattle.jp_query.specs.Ints.{Int}
 use Rattle.jp_query.specs.Literals.{Literal, of_false, of_null, of_number, of_text, of_true}
-use Rattle.jp_query.specs.Slices.{Bound, Sliced, Step, bound, empty_step}
+use Rattle.jp_query.specs.Slices.{Bound, Sliced, SliceStep, bound, empty_step}
 use Rattle.jp_query.specs.Slices.{given_step, no_bound, no_step}
 use Rattle.jp_tree.specs.Tree.{LiteralTree}
 use Rattle.jp_canon.specs.Canon.{bound_text, is_one, literal_text}
@@ -34,18 +34,18 @@ has-bound x s o t (bound i is h) =
     has-equal_tree Bound bound_text is
     (has-as (λ r p. bound i refl) (before-blank (has-component (int i h.one.inside o h.first h.one.is))))
 
-no-step : Has (Step (Whole (pos 1))) []
+no-step : Has (SliceStep (Whole (pos 1))) []
 no-step = has-as (λ s o. no_step refl) has-omitted
 
 given : (i : Numeral) (b : Bool) → is_one i ≡ b → Has (Int i) (numeral_text i)
-    → Has (Step i) (cond b [] (codes ":" ++ numeral_text i))
-given i true is h = subst (λ j. Has (Step j) []) (sym (is_one-is i is)) no-step
+    → Has (SliceStep i) (cond b [] (codes ":" ++ numeral_text i))
+given i true is h = subst (λ j. Has (SliceStep j) []) (sym (is_one-is i is)) no-step
 given i false is h = has-as (λ s o. given_step)
     (both (has-word (codes ":")) (after-blank (has-component h)))
 
-has-step : (i : Numeral) (s : Spans) (o : ℕ) (t : Text) → Step i s o t → Has (Step i) (step_text i)
-has-step i s o t (no_step is h) = has-equal_tree Step step_text is no-step
-has-step i s o t (empty_step is h) = has-equal_tree Step step_text is no-step
+has-step : (i : Numeral) (s : Spans) (o : ℕ) (t : Text) → SliceStep i s o t → Has (SliceStep i) (step_text i)
+has-step i s o t (no_step is h) = has-equal_tree SliceStep step_text is no-step
+has-step i s o t (empty_step is h) = has-equal_tree SliceStep step_text is no-step
 has-step i s o t (given_step h) =
     let at = o + bytes h.first + bytes h.two.first in
     given i (is_one i) refl (int i h.two.two.inside at h.two.second h.two.two.is)

@@ -1,249 +1,259 @@
--- Rounds of a repeat that only the new places begin.
-use Rattle.std.proofs.Common.{◌≡◌, ◌↔◌, ◌⊎◌, inl, inr, ℕ, zero, suc, ◌+◌, ◌<◌}
-use Rattle.std.proofs.Common.{◌≤◌, Bool, true, false, List, [], ◌∷◌, Option, Some}
-use Rattle.std.proofs.Common.{None, length, get_or, refl, sym, ◌∙◌, subst, arith}
-use Rattle.jp_iregexp.specs.Language.{Concatenation, Power, IsAtMost}
+-- Rounds of a repeat that only the new offsets begin.
+use Rattle.std.proofs.Common.{◌≡◌, ◌↔◌, ◌⊎◌, inl, inr, ℕ, zero, suc, ◌+◌, ◌<◌, ◌≤◌, Bool, true, false}
+use Rattle.std.proofs.Common.{List, Option, Some, None, Ok, length, get_or, cond, refl, sym, ap, ◌∙◌}
+use Rattle.std.proofs.Common.{subst, arith}
+use Rattle.std.proofs.lemmas.Bool.{cases_lt}
+use Rattle.jp_iregexp.specs.Language.{Power, IsAtMost}
 use Rattle.jp_iregexp.proofs.Membership.{at_most_below}
+use Rattle.jp_match.specs.declared.search.Search.{Search}
 use Rattle.jp_match.specs.Private.Counts.{Times, IsMostAfter}
-use Rattle.jp_match.specs.Private.Place.{Marked, Reached, IsImage}
-use Rattle.jp_match.proofs.Sets.Reaching.{halfway, onward, reached_as, reached_from}
-use Rattle.jp_match.proofs.Sets.Reaching.{reached_still, still_reached}
+use Rattle.jp_match.specs.Private.Offset.{Marked, Holds, Reached, IsImage}
+use Rattle.jp_match.specs.Private.Search.{Leads}
+use Rattle.jp_match.proofs.Sets.Reaching.{halfway, onward, reached_by, reached_still, still_reached}
 use Rattle.jp_match.proofs.Sets.Repeats.{at_most_after, not_at_most, at_most_zero}
+use Rattle.jp_match.proofs.Steps.EndParts.{joined_by}
 
 true_or_not : (b : Bool) → (b ≡ true) ⊎ (b ≡ true → ⊥)
 true_or_not true = inl refl
 true_or_not false = inr (λ h. cc)
 
-pub marked_or_not : (places : List Bool) (place : ℕ) → Marked places place ⊎ (Marked places place
-    → ⊥)
-marked_or_not places place = true_or_not (get_or places place false)
+marked_or_not : (offsets : List Bool) (offset : ℕ) → Marked offsets offset ⊎ (Marked offsets offset → ⊥)
+marked_or_not offsets offset = true_or_not (get_or offsets offset false)
 
--- what rounds over the new places alone have reached: with what the new places reach it is all, no
--- word leads out of it but to the new places, and none of those is in it
-pub record Grows (L : List ℕ → Type 0) (text : List ℕ) (first : List Bool) (most left : Option ℕ)
-    (reached now : List Bool) : Type 0 where
-  pub reached_length : length reached ≡ suc (length text)
-  pub now_length : length now ≡ suc (length text)
-  pub each : (place : ℕ) → (Marked reached place ⊎ Reached (Times L left) text now place) ↔ Reached
-      (Times L most) text first place
-  pub closed : (place : ℕ) → Reached L text reached place → Marked reached place ⊎ Marked now place
-  pub apart : (place : ℕ) → Marked now place → Marked reached place → ⊥
+-- what rounds over the new offsets alone have reached: with what the new offsets reach it is all, no
+-- word leads out of it but to the new offsets, and none of those is in it
+pub record Grows (L : List ℕ → Type 0) (most left : Option ℕ) (first now : Search) (reached : List
+    Bool) : Type 0 where
+  pub text : now.ground.text.now ≡ first.ground.text.now
+  pub long : length reached ≡ length now.offsets.items
+  pub each : (offset : ℕ) → (Marked reached offset ⊎ Reached (Times L left) now.ground.text.now
+      now.offsets.items offset) ↔ Reached (Times L most) first.ground.text.now first.offsets.items offset
+  pub closed : (offset : ℕ) → Reached L now.ground.text.now reached offset
+      → Marked reached offset ⊎ Marked now.offsets.items offset
+  pub apart : (offset : ℕ) → Marked now.offsets.items offset → Marked reached offset → ⊥
+  pub kept : first.tests ≤ now.tests
 
--- by any number of words: to what is reached, or on from a new place by not more words
-pub record LeadsOn (L : List ℕ → Type 0) (text : List ℕ) (now : List Bool) (k place : ℕ) : Type 0
-  where
-    pub words : ℕ
-    pub fewer : words ≤ k
-    pub way : Reached (Power L words) text now place
-
-pub leads_on : (L : List ℕ → Type 0) (text : List ℕ) (reached now : List Bool) → ((place : ℕ)
-    → Reached L text reached place → Marked reached place ⊎ Marked now place)
-    → (k place : ℕ) → Reached (Power L k) text reached place
-    → Marked reached place ⊎ LeadsOn L text now k place
-leads_on L text reached now closed zero place r = inl (still_reached text reached place r)
-leads_on L text reached now closed (suc k) place r =
-    let way = halfway L (Power L k) text reached place r in
-    elim (closed way.middle way.first) [
-      | inl old ↦ elim (leads_on L text reached now closed k place (way.second reached old)) [
-        | inl marked ↦ inl marked
-        | inr on ↦ inr (record { words = on.words; fewer = omega (arith, on.fewer); way = on.way })
+module _ (L : List ℕ → Type 0) (text : List ℕ) where
+  -- by any number of words: to what is reached, or on from a new offset by not more words
+  leads_on : (reached now : List Bool) → ((offset : ℕ) → Reached L text reached offset
+      → Marked reached offset ⊎ Marked now offset) → (k offset : ℕ)
+      → Reached (Power L k) text reached offset → Marked reached offset ⊎
+      ((words : ℕ) × (words ≤ k) × Reached (Power L words) text now offset)
+  leads_on reached now closed zero offset r = inl (still_reached r)
+  leads_on reached now closed (suc k) offset r =
+      let way = halfway {L = L} {M = Power L k} r in
+      elim (closed way.middle way.first) [
+        | inl old ↦ elim (leads_on reached now closed k offset (way.second reached old)) [
+          | inl marked ↦ inl marked
+          | inr on ↦ let (words, fewer, there) = on in inr (words, omega (arith, fewer), there)
+        ]
+        | inr new ↦ inr (k, omega arith, way.second now new)
       ]
-      | inr new ↦ inr (record { words = k; fewer = omega arith; way = way.second now new })
-    ]
 
--- a place by no word
-by_no_word : (L : List ℕ → Type 0) (text : List ℕ) (now : List Bool) (most : Option ℕ) (place : ℕ)
-    → length now ≡ suc (length text) → Marked now place → Reached (Times L most) text now place
-by_no_word L text now most place long marked =
-    let r = reached_still text now place long marked in
-    reached_as (λ w. w ≡ []) (Times L most) text now place r (0, at_most_zero most, r.holds)
+  -- an offset by no word
+  by_no_word : (now : List Bool) (most : Option ℕ) (offset : ℕ) → length now ≡ suc (length text)
+      → Marked now offset → Reached (Times L most) text now offset
+  by_no_word now most offset long marked =
+      let r = reached_still offset long marked in
+      reached_by r r.begins (0, at_most_zero most, r.holds)
 
--- a place by a word more
-by_one_more : (L : List ℕ → Type 0) (text : List ℕ) (now stepped next : List Bool) (left fewer :
-    Option ℕ) (place : ℕ) → IsMostAfter left 1 (Some fewer) → IsImage L text now stepped
-    → ((place : ℕ) → Marked next place → Marked stepped place)
-    → Reached (Times L fewer) text next place → Reached (Times L left) text now place
-by_one_more L text now stepped next left fewer place h step within r =
-    let first = (step.reached (length r.before)).0 (within (length r.before) r.begins) in
-    let whole = onward L (Times L fewer) text now next place r first in
-    let cut = whole.holds in
-    let (k, few, words) = cut.second in
-    let count : 1 + k ≡ suc k = omega arith in
-    reached_as (Concatenation L (Times L fewer)) (Times L left) text now place whole (
-      suc k,
-      subst (IsAtMost left) count ((at_most_after left 1 fewer k h).0 few),
-      record {
-        prefix = cut.prefix;
-        suffix = cut.suffix;
-        is = cut.is;
-        first = cut.first;
-        second = words;
-      },
-    )
+  module _ (left fewer : Option ℕ) (h : IsMostAfter left 1 (Some fewer)) (now united stepped next :
+      List Bool) (step : IsImage L text now stepped) (kept : (offset : ℕ) → Marked now offset
+      → Marked united offset) (rest : (offset : ℕ) → Marked next offset ↔ (Marked stepped offset × (Marked
+      united offset → ⊥))) where
+    -- an offset by a word more
+    by_one_more : (offset : ℕ) → Reached (Times L fewer) text next offset
+        → Reached (Times L left) text now offset
+    by_one_more offset r =
+        let first = (step.reached (length r.before)).0 ((rest (length r.before)).0 r.begins).0 in
+        let whole = onward r first in
+        let (k, few, words) = whole.holds.second in
+        let count : 1 + k ≡ suc k = omega arith in
+        reached_by whole whole.begins (
+          suc k,
+          subst (IsAtMost left) count ((at_most_after left 1 fewer k h).0 few),
+          joined_by whole.holds whole.holds.first words,
+        )
 
--- from the new places by some words: none, or one and then others from where it leads
-from_now : (L : List ℕ → Type 0) (text : List ℕ) (now united stepped next : List Bool) (left fewer
-    : Option ℕ) → IsMostAfter left 1 (Some fewer)
-    → ((place : ℕ) → Marked now place → Marked united place) → IsImage L text now stepped
-    → ((place : ℕ) → Marked stepped place → (Marked united place → ⊥) → Marked next place)
-    → ((place : ℕ) → Reached L text united place → Marked united place ⊎ Marked next place)
-    → (k place : ℕ) → IsAtMost left k → Reached (Power L k) text now place
-    → Marked united place ⊎ Reached (Times L fewer) text next place
-from_now L text now united stepped next left fewer h kept step fresh closed zero place within r =
-    inl (kept place (still_reached text now place r))
-from_now L text now united stepped next left fewer h kept step fresh closed (suc k) place within r =
-    let way = halfway L (Power L k) text now place r in
-    let count : suc k ≡ 1 + k = omega arith in
-    let few = (at_most_after left 1 fewer k h).1 (subst (IsAtMost left) count within) in
-    elim (marked_or_not united way.middle) [
-      | inl marked ↦ elim (leads_on L text united next closed k place (way.second united marked)) [
-        | inl there ↦ inl there
-        | inr on ↦ inr (reached_as (Power L on.words) (Times L fewer) text next place on.way
-            (on.words, at_most_below fewer k on.words on.fewer few, on.way.holds))
-      ]
-      | inr not ↦
-          let r' = way.second next (fresh way.middle ((step.reached way.middle).1 way.first) not) in
-          inr (reached_as (Power L k) (Times L fewer) text next place r' (k, few, r'.holds))
-    ]
+    -- from the new offsets by some words: none, or one and then others from where it leads
+    from_now : ((offset : ℕ) → Reached L text united offset → Marked united offset ⊎ Marked next offset)
+        → (k offset : ℕ) → IsAtMost left k → Reached (Power L k) text now offset
+        → Marked united offset ⊎ Reached (Times L fewer) text next offset
+    from_now closed zero offset within r = inl (kept offset (still_reached r))
+    from_now closed (suc k) offset within r =
+        let way = halfway {L = L} {M = Power L k} r in
+        let count : suc k ≡ 1 + k = omega arith in
+        let few = (at_most_after left 1 fewer k h).1 (subst (IsAtMost left) count within) in
+        elim (marked_or_not united way.middle) [
+          | inl marked ↦ elim (leads_on united next closed k offset (way.second united marked)) [
+            | inl there ↦ inl there
+            | inr on ↦
+                let (words, less, there) = on in
+                inr (reached_by there there.begins (
+                  words,
+                  at_most_below fewer k words less few,
+                  there.holds,
+                ))
+          ]
+          | inr not ↦
+              let r' = way.second next ((rest way.middle).1 (
+                (step.reached way.middle).1 way.first,
+                not,
+              )) in
+              inr (reached_by r' r'.begins (k, few, r'.holds))
+        ]
 
--- where no word may be taken, only the places themselves are reached
-still_now : (L : List ℕ → Type 0) (text : List ℕ) (now : List Bool) (left : Option ℕ) (place : ℕ)
-    → IsMostAfter left 1 None → (k : ℕ) → IsAtMost left k → Reached (Power L k) text now place
-    → Marked now place
-still_now L text now left place h zero within r = still_reached text now place r
-still_now L text now left place h (suc k) within r = absurd (not_at_most left 1 (suc k) h (omega
-    arith) within)
+  -- where no word may be taken, only the offsets themselves are reached
+  still_now : (now : List Bool) (left : Option ℕ) (offset : ℕ) → IsMostAfter left 1 None → (k : ℕ)
+      → IsAtMost left k → Reached (Power L k) text now offset → Marked now offset
+  still_now now left offset h zero within r = still_reached r
+  still_now now left offset h (suc k) within r = absurd (not_at_most left 1 (suc k) h (omega arith)
+      within)
 
-pub grows_more : (L : List ℕ → Type 0) (text : List ℕ) (first : List Bool) (most left fewer :
-    Option ℕ) (reached now united stepped next : List Bool)
-    → Grows L text first most left reached now → IsMostAfter left 1 (Some fewer)
-    → length united ≡ length reached → ((place : ℕ)
-    → Marked united place ↔ (Marked reached place ⊎ Marked now place))
-    → IsImage L text now stepped
-    → length next ≡ length stepped → ((place : ℕ)
-    → Marked next place ↔ (Marked stepped place × (Marked united place → ⊥)))
-    → Grows L text first most fewer united next
-grows_more L text first most left fewer reached now united stepped next so_far h united_long both
-    step next_long rest =
-    let closed : (place : ℕ) → Reached L text united place
-    → Marked united place ⊎ Marked next place =
-    λ place r. elim (marked_or_not united place) [
+pub grows_more : {L : List ℕ → Type 0} {most left fewer : Option ℕ} {first now stepped next : Search}
+    {reached united : List Bool} {T E : Type 0} {x : T} → Grows L most left first now reached
+    → IsMostAfter left 1 (Some fewer)
+    → Holds (λ offset. Marked reached offset ⊎ Marked now.offsets.items offset) reached united
+    → Leads {T = T} {E = E} L now stepped (Ok x) → Holds (λ offset. Marked stepped.offsets.items offset × (Marked
+    united offset → ⊥)) stepped.offsets.items next.offsets.items
+    → next.ground.text.now ≡ stepped.ground.text.now → next.tests ≡ stepped.tests
+    → Grows L most fewer first next united
+grows_more {L} {left = left} {fewer} {now = now} {stepped} {next} {united = united} so_far h both led
+    rest text tests =
+    let t = now.ground.text.now in
+    let same : next.ground.text.now ≡ t = text ∙ led.text in
+    let step = led.image in
+    let closed : (offset : ℕ) → Reached L t united offset
+    → Marked united offset ⊎ Marked next.offsets.items offset =
+    λ offset r. elim (marked_or_not united offset) [
       | inl marked ↦ inl marked
-      | inr fresh ↦ elim ((both (length r.before)).0 r.begins) [
-        | inl old ↦ inl ((both place).1 (so_far.closed place (reached_from L text united reached
-            place r old)))
-        | inr new ↦ inr ((rest place).1 (
-          (step.reached place).1 (reached_from L text united now
-              place r new),
+      | inr fresh ↦ elim ((both.each (length r.before)).0 r.begins) [
+        | inl old ↦ inl ((both.each offset).1 (so_far.closed offset (reached_by r old r.holds)))
+        | inr new ↦ inr ((rest.each offset).1 (
+          (step.reached offset).1 (reached_by r new r.holds),
           fresh,
         ))
       ]
-    ]
-    in
+    ] in
+    let kept : (offset : ℕ) → Marked now.offsets.items offset → Marked united offset = λ offset m.
+    (both.each offset).1 (inr m) in
     record {
-      reached_length = united_long ∙ so_far.reached_length;
-      now_length = next_long ∙ step.same_length ∙ so_far.now_length;
-      each = λ place. (
-        λ e. elim e [
-          | inl marked ↦ elim ((both place).0 marked) [
-            | inl old ↦ (so_far.each place).0 (inl old)
-            | inr new ↦ (so_far.each place).0 (inr (by_no_word L text now left place
-                so_far.now_length new))
+      text = same ∙ so_far.text;
+      long = both.same_length ∙ so_far.long ∙ sym (rest.same_length ∙ step.same_length);
+      each = λ offset. rw same (
+        λ e. (so_far.each offset).0 (elim e [
+          | inl marked ↦ elim ((both.each offset).0 marked) [
+            | inl old ↦ inl old
+            | inr new ↦ inr (by_no_word L t now.offsets.items left offset now.sized new)
           ]
-          | inr r ↦ (so_far.each place).0 (inr (by_one_more L text now stepped next left fewer
-              place h step (λ p m. ((rest p).0 m).0) r))
-        ],
-        λ r. elim ((so_far.each place).1 r) [
-          | inl old ↦ inl ((both place).1 (inl old))
-          | inr on ↦ from_now L text now united stepped next left fewer h (λ p m. (both p).1 (inr
-              m)) step (λ p m not. (rest p).1 (
-                m,
-                not,
-              )) closed on.holds.0 place on.holds.1 (reached_as (Times L left) (Power L
-              on.holds.0) text now place on on.holds.2)
+          | inr r ↦ inr (by_one_more L t left fewer h now.offsets.items united stepped.offsets.items
+              next.offsets.items step kept rest.each offset r)
+        ]),
+        λ r. elim ((so_far.each offset).1 r) [
+          | inl old ↦ inl ((both.each offset).1 (inl old))
+          | inr on ↦ let (k, within, words) = on.holds in
+              from_now L t left fewer h now.offsets.items united stepped.offsets.items
+              next.offsets.items step kept rest.each closed k offset within (reached_by on on.begins
+              words)
         ],
       );
-      closed = closed;
-      apart = λ place new old. ((rest place).0 new).1 old;
+      closed = rw same closed;
+      apart = λ offset new old. ((rest.each offset).0 new).1 old;
+      kept = omega (arith, so_far.kept, led.kept, tests);
     }
 
-pub grows_all : (L : List ℕ → Type 0) (text : List ℕ) (first : List Bool) (most left : Option ℕ)
-    (reached now : List Bool) → length first ≡ suc (length text)
-    → Grows L text first most left reached now → ((place : ℕ) → Marked now place → ⊥)
-    → IsImage (Times L most) text first reached
-grows_all L text first most left reached now long so_far none = record {
-  same_length = so_far.reached_length ∙ sym long;
-  reached = λ place. (
-    λ marked. (so_far.each place).0 (inl marked),
-    λ r. elim ((so_far.each place).1 r) [
-      | inl marked ↦ marked
-      | inr on ↦ absurd (none (length
-          on.before) on.begins)
-    ],
-  );
+-- where the new offsets lead only to themselves, they and what is reached are all
+grows_end : {L : List ℕ → Type 0} {most left : Option ℕ} {first now last : Search} {reached : List
+    Bool} {T E : Type 0} {x : T} → Grows L most left first now reached → ((offset : ℕ)
+    → Reached (Times L left) now.ground.text.now now.offsets.items offset → Marked now.offsets.items
+    offset) → Holds (λ offset. Marked reached offset ⊎ Marked now.offsets.items offset) reached
+    last.offsets.items → last.ground.text.now ≡ now.ground.text.now → last.tests ≡ now.tests
+    → Leads {T = T} {E = E} (Times L most) first last (Ok x)
+grows_end {L} {left = left} {first} {now} so_far still both text tests = record {
+  text = text ∙ so_far.text;
+  image = record {
+    same_length = both.same_length ∙ so_far.long ∙ now.sized ∙
+        ap (λ t. suc (length t)) so_far.text ∙ sym first.sized;
+    reached = λ offset. (
+      λ marked. (so_far.each offset).0 (elim ((both.each offset).0 marked) [
+        | inl old ↦ inl old
+        | inr new ↦ inr (by_no_word L now.ground.text.now now.offsets.items left offset now.sized new)
+      ]),
+      λ r. (both.each offset).1 (elim ((so_far.each offset).1 r) [
+        | inl old ↦ inl old
+        | inr on ↦ inr (still offset on)
+      ]),
+    );
+  };
+  kept = omega (arith, so_far.kept, tests);
 }
 
-pub grows_last : (L : List ℕ → Type 0) (text : List ℕ) (first : List Bool) (most left : Option ℕ)
-    (reached now united : List Bool) → length first ≡ suc (length text)
-    → Grows L text first most left reached now → IsMostAfter left 1 None
-    → length united ≡ length reached
-    → ((place : ℕ) → Marked united place ↔ (Marked reached place ⊎ Marked now place))
-    → IsImage (Times L most) text first united
-grows_last L text first most left reached now united long so_far h united_long both = record {
-  same_length = united_long ∙ so_far.reached_length ∙ sym long;
-  reached = λ place. (
-    λ marked. elim ((both place).0 marked) [
-      | inl old ↦ (so_far.each place).0 (inl old)
-      | inr new ↦ (so_far.each place).0 (inr (by_no_word L text now left place so_far.now_length
-          new))
-    ],
-    λ r. elim ((so_far.each place).1 r) [
-      | inl old ↦ (both place).1 (inl old)
-      | inr on ↦ (both place).1 (inr (still_now L text now left place h on.holds.0 on.holds.1
-          (reached_as (Times L left) (Power L on.holds.0) text now place on on.holds.2)))
-    ],
-  );
-}
+pub grows_all : {L : List ℕ → Type 0} {most left : Option ℕ} {first now last : Search} {reached :
+    List Bool} {T E : Type 0} {x : T} → Grows L most left first now reached
+    → ((offset : ℕ) → Marked now.offsets.items offset → ⊥) → last.offsets.items ≡ reached
+    → last.ground.text.now ≡ now.ground.text.now → last.tests ≡ now.tests
+    → Leads {T = T} {E = E} (Times L most) first last (Ok x)
+grows_all so_far none is text tests = grows_end so_far
+    (λ offset r. absurd (none (length r.before) r.begins))
+    (rw is (record {
+      same_length = refl;
+      each = λ offset. (λ m. inl m, λ e. elim e [ inl m ↦ m | inr new ↦ absurd (none offset new) ]);
+    })) text tests
 
--- how many places are not in the set
-pub absent : List Bool → ℕ
-absent [] = 0
-absent (true ∷ places) = absent places
-absent (false ∷ places) = suc (absent places)
+pub grows_last : {L : List ℕ → Type 0} {most left : Option ℕ} {first now last : Search} {reached
+    united : List Bool} {T E : Type 0} {x : T} → Grows L most left first now reached
+    → IsMostAfter left 1 None
+    → Holds (λ offset. Marked reached offset ⊎ Marked now.offsets.items offset) reached united
+    → last.offsets.items ≡ united → last.ground.text.now ≡ now.ground.text.now
+    → last.tests ≡ now.tests → Leads {T = T} {E = E} (Times L most) first last (Ok x)
+grows_last {L} {left = left} {now = now} so_far h both is text tests = grows_end so_far
+    (λ offset r. let (k, within, words) = r.holds in
+    still_now L now.ground.text.now now.offsets.items left offset h k within (reached_by r r.begins
+    words)) (rw is both) text tests
 
-absent_both : (x y : Bool) (xs ys : List Bool) → (x ≡ true → y ≡ true) → absent ys ≤ absent xs
-    → absent (y ∷ ys) ≤ absent (x ∷ xs)
-unfolding absent
-absent_both true true xs ys h rest = rest
-absent_both true false xs ys h rest = absurd (let e = h refl in cc)
-absent_both false true xs ys h rest = omega arith
-absent_both false false xs ys h rest = omega arith
+-- how many offsets below one are not in the set
+pub absent : List Bool → ℕ → ℕ
+absent offsets zero = 0
+absent offsets (suc n) = cond (get_or offsets n false) 0 1 + absent offsets n
 
-absent_le : (xs ys : List Bool) → length xs ≡ length ys → ((k : ℕ) → Marked xs k → Marked ys k)
-    → absent ys ≤ absent xs
-unfolding absent
-absent_le [] [] long more = omega arith
-absent_le [] (y ∷ ys) long more = absurd (omega (arith, long))
-absent_le (x ∷ xs) [] long more = absurd (omega (arith, long))
-absent_le (x ∷ xs) (y ∷ ys) long more = absent_both x y xs ys (more 0) (absent_le xs ys (omega
-    (arith, long)) (λ k. more (suc k)))
+absent_bit : (x y : Bool) → (x ≡ true → y ≡ true) → cond y 0 1 ≤ cond x 0 1
+absent_bit true true h = omega arith
+absent_bit true false h = absurd (let e = h refl in cc)
+absent_bit false true h = omega arith
+absent_bit false false h = omega arith
 
--- a place more in the set is one absent place less
-pub absent_falls : (xs ys : List Bool) → length xs ≡ length ys → ((k : ℕ) → Marked xs k
-    → Marked ys k) → (place : ℕ) → Marked ys place → (Marked xs place → ⊥) → absent ys < absent xs
-unfolding absent
-absent_falls [] [] long more place new old = absurd (let e = new in cc)
-absent_falls [] (y ∷ ys) long more place new old = absurd (omega (arith, long))
-absent_falls (x ∷ xs) [] long more place new old = absurd (omega (arith, long))
-absent_falls (true ∷ xs) (y ∷ ys) long more zero new old = absurd (old refl)
-absent_falls (false ∷ xs) (true ∷ ys) long more zero new old = let rest = absent_le xs ys (omega
-    (arith, long)) (λ k. more (suc k)) in omega arith
-absent_falls (false ∷ xs) (false ∷ ys) long more zero new old = absurd (let e = new in cc)
-absent_falls (true ∷ xs) (true ∷ ys) long more (suc place) new old = absent_falls xs ys (omega
-    (arith, long)) (λ k. more (suc k)) place new old
-absent_falls (true ∷ xs) (false ∷ ys) long more (suc place) new old = absurd (let e = more 0 refl
-    in cc)
-absent_falls (false ∷ xs) (true ∷ ys) long more (suc place) new old = let rest = absent_falls xs ys
-    (omega (arith, long)) (λ k. more (suc k)) place new old in omega arith
-absent_falls (false ∷ xs) (false ∷ ys) long more (suc place) new old = let rest = absent_falls xs
-    ys (omega (arith, long)) (λ k. more (suc k)) place new old in omega arith
+absent_less : (x y : Bool) → y ≡ true → (x ≡ true → ⊥) → cond y 0 1 < cond x 0 1
+absent_less true y new old = absurd (old refl)
+absent_less false true new old = omega arith
+absent_less false false new old = absurd (cc)
+
+module _ (xs ys : List Bool) (more : (k : ℕ) → Marked xs k → Marked ys k) where
+  absent_le : (n : ℕ) → absent ys n ≤ absent xs n
+  unfolding absent
+  absent_le zero = omega arith
+  absent_le (suc n) = omega (
+    arith,
+    absent_bit (get_or xs n false) (get_or ys n false) (more n),
+    absent_le n,
+  )
+
+  -- an offset more in the set is one absent offset less
+  pub absent_falls : (n offset : ℕ) → offset < n → Marked ys offset → (Marked xs offset → ⊥)
+      → absent ys n < absent xs n
+  unfolding absent
+  absent_falls zero offset below new old = absurd (omega arith)
+  absent_falls (suc n) offset below new old = elim (cases_lt offset n) [
+    | inl earlier ↦ omega (
+      arith,
+      absent_bit (get_or xs n false) (get_or ys n false) (more n),
+      absent_falls n offset earlier new old,
+    )
+    | inr here ↦
+        let at : offset ≡ n = omega arith in
+        omega (
+          arith,
+          absent_less (get_or xs n false) (get_or ys n false) (subst (Marked ys) at new)
+              (λ m. old (subst (Marked xs) (sym at) m)),
+          absent_le n,
+        )
+  ]

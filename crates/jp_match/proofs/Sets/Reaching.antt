@@ -1,48 +1,34 @@
--- What sets of places reach by words of a language.
+-- What sets of offsets reach by words of a language.
 use Rattle.std.proofs.Common.{◌≡◌, ◌↔◌, ◌⊎◌, inl, inr, ℕ, suc, Bool, List, [], ◌++◌, length, refl}
-use Rattle.std.proofs.Common.{sym, ap, ◌∙◌, subst, arith}
+use Rattle.std.proofs.Common.{sym, ap, ◌∙◌, subst, arith, ◌≤◌, Ok, Err}
 use Rattle.std.proofs.lemmas.List.{length-append, append_assoc}
 use Rattle.jp_iregexp.specs.Language.{Concatenation}
-use Rattle.jp_match.specs.Private.Place.{Marked, Reached, IsImage}
+use Rattle.jp_match.specs.Private.Offset.{Marked, Holds, Reached, IsImage}
+use Rattle.jp_match.specs.Private.Search.{Leads}
+use Rattle.jp_match.specs.declared.search.Search.{Search}
 use Rattle.jp_match.proofs.Sets.Cuts.{cut_apart, cut_at, marked_below}
 
--- the way is also one by another language that holds its word
-pub reached_as : (L M : List ℕ → Type 0) (text : List ℕ) (from : List Bool) (place : ℕ)
-    → (r : Reached L text from place) → M r.word → Reached M text from place
-reached_as L M text from place r holds = record {
-  before = r.before;
-  word = r.word;
-  after = r.after;
-  is = r.is;
-  begins = r.begins;
-  holds = holds;
-  ends = r.ends;
-}
-
--- the way is also one from another set that has its beginning
-pub reached_from : (L : List ℕ → Type 0) (text : List ℕ) (from other : List Bool) (place : ℕ)
-    → (r : Reached L text from place) → Marked other (length r.before) → Reached L text other place
-reached_from L text from other place r begins = record {
+-- the way is also one by another language that holds its word, from another set that has its
+-- beginning
+pub reached_by : {L M : List ℕ → Type 0} {text : List ℕ} {from other : List Bool} {offset : ℕ}
+    → (r : Reached L text from offset) → Marked other (length r.before) → M r.word
+    → Reached M text other offset
+reached_by r begins holds = record {
   before = r.before;
   word = r.word;
   after = r.after;
   is = r.is;
   begins = begins;
-  holds = r.holds;
+  holds = holds;
   ends = r.ends;
 }
 
--- words of one language are words of another
-pub reached_by : (L M : List ℕ → Type 0) (text : List ℕ) (from : List Bool) (place : ℕ)
-    → ((w : List ℕ) → L w → M w) → Reached L text from place → Reached M text from place
-reached_by L M text from place each r = reached_as L M text from place r (each r.word r.holds)
-
--- no word leads from a place to itself, and nowhere else
-pub reached_still : (text : List ℕ) (from : List Bool) (place : ℕ)
-    → length from ≡ suc (length text) → Marked from place → Reached (λ w. w ≡ []) text from place
-reached_still text from place long marked =
-    let below = marked_below from place marked in
-    let cut = cut_at text place (omega arith) in
+-- no word leads from an offset to itself, and nowhere else
+pub reached_still : {text : List ℕ} {from : List Bool} (offset : ℕ)
+    → length from ≡ suc (length text) → Marked from offset → Reached (λ w. w ≡ []) text from offset
+reached_still {text} {from} offset long marked =
+    let below = marked_below from offset marked in
+    let cut = cut_at text offset (omega arith) in
     record {
       before = cut.before;
       word = [];
@@ -53,22 +39,22 @@ reached_still text from place long marked =
       ends = omega (arith, cut.ends);
     }
 
-pub still_reached : (text : List ℕ) (from : List Bool) (place : ℕ)
-    → Reached (λ w. w ≡ []) text from place → Marked from place
-still_reached text from place r =
-    let at : length r.before ≡ place = omega (arith, r.ends, ap length r.holds) in
+pub still_reached : {text : List ℕ} {from : List Bool} {offset : ℕ}
+    → Reached (λ w. w ≡ []) text from offset → Marked from offset
+still_reached {from} {offset} r =
+    let at : length r.before ≡ offset = omega (arith, r.ends, ap length r.holds) in
     subst (Marked from) at r.begins
 
--- a way by a word of two parts goes by a place between them
+-- a way by a word of two parts goes by an offset between them
 pub record Halfway (L M : List ℕ
-    → Type 0) (text : List ℕ) (from : List Bool) (place : ℕ) : Type 0 where
+    → Type 0) (text : List ℕ) (from : List Bool) (offset : ℕ) : Type 0 where
   pub middle : ℕ
   pub first : Reached L text from middle
-  pub second : (places : List Bool) → Marked places middle → Reached M text places place
+  pub second : (offsets : List Bool) → Marked offsets middle → Reached M text offsets offset
 
-pub halfway : (L M : List ℕ → Type 0) (text : List ℕ) (from : List Bool) (place : ℕ)
-    → Reached (Concatenation L M) text from place → Halfway L M text from place
-halfway L M text from place r =
+pub halfway : {L M : List ℕ → Type 0} {text : List ℕ} {from : List Bool} {offset : ℕ}
+    → Reached (Concatenation L M) text from offset → Halfway L M text from offset
+halfway {L} {text = text} {from} r =
     let cut = r.holds in
     let first : Reached L text from (length (r.before ++ cut.prefix)) = record {
       before = r.before;
@@ -83,7 +69,7 @@ halfway L M text from place r =
     record {
       middle = length (r.before ++ cut.prefix);
       first = first;
-      second = λ places marked. record {
+      second = λ offsets marked. record {
         before = r.before ++ cut.prefix;
         word = cut.suffix;
         after = r.after;
@@ -101,10 +87,10 @@ halfway L M text from place r =
     }
 
 -- a word leads on from where another has led
-pub onward : (L M : List ℕ → Type 0) (text : List ℕ) (from through : List Bool) (place : ℕ)
-    → (second : Reached M text through place) → Reached L text from (length second.before)
-    → Reached (Concatenation L M) text from place
-onward L M text from through place second first =
+pub onward : {L M : List ℕ → Type 0} {text : List ℕ} {from through : List Bool} {offset : ℕ}
+    → (second : Reached M text through offset) → Reached L text from (length second.before)
+    → Reached (Concatenation L M) text from offset
+onward second first =
     let same = cut_apart (first.before ++ first.word) first.after second.before (second.word ++
     second.after) (append_assoc first.before first.word first.after ∙ sym first.is ∙
     second.is) (length-append first.before first.word ∙ first.ends) in
@@ -126,89 +112,132 @@ onward L M text from through place second first =
     }
 
 -- the image of words of two parts is the image of an image
-pub image_joined : (L M : List ℕ → Type 0) (text : List ℕ) (a b c : List Bool)
+pub image_joined : {L M : List ℕ → Type 0} {text : List ℕ} {a b c : List Bool}
     → IsImage L text a b → IsImage M text b c → IsImage (Concatenation L M) text a c
-image_joined L M text a b c ab bc = record {
+image_joined {b = b} ab bc = record {
   same_length = bc.same_length ∙ ab.same_length;
-  reached = λ place. (
+  reached = λ offset. (
     λ marked.
-        let second = (bc.reached place).0 marked in
-        onward L M text a b place second ((ab.reached (length second.before)).0 second.begins),
+        let second = (bc.reached offset).0 marked in
+        onward second ((ab.reached (length second.before)).0 second.begins),
     λ r.
-        let way = halfway L M text a place r in
-        (bc.reached place).1 (way.second b ((ab.reached way.middle).1 way.first)),
+        let way = halfway r in
+        (bc.reached offset).1 (way.second b ((ab.reached way.middle).1 way.first)),
   );
 }
 
 -- the image by the empty word is the set
-pub image_still : (text : List ℕ) (a : List Bool) → length a ≡ suc (length text)
+pub image_still : {text : List ℕ} {a : List Bool} → length a ≡ suc (length text)
     → IsImage (λ w. w ≡ []) text a a
-image_still text a long = record {
+image_still long = record {
   same_length = refl;
-  reached = λ place. (
-    reached_still text a
-        place long,
-    still_reached text a place,
-  );
+  reached = λ offset. (reached_still offset long, still_reached);
 }
 
 -- two languages of the same words have the same image
-pub image_by : (L M : List ℕ → Type 0) (text : List ℕ) (a b : List Bool) → ((w : List ℕ)
+pub image_by : {L M : List ℕ → Type 0} {text : List ℕ} {a b : List Bool} → ((w : List ℕ)
     → L w ↔ M w) → IsImage L text a b → IsImage M text a b
-image_by L M text a b same image = record {
+image_by same image = record {
   same_length = image.same_length;
-  reached = λ place. (
-    λ marked. reached_by L M text a place (λ w. (same w).0) ((image.reached place).0 marked),
-    λ r. (image.reached place).1 (reached_by M L text a place (λ w. (same w).1) r),
+  reached = λ offset. (
+    λ marked. let r = (image.reached offset).0 marked in
+        reached_by r r.begins ((same r.word).0 r.holds),
+    λ r. (image.reached offset).1 (reached_by r r.begins ((same r.word).1 r.holds)),
   );
 }
 
--- whatever the rest reaches from the set, the whole reaches from the first set
-pub record Completes (whole rest : List ℕ
-    → Type 0) (text : List ℕ) (first now : List Bool) : Type 0 where
-  pub ends : (to : List Bool) → IsImage rest text now to → IsImage whole text first to
+-- a search has gone so far: whatever the rest reaches from its offsets now, the whole reaches from
+-- the first ones
+pub record Completes (whole rest : List ℕ → Type 0) (first now : Search) : Type 0 where
+  pub text : now.ground.text.now ≡ first.ground.text.now
+  pub ends : (to : List Bool) → IsImage rest first.ground.text.now now.offsets.items to
+      → IsImage whole first.ground.text.now first.offsets.items to
+  pub kept : first.tests ≤ now.tests
 
-pub completes_more : (whole L M : List ℕ → Type 0) (text : List ℕ) (first now next : List Bool)
-    → Completes whole (Concatenation L M) text first now → IsImage L text now next
-    → Completes whole M text first next
-completes_more whole L M text first now next so_far step = record {
-  ends = λ to image. so_far.ends
-      to (image_joined L M text now next to step image);
+pub completes_more : {whole L M : List ℕ → Type 0} {first now next : Search} {T E : Type 0} {x : T}
+    → Completes whole (Concatenation L M) first now → Leads {T = T} {E = E} L now next (Ok x)
+    → Completes whole M first next
+completes_more {L} {now = now} {next} so_far led =
+    let step = rw so_far.text at led.image in
+    record {
+      text = led.text ∙ so_far.text;
+      ends = λ to image. so_far.ends to (image_joined step image);
+      kept = omega (arith, so_far.kept, led.kept);
+    }
+
+pub completes_all : {whole : List ℕ → Type 0} {first now : Search} {T E : Type 0} {x : T}
+    → Completes whole (λ w. w ≡ []) first now → Leads {T = T} {E = E} whole first now (Ok x)
+completes_all {now = now} so_far = record {
+  text = so_far.text;
+  image = so_far.ends now.offsets.items (image_still (now.sized ∙ ap (λ t. suc (length t))
+      so_far.text));
+  kept = so_far.kept;
 }
 
-pub completes_all : (whole : List ℕ → Type 0) (text : List ℕ) (first now : List Bool)
-    → length now ≡ suc (length text) → Completes whole (λ w. w ≡ []) text first now
-    → IsImage whole text first now
-completes_all whole text first now long so_far = so_far.ends now (image_still text now long)
+-- memory ran out
+pub completes_none : {whole rest L : List ℕ → Type 0} {first now next : Search} {T U E : Type 0}
+    {e : E} → Completes whole rest first now → Leads {T = T} {E = E} L now next (Err e)
+    → Leads {T = U} {E = E} whole first next (Err e)
+completes_none so_far led = record {
+  text = led.text ∙ so_far.text;
+  image = tt;
+  kept = omega (arith, so_far.kept, led.kept);
+}
 
 -- what is reached already, with what the rest reaches, is what the whole reaches
-pub record Covers (whole rest : List ℕ
-    → Type 0) (text : List ℕ) (from reached : List Bool) : Type 0 where
-  pub each : (place : ℕ) → (Marked reached place ⊎ Reached rest text from place) ↔ Reached whole
-      text from place
+pub record Covers (whole rest : List ℕ → Type 0) (first now : Search) (reached : List Bool) : Type 0
+  where
+    pub text : now.ground.text.now ≡ first.ground.text.now
+    pub long : length reached ≡ length first.offsets.items
+    pub each : (offset : ℕ) → (Marked reached offset ⊎ Reached rest first.ground.text.now
+        first.offsets.items offset) ↔ Reached whole first.ground.text.now first.offsets.items offset
+    pub kept : first.tests ≤ now.tests
 
-pub covers_more : (whole L M : List ℕ
-    → Type 0) (text : List ℕ) (from reached now next : List Bool)
-    → Covers whole (λ w. L w ⊎ M w) text from reached → IsImage L text from now → ((place : ℕ)
-    → Marked next place ↔ (Marked reached place ⊎ Marked now place)) → Covers whole M text from next
-covers_more whole L M text from reached now next so_far step both = record {
-  each = λ place. (
-    λ h. elim h [
-      | inl marked ↦ elim ((both place).0 marked) [
-        | inl old ↦ (so_far.each place).0 (inl old)
-        | inr new ↦ (so_far.each place).0 (inr (reached_by L (λ w. L w ⊎ M w) text from place (λ w
-            l. inl l) ((step.reached place).0 new)))
-      ]
-      | inr r ↦ (so_far.each place).0 (inr (reached_by M (λ w. L w ⊎ M w) text from place (λ w m.
-          inr m) r))
-    ],
-    λ r. elim ((so_far.each place).1 r) [
-      | inl old ↦ inl ((both place).1 (inl old))
-      | inr r ↦ elim r.holds [
-        | inl l ↦ inl ((both place).1 (inr ((step.reached place).1 (reached_as (λ w. L w ⊎ M w) L
-            text from place r l))))
-        | inr m ↦ inr (reached_as (λ w. L w ⊎ M w) M text from place r m)
-      ]
-    ],
-  );
+pub covers_more : {whole L M : List ℕ → Type 0} {first now start next : Search} {reached united :
+    List Bool} {T E : Type 0} {x : T} → Covers whole (λ w. L w ⊎ M w) first now reached
+    → start.ground.text.now ≡ now.ground.text.now → start.offsets.items ≡ first.offsets.items
+    → start.tests ≡ now.tests → Leads {T = T} {E = E} L start next (Ok x)
+    → Holds (λ offset. Marked reached offset ⊎ Marked next.offsets.items offset) reached united
+    → Covers whole M first next united
+covers_more so_far text from tests led both =
+    let step = rw (text, so_far.text, from) at led.image in
+    record {
+      text = led.text ∙ text ∙ so_far.text;
+      long = both.same_length ∙ so_far.long;
+      each = λ offset. (
+        λ h. (so_far.each offset).0 (elim h [
+          | inl marked ↦ elim ((both.each offset).0 marked) [
+            | inl old ↦ inl old
+            | inr new ↦ let r = (step.reached offset).0 new in
+                inr (reached_by r r.begins (inl r.holds))
+          ]
+          | inr r ↦ inr (reached_by r r.begins (inr r.holds))
+        ]),
+        λ r. elim ((so_far.each offset).1 r) [
+          | inl old ↦ inl ((both.each offset).1 (inl old))
+          | inr r ↦ elim r.holds [
+            | inl l ↦ inl ((both.each offset).1 (inr ((step.reached offset).1 (reached_by r r.begins
+                l))))
+            | inr m ↦ inr (reached_by r r.begins m)
+          ]
+        ],
+      );
+      kept = omega (arith, so_far.kept, tests, led.kept);
+    }
+
+-- no branch is left
+pub covers_all : {whole : List ℕ → Type 0} {first now last : Search} {reached : List Bool} {T E :
+    Type 0} {x : T} → Covers whole (λ w. ⊥) first now reached
+    → last.ground.text.now ≡ now.ground.text.now → last.offsets.items ≡ reached
+    → last.tests ≡ now.tests → Leads {T = T} {E = E} whole first last (Ok x)
+covers_all so_far text is tests = record {
+  text = text ∙ so_far.text;
+  image = rw is (record {
+    same_length = so_far.long;
+    reached = λ offset. (
+      λ marked. (so_far.each offset).0 (inl marked),
+      λ r. elim ((so_far.each offset).1 r) [ inl marked ↦ marked | inr none ↦ absurd none.holds ],
+    );
+  });
+  kept = omega (arith, so_far.kept, tests);
 }

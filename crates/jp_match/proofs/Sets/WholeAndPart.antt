@@ -3,16 +3,16 @@ use Rattle.std.proofs.Common.{◌≡◌, ◌↔◌, ℕ, ◌+◌, ◌≤◌, Boo
 use Rattle.std.proofs.Common.{ap, ◌∙◌, subst, arith}
 use Rattle.std.proofs.lemmas.List.{length-append, append-nil}
 use Rattle.jp_match.specs.Part.{HasPart}
-use Rattle.jp_match.specs.Private.Place.{Marked, IsImage}
+use Rattle.jp_match.specs.Private.Offset.{Marked, IsImage}
 
 no_length : (xs : List ℕ) → length xs ≡ 0 → xs ≡ []
 no_length [] h = refl
 no_length (x ∷ xs) h = absurd (omega (arith, h))
 
--- from the first place alone, the last is reached exactly by the whole text
-pub whole_reached : (L : List ℕ → Type 0) (text : List ℕ) (from to : List Bool) → ((place : ℕ)
-    → Marked from place ↔ (place ≡ 0)) → IsImage L text from to → Marked to (length text) ↔ L text
-whole_reached L text from to first image = (
+-- from the first offset alone, the last is reached exactly by the whole text
+pub whole_reached : {L : List ℕ → Type 0} {text : List ℕ} {from to : List Bool} → ((offset : ℕ)
+    → Marked from offset ↔ (offset ≡ 0)) → IsImage L text from to → Marked to (length text) ↔ L text
+whole_reached {L} {text} first image = (
   λ marked.
       let r = (image.reached (length text)).0 marked in
       let prefix : r.before ≡ [] = no_length r.before ((first (length r.before)).0 r.begins) in
@@ -37,29 +37,28 @@ whole_reached L text from to first image = (
   }),
 )
 
--- from every place, a place is reached exactly if some part of the text is a word
-pub part_reached : (L : List ℕ → Type 0) (text : List ℕ) (from to : List Bool) → ((place : ℕ)
-    → Marked from place ↔ (place ≤ length text)) → IsImage L text from to
-    → ((place : ℕ) × Marked to place) ↔ HasPart L text
-part_reached L text from to every image = (
+-- from every offset, an offset is reached exactly if some part of the text is a word
+pub part_reached : {L : List ℕ → Type 0} {text : List ℕ} {from to : List Bool} → ((offset : ℕ)
+    → Marked from offset ↔ (offset ≤ length text)) → IsImage L text from to
+    → ((offset : ℕ) × Marked to offset) ↔ HasPart L text
+part_reached every image = (
   λ any.
       let r = (image.reached any.0).0 any.1 in
       record { before = r.before; part = r.word; after = r.after; is = r.is; holds = r.holds },
-  λ h.
-      let place = length h.before + length h.part in (
-        place,
-        (image.reached place).1 (record {
-          before = h.before;
-          word = h.part;
-          after = h.after;
-          is = h.is;
-          begins = (every (length h.before)).1 (omega (
-            arith,
-            ap length h.is,
-            length-append h.before (h.part ++ h.after),
-          ));
-          holds = h.holds;
-          ends = refl;
-        }),
-      ),
+  λ h. (
+    length h.before + length h.part,
+    (image.reached (length h.before + length h.part)).1 (record {
+      before = h.before;
+      word = h.part;
+      after = h.after;
+      is = h.is;
+      begins = (every (length h.before)).1 (omega (
+        arith,
+        ap length h.is,
+        length-append h.before (h.part ++ h.after),
+      ));
+      holds = h.holds;
+      ends = refl;
+    }),
+  ),
 )

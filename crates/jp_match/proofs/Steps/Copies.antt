@@ -79,8 +79,8 @@ none_enough a negated items optional least most one =
 later_mark : (n k : ℕ) (marks : List Bool) → n ≡ 1
     → get_or (drop n marks) k false ≡ get_or marks (suc k) false
 later_mark n k marks one =
-    let place : n + k ≡ suc k = omega (arith, one) in
-    get_or-drop n marks k false ∙ ap (λ i. get_or marks i false) place
+    let offset : n + k ≡ suc k = omega (arith, one) in
+    get_or-drop n marks k false ∙ ap (λ i. get_or marks i false) offset
 
 module _ (a : Plain) (negated : Bool) (items : List ClassElement) (optional : Bool)
     (one : IsOneClass a negated items optional) where
@@ -242,35 +242,35 @@ module _ (a : Plain) (negated : Bool) (items : List ClassElement) (optional : Bo
 front_length : (at : ℕ) (xs : List Bool) → at ≤ length xs → length (take at xs) ≡ at
 front_length at xs fit = let e = length-take at xs in omega (arith, e)
 
-put_outside : (at n m : ℕ) (xs ys : List Bool) → at + n ≤ length xs → length ys ≡ n → m ≡ n
-    → IsSameOutside at (at + n) xs (take at xs ++ (ys ++ drop m (drop at xs)))
-put_outside at n m xs ys fit long is =
-    let back = drop m (drop at xs) in
+put_outside : (at n : ℕ) (xs ys : List Bool) → at + n ≤ length xs → length ys ≡ n
+    → IsSameOutside at (at + n) xs (take at xs ++ (ys ++ drop n (drop at xs)))
+put_outside at n xs ys fit long =
+    let back = drop n (drop at xs) in
     let front = front_length at xs (omega arith) in
     let after = length-drop at xs in
-    let last = length-drop m (drop at xs) in
+    let last = length-drop n (drop at xs) in
     let both = length-append ys back in
     let all = length-append (take at xs) (ys ++ back) in
     record {
-      same_length = omega (arith, front, after, last, both, all, long, is);
+      same_length = omega (arith, front, after, last, both, all, long);
       below = λ k under. get_or_append_left (take at xs) (ys ++ back) false k (omega (arith, front))
           ∙ get_or-take at xs k false under;
       above = λ k over.
-          let place : at + (m + (k - at - n)) ≡ k = omega (arith, is) in
+          let offset : at + (n + (k - at - n)) ≡ k = omega arith in
           get_or-append_right (take at xs) (ys ++ back) at k false front (omega arith) ∙
           get_or-append_right ys back n (k - at) false long (omega arith) ∙
-          get_or-drop m (drop at xs) (k - at - n) false ∙
-          get_or-drop at xs (m + (k - at - n)) false ∙ ap (λ i. get_or xs i false) place;
+          get_or-drop n (drop at xs) (k - at - n) false ∙
+          get_or-drop at xs (n + (k - at - n)) false ∙ ap (λ i. get_or xs i false) offset;
     }
 
-pub put_length : (at n m : ℕ) (xs ys : List Bool) → at + n ≤ length xs → m ≡ n
-    → length ys ≡ length (take m (drop at xs))
-    → length (take at xs ++ (ys ++ drop m (drop at xs))) ≡ length xs
-put_length at n m xs ys fit is long =
+pub put_length : (at n : ℕ) (xs ys : List Bool) → at + n ≤ length xs
+    → length ys ≡ length (take n (drop at xs))
+    → length (take at xs ++ (ys ++ drop n (drop at xs))) ≡ length xs
+put_length at n xs ys fit long =
     let after = length-drop at xs in
-    let part = length-take m (drop at xs) in
-    let sized : length ys ≡ n = omega (arith, after, part, long, is) in
-    (put_outside at n m xs ys fit sized is).same_length
+    let part = length-take n (drop at xs) in
+    let sized : length ys ≡ n = omega (arith, after, part, long) in
+    (put_outside at n xs ys fit sized).same_length
 
 put_there : (at n : ℕ) (xs ys back : List Bool) → at + n ≤ length xs → length ys ≡ n
     → IsSameBefore n ys (drop at (take at xs ++ (ys ++ back)))
@@ -279,28 +279,35 @@ put_there at n xs ys back fit long =
     let rest = ys ++ back in
     record {
       each = λ k below.
-          let place : at + k - at ≡ k = omega arith in
+          let offset : at + k - at ≡ k = omega arith in
           sym (get_or-drop at (take at xs ++ rest) k false ∙ get_or-append_right (take at xs) rest
-          at (at + k) false front (omega arith) ∙ ap (λ i. get_or rest i false) place ∙
+          at (at + k) false front (omega arith) ∙ ap (λ i. get_or rest i false) offset ∙
           get_or_append_left ys back false k (omega (arith, long)));
     }
 
--- the walk goes over as many copies, whose marks are written anew
-pub record GoesOver (now last : Walk) (count : ℕ) (marks : List Bool) : Type 0 where
+-- there are marks for as many copies
+pub copies_fit : {a : Plain} {negated : Bool} {items : List ClassElement} {optional : Bool} (least most :
+    ℕ) {walk : Walk} → IsOneClass a negated items optional → IsBefore (between a least most) walk
+    → walk.at + most ≤ length walk.marks.items
+copies_fit {a} least most one before =
+    let size = size_between a least most ∙ ap (λ n. most * n) one.sized in
+    omega (arith, before.marks, size)
+
+-- the walk has written anew the marks of as many copies
+pub record Writes (now last : Walk) (count : ℕ) (marks : List Bool) : Type 0 where
   pub at : last.at ≡ now.at + count
   pub round : last.round ≡ now.round
   pub rounds : last.rounds.items ≡ now.rounds.items
   pub counted : last.tests ≤ now.tests + 1
   pub kept : now.tests ≤ last.tests
-  pub marks_are : last.marks.items ≡ take now.at now.marks.items ++ (marks ++ drop (now.at +
-      count - now.at) (drop now.at now.marks.items))
+  pub marks_are : last.marks.items ≡ take now.at now.marks.items ++ (marks ++ drop count (drop now.at
+      now.marks.items))
 
 pub moves_copies : {a : Plain} {negated : Bool} {items : List ClassElement} {optional : Bool} {c : ℕ}
     (least most : ℕ) {e holds : Bool} {now last : Walk} {marks : List Bool} {x : Reach} → 1 ≤ most
     → IsOneClass a negated items optional → holds ≡ class_holds negated items c
     → IsBefore (between a least most) now
-    → AreStepped optional e holds least (take (now.at + most - now.at) (drop now.at now.marks.items))
-    marks x.before x.after x.after_entered → GoesOver now last most marks
+    → AreStepped optional e holds least (take most (drop now.at now.marks.items)) marks x.before x.after x.after_entered → Writes now last most marks
     → Moves (between a least most) c (at_start e) now last x
 moves_copies {a} {negated} {items} {optional} {c} least most {e} {holds} {now} {last} {marks} {x}
     some one is before stepped over =
@@ -309,22 +316,22 @@ moves_copies {a} {negated} {items} {optional} {c} least most {e} {holds} {now} {
     let t = x.after_entered in
     let whole = between a least most in
     let xs = now.marks.items in
-    let old = take (now.at + most - now.at) (drop now.at xs) in
+    let old = take most (drop now.at xs) in
     let sized : size whole ≡ most = size_between a least most ∙ ap (λ n. most * n) one.sized ∙ omega arith in
     let still : rounds_of whole ≡ 0 = rounds_between a least most ∙ ap (λ n. most * n) one.no_rounds ∙
     omega arith in
-    let fit : now.at + most ≤ length xs = omega (arith, before.marks, sized) in
-    let long : length old ≡ most = (let d = length-drop now.at xs in let k = length-take (now.at +
-    most - now.at) (drop now.at xs) in omega (arith, d, k)) in
+    let fit = copies_fit least most one before in
+    let long : length old ≡ most = omega (
+      arith,
+      length-drop now.at xs,
+      length-take most (drop now.at
+          xs),
+      fit,
+    ) in
     let now_long : length marks ≡ most = stepped.turned.same_length ∙ long in
-    let m = now.at + most - now.at in
-    let place : m ≡ most = omega arith in
-    let back = drop m (drop now.at xs) in
+    let back = drop most (drop now.at xs) in
     let same : IsSameBefore (size whole) old (drop now.at xs) = record {
-      each = λ k below. get_or-take (now.at + most - now.at) (drop now.at xs) k false (omega (
-        arith,
-        sized,
-      ));
+      each = λ k below. get_or-take most (drop now.at xs) k false (omega (arith, below, sized));
     } in
     let there : IsSameBefore (size whole) marks (drop now.at last.marks.items) = subst (λ zs.
     IsSameBefore (size whole) marks (drop now.at zs)) (sym over.marks_are) (subst (λ n.
@@ -336,12 +343,16 @@ moves_copies {a} {negated} {items} {optional} {c} least most {e} {holds} {now} {
     least most zs ⊎ (IsTrue entered × IsNoneEnough optional least most))
     → Ends whole entered zs ended = λ zs. ends_marked a negated items optional one least most zs in
     record {
-      at = omega (arith, over.at, sized);
-      round = omega (arith, over.round, still);
-      marks = subst (λ zs. IsSameOutside now.at last.at xs zs) (sym over.marks_are) (subst (λ end.
-          IsSameOutside now.at end xs (take now.at xs ++ (marks ++ back))) (sym over.at)
-          (put_outside now.at most m xs marks fit now_long place));
-      rounds = same_outside over.rounds;
+      over = record {
+        at = omega (arith, over.at, sized);
+        round = omega (arith, over.round, still);
+        marks = subst (λ zs. IsSameOutside now.at last.at xs zs) (sym over.marks_are) (subst (λ end.
+            IsSameOutside now.at end xs (take now.at xs ++ (marks ++ back))) (sym over.at)
+            (put_outside now.at most xs marks fit now_long));
+        rounds = same_outside over.rounds;
+        counted = omega (arith, over.at, over.counted, some);
+        kept = over.kept;
+      };
       step = step_same same there (record {
         left = steps.1.left;
         ends = ends_as old e p (subst (λ n. IsTrue p ↔ (IsEndMarked optional least n old ⊎ (IsTrue
@@ -356,8 +367,6 @@ moves_copies {a} {negated} {items} {optional} {c} least most {e} {holds} {now} {
           )));
       so = rounds_free whole (drop now.at last.marks.items) (drop now.round last.rounds.items)
           still;
-      counted = omega (arith, over.at, over.counted, some);
-      kept = over.kept;
     }
 
 -- a mark in the copies from one on, which reach the end
@@ -365,7 +374,7 @@ pub marked_from : (optional any : Bool) (least first : ℕ) (marks : List Bool)
     → first ≡ least - 1 → least ≤ length marks → optional ≡ false
     → IsTrue any ↔ ((k : ℕ) × IsTrue (get_or (take (length marks - first) (drop first marks)) k
     false)) → IsTrue any ↔ IsEndMarked optional least (length marks) marks
-marked_from optional any least first marks place may not slice = (
+marked_from optional any least first marks offset may not slice = (
   λ h.
       let (k, marked) = is.0 h in
       let here = sym (get_or-drop first marks k false) ∙ marked in
@@ -374,12 +383,12 @@ marked_from optional any least first marks place may not slice = (
         within = marked_within (first + k) marks here;
         marked = here;
         may = may;
-        enough = inr (omega (arith, place));
+        enough = inr (omega (arith, offset));
       },
   λ h. elim h.enough [
     | inl o ↦ absurd (let e = not in cc)
     | inr few ↦
-        let at : first + (h.copy - first) ≡ h.copy = omega (arith, place) in
+        let at : first + (h.copy - first) ≡ h.copy = omega (arith, offset) in
         is.1 (
           h.copy - first,
           get_or-drop first marks (h.copy - first) false ∙ ap (λ i. get_or marks i false) at ∙

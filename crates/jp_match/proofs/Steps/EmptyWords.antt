@@ -8,8 +8,8 @@ use Rattle.jp_iregexp.specs.Tree as tree
 use Rattle.jp_iregexp.specs.Tree.{Tree}
 use Rattle.jp_iregexp.specs.Language.{Power, Language, IsAtMost}
 use Rattle.jp_match.specs.Private.EmptyWord.{has_empty, is_within}
-use Rattle.jp_match.proofs.Bools.{and_is, or_is}
-use Rattle.jp_match.proofs.Steps.EndParts.{joined_nil, nil_before}
+use Rattle.jp_match.proofs.Bools.{and_is, or_is, and_iff, or_iff, then_iff}
+use Rattle.jp_match.proofs.Steps.EndParts.{joined_nil, nil_before, nil_is}
 
 within_is : (least : ℕ) (most : Option ℕ) → IsTrue (is_within least most) ↔ IsAtMost most least
 within_is least None = (λ h. tt, λ h. refl)
@@ -31,25 +31,10 @@ none_or_first L least (suc k) enough words b is = inr (is (joined_nil {L = L} {M
 pub empty_is : (t : Tree) → IsTrue (has_empty t) ↔ Language t []
 empty_is (tree.class negated items) = (λ h. absurd (cc), λ h. absurd (let e = h.2 in cc))
 empty_is tree.nothing = (λ h. absurd (cc), λ h. absurd h)
-empty_is (tree.either a b) = (
-  λ h. elim ((or_is (has_empty a) (has_empty b)).0 h) [
-    | inl x ↦ inl ((empty_is a).0 x)
-    | inr y ↦
-        inr ((empty_is b).0 y)
-  ],
-  λ h. (or_is (has_empty a) (has_empty b)).1 (elim h [
-    | inl x ↦ inl ((empty_is a).1 x)
-    | inr y ↦ inr
-        ((empty_is b).1 y)
-  ]),
-)
+empty_is (tree.either a b) = or_iff (empty_is a) (empty_is b)
 empty_is tree.empty = (λ h. refl, λ h. refl)
-empty_is (tree.sequence a b) = (
-  λ h. let p = (and_is (has_empty a) (has_empty b)).0 h in
-      nil_before ((empty_is a).0 p.0) ((empty_is b).0 p.1),
-  λ h. let p = joined_nil {L = Language a} {M = Language b} h in
-      (and_is (has_empty a) (has_empty b)).1 ((empty_is a).1 p.0, (empty_is b).1 p.1),
-)
+empty_is (tree.sequence a b) = then_iff (and_iff (empty_is a) (empty_is b)) (nil_is {L = Language a}
+    {M = Language b})
 empty_is (tree.repeat a least most) = (
   λ h.
       let p = (and_is (is_within least most) (nat_le least 0 || has_empty a)).0 h in

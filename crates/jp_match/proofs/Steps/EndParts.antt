@@ -1,5 +1,5 @@
 -- Where the end is reached, part by part.
-use Rattle.std.proofs.Common.{◌≡◌, inl, inr, ℕ, Bool, false, ◌||◌, List, [], ◌∷◌, ◌++◌, drop}
+use Rattle.std.proofs.Common.{◌≡◌, ◌↔◌, inl, inr, ℕ, Bool, false, ◌||◌, List, [], ◌∷◌, ◌++◌, drop}
 use Rattle.std.proofs.Common.{get_or, refl, sym, subst}
 use Rattle.jp_iregexp.specs.declared.class.ClassElement.{ClassElement}
 use Rattle.jp_iregexp.specs.Language.{Concatenation}
@@ -20,6 +20,20 @@ nil_before {w} first second = record {
   prefix = [];
   suffix = w;
   is = refl;
+  first = first;
+  second = second;
+}
+
+pub nil_is : {L M : List ℕ → Type 0} → (L [] × M []) ↔ Concatenation L M []
+nil_is = (λ both. nil_before both.0 both.1, λ j. joined_nil j)
+
+-- the same cut of a word, with other languages that hold its parts
+pub joined_by : {L M N O : List ℕ → Type 0} {w : List ℕ} → (j : Concatenation L M w)
+    → N j.prefix → O j.suffix → Concatenation N O w
+joined_by j first second = record {
+  prefix = j.prefix;
+  suffix = j.suffix;
+  is = j.is;
   first = first;
   second = second;
 }

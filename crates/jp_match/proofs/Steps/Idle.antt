@@ -12,9 +12,9 @@ use Rattle.jp_match.specs.declared.walk.Reach.{Reach}
 use Rattle.jp_match.specs.declared.walk.Walk.{Walk}
 use Rattle.jp_match.specs.Private.EmptyWord.{has_empty}
 use Rattle.jp_match.specs.Private.Plain.{Plain, class, between, unrolled, counted}
-use Rattle.jp_match.specs.Private.Marks.{size, Ends, Steps}
+use Rattle.jp_match.specs.Private.Marks.{size, Ends}
 use Rattle.jp_match.specs.Private.Walks.{rounds_of, Rounds, takes_none, IsBefore}
-use Rattle.jp_match.specs.Private.Walks.{IsIdle, Moves, at_start, nowhere}
+use Rattle.jp_match.specs.Private.Walks.{IsIdle, IsUnmarked, Moves, at_start, nowhere}
 use Rattle.jp_match.proofs.Bools.{not_false}
 use Rattle.jp_match.proofs.Steps.Kept.{takes_none_is, ends_are_entered, ends_fresh}
 use Rattle.jp_match.proofs.Steps.Sizes.{size_between, rounds_between}
@@ -29,13 +29,12 @@ not_true false never = refl
 no_mark : (k : ℕ) → IsTrue (get_or [] k false) → ⊥
 no_mark k h = cc
 
--- from a place on the first marks are as those of a list without marks
-pub unmarked : (n at : ℕ) (marks : List Bool)
-    → ((k : ℕ) → k < n → IsTrue (get_or marks (at + k) false) → ⊥)
-    → IsSameBefore n [] (drop at marks)
-unmarked n at marks none = record {
-  each = λ k below. not_true (get_or (drop at marks) k false) (λ h. none k below (sym (get_or-drop
-      at marks k false) ∙ h));
+-- the next marks are as those of a list without marks
+unmarked : (n : ℕ) (walk : Walk) → IsUnmarked walk n → IsSameBefore n [] (drop walk.at
+    walk.marks.items)
+unmarked n walk none = record {
+  each = λ k below. not_true (get_or (drop walk.at walk.marks.items) k false) (λ h. none k below (sym
+      (get_or-drop walk.at walk.marks.items k false) ∙ h));
 }
 
 -- the end is reached by the empty word alone
@@ -57,58 +56,48 @@ takes_empty t =
     sym (ends_are_entered a [] (has_empty t) (ends_fresh t [] no_mark))
 
 -- a walk goes past a part
-pub record GoesPast (now last : Walk) (positions turns : ℕ) : Type 0 where
-  pub at : last.at ≡ now.at + positions
-  pub round : last.round ≡ now.round + turns
-  pub marks : last.marks.items ≡ now.marks.items
-  pub rounds : last.rounds.items ≡ now.rounds.items
-  pub tests : last.tests ≡ now.tests
+abbrev pub past : Walk → ℕ → ℕ → Walk
+past now positions turns = record now { at = now.at + positions; round = now.round + turns }
 
 -- the end of a part that has no mark and is not entered
 abbrev pub by_none : Bool → Reach
 by_none takes = record { before = false; after = false; after_entered = takes }
 
-pub moves_unmarked : {a : Plain} {c positions turns : ℕ} {takes : Bool} {now last : Walk}
+pub moves_unmarked : {a : Plain} {c positions turns : ℕ} {takes : Bool} {now : Walk}
     → size a ≡ positions → rounds_of a ≡ turns → takes_none a ≡ takes
-    → IsSameBefore (size a) [] (drop now.at now.marks.items)
-    → GoesPast now last positions turns
-    → Rounds a (drop now.at now.marks.items) (drop now.round now.rounds.items)
-    → Moves a c (at_start false) now last (by_none takes)
-moves_unmarked {a} {c} {now = now} {last} sized turned takes same past so =
-    let old = drop now.at now.marks.items in
-    let step : Steps a c false old old false = step_same same same (step_nowhere a c [] no_mark) in
-    let marks = sym past.marks in
+    → IsUnmarked now positions → Rounds a (drop now.at now.marks.items) (drop now.round
+    now.rounds.items) → Moves a c (at_start false) now (past now positions turns) (by_none takes)
+moves_unmarked {a} {c} {now = now} sized turned takes none so =
+    let same = unmarked (size a) now (λ k below. none k (omega (arith, below, sized))) in
+    let step = step_same same same (step_nowhere a c [] no_mark) in
     record {
-      at = omega (arith, past.at, sized);
-      round = omega (arith, past.round, turned);
-      marks = same_outside past.marks;
-      rounds = same_outside past.rounds;
-      step = subst (λ xs. Steps a c false old (drop now.at xs) false) marks step;
-      ends = subst (λ xs. Ends a false (drop now.at xs) false) marks step.ends;
-      ends_too = rw (← takes) (subst (λ xs. Ends a true (drop now.at xs) (takes_none a)) marks
-          (ends_same same (ends_nowhere a)));
-      so = rw (past.marks, past.rounds) so;
-      counted = omega (arith, past.at, past.tests);
-      kept = omega (arith, past.tests);
+      over = record {
+        at = omega (arith, sized);
+        round = omega (arith, turned);
+        marks = same_outside refl;
+        rounds = same_outside refl;
+        counted = omega arith;
+        kept = omega arith;
+      };
+      step = step;
+      ends = step.ends;
+      ends_too = rw (← takes) (ends_same same (ends_nowhere a));
+      so = so;
     }
 
-pub moves_idle_part : {a : Plain} {c positions : ℕ} {e : Bool} {now last : Walk}
-    → IsIdle a now positions e → GoesPast now last positions 0
-    → Rounds a (drop now.at now.marks.items) (drop now.round now.rounds.items)
-    → Moves a c (at_start false) now last (by_none e)
-moves_idle_part {a} {now = now} idle past so =
-    let none = unmarked (size a) now.at now.marks.items (λ k below. idle.no_mark k (omega (
-      arith,
-      below,
-      idle.sized,
-    ))) in
-    moves_unmarked idle.sized idle.no_rounds idle.takes none past so
+pub moves_idle_part : {a : Plain} {c positions : ℕ} {e : Bool} {now : Walk}
+    → IsIdle a now positions e → Rounds a (drop now.at now.marks.items) (drop now.round
+    now.rounds.items) → Moves a c (at_start false) now (record now { at = now.at + positions })
+    (by_none e)
+moves_idle_part {a} {c} {positions} {e} {now} idle so =
+    let round : now.round + 0 ≡ now.round = omega arith in
+    subst (λ r. Moves a c (at_start false) now (record now { at = now.at + positions; round = r })
+    (by_none e)) round (moves_unmarked idle.sized idle.no_rounds idle.takes idle.no_mark so)
 
-pub moves_idle_next : {a : Plain} {c positions : ℕ} {e : Reach} {now last : Walk}
-    → e.before ≡ false → IsIdle a now positions false → GoesPast now last positions 0
-    → Rounds a (drop now.at now.marks.items) (drop now.round now.rounds.items)
-    → Moves a c e now last nowhere
-moves_idle_next is idle past so = moves_nowhere is (moves_idle_part idle past so)
+pub moves_idle_next : {a : Plain} {c positions : ℕ} {e : Reach} {now : Walk} → e.before ≡ false
+    → IsIdle a now positions false → Rounds a (drop now.at now.marks.items) (drop now.round
+    now.rounds.items) → Moves a c e now (record now { at = now.at + positions }) nowhere
+moves_idle_next is idle so = moves_nowhere is (moves_idle_part idle so)
 
 -- copies of a class have the empty word where there may be none
 takes_copies : (negated : Bool) (items : List ClassElement) (least most : ℕ)
@@ -128,8 +117,7 @@ size_copies t least most o negated items is one =
 
 pub idle_of_copies : (t : Tree) (least most : ℕ) (o : Option ℕ) (negated : Bool) (items : List
     ClassElement) (walk : Walk) → o ≡ Some most → t ≡ class_tree negated items
-    → ((k : ℕ) → k < most → IsTrue (get_or walk.marks.items (walk.at + k) false) → ⊥)
-    → IsIdle (unrolled (repeat t least o)) walk most (nat_eq least 0)
+    → IsUnmarked walk most → IsIdle (unrolled (repeat t least o)) walk most (nat_eq least 0)
 unfolding unrolled counted
 idle_of_copies t least most o negated items walk is one none =
     let rounds = rounds_between (class negated items) least most in
@@ -149,8 +137,8 @@ idle_of_class t negated items walk is none = rw is (record {
   no_rounds = refl;
   takes = refl;
   no_mark = λ k below h.
-      let place : walk.at + k ≡ walk.at = omega arith in
-      absurd (let e = sym none ∙ ap (λ i. get_or walk.marks.items i false) (sym place) ∙ h in cc);
+      let offset : walk.at + k ≡ walk.at = omega arith in
+      absurd (let e = sym none ∙ ap (λ i. get_or walk.marks.items i false) (sym offset) ∙ h in cc);
 })
 
 pub class_within : (t : Tree) (negated : Bool) (items : List ClassElement) (walk : Walk)

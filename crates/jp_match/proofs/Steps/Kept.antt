@@ -1,5 +1,5 @@
 -- What a scan keeps from one character to the next, as tests.
-use Rattle.std.proofs.Common.{◌≡◌, ◌↔◌, ◌⊎◌, inl, inr, ℕ, ◌≤◌, Bool, true, false, ◌||◌, ◌&&◌}
+use Rattle.std.proofs.Common.{◌≡◌, ◌↔◌, inl, inr, ℕ, ◌≤◌, Bool, true, false, ◌||◌, ◌&&◌}
 use Rattle.std.proofs.Common.{nat_le, List, [], drop, get_or, refl, sym, ◌∙◌, arith}
 use Rattle.std.specs.Bool.{IsTrue}
 use Rattle.std.proofs.lemmas.Bool.{leb-true, le-leb, cases_lt}
@@ -10,9 +10,9 @@ use Rattle.jp_match.specs.Private.EmptyWord.{has_empty}
 use Rattle.jp_match.specs.Private.Marks.{size, Star, Rest, Ends}
 use Rattle.jp_match.specs.Private.Walks.{own_rounds, rounds_of, Rounds, takes_none, marks_end}
 use Rattle.jp_match.specs.Private.Walks.{is_same, rounds_end}
-use Rattle.jp_match.proofs.Bools.{or_is, and_is}
+use Rattle.jp_match.proofs.Bools.{or_is, or_false, or_iff, and_iff, same_iff, then_iff}
 use Rattle.jp_match.proofs.Steps.EmptyWords.{empty_is}
-use Rattle.jp_match.proofs.Steps.EndParts.{joined_nil, nil_before}
+use Rattle.jp_match.proofs.Steps.EndParts.{joined_nil, nil_before, nil_is}
 use Rattle.jp_match.proofs.Steps.Repeating.{plus_nil}
 use Rattle.jp_match.proofs.Steps.Sizes.{own_one}
 use Rattle.jp_match.proofs.Steps.StepParts.{rest_none, none_dropped}
@@ -21,195 +21,90 @@ use Rattle.jp_match.proofs.Steps.Unrolled.{unrolled-words}
 pub takes_none_is : (a : Plain) → IsTrue (takes_none a) ↔ Words a []
 takes_none_is (class negated items) = (λ h. absurd (cc), λ w. absurd (let e = w.2 in cc))
 takes_none_is nothing = (λ h. absurd (cc), λ w. absurd w)
-takes_none_is (either a b) = (
-  λ h. elim ((or_is (takes_none a) (takes_none b)).0 h) [
-    | inl l ↦ inl ((takes_none_is a).0 l)
-    | inr r ↦ inr ((takes_none_is b).0 r)
-  ],
-  λ w. (or_is (takes_none a) (takes_none b)).1 (elim w [
-    | inl l ↦ inl ((takes_none_is a).1 l)
-    | inr r ↦ inr ((takes_none_is b).1 r)
-  ]),
-)
+takes_none_is (either a b) = or_iff (takes_none_is a) (takes_none_is b)
 takes_none_is empty = (λ h. refl, λ w. refl)
-takes_none_is (sequence a b) = (
-  λ h. let p = (and_is (takes_none a) (takes_none b)).0 h in
-      nil_before ((takes_none_is a).0 p.0) ((takes_none_is b).0 p.1),
-  λ w. let p = joined_nil {L = Words a} {M = Words b} w in
-      (and_is (takes_none a) (takes_none b)).1 ((takes_none_is a).1 p.0, (takes_none_is b).1 p.1),
-)
-takes_none_is (plus a) = (
-  λ h. (plus_nil a).1 ((takes_none_is a).0 h),
-  λ w. (takes_none_is a).1 ((plus_nil a).0 w),
-)
+takes_none_is (sequence a b) = then_iff (and_iff (takes_none_is a) (takes_none_is b)) (nil_is {L =
+    Words a} {M = Words b})
+takes_none_is (plus a) = then_iff (takes_none_is a) ((plus_nil a).1, (plus_nil a).0)
 
 pub marks_end_is : (a : Plain) (marks : List Bool) → IsTrue (marks_end a marks) ↔ Rest a marks []
 marks_end_is (class negated items) marks = (λ h. (h, refl), λ r. r.0)
 marks_end_is nothing marks = (λ h. absurd (cc), λ r. absurd r)
-marks_end_is (either a b) marks =
-    let rest = drop (size a) marks in (
-      λ h. elim ((or_is (marks_end a marks) (marks_end b rest)).0 h) [
-        | inl l ↦ inl ((marks_end_is a marks).0 l)
-        | inr r ↦ inr ((marks_end_is b rest).0 r)
-      ],
-      λ w. (or_is (marks_end a marks) (marks_end b rest)).1 (elim w [
-        | inl l ↦ inl ((marks_end_is a marks).1 l)
-        | inr r ↦ inr ((marks_end_is b rest).1 r)
-      ]),
-    )
+marks_end_is (either a b) marks = or_iff (marks_end_is a marks) (marks_end_is b (drop (size a) marks))
 marks_end_is empty marks = (λ h. absurd (cc), λ r. absurd r)
-marks_end_is (sequence a b) marks =
-    let rest = drop (size a) marks in
-    let here = marks_end a marks && takes_none b in (
-      λ h. elim ((or_is here (marks_end b rest)).0 h) [
-        | inl l ↦ let p = (and_is (marks_end a marks) (takes_none b)).0 l in
-            inl (nil_before ((marks_end_is a marks).0 p.0)
-            ((takes_none_is b).0 p.1))
-        | inr r ↦ inr ((marks_end_is b rest).0 r)
-      ],
-      λ w. (or_is here (marks_end b rest)).1 (elim w [
-        | inl j ↦ let p = joined_nil j in
-            inl ((and_is (marks_end a marks) (takes_none b)).1 (
-              (marks_end_is a marks).1 p.0,
-              (takes_none_is b).1 p.1,
-            ))
-        | inr r ↦ inr ((marks_end_is b rest).1 r)
-      ]),
-    )
-marks_end_is (plus a) marks = (
-  λ h. nil_before ((marks_end_is a marks).0 h) (0, refl),
-  λ r. (marks_end_is a marks).1 (joined_nil {L = Rest a marks} {M = Star (Words a)} r).0,
+marks_end_is (sequence a b) marks = or_iff (then_iff (and_iff (marks_end_is a marks) (takes_none_is
+    b)) (nil_is {L = Rest a marks} {M = Words b})) (marks_end_is b (drop (size a) marks))
+marks_end_is (plus a) marks = then_iff (marks_end_is a marks) (
+  λ r. nil_before r (0, refl),
+  λ r. (joined_nil {L = Rest a marks} {M = Star (Words a)} r).0,
 )
 
-alike : (a b : Bool) → (IsTrue a → IsTrue b) → (IsTrue b → IsTrue a) → a ≡ b
-alike true b to from = sym (to refl)
-alike false true to from = from refl
-alike false false to from = refl
+alike : (a b : Bool) → IsTrue a ↔ IsTrue b → a ≡ b
+alike true b h = sym (h.0 refl)
+alike false true h = h.1 refl
+alike false false h = refl
 
--- an answer that is exact is the test's
+-- the tests tell whether the end is reached
+pub ends_test : (a : Plain) (entered : Bool) (marks : List Bool)
+    → Ends a entered marks (marks_end a marks || (entered && takes_none a))
+ends_test a entered marks = record {
+  is = or_iff (marks_end_is a marks) (and_iff (same_iff entered) (takes_none_is a));
+}
+
+-- and no other answer is exact
+ends_unique : {a : Plain} {entered : Bool} {marks : List Bool} {p q : Bool}
+    → Ends a entered marks p → Ends a entered marks q → p ≡ q
+ends_unique {p = p} {q} h k = alike p q (λ i. k.is.1 (h.is.0 i), λ i. h.is.1 (k.is.0 i))
+
 pub ends_are : (a : Plain) (marks : List Bool) (p : Bool) → Ends a false marks p
     → p ≡ marks_end a marks
-ends_are a marks p ends = alike p (marks_end a marks)
-    (λ h. elim (ends.is.0 h) [
-      | inl r ↦ (marks_end_is a marks).1 r
-      | inr w ↦ absurd (let e = w.0 in cc)
-    ])
-    (λ h. ends.is.1 (inl ((marks_end_is a marks).0 h)))
+ends_are a marks p ends = ends_unique ends (ends_test a false marks) ∙ or_false (marks_end a marks)
 
 pub ends_are_entered : (a : Plain) (marks : List Bool) (p : Bool) → Ends a true marks p
     → p ≡ (marks_end a marks || takes_none a)
-ends_are_entered a marks p ends = alike p (marks_end a marks || takes_none a)
-    (λ h. (or_is (marks_end a marks) (takes_none a)).1 (elim (ends.is.0 h) [
-      | inl r ↦ inl ((marks_end_is a marks).1 r)
-      | inr w ↦ inr ((takes_none_is a).1 w.1)
-    ]))
-    (λ h. ends.is.1 (elim ((or_is (marks_end a marks) (takes_none a)).0 h) [
-      | inl l ↦ inl ((marks_end_is a marks).0 l)
-      | inr r ↦ inr (refl, (takes_none_is a).0 r)
-    ]))
+ends_are_entered a marks p ends = ends_unique ends (ends_test a true marks)
 
--- and the test is exact
+absorbed : (m e n : Bool) → (m || (e && (m || n))) ≡ (m || (e && n))
+absorbed true e n = refl
+absorbed false e n = refl
+
 pub ends_by : (a : Plain) (entered : Bool) (marks : List Bool) (p q : Bool)
     → p ≡ marks_end a marks → q ≡ (marks_end a marks || takes_none a)
     → Ends a entered marks (p || (entered && q))
-ends_by a entered marks p q is too = record {
-  is = (
-    λ h. elim ((or_is p (entered && q)).0 h) [
-      | inl l ↦ inl ((marks_end_is a marks).0 (sym is ∙ l))
-      | inr r ↦
-          let both = (and_is entered q).0 r in
-          elim ((or_is (marks_end a marks) (takes_none a)).0 (sym too ∙ both.1)) [
-            | inl m ↦ inl ((marks_end_is a marks).0 m)
-            | inr n ↦ inr (both.0, (takes_none_is a).0 n)
-          ]
-    ],
-    λ w. (or_is p (entered && q)).1 (elim w [
-      | inl r ↦ inl (is ∙ (marks_end_is a marks).1 r)
-      | inr v ↦ inr ((and_is entered q).1 (
-        v.0,
-        too ∙ (or_is (marks_end a marks) (takes_none
-            a)).1 (inr ((takes_none_is a).1 v.1)),
-      ))
-    ]),
-  );
-}
+ends_by a entered marks p q is too =
+    rw (is, too, absorbed (marks_end a marks) entered (takes_none a)) (ends_test a entered marks)
 
-same_is : (a b : Bool) → IsTrue (is_same a b) → a ≡ b
-same_is true b h = sym h
-same_is false true h = absurd (cc)
-same_is false false h = refl
+is_same_iff : (a b : Bool) → IsTrue (is_same a b) ↔ (IsTrue a ↔ IsTrue b)
+is_same_iff true b = (λ h. (λ _. h, λ _. refl), λ h. h.0 refl)
+is_same_iff false true = (λ h. absurd (cc), λ h. absurd (let e = h.1 refl in cc))
+is_same_iff false false = (λ h. same_iff false, λ h. refl)
 
-is_same_of : (a b : Bool) → a ≡ b → IsTrue (is_same a b)
-is_same_of true b h = sym h
-is_same_of false true h = absurd (cc)
-is_same_of false false h = refl
+-- what is kept of one repeat is so
+kept_is : (own : ℕ) (bit end : Bool) {P : Type 0} → own ≤ 1 → IsTrue end ↔ P
+    → IsTrue (nat_le own 0 || is_same bit end) ↔ (own ≡ 1 → IsTrue bit ↔ P)
+kept_is own bit end few is = (
+  λ h one. elim ((or_is (nat_le own 0) (is_same bit end)).0 h) [
+    | inl n ↦ absurd (let none = leb-true own 0 n in omega (arith, one))
+    | inr s ↦ then_iff ((is_same_iff bit end).0 s) is
+  ],
+  λ so. (or_is (nat_le own 0) (is_same bit end)).1 (elim (cases_lt own 1) [
+    | inl none ↦ inl (le-leb own 0 (omega arith))
+    | inr one ↦ inr ((is_same_iff bit end).1 (then_iff (so (omega arith)) (is.1, is.0)))
+  ]),
+)
 
-pub rounds_of_test : (a : Plain) (marks rounds : List Bool) → IsTrue (rounds_end a marks rounds)
-    → Rounds a marks rounds
-rounds_of_test (class negated items) marks rounds h = tt
-rounds_of_test nothing marks rounds h = tt
-rounds_of_test (either a b) marks rounds h =
-    let p = (and_is (rounds_end a marks rounds) (rounds_end b (drop (size a) marks) (drop
-    (rounds_of a) rounds))).0 h in (
-      rounds_of_test a marks rounds p.0,
-      rounds_of_test b (drop (size a) marks) (drop (rounds_of a) rounds) p.1,
-    )
-rounds_of_test empty marks rounds h = tt
-rounds_of_test (sequence a b) marks rounds h =
-    let p = (and_is (rounds_end a marks rounds) (rounds_end b (drop (size a) marks) (drop
-    (rounds_of a) rounds))).0 h in (
-      rounds_of_test a marks rounds p.0,
-      rounds_of_test b (drop (size a) marks) (drop (rounds_of a) rounds) p.1,
-    )
-rounds_of_test (plus a) marks rounds h =
-    let none = nat_le (own_rounds a) 0 in
-    let same = is_same (get_or rounds 0 false) (marks_end a marks) in
-    let p = (and_is (none || same) (rounds_end a marks (drop (own_rounds a) rounds))).0 h in (
-      λ one. elim ((or_is none same).0 p.0) [
-        | inl n ↦ absurd (let few = leb-true (own_rounds a) 0 n in omega (arith, one))
-        | inr s ↦
-            let e = same_is (get_or rounds 0 false) (marks_end a marks) s in
-            let m = marks_end_is a marks in
-            (λ i. m.0 (sym e ∙ i), λ r. e ∙ m.1 r)
-      ],
-      rounds_of_test a marks (drop (own_rounds a) rounds) p.1,
-    )
-
-pub test_of_rounds : (a : Plain) (marks rounds : List Bool) → Rounds a marks rounds
-    → IsTrue (rounds_end a marks rounds)
-test_of_rounds (class negated items) marks rounds so = refl
-test_of_rounds nothing marks rounds so = refl
-test_of_rounds (either a b) marks rounds so =
-    (and_is (rounds_end a marks rounds) (rounds_end b (drop (size a) marks) (drop (rounds_of a)
-    rounds))).1 (
-      test_of_rounds a marks rounds so.0,
-      test_of_rounds b (drop (size a) marks) (drop (rounds_of a) rounds) so.1,
-    )
-test_of_rounds empty marks rounds so = refl
-test_of_rounds (sequence a b) marks rounds so =
-    (and_is (rounds_end a marks rounds) (rounds_end b (drop (size a) marks) (drop (rounds_of a)
-    rounds))).1 (
-      test_of_rounds a marks rounds so.0,
-      test_of_rounds b (drop (size a) marks) (drop (rounds_of a) rounds) so.1,
-    )
-test_of_rounds (plus a) marks rounds so =
-    let none = nat_le (own_rounds a) 0 in
-    let same = is_same (get_or rounds 0 false) (marks_end a marks) in
-    let m = marks_end_is a marks in
-    (and_is (none || same) (rounds_end a marks (drop (own_rounds a) rounds))).1 (
-      (or_is none same).1 (elim (own_is (own_rounds a) (own_one a)) [
-        | inl n ↦ inl n
-        | inr one ↦ let r = so.0 one in
-            inr (is_same_of (get_or rounds 0 false) (marks_end a marks) (alike (get_or rounds 0
-            false) (marks_end a marks) (λ i. m.1 (r.0 i)) (λ i. r.1 (m.0 i))))
-      ]),
-      test_of_rounds a marks (drop (own_rounds a) rounds) so.1,
-    ) where
-      own_is : (n : ℕ) → n ≤ 1 → IsTrue (nat_le n 0) ⊎ (n ≡ 1)
-      own_is n few = elim (cases_lt n 1) [
-        | inl none ↦ inl (le-leb n 0 (omega arith))
-        | inr one ↦ inr (omega arith)
-      ]
+-- the test tells whether what is kept is so
+pub rounds_is : (a : Plain) (marks rounds : List Bool)
+    → IsTrue (rounds_end a marks rounds) ↔ Rounds a marks rounds
+rounds_is (class negated items) marks rounds = (λ h. tt, λ h. refl)
+rounds_is nothing marks rounds = (λ h. tt, λ h. refl)
+rounds_is (either a b) marks rounds = and_iff (rounds_is a marks rounds) (rounds_is b (drop (size a)
+    marks) (drop (rounds_of a) rounds))
+rounds_is empty marks rounds = (λ h. tt, λ h. refl)
+rounds_is (sequence a b) marks rounds = and_iff (rounds_is a marks rounds) (rounds_is b (drop (size
+    a) marks) (drop (rounds_of a) rounds))
+rounds_is (plus a) marks rounds = and_iff (kept_is (own_rounds a) (get_or rounds 0 false) (marks_end
+    a marks) (own_one a) (marks_end_is a marks)) (rounds_is a marks (drop (own_rounds a) rounds))
 
 -- without marks and rounds what is kept is so
 pub rounds_fresh : (a : Plain) (marks rounds : List Bool)

@@ -18,7 +18,7 @@ use Rattle.jp_match.proofs.Steps.Sizes.{size_at_least}
 use Rattle.jp_match.proofs.Steps.StepParts.{ends_without, without_ends, step_without}
 use Rattle.jp_match.proofs.Steps.Unrolled.{between_to, between_of, at_least_to, at_least_of}
 use Rattle.jp_match.proofs.Steps.Walking.{Walked, walked_none, moves_either, moves_empty}
-use Rattle.jp_match.proofs.Steps.Walking.{moves_nothing, moves_entered, same_outside, walked_piece}
+use Rattle.jp_match.proofs.Steps.Walking.{moves_nothing, moves_entered, over_none, walked_piece}
 use Rattle.jp_match.proofs.Steps.Walking.{before_first, walked_either, either_nowhere}
 
 -- what may be left out has no positions
@@ -112,16 +112,11 @@ moves_without {a} through end {walk} none before after too =
     let marks = drop walk.at walk.marks.items in
     let still = rounds_without a none in
     record {
-      at = omega (arith, none);
-      round = omega (arith, still);
-      marks = same_outside refl;
-      rounds = same_outside refl;
+      over = rw (none, still) over_none;
       step = step_without none (before marks);
       ends = after marks;
       ends_too = too marks;
       so = rounds_free a marks (drop walk.round walk.rounds.items) still;
-      counted = omega arith;
-      kept = omega arith;
     }
 
 -- copies without positions: where one of them is gone through, so are all
@@ -157,16 +152,11 @@ moves_as : {a b : Plain} {c : ℕ} {e x : Reach} {first last : Walk} → size a 
 moves_as {a} {b} {first} {last} none also is h =
     let still = rounds_without b also in
     record {
-      at = omega (arith, h.at, none, also);
-      round = omega (arith, h.round, rounds_without a none, still);
-      marks = h.marks;
-      rounds = h.rounds;
+      over = rw (also, still) (rw (none, rounds_without a none) at h.over);
       step = step_without also (ends_as none also is h.step.ends);
       ends = ends_as none also is h.ends;
       ends_too = ends_as none also is h.ends_too;
       so = rounds_free b (drop first.at last.marks.items) (drop first.round last.rounds.items) still;
-      counted = h.counted;
-      kept = h.kept;
     }
 
 -- one copy more of a repeat without a most, and others after it

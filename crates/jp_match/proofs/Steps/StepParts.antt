@@ -13,18 +13,7 @@ use Rattle.jp_match.specs.Private.Plain.{plus}
 use Rattle.jp_match.specs.Private.Marks.{Star, size, Rest, Ends, Steps}
 use Rattle.jp_match.proofs.Bools.{and_is}
 use Rattle.jp_match.proofs.Steps.EndParts.{ends_class, ends_empty, ends_nothing, ends_either}
-use Rattle.jp_match.proofs.Steps.EndParts.{ends_sequence, ends_plus, nil_before}
-
--- the same cut of a word, with another first part
-pub with_first : {L M N : List ℕ → Type 0} {w : List ℕ} (j : Concatenation L M w) → N j.prefix
-    → Concatenation N M w
-with_first j h = record {
-  prefix = j.prefix;
-  suffix = j.suffix;
-  is = j.is;
-  first = h;
-  second = j.second;
-}
+use Rattle.jp_match.proofs.Steps.EndParts.{ends_sequence, ends_plus, joined_by, nil_before}
 
 -- a word that begins with a character is joined so that the first part is empty or begins with it
 pub joined_cons : {L M : List ℕ → Type 0} {c : ℕ} {w : List ℕ} → Concatenation L M (c ∷ w)
@@ -60,13 +49,7 @@ pub power_cons : (L : List ℕ → Type 0) (k c : ℕ) (w : List ℕ) → Power 
 power_cons L zero c w h = absurd (cc)
 power_cons L (suc k) c w h = elim (joined_cons {L = L} {M = Power L k} h) [
   | inl none ↦ power_cons L k c w none.1
-  | inr j ↦ record {
-    prefix = j.prefix;
-    suffix = j.suffix;
-    is = j.is;
-    first = j.first;
-    second = (k, j.second);
-  }
+  | inr j ↦ joined_by j j.first (k, j.second)
 ]
 
 pub step_class : {negated : Bool} {items : List ClassElement} {c : ℕ} {entered : Bool} {before after :
@@ -141,8 +124,8 @@ step_sequence ha hb = record {
   left = λ word. (
     λ h. elim h [
       | inl j ↦ elim ((ha.left j.prefix).0 j.first) [
-        | inl s ↦ inl (inl (cons_joined (with_first j s)))
-        | inr w ↦ inr (w.0, cons_joined (with_first j w.1))
+        | inl s ↦ inl (inl (cons_joined (joined_by j s j.second)))
+        | inr w ↦ inr (w.0, cons_joined (joined_by j w.1 j.second))
       ]
       | inr r ↦ elim ((hb.left word).0 r) [
         | inl s ↦ inl (inr s)
@@ -156,13 +139,13 @@ step_sequence ha hb = record {
       | inl r ↦ elim r [
         | inl j ↦ elim (joined_cons j) [
           | inl n ↦ inr ((hb.left word).1 (inr (ha.ends.is.1 (inl n.0), n.1)))
-          | inr k ↦ inl (with_first k ((ha.left k.prefix).1 (inl k.first)))
+          | inr k ↦ inl (joined_by k ((ha.left k.prefix).1 (inl k.first)) k.second)
         ]
         | inr s ↦ inr ((hb.left word).1 (inl s))
       ]
       | inr w ↦ elim (joined_cons w.1) [
         | inl n ↦ inr ((hb.left word).1 (inr (ha.ends.is.1 (inr (w.0, n.0)), n.1)))
-        | inr k ↦ inl (with_first k ((ha.left k.prefix).1 (inr (w.0, k.first))))
+        | inr k ↦ inl (joined_by k ((ha.left k.prefix).1 (inr (w.0, k.first))) k.second)
       ]
     ],
   );
@@ -176,7 +159,7 @@ pub step_plus : {a : Plain} {c : ℕ} {entered again : Bool} {before after : Lis
 step_plus {a} {c} {entered} {again} {before} {after} {p} may ha = record {
   left = λ word. (
     λ j. elim ((ha.left j.prefix).0 j.first) [
-      | inl s ↦ inl (cons_joined (with_first j s))
+      | inl s ↦ inl (cons_joined (joined_by j s j.second))
       | inr w ↦
           let (k, more) = j.second in
           let words : Concatenation (Words a) (Power (Words a) k) (c ∷ word) = cons_joined (record {
@@ -194,7 +177,7 @@ step_plus {a} {c} {entered} {again} {before} {after} {p} may ha = record {
     λ h. elim h [
       | inl j ↦ elim (joined_cons j) [
         | inl n ↦ round word (may.1 (inr n.0)) n.1.0 n.1.1
-        | inr k ↦ with_first k ((ha.left k.prefix).1 (inl k.first))
+        | inr k ↦ joined_by k ((ha.left k.prefix).1 (inl k.first)) k.second
       ]
       | inr w ↦ round word (may.1 (inl w.0)) (suc w.1.0) w.1.1
     ],
@@ -213,7 +196,7 @@ step_plus {a} {c} {entered} {again} {before} {after} {p} may ha = record {
       → Rest (plus a) after word
   round word e k words =
       let j = power_cons (Words a) k c word words in
-      with_first j ((ha.left j.prefix).1 (inr (e, j.first)))
+      joined_by j ((ha.left j.prefix).1 (inr (e, j.first))) j.second
 
 pub none_dropped : (n : ℕ) (marks : List Bool) → ((k : ℕ) → IsTrue (get_or marks k false) → ⊥)
     → (k : ℕ) → IsTrue (get_or (drop n marks) k false) → ⊥
@@ -353,10 +336,10 @@ rest_same (either a b) word same (inr r) =
     inr (rest_same b word (same_dropped (size a) (size b) same) r)
 rest_same empty word same r = r
 rest_same (sequence a b) word same (inl r) =
-    inl (with_first r (rest_same a r.prefix (same_fewer same (omega arith)) r.first))
+    inl (joined_by r (rest_same a r.prefix (same_fewer same (omega arith)) r.first) r.second)
 rest_same (sequence a b) word same (inr r) =
     inr (rest_same b word (same_dropped (size a) (size b) same) r)
-rest_same (plus a) word same r = with_first r (rest_same a r.prefix same r.first)
+rest_same (plus a) word same r = joined_by r (rest_same a r.prefix same r.first) r.second
 
 pub ends_same : {a : Plain} {entered : Bool} {marks others : List Bool} {p : Bool}
     → IsSameBefore (size a) marks others → Ends a entered marks p → Ends a entered others p

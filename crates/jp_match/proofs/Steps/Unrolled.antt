@@ -2,26 +2,15 @@
 use Rattle.std.proofs.Common.{◌↔◌, inl, inr, ℕ, zero, suc, ◌≤◌, List, Some, None, arith}
 use Rattle.jp_iregexp.specs.Tree as tree
 use Rattle.jp_iregexp.specs.Tree.{Tree}
-use Rattle.jp_iregexp.specs.Language.{Concatenation, Power, Language}
+use Rattle.jp_iregexp.specs.Language.{Power, Language}
 use Rattle.jp_match.specs.Private.Plain.{Plain, Words, at_least, between, counted, unrolled}
-
--- words of languages with the same words, joined
-joined_as : (L L' M M' : List ℕ → Type 0) → ((w : List ℕ) → L w → L' w) → ((w : List ℕ) → M w
-    → M' w) → (w : List ℕ) → Concatenation L M w → Concatenation L' M' w
-joined_as L L' M M' first second w j = record {
-  prefix = j.prefix;
-  suffix = j.suffix;
-  is = j.is;
-  first =
-      first j.prefix j.first;
-  second = second j.suffix j.second;
-}
+use Rattle.jp_match.proofs.Steps.EndParts.{joined_by}
 
 power_as : (L L' : List ℕ → Type 0) → ((w : List ℕ) → L w → L' w) → (k : ℕ) (w : List ℕ)
     → Power L k w → Power L' k w
 power_as L L' each zero w p = p
-power_as L L' each (suc k) w p = joined_as L L' (Power L k) (Power L' k) each (power_as L L' each
-    k) w p
+power_as L L' each (suc k) w p = joined_by p (each p.prefix p.first) (power_as L L' each k p.suffix
+    p.second)
 
 pub at_least_to : (a : Plain) (least : ℕ) (w : List ℕ) → Words (at_least a least) w
     → (k : ℕ) × (least ≤ k) × Power (Words a) k w
@@ -33,14 +22,7 @@ at_least_to a (suc (suc n)) w h =
     let (k, enough, words) = at_least_to a (suc n) h.suffix h.second in (
       suc k,
       omega (arith, enough),
-      record {
-        prefix = h.prefix;
-        suffix = h.suffix;
-        is = h.is;
-        first =
-            h.first;
-        second = words;
-      },
+      joined_by h h.first words,
     )
 
 pub at_least_of : (a : Plain) (least k : ℕ) (w : List ℕ) → least ≤ k → Power (Words a) k w
@@ -52,8 +34,7 @@ at_least_of a (suc zero) zero w enough p = absurd (omega arith)
 at_least_of a (suc zero) (suc k) w enough p = (k, p)
 at_least_of a (suc (suc n)) zero w enough p = absurd (omega arith)
 at_least_of a (suc (suc n)) (suc k) w enough p =
-    joined_as (Words a) (Words a) (Power (Words a) k) (Words (at_least a (suc n))) (λ v l. l)
-    (λ v q. at_least_of a (suc n) k v (omega arith) q) w p
+    joined_by p p.first (at_least_of a (suc n) k p.suffix (omega arith) p.second)
 
 pub between_to : (a : Plain) (least most : ℕ) (w : List ℕ) → Words (between a least most) w
     → (k : ℕ) × (least ≤ k) × (k ≤ most) × Power (Words a) k w
@@ -65,7 +46,7 @@ between_to a zero (suc most) w (inr j) =
       suc k,
       omega arith,
       omega (arith, within),
-      record { prefix = j.prefix; suffix = j.suffix; is = j.is; first = j.first; second = words },
+      joined_by j j.first words,
     )
 between_to a (suc least) zero w h = absurd h
 between_to a (suc least) (suc most) w j =
@@ -73,7 +54,7 @@ between_to a (suc least) (suc most) w j =
       suc k,
       omega (arith, enough),
       omega (arith, within),
-      record { prefix = j.prefix; suffix = j.suffix; is = j.is; first = j.first; second = words },
+      joined_by j j.first words,
     )
 
 pub between_of : (a : Plain) (least most k : ℕ) (w : List ℕ) → least ≤ k → k ≤ most
@@ -83,13 +64,12 @@ between_of a zero zero zero w enough within p = p
 between_of a zero zero (suc k) w enough within p = absurd (omega arith)
 between_of a zero (suc most) zero w enough within p = inl p
 between_of a zero (suc most) (suc k) w enough within p =
-    inr (joined_as (Words a) (Words a) (Power (Words a) k) (Words (between a zero most)) (λ v l. l)
-    (λ v q. between_of a zero most k v (omega arith) (omega arith) q) w p)
+    inr (joined_by p p.first (between_of a zero most k p.suffix (omega arith) (omega arith)
+    p.second))
 between_of a (suc least) most zero w enough within p = absurd (omega arith)
 between_of a (suc least) zero (suc k) w enough within p = absurd (omega arith)
 between_of a (suc least) (suc most) (suc k) w enough within p =
-    joined_as (Words a) (Words a) (Power (Words a) k) (Words (between a least most)) (λ v l. l)
-    (λ v q. between_of a least most k v (omega arith) (omega arith) q) w p
+    joined_by p p.first (between_of a least most k p.suffix (omega arith) (omega arith) p.second)
 
 unrolled_to : (t : Tree) (w : List ℕ) → Words (unrolled t) w → Language t w
 unfolding unrolled counted
@@ -98,8 +78,8 @@ unrolled_to tree.nothing w h = h
 unrolled_to (tree.either a b) w (inl h) = inl (unrolled_to a w h)
 unrolled_to (tree.either a b) w (inr h) = inr (unrolled_to b w h)
 unrolled_to tree.empty w h = h
-unrolled_to (tree.sequence a b) w j = joined_as (Words (unrolled a)) (Language a) (Words (unrolled
-    b)) (Language b) (unrolled_to a) (unrolled_to b) w j
+unrolled_to (tree.sequence a b) w j = joined_by j (unrolled_to a j.prefix j.first) (unrolled_to b
+    j.suffix j.second)
 unrolled_to (tree.repeat a least None) w h =
     let (k, enough, words) = at_least_to (unrolled a) least w h in
     (k, enough, tt, power_as (Words (unrolled a)) (Language a) (unrolled_to a) k w words)
@@ -114,8 +94,8 @@ unrolled_of tree.nothing w h = h
 unrolled_of (tree.either a b) w (inl h) = inl (unrolled_of a w h)
 unrolled_of (tree.either a b) w (inr h) = inr (unrolled_of b w h)
 unrolled_of tree.empty w h = h
-unrolled_of (tree.sequence a b) w j = joined_as (Language a) (Words (unrolled a)) (Language b)
-    (Words (unrolled b)) (unrolled_of a) (unrolled_of b) w j
+unrolled_of (tree.sequence a b) w j = joined_by j (unrolled_of a j.prefix j.first) (unrolled_of b
+    j.suffix j.second)
 unrolled_of (tree.repeat a least None) w (k, enough, within, p) =
     at_least_of (unrolled a) least k w enough (power_as (Language a) (Words (unrolled a))
     (unrolled_of a) k w p)

@@ -10,7 +10,7 @@ use Rattle.jp_match.specs.Private.Plain.{Plain, class, nothing, either, empty, s
 use Rattle.jp_match.specs.Private.Plain.{plus, unrolled}
 use Rattle.jp_match.specs.Private.Marks.{size, Ends}
 use Rattle.jp_match.specs.Private.Walks.{own_rounds, rounds_of, Rounds, IsBefore, IsSameOutside}
-use Rattle.jp_match.specs.Private.Walks.{Moves, at_start, by_either, by_next, nowhere, reached}
+use Rattle.jp_match.specs.Private.Walks.{GoesOver, Moves, at_start, by_either, by_next, nowhere, reached}
 use Rattle.jp_match.proofs.Bools.{and_false, or_is, or_assoc, or_false}
 use Rattle.jp_match.proofs.Steps.EndParts.{ends_empty, ends_nothing, ends_either, ends_sequence}
 use Rattle.jp_match.proofs.Steps.StepParts.{IsSameBefore, same_fewer, same_dropped, rest_same}
@@ -57,7 +57,7 @@ outside_then some more h k = record {
   above = λ i over. k.above i over ∙ h.above i (omega (arith, more));
 }
 
--- the places before one on are as they were
+-- the offsets before one on are as they were
 same_here : (first n : ℕ) {at end : ℕ} {xs ys : List Bool} → at ≡ first + n
     → IsSameOutside at end xs ys → IsSameBefore n (drop first xs) (drop first ys)
 same_here first n {xs} {ys} is h = record {
@@ -65,24 +65,41 @@ same_here first n {xs} {ys} is h = record {
       sym (get_or-drop first ys k false);
 }
 
--- from a place on, by its distance from another
+-- from an offset on, by its distance from another
 pub same_there : (first n at m : ℕ) (xs ys : List Bool) → at ≡ first + n
     → ((k : ℕ) → at ≤ k → get_or xs k false ≡ get_or ys k false)
     → IsSameBefore m (drop at xs) (drop n (drop first ys))
 same_there first n at m xs ys is same = record {
   each = λ k below.
-      let place : at + k ≡ first + (n + k) = omega (arith, is) in
+      let offset : at + k ≡ first + (n + k) = omega (arith, is) in
       get_or-drop at xs k false ∙ same (at + k) (omega arith) ∙
-      ap (λ i. get_or ys i false) place ∙ sym (get_or-drop first ys (n + k) false) ∙
+      ap (λ i. get_or ys i false) offset ∙ sym (get_or-drop first ys (n + k) false) ∙
       sym (get_or-drop n (drop first ys) k false);
+}
+
+over_then : {m n k l : ℕ} {first next last : Walk} → GoesOver m n first next
+    → GoesOver k l next last → GoesOver (m + k) (n + l) first last
+over_then h k = record {
+  at = omega (arith, h.at, k.at);
+  round = omega (arith, h.round, k.round);
+  marks = outside_then (omega (arith, h.at)) (omega (arith, k.at)) h.marks k.marks;
+  rounds = outside_then (omega (arith, h.round)) (omega (arith, k.round)) h.rounds k.rounds;
+  counted = omega (arith, h.counted, k.counted);
+  kept = omega (arith, h.kept, k.kept);
+}
+
+pub over_none : {walk : Walk} → GoesOver 0 0 walk walk
+over_none = record {
+  at = omega arith;
+  round = omega arith;
+  marks = same_outside refl;
+  rounds = same_outside refl;
+  counted = omega arith;
+  kept = omega arith;
 }
 
 -- a part and then another one beside it
 record Beside (a b : Plain) (first next last : Walk) : Type 0 where
-  at : last.at ≡ first.at + (size a + size b)
-  round : last.round ≡ first.round + (rounds_of a + rounds_of b)
-  marks : IsSameOutside first.at last.at first.marks.items last.marks.items
-  rounds : IsSameOutside first.round last.round first.rounds.items last.rounds.items
   here : IsSameBefore (size a) (drop first.at next.marks.items) (drop first.at last.marks.items)
   before : IsSameBefore (size b) (drop next.at next.marks.items)
       (drop (size a) (drop first.at first.marks.items))
@@ -91,8 +108,6 @@ record Beside (a b : Plain) (first next last : Walk) : Type 0 where
   so : Rounds a (drop first.at last.marks.items) (drop first.round last.rounds.items) ×
       Rounds b (drop (size a) (drop first.at last.marks.items))
       (drop (rounds_of a) (drop first.round last.rounds.items))
-  counted : first.at + last.tests ≤ last.at + first.tests
-  kept : first.tests ≤ last.tests
 
 beside : {a b : Plain} {c : ℕ} {e e' x x' : Reach} {first next last : Walk}
     → Moves a c e first next x → Moves b c e' next last x' → Beside a b first next last
@@ -101,10 +116,6 @@ beside {a} {b} {first} {next} {last} h k =
     let after = same_there first.at (size a) next.at (size b) last.marks.items last.marks.items h.at
     (λ i over. refl) in
     record {
-      at = omega (arith, h.at, k.at);
-      round = omega (arith, h.round, k.round);
-      marks = outside_then (omega (arith, h.at)) (omega (arith, k.at)) h.marks k.marks;
-      rounds = outside_then (omega (arith, h.round)) (omega (arith, k.round)) h.rounds k.rounds;
       here = here;
       before = same_there first.at (size a) next.at (size b) next.marks.items first.marks.items h.at
           h.marks.above;
@@ -114,11 +125,9 @@ beside {a} {b} {first} {next} {last} h k =
         rounds_same b after (same_there first.round (rounds_of a) next.round (rounds_of b)
             last.rounds.items last.rounds.items h.round (λ i over. refl)) k.so,
       );
-      counted = omega (arith, h.counted, k.counted);
-      kept = omega (arith, h.kept, k.kept);
     }
 
-same_itself : {n : ℕ} {marks : List Bool} → IsSameBefore n marks marks
+pub same_itself : {n : ℕ} {marks : List Bool} → IsSameBefore n marks marks
 same_itself = record { each = λ k below. refl }
 
 pub moves_sequence : {a b : Plain} {c : ℕ} {e x y : Reach} {first next last : Walk}
@@ -126,16 +135,11 @@ pub moves_sequence : {a b : Plain} {c : ℕ} {e x y : Reach} {first next last : 
 moves_sequence h k =
     let s = beside h k in
     record {
-      at = s.at;
-      round = s.round;
-      marks = s.marks;
-      rounds = s.rounds;
+      over = over_then h.over k.over;
       step = step_sequence (step_same same_itself s.here h.step) (step_same s.before s.after k.step);
       ends = ends_sequence (ends_same s.here h.ends) (ends_same s.after k.ends);
       ends_too = ends_sequence (ends_same s.here h.ends_too) (ends_same s.after k.ends_too);
       so = s.so;
-      counted = s.counted;
-      kept = s.kept;
     }
 
 pub moves_either : {a b : Plain} {c : ℕ} {e x y : Reach} {first next last : Walk}
@@ -144,44 +148,29 @@ pub moves_either : {a b : Plain} {c : ℕ} {e x y : Reach} {first next last : Wa
 moves_either h k =
     let s = beside h k in
     record {
-      at = s.at;
-      round = s.round;
-      marks = s.marks;
-      rounds = s.rounds;
+      over = over_then h.over k.over;
       step = step_either (step_same same_itself s.here h.step) (step_same s.before s.after k.step);
       ends = ends_either (ends_same s.here h.ends) (ends_same s.after k.ends);
       ends_too = ends_either (ends_same s.here h.ends_too) (ends_same s.after k.ends_too);
       so = s.so;
-      counted = s.counted;
-      kept = s.kept;
     }
 
 pub moves_empty : {c : ℕ} {e : Reach} {walk : Walk} → Moves empty c e walk walk e
 moves_empty = record {
-  at = omega arith;
-  round = omega arith;
-  marks = same_outside refl;
-  rounds = same_outside refl;
+  over = over_none;
   step = step_empty;
   ends = ends_empty;
   ends_too = ends_empty;
   so = tt;
-  counted = omega arith;
-  kept = omega arith;
 }
 
 pub moves_nothing : {c : ℕ} {e : Reach} {walk : Walk} → Moves nothing c e walk walk nowhere
 moves_nothing = record {
-  at = omega arith;
-  round = omega arith;
-  marks = same_outside refl;
-  rounds = same_outside refl;
+  over = over_none;
   step = step_nothing;
   ends = ends_nothing;
   ends_too = ends_nothing;
   so = tt;
-  counted = omega arith;
-  kept = omega arith;
 }
 
 -- the end for any entry
@@ -201,16 +190,11 @@ ends_reached {a} false {marks} {f} off on = subst (Ends a false marks) (sym (or_
 pub moves_entered : {a : Plain} {c : ℕ} {e x : Reach} {first next : Walk}
     → Moves a c (at_start e.before) first next x → Moves a c e first next (by_next e x)
 moves_entered {e} h = record {
-  at = h.at;
-  round = h.round;
-  marks = h.marks;
-  rounds = h.rounds;
+  over = h.over;
   step = h.step;
   ends = ends_reached e.after h.ends h.ends_too;
   ends_too = ends_reached e.after_entered h.ends h.ends_too;
   so = h.so;
-  counted = h.counted;
-  kept = h.kept;
 }
 
 by_nowhere : (r : Reach) → by_next r nowhere ≡ nowhere

@@ -8,11 +8,11 @@ use Rattle.jp_match.specs.declared.walk.Reach.{Reach}
 use Rattle.jp_match.specs.declared.walk.Walk.{Walk}
 use Rattle.jp_match.specs.Private.Plain.{Plain, nothing, either, unrolled}
 use Rattle.jp_match.specs.Private.Marks.{size, Ends, Steps}
-use Rattle.jp_match.specs.Private.Walks.{rounds_of, takes_none, Moves, IsAtStart, MovesAll}
+use Rattle.jp_match.specs.Private.Walks.{rounds_of, takes_none, IsUnmarked, Moves, IsAtStart, MovesAll}
 use Rattle.jp_match.specs.Private.Walks.{at_start, nowhere}
 use Rattle.jp_match.proofs.Bools.{or_false}
 use Rattle.jp_match.proofs.Steps.EndParts.{ends_either, ends_nothing}
-use Rattle.jp_match.proofs.Steps.Idle.{by_none, unmarked, moves_unmarked}
+use Rattle.jp_match.proofs.Steps.Idle.{by_none, past, moves_unmarked}
 use Rattle.jp_match.proofs.Steps.StepParts.{step_either, step_nothing}
 use Rattle.jp_match.proofs.Steps.Walking.{Walked, moves_entered, before_first, as_sequence}
 
@@ -50,23 +50,10 @@ all_ended {whole} {rest} {c} end {begin} {through} {first} {now} start so_far ah
     is =
     let none : (k : ℕ) → now.at ≤ k → IsTrue (get_or now.marks.items k false) → ⊥ = λ k beyond h.
     start.ended k (omega (arith, over, beyond)) (sym (ahead k beyond) ∙ h) in
-    let same = unmarked (size rest) now.at now.marks.items (λ k below. none (now.at + k) (omega
-    arith)) in
-    let last : Walk = record {
-      marks = now.marks;
-      rounds = now.rounds;
-      at = now.at + size rest;
-      round = now.round + rounds_of rest;
-      tests = now.tests;
-    } in
+    let unmarked : IsUnmarked now (size rest) = λ k below. none (now.at + k) (omega arith) in
+    let last = past now (size rest) (rounds_of rest) in
     let still : Moves rest c (at_start false) now last (by_none (takes_none rest)) = moves_unmarked
-    {positions = size rest} {turns = rounds_of rest} refl refl refl same (record {
-      at = refl;
-      round = refl;
-      marks = refl;
-      rounds = refl;
-      tests = refl;
-    }) so_far.before.so in
+    refl refl refl unmarked so_far.before.so in
     let here : Walked whole rest c begin nowhere first now nowhere = subst (λ r. Walked whole rest c
     begin r first now nowhere) is so_far in
     let all = here.completes last nowhere (moves_entered {e = nowhere} still) in

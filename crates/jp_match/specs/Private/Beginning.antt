@@ -1,7 +1,16 @@
 -- Characters that no word of a language begins with.
-use Rattle.std.specs.Prelude.{ℕ, List, [], ◌∷◌}
+use Rattle.std.specs.Prelude.{ℕ, Bool, IsTrue, false, List, [], ◌∷◌, get_or}
 
 -- no word begins with the character, and none is empty
 pub record NeverBegins (L : List ℕ → Type 0) (c : ℕ) : Type 0 where
   pub not_empty : L [] → ⊥
   pub not_first : (rest : List ℕ) → L (c ∷ rest) → ⊥
+
+-- no word of a language begins with a character that a table rules out, and none is empty where it
+-- rules out any
+abbrev pub RulesOut : List Bool → (List ℕ → Type 0) → Type 0
+RulesOut table L = (c : ℕ) → IsTrue (get_or table c false) → NeverBegins L c
+
+-- each character that a table rules out another rules out too
+abbrev pub IsWithin : List Bool → List Bool → Type 0
+IsWithin table other = (c : ℕ) → IsTrue (get_or table c false) → IsTrue (get_or other c false)

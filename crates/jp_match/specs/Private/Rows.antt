@@ -1,10 +1,10 @@
--- What words of a language reach from each place alone: a row of marks for each place.
+-- What words of a language reach from each offset alone: a row of marks for each offset.
 use Rattle.std.specs.Prelude.{◌≡◌, ◌↔◌, ◌⊎◌, ℕ, suc, ◌≤◌, ◌<◌, Bool, List, [], ◌∷◌, Vec, length}
 use Rattle.std.specs.Prelude.{map, get_or}
 use Rattle.std.specs.Global.{Global}
 use Rattle.jp_iregexp.specs.Tree.{Tree, class, nothing, either, empty, sequence, repeat}
 use Rattle.jp_iregexp.specs.Language.{Language}
-use Rattle.jp_match.specs.Private.Place.{Marked, IsImage}
+use Rattle.jp_match.specs.Private.Offset.{Marked, Holds, IsImage}
 
 -- the marks of each set
 abbrev pub marks_of : List (Vec Bool Global) → List (List Bool)
@@ -14,18 +14,18 @@ marks_of sets = map (λ set. set.items) sets
 abbrev pub rows_of : List (Vec (Vec Bool Global) Global) → List (List (List Bool))
 rows_of known = map (λ rows. marks_of rows.items) known
 
--- the place alone
+-- the offset alone
 abbrev pub IsOnly : List Bool → ℕ → Type 0
-IsOnly places only = (place : ℕ) → Marked places place ↔ (place ≡ only)
+IsOnly offsets only = (offset : ℕ) → Marked offsets offset ↔ (offset ≡ only)
 
--- the row holds what the place alone reaches
+-- the row holds what the offset alone reaches
 pub record IsRow (L : List ℕ → Type 0) (text : List ℕ) (start : ℕ) (row : List Bool) : Type 0 where
   pub from : List Bool
   pub long : length from ≡ suc (length text)
   pub only : IsOnly from start
   pub image : IsImage L text from row
 
--- there is a row for each place
+-- there is a row for each offset
 pub record AreRows (L : List ℕ → Type 0) (text : List ℕ) (rows : List (List Bool)) : Type 0 where
   pub count : length rows ≡ suc (length text)
   pub each : (start : ℕ) → start ≤ length text → IsRow L text start (get_or rows start [])
@@ -49,8 +49,7 @@ pub record EachKnown (ts : List Tree) (text : List ℕ) (known : List (List (Lis
     pub each : (i : ℕ) → i < length ts
         → AreKnown (Language (get_or ts i nothing)) text (get_or known i [])
 
--- a set holds exactly the places of the rows whose own place is in another
-pub record IsUnion (rows : List (List Bool)) (from to : List Bool) : Type 0 where
-  pub same_length : length to ≡ length from
-  pub each : (place : ℕ) → Marked to place ↔ ((start : ℕ) × Marked from start × Marked (get_or rows
-      start []) place)
+-- a set holds exactly the offsets of the rows whose own offset is in another
+abbrev pub IsUnion : List (List Bool) → List Bool → List Bool → Type 0
+IsUnion rows from to = Holds (λ offset. (start : ℕ) × Marked from start × Marked (get_or rows start
+    []) offset) from to

@@ -43,7 +43,7 @@ pub record IsBefore (a : Plain) (walk : Walk) : Type 0 where
   pub rounds : 1 ≤ size a → walk.round + rounds_of a ≤ length walk.rounds.items
   pub so : Rounds a (drop walk.at walk.marks.items) (drop walk.round walk.rounds.items)
 
--- the lists are as long, and the same outside of the places from one on and before another
+-- the lists are as long, and the same outside of the offsets from one on and before another
 pub record IsSameOutside (first end : ℕ) (before after : List Bool) : Type 0 where
   pub same_length : length after ≡ length before
   pub below : (k : ℕ) → k < first → get_or after k false ≡ get_or before k false
@@ -86,21 +86,27 @@ by_next r next = record {
   after_entered = reached r.after_entered next.after next.after_entered;
 }
 
--- the walk has gone over a part and moved its marks over the character c, by one class test for each
--- position at most; told is how the part's end is reached where its start is reached so
-pub record Moves (a : Plain) (c : ℕ) (start : Reach) (before after : Walk) (end : Reach) :
-    Type 0 where
-  pub at : after.at ≡ before.at + size a
-  pub round : after.round ≡ before.round + rounds_of a
+-- the walk has gone over so many positions and so many repeats, by one class test for each position
+-- at most; what stands before them and after them is as it was
+pub record GoesOver (positions turns : ℕ) (before after : Walk) : Type 0 where
+  pub at : after.at ≡ before.at + positions
+  pub round : after.round ≡ before.round + turns
   pub marks : IsSameOutside before.at after.at before.marks.items after.marks.items
   pub rounds : IsSameOutside before.round after.round before.rounds.items after.rounds.items
+  pub counted : before.at + after.tests ≤ after.at + before.tests
+  pub kept : before.tests ≤ after.tests
+
+-- the walk has gone over a part and moved its marks over the character c; told is how the part's end
+-- is reached where its start is reached so
+pub record Moves (a : Plain) (c : ℕ) (start : Reach) (before after : Walk) (end : Reach) :
+    Type 0 where
+  pub over : GoesOver (size a) (rounds_of a) before after
+  pub open over use *
   pub step : Steps a c start.before (drop before.at before.marks.items)
       (drop before.at after.marks.items) end.before
   pub ends : Ends a start.after (drop before.at after.marks.items) end.after
   pub ends_too : Ends a start.after_entered (drop before.at after.marks.items) end.after_entered
   pub so : Rounds a (drop before.at after.marks.items) (drop before.round after.rounds.items)
-  pub counted : before.at + after.tests ≤ after.at + before.tests
-  pub kept : before.tests ≤ after.tests
 
 -- the same as tests, for what is kept from one character to the next: a pattern has the empty word
 abbrev pub takes_none : Plain → Bool
@@ -144,14 +150,19 @@ pub record IsSize (a : Plain) (positions rounds : ℕ) : Type 0 where
   pub positions_so : 1 ≤ positions → size a ≡ positions
   pub rounds_so : 1 ≤ positions → rounds_of a ≡ rounds
 
+-- none of the next positions, as many as that, has a mark
+abbrev pub IsUnmarked : Walk → ℕ → Type 0
+IsUnmarked walk positions =
+    (k : ℕ) → k < positions → IsTrue (get_or walk.marks.items (walk.at + k) false) → ⊥
+
 -- a part without rounds has no mark: where it is not entered, a step leaves it as it is
 pub record IsIdle (a : Plain) (walk : Walk) (positions : ℕ) (has_empty_word : Bool) : Type 0 where
   pub sized : size a ≡ positions
   pub no_rounds : rounds_of a ≡ 0
   pub takes : takes_none a ≡ has_empty_word
-  pub no_mark : (k : ℕ) → k < positions → IsTrue (get_or walk.marks.items (walk.at + k) false) → ⊥
+  pub no_mark : IsUnmarked walk positions
 
--- a walk stands at the start of a whole pattern, which has no mark from a place on
+-- a walk stands at the start of a whole pattern, which has no mark from an offset on
 pub record IsAtStart (a : Plain) (end : ℕ) (walk : Walk) : Type 0 where
   pub before : IsBefore a walk
   pub at : walk.at ≡ 0

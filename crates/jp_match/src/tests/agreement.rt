@@ -1,6 +1,6 @@
 //! Both matchers beside each other, on made patterns.
 
-use super::answers;
+use super::answers_counted;
 use crate::{Images, Matching, Tests};
 use jp_iregexp::read_pattern;
 use std::alloc::{AllocError, Global};
@@ -64,13 +64,12 @@ fn answers_by_images(alloc: Global, pattern: &str, word: &str) -> Result<(bool, 
 
 /// Whether both matchers answer the same for a pattern and a text.
 fn agree(alloc: Global, pattern: &str, word: &str) -> Result<bool, Fail> {
-    let read = read_pattern(alloc, pattern)?;
-    let answer = answers(alloc, &read, word)?;
+    let answer = answers_counted(alloc, pattern, word)?;
     // On a text without x each group has the same words, and too many positions for a scan.
     let large = pattern.replace(alloc, "(", "(x{5000}|")?;
     Ok(
-        answer == answers_by_images(alloc, pattern, word)?
-            && answer == answers_by_images(alloc, &large, word)?,
+        answer == Some(answers_by_images(alloc, pattern, word)?)
+            && answer == Some(answers_by_images(alloc, &large, word)?),
     )
 }
 
@@ -120,6 +119,27 @@ fn both_matchers_agree_on_nested_patterns(rt: HostRuntime) -> Result<(), Fail> {
         let depth = below(&mut seed, 44).saturating_add(20);
         let pattern = nested_pattern(rt.alloc(), &mut seed, depth)?;
         let word = made_text(rt.alloc(), &mut seed, 4)?;
+        assert!(rt; agree(rt.alloc(), &pattern, &word)?, "{pattern} {word}");
+    }
+    Ok(())
+}
+
+/// A pattern of some words of fewer than three characters.
+fn words_pattern(alloc: Global, seed: &mut u64) -> Result<String, AllocError> {
+    let mut pattern = made_text(alloc, seed, 3)?;
+    for _ in 0..below(seed, 4) {
+        let word = made_text(alloc, seed, 3)?;
+        pattern = format!(in alloc; "{pattern}|{word}")?;
+    }
+    Ok(pattern)
+}
+
+#[test]
+fn both_matchers_agree_on_words(rt: HostRuntime) -> Result<(), Fail> {
+    let mut seed = 4;
+    for _ in 0..1_000 {
+        let pattern = words_pattern(rt.alloc(), &mut seed)?;
+        let word = made_text(rt.alloc(), &mut seed, 6)?;
         assert!(rt; agree(rt.alloc(), &pattern, &word)?, "{pattern} {word}");
     }
     Ok(())

@@ -1,7 +1,7 @@
 //! Words of patterns, and texts that have one as a part.
 
-use super::answers;
-use jp_iregexp::{Pattern, read_pattern};
+use super::{answers, answers_counted};
+use jp_iregexp::Pattern;
 use std::alloc::{AllocError, Global};
 use std::process::Abort;
 use std::test::Fail;
@@ -57,14 +57,54 @@ fn assert_answers(
     (pattern, text): (&str, &str),
     expected: (bool, bool),
 ) -> Result<(), Fail> {
-    let read = read_pattern(alloc, pattern)?;
-    assert_eq!(rt; answers(alloc, &read, text)?, expected, "{pattern}");
+    let answers = answers_counted(alloc, pattern, text)?;
+    assert_eq!(rt; answers, Some(expected), "{pattern} {text}");
     Ok(())
 }
 
 #[test]
 fn answers_each_row(rt: HostRuntime) -> Result<(), Fail> {
     for (pattern, text, whole, part) in &ROWS {
+        assert_answers(&rt, rt.alloc(), (pattern, text), (*whole, *part))?;
+    }
+    Ok(())
+}
+
+// The same for patterns of a few words, and for some that only look so.
+const WORDS: [(&str, &str, bool, bool); 28] = [
+    ("timeout|refused", "timeout", true, true),
+    ("timeout|refused", "connection refused", false, true),
+    ("timeout|refused", "a timeout of it", false, true),
+    ("timeout|refused", "time out, refuse", false, false),
+    ("timeout|refused", "", false, false),
+    ("refused", "refuse", false, false),
+    ("aab", "aaab", false, true),
+    ("aab", "aaaba", false, true),
+    ("abab", "abaabab", false, true),
+    ("abab", "abaabaab", false, false),
+    ("b", "aba", false, true),
+    ("b", "b", true, true),
+    ("a|ab|abc", "abc", true, true),
+    ("abc|ab|a", "ab", true, true),
+    ("abcd|bc", "abce", false, true),
+    ("a|b|", "", true, true),
+    ("a|b|", "c", false, true),
+    ("é", "aéb", false, true),
+    ("é", "ã©", false, false),
+    ("aé|ü", "éaüé", false, true),
+    ("ab", "éabé", false, true),
+    ("ab", "aéb", false, false),
+    ("©", "é", false, false),
+    ("😀a", "a😀a", false, true),
+    ("[ab]c|d", "xbc", false, true),
+    ("[^a]|bc", "ab", false, true),
+    ("[a-a]b", "cab", false, true),
+    ("a|b|c|d|e|f|g|h|i|j|k|l|m|n|o|p|q", "xq", false, true),
+];
+
+#[test]
+fn answers_patterns_of_a_few_words(rt: HostRuntime) -> Result<(), Fail> {
+    for (pattern, text, whole, part) in &WORDS {
         assert_answers(&rt, rt.alloc(), (pattern, text), (*whole, *part))?;
     }
     Ok(())

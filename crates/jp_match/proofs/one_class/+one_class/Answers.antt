@@ -1,32 +1,26 @@
 use Rattle.std.proofs.Common.{◌≡◌, Some, ap, ◌∙◌, arith}
 use Rattle.std.proofs.lemmas.Option.{IfSome_then}
 use Rattle.jp_iregexp.specs.Tree.{tree}
-use Rattle.jp_iregexp.proofs.Trees.{tree_class, tree_either, tree_sequence, tree_repeat}
+use Rattle.jp_iregexp.proofs.Trees.{tree_class}
 use Rattle.jp_match.specs.Private.Plain.{unrolled}
 use Rattle.jp_match.proofs.Patterns.Items.{only_item}
+use Rattle.jp_match.proofs.Patterns.Variants.{either_is, sequence_is, repeat_is}
 use Rattle.jp_match.proofs.Steps.OneClass.{one_class, one_branch, one_piece, one_optional}
 use Rattle.jp_match.proofs.one_class.+one_class.Goals as goal
 
 pub one_class-returns-in-Either : goal.one_class-returns-in-Either
-one_class-returns-in-Either t c = rw (
-  c.in-Either.is,
-  tree_either,
-  ← c.deref.ensures.value,
-) c.only_class.ensures.branch
+one_class-returns-in-Either t c =
+    rw (either_is _ _ _ c.in-Either.is c.deref.ensures.value).same c.only_class.ensures.branch
 
 pub one_class-returns-in-Sequence : goal.one_class-returns-in-Sequence
-one_class-returns-in-Sequence t c = rw (
-  c.in-Sequence.is,
-  tree_sequence,
-  ← c.deref-in-Sequence.ensures.value,
-) c.only_class-in-Sequence.ensures.piece
+one_class-returns-in-Sequence t c =
+    rw (sequence_is _ _ _ c.in-Sequence.is c.deref-in-Sequence.ensures.value).same
+    c.only_class-in-Sequence.ensures.piece
 
 pub one_class-returns-in-Repeat : goal.one_class-returns-in-Repeat
-one_class-returns-in-Repeat t c = rw (
-  c.in-Repeat.is,
-  tree_repeat,
-  ← c.deref-in-Repeat.ensures,
-) c.optional_class.ensures
+one_class-returns-in-Repeat t c =
+    rw (repeat_is _ _ _ _ _ c.in-Repeat.is c.deref-in-Repeat.ensures).same
+    c.optional_class.ensures
 
 pub optional_class-returns : goal.optional_class-returns
 optional_class-returns t c =

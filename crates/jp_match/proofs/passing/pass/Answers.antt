@@ -1,4 +1,4 @@
-use Rattle.std.proofs.Common.{◌≡◌, ◌<◌, ◌≤◌, ℕ, Bool, false, List, get_or, length, ◌∙◌, subst}
+use Rattle.std.proofs.Common.{◌≡◌, ◌<◌, ◌≤◌, ℕ, Bool, false, List, get_or, length, refl, ◌∙◌, subst}
 use Rattle.std.proofs.Common.{arith, add-one}
 use Rattle.std.proofs.lemmas.List.{get_or_default}
 use Rattle.jp_iregexp.specs.Tree.{Tree, tree}
@@ -6,60 +6,66 @@ use Rattle.jp_match.proofs.Sets.Spans.{Carries, Passes, carries_first, carries_m
 use Rattle.jp_match.proofs.Sets.Spans.{passes_first, passes_more, passes_all}
 use Rattle.jp_match.proofs.passing.pass.Goals as goal
 
--- a place that the loop has not come to is read as it was
-unwritten : (t : Tree) (text : List ℕ) (from now : List Bool) (i : ℕ) (b : Bool) → i < length now
+-- an offset that the loop has not come to is read as it was
+unwritten : {t : Tree} {text : List ℕ} {from now : List Bool} {i : ℕ} (b : Bool) → i < length now
     → b ≡ get_or now i b → Passes t text from now i → b ≡ get_or from i false
-unwritten t text from now i b below is so_far =
+unwritten {now = now} {i} b below is so_far =
     is ∙ get_or_default now i b false below ∙ so_far.left i (omega arith)
 
 pub loop-i-init : goal.loop-i-init
 loop-i-init c = record {
   same = c.in_ok-marking.ensures.of;
-  carries = carries_first _ _ _ _ c.in_ok-marking.ensures.none;
-  passes = passes_first _ _ _;
+  carries = carries_first c.in_ok-marking.ensures.none;
+  passes = passes_first;
+  text = refl;
   kept = omega arith;
 }
 
 pub loop-i-preserved : goal.loop-i-preserved
 loop-i-preserved c =
-    let t = tree c.args.pattern.now in
     let i = c.loop-i.i in
+    let text = c.args.search.now.ground.text.now in
     let passes = c.loop-i.invariant.passes in
-    let inside : i < length c.args.ground.text.now = omega arith in
-    let below : i < length c.loop-i.places.items = omega (
+    let inside : i < length text = omega arith in
+    let below : i < length c.loop-i.search.offsets.items = omega (
       arith,
       passes.same_length,
-      c.requires.sized,
+      c.args.search.now.sized,
     ) in
-    let at = unwritten t _ _ _ _ _ below c.index-entered.ensures passes in
-    let is = c.c-item.is ∙ get_or_default c.args.ground.text.now i c.c-item.result 0 inside in
+    let at = unwritten _ below c.index-entered.ensures passes in
+    let is = c.index-text-i.is ∙ get_or_default text i c.index-text-i.result 0 inside in
     let step = rw c.loop-i.invariant.same at c.step.ensures.step in
-    let within : i ≤ length c.args.ground.text.now = omega arith in
+    let within : i ≤ length text = omega arith in
     record {
       same = c.step.ensures.same ∙ c.loop-i.invariant.same;
-      carries = rw add-one (carries_more t _ _ _ _ _ _ _ _ inside is at
-          c.loop-i.invariant.carries step);
-      passes = rw add-one (passes_more t _ _ _ _ _ below (carries_ends t _ _ _ _ _ _ within at
-          c.loop-i.invariant.carries step.ends) passes);
+      carries = rw add-one (carries_more inside is at c.loop-i.invariant.carries step);
+      passes = rw add-one (passes_more below (carries_ends within at c.loop-i.invariant.carries
+          step.ends) passes);
+      text = c.loop-i.invariant.text;
       kept = omega arith;
     }
 
-pub returns-clause-image : goal.returns-clause-image
-returns-clause-image c =
+pub returns : goal.returns
+returns c =
     let t = tree c.args.pattern.now in
-    let text = c.args.ground.text.now in
-    let first = c.args.places.now.items in
+    let text = c.args.search.now.ground.text.now in
+    let first = c.args.search.now.offsets.items in
     let end : c.loop-i.i ≡ length text = omega arith in
-    let passes = subst (Passes t text first c.loop-i.places.items) end c.loop-i.invariant.passes in
+    let passes = subst (Passes t text first c.loop-i.search.offsets.items) end
+    c.loop-i.invariant.passes in
     let carries = subst (λ i. Carries t text first i c.loop-i.marking.walk.marks.items) end
     c.loop-i.invariant.carries in
-    let below : length text < length c.loop-i.places.items = omega (
+    let below : length text < length c.loop-i.search.offsets.items = omega (
       arith,
       passes.same_length,
-      c.requires.sized,
+      c.args.search.now.sized,
     ) in
-    let at = unwritten t _ _ _ _ _ below c.index-entered-2.ensures passes in
+    let at = unwritten _ below c.index-entered-2.ensures passes in
     let ends = rw c.loop-i.invariant.same at c.ends.ensures in
     let within : length text ≤ length text = omega arith in
-    passes_all t _ _ _ c.requires.sized (passes_more t _ _ _ _ _ below (carries_ends t _ _ _ _ _ _
-    within at carries ends) passes)
+    record {
+      text = c.loop-i.invariant.text;
+      image = passes_all c.args.search.now.sized (passes_more below (carries_ends within at carries
+          ends) passes);
+      kept = omega arith;
+    }

@@ -17,26 +17,26 @@ pub loop-start-preserved : goal.loop-start-preserved
 loop-start-preserved c =
     let start = c.loop-start.start in
     let below : start < length c.args.rows.now = omega arith in
-    let inside : start < length c.args.places.now.items = omega (arith, c.requires.count) in
+    let inside : start < length c.args.offsets.now.items = omega (arith, c.requires.count) in
     let read = (rw c.loop-start.invariant.from at c.index.ensures) ∙ get_or_default
-    c.args.places.now.items start c.index.result.now false inside in
+    c.args.offsets.now.items start c.index.result.now false inside in
     record {
       from = c.loop-start.invariant.from;
       unites = rw add-one (elim c.if-index.branch [
         | then-index w ↦
             let at = mark_at c.args.rows.now start c.index-rows-start.result below
             c.index-rows-start.is in
-            let both = rw (w.deref-then-index.ensures.value, sym at) at w.unite.ensures.both in
-            rw w.places-is (unites_more _ _ _ _ _ (sym read ∙ w.if-index.true)
-            w.unite.ensures.same_length both c.loop-start.invariant.unites)
+            let both = rw (w.deref-then-index.ensures.value, sym at) at w.unite.ensures in
+            rw w.offsets-is (unites_more (sym read ∙ w.if-index.true) both
+            c.loop-start.invariant.unites)
         | else-index w ↦
-            rw w.places-is (unites_same _ _ _ _ (not_false _ (sym read ∙ w.if-index.false))
+            rw w.offsets-is (unites_same (not_false _ (sym read ∙ w.if-index.false))
             c.loop-start.invariant.unites)
       ]);
     }
 
-pub returns : goal.returns
-returns c =
-    let all : length c.args.places.now.items ≤ c.loop-start.start = omega (arith, c.requires.count)
+pub returns-clause-union : goal.returns-clause-union
+returns-clause-union c =
+    let all : length c.args.offsets.now.items ≤ c.loop-start.start = omega (arith, c.requires.count)
     in
-    unites_all _ _ _ _ all c.loop-start.invariant.unites
+    unites_all all c.loop-start.invariant.unites

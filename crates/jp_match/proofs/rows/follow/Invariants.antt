@@ -5,6 +5,6 @@ use Rattle.jp_match.proofs.rows.follow.Given as goal
 
 abbrev pub invariant-loop-start : goal.invariant-loop-start
 invariant-loop-start l = record {
-  from : l.from.items ≡ l.fn.places.items;
-  unites : Unites (marks_of l.rows) l.fn.places.items l.places.items l.start;
+  from : l.from.items ≡ l.fn.offsets.items;
+  unites : Unites (marks_of l.rows) l.fn.offsets.items l.offsets.items l.start;
 }

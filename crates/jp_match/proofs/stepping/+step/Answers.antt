@@ -1,4 +1,4 @@
-use Rattle.std.proofs.Common.{◌≡◌, ◌+◌, ◌*◌, ◌≤◌, ◌<◌, Bool, false, ◌||◌, List, length, drop, take}
+use Rattle.std.proofs.Common.{◌≡◌, ℕ, ◌+◌, ◌≤◌, ◌<◌, Bool, false, ◌||◌, List, length, drop, take}
 use Rattle.std.proofs.Common.{refl, sym, ap}
 use Rattle.std.proofs.Common.{◌-◌, ◌++◌}
 use Rattle.std.proofs.Common.{◌∙◌, subst, arith, rules}
@@ -8,7 +8,7 @@ use denote.Param.Weighed.{at_most}
 use Rattle.jp_iregexp.proofs.pattern.Pattern.TheLaws.{the_size}
 use Rattle.jp_iregexp.specs.declared.class.ClassElement.{ClassElement}
 use Rattle.jp_iregexp.specs.Tree.{Tree, tree, class as class_tree}
-use Rattle.jp_iregexp.proofs.Trees.{tree_class, tree_either, tree_sequence, tree_repeat}
+use Rattle.jp_iregexp.proofs.Trees.{tree_class}
 use Rattle.jp_match.specs.declared.walk.Walk.{Walk}
 use Rattle.jp_match.specs.Private.Plain.{class, plus, unrolled, counted}
 use Rattle.jp_match.specs.Private.Marks.{size}
@@ -16,9 +16,8 @@ use Rattle.jp_match.specs.Private.Walks.{own_rounds, IsBefore}
 use Rattle.jp_match.proofs.Bools.{is_false}
 use Rattle.jp_match.proofs.Patterns.Variants.{either_is, sequence_is, repeat_is}
 use Rattle.jp_match.proofs.Patterns.Items.{drop_item, drop_all}
-use Rattle.jp_match.proofs.Steps.Copies.{moves_copies, put_length}
-use Rattle.jp_match.proofs.Steps.Idle.{moves_idle_part, moves_idle_next, moves_unmarked, unmarked}
-use Rattle.jp_match.proofs.Steps.Idle.{unmarked_slice}
+use Rattle.jp_match.proofs.Steps.Copies.{copies_fit, moves_copies, put_length}
+use Rattle.jp_match.proofs.Steps.Idle.{moves_idle_part, moves_idle_next, moves_unmarked}
 use Rattle.jp_match.proofs.Steps.Idle.{takes_empty}
 use Rattle.jp_match.proofs.Steps.Walking.{moves_entered}
 use Rattle.jp_match.proofs.Steps.Walking.{before_branch, before_piece, walked_next_branch}
@@ -31,7 +30,7 @@ use Rattle.jp_match.proofs.Steps.Repeating.{before_star, moves_star, before_stil
 use Rattle.jp_match.proofs.Steps.Repeating.{walked_still_plus}
 use Rattle.jp_match.proofs.Steps.Rounding.{moves_class_plus, before_inner}
 use Rattle.jp_match.proofs.Steps.Rounding.{moves_idle, moves_rounds}
-use Rattle.jp_match.proofs.Steps.Sizes.{own_other, size_between}
+use Rattle.jp_match.proofs.Steps.Sizes.{own_other}
 use Rattle.jp_match.proofs.stepping.+step.Goals as goal
 
 pub step-step_either-requires : goal.step-step_either-requires
@@ -62,25 +61,16 @@ step-step_class-requires t c =
     c.in-Class.class) c.requires
 
 pub step-returns-in-Either : goal.step-returns-in-Either
-step-returns-in-Either t c = rw (
-  c.in-Either.is,
-  tree_either,
-  ← c.deref.ensures.value,
-) c.step_either.ensures
+step-returns-in-Either t c =
+    rw (either_is _ _ _ c.in-Either.is c.deref.ensures.value).same c.step_either.ensures
 
 pub step-returns-in-Sequence : goal.step-returns-in-Sequence
-step-returns-in-Sequence t c = rw (
-  c.in-Sequence.is,
-  tree_sequence,
-  ← c.deref-in-Sequence.ensures.value,
-) c.step_sequence.ensures
+step-returns-in-Sequence t c =
+    rw (sequence_is _ _ _ c.in-Sequence.is c.deref-in-Sequence.ensures.value).same c.step_sequence.ensures
 
 pub step-returns-in-Repeat : goal.step-returns-in-Repeat
-step-returns-in-Repeat t c = rw (
-  c.in-Repeat.is,
-  tree_repeat,
-  ← c.deref-in-Repeat.ensures,
-) c.step_repeat.ensures
+step-returns-in-Repeat t c =
+    rw (repeat_is _ _ _ _ _ c.in-Repeat.is c.deref-in-Repeat.ensures).same c.step_repeat.ensures
 
 pub step-returns-in-Class : goal.step-returns-in-Class
 unfolding unrolled
@@ -88,24 +78,12 @@ step-returns-in-Class t c = rw (c.in-Class.is, tree_class) c.step_class.ensures
 
 pub step-returns : goal.step-returns
 step-returns t c =
-    rw c.if-not-entered.true (moves_idle_part c.in-Some.ensures (record {
-      at = refl;
-      round = omega arith;
-      marks = refl;
-      rounds = refl;
-      tests = refl;
-    }) c.requires.so)
+    rw c.if-not-entered.true (moves_idle_part c.in-Some.ensures c.requires.so)
 
 pub step_next-returns-then-is_idle_class : goal.step_next-returns-then-is_idle_class
 step_next-returns-then-is_idle_class t c =
     rw c.none.ensures (moves_idle_next (is_false _ c.if-not-through.true) (c.is_idle_class.ensures
-    c.if-is_idle_class.true) (record {
-      at = refl;
-      round = omega arith;
-      marks = refl;
-      rounds = refl;
-      tests = refl;
-    }) c.requires.so)
+    c.if-is_idle_class.true) c.requires.so)
 
 pub step_next-returns : goal.step_next-returns
 step_next-returns t c = rw c.then.ensures (moves_entered {e = c.args.through} c.step.ensures)
@@ -242,30 +220,17 @@ step_copies-returns-then-walk-at t c =
     (leb-true _ _, le-leb _ _) (leb-true _ _, le-leb _ _) c.if-walk-at.true
     c.loop-copies.invariant.walked c.step_copy.ensures)
 
-pub step_copy-slice_bounds-is_any-end : goal.step_copy-slice_bounds-is_any-end
-step_copy-slice_bounds-is_any-end t c =
+pub step_copy-is_unmarked-requires : goal.step_copy-is_unmarked-requires
+step_copy-is_unmarked-requires t c =
     let size = c.requires.sized.positions_so (omega (arith, c.if-size-eq0.false)) in
-    let fit : c.args.walk.now.at + c.args.size.positions ≤ length c.args.walk.now.marks.items =
-    omega (arith, c.requires.before.marks, size) in
-    search rules
+    omega (arith, c.requires.before.marks, size)
 
-pub step_copy-returns : goal.step_copy-returns
-step_copy-returns t c =
-    let a = unrolled (tree c.args.inner.now) in
-    let now = c.args.walk.now in
+pub step_copy-returns-then-is_unmarked : goal.step_copy-returns-then-is_unmarked
+step_copy-returns-then-is_unmarked t c =
     let known : 1 ≤ c.args.size.positions = omega (arith, c.if-size-eq0.false) in
-    let sized = c.requires.sized.positions_so known in
-    let none = unmarked (size a) now.at now.marks.items (λ k below. unmarked_slice now.at
-    c.args.size.positions now.marks.items _ c.if-is_any.false (rw c.deref.ensures.value at
-    c.is_any.ensures) k (omega (arith, below, sized))) in
-    rw c.if-entered.false (moves_unmarked sized (c.requires.sized.rounds_so known) (takes_empty
-    (tree c.args.inner.now) ∙ sym c.has_empty_word.ensures) none (record {
-      at = refl;
-      round = refl;
-      marks = refl;
-      rounds = refl;
-      tests = refl;
-    }) c.requires.before.so)
+    rw c.if-entered.false (moves_unmarked (c.requires.sized.positions_so known)
+    (c.requires.sized.rounds_so known) (takes_empty (tree c.args.inner.now) ∙ sym
+    c.has_empty_word.ensures) (c.is_unmarked.ensures c.if-is_unmarked.true) c.requires.before.so)
 
 pub step_copies-returns : goal.step_copies-returns
 step_copies-returns t c =
@@ -275,13 +240,7 @@ step_copies-returns t c =
 
 pub step_between-slice_bounds-step-end : goal.step_between-slice_bounds-step-end
 step_between-slice_bounds-step-end t c =
-    let size = size_between (unrolled (tree c.args.inner.now)) c.args.least c.args.most ∙ ap
-    (λ n. c.args.most * n) c.in-Some.ensures.sized in
-    let fit : c.args.walk.now.at + c.args.most ≤ length c.args.walk.now.marks.items = omega (
-      arith,
-      c.requires.marks,
-      size,
-    ) in
+    let fit = copies_fit c.args.least c.args.most c.in-Some.ensures c.requires in
     search rules
 
 pub step_between-returns : goal.step_between-returns
@@ -289,15 +248,15 @@ step_between-returns t c =
     let at = c.args.walk.now.at in
     let marks = c.args.walk.now.marks in
     let m = at + c.args.most - at in
+    let offset : m ≡ c.args.most = omega arith in
     let value = c.deref_mut.ensures.value in
-    let stepped = rw value at c.step-reach.ensures in
-    let size = size_between (unrolled (tree c.args.inner.now)) c.args.least c.args.most ∙ ap
-    (λ n. c.args.most * n) c.in-Some.ensures.sized in
-    let fit : at + c.args.most ≤ length marks.items = omega (arith, c.requires.marks, size) in
-    let long = put_length at c.args.most m marks.items c.step-reach.new.marks fit (omega arith)
-    stepped.turned.same_length in
-    let here = with_items_is marks (take at marks.items ++ (c.step-reach.new.marks ++ drop m (drop
-    at marks.items))) (long ∙ sym (ap length value) ∙ c.deref_mut.ensures.len) in
+    let stepped = rw (value, offset) at c.step-reach.ensures in
+    let new = c.step-reach.new.marks in
+    let put = λ (n : ℕ). take at marks.items ++ (new ++ drop n (drop at marks.items)) in
+    let fit = copies_fit c.args.least c.args.most c.in-Some.ensures c.requires in
+    let long = put_length at c.args.most marks.items new fit stepped.turned.same_length in
+    let here = with_items_is marks (put m) (ap (λ n. length (put n)) offset ∙ long ∙ sym (ap length
+    value) ∙ c.deref_mut.ensures.len) in
     moves_copies c.args.least c.args.most (omega arith) c.in-Some.ensures
     c.holds-holds.ensures.answer c.requires stepped (record {
       at = refl;
@@ -305,7 +264,7 @@ step_between-returns t c =
       rounds = refl;
       counted = omega (arith, c.holds-holds.ensures.counted);
       kept = c.holds-holds.ensures.kept;
-      marks_are = rw value here;
+      marks_are = rw value (here ∙ ap put offset);
     })
 
 pub step_at_least-step-requires : goal.step_at_least-step-requires
@@ -391,28 +350,16 @@ step_plus-returns-in-Class t c =
 pub step_rounds-step-reach-requires : goal.step_rounds-step-reach-requires
 step_rounds-step-reach-requires t c = (
   search rules,
-  before_inner c.requires.own c.requires.before (record {
-    at = refl;
-    round = λ some. let fit = c.requires.before.rounds some in
-        omega (arith, fit, c.requires.own, some, c.saturating_add-walk.ensures);
-    marks = refl;
-    rounds = refl;
-    tests = refl;
-  }),
+  before_inner _ c.requires.own c.requires.before (λ some. let fit = c.requires.before.rounds some in
+      omega (arith, fit, c.requires.own, some, c.saturating_add-walk.ensures)),
 )
 
 pub step_rounds-returns-then-walk-at : goal.step_rounds-returns-then-walk-at
 step_rounds-returns-then-walk-at t c =
     let a = unrolled (tree c.args.inner.now) in
     let none : size a ≡ 0 = omega (arith, c.step-reach.ensures.at, c.if-walk-at.true) in
-    moves_idle {a = a} _ none (record {
-      at = refl;
-      round = λ some. absurd (omega (arith, some, none));
-      marks = refl;
-      rounds = refl;
-      tests = refl;
-    }) (ap (λ b. c.args.entered || b) c.round_has_ended.ensures) c.step-reach.ensures refl refl refl
-    refl refl
+    moves_idle {a = a} _ none (ap (λ b. c.args.entered || b) c.round_has_ended.ensures)
+    c.step-reach.ensures
 
 pub step_rounds-returns : goal.step_rounds-returns
 step_rounds-returns t c =
@@ -426,16 +373,5 @@ step_rounds-returns t c =
       one,
       c.saturating_add-walk.ensures,
     ) in
-    moves_rounds one some c.requires.before (record {
-      at = refl;
-      round = λ more. next;
-      marks = refl;
-      rounds = refl;
-      tests = refl;
-    }) (ap (λ b. c.args.entered || b) c.round_has_ended.ensures) c.step-reach.ensures (record {
-      at = refl;
-      round = refl;
-      marks = refl;
-      rounds = refl;
-      tests = refl;
-    })
+    moves_rounds one some c.requires.before next (ap (λ b. c.args.entered || b)
+    c.round_has_ended.ensures) c.step-reach.ensures refl

@@ -1,5 +1,4 @@
 use Rattle.std.proofs.Common.{subst}
-use Rattle.jp_iregexp.proofs.Trees.{tree_either}
 use Rattle.jp_match.specs.Private.Plain.{unrolled}
 use Rattle.jp_match.specs.Private.Walks.{IsAtStart}
 use Rattle.jp_match.proofs.Patterns.Variants.{either_is}
@@ -11,8 +10,5 @@ step_branches-requires c =
     subst (λ t. IsAtStart (unrolled t) c.args.end c.args.walk.now) is.same c.requires
 
 pub returns-in-Either : goal.returns-in-Either
-returns-in-Either c = rw (
-  c.in-Either.is,
-  tree_either,
-  ← c.deref.ensures.value,
-) c.step_branches.ensures
+returns-in-Either c =
+    rw (either_is _ _ _ c.in-Either.is c.deref.ensures.value).same c.step_branches.ensures

@@ -1,9 +1,10 @@
 use Rattle.std.proofs.Common.{◌∙◌, refl, sym, arith}
 use Rattle.jp_iregexp.specs.Tree.{tree}
 use Rattle.jp_match.proofs.Bools.{not_both}
-use Rattle.jp_match.proofs.Steps.Kept.{ends_are, ends_are_entered, rounds_of_test, test_of_rounds}
+use Rattle.jp_match.proofs.Steps.Kept.{ends_are, ends_are_entered, rounds_is}
 use Rattle.jp_match.proofs.Steps.Sizes.{size_unrolled}
 use Rattle.jp_match.proofs.marking.Marking.step.Goals as goal
+use Rattle.jp_match.proofs.marking.Marking.step.Goals.{then-self, else-self}
 
 pub step_whole-reach-requires : goal.step_whole-reach-requires
 step_whole-reach-requires c =
@@ -12,7 +13,7 @@ step_whole-reach-requires c =
       before = record {
         marks = omega (arith, c.args.self.now.sized, sizes);
         rounds = λ some. omega (arith, c.args.self.now.kept);
-        so = rounds_of_test _ _ _ c.args.self.now.so;
+        so = (rounds_is _ _ _).0 c.args.self.now.so;
       };
       at = refl;
       sized = c.args.self.now.sized ∙ sym sizes;
@@ -25,36 +26,19 @@ invariant_of-self c =
     let any = rw c.deref.ensures.value at c.is_any.ensures.1 in
     record {
       no_mark = λ e k m. not_both c.is_any.result e (any (k, m));
-      ended = λ k over m. not_both c.is_any.result c.if-self.true (any (k, m));
+      ended = elim c.if-self.branch [
+        | then-self w ↦ λ k over m. not_both c.is_any.result w.if-self.true (any (k, m))
+        | else-self w ↦ rw w.self-is moves.none
+      ];
       sized = moves.marks ∙ c.args.self.now.sized;
       kept = moves.rounds ∙ c.args.self.now.kept;
-      so = test_of_rounds _ _ _ moves.so;
+      so = (rounds_is _ _ _).1 moves.so;
       reached = ends_are _ _ _ moves.ends;
       reached_entered = ends_are_entered _ _ _ moves.ends_too;
     }
 
-pub invariant_of-self-else-self : goal.invariant_of-self-else-self
-invariant_of-self-else-self c =
-    let moves = c.step_whole-reach.ensures in
-    let any = rw c.deref.ensures.value at c.is_any.ensures.1 in
-    record {
-      no_mark = λ e k m. not_both c.is_any.result e (any (k, m));
-      ended = moves.none;
-      sized = moves.marks ∙ c.args.self.now.sized;
-      kept = moves.rounds ∙ c.args.self.now.kept;
-      so = test_of_rounds _ _ _ moves.so;
-      reached = ends_are _ _ _ moves.ends;
-      reached_entered = ends_are_entered _ _ _ moves.ends_too;
-    }
-
-pub returns-then-self-clause-counted : goal.returns-then-self-clause-counted
-returns-then-self-clause-counted c =
-    let sizes = size_unrolled (tree c.args.self.now.pattern.now) in
-    let moves = c.step_whole-reach.ensures in
-    omega (arith, moves.counted, moves.within, sizes)
-
-pub returns-else-self-clause-counted : goal.returns-else-self-clause-counted
-returns-else-self-clause-counted c =
+pub returns-clause-counted : goal.returns-clause-counted
+returns-clause-counted c =
     let sizes = size_unrolled (tree c.args.self.now.pattern.now) in
     let moves = c.step_whole-reach.ensures in
     omega (arith, moves.counted, moves.within, sizes)
