@@ -1,5 +1,5 @@
 -- What a normalized path says of its location: for `read_path` and the law `paths_differ`.
-pub mod Alive
+pub mod Conditions
 pub mod Differ
 pub mod IndexReading
 pub mod LargeIndexes

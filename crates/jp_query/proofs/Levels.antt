@@ -17,6 +17,7 @@ use Rattle.jp_reading.proofs.Rules.Form.{form, lifts, least, has}
 use Rattle.jp_reading.proofs.Rules.Soundness.{InnerIsSound, none_left, some_left, sound}
 use Rattle.jp_reading.proofs.Rules.Soundness.{sound-as}
 use Rattle.jp_reading.proofs.Rules.Completeness.{InnerIsComplete, done}
+use Rattle.jp_reading.proofs.Conjunctions.{and-left}
 use Rattle.jp_tree.specs.Tree.{ExprTree, QueryTree}
 use Rattle.jp_reading.specs.Characters.{opening_parenthesis}
 use Rattle.jp_query.specs.Laws.{LevelsOnlyAdd}
@@ -27,11 +28,11 @@ use Rattle.jp_query.specs.Private.Rules.{segments}
 use Rattle.jp_query.specs.Private.Rules as rule
 use Rattle.jp_query.specs.Private.Reading.{inside, read_inside}
 use Rattle.std.proofs.lemmas.Bool.{cases_Bool, eqb-true}
-use Rattle.jp_query.proofs.Soundness.Alive.{expression-alive}
-use Rattle.jp_query.proofs.Completeness.Apart.{closes, opened-alive, opened-apart}
+use Rattle.jp_query.proofs.Rules.Conditions.{expression-alive}
+use Rattle.jp_query.proofs.Rules.Conditions.{starts, starts-covers, closes, opened-alive}
+use Rattle.jp_query.proofs.Rules.Conditions.{opened-apart}
 use Rattle.jp_query.proofs.Forms.Selectors.{opening_form, CallFrom, Parentheses, segments-same}
 use Rattle.jp_query.proofs.Forms.FunctionNames.{passed, from-letter}
-use Rattle.jp_reading.proofs.Conjunctions.{and-left}
 use Rattle.jp_query.proofs.Forms.Expressions.{expression-same}
 use Rattle.jp_query.proofs.Forms.Arguments.{opened-same}
 
@@ -219,8 +220,9 @@ opened-first n (rule.name_from others) r p q h =
     call-first (opens (rule.name_from others)) n r p q h
 opened-first n (rule.name_on other) r p q h = call-first (opens (rule.name_on other)) n r p q h
 
-pub inside-complete : (n : ℕ) → InnerIsComplete nesting (opening_form (Inside n)) closes (inside n)
+pub inside-complete : (n : ℕ) → InnerIsComplete nesting (opening_form (Inside n)) starts closes (inside n)
 inside-complete zero = record {
+  covers = starts-covers;
   progress = inside-progress zero;
   again = λ o x p q h follow. absurd (nothing o x h.spans p.at h.text h.is);
   first = λ o x p q h. opened-first zero o x p q h;
@@ -232,10 +234,11 @@ inside-complete zero = record {
     nothing (rule.name_from others) r s i t h = h.is.two.two.two.one
     nothing (rule.name_on other) r s i t h = h.is.two.two.two.one
 inside-complete (suc n) = record {
+  covers = starts-covers;
   progress = inside-progress (suc n);
   again = λ o x p q h follow. (let c =
       passed (opens o) (head p) (opened-first (suc n) o x p q h) in
-      (done (opening_form (Inside n)) closes (inside n) (inside-complete n) (opened o)
+      (done (opening_form (Inside n)) starts closes (inside n) (inside-complete n) (opened o)
       (opened-alive o c.0 c.2) (closes o) (opened-apart o c.0 c.2) x p q
       (reads-as (opening_form (Inside (suc n)) o x) (form (opening_form (Inside n)) (opened o) x) p q
       (opened-same (Inside n) o x).from h) follow).reads);

@@ -1,5 +1,4 @@
 pub mod CappedIntegers
-pub mod Completeness
 pub mod Forms
 pub mod ComponentSpans
 pub mod Levels
@@ -7,6 +6,7 @@ pub mod OneRefusal
 pub mod Readers
 pub mod Refusals
 pub mod Rows
+pub mod Rules
 pub mod Soundness
 pub mod Spans
 pub mod Unique

@@ -1,3 +1,2 @@
 -- What is read is a text of the grammar, and what was read before a stop begins one.
-pub mod Alive
 pub mod Whole

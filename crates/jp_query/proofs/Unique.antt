@@ -15,8 +15,8 @@ use Rattle.jp_query.specs.Spelled.{SpellsNothing}
 use Rattle.jp_query.specs.Laws.{OneReading}
 use Rattle.jp_query.specs.Private.Rules.{query}
 use Rattle.jp_query.specs.Private.Reading.{query_at, inside}
-use Rattle.jp_query.proofs.Soundness.Alive.{query-alive}
-use Rattle.jp_query.proofs.Completeness.Apart.{closes, at_end, query-apart}
+use Rattle.jp_reading.proofs.Rules.Follow.{at_end}
+use Rattle.jp_query.proofs.Rules.Conditions.{starts, closes, query-alive, query-apart}
 use Rattle.jp_query.proofs.Forms.Selectors.{opening_form, query-same}
 use Rattle.jp_query.proofs.Levels.{inside-complete, spells-more}
 
@@ -37,7 +37,7 @@ pub spells-read : (n : ℕ) (q : QueryTree) (s : Spans) (text : Text) → Spells
 unfolding query_at
 spells-read n q s text h =
     let F = opening_form (Inside n) in
-    rw (done F closes (inside n) (inside-complete n) query query-alive at_end query-apart q
+    rw (done F starts closes (inside n) (inside-complete n) query query-alive at_end query-apart q
     (start text) (finish text s)
     (reads-whole (form F query q) s text (query-spelt n q s text h)) (ends-meet text s)).reads refl
 

@@ -2,6 +2,8 @@
 pub mod Progress
 pub mod LevelsMonotone
 pub mod Locality
+pub mod Ranges
+pub mod Classes
 pub mod Form
 pub mod Soundness
 pub mod Follow

@@ -10,14 +10,14 @@ use Rattle.jp_reading.specs.Characters as char
 use Rattle.jp_reading.specs.Texts.{Text}
 use Rattle.jp_reading.specs.Forms.{Each}
 use Rattle.jp_reading.specs.Numbers.{is_digit, value_from}
-use Rattle.jp_reading.specs.Outcome.{State, took}
+use Rattle.jp_reading.specs.Outcome.{State, took, past_blanks}
 use Rattle.jp_reading.specs.RuleReading.{nothing}
 use Rattle.jp_reading.proofs.Again.{start, finish}
 use Rattle.jp_reading.proofs.Digits.{capped-is_min}
 use Rattle.jp_reading.proofs.HasForm.{HasForm, has-word, has-one, both, has-as}
 use Rattle.jp_reading.proofs.HasForm.{has-same, has-each_passing, reads-all}
 use Rattle.jp_reading.proofs.Rules.Completeness.{done, no_inner}
-use Rattle.jp_reading.proofs.Rules.Follow.{any}
+use Rattle.jp_reading.proofs.Rules.Follow.{at_end}
 use Rattle.jp_reading.proofs.Rules.Form.{left, right, none_inside}
 use Rattle.jp_document.specs.Location.{Step, named, nth, Location}
 use Rattle.jp_document.specs.Path.{index_text, step_text, path_of}
@@ -25,8 +25,7 @@ use Rattle.jp_document.specs.Private.PathReading.{path_at}
 use Rattle.jp_document.specs.Private.PathRules.{nesting}
 use Rattle.jp_reading.specs.Numbers.{is_leading_digit}
 use Rattle.jp_document.specs.Private.PathRules as rule
-use Rattle.jp_document.proofs.Paths.Alive.{path-alive}
-use Rattle.jp_document.proofs.Completeness.Apart.{at_end, path-apart}
+use Rattle.jp_document.proofs.Paths.Conditions.{none_starts, none_closes, path-alive, path-apart}
 use Rattle.jp_document.proofs.Completeness.Names.{Begins, enclosed-has, name-begins}
 use Rattle.jp_document.proofs.Spellings.Encoded.{prefix-ascii, first-ascii, digits-ascii}
 use Rattle.jp_document.proofs.Spellings.Indexes.{value_from-index_text, digits-index_text}
@@ -120,11 +119,11 @@ path-has t l h =
 -- the path of each list of steps is read
 pub path-complete : (t : Text) (l : Location) → encode_utf8_all t ≡ path_of l
     → (q : State) × (path_at (start t) ≡ took (map capped_step l) q)
-unfolding path_at
+unfolding path_at past_blanks
 path-complete t l h =
     let has = path-has t l h in
-    let read = done (none_inside nesting) (λ o. any) (nothing nesting)
-    (no_inner nesting) rule.path path-alive at_end path-apart
+    let read = done (none_inside nesting) none_starts none_closes (nothing nesting)
+    (no_inner nesting none_starts (λ o c h. absurd o)) rule.path path-alive at_end path-apart
     (map capped_step l) (start t) (finish t (has.at 0).0) (reads-all has)
     (record { near = refl; far = refl }) in
     (finish t (has.at 0).0, rw read.reads refl)

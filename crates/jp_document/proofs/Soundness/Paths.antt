@@ -27,7 +27,7 @@ use Rattle.jp_document.specs.Private.PathReading.{read_rule, path_at}
 use Rattle.jp_document.specs.Private.PathRules.{nesting}
 use Rattle.jp_reading.specs.Numbers.{is_leading_digit}
 use Rattle.jp_document.specs.Private.PathRules as rule
-use Rattle.jp_document.proofs.Paths.Alive.{path-alive}
+use Rattle.jp_document.proofs.Paths.Conditions.{path-alive}
 use Rattle.jp_document.proofs.Spellings.Encoded.{encode-ascii, digits-ascii}
 use Rattle.jp_document.proofs.Spellings.Indexes.{index_text-value, index_text-zero}
 use Rattle.jp_document.proofs.Paths.LargeIndexes.{capped_step}

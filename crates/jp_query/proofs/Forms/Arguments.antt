@@ -9,7 +9,8 @@ use Rattle.jp_reading.specs.Forms.{Form, ◌⌢◌, word, Blank, Each, AllPassin
 use Rattle.jp_reading.specs.Outcome.{is, passes}
 use Rattle.jp_reading.specs.Texts.{first_of}
 use Rattle.jp_reading.specs.Numbers.{is_digit}
-use Rattle.jp_reading.proofs.Rules.Follow.{or-right}
+use Rattle.jp_reading.proofs.Rules.Ranges.{or-right}
+use Rattle.jp_reading.proofs.Conjunctions.{and-left}
 use Rattle.jp_reading.proofs.Between.{Within, joined-both}
 use Rattle.jp_reading.proofs.Joining.{before-within}
 use Rattle.jp_reading.proofs.Levels.{Only, Then, Made}
@@ -39,7 +40,6 @@ use Rattle.jp_query.specs.Private.Rules as rule
 use Rattle.jp_query.proofs.Forms.Slices.{all-append, blank-before}
 use Rattle.jp_query.proofs.Forms.Selectors.{opening_form, CallFrom, Parentheses}
 use Rattle.jp_query.proofs.Forms.FunctionNames.{from-letter}
-use Rattle.jp_reading.proofs.Conjunctions.{and-left}
 use Rattle.jp_query.proofs.Forms.Expressions.{side-ways, side-same, composed-same, test-ways}
 use Rattle.jp_query.proofs.Forms.Expressions.{basic-ways, basic-same, twice, twice-same}
 use Rattle.jp_query.proofs.Forms.Expressions.{conjunction-same, expression-same}

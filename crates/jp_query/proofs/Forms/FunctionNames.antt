@@ -24,9 +24,9 @@ use Rattle.jp_query.specs.Names.{is_function_first, is_function_char, FunctionNa
 use Rattle.jp_query.specs.Grammar.{Nested}
 use Rattle.jp_query.specs.Private.Rules.{opens, CallRest}
 use Rattle.jp_reading.specs.Texts.{is_among}
+use Rattle.jp_reading.proofs.Conjunctions.{and-left}
 use Rattle.jp_query.specs.Private.Rules as rule
 use Rattle.jp_query.proofs.Forms.Selectors.{opening_form, CallFrom, Parentheses}
-use Rattle.jp_reading.proofs.Conjunctions.{and-left}
 
 -- ---- letters
 

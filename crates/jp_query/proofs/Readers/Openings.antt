@@ -15,6 +15,7 @@ use Rattle.jp_reading.proofs.Loops.{each-on, each-off, round}
 use Rattle.jp_reading.proofs.Folds.{fails-then}
 use Rattle.jp_reading.proofs.Progress.{moves-take_if}
 use Rattle.jp_reading.proofs.Steps.{take_if-takes, head-is}
+use Rattle.jp_reading.proofs.Conjunctions.{and-left}
 use Rattle.jp_tree.specs.Tree.{exists, call_test, literal, call_value, call, arguments}
 use Rattle.jp_tree.specs.Tree.{LiteralTree, true_literal, false_literal, null_literal}
 use Rattle.jp_reading.specs.Characters.{opening_parenthesis, letter_t, letter_f, letter_n}
@@ -27,7 +28,6 @@ use Rattle.jp_query.specs.Private.Rules.{subject, query_within}
 use Rattle.jp_query.specs.Private.Parts.{rest_of_call}
 use Rattle.jp_query.specs.Private.Reading.{inside, call_inside, read_flat, read_inside}
 use Rattle.jp_query.proofs.Forms.FunctionNames.{passed, from-letter}
-use Rattle.jp_reading.proofs.Conjunctions.{and-left}
 use Rattle.jp_query.proofs.Levels.{or-second}
 use Rattle.jp_query.proofs.Readers.Rounds.{along, outcome_map-twice}
 

@@ -20,7 +20,7 @@ use Rattle.jp_tree.specs.Tree.{SegmentTree, QueryTree, query, segments}
 use Rattle.jp_query.specs.Grammar.{Segment, Segments, Inside, Spells}
 use Rattle.jp_query.specs.Private.Rules as rule
 use Rattle.jp_query.specs.Private.Reading.{inside, query_at}
-use Rattle.jp_query.proofs.Soundness.Alive.{segment-alive, query-alive}
+use Rattle.jp_query.proofs.Rules.Conditions.{segment-alive, query-alive}
 use Rattle.jp_query.proofs.Forms.Selectors.{opening_form, segment-same, query-same}
 use Rattle.jp_query.proofs.Levels.{opening_form-more, inside-sound}
 

@@ -1,12 +1,13 @@
 -- The form of the texts that a rule takes for a value; that a level more allows no fewer; and that
 -- each rule takes a text.
-use Rattle.std.proofs.Common.{◌≡◌, ℕ, Bool, true, false, [], ◌∷◌, None, refl}
+use Rattle.std.proofs.Common.{ℕ, Bool, true, false, [], ◌∷◌, None, refl}
 use Rattle.jp_reading.specs.Texts.{Text, Spans}
 use Rattle.jp_reading.specs.Forms.{Form, ◌⌢◌, word, One, Blank, Each, Component, Omitted, Never}
 use Rattle.jp_reading.specs.Rule.{Look, Nesting, Lead, the, blanks, Rule, value, character, after}
 use Rattle.jp_reading.specs.Rule.{seq, made, look, upon, nested, component_where, omitted, some}
 use Rattle.jp_reading.specs.Rule.{relaxed}
 use Rattle.jp_reading.specs.Rule.{loose, until, flat}
+use Rattle.jp_reading.proofs.Rules.Classes.{Class}
 use Rattle.jp_reading.proofs.Between.{Has, Within, has-as}
 use Rattle.jp_reading.proofs.Levels.{Only, Then, Made, joined-lifts, joined-has, word-has}
 use Rattle.jp_reading.proofs.Levels.{blank-has, then-lifts, then-has, component-lifts}
@@ -104,32 +105,33 @@ lifts F G h (flat r) y = λ s o t w. w
 
 -- ---- each rule takes a text, where each of its classes of characters has one
 
+-- each class of characters in the rule is known by its ranges
 abbrev pub Alive : {N : Nesting} {u : Bool} {a b : Look} {A : Type 0} → Rule N u a b A → Type 0
 Alive (value x) = Unit {0}
-Alive (character ok) = (c : ℕ) × (ok c ≡ true)
+Alive (character ok) = Class ok
 Alive (after s r) = Alive r
 Alive (seq {A = A} r k) = Alive r × ((x : A) → Alive (k x))
 Alive (made f r) = Alive r
-Alive (look m ok r s) = Alive r × Alive s
+Alive (look m ok r s) = Class ok × Alive r × Alive s
 Alive (upon c r s) = Alive r × Alive s
 Alive {N} (nested o k s) = ((x : N.Inner o) → Alive (k x)) × Alive s
 Alive (component_where ok r) = Alive r
 Alive (omitted x) = Unit {0}
-Alive (some m ok r) = Alive r
+Alive (some m ok r) = Class ok × Alive r
 Alive (relaxed r) = Alive r
 Alive (loose r) = Alive r
-Alive (until ok r) = Alive r
+Alive (until ok r) = Class ok × Alive r
 Alive (flat r) = Alive r
 
 -- a value that has a text
 abbrev pub least : {N : Nesting} {u : Bool} {a b : Look} {A : Type 0} (r : Rule N u a b A) → Alive r
     → A
 least (value x) w = x
-least (character ok) w = w.0
+least (character ok) w = w.member
 least (after s r) w = least r w
 least (seq r k) w = least (k (least r w.0)) (w.1 (least r w.0))
 least (made f r) w = f (least r w)
-least (look m ok r s) w = least r w.0
+least (look m ok r s) w = least r w.1
 least (upon c r s) w = least s w.1
 least (nested o k s) w = least s w.1
 least (component_where ok r) w = least r w
@@ -137,7 +139,7 @@ least (omitted x) w = x
 least (some m ok r) w = []
 least (relaxed r) w = least r w
 least (loose r) w = least r w
-least (until ok r) w = least r w
+least (until ok r) w = least r w.1
 least (flat r) w = least r w
 
 lead-has : {m : Look} {t : Bool} (s : Lead m t) → Has (text_of s)
@@ -147,7 +149,11 @@ lead-has blanks = blank-has
 pub has : {N : Nesting} {u : Bool} {a b : Look} {A : Type 0} (F : Inside N) (r : Rule N u a b A)
     (w : Alive r) → Has (form F r (least r w))
 has F (value x) w = λ o. ([], [], record { same = refl; is = record { none = refl; is = refl } })
-has F (character ok) w = λ o. ([], w.0 ∷ [], record { none = refl; is = refl; passes = w.1 })
+has F (character ok) w = λ o. (
+  [],
+  w.member ∷ [],
+  record { none = refl; is = refl; passes = w.passes },
+)
 has F (after s r) w = joined-has (text_of s) (form F r (least r w)) (lead-has s) (has F r w)
 has F (seq r k) w =
     let x = least r w.0 in
@@ -163,8 +169,8 @@ has F (made f r) w = λ o. (let text = has F r w o in (
   },
 ))
 has F (look m ok r s) w =
-    has-as (form F r (least r w.0)) (Either (form F r (least r w.0)) (form F s (least r w.0)))
-    (λ v o t h. left h) (has F r w.0)
+    has-as (form F r (least r w.1)) (Either (form F r (least r w.1)) (form F s (least r w.1)))
+    (λ v o t h. left h) (has F r w.1)
 has F (upon c r s) w =
     has-as (form F s (least s w.1))
     (Either (word (c ∷ []) ⌢ form F r (least s w.1)) (form F s (least s w.1))) (λ v o t h. right h)
@@ -185,5 +191,5 @@ has F (omitted x) w = λ o. (
 has F (some m ok r) w = word-has []
 has F (relaxed r) w = has F r w
 has F (loose r) w = has F r w
-has F (until ok r) w = has F r w
+has F (until ok r) w = has F r w.1
 has {N} F (flat r) w = has (none_inside N) r w

@@ -320,7 +320,7 @@ sound F G l inner h (value x) w p = record {
   is = reads-as (word []) (Only x (word []) x) p p (λ s o t g. record { same = refl; is = g })
       (reads-nothing p);
 }
-sound F G l inner h (character ok) w p = sound-take_if ok w.0 w.1 p
+sound F G l inner h (character ok) w p = sound-take_if ok w.member w.passes p
 sound F G l inner h (after s r) w p =
     sound-led s (λ x. form F r x) (λ x. form G r x) (least r w) (has F r w)
     (λ q. read inner r q) (λ q. sound F G l inner h r w q) p
@@ -335,7 +335,7 @@ sound F G l inner h (made f r) w p =
 sound F G l inner h (look m ok r s) w p =
     sound-either (λ x. form F r x) (λ x. form G r x) (λ x. form F s x) (λ x. form G s x) p
     (passes ok (next m p)) (read inner r p) (read inner s p)
-    (λ on. sound F G l inner h r w.0 p) (sound F G l inner h s w.1 p)
+    (λ on. sound F G l inner h r w.1 p) (sound F G l inner h s w.2 p)
 sound F G l inner h (upon c r s) w p =
     sound-either (λ x. word (c ∷ []) ⌢ form F r x) (λ x. word (c ∷ []) ⌢ form G r x)
     (λ x. form F s x) (λ x. form G s x) p (is_at c p)
@@ -372,9 +372,9 @@ sound F G l inner h (omitted x) w p = record { is = reads-omitted x p }
 sound F G l inner h (some m ok r) w p =
     sound-loop (λ x. form F r x) (λ x. form G r x) (λ x. lifts F G l r x) (suc (length p.rest))
     (λ q. passes ok (next m q)) (λ q. read inner r q)
-    (λ q. sound F G l inner h r w q) p
+    (λ q. sound F G l inner h r w.1 q) p
 sound F G l inner h (relaxed r) w p = sound F G l inner h r w p
 sound F G l inner h (loose r) w p = sound F G l inner h r w p
-sound F G l inner h (until ok r) w p = sound F G l inner h r w p
+sound F G l inner h (until ok r) w p = sound F G l inner h r w.1 p
 sound {N} F G l inner h (flat r) w p =
     sound (none_inside N) (none_inside N) (λ o x s n t e. e) (nothing N) (λ o q on. shut refl) r w p

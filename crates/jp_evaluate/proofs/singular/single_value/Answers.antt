@@ -4,7 +4,6 @@ use Rattle.jp_evaluate.proofs.Nodelists.Along.{not_child, not_single, single}
 use Rattle.jp_evaluate.proofs.singular.single_value.Goals as goal
 use Rattle.jp_evaluate.proofs.singular.single_value.Goals.{then-segment-via-then-segment}
 use Rattle.jp_evaluate.proofs.singular.single_value.Goals.{}
-use Rattle.jp_evaluate.proofs.singular.single_value.Goals.{}
 use Rattle.jp_evaluate.proofs.singular.single_value.Goals.{then-segment-via-else-segment+then-len-ne1}
 
 pub returns-then-segment : goal.returns-then-segment

@@ -1,0 +1,337 @@
+-- That the rules of queries are alive, and apart from one another and from what follows them. Each
+-- is found by computing, once `all_rules` says what a rule is made of: a new rule is a name there.
+-- What is stated here is what is used, or used more than once.
+use Rattle.std.proofs.Common.{◌≡◌, ℕ, Bool, true, false, ◌&&◌, not, List, [], ◌∷◌, ◌++◌, Option}
+use Rattle.std.proofs.Common.{Some, None, inl, inr, refl, arith}
+use Rattle.std.specs.Prelude.{codes}
+use Rattle.std.proofs.lemmas.Bool.{cases_Bool, eqb-true}
+use Rattle.std.proofs.lemmas.Bool.Decides.{nat_tests}
+use Rattle.jp_reading.specs.Characters as char
+use Rattle.jp_reading.specs.Texts.{Text}
+use Rattle.jp_reading.specs.Rule.{Look}
+use Rattle.jp_reading.specs.Outcome.{is}
+use Rattle.jp_reading.specs.Numbers.{is_digit}
+use Rattle.jp_reading.proofs.Rules.Ranges.{Range, ranges, within, without, without-covers, single}
+use Rattle.jp_reading.proofs.Rules.Ranges.{single-covers, within-left, within-right, one_of}
+use Rattle.jp_reading.proofs.Conjunctions.{and-left}
+use Rattle.jp_reading.proofs.Rules.Classes.{Class}
+use Rattle.jp_reading.proofs.Rules.Form.{Alive}
+use Rattle.jp_reading.proofs.Rules.Follow.{Follow, any, at_end, beginning, either_of, blanked}
+use Rattle.jp_reading.proofs.Rules.Follow.{begins}
+use Rattle.jp_reading.proofs.Rules.Follow.{Under, under-computed, Apart}
+use Rattle.jp_tree.specs.Tree.{OperandTree, literal, node_value, call_value, ArgumentTree}
+use Rattle.jp_tree.specs.Tree.{literal_argument, query_argument, call_argument, logical_argument}
+use Rattle.jp_query.specs.Names.{is_function_first, is_function_char}
+use Rattle.jp_query.specs.Private.Rules.{opens}
+use Rattle.jp_reading.specs.Texts.{is_among}
+use Rattle.jp_query.specs.Private.Rules as rule
+use Rattle.jp_query.proofs.Rules.Classes.{classes}
+use Rattle.jp_query.proofs.Forms.FunctionNames.{from-letter}
+
+-- what each rule is made of
+all_rules : Unit {0}
+unfolding rule.shorthand rule.unit_after rule.unit rule.surrogates_after rule.hexchar
+    rule.escape rule.string_character rule.characters rule.quoted rule.size rule.unsigned
+    rule.int rule.bound rule.later_step rule.step rule.slice_from rule.digits rule.decimals
+    rule.power rule.exponent rule.mantissa rule.number rule.plain_literal rule.operator
+    rule.number_selector rule.selector rule.entry rule.entries rule.bracket rule.member
+    rule.selection rule.segment rule.segments rule.query rule.identifier rule.query_within
+    rule.word rule.side_within rule.side rule.comparison_with rule.closed rule.subject
+    rule.test_expr rule.negated rule.negation_on rule.basic rule.conjunction rule.expression
+    rule.argument_start rule.argument rule.next_argument rule.some_arguments
+    rule.after_parenthesis rule.named_call rule.inside_expression
+all_rules = tt
+
+-- ---- each class of characters in a rule is one of the table
+
+selector-alive : Alive rule.selector
+unfolding all_rules
+selector-alive = assumption classes
+
+bracket-alive : (d : Bool) → Alive (rule.bracket d)
+unfolding all_rules
+bracket-alive d = assumption (classes, selector-alive)
+
+pub segment-alive : Alive rule.segment
+unfolding all_rules
+segment-alive = assumption (classes, bracket-alive true, bracket-alive false)
+
+pub query-alive : Alive rule.query
+unfolding all_rules
+query-alive = assumption (classes, segment-alive)
+
+side-alive : Alive rule.side
+unfolding all_rules
+side-alive = assumption (classes, segment-alive)
+
+comparison-alive : (first : OperandTree) → Alive (rule.comparison_with first)
+unfolding all_rules
+comparison-alive first = assumption (classes, side-alive)
+
+compared_or_test-alive : (first : OperandTree) → Alive (rule.compared_or_test first)
+compared_or_test-alive (literal l) = comparison-alive (literal l)
+compared_or_test-alive (node_value q) = assumption (classes, comparison-alive (node_value q))
+compared_or_test-alive (call_value c) = assumption (classes, comparison-alive (call_value c))
+
+basic-alive : Alive rule.basic
+unfolding all_rules
+basic-alive = assumption (classes, segment-alive, side-alive, compared_or_test-alive)
+
+conjunction-alive : Alive rule.conjunction
+unfolding all_rules
+conjunction-alive = assumption (classes, basic-alive)
+
+pub expression-alive : Alive rule.expression
+unfolding all_rules
+expression-alive = assumption (classes, conjunction-alive)
+
+argument_on-alive : (x : ArgumentTree) → Alive (rule.argument_on x)
+argument_on-alive (literal_argument l) = tt
+argument_on-alive (query_argument q) = assumption (classes, basic-alive, conjunction-alive)
+argument_on-alive (call_argument c) = assumption (classes, basic-alive, conjunction-alive)
+argument_on-alive (logical_argument e) = assumption (classes, basic-alive, conjunction-alive)
+
+after_parenthesis-alive : Alive rule.after_parenthesis
+unfolding all_rules
+after_parenthesis-alive =
+    assumption (classes, segment-alive, side-alive, comparison-alive, argument_on-alive)
+
+named_call-alive : (ok : ℕ → Bool) → Class ok → Alive (rule.named_call ok)
+unfolding all_rules
+named_call-alive ok class = assumption (class, classes, after_parenthesis-alive)
+
+-- ---- openings
+-- ---- openings
+
+-- the characters of functions' names
+abbrev letters : List Range
+letters = ranges (codes "09__az")
+
+letters-covers : (c : ℕ) → is_function_char c ≡ true → within letters c ≡ true
+unfolding is_digit
+letters-covers c h = grind (arith, nat_tests)
+
+first-covers : (c : ℕ) → is_function_first c ≡ true → within (ranges (codes "az")) c ≡ true
+first-covers c h = grind (arith, nat_tests)
+
+abbrev without_all : Text → List Range → List Range
+without_all [] rs = rs
+without_all (d ∷ ds) rs = without d (without_all ds rs)
+
+without_all-covers : (ds : Text) (rs : List Range) (c : ℕ) → within rs c ≡ true
+    → is_among ds c ≡ false → within (without_all ds rs) c ≡ true
+without_all-covers [] rs c h other = h
+without_all-covers (d ∷ ds) rs c h other =
+    elim (cases_Bool (is d c)) [
+      | inl e ↦ absurd cc
+      | inr e ↦
+          without-covers d (without_all ds rs) c
+          (without_all-covers ds rs c h (rw e at other)) e
+    ]
+
+-- how what is opened begins
+abbrev pub starts : rule.Opening → List Range
+starts (rule.expression_after m) = single m
+starts (rule.name_from others) = without_all others (ranges (codes "az"))
+starts (rule.name_on other) = ranges (codes "((") ++ without_all (rule.only_this other) letters
+
+-- a test that another one narrows
+narrowed : {P : Type 0} (a b : Bool) → (a && not b) ≡ true → (a ≡ true → b ≡ false → P) → P
+narrowed true false h f = f refl refl
+narrowed true true h f = absurd cc
+narrowed false b h f = absurd cc
+
+pub starts-covers : (o : rule.Opening) (c : ℕ) → opens o c ≡ true → within (starts o) c ≡ true
+starts-covers (rule.expression_after m) c h = single-covers m c h
+starts-covers (rule.name_from others) c h =
+    narrowed (is_function_first c) (is_among others c) h
+    (λ f off. without_all-covers others (ranges (codes "az")) c (first-covers c f) off)
+starts-covers (rule.name_on other) c h =
+    one_of (is char.opening_parenthesis c) _ h
+    (λ f. within-left (ranges (codes "((")) (without_all (rule.only_this other) letters) c
+    (within-left (ranges (codes "((")) [] c (single-covers char.opening_parenthesis c f)))
+    (λ f. narrowed (is_function_char c) (is_among (rule.only_this other) c) f
+    (λ g off. within-right (ranges (codes "((")) (without_all (rule.only_this other) letters) c
+    (without_all-covers (rule.only_this other) letters c (letters-covers c g) off)))
+
+none-within : {P : Type 0} (c : ℕ) → within [] c ≡ true → P
+none-within c h = absurd cc
+
+-- some characters of functions' names, of which this is one
+abbrev some_letters : (ok : ℕ → Bool) → ((c : ℕ) → ok c ≡ true → is_function_char c ≡ true)
+    → (c : ℕ) → ok c ≡ true → Class ok
+some_letters ok letter c passes = record {
+  member = c;
+  passes = passes;
+  outer = letters;
+  covers = λ d h. letters-covers d (letter d h);
+  inner = [];
+  filled = λ d. none-within d;
+}
+
+-- those that go on with a name, and are not that one
+abbrev going_on : Option ℕ → ℕ → Bool
+going_on other c = is_function_char c && not (is_among (rule.only_this other) c)
+
+passed-on : (other : Option ℕ) → (c : ℕ) × (going_on other c ≡ true)
+passed-on None = (char.letter_a, refl)
+passed-on (Some d) =
+    elim (cases_Bool (is d char.letter_a)) [
+      | inl e ↦ (
+        char.letter_b,
+        let same : char.letter_a
+            ≡ d = eqb-true char.letter_a d e in rw (← same) refl,
+      )
+      | inr e ↦ (char.letter_a, rw e refl)
+    ]
+
+abbrev going_on-class : (other : Option ℕ) → Class (going_on other)
+going_on-class other =
+    some_letters (going_on other)
+    (λ c. and-left (is_function_char c) (not (is_among (rule.only_this other) c)))
+    (passed-on other).0 (passed-on other).1
+
+pub opened-alive : (o : rule.Opening) (c : ℕ) → opens o c ≡ true → Alive (rule.opened o)
+unfolding all_rules
+opened-alive (rule.expression_after m) c h = assumption expression-alive
+opened-alive (rule.name_from others) c h =
+    named_call-alive (opens (rule.name_from others))
+    (some_letters (opens (rule.name_from others)) (from-letter others) c h)
+opened-alive (rule.name_on other) c h =
+    (after_parenthesis-alive, named_call-alive (going_on other) (going_on-class other))
+
+-- ---- what follows
+
+-- what ends an expression inside a filter or a parenthesis, and an argument; it may have blanks
+-- before it
+abbrev pub after_expression : Follow
+after_expression = blanked (beginning (ranges (codes ")),,]]")))
+
+-- a function expression ends with its closing parenthesis, whatever follows
+abbrev pub closes : rule.Opening → Follow
+closes (rule.expression_after m) = after_expression
+closes (rule.name_from others) = any
+closes (rule.name_on other) = any
+
+-- what follows a conjunction, a basic expression, and its first side
+abbrev after_conjunction : Follow
+after_conjunction = either_of (blanked (beginning (ranges (codes "||")))) after_expression
+
+abbrev after_basic : Follow
+after_basic = either_of (blanked (beginning (ranges (codes "&&")))) after_conjunction
+
+abbrev after_first : Follow
+after_first = either_of (blanked (beginning (ranges (codes "==!!<<>>")))) after_basic
+
+-- what follows a selector: blanks, and another or the end of the brackets
+abbrev after_selector : Follow
+after_selector =
+    blanked (either_of (beginning (ranges (codes ",,"))) (beginning (ranges (codes "]]"))))
+
+-- ---- each rule is apart
+
+abbrev IsApart : {u : Bool} {a b : Look} {A : Type 0} (r : rule.QueryRule u a b A) → Alive r
+    → Follow → Type 0
+IsApart r w K = Apart starts closes r w K
+
+-- with what each of them is alive
+all_alive : Unit {0}
+unfolding all_rules selector-alive bracket-alive segment-alive query-alive side-alive
+    comparison-alive compared_or_test-alive basic-alive conjunction-alive expression-alive
+    argument_on-alive after_parenthesis-alive named_call-alive
+all_alive = tt
+
+selector-apart : IsApart rule.selector selector-alive after_selector
+unfolding all_alive
+selector-apart = assumption
+
+bracket-apart : (d : Bool) → IsApart (rule.bracket d) (bracket-alive d) any
+unfolding all_alive
+bracket-apart d = assumption selector-apart
+
+pub query-apart : IsApart rule.query query-alive at_end
+unfolding all_alive
+query-apart = assumption (bracket-apart false, bracket-apart true)
+
+first-apart : IsApart rule.side side-alive after_first
+unfolding all_alive
+first-apart = assumption (bracket-apart false, bracket-apart true)
+
+second-apart : IsApart rule.side side-alive after_basic
+unfolding all_alive
+second-apart = assumption (bracket-apart false, bracket-apart true)
+
+comparison-apart : (first : OperandTree)
+    → IsApart (rule.comparison_with first) (comparison-alive first) after_basic
+unfolding all_alive
+comparison-apart first = assumption second-apart
+
+compared_or_test-apart : (first : OperandTree)
+    → IsApart (rule.compared_or_test first) (compared_or_test-alive first) after_basic
+unfolding all_alive
+compared_or_test-apart (literal l) = assumption (comparison-apart (literal l))
+compared_or_test-apart (node_value q) = assumption (comparison-apart (node_value q))
+compared_or_test-apart (call_value c) = assumption (comparison-apart (call_value c))
+
+-- what goes on from a first side begins as what follows it
+first-on : (first : OperandTree)
+    → Under (begins starts (rule.compared_or_test first) (compared_or_test-alive first) after_basic)
+    after_first
+unfolding all_alive
+first-on (literal l) = under-computed _ _ refl
+first-on (node_value q) = under-computed _ _ refl
+first-on (call_value c) = under-computed _ _ refl
+
+basic-apart : IsApart rule.basic basic-alive after_basic
+unfolding all_alive
+basic-apart =
+    assumption (
+      bracket-apart false,
+      bracket-apart true,
+      first-apart,
+      compared_or_test-apart,
+      first-on,
+    )
+
+conjunction-apart : IsApart rule.conjunction conjunction-alive after_conjunction
+unfolding all_alive
+conjunction-apart = assumption basic-apart
+
+expression-apart : IsApart rule.expression expression-alive after_expression
+unfolding all_alive
+expression-apart = assumption conjunction-apart
+
+argument_on-apart : (x : ArgumentTree)
+    → IsApart (rule.argument_on x) (argument_on-alive x) after_expression
+unfolding all_alive
+argument_on-apart (literal_argument l) = tt
+argument_on-apart (query_argument q) = assumption (basic-apart, conjunction-apart)
+argument_on-apart (call_argument c) = assumption (basic-apart, conjunction-apart)
+argument_on-apart (logical_argument e) = assumption (basic-apart, conjunction-apart)
+
+argument-on : (x : ArgumentTree)
+    → Under (begins starts (rule.argument_on x) (argument_on-alive x) after_expression) after_basic
+unfolding all_alive
+argument-on (literal_argument l) = under-computed _ _ refl
+argument-on (query_argument q) = under-computed _ _ refl
+argument-on (call_argument c) = under-computed _ _ refl
+argument-on (logical_argument e) = under-computed _ _ refl
+
+after_parenthesis-apart : IsApart rule.after_parenthesis after_parenthesis-alive any
+unfolding all_alive
+after_parenthesis-apart =
+    assumption (
+      bracket-apart false,
+      bracket-apart true,
+      first-apart,
+      comparison-apart,
+      argument_on-apart,
+      argument-on,
+    )
+
+pub opened-apart : (o : rule.Opening) (c : ℕ) (h : opens o c ≡ true)
+    → IsApart (rule.opened o) (opened-alive o c h) (closes o)
+unfolding all_alive opened-alive
+opened-apart (rule.expression_after m) c h = assumption expression-apart
+opened-apart (rule.name_from others) c h = assumption after_parenthesis-apart
+opened-apart (rule.name_on other) c h = assumption after_parenthesis-apart
