@@ -1,6 +1,7 @@
 //! Members put in the order of their names.
 ghost use Rattle.std.specs.Prelude.{◌≡◌, ◌≤◌, ◌++◌, IfSome, OnSome, drop, length, map, take};
 ghost use Rattle.std.specs.Cmp.Lexicographic.{slice_cmp};
+ghost use Rattle.std.specs.List.{insert};
 ghost use Rattle.std.specs.List.Sorted.{IsBinarySearchResult, IsSearchInRange};
 ghost use Rattle.std.specs.Ordering.{nat_cmp};
 ghost use Rattle.jp_flat.specs.Flat.{shown};
@@ -37,10 +38,24 @@ fn put(tables: &Tables<'_>, found: &mut Vec<Named>, member: Named) -> Option<()>
             Some(())
         }
         Err(place) => {
-            found.insert(place, member).ok()?;
+            put_at(found, place, member)?;
             Some(())
         }
     }
+}
+
+/// Puts a member at a place among others. At the end none has to move.
+#[inline(always)]
+fn put_at(found: &mut Vec<Named>, place: usize, member: Named) -> Option<()>
+    requires { place ≤ length found.old.items }
+    ensures { OnSome result (found.new.items ≡ insert found.old.items place member) }
+{
+    if place == found.len() {
+        found.push(member).ok()?;
+    } else {
+        found.insert(place, member).ok()?;
+    }
+    Some(())
 }
 
 /// Where a name is among those of members, or where it goes, if theirs rise: a binary search that

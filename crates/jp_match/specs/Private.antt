@@ -7,8 +7,8 @@ pub mod Counts
 pub mod Cutting
 pub mod EmptyWord
 pub mod Marks
-pub mod OneClass
 pub mod Offset
+pub mod OneClass
 pub mod OnlyWords
 pub mod Plain
 pub mod Rows

@@ -1,12 +1,12 @@
 //! The plain matcher: for each part of a pattern, the offsets that its words reach.
 
-ghost use Rattle.std.specs.Prelude.{◌≡◌, ◌↔◌, ◌≤◌, suc, IfOk, IsTrue, length, map, ◌∷◌, []};
+ghost use Rattle.std.specs.Prelude.{◌≡◌, ◌↔◌, ◌≤◌, IfOk, IsTrue, map, ◌∷◌, []};
 ghost use Rattle.std.specs.Str.{chars};
 ghost use Rattle.jp_iregexp.specs.Tree.{tree, pieces, branches, repeat};
 ghost use Rattle.jp_iregexp.specs.Language.{Language, Power};
 ghost use Rattle.jp_match.specs.Private.Counts.{IsMostAfter, Times};
 ghost use Rattle.jp_match.specs.Part.{HasPart};
-ghost use Rattle.jp_match.specs.Private.Offset.{IsImage};
+ghost use Rattle.jp_match.specs.Private.Offset.{IsOver, IsImage};
 ghost use Rattle.jp_match.specs.Private.Rows.{AreKnown, EachKnown, marks_of, rows_of, parts_of};
 ghost use Rattle.jp_match.specs.Private.Search.{Finds, Leads};
 
@@ -90,7 +90,7 @@ fn reached_from(
     offsets: Offsets,
     tests: &mut Tests,
 ) -> Result<Offsets, AllocError>
-    requires { length offsets.items ≡ suc (length ground.text.now) }
+    requires { IsOver offsets.items ground.text.now }
     ensures { Finds (λ to. IsImage (Language (tree pattern.now)) ground.entry.text.now
         offsets.items to.items) tests.old tests.new result }
 {
@@ -106,7 +106,7 @@ pub(crate) fn image_of(
     offsets: Offsets,
     tests: &mut Tests,
 ) -> Result<Offsets, AllocError>
-    requires sized { length offsets.items ≡ suc (length ground.text.now) }
+    requires sized { IsOver offsets.items ground.text.now }
     requires known { EachKnown (parts_of (tree pattern.now)) ground.text.now (rows_of known.now) }
     ensures { Finds (λ to. IsImage (Language (tree pattern.now)) ground.entry.text.now
         offsets.items to.items) tests.old tests.new result }

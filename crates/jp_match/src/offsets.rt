@@ -1,10 +1,10 @@
 //! Sets of offsets in a text.
 
-ghost use Rattle.std.specs.Prelude.{◌≡◌, ◌↔◌, ◌⊎◌, ℕ, suc, ◌≤◌, IsTrue, IfOk, OnOk, length};
+ghost use Rattle.std.specs.Prelude.{◌≡◌, ◌↔◌, ◌⊎◌, ℕ, ◌≤◌, IsTrue, IfOk, length};
 ghost use Rattle.jp_iregexp.specs.Tree.{class as class_tree};
 ghost use Rattle.jp_iregexp.specs.Language.{Language};
 ghost use Rattle.jp_match.specs.Private.ClassTests.{count_after};
-ghost use Rattle.jp_match.specs.Private.Offset.{Marked, Holds, IsImage, followed_count};
+ghost use Rattle.jp_match.specs.Private.Offset.{IsOver, Marked, Holds, IsImage, followed_count};
 ghost use Rattle.jp_match.specs.Private.Rows.{IsOnly};
 
 use crate::class_tests::Tests;
@@ -35,8 +35,7 @@ pub(crate) fn none(alloc: Global, count: usize) -> Result<Offsets, AllocError>
 /// One offset of the text alone.
 pub(crate) fn only(ground: Ground<'_>, offset: usize) -> Result<Offsets, AllocError>
     requires { offset ≤ length ground.text.now }
-    ensures same_length { IfOk result (λ offsets. length offsets.items ≡ suc (length
-        ground.entry.text.now)) }
+    ensures same_length { IfOk result (λ offsets. IsOver offsets.items ground.entry.text.now) }
     ensures only { IfOk result (λ offsets. IsOnly offsets.items offset) }
 {
     let mut offsets = vec![in ground.alloc; false; ground.text.len() + 1]?;
@@ -46,8 +45,7 @@ pub(crate) fn only(ground: Ground<'_>, offset: usize) -> Result<Offsets, AllocEr
 
 /// Every offset of the text.
 pub(crate) fn every(ground: Ground<'_>) -> Result<Offsets, AllocError>
-    ensures same_length { IfOk result (λ offsets. length offsets.items ≡ suc (length
-        ground.entry.text.now)) }
+    ensures same_length { IfOk result (λ offsets. IsOver offsets.items ground.entry.text.now) }
     ensures every { IfOk result (λ offsets. (offset : ℕ)
         → Marked offsets.items offset ↔ (offset ≤ length ground.entry.text.now)) }
 {
@@ -117,7 +115,7 @@ pub(crate) fn remove(offsets: &mut Offsets, other: &[bool])
 /// Moves each offset past the character that follows it, where the class holds that character. That
 /// makes a class test for each offset of the set that a character follows.
 pub(crate) fn shift(class: &CharClass, text: &[char], offsets: &mut Offsets, tests: &mut Tests)
-    requires { length offsets.old.items ≡ suc (length text.now) }
+    requires { IsOver offsets.old.items text.now }
     ensures image { IsImage (Language (class_tree class.now.negated class.now.items.items))
         text.now offsets.old.items offsets.new.items }
     ensures counted { tests.new ≡ count_after (followed_count text.now offsets.old.items) tests.old }

@@ -1,6 +1,6 @@
 //! A search for the offsets of a text that words of a pattern reach.
 
-ghost use Rattle.std.specs.Prelude.{◌≡◌, suc, length};
+ghost use Rattle.jp_match.specs.Private.Offset.{IsOver};
 
 use crate::class_tests::Tests;
 use crate::offsets::Offsets;
@@ -19,5 +19,5 @@ pub(crate) struct Search<'t> {
     pub(crate) ground: Ground<'t>,
     pub(crate) offsets: Offsets,
     pub(crate) tests: Tests,
-    ghost sized: { length offsets.items ≡ suc (length ground.text.now) },
+    ghost sized: { IsOver offsets.items ground.text.now },
 }

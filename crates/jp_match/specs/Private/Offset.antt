@@ -1,11 +1,15 @@
 -- Sets of offsets in a text: a mark for the offset before each character and for the offset at the
 -- end.
-use Rattle.std.specs.Prelude.{◌≡◌, ◌↔◌, ℕ, ◌+◌, Bool, IsTrue, false}
+use Rattle.std.specs.Prelude.{◌≡◌, ◌↔◌, ℕ, suc, ◌+◌, Bool, IsTrue, false}
 use Rattle.std.specs.Prelude.{List, ◌++◌, length, take, count_by, get_or}
 
 -- the offset is in the set
 abbrev pub Marked : List Bool → ℕ → Type 0
 Marked offsets offset = IsTrue (get_or offsets offset false)
+
+-- a set has a mark for the offset before each character of the text and for the one at its end
+abbrev pub IsOver : List Bool → List ℕ → Type 0
+IsOver offsets text = length offsets ≡ suc (length text)
 
 -- a set as large as another holds exactly such offsets
 pub record Holds (IsIn : ℕ → Type 0) (from to : List Bool) : Type 0 where

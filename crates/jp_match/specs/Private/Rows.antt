@@ -4,7 +4,7 @@ use Rattle.std.specs.Prelude.{map, get_or}
 use Rattle.std.specs.Global.{Global}
 use Rattle.jp_iregexp.specs.Tree.{Tree, class, nothing, either, empty, sequence, repeat}
 use Rattle.jp_iregexp.specs.Language.{Language}
-use Rattle.jp_match.specs.Private.Offset.{Marked, Holds, IsImage}
+use Rattle.jp_match.specs.Private.Offset.{IsOver, Marked, Holds, IsImage}
 
 -- the marks of each set
 abbrev pub marks_of : List (Vec Bool Global) → List (List Bool)
@@ -21,7 +21,7 @@ IsOnly offsets only = (offset : ℕ) → Marked offsets offset ↔ (offset ≡ o
 -- the row holds what the offset alone reaches
 pub record IsRow (L : List ℕ → Type 0) (text : List ℕ) (start : ℕ) (row : List Bool) : Type 0 where
   pub from : List Bool
-  pub long : length from ≡ suc (length text)
+  pub long : IsOver from text
   pub only : IsOnly from start
   pub image : IsImage L text from row
 

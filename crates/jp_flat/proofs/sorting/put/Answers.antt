@@ -16,13 +16,13 @@ returns-in-Ok c =
     (put-hit t m q c.deref.result.now i (sym c.in_ok-name.ensures) c.in-Ok.ensures.within
     c.in-Ok.ensures.place)
 
-pub returns-in_ok-ok-in-Err : goal.returns-in_ok-ok-in-Err
-returns-in_ok-ok-in-Err c =
+pub returns-in_ok-put_at-in-Err : goal.returns-in_ok-put_at-in-Err
+returns-in_ok-put_at-in-Err c =
     let t = shown c.args.tables.now in
     let q = c.in_ok-name.name.now in
     let i = c.in-Err.place in
     let m = c.args.member in
-    let inserted : c.insert.new.self.items ≡ insert c.args.found.now.items i m = search rules in
+    let inserted : c.put_at.new.found.items ≡ insert c.args.found.now.items i m = search rules in
     subst (Puts t m c.args.found.now.items) (sym inserted)
     (subst (λ xs. Puts t m xs (insert xs i m)) c.deref.ensures.value
     (put-missed t m q c.deref.result.now i (sym c.in_ok-name.ensures)
