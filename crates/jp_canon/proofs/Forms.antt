@@ -5,8 +5,8 @@ use Rattle.std.specs.List.{AllByRecursion, flat_map}
 use Rattle.jp_reading.specs.Forms.{Blank, Each, Form, Component, Omitted, Separated, ◌⌢◌}
 use Rattle.jp_reading.specs.Texts.{Spans, Text, bytes}
 use Rattle.jp_canon.specs.Canon.{separated}
-pub use Rattle.jp_reading.proofs.HasForm.{HasForm as Has, has-word, has-one, both}
-pub use Rattle.jp_reading.proofs.HasForm.{has-as, has-same, has-each_passing}
+pub use Rattle.jp_reading.proofs.Forms.HasForm.{HasForm as Has, has-word, has-one, both}
+pub use Rattle.jp_reading.proofs.Forms.HasForm.{has-as, has-same, has-each_passing}
 
 pub has-blank : Has Blank []
 has-blank = record { at = λ o. ([], record { none = refl; blank = tt }) }

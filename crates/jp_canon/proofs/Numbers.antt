@@ -11,7 +11,7 @@ use Rattle.jp_reading.specs.Characters as char
 use Rattle.jp_reading.specs.Forms.{AllPassing, Form}
 use Rattle.jp_reading.specs.Numbers.{is_digit, value_from}
 use Rattle.jp_reading.specs.Texts.{Spans, Text}
-use Rattle.jp_reading.proofs.Digits.{value_from-least}
+use Rattle.jp_reading.proofs.Texts.Digits.{value_from-least}
 use Rattle.jp_document.specs.Path.{index_text}
 use Rattle.jp_document.proofs.Spellings.Indexes.{Begun, begun, decimal-index_text, other_text}
 use Rattle.jp_document.proofs.Spellings.Indexes.{value_from-index_text, zero_text}

@@ -4,8 +4,8 @@ use Rattle.std.proofs.Common.{[], ℕ, zero, suc, ◌≤◌, arith}
 use Rattle.std.specs.Prelude.{codes}
 use Rattle.jp_reading.specs.Texts.{Text}
 use Rattle.jp_reading.specs.Forms.{Form, ◌⌢◌, word}
-use Rattle.jp_reading.proofs.Between.{Within}
-use Rattle.jp_reading.proofs.Levels.{joined-lifts, each-lifts, separated-lifts}
+use Rattle.jp_reading.proofs.States.Between.{Within}
+use Rattle.jp_reading.proofs.Forms.Levels.{joined-lifts, each-lifts, separated-lifts}
 use Rattle.jp_iregexp.specs.Tree.{Tree}
 use Rattle.jp_iregexp.specs.Grammar as grammar
 use Rattle.jp_iregexp.specs.Grammar.{Quantifier, Atom, Piece, Branch}

@@ -1,8 +1,8 @@
 -- A pattern has no items, so its text has no spans: for whole texts.
 use Rattle.std.proofs.Common.{◌≡◌, ℕ, List, [], Option, Bool, zero, suc}
 use Rattle.jp_reading.specs.Texts.{Text, Spans}
-use Rattle.jp_reading.proofs.Bare.{Bare, bare-word, bare-one, bare-joined}
-use Rattle.jp_reading.proofs.Bare.{bare-each, bare-separated}
+use Rattle.jp_reading.proofs.Forms.Bare.{Bare, bare-word, bare-one, bare-joined}
+use Rattle.jp_reading.proofs.Forms.Bare.{bare-each, bare-separated}
 use Rattle.jp_reading.specs.Forms.{Form, One, Each}
 use Rattle.jp_iregexp.specs.declared.class.ClassElement.{ClassElement}
 use Rattle.jp_iregexp.specs.Characters.{PatternCharacter, itself, escaped}

@@ -5,7 +5,7 @@ use Rattle.jp_reading.specs.declared.reader.Stop.TheVariants.{Syntax, TooDeep}
 use Rattle.jp_reading.specs.Texts.{Text}
 use Rattle.jp_reading.specs.Outcome.{Outcome, took, stuck, deep}
 use Rattle.jp_reading.specs.Views.{Fails}
-use Rattle.jp_reading.proofs.Again.{start}
+use Rattle.jp_reading.proofs.States.Again.{start}
 use Rattle.jp_iregexp.specs.Grammar.{SpellsPattern}
 use Rattle.jp_iregexp.specs.Groups.{group_limit}
 use Rattle.jp_iregexp.specs.PatternOf.{taken, pattern_of, SpeltIsFound, OthersHaveNone}

@@ -6,12 +6,12 @@ use Rattle.jp_reading.specs.Outcome.{State, Outcome, took, stuck, deep, â—Œ>>=â—
 use Rattle.jp_reading.specs.Outcome.{past, is, is_at, take_if, expect, each}
 use Rattle.jp_reading.specs.Views.{outcome_map, with_prefix}
 use Rattle.jp_reading.specs.NumberReading.{digits_at, digit_at, is_at_digit, capped}
-use Rattle.jp_reading.proofs.Chars.{past-shorter}
-use Rattle.jp_reading.proofs.Digits.{digit_at-progress}
-use Rattle.jp_reading.proofs.Progress.{Moves, Keeps, Progress, keeps-from_moves}
-use Rattle.jp_reading.proofs.Progress.{keeps-then, moves-then, moves-after, keeps-after}
-use Rattle.jp_reading.proofs.Progress.{moves-take_if, moves-map, keeps-each, past-keeps}
-use Rattle.jp_reading.proofs.Progress.{moves-if, keeps-if, keeps-map, keeps-take_if}
+use Rattle.jp_reading.proofs.Texts.Chars.{past-shorter}
+use Rattle.jp_reading.proofs.Texts.Digits.{digit_at-progress}
+use Rattle.jp_reading.proofs.States.Progress.{Moves, Keeps, Progress, keeps-from_moves}
+use Rattle.jp_reading.proofs.States.Progress.{keeps-then, moves-then, moves-after, keeps-after}
+use Rattle.jp_reading.proofs.States.Progress.{moves-take_if, moves-map, keeps-each, past-keeps}
+use Rattle.jp_reading.proofs.States.Progress.{moves-if, keeps-if, keeps-map, keeps-take_if}
 use Rattle.jp_iregexp.specs.Private.CodeReading.{code_of}
 use Rattle.jp_iregexp.specs.Characters.{is_plain, is_escaped, is_normal, meant}
 use Rattle.jp_iregexp.specs.Tree.{Tree}

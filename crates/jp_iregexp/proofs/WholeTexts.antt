@@ -5,8 +5,8 @@ use Rattle.jp_reading.specs.declared.reader.Stop.TheVariants.{Syntax, TooDeep}
 use Rattle.jp_reading.specs.Texts.{Text, Spans}
 use Rattle.jp_reading.specs.Outcome.{State, took}
 use Rattle.jp_reading.specs.Views.{Fails}
-use Rattle.jp_reading.proofs.Fits.{Fits}
-use Rattle.jp_reading.proofs.Again.{start, finish, reads-whole, whole-reads}
+use Rattle.jp_reading.proofs.States.Fits.{Fits}
+use Rattle.jp_reading.proofs.States.Again.{start, finish, reads-whole, whole-reads}
 use Rattle.jp_iregexp.specs.Tree.{Tree}
 use Rattle.jp_iregexp.specs.Grammar.{Branches, Grouped, SpellsPattern}
 use Rattle.jp_iregexp.specs.Spelled.{SpellsNone, OnePattern}

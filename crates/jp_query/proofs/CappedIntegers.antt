@@ -5,9 +5,9 @@ use Rattle.jp_reading.specs.Outcome.{State, Outcome, ◌>>=◌, head, past}
 use Rattle.jp_reading.specs.Numbers.{is_digit, value_from}
 use Rattle.jp_reading.specs.NumberReading.{digits_at, capped}
 use Rattle.jp_reading.specs.Views.{outcome_map}
-use Rattle.jp_reading.proofs.Digits.{capped-is_min, digits_at-first}
-use Rattle.jp_reading.proofs.Steps.{take_if-takes}
-use Rattle.jp_reading.proofs.Folds.{outcome_map-twice_made}
+use Rattle.jp_reading.proofs.Texts.Digits.{capped-is_min, digits_at-first}
+use Rattle.jp_reading.proofs.States.Steps.{take_if-takes}
+use Rattle.jp_reading.proofs.States.Folds.{outcome_map-twice_made}
 use Rattle.std.proofs.lemmas.Bool.Decides.{nat_tests}
 use Rattle.std.proofs.lemmas.Bool.{cases_Bool, ltb-true, ltb-false, lt-leb}
 use Rattle.jp_query.specs.Ints.{whole_of, negative_of}

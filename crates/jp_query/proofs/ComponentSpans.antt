@@ -11,15 +11,16 @@ use Rattle.jp_tree.specs.declared.tree.Op.TheVariants.{GreaterEqual}
 use Rattle.jp_query.specs.Names.{is_function_first, is_function_char, FunctionName, function_name}
 use Rattle.jp_reading.specs.Texts.{Text, bytes}
 use Rattle.jp_reading.specs.Forms.{Form, ◌⌢◌, word, Each, Blank, Separated, Component, Omitted}
-use Rattle.jp_reading.proofs.Bare.{Bare, bare-word}
-use Rattle.jp_reading.proofs.Between.{bytes-append}
+use Rattle.jp_reading.proofs.Forms.Bare.{Bare, bare-word}
+use Rattle.jp_reading.proofs.States.Between.{bytes-append}
 use Rattle.jp_tree.specs.Tree.{SelectorTree, SegmentTree, QueryTree, ExprTree, ExprTrees}
 use Rattle.jp_tree.specs.Tree.{OperandTree, CallTree, ArgumentTree, LiteralTree, segments}
 use Rattle.jp_tree.specs.Tree.{selectors, exprs, arguments, slice, any_of, all_of, comparison}
 use Rattle.jp_query.specs.Ints.{Int}
 use Rattle.jp_query.specs.Laws.{SpansOfComponents}
 use Rattle.jp_query.specs.Literals.{Literal, spelling}
-use Rattle.jp_query.specs.Slices.{Bound, no_bound, bound, SliceStep, no_step, empty_step, given_step}
+use Rattle.jp_query.specs.Slices.{Bound, no_bound, bound, SliceStep, no_step, empty_step}
+use Rattle.jp_query.specs.Slices.{given_step}
 use Rattle.jp_query.specs.Slices.{Sliced}
 use Rattle.jp_query.specs.Grammar.{nested_expr, nested_arguments, FunctionCall, function_call}
 use Rattle.jp_query.specs.Grammar.{call_side, Test, query_test, function_test, Composed, composed}

@@ -5,13 +5,14 @@ use Rattle.jp_reading.specs.Texts.{Text, Spans}
 use Rattle.jp_reading.specs.Forms.{Form, ◌⌢◌, word, Blank}
 use Rattle.jp_reading.specs.Outcome.{State, Outcome, took, ◌>>=◌, head, past, skip, passes, is}
 use Rattle.jp_reading.specs.Outcome.{expect}
-use Rattle.jp_reading.proofs.Between.{Reads, Within, Has, Stops, prefix-as, prefix-then, reads-is}
-use Rattle.jp_reading.proofs.Between.{prefix-none, reads-as, has-as}
-use Rattle.jp_reading.proofs.Joining.{after-within, nothing-before, word-joined}
-use Rattle.jp_reading.proofs.Again.{split, at-word}
-use Rattle.jp_reading.proofs.Levels.{word-has, blank-has, joined-has}
-use Rattle.jp_reading.proofs.Fits.{reads-word}
-use Rattle.jp_reading.proofs.Progress.{Progress}
+use Rattle.jp_reading.proofs.States.Between.{Reads, Within, Has, Stops, prefix-as, prefix-then}
+use Rattle.jp_reading.proofs.States.Between.{reads-is}
+use Rattle.jp_reading.proofs.States.Between.{prefix-none, reads-as, has-as}
+use Rattle.jp_reading.proofs.Forms.Joining.{after-within, nothing-before, word-joined}
+use Rattle.jp_reading.proofs.States.Again.{split, at-word}
+use Rattle.jp_reading.proofs.Forms.Levels.{word-has, blank-has, joined-has}
+use Rattle.jp_reading.proofs.States.Fits.{reads-word}
+use Rattle.jp_reading.proofs.States.Progress.{Progress}
 use Rattle.jp_reading.proofs.Rules.Progress.{goes}
 use Rattle.jp_reading.proofs.Rules.Form.{form, lifts, least, has}
 use Rattle.jp_reading.proofs.Rules.Soundness.{InnerIsSound, none_left, some_left, sound}

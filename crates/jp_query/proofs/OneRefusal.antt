@@ -4,7 +4,7 @@ use Rattle.std.proofs.Common.{append_assoc, append-nil}
 use Rattle.std.proofs.lemmas.List.{append_cancel_left}
 use Rattle.jp_reading.specs.Texts.{Text, Spans, bytes}
 use Rattle.jp_reading.specs.Outcome.{Outcome, took, stuck, deep}
-use Rattle.jp_reading.proofs.Again.{start}
+use Rattle.jp_reading.proofs.States.Again.{start}
 use Rattle.jp_query.specs.declared.refusal.RefusalKind.{RefusalKind}
 use Rattle.jp_query.specs.declared.refusal.RefusalKind.TheVariants.{Syntax, TooDeep}
 use Rattle.jp_tree.specs.Tree.{QueryTree}

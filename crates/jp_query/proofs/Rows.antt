@@ -5,7 +5,7 @@ use Rattle.jp_tree.specs.declared.tree.Numeral.TheVariants.{Whole, Beyond, Fract
 use Rattle.jp_reading.specs.Texts.{is_blank}
 use Rattle.jp_reading.specs.Outcome.{past_blanks, loop, stuck, deep}
 use Rattle.jp_reading.specs.Numbers.{is_digit}
-use Rattle.jp_reading.proofs.Again.{start, finish}
+use Rattle.jp_reading.proofs.States.Again.{start, finish}
 use Rattle.jp_tree.specs.Tree.{QueryTree, query, segments, segment, selectors, name, index}
 use Rattle.jp_tree.specs.Tree.{wildcard, slice, ExprTree, filter, exprs, any_of, all_of, negation}
 use Rattle.jp_tree.specs.Tree.{comparison, exists, literal, node_value, number}

@@ -4,8 +4,8 @@ use Rattle.std.specs.Prelude.{codes}
 use Rattle.jp_reading.specs.Texts.{Text, Spans}
 use Rattle.jp_reading.specs.Forms.{word}
 use Rattle.jp_reading.specs.Outcome.{State, Outcome, took, stuck, deep, past_blanks}
-use Rattle.jp_reading.proofs.Between.{joined-over}
-use Rattle.jp_reading.proofs.Again.{start, finish, reads-whole}
+use Rattle.jp_reading.proofs.States.Between.{joined-over}
+use Rattle.jp_reading.proofs.States.Again.{start, finish, reads-whole}
 use Rattle.jp_reading.proofs.Rules.Form.{form}
 use Rattle.jp_reading.proofs.Rules.Follow.{Meets}
 use Rattle.jp_reading.proofs.Rules.Completeness.{done}

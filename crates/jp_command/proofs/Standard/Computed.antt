@@ -17,7 +17,7 @@ use Rattle.jp_reading.specs.Texts.{Text, Spans, is_blank}
 use Rattle.jp_reading.specs.Outcome.{State, Outcome, took, stuck, deep, past_blanks, loop}
 use Rattle.jp_reading.specs.Numbers.{is_digit}
 use Rattle.jp_reading.specs.NumberReading.{digits_at}
-use Rattle.jp_reading.proofs.Again.{start}
+use Rattle.jp_reading.proofs.States.Again.{start}
 use Rattle.jp_document.specs.Document.{IsDocument, value_of_data}
 use Rattle.jp_document.specs.Path.{index_text}
 use Rattle.jp_document.specs.Spelling.{spelling}

@@ -11,9 +11,10 @@ use Rattle.std.specs.Str.{encode_utf8_all}
 use Rattle.jp_reading.specs.Characters as char
 use Rattle.jp_reading.specs.Texts.{Text}
 use Rattle.jp_reading.specs.Forms.{Form, ◌⌢◌, word}
-use Rattle.jp_reading.proofs.HasForm.{HasForm, has-word, has-one, both, has-as, has-same, has-all}
-use Rattle.jp_reading.proofs.Joining.{ends-spelt}
-use Rattle.jp_reading.proofs.Levels.{Only, Then}
+use Rattle.jp_reading.proofs.Forms.HasForm.{HasForm, has-word, has-one, both, has-as, has-same}
+use Rattle.jp_reading.proofs.Forms.HasForm.{has-all}
+use Rattle.jp_reading.proofs.Forms.Joining.{ends-spelt}
+use Rattle.jp_reading.proofs.Forms.Levels.{Only, Then}
 use Rattle.jp_reading.proofs.Rules.Form.{left, right}
 use Rattle.jp_document.specs.Private.PathRules.{is_letter, is_low_digit, is_hex_digit}
 use Rattle.jp_document.specs.Private.PathRules as rule

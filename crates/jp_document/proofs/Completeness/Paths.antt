@@ -12,10 +12,10 @@ use Rattle.jp_reading.specs.Forms.{Each}
 use Rattle.jp_reading.specs.Numbers.{is_digit, value_from}
 use Rattle.jp_reading.specs.Outcome.{State, took, past_blanks}
 use Rattle.jp_reading.specs.RuleReading.{nothing}
-use Rattle.jp_reading.proofs.Again.{start, finish}
-use Rattle.jp_reading.proofs.Digits.{capped-is_min}
-use Rattle.jp_reading.proofs.HasForm.{HasForm, has-word, has-one, both, has-as}
-use Rattle.jp_reading.proofs.HasForm.{has-same, has-each_passing, reads-all}
+use Rattle.jp_reading.proofs.States.Again.{start, finish}
+use Rattle.jp_reading.proofs.Texts.Digits.{capped-is_min}
+use Rattle.jp_reading.proofs.Forms.HasForm.{HasForm, has-word, has-one, both, has-as}
+use Rattle.jp_reading.proofs.Forms.HasForm.{has-same, has-each_passing, reads-all}
 use Rattle.jp_reading.proofs.Rules.Completeness.{done, no_inner}
 use Rattle.jp_reading.proofs.Rules.Follow.{at_end}
 use Rattle.jp_reading.proofs.Rules.Form.{left, right, none_inside}

@@ -8,7 +8,7 @@ use Rattle.jp_reading.specs.Texts.{Text}
 use Rattle.jp_reading.specs.Numbers.{is_digit}
 use Rattle.jp_reading.specs.NumberReading.{is_at_digit, digit_at, digits_at, capped}
 use Rattle.jp_reading.specs.Views.{outcome_map}
-use Rattle.jp_reading.proofs.Folds.{outcome_map-twice_made}
+use Rattle.jp_reading.proofs.States.Folds.{outcome_map-twice_made}
 use Rattle.jp_document.specs.Private.PathReading.{read_rule}
 use Rattle.jp_document.specs.Private.PathRules.{index, size}
 use Rattle.jp_reading.specs.Numbers.{is_leading_digit}

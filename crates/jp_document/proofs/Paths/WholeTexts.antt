@@ -7,7 +7,7 @@ use Rattle.jp_reading.specs.Outcome.{State, Outcome, took}
 use Rattle.jp_reading.specs.Views.{Fails}
 use Rattle.jp_reading.specs.declared.reader.Stop.{Stop}
 use Rattle.jp_reading.specs.declared.reader.Stop.TheVariants.{Memory, Syntax, TooDeep}
-use Rattle.jp_reading.proofs.Again.{start}
+use Rattle.jp_reading.proofs.States.Again.{start}
 use Rattle.jp_document.specs.Location.{Location}
 use Rattle.jp_document.specs.Path.{path_of}
 use Rattle.jp_document.specs.PathFault.{is_large, IsPathFaultOf, fault_of}

@@ -9,9 +9,9 @@ use Rattle.std.specs.Str.{encode_utf8_all}
 use Rattle.jp_reading.specs.Characters as char
 use Rattle.jp_reading.specs.Texts.{Text, Spans}
 use Rattle.jp_reading.specs.Forms.{Form, ◌⌢◌, word, One, Each}
-use Rattle.jp_reading.proofs.Between.{Within}
-use Rattle.jp_reading.proofs.Joining.{after-within, ends-within}
-use Rattle.jp_reading.proofs.Levels.{Only, Then, Made}
+use Rattle.jp_reading.proofs.States.Between.{Within}
+use Rattle.jp_reading.proofs.Forms.Joining.{after-within, ends-within}
+use Rattle.jp_reading.proofs.Forms.Levels.{Only, Then, Made}
 use Rattle.jp_reading.proofs.Rules.Form.{Either, left, right, none_inside, form}
 use Rattle.jp_document.specs.Private.PathRules.{nesting, PathRule}
 use Rattle.jp_document.specs.Private.PathRules.{is_low_digit, is_hex_digit, hex_value}

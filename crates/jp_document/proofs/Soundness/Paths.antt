@@ -14,13 +14,13 @@ use Rattle.jp_reading.specs.Forms.{◌⌢◌, word, Each}
 use Rattle.jp_reading.specs.Numbers.{is_digit, value_from}
 use Rattle.jp_reading.specs.Outcome.{State, Outcome, took, stuck, deep, ◌>>=◌, is_end}
 use Rattle.jp_reading.specs.RuleReading.{nothing}
-use Rattle.jp_reading.proofs.Again.{start, whole-reads}
-use Rattle.jp_reading.proofs.Between.{Reads, Within}
-use Rattle.jp_reading.proofs.Digits.{capped-is_min}
-use Rattle.jp_reading.proofs.Joining.{joined-both}
+use Rattle.jp_reading.proofs.States.Again.{start, whole-reads}
+use Rattle.jp_reading.proofs.States.Between.{Reads, Within}
+use Rattle.jp_reading.proofs.Texts.Digits.{capped-is_min}
+use Rattle.jp_reading.proofs.Forms.Joining.{joined-both}
 use Rattle.jp_reading.proofs.Rules.Form.{left, right, none_inside}
 use Rattle.jp_reading.proofs.Rules.Soundness.{IsSound, shut, sound}
-use Rattle.jp_reading.proofs.Runs.{each-run}
+use Rattle.jp_reading.proofs.Texts.Runs.{each-run}
 use Rattle.jp_document.specs.Location.{Step, nth, Location}
 use Rattle.jp_document.specs.Path.{index_text, step_text, path_of}
 use Rattle.jp_document.specs.Private.PathReading.{read_rule, path_at}

@@ -14,7 +14,7 @@ use Rattle.std.specs.Fmt.{decimal}
 use Rattle.jp_reading.specs.Characters as char
 use Rattle.jp_reading.specs.Forms.{AllPassing}
 use Rattle.jp_reading.specs.Numbers.{is_digit, value_from}
-use Rattle.jp_reading.proofs.Digits.{value_from-least}
+use Rattle.jp_reading.proofs.Texts.Digits.{value_from-least}
 use Rattle.jp_document.specs.Path.{index_text}
 
 -- the character of a digit

@@ -6,10 +6,10 @@ use Rattle.std.specs.Char.{is_ascii_alphabetic}
 use Rattle.jp_reading.specs.Characters as char
 use Rattle.jp_reading.specs.Forms.{◌⌢◌, word, One}
 use Rattle.jp_reading.specs.Outcome.{State, took, head, past, passes, is, is_at}
-use Rattle.jp_reading.proofs.Steps.{take_if-takes, is-other, is_at-other}
-use Rattle.jp_reading.proofs.Between.{Reads, reads-then, reads-is}
-use Rattle.jp_reading.proofs.Again.{split-word, split, word-first, one-first}
-use Rattle.jp_reading.proofs.Again.{again-take_if, again-expect, at-word, past-word}
+use Rattle.jp_reading.proofs.States.Steps.{take_if-takes, is-other, is_at-other}
+use Rattle.jp_reading.proofs.States.Between.{Reads, reads-then, reads-is}
+use Rattle.jp_reading.proofs.States.Again.{split-word, split, word-first, one-first}
+use Rattle.jp_reading.proofs.States.Again.{again-take_if, again-expect, at-word, past-word}
 use Rattle.jp_iregexp.specs.declared.category.Category.{Category}
 use Rattle.jp_iregexp.specs.declared.class.ClassElement.{ClassElement}
 use Rattle.jp_iregexp.specs.declared.class.ClassElement.TheVariants as item

@@ -10,10 +10,10 @@ use Rattle.jp_reading.specs.Forms.{◌⌢◌, word, One, Each}
 use Rattle.jp_reading.specs.Outcome.{State, took, head, past}
 use Rattle.jp_reading.specs.Texts.{first_of}
 use Rattle.jp_reading.specs.Outcome.{past_first, passes, is, is_at, expect}
-use Rattle.jp_reading.proofs.Steps.{head-is, is_at-other}
-use Rattle.jp_reading.proofs.Between.{Reads, reads-then, reads-is}
-use Rattle.jp_reading.proofs.Again.{split-word, Starts, Split, split, reads-none, word-first}
-use Rattle.jp_reading.proofs.Again.{one-first, again-expect, again-each, at-word, past-word}
+use Rattle.jp_reading.proofs.States.Steps.{head-is, is_at-other}
+use Rattle.jp_reading.proofs.States.Between.{Reads, reads-then, reads-is}
+use Rattle.jp_reading.proofs.States.Again.{split-word, Starts, Split, split, reads-none, word-first}
+use Rattle.jp_reading.proofs.States.Again.{one-first, again-expect, again-each, at-word, past-word}
 use Rattle.jp_iregexp.specs.declared.class.ClassElement.{ClassElement}
 use Rattle.jp_iregexp.specs.declared.class.ClassElement.TheVariants as item
 use Rattle.jp_iregexp.specs.Characters.{PatternCharacter, itself, escaped, is_plain, is_escaped}

@@ -10,12 +10,14 @@ use Rattle.jp_reading.specs.Outcome.{State, Outcome, took, stuck, deep, â—Œ>>=â—
 use Rattle.jp_reading.specs.Outcome.{head, past, passes, is, is_at, each}
 use Rattle.jp_reading.specs.Texts.{first_of}
 use Rattle.jp_reading.specs.Views.{outcome_map}
-use Rattle.jp_reading.proofs.Steps.{head-is, is-other, is_at-other}
-use Rattle.jp_reading.proofs.Between.{Reads, reads-is}
-use Rattle.jp_reading.proofs.Again.{Again, Starts, split, word-first, one-first, again-take_if}
-use Rattle.jp_reading.proofs.Again.{again-expect, again-each, again-separated, at-word, past-word}
-use Rattle.jp_reading.proofs.Loops.{round}
-use Rattle.jp_reading.proofs.Progress.{Keeps}
+use Rattle.jp_reading.proofs.States.Steps.{head-is, is-other, is_at-other}
+use Rattle.jp_reading.proofs.States.Between.{Reads, reads-is}
+use Rattle.jp_reading.proofs.States.Again.{Again, Starts, split, word-first, one-first}
+use Rattle.jp_reading.proofs.States.Again.{again-take_if}
+use Rattle.jp_reading.proofs.States.Again.{again-expect, again-each, again-separated, at-word}
+use Rattle.jp_reading.proofs.States.Again.{past-word}
+use Rattle.jp_reading.proofs.States.Loops.{round}
+use Rattle.jp_reading.proofs.States.Progress.{Keeps}
 use Rattle.jp_iregexp.specs.declared.class.ClassElement.{ClassElement}
 use Rattle.jp_iregexp.specs.Characters.{PatternCharacter, itself, escaped, is_normal, is_escaped}
 use Rattle.jp_iregexp.specs.Characters.{meant}

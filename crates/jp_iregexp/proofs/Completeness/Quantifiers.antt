@@ -8,11 +8,12 @@ use Rattle.jp_reading.specs.Forms.{◌⌢◌, word}
 use Rattle.jp_reading.specs.Numbers.{Digits, is_digit}
 use Rattle.jp_reading.specs.NumberReading.{is_at_digit, capped}
 use Rattle.jp_reading.specs.Outcome.{State, took, head, passes, is, is_at}
-use Rattle.jp_reading.proofs.Steps.{head-is, is-other}
-use Rattle.jp_reading.proofs.Between.{Reads, reads-is}
-use Rattle.jp_reading.proofs.Digits.{capped-is_min}
-use Rattle.jp_reading.proofs.Again.{split, reads-none, word-first, again-expect, at-word, past-word}
-use Rattle.jp_reading.proofs.Runs.{again-digits, digits-first}
+use Rattle.jp_reading.proofs.States.Steps.{head-is, is-other}
+use Rattle.jp_reading.proofs.States.Between.{Reads, reads-is}
+use Rattle.jp_reading.proofs.Texts.Digits.{capped-is_min}
+use Rattle.jp_reading.proofs.States.Again.{split, reads-none, word-first, again-expect, at-word}
+use Rattle.jp_reading.proofs.States.Again.{past-word}
+use Rattle.jp_reading.proofs.Texts.Runs.{again-digits, digits-first}
 use Rattle.jp_iregexp.specs.Grammar as grammar
 use Rattle.jp_iregexp.specs.Grammar.{QuantExact, Most, Quantifier, one}
 use Rattle.jp_iregexp.specs.Private.Reading.{number_at, most_at, braces_at}

@@ -6,7 +6,7 @@ use Rattle.jp_reading.specs.Texts.{Text}
 use Rattle.jp_reading.specs.Outcome.{loop, took}
 use Rattle.jp_reading.specs.Numbers.{is_digit}
 use Rattle.jp_reading.specs.NumberReading.{digits_at}
-use Rattle.jp_reading.proofs.Again.{start, finish}
+use Rattle.jp_reading.proofs.States.Again.{start, finish}
 use Rattle.jp_iregexp.specs.declared.category.Category.TheVariants.{Lu}
 use Rattle.jp_iregexp.specs.declared.class.ClassElement.TheVariants as item
 use Rattle.jp_iregexp.specs.Characters.{is_normal, is_plain, is_escaped, meant}

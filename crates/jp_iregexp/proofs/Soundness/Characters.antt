@@ -11,9 +11,10 @@ use Rattle.jp_reading.specs.Texts.{Text}
 use Rattle.jp_reading.specs.Forms.{◌⌢◌, word, One}
 use Rattle.jp_reading.specs.Outcome.{State, took, past, passes, is, is_at, take_if, expect}
 use Rattle.jp_reading.specs.Views.{outcome_map}
-use Rattle.jp_reading.proofs.Between.{Reads, reads-then, reads-as}
-use Rattle.jp_reading.proofs.Fits.{reads-words, reads-next, Fits, fits-then, fits-if, fits-map}
-use Rattle.jp_reading.proofs.Fits.{fits-as, reads-nothing, fits-take_if, fits-expect}
+use Rattle.jp_reading.proofs.States.Between.{Reads, reads-then, reads-as}
+use Rattle.jp_reading.proofs.States.Fits.{reads-words, reads-next, Fits, fits-then, fits-if}
+use Rattle.jp_reading.proofs.States.Fits.{fits-map}
+use Rattle.jp_reading.proofs.States.Fits.{fits-as, reads-nothing, fits-take_if, fits-expect}
 use Rattle.jp_iregexp.specs.declared.category.Category.{Category}
 use Rattle.jp_iregexp.specs.declared.class.ClassElement.TheVariants as item
 use Rattle.jp_iregexp.specs.Characters.{PatternCharacter, itself, escaped, is_plain, is_escaped}

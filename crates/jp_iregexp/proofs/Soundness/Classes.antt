@@ -12,9 +12,9 @@ use Rattle.jp_reading.specs.Outcome.{State, took, stuck, ◌>>=◌, head}
 use Rattle.jp_reading.specs.Texts.{first_of}
 use Rattle.jp_reading.specs.Outcome.{past, passes, is, is_at, expect}
 use Rattle.jp_reading.specs.Views.{outcome_map, with_prefix}
-use Rattle.jp_reading.proofs.Between.{Reads, reads-then, reads-as}
-use Rattle.jp_reading.proofs.Fits.{reads-words, reads-next, Fits, fits-then, fits-if}
-use Rattle.jp_reading.proofs.Fits.{fits-map, fits-as, reads-nothing, fits-expect, fits-each}
+use Rattle.jp_reading.proofs.States.Between.{Reads, reads-then, reads-as}
+use Rattle.jp_reading.proofs.States.Fits.{reads-words, reads-next, Fits, fits-then, fits-if}
+use Rattle.jp_reading.proofs.States.Fits.{fits-map, fits-as, reads-nothing, fits-expect, fits-each}
 use Rattle.jp_iregexp.specs.declared.class.ClassElement.{ClassElement}
 use Rattle.jp_iregexp.specs.declared.class.ClassElement.TheVariants as item
 use Rattle.jp_iregexp.specs.Characters.{PatternCharacter, is_plain}

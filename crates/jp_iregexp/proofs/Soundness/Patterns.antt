@@ -8,9 +8,9 @@ use Rattle.jp_reading.specs.Texts.{Text}
 use Rattle.jp_reading.specs.Forms.{Form, ◌⌢◌, word, One, Each, Separated}
 use Rattle.jp_reading.specs.Outcome.{State, Outcome, took, stuck, deep, ◌>>=◌, head}
 use Rattle.jp_reading.specs.Outcome.{past, passes, is_at, is_end, take_if, expect, each}
-use Rattle.jp_reading.proofs.Between.{Reads, reads-then, reads-as}
-use Rattle.jp_reading.proofs.Fits.{reads-next, Fits, fits-then, fits-if, fits-map}
-use Rattle.jp_reading.proofs.Fits.{fits-as, fits-take_if, fits-expect, fits-each}
+use Rattle.jp_reading.proofs.States.Between.{Reads, reads-then, reads-as}
+use Rattle.jp_reading.proofs.States.Fits.{reads-next, Fits, fits-then, fits-if, fits-map}
+use Rattle.jp_reading.proofs.States.Fits.{fits-as, fits-take_if, fits-expect, fits-each}
 use Rattle.jp_iregexp.specs.Characters.{PatternCharacter, itself, is_normal}
 use Rattle.jp_iregexp.specs.Tree.{Tree, class, repeat, branches, pieces}
 use Rattle.jp_iregexp.specs.Grammar as grammar

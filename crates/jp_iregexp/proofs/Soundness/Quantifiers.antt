@@ -9,10 +9,10 @@ use Rattle.jp_reading.specs.Numbers.{Digits, value_from}
 use Rattle.jp_reading.specs.NumberReading.{digits_at, capped}
 use Rattle.jp_reading.specs.Outcome.{State, took, stuck, past, is_at, expect}
 use Rattle.jp_reading.specs.Views.{outcome_map}
-use Rattle.jp_reading.proofs.Between.{reads-then, reads-as}
-use Rattle.jp_reading.proofs.Digits.{capped-is_min}
-use Rattle.jp_reading.proofs.Fits.{reads-next, Fits, fits-then, fits-if, fits-map}
-use Rattle.jp_reading.proofs.Fits.{reads-nothing, fits-expect, fits-digits}
+use Rattle.jp_reading.proofs.States.Between.{reads-then, reads-as}
+use Rattle.jp_reading.proofs.Texts.Digits.{capped-is_min}
+use Rattle.jp_reading.proofs.States.Fits.{reads-next, Fits, fits-then, fits-if, fits-map}
+use Rattle.jp_reading.proofs.States.Fits.{reads-nothing, fits-expect, fits-digits}
 use Rattle.jp_iregexp.specs.declared.quantifiers.Count.{Count}
 use Rattle.jp_iregexp.specs.Grammar as grammar
 use Rattle.jp_iregexp.specs.Grammar.{QuantExact, Most, Quantifier, one}

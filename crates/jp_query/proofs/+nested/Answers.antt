@@ -10,7 +10,7 @@ use Rattle.jp_reading.specs.Outcome.{after_blank, component_since}
 use Rattle.jp_reading.specs.Views.{Fails, Gives, outcome_map}
 use Rattle.jp_reading.specs.Rule.{here, beyond, blanks, relaxed, ◌>>◌}
 use Rattle.jp_reading.specs.RuleReading.{spanned_if}
-use Rattle.jp_reading.proofs.Folds.{fails-then}
+use Rattle.jp_reading.proofs.States.Folds.{fails-then}
 use Rattle.jp_reading.proofs.Rules.Rounds as loops
 use Rattle.jp_tree.specs.declared.tree.Operand.TheVariants as operand
 use Rattle.jp_tree.specs.declared.tree.Subject.{the_lemmas}

@@ -11,18 +11,21 @@ use Rattle.jp_reading.specs.Texts.{first_of}
 use Rattle.jp_reading.specs.Numbers.{is_digit}
 use Rattle.jp_reading.proofs.Rules.Ranges.{or-right}
 use Rattle.jp_reading.proofs.Conjunctions.{and-left}
-use Rattle.jp_reading.proofs.Between.{Within, joined-both}
-use Rattle.jp_reading.proofs.Joining.{before-within}
-use Rattle.jp_reading.proofs.Levels.{Only, Then, Made}
-use Rattle.jp_reading.proofs.Same.{Same, same, back, ways, ◌⨾◌, after, before, joined, either, only}
-use Rattle.jp_reading.proofs.Same.{made, then, each, component_if, assoc, nothing-before}
-use Rattle.jp_reading.proofs.Same.{nothing-after}
-use Rattle.jp_reading.proofs.Same.{after-either, either-before, either-assoc, either-cross}
-use Rattle.jp_reading.proofs.Same.{after-only, only-before, after-made, after-value, made-before}
-use Rattle.jp_reading.proofs.Same.{made-made, made-either, either-then, then-only, then-value}
-use Rattle.jp_reading.proofs.Same.{then-made, then-made_out, then-of_made, then-either, Some_of}
-use Rattle.jp_reading.proofs.Same.{some, some-either, some-only, some-made, then-some, Given}
-use Rattle.jp_reading.proofs.Same.{word-on, passing-word}
+use Rattle.jp_reading.proofs.States.Between.{Within, joined-both}
+use Rattle.jp_reading.proofs.Forms.Joining.{before-within}
+use Rattle.jp_reading.proofs.Forms.Levels.{Only, Then, Made}
+use Rattle.jp_reading.proofs.Forms.Same.{Same, same, back, ways, ◌⨾◌, after, before, joined, either}
+use Rattle.jp_reading.proofs.Forms.Same.{only}
+use Rattle.jp_reading.proofs.Forms.Same.{made, then, each, component_if, assoc, nothing-before}
+use Rattle.jp_reading.proofs.Forms.Same.{nothing-after}
+use Rattle.jp_reading.proofs.Forms.Same.{after-either, either-before, either-assoc, either-cross}
+use Rattle.jp_reading.proofs.Forms.Same.{after-only, only-before, after-made, after-value}
+use Rattle.jp_reading.proofs.Forms.Same.{made-before}
+use Rattle.jp_reading.proofs.Forms.Same.{made-made, made-either, either-then, then-only, then-value}
+use Rattle.jp_reading.proofs.Forms.Same.{then-made, then-made_out, then-of_made, then-either}
+use Rattle.jp_reading.proofs.Forms.Same.{Some_of}
+use Rattle.jp_reading.proofs.Forms.Same.{some, some-either, some-only, some-made, then-some, Given}
+use Rattle.jp_reading.proofs.Forms.Same.{word-on, passing-word}
 use Rattle.jp_reading.proofs.Rules.Form.{Either, left, right, ComponentIf, form}
 use Rattle.jp_tree.specs.Tree.{ExprTree, any_of, all_of, exists, call_test, exprs, ArgumentTree}
 use Rattle.jp_tree.specs.Tree.{literal_argument, query_argument, call_argument, logical_argument}

@@ -3,14 +3,16 @@ use Rattle.std.proofs.Common.{◌≡◌, ℕ, [], ◌∷◌, refl}
 use Rattle.std.specs.Prelude.{codes}
 use Rattle.jp_reading.specs.Texts.{Text, Spans}
 use Rattle.jp_reading.specs.Forms.{Form, ◌⌢◌, word, Blank, Component, Never}
-use Rattle.jp_reading.proofs.Between.{Within}
-use Rattle.jp_reading.proofs.Levels.{Only, Then, Made}
-use Rattle.jp_reading.proofs.Same.{Same, same, back, ways, ◌⨾◌, after, joined, either, made, then}
-use Rattle.jp_reading.proofs.Same.{component, words, assoc, after-either, either-assoc, either-flip}
-use Rattle.jp_reading.proofs.Same.{either-swap, or-never, after-made, after-only, after-value}
-use Rattle.jp_reading.proofs.Same.{made-either, made-made, made-same, then-only, then-value}
-use Rattle.jp_reading.proofs.Same.{then-made, then-either, component-either, component-made}
-use Rattle.jp_reading.proofs.Same.{separated}
+use Rattle.jp_reading.proofs.States.Between.{Within}
+use Rattle.jp_reading.proofs.Forms.Levels.{Only, Then, Made}
+use Rattle.jp_reading.proofs.Forms.Same.{Same, same, back, ways, ◌⨾◌, after, joined, either, made}
+use Rattle.jp_reading.proofs.Forms.Same.{then}
+use Rattle.jp_reading.proofs.Forms.Same.{component, words, assoc, after-either, either-assoc}
+use Rattle.jp_reading.proofs.Forms.Same.{either-flip}
+use Rattle.jp_reading.proofs.Forms.Same.{either-swap, or-never, after-made, after-only, after-value}
+use Rattle.jp_reading.proofs.Forms.Same.{made-either, made-made, made-same, then-only, then-value}
+use Rattle.jp_reading.proofs.Forms.Same.{then-made, then-either, component-either, component-made}
+use Rattle.jp_reading.proofs.Forms.Same.{separated}
 use Rattle.jp_reading.proofs.Rules.Form.{Either, left, right, form}
 use Rattle.jp_tree.specs.declared.tree.Op.{Op}
 use Rattle.jp_reading.specs.Characters.{ampersand, bar, opening_parenthesis}

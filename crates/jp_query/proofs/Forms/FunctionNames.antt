@@ -10,12 +10,15 @@ use Rattle.jp_reading.specs.Forms.{Form, ◌⌢◌, word, AllPassing}
 use Rattle.jp_reading.specs.Outcome.{is, passes}
 use Rattle.jp_reading.specs.Texts.{first_of}
 use Rattle.jp_reading.specs.Numbers.{is_digit}
-use Rattle.jp_reading.proofs.Between.{Within, joined-both}
-use Rattle.jp_reading.proofs.Levels.{Only, Made}
-use Rattle.jp_reading.proofs.Same.{Same, same, back, ways, ◌⨾◌, after, before, either, only, made}
-use Rattle.jp_reading.proofs.Same.{assoc, words, after-either, either-assoc, either-flip}
-use Rattle.jp_reading.proofs.Same.{either-swap, either-pull, after-only, after-made, made-before}
-use Rattle.jp_reading.proofs.Same.{made-only, made-either, then-value, Given, word-on, passing-word}
+use Rattle.jp_reading.proofs.States.Between.{Within, joined-both}
+use Rattle.jp_reading.proofs.Forms.Levels.{Only, Made}
+use Rattle.jp_reading.proofs.Forms.Same.{Same, same, back, ways, ◌⨾◌, after, before, either, only}
+use Rattle.jp_reading.proofs.Forms.Same.{made}
+use Rattle.jp_reading.proofs.Forms.Same.{assoc, words, after-either, either-assoc, either-flip}
+use Rattle.jp_reading.proofs.Forms.Same.{either-swap, either-pull, after-only, after-made}
+use Rattle.jp_reading.proofs.Forms.Same.{made-before}
+use Rattle.jp_reading.proofs.Forms.Same.{made-only, made-either, then-value, Given, word-on}
+use Rattle.jp_reading.proofs.Forms.Same.{passing-word}
 use Rattle.jp_reading.proofs.Rules.Form.{Either, left, right, form}
 use Rattle.jp_tree.specs.Tree.{OperandTree, literal, call_value, call, ArgumentTree, arguments}
 use Rattle.jp_tree.specs.Tree.{LiteralTree, true_literal, false_literal, null_literal}

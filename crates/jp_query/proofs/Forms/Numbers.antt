@@ -4,11 +4,12 @@ use Rattle.std.specs.Prelude.{codes}
 use Rattle.jp_reading.specs.Texts.{Text}
 use Rattle.jp_reading.specs.Forms.{Form, ◌⌢◌, word}
 use Rattle.jp_reading.specs.Numbers.{value_from}
-use Rattle.jp_reading.proofs.Between.{Within}
-use Rattle.jp_reading.proofs.Levels.{Only, Made}
-use Rattle.jp_reading.proofs.Same.{Same, same, ways, ◌⨾◌, after, joined, either, only, made, then}
-use Rattle.jp_reading.proofs.Same.{words, after-either, either-assoc, after-made, after-only}
-use Rattle.jp_reading.proofs.Same.{after-value, made-made, then-made, then-either}
+use Rattle.jp_reading.proofs.States.Between.{Within}
+use Rattle.jp_reading.proofs.Forms.Levels.{Only, Made}
+use Rattle.jp_reading.proofs.Forms.Same.{Same, same, ways, ◌⨾◌, after, joined, either, only, made}
+use Rattle.jp_reading.proofs.Forms.Same.{then}
+use Rattle.jp_reading.proofs.Forms.Same.{words, after-either, either-assoc, after-made, after-only}
+use Rattle.jp_reading.proofs.Forms.Same.{after-value, made-made, then-made, then-either}
 use Rattle.jp_reading.proofs.Rules.Form.{Either, left, right, Inside, form}
 use Rattle.jp_tree.specs.declared.tree.Numeral.{Numeral}
 use Rattle.jp_tree.specs.declared.tree.Op.{Op}

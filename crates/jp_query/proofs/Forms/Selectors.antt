@@ -6,13 +6,17 @@ use Rattle.jp_reading.specs.Texts.{Text, Spans}
 use Rattle.jp_reading.specs.Forms.{Form, ◌⌢◌, word, AllPassing, Blank, Separated, Component}
 use Rattle.jp_reading.specs.Outcome.{passes}
 use Rattle.jp_reading.specs.Texts.{first_of}
-use Rattle.jp_reading.proofs.Levels.{Only, Then, Made}
-use Rattle.jp_reading.proofs.Same.{Same, same, back, ways, ◌⨾◌, after, before, joined, either, only}
-use Rattle.jp_reading.proofs.Same.{made, then, each, component, assoc, nothing-before, after-either}
-use Rattle.jp_reading.proofs.Same.{either-before, either-assoc, either-flip, either-swap, in-first}
-use Rattle.jp_reading.proofs.Same.{in-second, after-only, only-before, after-made, after-value}
-use Rattle.jp_reading.proofs.Same.{made-before, made-same, made-either, then-only, then-value}
-use Rattle.jp_reading.proofs.Same.{then-made, then-either, then-before, separated}
+use Rattle.jp_reading.proofs.Forms.Levels.{Only, Then, Made}
+use Rattle.jp_reading.proofs.Forms.Same.{Same, same, back, ways, ◌⨾◌, after, before, joined, either}
+use Rattle.jp_reading.proofs.Forms.Same.{only}
+use Rattle.jp_reading.proofs.Forms.Same.{made, then, each, component, assoc, nothing-before}
+use Rattle.jp_reading.proofs.Forms.Same.{after-either}
+use Rattle.jp_reading.proofs.Forms.Same.{either-before, either-assoc, either-flip, either-swap}
+use Rattle.jp_reading.proofs.Forms.Same.{in-first}
+use Rattle.jp_reading.proofs.Forms.Same.{in-second, after-only, only-before, after-made}
+use Rattle.jp_reading.proofs.Forms.Same.{after-value}
+use Rattle.jp_reading.proofs.Forms.Same.{made-before, made-same, made-either, then-only, then-value}
+use Rattle.jp_reading.proofs.Forms.Same.{then-made, then-either, then-before, separated}
 use Rattle.jp_reading.proofs.Rules.Form.{Either, left, right, Inside, none_inside, form}
 use Rattle.jp_tree.specs.declared.tree.Slice.{Slice}
 use Rattle.jp_tree.specs.Tree.{SelectorTree, slice, SegmentTree, segment, QueryTree, query}

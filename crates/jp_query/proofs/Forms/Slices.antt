@@ -3,18 +3,22 @@ use Rattle.std.proofs.Common.{ℕ, Bool, [], ◌∷◌, ◌++◌, Option, Some, 
 use Rattle.std.specs.Prelude.{codes, pos}
 use Rattle.jp_reading.specs.Texts.{Text, is_blank}
 use Rattle.jp_reading.specs.Forms.{Form, ◌⌢◌, word, Blank, Component, Omitted, AllPassing}
-use Rattle.jp_reading.proofs.Between.{Within}
-use Rattle.jp_reading.proofs.Levels.{Only, Made}
-use Rattle.jp_reading.proofs.Joining.{before-within}
-use Rattle.jp_reading.proofs.Same.{Same, same, back, ways, ◌⨾◌, after, before, either, only, made}
-use Rattle.jp_reading.proofs.Same.{component, assoc, nothing-before, after-either, either-before}
-use Rattle.jp_reading.proofs.Same.{after-only, only-before, after-value, made-before, then-made}
+use Rattle.jp_reading.proofs.States.Between.{Within}
+use Rattle.jp_reading.proofs.Forms.Levels.{Only, Made}
+use Rattle.jp_reading.proofs.Forms.Joining.{before-within}
+use Rattle.jp_reading.proofs.Forms.Same.{Same, same, back, ways, ◌⨾◌, after, before, either, only}
+use Rattle.jp_reading.proofs.Forms.Same.{made}
+use Rattle.jp_reading.proofs.Forms.Same.{component, assoc, nothing-before, after-either}
+use Rattle.jp_reading.proofs.Forms.Same.{either-before}
+use Rattle.jp_reading.proofs.Forms.Same.{after-only, only-before, after-value, made-before}
+use Rattle.jp_reading.proofs.Forms.Same.{then-made}
 use Rattle.jp_reading.proofs.Rules.Form.{Either, left, right, Inside, form}
 use Rattle.jp_tree.specs.declared.tree.Numeral.{Numeral}
 use Rattle.jp_tree.specs.declared.tree.Numeral.TheVariants.{Whole}
 use Rattle.jp_tree.specs.declared.tree.Slice.{Slice}
 use Rattle.jp_query.specs.Ints.{Int}
-use Rattle.jp_query.specs.Slices.{Bound, no_bound, bound, SliceStep, no_step, empty_step, given_step}
+use Rattle.jp_query.specs.Slices.{Bound, no_bound, bound, SliceStep, no_step, empty_step}
+use Rattle.jp_query.specs.Slices.{given_step}
 use Rattle.jp_query.specs.Private.Rules.{nesting, slice_of}
 use Rattle.jp_query.specs.Private.Rules as rule
 use Rattle.jp_query.proofs.Forms.Numbers.{int-same}

@@ -4,10 +4,12 @@ use Rattle.std.specs.Prelude.{codes}
 use Rattle.std.specs.Char.{digit_value}
 use Rattle.jp_reading.specs.Texts.{Text}
 use Rattle.jp_reading.specs.Forms.{Form, ◌⌢◌, word, One}
-use Rattle.jp_reading.proofs.Levels.{Then, Made}
-use Rattle.jp_reading.proofs.Same.{Same, same, ways, ◌⨾◌, after, joined, either, made, then, each}
-use Rattle.jp_reading.proofs.Same.{after-either, after-made, after-value, made-made, made-same}
-use Rattle.jp_reading.proofs.Same.{then-only, then-made, then-of_made, then-either, then-then}
+use Rattle.jp_reading.proofs.Forms.Levels.{Then, Made}
+use Rattle.jp_reading.proofs.Forms.Same.{Same, same, ways, ◌⨾◌, after, joined, either, made, then}
+use Rattle.jp_reading.proofs.Forms.Same.{each}
+use Rattle.jp_reading.proofs.Forms.Same.{after-either, after-made, after-value, made-made}
+use Rattle.jp_reading.proofs.Forms.Same.{made-same}
+use Rattle.jp_reading.proofs.Forms.Same.{then-only, then-made, then-of_made, then-either, then-then}
 use Rattle.jp_reading.proofs.Rules.Form.{left, right, Inside, form}
 use Rattle.jp_query.specs.Names.{Shorthand, shorthand}
 use Rattle.jp_query.specs.Strings.{is_hexdig, is_d, is_not_d, is_0_to_7, is_8_to_b, is_c_to_f}

@@ -8,8 +8,8 @@ use Rattle.jp_reading.specs.Outcome.{passes, is, expect}
 use Rattle.jp_reading.specs.Views.{outcome_map}
 use Rattle.jp_reading.specs.Rule.{here, beyond, some}
 use Rattle.jp_reading.specs.RuleReading.{Inner, read, spanned, spanned_if}
-use Rattle.jp_reading.proofs.Loops.{each-on, round}
-use Rattle.jp_reading.proofs.Progress.{Progress}
+use Rattle.jp_reading.proofs.States.Loops.{each-on, round}
+use Rattle.jp_reading.proofs.States.Progress.{Progress}
 use Rattle.jp_reading.proofs.Rules.Progress.{goes}
 use Rattle.jp_tree.specs.Tree.{ExprTree, any_of, all_of, exists, call_test, OperandTree, literal}
 use Rattle.jp_tree.specs.Tree.{node_value, call_value, ArgumentTree, literal_argument}

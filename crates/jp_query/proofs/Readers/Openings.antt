@@ -11,10 +11,10 @@ use Rattle.jp_reading.specs.Outcome.{passes, is, is_at, take_passing, take_if, e
 use Rattle.jp_reading.specs.Numbers.{is_digit}
 use Rattle.jp_reading.specs.Views.{Fails, outcome_map}
 use Rattle.jp_reading.specs.RuleReading.{Inner, read}
-use Rattle.jp_reading.proofs.Loops.{each-on, each-off, round}
-use Rattle.jp_reading.proofs.Folds.{fails-then}
-use Rattle.jp_reading.proofs.Progress.{moves-take_if}
-use Rattle.jp_reading.proofs.Steps.{take_if-takes, head-is}
+use Rattle.jp_reading.proofs.States.Loops.{each-on, each-off, round}
+use Rattle.jp_reading.proofs.States.Folds.{fails-then}
+use Rattle.jp_reading.proofs.States.Progress.{moves-take_if}
+use Rattle.jp_reading.proofs.States.Steps.{take_if-takes, head-is}
 use Rattle.jp_reading.proofs.Conjunctions.{and-left}
 use Rattle.jp_tree.specs.Tree.{exists, call_test, literal, call_value, call, arguments}
 use Rattle.jp_tree.specs.Tree.{LiteralTree, true_literal, false_literal, null_literal}

@@ -8,8 +8,8 @@ use Rattle.jp_reading.specs.Outcome.{after_blank, passes, is, expect}
 use Rattle.jp_reading.specs.Views.{Fails, outcome_map, with_prefix}
 use Rattle.jp_reading.specs.Rule.{here, beyond, some, made, seq}
 use Rattle.jp_reading.specs.RuleReading.{Inner, read}
-use Rattle.jp_reading.proofs.Loops.{each-off}
-use Rattle.jp_reading.proofs.Folds.{fails-then}
+use Rattle.jp_reading.proofs.States.Loops.{each-off}
+use Rattle.jp_reading.proofs.States.Folds.{fails-then}
 use Rattle.jp_reading.proofs.Rules.Rounds as loops
 use Rattle.jp_tree.specs.Tree.{SelectorTree, ExprTree, ExprTrees, exprs}
 use Rattle.jp_tree.specs.Tree.{ArgumentTree}

@@ -6,7 +6,7 @@ use Rattle.jp_reading.specs.Outcome.{State, Outcome, took, stuck, deep, â—Œ>>=â—
 use Rattle.jp_reading.specs.Numbers.{is_digit}
 use Rattle.jp_reading.specs.NumberReading.{capped, digits_at}
 use Rattle.jp_reading.specs.Views.{outcome_map, Fails}
-use Rattle.jp_reading.proofs.Folds.{fails-then}
+use Rattle.jp_reading.proofs.States.Folds.{fails-then}
 use Rattle.jp_query.specs.Private.Rules.{run, digits}
 use Rattle.jp_query.specs.Private.Reading.{read_flat}
 

@@ -6,9 +6,10 @@ use Rattle.std.proofs.lemmas.Bool.{cases_Bool, eqb-true}
 use Rattle.jp_reading.specs.Texts.{Text, Spans}
 use Rattle.jp_reading.specs.Outcome.{State, Outcome, took, stuck, skip, is_end}
 use Rattle.jp_reading.specs.RuleReading.{read}
-use Rattle.jp_reading.proofs.Chars.{skip-shorter}
-use Rattle.jp_reading.proofs.Locality.{all, unblanked, Ends, Agrees, ended, Local, local-then}
-use Rattle.jp_reading.proofs.Locality.{local-deep, local-stuck, local-skip, unblanked-skip}
+use Rattle.jp_reading.proofs.Texts.Chars.{skip-shorter}
+use Rattle.jp_reading.proofs.States.Locality.{all, unblanked, Ends, Agrees, ended, Local}
+use Rattle.jp_reading.proofs.States.Locality.{local-then}
+use Rattle.jp_reading.proofs.States.Locality.{local-deep, local-stuck, local-skip, unblanked-skip}
 use Rattle.jp_reading.proofs.Rules.Locality.{local-rule}
 use Rattle.jp_query.specs.Private.Rules.{Opening, opened, query}
 use Rattle.jp_query.specs.Private.Reading.{inside, query_at}

@@ -4,12 +4,12 @@ use Rattle.std.proofs.Common.{subst, append_assoc, append-nil, length-append, ar
 use Rattle.std.proofs.lemmas.List.{append_cancel_right}
 use Rattle.jp_reading.specs.Texts.{Text, Spans, bytes}
 use Rattle.jp_reading.specs.Outcome.{State, Outcome, took, stuck, deep, past}
-use Rattle.jp_reading.proofs.Between.{Stops, Passes}
-use Rattle.jp_reading.proofs.Again.{start}
+use Rattle.jp_reading.proofs.States.Between.{Stops, Passes}
+use Rattle.jp_reading.proofs.States.Again.{start}
 use Rattle.jp_query.specs.ViablePrefix.{IsViablePrefix, IsNoViablePrefix, EndsViablePrefix}
 use Rattle.jp_query.specs.ViablePrefix.{IsSyntaxAt, IsTooDeepAt}
 use Rattle.jp_query.specs.Private.Reading.{query_at}
-use Rattle.jp_reading.proofs.Locality.{all, Agrees, same, ended, longer}
+use Rattle.jp_reading.proofs.States.Locality.{all, Agrees, same, ended, longer}
 use Rattle.jp_query.proofs.Refusals.Locality.{local-query}
 use Rattle.jp_query.proofs.Refusals.LevelsMonotone.{stuck-deeper}
 use Rattle.jp_query.proofs.Unique.{spells-read, unread-spells_nothing}

@@ -5,7 +5,7 @@ use Rattle.jp_reading.specs.declared.reader.Stop.TheVariants as stop
 use Rattle.jp_reading.specs.Texts.{Text}
 use Rattle.jp_reading.specs.Outcome.{State, Outcome, took, stuck, deep}
 use Rattle.jp_reading.specs.Views.{Fails}
-use Rattle.jp_reading.proofs.Again.{start}
+use Rattle.jp_reading.proofs.States.Again.{start}
 use Rattle.jp_query.specs.declared.refusal.RefusalKind.TheVariants.{Syntax, TooDeep, NoMemory}
 use Rattle.jp_tree.specs.Tree.{QueryTree}
 use Rattle.jp_query.specs.Private.Reading.{query_at}

@@ -20,6 +20,7 @@ use Rattle.jp_reading.proofs.Rules.Follow.{Follow, any, at_end, beginning, eithe
 use Rattle.jp_reading.proofs.Rules.Follow.{begins}
 use Rattle.jp_reading.proofs.Rules.Follow.{Under, under-computed, Apart}
 use Rattle.jp_tree.specs.Tree.{OperandTree, literal, node_value, call_value, ArgumentTree}
+use Rattle.jp_tree.specs.Tree.{ExprTree, exists, call_test}
 use Rattle.jp_tree.specs.Tree.{literal_argument, query_argument, call_argument, logical_argument}
 use Rattle.jp_query.specs.Names.{is_function_first, is_function_char}
 use Rattle.jp_query.specs.Private.Rules.{opens}
@@ -85,11 +86,15 @@ pub expression-alive : Alive rule.expression
 unfolding all_rules
 expression-alive = assumption (classes, conjunction-alive)
 
+others-alive : (x : ArgumentTree) (e : ExprTree) → Alive (rule.other_argument_parts x e)
+unfolding all_rules
+others-alive x e = assumption (classes, basic-alive, conjunction-alive)
+
 argument_on-alive : (x : ArgumentTree) → Alive (rule.argument_on x)
 argument_on-alive (literal_argument l) = tt
-argument_on-alive (query_argument q) = assumption (classes, basic-alive, conjunction-alive)
-argument_on-alive (call_argument c) = assumption (classes, basic-alive, conjunction-alive)
-argument_on-alive (logical_argument e) = assumption (classes, basic-alive, conjunction-alive)
+argument_on-alive (query_argument q) = others-alive (query_argument q) (exists q)
+argument_on-alive (call_argument c) = others-alive (call_argument c) (call_test c)
+argument_on-alive (logical_argument e) = others-alive (logical_argument e) e
 
 after_parenthesis-alive : Alive rule.after_parenthesis
 unfolding all_rules
@@ -238,7 +243,7 @@ IsApart r w K = Apart starts closes r w K
 all_alive : Unit {0}
 unfolding all_rules selector-alive bracket-alive segment-alive query-alive side-alive
     comparison-alive compared_or_test-alive basic-alive conjunction-alive expression-alive
-    argument_on-alive after_parenthesis-alive named_call-alive
+    others-alive argument_on-alive after_parenthesis-alive named_call-alive
 all_alive = tt
 
 selector-apart : IsApart rule.selector selector-alive after_selector
@@ -301,13 +306,18 @@ expression-apart : IsApart rule.expression expression-alive after_expression
 unfolding all_alive
 expression-apart = assumption conjunction-apart
 
+others-apart : (x : ArgumentTree) (e : ExprTree)
+    → IsApart (rule.other_argument_parts x e) (others-alive x e) after_expression
+unfolding all_alive
+others-apart x e = assumption (basic-apart, conjunction-apart)
+
 argument_on-apart : (x : ArgumentTree)
     → IsApart (rule.argument_on x) (argument_on-alive x) after_expression
 unfolding all_alive
 argument_on-apart (literal_argument l) = tt
-argument_on-apart (query_argument q) = assumption (basic-apart, conjunction-apart)
-argument_on-apart (call_argument c) = assumption (basic-apart, conjunction-apart)
-argument_on-apart (logical_argument e) = assumption (basic-apart, conjunction-apart)
+argument_on-apart (query_argument q) = others-apart (query_argument q) (exists q)
+argument_on-apart (call_argument c) = others-apart (call_argument c) (call_test c)
+argument_on-apart (logical_argument e) = others-apart (logical_argument e) e
 
 argument-on : (x : ArgumentTree)
     → Under (begins starts (rule.argument_on x) (argument_on-alive x) after_expression) after_basic

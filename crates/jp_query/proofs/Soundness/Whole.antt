@@ -7,13 +7,13 @@ use Rattle.jp_reading.specs.Texts.{Text, Spans}
 use Rattle.jp_reading.specs.Forms.{Form, ◌⌢◌, word, Each, Blank}
 use Rattle.jp_reading.specs.Outcome.{State, Outcome, took, stuck, deep, ◌>>=◌, skip, is_end}
 use Rattle.jp_reading.specs.RuleReading.{read}
-use Rattle.jp_reading.proofs.Steps.{skip-way}
-use Rattle.jp_reading.proofs.Between.{Reads, Stops, Has, prefix-then, prefix-none, prefix-as}
-use Rattle.jp_reading.proofs.Between.{reads-is}
-use Rattle.jp_reading.proofs.Between.{joined-over, has-as}
-use Rattle.jp_reading.proofs.Levels.{Made}
-use Rattle.jp_reading.proofs.Joining.{each-append, joined-assoc, after-within}
-use Rattle.jp_reading.proofs.Again.{start, whole-reads}
+use Rattle.jp_reading.proofs.States.Steps.{skip-way}
+use Rattle.jp_reading.proofs.States.Between.{Reads, Stops, Has, prefix-then, prefix-none, prefix-as}
+use Rattle.jp_reading.proofs.States.Between.{reads-is}
+use Rattle.jp_reading.proofs.States.Between.{joined-over, has-as}
+use Rattle.jp_reading.proofs.Forms.Levels.{Made}
+use Rattle.jp_reading.proofs.Forms.Joining.{each-append, joined-assoc, after-within}
+use Rattle.jp_reading.proofs.States.Again.{start, whole-reads}
 use Rattle.jp_reading.proofs.Rules.Form.{form, least, has}
 use Rattle.jp_reading.proofs.Rules.Soundness.{IsSound, sound, sound-as}
 use Rattle.jp_tree.specs.Tree.{SegmentTree, QueryTree, query, segments}

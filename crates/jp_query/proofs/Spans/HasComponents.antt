@@ -3,8 +3,8 @@ use Rattle.std.proofs.Common.{◌≡◌, ℕ, ◌+◌, ◌<◌, ◌≤◌, List,
 use Rattle.std.proofs.Common.{subst, arith, append-nil, append_assoc}
 use Rattle.jp_reading.specs.Texts.{Text, Spans, bytes}
 use Rattle.jp_reading.specs.Forms.{Form, ◌⌢◌, Each, Blank, Separated, Component}
-use Rattle.jp_reading.proofs.Bare.{Bare, bare-word}
-use Rattle.jp_reading.proofs.Between.{bytes-append}
+use Rattle.jp_reading.proofs.Forms.Bare.{Bare, bare-word}
+use Rattle.jp_reading.proofs.States.Between.{bytes-append}
 use Rattle.jp_query.specs.Components.{QueryComponent}
 use Rattle.jp_reading.specs.declared.span.Span.{Span}
 use Rattle.jp_query.specs.ComponentSpans.{SpellsComponent, IsSpanOf, EachSpanned, AllComeAfter}

@@ -4,7 +4,7 @@ use Rattle.jp_tree.specs.declared.tree.Numeral.{Numeral}
 use Rattle.jp_reading.specs.Texts.{Text}
 use Rattle.jp_reading.specs.Forms.{Form, ◌⌢◌, One, Each}
 use Rattle.jp_reading.specs.Numbers.{is_digit}
-use Rattle.jp_reading.proofs.Bare.{Bare, bare-word, bare-one, bare-joined, bare-each}
+use Rattle.jp_reading.proofs.Forms.Bare.{Bare, bare-word, bare-one, bare-joined, bare-each}
 use Rattle.jp_tree.specs.Tree.{LiteralTree}
 use Rattle.jp_query.specs.Names.{is_name_first, is_name_char, Shorthand, shorthand}
 use Rattle.jp_query.specs.Strings.{is_escapable, is_hexdig, is_d, is_not_d, is_0_to_7, is_8_to_b}

@@ -5,7 +5,7 @@ use Rattle.std.proofs.lemmas.Str.{len_utf8_bounds}
 use Rattle.jp_tree.specs.declared.tree.Numeral.{Numeral}
 use Rattle.jp_reading.specs.Texts.{Text, Spans, bytes}
 use Rattle.jp_reading.specs.Forms.{Form, ◌⌢◌, word, One}
-use Rattle.jp_reading.proofs.Between.{bytes-append}
+use Rattle.jp_reading.proofs.States.Between.{bytes-append}
 use Rattle.jp_tree.specs.Tree.{LiteralTree}
 use Rattle.jp_query.specs.Ints.{Int, Unsigned, zero_int, positive_int}
 use Rattle.jp_reading.specs.Numbers.{is_leading_digit}

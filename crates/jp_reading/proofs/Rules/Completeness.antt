@@ -13,13 +13,14 @@ use Rattle.jp_reading.specs.Rule.{Look, here, beyond, Nesting, Lead, the, blanks
 use Rattle.jp_reading.specs.Rule.{character, after, seq, made, look, upon, nested, component_where}
 use Rattle.jp_reading.specs.Rule.{omitted, some, relaxed, loose, until, flat}
 use Rattle.jp_reading.specs.RuleReading.{Inner, nothing, next, led, spanned_if, spanned, read}
-use Rattle.jp_reading.proofs.Between.{Reads, reads-is, state-same}
-use Rattle.jp_reading.proofs.Chars.{after_blank-same}
-use Rattle.jp_reading.proofs.Levels.{Only, Then}
-use Rattle.jp_reading.proofs.Progress.{Progress}
-use Rattle.jp_reading.proofs.Loops.{each-on, each-off}
-use Rattle.jp_reading.proofs.Again.{split, reads-none, one-first, again-take_if, again-expect}
-use Rattle.jp_reading.proofs.Again.{again-skip, again-round, at-word, past-word, inside}
+use Rattle.jp_reading.proofs.States.Between.{Reads, reads-is, state-same}
+use Rattle.jp_reading.proofs.Texts.Chars.{after_blank-same}
+use Rattle.jp_reading.proofs.Forms.Levels.{Only, Then}
+use Rattle.jp_reading.proofs.States.Progress.{Progress}
+use Rattle.jp_reading.proofs.States.Loops.{each-on, each-off}
+use Rattle.jp_reading.proofs.States.Again.{split, reads-none, one-first, again-take_if}
+use Rattle.jp_reading.proofs.States.Again.{again-expect}
+use Rattle.jp_reading.proofs.States.Again.{again-skip, again-round, at-word, past-word, inside}
 use Rattle.jp_reading.proofs.Rules.Progress.{goes}
 use Rattle.jp_reading.proofs.Rules.Form.{Either, left, right, ComponentIf, Inside, none_inside}
 use Rattle.jp_reading.proofs.Rules.Form.{text_of}

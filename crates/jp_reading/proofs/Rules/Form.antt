@@ -8,11 +8,11 @@ use Rattle.jp_reading.specs.Rule.{seq, made, look, upon, nested, component_where
 use Rattle.jp_reading.specs.Rule.{relaxed}
 use Rattle.jp_reading.specs.Rule.{loose, until, flat}
 use Rattle.jp_reading.proofs.Rules.Classes.{Class}
-use Rattle.jp_reading.proofs.Between.{Has, Within, has-as}
-use Rattle.jp_reading.proofs.Levels.{Only, Then, Made, joined-lifts, joined-has, word-has}
-use Rattle.jp_reading.proofs.Levels.{blank-has, then-lifts, then-has, component-lifts}
-use Rattle.jp_reading.proofs.Levels.{component-has}
-use Rattle.jp_reading.proofs.Levels.{each-lifts}
+use Rattle.jp_reading.proofs.States.Between.{Has, Within, has-as}
+use Rattle.jp_reading.proofs.Forms.Levels.{Only, Then, Made, joined-lifts, joined-has, word-has}
+use Rattle.jp_reading.proofs.Forms.Levels.{blank-has, then-lifts, then-has, component-lifts}
+use Rattle.jp_reading.proofs.Forms.Levels.{component-has}
+use Rattle.jp_reading.proofs.Forms.Levels.{each-lifts}
 
 -- a text of one of two forms
 pub data Either (P Q : Form) (s : Spans) (o : ℕ) (t : Text) : Type 0 where

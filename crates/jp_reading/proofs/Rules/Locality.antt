@@ -7,12 +7,13 @@ use Rattle.jp_reading.specs.Rule.{Look, here, beyond, Nesting, Lead, the, blanks
 use Rattle.jp_reading.specs.Rule.{character, after, seq, made, look, upon, nested, component_where}
 use Rattle.jp_reading.specs.Rule.{omitted, some, relaxed, loose, until, flat}
 use Rattle.jp_reading.specs.RuleReading.{Inner, nothing, next, led, read}
-use Rattle.jp_reading.proofs.Progress.{Progress}
+use Rattle.jp_reading.proofs.States.Progress.{Progress}
 use Rattle.jp_reading.proofs.Rules.Progress.{goes}
-use Rattle.jp_reading.proofs.Locality.{all, unblanked, Local, Tests, local-then, local-took}
-use Rattle.jp_reading.proofs.Locality.{local-map, local-omit, local-spanned, local-stuck, local-if}
-use Rattle.jp_reading.proofs.Locality.{tests-head, tests-after, local-past, local-take_if}
-use Rattle.jp_reading.proofs.Locality.{local-skip, local-from, local-to, local-each}
+use Rattle.jp_reading.proofs.States.Locality.{all, unblanked, Local, Tests, local-then, local-took}
+use Rattle.jp_reading.proofs.States.Locality.{local-map, local-omit, local-spanned, local-stuck}
+use Rattle.jp_reading.proofs.States.Locality.{local-if}
+use Rattle.jp_reading.proofs.States.Locality.{tests-head, tests-after, local-past, local-take_if}
+use Rattle.jp_reading.proofs.States.Locality.{local-skip, local-from, local-to, local-each}
 
 -- how much is left to be looked at
 abbrev pub left : Look → Text → ℕ

@@ -8,10 +8,10 @@ use Rattle.jp_reading.specs.Rule.{seq, made, look, upon, nested, component_where
 use Rattle.jp_reading.specs.Rule.{relaxed}
 use Rattle.jp_reading.specs.Rule.{loose, until, flat}
 use Rattle.jp_reading.specs.RuleReading.{Inner, nothing, next, led, spanned_if, spanned, read}
-use Rattle.jp_reading.proofs.Chars.{past-shorter}
-use Rattle.jp_reading.proofs.Progress.{Moves, Keeps, Progress, keeps-from_moves, keeps-then}
-use Rattle.jp_reading.proofs.Progress.{moves-then, moves-later, moves-skip, keeps-skip}
-use Rattle.jp_reading.proofs.Progress.{moves-take_if, moves-map, keeps-map, keeps-each}
+use Rattle.jp_reading.proofs.Texts.Chars.{past-shorter}
+use Rattle.jp_reading.proofs.States.Progress.{Moves, Keeps, Progress, keeps-from_moves, keeps-then}
+use Rattle.jp_reading.proofs.States.Progress.{moves-then, moves-later, moves-skip, keeps-skip}
+use Rattle.jp_reading.proofs.States.Progress.{moves-take_if, moves-map, keeps-map, keeps-each}
 
 -- whether it takes a character at least
 abbrev pub Goes : {A : Type 0} → Bool → State → Outcome A → Type 0

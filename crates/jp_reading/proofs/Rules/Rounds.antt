@@ -5,8 +5,8 @@ use Rattle.jp_reading.specs.Outcome.{State, took, passes}
 use Rattle.jp_reading.specs.Views.{Fails, with_prefix}
 use Rattle.jp_reading.specs.Rule.{Look, Nesting, Rule, some}
 use Rattle.jp_reading.specs.RuleReading.{Inner, next, read}
-use Rattle.jp_reading.proofs.Progress.{Progress, moved}
-use Rattle.jp_reading.proofs.Folds.{pushes_on, pushes_end, folds_fail}
+use Rattle.jp_reading.proofs.States.Progress.{Progress, moved}
+use Rattle.jp_reading.proofs.States.Folds.{pushes_on, pushes_end, folds_fail}
 use Rattle.jp_reading.proofs.Rules.Progress.{goes}
 
 module _ {N : Nesting} {A : Type 0} (inner : Inner N) (moves : (o : N.Opening) → Progress (inner o))

@@ -11,15 +11,15 @@ use Rattle.jp_reading.specs.Rule.{seq, made, look, upon, nested, component_where
 use Rattle.jp_reading.specs.Rule.{relaxed}
 use Rattle.jp_reading.specs.Rule.{loose, until, flat}
 use Rattle.jp_reading.specs.RuleReading.{Inner, nothing, next, led, spanned_if, spanned, read}
-use Rattle.jp_reading.proofs.Between.{Reads, Prefix, Stops, Passes, Has, Within, reads-then}
-use Rattle.jp_reading.proofs.Between.{prefix-then, prefix-none, reads-as}
-use Rattle.jp_reading.proofs.Chars.{past-shorter}
-use Rattle.jp_reading.proofs.Steps.{skip-way, head-is}
-use Rattle.jp_reading.proofs.Fits.{reads-nothing, reads-one, reads-word}
-use Rattle.jp_reading.proofs.Levels.{Only, Then, Made, word-has, joined-has}
-use Rattle.jp_reading.proofs.Stopping.{stops-first, stops-then, stops-as, stops-made}
-use Rattle.jp_reading.proofs.Stopping.{prefix-component}
-use Rattle.jp_reading.proofs.Stopping.{reads-component}
+use Rattle.jp_reading.proofs.States.Between.{Reads, Prefix, Stops, Passes, Has, Within, reads-then}
+use Rattle.jp_reading.proofs.States.Between.{prefix-then, prefix-none, reads-as}
+use Rattle.jp_reading.proofs.Texts.Chars.{past-shorter}
+use Rattle.jp_reading.proofs.States.Steps.{skip-way, head-is}
+use Rattle.jp_reading.proofs.States.Fits.{reads-nothing, reads-one, reads-word}
+use Rattle.jp_reading.proofs.Forms.Levels.{Only, Then, Made, word-has, joined-has}
+use Rattle.jp_reading.proofs.States.Stopping.{stops-first, stops-then, stops-as, stops-made}
+use Rattle.jp_reading.proofs.States.Stopping.{prefix-component}
+use Rattle.jp_reading.proofs.States.Stopping.{reads-component}
 use Rattle.jp_reading.proofs.Rules.Form.{Either, left, right, ComponentIf, Inside, none_inside}
 use Rattle.jp_reading.proofs.Rules.Form.{text_of}
 use Rattle.jp_reading.proofs.Rules.Form.{form, lifts, Alive, least, has}

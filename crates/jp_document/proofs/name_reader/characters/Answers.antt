@@ -3,8 +3,8 @@ use Rattle.std.proofs.lemmas.Result.{err_from_is_err_and}
 use Rattle.std.specs.Char.{encode_utf8}
 use Rattle.std.specs.Str.{encode_utf8_all}
 use Rattle.jp_reading.specs.Outcome.{took, head, passes}
-use Rattle.jp_reading.proofs.Folds.{folds_on, folds_end, folds_fail}
-use Rattle.jp_reading.proofs.Progress.{moved}
+use Rattle.jp_reading.proofs.States.Folds.{folds_on, folds_end, folds_fail}
+use Rattle.jp_reading.proofs.States.Progress.{moved}
 use Rattle.jp_document.specs.Private.PathReading.{read_rule}
 use Rattle.jp_document.specs.Private.PathRules.{is_inside, name_character, name_characters}
 use Rattle.jp_document.proofs.Paths.Progress.{path_rule-progress}

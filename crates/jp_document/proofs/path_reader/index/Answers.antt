@@ -1,7 +1,7 @@
 use Rattle.std.proofs.Common.{◌≤◌, sym, ◌∙◌, arith}
 use Rattle.std.proofs.lemmas.Result.{err_from_is_err_and}
 use Rattle.jp_reading.specs.NumberReading.{digits_at}
-use Rattle.jp_reading.proofs.Digits.{capped-took}
+use Rattle.jp_reading.proofs.Texts.Digits.{capped-took}
 use Rattle.jp_document.proofs.Paths.IndexReading.{index-natural}
 use Rattle.jp_document.proofs.path_reader.index.Goals as goal
 

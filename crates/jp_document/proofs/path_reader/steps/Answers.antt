@@ -3,8 +3,8 @@ use Rattle.std.proofs.lemmas.Result.{err_from_is_err_and}
 use Rattle.std.proofs.lemmas.List.{map-append}
 use Rattle.jp_reading.specs.Characters as char
 use Rattle.jp_reading.specs.Outcome.{is_at}
-use Rattle.jp_reading.proofs.Folds.{pushes_on, pushes_end, folds_fail}
-use Rattle.jp_reading.proofs.Progress.{moved}
+use Rattle.jp_reading.proofs.States.Folds.{pushes_on, pushes_end, folds_fail}
+use Rattle.jp_reading.proofs.States.Progress.{moved}
 use Rattle.jp_document.specs.Location.{owned_step}
 use Rattle.jp_document.specs.Private.PathReading.{read_rule}
 use Rattle.jp_document.specs.Private.PathRules.{step, steps}

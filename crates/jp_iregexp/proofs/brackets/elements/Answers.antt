@@ -1,9 +1,9 @@
 use Rattle.std.proofs.Common.{◌≡◌, rules, sym, ◌∙◌, ◌++◌, ◌∷◌, []}
 use Rattle.std.proofs.lemmas.Result.{err_from_is_err_and}
 use Rattle.jp_reading.specs.Outcome.{passes, head}
-use Rattle.jp_reading.proofs.Folds.{folds_fail, pushes_on, pushes_end}
+use Rattle.jp_reading.proofs.States.Folds.{folds_fail, pushes_on, pushes_end}
 use Rattle.jp_iregexp.specs.Private.Reading.{element_at, begins_element}
-use Rattle.jp_reading.proofs.Progress.{moved}
+use Rattle.jp_reading.proofs.States.Progress.{moved}
 use Rattle.jp_iregexp.proofs.Progress.{moves-element}
 use Rattle.jp_iregexp.proofs.brackets.elements.Goals as goal
 

@@ -4,12 +4,12 @@ use Rattle.std.proofs.lemmas.Result.{err_from_is_err_and}
 use Rattle.jp_reading.specs.Characters as char
 use Rattle.jp_reading.specs.Outcome.{State, Outcome, each, took, is_at, passes, head}
 use Rattle.jp_reading.specs.Views.{outcome_map}
-use Rattle.jp_reading.proofs.Folds.{folds_on, folds_end, folds_fail}
+use Rattle.jp_reading.proofs.States.Folds.{folds_on, folds_end, folds_fail}
 use Rattle.jp_iregexp.specs.declared.pattern.Pattern.{Pattern}
 use Rattle.jp_iregexp.specs.Tree.{Tree, tree, branches, pieces}
 use Rattle.jp_iregexp.specs.Private.Reading.{begins_piece, piece_at, next_branch_at, inside_at}
 use Rattle.jp_iregexp.proofs.Trees.{tree_either, tree_sequence, mapped_push}
-use Rattle.jp_reading.proofs.Progress.{Progress, moved}
+use Rattle.jp_reading.proofs.States.Progress.{Progress, moved}
 use Rattle.jp_iregexp.proofs.Progress.{moves-piece, moves-next_branch, keeps-inside}
 use Rattle.jp_iregexp.proofs.branches.+branches.Goals as goal
 

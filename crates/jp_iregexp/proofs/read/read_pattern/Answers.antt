@@ -4,7 +4,7 @@ use Rattle.jp_reading.specs.Outcome.{State, took}
 use Rattle.jp_reading.specs.declared.reader.Stop.{Stop}
 use Rattle.jp_reading.specs.declared.reader.Stop.TheVariants.{Syntax, TooDeep}
 use Rattle.jp_reading.specs.Views.{Fails}
-use Rattle.jp_reading.proofs.Again.{start}
+use Rattle.jp_reading.proofs.States.Again.{start}
 use Rattle.jp_iregexp.specs.Groups.{group_limit}
 use Rattle.jp_iregexp.specs.Tree.{tree}
 use Rattle.jp_iregexp.specs.Private.Reading.{pattern_at}

@@ -3,7 +3,7 @@ use Rattle.std.specs.Char.{IsScalar}
 use Rattle.std.specs.Str.{chars}
 use Rattle.std.specs.String.{string_bytes}
 use Rattle.std.proofs.lemmas.Str.{IsUtf8-string_bytes}
-use Rattle.jp_reading.proofs.Chars.{chars_push}
+use Rattle.jp_reading.proofs.Texts.Chars.{chars_push}
 use Rattle.jp_query.proofs.lists.append_char.Goals as goal
 
 pub returns : goal.returns

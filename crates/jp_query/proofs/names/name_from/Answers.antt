@@ -2,8 +2,8 @@ use Rattle.std.proofs.Common.{sym, ◌∙◌, ◌++◌}
 use Rattle.std.specs.Str.{chars}
 use Rattle.std.specs.String.{string_bytes}
 use Rattle.jp_reading.specs.Outcome.{passes, head, take_if}
-use Rattle.jp_reading.proofs.Progress.{moves-take_if, moved}
-use Rattle.jp_reading.proofs.Folds.{pushes_on, pushes_end, folds_fail}
+use Rattle.jp_reading.proofs.States.Progress.{moves-take_if, moved}
+use Rattle.jp_reading.proofs.States.Folds.{pushes_on, pushes_end, folds_fail}
 use Rattle.jp_query.specs.Private.NameCharacters.{is_one_of}
 use Rattle.jp_query.proofs.Readers.Exits.{err_is}
 use Rattle.jp_query.proofs.names.name_from.Goals as goal

@@ -5,12 +5,12 @@ use Rattle.std.proofs.lemmas.Str.{chars-nil}
 use Rattle.jp_query.proofs.Readers.Exits.{err_is}
 use Rattle.jp_reading.specs.Outcome.{passes, head}
 use Rattle.jp_reading.specs.Views.{with_prefix}
-use Rattle.jp_reading.proofs.Progress.{moved}
-use Rattle.jp_reading.proofs.Folds.{with_prefix-nil, pushes_on, pushes_end, folds_fail}
+use Rattle.jp_reading.proofs.States.Progress.{moved}
+use Rattle.jp_reading.proofs.States.Folds.{with_prefix-nil, pushes_on, pushes_end, folds_fail}
 use Rattle.jp_query.specs.Private.Rules.{nesting, characters, string_character, begins_character}
 use Rattle.jp_query.specs.Private.Reading.{read_flat}
 use Rattle.jp_reading.specs.RuleReading.{nothing}
-use Rattle.jp_reading.proofs.Progress.{Progress}
+use Rattle.jp_reading.proofs.States.Progress.{Progress}
 use Rattle.jp_reading.proofs.Rules.Progress.{goes}
 use Rattle.jp_query.proofs.strings.characters.Goals as goal
 

@@ -2,9 +2,9 @@ use Rattle.std.proofs.Common.{◌≡◌, ◌+◌, ◌-◌, ◌*◌, ◌^◌, min
 use Rattle.std.proofs.lemmas.Result.{err_from_is_err_and}
 use Rattle.jp_reading.specs.Characters as char
 use Rattle.jp_reading.specs.NumberReading.{capped, digit_at, is_at_digit}
-use Rattle.jp_reading.proofs.Digits.{digit_at-progress, digits_at-first, digits_at-fails}
-use Rattle.jp_reading.proofs.Digits.{capped-digit, saturated}
-use Rattle.jp_reading.proofs.Folds.{folds_on, folds_end}
+use Rattle.jp_reading.proofs.Texts.Digits.{digit_at-progress, digits_at-first, digits_at-fails}
+use Rattle.jp_reading.proofs.Texts.Digits.{capped-digit, saturated}
+use Rattle.jp_reading.proofs.States.Folds.{folds_on, folds_end}
 use Rattle.jp_reading.proofs.numbers.natural.Goals as goal
 
 pub returns-in_err-digit-clause-taken : goal.returns-in_err-digit-clause-taken

@@ -1,5 +1,5 @@
 use Rattle.std.proofs.Common.{sym, ◌∙◌}
-use Rattle.jp_reading.proofs.Chars.{first_past-end, first_past-blank, first_past-other}
+use Rattle.jp_reading.proofs.Texts.Chars.{first_past-end, first_past-blank, first_past-other}
 use Rattle.jp_reading.proofs.reader.first_past_blanks.Goals as goal
 
 pub returns-then-not-is_blank : goal.returns-then-not-is_blank

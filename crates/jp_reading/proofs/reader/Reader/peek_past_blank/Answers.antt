@@ -1,7 +1,7 @@
 use Rattle.std.proofs.Common.{[], ap, ◌∙◌, refl}
 use Rattle.std.specs.Str.{chars}
 use Rattle.jp_reading.specs.Outcome.{after_blank}
-use Rattle.jp_reading.proofs.Chars.{after_blank-same}
+use Rattle.jp_reading.proofs.Texts.Chars.{after_blank-same}
 use Rattle.jp_reading.proofs.reader.Reader.peek_past_blank.Goals as goal
 
 pub returns : goal.returns

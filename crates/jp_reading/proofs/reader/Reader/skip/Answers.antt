@@ -1,5 +1,5 @@
 use Rattle.std.proofs.Common.{sym, ◌∙◌}
-use Rattle.jp_reading.proofs.Chars.{skip-past, skip-none}
+use Rattle.jp_reading.proofs.Texts.Chars.{skip-past, skip-none}
 use Rattle.jp_reading.proofs.reader.Reader.skip.Goals as goal
 
 pub blanks-preserved : goal.blanks-preserved

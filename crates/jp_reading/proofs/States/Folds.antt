@@ -6,8 +6,8 @@ use Rattle.jp_reading.specs.declared.reader.Stop.{Stop}
 use Rattle.jp_reading.specs.declared.reader.Stop.TheVariants.{Memory, Syntax, TooDeep}
 use Rattle.jp_reading.specs.Outcome.{State, Outcome, took, stuck, deep, ◌>>=◌, each}
 use Rattle.jp_reading.specs.Views.{Fails, outcome_map, with_prefix}
-use Rattle.jp_reading.proofs.Progress.{Progress}
-use Rattle.jp_reading.proofs.Loops.{each-on, each-off, round}
+use Rattle.jp_reading.proofs.States.Progress.{Progress}
+use Rattle.jp_reading.proofs.States.Loops.{each-on, each-off, round}
 
 outcome_map-round : {A B : Type 0} (f g : List A → B) (x : A) (o : Outcome (List A))
     → ((xs : List A) → f (x ∷ xs) ≡ g xs)

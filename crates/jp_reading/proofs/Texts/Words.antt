@@ -2,7 +2,7 @@
 use Rattle.std.proofs.Common.{[], ◌++◌, refl}
 use Rattle.jp_reading.specs.Texts.{Text}
 use Rattle.jp_reading.specs.Forms.{◌⌢◌, word}
-use Rattle.jp_reading.proofs.Between.{Within}
+use Rattle.jp_reading.proofs.States.Between.{Within}
 
 pub words-join : (v w : Text) → Within (word v ⌢ word w) (word (v ++ w))
 words-join v w s o t h = record {

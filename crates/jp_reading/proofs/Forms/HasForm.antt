@@ -3,8 +3,8 @@ use Rattle.std.proofs.Common.{◌≡◌, ℕ, ◌+◌, Bool, true, List, [], ◌
 use Rattle.std.specs.List.{flat_map}
 use Rattle.jp_reading.specs.Forms.{AllPassing, Each, Form, One, word, ◌⌢◌}
 use Rattle.jp_reading.specs.Texts.{Spans, Text, bytes}
-use Rattle.jp_reading.proofs.Between.{Reads}
-use Rattle.jp_reading.proofs.Again.{start, finish, reads-whole}
+use Rattle.jp_reading.proofs.States.Between.{Reads}
+use Rattle.jp_reading.proofs.States.Again.{start, finish, reads-whole}
 
 -- the text has the form at each byte, with some spans
 pub record HasForm (P : Form) (t : Text) : Type 0 where

@@ -3,10 +3,11 @@ use Rattle.std.proofs.Common.{◌≡◌, ℕ, ◌+◌, Bool, true, false, List, 
 use Rattle.jp_reading.specs.Texts.{Text, Spans, bytes}
 use Rattle.jp_reading.specs.Forms.{Form, ◌⌢◌, word, One, AllPassing, Each, Separated, Component}
 use Rattle.jp_reading.specs.Forms.{Never}
-use Rattle.jp_reading.proofs.Between.{Within, joined-both}
-use Rattle.jp_reading.proofs.Levels.{Only, Then, Made, joined-lifts, component-lifts, each-lifts}
-use Rattle.jp_reading.proofs.Words.{words-join, words-apart}
-use Rattle.jp_reading.proofs.Joining as text
+use Rattle.jp_reading.proofs.States.Between.{Within, joined-both}
+use Rattle.jp_reading.proofs.Forms.Levels.{Only, Then, Made, joined-lifts, component-lifts}
+use Rattle.jp_reading.proofs.Forms.Levels.{each-lifts}
+use Rattle.jp_reading.proofs.Texts.Words.{words-join, words-apart}
+use Rattle.jp_reading.proofs.Forms.Joining as text
 use Rattle.jp_reading.proofs.Rules.Form.{Either, left, right, ComponentIf}
 
 -- whatever has one of the forms has the other

@@ -12,9 +12,9 @@ use Rattle.jp_reading.specs.Outcome.{past_first, past_blanks, skip, after_blank,
 use Rattle.jp_reading.specs.Outcome.{take_passing, take_if, loop, each, omit}
 use Rattle.jp_reading.specs.Views.{outcome_map}
 use Rattle.jp_reading.specs.RuleReading.{spanned_if, spanned}
-use Rattle.jp_reading.proofs.Chars.{past_blanks-rest, skip-shorter}
-use Rattle.jp_reading.proofs.Progress.{Progress, past-keeps}
-use Rattle.jp_reading.proofs.Loops.{loop-same}
+use Rattle.jp_reading.proofs.Texts.Chars.{past_blanks-rest, skip-shorter}
+use Rattle.jp_reading.proofs.States.Progress.{Progress, past-keeps}
+use Rattle.jp_reading.proofs.States.Loops.{loop-same}
 
 -- a reader with more text after its own
 abbrev pub longer : Text → State → State

@@ -9,8 +9,8 @@ use Rattle.jp_reading.specs.Outcome.{State, Outcome, took, stuck, deep, â—Œ>>=â—
 use Rattle.jp_reading.specs.Views.{outcome_map, Fails}
 use Rattle.jp_reading.specs.Numbers.{is_digit, value_from}
 use Rattle.jp_reading.specs.NumberReading.{is_at_digit, digit_at, digits_at, capped}
-use Rattle.jp_reading.proofs.Progress.{Progress, moves-take_if}
-use Rattle.jp_reading.proofs.Folds.{fails-then}
+use Rattle.jp_reading.proofs.States.Progress.{Progress, moves-take_if}
+use Rattle.jp_reading.proofs.States.Folds.{fails-then}
 
 -- a digit moves
 pub digit_at-progress : Progress digit_at

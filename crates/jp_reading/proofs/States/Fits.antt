@@ -9,10 +9,10 @@ use Rattle.jp_reading.specs.NumberReading.{is_at_digit, digit_at, digits_at}
 use Rattle.jp_reading.specs.Outcome.{State, Outcome, took, stuck, deep, ◌>>=◌, head, past, is}
 use Rattle.jp_reading.specs.Outcome.{is_at, take_passing, take_if, expect, loop, each}
 use Rattle.jp_reading.specs.Views.{outcome_map}
-use Rattle.jp_reading.proofs.Between.{Reads, Within, between-same, reads-then, reads-as}
-use Rattle.jp_reading.proofs.Runs.{each-run}
-use Rattle.jp_reading.proofs.Steps.{past-way, head-is}
-use Rattle.jp_reading.proofs.Words.{words-join}
+use Rattle.jp_reading.proofs.States.Between.{Reads, Within, between-same, reads-then, reads-as}
+use Rattle.jp_reading.proofs.Texts.Runs.{each-run}
+use Rattle.jp_reading.proofs.States.Steps.{past-way, head-is}
+use Rattle.jp_reading.proofs.Texts.Words.{words-join}
 
 -- what was taken from p on has the form of its value
 abbrev pub Fits : {A : Type 0} → (A → Form) → State → Outcome A → Type 0

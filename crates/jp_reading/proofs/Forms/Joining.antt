@@ -3,9 +3,9 @@ use Rattle.std.proofs.Common.{◌≡◌, ℕ, ◌+◌, List, [], ◌∷◌, ◌+
 use Rattle.std.proofs.Common.{append-nil, refl, arith}
 use Rattle.jp_reading.specs.Texts.{Text, Spans, bytes}
 use Rattle.jp_reading.specs.Forms.{Form, ◌⌢◌, word, Each, Separated}
-use Rattle.jp_reading.proofs.Between.{Within, bytes-append, joined-over}
-pub use Rattle.jp_reading.proofs.Between.{joined-both}
-use Rattle.jp_reading.proofs.Levels.{Only, Then, Made, joined-lifts, each-lifts}
+use Rattle.jp_reading.proofs.States.Between.{Within, bytes-append, joined-over}
+pub use Rattle.jp_reading.proofs.States.Between.{joined-both}
+use Rattle.jp_reading.proofs.Forms.Levels.{Only, Then, Made, joined-lifts, each-lifts}
 
 pub joined-assoc : (P Q R : Form) → Within ((P ⌢ Q) ⌢ R) (P ⌢ Q ⌢ R)
 joined-assoc P Q R s o t h = record {

@@ -5,7 +5,7 @@ use Rattle.std.proofs.lemmas.Bool.{cases_Bool, eqb-true}
 use Rattle.std.specs.Char.{len_utf8}
 use Rattle.jp_reading.specs.Texts.{Text, Spans, is_blank}
 use Rattle.jp_reading.specs.Forms.{Blank}
-use Rattle.jp_reading.proofs.Between.{Between, Reads, between-same, between-then}
+use Rattle.jp_reading.proofs.States.Between.{Between, Reads, between-same, between-then}
 use Rattle.jp_reading.specs.Outcome.{State, took, head, past, past_first, past_blanks}
 use Rattle.jp_reading.specs.Texts.{first_of}
 use Rattle.jp_reading.specs.Outcome.{skip, passes, is, is_at, take_passing, take_if}

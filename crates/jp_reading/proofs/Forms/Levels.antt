@@ -3,7 +3,7 @@
 use Rattle.std.proofs.Common.{◌≡◌, ℕ, ◌+◌, List, [], ◌∷◌, ◌++◌, Some, refl}
 use Rattle.jp_reading.specs.Texts.{Text, Spans, bytes}
 use Rattle.jp_reading.specs.Forms.{Form, ◌⌢◌, word, Blank, Each, Separated, Component}
-use Rattle.jp_reading.proofs.Between.{Has, Within, joined-both}
+use Rattle.jp_reading.proofs.States.Between.{Has, Within, joined-both}
 
 -- the value y alone, with texts of the form
 pub record Only {A : Type 0} (y : A) (P : Form) (x : A) (s : Spans) (o : ℕ)

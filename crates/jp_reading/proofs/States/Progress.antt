@@ -6,7 +6,7 @@ use Rattle.std.proofs.lemmas.Bool.{cases_Bool}
 use Rattle.jp_reading.specs.Outcome.{State, Outcome, took, stuck, deep, ◌>>=◌, head, past}
 use Rattle.jp_reading.specs.Outcome.{past_first, skip, take_passing, take_if, loop, each}
 use Rattle.jp_reading.specs.Views.{outcome_map}
-use Rattle.jp_reading.proofs.Chars.{past-shorter, skip-shorter}
+use Rattle.jp_reading.proofs.Texts.Chars.{past-shorter, skip-shorter}
 
 -- what a rule took from p on leaves a shorter text
 abbrev pub Moves : {A : Type 0} → State → Outcome A → Type 0

@@ -6,9 +6,9 @@ use Rattle.jp_reading.specs.Outcome.{State, took, head, passes, take_if, each}
 use Rattle.jp_reading.specs.Texts.{first_of}
 use Rattle.jp_reading.specs.Numbers.{is_digit, Digits}
 use Rattle.jp_reading.specs.NumberReading.{is_at_digit, digit_at, digits_at}
-use Rattle.jp_reading.proofs.Between.{Reads, Within, reads-as}
-use Rattle.jp_reading.proofs.Progress.{moves-take_if}
-use Rattle.jp_reading.proofs.Again.{split, again-take_if, again-each, again-round, one-first}
+use Rattle.jp_reading.proofs.States.Between.{Reads, Within, reads-as}
+use Rattle.jp_reading.proofs.States.Progress.{moves-take_if}
+use Rattle.jp_reading.proofs.States.Again.{split, again-take_if, again-each, again-round, one-first}
 
 -- a run of characters that pass
 pub record Run (ok : ℕ → Bool) (cs : Text) (s : Spans) (o : ℕ) (t : Text) : Type 0 where

@@ -9,12 +9,12 @@ use Rattle.jp_reading.specs.Outcome.{State, Outcome, took, head, past, past_firs
 use Rattle.jp_reading.specs.Texts.{first_of}
 use Rattle.jp_reading.specs.Outcome.{past_blanks, skip, passes, is, is_at, take_if, expect, each}
 use Rattle.jp_reading.specs.Outcome.{component_since}
-use Rattle.jp_reading.proofs.Between.{reads-as, Between, Reads, bytes-append, between-none}
-use Rattle.jp_reading.proofs.Between.{state-same}
-use Rattle.jp_reading.proofs.Steps.{take_if-takes}
-use Rattle.jp_reading.proofs.Stopping.{span_inserted}
-use Rattle.jp_reading.proofs.Progress.{Progress}
-use Rattle.jp_reading.proofs.Loops.{round, each-on, each-off}
+use Rattle.jp_reading.proofs.States.Between.{reads-as, Between, Reads, bytes-append, between-none}
+use Rattle.jp_reading.proofs.States.Between.{state-same}
+use Rattle.jp_reading.proofs.States.Steps.{take_if-takes}
+use Rattle.jp_reading.proofs.States.Stopping.{span_inserted}
+use Rattle.jp_reading.proofs.States.Progress.{Progress}
+use Rattle.jp_reading.proofs.States.Loops.{round, each-on, each-off}
 
 -- the rule reads each text of x as x, where what follows it is as it must be
 abbrev pub Again : {A : Type 0} → (A → Form) → (Text → Type 0) → (State → Outcome A) → Type 0

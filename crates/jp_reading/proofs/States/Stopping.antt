@@ -6,9 +6,10 @@ use Rattle.jp_reading.specs.declared.span.Span.{Span}
 use Rattle.jp_reading.specs.Texts.{Spans, bytes}
 use Rattle.jp_reading.specs.Forms.{Form, ◌⌢◌, Component}
 use Rattle.jp_reading.specs.Outcome.{State, component_since}
-use Rattle.jp_reading.proofs.Between.{Prefix, Reads, Stops, Has, Within, prefix-then, prefix-first}
-use Rattle.jp_reading.proofs.Between.{prefix-as}
-use Rattle.jp_reading.proofs.Levels.{Then, Made}
+use Rattle.jp_reading.proofs.States.Between.{Prefix, Reads, Stops, Has, Within, prefix-then}
+use Rattle.jp_reading.proofs.States.Between.{prefix-first}
+use Rattle.jp_reading.proofs.States.Between.{prefix-as}
+use Rattle.jp_reading.proofs.Forms.Levels.{Then, Made}
 
 -- a prefix of the first part is one of the whole, where what goes on from each value has some text
 pub stops-first : {A B : Type 0} (F : A → Form) (H : A → B → Form) (p r : State)

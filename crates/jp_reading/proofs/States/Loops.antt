@@ -3,7 +3,7 @@ use Rattle.std.proofs.Common.{◌≡◌, ℕ, zero, suc, ◌<◌, Bool, true, fa
 use Rattle.std.proofs.Common.{inr, refl, ap, arith}
 use Rattle.std.proofs.lemmas.Bool.{cases_Bool}
 use Rattle.jp_reading.specs.Outcome.{State, Outcome, took, stuck, deep, ◌>>=◌, loop, each}
-use Rattle.jp_reading.proofs.Progress.{Moves, Progress}
+use Rattle.jp_reading.proofs.States.Progress.{Moves, Progress}
 
 -- a round and the rest of the loop
 abbrev pub round : {A : Type 0} → Outcome A → (State → Outcome (List A)) → Outcome (List A)
