@@ -14,3 +14,4 @@ pub use Rattle.jp_evaluate.specs.Nodelist
 pub use Rattle.jp_evaluate.specs.Rest
 pub use Rattle.jp_query.specs.Refusal
 pub use Rattle.jp_tree.specs.Tree
+pub use Rattle.jp_tree.specs.Views

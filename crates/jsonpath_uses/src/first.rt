@@ -2,7 +2,7 @@
 ghost use Rattle.std.specs.Prelude.{◌≡◌, IfOk};
 ghost use Rattle.jsonpath.specs.Document.{document_of};
 ghost use Rattle.jsonpath.specs.Nodelist.{has_node, nodelist};
-ghost use Rattle.jsonpath.specs.Tree.{query_of};
+ghost use Rattle.jsonpath.specs.Views.{query_of};
 ghost use Rattle.jsonpath.specs.Value.{value_of};
 ghost use Rattle.jsonpath_uses.specs.First.{first_value};
 

@@ -3,7 +3,7 @@ ghost use Rattle.std.specs.Prelude.{◌≡◌, IfErr, IfOk, map, option_map, str
 ghost use Rattle.jsonpath.specs.Document.{document_of};
 ghost use Rattle.jsonpath.specs.Nodelist.{nodelist};
 ghost use Rattle.jsonpath.specs.PathFault.{IsPathFaultOf};
-ghost use Rattle.jsonpath.specs.Tree.{query_of};
+ghost use Rattle.jsonpath.specs.Views.{query_of};
 ghost use Rattle.jsonpath.specs.Value.{value_of};
 ghost use Rattle.jsonpath_uses.specs.Paths.{LeadsTo, path_of_node};
 

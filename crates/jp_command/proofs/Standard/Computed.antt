@@ -30,13 +30,13 @@ use Rattle.jp_iregexp.specs.PatternOf.{pattern_of}
 use Rattle.jp_iregexp.specs.Private.Reading as pattern
 use Rattle.jp_tree.specs.Tree.{QueryTree}
 use Rattle.jp_query.specs.Grammar.{Spells}
-use Rattle.jp_query.specs.Components.{items_of}
+use Rattle.jp_query.specs.Components.{components_of}
 use Rattle.jp_query.specs.Levels.{level_limit}
 use Rattle.jp_query.specs.Strings.{is_hexdig, is_d, is_not_d, is_0_to_7, is_8_to_b, is_c_to_f}
 use Rattle.jp_query.specs.Private.Reading.{query_at}
 use Rattle.jp_query.specs.Private.Rules as rule
 use Rattle.jp_query.specs.declared.refusal.Refusal.{Refusal}
-use Rattle.jp_query.proofs.ComponentSpans.{spans-of_items}
+use Rattle.jp_query.proofs.ComponentSpans.{spans-of_components}
 use Rattle.jp_query.proofs.Soundness.Whole.{read-spells}
 use Rattle.jp_check.specs.Accepted.{IsAcceptedAs}
 use Rattle.jp_check.specs.Refused.{IsFaulty}
@@ -77,7 +77,7 @@ unfolding query_at rule.shorthand rule.unit_after rule.unit rule.surrogates_afte
     rule.comparison_with rule.closed rule.subject rule.test_expr rule.negated rule.negation_on
     rule.basic rule.joint rule.conjunction rule.expression rule.argument_start rule.argument
     rule.next_argument rule.some_arguments rule.after_parenthesis rule.any_call rule.named_call
-    rule.inside_mark is_hexdig is_d is_not_d is_0_to_7 is_8_to_b is_c_to_f is_digit digits_at
+    rule.inside_expression is_hexdig is_d is_not_d is_0_to_7 is_8_to_b is_c_to_f is_digit digits_at
     past_blanks loop is_blank
 reading text = query_at level_limit (start text)
 
@@ -89,7 +89,7 @@ spelled text q p e = read-spells level_limit text q p e
 -- the first fault of a query's items, if one has a fault
 abbrev first_fault : QueryTree → Spans → Option Refusal
 first_fault q s =
-    (steps (items_of q) (record { profile = Standard; spans = s; first = None })).first
+    (steps (components_of q) (record { profile = Standard; spans = s; first = None })).first
 
 abbrev if_faultless : QueryTree → Option Refusal → Option QueryTree
 if_faultless q None = Some q
@@ -126,8 +126,8 @@ faultless-accepted text q x p None e f h =
     (record {
       spans = p.found;
       spelled = spells;
-      faultless = found Standard text (items_of q) p.found None
-          (spans-of_items level_limit q p.found text spells).each f;
+      faultless = found Standard text (components_of q) p.found None
+          (spans-of_components level_limit q p.found text spells).each f;
     })
 
 taken-accepted : (text : Text) (x : QueryTree) (o : Outcome QueryTree) → reading text ≡ o
@@ -146,7 +146,7 @@ taken-faulty text r (took q p) e h = record {
   tree = q;
   spans = p.found;
   spelled = spelled text q p e;
-  first = found-fault Standard (items_of q) p.found r (sym h);
+  first = found-fault Standard (components_of q) p.found r (sym h);
 }
 taken-faulty text r (stuck p) e h = absurd (cc)
 taken-faulty text r (deep p) e h = absurd (cc)

@@ -24,7 +24,7 @@ use Rattle.jp_tree.specs.Tree.{segments}
 use Rattle.jp_tree.specs.declared.tree.Numeral.TheVariants.{Whole}
 use Rattle.jp_canon.specs.Canon.{canon_of, segment_text, segments_text, selector_text}
 use Rattle.jp_canon.proofs.Bracketed.{bracket-of}
-use Rattle.jp_canon.proofs.Forms.{Has, after-blank, before-blank, both, has-as, has-item, has-word}
+use Rattle.jp_canon.proofs.Forms.{Has, after-blank, before-blank, both, has-as, has-component, has-word}
 use Rattle.jp_canon.proofs.Names.{has-quoted}
 use Rattle.jp_canon.proofs.Numbers.{has-decimal}
 use Rattle.jp_canon.proofs.Written.{quoted-encode}
@@ -43,7 +43,7 @@ module _ (K : Nested → Form) where
       → Has (Selector K (step_selector k)) (selector_text (step_selector k))
   has-selector (named s) fits = has-as (λ r p. by_name (chars s) refl) (has-quoted (chars s))
   has-selector (nth i) fits = has-as (λ r p. indexed (Whole (pos i)) refl)
-      (has-item (has-step_index i fits))
+      (has-component (has-step_index i fits))
 
   has-segment : (k : Step) → StepFits k
       → Has (Segment K (step_segment k)) (segment_text (step_segment k))

@@ -16,7 +16,7 @@ use Rattle.jp_document.specs.Location.{Step, Location, child, child_entry, named
 use Rattle.jp_document.specs.Node.{Node, node_at, node_below}
 use Rattle.jp_document.specs.Value.{IsDocumentValue, Items, Value, boolean, item_count}
 use Rattle.jp_document.specs.Value.{list, null, object, text, whole}
-use Rattle.jp_query.specs.Components.{segments_items}
+use Rattle.jp_query.specs.Components.{segments_components}
 use Rattle.jp_tree.specs.Tree.{segments}
 use Rattle.jp_check.specs.declared.profile.Profile.{Profile}
 use Rattle.jp_check.specs.Faults.{HasFault}
@@ -114,12 +114,12 @@ index_faultless profile i small kind fault =
     cc
 
 steps_faultless : (profile : Profile) (m : Location) → StepsFit m
-    → All (NoFault profile) (segments_items (segments (map step_segment m)))
+    → All (NoFault profile) (segments_components (segments (map step_segment m)))
 steps_faultless profile [] fit = All-nil (NoFault profile)
 steps_faultless profile (named s ∷ m) fit = steps_faultless profile m fit.1
 steps_faultless profile (nth i ∷ m) fit =
     All-cons (NoFault profile) (int (Whole (pos i)) as_index)
-    (segments_items (segments (map step_segment m)))
+    (segments_components (segments (map step_segment m)))
     (index_faultless profile i fit.0) (steps_faultless profile m fit.1)
 
 pub path_selects_its_node : PathSelectsItsNode

@@ -20,7 +20,7 @@ use Rattle.jp_evaluate.specs.Private.Walk.{reaches}
 use Rattle.jp_evaluate.specs.Private.Walk.{segments_left, start_choice, steps_of, turns}
 use Rattle.jp_evaluate.specs.Private.Walk.{walk_frames, walk_reaches, walk_weight}
 use Rattle.jp_evaluate.specs.declared.walk.Offer.{Offer}
-use Rattle.jp_evaluate.specs.declared.walk.Place.{Reached}
+use Rattle.jp_evaluate.specs.declared.walk.Reached.{Reached}
 use Rattle.jp_evaluate.specs.declared.walk.Walk.{Walk}
 use Rattle.jp_evaluate.proofs.Nodelists.Anywhere.{holds-anywhere}
 use Rattle.jp_evaluate.proofs.Walks.Choices.{drop_none, pending-push}

@@ -15,7 +15,7 @@ use Rattle.jp_evaluate.specs.Private.Walk.{Choice, choice_at, choice_of, choices
 use Rattle.jp_evaluate.specs.Private.Walk.{frame_choices, frames_pending, pending, reached_at}
 use Rattle.jp_evaluate.specs.Private.Walk.{start_choice, steps_of, turn_choices, walk_frames}
 use Rattle.jp_evaluate.specs.declared.walk.Frame.{Frame}
-use Rattle.jp_evaluate.specs.declared.walk.Place.{Reached}
+use Rattle.jp_evaluate.specs.declared.walk.Reached.{Reached}
 use Rattle.jp_evaluate.specs.declared.walk.Walk.{Walk}
 
 -- ---- the choices of turns

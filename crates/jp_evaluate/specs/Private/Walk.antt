@@ -19,7 +19,7 @@ use Rattle.jp_select.specs.Subtree.{nodes_in}
 use Rattle.jp_evaluate.specs.Nodelist.{holds, result}
 use Rattle.jp_evaluate.specs.declared.walk.Frame.{Frame}
 use Rattle.jp_evaluate.specs.declared.walk.Offer.{Offer}
-use Rattle.jp_evaluate.specs.declared.walk.Place.{Reached}
+use Rattle.jp_evaluate.specs.declared.walk.Reached.{Reached}
 use Rattle.jp_evaluate.specs.declared.walk.Turn.{Turn}
 use Rattle.jp_evaluate.specs.declared.walk.Walk.{Walk}
 

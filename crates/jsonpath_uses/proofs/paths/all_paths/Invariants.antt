@@ -2,7 +2,7 @@ use Rattle.std.proofs.Common.{◌≡◌, ◌++◌, drop, map, string_bytes}
 use Rattle.jsonpath.specs.Document.{document_of}
 use Rattle.jsonpath.specs.Node.{node_of}
 use Rattle.jsonpath.specs.Nodelist.{nodelist}
-use Rattle.jsonpath.specs.Tree.{query_of}
+use Rattle.jsonpath.specs.Views.{query_of}
 use Rattle.jsonpath_uses.specs.Paths.{path_of_node}
 use Rattle.jsonpath_uses.proofs.paths.all_paths.Given as goal
 
