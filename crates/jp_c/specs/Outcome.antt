@@ -47,7 +47,7 @@ abbrev pub filled : List ℕ → List ℕ → List ℕ
 filled text old = if nat_le (length text) (length old) then text ++ drop (length text) old else old
 
 -- the status, the report and the buffer, which was `old` and is `new`, are those of the outcome
-pub record Tells (o : outcome.Outcome) (old new : List ℕ) (report : Report) (status : ℕ)
+pub record ReportsOutcome (o : outcome.Outcome) (old new : List ℕ) (report : Report) (status : ℕ)
     : Type 0 where
   pub reports : report ≡ report_of o
   pub answers : status ≡ status_of o
@@ -58,4 +58,4 @@ pub record Answers (IsOutcome : outcome.Outcome → Type 0) (old new : List ℕ)
     (status : ℕ) : Type 0 where
   pub o : outcome.Outcome
   pub is : IsOutcome o
-  pub tells : Tells o old new report status
+  pub tells : ReportsOutcome o old new report status

@@ -1,6 +1,6 @@
 //! What a call answers, and how it is told to C.
 ghost use Rattle.std.specs.Prelude.{◌≡◌};
-ghost use Rattle.jp_c.specs.Outcome.{Tells, filled, report_of, told_text};
+ghost use Rattle.jp_c.specs.Outcome.{ReportsOutcome, filled, report_of, told_text};
 
 use jp_document::DocumentFault;
 use jsonpath::FindFault;
@@ -68,7 +68,7 @@ impl Outcome {
 
 /// Tells an outcome: its numbers, and its text where there is room for all of it.
 pub(crate) fn tell(outcome: &Outcome, out: &mut [u8], report: &mut Report) -> u32
-    ensures { Tells outcome.now out.old out.new report.new result }
+    ensures { ReportsOutcome outcome.now out.old out.new report.new result }
 {
     fill(outcome.text().as_bytes(), out);
     *report = outcome.report();

@@ -30,7 +30,7 @@ use Rattle.jp_check.specs.Types.{wanted}
 use Rattle.jp_check.specs.Laws.{OneAnswer}
 use Rattle.jp_check.specs.Refused.{IsFaulty, RefusalSays, IsRefused, IsRefusedForItself}
 use Rattle.jp_check.proofs.Least.{NoFault, of-cons, of-component, of-none, found}
-use Rattle.jp_check.specs.Private.Walk.{Progress, steps}
+use Rattle.jp_check.specs.Private.Inspection.{Progress, steps}
 use Rattle.jp_query.proofs.ComponentSpans.{spans-of_components}
 
 -- ---- kinds have numbers of their own

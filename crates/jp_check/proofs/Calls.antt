@@ -16,7 +16,7 @@ use Rattle.jp_check.specs.declared.profile.Profile.{Profile}
 use Rattle.jp_check.specs.Functions.{signature_named}
 use Rattle.jp_check.specs.Types.{wanted_of_arguments}
 use Rattle.jp_check.specs.Private.Calls.{wanted_of_call}
-use Rattle.jp_check.specs.Private.Walk.{fault_of_call, fault_of_called}
+use Rattle.jp_check.specs.Private.Inspection.{fault_of_call, fault_of_called}
 use Rattle.jp_tree.proofs.Views.{call_of-is}
 
 count-arguments : (xs : List Argument) → count (arguments (map argument_of xs)) ≡ length xs

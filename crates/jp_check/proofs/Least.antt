@@ -1,4 +1,4 @@
--- The first fault that the walk finds is the first of all.
+-- The first fault that the inspection finds is the first of all.
 use Rattle.std.proofs.Common.{◌≡◌, pos, ◌⊎◌, inl, inr, Bool, true, false, cond, List, [], ◌∷◌}
 use Rattle.std.proofs.Common.{Option, Some, None, MatchOption, length, refl, sym, ap, subst, arith}
 use Rattle.std.specs.List.{All, Contains, zip}
@@ -15,7 +15,7 @@ use Rattle.jp_query.specs.ComponentSpans.{EachSpanned}
 use Rattle.jp_check.specs.declared.profile.Profile.{Profile}
 use Rattle.jp_check.specs.Faults.{HasFault}
 use Rattle.jp_check.specs.First.{IsComponentFault, IsNoLater, IsFirstFault}
-use Rattle.jp_check.specs.Private.Walk.{fault_of, first_past, is_before, earlier, steps}
+use Rattle.jp_check.specs.Private.Inspection.{fault_of, first_past, is_before, earlier, steps}
 use Rattle.std.proofs.lemmas.Bool.Decides.{nat_tests}
 use Rattle.jp_check.proofs.OwnFault.{IsOwn, int-fault, own-fault}
 
@@ -144,7 +144,7 @@ pub of-none : (profile : Profile) (components : List QueryComponent) (spans : Sp
     → IsComponentFault profile components spans f → ⊥
 of-none profile components spans f e h = absurd (omega (arith, ap length e, h.among.1))
 
--- ---- the walk
+-- ---- the inspection
 
 -- past one component
 past-least : (profile : Profile) (P : Refusal → Type 0) (x : QueryComponent) (o : Option RefusalKind)
@@ -282,7 +282,7 @@ faultless profile text (x ∷ xs) (Some span ∷ spans) each none =
     (faultless profile text xs spans each.1
     (λ f h. none f (of-tail profile x xs (Some span) spans f h)))
 
--- what the walk finds from the start
+-- what the inspection finds from the start
 least-found : (profile : Profile) (components : List QueryComponent) (spans : Spans) (o : Option Refusal)
     → o ≡ (steps components (record { profile = profile; spans = spans; first = None })).first
     → IsLeast (λ f. ⊥ ⊎ IsComponentFault profile components spans f) o

@@ -21,8 +21,8 @@ use Rattle.jp_check.specs.Faults.{HasCallFault, HasFault}
 use Rattle.jp_check.specs.Functions.{Signature, signature_named}
 use Rattle.jp_check.specs.Ranges.{is_in_index_range}
 use Rattle.jp_check.specs.Types.{IsMisfit, fits, wanted}
-use Rattle.jp_check.specs.Private.Walk.{fault_of, fault_of_called, fault_of_literal}
-use Rattle.jp_check.specs.Private.Walk.{fault_of_query, ill_typed}
+use Rattle.jp_check.specs.Private.Inspection.{fault_of, fault_of_called, fault_of_literal}
+use Rattle.jp_check.specs.Private.Inspection.{fault_of_query, ill_typed}
 
 -- there is no such kind, or this one and none with a smaller number
 abbrev pub IsLeastKind : (RefusalKind → Type 0) → Option RefusalKind → Type 0

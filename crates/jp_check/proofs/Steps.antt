@@ -1,4 +1,4 @@
--- The walk over the components of a query.
+-- The inspection of the components of a query.
 use Rattle.std.proofs.Common.{◌≡◌, ◌<◌, ◌+◌, ℕ, suc, List, [], ◌∷◌, ◌++◌, Option}
 use Rattle.std.proofs.Common.{length, get_or, drop, map, refl, sym, ap, ◌∙◌, arith}
 use Rattle.std.specs.List.{slice_get}
@@ -22,8 +22,8 @@ use Rattle.jp_tree.specs.Tree.{exprs, segments, selectors}
 use Rattle.jp_tree.specs.Views.{operand_of, segment_of, selector_of}
 use Rattle.jp_check.specs.declared.functions.DataType.{DataType}
 use Rattle.jp_check.specs.Private.Calls.{arguments_from, wanted_of_call}
-use Rattle.jp_check.specs.Private.Walk.{Progress, fault_of, fault_of_call, fault_of_logical}
-use Rattle.jp_check.specs.Private.Walk.{fault_of_query, past_argument, past_component, steps}
+use Rattle.jp_check.specs.Private.Inspection.{Progress, fault_of, fault_of_call, fault_of_logical}
+use Rattle.jp_check.specs.Private.Inspection.{fault_of_query, past_argument, past_component, steps}
 use Rattle.jp_check.specs.Types.{wanted}
 use Rattle.jp_tree.proofs.Views.{expr_of-Compare}
 
@@ -79,7 +79,7 @@ sides-on e left right op before between after is past_left past_right =
     ∙ sym (steps_append (operand_components (operand_of left)) (operand_components (operand_of right)) before)
     ∙ ap (λ x. steps (expr_components x) before) (sym (ap expr_of is ∙ expr_of-Compare left right op))
 
--- the walk stays in its profile
+-- the inspection stays in its profile
 steps-profile : (xs : List QueryComponent) (p : Progress) → (steps xs p).profile ≡ p.profile
 steps-profile [] p = refl
 steps-profile (x ∷ xs) p = steps-profile xs (past_component (fault_of p.profile x) p)

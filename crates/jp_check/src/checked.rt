@@ -9,8 +9,8 @@ ghost use Rattle.jp_check.specs.Faults.{IsFaultless};
 ghost use Rattle.jp_check.specs.First.{IsFirstFault};
 ghost use Rattle.jp_check.specs.Refused.{IsRefused};
 
+use crate::inspection::first_fault;
 use crate::profile::Profile;
-use crate::walk::first_fault;
 use jp_query::{Parsed, Refusal, RefusalKind, parse};
 use jp_tree::Query;
 use std::alloc::Global;

@@ -2,8 +2,8 @@
 
 ghost use Rattle.std.specs.Prelude.{◌≡◌};
 ghost use Rattle.jp_tree.specs.Views.{call_of, literal_of, query_of};
-ghost use Rattle.jp_check.specs.Private.Walk.{fault_of_call, fault_of_int, fault_of_literal};
-ghost use Rattle.jp_check.specs.Private.Walk.{fault_of_logical, fault_of_query, ill_typed};
+ghost use Rattle.jp_check.specs.Private.Inspection.{fault_of_call, fault_of_int, fault_of_literal};
+ghost use Rattle.jp_check.specs.Private.Inspection.{fault_of_logical, fault_of_query, ill_typed};
 
 use crate::functions::{DataType, signature_named};
 use crate::profile::Profile;

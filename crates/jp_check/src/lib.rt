@@ -22,13 +22,13 @@
 mod checked;
 mod faults;
 mod functions;
+mod inspection;
 pub mod laws;
 mod profile;
 mod ranges;
 mod singular;
 #[cfg(test)]
 mod tests;
-mod walk;
 
 pub use checked::{Checked, check, read_query};
 pub use functions::Function;

@@ -30,7 +30,7 @@ digits_next xs i n x inside digit low so = record {
       (omega (arith, few, length-take-le (i + 1) xs (omega (arith, inside)))) digit low so;
 }
 
--- from a place on
+-- from an offset on
 pub digits_next_from : (d : List ℕ) (from at n x : ℕ) → from ≤ at → at < length d
     → digit_value (get_or d at 0) ≡ x → x < 10 → IsDigits (take (at - from) (drop from d)) n
     → IsDigits (take (at + 1 - from) (drop from d)) ((n * 10 % 2 ^ 64 + x) % 2 ^ 64)

@@ -198,7 +198,7 @@ list_closed n t s new vs p more is at many all =
     ∙ ap (option_map (λ ws. list (items_of ws)))
     (all_of_grows (flat_value n t) (flat_value n s) new vs (value_grows n t s more) all)
 
--- the list of the items from a place on
+-- the list of the items from an offset on
 pub list_from_there : (s : Shown) (first : ℕ) (p : Span) → first ≤ length s.items
     → p.first ≡ first → p.count ≡ length s.items - first
     → IsTheListOf (drop first s.items) (with_items s (take first s.items)) s (code.List p)

@@ -1,4 +1,4 @@
--- What the lexer of JSON makes of a text at a place.
+-- What the lexer of JSON makes of a text at an offset.
 use Rattle.std.proofs.Common.{◌≡◌, ℕ, suc, ◌+◌, ◌-◌, ◌<◌, ◌≤◌, Bool, true, false, ◌&&◌, ◌||◌, cond}
 use Rattle.std.proofs.Common.{◌==◌, nat_lt}
 use Rattle.std.proofs.Common.{List, [], ◌∷◌, ◌++◌, length, take, drop, get_or, Option, Some, None}
@@ -63,7 +63,7 @@ passes_run [] = record { read = sym (prepend-nil _); lexed = refl }
 passes_run (x ∷ xs) =
     passes_byte (is_plain x) x (prefix_len is_plain xs) xs refl (passes_run xs)
 
--- from a place on up to the place where the plain bytes stop
+-- from an offset on up to the one where the plain bytes stop
 pub run_to : (d : List ℕ) (from to : ℕ) → to ≡ from + prefix_len is_plain (drop from d)
     → lex in_string (drop from d) ≡ lex in_string (drop to d)
 run_to d from to is =

@@ -1,4 +1,4 @@
--- The tokens from a place on, by what stands there.
+-- The tokens from an offset on, by what stands there.
 use Rattle.std.proofs.Common.{◌≡◌, ℕ, ◌+◌, ◌-◌, ◌<◌, ◌≤◌, Bool, true, false, ◌||◌, ◌==◌, cond, List}
 use Rattle.std.proofs.Common.{[]}
 use Rattle.std.proofs.Common.{◌∷◌, ◌++◌, ◌⊎◌, inl, inr, length, take, drop, get_or, Option, Some}
@@ -22,12 +22,12 @@ use Rattle.json.proofs.Printed.Numbers.{in_word-ended, lex-number, number_alone}
 use Rattle.jp_flat.specs.Flat.{piece}
 use Rattle.jp_flat.specs.Private.Tokens.{EndsWhole, GivesToken, IsLiteral, IsSpelledFrom, ends_byte}
 use Rattle.jp_flat.specs.Private.Tokens.{key_token}
-use Rattle.jp_flat.specs.Private.Tokens.{said, tokens_from, turn_of}
-use Rattle.jp_flat.specs.declared.cursor.Place.{Place as At}
+use Rattle.jp_flat.specs.Private.Tokens.{said, tokens_from, expected_of}
+use Rattle.jp_flat.specs.declared.cursor.Point.{Point}
 use Rattle.jp_flat.specs.declared.token.Spelled.{Spelled}
 use Rattle.jp_flat.proofs.Lexed.{first_is}
 
--- ---- what stands at a place
+-- ---- what stands at an offset
 
 pub blank_at : (d : List ℕ) (at : ℕ) → at < length d → is_space (get_or d at 0) ≡ true
     → lex between (drop at d) ≡ lex between (drop (at + 1) d)
@@ -128,49 +128,49 @@ pub comma_passes : (ls : List Lexeme) → punctuate after_value (comma ∷ ls) �
 unfolding punctuate
 comma_passes ls = refl
 
-pub gives_object : (d : List ℕ) (from to : At) → from.at < length d → get_or d from.at 0 ≡ 123
-    → may_begin (turn_of from.turn) ≡ true
+pub gives_object : (d : List ℕ) (from to : Point) → from.at < length d → get_or d from.at 0 ≡ 123
+    → may_begin (expected_of from.expected) ≡ true
     → tokens_from d to ≡ punctuate fresh (lex between (drop (from.at + 1) d))
     → GivesToken d from spec.begin_object to
 unfolding punctuate
 gives_object d from to within byte begins goes good =
     let ls = lex between (drop (from.at + 1) d) in
-    ap (punctuate (turn_of from.turn)) (object_at d from.at within byte)
+    ap (punctuate (expected_of from.expected)) (object_at d from.at within byte)
     ∙ by_begin (λ p. punctuate p (Lexeme.token spec.begin_object ∷ ls) ≡ spec.begin_object ∷ punctuate fresh ls)
-    refl refl (turn_of from.turn) begins ∙ ap (λ ts. spec.begin_object ∷ ts) (sym goes)
+    refl refl (expected_of from.expected) begins ∙ ap (λ ts. spec.begin_object ∷ ts) (sym goes)
 
-pub gives_array : (d : List ℕ) (from to : At) → from.at < length d → get_or d from.at 0 ≡ 91
-    → may_begin (turn_of from.turn) ≡ true
+pub gives_array : (d : List ℕ) (from to : Point) → from.at < length d → get_or d from.at 0 ≡ 91
+    → may_begin (expected_of from.expected) ≡ true
     → tokens_from d to ≡ punctuate fresh (lex between (drop (from.at + 1) d))
     → GivesToken d from spec.begin_array to
 unfolding punctuate
 gives_array d from to within byte begins goes good =
     let ls = lex between (drop (from.at + 1) d) in
-    ap (punctuate (turn_of from.turn)) (array_at d from.at within byte)
+    ap (punctuate (expected_of from.expected)) (array_at d from.at within byte)
     ∙ by_begin (λ p. punctuate p (Lexeme.token spec.begin_array ∷ ls) ≡ spec.begin_array ∷ punctuate fresh ls)
-    refl refl (turn_of from.turn) begins ∙ ap (λ ts. spec.begin_array ∷ ts) (sym goes)
+    refl refl (expected_of from.expected) begins ∙ ap (λ ts. spec.begin_array ∷ ts) (sym goes)
 
-pub gives_end_object : (d : List ℕ) (from to : At) → from.at < length d
-    → get_or d from.at 0 ≡ 125 → may_close (turn_of from.turn) ≡ true
+pub gives_end_object : (d : List ℕ) (from to : Point) → from.at < length d
+    → get_or d from.at 0 ≡ 125 → may_close (expected_of from.expected) ≡ true
     → tokens_from d to ≡ punctuate after_value (lex between (drop (from.at + 1) d))
     → GivesToken d from spec.end_object to
 unfolding punctuate
 gives_end_object d from to within byte closes goes good =
     let ls = lex between (drop (from.at + 1) d) in
-    ap (punctuate (turn_of from.turn)) (end_object_at d from.at within byte)
+    ap (punctuate (expected_of from.expected)) (end_object_at d from.at within byte)
     ∙ by_close (λ p. punctuate p (Lexeme.token spec.end_object ∷ ls) ≡ spec.end_object ∷ punctuate after_value ls)
-    refl refl (turn_of from.turn) closes ∙ ap (λ ts. spec.end_object ∷ ts) (sym goes)
+    refl refl (expected_of from.expected) closes ∙ ap (λ ts. spec.end_object ∷ ts) (sym goes)
 
-pub gives_end_array : (d : List ℕ) (from to : At) → from.at < length d
-    → get_or d from.at 0 ≡ 93 → may_close (turn_of from.turn) ≡ true
+pub gives_end_array : (d : List ℕ) (from to : Point) → from.at < length d
+    → get_or d from.at 0 ≡ 93 → may_close (expected_of from.expected) ≡ true
     → tokens_from d to ≡ punctuate after_value (lex between (drop (from.at + 1) d))
     → GivesToken d from spec.end_array to
 unfolding punctuate
 gives_end_array d from to within byte closes goes good =
     let ls = lex between (drop (from.at + 1) d) in
-    ap (punctuate (turn_of from.turn)) (end_array_at d from.at within byte)
+    ap (punctuate (expected_of from.expected)) (end_array_at d from.at within byte)
     ∙ by_close (λ p. punctuate p (Lexeme.token spec.end_array ∷ ls) ≡ spec.end_array ∷ punctuate after_value ls)
-    refl refl (turn_of from.turn) closes ∙ ap (λ ts. spec.end_array ∷ ts) (sym goes)
+    refl refl (expected_of from.expected) closes ∙ ap (λ ts. spec.end_array ∷ ts) (sym goes)
 
 -- ---- names and texts
 
@@ -184,8 +184,8 @@ spelled_at d at end next s x within byte is says same =
     ∙ ap (λ o. Lexeme.token (string_token o) ∷ lex in_string (drop (at + 1) d)) (is.reads x says)
     ∙ ap (λ ls. Lexeme.token (spec.string x) ∷ ls) (is.passes ∙ sym same)
 
-pub gives_key : (d : List ℕ) (from to : At) (end next : ℕ) (s : Spelled) → from.at < length d
-    → get_or d from.at 0 ≡ 34 → may_begin (turn_of from.turn) ≡ true
+pub gives_key : (d : List ℕ) (from to : Point) (end next : ℕ) (s : Spelled) → from.at < length d
+    → get_or d from.at 0 ≡ 34 → may_begin (expected_of from.expected) ≡ true
     → IsSpelledFrom d (from.at + 1) end s → lex between (drop next d) ≡ lex between (drop end d)
     → next < length d → get_or d next 0 ≡ 58
     → tokens_from d to ≡ punctuate fresh (lex between (drop (next + 1) d))
@@ -198,16 +198,16 @@ gives_key d from to end next s within byte begins is same room colon_there goes 
     go None says good = absurd (cc (sym good ∙ ap (λ o. is_good (key_token o)) says))
     go (Some x) says good =
         let ls = lex between (drop (next + 1) d) in
-        ap (punctuate (turn_of from.turn))
+        ap (punctuate (expected_of from.expected))
         (spelled_at d from.at end next s x within byte is says same
         ∙ ap (λ l. Lexeme.token (spec.string x) ∷ l) (colon_at d next room colon_there))
         ∙ by_begin (λ p. punctuate p (Lexeme.token (spec.string x) ∷ colon ∷ ls) ≡ spec.key x ∷ punctuate fresh ls)
-        refl refl (turn_of from.turn) begins
+        refl refl (expected_of from.expected) begins
         ∙ ap (λ ts. spec.key x ∷ ts) (sym goes)
         ∙ ap (λ o. key_token o ∷ tokens_from d to) (sym says)
 
-pub gives_text : (d : List ℕ) (from to : At) (end next : ℕ) (s : Spelled) → from.at < length d
-    → get_or d from.at 0 ≡ 34 → may_begin (turn_of from.turn) ≡ true
+pub gives_text : (d : List ℕ) (from to : Point) (end next : ℕ) (s : Spelled) → from.at < length d
+    → get_or d from.at 0 ≡ 34 → may_begin (expected_of from.expected) ≡ true
     → IsSpelledFrom d (from.at + 1) end s → lex between (drop next d) ≡ lex between (drop end d)
     → begins_colon (lex between (drop next d)) ≡ false
     → tokens_from d to ≡ punctuate after_value (lex between (drop next d))
@@ -220,11 +220,11 @@ gives_text d from to end next s within byte begins is same plain_next goes = go 
     go None says good = absurd (cc (sym good ∙ ap (λ o. is_good (string_token o)) says))
     go (Some x) says good =
         let ls = lex between (drop next d) in
-        ap (punctuate (turn_of from.turn)) (spelled_at d from.at end next s x within byte is says same)
+        ap (punctuate (expected_of from.expected)) (spelled_at d from.at end next s x within byte is says same)
         ∙ by_begin (λ p. punctuate p (Lexeme.token (spec.string x) ∷ ls) ≡ spec.string x ∷ punctuate after_value ls)
         (ap (λ b. place_token fresh (spec.string x) b (λ to. punctuate to ls)) plain_next)
         (ap (λ b. place_token after_comma (spec.string x) b (λ to. punctuate to ls)) plain_next)
-        (turn_of from.turn) begins
+        (expected_of from.expected) begins
         ∙ ap (λ ts. spec.string x ∷ ts) (sym goes)
         ∙ ap (λ o. string_token o ∷ tokens_from d to) (sym says)
 
@@ -272,8 +272,8 @@ piece_is xs first count s e = go (nat_le (first + count) (length xs)) e
     go true e = ap (λ o. unwrap_or o []) e
     go false e = absurd (cc e)
 
-pub gives_literal : (d name : List ℕ) (token : spec.Token) (from to : At) (end : ℕ)
-    → IsLiteral name token → may_begin (turn_of from.turn) ≡ true → from.at ≤ end
+pub gives_literal : (d name : List ℕ) (token : spec.Token) (from to : Point) (end : ℕ)
+    → IsLiteral name token → may_begin (expected_of from.expected) ≡ true → from.at ≤ end
     → name ≡ take (end - from.at) (drop from.at d) → ends_word (drop end d) ≡ true
     → tokens_from d to ≡ punctuate after_value (lex between (drop end d)) → GivesToken d from token to
 gives_literal d name token from to end is begins after there ends goes good =
@@ -283,9 +283,9 @@ gives_literal d name token from to end is begins after there ends goes good =
     ∙ ap (λ r. take (end - from.at) (drop from.at d) ++ r)
     (sym (drop-drop (end - from.at) from.at d ∙ ap (λ k. drop k d) back))
     ∙ take-append-drop (end - from.at) (drop from.at d) in
-    ap (λ t. punctuate (turn_of from.turn) (lex between t)) (sym cut)
-    ∙ ap (punctuate (turn_of from.turn)) (is.lexes (drop end d) ends)
-    ∙ is.goes (turn_of from.turn) _ begins ∙ ap (λ ts. token ∷ ts) (sym goes)
+    ap (λ t. punctuate (expected_of from.expected) (lex between t)) (sym cut)
+    ∙ ap (punctuate (expected_of from.expected)) (is.lexes (drop end d) ends)
+    ∙ is.goes (expected_of from.expected) _ begins ∙ ap (λ ts. token ∷ ts) (sym goes)
 
 pub is_number : (d : List ℕ) (from end : ℕ) → from ≤ end
     → after_number (drop from d) ≡ Some (drop end d) → ends_word (drop end d) ≡ true
@@ -385,12 +385,12 @@ ends_at d at within e = go (or_cases _ _ e)
 
 -- ---- the end
 
-pub done_there : (d : List ℕ) (p : At) → length d ≤ p.at → may_close (turn_of p.turn) ≡ true
+pub done_there : (d : List ℕ) (p : Point) → length d ≤ p.at → may_close (expected_of p.expected) ≡ true
     → tokens_from d p ≡ []
 unfolding lex punctuate
 done_there d p over closes =
-    ap (λ r. punctuate (turn_of p.turn) (lex between r)) (drop_all p.at d over)
-    ∙ by_close (λ q. punctuate q [] ≡ []) refl refl (turn_of p.turn) closes
+    ap (λ r. punctuate (expected_of p.expected) (lex between r)) (drop_all p.at d over)
+    ∙ by_close (λ q. punctuate q [] ≡ []) refl refl (expected_of p.expected) closes
 
 -- ---- a text alone between its quotes
 

@@ -64,7 +64,7 @@ name-at f t (x ∷ xs) ps (suc k) d e is within =
     in
     name-at f t xs h.1 k d e h.3 (omega (arith, within)) ∙ ap (λ ys. (get_or ys (suc k) e).0) h.4
 
--- ---- lists by their places
+-- ---- lists by their positions
 
 all_before : {A : Type 0} (p : A → Bool) (xs : List A) (i : ℕ)
     → ((k : ℕ) (d : A) → k < i → k < length xs → p (get_or xs k d) ≡ true)
@@ -132,23 +132,23 @@ own_reverse Less is = absurd (cc)
 own_reverse Equal is = refl
 own_reverse Greater is = absurd (cc)
 
--- a member takes the place of one of its name
-replace_place : (ps : List Pair) (i : ℕ) (e : Pair) (k : List ℕ) (v : Value)
+-- a member goes instead of one of its name
+replace_at : (ps : List Pair) (i : ℕ) (e : Pair) (k : List ℕ) (v : Value)
     → names_rise (keys_of ps) ≡ true → i < length ps → (get_or ps i e).0 ≡ k
     → insert_entry bytes_cmp ps k v ≡ set ps i (k, v)
-replace_place [] i e k v rise within at = absurd (omega (arith, within))
-replace_place (p ∷ ps) zero e k v rise within at =
+replace_at [] i e k v rise within at = absurd (omega (arith, within))
+replace_at (p ∷ ps) zero e k v rise within at =
     ap (λ o. match_ordering o ((k, v) ∷ p ∷ ps) ((p.0, v) ∷ ps) (p ∷ insert_entry bytes_cmp ps k v))
     (ap (bytes_cmp k) at ∙ own_reverse (bytes_cmp k k) (nat_list_cmp_total.antisymm k k))
     ∙ ap (λ n. (n, v) ∷ ps) at
-replace_place (p ∷ ps) (suc i) e k v rise within at =
+replace_at (p ∷ ps) (suc i) e k v rise within at =
     let below : is_lt (bytes_cmp p.0 k) ≡ true =
     ap (λ n. is_lt (bytes_cmp p.0 n)) (sym at)
     ∙ all_at (λ n. is_lt (bytes_cmp p.0 n)) ps i e (and-left _ _ rise) (omega (arith, within)) in
     ap (λ o. match_ordering o ((k, v) ∷ p ∷ ps) ((p.0, v) ∷ ps) (p ∷ insert_entry bytes_cmp ps k v))
     (nat_list_cmp_total.antisymm k p.0 ∙ ap ordering_reverse (Less-from_is_lt _ below))
     ∙ ap (λ qs. p ∷ qs)
-    (replace_place ps i e k v (and-right _ _ rise) (omega (arith, within)) at)
+    (replace_at ps i e k v (and-right _ _ rise) (omega (arith, within)) at)
 
 pub put-hit : (t : Shown) (m : Named) (q : List ℕ) (xs : List Named) (i : ℕ)
     → text_at t m.name ≡ Some q → i < length xs
@@ -162,7 +162,7 @@ put-hit t m q xs i named within equal f ps p is rise here =
     ∙ exact_bytes (name_in t (get_or xs i m)) q (equal m) ∙ name in
     all_of-set (member_with f t) xs ps i m p is here
     ∙ ap Some
-    (sym (replace_place ps i p p.0 p.1 rise (omega (arith, long, within)) at))
+    (sym (replace_at ps i p p.0 p.1 rise (omega (arith, long, within)) at))
 
 pub put-missed : (t : Shown) (m : Named) (q : List ℕ) (xs : List Named) (i : ℕ)
     → text_at t m.name ≡ Some q

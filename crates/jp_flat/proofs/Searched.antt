@@ -14,7 +14,7 @@ use Rattle.jp_flat.specs.declared.item.Named.{Named}
 abbrev pub order_of : Shown → List ℕ → Named → Ordering
 order_of t name m = bytes_cmp (name_in t m) name
 
--- where the orders rise, those before the one place are `Less`, and those from the other on are
+-- where the orders rise, those before the one index are `Less`, and those from the other on are
 -- `Greater`
 abbrev pub Halved : (Named → Ordering) → List Named → ℕ → ℕ → Type 0
 Halved ord ms low high =

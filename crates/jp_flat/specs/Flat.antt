@@ -1,4 +1,4 @@
--- The values that stand in flat tables: an item by the places of its bytes and parts.
+-- The values that stand in flat tables: an item by the offsets of its bytes and parts.
 use Rattle.std.specs.Prelude.{◌≡◌, ◌+◌, ◌-◌, ◌*◌, ◌^◌, ◌&&◌, ◌++◌, ℕ, suc, zero, pos, negsuc, Bool}
 use Rattle.std.specs.Prelude.{List, [], ◌∷◌, Option, Some, None, cond, nat_le, length, take, drop}
 use Rattle.std.specs.Prelude.{option_map, option_and_then, string_bytes, unwrap_or, is_some}

@@ -4,7 +4,7 @@ ghost use Rattle.json.specs.Lex.{between, lex};
 ghost use Rattle.json.specs.Word.{is_space};
 ghost use Rattle.jp_flat.specs.Private.Tokens.{EndsWhole, ends_byte};
 
-/// The first place from this one on that holds no blank (RFC 8259 section 2).
+/// The first offset from this one on that holds no blank (RFC 8259 section 2).
 #[inline(always)]
 pub(crate) fn past_blanks(bytes: &[u8], from: usize) -> usize
     requires { from ≤ length bytes.now }
@@ -36,7 +36,7 @@ fn is_blank(byte: u8) -> bool
     byte == b' ' || byte == b'\t' || byte == b'\n' || byte == b'\r'
 }
 
-/// Whether a whole number may end before this place: it is none where a point or an exponent
+/// Whether a whole number may end before this offset: it is none where a point or an exponent
 /// follows.
 #[inline(always)]
 pub(crate) fn ends_whole(bytes: &[u8], at: usize) -> bool

@@ -8,8 +8,8 @@ ghost use Rattle.jp_flat.specs.Private.Reading.{IsTheListOf, IsObjectOf, put_all
 
 use crate::item::{Item, Named};
 use crate::moving::move_parts;
-use crate::place::span_of;
 use crate::sorting::{put_by_name, put_each};
+use crate::spans::span_of;
 use crate::tables::Tables;
 
 /// The most members that are put in order one by one.
@@ -46,7 +46,7 @@ pub(crate) fn list_from(tables: &Tables<'_>, first: usize) -> Option<Item>
 }
 
 /// The object of the members from the base on, which move to the tables in the order of their
-/// names, each in the place of an earlier one of its name. `rises` says that they came in it; else
+/// names, each instead of an earlier one of its name. `rises` says that they came in it; else
 /// they are sorted, few of them in `sorted`, which is free before and after.
 pub(crate) fn close_object(
     tables: &mut Tables<'_>,

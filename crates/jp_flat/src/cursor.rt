@@ -1,10 +1,10 @@
-//! A place in a text, and the token that stands there.
+//! A point in a text, and the token that stands there.
 ghost use Rattle.std.specs.Prelude.{◌≡◌, ◌∷◌, [], true, IfSome, OnSome, Some};
 ghost use Rattle.std.specs.Bool.{MatchBool};
 ghost use Rattle.json.specs.Align.{is_good};
 ghost use Rattle.json.specs.Json.{after_end_array};
 ghost use Rattle.json.specs.Lex.{may_begin, may_close, tokens};
-ghost use Rattle.jp_flat.specs.Private.Tokens.{ReadsName, StandsIn, TokenHolds, token_of, turn_of};
+ghost use Rattle.jp_flat.specs.Private.Tokens.{ReadsName, IsSpelledIn, TokenHolds, token_of, expected_of};
 
 use crate::blanks::past_blanks;
 use crate::lexing::{passed, token_at};
@@ -13,7 +13,7 @@ use std::marker::Model;
 
 /// What may stand next in a list or an object.
 #[derive(Clone, Copy, Drop)]
-pub(crate) enum Turn {
+pub(crate) enum Expected {
     Fresh,
     AfterValue,
     AfterComma,
@@ -21,29 +21,29 @@ pub(crate) enum Turn {
 
 /// Where a text goes on.
 #[derive(Clone, Copy, Drop)]
-pub(crate) struct Place {
+pub(crate) struct Point {
     pub(crate) at: usize,
-    pub(crate) turn: Turn,
+    pub(crate) expected: Expected,
 }
 
-/// A text from a place on. A clause sees the text and the tokens that are left.
+/// A text from an offset on. A clause sees the text and the tokens that are left.
 #[derive(Drop)]
 pub(crate) struct Cursor<'t> {
     bytes: &'t [u8],
-    place: Place,
+    point: Point,
 }
 
 impl<'t> Model for Cursor<'t> {
     ghost use Rattle.std.specs.Prelude.{◌≤◌, length};
-    ghost use Rattle.jp_flat.specs.Private.Tokens.{Rest, rest_code, tokens_from};
+    ghost use Rattle.jp_flat.specs.Private.Tokens.{TokensLeft, tokens_left_code, tokens_from};
 
-    ghost Value = { Rest };
+    ghost Value = { TokensLeft };
 
-    ghost coded = { rest_code };
+    ghost coded = { tokens_left_code };
 
-    ghost view = { λ a. record { text = a.bytes.now; tokens = tokens_from a.bytes.now a.place } };
+    ghost view = { λ a. record { text = a.bytes.now; tokens = tokens_from a.bytes.now a.point } };
 
-    ghost invariant = { λ a. a.place.at ≤ length a.bytes.now };
+    ghost invariant = { λ a. a.point.at ≤ length a.bytes.now };
 }
 
 impl<'t> Cursor<'t> {
@@ -54,9 +54,9 @@ impl<'t> Cursor<'t> {
     {
         Cursor {
             bytes,
-            place: Place {
+            point: Point {
                 at: past_blanks(bytes, 0),
-                turn: Turn::Fresh,
+                expected: Expected::Fresh,
             },
         }
     }
@@ -70,9 +70,9 @@ impl<'t> Cursor<'t> {
         ensures stands { IfSome result (TokenHolds self.old.text) }
         ensures text { self.new.text ≡ self.old.text }
     {
-        let (token, place) = token_at(self.bytes, self.place)?;
-        self.place.at = place.at;
-        self.place.turn = place.turn;
+        let (token, point) = token_at(self.bytes, self.point)?;
+        self.point.at = point.at;
+        self.point.expected = point.expected;
         Some(token)
     }
 
@@ -80,7 +80,7 @@ impl<'t> Cursor<'t> {
     #[inline(always)]
     pub(crate) fn next_name(&mut self) -> Option<Option<Spelled<'t>>>
         ensures reads { IfSome result (ReadsName self.old.tokens self.new.tokens) }
-        ensures stands { IfSome result (λ o. IfSome o (StandsIn self.old.text)) }
+        ensures stands { IfSome result (λ o. IfSome o (IsSpelledIn self.old.text)) }
         ensures text { self.new.text ≡ self.old.text }
     {
         let token = self.next()?;
@@ -98,11 +98,11 @@ impl<'t> Cursor<'t> {
             (self.new ≡ self.old) }
         ensures text { self.new.text ≡ self.old.text }
     {
-        let at = self.place.at;
-        if at < self.bytes.len() && self.bytes[at] == b']' && may_close(self.place.turn) {
-            let place = passed(self.bytes, at + 1);
-            self.place.at = place.at;
-            self.place.turn = place.turn;
+        let at = self.point.at;
+        if at < self.bytes.len() && self.bytes[at] == b']' && may_close(self.point.expected) {
+            let point = passed(self.bytes, at + 1);
+            self.point.at = point.at;
+            self.point.expected = point.expected;
             return true;
         }
         false
@@ -112,22 +112,22 @@ impl<'t> Cursor<'t> {
     pub(crate) fn is_done(&self) -> bool
         ensures { result ≡ true → self.now.tokens ≡ [] }
     {
-        self.place.at == self.bytes.len() && may_close(self.place.turn)
+        self.point.at == self.bytes.len() && may_close(self.point.expected)
     }
 }
 
 /// Whether a value may begin, or a name.
 #[inline(always)]
-pub(crate) fn may_begin(turn: Turn) -> bool
-    ensures { result ≡ may_begin (turn_of turn) }
+pub(crate) fn may_begin(expected: Expected) -> bool
+    ensures { result ≡ may_begin (expected_of expected) }
 {
-    matches!(turn, Turn::Fresh | Turn::AfterComma)
+    matches!(expected, Expected::Fresh | Expected::AfterComma)
 }
 
 /// Whether a list or an object may end.
 #[inline(always)]
-pub(crate) fn may_close(turn: Turn) -> bool
-    ensures { result ≡ may_close (turn_of turn) }
+pub(crate) fn may_close(expected: Expected) -> bool
+    ensures { result ≡ may_close (expected_of expected) }
 {
-    matches!(turn, Turn::Fresh | Turn::AfterValue)
+    matches!(expected, Expected::Fresh | Expected::AfterValue)
 }

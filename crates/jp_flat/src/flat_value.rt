@@ -128,7 +128,7 @@ impl<'d, 't> FlatValue<'d, 't> {
                 let tables = self.tables;
                 let members = members(tables, span)?;
                 match members.binary_search_by(|member| name_order(tables, member, name)) {
-                    Ok(place) => self.child(place),
+                    Ok(index) => self.child(index),
                     Err(_) => None,
                 }
             }

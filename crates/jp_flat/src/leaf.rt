@@ -8,7 +8,7 @@ ghost use Rattle.jp_flat.specs.Private.Tokens.{TokenHolds, token_of};
 use crate::cursor::Cursor;
 use crate::item::Item;
 use crate::number::number;
-use crate::place::place;
+use crate::spans::text_span;
 use crate::tables::Tables;
 use crate::token::Token;
 use json::Scratch;
@@ -60,7 +60,7 @@ pub(crate) fn leaf(
             Some(item)
         }
         Token::Text(text) => {
-            let span = place(tables, room, text)?;
+            let span = text_span(tables, room, text)?;
             Some(Item::Text(span))
         }
         Token::BeginArray

@@ -1,21 +1,21 @@
-//! The token at a place (RFC 8259 sections 2, 3 and 6): whole numbers are the only ones.
+//! The token at an offset (RFC 8259 sections 2, 3 and 6): whole numbers are the only ones.
 ghost use Rattle.std.specs.Prelude.{◌≡◌, ◌≤◌, ◌<◌, ◌+◌, ◌-◌, ◌==◌, ◌⊎◌, IfSome, Some, drop, length};
 ghost use Rattle.std.specs.Prelude.{slice_index, take, true, false};
 ghost use Rattle.json.specs.Lex.{after_value, begins_colon, between, fresh, lex, may_begin};
 ghost use Rattle.json.specs.Lex.{punctuate};
 ghost use Rattle.json.specs.Word.{after_minus, after_number, ends_word};
 ghost use Rattle.jp_flat.specs.Private.Tokens.{GivesToken, IsLiteral, IsSized, TokenHolds};
-ghost use Rattle.jp_flat.specs.Private.Tokens.{token_of, tokens_from, turn_of};
+ghost use Rattle.jp_flat.specs.Private.Tokens.{token_of, tokens_from, expected_of};
 
 use crate::blanks::{ends_whole, past_blanks};
-use crate::cursor::{Place, Turn, may_begin, may_close};
-use crate::place::piece;
+use crate::cursor::{Expected, Point, may_begin, may_close};
 use crate::runs::{digits_end, spelled};
+use crate::spans::piece;
 use crate::token::Token;
 
-/// The token at a place, and where the text goes on behind it.
+/// The token at an offset, and where the text goes on behind it.
 #[inline(always)]
-pub(crate) fn token_at<'t>(bytes: &'t [u8], from: Place) -> Option<(Token<'t>, Place)>
+pub(crate) fn token_at<'t>(bytes: &'t [u8], from: Point) -> Option<(Token<'t>, Point)>
     requires { from.at ≤ length bytes.now }
     ensures gives { IfSome result (λ r. GivesToken bytes.now from (token_of r.0) r.1) }
     ensures stands { IfSome result (λ r. TokenHolds bytes.now r.0) }
@@ -28,7 +28,7 @@ pub(crate) fn token_at<'t>(bytes: &'t [u8], from: Place) -> Option<(Token<'t>, P
     if byte == b'}' || byte == b']' {
         return closed(bytes, from, byte);
     }
-    if !may_begin(from.turn) {
+    if !may_begin(from.expected) {
         return None;
     }
     match byte {
@@ -44,20 +44,20 @@ pub(crate) fn token_at<'t>(bytes: &'t [u8], from: Place) -> Option<(Token<'t>, P
 
 /// Where a value or a name may begin, or a list or an object end.
 #[inline(always)]
-fn begun(bytes: &[u8], at: usize) -> Place
+fn begun(bytes: &[u8], at: usize) -> Point
     requires { at ≤ length bytes.now }
     ensures goes { tokens_from bytes.now result ≡ punctuate fresh (lex between (drop at bytes.now)) }
     ensures within { result.at ≤ length bytes.now }
 {
-    Place {
+    Point {
         at: past_blanks(bytes, at),
-        turn: Turn::Fresh,
+        expected: Expected::Fresh,
     }
 }
 
 /// Behind a value, with the comma that may follow.
 #[inline(always)]
-pub(crate) fn passed(bytes: &[u8], end: usize) -> Place
+pub(crate) fn passed(bytes: &[u8], end: usize) -> Point
     requires { end ≤ length bytes.now }
     ensures goes { tokens_from bytes.now result
         ≡ punctuate after_value (lex between (drop end bytes.now)) }
@@ -65,42 +65,42 @@ pub(crate) fn passed(bytes: &[u8], end: usize) -> Place
 {
     let at = past_blanks(bytes, end);
     if at < bytes.len() && bytes[at] == b',' {
-        return Place {
+        return Point {
             at: past_blanks(bytes, at + 1),
-            turn: Turn::AfterComma,
+            expected: Expected::AfterComma,
         };
     }
-    Place {
+    Point {
         at,
-        turn: Turn::AfterValue,
+        expected: Expected::AfterValue,
     }
 }
 
 #[inline(always)]
-fn closed<'t>(bytes: &'t [u8], from: Place, byte: u8) -> Option<(Token<'t>, Place)>
+fn closed<'t>(bytes: &'t [u8], from: Point, byte: u8) -> Option<(Token<'t>, Point)>
     requires inside { from.at < length bytes.now }
     requires byte { (byte ≡ slice_index bytes.now from.at) × ((byte ≡ 125) ⊎ (byte ≡ 93)) }
     ensures gives { IfSome result (λ r. GivesToken bytes.now from (token_of r.0) r.1) }
     ensures stands { IfSome result (λ r. TokenHolds bytes.now r.0) }
     ensures within { IfSome result (λ r. r.1.at ≤ length bytes.now) }
 {
-    if !may_close(from.turn) {
+    if !may_close(from.expected) {
         return None;
     }
-    let place = passed(bytes, from.at + 1);
+    let point = passed(bytes, from.at + 1);
     if byte == b'}' {
-        Some((Token::EndObject, place))
+        Some((Token::EndObject, point))
     } else {
-        Some((Token::EndArray, place))
+        Some((Token::EndArray, point))
     }
 }
 
 /// A name with its colon, or a text.
 #[inline(always)]
-fn text<'t>(bytes: &'t [u8], from: Place) -> Option<(Token<'t>, Place)>
+fn text<'t>(bytes: &'t [u8], from: Point) -> Option<(Token<'t>, Point)>
     requires inside { from.at < length bytes.now }
     requires byte { slice_index bytes.now from.at ≡ 34 }
-    requires begins { may_begin (turn_of from.turn) ≡ true }
+    requires begins { may_begin (expected_of from.expected) ≡ true }
     ensures gives { IfSome result (λ r. GivesToken bytes.now from (token_of r.0) r.1) }
     ensures stands { IfSome result (λ r. TokenHolds bytes.now r.0) }
     ensures within { IfSome result (λ r. r.1.at ≤ length bytes.now) }
@@ -110,13 +110,13 @@ fn text<'t>(bytes: &'t [u8], from: Place) -> Option<(Token<'t>, Place)>
     if at < bytes.len() && bytes[at] == b':' {
         return Some((Token::Key(spelled), begun(bytes, at + 1)));
     }
-    let place = text_passed(bytes, at)?;
-    Some((Token::Text(spelled), place))
+    let point = text_passed(bytes, at)?;
+    Some((Token::Text(spelled), point))
 }
 
 /// Behind a text, which is no name.
 #[inline(always)]
-fn text_passed(bytes: &[u8], at: usize) -> Option<Place>
+fn text_passed(bytes: &[u8], at: usize) -> Option<Point>
     requires { at ≤ length bytes.now }
     ensures no_name { IfSome result (λ p. begins_colon (lex between (drop at bytes.now)) ≡ false) }
     ensures goes { IfSome result (λ p. tokens_from bytes.now p
@@ -130,7 +130,7 @@ fn text_passed(bytes: &[u8], at: usize) -> Option<Place>
     }
 }
 
-/// Whether a value may end before this place, and a name may not.
+/// Whether a value may end before this offset, and a name may not.
 #[inline(always)]
 fn is_last(bytes: &[u8], at: usize) -> bool
     requires { at ≤ length bytes.now }
@@ -150,12 +150,12 @@ fn is_last(bytes: &[u8], at: usize) -> bool
 #[inline(always)]
 fn literal<'t>(
     bytes: &'t [u8],
-    from: Place,
+    from: Point,
     name: &[u8],
     token: Token<'t>,
-) -> Option<(Token<'t>, Place)>
+) -> Option<(Token<'t>, Point)>
     requires inside { from.at ≤ length bytes.now }
-    requires begins { may_begin (turn_of from.turn) ≡ true }
+    requires begins { may_begin (expected_of from.expected) ≡ true }
     requires name { IsLiteral name.now (token_of token) }
     requires stands { TokenHolds bytes.now token }
     ensures gives { IfSome result (λ r. GivesToken bytes.now from (token_of r.0) r.1) }
@@ -172,9 +172,9 @@ fn literal<'t>(
 }
 
 #[inline(always)]
-fn number<'t>(bytes: &'t [u8], from: Place) -> Option<(Token<'t>, Place)>
+fn number<'t>(bytes: &'t [u8], from: Point) -> Option<(Token<'t>, Point)>
     requires inside { from.at < length bytes.now }
-    requires begins { may_begin (turn_of from.turn) ≡ true }
+    requires begins { may_begin (expected_of from.expected) ≡ true }
     ensures gives { IfSome result (λ r. GivesToken bytes.now from (token_of r.0) r.1) }
     ensures stands { IfSome result (λ r. TokenHolds bytes.now r.0) }
     ensures within { IfSome result (λ r. r.1.at ≤ length bytes.now) }

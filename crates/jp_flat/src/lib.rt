@@ -27,12 +27,12 @@ mod lexing;
 mod moving;
 mod number;
 mod parts;
-mod place;
 mod printing;
 mod reading;
 mod rising;
 mod runs;
 mod sorting;
+mod spans;
 mod tables;
 #[cfg(test)]
 mod tests;

@@ -3,7 +3,7 @@ ghost use Rattle.std.specs.Prelude.{◌≡◌, ◌≤◌, ◌++◌, OnSome, drop
 
 use std::mem::swap;
 
-/// Moves the parts from a place on behind those of a table.
+/// Moves the parts from an offset on behind those of a table.
 pub(crate) fn move_parts<T: Copy>(
     table: &mut Vec<T>,
     parts: &mut Vec<T>,

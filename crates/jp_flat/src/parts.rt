@@ -7,7 +7,7 @@ ghost use Rattle.jp_flat.specs.Private.Parts.{HoldsText, item_at, items_at, memb
 ghost use Rattle.jp_flat.specs.Private.Parts.{name_in};
 
 use crate::item::{Item, Named, Span};
-use crate::place::piece;
+use crate::spans::piece;
 use crate::tables::Tables;
 use std::cmp::Ordering;
 

@@ -11,8 +11,8 @@ use crate::cursor::Cursor;
 use crate::item::{Item, Named};
 use crate::leaf::{leaf, leaves};
 use crate::moving::move_parts;
-use crate::place::place;
 use crate::rising::still_rises;
+use crate::spans::text_span;
 use crate::tables::Tables;
 use crate::token::Token;
 use json::Scratch;
@@ -183,7 +183,7 @@ fn members(
     let mut rises = true;
     'members: while let Some(name) = reader.next_name()? {
         rises = still_rises(rises, tables, &pending.members, base, name);
-        let span = place(tables, &mut pending.room, name)?;
+        let span = text_span(tables, &mut pending.room, name)?;
         let item = value(tables, pending, reader, depth)?;
         pending.members.push(Named { name: span, item }).ok()?;
     }

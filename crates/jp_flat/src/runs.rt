@@ -25,7 +25,7 @@ pub(crate) fn spelled<'t>(bytes: &'t [u8], first: usize) -> Option<(Spelled<'t>,
     Some((Spelled::Escaped(&bytes[first - 1..quote + 1]), quote + 1))
 }
 
-/// The quote that ends a text with escapes, which is read up to a place.
+/// The quote that ends a text with escapes, which is read up to an offset.
 fn escaped_end(bytes: &[u8], first: usize, from: usize) -> Option<usize>
     requires inside { (first ≤ from) × (from ≤ length bytes.now) }
     requires plain { lex in_string (drop first bytes.now) ≡ lex in_string (drop from bytes.now) }
@@ -44,7 +44,7 @@ fn escaped_end(bytes: &[u8], first: usize, from: usize) -> Option<usize>
     }
 }
 
-/// The first quote, backslash or control from a place on, or the end.
+/// The first quote, backslash or control from an offset on, or the end.
 #[inline(always)]
 fn plain_end(bytes: &[u8], from: usize) -> usize
     requires { from ≤ length bytes.now }
@@ -82,7 +82,7 @@ fn plain_end_slowly(bytes: &[u8], from: usize) -> usize
     at
 }
 
-/// The end of the digits from a place on, and the number that they write, if they are at most 18.
+/// The end of the digits from an offset on, and the number that they write, if they are at most 18.
 #[inline(always)]
 pub(crate) fn digits_end(bytes: &[u8], from: usize) -> (usize, u64)
     requires { from ≤ length bytes.now }

@@ -15,7 +15,7 @@ use std::alloc::Global;
 use std::cmp::Ordering;
 use std::collections::BTreeMap;
 
-/// Fills `found` with the members in the order of their names, each in the place of an earlier one
+/// Fills `found` with the members in the order of their names, each instead of an earlier one
 /// of its name: for few members.
 pub(crate) fn put_each(tables: &Tables<'_>, members: &[Named], found: &mut Vec<Named>) -> Option<()>
     ensures { OnSome result (PutsAll (shown tables.now) members.now found.new.items) }
@@ -27,33 +27,33 @@ pub(crate) fn put_each(tables: &Tables<'_>, members: &[Named], found: &mut Vec<N
     Some(())
 }
 
-/// Puts a member among others in the order of their names, in the place of one of its name.
+/// Puts a member among others in the order of their names, instead of one of its name.
 fn put(tables: &Tables<'_>, found: &mut Vec<Named>, member: Named) -> Option<()>
     ensures { OnSome result (Puts (shown tables.now) member found.old.items found.new.items) }
 {
     let name = bytes_at(tables, member.name)?;
     match search(tables, found, name) {
-        Ok(place) => {
-            found[place] = member;
+        Ok(index) => {
+            found[index] = member;
             Some(())
         }
-        Err(place) => {
-            put_at(found, place, member)?;
+        Err(index) => {
+            put_at(found, index, member)?;
             Some(())
         }
     }
 }
 
-/// Puts a member at a place among others. At the end none has to move.
+/// Puts a member at an index among others. At the end none has to move.
 #[inline(always)]
-fn put_at(found: &mut Vec<Named>, place: usize, member: Named) -> Option<()>
-    requires { place ≤ length found.old.items }
-    ensures { OnSome result (found.new.items ≡ insert found.old.items place member) }
+fn put_at(found: &mut Vec<Named>, index: usize, member: Named) -> Option<()>
+    requires { index ≤ length found.old.items }
+    ensures { OnSome result (found.new.items ≡ insert found.old.items index member) }
 {
-    if place == found.len() {
+    if index == found.len() {
         found.push(member).ok()?;
     } else {
-        found.insert(place, member).ok()?;
+        found.insert(index, member).ok()?;
     }
     Some(())
 }
@@ -62,7 +62,7 @@ fn put_at(found: &mut Vec<Named>, place: usize, member: Named) -> Option<()>
 /// looks at the last one first, since names often come in order.
 fn search(tables: &Tables<'_>, members: &[Named], name: &[u8]) -> Result<usize, usize>
     ensures within { IsSearchInRange result (length members.now) }
-    ensures place { IsBinarySearchResult
+    ensures index { IsBinarySearchResult
         (λ m. slice_cmp nat_cmp (name_in (shown tables.now) m) name.now) members.now result }
 {
     let mut low = 0;
@@ -79,7 +79,7 @@ fn search(tables: &Tables<'_>, members: &[Named], name: &[u8]) -> Result<usize, 
     Err(low)
 }
 
-/// Puts the members from the base on in the order of their names, each in the place of an earlier
+/// Puts the members from the base on in the order of their names, each instead of an earlier
 /// one of its name: for many members.
 pub(crate) fn put_by_name(tables: &Tables<'_>, members: &mut Vec<Named>, base: usize) -> Option<()>
     requires { base ≤ length members.old.items }

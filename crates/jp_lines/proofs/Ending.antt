@@ -12,9 +12,9 @@ use Rattle.jp_command.specs.Run.{IsAsked}
 use Rattle.jp_command.specs.declared.fault.Fault.TheVariants as fault
 use Rattle.jp_command.proofs.Streams.{come-more}
 use Rattle.jp_lines.specs.Lines.{lines_of_input}
-use Rattle.jp_lines.specs.Reads.{FailsToRead, ReadsSome, ReadsToEnd}
+use Rattle.jp_lines.specs.Reads.{ReadsToFailure, ReadsSome, ReadsToEnd}
 use Rattle.jp_lines.specs.Run.{Goes, RunsLines, StopsAmong}
-use Rattle.jp_lines.specs.Private.Passing.{GoesOver, Passes, Standing, is_in_line}
+use Rattle.jp_lines.specs.Private.Passing.{GoesThrough, Passes, Standing, is_in_line}
 use Rattle.jp_lines.specs.Private.Treating.{StopsEnding}
 use Rattle.jp_lines.specs.declared.options.Options.{Options}
 use Rattle.jp_lines.specs.declared.stop.Stop.{Stop}
@@ -75,7 +75,7 @@ module _ {R : Type 0} (remaining : R → Option (List ℕ)) (has_failed : R → 
   pub reads-fail : (i j k : R) (bytes : List ℕ)
       → ReadsSome remaining has_failed read_gives i j bytes
       → KeepsBytes (remaining j) (remaining k) → has_failed k ≡ true → read_gives j None k
-      → FailsToRead remaining has_failed read_gives i k bytes
+      → ReadsToFailure remaining has_failed read_gives i k bytes
   reads-fail i j k bytes reads kept fails gives = record {
     came = Consumes-kept _ _ _ bytes reads.came kept;
     fails = fails;
@@ -103,7 +103,7 @@ module _ (profile : Profile) (options : Options) {R W E : Type 0}
   pub runs-end : (i j : R) (bytes : List ℕ) (s t : Standing) (o p r : W) (u v w : E)
       → ReadsToEnd remaining has_failed read_gives i j bytes → Pass bytes at_start s o p u v
       → is_in_line s.line ≡ true
-      → GoesOver options contents writes_failed reports reports_failed q (s.line ∷ []) s t p r v w
+      → GoesThrough options contents writes_failed reports reports_failed q (s.line ∷ []) s t p r v w
       → Runs i j o r u w (Ok t.refused)
   runs-end i j bytes s t o p r u v w reads passes in_line over =
       let all = over-more options contents writes_failed reports reports_failed q passes.lines
@@ -125,7 +125,7 @@ module _ (profile : Profile) (options : Options) {R W E : Type 0}
 
   -- where a read fails
   pub runs-fail : (i j : R) (bytes : List ℕ) (s : Standing) (o p : W) (u v : E)
-      → FailsToRead remaining has_failed read_gives i j bytes → Pass bytes at_start s o p u v
+      → ReadsToFailure remaining has_failed read_gives i j bytes → Pass bytes at_start s o p u v
       → is_in_line s.line ≡ true → Runs i j o p u v (Err (stop.Run fault.Read))
   runs-fail i j bytes s o p u v reads passes in_line = record {
     q = q;

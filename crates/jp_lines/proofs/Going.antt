@@ -16,7 +16,7 @@ use Rattle.jp_lines.specs.Outcome.{LineOutcome, Refused, ComesTo, ComeTo, none, 
 use Rattle.jp_lines.specs.Outcome.{is_refused, some_refused}
 use Rattle.jp_lines.specs.Run.{Goes, GoesInPart, StopsAmong}
 use Rattle.jp_lines.specs.Told.{Tells, TellsPrefix}
-use Rattle.jp_lines.specs.Private.Passing.{GoesOver, Passes, Standing, ended, is_in_line}
+use Rattle.jp_lines.specs.Private.Passing.{GoesThrough, Passes, Standing, ended, is_in_line}
 use Rattle.jp_lines.specs.declared.options.Options.{Options}
 use Rattle.jp_lines.specs.declared.stop.Stop.{Stop}
 use Rattle.jp_lines.specs.declared.stop.Stop.TheVariants.{Run, Line}
@@ -54,7 +54,7 @@ module _ (options : Options) {W E : Type 0} (contents : W → Option (List ℕ))
   Go = Goes options contents writes_failed reports reports_failed q
 
   abbrev Over : List (List ℕ) → Standing → Standing → W → W → E → E → Type 0
-  Over = GoesOver options contents writes_failed reports reports_failed q
+  Over = GoesThrough options contents writes_failed reports reports_failed q
 
   abbrev Pass : List ℕ → Standing → Standing → W → W → E → E → Type 0
   Pass = Passes options contents writes_failed reports reports_failed q

@@ -27,7 +27,7 @@ use Rattle.jp_lines.specs.Told.{Tells, TellsPrefix}
 use Rattle.jp_lines.specs.Private.Answers.{AnswersOrRefuses, AnswersInPart, AnswersLine}
 use Rattle.jp_lines.specs.Private.Answers.{StopsAnswering}
 use Rattle.jp_lines.specs.Private.Answers.{defect_of}
-use Rattle.jp_lines.specs.Private.Passing.{GoesOver, Standing, kept_of}
+use Rattle.jp_lines.specs.Private.Passing.{GoesThrough, Standing, kept_of}
 use Rattle.jp_lines.specs.Private.Treating.{Treats, StopsEnding}
 use Rattle.jp_lines.specs.declared.defect.Defect.{Defect}
 use Rattle.jp_lines.specs.declared.options.Options.{Options}
@@ -227,7 +227,7 @@ module _ (options : Options) {W E : Type 0} (contents : W → Option (List ℕ))
   pub over-line : (s t : Standing) (refused : Bool) (o p : W) (u v : E)
       → Treats options contents writes_failed reports reports_failed q s.number s.line refused o p u v
       → t.number ≡ suc s.number → t.refused ≡ (s.refused || refused)
-      → GoesOver options contents writes_failed reports reports_failed q (s.line ∷ []) s t o p u v
+      → GoesThrough options contents writes_failed reports reports_failed q (s.line ∷ []) s t o p u v
   over-line s t refused o p u v treats number is = record {
     outcomes = treats.outcome ∷ [];
     goes = record {

@@ -23,7 +23,7 @@ module _ {R : Type 0} (remaining : R → Option (List ℕ)) (has_failed : R → 
     pub last : read_gives between (Some []) j
 
   -- the same, and then a read that failed
-  pub record FailsToRead (i j : R) (bytes : List ℕ) : Type 0 where
+  pub record ReadsToFailure (i j : R) (bytes : List ℕ) : Type 0 where
     pub came : Consumes (remaining i) (remaining j) bytes
     pub fails : has_failed j ≡ true
     pub between : R

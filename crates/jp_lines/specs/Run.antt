@@ -10,7 +10,7 @@ use Rattle.jp_lines.specs.Lines.{lines_of_input}
 use Rattle.jp_lines.specs.Outcome.{LineOutcome, Refused, ComesTo, ComeTo, written_of_all}
 use Rattle.jp_lines.specs.Outcome.{told_of_all}
 use Rattle.jp_lines.specs.Outcome.{some_refused}
-use Rattle.jp_lines.specs.Reads.{ReadsSome, ReadsToEnd, FailsToRead}
+use Rattle.jp_lines.specs.Reads.{ReadsSome, ReadsToEnd, ReadsToFailure}
 use Rattle.jp_lines.specs.Told.{Tells, TellsPrefix}
 use Rattle.jp_lines.specs.declared.defect.Defect.TheVariants.{TooLarge}
 use Rattle.jp_lines.specs.declared.defect.RefusedLine.{RefusedLine}
@@ -97,7 +97,7 @@ module _ (profile : Profile) (options : Options) {R W E : Type 0}
     pub q : QueryTree
     pub asked : IsAsked profile text q
     pub bytes : List ℕ
-    pub reads : FailsToRead remaining has_failed read_gives i j bytes
+    pub reads : ReadsToFailure remaining has_failed read_gives i j bytes
     pub lines : List (List ℕ)
     pub last : List ℕ
     pub split : lines_of_input bytes ≡ lines ++ last ∷ []

@@ -6,7 +6,7 @@ use Rattle.std.proofs.Math.Nat.{mul-le-mul_left}
 use Rattle.jp_iregexp.specs.Tree.{Tree, branches, pieces, repeat}
 use Rattle.jp_iregexp.specs.Positions.{positions_of}
 use Rattle.jp_match.specs.Private.Plain.{unrolled, counted}
-use Rattle.jp_match.specs.Private.Walks.{own_rounds, rounds_of}
+use Rattle.jp_match.specs.Private.Sweeps.{own_rounds, rounds_of}
 use Rattle.jp_match.proofs.Steps.Sizes.{rounds_between, rounds_at_least}
 
 pub positions_of_parts : (ts : List Tree) → positions_of (branches ts) ≡ positions_of (pieces ts)

@@ -10,5 +10,5 @@ pub mod Rounding
 pub mod Sizes
 pub mod StepParts
 pub mod Unrolled
-pub mod Walking
+pub mod Sweeping
 pub mod Whole

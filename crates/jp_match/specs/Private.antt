@@ -13,4 +13,4 @@ pub mod OnlyWords
 pub mod Plain
 pub mod Rows
 pub mod Search
-pub mod Walks
+pub mod Sweeps

@@ -27,7 +27,7 @@ tree_of scan = tree scan.marking.pattern.now
 -- the words that a scan would still accept: those that lead from a mark to the pattern's end, and
 -- at the start those that are sought
 abbrev pub Left : Scan → List ℕ → Type 0
-Left scan word = Rest (unrolled (tree_of scan)) scan.marking.walk.marks.items word ⊎ (IsTrue
+Left scan word = Rest (unrolled (tree_of scan)) scan.marking.sweep.marks.items word ⊎ (IsTrue
     scan.at_start × Sought (tree_of scan) scan.anywhere word)
 
 -- a scan that has taken no character

@@ -1,10 +1,10 @@
 //! Marks of copies of one class.
 
 ghost use Rattle.std.specs.Prelude.{◌≡◌, ◌↔◌, IsTrue, length};
-ghost use Rattle.jp_match.specs.Private.Copies.{IsTurned, IsEndMarked, IsNoneEnough, AreStepped};
+ghost use Rattle.jp_match.specs.Private.Copies.{AreMoved, IsEndMarked, IsNoneEnough, AreStepped};
 
 use crate::offsets::is_any;
-use crate::walk::Reach;
+use crate::sweep::Reach;
 
 /// Copies of one class, of which there must be so many, and each may be left out or none.
 #[derive(Clone, Copy)]
@@ -22,7 +22,7 @@ impl Copies {
     {
         let none_enough = self.is_none_enough(marks.len());
         let before = self.is_end_marked(marks);
-        self.turn(marks, entered, holds);
+        self.move_on(marks, entered, holds);
         let after = self.is_end_marked(marks);
         Reach {
             before: before | (entered & none_enough),
@@ -54,8 +54,8 @@ impl Copies {
 
     /// Moves the marks: from a copy to the next one, and on to all others where they may be left
     /// out.
-    fn turn(self, marks: &mut [bool], entered: bool, holds: bool)
-        ensures { IsTurned self.is_optional entered holds marks.old marks.new }
+    fn move_on(self, marks: &mut [bool], entered: bool, holds: bool)
+        ensures { AreMoved self.is_optional entered holds marks.old marks.new }
     {
         let mut through = entered;
         for copy in 0..marks.len() {

@@ -7,7 +7,7 @@ ghost use Rattle.jp_iregexp.specs.Positions.{positions_of};
 ghost use Rattle.jp_match.specs.Private.Plain.{unrolled};
 ghost use Rattle.jp_match.specs.Private.Beginning.{RulesOut};
 ghost use Rattle.jp_match.specs.Private.OnlyWords.{HasOnlyWords};
-ghost use Rattle.jp_match.specs.Private.Walks.{rounds_of};
+ghost use Rattle.jp_match.specs.Private.Sweeps.{rounds_of};
 
 use crate::counts::{Counts, counts_of};
 use crate::first_chars::FirstChars;

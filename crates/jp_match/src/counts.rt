@@ -5,7 +5,7 @@ ghost use Rattle.std.specs.Prelude.{◌≡◌, ◌+◌, ◌*◌, ◌^◌, ◌≤
 ghost use Rattle.jp_iregexp.specs.Tree.{tree, pieces, repeat};
 ghost use Rattle.jp_iregexp.specs.Positions.{positions_of};
 ghost use Rattle.jp_match.specs.Private.Plain.{unrolled};
-ghost use Rattle.jp_match.specs.Private.Walks.{rounds_of, own_rounds as own};
+ghost use Rattle.jp_match.specs.Private.Sweeps.{rounds_of, own_rounds as own};
 
 use jp_iregexp::Pattern;
 

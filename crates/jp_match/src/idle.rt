@@ -3,9 +3,9 @@
 ghost use Rattle.std.specs.Prelude.{◌≡◌, IfSome, IsTrue, false};
 ghost use Rattle.jp_iregexp.specs.Tree.{tree, repeat};
 ghost use Rattle.jp_match.specs.Private.Plain.{unrolled};
-ghost use Rattle.jp_match.specs.Private.Walks.{IsBefore, IsIdle};
+ghost use Rattle.jp_match.specs.Private.Sweeps.{IsBefore, IsIdle};
 
-use crate::walk::Walk;
+use crate::sweep::Sweep;
 use jp_iregexp::Pattern;
 
 /// A part that has no mark: where it is not entered, a step leaves it as it is.
@@ -18,13 +18,13 @@ pub(crate) struct Idle {
 /// How many positions a part has, and how many repeats that keep a round.
 #[derive(Clone, Copy)]
 pub(crate) struct Size {
-    /// None until the part has been walked over.
+    /// None until the part has been swept over.
     pub(crate) positions: usize,
     pub(crate) rounds: usize,
 }
 
 impl Size {
-    /// That of a part that has not been walked over.
+    /// That of a part that has not been swept over.
     pub(crate) fn unknown() -> Size
         ensures { result.positions ≡ 0 }
     {
@@ -35,43 +35,43 @@ impl Size {
     }
 }
 
-/// Whether the next part of a walk is a class that has no mark.
+/// Whether the next part of a sweep is a class that has no mark.
 #[inline(always)]
-pub(crate) fn is_idle_class(part: &Pattern, walk: &Walk) -> bool
-    requires { IsBefore (unrolled (tree part.now)) walk.now }
-    ensures { IsTrue result → IsIdle (unrolled (tree part.now)) walk.now 1 false }
+pub(crate) fn is_idle_class(part: &Pattern, sweep: &Sweep) -> bool
+    requires { IsBefore (unrolled (tree part.now)) sweep.now }
+    ensures { IsTrue result → IsIdle (unrolled (tree part.now)) sweep.now 1 false }
 {
     match part {
-        Pattern::Class(_) => !walk.marks[walk.at],
+        Pattern::Class(_) => !sweep.marks[sweep.at],
         _ => false,
     }
 }
 
-/// The next part of a walk, where it is a class or copies of one and has no mark.
+/// The next part of a sweep, where it is a class or copies of one and has no mark.
 #[inline(always)]
-pub(crate) fn idle_part(part: &Pattern, walk: &Walk) -> Option<Idle>
-    requires { IsBefore (unrolled (tree part.now)) walk.now }
-    ensures { IfSome result (λ idle. IsIdle (unrolled (tree part.now)) walk.now idle.positions
+pub(crate) fn idle_part(part: &Pattern, sweep: &Sweep) -> Option<Idle>
+    requires { IsBefore (unrolled (tree part.now)) sweep.now }
+    ensures { IfSome result (λ idle. IsIdle (unrolled (tree part.now)) sweep.now idle.positions
         idle.has_empty_word) }
 {
-    if is_idle_class(part, walk) {
+    if is_idle_class(part, sweep) {
         return Some(Idle {
             positions: 1,
             has_empty_word: false,
         });
     }
     match part {
-        Pattern::Repeat { inner, least, most } => idle_copies(inner, *least, *most, walk),
+        Pattern::Repeat { inner, least, most } => idle_copies(inner, *least, *most, sweep),
         _ => None,
     }
 }
 
 /// The same for a repeat: of a class, with a most.
 #[inline(always)]
-fn idle_copies(inner: &Pattern, least: u32, most: Option<u32>, walk: &Walk) -> Option<Idle>
-    requires { IsBefore (unrolled (repeat (tree inner.now) least most)) walk.now }
+fn idle_copies(inner: &Pattern, least: u32, most: Option<u32>, sweep: &Sweep) -> Option<Idle>
+    requires { IsBefore (unrolled (repeat (tree inner.now) least most)) sweep.now }
     ensures { IfSome result (λ idle. IsIdle (unrolled (repeat (tree inner.now) least most))
-        walk.now idle.positions idle.has_empty_word) }
+        sweep.now idle.positions idle.has_empty_word) }
 {
     let Some(most) = most else {
         return None;
@@ -79,7 +79,7 @@ fn idle_copies(inner: &Pattern, least: u32, most: Option<u32>, walk: &Walk) -> O
     let Pattern::Class(_) = inner else {
         return None;
     };
-    if walk.is_unmarked(most as usize) {
+    if sweep.is_unmarked(most as usize) {
         return Some(Idle {
             positions: most as usize,
             has_empty_word: least == 0,

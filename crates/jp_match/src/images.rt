@@ -8,7 +8,7 @@ ghost use Rattle.jp_match.specs.Private.Counts.{IsMostAfter, Times};
 ghost use Rattle.jp_match.specs.Part.{HasPart};
 ghost use Rattle.jp_match.specs.Private.Offset.{IsOver, IsImage};
 ghost use Rattle.jp_match.specs.Private.Rows.{AreKnown, EachKnown, marks_of, rows_of, parts_of};
-ghost use Rattle.jp_match.specs.Private.Search.{Finds, Leads};
+ghost use Rattle.jp_match.specs.Private.Search.{IsFound, Leads};
 
 use crate::class_tests::Tests;
 use crate::offsets::{
@@ -91,7 +91,7 @@ fn reached_from(
     tests: &mut Tests,
 ) -> Result<Offsets, AllocError>
     requires { IsOver offsets.items ground.text.now }
-    ensures { Finds (λ to. IsImage (Language (tree pattern.now)) ground.entry.text.now
+    ensures { IsFound (λ to. IsImage (Language (tree pattern.now)) ground.entry.text.now
         offsets.items to.items) tests.old tests.new result }
 {
     let known = known_parts(pattern, ground, tests)?;
@@ -108,7 +108,7 @@ pub(crate) fn image_of(
 ) -> Result<Offsets, AllocError>
     requires sized { IsOver offsets.items ground.text.now }
     requires known { EachKnown (parts_of (tree pattern.now)) ground.text.now (rows_of known.now) }
-    ensures { Finds (λ to. IsImage (Language (tree pattern.now)) ground.entry.text.now
+    ensures { IsFound (λ to. IsImage (Language (tree pattern.now)) ground.entry.text.now
         offsets.items to.items) tests.old tests.new result }
 {
     let mut search = Search {

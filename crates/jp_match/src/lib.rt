@@ -35,9 +35,9 @@ mod rows;
 mod scan;
 mod search;
 mod stepping;
+mod sweep;
 #[cfg(test)]
 mod tests;
-mod walk;
 mod whole;
 
 pub use class_tests::Tests;

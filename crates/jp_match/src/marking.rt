@@ -6,14 +6,14 @@ ghost use Rattle.jp_iregexp.specs.Tree.{tree};
 ghost use Rattle.jp_iregexp.specs.Positions.{positions_of};
 ghost use Rattle.jp_match.specs.Private.Plain.{unrolled};
 ghost use Rattle.jp_match.specs.Private.Marks.{Ends, Steps};
-ghost use Rattle.jp_match.specs.Private.Walks.{rounds_of, rounds_end, marks_end};
-ghost use Rattle.jp_match.specs.Private.Walks.{takes_none};
+ghost use Rattle.jp_match.specs.Private.Sweeps.{rounds_of, rounds_end, marks_end};
+ghost use Rattle.jp_match.specs.Private.Sweeps.{takes_none};
 
 use crate::class_tests::Tests;
 use crate::counts::{Counts, MANY_ROUNDS};
 use crate::empty_word::has_empty_word;
 use crate::offsets::{is_any, none};
-use crate::walk::Walk;
+use crate::sweep::Sweep;
 use crate::whole::step_whole;
 use jp_iregexp::Pattern;
 use std::alloc::{AllocError, Global};
@@ -23,22 +23,22 @@ use std::mem::swap;
 #[derive(Drop)]
 pub(crate) struct Marking<'p> {
     pub(crate) pattern: &'p Pattern,
-    /// The walk of the last step: there is no mark from its end on.
-    pub(crate) walk: Walk,
+    /// The sweep of the last step: there is no mark from its end on.
+    pub(crate) sweep: Sweep,
     pub(crate) ends: bool,
     pub(crate) ends_entered: bool,
     /// There is no mark.
     pub(crate) is_idle: bool,
-    ghost no_mark: { IsTrue is_idle → (position : ℕ) → IsTrue (get_or walk.marks.items position
+    ghost no_mark: { IsTrue is_idle → (position : ℕ) → IsTrue (get_or sweep.marks.items position
         false) → ⊥ },
-    ghost ended: { (position : ℕ) → walk.at ≤ position → IsTrue (get_or walk.marks.items position
+    ghost ended: { (position : ℕ) → sweep.at ≤ position → IsTrue (get_or sweep.marks.items position
         false) → ⊥ },
-    ghost sized: { length walk.marks.items ≡ positions_of (tree pattern.now) },
-    ghost kept: { length walk.rounds.items ≡ rounds_of (unrolled (tree pattern.now)) },
-    ghost so: { rounds_end (unrolled (tree pattern.now)) walk.marks.items walk.rounds.items ≡ true },
-    ghost reached: { ends ≡ marks_end (unrolled (tree pattern.now)) walk.marks.items },
+    ghost sized: { length sweep.marks.items ≡ positions_of (tree pattern.now) },
+    ghost kept: { length sweep.rounds.items ≡ rounds_of (unrolled (tree pattern.now)) },
+    ghost so: { rounds_end (unrolled (tree pattern.now)) sweep.marks.items sweep.rounds.items ≡ true },
+    ghost reached: { ends ≡ marks_end (unrolled (tree pattern.now)) sweep.marks.items },
     ghost reached_entered: { ends_entered ≡ (marks_end (unrolled (tree pattern.now))
-        walk.marks.items || takes_none (unrolled (tree pattern.now))) },
+        sweep.marks.items || takes_none (unrolled (tree pattern.now))) },
 }
 
 impl<'p> Marking<'p> {
@@ -52,7 +52,7 @@ impl<'p> Marking<'p> {
         requires rounds { counts.rounds ≡ min (rounds_of (unrolled (tree pattern.now))) (2 ^ 31) }
         ensures of { IfOk result (λ marking. marking.pattern.now ≡ pattern.entry.now) }
         ensures none { IfOk result (λ marking. (position : ℕ)
-            → IsTrue (get_or marking.walk.marks.items position false) → ⊥) }
+            → IsTrue (get_or marking.sweep.marks.items position false) → ⊥) }
     {
         if counts.rounds >= MANY_ROUNDS {
             return Err(AllocError);
@@ -61,7 +61,7 @@ impl<'p> Marking<'p> {
         let rounds = none(alloc, counts.rounds as usize)?;
         Ok(Marking {
             pattern,
-            walk: Walk {
+            sweep: Sweep {
                 marks,
                 rounds,
                 at: 0,
@@ -78,26 +78,26 @@ impl<'p> Marking<'p> {
     pub(crate) fn step(&mut self, entered: bool, c: char, tests: &mut Tests) -> bool
         ensures same { self.new.pattern.now ≡ self.old.pattern.now }
         ensures step { Steps (unrolled (tree self.old.pattern.now)) c entered
-            self.old.walk.marks.items self.new.walk.marks.items result }
+            self.old.sweep.marks.items self.new.sweep.marks.items result }
         ensures counted { tests.new ≤ tests.old + positions_of (tree self.old.pattern.now) }
         ensures kept { tests.old ≤ tests.new }
     {
-        let end = self.walk.at;
-        self.walk.at = 0;
-        self.walk.round = 0;
-        swap(&mut self.walk.tests, tests);
-        let reach = step_whole(self.pattern, &mut self.walk, end, entered, c);
-        swap(&mut self.walk.tests, tests);
+        let end = self.sweep.at;
+        self.sweep.at = 0;
+        self.sweep.round = 0;
+        swap(&mut self.sweep.tests, tests);
+        let reach = step_whole(self.pattern, &mut self.sweep, end, entered, c);
+        swap(&mut self.sweep.tests, tests);
         self.ends = reach.after;
         self.ends_entered = reach.after_entered;
-        self.is_idle = !is_any(&self.walk.marks);
-        self.walk.at = if self.is_idle { 0 } else { self.walk.at };
+        self.is_idle = !is_any(&self.sweep.marks);
+        self.sweep.at = if self.is_idle { 0 } else { self.sweep.at };
         reach.before
     }
 
     /// Whether the end is reached.
     pub(crate) fn ends(&self, entered: bool) -> bool
-        ensures { Ends (unrolled (tree self.now.pattern.now)) entered self.now.walk.marks.items
+        ensures { Ends (unrolled (tree self.now.pattern.now)) entered self.now.sweep.marks.items
             result }
     {
         self.ends | (entered & self.ends_entered)

@@ -5,7 +5,7 @@ ghost use Rattle.jp_iregexp.specs.Tree.{tree};
 ghost use Rattle.jp_iregexp.specs.Language.{Language};
 ghost use Rattle.jp_match.specs.Private.Rows.{AreRows, AreKnown, EachKnown, marks_of, rows_of};
 ghost use Rattle.jp_match.specs.Private.Rows.{parts_of};
-ghost use Rattle.jp_match.specs.Private.Search.{Finds};
+ghost use Rattle.jp_match.specs.Private.Search.{IsFound};
 
 use crate::class_tests::Tests;
 use crate::images::image_of;
@@ -45,7 +45,7 @@ pub(crate) fn known_parts(
     ground: Ground<'_>,
     tests: &mut Tests,
 ) -> Result<Vec<Rows>, AllocError>
-    ensures { Finds (λ known. EachKnown (parts_of (tree pattern.now)) ground.entry.text.now (rows_of
+    ensures { IsFound (λ known. EachKnown (parts_of (tree pattern.now)) ground.entry.text.now (rows_of
         known.items)) tests.old tests.new result }
 {
     if depth(pattern) <= 2 {
@@ -69,7 +69,7 @@ fn each_known(
     ground: Ground<'_>,
     tests: &mut Tests,
 ) -> Result<Vec<Rows>, AllocError>
-    ensures { Finds (λ known. EachKnown (map tree parts.now) ground.entry.text.now (rows_of
+    ensures { IsFound (λ known. EachKnown (map tree parts.now) ground.entry.text.now (rows_of
         known.items)) tests.old tests.new result }
 {
     let mut known = Vec::new(ground.alloc);
@@ -83,7 +83,7 @@ fn each_known(
 /// The rows of a pattern whose repeats stand at least two deep.
 #[cycle(relations)]
 fn known_rows(pattern: &Pattern, ground: Ground<'_>, tests: &mut Tests) -> Result<Rows, AllocError>
-    ensures { Finds (λ rows. AreKnown (Language (tree pattern.now)) ground.entry.text.now (marks_of
+    ensures { IsFound (λ rows. AreKnown (Language (tree pattern.now)) ground.entry.text.now (marks_of
         rows.items)) tests.old tests.new result }
 {
     if depth(pattern) < 2 {
@@ -95,7 +95,7 @@ fn known_rows(pattern: &Pattern, ground: Ground<'_>, tests: &mut Tests) -> Resul
 /// What words of the pattern reach from each offset alone.
 #[cycle(relations)]
 fn rows(pattern: &Pattern, ground: Ground<'_>, tests: &mut Tests) -> Result<Rows, AllocError>
-    ensures { Finds (λ rows. AreRows (Language (tree pattern.now)) ground.entry.text.now (marks_of
+    ensures { IsFound (λ rows. AreRows (Language (tree pattern.now)) ground.entry.text.now (marks_of
         rows.items)) tests.old tests.new result }
 {
     let known = known_parts(pattern, ground, tests)?;

@@ -103,7 +103,7 @@ impl<'p> Scan<'p> {
     pub(crate) fn positions(&self) -> u64
         ensures { result ≡ positions_of (tree_of self.now) }
     {
-        self.marking.walk.marks.len() as u64
+        self.marking.sweep.marks.len() as u64
     }
 
     /// Whether the scan stays as it is over a character that no word begins with, and does not accept

@@ -3,55 +3,55 @@
 ghost use Rattle.std.specs.Prelude.{map};
 ghost use Rattle.jp_iregexp.specs.Tree.{tree, branches, pieces};
 ghost use Rattle.jp_match.specs.Private.Plain.{unrolled};
-ghost use Rattle.jp_match.specs.Private.Walks.{IsAtStart, MovesAll};
+ghost use Rattle.jp_match.specs.Private.Sweeps.{IsAtStart, MovesAll};
 
 use crate::stepping::{step, step_either, step_next};
-use crate::walk::{Reach, Walk};
+use crate::sweep::{Reach, Sweep};
 use jp_iregexp::Pattern;
 
-/// Moves the marks of a whole pattern over the character. There is none from `end` on, so the walk
+/// Moves the marks of a whole pattern over the character. There is none from `end` on, so the sweep
 /// may end before the pattern does: where nothing is entered and no mark is left.
 pub(crate) fn step_whole(
     pattern: &Pattern,
-    walk: &mut Walk,
+    sweep: &mut Sweep,
     end: usize,
     entered: bool,
     c: char,
 ) -> Reach
-    requires { IsAtStart (unrolled (tree pattern.now)) end walk.old }
-    ensures { MovesAll (unrolled (tree pattern.now)) c entered walk.old walk.new result }
+    requires { IsAtStart (unrolled (tree pattern.now)) end sweep.old }
+    ensures { MovesAll (unrolled (tree pattern.now)) c entered sweep.old sweep.new result }
 {
     match pattern {
-        Pattern::Either(branches) => step_branches(branches, walk, end, entered, c),
-        _ => step(pattern, walk, entered, c),
+        Pattern::Either(branches) => step_branches(branches, sweep, end, entered, c),
+        _ => step(pattern, sweep, entered, c),
     }
 }
 
 /// The same for branches.
-fn step_branches(parts: &[Pattern], walk: &mut Walk, end: usize, entered: bool, c: char) -> Reach
-    requires { IsAtStart (unrolled (branches (map tree parts.now))) end walk.old }
-    ensures { MovesAll (unrolled (branches (map tree parts.now))) c entered walk.old walk.new result }
+fn step_branches(parts: &[Pattern], sweep: &mut Sweep, end: usize, entered: bool, c: char) -> Reach
+    requires { IsAtStart (unrolled (branches (map tree parts.now))) end sweep.old }
+    ensures { MovesAll (unrolled (branches (map tree parts.now))) c entered sweep.old sweep.new result }
 {
     let [only] = parts else {
-        return step_either(parts, walk, entered, c);
+        return step_either(parts, sweep, entered, c);
     };
     match only {
-        Pattern::Sequence(pieces) => step_pieces(pieces, walk, end, entered, c),
-        _ => step_either(parts, walk, entered, c),
+        Pattern::Sequence(pieces) => step_pieces(pieces, sweep, end, entered, c),
+        _ => step_either(parts, sweep, entered, c),
     }
 }
 
 /// The same for pieces.
-fn step_pieces(parts: &[Pattern], walk: &mut Walk, end: usize, entered: bool, c: char) -> Reach
-    requires { IsAtStart (unrolled (pieces (map tree parts.now))) end walk.old }
-    ensures { MovesAll (unrolled (pieces (map tree parts.now))) c entered walk.old walk.new result }
+fn step_pieces(parts: &[Pattern], sweep: &mut Sweep, end: usize, entered: bool, c: char) -> Reach
+    requires { IsAtStart (unrolled (pieces (map tree parts.now))) end sweep.old }
+    ensures { MovesAll (unrolled (pieces (map tree parts.now))) c entered sweep.old sweep.new result }
 {
     let mut through = Reach::at_start(entered);
     for piece in parts {
-        if walk.at >= end && through.is_nowhere() {
+        if sweep.at >= end && through.is_nowhere() {
             return Reach::none();
         }
-        through = step_next(piece, walk, through, c);
+        through = step_next(piece, sweep, through, c);
     }
     through
 }

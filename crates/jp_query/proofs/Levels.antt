@@ -38,7 +38,7 @@ use Rattle.jp_query.proofs.Forms.Expressions.{expression-same}
 use Rattle.jp_query.proofs.Forms.Arguments.{opened-same}
 
 -- they leave shorter texts
-pub inside-progress : (n : ℕ) (o : rule.Opening) → Progress (inside n o)
+pub inside-progress : (n : ℕ) (o : rule.QueryOpening) → Progress (inside n o)
 inside-progress zero o p = tt
 inside-progress (suc n) o p = goes (inside n) (inside-progress n) (opened o) p
 
@@ -53,7 +53,7 @@ inside-entered (suc n) opening p q some e =
 
 -- ---- one level more
 
-pub opening_form-more : (n : ℕ) (o : rule.Opening) (x : rule.Opened o)
+pub opening_form-more : (n : ℕ) (o : rule.QueryOpening) (x : rule.Opened o)
     → Within (opening_form (Inside n) o x) (opening_form (Inside (suc n)) o x)
 opening_form-more zero (rule.expression_after m) e s o t h = absurd h.two.two
 opening_form-more zero (rule.name_from others) r s o t h = absurd h.is.two.two.two.one
@@ -121,7 +121,7 @@ or-second true b e h = absurd cc
 or-second false b e h = h
 
 -- where no level is left, one level deeper the next character goes on
-opened-deeper : (o : rule.Opening) (c : ℕ) (p : State) → head p ≡ Some c → opens o c ≡ true
+opened-deeper : (o : rule.QueryOpening) (c : ℕ) (p : State) → head p ≡ Some c → opens o c ≡ true
     → Stops (opening_form (Inside (suc zero)) o) p (past p)
 opened-deeper (rule.expression_after m) c p e h = record {
   value = x;
@@ -212,7 +212,7 @@ call-first ok n r p q h = way r.rest refl
         passes-next ok c p (at-word c w p parts.middle parts.one) first
 
 -- what is opened begins with a character of its opening
-opened-first : (n : ℕ) (o : rule.Opening) (x : rule.Opened o) (p q : State)
+opened-first : (n : ℕ) (o : rule.QueryOpening) (x : rule.Opened o) (p q : State)
     → Reads (opening_form (Inside n) o x) p q → passes (opens o) (head p) ≡ true
 opened-first n (rule.expression_after m) x p q h =
     let parts = split (word (m ∷ [])) (Blank ⌢ Inside n (nested_expr x)) p q h in at-word m [] p
@@ -229,7 +229,7 @@ inside-complete zero = record {
   first = λ o x p q h. opened-first zero o x p q h;
 }
   where
-    nothing : (o : rule.Opening) (x : rule.Opened o) (s : Spans) (i : ℕ) (t : Text)
+    nothing : (o : rule.QueryOpening) (x : rule.Opened o) (s : Spans) (i : ℕ) (t : Text)
         → opening_form (Inside zero) o x s i t → ⊥
     nothing (rule.expression_after m) e s i t h = h.two.two
     nothing (rule.name_from others) r s i t h = h.is.two.two.two.one

@@ -10,11 +10,11 @@ use Rattle.jp_reading.specs.Rule.{character, after, seq, made, look, upon, neste
 use Rattle.jp_reading.specs.Rule.{omitted, some, relaxed, loose, until, flat}
 
 -- how what stands one level further in is read, from its opening on
-abbrev pub Inner : Nesting → Type 0
-Inner N = (o : N.Opening) → State → Outcome (N.Inner o)
+abbrev pub InnerReader : Nesting → Type 0
+InnerReader N = (o : N.Opening) → State → Outcome (N.Inner o)
 
 -- nothing is nested
-abbrev pub nothing : (N : Nesting) → Inner N
+abbrev pub nothing : (N : Nesting) → InnerReader N
 nothing N o p = stuck p
 
 -- the character that is looked at
@@ -37,7 +37,7 @@ abbrev pub spanned : {A : Type 0} → (A → Bool) → State → Outcome A → O
 spanned ok p o = o >>= λ x q. took x (spanned_if (ok x) p q)
 
 -- what a rule reads
-abbrev pub read : {N : Nesting} {u : Bool} {a b : Look} {A : Type 0} → Inner N → Rule N u a b A
+abbrev pub read : {N : Nesting} {u : Bool} {a b : Look} {A : Type 0} → InnerReader N → Rule N u a b A
     → State → Outcome A
 read inner (value x) p = took x p
 read inner (character ok) p = take_if ok p

@@ -40,7 +40,7 @@ use Rattle.jp_query.proofs.ComponentSpans.{spans-of_components}
 use Rattle.jp_query.proofs.Soundness.Whole.{read-spells}
 use Rattle.jp_check.specs.Accepted.{IsAcceptedAs}
 use Rattle.jp_check.specs.Refused.{IsFaulty}
-use Rattle.jp_check.specs.Private.Walk.{steps}
+use Rattle.jp_check.specs.Private.Inspection.{steps}
 use Rattle.jp_check.specs.declared.profile.Profile.TheVariants.{Standard}
 use Rattle.jp_check.proofs.Least.{found, found-fault}
 use Rattle.jp_command.specs.Lines.{output_of}

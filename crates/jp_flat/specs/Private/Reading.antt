@@ -94,7 +94,7 @@ pub record IsWholeItem (s : List ℕ) (i : Item) : Type 0 where
   pub written : IsWholeText s number
   pub means : (n : ℕ) (t : Shown) → flat_value n t i ≡ Some (whole number)
 
--- the members one after another, each in the place of an earlier one of its name
+-- the members one after another, each instead of an earlier one of its name
 abbrev pub put_all : List (List ℕ × Value) → List (List ℕ × Value) → List (List ℕ × Value)
 put_all found [] = found
 put_all found (m ∷ ms) = put_all (insert_entry (slice_cmp nat_cmp) found m.0 m.1) ms

@@ -1,4 +1,4 @@
--- Members put in the order of their names, each in the place of an earlier one of its name.
+-- Members put in the order of their names, each instead of an earlier one of its name.
 use Rattle.std.specs.Prelude.{◌≡◌, ℕ, List, [], Option, Some, map, true}
 use Rattle.std.specs.BTreeMap.{insert_entry}
 use Rattle.std.specs.Borrow.{Bor}

@@ -1,4 +1,4 @@
--- The tokens that a text has from a place on, and what the program's tokens stand for.
+-- The tokens that a text has from an offset on, and what the program's tokens stand for.
 use Rattle.std.specs.Prelude.{◌≡◌, ◌+◌, ◌<◌, ◌≤◌, ◌||◌, ◌==◌, ◌++◌, ℕ, Bool, true, false, List, ◌∷◌}
 use Rattle.std.specs.Prelude.{Option, Some, None, length, drop, refl, slice_index, take}
 use Rattle.std.specs.Coded.{Coded, code_by, coded×, coded_list, coded_ℕ}
@@ -10,9 +10,9 @@ use Rattle.json.specs.Lex.{Lexeme, may_begin, punctuate, string_token}
 use Rattle.json.specs.Text.{content, plain}
 use Rattle.json.specs.Token as spec
 use Rattle.json.specs.Word.{after_exponent, after_fraction, ends_word, is_space}
-use Rattle.jp_flat.specs.declared.cursor.Place.{Place as At}
-use Rattle.jp_flat.specs.declared.cursor.Turn.{Turn}
-use Rattle.jp_flat.specs.declared.cursor.Turn.TheVariants.{AfterComma, AfterValue, Fresh}
+use Rattle.jp_flat.specs.declared.cursor.Point.{Point}
+use Rattle.jp_flat.specs.declared.cursor.Expected.{Expected}
+use Rattle.jp_flat.specs.declared.cursor.Expected.TheVariants.{AfterComma, AfterValue, Fresh}
 use Rattle.jp_flat.specs.declared.token.Spelled.{Spelled}
 use Rattle.jp_flat.specs.declared.token.Spelled.TheVariants.{Escaped, Plain}
 use Rattle.jp_flat.specs.declared.token.Token.{Token}
@@ -21,34 +21,34 @@ use Rattle.jp_flat.specs.Flat.{Shown, text_at}
 use Rattle.jp_flat.specs.declared.token.Token.TheVariants as code
 
 -- what may stand next
-abbrev pub turn_of : Turn → Place
-turn_of Fresh = fresh
-turn_of AfterValue = after_value
-turn_of AfterComma = after_comma
+abbrev pub expected_of : Expected → Place
+expected_of Fresh = fresh
+expected_of AfterValue = after_value
+expected_of AfterComma = after_comma
 
--- the tokens of a text from a place on
-abbrev pub tokens_from : List ℕ → At → List spec.Token
-tokens_from d p = punctuate (turn_of p.turn) (lex between (drop p.at d))
+-- the tokens of a text from an offset on
+abbrev pub tokens_from : List ℕ → Point → List spec.Token
+tokens_from d p = punctuate (expected_of p.expected) (lex between (drop p.at d))
 
 -- a text, and the tokens that are left of it
-pub record Rest : Type 0 where
+pub record TokensLeft : Type 0 where
   pub text : List ℕ
   pub tokens : List spec.Token
 
-abbrev pub rest_code : Coded Rest
-rest_code =
+abbrev pub tokens_left_code : Coded TokensLeft
+tokens_left_code =
     code_by (List ℕ × List spec.Token) (coded× (coded_list coded_ℕ) spec.tokens_code) (λ r. (r.text, r.tokens))
     (λ p. record { text = p.0; tokens = p.1 }) (λ _. refl)
 
--- the bytes stand in the text from a place on
+-- the bytes stand in the text from an offset on
 pub record StandsAt (d : List ℕ) (first : ℕ) (s : List ℕ) : Type 0 where
   pub within : first + length s ≤ length d
   pub is : take (length s) (drop first d) ≡ s
 
 -- a text that is spelled by itself stands where it says
-abbrev pub StandsIn : List ℕ → Spelled → Type 0
-StandsIn d (Plain first s) = StandsAt d first s.now
-StandsIn d (Escaped s) = Unit {0}
+abbrev pub IsSpelledIn : List ℕ → Spelled → Type 0
+IsSpelledIn d (Plain first s) = StandsAt d first s.now
+IsSpelledIn d (Escaped s) = Unit {0}
 
 -- the characters are digits, and write the number, if they are at most 18
 pub record IsDigits (s : List ℕ) (n : ℕ) : Type 0 where
@@ -61,8 +61,8 @@ IsSized s n = (slice_index s 0 == 45) ≡ false → (0 < length s) × IsDigits s
 
 -- the name or the text of a token stands where it says, and its number is that of its digits
 abbrev pub TokenHolds : List ℕ → Token → Type 0
-TokenHolds d (code.Key s) = StandsIn d s
-TokenHolds d (code.Text s) = StandsIn d s
+TokenHolds d (code.Key s) = IsSpelledIn d s
+TokenHolds d (code.Text s) = IsSpelledIn d s
 TokenHolds d (code.Number s n) = IsSized s.now n
 TokenHolds d _ = Unit {0}
 
@@ -87,15 +87,15 @@ token_of (code.Number s n) = spec.number s.now
 token_of (code.Bool b) = spec.boolean b
 token_of code.Null = spec.null
 
--- the text goes on with the token from one place on, and then from another, if the token is one
-abbrev pub GivesToken : List ℕ → At → spec.Token → At → Type 0
+-- the text goes on with the token from one point on, and then from another, if the token is one
+abbrev pub GivesToken : List ℕ → Point → spec.Token → Point → Type 0
 GivesToken d from token to = is_good token ≡ true → tokens_from d from ≡ token ∷ tokens_from d to
 
--- the text is spelled so from the place behind the quote on, and its last quote stands before
--- the other place
+-- the text is spelled so from the offset behind the quote on, and its last quote stands before
+-- the other offset
 pub record IsSpelledFrom (d : List ℕ) (from to : ℕ) (s : Spelled) : Type 0 where
   pub within : to ≤ length d
-  pub stands : StandsIn d s
+  pub stands : IsSpelledIn d s
   pub reads : (x : List ℕ) → said s ≡ Some x → content plain (drop from d) ≡ Some x
   pub passes : lex in_string (drop from d) ≡ lex between (drop to d)
 
@@ -125,7 +125,7 @@ ReadsName ts rest (Some s) =
     (x : List ℕ) → said s ≡ Some x → read_key ts ≡ Some (Some x, rest)
 
 -- the text stands at the span
-pub record IsPlaced (t : Shown) (s : Span) (o : Option (List ℕ)) : Type 0 where
+pub record HasSpan (t : Shown) (s : Span) (o : Option (List ℕ)) : Type 0 where
   pub text : List ℕ
   pub says : o ≡ Some text
   pub there : text_at t s ≡ Some text

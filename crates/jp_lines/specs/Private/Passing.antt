@@ -46,7 +46,7 @@ module _ (options : Options) {W E : Type 0} (contents : W → Option (List ℕ))
     (writes_failed : W → Bool) (reports : E → Option (List ℕ)) (reports_failed : E → Bool)
     (q : QueryTree) where
   -- lines came to outcomes, which leads from s to t
-  pub record GoesOver (lines : List (List ℕ)) (s t : Standing) (o p : W) (u v : E) : Type 0 where
+  pub record GoesThrough (lines : List (List ℕ)) (s t : Standing) (o p : W) (u v : E) : Type 0 where
     pub outcomes : List LineOutcome
     pub goes : Goes options contents writes_failed reports reports_failed q s.number lines outcomes
         o p u v
@@ -58,7 +58,7 @@ module _ (options : Options) {W E : Type 0} (contents : W → Option (List ℕ))
     pub lines : List (List ℕ)
     pub is : s.line ++ bytes ≡ ended lines ++ t.line
     pub whole : list_all is_in_line lines ≡ true
-    pub over : GoesOver lines s t o p u v
+    pub over : GoesThrough lines s t o p u v
 
   -- the same of what is kept: a and b are the progress before and after
   pub record PassesOn (bytes : List ℕ) (a b : Progress) (line : List ℕ) (o p : W) (u v : E) : Type 0 where
@@ -75,4 +75,4 @@ module _ (options : Options) {W E : Type 0} (contents : W → Option (List ℕ))
   -- one line has ended, and the next one begun
   pub record EndsLine (a b : Progress) (line : List ℕ) (o p : W) (u v : E) : Type 0 where
     pub keeps : Keeps b []
-    pub over : GoesOver (line ∷ []) (standing a line) (standing b []) o p u v
+    pub over : GoesThrough (line ∷ []) (standing a line) (standing b []) o p u v

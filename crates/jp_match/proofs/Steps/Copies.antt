@@ -11,14 +11,14 @@ use Rattle.std.proofs.lemmas.List.{length-take, length-drop, length-append, get_
 use Rattle.jp_iregexp.specs.declared.class.ClassElement.{ClassElement}
 use Rattle.jp_iregexp.specs.Class.{class_holds}
 use Rattle.jp_iregexp.specs.Language.{Power}
-use Rattle.jp_match.specs.declared.walk.Reach.{Reach}
-use Rattle.jp_match.specs.declared.walk.Walk.{Walk}
+use Rattle.jp_match.specs.declared.sweep.Reach.{Reach}
+use Rattle.jp_match.specs.declared.sweep.Sweep.{Sweep}
 use Rattle.jp_match.specs.Private.Copies.{enters, IsEndMarked, IsNoneEnough, AreStepped}
 use Rattle.jp_match.specs.Private.Marks.{size, Rest, Ends, Steps}
 use Rattle.jp_match.specs.Private.OneClass.{IsOneClass}
 use Rattle.jp_match.specs.Private.Plain.{Plain, Words, between}
-use Rattle.jp_match.specs.Private.Walks.{rounds_of, IsBefore, IsSameOutside, Moves}
-use Rattle.jp_match.specs.Private.Walks.{at_start}
+use Rattle.jp_match.specs.Private.Sweeps.{rounds_of, IsBefore, IsSameOutside, Moves}
+use Rattle.jp_match.specs.Private.Sweeps.{at_start}
 use Rattle.jp_match.proofs.Bools.{and_false, and_true, or_false}
 use Rattle.jp_match.proofs.Steps.EmptyWords.{powers_nil}
 use Rattle.jp_match.proofs.Steps.EndParts.{joined_nil, nil_before}
@@ -27,7 +27,7 @@ use Rattle.jp_match.proofs.Steps.Sizes.{size_between, rounds_between, rounds_fre
 use Rattle.jp_match.proofs.Steps.StepParts.{IsSameBefore, ends_same, step_same, step_empty}
 use Rattle.jp_match.proofs.Steps.StepParts.{step_nothing, step_either, step_sequence}
 use Rattle.jp_match.proofs.Steps.Unrolled.{between_to, between_of}
-use Rattle.jp_match.proofs.Steps.Walking.{same_outside}
+use Rattle.jp_match.proofs.Steps.Sweeping.{same_outside}
 
 -- the mark of one position tells whether its end is reached
 mark_ends : (a : Plain) (negated : Bool) (items : List ClassElement) (optional : Bool) (marks : List
@@ -199,19 +199,19 @@ module _ (a : Plain) (negated : Bool) (items : List ClassElement) (optional : Bo
   step_first : (c : ℕ) (entered holds : Bool) (before after : List Bool)
       → holds ≡ class_holds negated items c → get_or after 0 false ≡ (entered && holds)
       → Steps a c entered before after (get_or before 0 false || (optional && entered))
-  step_first c entered holds before after is turned =
+  step_first c entered holds before after is moved =
       let m = get_or before 0 false in
       let next = get_or after 0 false in
       step_same (first_same (size a) 0 m before one.sized refl) (first_same (size a) 0 next after
-      one.sized refl) (one.steps c entered m next (turned ∙ ap (λ h. entered && h) is))
+      one.sized refl) (one.steps c entered m next (moved ∙ ap (λ h. entered && h) is))
 
-  turned_later : (most : ℕ) (entered holds : Bool) (before after : List Bool)
+  moved_later : (most : ℕ) (entered holds : Bool) (before after : List Bool)
       → ((k : ℕ) → k < suc most → get_or after k false ≡ (enters optional entered before k && holds))
       → (k : ℕ) → k < most → get_or (drop (size a) after) k false ≡
       (enters optional (get_or before 0 false || (optional && entered)) (drop (size a) before) k &&
       holds)
-  turned_later most entered holds before after turned k below =
-      later_mark (size a) k after one.sized ∙ turned (suc k) (omega arith) ∙
+  moved_later most entered holds before after moved k below =
+      later_mark (size a) k after one.sized ∙ moved (suc k) (omega arith) ∙
       ap (λ e. e && holds) (enters_later entered k before)
 
   steps_copies : (c least most : ℕ) (entered holds : Bool) (before after : List Bool)
@@ -219,23 +219,23 @@ module _ (a : Plain) (negated : Bool) (items : List ClassElement) (optional : Bo
       → get_or after k false ≡ (enters optional entered before k && holds))
       → (ended : Bool) × Steps (between a least most) c entered before after ended
   unfolding between
-  steps_copies c zero zero entered holds before after is turned =
+  steps_copies c zero zero entered holds before after is moved =
       (entered, step_empty)
-  steps_copies c (suc least) zero entered holds before after is turned =
+  steps_copies c (suc least) zero entered holds before after is moved =
       (false, step_nothing)
-  steps_copies c zero (suc most) entered holds before after is turned =
+  steps_copies c zero (suc most) entered holds before after is moved =
       let p = get_or before 0 false || (optional && entered) in
-      let first = step_first c entered holds before after is (turned 0 (omega arith)) in
+      let first = step_first c entered holds before after is (moved 0 (omega arith)) in
       let (q, rest) = steps_copies c zero most p holds (drop (size a) before) (drop (size a) after)
-      is (turned_later most entered holds before after turned) in (
+      is (moved_later most entered holds before after moved) in (
         entered || q,
         step_either step_empty (step_sequence first rest),
       )
-  steps_copies c (suc least) (suc most) entered holds before after is turned =
+  steps_copies c (suc least) (suc most) entered holds before after is moved =
       let p = get_or before 0 false || (optional && entered) in
-      let first = step_first c entered holds before after is (turned 0 (omega arith)) in
+      let first = step_first c entered holds before after is (moved 0 (omega arith)) in
       let (q, rest) = steps_copies c least most p holds (drop (size a) before) (drop (size a) after)
-      is (turned_later most entered holds before after turned) in
+      is (moved_later most entered holds before after moved) in
       (q, step_sequence first rest)
 
 -- a part of a list that is written anew
@@ -287,14 +287,14 @@ put_there at n xs ys back fit long =
 
 -- there are marks for as many copies
 pub copies_fit : {a : Plain} {negated : Bool} {items : List ClassElement} {optional : Bool} (least most :
-    ℕ) {walk : Walk} → IsOneClass a negated items optional → IsBefore (between a least most) walk
-    → walk.at + most ≤ length walk.marks.items
+    ℕ) {sweep : Sweep} → IsOneClass a negated items optional → IsBefore (between a least most) sweep
+    → sweep.at + most ≤ length sweep.marks.items
 copies_fit {a} least most one before =
     let size = size_between a least most ∙ ap (λ n. most * n) one.sized in
     omega (arith, before.marks, size)
 
--- the walk has written anew the marks of as many copies
-pub record Writes (now last : Walk) (count : ℕ) (marks : List Bool) : Type 0 where
+-- the sweep has written anew the marks of as many copies
+pub record Writes (now last : Sweep) (count : ℕ) (marks : List Bool) : Type 0 where
   pub at : last.at ≡ now.at + count
   pub round : last.round ≡ now.round
   pub rounds : last.rounds.items ≡ now.rounds.items
@@ -304,7 +304,7 @@ pub record Writes (now last : Walk) (count : ℕ) (marks : List Bool) : Type 0 w
       now.marks.items))
 
 pub moves_copies : {a : Plain} {negated : Bool} {items : List ClassElement} {optional : Bool} {c : ℕ}
-    (least most : ℕ) {e holds : Bool} {now last : Walk} {marks : List Bool} {x : Reach} → 1 ≤ most
+    (least most : ℕ) {e holds : Bool} {now last : Sweep} {marks : List Bool} {x : Reach} → 1 ≤ most
     → IsOneClass a negated items optional → holds ≡ class_holds negated items c
     → IsBefore (between a least most) now
     → AreStepped optional e holds least (take most (drop now.at now.marks.items)) marks x.before x.after x.after_entered → Writes now last most marks
@@ -328,7 +328,7 @@ moves_copies {a} {negated} {items} {optional} {c} least most {e} {holds} {now} {
           xs),
       fit,
     ) in
-    let now_long : length marks ≡ most = stepped.turned.same_length ∙ long in
+    let now_long : length marks ≡ most = stepped.moved.same_length ∙ long in
     let back = drop most (drop now.at xs) in
     let same : IsSameBefore (size whole) old (drop now.at xs) = record {
       each = λ k below. get_or-take most (drop now.at xs) k false (omega (arith, below, sized));
@@ -338,7 +338,7 @@ moves_copies {a} {negated} {items} {optional} {c} least most {e} {holds} {now} {
     IsSameBefore n marks (drop now.at (take now.at xs ++ (marks ++ back)))) (sym sized)
     (put_there now.at most xs marks back fit now_long)) in
     let steps = steps_copies a negated items optional one c least most e holds old marks is
-    (λ k below. stepped.turned.each k (omega (arith, long))) in
+    (λ k below. stepped.moved.each k (omega (arith, long))) in
     let ends_as : (zs : List Bool) (entered ended : Bool) → IsTrue ended ↔ (IsEndMarked optional
     least most zs ⊎ (IsTrue entered × IsNoneEnough optional least most))
     → Ends whole entered zs ended = λ zs. ends_marked a negated items optional one least most zs in

@@ -8,19 +8,19 @@ use Rattle.std.proofs.Math.Dec.{eqb-suc-zero}
 use Rattle.std.proofs.lemmas.List.{get_or-drop, get_or-take}
 use Rattle.jp_iregexp.specs.declared.class.ClassElement.{ClassElement}
 use Rattle.jp_iregexp.specs.Tree.{Tree, class as class_tree, repeat}
-use Rattle.jp_match.specs.declared.walk.Reach.{Reach}
-use Rattle.jp_match.specs.declared.walk.Walk.{Walk}
+use Rattle.jp_match.specs.declared.sweep.Reach.{Reach}
+use Rattle.jp_match.specs.declared.sweep.Sweep.{Sweep}
 use Rattle.jp_match.specs.Private.EmptyWord.{has_empty}
 use Rattle.jp_match.specs.Private.Plain.{Plain, class, between, unrolled, counted}
 use Rattle.jp_match.specs.Private.Marks.{size, Ends}
-use Rattle.jp_match.specs.Private.Walks.{rounds_of, Rounds, takes_none, IsBefore}
-use Rattle.jp_match.specs.Private.Walks.{IsIdle, IsUnmarked, Moves, at_start, nowhere}
+use Rattle.jp_match.specs.Private.Sweeps.{rounds_of, Rounds, takes_none, IsBefore}
+use Rattle.jp_match.specs.Private.Sweeps.{IsIdle, IsUnmarked, Moves, at_start, nowhere}
 use Rattle.jp_match.proofs.Bools.{not_false}
 use Rattle.jp_match.proofs.Steps.Kept.{takes_none_is, ends_are_entered, ends_fresh}
 use Rattle.jp_match.proofs.Steps.Sizes.{size_between, rounds_between}
 use Rattle.jp_match.proofs.Steps.StepParts.{IsSameBefore, rest_none, step_nowhere, step_same}
 use Rattle.jp_match.proofs.Steps.StepParts.{ends_same}
-use Rattle.jp_match.proofs.Steps.Walking.{moves_nowhere, same_outside}
+use Rattle.jp_match.proofs.Steps.Sweeping.{moves_nowhere, same_outside}
 
 not_true : (b : Bool) → (IsTrue b → ⊥) → false ≡ b
 not_true true never = absurd (never refl)
@@ -30,11 +30,11 @@ no_mark : (k : ℕ) → IsTrue (get_or [] k false) → ⊥
 no_mark k h = cc
 
 -- the next marks are as those of a list without marks
-unmarked : (n : ℕ) (walk : Walk) → IsUnmarked walk n → IsSameBefore n [] (drop walk.at
-    walk.marks.items)
-unmarked n walk none = record {
-  each = λ k below. not_true (get_or (drop walk.at walk.marks.items) k false) (λ h. none k below (sym
-      (get_or-drop walk.at walk.marks.items k false) ∙ h));
+unmarked : (n : ℕ) (sweep : Sweep) → IsUnmarked sweep n → IsSameBefore n [] (drop sweep.at
+    sweep.marks.items)
+unmarked n sweep none = record {
+  each = λ k below. not_true (get_or (drop sweep.at sweep.marks.items) k false) (λ h. none k below (sym
+      (get_or-drop sweep.at sweep.marks.items k false) ∙ h));
 }
 
 -- the end is reached by the empty word alone
@@ -55,25 +55,25 @@ takes_empty t =
     ends_are_entered a [] (takes_none a) (ends_nowhere a) ∙
     sym (ends_are_entered a [] (has_empty t) (ends_fresh t [] no_mark))
 
--- a walk goes past a part
-abbrev pub past : Walk → ℕ → ℕ → Walk
-past now positions turns = record now { at = now.at + positions; round = now.round + turns }
+-- a sweep goes past a part
+abbrev pub past : Sweep → ℕ → ℕ → Sweep
+past now positions repeats = record now { at = now.at + positions; round = now.round + repeats }
 
 -- the end of a part that has no mark and is not entered
 abbrev pub by_none : Bool → Reach
 by_none takes = record { before = false; after = false; after_entered = takes }
 
-pub moves_unmarked : {a : Plain} {c positions turns : ℕ} {takes : Bool} {now : Walk}
-    → size a ≡ positions → rounds_of a ≡ turns → takes_none a ≡ takes
+pub moves_unmarked : {a : Plain} {c positions repeats : ℕ} {takes : Bool} {now : Sweep}
+    → size a ≡ positions → rounds_of a ≡ repeats → takes_none a ≡ takes
     → IsUnmarked now positions → Rounds a (drop now.at now.marks.items) (drop now.round
-    now.rounds.items) → Moves a c (at_start false) now (past now positions turns) (by_none takes)
-moves_unmarked {a} {c} {now = now} sized turned takes none so =
+    now.rounds.items) → Moves a c (at_start false) now (past now positions repeats) (by_none takes)
+moves_unmarked {a} {c} {now = now} sized counted takes none so =
     let same = unmarked (size a) now (λ k below. none k (omega (arith, below, sized))) in
     let step = step_same same same (step_nowhere a c [] no_mark) in
     record {
       over = record {
         at = omega (arith, sized);
-        round = omega (arith, turned);
+        round = omega (arith, counted);
         marks = same_outside refl;
         rounds = same_outside refl;
         counted = omega arith;
@@ -85,7 +85,7 @@ moves_unmarked {a} {c} {now = now} sized turned takes none so =
       so = so;
     }
 
-pub moves_idle_part : {a : Plain} {c positions : ℕ} {e : Bool} {now : Walk}
+pub moves_idle_part : {a : Plain} {c positions : ℕ} {e : Bool} {now : Sweep}
     → IsIdle a now positions e → Rounds a (drop now.at now.marks.items) (drop now.round
     now.rounds.items) → Moves a c (at_start false) now (record now { at = now.at + positions })
     (by_none e)
@@ -94,7 +94,7 @@ moves_idle_part {a} {c} {positions} {e} {now} idle so =
     subst (λ r. Moves a c (at_start false) now (record now { at = now.at + positions; round = r })
     (by_none e)) round (moves_unmarked idle.sized idle.no_rounds idle.takes idle.no_mark so)
 
-pub moves_idle_next : {a : Plain} {c positions : ℕ} {e : Reach} {now : Walk} → e.before ≡ false
+pub moves_idle_next : {a : Plain} {c positions : ℕ} {e : Reach} {now : Sweep} → e.before ≡ false
     → IsIdle a now positions false → Rounds a (drop now.at now.marks.items) (drop now.round
     now.rounds.items) → Moves a c e now (record now { at = now.at + positions }) nowhere
 moves_idle_next is idle so = moves_nowhere is (moves_idle_part idle so)
@@ -116,10 +116,10 @@ size_copies t least most o negated items is one =
     let e = size_between (class negated items) least most in rw (is, one) (omega (arith, e))
 
 pub idle_of_copies : (t : Tree) (least most : ℕ) (o : Option ℕ) (negated : Bool) (items : List
-    ClassElement) (walk : Walk) → o ≡ Some most → t ≡ class_tree negated items
-    → IsUnmarked walk most → IsIdle (unrolled (repeat t least o)) walk most (nat_eq least 0)
+    ClassElement) (sweep : Sweep) → o ≡ Some most → t ≡ class_tree negated items
+    → IsUnmarked sweep most → IsIdle (unrolled (repeat t least o)) sweep most (nat_eq least 0)
 unfolding unrolled counted
-idle_of_copies t least most o negated items walk is one none =
+idle_of_copies t least most o negated items sweep is one none =
     let rounds = rounds_between (class negated items) least most in
     record {
       sized = size_copies t least most o negated items is one;
@@ -128,25 +128,25 @@ idle_of_copies t least most o negated items walk is one none =
       no_mark = none;
     }
 
-pub idle_of_class : (t : Tree) (negated : Bool) (items : List ClassElement) (walk : Walk)
-    → t ≡ class_tree negated items → get_or walk.marks.items walk.at false ≡ false
-    → IsIdle (unrolled t) walk 1 false
+pub idle_of_class : (t : Tree) (negated : Bool) (items : List ClassElement) (sweep : Sweep)
+    → t ≡ class_tree negated items → get_or sweep.marks.items sweep.at false ≡ false
+    → IsIdle (unrolled t) sweep 1 false
 unfolding unrolled
-idle_of_class t negated items walk is none = rw is (record {
+idle_of_class t negated items sweep is none = rw is (record {
   sized = refl;
   no_rounds = refl;
   takes = refl;
   no_mark = λ k below h.
-      let offset : walk.at + k ≡ walk.at = omega arith in
-      absurd (let e = sym none ∙ ap (λ i. get_or walk.marks.items i false) (sym offset) ∙ h in cc);
+      let offset : sweep.at + k ≡ sweep.at = omega arith in
+      absurd (let e = sym none ∙ ap (λ i. get_or sweep.marks.items i false) (sym offset) ∙ h in cc);
 })
 
-pub class_within : (t : Tree) (negated : Bool) (items : List ClassElement) (walk : Walk)
-    → t ≡ class_tree negated items → IsBefore (unrolled t) walk
-    → walk.at < length walk.marks.items
+pub class_within : (t : Tree) (negated : Bool) (items : List ClassElement) (sweep : Sweep)
+    → t ≡ class_tree negated items → IsBefore (unrolled t) sweep
+    → sweep.at < length sweep.marks.items
 unfolding unrolled
-class_within t negated items walk is before =
-    let all : IsBefore (class negated items) walk = rw is at before in omega (arith, all.marks)
+class_within t negated items sweep is before =
+    let all : IsBefore (class negated items) sweep = rw is at before in omega (arith, all.marks)
 
 pub unmarked_slice : (at n : ℕ) (marks : List Bool) (any : Bool) → any ≡ false
     → (IsTrue any ↔ ((k : ℕ) × IsTrue (get_or (take (at + n - at) (drop at marks)) k false)))

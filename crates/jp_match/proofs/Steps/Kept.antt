@@ -8,8 +8,8 @@ use Rattle.jp_match.specs.Private.Plain.{Plain, Words, class, nothing, either, e
 use Rattle.jp_match.specs.Private.Plain.{plus, unrolled}
 use Rattle.jp_match.specs.Private.EmptyWord.{has_empty}
 use Rattle.jp_match.specs.Private.Marks.{size, Star, Rest, Ends}
-use Rattle.jp_match.specs.Private.Walks.{own_rounds, rounds_of, Rounds, takes_none, marks_end}
-use Rattle.jp_match.specs.Private.Walks.{is_same, rounds_end}
+use Rattle.jp_match.specs.Private.Sweeps.{own_rounds, rounds_of, Rounds, takes_none, marks_end}
+use Rattle.jp_match.specs.Private.Sweeps.{is_same, rounds_end}
 use Rattle.jp_match.proofs.Bools.{or_is, or_false, or_iff, and_iff, same_iff, then_iff}
 use Rattle.jp_match.proofs.Steps.EmptyWords.{empty_is}
 use Rattle.jp_match.proofs.Steps.EndParts.{joined_nil, nil_before, nil_is}

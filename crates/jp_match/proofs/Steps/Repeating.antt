@@ -1,15 +1,15 @@
--- Walks over the copies of a repeat.
+-- Sweeps over the copies of a repeat.
 use Rattle.std.proofs.Common.{◌≡◌, ◌↔◌, ℕ, zero, suc, ◌+◌, ◌-◌, ◌≤◌, ◌<◌, Bool, true, false}
 use Rattle.std.proofs.Common.{◌*◌, max, ◌&&◌, List, [], drop, refl, ap, ◌∙◌, subst, arith}
 use Rattle.std.specs.Bool.{IsTrue}
 use Rattle.jp_iregexp.specs.Language.{Power}
-use Rattle.jp_match.specs.declared.walk.Reach.{Reach}
-use Rattle.jp_match.specs.declared.walk.Walk.{Walk}
+use Rattle.jp_match.specs.declared.sweep.Reach.{Reach}
+use Rattle.jp_match.specs.declared.sweep.Sweep.{Sweep}
 use Rattle.jp_match.specs.Private.Plain.{Plain, Words, either, empty, sequence, plus}
 use Rattle.jp_match.specs.Private.Plain.{at_least, between}
 use Rattle.jp_match.specs.Private.Marks.{size, Ends}
-use Rattle.jp_match.specs.Private.Walks.{IsBefore, Moves, at_start, by_either, by_next, nowhere}
-use Rattle.jp_match.specs.Private.Walks.{only_if}
+use Rattle.jp_match.specs.Private.Sweeps.{IsBefore, Moves, at_start, by_either, by_next, nowhere}
+use Rattle.jp_match.specs.Private.Sweeps.{only_if}
 use Rattle.jp_match.proofs.Bools.{and_is}
 use Rattle.jp_match.proofs.Steps.EmptyWords.{powers_nil}
 use Rattle.jp_match.proofs.Steps.EndParts.{joined_nil, nil_before}
@@ -17,12 +17,12 @@ use Rattle.jp_match.proofs.Steps.Sizes.{own_few, rounds_without, rounds_free, si
 use Rattle.jp_match.proofs.Steps.Sizes.{size_at_least}
 use Rattle.jp_match.proofs.Steps.StepParts.{ends_without, without_ends, step_without}
 use Rattle.jp_match.proofs.Steps.Unrolled.{between_to, between_of, at_least_to, at_least_of}
-use Rattle.jp_match.proofs.Steps.Walking.{Walked, walked_none, moves_either, moves_empty}
-use Rattle.jp_match.proofs.Steps.Walking.{moves_nothing, moves_entered, over_none, walked_piece}
-use Rattle.jp_match.proofs.Steps.Walking.{before_first, walked_either, either_nowhere}
+use Rattle.jp_match.proofs.Steps.Sweeping.{Swept, swept_none, moves_either, moves_empty}
+use Rattle.jp_match.proofs.Steps.Sweeping.{moves_nothing, moves_entered, over_none, swept_piece}
+use Rattle.jp_match.proofs.Steps.Sweeping.{before_first, swept_either, either_nowhere}
 
 -- what may be left out has no positions
-before_second : {a : Plain} {walk : Walk} → IsBefore (either empty a) walk → IsBefore a walk
+before_second : {a : Plain} {sweep : Sweep} → IsBefore (either empty a) sweep → IsBefore a sweep
 before_second h = record {
   marks = let fit = h.marks in omega (arith, fit);
   rounds = λ some. let fit = h.rounds (omega (arith, some)) in omega (arith, fit);
@@ -30,57 +30,57 @@ before_second h = record {
 }
 
 -- a counted repeat may end here once there are enough copies, and else goes on
-walked_here : {whole a : Plain} {c : ℕ} {begin : Bool} (enough : Bool) (least most : ℕ) {through
-    ended : Reach} {first now : Walk} → IsTrue enough ↔ (least ≡ 0)
-    → Walked whole (between a least (suc most)) c begin through first now ended
-    → Walked whole (sequence a (between a (least - 1) most)) c begin through first now
+swept_here : {whole a : Plain} {c : ℕ} {begin : Bool} (enough : Bool) (least most : ℕ) {through
+    ended : Reach} {first now : Sweep} → IsTrue enough ↔ (least ≡ 0)
+    → Swept whole (between a least (suc most)) c begin through first now ended
+    → Swept whole (sequence a (between a (least - 1) most)) c begin through first now
     (by_either ended (only_if enough through))
 unfolding between
-walked_here {whole} {a} {c} {begin} true zero most {through} {ended} {first} {now} is so_far =
-    let here : Walked whole (either empty (sequence a (between a zero most))) c begin through first
+swept_here {whole} {a} {c} {begin} true zero most {through} {ended} {first} {now} is so_far =
+    let here : Swept whole (either empty (sequence a (between a zero most))) c begin through first
     now ended = so_far in
     record {
       before = before_second here.before;
-      completes = (walked_either here moves_empty).completes;
+      completes = (swept_either here moves_empty).completes;
     }
-walked_here false zero most is so_far = absurd (let h = is.1 refl in cc)
-walked_here true (suc least) most is so_far = absurd (let h = is.0 refl in omega arith)
-walked_here {whole} {a} {c} {begin} false (suc least) most {through} {ended} {first} {now} is
+swept_here false zero most is so_far = absurd (let h = is.1 refl in cc)
+swept_here true (suc least) most is so_far = absurd (let h = is.0 refl in omega arith)
+swept_here {whole} {a} {c} {begin} false (suc least) most {through} {ended} {first} {now} is
     so_far =
     let one : suc least - 1 ≡ least = omega arith in
     rw (one, either_nowhere ended) so_far
 
 -- before the first copy
-pub walked_begin : (a : Plain) {c : ℕ} {e : Bool} (least most : ℕ) {walk : Walk}
-    → IsBefore (between a least most) walk → Walked (between a least most)
-    (between a (least - 0) (most - 0)) c e (at_start e) walk walk nowhere
-walked_begin a least most before =
+pub swept_begin : (a : Plain) {c : ℕ} {e : Bool} (least most : ℕ) {sweep : Sweep}
+    → IsBefore (between a least most) sweep → Swept (between a least most)
+    (between a (least - 0) (most - 0)) c e (at_start e) sweep sweep nowhere
+swept_begin a least most before =
     let all : least - 0 ≡ least = omega arith in
     let every : most - 0 ≡ most = omega arith in
-    rw (all, every) (walked_none before)
+    rw (all, every) (swept_none before)
 
 -- one copy more of a counted repeat
-pub walked_copy : {whole a : Plain} {c : ℕ} {begin : Bool} (enough : Bool) (least most done : ℕ)
-    {through x ended : Reach} {first now next : Walk} → done < most → IsTrue enough ↔ (least ≤ done)
-    → Walked whole (between a (least - done) (most - done)) c begin through first now ended
+pub swept_copy : {whole a : Plain} {c : ℕ} {begin : Bool} (enough : Bool) (least most done : ℕ)
+    {through x ended : Reach} {first now next : Sweep} → done < most → IsTrue enough ↔ (least ≤ done)
+    → Swept whole (between a (least - done) (most - done)) c begin through first now ended
     → Moves a c (at_start through.before) now next x
-    → Walked whole (between a (least - (done + 1)) (most - (done + 1))) c begin (by_next through x)
+    → Swept whole (between a (least - (done + 1)) (most - (done + 1))) c begin (by_next through x)
     first next (by_either ended (only_if enough through))
-walked_copy {whole} {a} {c} {begin} enough least most done {through} {x} {ended} {first} {now} more
+swept_copy {whole} {a} {c} {begin} enough least most done {through} {x} {ended} {first} {now} more
     is so_far moved =
     let left : most - done ≡ suc (most - (done + 1)) = omega arith in
     let fewer : least - done - 1 ≡ least - (done + 1) = omega arith in
-    let here = walked_here enough (least - done) (most - (done + 1)) (
+    let here = swept_here enough (least - done) (most - (done + 1)) (
       λ h. let within = is.0 h in omega arith,
       λ z. is.1 (omega arith),
-    ) (subst (λ m. Walked whole (between a (least - done) m) c begin through first now ended) left
+    ) (subst (λ m. Swept whole (between a (least - done) m) c begin through first now ended) left
     so_far) in
-    walked_piece (subst (λ l. Walked whole (sequence a (between a l (most - (done + 1)))) c begin
+    swept_piece (subst (λ l. Swept whole (sequence a (between a l (most - (done + 1)))) c begin
     through first now (by_either ended (only_if enough through))) fewer here) moved
 
-moves_last : (a : Plain) {c : ℕ} (enough : Bool) (least : ℕ) {through : Reach} {walk : Walk}
+moves_last : (a : Plain) {c : ℕ} (enough : Bool) (least : ℕ) {through : Reach} {sweep : Sweep}
     → IsTrue enough ↔ (least ≡ 0)
-    → Moves (between a least 0) c through walk walk (only_if enough through)
+    → Moves (between a least 0) c through sweep sweep (only_if enough through)
 unfolding between
 moves_last a true zero is = moves_empty
 moves_last a false zero is = absurd (let h = is.1 refl in cc)
@@ -88,35 +88,35 @@ moves_last a true (suc least) is = absurd (let h = is.0 refl in omega arith)
 moves_last a false (suc least) is = moves_nothing
 
 -- after the last copy it may end, if it may take so many
-pub walked_copies : {whole : Plain} (a : Plain) {c : ℕ} {begin : Bool} (enough : Bool) (least most done : ℕ)
-    {through ended : Reach} {first now : Walk} → most ≤ done → done ≤ most
+pub swept_copies : {whole : Plain} (a : Plain) {c : ℕ} {begin : Bool} (enough : Bool) (least most done : ℕ)
+    {through ended : Reach} {first now : Sweep} → most ≤ done → done ≤ most
     → IsTrue enough ↔ (least ≤ most)
-    → Walked whole (between a (least - done) (most - done)) c begin through first now ended
+    → Swept whole (between a (least - done) (most - done)) c begin through first now ended
     → Moves whole c (at_start begin) first now (by_either ended (only_if enough through))
-walked_copies {whole} a {c} {begin} enough least most done {through} {ended} {first} {now} all
+swept_copies {whole} a {c} {begin} enough least most done {through} {ended} {first} {now} all
     within is so_far =
     let none : most - done ≡ 0 = omega arith in
-    (subst (λ m. Walked whole (between a (least - done) m) c begin through first now ended) none
+    (subst (λ m. Swept whole (between a (least - done) m) c begin through first now ended) none
     so_far).completes now (only_if enough through) (moves_last a enough (least - done) (
       λ h. let few = is.0 h in omega arith,
       λ z. is.1 (omega arith),
     ))
 
 -- without positions nothing moves, and the end is reached by the empty word alone
-moves_without : {a : Plain} {c : ℕ} (through end : Reach) {walk : Walk} → size a ≡ 0
+moves_without : {a : Plain} {c : ℕ} (through end : Reach) {sweep : Sweep} → size a ≡ 0
     → ((marks : List Bool) → Ends a through.before marks end.before)
     → ((marks : List Bool) → Ends a through.after marks end.after)
     → ((marks : List Bool) → Ends a through.after_entered marks end.after_entered)
-    → Moves a c through walk walk end
-moves_without {a} through end {walk} none before after too =
-    let marks = drop walk.at walk.marks.items in
+    → Moves a c through sweep sweep end
+moves_without {a} through end {sweep} none before after too =
+    let marks = drop sweep.at sweep.marks.items in
     let still = rounds_without a none in
     record {
       over = rw (none, still) over_none;
       step = step_without none (before marks);
       ends = after marks;
       ends_too = too marks;
-      so = rounds_free a marks (drop walk.round walk.rounds.items) still;
+      so = rounds_free a marks (drop sweep.round sweep.rounds.items) still;
     }
 
 -- copies without positions: where one of them is gone through, so are all
@@ -147,7 +147,7 @@ ends_as none also is ends =
       λ w. word.1 (w.0, is.1 w.1),
     )
 
-moves_as : {a b : Plain} {c : ℕ} {e x : Reach} {first last : Walk} → size a ≡ 0 → size b ≡ 0
+moves_as : {a b : Plain} {c : ℕ} {e x : Reach} {first last : Sweep} → size a ≡ 0 → size b ≡ 0
     → Words a [] ↔ Words b [] → Moves a c e first last x → Moves b c e first last x
 moves_as {a} {b} {first} {last} none also is h =
     let still = rounds_without b also in
@@ -160,31 +160,31 @@ moves_as {a} {b} {first} {last} none also is h =
     }
 
 -- one copy more of a repeat without a most, and others after it
-pub walked_goes_on : {whole a : Plain} {c : ℕ} {begin : Bool} (least done : ℕ) {through x ended :
-    Reach} {first now next : Walk} → done < least
-    → Walked whole (at_least a (suc (least - done))) c begin through first now ended
+pub swept_goes_on : {whole a : Plain} {c : ℕ} {begin : Bool} (least done : ℕ) {through x ended :
+    Reach} {first now next : Sweep} → done < least
+    → Swept whole (at_least a (suc (least - done))) c begin through first now ended
     → Moves a c (at_start through.before) now next x
-    → Walked whole (at_least a (suc (least - (done + 1)))) c begin (by_next through x) first next
+    → Swept whole (at_least a (suc (least - (done + 1)))) c begin (by_next through x) first next
     ended
 unfolding at_least
-walked_goes_on {whole} {a} {c} {begin} least done {through} {ended = ended} {first} {now} more
+swept_goes_on {whole} {a} {c} {begin} least done {through} {ended = ended} {first} {now} more
     so_far moved =
     let left : least - done ≡ suc (least - (done + 1)) = omega arith in
-    let here : Walked whole (sequence a (at_least a (suc (least - (done + 1))))) c begin through
-    first now ended = subst (λ m. Walked whole (at_least a (suc m)) c begin through first now ended)
+    let here : Swept whole (sequence a (at_least a (suc (least - (done + 1))))) c begin through
+    first now ended = subst (λ m. Swept whole (at_least a (suc m)) c begin through first now ended)
     left so_far in
-    walked_piece here moved
+    swept_piece here moved
 
 -- the last copy goes on
-pub walked_plus : {whole a : Plain} {c : ℕ} {begin : Bool} (least done : ℕ) {through x : Reach}
-    {first now last : Walk} → least ≤ done
-    → Walked whole (at_least a (suc (least - done))) c begin through first now nowhere
+pub swept_plus : {whole a : Plain} {c : ℕ} {begin : Bool} (least done : ℕ) {through x : Reach}
+    {first now last : Sweep} → least ≤ done
+    → Swept whole (at_least a (suc (least - done))) c begin through first now nowhere
     → Moves (plus a) c (at_start through.before) now last x
     → Moves whole c (at_start begin) first last (by_next through x)
 unfolding at_least
-walked_plus {whole} {a} {c} {begin} least done {through} {x} {first} {now} {last} all so_far moved =
+swept_plus {whole} {a} {c} {begin} least done {through} {x} {first} {now} {last} all so_far moved =
     let none : least - done ≡ 0 = omega arith in
-    let here : Walked whole (plus a) c begin through first now nowhere = subst (λ m. Walked whole
+    let here : Swept whole (plus a) c begin through first now nowhere = subst (λ m. Swept whole
     (at_least a (suc m)) c begin through first now nowhere) none so_far in
     here.completes last (by_next through x) (moves_entered {e = through} moved)
 
@@ -205,51 +205,51 @@ at_least_nil a n = (
 )
 
 -- what stands before each copy
-pub before_copy : {a : Plain} (least most done : ℕ) {walk : Walk} → done < most
-    → IsBefore (between a (least - done) (most - done)) walk → IsBefore a walk
+pub before_copy : {a : Plain} (least most done : ℕ) {sweep : Sweep} → done < most
+    → IsBefore (between a (least - done) (most - done)) sweep → IsBefore a sweep
 unfolding between
-before_copy {a} least most done {walk} more h =
+before_copy {a} least most done {sweep} more h =
     let left : most - done ≡ suc (most - (done + 1)) = omega arith in
-    some (least - done) (most - (done + 1)) (subst (λ m. IsBefore (between a (least - done) m) walk)
+    some (least - done) (most - (done + 1)) (subst (λ m. IsBefore (between a (least - done) m) sweep)
     left h) where
-      some : (least most : ℕ) → IsBefore (between a least (suc most)) walk → IsBefore a walk
+      some : (least most : ℕ) → IsBefore (between a least (suc most)) sweep → IsBefore a sweep
       some zero most h = before_first {b = between a zero most} (before_second h)
       some (suc least) most h = before_first {b = between a least most} h
 
-pub before_goes_on : {a : Plain} (least done : ℕ) {walk : Walk} → done < least
-    → IsBefore (at_least a (suc (least - done))) walk → IsBefore a walk
+pub before_goes_on : {a : Plain} (least done : ℕ) {sweep : Sweep} → done < least
+    → IsBefore (at_least a (suc (least - done))) sweep → IsBefore a sweep
 unfolding at_least
-before_goes_on {a} least done {walk} more h =
+before_goes_on {a} least done {sweep} more h =
     let left : least - done ≡ suc (least - (done + 1)) = omega arith in
     before_first {b = at_least a (suc (least - (done + 1)))} (subst (λ m. IsBefore (at_least a (suc
-    m)) walk) left h)
+    m)) sweep) left h)
 
-pub before_plus : {a : Plain} (least done : ℕ) {walk : Walk} → least ≤ done
-    → IsBefore (at_least a (suc (least - done))) walk → IsBefore (plus a) walk
+pub before_plus : {a : Plain} (least done : ℕ) {sweep : Sweep} → least ≤ done
+    → IsBefore (at_least a (suc (least - done))) sweep → IsBefore (plus a) sweep
 unfolding at_least
-before_plus {a} least done {walk} all h =
+before_plus {a} least done {sweep} all h =
     let none : least - done ≡ 0 = omega arith in
-    subst (λ m. IsBefore (at_least a (suc m)) walk) none h
+    subst (λ m. IsBefore (at_least a (suc m)) sweep) none h
 
-pub before_star : {a : Plain} {walk : Walk} → IsBefore (at_least a 0) walk → IsBefore (plus a) walk
+pub before_star : {a : Plain} {sweep : Sweep} → IsBefore (at_least a 0) sweep → IsBefore (plus a) sweep
 unfolding at_least
 before_star h = before_second h
 
 -- a repeat that may also be left out
-pub moves_star : {a : Plain} {c : ℕ} {e x : Reach} {first last : Walk}
+pub moves_star : {a : Plain} {c : ℕ} {e x : Reach} {first last : Sweep}
     → Moves (plus a) c e first last x → Moves (at_least a 0) c e first last (by_either e x)
 unfolding at_least
 moves_star h = moves_either moves_empty h
 
--- a copy that moved nothing is all that there is to walk
-pub walked_still : {whole a : Plain} {c : ℕ} {begin : Bool} (enough within : Bool) (least most done :
-    ℕ) {through x ended : Reach} {first now next : Walk} → done < most
+-- a copy that moved nothing is all that there is to sweep
+pub swept_still : {whole a : Plain} {c : ℕ} {begin : Bool} (enough within : Bool) (least most done :
+    ℕ) {through x ended : Reach} {first now next : Sweep} → done < most
     → IsTrue enough ↔ (least ≤ done) → IsTrue within ↔ (least ≤ most) → next.at ≡ now.at
-    → Walked whole (between a (least - done) (most - done)) c begin through first now ended
+    → Swept whole (between a (least - done) (most - done)) c begin through first now ended
     → Moves a c (at_start through.before) now next x
     → Moves whole c (at_start begin) first next
     (by_either (by_either ended (only_if enough through)) (only_if within (by_next through x)))
-walked_still {a} enough within least most done {through} {x} {next = next} more is may still so_far
+swept_still {a} enough within least most done {through} {x} {next = next} more is may still so_far
     moved =
     let none : size a ≡ 0 = omega (arith, moved.at, still) in
     let here = moves_entered {e = through} moved in
@@ -262,7 +262,7 @@ walked_still {a} enough within least most done {through} {x} {next = next} more 
     ) in
     let sizes : size (between a l m) ≡ 0 = size_between a l m ∙ ap (λ n. m * n) none ∙ omega arith
     in
-    (walked_copy enough least most done more is so_far moved).completes next (only_if within end)
+    (swept_copy enough least most done more is so_far moved).completes next (only_if within end)
     (moves_without end (only_if within end) sizes
     (λ marks. ends_copies a end.before within l m none few (λ h. ((without_ends none
     here.step.ends).0 h).1))
@@ -270,36 +270,36 @@ walked_still {a} enough within least most done {through} {x} {next = next} more 
     (λ marks. ends_copies a end.after_entered within l m none few (λ h. ((without_ends none
     here.ends_too).0 h).1)))
 
-pub walked_still_plus : {whole a : Plain} {c : ℕ} {begin : Bool} (least done : ℕ) {through x x' :
-    Reach} {first now next last : Walk} → done < least → next.at ≡ now.at
-    → Walked whole (at_least a (suc (least - done))) c begin through first now nowhere
+pub swept_still_plus : {whole a : Plain} {c : ℕ} {begin : Bool} (least done : ℕ) {through x x' :
+    Reach} {first now next last : Sweep} → done < least → next.at ≡ now.at
+    → Swept whole (at_least a (suc (least - done))) c begin through first now nowhere
     → Moves a c (at_start through.before) now next x
     → Moves (plus a) c (at_start x.before) next last x'
     → Moves whole c (at_start begin) first last (by_next (by_next through x) x')
-walked_still_plus {a} least done {through} {x} {x'} {last = last} more still so_far moved again =
+swept_still_plus {a} least done {through} {x} {x'} {last = last} more still so_far moved again =
     let none : size a ≡ 0 = omega (arith, moved.at, still) in
     let n = least - (done + 1) in
     let sizes : size (at_least a (suc n)) ≡ 0 = size_at_least a (suc n) ∙
     ap (λ m. max (suc n) 1 * m) none ∙ omega arith in
     let words = plus_nil a in
     let others = at_least_nil a n in
-    (walked_goes_on least done more so_far moved).completes last (by_next (by_next through x) x')
+    (swept_goes_on least done more so_far moved).completes last (by_next (by_next through x) x')
     (moves_as none sizes (
       λ w. others.1 (words.0 w),
       λ w. words.1 (others.0 w),
     ) (moves_entered {e = by_next through x} again))
 
--- without positions a walk stands before any number of copies
+-- without positions a sweep stands before any number of copies
 pub before_still : {whole a : Plain} {c : ℕ} {begin : Bool} (least done : ℕ) {through x ended : Reach}
-    {first now next : Walk} → done < least → next.at ≡ now.at
-    → Walked whole (at_least a (suc (least - done))) c begin through first now ended
+    {first now next : Sweep} → done < least → next.at ≡ now.at
+    → Swept whole (at_least a (suc (least - done))) c begin through first now ended
     → Moves a c (at_start through.before) now next x → IsBefore (plus a) next
 before_still {a} least done {next = next} more still so_far moved =
     let none : size a ≡ 0 = omega (arith, moved.at, still) in
     let own = own_few a in
     let few = rounds_without a none in
     record {
-      marks = let fit = (walked_goes_on least done more so_far moved).before.marks in
+      marks = let fit = (swept_goes_on least done more so_far moved).before.marks in
           omega (arith, fit, none);
       rounds = λ some. absurd (omega (arith, some, none));
       so = rounds_free (plus a) (drop next.at next.marks.items) (drop next.round next.rounds.items)

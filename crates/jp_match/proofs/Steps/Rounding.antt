@@ -1,4 +1,4 @@
--- Walks over one position, and over the rounds of a repeat.
+-- Sweeps over one position, and over the rounds of a repeat.
 use Rattle.std.proofs.Common.{◌≡◌, ◌↔◌, ◌⊎◌, inl, inr, ℕ, ◌+◌, ◌≤◌, ◌<◌, min, Bool}
 use Rattle.std.proofs.Common.{false, ◌||◌, ◌&&◌, List, [], ◌∷◌, length, drop, set, get_or, refl}
 use Rattle.std.proofs.Common.{sym}
@@ -8,12 +8,12 @@ use Rattle.std.proofs.lemmas.Bool.{cases_lt}
 use Rattle.std.proofs.lemmas.List.{get_or-drop, length-set, get_or-set_other, get_or-set_same}
 use Rattle.jp_iregexp.specs.declared.class.ClassElement.{ClassElement}
 use Rattle.jp_iregexp.specs.Class.{class_holds}
-use Rattle.jp_match.specs.declared.walk.Reach.{Reach}
-use Rattle.jp_match.specs.declared.walk.Walk.{Walk}
+use Rattle.jp_match.specs.declared.sweep.Reach.{Reach}
+use Rattle.jp_match.specs.declared.sweep.Sweep.{Sweep}
 use Rattle.jp_match.specs.Private.Plain.{Plain, class, plus}
 use Rattle.jp_match.specs.Private.Marks.{size, Rest, Ends}
-use Rattle.jp_match.specs.Private.Walks.{own_rounds, rounds_of, IsBefore, IsSameOutside}
-use Rattle.jp_match.specs.Private.Walks.{Moves, at_start}
+use Rattle.jp_match.specs.Private.Sweeps.{own_rounds, rounds_of, IsBefore, IsSameOutside}
+use Rattle.jp_match.specs.Private.Sweeps.{Moves, at_start}
 use Rattle.jp_match.proofs.Bools.{or_is, and_is}
 use Rattle.jp_match.proofs.Steps.EndParts.{ends_class, ends_plus}
 use Rattle.jp_match.proofs.Steps.Repeating.{plus_nil}
@@ -21,7 +21,7 @@ use Rattle.jp_match.proofs.Steps.Sizes.{own_few, rounds_without, rounds_free}
 use Rattle.jp_match.proofs.Steps.StepParts.{IsSameBefore, same_back, step_class, step_same}
 use Rattle.jp_match.proofs.Steps.StepParts.{ends_same, step_plus}
 use Rattle.jp_match.proofs.Steps.StepParts.{ends_without, without_ends, step_without}
-use Rattle.jp_match.proofs.Steps.Walking.{rounds_same, same_itself, same_outside, same_there}
+use Rattle.jp_match.proofs.Steps.Sweeping.{rounds_same, same_itself, same_outside, same_there}
 
 pub first_same : (n at : ℕ) (b : Bool) (xs : List Bool) → n ≡ 1 → b ≡ get_or xs at false
     → IsSameBefore n (b ∷ []) (drop at xs)
@@ -41,8 +41,8 @@ set_outside at b xs = record {
   above = λ k over. let ne : k ≢ at = omega arith in rw get_or-set_other refl;
 }
 
--- the walk has gone over one position, by one class test at most
-pub record WalkedOne (now last : Walk) (next : Bool) : Type 0 where
+-- the sweep has gone over one position, by one class test at most
+pub record WalkedOne (now last : Sweep) (next : Bool) : Type 0 where
   pub within : now.at < length now.marks.items
   pub at : last.at ≡ now.at + 1
   pub round : last.round ≡ now.round
@@ -51,7 +51,7 @@ pub record WalkedOne (now last : Walk) (next : Bool) : Type 0 where
   pub counted : last.tests ≤ now.tests + 1
   pub kept : now.tests ≤ last.tests
 
-pub moves_class : {negated : Bool} {items : List ClassElement} {c : ℕ} {e : Bool} {now last : Walk}
+pub moves_class : {negated : Bool} {items : List ClassElement} {c : ℕ} {e : Bool} {now last : Sweep}
     {marked next : Bool} → marked ≡ get_or now.marks.items now.at false
     → next ≡ (e && class_holds negated items c) → WalkedOne now last next
     → Moves (class negated items) c (at_start e) now last (record {
@@ -86,7 +86,7 @@ moves_class {negated} {items} {c} {e} {now} {last} {marked} {next} was is moved 
 
 -- a class that is repeated needs no round: its mark tells whether one has ended
 pub moves_class_plus : {negated : Bool} {items : List ClassElement} {c : ℕ} {e again : Bool} {now last
-    : Walk} {x : Reach} → again ≡ (e || get_or now.marks.items now.at false)
+    : Sweep} {x : Reach} → again ≡ (e || get_or now.marks.items now.at false)
     → Moves (class negated items) c (at_start again) now last x
     → Moves (plus (class negated items)) c (at_start e) now last x
 moves_class_plus {e} {now} is h =
@@ -110,11 +110,11 @@ moves_class_plus {e} {now} is h =
       so = (λ one. absurd (omega (arith, one)), tt);
     }
 
--- a walk goes into a repeat: past its own round
-abbrev pub inside : Walk → ℕ → Walk
+-- a sweep goes into a repeat: past its own round
+abbrev pub inside : Sweep → ℕ → Sweep
 inside now round = record now { round = round }
 
-pub before_inner : {a : Plain} {now : Walk} (round : ℕ) → own_rounds a ≡ min (size a) 1
+pub before_inner : {a : Plain} {now : Sweep} (round : ℕ) → own_rounds a ≡ min (size a) 1
     → IsBefore (plus a) now → (1 ≤ size a → round ≡ now.round + 1) → IsBefore a (inside now round)
 before_inner {a} {now} round own h next = record {
   marks = h.marks;
@@ -149,7 +149,7 @@ ends_rest ends = (
 )
 
 -- and comes out of it: what has become of the round is kept
-pub moves_rounds : {a : Plain} {c : ℕ} {e again : Bool} {now moved : Walk} {round : ℕ} {rounds : Vec
+pub moves_rounds : {a : Plain} {c : ℕ} {e again : Bool} {now moved : Sweep} {round : ℕ} {rounds : Vec
     Bool Global} {x : Reach} → own_rounds a ≡ 1 → 1 ≤ size a → IsBefore (plus a) now
     → round ≡ now.round + 1 → again ≡ (e || get_or now.rounds.items now.round false)
     → Moves a c (at_start again) (inside now round) moved x
@@ -217,7 +217,7 @@ outside_nothing n m xs ys h = record {
   ]
 
 -- a repeat without positions: a round of it is there only where it is entered
-pub moves_idle : {a : Plain} {c : ℕ} {e again : Bool} (bit : Bool) {now moved : Walk} {round : ℕ}
+pub moves_idle : {a : Plain} {c : ℕ} {e again : Bool} (bit : Bool) {now moved : Sweep} {round : ℕ}
     {x : Reach} → size a ≡ 0 → again ≡ (e || bit)
     → Moves a c (at_start again) (inside now round) moved x
     → Moves (plus a) c (at_start e) now (record moved { round = now.round }) (record {

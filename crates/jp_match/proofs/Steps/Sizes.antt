@@ -16,7 +16,7 @@ use Rattle.jp_iregexp.proofs.Trees.{tree_either, tree_sequence, tree_repeat}
 use Rattle.jp_match.specs.Private.Plain.{Plain, class, nothing, either, empty, sequence, plus}
 use Rattle.jp_match.specs.Private.Plain.{at_least, between, counted, unrolled}
 use Rattle.jp_match.specs.Private.Marks.{size}
-use Rattle.jp_match.specs.Private.Walks.{own_rounds, rounds_of, Rounds}
+use Rattle.jp_match.specs.Private.Sweeps.{own_rounds, rounds_of, Rounds}
 
 pub size_between : (a : Plain) (least most : ℕ) → size (between a least most) ≡ most * size a
 unfolding between

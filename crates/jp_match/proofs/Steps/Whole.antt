@@ -1,22 +1,22 @@
--- A step over a whole pattern: the walk may end before the pattern does.
+-- A step over a whole pattern: the sweep may end before the pattern does.
 use Rattle.std.proofs.Common.{◌≡◌, ℕ, ◌+◌, ◌≤◌, Bool, true, false, List, [], ◌∷◌}
 use Rattle.std.proofs.Common.{drop, get_or, refl, sym, ◌∙◌, subst, arith}
 use Rattle.std.specs.Bool.{IsTrue}
 use Rattle.std.proofs.lemmas.List.{get_or_past}
 use Rattle.jp_iregexp.specs.Tree.{Tree, branches}
-use Rattle.jp_match.specs.declared.walk.Reach.{Reach}
-use Rattle.jp_match.specs.declared.walk.Walk.{Walk}
+use Rattle.jp_match.specs.declared.sweep.Reach.{Reach}
+use Rattle.jp_match.specs.declared.sweep.Sweep.{Sweep}
 use Rattle.jp_match.specs.Private.Plain.{Plain, nothing, either, unrolled}
 use Rattle.jp_match.specs.Private.Marks.{size, Ends, Steps}
-use Rattle.jp_match.specs.Private.Walks.{rounds_of, takes_none, IsUnmarked, Moves, IsAtStart, MovesAll}
-use Rattle.jp_match.specs.Private.Walks.{at_start, nowhere}
+use Rattle.jp_match.specs.Private.Sweeps.{rounds_of, takes_none, IsUnmarked, Moves, IsAtStart, MovesAll}
+use Rattle.jp_match.specs.Private.Sweeps.{at_start, nowhere}
 use Rattle.jp_match.proofs.Bools.{or_false}
 use Rattle.jp_match.proofs.Steps.EndParts.{ends_either, ends_nothing}
 use Rattle.jp_match.proofs.Steps.Idle.{by_none, past, moves_unmarked}
 use Rattle.jp_match.proofs.Steps.StepParts.{step_either, step_nothing}
-use Rattle.jp_match.proofs.Steps.Walking.{Walked, moves_entered, before_first, as_sequence}
+use Rattle.jp_match.proofs.Steps.Sweeping.{Swept, moves_entered, before_first, as_sequence}
 
-pub all_moved : {a : Plain} {c : ℕ} (end : ℕ) {e : Bool} {first last : Walk} {x : Reach}
+pub all_moved : {a : Plain} {c : ℕ} (end : ℕ) {e : Bool} {first last : Sweep} {x : Reach}
     → IsAtStart a end first → Moves a c (at_start e) first last x → MovesAll a c e first last x
 all_moved end {last = last} start m = record {
   marks = m.marks.same_length;
@@ -42,7 +42,7 @@ all_moved end {last = last} start m = record {
 
 -- where nothing is entered and no mark is left, the others stay as they are
 pub all_ended : {whole rest : Plain} {c : ℕ} (end : ℕ) {begin : Bool} {through : Reach} {first now :
-    Walk} → IsAtStart whole end first → Walked whole rest c begin through first now nowhere
+    Sweep} → IsAtStart whole end first → Swept whole rest c begin through first now nowhere
     → ((k : ℕ) → now.at ≤ k → get_or now.marks.items k false ≡ get_or first.marks.items k false)
     → first.tests ≤ now.tests → now.tests ≤ now.at + first.tests → end ≤ now.at → through ≡ nowhere
     → MovesAll whole c begin first now nowhere
@@ -54,7 +54,7 @@ all_ended {whole} {rest} {c} end {begin} {through} {first} {now} start so_far ah
     let last = past now (size rest) (rounds_of rest) in
     let still : Moves rest c (at_start false) now last (by_none (takes_none rest)) = moves_unmarked
     refl refl refl unmarked so_far.before.so in
-    let here : Walked whole rest c begin nowhere first now nowhere = subst (λ r. Walked whole rest c
+    let here : Swept whole rest c begin nowhere first now nowhere = subst (λ r. Swept whole rest c
     begin r first now nowhere) is so_far in
     let all = here.completes last nowhere (moves_entered {e = nowhere} still) in
     record {
@@ -71,8 +71,8 @@ all_ended {whole} {rest} {c} end {begin} {through} {first} {now} start so_far ah
     }
 
 -- a pattern of one branch is as the branch
-pub start_branch : {a : Plain} {end : ℕ} {walk : Walk} → IsAtStart (either a nothing) end walk
-    → IsAtStart a end walk
+pub start_branch : {a : Plain} {end : ℕ} {sweep : Sweep} → IsAtStart (either a nothing) end sweep
+    → IsAtStart a end sweep
 start_branch start = record {
   before = before_first {b = nothing} (as_sequence start.before);
   at = start.at;
@@ -80,7 +80,7 @@ start_branch start = record {
   ended = start.ended;
 }
 
-pub all_branch : {a : Plain} {c : ℕ} {e : Bool} {first last : Walk} {x : Reach}
+pub all_branch : {a : Plain} {c : ℕ} {e : Bool} {first last : Sweep} {x : Reach}
     → MovesAll a c e first last x → MovesAll (either a nothing) c e first last x
 all_branch {a} {c} {e} {first} {last} {x} m =
     let before = drop first.at first.marks.items in
@@ -101,14 +101,14 @@ all_branch {a} {c} {e} {first} {last} {x} m =
       kept = m.kept;
     }
 
-pub start_only : {t u : Tree} {ts : List Tree} {end : ℕ} {walk : Walk} → ts ≡ t ∷ [] → t ≡ u
-    → IsAtStart (unrolled (branches ts)) end walk → IsAtStart (unrolled u) end walk
+pub start_only : {t u : Tree} {ts : List Tree} {end : ℕ} {sweep : Sweep} → ts ≡ t ∷ [] → t ≡ u
+    → IsAtStart (unrolled (branches ts)) end sweep → IsAtStart (unrolled u) end sweep
 unfolding unrolled
-start_only {t} {end = end} {walk} one is start =
-    let whole : IsAtStart (either (unrolled t) nothing) end walk = rw one at start in
-    subst (λ t. IsAtStart (unrolled t) end walk) is (start_branch whole)
+start_only {t} {end = end} {sweep} one is start =
+    let whole : IsAtStart (either (unrolled t) nothing) end sweep = rw one at start in
+    subst (λ t. IsAtStart (unrolled t) end sweep) is (start_branch whole)
 
-pub all_only : {t u : Tree} {ts : List Tree} {c : ℕ} {e : Bool} {first last : Walk} {x : Reach}
+pub all_only : {t u : Tree} {ts : List Tree} {c : ℕ} {e : Bool} {first last : Sweep} {x : Reach}
     → ts ≡ t ∷ [] → t ≡ u → MovesAll (unrolled u) c e first last x
     → MovesAll (unrolled (branches ts)) c e first last x
 unfolding unrolled

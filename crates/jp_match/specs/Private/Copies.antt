@@ -9,7 +9,7 @@ enters optional entered marks zero = entered
 enters optional entered marks (suc k) = get_or marks k false || (optional && enters optional entered marks k)
 
 -- copies take a character where they are entered and their class holds it
-pub record IsTurned (optional entered holds : Bool) (before after : List Bool) : Type 0 where
+pub record AreMoved (optional entered holds : Bool) (before after : List Bool) : Type 0 where
   pub same_length : length after ≡ length before
   pub each : (k : ℕ) → k < length before
       → get_or after k false ≡ (enters optional entered before k && holds)
@@ -32,7 +32,7 @@ pub record IsNoneEnough (optional : Bool) (least count : ℕ) : Type 0 where
 -- where the copies are not entered and where they are
 pub record AreStepped (optional entered holds : Bool) (least : ℕ) (before after : List Bool)
     (was is is_too : Bool) : Type 0 where
-  pub turned : IsTurned optional entered holds before after
+  pub moved : AreMoved optional entered holds before after
   pub was_so : IsTrue was ↔ (IsEndMarked optional least (length before) before ⊎ (IsTrue entered ×
       IsNoneEnough optional least (length before)))
   pub is_so : IsTrue is ↔ IsEndMarked optional least (length before) after

@@ -4,7 +4,7 @@ use Rattle.jp_iregexp.specs.declared.class.ClassElement.{ClassElement}
 use Rattle.jp_iregexp.specs.Class.{class_holds}
 use Rattle.jp_match.specs.Private.Plain.{Plain}
 use Rattle.jp_match.specs.Private.Marks.{size, Steps}
-use Rattle.jp_match.specs.Private.Walks.{rounds_of}
+use Rattle.jp_match.specs.Private.Sweeps.{rounds_of}
 
 -- the one position takes the characters of a class, and where it is optional the pattern also has
 -- the empty word

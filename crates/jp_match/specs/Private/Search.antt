@@ -4,7 +4,7 @@ use Rattle.jp_match.specs.declared.search.Search.{Search}
 use Rattle.jp_match.specs.Private.Offset.{IsImage}
 
 -- what is found is so, and tests are only added
-pub record Finds {T E : Type 0} (IsSo : T → Type 0) (before after : ℕ) (result : Result T E) :
+pub record IsFound {T E : Type 0} (IsSo : T → Type 0) (before after : ℕ) (result : Result T E) :
     Type 0 where
   pub found : IfOk result IsSo
   pub kept : before ≤ after

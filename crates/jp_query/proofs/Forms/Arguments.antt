@@ -442,7 +442,7 @@ module _ (I : Nested → Form) where
       either false b e h = h
 
   -- what opens a level, one level further out
-  pub opened-same : (o : rule.Opening) (x : rule.Opened o)
+  pub opened-same : (o : rule.QueryOpening) (x : rule.Opened o)
       → Same (form (opening_form I) (rule.opened o) x) (opening_form (Level I) o x)
   unfolding rule.inside_expression
   opened-same (rule.expression_after m) e = after (after (expression-same I e))

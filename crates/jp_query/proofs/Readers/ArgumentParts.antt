@@ -7,7 +7,7 @@ use Rattle.jp_reading.specs.Outcome.{State, Outcome, took, stuck, deep, ◌>>=�
 use Rattle.jp_reading.specs.Outcome.{passes, is, expect}
 use Rattle.jp_reading.specs.Views.{outcome_map}
 use Rattle.jp_reading.specs.Rule.{here, beyond, some}
-use Rattle.jp_reading.specs.RuleReading.{Inner, read, spanned, spanned_if}
+use Rattle.jp_reading.specs.RuleReading.{InnerReader, read, spanned, spanned_if}
 use Rattle.jp_reading.proofs.States.Loops.{each-on, round}
 use Rattle.jp_reading.proofs.States.Progress.{Progress}
 use Rattle.jp_reading.proofs.Rules.Progress.{goes}
@@ -16,7 +16,7 @@ use Rattle.jp_tree.specs.Tree.{node_value, call_value, ArgumentTree, literal_arg
 use Rattle.jp_tree.specs.Tree.{query_argument, call_argument, logical_argument}
 use Rattle.jp_reading.specs.Characters.{ampersand, bar, comma, closing_parenthesis}
 use Rattle.jp_query.specs.Grammar.{joined}
-use Rattle.jp_query.specs.Private.Rules.{nesting, QueryRule, Opening, basic, conjunction, part}
+use Rattle.jp_query.specs.Private.Rules.{nesting, QueryRule, QueryOpening, basic, conjunction, part}
 use Rattle.jp_query.specs.Private.Rules.{other_parts, argument_start, argument_on}
 use Rattle.jp_query.specs.Private.Rules.{argument_of_parts, other_argument_parts, argument}
 use Rattle.jp_query.specs.Private.Rules.{next_argument, some_arguments, is_logical, begins_operator}
@@ -41,7 +41,7 @@ second-part : (o : Option ℕ) → passes begins_part o ≡ true → passes (is 
 second-part None h off = h
 second-part (Some c) h off = or-second (is ampersand c) (is bar c) off h
 
-module _ (inner : Inner nesting) (moves : (o : Opening) → Progress (inner o)) where
+module _ (inner : InnerReader nesting) (moves : (o : QueryOpening) → Progress (inner o)) where
   -- ---- parts
 
   -- a logical expression from its first part on
@@ -134,7 +134,7 @@ module _ (inner : Inner nesting) (moves : (o : Opening) → Progress (inner o)) 
   argument-alone (logical_argument e) p off = let no =
       no-part (after_blank p) off in alone (logical_argument e) e p no.0 no.1
 
-module _ (inner : Inner nesting) where
+module _ (inner : InnerReader nesting) where
   -- ---- arguments
 
   pub argument-took : (p q r : State) (x y : ArgumentTree) → read inner argument_start p ≡ took x q

@@ -10,7 +10,7 @@ use Rattle.jp_reading.specs.Texts.{first_of}
 use Rattle.jp_reading.specs.Outcome.{passes, is, is_at, take_passing, take_if, expect}
 use Rattle.jp_reading.specs.Numbers.{is_digit}
 use Rattle.jp_reading.specs.Views.{Fails, outcome_map}
-use Rattle.jp_reading.specs.RuleReading.{Inner, read}
+use Rattle.jp_reading.specs.RuleReading.{InnerReader, read}
 use Rattle.jp_reading.proofs.States.Loops.{each-on, each-off, round}
 use Rattle.jp_reading.proofs.States.Folds.{fails-then}
 use Rattle.jp_reading.proofs.States.Progress.{moves-take_if}
@@ -34,11 +34,11 @@ use Rattle.jp_query.proofs.Readers.Rounds.{along, outcome_map-twice}
 -- ---- openings
 
 -- what comes after a function's name
-abbrev after_name : Inner nesting → Text → State → Outcome CallRest
+abbrev after_name : InnerReader nesting → Text → State → Outcome CallRest
 after_name inner w p =
     expect opening_parenthesis p >>= λ d q. outcome_map (call_rest w) (read inner after_parenthesis q)
 
-module _ (inner : Inner nesting) where
+module _ (inner : InnerReader nesting) where
   -- from a character of the name on
   named-any : (ok : ℕ → Bool) (p : State) (c : ℕ) → head p ≡ Some c → ok c ≡ true
       → is_function_char c ≡ true → read inner (named_call ok) p ≡ read inner any_call p

@@ -7,7 +7,7 @@ use Rattle.jp_reading.specs.Outcome.{State, Outcome, took, stuck, deep, ◌>>=�
 use Rattle.jp_reading.specs.Outcome.{after_blank, passes, is, expect}
 use Rattle.jp_reading.specs.Views.{Fails, outcome_map, with_prefix}
 use Rattle.jp_reading.specs.Rule.{here, beyond, some, made, seq}
-use Rattle.jp_reading.specs.RuleReading.{Inner, read}
+use Rattle.jp_reading.specs.RuleReading.{InnerReader, read}
 use Rattle.jp_reading.proofs.States.Loops.{each-off}
 use Rattle.jp_reading.proofs.States.Folds.{fails-then}
 use Rattle.jp_reading.proofs.Rules.Rounds as loops
@@ -37,7 +37,7 @@ along (took x q) f g = refl
 along (stuck q) f g = refl
 along (deep q) f g = refl
 
-module _ {A : Type 0} (inner : Inner nesting) (c : ℕ) (r : QueryRule true here beyond A) where
+module _ {A : Type 0} (inner : InnerReader nesting) (c : ℕ) (r : QueryRule true here beyond A) where
   -- a part comes after its character
   part-joint : (p : State)
       → read inner (part c r) p ≡ read_flat (joint c) p >>= λ d q. read inner r q

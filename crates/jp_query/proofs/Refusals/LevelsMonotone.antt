@@ -3,10 +3,10 @@ use Rattle.std.proofs.Common.{◌≡◌, ℕ, zero, suc, refl, ◌∙◌}
 use Rattle.jp_reading.specs.Outcome.{State, stuck}
 use Rattle.jp_reading.specs.RuleReading.{read}
 use Rattle.jp_reading.proofs.Rules.LevelsMonotone.{Stays, stays, needs_more, stays-then, stays-rule}
-use Rattle.jp_query.specs.Private.Rules.{Opening, opened, query}
+use Rattle.jp_query.specs.Private.Rules.{QueryOpening, opened, query}
 use Rattle.jp_query.specs.Private.Reading.{inside, query_at}
 
-stays-inside : (n : ℕ) (o : Opening) (p : State) → Stays (inside n o p) (inside (suc n) o p)
+stays-inside : (n : ℕ) (o : QueryOpening) (p : State) → Stays (inside n o p) (inside (suc n) o p)
 stays-inside zero o p = needs_more p refl
 stays-inside (suc n) o p = stays-rule (inside n) (inside (suc n)) (stays-inside n) (opened o) p
 

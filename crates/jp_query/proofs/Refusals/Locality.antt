@@ -11,11 +11,11 @@ use Rattle.jp_reading.proofs.States.Locality.{all, unblanked, Ends, Agrees, ende
 use Rattle.jp_reading.proofs.States.Locality.{local-then}
 use Rattle.jp_reading.proofs.States.Locality.{local-deep, local-stuck, local-skip, unblanked-skip}
 use Rattle.jp_reading.proofs.Rules.Locality.{local-rule}
-use Rattle.jp_query.specs.Private.Rules.{Opening, opened, query}
+use Rattle.jp_query.specs.Private.Rules.{QueryOpening, opened, query}
 use Rattle.jp_query.specs.Private.Reading.{inside, query_at}
 use Rattle.jp_query.proofs.Levels.{inside-progress}
 
-local-inside : (n : ℕ) (o : Opening) → Local all unblanked (inside n o)
+local-inside : (n : ℕ) (o : QueryOpening) → Local all unblanked (inside n o)
 local-inside zero o = local-deep unblanked
 local-inside (suc n) o = local-rule (inside n) (inside-progress n) (local-inside n) (opened o)
 

@@ -135,7 +135,7 @@ without_all-covers (d ∷ ds) rs c h other =
     ]
 
 -- how what is opened begins
-abbrev pub starts : rule.Opening → List Range
+abbrev pub starts : rule.QueryOpening → List Range
 starts (rule.expression_after m) = single m
 starts (rule.name_from others) = without_all others (ranges (codes "az"))
 starts (rule.name_on other) = ranges (codes "((") ++ without_all (rule.only_this other) letters
@@ -146,7 +146,7 @@ narrowed true false h f = f refl refl
 narrowed true true h f = absurd cc
 narrowed false b h f = absurd cc
 
-pub starts-covers : (o : rule.Opening) (c : ℕ) → opens o c ≡ true → within (starts o) c ≡ true
+pub starts-covers : (o : rule.QueryOpening) (c : ℕ) → opens o c ≡ true → within (starts o) c ≡ true
 starts-covers (rule.expression_after m) c h = single-covers m c h
 starts-covers (rule.name_from others) c h =
     narrowed (is_function_first c) (is_among others c) h
@@ -196,7 +196,7 @@ going_on-class other =
     (λ c. and-left (is_function_char c) (not (is_among (rule.only_this other) c)))
     (passed-on other).0 (passed-on other).1
 
-pub opened-alive : (o : rule.Opening) (c : ℕ) → opens o c ≡ true → Alive (rule.opened o)
+pub opened-alive : (o : rule.QueryOpening) (c : ℕ) → opens o c ≡ true → Alive (rule.opened o)
 unfolding all_rules
 opened-alive (rule.expression_after m) c h = assumption expression-alive
 opened-alive (rule.name_from others) c h =
@@ -213,7 +213,7 @@ abbrev pub after_expression : Follow
 after_expression = blanked (beginning (ranges (codes ")),,]]")))
 
 -- a function expression ends with its closing parenthesis, whatever follows
-abbrev pub closes : rule.Opening → Follow
+abbrev pub closes : rule.QueryOpening → Follow
 closes (rule.expression_after m) = after_expression
 closes (rule.name_from others) = any
 closes (rule.name_on other) = any
@@ -339,7 +339,7 @@ after_parenthesis-apart =
       argument-on,
     )
 
-pub opened-apart : (o : rule.Opening) (c : ℕ) (h : opens o c ≡ true)
+pub opened-apart : (o : rule.QueryOpening) (c : ℕ) (h : opens o c ≡ true)
     → IsApart (rule.opened o) (opened-alive o c h) (closes o)
 unfolding all_alive opened-alive
 opened-apart (rule.expression_after m) c h = assumption expression-apart

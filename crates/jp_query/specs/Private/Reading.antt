@@ -2,7 +2,7 @@
 use Rattle.std.specs.Prelude.{ℕ, Bool, zero, suc, if◌then◌else◌}
 use Rattle.jp_reading.specs.Outcome.{State, Outcome, took, stuck, deep, ◌>>=◌, skip, is_end}
 use Rattle.jp_reading.specs.Rule.{Look}
-use Rattle.jp_reading.specs.RuleReading.{Inner, nothing, read}
+use Rattle.jp_reading.specs.RuleReading.{InnerReader, nothing, read}
 use Rattle.jp_tree.specs.Tree.{QueryTree, ExprTree}
 use Rattle.jp_reading.specs.Characters.{opening_parenthesis}
 use Rattle.jp_query.specs.Private.Rules.{nesting, QueryRule, expression_after, CallRest, any_call}
@@ -11,7 +11,7 @@ use Rattle.jp_query.specs.Private.Rules.{opened, query}
 
 -- how what opens a level is read inside n levels. With no level left, one more would be needed at
 -- the opening.
-abbrev pub inside : ℕ → Inner nesting
+abbrev pub inside : ℕ → InnerReader nesting
 inside zero o p = deep p
 inside (suc n) o p = read (inside n) (opened o) p
 

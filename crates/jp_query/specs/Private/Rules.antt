@@ -43,10 +43,10 @@ use Rattle.jp_query.specs.Strings.{is_0_to_7, is_8_to_b, is_c_to_f, scalar_of}
 -- what opens a level: the character before an expression, the first letter of a function's name,
 -- which is none of some others, or what goes on with such a name or ends it, and not with another
 -- character
-pub data Opening : Type 0 where
-  expression_after : ℕ → Opening
-  name_from : Text → Opening
-  name_on : Option ℕ → Opening
+pub data QueryOpening : Type 0 where
+  expression_after : ℕ → QueryOpening
+  name_from : Text → QueryOpening
+  name_on : Option ℕ → QueryOpening
 
 -- a function expression from somewhere within its name on: what is left of the name, and the
 -- arguments
@@ -60,21 +60,21 @@ only_this None = []
 only_this (Some c) = c ∷ []
 
 -- whether a character begins what the opening opens
-abbrev pub opens : Opening → ℕ → Bool
+abbrev pub opens : QueryOpening → ℕ → Bool
 opens (expression_after m) c = is m c
 opens (name_from others) c = is_function_first c && not (is_among others c)
 opens (name_on other) c =
     is opening_parenthesis c || (is_function_char c && not (is_among (only_this other) c))
 
 -- what is one level further in
-abbrev pub Opened : Opening → Type 0
+abbrev pub Opened : QueryOpening → Type 0
 Opened (expression_after m) = ExprTree
 Opened (name_from others) = CallRest
 Opened (name_on other) = CallRest
 
 -- what a query nests: expressions, and arguments of functions
 abbrev pub nesting : Nesting
-nesting = record { Opening = Opening; opens = opens; Inner = Opened }
+nesting = record { Opening = QueryOpening; opens = opens; Inner = Opened }
 
 -- a rule of queries, with how far the text is looked at as it begins and as it ends
 abbrev pub QueryRule : Bool → Look → Look → Type 0 → Type 1
@@ -560,7 +560,7 @@ unfoldable pub inside_expression : ℕ → QueryRule true here beyond ExprTree
 inside_expression m = the m >> (blanks {m = here} >> expression)
 
 -- what is one level further in, from its opening on
-abbrev pub opened : (o : Opening) → QueryRule true here beyond (Opened o)
+abbrev pub opened : (o : QueryOpening) → QueryRule true here beyond (Opened o)
 opened (expression_after m) = inside_expression m
 opened (name_from others) = named_call (opens (name_from others))
 opened (name_on other) =

@@ -12,7 +12,7 @@ use Rattle.jp_reading.specs.Views.{outcome_map}
 use Rattle.jp_reading.specs.Rule.{Look, here, beyond, Nesting, Lead, the, blanks, Rule, value}
 use Rattle.jp_reading.specs.Rule.{character, after, seq, made, look, upon, nested, component_where}
 use Rattle.jp_reading.specs.Rule.{omitted, some, relaxed, loose, until, flat}
-use Rattle.jp_reading.specs.RuleReading.{Inner, nothing, next, led, spanned_if, spanned, read}
+use Rattle.jp_reading.specs.RuleReading.{InnerReader, nothing, next, led, spanned_if, spanned, read}
 use Rattle.jp_reading.proofs.States.Between.{Reads, reads-is, state-same}
 use Rattle.jp_reading.proofs.Texts.Chars.{after_blank-same}
 use Rattle.jp_reading.proofs.Forms.Levels.{Only, Then}
@@ -40,7 +40,7 @@ pub record Done {A : Type 0} (B : Follow) (o : Outcome A) (x : A) (p q : State) 
 
 -- what stands one level further in is read, and begins with a character of its opening
 pub record InnerIsComplete (N : Nesting) (F : Inside N) (starts : N.Opening → List Range)
-    (closes : N.Opening → Follow) (inner : Inner N) : Type 0 where
+    (closes : N.Opening → Follow) (inner : InnerReader N) : Type 0 where
   pub covers : (o : N.Opening) (c : ℕ) → N.opens o c ≡ true → within (starts o) c ≡ true
   pub progress : (o : N.Opening) → Progress (inner o)
   pub again : (o : N.Opening) (x : N.Inner o) (p q : State) → Reads (F o x) p q → Meets (closes o) q
@@ -202,7 +202,7 @@ no_inner N starts covers = record {
 }
 
 pub done : {N : Nesting} {u : Bool} {a b : Look} {A : Type 0} (F : Inside N)
-    (starts : N.Opening → List Range) (closes : N.Opening → Follow) (inner : Inner N)
+    (starts : N.Opening → List Range) (closes : N.Opening → Follow) (inner : InnerReader N)
     → InnerIsComplete N F starts closes inner → (r : Rule N u a b A) (w : Alive r) (K : Follow)
     → Apart starts closes r w K
     → (x : A) (p q : State) → Reads (form F r x) p q → Meets K q

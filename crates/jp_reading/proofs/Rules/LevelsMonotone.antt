@@ -6,7 +6,7 @@ use Rattle.jp_reading.specs.Rule.{Look, Nesting, Lead, the, blanks, Rule, value,
 use Rattle.jp_reading.specs.Rule.{seq, made, look, upon, nested, component_where, omitted, some}
 use Rattle.jp_reading.specs.Rule.{relaxed}
 use Rattle.jp_reading.specs.Rule.{loose, until, flat}
-use Rattle.jp_reading.specs.RuleReading.{Inner, next, led, read}
+use Rattle.jp_reading.specs.RuleReading.{InnerReader, next, led, read}
 
 -- the second outcome is the first, or the first needs a level more
 pub data Stays {A : Type 0} (o v : Outcome A) : Type 0 where
@@ -48,7 +48,7 @@ stays-led : {A : Type 0} {m : Look} {t : Bool} (s : Lead m t) (k j : State → O
 stays-led (the c) k j h p = stays-on (expect c p) (λ d q. k q) (λ d q. j q) (λ d q. h q)
 stays-led blanks k j h p = h (skip p)
 
-pub stays-rule : {N : Nesting} {u : Bool} {a b : Look} {A : Type 0} (f g : Inner N)
+pub stays-rule : {N : Nesting} {u : Bool} {a b : Look} {A : Type 0} (f g : InnerReader N)
     → ((o : N.Opening) (p : State) → Stays (f o p) (g o p))
     → (r : Rule N u a b A) (p : State) → Stays (read f r p) (read g r p)
 stays-rule f g h (value x) p = stays refl

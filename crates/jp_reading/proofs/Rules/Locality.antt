@@ -6,7 +6,7 @@ use Rattle.jp_reading.specs.Outcome.{State, Outcome, head, passes, is, expect}
 use Rattle.jp_reading.specs.Rule.{Look, here, beyond, Nesting, Lead, the, blanks, Rule, value}
 use Rattle.jp_reading.specs.Rule.{character, after, seq, made, look, upon, nested, component_where}
 use Rattle.jp_reading.specs.Rule.{omitted, some, relaxed, loose, until, flat}
-use Rattle.jp_reading.specs.RuleReading.{Inner, nothing, next, led, read}
+use Rattle.jp_reading.specs.RuleReading.{InnerReader, nothing, next, led, read}
 use Rattle.jp_reading.proofs.States.Progress.{Progress}
 use Rattle.jp_reading.proofs.Rules.Progress.{goes}
 use Rattle.jp_reading.proofs.States.Locality.{all, unblanked, Local, Tests, local-then, local-took}
@@ -42,7 +42,7 @@ local-led (the c) n b k h =
 local-led (blanks {m = m}) n b k h =
     local-unblanked m b (led {m = m} blanks k) (local-skip b k (local-started n b k h))
 
-pub local-rule : {N : Nesting} {u : Bool} {a b : Look} {A : Type 0} (inner : Inner N)
+pub local-rule : {N : Nesting} {u : Bool} {a b : Look} {A : Type 0} (inner : InnerReader N)
     → ((o : N.Opening) → Progress (inner o))
     → ((o : N.Opening) → Local all unblanked (inner o)) → (r : Rule N u a b A)
     → Local (left a) (left b) (read inner r)

@@ -7,7 +7,7 @@ use Rattle.jp_reading.specs.Rule.{Look, Nesting, Lead, the, blanks, Rule, value,
 use Rattle.jp_reading.specs.Rule.{seq, made, look, upon, nested, component_where, omitted, some}
 use Rattle.jp_reading.specs.Rule.{relaxed}
 use Rattle.jp_reading.specs.Rule.{loose, until, flat}
-use Rattle.jp_reading.specs.RuleReading.{Inner, nothing, next, led, spanned_if, spanned, read}
+use Rattle.jp_reading.specs.RuleReading.{InnerReader, nothing, next, led, spanned_if, spanned, read}
 use Rattle.jp_reading.proofs.Texts.Chars.{past-shorter}
 use Rattle.jp_reading.proofs.States.Progress.{Moves, Keeps, Progress, keeps-from_moves, keeps-then}
 use Rattle.jp_reading.proofs.States.Progress.{moves-then, moves-later, moves-skip, keeps-skip}
@@ -83,7 +83,7 @@ goes-led u (the c) k h p =
     goes-then true u p (expect c p) (λ d q. k q) (moves-take_if (is c) p) (λ d q. h q)
 goes-led u blanks k h p = goes-skip u p (k (skip p)) (h (skip p))
 
-pub goes : {N : Nesting} {u : Bool} {a b : Look} {A : Type 0} (inner : Inner N)
+pub goes : {N : Nesting} {u : Bool} {a b : Look} {A : Type 0} (inner : InnerReader N)
     → ((o : N.Opening) → Progress (inner o))
     → (r : Rule N u a b A) (p : State) → Goes u p (read inner r p)
 goes inner moves (value x) p = omega arith

@@ -4,12 +4,12 @@ use Rattle.jp_reading.specs.declared.reader.Stop.{Stop}
 use Rattle.jp_reading.specs.Outcome.{State, took, passes}
 use Rattle.jp_reading.specs.Views.{Fails, with_prefix}
 use Rattle.jp_reading.specs.Rule.{Look, Nesting, Rule, some}
-use Rattle.jp_reading.specs.RuleReading.{Inner, next, read}
+use Rattle.jp_reading.specs.RuleReading.{InnerReader, next, read}
 use Rattle.jp_reading.proofs.States.Progress.{Progress, moved}
 use Rattle.jp_reading.proofs.States.Folds.{pushes_on, pushes_end, folds_fail}
 use Rattle.jp_reading.proofs.Rules.Progress.{goes}
 
-module _ {N : Nesting} {A : Type 0} (inner : Inner N) (moves : (o : N.Opening) → Progress (inner o))
+module _ {N : Nesting} {A : Type 0} (inner : InnerReader N) (moves : (o : N.Opening) → Progress (inner o))
     (m : Look) (ok : ℕ → Bool) (r : Rule N true m m A) where
   -- another value
   pub some_on : (p q : State) (xs : List A) (x : A) → passes ok (next m p) ≡ true

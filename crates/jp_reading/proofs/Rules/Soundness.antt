@@ -10,7 +10,7 @@ use Rattle.jp_reading.specs.Rule.{Look, Nesting, Lead, the, blanks, Rule, value,
 use Rattle.jp_reading.specs.Rule.{seq, made, look, upon, nested, component_where, omitted, some}
 use Rattle.jp_reading.specs.Rule.{relaxed}
 use Rattle.jp_reading.specs.Rule.{loose, until, flat}
-use Rattle.jp_reading.specs.RuleReading.{Inner, nothing, next, led, spanned_if, spanned, read}
+use Rattle.jp_reading.specs.RuleReading.{InnerReader, nothing, next, led, spanned_if, spanned, read}
 use Rattle.jp_reading.proofs.States.Between.{Reads, Prefix, Stops, Passes, Has, Within, reads-then}
 use Rattle.jp_reading.proofs.States.Between.{prefix-then, prefix-none, reads-as}
 use Rattle.jp_reading.proofs.Texts.Chars.{past-shorter}
@@ -278,7 +278,7 @@ pub data Opened {A : Type 0} (F G : A → Form) (p : State) (o : Outcome A) : Ty
   none_left : o ≡ deep p → Stops G p (past p) → Opened F G p o
   some_left : IsSound F G p o → Opened F G p o
 
-abbrev pub InnerIsSound : (N : Nesting) (F G : Inside N) → Inner N → Type 0
+abbrev pub InnerIsSound : (N : Nesting) (F G : Inside N) → InnerReader N → Type 0
 InnerIsSound N F G inner = (o : N.Opening) (p : State) → passes (N.opens o) (head p) ≡ true
     → Opened (F o) (G o) p (inner o p)
 
@@ -314,7 +314,7 @@ sound-nested F G H K S T p o k more w f g z has_z (some_left h) i =
 
 pub sound : {N : Nesting} {u : Bool} {a b : Look} {A : Type 0} (F G : Inside N)
     → ((o : N.Opening) (x : N.Inner o) → Within (F o x) (G o x))
-    → (inner : Inner N) → InnerIsSound N F G inner → (r : Rule N u a b A) → Alive r → (p : State)
+    → (inner : InnerReader N) → InnerIsSound N F G inner → (r : Rule N u a b A) → Alive r → (p : State)
     → IsSound (form F r) (form G r) p (read inner r p)
 sound F G l inner h (value x) w p = record {
   is = reads-as (word []) (Only x (word []) x) p p (λ s o t g. record { same = refl; is = g })

@@ -28,7 +28,7 @@ returns-in_ok-item-in-Number-clause-leaf c =
 pub returns-in_ok-span-in-Text-clause-leaf : goal.returns-in_ok-span-in-Text-clause-leaf
 returns-in_ok-span-in-Text-clause-leaf c =
     let k = token_of c.args.token in
-    let placed = c.in_ok-span-in-Text.ensures.placed in
+    let spanned = c.in_ok-span-in-Text.ensures.spanned in
     let is : k ≡ string_token (said c.in-Text.text) = grind arith in
-    leaf-text k (shown c.place.new.tables) c.in_ok-span-in-Text.span placed.text
-    (is ∙ ap string_token placed.says) placed.there
+    leaf-text k (shown c.text_span.new.tables) c.in_ok-span-in-Text.span spanned.text
+    (is ∙ ap string_token spanned.says) spanned.there

@@ -14,7 +14,7 @@ returns-then-bytes-at-eq58-clause-gives c =
 
 pub returns-clause-gives : goal.returns-clause-gives
 returns-clause-gives c =
-    gives_text c.args.bytes.now c.args.from c.in_ok-place.place c.in_ok-spelled.end
+    gives_text c.args.bytes.now c.args.from c.in_ok-point.point c.in_ok-spelled.end
     c.past_blanks-at.result c.in_ok-spelled.spelled c.requires.inside c.requires.byte
     c.requires.begins c.in_ok-spelled.ensures c.past_blanks-at.ensures.same
-    c.in_ok-place.ensures.no_name c.in_ok-place.ensures.goes
+    c.in_ok-point.ensures.no_name c.in_ok-point.ensures.goes

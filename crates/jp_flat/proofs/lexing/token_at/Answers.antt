@@ -1,6 +1,6 @@
 use Rattle.std.proofs.Common.{◌≡◌, ◌<◌, true, get_or, length, arith}
 use Rattle.json.specs.Lex.{may_begin}
-use Rattle.jp_flat.specs.Private.Tokens.{turn_of}
+use Rattle.jp_flat.specs.Private.Tokens.{expected_of}
 use Rattle.jp_flat.proofs.Punctuated.{gives_array, gives_object, is_false, is_null, is_true}
 use Rattle.jp_flat.proofs.lexing.token_at.Goals as goal
 
@@ -17,13 +17,13 @@ pub returns-in-123-clause-gives : goal.returns-in-123-clause-gives
 returns-in-123-clause-gives c =
     let room : c.args.from.at < length c.args.bytes.now = grind arith in
     let byte : get_or c.args.bytes.now c.args.from.at 0 ≡ 123 = grind arith in
-    let begins : may_begin (turn_of c.args.from.turn) ≡ true = grind arith in
+    let begins : may_begin (expected_of c.args.from.expected) ≡ true = grind arith in
     gives_object c.args.bytes.now c.args.from c.begun.result room byte begins c.begun.ensures.goes
 
 pub returns-in-91-clause-gives : goal.returns-in-91-clause-gives
 returns-in-91-clause-gives c =
     let room : c.args.from.at < length c.args.bytes.now = grind arith in
     let byte : get_or c.args.bytes.now c.args.from.at 0 ≡ 91 = grind arith in
-    let begins : may_begin (turn_of c.args.from.turn) ≡ true = grind arith in
+    let begins : may_begin (expected_of c.args.from.expected) ≡ true = grind arith in
     gives_array c.args.bytes.now c.args.from c.begun-in-91.result room byte begins
     c.begun-in-91.ensures.goes

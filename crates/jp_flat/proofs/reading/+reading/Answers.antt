@@ -127,14 +127,14 @@ members-members-init t c = record {
 pub members-members-preserved : goal.members-members-preserved
 members-members-preserved t c =
     let l = c.members in
-    let placed = c.in_ok-span.ensures.placed in
-    let k = placed.text in
+    let spanned = c.in_ok-span.ensures.spanned in
+    let k = spanned.text in
     let a = c.next_name.new.self.tokens in
     let r = c.value.new.reader.tokens in
     let done = c.in_ok-item.ensures in
     let p : Named = record { name = c.in_ok-span.span; item = c.in_ok-item.item } in
     let named : read_key l.reader.tokens ≡ Some (Some k, a) =
-    subst (ReadsName l.reader.tokens a) c.in-Some.is c.in_ok-name.ensures.reads k placed.says in
+    subst (ReadsName l.reader.tokens a) c.in-Some.is c.in_ok-name.ensures.reads k spanned.says in
     let less = read_key-shorter l.reader.tokens (Some k) a named in
     let lesser = done.shorter in
     let shorter : length r < length l.reader.tokens = omega arith in
@@ -142,12 +142,12 @@ members-members-preserved t c =
     record {
       so = rw pushed
           (members_more c.args.depth c.args.reader.now.tokens l.reader.tokens a r (shown c.args.tables.now)
-          (shown l.tables) (shown c.place.new.tables) (shown c.value.new.tables) c.len-base.result
+          (shown l.tables) (shown c.text_span.new.tables) (shown c.value.new.tables) c.len-base.result
           l.rises c.still_rises-rises.result c.args.pending.now.members.items
-          l.pending.members.items k p named shorter done.reads placed.there
+          l.pending.members.items k p named shorter done.reads spanned.there
           c.in_ok-span.ensures.grows done.grows c.still_rises-rises.ensures.rose
           (λ rose. above_said (shown l.tables) (drop c.len-base.result l.pending.members.items)
-          (said c.in-Some.name) k placed.says
+          (said c.in-Some.name) k spanned.says
           (rw (← c.deref.ensures.value) (c.still_rises-rises.ensures.above rose))) l.invariant.so);
       others = done.items ∙ l.invariant.others;
       text = search rules;

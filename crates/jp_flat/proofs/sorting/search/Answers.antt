@@ -12,8 +12,8 @@ halves-init c = record {
   halved = halved_none (order_of (shown c.args.tables.now) c.args.name.now) c.args.members.now;
 }
 
-pub returns-in-Equal-clause-place : goal.returns-in-Equal-clause-place
-returns-in-Equal-clause-place c = λ d.
+pub returns-in-Equal-clause-index : goal.returns-in-Equal-clause-index
+returns-in-Equal-clause-index c = λ d.
     let l = c.halves in
     let inside = l.invariant.next c.halves-test.true in
     at_any (order_of (shown c.args.tables.now) c.args.name.now) c.args.members.now l.next d _ Equal

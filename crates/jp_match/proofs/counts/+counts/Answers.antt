@@ -3,7 +3,7 @@ use Rattle.std.proofs.Common.{length}
 use Rattle.jp_iregexp.specs.Tree.{tree}
 use Rattle.jp_iregexp.proofs.Trees.{tree_class, tree_either, tree_sequence, tree_repeat}
 use Rattle.jp_match.specs.Private.Plain.{unrolled}
-use Rattle.jp_match.specs.Private.Walks.{own_rounds, rounds_of}
+use Rattle.jp_match.specs.Private.Sweeps.{own_rounds, rounds_of}
 use Rattle.jp_match.proofs.Counting.{positions_of_parts, rounds_of_parts, rounds_more}
 use Rattle.jp_match.proofs.Counting.{rounds_repeat_most, rounds_repeat_on, times_more}
 use Rattle.jp_match.proofs.Patterns.Items.{drop_item, drop_all}

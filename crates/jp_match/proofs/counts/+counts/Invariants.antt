@@ -2,7 +2,7 @@ use Rattle.std.proofs.Common.{◌≡◌, ◌+◌, ◌^◌, ◌≤◌, min, map, 
 use Rattle.jp_iregexp.specs.Tree.{tree, pieces}
 use Rattle.jp_iregexp.specs.Positions.{positions_of}
 use Rattle.jp_match.specs.Private.Plain.{unrolled}
-use Rattle.jp_match.specs.Private.Walks.{rounds_of}
+use Rattle.jp_match.specs.Private.Sweeps.{rounds_of}
 use Rattle.jp_match.proofs.counts.+counts.Given as goal
 
 abbrev pub invariant-counts_of_all-loop-part : goal.invariant-counts_of_all-loop-part

@@ -53,7 +53,7 @@ returns c =
     let end : c.loop-i.i ≡ length text = omega arith in
     let passes = subst (Passes t text first c.loop-i.search.offsets.items) end
     c.loop-i.invariant.passes in
-    let carries = subst (λ i. Carries t text first i c.loop-i.marking.walk.marks.items) end
+    let carries = subst (λ i. Carries t text first i c.loop-i.marking.sweep.marks.items) end
     c.loop-i.invariant.carries in
     let below : length text < length c.loop-i.search.offsets.items = omega (
       arith,

@@ -7,7 +7,7 @@ abbrev pub invariant-loop-i : goal.invariant-loop-i
 invariant-loop-i l = record {
   same : l.marking.pattern.now ≡ l.pattern;
   carries : Carries (tree l.pattern) l.text l.fn.search.offsets.items l.i
-      l.marking.walk.marks.items;
+      l.marking.sweep.marks.items;
   passes : Passes (tree l.pattern) l.text l.fn.search.offsets.items l.search.offsets.items
       l.i;
   text : l.search.ground.text.now ≡ l.text;

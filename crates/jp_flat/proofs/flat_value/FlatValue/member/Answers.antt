@@ -25,9 +25,9 @@ returns-in-Ok c =
     let sound = subst (λ i. is_flat t i ≡ true) e c.args.self.sound in
     let there : piece t.members p.first p.count ≡ Some xs = search rules in
     c.child.ensures.entry
-    ∙ subst (λ i. slice_get (entries (meaning t i)) c.in-Ok.place
+    ∙ subst (λ i. slice_get (entries (meaning t i)) c.in-Ok.index
     ≡ option_map (λ w. (named q, w)) (child (meaning t i) (named q))) (sym e)
-    (hit t p q xs c.in-Ok.place sound there c.in-Ok.ensures.bound
+    (hit t p q xs c.in-Ok.index sound there c.in-Ok.ensures.bound
     (c.in-Ok.ensures.position (λ m. bytes_cmp (seen_member t m).0 q)
     (always_returns_same _ _ _ (λ a r f k. search rules))))
 

@@ -15,7 +15,7 @@ returns c =
       record {
         of = ap tree c.in_ok-marking.ensures.of;
         left = λ word. rw c.in_ok-marking.ensures.of (left_first (tree c.args.counted.pattern.now)
-            c.args.anywhere c.in_ok-marking.marking.walk.marks.items c.in_ok-marking.ensures.none
+            c.args.anywhere c.in_ok-marking.marking.sweep.marks.items c.in_ok-marking.ensures.none
             word);
       },
     )

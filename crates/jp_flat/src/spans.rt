@@ -1,0 +1,109 @@
+//! Where texts stand.
+ghost use Rattle.std.specs.Prelude.{◌≡◌, ◌+◌, ◌≤◌, IfSome, OnSome, Some};
+ghost use Rattle.std.specs.Prelude.{drop, length, option_map, take};
+ghost use Rattle.json.specs.Text.{content, plain};
+ghost use Rattle.jp_flat.specs.Flat.{Grows, piece, shown, text_at};
+ghost use Rattle.jp_flat.specs.Private.Tokens.{HasSpan, StandsAt, IsSpelledIn, said};
+
+use crate::item::Span;
+use crate::tables::Tables;
+use crate::token::Spelled;
+use json::{Reader, Scratch, Token};
+
+/// The span of a text: where the document spells it, else, with its escapes undone in the room, behind the
+/// spare texts. None where its escapes are none, no memory is left, or more than 2^32 bytes would
+/// stand there.
+#[inline(always)]
+pub(crate) fn text_span(
+    tables: &mut Tables<'_>,
+    room: &mut Vec<Scratch>,
+    text: Spelled<'_>,
+) -> Option<Span>
+    requires { IsSpelledIn tables.old.text.now text }
+    ensures spanned { IfSome result (λ s. HasSpan (shown tables.new) s (said text.entry)) }
+    ensures grows { OnSome result (Grows (shown tables.old) (shown tables.new)) }
+    ensures items { OnSome result (tables.new.items.items ≡ tables.old.items.items) }
+{
+    match text {
+        Spelled::Plain(first, bytes) => in_text(tables, first, bytes),
+        Spelled::Escaped(quoted) => unescaped(tables, room, quoted),
+    }
+}
+
+/// The span of a text that stands in the document from this offset on.
+#[inline(always)]
+fn in_text(tables: &Tables<'_>, first: usize, text: &[u8]) -> Option<Span>
+    requires { StandsAt tables.now.text.now first text.now }
+    ensures { IfSome result (λ s. text_at (shown tables.now) s ≡ Some text.now) }
+{
+    let span = span_of(first, text.len())?;
+    Some(span)
+}
+
+/// A new spare text, which stands with escapes between these quotes.
+#[inline(never)]
+fn unescaped(tables: &mut Tables<'_>, room: &mut Vec<Scratch>, quoted: &[u8]) -> Option<Span>
+    ensures spanned { IfSome result (λ s. HasSpan (shown tables.new) s
+        (content plain (drop 1 quoted.now))) }
+    ensures grows { OnSome result (Grows (shown tables.old) (shown tables.new)) }
+    ensures items { OnSome result (tables.new.items.items ≡ tables.old.items.items) }
+{
+    if quoted.is_empty() || quoted[0] != b'"' {
+        return None;
+    }
+    let text = simdutf8::basic::from_utf8(quoted).ok()?;
+    if room.is_empty() {
+        take_room(room)?;
+    }
+    let scratch = room.first_mut()?;
+    let mut reader = Reader::new(text, scratch).ok()?;
+    let token = reader.next()?;
+    match token {
+        Token::String(text) => {
+            let span = spared(tables, text)?;
+            Some(span)
+        }
+        _ => None,
+    }
+}
+
+/// Takes room to unescape texts in.
+#[inline(never)]
+fn take_room(room: &mut Vec<Scratch>) -> Option<()> {
+    room.push(Scratch::new(*room.allocator())).ok()
+}
+
+/// A new spare text.
+fn spared(tables: &mut Tables<'_>, text: &str) -> Option<Span>
+    ensures spelled { IfSome result (λ s. text_at (shown tables.new) s ≡ Some text.now) }
+    ensures grows { OnSome result (Grows (shown tables.old) (shown tables.new)) }
+    ensures items { OnSome result (tables.new.items.items ≡ tables.old.items.items) }
+{
+    let first = tables.text.len().checked_add(tables.spare.len())?;
+    tables.spare.push_str(text).ok()?;
+    span_of(first, text.len())
+}
+
+/// So many entries from the first on, None where they are not all there.
+pub(crate) fn piece<T>(all: &[T], first: usize, count: usize) -> Option<&[T]>
+    ensures { option_map (λ s. s.now) result ≡ piece all.now first count }
+{
+    let end = first.checked_add(count)?;
+    if end <= all.len() {
+        Some(&all[first..end])
+    } else {
+        None
+    }
+}
+
+/// The span of these numbers, where they are below 2^32.
+#[inline(always)]
+pub(crate) fn span_of(first: usize, count: usize) -> Option<Span>
+    ensures first { IfSome result (λ s. s.first ≡ first) }
+    ensures count { IfSome result (λ s. s.count ≡ count) }
+{
+    Some(Span {
+        first: u32::try_from(first).ok()?,
+        count: u32::try_from(count).ok()?,
+    })
+}
