@@ -117,51 +117,63 @@ digits_item s n h some digits write fits is =
 -- ---- tokens
 
 pub leaf-null : (k : Token) (t : Shown) → k ≡ Token.null → ReadsLeaf k t code.Null
-leaf-null k t is = λ depth r items. record {
-  value = null;
-  reads = one_token depth (k ∷ r) r Token.null parsed.null null (ap (λ k. k ∷ r) is)
-      (ap (converted of_json) (value_is depth (Token.null ∷ r))) refl;
-  short = refl;
-  means = null_means depth (with_items t items);
-}
+leaf-null k t is = λ depth r items. (
+  record {
+    value = null;
+    reads = one_token depth (k ∷ r) r Token.null parsed.null null (ap (λ k. k ∷ r) is)
+        (ap (converted of_json) (value_is depth (Token.null ∷ r))) refl;
+    short = refl;
+    means = null_means depth (with_items t items);
+  },
+  refl,
+)
 
 pub leaf-boolean : (k : Token) (t : Shown) (b : Bool) → k ≡ Token.boolean b
     → ReadsLeaf k t (code.Bool b)
-leaf-boolean k t b is = λ depth r items. record {
-  value = boolean b;
-  reads = one_token depth (k ∷ r) r (Token.boolean b) (parsed.boolean b) (boolean b)
-      (ap (λ k. k ∷ r) is) (ap (converted of_json) (value_is depth (Token.boolean b ∷ r))) refl;
-  short = refl;
-  means = boolean_means depth (with_items t items) b;
-}
+leaf-boolean k t b is = λ depth r items. (
+  record {
+    value = boolean b;
+    reads = one_token depth (k ∷ r) r (Token.boolean b) (parsed.boolean b) (boolean b)
+        (ap (λ k. k ∷ r) is) (ap (converted of_json) (value_is depth (Token.boolean b ∷ r))) refl;
+    short = refl;
+    means = boolean_means depth (with_items t items) b;
+  },
+  refl,
+)
 
 pub leaf-text : (k : Token) (t : Shown) (p : Span) (x : List ℕ) → k ≡ Token.string x
     → text_at t p ≡ Some x → ReadsLeaf k t (code.Text p)
-leaf-text k t p x is at = λ depth r items. record {
-  value = text x;
-  reads = one_token depth (k ∷ r) r (Token.string x) (parsed.string x) (text x)
-      (ap (λ k. k ∷ r) is) (ap (converted of_json) (value_is depth (Token.string x ∷ r))) refl;
-  short = refl;
-  means = text_means depth (with_items t items) p x at;
-}
+leaf-text k t p x is at = λ depth r items. (
+  record {
+    value = text x;
+    reads = one_token depth (k ∷ r) r (Token.string x) (parsed.string x) (text x)
+        (ap (λ k. k ∷ r) is) (ap (converted of_json) (value_is depth (Token.string x ∷ r))) refl;
+    short = refl;
+    means = text_means depth (with_items t items) p x at;
+  },
+  refl,
+)
 
 pub leaf-whole : (k : Token) (t : Shown) (i : Item) (s : List ℕ) → k ≡ Token.number s
     → IsWholeItem s i → ReadsLeaf k t i
-leaf-whole k t i s is x = λ depth r items. record {
-  value = whole x.number;
-  reads = one_token depth (k ∷ r) r (Token.number s) (parsed.number x.written.number)
-      (whole x.number) (ap (λ k. k ∷ r) is)
-      (ap (converted of_json) (value_is depth (Token.number s ∷ r))
-      ∙ ap (λ o. option_map (λ d. (d, r)) (option_map parsed.number o)) x.written.read)
-      x.written.holds;
-  short = refl;
-  means = x.means depth (with_items t items);
-}
+leaf-whole k t i s is x = λ depth r items. (
+  record {
+    value = whole x.number;
+    reads = one_token depth (k ∷ r) r (Token.number s) (parsed.number x.written.number)
+        (whole x.number) (ap (λ k. k ∷ r) is)
+        (ap (converted of_json) (value_is depth (Token.number s ∷ r))
+        ∙ ap (λ o. option_map (λ d. (d, r)) (option_map parsed.number o)) x.written.read)
+        x.written.holds;
+    short = refl;
+    means = x.means depth (with_items t items);
+  },
+  refl,
+)
 
 pub leaf-read : (depth : ℕ) (ts r : List Token) (token : Token) (t : Shown) (i : Item)
     → ts ≡ token ∷ r → ReadsLeaf token t i → ReadsFlat depth ts r t i
 leaf-read depth ts r token t i first x =
-    subst (λ ks. ReadsFlat depth ks r t i) (sym first) (x depth r t.items)
+    subst (λ ks. ReadsFlat depth ks r t i) (sym first) (x depth r t.items).0
 
 no_value : (depth : ℕ) (ts r : List Token) (v : Value) → value depth ts ≡ None
     → ReadsValue depth ts r v → ⊥
@@ -171,25 +183,24 @@ no_value depth ts r v none x =
     absurd (cc)
 
 -- no list ends where a value begins
-pub value_goes : (depth : ℕ) (ts r : List Token) (t : Shown) (i : Item) → ReadsFlat depth ts r t i
+pub value_goes : (depth : ℕ) (ts r : List Token) (v : Value) → ReadsValue depth ts r v
     → after_end_array ts ≡ None
-value_goes depth [] r t i x = refl
-value_goes depth (Token.begin_object ∷ ts) r t i x = refl
-value_goes depth (Token.end_object ∷ ts) r t i x = refl
-value_goes depth (Token.begin_array ∷ ts) r t i x = refl
-value_goes depth (Token.end_array ∷ ts) r t i x =
-    absurd (no_value depth (Token.end_array ∷ ts) r x.value
-    (value_is depth (Token.end_array ∷ ts)) x.reads)
-value_goes depth (Token.key s ∷ ts) r t i x = refl
-value_goes depth (Token.string s ∷ ts) r t i x = refl
-value_goes depth (Token.number s ∷ ts) r t i x = refl
-value_goes depth (Token.boolean b ∷ ts) r t i x = refl
-value_goes depth (Token.null ∷ ts) r t i x = refl
-value_goes depth (Token.bad ∷ ts) r t i x = refl
+value_goes depth [] r v x = refl
+value_goes depth (Token.begin_object ∷ ts) r v x = refl
+value_goes depth (Token.end_object ∷ ts) r v x = refl
+value_goes depth (Token.begin_array ∷ ts) r v x = refl
+value_goes depth (Token.end_array ∷ ts) r v x =
+    absurd (no_value depth (Token.end_array ∷ ts) r v (value_is depth (Token.end_array ∷ ts)) x)
+value_goes depth (Token.key s ∷ ts) r v x = refl
+value_goes depth (Token.string s ∷ ts) r v x = refl
+value_goes depth (Token.number s ∷ ts) r v x = refl
+value_goes depth (Token.boolean b ∷ ts) r v x = refl
+value_goes depth (Token.null ∷ ts) r v x = refl
+value_goes depth (Token.bad ∷ ts) r v x = refl
 
 -- ---- lists and objects
 
-reads_list : (depth : ℕ) (ts s r : List Token) (vs : List Value) → 0 < depth
+pub reads_list : (depth : ℕ) (ts s r : List Token) (vs : List Value) → 0 < depth
     → ts ≡ Token.begin_array ∷ s → ReadsItems (depth - 1) (length s) s r (items_of vs)
     → ReadsValue depth ts r (list (items_of vs))
 reads_list depth ts s r vs deep first x = record {
@@ -202,7 +213,7 @@ reads_list depth ts s r vs deep first x = record {
   holds = ap (option_map list) x.holds;
 }
 
-reads_object : (depth : ℕ) (ts s r : List Token) (ms : List (List ℕ × Value)) → 0 < depth
+pub reads_object : (depth : ℕ) (ts s r : List Token) (ms : List (List ℕ × Value)) → 0 < depth
     → ts ≡ Token.begin_object ∷ s → ReadsMembers (depth - 1) (length s) s r (members_of ms)
     → ReadsValue depth ts r (object (members_of ms))
 reads_object depth ts s r ms deep first x = record {

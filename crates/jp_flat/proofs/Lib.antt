@@ -2,6 +2,7 @@ pub mod Blocks
 pub mod ByName
 pub mod Digits
 pub mod Documents
+pub mod FoundInside
 pub mod Growth
 pub mod Inside
 pub mod Leaves

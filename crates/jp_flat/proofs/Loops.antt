@@ -11,14 +11,14 @@ use Rattle.std.proofs.lemmas.List.{length-append}
 use Rattle.std.proofs.lemmas.List.Folds.{list_all-append}
 use Rattle.json.specs.Json.{after_end_array, read_key}
 use Rattle.json.specs.Token.{Token}
-use Rattle.jp_document.specs.Private.Direct.{ReadsItems}
+use Rattle.jp_document.specs.Private.Direct.{ReadsItems, ReadsValue}
 use Rattle.jp_document.specs.Value.{Value, everywhere, everywhere_in_items, item_count, items_of}
-use Rattle.jp_document.specs.Value.{list_fits, members_of, names_rise, object}
+use Rattle.jp_document.specs.Value.{list, list_fits, members_of, names_rise, object}
 use Rattle.jp_document.proofs.Descent.Inside.{all-items}
 use Rattle.jp_document.proofs.Tokens.Ahead.{MembersAhead, ahead_member, ahead_members_end}
 use Rattle.jp_document.proofs.Tokens.Turns.{items_over, items_turn}
 use Rattle.jp_flat.specs.Flat.{Grows, Shown, all_of, flat_value, member_with, text_at}
-use Rattle.jp_flat.specs.Private.Reading.{BeginsItems, IsAboveLast, ReadsLeaf, IsTheListOf}
+use Rattle.jp_flat.specs.Private.Reading.{BeginsItems, BeginsValues, IsAboveLast, ReadsLeaf, IsTheListOf}
 use Rattle.jp_flat.specs.Private.Reading.{ReadsFlat}
 use Rattle.jp_flat.specs.Private.Reading.{ReadsFlatItems, ReadsFlatMembers, ReadsLeaves, put_all}
 use Rattle.jp_flat.specs.Private.Reading.{with_items}
@@ -41,14 +41,12 @@ cut_front base old new all pushed at =
 
 -- ---- items
 
-begins_none : (depth : ℕ) (ts : List Token) (t : Shown) → BeginsItems depth ts ts t []
-begins_none depth ts t = record {
-  values = [];
-  turns = length ts;
+pub values_none : (depth : ℕ) (ts : List Token) → BeginsValues depth ts ts []
+values_none depth ts = record {
+  rounds = length ts;
   enough = omega arith;
   ahead = λ vs r later. later;
   short = refl;
-  mean = refl;
 }
 
 short_item : (values : List Value) (v : Value)
@@ -59,47 +57,59 @@ short_item values v before here =
     ∙ list_all-append (everywhere list_fits) values (v ∷ [])
     ∙ and_from _ _ (sym (all-items list_fits values) ∙ before) (and_from _ _ here refl)
 
+pub values_more : (depth : ℕ) (initial ts r : List Token) (values : List Value) (v : Value)
+    → length r < length ts → ReadsValue depth ts r v → everywhere list_fits v ≡ true
+    → BeginsValues depth initial ts values → BeginsValues depth initial r (values ++ v ∷ [])
+values_more depth initial ts r values v less x short so = record {
+  rounds = so.rounds - 1;
+  enough = omega (arith, so.enough);
+  ahead = λ vs q later.
+      subst (λ ws. ReadsItems depth (length initial) initial q (items_of ws))
+      (sym (append_assoc values (v ∷ []) vs))
+      (so.ahead (v ∷ vs) q
+      (items_turn depth so.rounds ts r q v (items_of vs) (omega (arith, so.enough))
+      (value_goes depth ts r v x) x later));
+  short = short_item values v so.short short;
+}
+
+pub values_end : (depth : ℕ) (initial ts r : List Token) (values : List Value)
+    → after_end_array ts ≡ Some r → BeginsValues depth initial ts values
+    → ReadsItems depth (length initial) initial r (items_of values)
+values_end depth initial ts r values over so =
+    subst (λ ws. ReadsItems depth (length initial) initial r (items_of ws)) (append-nil values)
+    (so.ahead [] r (items_over depth so.rounds ts r so.enough over))
+
+item_count-items_of : (vs : List Value) → item_count (items_of vs) ≡ length vs
+item_count-items_of [] = refl
+item_count-items_of (v ∷ vs) = ap suc (item_count-items_of vs)
+
+pub few_fit : (vs : List Value) → length vs < 2 ^ 32 → list_fits (list (items_of vs)) ≡ true
+few_fit vs few = le-leb _ _ (omega (arith, few, item_count-items_of vs))
+
+begins_none : (depth : ℕ) (ts : List Token) (t : Shown) → BeginsItems depth ts ts t []
+begins_none depth ts t = record { values = []; begins = values_none depth ts; mean = refl }
+
 begins_more : (depth : ℕ) (initial ts r : List Token) (s u : Shown) (items : List Item) (i : Item)
     → length r < length ts → Grows s u → ReadsFlat depth ts r u i
     → BeginsItems depth initial ts s items → BeginsItems depth initial r u (items ++ i ∷ [])
 begins_more depth initial ts r s u items i less more x so = record {
   values = so.values ++ x.value ∷ [];
-  turns = so.turns - 1;
-  enough = omega (arith, so.enough);
-  ahead = λ vs q later.
-      subst (λ ws. ReadsItems depth (length initial) initial q (items_of ws))
-      (sym (append_assoc so.values (x.value ∷ []) vs))
-      (so.ahead (x.value ∷ vs) q
-      (items_turn depth so.turns ts r q x.value (items_of vs) (omega (arith, so.enough))
-      (value_goes depth ts r u i x) x.reads later));
-  short = short_item so.values x.value so.short x.short;
+  begins = values_more depth initial ts r so.values x.value less x.reads x.short so.begins;
   mean = all_of_push (flat_value depth u) items so.values i x.value
       (all_of_grows (flat_value depth s) (flat_value depth u) items so.values
       (value_grows depth s u more) so.mean) x.means;
 }
-
-item_count-items_of : (vs : List Value) → item_count (items_of vs) ≡ length vs
-item_count-items_of [] = refl
-item_count-items_of (v ∷ vs) = ap suc (item_count-items_of vs)
 
 begins_end : (depth : ℕ) (initial ts r : List Token) (s u : Shown) (items : List Item) (i : Item)
     → after_end_array ts ≡ Some r → length items < 2 ^ 32 → IsTheListOf items s u i
     → BeginsItems depth initial ts s items → ReadsFlatItems depth initial r u i
 begins_end depth initial ts r s u items i over few closed so = record {
   values = so.values;
-  reads =
-      subst (λ ws. ReadsItems depth (length initial) initial r (items_of ws))
-      (append-nil so.values)
-      (so.ahead [] r (items_over depth so.turns ts r so.enough over));
+  reads = values_end depth initial ts r so.values over so.begins;
   within = so.short;
   short =
-      le-leb _ _
-      (omega (
-        arith,
-        few,
-        item_count-items_of so.values,
-        length-all_of (flat_value depth s) items so.values so.mean,
-      ));
+      few_fit so.values
+      (omega (arith, few, length-all_of (flat_value depth s) items so.values so.mean));
   means = closed depth so.values so.mean;
 }
 
@@ -126,7 +136,7 @@ leaves_more initial ts r token t s u w i first leaf more same pushed so =
           begins_more depth initial ts r (with_items s t.items) (with_items u t.items) so.new i
           (omega (arith, ap length first)) grown
           (subst (λ ks. ReadsFlat depth ks r (with_items u t.items) i) (sym first)
-          (leaf depth r t.items)) (so.begins depth);
+          (leaf depth r t.items).0) (so.begins depth);
       grows = grows_on t (with_items s t.items) (with_items u t.items) so.grows grown;
     })
 

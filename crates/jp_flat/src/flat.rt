@@ -14,9 +14,9 @@ use std::alloc::Global;
 /// A document in tables, which are made of its text: `Document` without a tree.
 #[derive(Drop)]
 pub struct Flat<'t> {
-    tables: Tables<'t>,
-    root: Item,
-    pending: Pending,
+    pub(crate) tables: Tables<'t>,
+    pub(crate) root: Item,
+    pub(crate) pending: Pending,
     ghost sound: { is_flat (shown tables) root ≡ true },
 }
 

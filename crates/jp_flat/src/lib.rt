@@ -2,12 +2,14 @@
 //! a tree, and in a third of its memory.
 //!
 //! `flat_document` reads one, `Flat::value` is its value, and a `FlatValue` is a `Lent` one, which
-//! `FlatValue::push_value` prints. A `Room` takes the memory from one document to the next:
+//! `FlatValue::push_value` prints. A `Room` takes the memory from one document to the next, and
+//! `flat_value_at` reads a document for the one value at a location:
 //!
 //! ```text
 //! let flat = flat_document(alloc, b"{\"a\":[1,2]}")?;
 //! let (_, list) = flat.value().member("a")?;     // [1,2]
 //! let flat = flat.into_room().read(b"[3]")?;     // the next one, in the same memory
+//! let found = flat_value_at(alloc, b"{\"a\":[1,2]}", &[Step::Name("a"), Step::Index(0)])?;    // 1
 //! ```
 //!
 //! For the layer above: what is read is a document, with its value in `specs/FlatValue.antt`, and
@@ -18,6 +20,7 @@
 mod blanks;
 mod closing;
 mod cursor;
+mod finding;
 mod flat;
 mod flat_value;
 mod form;
@@ -37,6 +40,8 @@ mod tables;
 #[cfg(test)]
 mod tests;
 mod token;
+mod value_at;
 
 pub use flat::{Flat, Room, flat_document};
 pub use flat_value::FlatValue;
+pub use value_at::flat_value_at;

@@ -3,6 +3,7 @@ ghost use Rattle.std.specs.Prelude.{◌≡◌, []};
 ghost use Rattle.jp_flat.specs.Flat.{shown};
 
 use crate::item::{Item, Named};
+use std::alloc::Global;
 
 /// The most levels of lists and objects.
 pub(crate) const MAX_DEPTH: usize = 127;
@@ -18,6 +19,18 @@ pub(crate) struct Tables<'t> {
 }
 
 impl<'t> Tables<'t> {
+    /// The tables of a document of which nothing is read yet, with no memory.
+    pub(crate) fn new(alloc: Global, text: &'t str) -> Tables<'t>
+        ensures { (shown result).source ≡ text.now }
+    {
+        Tables {
+            text,
+            spare: String::new(alloc),
+            items: Vec::new(alloc),
+            members: Vec::new(alloc),
+        }
+    }
+
     /// The tables of a document of which nothing is read yet, in the memory of others.
     pub(crate) fn of(
         text: &'t str,

@@ -4,6 +4,7 @@ use Rattle.std.specs.BTreeMap.{insert_entry}
 use Rattle.std.specs.Cmp.Lexicographic.{slice_cmp}
 use Rattle.std.specs.Ordering.{is_lt, nat_cmp}
 use Rattle.json.specs.Token.{Token}
+use Rattle.jp_document.specs.Location.{entries}
 use Rattle.jp_document.specs.Private.Direct.{IsWholeText, ReadsItems, ReadsMembers, ReadsText}
 use Rattle.jp_document.specs.Private.Direct.{ReadsValue}
 use Rattle.jp_document.specs.Value.{Value, everywhere, everywhere_in_items, everywhere_in_members}
@@ -37,28 +38,33 @@ pub record ReadsFlatMembers (depth : ℕ) (ts rest : List Token) (t : Shown) (i 
     pub within : everywhere_in_members list_fits (members_of members) ≡ true
     pub means : flat_value (suc depth) t i ≡ Some (object (members_of members))
 
--- the tokens begin with the values of the items in a list: with whatever values the rest goes on,
--- these and those are read as one list
+-- the tokens begin with these values in a list: with whatever values the rest goes on, these and
+-- those are read as one list
+pub record BeginsValues (depth : ℕ) (ts rest : List Token) (values : List Value) : Type 0 where
+  pub rounds : ℕ
+  pub enough : length rest ≤ rounds
+  pub ahead : (vs : List Value) (end : List Token)
+      → ReadsItems depth rounds rest end (items_of vs)
+      → ReadsItems depth (length ts) ts end (items_of (values ++ vs))
+  pub short : everywhere_in_items list_fits (items_of values) ≡ true
+
+-- the same of the values of items
 pub record BeginsItems (depth : ℕ) (ts rest : List Token) (t : Shown) (items : List Item) : Type 0
   where
     pub values : List Value
-    pub turns : ℕ
-    pub enough : length rest ≤ turns
-    pub ahead : (vs : List Value) (end : List Token)
-        → ReadsItems depth turns rest end (items_of vs)
-        → ReadsItems depth (length ts) ts end (items_of (values ++ vs))
-    pub short : everywhere_in_items list_fits (items_of values) ≡ true
+    pub begins : BeginsValues depth ts rest values
+    pub open begins use *
     pub mean : all_of (flat_value depth t) items ≡ Some values
 
 -- tables with other items
 abbrev pub with_items : Shown → List Item → Shown
 with_items t items = record t { items = items }
 
--- the token alone is the value of the item, whatever items the tables hold
+-- the token alone is the value of the item, whatever items the tables hold, and nothing stands in it
 abbrev pub ReadsLeaf : Token → Shown → Item → Type 0
 ReadsLeaf token t i =
     (depth : ℕ) (rest : List Token) (items : List Item)
-    → ReadsFlat depth (token ∷ rest) rest (with_items t items) i
+    → (x : ReadsFlat depth (token ∷ rest) rest (with_items t items) i) × (entries x.value ≡ [])
 
 -- the tokens begin with the values of the items in a list that the later tables hold behind those
 -- of the earlier ones, and need none of them

@@ -1,0 +1,77 @@
+-- What is found at a location while the tokens of a document are read.
+use Rattle.std.specs.Prelude.{◌≡◌, ℕ, suc, true, List, [], ◌∷◌, Option, Some, None, length, map}
+use Rattle.std.specs.Prelude.{if◌then◌else◌, option_map}
+use Rattle.std.specs.Borrow.{Bor}
+use Rattle.std.specs.Ordering.{is_eq}
+use Rattle.json.specs.Token.{Token}
+use Rattle.jp_document.specs.Location.{Location, Step, step_cmp, step_of, value_at}
+use Rattle.jp_document.specs.Private.Direct.{ReadsItems, ReadsMembers, ReadsText, ReadsValue}
+use Rattle.jp_document.specs.Value.{Value, everywhere, everywhere_in_items, everywhere_in_members}
+use Rattle.jp_document.specs.Value.{items_of, list, list_fits, members_of, object}
+use Rattle.jp_document.specs.declared.location.Step as code
+use Rattle.jp_flat.specs.Flat.{Shown, flat_value, most_levels}
+use Rattle.jp_flat.specs.declared.finding.Sought.{Sought}
+use Rattle.jp_flat.specs.declared.item.Item.{Item}
+
+-- the location of these steps, if there are some
+abbrev pub location_of : Option (Bor (List code.Step)) → Option Location
+location_of = option_map (λ steps. map step_of steps.now)
+
+-- the location that is sought in a list or an object
+abbrev pub whole_location : Sought → Location
+whole_location s = step_of s.step ∷ map step_of s.rest.now
+
+-- what is sought in the part at a step of a value in which that is sought
+abbrev pub sought_at : Step → Option Location → Option Location
+sought_at k (Some (j ∷ l)) = if is_eq (step_cmp j k) then Some l else None
+sought_at k _ = None
+
+-- the value at the location in v, if there is one, and if a location is sought
+abbrev pub value_sought : Option Location → Value → Option Value
+value_sought None v = None
+value_sought (Some l) v = value_at v l
+
+-- of what is found in an earlier part and in a later one, what counts: the later one, if something
+-- is sought in it
+abbrev pub later : Option Location → Option Item → Option Item → Option Item
+later None before here = before
+later (Some l) before here = here
+
+-- the item has that value in the tables, or neither is there
+abbrev pub IsFoundAs : ℕ → Shown → Option Value → Option Item → Type 0
+IsFoundAs n t o None = o ≡ None
+IsFoundAs n t o (Some i) = (v : Value) × (o ≡ Some v) × (flat_value n t i ≡ Some v)
+
+-- the tokens begin with a value, nested no deeper than the number, and the rest follows; what is
+-- sought in it is found as the item
+pub record Finds (depth : ℕ) (ts rest : List Token) (t : Shown) (l : Option Location)
+    (i : Option Item) : Type 0 where
+  pub value : Value
+  pub reads : ReadsValue depth ts rest value
+  pub short : everywhere list_fits value ≡ true
+  pub found : IsFoundAs depth t (value_sought l value) i
+
+-- the same of the items of a list
+pub record FindsItem (depth : ℕ) (ts rest : List Token) (t : Shown) (l : Option Location)
+    (i : Option Item) : Type 0 where
+  pub values : List Value
+  pub reads : ReadsItems depth (length ts) ts rest (items_of values)
+  pub within : everywhere_in_items list_fits (items_of values) ≡ true
+  pub short : list_fits (list (items_of values)) ≡ true
+  pub found : IsFoundAs depth t (value_sought l (list (items_of values))) i
+
+-- the same of the members of an object
+pub record FindsMember (depth : ℕ) (ts rest : List Token) (t : Shown) (l : Option Location)
+    (i : Option Item) : Type 0 where
+  pub members : List (List ℕ × Value)
+  pub reads : ReadsMembers depth (length ts) ts rest (members_of members)
+  pub within : everywhere_in_members list_fits (members_of members) ≡ true
+  pub found : IsFoundAs depth t (value_sought l (object (members_of members))) i
+
+-- the same of a whole text
+pub record FindsInText (source : List ℕ) (t : Shown) (l : Location) (i : Option Item) : Type 0
+  where
+    pub value : Value
+    pub reads : ReadsText source value
+    pub short : everywhere list_fits value ≡ true
+    pub found : IsFoundAs most_levels t (value_at value l) i

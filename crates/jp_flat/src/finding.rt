@@ -1,0 +1,194 @@
+//! The value at a location of a document, found while the document is read. Of values that stand
+//! elsewhere nothing is kept but unescaped texts.
+ghost use Rattle.std.specs.Prelude.{◌≡◌, ◌<◌, ◌∷◌, IfSome, OnSome, length, option_map};
+ghost use Rattle.std.specs.Cmp.Lexicographic.{slice_cmp};
+ghost use Rattle.std.specs.Ordering.{is_eq, nat_cmp};
+ghost use Rattle.jp_document.specs.Location.{named, nth};
+ghost use Rattle.jp_flat.specs.Flat.{Grows, shown, text_at};
+ghost use Rattle.jp_flat.specs.Private.Found.{Finds, FindsItem, FindsMember, later, location_of};
+ghost use Rattle.jp_flat.specs.Private.Found.{sought_at, whole_location};
+ghost use Rattle.jp_flat.specs.Private.Tokens.{token_of};
+
+use crate::cursor::Cursor;
+use crate::item::{Item, Span};
+use crate::leaf::leaf;
+use crate::parts::bytes_at;
+use crate::reading::{Pending, value};
+use crate::spans::text_span;
+use crate::tables::Tables;
+use crate::token::Token;
+use jp_document::Step;
+
+/// What is sought in a list or an object: in its part at a step, the value at the rest of a location.
+#[derive(Clone, Copy)]
+struct Sought<'l> {
+    step: Step<'l>,
+    rest: &'l [Step<'l>],
+}
+
+/// Reads one value, and finds in it the value at a location, if one is given.
+#[cycle(finding)]
+#[inline(always)]
+pub(crate) fn find(
+    tables: &mut Tables<'_>,
+    pending: &mut Pending,
+    reader: &mut Cursor<'_>,
+    depth: usize,
+    location: Option<&[Step<'_>]>,
+) -> Option<Option<Item>>
+    requires { reader.old.text ≡ tables.old.text.now }
+    ensures finds { IfSome result (Finds depth reader.old.tokens reader.new.tokens (shown tables.new)
+        (location_of location.entry)) }
+    ensures grows { OnSome result (Grows (shown tables.old) (shown tables.new)) }
+    ensures shorter { OnSome result (length reader.new.tokens < length reader.old.tokens) }
+    ensures text { reader.new.text ≡ reader.old.text }
+{
+    match location {
+        Some([]) => {
+            let item = value(tables, pending, reader, depth)?;
+            Some(Some(item))
+        }
+        Some([step, rest @ ..]) => {
+            let sought = Sought { step: *step, rest };
+            find_inside(tables, pending, reader, depth, Some(sought))
+        }
+        None => find_inside(tables, pending, reader, depth, None),
+    }
+}
+
+/// Reads one value, and finds what is sought in it, which is not the value itself.
+#[cycle(finding)]
+#[inline(always)]
+fn find_inside(
+    tables: &mut Tables<'_>,
+    pending: &mut Pending,
+    reader: &mut Cursor<'_>,
+    depth: usize,
+    sought: Option<Sought<'_>>,
+) -> Option<Option<Item>>
+    requires { reader.old.text ≡ tables.old.text.now }
+    ensures finds { IfSome result (Finds depth reader.old.tokens reader.new.tokens (shown tables.new)
+        (option_map whole_location sought.entry)) }
+    ensures grows { OnSome result (Grows (shown tables.old) (shown tables.new)) }
+    ensures shorter { OnSome result (length reader.new.tokens < length reader.old.tokens) }
+    ensures text { reader.new.text ≡ reader.old.text }
+{
+    let token = reader.next()?;
+    match token {
+        Token::BeginArray if depth > 0 => {
+            let found = find_item(tables, pending, reader, depth - 1, sought)?;
+            Some(found)
+        }
+        Token::BeginObject if depth > 0 => {
+            let found = find_member(tables, pending, reader, depth - 1, sought)?;
+            Some(found)
+        }
+        _ => {
+            leaf(tables, &mut pending.room, token)?;
+            Some(None)
+        }
+    }
+}
+
+/// Reads the items of a list, and finds what is sought in them.
+#[cycle(finding)]
+fn find_item(
+    tables: &mut Tables<'_>,
+    pending: &mut Pending,
+    reader: &mut Cursor<'_>,
+    depth: usize,
+    sought: Option<Sought<'_>>,
+) -> Option<Option<Item>>
+    requires { reader.old.text ≡ tables.old.text.now }
+    ensures finds { IfSome result (FindsItem depth reader.old.tokens reader.new.tokens
+        (shown tables.new) (option_map whole_location sought.entry)) }
+    ensures grows { OnSome result (Grows (shown tables.old) (shown tables.new)) }
+    ensures shorter { OnSome result (length reader.new.tokens < length reader.old.tokens) }
+    ensures text { reader.new.text ≡ reader.old.text }
+{
+    let mut found = None;
+    let mut index = 0u32;
+    'items: while !reader.take_end_array() {
+        let inside = item_sought(sought, index);
+        let item = find(tables, pending, reader, depth, inside)?;
+        found = found_later(found, inside, item);
+        index = index.checked_add(1)?;
+    }
+    Some(found)
+}
+
+/// Reads the members of an object, and finds what is sought in them: of members with one name, in
+/// the last.
+#[cycle(finding)]
+fn find_member(
+    tables: &mut Tables<'_>,
+    pending: &mut Pending,
+    reader: &mut Cursor<'_>,
+    depth: usize,
+    sought: Option<Sought<'_>>,
+) -> Option<Option<Item>>
+    requires { reader.old.text ≡ tables.old.text.now }
+    ensures finds { IfSome result (FindsMember depth reader.old.tokens reader.new.tokens
+        (shown tables.new) (option_map whole_location sought.entry)) }
+    ensures grows { OnSome result (Grows (shown tables.old) (shown tables.new)) }
+    ensures shorter { OnSome result (length reader.new.tokens < length reader.old.tokens) }
+    ensures text { reader.new.text ≡ reader.old.text }
+{
+    let mut found = None;
+    'members: while let Some(name) = reader.next_name()? {
+        let span = text_span(tables, &mut pending.room, name)?;
+        let inside = member_sought(sought, tables, span);
+        let item = find(tables, pending, reader, depth, inside)?;
+        found = found_later(found, inside, item);
+    }
+    Some(found)
+}
+
+/// What is found so far, with what a later part has, if it is the one that is sought.
+#[inline(always)]
+fn found_later(found: Option<Item>, inside: Option<&[Step<'_>]>, item: Option<Item>) -> Option<Item>
+    ensures { result ≡ later (location_of inside.entry) found item }
+{
+    if inside.is_some() { item } else { found }
+}
+
+/// What is sought in the item with this index.
+#[inline(always)]
+fn item_sought<'l>(sought: Option<Sought<'l>>, index: u32) -> Option<&'l [Step<'l>]>
+    ensures { location_of result ≡ sought_at (nth index) (option_map whole_location sought.entry) }
+{
+    let Sought { step, rest } = sought?;
+    match step {
+        Step::Index(wanted) if wanted == u64::from(index) => Some(rest),
+        _ => None,
+    }
+}
+
+/// What is sought in the member whose name stands at this span.
+#[inline(always)]
+fn member_sought<'l>(
+    sought: Option<Sought<'l>>,
+    tables: &Tables<'_>,
+    name: Span,
+) -> Option<&'l [Step<'l>]>
+    ensures { IfSome (text_at (shown tables.now) name)
+        (λ n. location_of result ≡ sought_at (named n) (option_map whole_location sought.entry)) }
+{
+    let Sought { step, rest } = sought?;
+    match step {
+        Step::Name(wanted) if is_named(tables, name, wanted) => Some(rest),
+        _ => None,
+    }
+}
+
+/// Whether the name at this span is that one.
+#[inline(always)]
+fn is_named(tables: &Tables<'_>, name: Span, wanted: &str) -> bool
+    ensures { IfSome (text_at (shown tables.now) name)
+        (λ n. result ≡ is_eq (slice_cmp nat_cmp wanted.now n)) }
+{
+    match bytes_at(tables, name) {
+        Some(bytes) => wanted.as_bytes() == bytes,
+        None => false,
+    }
+}
