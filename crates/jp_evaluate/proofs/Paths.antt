@@ -2,3 +2,4 @@
 pub mod CanonicalPaths
 pub mod LocationLaws
 pub mod PathTrees
+pub mod Steps

@@ -1,6 +1,7 @@
 pub mod Functions
 pub mod Laws
 pub mod Lent
+pub mod Named
 pub mod Nodelist
 pub mod Private
 pub mod Rest

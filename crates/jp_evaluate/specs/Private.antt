@@ -6,4 +6,5 @@ pub mod ReadText
 pub mod Selecting
 pub mod Singular
 pub mod Sizes
+pub mod Steps
 pub mod Walk

@@ -10,10 +10,11 @@
 //! The contract for the crates above: `nodes` gives the nodes of the query's nodelist, by
 //! `specs/Nodelist.antt` and, for what functions answer, `specs/Functions.antt`, in order and with
 //! repeats, one at a time, and `evaluate` collects them; `lent_nodes` gives them of a value in
-//! whatever form it is lent. By `laws` the normalized path of a node of a document, read as a query,
-//! selects that node alone, a query selects nodes of the document alone, and a singular one at most
-//! one. Nothing that they give depends on a query's profile: one without `distinct` means what it
-//! means with the standard's functions alone.
+//! whatever form it is lent. `named_location` tells the location that a query names, whatever the
+//! document, by `specs/Named.antt`. By `laws` the normalized path of a node of a document, read as a
+//! query, selects that node alone, a query selects nodes of the document alone, and a singular one
+//! at most one. Nothing that they give depends on a query's profile: one without `distinct` means
+//! what it means with the standard's functions alone.
 #![tactic(auto)]
 
 mod calls;
@@ -24,6 +25,7 @@ mod filter;
 pub mod laws;
 mod length;
 mod lent;
+mod named;
 mod operand;
 mod pattern;
 mod selecting;
@@ -35,4 +37,5 @@ mod walk;
 pub use each::Nodes;
 pub use evaluation::{evaluate, nodes};
 pub use lent::{LentNodes, lent_nodes, lent_nodes_with};
+pub use named::named_location;
 pub use pattern::Patterns;

@@ -1,5 +1,5 @@
 //! Nodelists, and nodes one at a time. Other rows are in jp_command's table.
-use crate::{evaluate, nodes};
+use crate::{evaluate, named_location, nodes};
 use jp_check::{Profile, read_query};
 use jp_document::{Document, path_text, value_text};
 use jp_match::Marks;
@@ -86,5 +86,31 @@ fn no_nodes(rt: HostRuntime) -> Result<(), Fail> {
         .ok_or("refused")?;
     let mut none = nodes(alloc, &document, &query, &Marks);
     assert!(rt; none.next().is_none() && none.next().is_none() && !none.failed());
+    Ok(())
+}
+
+#[test]
+fn named_locations(rt: HostRuntime) -> Result<(), Fail> {
+    let alloc = rt.alloc();
+    for (query, path) in [
+        ("$", Some("$")),
+        ("$.store['book'][0]", Some("$['store']['book'][0]")),
+        ("$..a", None),
+        ("$[*]", None),
+        ("$[-1]", None),
+        ("$['a','b']", None),
+        ("$[0:1]", None),
+        ("$[?@.a]", None),
+        ("$.a[*].b", None),
+    ] {
+        let query = read_query(alloc, query, Profile::Standard)
+            .ok()
+            .ok_or("refused")?;
+        let text = match named_location(alloc, &query)? {
+            Some(location) => Some(path_text(alloc, &location)?),
+            None => None,
+        };
+        assert_eq!(rt; text.as_ref().map(|text| text.as_str()), path);
+    }
     Ok(())
 }

@@ -1,0 +1,23 @@
+use Rattle.std.proofs.Common.{◌≡◌, ◌+◌, ◌++◌, [], ◌∷◌, ap, drop, map, subst, sym, ◌∙◌}
+use Rattle.std.proofs.lemmas.List.{drop_more, map-append}
+use Rattle.jp_document.specs.Location.{step_of}
+use Rattle.jp_tree.specs.Views.{query_of}
+use Rattle.jp_evaluate.proofs.Paths.Steps.{LeadOn, lead-next}
+use Rattle.jp_evaluate.proofs.named.location_of_steps.Goals as goal
+
+pub loop-segment-preserved : goal.loop-segment-preserved
+loop-segment-preserved c =
+    let q = query_of c.args.query.now in
+    let xs = c.deref-segment-items.result.now in
+    let i = c.loop-segment.segment-index in
+    let s = c.segment-item.result in
+    let ks = c.loop-segment.location.items in
+    let l = map step_of ks in
+    let k = step_of c.in-Some.step in
+    let rest = drop (i + 1) xs in
+    let here : drop i xs ≡ s ∷ rest =
+    drop_more xs i s c.loop-segment-test.true ∙ ap (λ t. t ∷ rest) (sym c.segment-item.is) in
+    let grown : map step_of c.push.new.self.items ≡ l ++ k ∷ [] =
+    ap (map step_of) c.in_ok-push.ensures.items ∙ map-append step_of ks (c.in-Some.step ∷ []) in
+    subst (λ m. LeadOn q m rest) (sym grown)
+    (lead-next q l s rest k c.in-Some.ensures (subst (LeadOn q l) here c.loop-segment.invariant))

@@ -1,0 +1,79 @@
+//! The location that a query names (RFC 9535 section 2.7).
+ghost use Rattle.std.specs.Prelude.{IfOk, IfSome, map};
+ghost use Rattle.jp_document.specs.Location.{step_of};
+ghost use Rattle.jp_tree.specs.Views.{query_of, segment_of, selector_of};
+ghost use Rattle.jp_evaluate.specs.Named.{NamesLocation};
+ghost use Rattle.jp_evaluate.specs.Private.Steps.{SegmentNames, SelectorNames};
+
+use jp_check::Checked;
+use jp_document::Step;
+use jp_tree::{Numeral, Query, Segment, Selector};
+use std::alloc::{AllocError, Global};
+
+/// The location that a query names: over each document the query selects the node there alone, or
+/// none where the document has no value there. A query names one where each of its segments is a
+/// child segment whose only selector is a name or an index from 0 on; others have None, which takes
+/// no memory, nor does the root. The only error is that memory ran out.
+pub fn named_location<'q>(
+    alloc: Global,
+    query: &'q Checked,
+) -> Result<Option<Vec<Step<'q>>>, AllocError>
+    ensures { IfOk result (λ o. IfSome o
+        (λ l. NamesLocation (query_of query.now.query) (map step_of l.items))) }
+{
+    let query = query.query();
+    if !names_steps(query) {
+        return Ok(None);
+    }
+    location_of_steps(alloc, query)
+}
+
+/// Whether each segment names a step.
+fn names_steps(query: &Query) -> bool {
+    for segment in &query.segments {
+        if segment_step(segment).is_none() {
+            return false;
+        }
+    }
+    true
+}
+
+/// The steps that the segments name, None where one names none.
+fn location_of_steps<'q>(
+    alloc: Global,
+    query: &'q Query,
+) -> Result<Option<Vec<Step<'q>>>, AllocError>
+    ensures { IfOk result (λ o. IfSome o
+        (λ l. NamesLocation (query_of query.now) (map step_of l.items))) }
+{
+    let mut location = Vec::with_capacity(alloc, query.segments.len())?;
+    for segment in &query.segments {
+        let Some(step) = segment_step(segment) else {
+            return Ok(None);
+        };
+        location.push(step)?;
+    }
+    Ok(Some(location))
+}
+
+/// The step that a segment names, None for a descendant segment, and for one with no selector or
+/// several.
+fn segment_step(segment: &Segment) -> Option<Step<'_>>
+    ensures { IfSome result (λ k. SegmentNames (segment_of segment.now) (step_of k)) }
+{
+    if segment.descendant || segment.selectors.len() != 1 {
+        return None;
+    }
+    selector_step(segment.selectors.first()?)
+}
+
+/// The step that a selector names, None for others than names and indexes from 0 on.
+fn selector_step(selector: &Selector) -> Option<Step<'_>>
+    ensures { IfSome result (λ k. SelectorNames (selector_of selector.now) (step_of k)) }
+{
+    match selector {
+        Selector::Name(name) => Some(Step::Name(name.as_str())),
+        Selector::Index(Numeral::Whole(index)) => Some(Step::Index(u64::try_from(*index).ok()?)),
+        Selector::Index(_) | Selector::Wildcard | Selector::Slice(_) | Selector::Filter(_) => None,
+    }
+}
