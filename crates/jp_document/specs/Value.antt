@@ -1,11 +1,12 @@
 -- JSON values whose numbers are whole (RFC 9535 section 1.1).
 use Rattle.std.specs.Prelude.{ℕ, suc, ℤ, pos, negsuc, Bool, true, ◌&&◌, nat_lt}
-use Rattle.std.specs.Prelude.{nat_le, ◌-◌, ◌^◌, ◌≡◌, List, [], ◌∷◌, Option, Some, None}
+use Rattle.std.specs.Prelude.{nat_le, ◌^◌, ◌≡◌, List, [], ◌∷◌, Option, Some, None}
 use Rattle.std.specs.Prelude.{string_bytes}
 use Rattle.std.specs.Cmp.Lexicographic.{slice_cmp}
 use Rattle.std.specs.List.{list_all}
 use Rattle.std.specs.Ordering.{is_lt, nat_cmp}
 use Rattle.std.specs.Str.{is_utf8}
+use Rattle.jp_reading.specs.Numbers.{largest_exact}
 use Rattle.jp_document.specs.declared.value.Json.{Json, fold-Json}
 use Rattle.jp_document.specs.declared.value.Member.{Member, fold-Member}
 use Rattle.jp_document.specs.declared.value.Json.TheOpen.{Json-F, Member-F}
@@ -74,7 +75,7 @@ fits_64_bits (negsuc n) = nat_lt n (2 ^ 63)
 
 -- a list has at most (2^53)-1 items
 abbrev pub list_fits : Value → Bool
-list_fits (list vs) = nat_le (item_count vs) (2 ^ 53 - 1)
+list_fits (list vs) = nat_le (item_count vs) largest_exact
 list_fits _ = true
 
 -- the names rise, and each is a text: the UTF-8 of scalar values (RFC 8259 section 8.1)
