@@ -20,9 +20,9 @@ use Rattle.jp_tree.specs.declared.tree.Subject.{Subject}
 use Rattle.jp_tree.specs.Tree.{ArgumentTree, CallTree, ExprTree, OperandTree, QueryTree}
 use Rattle.jp_tree.specs.Tree.{SegmentTree, SelectorTree, all_of, any_of, arguments, call}
 use Rattle.jp_tree.specs.Tree.{call_test, exists, exprs, query, segment, segments, selectors}
-use Rattle.jp_tree.specs.Views.{argument_of, argument_step, call_of, call_step, expr_of, expr_step}
-use Rattle.jp_tree.specs.Views.{operand_of, operand_step, query_of, query_step, segment_of}
-use Rattle.jp_tree.specs.Views.{segment_step, selector_of, selector_step, subject_of, subject_step}
+use Rattle.jp_tree.specs.Views.{argument_of, argument_layer, call_of, call_layer, expr_of, expr_layer}
+use Rattle.jp_tree.specs.Views.{operand_of, operand_layer, query_of, query_layer, segment_of}
+use Rattle.jp_tree.specs.Views.{segment_layer, selector_of, selector_layer, subject_of, subject_layer}
 use Rattle.jp_tree.proofs.EqualParts.{Decides-op, Decides-literal, Decides-numeral, Decides-slice}
 use Rattle.jp_tree.proofs.EqualParts.{Decides-text, Decides-items, any_of-injective}
 use Rattle.jp_tree.proofs.EqualParts.{all_of-injective, call-injective, query-injective}
@@ -84,35 +84,35 @@ abbrev layer_tree : (j : block.the_members) → Layer j block.the_family → Tre
 layer_tree j x =
     folds.steps
     ArgumentTree ExprTree OperandTree SelectorTree ExprTree CallTree QueryTree SegmentTree
-    argument_step expr_step operand_step selector_step subject_step call_step query_step
-    segment_step j ((block.the_bodies j).map block.the_family Trees tree x)
+    argument_layer expr_layer operand_layer selector_layer subject_layer call_layer query_layer
+    segment_layer j ((block.the_bodies j).map block.the_family Trees tree x)
 
 tree_is : (j : block.the_members) (x : Layer j block.the_family)
     → tree j (roll j x) ≡ layer_tree j x
 tree_is member-Argument x =
     folds.fold-roll-Argument _ _ _ _ _ _ _ _ _ _ _ _ _ _ _ _ x
-    ∙ ap argument_step (sym (folds.map_is-Argument block.the_family Trees tree x))
+    ∙ ap argument_layer (sym (folds.map_is-Argument block.the_family Trees tree x))
 tree_is member-Expr x =
     folds.fold-roll-Expr _ _ _ _ _ _ _ _ _ _ _ _ _ _ _ _ x
-    ∙ ap expr_step (sym (folds.map_is-Expr block.the_family Trees tree x))
+    ∙ ap expr_layer (sym (folds.map_is-Expr block.the_family Trees tree x))
 tree_is member-Operand x =
     folds.fold-roll-Operand _ _ _ _ _ _ _ _ _ _ _ _ _ _ _ _ x
-    ∙ ap operand_step (sym (folds.map_is-Operand block.the_family Trees tree x))
+    ∙ ap operand_layer (sym (folds.map_is-Operand block.the_family Trees tree x))
 tree_is member-Selector x =
     folds.fold-roll-Selector _ _ _ _ _ _ _ _ _ _ _ _ _ _ _ _ x
-    ∙ ap selector_step (sym (folds.map_is-Selector block.the_family Trees tree x))
+    ∙ ap selector_layer (sym (folds.map_is-Selector block.the_family Trees tree x))
 tree_is member-Subject x =
     folds.fold-roll-Subject _ _ _ _ _ _ _ _ _ _ _ _ _ _ _ _ x
-    ∙ ap subject_step (sym (folds.map_is-Subject block.the_family Trees tree x))
+    ∙ ap subject_layer (sym (folds.map_is-Subject block.the_family Trees tree x))
 tree_is member-Call x =
     folds.fold-roll-Call _ _ _ _ _ _ _ _ _ _ _ _ _ _ _ _ x
-    ∙ ap call_step (sym (folds.map_is-Call block.the_family Trees tree x))
+    ∙ ap call_layer (sym (folds.map_is-Call block.the_family Trees tree x))
 tree_is member-Query x =
     folds.fold-roll-Query _ _ _ _ _ _ _ _ _ _ _ _ _ _ _ _ x
-    ∙ ap query_step (sym (folds.map_is-Query block.the_family Trees tree x))
+    ∙ ap query_layer (sym (folds.map_is-Query block.the_family Trees tree x))
 tree_is member-Segment x =
     folds.fold-roll-Segment _ _ _ _ _ _ _ _ _ _ _ _ _ _ _ _ x
-    ∙ ap segment_step (sym (folds.map_is-Segment block.the_family Trees tree x))
+    ∙ ap segment_layer (sym (folds.map_is-Segment block.the_family Trees tree x))
 
 -- ---- one layer whose parts are decided
 
