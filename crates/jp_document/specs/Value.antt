@@ -115,21 +115,21 @@ abbrev pub members_of : List (List ℕ × Value) → Members
 members_of [] = no_members
 members_of (m ∷ ms) = member m.0 m.1 (members_of ms)
 
--- one level, with the value of each part in its place
-abbrev pub json_step : Json-F Value (List ℕ × Value) → Value
-json_step Json-F.Null = null
-json_step (Json-F.Bool b) = boolean b
-json_step (Json-F.Whole z) = whole z
-json_step (Json-F.Text s) = text (string_bytes s)
-json_step (Json-F.List v) = list (items_of v.items)
-json_step (Json-F.Members v) = object (members_of v.items)
+-- one layer, with the value of each part in its place
+abbrev pub json_layer : Json-F Value (List ℕ × Value) → Value
+json_layer Json-F.Null = null
+json_layer (Json-F.Bool b) = boolean b
+json_layer (Json-F.Whole z) = whole z
+json_layer (Json-F.Text s) = text (string_bytes s)
+json_layer (Json-F.List v) = list (items_of v.items)
+json_layer (Json-F.Members v) = object (members_of v.items)
 
-abbrev pub member_step : Member-F Value (List ℕ × Value) → List ℕ × Value
-member_step m = (string_bytes m.name, m.value)
+abbrev pub member_layer : Member-F Value (List ℕ × Value) → List ℕ × Value
+member_layer m = (string_bytes m.name, m.value)
 
 abbrev pub value_of : Json → Value
-value_of = fold-Json Value (List ℕ × Value) json_step member_step
+value_of = fold-Json Value (List ℕ × Value) json_layer member_layer
 
 -- the name and the value of a member
 abbrev pub member_of : Member → List ℕ × Value
-member_of = fold-Member Value (List ℕ × Value) json_step member_step
+member_of = fold-Member Value (List ℕ × Value) json_layer member_layer

@@ -209,7 +209,7 @@ value-document bytes v h = of_utf8 (is_utf8 bytes) refl h
 unfoldable pub answer : List ℕ → List ℕ → Option (List ℕ)
 unfolding tree value index_text spelling digits is_match has_match is_word has_word class_holds
     element_holds pattern_of pattern.pattern_at pattern.branches_at pattern.branch_at pattern.piece_at
-    pattern.atom_at pattern.class_at pattern.items_at pattern.element_at pattern.character_at
+    pattern.atom_at pattern.class_at pattern.all_elements_at pattern.element_at pattern.character_at
     pattern.range_at is_plain
 answer document text =
     option_and_then (λ q. option_map (output_of Both q) (value document)) (tree text)

@@ -23,18 +23,18 @@ pub record ReadsValue (depth : ℕ) (ts rest : List Token) (v : Value) : Type 0 
   pub read : converted of_json (tokens.value depth ts) ≡ Some (reading, rest)
   pub holds : value_of_data reading ≡ Some v
 
--- the same of the items of a list, in at most so many turns
-pub record ReadsItems (depth turns : ℕ) (ts rest : List Token) (vs : Items) : Type 0 where
+-- the same of the items of a list, in at most so many rounds
+pub record ReadsItems (depth rounds : ℕ) (ts rest : List Token) (vs : Items) : Type 0 where
   pub reading : parsed.Items
-  pub read : converted of_items (tokens.items (tokens.value depth) turns ts) ≡ Some (reading, rest)
+  pub read : converted of_items (tokens.items (tokens.value depth) rounds ts) ≡ Some (reading, rest)
   pub holds : items_of_data reading ≡ Some vs
 
 -- the same of the members of an object
-pub record ReadsMembers (depth turns : ℕ) (ts rest : List Token) (ms : Members) : Type 0 where
+pub record ReadsMembers (depth rounds : ℕ) (ts rest : List Token) (ms : Members) : Type 0 where
   pub reading : parsed.Members
   pub read :
       converted (λ js. of_members js parsed.no_members)
-      (tokens.members (tokens.value depth) turns ts) ≡ Some (reading, rest)
+      (tokens.members (tokens.value depth) rounds ts) ≡ Some (reading, rest)
   pub holds : members_of_data reading ≡ Some ms
 
 -- the characters write the whole number z

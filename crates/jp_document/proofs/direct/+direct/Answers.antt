@@ -14,8 +14,8 @@ use Rattle.jp_document.specs.Value.{value_of}
 use Rattle.jp_document.specs.declared.value.Json.{Whole}
 use Rattle.jp_document.proofs.Tokens.Ahead.{ahead_item, ahead_items_end, ahead_item_short}
 use Rattle.jp_document.proofs.Tokens.Ahead.{ahead_member, ahead_members_end}
-use Rattle.jp_document.proofs.Tokens.Turns.{reads-null, reads-boolean, reads-text}
-use Rattle.jp_document.proofs.Tokens.Turns.{reads-whole, reads-list, reads-object}
+use Rattle.jp_document.proofs.Tokens.Rounds.{reads-null, reads-boolean, reads-text}
+use Rattle.jp_document.proofs.Tokens.Rounds.{reads-whole, reads-list, reads-object}
 use Rattle.jp_document.proofs.direct.+direct.Goals as goal
 
 pub value-returns-in-Null-clause-reads : goal.value-returns-in-Null-clause-reads

@@ -2,7 +2,7 @@ use Rattle.std.proofs.Common.{◌≡◌, drop, true, false, sym, ap, ◌∙◌}
 use Rattle.std.proofs.Common.{arith, rules, take_all, length-drop}
 use Rattle.fast_float.specs.Text.{scan}
 use Rattle.serde_json.specs.Read.{number_from}
-use Rattle.jp_document.proofs.Tokens.Turns.{from_zero_text, below_zero_text}
+use Rattle.jp_document.proofs.Tokens.Rounds.{from_zero_text, below_zero_text}
 use Rattle.jp_document.proofs.direct.integer_of.Goals as goal
 
 pub returns-in_ok-below_zero : goal.returns-in_ok-below_zero
