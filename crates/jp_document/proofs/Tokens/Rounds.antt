@@ -16,8 +16,8 @@ use Rattle.fast_float.specs.Text.{minus, scan}
 use Rattle.serde_json.specs.Data.{Data, put, unsigned, negative}
 use Rattle.serde_json.specs.Read.{of_json, of_items, of_members, converted}
 use Rattle.serde_json.specs.Read.{number_of, number_from, max_depth}
-use Rattle.jp_document.specs.Private.Direct.{IsWholeText, ReadsItems}
-use Rattle.jp_document.specs.Private.Direct.{ReadsMembers, ReadsText, ReadsValue}
+use Rattle.jp_document.specs.Integer.{IsWholeText}
+use Rattle.jp_document.specs.Private.Direct.{ReadsItems, ReadsMembers, ReadsText, ReadsValue}
 use Rattle.jp_document.specs.Document.{items_of_data, value_of_data}
 use Rattle.jp_document.specs.Value.{Value, null, boolean, whole, text, list}
 use Rattle.jp_document.specs.Value.{object, Items, no_items, item, items_of, members_of}
