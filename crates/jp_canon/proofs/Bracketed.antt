@@ -14,7 +14,7 @@ selector_texts-map : (ys : List SelectorTree) → selector_texts (selectors ys) 
 selector_texts-map [] = refl
 selector_texts-map (y ∷ ys) = ap (λ ts. selector_text y ∷ ts) (selector_texts-map ys)
 
--- the mark between selectors
+-- the separator between selectors
 abbrev pub Comma : Form
 Comma = word (codes ",") ⌢ Blank
 

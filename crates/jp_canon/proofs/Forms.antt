@@ -54,7 +54,7 @@ pub has-each : {A : Type 0} (Q : A → Form) (f : A → Text) (xs : List A)
 has-each Q f [] all = has-word []
 has-each Q f (x ∷ xs) all = both all.0 (has-each Q f xs all.1)
 
--- ---- with a mark between two neighbours
+-- ---- with a separator between two neighbours
 
 pub separated-gives : {A : Type 0} (w : Form) (P : A → Form) (R : A → Type 0)
     → ((x : A) (s : Spans) (o : ℕ) (t : Text) → P x s o t → R x)
@@ -67,18 +67,18 @@ separated-gives w P R f (x ∷ xs) s o t h = (
       (o + bytes h.first) h.second h.two,
 )
 
-has-others : {A : Type 0} (w : Form) (mark : Text) (Q : A → Form) (f : A → Text) → Has w mark
+has-others : {A : Type 0} (w : Form) (separator : Text) (Q : A → Form) (f : A → Text) → Has w separator
     → (xs : List A) → AllByRecursion (λ x. Has (Q x) (f x)) xs
-    → Has (Each (λ y. w ⌢ Q y) xs) (flat_map (λ u. mark ++ u) (map f xs))
-has-others w mark Q f between [] all = has-word []
-has-others w mark Q f between (x ∷ xs) all = both (both between all.0)
-    (has-others w mark Q f between xs all.1)
+    → Has (Each (λ y. w ⌢ Q y) xs) (flat_map (λ u. separator ++ u) (map f xs))
+has-others w separator Q f between [] all = has-word []
+has-others w separator Q f between (x ∷ xs) all = both (both between all.0)
+    (has-others w separator Q f between xs all.1)
 
-pub has-separated : {A : Type 0} (w : Form) (mark : Text) (Q : A → Form) (f : A → Text)
-    → Has w mark → (x : A) (xs : List A)
+pub has-separated : {A : Type 0} (w : Form) (separator : Text) (Q : A → Form) (f : A → Text)
+    → Has w separator → (x : A) (xs : List A)
     → AllByRecursion (λ y. Has (Q y) (f y)) (x ∷ xs)
-    → Has (Separated w Q (x ∷ xs)) (separated mark (map f (x ∷ xs)))
-has-separated w mark Q f between x xs all = both all.0 (has-others w mark Q f between xs all.1)
+    → Has (Separated w Q (x ∷ xs)) (separated separator (map f (x ∷ xs)))
+has-separated w separator Q f between x xs all = both all.0 (has-others w separator Q f between xs all.1)
 
 -- one part alone
 pub has-alone : {A : Type 0} (w : Form) (Q : A → Form) (x : A) (t : Text) → Has (Q x) t

@@ -4,6 +4,6 @@ use Rattle.std.specs.List.{flat_map}
 use Rattle.jp_reading.specs.Texts.{Text}
 use Rattle.jp_canon.specs.Canon.{separated}
 
--- the texts from place i on, with a mark before each but the first of all
+-- the texts from index i on, with a separator before each but the first of all
 abbrev pub texts_from : ℕ → Text → List Text → Text
-texts_from i mark ts = cond (ltb 0 i) (flat_map (λ t. mark ++ t) ts) (separated mark ts)
+texts_from i separator ts = cond (ltb 0 i) (flat_map (λ t. separator ++ t) ts) (separated separator ts)

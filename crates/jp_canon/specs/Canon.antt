@@ -23,9 +23,9 @@ use Rattle.jp_tree.specs.Tree.{false_literal, null_literal}
 use Rattle.jp_canon.specs.Precedence.{or_precedence, and_precedence}
 use Rattle.jp_canon.specs.Precedence.{not_precedence, is_grouped, is_test, grouped}
 
--- the texts one after another, with a mark between two neighbours
+-- the texts one after another, with a separator between two neighbours
 abbrev pub separated : Text → List Text → Text
-separated mark texts = join_by (λ t. t) mark texts
+separated separator texts = join_by (λ t. t) separator texts
 
 -- a whole number in decimal; one that no accepted query has is written as another of its kind,
 -- outside the range or with a fraction

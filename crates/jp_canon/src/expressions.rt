@@ -51,16 +51,21 @@ pub(crate) fn write_expr(out: &mut Writer, expr: &Expr) -> Result<(), AllocError
     }
 }
 
-/// Writes the parts of an expression of this precedence, with its mark between them.
+/// Writes the parts of an expression of this precedence, with this separator between them.
 #[cycle(nested)]
-fn write_parts(out: &mut Writer, parts: &[Expr], outer: u8, mark: &str) -> Result<(), AllocError>
-    requires { list_all is_ascii mark.now ≡ true }
+fn write_parts(
+    out: &mut Writer,
+    parts: &[Expr],
+    outer: u8,
+    separator: &str,
+) -> Result<(), AllocError>
+    requires { list_all is_ascii separator.now ≡ true }
     ensures { OnOk result (out.new
-        ≡ out.old ++ separated mark.now (part_texts outer (exprs (map expr_of parts.now)))) }
+        ≡ out.old ++ separated separator.now (part_texts outer (exprs (map expr_of parts.now)))) }
 {
     for (i, part) in parts.iter().enumerate() {
         let grouped = is_grouped(outer, part);
-        out.word_if(i > 0, mark)?;
+        out.word_if(i > 0, separator)?;
         out.word_if(grouped, "(")?;
         write_expr(out, part)?;
         out.word_if(grouped, ")")?;

@@ -44,7 +44,7 @@ impl Writer {
         self.text
     }
 
-    /// Writes a word or a mark.
+    /// Writes a word or a sign.
     pub(crate) fn word(&mut self, word: &str) -> Result<(), AllocError>
         requires { list_all is_ascii word.now ≡ true }
         ensures { OnOk result (self.new ≡ self.old ++ word.now) }
@@ -52,7 +52,7 @@ impl Writer {
         self.text.push_str(word)
     }
 
-    /// Writes a word or a mark, if it has to be there.
+    /// Writes a word or a sign, if it has to be there.
     pub(crate) fn word_if(&mut self, there: bool, word: &str) -> Result<(), AllocError>
         requires { list_all is_ascii word.now ≡ true }
         ensures { OnOk result (self.new ≡ self.old ++ (if there then word.now else [])) }

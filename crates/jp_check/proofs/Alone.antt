@@ -30,7 +30,7 @@ use Rattle.jp_check.specs.Types.{wanted}
 use Rattle.jp_check.specs.Laws.{OneAnswer}
 use Rattle.jp_check.specs.Refused.{IsFaulty, RefusalSays, IsRefused, IsRefusedForItself}
 use Rattle.jp_check.proofs.Least.{NoFault, of-cons, of-component, of-none, found}
-use Rattle.jp_check.specs.Private.Inspection.{Progress, steps}
+use Rattle.jp_check.specs.Private.Inspection.{Progress, past_components}
 use Rattle.jp_query.proofs.ComponentSpans.{spans-of_components}
 
 -- ---- kinds have numbers of their own
@@ -232,7 +232,7 @@ spelled-answered : (profile : Profile) (text : Text) (q : QueryTree) (spans : Sp
     ((r : Refusal) × IsRefusedForItself profile text r)
 spelled-answered profile text q spans h =
     let start : Progress = record { profile = profile; spans = spans; first = None } in
-    let first = (steps (components_of q) start).first in
+    let first = (past_components (components_of q) start).first in
     told first
     (found profile text (components_of q) spans first
     (spans-of_components level_limit q spans text h).each refl)

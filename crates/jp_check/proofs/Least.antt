@@ -15,7 +15,7 @@ use Rattle.jp_query.specs.ComponentSpans.{EachSpanned}
 use Rattle.jp_check.specs.declared.profile.Profile.{Profile}
 use Rattle.jp_check.specs.Faults.{HasFault}
 use Rattle.jp_check.specs.First.{IsComponentFault, IsNoLater, IsFirstFault}
-use Rattle.jp_check.specs.Private.Inspection.{fault_of, first_past, is_before, earlier, steps}
+use Rattle.jp_check.specs.Private.Inspection.{fault_of, first_past, is_before, earlier, past_components}
 use Rattle.std.proofs.lemmas.Bool.Decides.{nat_tests}
 use Rattle.jp_check.proofs.OwnFault.{IsOwn, int-fault, own-fault}
 
@@ -228,18 +228,18 @@ least-unspanned profile P x xs o =
     back f (inl p) = inl p
     back f (inr q) = absurd (of-none profile (x ∷ xs) [] f refl q)
 
-steps-least : (profile : Profile) (P : Refusal → Type 0) (components : List QueryComponent) (spans : Spans)
+past_components-least : (profile : Profile) (P : Refusal → Type 0) (components : List QueryComponent) (spans : Spans)
     (first : Option Refusal)
     → IsLeast P first
     → IsLeast (λ f. P f ⊎ IsComponentFault profile components spans f)
-    (steps components (record { profile = profile; spans = spans; first = first })).first
-steps-least profile P [] spans first h =
+    (past_components components (record { profile = profile; spans = spans; first = first })).first
+past_components-least profile P [] spans first h =
     least-alone P (IsComponentFault profile [] spans) first (λ f. of-none profile [] spans f refl) h
-steps-least profile P (x ∷ xs) [] first h =
-    least-unspanned profile P x xs _ (steps-least profile P xs [] first h)
-steps-least profile P (x ∷ xs) (span ∷ spans) first h =
+past_components-least profile P (x ∷ xs) [] first h =
+    least-unspanned profile P x xs _ (past_components-least profile P xs [] first h)
+past_components-least profile P (x ∷ xs) (span ∷ spans) first h =
     least-cons profile P x xs span spans _
-    (steps-least profile (λ f. P f ⊎ OfComponent profile x span f) xs spans
+    (past_components-least profile (λ f. P f ⊎ OfComponent profile x span f) xs spans
     (first_past (fault_of profile x) (span ∷ spans) first)
     (past-least profile P x (fault_of profile x) span spans first (own-fault profile x) h))
 
@@ -284,13 +284,13 @@ faultless profile text (x ∷ xs) (Some span ∷ spans) each none =
 
 -- what the inspection finds from the start
 least-found : (profile : Profile) (components : List QueryComponent) (spans : Spans) (o : Option Refusal)
-    → o ≡ (steps components (record { profile = profile; spans = spans; first = None })).first
+    → o ≡ (past_components components (record { profile = profile; spans = spans; first = None })).first
     → IsLeast (λ f. ⊥ ⊎ IsComponentFault profile components spans f) o
 least-found profile components spans o e =
-    rw e (steps-least profile (λ f. ⊥) components spans None (λ f h. h))
+    rw e (past_components-least profile (λ f. ⊥) components spans None (λ f h. h))
 
 pub found-fault : (profile : Profile) (components : List QueryComponent) (spans : Spans) (r : Refusal)
-    → Some r ≡ (steps components (record { profile = profile; spans = spans; first = None })).first
+    → Some r ≡ (past_components components (record { profile = profile; spans = spans; first = None })).first
     → IsFirstFault profile components spans r
 found-fault profile components spans r e =
     let h = least-found profile components spans (Some r) e in
@@ -304,7 +304,7 @@ found-fault profile components spans r e =
 pub found : (profile : Profile) (text : Text) (components : List QueryComponent) (spans : Spans)
     (o : Option Refusal)
     → EachSpanned text components spans
-    → o ≡ (steps components (record { profile = profile; spans = spans; first = None })).first
+    → o ≡ (past_components components (record { profile = profile; spans = spans; first = None })).first
     → MatchOption o (All (NoFault profile) components) (IsFirstFault profile components spans)
 found profile text components spans None each e =
     let h = least-found profile components spans None e in

@@ -7,4 +7,4 @@ pub mod OwnFault
 pub mod OwnText
 pub mod Rows
 pub mod Segments
-pub mod Steps
+pub mod PastComponents

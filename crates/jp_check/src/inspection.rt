@@ -12,7 +12,7 @@ ghost use Rattle.jp_tree.specs.Views.{segment_of, selector_of, subject_of};
 ghost use Rattle.jp_check.specs.Faults.{IsFaultless};
 ghost use Rattle.jp_check.specs.First.{IsFirstFault};
 ghost use Rattle.jp_check.specs.Private.Inspection.{earlier, fault_of_call, fault_of_int, fault_of_query};
-ghost use Rattle.jp_check.specs.Private.Inspection.{is_before, past_argument, past_component, steps};
+ghost use Rattle.jp_check.specs.Private.Inspection.{is_before, past_argument, past_component, past_components};
 
 use crate::faults::{
     fault_of_call, fault_of_int, fault_of_literal, fault_of_logical, fault_of_query,
@@ -75,7 +75,7 @@ impl<'s> Inspection<'s> {
     /// Goes through the components of a query.
     #[cycle(inspection)]
     fn query(&mut self, query: &Query)
-        ensures { self.new ≡ steps (components_of (query_of query.now)) self.old }
+        ensures { self.new ≡ past_components (components_of (query_of query.now)) self.old }
     {
         for segment in &query.segments {
             self.segment(segment);
@@ -85,7 +85,7 @@ impl<'s> Inspection<'s> {
     /// Goes through the components of a segment.
     #[cycle(inspection)]
     fn segment(&mut self, segment: &Segment)
-        ensures { self.new ≡ steps (segment_components (segment_of segment.now)) self.old }
+        ensures { self.new ≡ past_components (segment_components (segment_of segment.now)) self.old }
     {
         for selector in &segment.selectors {
             self.selector(selector);
@@ -95,7 +95,7 @@ impl<'s> Inspection<'s> {
     /// Goes through the components of a selector.
     #[cycle(inspection)]
     fn selector(&mut self, selector: &Selector)
-        ensures { self.new ≡ steps (selector_components (selector_of selector.now)) self.old }
+        ensures { self.new ≡ past_components (selector_components (selector_of selector.now)) self.old }
     {
         match selector {
             Selector::Name(_) | Selector::Wildcard => {}
@@ -108,7 +108,7 @@ impl<'s> Inspection<'s> {
     /// Goes through the components of a logical expression.
     #[cycle(inspection)]
     fn expr(&mut self, expr: &Expr)
-        ensures { self.new ≡ steps (expr_components (expr_of expr.now)) self.old }
+        ensures { self.new ≡ past_components (expr_components (expr_of expr.now)) self.old }
     {
         match expr {
             Expr::AnyOf(parts) | Expr::AllOf(parts) => self.parts(parts),
@@ -124,7 +124,7 @@ impl<'s> Inspection<'s> {
     /// Goes through the components of the parts of an expression.
     #[cycle(inspection)]
     fn parts(&mut self, parts: &[Expr])
-        ensures { self.new ≡ steps (exprs_components (exprs (map expr_of parts.now))) self.old }
+        ensures { self.new ≡ past_components (exprs_components (exprs (map expr_of parts.now))) self.old }
     {
         for part in parts {
             self.expr(part);
@@ -134,7 +134,7 @@ impl<'s> Inspection<'s> {
     /// Goes through the components of a test, where a logical value is wanted.
     #[cycle(inspection)]
     fn test(&mut self, subject: &Subject)
-        ensures { self.new ≡ steps (expr_components (subject_of subject.now)) self.old }
+        ensures { self.new ≡ past_components (expr_components (subject_of subject.now)) self.old }
     {
         match subject {
             Subject::Query(query) => self.inner(query, Some(DataType::Logical)),
@@ -145,7 +145,7 @@ impl<'s> Inspection<'s> {
     /// Goes through the components of a side of a comparison, where a value is wanted.
     #[cycle(inspection)]
     fn side(&mut self, side: &Operand)
-        ensures { self.new ≡ steps (operand_components (operand_of side.now)) self.old }
+        ensures { self.new ≡ past_components (operand_components (operand_of side.now)) self.old }
     {
         let wanted = Some(DataType::Value);
         match side {
@@ -159,7 +159,7 @@ impl<'s> Inspection<'s> {
     #[cycle(inspection)]
     fn inner(&mut self, query: &Query, wanted: Option<DataType>)
         ensures { self.new
-            ≡ steps
+            ≡ past_components
             (components_of (query_of query.now))
             (past_component (fault_of_query (query_of query.now) wanted) self.old) }
     {
@@ -171,7 +171,7 @@ impl<'s> Inspection<'s> {
     #[cycle(inspection)]
     fn call(&mut self, call: &Call, wanted: Option<DataType>)
         ensures { self.new
-            ≡ steps
+            ≡ past_components
             (call_components (call_of call.now))
             (past_component (fault_of_call self.old.profile (call_of call.now) wanted) self.old) }
     {
@@ -199,9 +199,9 @@ impl<'s> Inspection<'s> {
     }
 
     /// Goes through the parts of a slice; an omitted step is a component without a span.
-    #[tactic(auto, using(crate::proofs::Steps::steps_append))]
+    #[tactic(auto, using(crate::proofs::PastComponents::past_components_append))]
     fn slice(&mut self, slice: &Slice)
-        ensures { self.new ≡ steps (selector_components (slice_tree slice.now)) self.old }
+        ensures { self.new ≡ past_components (selector_components (slice_tree slice.now)) self.old }
     {
         self.bound(slice.start);
         self.bound(slice.end);
@@ -210,7 +210,7 @@ impl<'s> Inspection<'s> {
 
     /// Goes through a bound of a slice, if it is there.
     fn bound(&mut self, bound: Option<Numeral>)
-        ensures { self.new ≡ steps (bound_components bound) self.old }
+        ensures { self.new ≡ past_components (bound_components bound) self.old }
     {
         if let Some(number) = bound {
             self.int(number);

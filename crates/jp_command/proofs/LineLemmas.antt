@@ -8,7 +8,7 @@ use Rattle.std.specs.List.{flat_map}
 use Rattle.std.specs.Result.{IsErrAnd}
 use Rattle.jp_document.specs.Node.{Node}
 use Rattle.jp_command.specs.Output.{AppendsPrefix, StopsWriting, WritesAll}
-use Rattle.jp_command.specs.Private.ByTurns.{WritesGiven, WritesPart}
+use Rattle.jp_command.specs.Private.AsFound.{WritesGiven, WritesPart}
 use Rattle.jp_command.specs.declared.fault.Fault.{Fault}
 use Rattle.jp_command.specs.declared.fault.Fault.TheVariants.{NoMemory}
 use Rattle.jp_command.proofs.Streams.{Appends-twice}

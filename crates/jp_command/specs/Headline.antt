@@ -109,5 +109,5 @@ module _ (profile : Profile) {R W : Type 0} (remaining : R → Option (List ℕ)
         → WritesLine accepted_line text o p
     -- A text that spells no query is refused with one kind and at one place,
     pub syntax_places : OneRefusal
-    -- and one that spells a query with a fault, where the text of the faulty item starts.
+    -- and one that spells a query with a fault, where the text of the faulty component starts.
     pub fault_places : FaultAtItsComponent profile

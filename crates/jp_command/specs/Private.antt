@@ -1,6 +1,6 @@
--- What the contracts of private functions alone cite: lines written by turns, the front of paths,
--- and how runs stop.
-pub mod ByTurns
+-- What the contracts of private functions alone cite: lines written as nodes are found, the front of
+-- paths, and how runs stop.
+pub mod AsFound
 pub mod Faults
 pub mod Fronts
 pub mod Stops

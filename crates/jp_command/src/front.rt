@@ -41,7 +41,7 @@ impl<'d> Front<'d> {
     {
         match location.split_last() {
             Some((last, before)) if before.len() > 1 => {
-                self.turn_to(before)?;
+                self.keep(before)?;
                 line.push('$')?;
                 line.push_str(self.text.as_str())?;
                 push_step(line, *last)
@@ -51,7 +51,7 @@ impl<'d> Front<'d> {
     }
 
     /// Keeps these steps.
-    fn turn_to(&mut self, steps: &[Step<'d>]) -> Result<(), AllocError>
+    fn keep(&mut self, steps: &[Step<'d>]) -> Result<(), AllocError>
         requires { HasPathText self.old }
         ensures kept { OnOk result (HasPathText self.new) }
         ensures steps { OnOk result (map step_of self.new.steps.items ≡ map step_of steps.now) }

@@ -4,7 +4,7 @@ ghost use Rattle.std.specs.Prelude.{◌≡◌, ◌++◌, IfErr, IfOk, OnOk, fals
 ghost use Rattle.std.specs.List.{flat_map};
 ghost use Rattle.jp_command.specs.Lines.{line_behind, line_of, lines_of, output_behind, output_of};
 ghost use Rattle.jp_command.specs.Output.{StopsWriting, WritesAll};
-ghost use Rattle.jp_command.specs.Private.ByTurns.{WritesByTurns};
+ghost use Rattle.jp_command.specs.Private.AsFound.{WritesAsFound};
 ghost use Rattle.jp_command.specs.Private.Fronts.{HasPathText};
 ghost use Rattle.jp_evaluate.specs.Lent.{has_failed, rest_of};
 ghost use Rattle.jp_document.specs.Location.{step_of};
@@ -154,7 +154,7 @@ pub(crate) fn write_lines<'d: 'q, 'q, V: Printed + 'd, W: Writer>(
         (flat_map (line_behind lead.now form) (rest_of V.meaning nodes.old))) }
     ensures stopped { IfErr result (StopsWriting W.contents W.has_failed output.old output.new
         (flat_map (line_behind lead.now form) (rest_of V.meaning nodes.old))) }
-    ensures by_turns { WritesByTurns W.contents (line_behind lead.now form) V.meaning
+    ensures as_found { WritesAsFound W.contents (line_behind lead.now form) V.meaning
         nodes.old nodes.new output.old output.new result }
 {
     let mut location = Vec::new(alloc);

@@ -2,6 +2,7 @@
 -- 2.1 and 2.7).
 use Rattle.std.specs.Prelude.{◌≡◌, ℕ, nat_lt, Bool, true, false, List}
 use Rattle.std.specs.List.{list_any}
+use Rattle.jp_reading.specs.Numbers.{largest_exact}
 use Rattle.jp_reading.specs.declared.reader.Stop.{Stop}
 use Rattle.jp_reading.specs.declared.reader.Stop.TheVariants as stop
 use Rattle.jp_document.specs.declared.path_fault.PathFault.{PathFault}
@@ -13,7 +14,7 @@ use Rattle.jp_document.specs.Path.{path_of}
 -- whether a step is an index above (2^53)-1
 abbrev pub is_large : Step → Bool
 is_large (named s) = false
-is_large (nth i) = nat_lt 9007199254740991 i
+is_large (nth i) = nat_lt largest_exact i
 
 -- `NotNormalized`: the text is the path of no list of steps. `IndexRange`: it is the path of one
 -- with an index above (2^53)-1. Running out of memory says nothing.

@@ -1,11 +1,12 @@
 -- JSON values whose numbers are whole (RFC 9535 section 1.1).
 use Rattle.std.specs.Prelude.{ℕ, suc, ℤ, pos, negsuc, Bool, true, ◌&&◌, nat_lt}
-use Rattle.std.specs.Prelude.{nat_le, ◌-◌, ◌^◌, ◌≡◌, List, [], ◌∷◌, Option, Some, None}
+use Rattle.std.specs.Prelude.{nat_le, ◌^◌, ◌≡◌, List, [], ◌∷◌, Option, Some, None}
 use Rattle.std.specs.Prelude.{string_bytes}
 use Rattle.std.specs.Cmp.Lexicographic.{slice_cmp}
 use Rattle.std.specs.List.{list_all}
 use Rattle.std.specs.Ordering.{is_lt, nat_cmp}
 use Rattle.std.specs.Str.{is_utf8}
+use Rattle.jp_reading.specs.Numbers.{largest_exact}
 use Rattle.jp_document.specs.declared.value.Json.{Json, fold-Json}
 use Rattle.jp_document.specs.declared.value.Member.{Member, fold-Member}
 use Rattle.jp_document.specs.declared.value.Json.TheOpen.{Json-F, Member-F}
@@ -74,7 +75,7 @@ fits_64_bits (negsuc n) = nat_lt n (2 ^ 63)
 
 -- a list has at most (2^53)-1 items
 abbrev pub list_fits : Value → Bool
-list_fits (list vs) = nat_le (item_count vs) (2 ^ 53 - 1)
+list_fits (list vs) = nat_le (item_count vs) largest_exact
 list_fits _ = true
 
 -- the names rise, and each is a text: the UTF-8 of scalar values (RFC 8259 section 8.1)
@@ -114,21 +115,21 @@ abbrev pub members_of : List (List ℕ × Value) → Members
 members_of [] = no_members
 members_of (m ∷ ms) = member m.0 m.1 (members_of ms)
 
--- one level, with the value of each part in its place
-abbrev pub json_step : Json-F Value (List ℕ × Value) → Value
-json_step Json-F.Null = null
-json_step (Json-F.Bool b) = boolean b
-json_step (Json-F.Whole z) = whole z
-json_step (Json-F.Text s) = text (string_bytes s)
-json_step (Json-F.List v) = list (items_of v.items)
-json_step (Json-F.Members v) = object (members_of v.items)
+-- one layer, with the value of each part in its place
+abbrev pub json_layer : Json-F Value (List ℕ × Value) → Value
+json_layer Json-F.Null = null
+json_layer (Json-F.Bool b) = boolean b
+json_layer (Json-F.Whole z) = whole z
+json_layer (Json-F.Text s) = text (string_bytes s)
+json_layer (Json-F.List v) = list (items_of v.items)
+json_layer (Json-F.Members v) = object (members_of v.items)
 
-abbrev pub member_step : Member-F Value (List ℕ × Value) → List ℕ × Value
-member_step m = (string_bytes m.name, m.value)
+abbrev pub member_layer : Member-F Value (List ℕ × Value) → List ℕ × Value
+member_layer m = (string_bytes m.name, m.value)
 
 abbrev pub value_of : Json → Value
-value_of = fold-Json Value (List ℕ × Value) json_step member_step
+value_of = fold-Json Value (List ℕ × Value) json_layer member_layer
 
 -- the name and the value of a member
 abbrev pub member_of : Member → List ℕ × Value
-member_of = fold-Member Value (List ℕ × Value) json_step member_step
+member_of = fold-Member Value (List ℕ × Value) json_layer member_layer

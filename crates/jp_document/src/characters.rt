@@ -5,7 +5,7 @@ ghost use Rattle.jp_document.specs.Private.PathRules.{is_low_digit, is_hex_digit
 
 use jp_reading::CharacterClass;
 
-/// The characters that may stand at a place of a name.
+/// The classes of characters that names are made of.
 #[derive(Clone, Copy)]
 pub(crate) enum Characters {
     /// Those with which a name goes on: all but the quote that ends it.

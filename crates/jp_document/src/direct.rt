@@ -1,20 +1,16 @@
 //! Values straight from the tokens of a text, as `serde_json` reads them. What is no document is
 //! left to it.
-ghost use Rattle.std.specs.Prelude.{◌≡◌, ◌<◌, ◌==◌, true, false, Some, IfSome};
-ghost use Rattle.std.specs.Prelude.{IsTrue, OnSome, length, map, slice_index};
-ghost use Rattle.serde_json.specs.Data.{unsigned, negative};
-ghost use Rattle.serde_json.specs.Read.{number_from};
-ghost use Rattle.jp_document.specs.Private.Direct.{IsWholeText, ReadsItems};
-ghost use Rattle.jp_document.specs.Private.Direct.{ReadsMembers, ReadsText, ReadsValue};
+ghost use Rattle.std.specs.Prelude.{◌≡◌, ◌<◌, true, IfSome, OnSome, length, map};
+ghost use Rattle.jp_document.specs.Private.Direct.{ReadsItems, ReadsMembers, ReadsText, ReadsValue};
 ghost use Rattle.jp_document.specs.Document.{IsDocument};
 ghost use Rattle.jp_document.specs.Value.{everywhere, everywhere_in_items};
 ghost use Rattle.jp_document.specs.Value.{everywhere_in_members, items_of, list};
 ghost use Rattle.jp_document.specs.Value.{list_fits, member_of, members_of, value_of};
 
+use crate::integer::integer_of;
 use crate::member_list::MemberList;
 use crate::reading::is_short;
 use crate::value::{Json, Member};
-use fast_float::Numeral;
 use json::{Reader, Scratch, Token};
 use std::alloc::Global;
 
@@ -53,7 +49,7 @@ fn value(alloc: Global, reader: &mut Reader<'_>, depth: usize) -> Option<Json>
     match token {
         Token::Null => Some(Json::Null),
         Token::Bool(truth) => Some(Json::Bool(truth)),
-        Token::Number(text) => Some(Json::Whole(integer_of(text)?)),
+        Token::Number(text) => Some(Json::Whole(integer_of(text.as_bytes())?)),
         Token::String(text) => Some(Json::Text(String::from_str(alloc, text).ok()?)),
         Token::BeginArray => {
             if depth == 0 {
@@ -105,36 +101,4 @@ fn members(alloc: Global, reader: &mut Reader<'_>, depth: usize) -> Option<Vec<M
     }
     let all = found.members(alloc)?;
     Some(all)
-}
-
-/// The whole number of 64 bits that these characters of JSON write.
-fn integer_of(text: &str) -> Option<i128>
-    ensures { IfSome result (IsWholeText text.now) }
-{
-    let bytes = text.as_bytes();
-    if has_minus(bytes) {
-        Some(i128::from(below_zero(&Numeral::scan(&bytes[1..]))?))
-    } else {
-        Some(i128::from(from_zero(&Numeral::scan(bytes))?))
-    }
-}
-
-fn has_minus(bytes: &[u8]) -> bool
-    ensures value { result ≡ (slice_index bytes.now 0 == 45) }
-    ensures some { IsTrue result → 0 < length bytes.now }
-{
-    !bytes.is_empty() && bytes[0] == b'-'
-}
-
-fn from_zero(numeral: &Numeral<'_>) -> Option<u64>
-    ensures { IfSome result (λ n. number_from false numeral.now ≡ Some (unsigned n)) }
-{
-    numeral.to_u64()
-}
-
-fn below_zero(numeral: &Numeral<'_>) -> Option<i64>
-    ensures { IfSome result (λ n. number_from true numeral.now ≡ Some (negative n)) }
-{
-    let number = numeral.to_i64(true)?;
-    if number < 0 { Some(number) } else { None }
 }

@@ -11,7 +11,7 @@ use std::alloc::Global;
 use std::cmp::Ordering;
 use std::collections::BTreeMap;
 
-/// How many members a member is moved over at most to come to its place.
+/// How many members, at most, a new one is moved past to where its name belongs.
 const MAX_MOVED: usize = 64;
 
 /// Members whose names rise: in a vector while each new one goes near the end, then in a map.

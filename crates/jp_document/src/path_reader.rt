@@ -11,7 +11,7 @@ ghost use Rattle.jp_document.specs.Private.PathReading.{read_rule, path_at};
 use crate::location::{OwnedLocation, OwnedStep};
 use crate::name_reader::name;
 use crate::path_fault::PathFault;
-use jp_reading::{Reader, Stop, natural};
+use jp_reading::{LARGEST_EXACT, Reader, Stop, natural};
 use std::alloc::{AllocError, Global};
 
 /// The location whose normalized path the text is (RFC 9535 section 2.7). Refused are: a text that
@@ -42,12 +42,9 @@ fn is_large(step: &OwnedStep) -> bool
 {
     match step {
         OwnedStep::Name(_) => false,
-        OwnedStep::Index(index) => *index > LARGEST_INDEX,
+        OwnedStep::Index(index) => *index > LARGEST_EXACT,
     }
 }
-
-/// The largest index of a location: (2^53)-1.
-const LARGEST_INDEX: u64 = 9_007_199_254_740_991;
 
 /// Takes a whole path: the text ends after it. An index above (2^53)-1 is read as 2^53.
 #[tactic(auto, unfolding(crate::specs::Private::PathReading::path_at, crate::specs::Private::PathRules::path,))]
@@ -112,6 +109,6 @@ fn index(reader: &mut Reader) -> Result<u64, Stop>
         reader.bump();
         return Ok(0);
     }
-    let index = natural(reader, LARGEST_INDEX as u128 + 1)?;
+    let index = natural(reader, LARGEST_EXACT as u128 + 1)?;
     Ok(index as u64)
 }

@@ -13,11 +13,9 @@ use crate::fault::DocumentFault;
 use crate::location::OwnedStep;
 use crate::value::{Json, Member};
 use crate::value_fault::ValueFault;
+use jp_reading::LARGEST_EXACT;
 use serde_json::{Map, Number, Value};
 use std::alloc::{AllocError, Global};
-
-/// The most items of a list, (2^53)-1.
-const MAX_ITEMS: usize = 9_007_199_254_740_991;
 
 /// The value that `serde_json` parses from bytes that are a document, else what is wrong with them.
 pub(crate) fn parsed_value(alloc: Global, bytes: &[u8]) -> Result<Json, DocumentFault>
@@ -125,5 +123,5 @@ fn json_members(
 pub(crate) fn is_short(items: &[Json]) -> bool
     ensures { result ≡ list_fits (list (items_of (map value_of items.now))) }
 {
-    items.len() <= MAX_ITEMS
+    items.len() <= LARGEST_EXACT as usize
 }

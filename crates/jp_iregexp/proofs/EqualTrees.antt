@@ -8,7 +8,7 @@ use denote.Enum.Bare.{same_true, true_same}
 use denote.Hole.Compared.{compared, compared_is}
 use lib.Pointwise.{pointwise}
 use Rattle.jp_iregexp.specs.contracts.category.Category.{the_type}
-use Rattle.jp_iregexp.specs.contracts.class.ClassElementPartialEq.TheImpl as items
+use Rattle.jp_iregexp.specs.contracts.class.ClassElementPartialEq.TheImpl as elements
 use Rattle.jp_iregexp.specs.contracts.pattern.PatternPartialEq.TheImpl as patterns
 use Rattle.jp_iregexp.specs.contracts.pattern.PatternPartialEq.TheImpl.Laws.{local}
 use Rattle.jp_iregexp.specs.declared.class.ClassElement.{ClassElement}
@@ -30,7 +30,7 @@ Decides-most None None = (λ h. refl, λ e. refl)
 Decides-most (Some x) (Some y) = Decides-like _ (λ e. cc) (λ e. cc) (Decides-eqb x y)
 Decides-most _ _ = (λ h. cc, λ e. cc)
 
-Decides-class_element : (x y : ClassElement) → Decides (items.ghosts.eq x y) (x ≡ y)
+Decides-class_element : (x y : ClassElement) → Decides (elements.ghosts.eq x y) (x ≡ y)
 Decides-class_element (Range a b) (Range c d) =
     Decides-like _ (λ e. cc) (λ e. (cc, cc)) (Decides-and _ _ (Decides-eqb a c) (Decides-eqb b d))
 Decides-class_element (Category c a) (Category d b) =
@@ -40,7 +40,7 @@ Decides-class_element (Category c a) (Category d b) =
 Decides-class_element _ _ = (λ h. cc, λ e. cc)
 
 Decides-class_elements : (xs ys : List ClassElement)
-    → Decides (pointwise items.ghosts.eq xs ys) (xs ≡ ys)
+    → Decides (pointwise elements.ghosts.eq xs ys) (xs ≡ ys)
 Decides-class_elements [] [] = (λ h. refl, λ e. refl)
 Decides-class_elements (x ∷ xs) (y ∷ ys) =
     Decides-like _ (λ e. cc) (λ e. (cc, cc))

@@ -1,4 +1,4 @@
--- A pattern has no items, so its text has no spans: for whole texts.
+-- A pattern has no components, so its text has no spans: for whole texts.
 use Rattle.std.proofs.Common.{◌≡◌, ℕ, List, [], Option, Bool, zero, suc}
 use Rattle.jp_reading.specs.Texts.{Text, Spans}
 use Rattle.jp_reading.proofs.Forms.Bare.{Bare, bare-word, bare-one, bare-joined}
@@ -38,8 +38,8 @@ bare-last : (xs : List ClassElement) → Bare (Last xs)
 bare-last xs s o t (grammar.no_hyphen e h) = h.none
 bare-last xs s o t (grammar.last_hyphen x e h) = h.is.none
 
-bare-items : (xs : List ClassElement) → Bare (Elements xs)
-bare-items xs s o t h =
+bare-all_elements : (xs : List ClassElement) → Bare (Elements xs)
+bare-all_elements xs s o t h =
     bare-joined (First h.first) _ (bare-first h.first)
     (bare-joined (Each Element h.others) (Last h.last) (bare-each Element bare-element h.others)
     (bare-last h.last)) s o t h.is
@@ -47,9 +47,9 @@ bare-items xs s o t h =
 bare-class : (x : Tree) → Bare (Class x)
 bare-class x s o t (grammar.plain xs e h) =
     bare-joined _ _ (bare-word _)
-    (bare-joined _ _ (λ s o t g. bare-items xs s o t g.is) (bare-word _)) s o t h
+    (bare-joined _ _ (λ s o t g. bare-all_elements xs s o t g.is) (bare-word _)) s o t h
 bare-class x s o t (grammar.negated xs e h) =
-    bare-joined _ _ (bare-word _) (bare-joined _ _ (bare-items xs) (bare-word _)) s o t h
+    bare-joined _ _ (bare-word _) (bare-joined _ _ (bare-all_elements xs) (bare-word _)) s o t h
 
 bare-number : (n : ℕ) → Bare (QuantExact n)
 bare-number n s o t h = h.is.none

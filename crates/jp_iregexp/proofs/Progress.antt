@@ -19,7 +19,7 @@ use Rattle.jp_iregexp.specs.Grammar.{dot}
 use Rattle.jp_iregexp.specs.Private.Reading.{there, escaped_at, character_at, is_category_sign}
 use Rattle.jp_iregexp.specs.Private.Reading.{second_at, code_at, category_at, is_at_category}
 use Rattle.jp_iregexp.specs.Private.Reading.{range_at, element_at, elements_at, hyphen_at}
-use Rattle.jp_iregexp.specs.Private.Reading.{first_at, items_at, negation_at, class_at}
+use Rattle.jp_iregexp.specs.Private.Reading.{first_at, all_elements_at, negation_at, class_at}
 use Rattle.jp_iregexp.specs.Private.Reading.{number_at, most_at, braces_at, quantifier_at}
 use Rattle.jp_iregexp.specs.Private.Reading.{escape_at, group_at, atom_at, piece_at, pieces_at}
 use Rattle.jp_iregexp.specs.Private.Reading.{branch_at, next_branch_at, branches_at, inside_at}
@@ -85,9 +85,9 @@ keeps-hyphen p = keeps-then p (expect char.hyphen p) _ (keeps-take_if (is char.h
 keeps-element : (p : State) → Keeps p (element_at p)
 keeps-element p = keeps-from_moves p (element_at p) (moves-element p)
 
-keeps-items : (p : State) → Keeps p (items_at p)
-unfolding items_at
-keeps-items p =
+keeps-all_elements : (p : State) → Keeps p (all_elements_at p)
+unfolding all_elements_at
+keeps-all_elements p =
     keeps-then p (first_at p) _
     (keeps-if (is_at char.hyphen p) p (hyphen_at p) (element_at p) (keeps-hyphen p)
     (keeps-element p))
@@ -103,7 +103,7 @@ moves-class p =
     (λ x q. keeps-then q (negation_at q) _
     (keeps-if (is_at char.caret q) q (took true (past q)) (took false q) (past-keeps q)
     (omega arith))
-    (λ b q. keeps-then q (items_at q) _ (keeps-items q)
+    (λ b q. keeps-then q (all_elements_at q) _ (keeps-all_elements q)
     (λ xs q. keeps-then q (expect char.closing_bracket q) _
     (keeps-take_if (is char.closing_bracket) q) (λ y q. omega arith))))
 

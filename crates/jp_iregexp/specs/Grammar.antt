@@ -8,32 +8,32 @@ use Rattle.jp_reading.specs.Numbers.{Digits, value_from}
 use Rattle.jp_reading.specs.Texts.{first_of}
 use Rattle.jp_iregexp.specs.declared.category.Category.{Category}
 use Rattle.jp_iregexp.specs.declared.class.ClassElement.{ClassElement}
-use Rattle.jp_iregexp.specs.declared.class.ClassElement.TheVariants as item
+use Rattle.jp_iregexp.specs.declared.class.ClassElement.TheVariants as element
 use Rattle.jp_iregexp.specs.Characters.{PatternCharacter, is_normal, is_plain}
 use Rattle.jp_iregexp.specs.Codes.{letters}
 use Rattle.jp_iregexp.specs.Tree.{Tree, class, repeat, branches, pieces}
 
 -- charClassEsc: catEsc, the characters of a category, or complEsc, all others
 pub data ClassEscape (x : ClassElement) (s : Spans) (o : ℕ) (t : Text) : Type 0 where
-  within : (code : Category) → x ≡ item.Category code false
+  within : (code : Category) → x ≡ element.Category code false
       → (word (codes "\\p{") ⌢ word (letters code) ⌢ word (codes "}")) s o t → ClassEscape x s o t
-  outside : (code : Category) → x ≡ item.Category code true
+  outside : (code : Category) → x ≡ element.Category code true
       → (word (codes "\\P{") ⌢ word (letters code) ⌢ word (codes "}")) s o t → ClassEscape x s o t
 
 -- a `-` that stands for itself
 pub record Hyphen (x : ClassElement) (s : Spans) (o : ℕ) (t : Text) : Type 0 where
-  pub item : x ≡ item.Range hyphen hyphen
+  pub element : x ≡ element.Range hyphen hyphen
   pub is : word (codes "-") s o t
 
 -- CCE1: a character, a range that does not end below its start, or an escape
 pub data Element (x : ClassElement) (s : Spans) (o : ℕ) (t : Text) : Type 0 where
-  single : (c : ℕ) → x ≡ item.Range c c → PatternCharacter is_plain c s o t → Element x s o t
-  range : (first last : ℕ) → x ≡ item.Range first last → first ≤ last
+  single : (c : ℕ) → x ≡ element.Range c c → PatternCharacter is_plain c s o t → Element x s o t
+  range : (first last : ℕ) → x ≡ element.Range first last → first ≤ last
       → (PatternCharacter is_plain first ⌢ word (codes "-") ⌢ PatternCharacter is_plain last) s o t
       → Element x s o t
   class_escape : ClassEscape x s o t → Element x s o t
 
--- the first item of a class: a `-` may stand there
+-- the first element of a class: a `-` may stand there
 pub data First (x : ClassElement) (s : Spans) (o : ℕ) (t : Text) : Type 0 where
   first_hyphen : Hyphen x s o t → First x s o t
   first_element : Element x s o t → First x s o t
@@ -88,13 +88,13 @@ pub data Quantifier (least : ℕ) (most : Option ℕ) (s : Spans) (o : ℕ) (t :
 
 -- the class of one character
 abbrev pub one : ℕ → Tree
-one c = class false (item.Range c c ∷ [])
+one c = class false (element.Range c c ∷ [])
 
 -- all characters but line feed and carriage return
 abbrev pub dot : Tree
 dot =
     class true
-    (item.Range line_feed line_feed ∷ item.Range carriage_return carriage_return ∷ [])
+    (element.Range line_feed line_feed ∷ element.Range carriage_return carriage_return ∷ [])
 
 module _ (Group : Tree → Form) where
   -- atom: a character, a dot, an escape, a class, or a pattern in parentheses
@@ -128,6 +128,6 @@ abbrev pub Grouped : ℕ → Tree → Form
 Grouped zero x = Never
 Grouped (suc n) x = Branches (Grouped n) x
 
--- a text spells a pattern with at most n groups inside one another; a pattern has no items
+-- a text spells a pattern with at most n groups inside one another; a pattern has no components
 pub record SpellsPattern (n : ℕ) (x : Tree) (text : Text) : Type 0 where
   pub is : Branches (Grouped n) x [] 0 text

@@ -5,7 +5,7 @@ ghost use Rattle.jp_reading.specs.Outcome.{took};
 ghost use Rattle.jp_reading.specs.Views.{Gives, with_prefix};
 ghost use Rattle.jp_iregexp.specs.Tree.{class};
 ghost use Rattle.jp_iregexp.specs.Private.Reading.{category_at, code_at, second_at, class_at};
-ghost use Rattle.jp_iregexp.specs.Private.Reading.{negation_at, items_at, elements_at};
+ghost use Rattle.jp_iregexp.specs.Private.Reading.{negation_at, all_elements_at, elements_at};
 ghost use Rattle.jp_iregexp.specs.Private.Reading.{first_at, last_at, hyphen_at, element_at};
 ghost use Rattle.jp_iregexp.specs.Private.Reading.{range_at, is_at_category};
 
@@ -60,7 +60,7 @@ pub(crate) fn class(reader: &mut Reader) -> Result<CharClass, Stop>
 {
     reader.expect('[')?;
     let negated = negation(reader);
-    let items = items(reader)?;
+    let items = all_elements(reader)?;
     reader.expect(']')?;
     Ok(CharClass { negated, items })
 }
@@ -77,15 +77,15 @@ fn negation(reader: &mut Reader) -> bool
 }
 
 /// The elements of a class: a `-` may be the first or the last.
-#[tactic(auto, unfolding(crate::specs::Private::Reading::items_at))]
-fn items(reader: &mut Reader) -> Result<Vec<ClassElement>, Stop>
-    ensures { Gives (λ v. v.items) result reader.new (items_at reader.old) }
+#[tactic(auto, unfolding(crate::specs::Private::Reading::all_elements_at))]
+fn all_elements(reader: &mut Reader) -> Result<Vec<ClassElement>, Stop>
+    ensures { Gives (λ v. v.items) result reader.new (all_elements_at reader.old) }
 {
-    let first = first_item(reader)?;
+    let first = first_element(reader)?;
     let mut items = Vec::new(reader.alloc());
     items.push(first).map_err(AllocError::from)?;
     let items = elements(reader, items)?;
-    last_item(reader, items)
+    last_element(reader, items)
 }
 
 /// These elements, and element after element as long as another begins.
@@ -101,7 +101,10 @@ fn elements(reader: &mut Reader, mut items: Vec<ClassElement>) -> Result<Vec<Cla
 }
 
 /// These elements, and a `-` that ends the class.
-fn last_item(reader: &mut Reader, mut items: Vec<ClassElement>) -> Result<Vec<ClassElement>, Stop>
+fn last_element(
+    reader: &mut Reader,
+    mut items: Vec<ClassElement>,
+) -> Result<Vec<ClassElement>, Stop>
     ensures { Gives (λ v. v.items) result reader.new (last_at items.items reader.old) }
 {
     if reader.is_at('-') {
@@ -111,7 +114,7 @@ fn last_item(reader: &mut Reader, mut items: Vec<ClassElement>) -> Result<Vec<Cl
     Ok(items)
 }
 
-fn first_item(reader: &mut Reader) -> Result<ClassElement, Stop>
+fn first_element(reader: &mut Reader) -> Result<ClassElement, Stop>
     ensures { Gives (λ x. x) result reader.new (first_at reader.old) }
 {
     if reader.is_at('-') {

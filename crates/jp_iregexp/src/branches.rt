@@ -131,8 +131,8 @@ fn escape(reader: &mut Reader) -> Result<Pattern, Stop>
     ensures { Gives tree result reader.new (escape_at reader.old) }
 {
     if reader.is_at_one_of(Characters::CategorySign) {
-        let item = category(reader)?;
-        return Ok(plain(reader.alloc(), item)?);
+        let element = category(reader)?;
+        return Ok(plain(reader.alloc(), element)?);
     }
     let c = escaped(reader)?;
     Ok(one(reader.alloc(), c)?)
@@ -147,11 +147,11 @@ fn one(alloc: Global, c: char) -> Result<Pattern, AllocError>
 
 /// The class of one element.
 #[tactic(auto, using(crate::proofs::Trees::tree_class))]
-fn plain(alloc: Global, item: ClassElement) -> Result<Pattern, AllocError>
-    ensures { IfOk result (λ p. tree p ≡ class false (item ∷ [])) }
+fn plain(alloc: Global, element: ClassElement) -> Result<Pattern, AllocError>
+    ensures { IfOk result (λ p. tree p ≡ class false (element ∷ [])) }
 {
     let mut items = Vec::new(alloc);
-    items.push(item)?;
+    items.push(element)?;
     Ok(Pattern::Class(CharClass {
         negated: false,
         items,

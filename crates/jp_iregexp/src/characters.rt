@@ -7,7 +7,7 @@ ghost use Rattle.jp_iregexp.specs.Private.Reading.{is_one_of, escaped_at, charac
 
 use jp_reading::{CharacterClass, Reader, Stop};
 
-/// The characters that may stand at a place of a pattern.
+/// The classes of characters that patterns are made of.
 #[derive(Clone, Copy)]
 pub(crate) enum Characters {
     /// Those that stand for themselves outside a class.

@@ -49,5 +49,5 @@ impl ClassElement {
 fn is_any_holding(items: &[ClassElement], c: char) -> bool
     ensures { result ≡ list_any (element_holds c) items.now }
 {
-    items.iter().any(|item| item.holds(c))
+    items.iter().any(|element| element.holds(c))
 }

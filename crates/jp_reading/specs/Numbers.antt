@@ -1,5 +1,5 @@
--- Digits, and the numbers that they write in base ten.
-use Rattle.std.specs.Prelude.{◌≡◌, ℕ, ◌+◌, ◌-◌, ◌*◌, ◌<◌, nat_le, Bool, ◌&&◌, [], ◌∷◌, length}
+-- Digits, the numbers that they write in base ten, and the greatest of the exact ones.
+use Rattle.std.specs.Prelude.{◌≡◌, ℕ, ◌+◌, ◌-◌, ◌*◌, ◌^◌, ◌<◌, nat_le, Bool, ◌&&◌, [], ◌∷◌, length}
 use Rattle.jp_reading.specs.Characters.{digit_nine, digit_one, digit_zero}
 use Rattle.jp_reading.specs.Texts.{Text, Spans}
 use Rattle.jp_reading.specs.Forms.{AllPassing}
@@ -16,6 +16,11 @@ is_leading_digit c = nat_le digit_one c && nat_le c digit_nine
 abbrev pub value_from : ℕ → Text → ℕ
 value_from n [] = n
 value_from n (d ∷ ds) = value_from (n * 10 + (d - digit_zero)) ds
+
+-- the greatest of the whole numbers that are exact as IEEE 754 doubles, with all below them (RFC 7493
+-- section 2.2, RFC 9535 section 2.1)
+abbrev pub largest_exact : ℕ
+largest_exact = 2 ^ 53 - 1
 
 -- one digit or more
 pub record Digits (ds : Text) (s : Spans) (o : ℕ) (t : Text) : Type 0 where

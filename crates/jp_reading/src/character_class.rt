@@ -1,8 +1,8 @@
-//! Classes of characters: which characters may stand at a place of a text.
+//! Classes of characters: which characters may come next in a text.
 
 ghost use Rattle.std.specs.Prelude.{◌≡◌, ℕ, Bool};
 
-/// A class of characters, of which a grammar allows one at some place.
+/// A class of characters, of which a grammar allows one at some point of a text.
 pub trait CharacterClass: Copy {
     // Which characters the class has.
     ghost holds: { Self → ℕ → Bool };

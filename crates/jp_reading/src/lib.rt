@@ -22,6 +22,6 @@ mod span;
 mod tests;
 
 pub use character_class::CharacterClass;
-pub use numbers::{digit, is_at_digit, natural};
+pub use numbers::{LARGEST_EXACT, digit, is_at_digit, natural};
 pub use reader::{Reader, Stop, split_first};
 pub use span::Span;

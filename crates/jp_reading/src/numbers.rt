@@ -1,4 +1,4 @@
-//! Digits and the numbers that they write.
+//! Digits, the numbers that they write, and the greatest of the exact ones.
 
 ghost use Rattle.std.specs.Prelude.{◌≡◌, ◌+◌, ◌≤◌, IfOk, IfErr, IsTrue};
 ghost use Rattle.jp_reading.specs.Numbers.{is_digit};
@@ -6,6 +6,10 @@ ghost use Rattle.jp_reading.specs.NumberReading.{is_at_digit, digit_at, digits_a
 ghost use Rattle.jp_reading.specs.Views.{Gives, outcome_map};
 
 use crate::reader::{Reader, Stop};
+
+/// The greatest of the whole numbers that are exact as IEEE 754 doubles, with all below them: (2^53)-1
+/// (RFC 7493 section 2.2, RFC 9535 section 2.1).
+pub const LARGEST_EXACT: u64 = 9_007_199_254_740_991;
 
 /// Whether the next character is a digit.
 pub fn is_at_digit(reader: &Reader) -> bool

@@ -20,9 +20,9 @@ use Rattle.jp_tree.specs.declared.tree.Subject.{Subject}
 use Rattle.jp_tree.specs.Tree.{ArgumentTree, CallTree, ExprTree, OperandTree, QueryTree}
 use Rattle.jp_tree.specs.Tree.{SegmentTree, SelectorTree, all_of, any_of, arguments, call}
 use Rattle.jp_tree.specs.Tree.{call_test, exists, exprs, query, segment, segments, selectors}
-use Rattle.jp_tree.specs.Views.{argument_of, argument_step, call_of, call_step, expr_of, expr_step}
-use Rattle.jp_tree.specs.Views.{operand_of, operand_step, query_of, query_step, segment_of}
-use Rattle.jp_tree.specs.Views.{segment_step, selector_of, selector_step, subject_of, subject_step}
+use Rattle.jp_tree.specs.Views.{argument_of, argument_layer, call_of, call_layer, expr_of, expr_layer}
+use Rattle.jp_tree.specs.Views.{operand_of, operand_layer, query_of, query_layer, segment_of}
+use Rattle.jp_tree.specs.Views.{segment_layer, selector_of, selector_layer, subject_of, subject_layer}
 use Rattle.jp_tree.proofs.EqualParts.{Decides-op, Decides-literal, Decides-numeral, Decides-slice}
 use Rattle.jp_tree.proofs.EqualParts.{Decides-text, Decides-items, any_of-injective}
 use Rattle.jp_tree.proofs.EqualParts.{all_of-injective, call-injective, query-injective}
@@ -55,10 +55,10 @@ tree member-Query = query_of
 tree member-Segment = segment_of
 
 -- a value of the type, with a value of `A` in place of each part that has one of the types
-abbrev Layer : block.the_members → (block.the_members → Type 0) → Type 0
-Layer j A = (block.the_bodies j).Of A
+abbrev LayerOf : block.the_members → (block.the_members → Type 0) → Type 0
+LayerOf j A = (block.the_bodies j).Of A
 
-abbrev roll : (j : block.the_members) → Layer j block.the_family → block.the_family j
+abbrev roll : (j : block.the_members) → LayerOf j block.the_family → block.the_family j
 roll member-Argument = views.roll-Argument
 roll member-Expr = views.roll-Expr
 roll member-Operand = views.roll-Operand
@@ -69,7 +69,7 @@ roll member-Query = views.roll-Query
 roll member-Segment = views.roll-Segment
 
 rolled : (j : block.the_members) (x : block.the_family j)
-    → (l : Layer j block.the_family) × (roll j l ≡ x)
+    → (l : LayerOf j block.the_family) × (roll j l ≡ x)
 rolled member-Argument x = (views.out-Argument x, views.roll-out-Argument x)
 rolled member-Expr x = (views.out-Expr x, views.roll-out-Expr x)
 rolled member-Operand x = (views.out-Operand x, views.roll-out-Operand x)
@@ -80,39 +80,39 @@ rolled member-Query x = (views.out-Query x, views.roll-out-Query x)
 rolled member-Segment x = (views.out-Segment x, views.roll-out-Segment x)
 
 -- the tree of one layer
-abbrev layer_tree : (j : block.the_members) → Layer j block.the_family → Trees j
+abbrev layer_tree : (j : block.the_members) → LayerOf j block.the_family → Trees j
 layer_tree j x =
     folds.steps
     ArgumentTree ExprTree OperandTree SelectorTree ExprTree CallTree QueryTree SegmentTree
-    argument_step expr_step operand_step selector_step subject_step call_step query_step
-    segment_step j ((block.the_bodies j).map block.the_family Trees tree x)
+    argument_layer expr_layer operand_layer selector_layer subject_layer call_layer query_layer
+    segment_layer j ((block.the_bodies j).map block.the_family Trees tree x)
 
-tree_is : (j : block.the_members) (x : Layer j block.the_family)
+tree_is : (j : block.the_members) (x : LayerOf j block.the_family)
     → tree j (roll j x) ≡ layer_tree j x
 tree_is member-Argument x =
     folds.fold-roll-Argument _ _ _ _ _ _ _ _ _ _ _ _ _ _ _ _ x
-    ∙ ap argument_step (sym (folds.map_is-Argument block.the_family Trees tree x))
+    ∙ ap argument_layer (sym (folds.map_is-Argument block.the_family Trees tree x))
 tree_is member-Expr x =
     folds.fold-roll-Expr _ _ _ _ _ _ _ _ _ _ _ _ _ _ _ _ x
-    ∙ ap expr_step (sym (folds.map_is-Expr block.the_family Trees tree x))
+    ∙ ap expr_layer (sym (folds.map_is-Expr block.the_family Trees tree x))
 tree_is member-Operand x =
     folds.fold-roll-Operand _ _ _ _ _ _ _ _ _ _ _ _ _ _ _ _ x
-    ∙ ap operand_step (sym (folds.map_is-Operand block.the_family Trees tree x))
+    ∙ ap operand_layer (sym (folds.map_is-Operand block.the_family Trees tree x))
 tree_is member-Selector x =
     folds.fold-roll-Selector _ _ _ _ _ _ _ _ _ _ _ _ _ _ _ _ x
-    ∙ ap selector_step (sym (folds.map_is-Selector block.the_family Trees tree x))
+    ∙ ap selector_layer (sym (folds.map_is-Selector block.the_family Trees tree x))
 tree_is member-Subject x =
     folds.fold-roll-Subject _ _ _ _ _ _ _ _ _ _ _ _ _ _ _ _ x
-    ∙ ap subject_step (sym (folds.map_is-Subject block.the_family Trees tree x))
+    ∙ ap subject_layer (sym (folds.map_is-Subject block.the_family Trees tree x))
 tree_is member-Call x =
     folds.fold-roll-Call _ _ _ _ _ _ _ _ _ _ _ _ _ _ _ _ x
-    ∙ ap call_step (sym (folds.map_is-Call block.the_family Trees tree x))
+    ∙ ap call_layer (sym (folds.map_is-Call block.the_family Trees tree x))
 tree_is member-Query x =
     folds.fold-roll-Query _ _ _ _ _ _ _ _ _ _ _ _ _ _ _ _ x
-    ∙ ap query_step (sym (folds.map_is-Query block.the_family Trees tree x))
+    ∙ ap query_layer (sym (folds.map_is-Query block.the_family Trees tree x))
 tree_is member-Segment x =
     folds.fold-roll-Segment _ _ _ _ _ _ _ _ _ _ _ _ _ _ _ _ x
-    ∙ ap segment_step (sym (folds.map_is-Segment block.the_family Trees tree x))
+    ∙ ap segment_layer (sym (folds.map_is-Segment block.the_family Trees tree x))
 
 -- ---- one layer whose parts are decided
 
@@ -124,10 +124,10 @@ abbrev Decided : block.the_members → Type 0
 Decided j = (x : block.the_family j) × IsDecided j x
 
 -- the layer with its parts alone, without the proofs
-abbrev parts : (j : block.the_members) → Layer j Decided → Layer j block.the_family
+abbrev parts : (j : block.the_members) → LayerOf j Decided → LayerOf j block.the_family
 parts j x = (block.the_bodies j).map Decided block.the_family (λ _ k. k.0) x
 
-abbrev AreDecided : (j : block.the_members) → Layer j Decided → Layer j block.the_family → Type 0
+abbrev AreDecided : (j : block.the_members) → LayerOf j Decided → LayerOf j block.the_family → Type 0
 AreDecided j x y =
     Decides (queries.the_step equal j (roll j (parts j x)) (roll j y))
     (layer_tree j (parts j x) ≡ layer_tree j y)
@@ -140,7 +140,7 @@ said d f g e = (λ h. f (d.0 (sym e ∙ h)), λ q. e ∙ d.1 (g q))
 unlike : {Q : Type 0} {r : Bool} → (Q → ⊥) → r ≡ false → Decides r Q
 unlike f e = (λ h. cc, λ q. absurd (f q))
 
-Decides-argument : (x : Layer member-Argument Decided) (y : Layer member-Argument block.the_family)
+Decides-argument : (x : LayerOf member-Argument Decided) (y : LayerOf member-Argument block.the_family)
     → AreDecided member-Argument x y
 Decides-argument (Argument-F.Argument::Literal l) (Argument-F.Argument::Literal m) =
     said (Decides-literal l m) (λ e. cc) (λ e. cc) (simp views.out-roll-Argument)
@@ -158,7 +158,7 @@ is_test (exists q) = true
 is_test (call_test c) = true
 is_test _ = false
 
-layer_is_test : (x : Layer member-Subject block.the_family)
+layer_is_test : (x : LayerOf member-Subject block.the_family)
     → is_test (layer_tree member-Subject x) ≡ true
 layer_is_test (Subject-F.Subject::Query q) = refl
 layer_is_test (Subject-F.Subject::Call c) = refl
@@ -170,7 +170,7 @@ subject_is_test s =
     ∙ ap is_test (tree_is member-Subject l.0)
     ∙ layer_is_test l.0
 
-Decides-expr : (x : Layer member-Expr Decided) (y : Layer member-Expr block.the_family)
+Decides-expr : (x : LayerOf member-Expr Decided) (y : LayerOf member-Expr block.the_family)
     → AreDecided member-Expr x y
 Decides-expr (Expr-F.AnyOf es) (Expr-F.AnyOf fs) =
     said (Decides-items (equal member-Expr) expr_of es.items fs.items)
@@ -193,7 +193,7 @@ Decides-expr _ (Expr-F.Test t) =
     (simp views.out-roll-Expr)
 Decides-expr _ _ = unlike (λ e. cc) (simp views.out-roll-Expr)
 
-Decides-operand : (x : Layer member-Operand Decided) (y : Layer member-Operand block.the_family)
+Decides-operand : (x : LayerOf member-Operand Decided) (y : LayerOf member-Operand block.the_family)
     → AreDecided member-Operand x y
 Decides-operand (Operand-F.Operand::Literal l) (Operand-F.Operand::Literal m) =
     said (Decides-literal l m) (λ e. cc) (λ e. cc) (simp views.out-roll-Operand)
@@ -211,7 +211,7 @@ ruleset selector_rolls = (
   views.rolls-Filter,
 )
 
-Decides-selector : (x : Layer member-Selector Decided) (y : Layer member-Selector block.the_family)
+Decides-selector : (x : LayerOf member-Selector Decided) (y : LayerOf member-Selector block.the_family)
     → AreDecided member-Selector x y
 Decides-selector (Selector-F.Name s) (Selector-F.Name t) =
     said (Decides-text s t) (λ e. cc) (λ e. cc) (simp selector_rolls)
@@ -224,7 +224,7 @@ Decides-selector (Selector-F.Filter e) (Selector-F.Filter f) =
     said (e.1 f) (λ h. cc) (λ h. cc) (simp selector_rolls)
 Decides-selector _ _ = unlike (λ e. cc) (simp selector_rolls)
 
-Decides-subject : (x : Layer member-Subject Decided) (y : Layer member-Subject block.the_family)
+Decides-subject : (x : LayerOf member-Subject Decided) (y : LayerOf member-Subject block.the_family)
     → AreDecided member-Subject x y
 Decides-subject (Subject-F.Subject::Query p) (Subject-F.Subject::Query q) =
     said (p.1 q) (λ e. cc) (λ e. cc) (simp views.out-roll-Subject)
@@ -232,7 +232,7 @@ Decides-subject (Subject-F.Subject::Call c) (Subject-F.Subject::Call d) =
     said (c.1 d) (λ e. cc) (λ e. cc) (simp views.out-roll-Subject)
 Decides-subject _ _ = unlike (λ e. cc) (simp views.out-roll-Subject)
 
-Decides-call : (x : Layer member-Call Decided) (y : Layer member-Call block.the_family)
+Decides-call : (x : LayerOf member-Call Decided) (y : LayerOf member-Call block.the_family)
     → AreDecided member-Call x y
 Decides-call x y =
     said (Decides-and _ _ (Decides-text x.name y.name)
@@ -240,7 +240,7 @@ Decides-call x y =
     (λ e. λ i. call (e.0 i) (arguments (e.1 i))) (call-injective _ _ _ _)
     refl
 
-Decides-query : (x : Layer member-Query Decided) (y : Layer member-Query block.the_family)
+Decides-query : (x : LayerOf member-Query Decided) (y : LayerOf member-Query block.the_family)
     → AreDecided member-Query x y
 Decides-query x y =
     said (Decides-and _ _ (booleans_Decides x.absolute y.absolute)
@@ -248,7 +248,7 @@ Decides-query x y =
     (λ e. λ i. query (e.0 i) (segments (e.1 i))) (query-injective _ _ _ _)
     (simp (views.out-roll-Query (parts member-Query x), views.out-roll-Query y))
 
-Decides-segment : (x : Layer member-Segment Decided) (y : Layer member-Segment block.the_family)
+Decides-segment : (x : LayerOf member-Segment Decided) (y : LayerOf member-Segment block.the_family)
     → AreDecided member-Segment x y
 Decides-segment x y =
     said (Decides-and _ _ (booleans_Decides x.descendant y.descendant)
@@ -258,7 +258,7 @@ Decides-segment x y =
 
 -- ---- the induction
 
-Decides-layers : (j : block.the_members) (x : Layer j Decided) (y : Layer j block.the_family)
+Decides-layers : (j : block.the_members) (x : LayerOf j Decided) (y : LayerOf j block.the_family)
     → AreDecided j x y
 Decides-layers member-Argument = Decides-argument
 Decides-layers member-Expr = Decides-expr
@@ -269,7 +269,7 @@ Decides-layers member-Call = Decides-call
 Decides-layers member-Query = Decides-query
 Decides-layers member-Segment = Decides-segment
 
-Decides-layer : (j : block.the_members) (x : Layer j Decided) → IsDecided j (roll j (parts j x))
+Decides-layer : (j : block.the_members) (x : LayerOf j Decided) → IsDecided j (roll j (parts j x))
 Decides-layer j x z =
     let l = rolled j z in
     subst (λ v. Decides (equal j (roll j (parts j x)) v) (tree j (roll j (parts j x)) ≡ tree j v))
@@ -279,7 +279,7 @@ Decides-layer j x z =
     (λ e. sym (tree_is j (parts j x)) ∙ e ∙ tree_is j l.0)
     (equal_is j (roll j (parts j x)) (roll j l.0)))
 
-Decides-same : (j : block.the_members) (x : Layer j block.the_family) (y : Layer j Decided)
+Decides-same : (j : block.the_members) (x : LayerOf j block.the_family) (y : LayerOf j Decided)
     → parts j y ≡ x → IsDecided j (roll j x)
 Decides-same j x y e = subst (λ z. IsDecided j (roll j z)) e (Decides-layer j y)
 

@@ -34,104 +34,83 @@ abbrev pub Layer : (Type 0 → Type 0 → Type 0 → Type 0 → Type 0 → Type 
     → Type 0
 Layer F = F ArgumentTree ExprTree OperandTree SelectorTree ExprTree CallTree QueryTree SegmentTree
 
-abbrev pub expr_step : Layer Expr-F → ExprTree
-expr_step (Expr-F.AnyOf es) = any_of (exprs es.items)
-expr_step (Expr-F.AllOf es) = all_of (exprs es.items)
-expr_step (Expr-F.Not e) = negation e.value
-expr_step (Expr-F.Compare left op right) = comparison left op right
-expr_step (Expr-F.Test e) = e
+abbrev pub expr_layer : Layer Expr-F → ExprTree
+expr_layer (Expr-F.AnyOf es) = any_of (exprs es.items)
+expr_layer (Expr-F.AllOf es) = all_of (exprs es.items)
+expr_layer (Expr-F.Not e) = negation e.value
+expr_layer (Expr-F.Compare left op right) = comparison left op right
+expr_layer (Expr-F.Test e) = e
 
-abbrev pub operand_step : Layer Operand-F → OperandTree
-operand_step (Operand-F.Operand::Literal l) = literal (literal_of l)
-operand_step (Operand-F.Operand::Query q) = node_value q
-operand_step (Operand-F.Operand::Call c) = call_value c
+abbrev pub operand_layer : Layer Operand-F → OperandTree
+operand_layer (Operand-F.Operand::Literal l) = literal (literal_of l)
+operand_layer (Operand-F.Operand::Query q) = node_value q
+operand_layer (Operand-F.Operand::Call c) = call_value c
 
-abbrev pub argument_step : Layer Argument-F → ArgumentTree
-argument_step (Argument-F.Argument::Literal l) = literal_argument (literal_of l)
-argument_step (Argument-F.Argument::Query q) = query_argument q
-argument_step (Argument-F.Argument::Call c) = call_argument c
-argument_step (Argument-F.Logical e) = logical_argument e
+abbrev pub argument_layer : Layer Argument-F → ArgumentTree
+argument_layer (Argument-F.Argument::Literal l) = literal_argument (literal_of l)
+argument_layer (Argument-F.Argument::Query q) = query_argument q
+argument_layer (Argument-F.Argument::Call c) = call_argument c
+argument_layer (Argument-F.Logical e) = logical_argument e
 
-abbrev pub call_step : Layer Call-F → CallTree
-call_step c = call (chars (string_bytes c.name)) (arguments c.arguments.items)
+abbrev pub call_layer : Layer Call-F → CallTree
+call_layer c = call (chars (string_bytes c.name)) (arguments c.arguments.items)
 
-abbrev pub selector_step : Layer Selector-F → SelectorTree
-selector_step (Selector-F.Name s) = name (chars (string_bytes s))
-selector_step Selector-F.Wildcard = wildcard
-selector_step (Selector-F.Index n) = index n
-selector_step (Selector-F.Slice s) = slice s
-selector_step (Selector-F.Filter e) = filter e
+abbrev pub selector_layer : Layer Selector-F → SelectorTree
+selector_layer (Selector-F.Name s) = name (chars (string_bytes s))
+selector_layer Selector-F.Wildcard = wildcard
+selector_layer (Selector-F.Index n) = index n
+selector_layer (Selector-F.Slice s) = slice s
+selector_layer (Selector-F.Filter e) = filter e
 
-abbrev pub subject_step : Layer Subject-F → ExprTree
-subject_step (Subject-F.Subject::Query q) = exists q
-subject_step (Subject-F.Subject::Call c) = call_test c
+abbrev pub subject_layer : Layer Subject-F → ExprTree
+subject_layer (Subject-F.Subject::Query q) = exists q
+subject_layer (Subject-F.Subject::Call c) = call_test c
 
-abbrev pub query_step : Layer Query-F → QueryTree
-query_step q = query q.absolute (segments q.segments.items)
+abbrev pub query_layer : Layer Query-F → QueryTree
+query_layer q = query q.absolute (segments q.segments.items)
 
-abbrev pub segment_step : Layer Segment-F → SegmentTree
-segment_step s = segment s.descendant (selectors s.selectors.items)
+abbrev pub segment_layer : Layer Segment-F → SegmentTree
+segment_layer s = segment s.descendant (selectors s.selectors.items)
+
+-- the tree of a value, layer by layer from its innermost parts
+abbrev by_layers : {X T : Type 0}
+    → ((Layer Argument-F → ArgumentTree) → (Layer Expr-F → ExprTree)
+    → (Layer Operand-F → OperandTree) → (Layer Selector-F → SelectorTree)
+    → (Layer Subject-F → ExprTree) → (Layer Call-F → CallTree) → (Layer Query-F → QueryTree)
+    → (Layer Segment-F → SegmentTree) → X → T)
+    → X → T
+by_layers fold =
+    fold argument_layer expr_layer operand_layer selector_layer subject_layer call_layer
+    query_layer segment_layer
 
 -- the tree of an expression
 abbrev pub expr_of : Expr → ExprTree
-expr_of =
-    fold-Expr
-    ArgumentTree ExprTree OperandTree SelectorTree ExprTree CallTree QueryTree SegmentTree
-    argument_step expr_step operand_step selector_step subject_step call_step query_step
-    segment_step
+expr_of = by_layers (fold-Expr _ _ _ _ _ _ _ _)
 
 -- the tree of a side of a comparison
 abbrev pub operand_of : Operand → OperandTree
-operand_of =
-    fold-Operand
-    ArgumentTree ExprTree OperandTree SelectorTree ExprTree CallTree QueryTree SegmentTree
-    argument_step expr_step operand_step selector_step subject_step call_step query_step
-    segment_step
+operand_of = by_layers (fold-Operand _ _ _ _ _ _ _ _)
 
 -- the tree of a function expression
 abbrev pub call_of : Call → CallTree
-call_of =
-    fold-Call
-    ArgumentTree ExprTree OperandTree SelectorTree ExprTree CallTree QueryTree SegmentTree
-    argument_step expr_step operand_step selector_step subject_step call_step query_step
-    segment_step
+call_of = by_layers (fold-Call _ _ _ _ _ _ _ _)
 
 -- the tree of an argument
 abbrev pub argument_of : Argument → ArgumentTree
-argument_of =
-    fold-Argument
-    ArgumentTree ExprTree OperandTree SelectorTree ExprTree CallTree QueryTree SegmentTree
-    argument_step expr_step operand_step selector_step subject_step call_step query_step
-    segment_step
+argument_of = by_layers (fold-Argument _ _ _ _ _ _ _ _)
 
 -- the tree of a test
 abbrev pub subject_of : Subject → ExprTree
-subject_of =
-    fold-Subject
-    ArgumentTree ExprTree OperandTree SelectorTree ExprTree CallTree QueryTree SegmentTree
-    argument_step expr_step operand_step selector_step subject_step call_step query_step
-    segment_step
+subject_of = by_layers (fold-Subject _ _ _ _ _ _ _ _)
 
 -- the tree of a selector
 abbrev pub selector_of : Selector → SelectorTree
-selector_of =
-    fold-Selector
-    ArgumentTree ExprTree OperandTree SelectorTree ExprTree CallTree QueryTree SegmentTree
-    argument_step expr_step operand_step selector_step subject_step call_step query_step
-    segment_step
+selector_of = by_layers (fold-Selector _ _ _ _ _ _ _ _)
 
 -- the tree of a segment
 abbrev pub segment_of : Segment → SegmentTree
-segment_of =
-    fold-Segment
-    ArgumentTree ExprTree OperandTree SelectorTree ExprTree CallTree QueryTree SegmentTree
-    argument_step expr_step operand_step selector_step subject_step call_step query_step
-    segment_step
+segment_of = by_layers (fold-Segment _ _ _ _ _ _ _ _)
 
 -- the tree of a query
 abbrev pub query_of : Query → QueryTree
-query_of =
-    fold-Query
-    ArgumentTree ExprTree OperandTree SelectorTree ExprTree CallTree QueryTree SegmentTree
-    argument_step expr_step operand_step selector_step subject_step call_step query_step
-    segment_step
+query_of = by_layers (fold-Query _ _ _ _ _ _ _ _)

@@ -26,8 +26,8 @@ invariant-segments::write_segment-loop-i l =
 abbrev pub invariant-expressions::write_parts-loop-i :
     goal.invariant-expressions::write_parts-loop-i
 invariant-expressions::write_parts-loop-i l =
-    l.out ++ texts_from l.i l.mark (part_texts l.outer (exprs (map expr_of (drop l.i l.parts))))
-    ≡ l.fn.out ++ separated l.mark (part_texts l.outer (exprs (map expr_of l.parts)))
+    l.out ++ texts_from l.i l.separator (part_texts l.outer (exprs (map expr_of (drop l.i l.parts))))
+    ≡ l.fn.out ++ separated l.separator (part_texts l.outer (exprs (map expr_of l.parts)))
 
 -- what is written, and the arguments to come, is the whole
 abbrev pub invariant-calls::write_call-loop-i : goal.invariant-calls::write_call-loop-i

@@ -24,18 +24,18 @@ pub part_texts-map : (outer : ℕ) (es : List ExprTree) → part_texts outer (ex
 part_texts-map outer [] = refl
 part_texts-map outer (e ∷ es) = ap (λ ts. part_text outer e ∷ ts) (part_texts-map outer es)
 
--- the marks between parts
+-- the separators between parts
 abbrev pub And : Form
 And = Blank ⌢ word (codes "&&") ⌢ Blank
 
 abbrev pub Or : Form
 Or = Blank ⌢ word (codes "||") ⌢ Blank
 
--- two parts or more with a mark between them
-pub data Several (mark : Form) (Part : ExprTree → Form) (es : ExprTrees) (s : Spans) (o : ℕ)
+-- two parts or more with a separator between them
+pub data Several (separator : Form) (Part : ExprTree → Form) (es : ExprTrees) (s : Spans) (o : ℕ)
     (t : Text) : Type 0 where
   several : (x y : ExprTree) (rest : List ExprTree) → es ≡ exprs (x ∷ y ∷ rest)
-      → Separated mark Part (x ∷ y ∷ rest) s o t → Several mark Part es s o t
+      → Separated separator Part (x ∷ y ∷ rest) s o t → Several separator Part es s o t
 
 -- the form of an expression without parentheses around it
 abbrev pub Own : (Nested → Form) → ExprTree → Form

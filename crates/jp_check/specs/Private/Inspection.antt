@@ -106,15 +106,15 @@ past_component fault p = record {
 }
 
 -- past these components
-abbrev pub steps : List QueryComponent → Progress → Progress
-steps [] p = p
-steps (x ∷ xs) p = steps xs (past_component (fault_of p.profile x) p)
+abbrev pub past_components : List QueryComponent → Progress → Progress
+past_components [] p = p
+past_components (x ∷ xs) p = past_components xs (past_component (fault_of p.profile x) p)
 
 -- past an argument of which that type is wanted, and past the components in it
 abbrev pub past_argument : Option DataType → ArgumentTree → Progress → Progress
 past_argument want (literal_argument l) p = past_component (fault_of_literal l want) p
-past_argument want (query_argument q) p = steps (components_of q) (past_component (fault_of_query q want) p)
+past_argument want (query_argument q) p = past_components (components_of q) (past_component (fault_of_query q want) p)
 past_argument want (call_argument c) p =
-    steps (call_components c) (past_component (fault_of_call p.profile c want) p)
+    past_components (call_components c) (past_component (fault_of_call p.profile c want) p)
 past_argument want (logical_argument e) p =
-    steps (expr_components e) (past_component (fault_of_logical want) p)
+    past_components (expr_components e) (past_component (fault_of_logical want) p)

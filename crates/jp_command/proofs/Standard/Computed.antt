@@ -40,7 +40,7 @@ use Rattle.jp_query.proofs.ComponentSpans.{spans-of_components}
 use Rattle.jp_query.proofs.Soundness.Whole.{read-spells}
 use Rattle.jp_check.specs.Accepted.{IsAcceptedAs}
 use Rattle.jp_check.specs.Refused.{IsFaulty}
-use Rattle.jp_check.specs.Private.Inspection.{steps}
+use Rattle.jp_check.specs.Private.Inspection.{past_components}
 use Rattle.jp_check.specs.declared.profile.Profile.TheVariants.{Standard}
 use Rattle.jp_check.proofs.Least.{found, found-fault}
 use Rattle.jp_command.specs.Lines.{output_of}
@@ -62,8 +62,8 @@ abbrev pub Accepts : List ℕ → Type 0
 Accepts text = (q : QueryTree) × IsAcceptedAs Standard text q
 
 -- the text spells a query, of which this is the first fault
-abbrev pub Refuses : List ℕ → Refusal → Type 0
-Refuses = IsFaulty Standard
+abbrev pub IsRefused : List ℕ → Refusal → Type 0
+IsRefused = IsFaulty Standard
 
 -- ---- queries
 
@@ -89,7 +89,7 @@ spelled text q p e = read-spells level_limit text q p e
 -- the first fault of a query's items, if one has a fault
 abbrev first_fault : QueryTree → Spans → Option Refusal
 first_fault q s =
-    (steps (components_of q) (record { profile = Standard; spans = s; first = None })).first
+    (past_components (components_of q) (record { profile = Standard; spans = s; first = None })).first
 
 abbrev if_faultless : QueryTree → Option Refusal → Option QueryTree
 if_faultless q None = Some q
@@ -209,7 +209,7 @@ value-document bytes v h = of_utf8 (is_utf8 bytes) refl h
 unfoldable pub answer : List ℕ → List ℕ → Option (List ℕ)
 unfolding tree value index_text spelling digits is_match has_match is_word has_word class_holds
     element_holds pattern_of pattern.pattern_at pattern.branches_at pattern.branch_at pattern.piece_at
-    pattern.atom_at pattern.class_at pattern.items_at pattern.element_at pattern.character_at
+    pattern.atom_at pattern.class_at pattern.all_elements_at pattern.element_at pattern.character_at
     pattern.range_at is_plain
 answer document text =
     option_and_then (λ q. option_map (output_of Both q) (value document)) (tree text)
@@ -242,6 +242,6 @@ row {document = document} {text = text} {lines = lines} h =
 pub accepted : {text : List ℕ} {q : QueryTree} → tree text ≡ Some q → Accepts text
 accepted {text = text} {q = q} h = (q, tree-accepted text q h)
 
-pub refused : {text : List ℕ} {r : Refusal} → fault text ≡ Some r → Refuses text r
+pub refused : {text : List ℕ} {r : Refusal} → fault text ≡ Some r → IsRefused text r
 unfolding fault
 refused {text = text} {r = r} h = taken-faulty text r (reading text) refl h

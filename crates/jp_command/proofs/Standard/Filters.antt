@@ -1,7 +1,7 @@
 -- Section 2.3.5.3: filters. Of the standard's table one row is refused here: it compares with 3.5.
 use Rattle.std.proofs.Common.{codes, refl, List, ℕ, ◌++◌}
 use Rattle.jp_query.specs.declared.refusal.RefusalKind.TheVariants.{NotWhole}
-use Rattle.jp_command.proofs.Standard.Computed.{Selects, Refuses, answer, fault, refused, row}
+use Rattle.jp_command.proofs.Standard.Computed.{Selects, IsRefused, answer, fault, refused, row}
 
 abbrev filtered : List ℕ
 filtered =
@@ -19,7 +19,7 @@ in_parentheses : Selects filtered (codes "$.a[?(@.b == 'kilo')]")
 unfolding answer
 in_parentheses = row refl
 
-with_a_fraction : Refuses (codes "$.a[?@>3.5]") (record { kind = NotWhole; place = 7 })
+with_a_fraction : IsRefused (codes "$.a[?@>3.5]") (record { kind = NotWhole; place = 7 })
 unfolding fault
 with_a_fraction = refused refl
 

@@ -3,7 +3,7 @@
 use Rattle.std.proofs.Common.{codes, refl}
 use Rattle.jp_query.specs.declared.refusal.RefusalKind.TheVariants.{NotSingular, IllTyped}
 use Rattle.jp_query.specs.declared.refusal.RefusalKind.TheVariants.{UnknownFunction}
-use Rattle.jp_command.proofs.Standard.Computed.{Accepts, Refuses, accepted, fault, refused, tree}
+use Rattle.jp_command.proofs.Standard.Computed.{Accepts, IsRefused, accepted, fault, refused, tree}
 
 length_of_a_value : Accepts (codes "$[?length(@) < 3]")
 unfolding tree
@@ -21,43 +21,43 @@ value_of_nodes : Accepts (codes "$[?value(@..color) == \"red\"]")
 unfolding tree
 value_of_nodes = accepted refl
 
-length_of_nodes : Refuses (codes "$[?length(@.*) < 3]") (record { kind = NotSingular; place = 10 })
+length_of_nodes : IsRefused (codes "$[?length(@.*) < 3]") (record { kind = NotSingular; place = 10 })
 unfolding fault
 length_of_nodes = refused refl
 
-count_of_a_number : Refuses (codes "$[?count(1) == 1]") (record { kind = IllTyped; place = 9 })
+count_of_a_number : IsRefused (codes "$[?count(1) == 1]") (record { kind = IllTyped; place = 9 })
 unfolding fault
 count_of_a_number = refused refl
 
-match_compared : Refuses (codes "$[?match(@.timezone, 'Europe/.*') == true]")
+match_compared : IsRefused (codes "$[?match(@.timezone, 'Europe/.*') == true]")
     (record { kind = IllTyped; place = 3 })
 unfolding fault
 match_compared = refused refl
 
-value_as_a_test : Refuses (codes "$[?value(@..color)]") (record { kind = IllTyped; place = 3 })
+value_as_a_test : IsRefused (codes "$[?value(@..color)]") (record { kind = IllTyped; place = 3 })
 unfolding fault
 value_as_a_test = refused refl
 
-foo : Refuses (codes "$[?count(foo(@.*)) == 1]") (record { kind = UnknownFunction; place = 9 })
+foo : IsRefused (codes "$[?count(foo(@.*)) == 1]") (record { kind = UnknownFunction; place = 9 })
 unfolding fault
 foo = refused refl
 
-bar_as_a_test : Refuses (codes "$[?bar(@.a)]") (record { kind = UnknownFunction; place = 3 })
+bar_as_a_test : IsRefused (codes "$[?bar(@.a)]") (record { kind = UnknownFunction; place = 3 })
 unfolding fault
 bar_as_a_test = refused refl
 
-bnl : Refuses (codes "$[?bnl(@.*)]") (record { kind = UnknownFunction; place = 3 })
+bnl : IsRefused (codes "$[?bnl(@.*)]") (record { kind = UnknownFunction; place = 3 })
 unfolding fault
 bnl = refused refl
 
-blt : Refuses (codes "$[?blt(1==1)]") (record { kind = UnknownFunction; place = 3 })
+blt : IsRefused (codes "$[?blt(1==1)]") (record { kind = UnknownFunction; place = 3 })
 unfolding fault
 blt = refused refl
 
-blt_of_a_number : Refuses (codes "$[?blt(1)]") (record { kind = UnknownFunction; place = 3 })
+blt_of_a_number : IsRefused (codes "$[?blt(1)]") (record { kind = UnknownFunction; place = 3 })
 unfolding fault
 blt_of_a_number = refused refl
 
-bal : Refuses (codes "$[?bal(1)]") (record { kind = UnknownFunction; place = 3 })
+bal : IsRefused (codes "$[?bal(1)]") (record { kind = UnknownFunction; place = 3 })
 unfolding fault
 bal = refused refl

@@ -1,5 +1,5 @@
 -- The path of each list of steps is read, to its end: for what `read_path` refuses.
-use Rattle.std.proofs.Common.{◌≡◌, ℕ, ◌<◌, min, true, List, [], ◌∷◌, ◌++◌, length, map}
+use Rattle.std.proofs.Common.{◌≡◌, ℕ, suc, ◌<◌, min, true, List, [], ◌∷◌, ◌++◌, length, map}
 use Rattle.std.proofs.Common.{refl, sym, ap, ◌∙◌, append_assoc, length-append, arith}
 use Rattle.std.proofs.lemmas.Bool.Decides.{nat_tests}
 use Rattle.std.proofs.lemmas.Str.{length-encode, len_utf8_bounds}
@@ -23,7 +23,7 @@ use Rattle.jp_document.specs.Location.{Step, named, nth, Location}
 use Rattle.jp_document.specs.Path.{index_text, step_text, path_of}
 use Rattle.jp_document.specs.Private.PathReading.{path_at}
 use Rattle.jp_document.specs.Private.PathRules.{nesting}
-use Rattle.jp_reading.specs.Numbers.{is_leading_digit}
+use Rattle.jp_reading.specs.Numbers.{is_leading_digit, largest_exact}
 use Rattle.jp_document.specs.Private.PathRules as rule
 use Rattle.jp_document.proofs.Paths.Conditions.{none_starts, none_closes, path-alive, path-apart}
 use Rattle.jp_document.proofs.Completeness.Names.{Begins, enclosed-has, name-begins}
@@ -42,16 +42,16 @@ unfolding is_digit
 is_leading_digit-above_zero d digit above = grind (arith, nat_tests)
 
 index-has : (n : ℕ) (w : Text) → Begun n w → w ≡ index_text n
-    → HasForm (form_of rule.index (min n 9007199254740992)) w
+    → HasForm (form_of rule.index (min n (suc largest_exact))) w
 unfolding rule.index rule.size
 index-has n w (zero_text z is) text =
     has-same (sym is) (has-as (λ s o h. left h)
     (both (has-word (char.digit_zero ∷ [])) (has-as (λ s o h. record { same = omega arith; is = h })
     (has-word []))))
 index-has n w (other_text d ds is digit all above) text =
-    let value : min n 9007199254740992 ≡ _ =
-    sym (capped-is_min 9007199254740992 0 (d ∷ ds) (omega arith)
-    ∙ ap (λ (m : ℕ). min m 9007199254740992)
+    let value : min n (suc largest_exact) ≡ _ =
+    sym (capped-is_min (suc largest_exact) 0 (d ∷ ds) (omega arith)
+    ∙ ap (λ (m : ℕ). min m (suc largest_exact))
     (ap (value_from 0) (sym is ∙ text) ∙ value_from-index_text n)) in
     has-same (sym is) (has-as (λ s o h. right (record { part = d; is = h }))
     (both (has-one is_leading_digit d (is_leading_digit-above_zero d digit above))
@@ -88,7 +88,7 @@ key-begins (nth n) t w h =
           (index.1 ∙ ap (λ x. index_text n ++ x) end.1
           ∙ sym (append_assoc (index_text n) (char.closing_bracket ∷ []) end.0));
       has = enclosed-has (form_of rule.normal_selector) char.opening_bracket char.closing_bracket
-          (nth (min n 9007199254740992)) (index_text n)
+          (nth (min n (suc largest_exact))) (index_text n)
           (has-as (λ s o g. right (record { part = _; same = refl; is = g }))
           (index-has n (index_text n) (begun n) refl));
       leaves = end.2;

@@ -1,23 +1,24 @@
 -- Indexes above (2^53)-1 are read as 2^53: for what `read_path` says of large indexes.
-use Rattle.std.proofs.Common.{◌≡◌, ℕ, min, nat_lt, Bool, false, ◌||◌}
+use Rattle.std.proofs.Common.{◌≡◌, ℕ, suc, min, nat_lt, Bool, false, ◌||◌}
 use Rattle.std.proofs.Common.{List, [], ◌∷◌, map, refl, ap, ◌∙◌, arith}
 use Rattle.std.proofs.lemmas.Bool.{or_parts}
 use Rattle.std.proofs.lemmas.Bool.Decides.{nat_tests}
 use Rattle.std.specs.List.{list_any}
+use Rattle.jp_reading.specs.Numbers.{largest_exact}
 use Rattle.jp_document.specs.Location.{Step, named, nth, Location}
 use Rattle.jp_document.specs.PathFault.{is_large}
 
 -- what is read for a step
 abbrev pub capped_step : Step → Step
 capped_step (named s) = named s
-capped_step (nth i) = nth (min i 9007199254740992)
+capped_step (nth i) = nth (min i (suc largest_exact))
 
 pub list_any-map : {A B : Type 0} (p : B → Bool) (f : A → B) (xs : List A)
     → list_any p (map f xs) ≡ list_any (λ x. p (f x)) xs
 list_any-map p f [] = refl
 list_any-map p f (x ∷ xs) = ap (λ b. p (f x) || b) (list_any-map p f xs)
 
-large-min : (i : ℕ) → nat_lt 9007199254740991 (min i 9007199254740992) ≡ nat_lt 9007199254740991 i
+large-min : (i : ℕ) → nat_lt largest_exact (min i (suc largest_exact)) ≡ nat_lt largest_exact i
 large-min i = grind (arith, nat_tests)
 
 is_large-capped : (k : Step) → is_large (capped_step k) ≡ is_large k
@@ -31,7 +32,7 @@ any_large-capped (k ∷ l) =
     ap (λ b. b || list_any is_large (map capped_step l)) (is_large-capped k)
     ∙ ap (λ b. is_large k || b) (any_large-capped l)
 
-small-min : (i : ℕ) → nat_lt 9007199254740991 i ≡ false → min i 9007199254740992 ≡ i
+small-min : (i : ℕ) → nat_lt largest_exact i ≡ false → min i (suc largest_exact) ≡ i
 small-min i h = grind (arith, nat_tests)
 
 small-capped : (k : Step) → is_large k ≡ false → capped_step k ≡ k

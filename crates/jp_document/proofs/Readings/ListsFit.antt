@@ -5,6 +5,7 @@ use Rattle.std.proofs.Math.Bool.{and-false, and-true}
 use Rattle.std.proofs.lemmas.List.{length-map, map-append}
 use Rattle.std.proofs.lemmas.List.Folds.{list_all-append}
 use Rattle.jp_document.proofs.Descent.Inside.{all-items, all-members}
+use Rattle.jp_reading.specs.Numbers.{largest_exact}
 use Rattle.jp_document.specs.Value.{Value, list, items_of, item_count, members_of}
 use Rattle.jp_document.specs.Value.{everywhere, everywhere_in_items}
 use Rattle.jp_document.specs.Value.{everywhere_in_members, list_fits, value_of, member_of}
@@ -16,9 +17,9 @@ item_count-items_of [] = refl
 item_count-items_of (v ∷ vs) = ap suc (item_count-items_of vs)
 
 pub list_fits-length : (xs : List Json)
-    → nat_le (length xs) 9007199254740991 ≡ list_fits (list (items_of (map value_of xs)))
+    → nat_le (length xs) largest_exact ≡ list_fits (list (items_of (map value_of xs)))
 list_fits-length xs =
-    ap (λ n. nat_le n 9007199254740991)
+    ap (λ n. nat_le n largest_exact)
     (sym (item_count-items_of (map value_of xs) ∙ length-map xs value_of))
 
 -- one more part, beside those before it

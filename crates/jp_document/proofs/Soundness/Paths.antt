@@ -1,6 +1,6 @@
 -- What the rule of paths takes, up to the end of the text, is the path of the steps that it took:
 -- for what `read_path` answers.
-use Rattle.std.proofs.Common.{◌≡◌, ℕ, min, eqb, Bool, true, false, cond, List, []}
+use Rattle.std.proofs.Common.{◌≡◌, ℕ, suc, min, eqb, Bool, true, false, cond, List, []}
 use Rattle.std.proofs.Common.{◌∷◌, ◌++◌, length, map, refl, sym, ap, ◌∙◌, arith}
 use Rattle.std.proofs.lemmas.Bool.{eqb-true}
 use Rattle.std.proofs.lemmas.Bool.Decides.{nat_tests}
@@ -25,7 +25,7 @@ use Rattle.jp_document.specs.Location.{Step, nth, Location}
 use Rattle.jp_document.specs.Path.{index_text, step_text, path_of}
 use Rattle.jp_document.specs.Private.PathReading.{read_rule, path_at}
 use Rattle.jp_document.specs.Private.PathRules.{nesting}
-use Rattle.jp_reading.specs.Numbers.{is_leading_digit}
+use Rattle.jp_reading.specs.Numbers.{is_leading_digit, largest_exact}
 use Rattle.jp_document.specs.Private.PathRules as rule
 use Rattle.jp_document.proofs.Paths.Conditions.{path-alive}
 use Rattle.jp_document.proofs.Spellings.Encoded.{encode-ascii, digits-ascii}
@@ -38,7 +38,7 @@ use Rattle.jp_document.proofs.Soundness.Names.{form_of, enclosed, enclosed-is, n
 -- the text of an index that is read so
 record Indexed (n : ℕ) (s : Spans) (o : ℕ) (t : Text) : Type 0 where
   index : ℕ
-  read : min index 9007199254740992 ≡ n
+  read : min index (suc largest_exact) ≡ n
   is : encode_utf8_all t ≡ index_text index
 
 leading-is : (d : ℕ) → is_leading_digit d ≡ true → (is_digit d ≡ true)
@@ -64,7 +64,7 @@ index-within n s o t (right h) =
     let text : t ≡ d ∷ ds = rw (h.is.is, h.is.one.is, run.is) refl in
     record {
       index = value_from 0 (d ∷ ds);
-      read = sym (h.is.two.same ∙ capped-is_min 9007199254740992 0 (d ∷ ds) (omega arith));
+      read = sym (h.is.two.same ∙ capped-is_min (suc largest_exact) 0 (d ∷ ds) (omega arith));
       is =
           ap encode_utf8_all text ∙ encode-ascii (d ∷ ds) (digits-ascii (d ∷ ds) (first.0, run.all))
           ∙ sym (index_text-value d ds (first.0, run.all) first.1);

@@ -15,7 +15,7 @@ use Rattle.jp_document.specs.Document.{IsDocument}
 use Rattle.jp_document.specs.Value.{Value, everywhere, everywhere_in_items, everywhere_in_members}
 use Rattle.jp_document.specs.Value.{list_fits, items_of, members_of, names_of, names_rise, value_of}
 use Rattle.jp_document.specs.declared.value.Json.{Json}
-use Rattle.jp_document.proofs.Tokens.Turns.{items_turn, items_over, member_turn, members_over}
+use Rattle.jp_document.proofs.Tokens.Rounds.{items_round, items_over, member_round, members_over}
 use Rattle.jp_document.proofs.Members.Inserting.{ReadMember, pair, data_of, put_entry}
 use Rattle.jp_document.proofs.Members.Inserting.{members_of_data-entries, pairs-put_entry}
 use Rattle.jp_document.proofs.Members.Inserting.{data_of-put_entry, rise_insert, sound_insert}
@@ -42,7 +42,7 @@ ahead_item depth initial n ts r found j some going x ahead vs s later =
     (ap (λ ws. ws ++ vs) (map-append value_of found (j ∷ []))
     ∙ append_assoc (map value_of found) (value_of j ∷ []) vs))
     (ahead (value_of j ∷ vs) s
-    (items_turn depth n ts r s (value_of j) (items_of vs) some going x later))
+    (items_round depth n ts r s (value_of j) (items_of vs) some going x later))
 
 pub ahead_items_end : (depth : ℕ) (initial : List Token) (n : ℕ) (ts r : List Token)
     (found : List Json) → length ts ≤ n → after_end_array ts ≡ Some r
@@ -86,7 +86,7 @@ ahead_member depth initial n k ts s r found v some key x short so =
     record {
       entries = put_entry e so.entries;
       seen = ap (λ ms. insert_entry bytes_cmp ms k v) so.seen ∙ sym (pairs-put_entry e so.entries);
-      ahead = so.ahead ∙ member_turn depth n (data_of so.entries) k ts s r v x some key
+      ahead = so.ahead ∙ member_round depth n (data_of so.entries) k ts s r v x some key
           ∙ ap (λ old. converted (λ js. of_members js old) (members (value depth) (n - 1) r))
           (sym (data_of-put_entry e so.entries));
       rise = rise_insert found k v so.rise;

@@ -1,15 +1,15 @@
 -- Values straight from the tokens of a text, as `serde_json` reads them.
-use Rattle.std.specs.Prelude.{◌≡◌, ◌≤◌, ℕ, ℤ, true, List, length, take, drop, Some}
+use Rattle.std.specs.Prelude.{◌≡◌, ◌≤◌, ℕ, true, List, length, take, drop, Some}
 use Rattle.std.specs.Cmp.Lexicographic.{slice_cmp}
 use Rattle.std.specs.List.{list_all}
 use Rattle.std.specs.Ordering.{is_lt, nat_cmp}
 use Rattle.json.specs.Token.{Token}
 use Rattle.json.specs.Json as tokens
 use Rattle.serde_json.specs.Data as parsed
-use Rattle.serde_json.specs.Data.{Data, Num}
-use Rattle.serde_json.specs.Read.{of_json, of_items, of_members, converted, number_of, read}
+use Rattle.serde_json.specs.Data.{Data}
+use Rattle.serde_json.specs.Read.{of_json, of_items, of_members, converted, read}
 use Rattle.jp_document.specs.Document.{value_of_data, items_of_data, members_of_data}
-use Rattle.jp_document.specs.Value.{Value, whole, Items, Members}
+use Rattle.jp_document.specs.Value.{Value, Items, Members}
 
 -- a reading of the text holds the value v
 pub record ReadsText (text : List ℕ) (v : Value) : Type 0 where
@@ -23,25 +23,19 @@ pub record ReadsValue (depth : ℕ) (ts rest : List Token) (v : Value) : Type 0 
   pub read : converted of_json (tokens.value depth ts) ≡ Some (reading, rest)
   pub holds : value_of_data reading ≡ Some v
 
--- the same of the items of a list, in at most so many turns
-pub record ReadsItems (depth turns : ℕ) (ts rest : List Token) (vs : Items) : Type 0 where
+-- the same of the items of a list, in at most so many rounds
+pub record ReadsItems (depth rounds : ℕ) (ts rest : List Token) (vs : Items) : Type 0 where
   pub reading : parsed.Items
-  pub read : converted of_items (tokens.items (tokens.value depth) turns ts) ≡ Some (reading, rest)
+  pub read : converted of_items (tokens.items (tokens.value depth) rounds ts) ≡ Some (reading, rest)
   pub holds : items_of_data reading ≡ Some vs
 
 -- the same of the members of an object
-pub record ReadsMembers (depth turns : ℕ) (ts rest : List Token) (ms : Members) : Type 0 where
+pub record ReadsMembers (depth rounds : ℕ) (ts rest : List Token) (ms : Members) : Type 0 where
   pub reading : parsed.Members
   pub read :
       converted (λ js. of_members js parsed.no_members)
-      (tokens.members (tokens.value depth) turns ts) ≡ Some (reading, rest)
+      (tokens.members (tokens.value depth) rounds ts) ≡ Some (reading, rest)
   pub holds : members_of_data reading ≡ Some ms
-
--- the characters write the whole number z
-pub record IsWholeText (s : List ℕ) (z : ℤ) : Type 0 where
-  pub number : Num
-  pub read : number_of s ≡ Some number
-  pub holds : value_of_data (parsed.number number) ≡ Some (whole z)
 
 -- the members before the point are below the name, and those from there on above it
 pub record IsInsertionPoint (ms : List (List ℕ × Value)) (name : List ℕ) (point : ℕ) : Type 0 where

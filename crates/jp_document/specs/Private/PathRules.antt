@@ -1,11 +1,11 @@
 -- The rules by which normalized paths are read (RFC 9535 section 2.7), so that the next character
 -- tells how a text goes on. A name is read as its bytes.
-use Rattle.std.specs.Prelude.{ℕ, ◌+◌, ◌-◌, ◌==◌, ◌||◌, ◌&&◌, not, nat_le, nat_lt}
+use Rattle.std.specs.Prelude.{ℕ, suc, ◌+◌, ◌-◌, ◌==◌, ◌||◌, ◌&&◌, not, nat_le, nat_lt}
 use Rattle.std.specs.Prelude.{Bool, true, false, if◌then◌else◌, List, ◌∷◌}
 use Rattle.std.specs.Str.{encode_utf8_all}
 use Rattle.jp_reading.specs.Characters as char
 use Rattle.jp_reading.specs.Outcome.{is}
-use Rattle.jp_reading.specs.Numbers.{is_digit, is_leading_digit}
+use Rattle.jp_reading.specs.Numbers.{is_digit, is_leading_digit, largest_exact}
 use Rattle.jp_reading.specs.NumberReading.{capped}
 use Rattle.jp_reading.specs.Rule.{here, Nesting, the, Rule, value, character}
 use Rattle.jp_reading.specs.Rule.{made, look, upon, some, ◌>>=◌, ◌>>◌}
@@ -101,7 +101,7 @@ name = do
 unfoldable pub size : PathRule true ℕ
 size = do
   d ← character is_leading_digit
-  made (λ ds. capped 9007199254740992 0 (d ∷ ds)) (some here is_digit (character is_digit))
+  made (λ ds. capped (suc largest_exact) 0 (d ∷ ds)) (some here is_digit (character is_digit))
 
 -- normal-index-selector
 unfoldable pub index : PathRule true ℕ

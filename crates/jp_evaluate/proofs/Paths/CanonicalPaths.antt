@@ -1,11 +1,12 @@
 -- The normalized path of a location is the canonical text of its tree, and spells it.
-use Rattle.std.proofs.Common.{◌≡◌, ℕ, ◌<◌, ◌^◌, ◌&&◌, true, List, [], ◌∷◌, ◌++◌, map, pos, codes}
+use Rattle.std.proofs.Common.{◌≡◌, ℕ, ◌<◌, ◌≤◌, ◌^◌, ◌&&◌, true, List, [], ◌∷◌, ◌++◌, map, pos, codes}
 use Rattle.std.proofs.Common.{IsUtf8, inl, inr, refl, ap, ap₂, subst, sym, ◌∙◌, append-nil, arith}
 use Rattle.std.proofs.lemmas.Bool.{and_parts, cases_lt, lt-ltb}
 use Rattle.std.proofs.lemmas.Str.{chars-encodes, encodes-append, encodes-chars, scalars-chars}
 use Rattle.std.specs.Fmt.{decimal}
 use Rattle.std.specs.List.{flat_map}
 use Rattle.std.specs.Str.{chars, encode_utf8_all}
+use Rattle.jp_reading.specs.Numbers.{largest_exact}
 use Rattle.jp_reading.specs.Characters as char
 use lib.Utf8.{low_scalar, scalar, scalars}
 use Rattle.jp_reading.specs.Forms.{Form}
@@ -33,7 +34,7 @@ use Rattle.jp_evaluate.proofs.Paths.PathTrees.{step_selector}
 
 -- ---- the canonical text spells the tree
 
-has-step_index : (i : ℕ) → i < 2 ^ 53 → Has (Int (Whole (pos i))) (decimal i)
+has-step_index : (i : ℕ) → i ≤ largest_exact → Has (Int (Whole (pos i))) (decimal i)
 has-step_index i small =
     let fits : i < 2 ^ 64 = omega arith in
     subst (λ n. Has (Int n) (decimal i)) (rw (lt-ltb i (2 ^ 64) fits) refl) (has-decimal i fits)
@@ -113,7 +114,7 @@ encoded-name s utf8 = (
   quoted-encode (chars s) ∙ ap quoted (encodes-chars s utf8),
 )
 
-encoded-index : (i : ℕ) → i < 2 ^ 53 → Encoded (decimal i) (index_text i)
+encoded-index : (i : ℕ) → i ≤ largest_exact → Encoded (decimal i) (index_text i)
 encoded-index i small =
     subst (λ t. Encoded t (index_text i)) (sym (decimal-index_text i (omega arith)))
     (encoded-ascii (index_text i) (digits-ascii (index_text i) (digits-index_text i)))

@@ -1,13 +1,14 @@
 -- The location of a node as a query.
-use Rattle.std.proofs.Common.{true, pos, ◌≡◌, ℕ, ◌<◌, ◌≤◌, ◌-◌, ◌^◌, List, [], ◌∷◌, ◌++◌}
+use Rattle.std.proofs.Common.{true, pos, ◌≡◌, ℕ, ◌<◌, ◌≤◌, List, [], ◌∷◌, ◌++◌}
 use Rattle.std.proofs.Common.{map, Option, Some, ap, ap₂, sym, ◌∙◌}
 use Rattle.std.proofs.Common.{append_assoc, arith, option_and_then, option_map, option_to_list}
 use Rattle.std.proofs.Common.{lt-ltb}
 use Rattle.std.specs.List.{All}
-use Rattle.std.proofs.lemmas.Bool.{leb-true}
+use Rattle.std.proofs.lemmas.Bool.{le-leb, leb-true}
 use Rattle.std.proofs.lemmas.List.{append-nil}
 use Rattle.std.proofs.lemmas.List.Elements.{All-cons, All-nil}
 use Rattle.std.proofs.lemmas.Option.{option_and_then_some, same_Some, slice_get_within}
+use Rattle.jp_reading.specs.Numbers.{largest_exact}
 use Rattle.jp_document.proofs.Descent.Inside.{IsDocumentValue-child}
 use Rattle.jp_document.proofs.Members.ByName.{child-object_nth}
 use Rattle.jp_reading.proofs.Conjunctions.{and-left}
@@ -79,10 +80,10 @@ walks d v w l (k ∷ m) end fit =
     ∙ ap (λ x. node_at x w ∷ []) (append_assoc l (k ∷ []) m)
 
 -- an index of a list in a document is in range
-index_fits : (v u : Value) (i : ℕ) → IsDocumentValue v → child v (nth i) ≡ Some u → i < 2 ^ 53
+index_fits : (v u : Value) (i : ℕ) → IsDocumentValue v → child v (nth i) ≡ Some u → i ≤ largest_exact
 index_fits (list vs) u i document there =
-    let few : item_count vs ≤ 2 ^ 53 - 1 =
-    leb-true (item_count vs) (2 ^ 53 - 1) (and-left _ _ document) in
+    let few : item_count vs ≤ largest_exact =
+    leb-true (item_count vs) largest_exact (and-left _ _ document) in
     let below = within_items vs i u there in
     omega arith
 index_fits (object ms) u i document there = absurd (let none = child-object_nth i ms in cc)
@@ -106,11 +107,11 @@ steps_fit v w (k ∷ m) document end =
 abbrev NoFault : Profile → QueryComponent → Type 0
 NoFault profile x = (kind : RefusalKind) → ¬ HasFault profile x kind
 
-index_faultless : (profile : Profile) (i : ℕ) → i < 2 ^ 53
+index_faultless : (profile : Profile) (i : ℕ) → i ≤ largest_exact
     → NoFault profile (int (Whole (pos i)) as_index)
 index_faultless profile i small kind fault =
     let out = (int-fault profile (Whole (pos i)) as_index kind fault).1 in
-    let fits : is_in_index_range (Whole (pos i)) ≡ true = lt-ltb i (2 ^ 53) small in
+    let fits : is_in_index_range (Whole (pos i)) ≡ true = le-leb i largest_exact small in
     cc
 
 steps_faultless : (profile : Profile) (m : Location) → StepsFit m

@@ -1,6 +1,7 @@
 -- A location as a query with one child segment for each step.
-use Rattle.std.proofs.Common.{◌<◌, ◌^◌, IsUtf8, pos, true, false, [], ◌∷◌, map}
+use Rattle.std.proofs.Common.{◌≤◌, IsUtf8, pos, true, false, [], ◌∷◌, map}
 use Rattle.std.specs.Str.{chars}
+use Rattle.jp_reading.specs.Numbers.{largest_exact}
 use Rattle.jp_document.specs.Location.{Step, Location, named, nth}
 use Rattle.jp_tree.specs.Tree.{QueryTree, SegmentTree, SelectorTree, index, name, query, segment}
 use Rattle.jp_tree.specs.Tree.{segments, selectors}
@@ -20,7 +21,7 @@ path_tree l = query true (segments (map step_segment l))
 -- the name of a step is a text, its index in range
 abbrev pub StepFits : Step → Type 0
 StepFits (named s) = IsUtf8 s
-StepFits (nth i) = i < 2 ^ 53
+StepFits (nth i) = i ≤ largest_exact
 
 abbrev pub StepsFit : Location → Type 0
 StepsFit [] = Unit {0}

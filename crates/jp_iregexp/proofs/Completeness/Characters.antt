@@ -1,4 +1,4 @@
--- What spells a character or a category is read as it: for the items of classes, and for atoms.
+-- What spells a character or a category is read as it: for the elements of classes, and for atoms.
 use Rattle.std.proofs.Common.{◌≡◌, ℕ, true, false, [], ◌∷◌, Option}
 use Rattle.std.proofs.Common.{Some, None, refl, sym, ap, ◌∙◌, subst}
 use Rattle.std.specs.Prelude.{codes}
@@ -12,7 +12,7 @@ use Rattle.jp_reading.proofs.States.Again.{split-word, split, word-first, one-fi
 use Rattle.jp_reading.proofs.States.Again.{again-take_if, again-expect, at-word, past-word}
 use Rattle.jp_iregexp.specs.declared.category.Category.{Category}
 use Rattle.jp_iregexp.specs.declared.class.ClassElement.{ClassElement}
-use Rattle.jp_iregexp.specs.declared.class.ClassElement.TheVariants as item
+use Rattle.jp_iregexp.specs.declared.class.ClassElement.TheVariants as element
 use Rattle.jp_iregexp.specs.Characters.{PatternCharacter, itself, escaped, is_plain, is_escaped}
 use Rattle.jp_iregexp.specs.Characters.{meant}
 use Rattle.jp_iregexp.specs.Codes.{letters}
@@ -24,7 +24,7 @@ use Rattle.jp_iregexp.specs.Private.Reading.{escaped_at, character_at, is_catego
 use Rattle.jp_iregexp.specs.Private.Reading.{code_at, category_at, begins_element}
 use Rattle.jp_iregexp.proofs.CategoryCodes.{lettered, AreLetters}
 
--- a character that stands for itself in a class begins an item
+-- a character that stands for itself in a class begins an element
 pub plain-element : (c : ℕ) → is_plain c ≡ true → begins_element c ≡ true
 unfolding is_plain
 plain-element c h = rw (
@@ -124,7 +124,7 @@ again-code k p q h ends =
 -- after the `\`: `p` or `P`, and a code in braces
 again-category : (c : ℕ) (k : Category) (p q : State)
     → Reads (word (c ∷ codes "{") ⌢ word (letters k) ⌢ word (codes "}")) p q
-    → is_category_sign c ≡ true → category_at p ≡ took (item.Category k (is char.capital_p c)) q
+    → is_category_sign c ≡ true → category_at p ≡ took (element.Category k (is char.capital_p c)) q
 unfolding category_at
 again-category c k p q h sign =
     let parts = split (word (c ∷ codes "{")) (word (letters k) ⌢ word (codes "}")) p q h in
@@ -147,7 +147,7 @@ pub record Escaped (x : ClassElement) (p q : State) : Type 0 where
 
 escape-of : (c : ℕ) (k : Category) (p q : State)
     → Reads (word (char.backslash ∷ c ∷ codes "{") ⌢ word (letters k) ⌢ word (codes "}")) p q
-    → is_category_sign c ≡ true → Escaped (item.Category k (is char.capital_p c)) p q
+    → is_category_sign c ≡ true → Escaped (element.Category k (is char.capital_p c)) p q
 escape-of c k p q h sign =
     let parts = split (word (char.backslash ∷ c ∷ codes "{")) (word (letters k) ⌢ word (codes "}"))
     p q h in

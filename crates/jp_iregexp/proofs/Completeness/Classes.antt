@@ -15,7 +15,7 @@ use Rattle.jp_reading.proofs.States.Between.{Reads, reads-then, reads-is}
 use Rattle.jp_reading.proofs.States.Again.{split-word, Starts, Split, split, reads-none, word-first}
 use Rattle.jp_reading.proofs.States.Again.{one-first, again-expect, again-each, at-word, past-word}
 use Rattle.jp_iregexp.specs.declared.class.ClassElement.{ClassElement}
-use Rattle.jp_iregexp.specs.declared.class.ClassElement.TheVariants as item
+use Rattle.jp_iregexp.specs.declared.class.ClassElement.TheVariants as element
 use Rattle.jp_iregexp.specs.Characters.{PatternCharacter, itself, escaped, is_plain, is_escaped}
 use Rattle.jp_iregexp.specs.Tree.{Tree, class}
 use Rattle.jp_iregexp.specs.Grammar as grammar
@@ -23,7 +23,7 @@ use Rattle.jp_iregexp.specs.Grammar.{ClassEscape, Hyphen, Element, First, Last, 
 use Rattle.jp_iregexp.specs.Grammar.{NotAtCaret, Class, one}
 use Rattle.jp_iregexp.specs.Private.Reading.{is_category_sign, is_at_category, range_at}
 use Rattle.jp_iregexp.specs.Private.Reading.{element_at, begins_element, elements_at, hyphen_at}
-use Rattle.jp_iregexp.specs.Private.Reading.{first_at, last_at, items_at, negation_at, class_at}
+use Rattle.jp_iregexp.specs.Private.Reading.{first_at, last_at, all_elements_at, negation_at, class_at}
 use Rattle.jp_iregexp.proofs.Progress.{moves-element}
 use Rattle.jp_iregexp.proofs.Completeness.Characters.{plain-element, plain-no-backslash}
 use Rattle.jp_iregexp.proofs.Completeness.Characters.{escaped-no-sign}
@@ -44,7 +44,7 @@ past-after_first : (at : ℕ) (found : Spans) (t : Text) → (past_first at foun
 past-after_first at found [] = refl
 past-after_first at found (c ∷ t) = refl
 
--- what may follow an item
+-- what may follow an element
 record AfterElement (t : Text) : Type 0 where
   none : is_inner_hyphen t ≡ false
 
@@ -62,7 +62,7 @@ no-hyphen t h = record {
       (λ b. b && not (passes (is char.closing_bracket) (first_of (after_first t)))) h;
 }
 
--- where an item begins
+-- where an element begins
 record Begins (p : State) : Type 0 where
   first : ℕ
   at : head p ≡ Some first
@@ -119,12 +119,12 @@ no-category c p q h = elim h.is [
         (ap (passes is_category_sign) (one-first is_escaped e parts.middle q parts.two)
         ∙ escaped-no-sign e parts.two.is.passes)
 
-range-alone : (c : ℕ) (p : State) → AfterElement p.rest → range_at c p ≡ took (item.Range c c) p
+range-alone : (c : ℕ) (p : State) → AfterElement p.rest → range_at c p ≡ took (element.Range c c) p
 unfolding range_at
 range-alone c p h = rw (range-off p h) refl
 
 range-to : (c d : ℕ) (p q : State) → c ≤ d → Reads (word (codes "-") ⌢ PatternCharacter is_plain d) p q
-    → range_at c p ≡ took (item.Range c d) q
+    → range_at c p ≡ took (element.Range c d) q
 unfolding range_at
 range-to c d p q order h =
     let parts = split (word (codes "-")) (PatternCharacter is_plain d) p q h in
@@ -194,7 +194,7 @@ again-elements xs p q h ends after =
     again-each Element AfterElement (λ r. passes begins_element (head r)) element_at moves-element
     again-element starts-element xs p q h ends after
 
--- what follows an item where others stand
+-- what follows an element where others stand
 each-after : (xs : List ClassElement) (p q : State) → Reads (Each Element xs) p q
     → AfterElement q.rest → AfterElement p.rest
 each-after [] p q h after =
@@ -216,7 +216,7 @@ hyphen-read x p q h =
       at-word char.hyphen [] p q w,
       past-word char.hyphen p q w,
       rw
-          (again-expect char.hyphen p q w, h.is.item) refl,
+          (again-expect char.hyphen p q w, h.is.element) refl,
     )
 
 last-none : (xs : List ClassElement) (p : State) → is_at char.closing_bracket p ≡ true
@@ -271,11 +271,11 @@ again-first x p q h after = elim h.is [
       (again-element x p q element after))
 ]
 
-again-items : (zs : List ClassElement) (p q : State) → Reads (Elements zs) p q
+again-all_elements : (zs : List ClassElement) (p q : State) → Reads (Elements zs) p q
     → is_at char.closing_bracket q ≡ true
-    → items_at p ≡ took zs q
-unfolding items_at
-again-items zs p q h at =
+    → all_elements_at p ≡ took zs q
+unfolding all_elements_at
+again-all_elements zs p q h at =
     let x = h.is.first in
     let xs = h.is.others in
     let ys = h.is.last in
@@ -293,7 +293,7 @@ again-items zs p q h at =
       h.is.are,
     ) refl
 
--- items before the end of the class, where the class begins at p
+-- elements before the end of the class, where the class begins at p
 class-rest : (b : Bool) (xs : List ClassElement) (p m r q : State) → expect char.opening_bracket p
     ≡ took char.opening_bracket m
     → negation_at m ≡ took b r → Reads (Elements xs ⌢ word (codes "]")) r q
@@ -304,12 +304,12 @@ class-rest b xs p m r q opening negation h =
     rw (
       opening,
       negation,
-      again-items xs r parts.middle parts.one
+      again-all_elements xs r parts.middle parts.one
           (at-word char.closing_bracket [] parts.middle q parts.two),
       again-expect char.closing_bracket parts.middle q parts.two,
     ) refl
 
--- items that do not begin with `^` before a `]` do not stand at a `^`
+-- elements that do not begin with `^` before a `]` do not stand at a `^`
 not-caret : (t : Text) (m r : State) → m.rest ≡ t ++ r.rest → first_of t ≢ Some char.caret
     → is_at char.closing_bracket r ≡ true → is_at char.caret m ≡ false
 not-caret [] m r e begins at =
@@ -330,13 +330,13 @@ again-class x p q h = elim h.is [
       (reads-is (Class x) (word (codes "[") ⌢ NotAtCaret xs ⌢ word (codes "]")) p q h g) in
       let m = parts.middle in
       let tail = split (NotAtCaret xs) (word (codes "]")) m q parts.two in
-      let items = tail.one in
+      let elements = tail.one in
       let none =
-      not-caret items.text m tail.middle items.way.rest items.is.begins
+      not-caret elements.text m tail.middle elements.way.rest elements.is.begins
       (at-word char.closing_bracket [] tail.middle q tail.two) in
       class-rest false xs p m m q (again-expect char.opening_bracket p m parts.one) (rw none refl)
       (reads-then (Elements xs) (word (codes "]")) m tail.middle q
-      (reads-is (NotAtCaret xs) (Elements xs) m tail.middle items items.is.is) tail.two)
+      (reads-is (NotAtCaret xs) (Elements xs) m tail.middle elements elements.is.is) tail.two)
       ∙ ap (λ y. took y q) (sym e))
   | grammar.negated xs e g ↦
       (let parts =

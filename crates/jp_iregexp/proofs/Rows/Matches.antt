@@ -12,7 +12,7 @@ use Rattle.jp_iregexp.specs.PatternOf.{pattern_of}
 use Rattle.jp_iregexp.specs.Private.Reading.{pattern_at, branches_at, branch_at, piece_at, atom_at}
 use Rattle.jp_iregexp.specs.Private.Reading.{group_at, inside_at, quantifier_at}
 use Rattle.jp_iregexp.specs.Private.Reading.{braces_at, number_at}
-use Rattle.jp_iregexp.specs.Private.Reading.{most_at, class_at, items_at, element_at, range_at}
+use Rattle.jp_iregexp.specs.Private.Reading.{most_at, class_at, all_elements_at, element_at, range_at}
 use Rattle.jp_iregexp.specs.Private.Reading.{character_at}
 
 -- the empty text and `aaa` match `(a?){2,5}`, and `b` does not
@@ -29,7 +29,7 @@ classes : (is_match (codes "b") (codes "[^-a]") ≡ true) ×
     (is_match (codes "a") (codes "[^-a]") ≡ false) ×
     (is_match (codes "b") (codes "[^]") ≡ false)
 unfolding is_match is_word pattern_of pattern_at branches_at branch_at piece_at atom_at class_at
-    items_at element_at range_at character_at loop is_plain class_holds element_holds
+    all_elements_at element_at range_at character_at loop is_plain class_holds element_holds
 classes = (refl, refl, refl)
 
 -- `kilo` does not match `[jk]`, but a part of it does
@@ -37,5 +37,5 @@ parts : (is_match (codes "kilo") (codes "[jk]") ≡ false) ×
     (has_match (codes "kilo") (codes "[jk]") ≡ true) ×
     (has_match (codes "lima") (codes "[jk]") ≡ false)
 unfolding is_match has_match is_word has_word pattern_of pattern_at branches_at branch_at piece_at
-    atom_at class_at items_at element_at range_at character_at loop is_plain class_holds element_holds
+    atom_at class_at all_elements_at element_at range_at character_at loop is_plain class_holds element_holds
 parts = (refl, refl, refl)

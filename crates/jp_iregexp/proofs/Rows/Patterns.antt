@@ -8,7 +8,7 @@ use Rattle.jp_reading.specs.Numbers.{is_digit}
 use Rattle.jp_reading.specs.NumberReading.{digits_at}
 use Rattle.jp_reading.proofs.States.Again.{start, finish}
 use Rattle.jp_iregexp.specs.declared.category.Category.TheVariants.{Lu}
-use Rattle.jp_iregexp.specs.declared.class.ClassElement.TheVariants as item
+use Rattle.jp_iregexp.specs.declared.class.ClassElement.TheVariants as element
 use Rattle.jp_iregexp.specs.Characters.{is_normal, is_plain, is_escaped, meant}
 use Rattle.jp_iregexp.specs.Codes.{letters}
 use Rattle.jp_iregexp.specs.Private.CodeReading.{code_of}
@@ -17,7 +17,7 @@ use Rattle.jp_iregexp.specs.Grammar.{one, dot, SpellsPattern}
 use Rattle.jp_iregexp.specs.Spelled.{SpellsNone}
 use Rattle.jp_iregexp.specs.Private.Reading.{pattern_at, branches_at, branch_at, next_branch_at}
 use Rattle.jp_iregexp.specs.Private.Reading.{piece_at, atom_at, group_at, inside_at, escape_at}
-use Rattle.jp_iregexp.specs.Private.Reading.{class_at, items_at, element_at, range_at}
+use Rattle.jp_iregexp.specs.Private.Reading.{class_at, all_elements_at, element_at, range_at}
 use Rattle.jp_iregexp.specs.Private.Reading.{character_at, escaped_at, category_at, code_at}
 use Rattle.jp_iregexp.specs.Private.Reading.{quantifier_at, braces_at, most_at, number_at}
 use Rattle.jp_iregexp.proofs.WholeTexts.{read-spelt, fails-spelt, deep-spelt}
@@ -37,15 +37,15 @@ spells n x t is = read-spelt n x t (finish t []) is
 spelt : SpellsPattern 0 (branches (pieces (one char.letter_a ∷ []) ∷ pieces [] ∷ [])) (codes "a|") ×
     SpellsPattern 0 (branch []) (codes "") ×
     SpellsPattern 0 (branch (class false
-    (item.Range char.letter_a char.letter_a ∷ item.Range char.hyphen char.hyphen ∷ []) ∷ []))
+    (element.Range char.letter_a char.letter_a ∷ element.Range char.hyphen char.hyphen ∷ []) ∷ []))
     (codes "[a-]") ×
-    SpellsPattern 0 (branch (class true (item.Range char.caret char.caret ∷ []) ∷ []))
+    SpellsPattern 0 (branch (class true (element.Range char.caret char.caret ∷ []) ∷ []))
     (codes "[^^]") ×
     SpellsPattern 0 (branch (dot ∷ repeat (one char.letter_a) 2 (Some 3) ∷ [])) (codes ".a{2,3}") ×
     SpellsPattern 1 (branch (branch (one char.caret ∷ []) ∷ [])) (codes "(\\^)") ×
-    SpellsPattern 0 (branch (class false (item.Category Lu true ∷ []) ∷ [])) (codes "\\P{Lu}")
+    SpellsPattern 0 (branch (class false (element.Category Lu true ∷ []) ∷ [])) (codes "\\P{Lu}")
 unfolding pattern_at branches_at branch_at next_branch_at piece_at atom_at group_at inside_at
-    escape_at class_at items_at element_at range_at character_at escaped_at category_at code_at
+    escape_at class_at all_elements_at element_at range_at character_at escaped_at category_at code_at
     code_of letters quantifier_at braces_at most_at number_at digits_at is_digit loop is_normal
     is_plain is_escaped meant
 spelt = (
@@ -64,7 +64,7 @@ not_spelt : SpellsNone 64 (codes "[^]") × SpellsNone 64 (codes "[b-a]") ×
     SpellsNone 64 (codes "a**") × SpellsNone 64 (codes "\\d") × SpellsNone 64 (codes "a)") ×
     SpellsNone 0 (codes "(a)")
 unfolding pattern_at branches_at branch_at next_branch_at piece_at atom_at group_at inside_at
-    escape_at class_at items_at element_at range_at character_at escaped_at category_at code_at
+    escape_at class_at all_elements_at element_at range_at character_at escaped_at category_at code_at
     code_of letters quantifier_at braces_at most_at number_at digits_at is_digit loop is_normal
     is_plain is_escaped meant
 not_spelt = (

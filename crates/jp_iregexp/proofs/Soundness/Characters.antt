@@ -16,7 +16,7 @@ use Rattle.jp_reading.proofs.States.Fits.{reads-words, reads-next, Fits, fits-th
 use Rattle.jp_reading.proofs.States.Fits.{fits-map}
 use Rattle.jp_reading.proofs.States.Fits.{fits-as, reads-nothing, fits-take_if, fits-expect}
 use Rattle.jp_iregexp.specs.declared.category.Category.{Category}
-use Rattle.jp_iregexp.specs.declared.class.ClassElement.TheVariants as item
+use Rattle.jp_iregexp.specs.declared.class.ClassElement.TheVariants as element
 use Rattle.jp_iregexp.specs.Characters.{PatternCharacter, itself, escaped, is_plain, is_escaped}
 use Rattle.jp_iregexp.specs.Characters.{meant}
 use Rattle.jp_iregexp.specs.Codes.{letters}
@@ -121,13 +121,13 @@ fits-category p q beyond =
     escape : (c : ℕ) (k : Category) (p q1 q2 q3 q4 : State) → is_category_sign c ≡ true
         → Reads (word (char.backslash ∷ c ∷ [])) p q1 → Reads (word (codes "{")) q1 q2
         → Reads (word (letters k)) q2 q3 → Reads (word (codes "}")) q3 q4
-        → Reads (ClassEscape (item.Category k (is char.capital_p c))) p q4
+        → Reads (ClassEscape (element.Category k (is char.capital_p c))) p q4
     escape c k p q1 q2 q3 q4 passes sign brace code last =
         elim (cases_Bool (is char.capital_p c)) [
           | inl h ↦
               rw h
               (reads-as (word (codes "\\P{") ⌢ word (letters k) ⌢ word (codes "}"))
-              (ClassEscape (item.Category k true)) p q4 (λ s o t g. grammar.outside k refl g)
+              (ClassEscape (element.Category k true)) p q4 (λ s o t g. grammar.outside k refl g)
               (reads-then (word (codes "\\P{")) (word (letters k) ⌢ word (codes "}")) p q2 q4
               (reads-words (codes "\\P") (codes "{") p q1 q2
               (subst (λ d. Reads (word (char.backslash ∷ d ∷ [])) p q1)
@@ -136,7 +136,7 @@ fits-category p q beyond =
           | inr h ↦
               rw h
               (reads-as (word (codes "\\p{") ⌢ word (letters k) ⌢ word (codes "}"))
-              (ClassEscape (item.Category k false)) p q4 (λ s o t g. grammar.within k refl g)
+              (ClassEscape (element.Category k false)) p q4 (λ s o t g. grammar.within k refl g)
               (reads-then (word (codes "\\p{")) (word (letters k) ⌢ word (codes "}")) p q2 q4
               (reads-words (codes "\\p") (codes "{") p q1 q2
               (subst (λ d. Reads (word (char.backslash ∷ d ∷ [])) p q1) (sign-is c passes h) sign)

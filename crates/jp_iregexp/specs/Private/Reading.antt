@@ -9,7 +9,7 @@ use Rattle.jp_reading.specs.NumberReading.{digits_at, capped}
 use Rattle.jp_reading.specs.Views.{outcome_map, with_prefix}
 use Rattle.jp_iregexp.specs.declared.category.Category.{Category}
 use Rattle.jp_iregexp.specs.declared.class.ClassElement.{ClassElement}
-use Rattle.jp_iregexp.specs.declared.class.ClassElement.TheVariants as item
+use Rattle.jp_iregexp.specs.declared.class.ClassElement.TheVariants as element
 use Rattle.jp_iregexp.specs.declared.quantifiers.Count.{Count}
 use Rattle.jp_iregexp.specs.Characters.{is_normal, is_plain, is_escaped, meant}
 use Rattle.jp_iregexp.specs.declared.characters.Characters.{Characters}
@@ -27,7 +27,7 @@ there (Some x) p = took x p
 abbrev pub is_category_sign : ℕ → Bool
 is_category_sign c = is char.letter_p c || is char.capital_p c
 
--- whether a character begins an item after the first one of a class
+-- whether a character begins an element after the first one of a class
 abbrev pub begins_element : ℕ → Bool
 begins_element c = not (is char.hyphen c || is char.closing_bracket c)
 
@@ -73,7 +73,7 @@ unfoldable pub category_at : State → Outcome ClassElement
 category_at p =
     take_if is_category_sign p >>= λ c q. expect char.opening_brace q >>= λ _ q. code_at q
     >>= λ k q. expect char.closing_brace q
-    >>= λ _ q. took (item.Category k (is char.capital_p c)) q
+    >>= λ _ q. took (element.Category k (is char.capital_p c)) q
 
 -- the range that begins with a character: of that character alone, unless a `-` stands next that
 -- does not end the class
@@ -82,8 +82,8 @@ range_at c p =
     if is_at char.hyphen p
     && not (is_at char.closing_bracket (past p)) then
     (character_at (past p)
-    >>= λ d q. if nat_lt d c then stuck q else took (item.Range c d) q) else took
-    (item.Range c c) p
+    >>= λ d q. if nat_lt d c then stuck q else took (element.Range c d) q) else took
+    (element.Range c c) p
 
 -- whether a category begins
 abbrev pub is_at_category : State → Bool
@@ -96,9 +96,9 @@ element_at p =
 
 -- a `-` that stands for itself
 abbrev pub hyphen_at : State → Outcome ClassElement
-hyphen_at p = expect char.hyphen p >>= λ _ q. took (item.Range char.hyphen char.hyphen) q
+hyphen_at p = expect char.hyphen p >>= λ _ q. took (element.Range char.hyphen char.hyphen) q
 
--- the first item of a class
+-- the first element of a class
 abbrev pub first_at : State → Outcome ClassElement
 first_at p = if is_at char.hyphen p then hyphen_at p else element_at p
 
@@ -111,8 +111,8 @@ abbrev pub last_at : List ClassElement → State → Outcome (List ClassElement)
 last_at xs p = if is_at char.hyphen p then outcome_map (λ x. xs ++ x ∷ []) (hyphen_at p) else took xs p
 
 -- the elements of a class
-unfoldable pub items_at : State → Outcome (List ClassElement)
-items_at p = first_at p >>= λ x q. with_prefix (x ∷ []) (elements_at q) >>= λ xs q. last_at xs q
+unfoldable pub all_elements_at : State → Outcome (List ClassElement)
+all_elements_at p = first_at p >>= λ x q. with_prefix (x ∷ []) (elements_at q) >>= λ xs q. last_at xs q
 
 -- whether a class is negated
 abbrev pub negation_at : State → Outcome Bool
@@ -121,7 +121,7 @@ negation_at p = if is_at char.caret p then took true (past p) else took false p
 -- a class
 unfoldable pub class_at : State → Outcome Tree
 class_at p =
-    expect char.opening_bracket p >>= λ _ q. negation_at q >>= λ b q. items_at q
+    expect char.opening_bracket p >>= λ _ q. negation_at q >>= λ b q. all_elements_at q
     >>= λ xs q. expect char.closing_bracket q
     >>= λ _ q. took (class b xs) q
 

@@ -20,7 +20,7 @@ use Rattle.jp_reading.proofs.States.Progress.{Progress}
 use Rattle.jp_reading.proofs.States.Loops.{each-on, each-off}
 use Rattle.jp_reading.proofs.States.Again.{split, reads-none, one-first, again-take_if}
 use Rattle.jp_reading.proofs.States.Again.{again-expect}
-use Rattle.jp_reading.proofs.States.Again.{again-skip, again-round, at-word, past-word, inside}
+use Rattle.jp_reading.proofs.States.Again.{again-skip, again-round, at-word, past-word, component-inside}
 use Rattle.jp_reading.proofs.Rules.Progress.{goes}
 use Rattle.jp_reading.proofs.Rules.Form.{Either, left, right, ComponentIf, Inside, none_inside}
 use Rattle.jp_reading.proofs.Rules.Form.{text_of}
@@ -149,7 +149,7 @@ record Within_component (is_component : Bool) (P : Form) (p q : State) : Type 0 
 within_component : (is_component : Bool) (P : Form) (p q : State) → Reads (ComponentIf is_component P) p q
     → Within_component is_component P p q
 within_component true P p q h =
-    let i = inside P p q h in record {
+    let i = component-inside P p q h in record {
       middle = i.middle;
       reads = i.reads;
       rest = i.rest;

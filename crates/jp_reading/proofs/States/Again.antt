@@ -159,14 +159,14 @@ again-skip p q h off =
 -- ---- components and loops
 
 -- what lies inside a component, and that its span makes the component
-pub record Inside (P : Form) (p q : State) : Type 0 where
+pub record ComponentInside (P : Form) (p q : State) : Type 0 where
   pub middle : State
   pub reads : Reads P p middle
   pub rest : middle.rest ≡ q.rest
   pub spanned : component_since p.at (length p.found) middle ≡ q
 
-pub inside : (P : Form) (p q : State) → Reads (Component P) p q → Inside P p q
-inside P p q h = record {
+pub component-inside : (P : Form) (p q : State) → Reads (Component P) p q → ComponentInside P p q
+component-inside P p q h = record {
   middle = record { at = q.at; rest = q.rest; found = p.found ++ h.is.inside };
   reads = record {
     spans = h.is.inside;

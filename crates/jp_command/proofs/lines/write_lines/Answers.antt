@@ -27,9 +27,9 @@ returns-in_default-write_all-clause-stopped g c =
       c.in_default-write_all.ensures.failed,
     )
 
-pub returns-in_default-write_all-clause-by_turns :
-    goal.returns-in_default-write_all-clause-by_turns
-returns-in_default-write_all-clause-by_turns g c =
+pub returns-in_default-write_all-clause-as_found :
+    goal.returns-in_default-write_all-clause-as_found
+returns-in_default-write_all-clause-as_found g c =
     let behind = line_behind c.args.lead.now c.args.form in
     let n = lent_node g.V.Lent.meaning (c.next_at.new.location, c.in_ok-value.value) in
     let steps = rw (c.in-Some.is, c.in_ok-value.was) at c.next_at.ensures in

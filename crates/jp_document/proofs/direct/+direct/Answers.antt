@@ -14,8 +14,9 @@ use Rattle.jp_document.specs.Value.{value_of}
 use Rattle.jp_document.specs.declared.value.Json.{Whole}
 use Rattle.jp_document.proofs.Tokens.Ahead.{ahead_item, ahead_items_end, ahead_item_short}
 use Rattle.jp_document.proofs.Tokens.Ahead.{ahead_member, ahead_members_end}
-use Rattle.jp_document.proofs.Tokens.Turns.{reads-null, reads-boolean, reads-text}
-use Rattle.jp_document.proofs.Tokens.Turns.{reads-whole, reads-list, reads-object}
+use Rattle.jp_document.specs.Integer.{IsWholeText}
+use Rattle.jp_document.proofs.Tokens.Rounds.{reads-null, reads-boolean, reads-text}
+use Rattle.jp_document.proofs.Tokens.Rounds.{reads-whole, reads-list, reads-object}
 use Rattle.jp_document.proofs.direct.+direct.Goals as goal
 
 pub value-returns-in-Null-clause-reads : goal.value-returns-in-Null-clause-reads
@@ -41,7 +42,8 @@ value-returns-in_ok-integer_of-in-Number-clause-reads t c =
     let same : to_z w128 (of_z w128 z) ≡ z = search rules in
     subst (λ n. ReadsValue c.args.depth c.args.reader.now c.next.new.self (value_of (Whole n)))
     (sym same) (reads-whole c.args.depth c.args.reader.now c.next.new.self _ _ is
-    c.in_ok-integer_of-in-Number.ensures)
+    (subst (λ s. IsWholeText s z) c.as_bytes.ensures.value
+    c.in_ok-integer_of-in-Number.ensures.written))
 
 pub value-returns-in_ok-ok-in-String-clause-reads :
     goal.value-returns-in_ok-ok-in-String-clause-reads

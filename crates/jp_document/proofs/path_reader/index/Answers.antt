@@ -1,5 +1,6 @@
-use Rattle.std.proofs.Common.{◌≤◌, sym, ◌∙◌, arith}
+use Rattle.std.proofs.Common.{◌≤◌, sym, ◌∙◌, arith, suc}
 use Rattle.std.proofs.lemmas.Result.{err_from_is_err_and}
+use Rattle.jp_reading.specs.Numbers.{largest_exact}
 use Rattle.jp_reading.specs.NumberReading.{digits_at}
 use Rattle.jp_reading.proofs.Texts.Digits.{capped-took}
 use Rattle.jp_document.proofs.Paths.IndexReading.{index-natural}
@@ -13,8 +14,8 @@ returns-in_err-index c =
 
 pub overflow_cast-result : goal.overflow_cast-result
 overflow_cast-result c =
-    let small : c.in_ok-index.index ≤ 9007199254740992 =
-    capped-took 9007199254740992 c.in_ok-index.index (digits_at c.args.reader.now)
+    let small : c.in_ok-index.index ≤ (suc largest_exact) =
+    capped-took (suc largest_exact) c.in_ok-index.index (digits_at c.args.reader.now)
     c.natural.new.reader c.in_ok-index.ensures.taken in
     omega arith
 

@@ -1,7 +1,7 @@
 use Rattle.std.proofs.Common.{◌≡◌, ◌∙◌, slice_get, rules}
 use Rattle.jp_check.proofs.Calls.{copied_component}
-use Rattle.jp_check.proofs.Steps.{arguments-on, exprs-on, segments-on, selectors-on, sides-on}
-use Rattle.jp_check.proofs.Steps.{types-kept}
+use Rattle.jp_check.proofs.PastComponents.{arguments-on, exprs-on, segments-on, selectors-on, sides-on}
+use Rattle.jp_check.proofs.PastComponents.{types-kept}
 use Rattle.jp_check.proofs.inspection.Inspection.+inspection.Goals as goal
 
 pub query-loop-segment-preserved : goal.query-loop-segment-preserved

@@ -1,7 +1,7 @@
 use Rattle.std.proofs.Common.{◌≡◌, ◌++◌, drop, map}
 use Rattle.jp_document.specs.Location.{step_of}
 use Rattle.jp_command.specs.Private.Fronts.{HasPathText}
-use Rattle.jp_command.proofs.front.Front.turn_to.Given as goal
+use Rattle.jp_command.proofs.front.Front.keep.Given as goal
 
 -- the steps so far are kept
 abbrev pub invariant-loop-step : goal.invariant-loop-step

@@ -3,7 +3,7 @@ use Rattle.std.specs.List.{flat_map}
 use Rattle.jp_document.specs.Location.{step_of}
 use Rattle.jp_document.specs.Path.{step_text}
 use Rattle.jp_command.proofs.Fronts.{all_kept, left_after, spelled_more}
-use Rattle.jp_command.proofs.front.Front.turn_to.Goals as goal
+use Rattle.jp_command.proofs.front.Front.keep.Goals as goal
 
 pub loop-step-preserved : goal.loop-step-preserved
 loop-step-preserved c =

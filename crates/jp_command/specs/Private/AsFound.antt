@@ -1,5 +1,5 @@
--- That nodes are asked for and their lines written by turns. The clause `by_turns` of `write_lines`
--- cites it.
+-- That the line of each node is written before the next node is asked for. The clause `as_found` of
+-- `write_lines` cites it.
 use Rattle.std.specs.Prelude.{◌≡◌, ◌⊎◌, ℕ, true, false, List, [], ◌∷◌, ◌++◌, Option, Result, Ok}
 use Rattle.std.specs.Prelude.{Err}
 use Rattle.std.specs.Io.KnownBytes.{Appends}
@@ -33,14 +33,14 @@ module _ {W : Type 0} (contents : W → Option (List ℕ)) (line_of : Node → L
   -- each but the last had its line before the next was asked for. Memory runs out for a line, of
   -- which nothing is written, or for the next node: then the nodes end, and which were left is not
   -- told.
-  abbrev pub WritesByTurns : {V M X : Type 0} → (V → Value) → LentNodes V M → LentNodes V M → W → W
+  abbrev pub WritesAsFound : {V M X : Type 0} → (V → Value) → LentNodes V M → LentNodes V M → W → W
       → Result X Fault → Type 0
-  WritesByTurns m v w o p (Ok x) =
+  WritesAsFound m v w o p (Ok x) =
       (rest_of m w ≡ []) × WritesGiven (rest_of m v) (rest_of m w) o p
-  WritesByTurns m v w o p (Err NoMemory) =
+  WritesAsFound m v w o p (Err NoMemory) =
       ((has_failed w ≡ false) × (last : Node)
       × WritesGiven (rest_of m v) (last ∷ rest_of m w) o p)
       ⊎ ((has_failed w ≡ true) × (rest : List Node) × WritesGiven (rest_of m v) rest o p)
-  WritesByTurns m v w o p (Err Write) =
+  WritesAsFound m v w o p (Err Write) =
       (has_failed w ≡ false) × WritesPart (rest_of m v) (rest_of m w) o p
-  WritesByTurns m v w o p (Err _) = ⊥
+  WritesAsFound m v w o p (Err _) = ⊥

@@ -16,8 +16,8 @@ use Rattle.fast_float.specs.Text.{minus, scan}
 use Rattle.serde_json.specs.Data.{Data, put, unsigned, negative}
 use Rattle.serde_json.specs.Read.{of_json, of_items, of_members, converted}
 use Rattle.serde_json.specs.Read.{number_of, number_from, max_depth}
-use Rattle.jp_document.specs.Private.Direct.{IsWholeText, ReadsItems}
-use Rattle.jp_document.specs.Private.Direct.{ReadsMembers, ReadsText, ReadsValue}
+use Rattle.jp_document.specs.Integer.{IsWholeText}
+use Rattle.jp_document.specs.Private.Direct.{ReadsItems, ReadsMembers, ReadsText, ReadsValue}
 use Rattle.jp_document.specs.Document.{items_of_data, value_of_data}
 use Rattle.jp_document.specs.Value.{Value, null, boolean, whole, text, list}
 use Rattle.jp_document.specs.Value.{object, Items, no_items, item, items_of, members_of}
@@ -141,10 +141,10 @@ reads-all s v x = record {
 
 -- ---- one item more
 
-pub items_turn : (depth n : ℕ) (ts r s : List Token) (v : Value) (vs : Items) → 0 < n
+pub items_round : (depth n : ℕ) (ts r s : List Token) (v : Value) (vs : Items) → 0 < n
     → after_end_array ts ≡ None → ReadsValue depth ts r v → ReadsItems depth (n - 1) r s vs
     → ReadsItems depth n ts s (item v vs)
-items_turn depth n ts r s v vs some going x later = record {
+items_round depth n ts r s v vs some going x later = record {
   reading = parsed.item x.reading later.reading;
   read =
       let j = parsed_before of_json (value depth ts) x.reading r x.read in
@@ -174,11 +174,11 @@ with_member : (k : List ℕ) (j : json.Json) (d : Data) (old : parsed.Members) �
 with_member k j d old e None = refl
 with_member k j d old e (Some p) = rw e
 
-pub member_turn : (depth n : ℕ) (old : parsed.Members) (k : List ℕ) (ts s r : List Token)
+pub member_round : (depth n : ℕ) (old : parsed.Members) (k : List ℕ) (ts s r : List Token)
     (v : Value) (x : ReadsValue depth s r v) → 0 < n → read_key ts ≡ Some (Some k, s)
     → converted (λ ms. of_members ms old) (members (value depth) n ts) ≡
     converted (λ ms. of_members ms (put k x.reading old)) (members (value depth) (n - 1) r)
-member_turn depth n old k ts s r v x some key =
+member_round depth n old k ts s r v x some key =
     let j = parsed_before of_json (value depth s) x.reading r x.read in
     ap (converted (λ ms. of_members ms old))
     (members_more (value depth) n k ts s r j.0 some key j.1)
