@@ -20,7 +20,7 @@ use Rattle.jp_document.specs.Private.Direct.{ReadsItems, ReadsMembers, ReadsValu
 use Rattle.jp_document.specs.Value.{Value, null, boolean, text, whole, list, object}
 use Rattle.jp_document.specs.Value.{items_of, members_of}
 use Rattle.jp_reading.proofs.Conjunctions.{and-both}
-use Rattle.jp_document.proofs.Tokens.Turns.{below_zero_text, converted-map, from_zero_text, one_token}
+use Rattle.jp_document.proofs.Tokens.Rounds.{below_zero_text, converted-map, from_zero_text, one_token}
 use Rattle.jp_flat.specs.Flat.{Shown, flat_value, number_of, text_at}
 use Rattle.jp_flat.specs.Private.Reading.{ReadsLeaf, IsWholeItem, ReadsFlat, ReadsFlatItems}
 use Rattle.jp_flat.specs.Private.Reading.{ReadsFlatMembers, with_items}

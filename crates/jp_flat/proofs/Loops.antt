@@ -16,7 +16,7 @@ use Rattle.jp_document.specs.Value.{Value, everywhere, everywhere_in_items, item
 use Rattle.jp_document.specs.Value.{list, list_fits, members_of, names_rise, object}
 use Rattle.jp_document.proofs.Descent.Inside.{all-items}
 use Rattle.jp_document.proofs.Tokens.Ahead.{MembersAhead, ahead_member, ahead_members_end}
-use Rattle.jp_document.proofs.Tokens.Turns.{items_over, items_turn}
+use Rattle.jp_document.proofs.Tokens.Rounds.{items_over, items_round}
 use Rattle.jp_flat.specs.Flat.{Grows, Shown, all_of, flat_value, member_with, text_at}
 use Rattle.jp_flat.specs.Private.Reading.{BeginsItems, BeginsValues, IsAboveLast, ReadsLeaf, IsTheListOf}
 use Rattle.jp_flat.specs.Private.Reading.{ReadsFlat}
@@ -67,7 +67,7 @@ values_more depth initial ts r values v less x short so = record {
       subst (λ ws. ReadsItems depth (length initial) initial q (items_of ws))
       (sym (append_assoc values (v ∷ []) vs))
       (so.ahead (v ∷ vs) q
-      (items_turn depth so.rounds ts r q v (items_of vs) (omega (arith, so.enough))
+      (items_round depth so.rounds ts r q v (items_of vs) (omega (arith, so.enough))
       (value_goes depth ts r v x) x later));
   short = short_item values v so.short short;
 }
@@ -227,11 +227,11 @@ items_end depth initial ts r t s u base old all i over few closed so =
 -- the members so far, which stand behind the old ones, and the members to come
 pub record MembersSoFar (depth : ℕ) (initial ts : List Token) (before now : Shown) (base : ℕ)
     (rises : Bool) (old all : List Named) : Type 0 where
-  pub turns : ℕ
-  pub enough : length ts ≤ turns
+  pub rounds : ℕ
+  pub enough : length ts ≤ rounds
   pub shorter : length ts ≤ length initial
   pub found : List (List ℕ × Value)
-  pub ahead : MembersAhead depth initial turns ts (put_all [] found)
+  pub ahead : MembersAhead depth initial rounds ts (put_all [] found)
   pub new : List Named
   pub mean : all_of (member_with (flat_value depth now) now) new ≡ Some found
   pub pushed : all ≡ old ++ new
@@ -246,7 +246,7 @@ above_said t ms o name says above = subst (λ q. IfSome q (IsAboveLast t ms)) sa
 pub members_begin : (depth : ℕ) (ts : List Token) (t : Shown) (base : ℕ) (old : List Named)
     → base ≡ length old → MembersSoFar depth ts ts t t base true old old
 members_begin depth ts t base old at = record {
-  turns = length ts;
+  rounds = length ts;
   enough = omega arith;
   shorter = omega arith;
   found = [];
@@ -279,13 +279,13 @@ members_more depth initial ts a r t s w u base rises still old all name m key le
     ap (option_and_then (λ k. option_map (λ v. (k, v)) (flat_value depth u m.item)))
     (text_grows w u m.name name two at) ∙ ap (option_map (λ v. (name, v))) x.means in
     record {
-      turns = so.turns - 1;
+      rounds = so.rounds - 1;
       enough = omega (arith, so.enough);
       shorter = omega (arith, so.shorter);
       found = so.found ++ p ∷ [];
       ahead =
-          subst (MembersAhead depth initial (so.turns - 1) r) (sym (put_all-push [] so.found p))
-          (ahead_member depth initial so.turns name ts a r (put_all [] so.found) x.value
+          subst (MembersAhead depth initial (so.rounds - 1) r) (sym (put_all-push [] so.found p))
+          (ahead_member depth initial so.rounds name ts a r (put_all [] so.found) x.value
           (omega (arith, so.enough)) key x.reads x.short so.ahead);
       new = so.new ++ m ∷ [];
       mean = all_of_push (member_with (flat_value depth u) u) so.new so.found m p kept here;
@@ -306,7 +306,7 @@ pub members_end : (depth : ℕ) (initial ts r : List Token) (t s u : Shown) (bas
     → MembersSoFar depth initial ts t s base rises old all → ReadsFlatMembers depth initial r u i
 members_end depth initial ts r t s u base rises old all i over closed so = record {
   members = put_all [] so.found;
-  reads = ahead_members_end depth initial so.turns ts r (put_all [] so.found) so.enough over
+  reads = ahead_members_end depth initial so.rounds ts r (put_all [] so.found) so.enough over
       so.ahead;
   within = so.ahead.short;
   means = closed depth so.found so.rise

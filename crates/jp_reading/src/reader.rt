@@ -168,9 +168,10 @@ impl<'t> Reader<'t> {
         ensures refused { IfErr result
             (λ stop. (stop ≡ Stop.Syntax self.old.at) × (self.new ≡ self.old)) }
     {
-        match self.peek() {
-            Some(next) if class.contains(next) => {
-                self.bump();
+        match split_first(self.rest) {
+            Some((next, rest)) if class.contains(next) => {
+                self.place += next.len_utf8();
+                self.rest = rest;
                 Ok(next)
             },
             _ => Err(Stop::Syntax(self.place)),
