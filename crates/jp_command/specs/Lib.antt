@@ -10,5 +10,6 @@ pub mod QueryLine
 pub mod Canon
 pub mod Check
 pub mod Line
+pub mod Found
 pub mod Headline
 pub mod Private

@@ -36,7 +36,7 @@ pub enum Form {
 
 /// Appends the line of the node at this location with this value. After an error nothing is said of
 /// the front.
-fn push_line<'d, V: Printed>(
+pub(crate) fn push_line<'d, V: Printed>(
     form: Form,
     front: &mut Front<'d>,
     location: &[Step<'d>],

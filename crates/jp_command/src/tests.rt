@@ -3,6 +3,7 @@
 mod devices;
 mod failures;
 mod forms;
+mod found;
 mod limits;
 mod prefixes;
 mod rows;

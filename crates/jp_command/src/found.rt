@@ -1,0 +1,63 @@
+//! What is written of the node that was found at a location.
+
+ghost use Rattle.std.specs.Prelude.{◌≡◌, IfErr, IfOk, OnOk, string_bytes};
+ghost use Rattle.std.specs.List.{flat_map};
+ghost use Rattle.jp_command.specs.Found.{found_nodes};
+ghost use Rattle.jp_command.specs.Lines.{line_behind, lines_of};
+ghost use Rattle.jp_command.specs.Output.{StopsWriting, WritesAll};
+
+use crate::device::Writer;
+use crate::fault::Fault;
+use crate::front::Front;
+use crate::lines::{Form, push_line};
+use crate::output::write_all;
+use jp_document::Step;
+use jp_lent::Printed;
+use std::alloc::{AllocError, Global};
+
+/// The line of the node at a location, with the value that was found there; no line where none was.
+/// The only error is that memory ran out.
+pub fn lines_at<'d, V: Printed>(
+    alloc: Global,
+    form: Form,
+    location: &[Step<'d>],
+    value: Option<V>,
+) -> Result<String, AllocError>
+    ensures { IfOk result (λ lines. string_bytes lines
+        ≡ lines_of form (found_nodes V.meaning location.now value)) }
+{
+    let mut lines = String::new(alloc);
+    if let Some(value) = value {
+        push_line(form, &mut Front::new(alloc), location, value, &mut lines)?;
+    }
+    Ok(lines)
+}
+
+/// Writes that line, behind the text `lead`; it is made in `line`, and what that held is gone then.
+/// `Write` says that the output failed, and `NoMemory` that memory ran out; after both a prefix of
+/// the line is written. There are no other errors.
+pub fn write_found<'d, V: Printed, W: Writer>(
+    alloc: Global,
+    form: Form,
+    lead: &str,
+    location: &[Step<'d>],
+    value: Option<V>,
+    line: &mut String,
+    output: &mut W,
+) -> Result<(), Fault>
+    ensures ok { OnOk result (WritesAll W.contents W.has_failed output.old output.new
+        (flat_map (line_behind lead.now form) (found_nodes V.meaning location.now value))) }
+    ensures stopped { IfErr result (StopsWriting W.contents W.has_failed output.old output.new
+        (flat_map (line_behind lead.now form) (found_nodes V.meaning location.now value))) }
+{
+    let Some(value) = value else {
+        return Ok(());
+    };
+    line.clear();
+    line.push_str(lead)?;
+    push_line(form, &mut Front::new(alloc), location, value, line)?;
+    let Ok(()) = write_all(output, line.as_bytes()) else {
+        return Err(Fault::Write);
+    };
+    Ok(())
+}
