@@ -11,9 +11,10 @@ ghost use Rattle.jp_c.specs.Asked.{RefusesBytes};
 
 use jp_canon::canon;
 use jp_check::{Checked, Profile, read_query};
-use jp_command::{Form, selected_lines};
+use jp_command::{Form, lines_at, selected_lines};
 use jp_document::Document;
-use jp_flat::{Flat, flat_document};
+use jp_evaluate::named_location;
+use jp_flat::{Flat, flat_document, flat_value_at, found_value};
 use jp_query::{Refusal, RefusalKind};
 use jsonpath::FindFault;
 use std::alloc::Global;
@@ -74,7 +75,11 @@ pub(crate) fn answer(
     ensures fault { IfErr result (IsNoAnswer profile query.now document.now) }
 {
     let query = asked(alloc, query, profile)?;
-    if let Some(flat) = flat_document(alloc, document) {
+    if let Some(location) = named_location(alloc, &query)? {
+        if let Some(found) = flat_value_at(alloc, document, &location) {
+            return Ok(lines_at(alloc, form, &location, found_value(&found))?);
+        }
+    } else if let Some(flat) = flat_document(alloc, document) {
         return Ok(selected_lines(alloc, form, flat.value(), &query)?);
     }
     let document = Document::read(alloc, document)?;

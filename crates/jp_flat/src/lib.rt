@@ -44,4 +44,4 @@ mod value_at;
 
 pub use flat::{Flat, Room, flat_document};
 pub use flat_value::FlatValue;
-pub use value_at::flat_value_at;
+pub use value_at::{flat_value_at, found_value};

@@ -1,13 +1,14 @@
 //! One value of a document, without the others.
-ghost use Rattle.std.specs.Prelude.{◌≡◌, IfSome, map};
+ghost use Rattle.std.specs.Prelude.{◌≡◌, IfSome, map, option_map};
 ghost use Rattle.jp_document.specs.Location.{step_of};
 ghost use Rattle.jp_flat.specs.Flat.{shown};
-ghost use Rattle.jp_flat.specs.FlatValue.{IsValueAt};
+ghost use Rattle.jp_flat.specs.FlatValue.{IsValueAt, document_in, lent_flat};
 ghost use Rattle.jp_flat.specs.Private.Found.{FindsInText};
 
 use crate::cursor::Cursor;
 use crate::finding::find;
 use crate::flat::Flat;
+use crate::flat_value::FlatValue;
 use crate::item::Item;
 use crate::reading::Pending;
 use crate::tables::{MAX_DEPTH, Tables};
@@ -36,6 +37,16 @@ pub fn flat_value_at<'t>(
             pending,
         })),
         None => Some(None),
+    }
+}
+
+/// The value that was found, to go on from.
+pub fn found_value<'f, 't>(found: &'f Option<Flat<'t>>) -> Option<FlatValue<'f, 't>>
+    ensures { option_map lent_flat result ≡ option_map document_in found.now }
+{
+    match found {
+        Some(flat) => Some(flat.value()),
+        None => None,
     }
 }
 

@@ -1,5 +1,5 @@
 //! One value of a document, found while the document is read, beside the same in a tree.
-use crate::flat_value_at;
+use crate::{flat_value_at, found_value};
 use jp_document::{Document, Step, value_text};
 use std::alloc::{AllocError, Global};
 use std::test::Fail;
@@ -14,11 +14,11 @@ fn found_text(
     let Some(found) = flat_value_at(alloc, text.as_bytes(), location) else {
         return Ok(None);
     };
-    let Some(flat) = found else {
+    let Some(value) = found_value(&found) else {
         return Ok(Some(None));
     };
     let mut out = String::new(alloc);
-    flat.value().push_value(&mut out)?;
+    value.push_value(&mut out)?;
     Ok(Some(Some(out)))
 }
 
