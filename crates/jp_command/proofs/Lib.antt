@@ -4,6 +4,7 @@ pub mod Rows
 pub mod Runs
 pub mod LineLemmas
 pub mod Flushes
+pub mod FoundLines
 pub mod Headline
 pub mod Fronts
 pub mod Standard

@@ -7,12 +7,14 @@ ghost use Rattle.jp_command.specs.Run.{IsAsked, RefusesQuery, RunsEval};
 
 use crate::device::{Source, Writer};
 use crate::fault::Fault;
+use crate::found::write_found;
 use crate::input::read_all;
 use crate::limits::QUERY_LIMIT;
 use crate::lines::{Form, Spare, write_selected};
 use jp_check::{Checked, Profile, read_query};
 use jp_document::Document;
-use jp_flat::flat_document;
+use jp_evaluate::named_location;
+use jp_flat::{flat_document, flat_value_at, found_value};
 use jp_query::{Refusal, RefusalKind};
 use std::alloc::Global;
 
@@ -27,7 +29,8 @@ use std::alloc::Global;
 /// or the output failed: a call that fails is not tried again. `NoMemory` says that memory ran out,
 /// at whatever step. After `Write` and `NoMemory` a prefix of the output is written.
 ///
-/// A document is read into tables, and what fits none as a tree.
+/// Where the query names a location, the value there is found while the document is read; for other
+/// queries a document is read into tables. What fits none is read as a tree.
 pub fn run_eval<R: Source, W: Writer>(
     alloc: Global,
     query: &str,
@@ -42,7 +45,13 @@ pub fn run_eval<R: Source, W: Writer>(
     let query = read_within_limit(alloc, query, profile)?;
     let bytes = read_all(alloc, input)?;
     let mut spare = Spare::new(alloc);
-    if let Some(flat) = flat_document(alloc, &bytes) {
+    if let Some(location) = named_location(alloc, &query)? {
+        if let Some(found) = flat_value_at(alloc, &bytes, &location) {
+            let value = found_value(&found);
+            let line = &mut spare.line;
+            return write_found(alloc, form, "", &location, value, line, output);
+        }
+    } else if let Some(flat) = flat_document(alloc, &bytes) {
         return write_selected(alloc, form, "", flat.value(), &query, &mut spare, output);
     }
     let document = Document::read(alloc, &bytes)?;
