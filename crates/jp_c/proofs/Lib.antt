@@ -1,4 +1,4 @@
 mod HeldValues
 mod Outcomes
 mod Selecting
-mod Turns
+mod Questions

@@ -17,19 +17,19 @@ pub record AnswersOne (IsOutcome : List ℕ → outcome.Outcome → Type 0) (byt
   pub tells : text ≡ told_text o
 
 -- each question is answered so, and the texts stand one after another
-pub data AnswersInTurn (IsOutcome : List ℕ → outcome.Outcome → Type 0) (bytes : List ℕ)
+pub data AnswersEach (IsOutcome : List ℕ → outcome.Outcome → Type 0) (bytes : List ℕ)
     : List Question → List Question → List ℕ → Type 0 where
-  none : AnswersInTurn IsOutcome bytes [] [] []
+  none : AnswersEach IsOutcome bytes [] [] []
   next : {olds news : List Question} {texts : List ℕ}
-      → AnswersInTurn IsOutcome bytes olds news texts
+      → AnswersEach IsOutcome bytes olds news texts
       → (old new : Question) (text : List ℕ) → AnswersOne IsOutcome bytes old new text
-      → AnswersInTurn IsOutcome bytes (olds ++ old ∷ []) (news ++ new ∷ []) (texts ++ text)
+      → AnswersEach IsOutcome bytes (olds ++ old ∷ []) (news ++ new ∷ []) (texts ++ text)
 
 -- a call answers all questions; the buffer, which was `before` and is `after`, gets their texts
 -- where there is room for all of them, and `size` is how many bytes they have
 pub record AnswersAll (IsOutcome : List ℕ → outcome.Outcome → Type 0) (bytes : List ℕ)
     (olds news : List Question) (before after : List ℕ) (size : ℕ) : Type 0 where
   pub texts : List ℕ
-  pub turns : AnswersInTurn IsOutcome bytes olds news texts
+  pub each : AnswersEach IsOutcome bytes olds news texts
   pub fills : after ≡ filled texts before
   pub counts : size ≡ length texts

@@ -2,7 +2,7 @@
 ghost use Rattle.std.specs.Prelude.{◌≡◌, ◌≢◌, ◌⊎◌, ◌++◌, ℕ, List, drop, string_bytes, take};
 ghost use Rattle.jsonpath.specs.declared.fault.FindFault.TheVariants.{NoMemory};
 ghost use Rattle.jp_c.specs.Calls.{IsEvalOutcome};
-ghost use Rattle.jp_c.specs.Many.{AnswersAll, AnswersInTurn, AnswersOne};
+ghost use Rattle.jp_c.specs.Many.{AnswersAll, AnswersEach, AnswersOne};
 ghost use Rattle.jp_c.specs.Outcome.{told_text};
 ghost use Rattle.jp_c.specs.Private.Subjects.{IsSound};
 ghost use Rattle.jp_c.specs.declared.outcome.Outcome.TheVariants.{Fault, Usage};
@@ -105,7 +105,7 @@ impl<'d> Subject<'d> {
 /// Answers all questions, and gives their texts one after another.
 fn answer_each(subject: &Subject<'_>, queries: &[u8], questions: &mut [Question]) -> String
     requires { IsSound subject.now }
-    ensures { AnswersInTurn
+    ensures { AnswersEach
         (λ query. IsEvalOutcome subject.now.form subject.now.profile query subject.now.document.now)
         queries.now questions.old questions.new (string_bytes result) }
 {

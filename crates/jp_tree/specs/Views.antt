@@ -29,10 +29,12 @@ literal_of written.True = true_literal
 literal_of written.False = false_literal
 literal_of written.Null = null_literal
 
--- one layer, with the tree of each part in its place
+-- one layer of a value, with the tree of each part in its place
 abbrev pub Layer : (Type 0 → Type 0 → Type 0 → Type 0 → Type 0 → Type 0 → Type 0 → Type 0 → Type 0)
     → Type 0
 Layer F = F ArgumentTree ExprTree OperandTree SelectorTree ExprTree CallTree QueryTree SegmentTree
+
+-- ---- the tree of each kind of layer
 
 abbrev pub expr_layer : Layer Expr-F → ExprTree
 expr_layer (Expr-F.AnyOf es) = any_of (exprs es.items)
@@ -72,7 +74,10 @@ query_layer q = query q.absolute (segments q.segments.items)
 abbrev pub segment_layer : Layer Segment-F → SegmentTree
 segment_layer s = segment s.descendant (selectors s.selectors.items)
 
--- the tree of a value, layer by layer from its innermost parts
+-- ---- the tree of a value, from its innermost layers outwards
+
+-- what a fold over the program's types makes of a value by these layers; the eight `_` of each fold
+-- below stand for the types of the trees
 abbrev by_layers : {X T : Type 0}
     → ((Layer Argument-F → ArgumentTree) → (Layer Expr-F → ExprTree)
     → (Layer Operand-F → OperandTree) → (Layer Selector-F → SelectorTree)

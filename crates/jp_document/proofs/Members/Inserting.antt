@@ -118,21 +118,21 @@ by_order t Less a b c p q r = p
 by_order t Equal a b c p q r = q
 by_order t Greater a b c p q r = r
 
-pub all_insert : {V : Type 0} (t : V → Bool) (ms : List (List ℕ × V)) (k : List ℕ) (v : V)
+pub insert_all : {V : Type 0} (t : V → Bool) (ms : List (List ℕ × V)) (k : List ℕ) (v : V)
     → list_all (λ m. t m.1) ms ≡ true → t v ≡ true
     → list_all (λ m. t m.1) (insert_entry bytes_cmp ms k v) ≡ true
-all_insert t [] k v h p = and_from _ _ p refl
-all_insert t (m ∷ ms) k v h p =
+insert_all t [] k v h p = and_from _ _ p refl
+insert_all t (m ∷ ms) k v h p =
     by_order (list_all (λ m. t m.1)) (bytes_cmp k m.0) ((k, v) ∷ m ∷ ms) ((m.0, v) ∷ ms)
     (m ∷ insert_entry bytes_cmp ms k v) (and_from _ _ p h) (and_from _ _ p (and-right _ _ h))
-    (and_from _ _ (and-left _ _ h) (all_insert t ms k v (and-right _ _ h) p))
+    (and_from _ _ (and-left _ _ h) (insert_all t ms k v (and-right _ _ h) p))
 
-pub sound_insert : (p : Value → Bool) (ms : List Pair) (k : List ℕ) (v : Value)
+pub insert_sound : (p : Value → Bool) (ms : List Pair) (k : List ℕ) (v : Value)
     → everywhere_in_members p (members_of ms) ≡ true → everywhere p v ≡ true
     → everywhere_in_members p (members_of (insert_entry bytes_cmp ms k v)) ≡ true
-sound_insert p ms k v h here =
+insert_sound p ms k v h here =
     all-members p (insert_entry bytes_cmp ms k v)
-    ∙ all_insert (everywhere p) ms k v (sym (all-members p ms) ∙ h) here
+    ∙ insert_all (everywhere p) ms k v (sym (all-members p ms) ∙ h) here
 
 -- names above a name are above each name below it
 below_each-trans : (k n : List ℕ) (ns : List (List ℕ)) → bytes_cmp k n ≡ Less
@@ -172,10 +172,10 @@ keys_rise (m ∷ ms) k v rise =
     (keys_by (λ n. is_lt (bytes_cmp m.0 n)) ms k v (and-left _ _ rise) (above_is_less m.0 k is))
     (keys_rise ms k v (and-right _ _ rise)))
 
-pub rise_insert : (ms : List Pair) (k : List ℕ) (v : Value)
+pub insert_rises : (ms : List Pair) (k : List ℕ) (v : Value)
     → names_rise (names_of (members_of ms)) ≡ true
     → names_rise (names_of (members_of (insert_entry bytes_cmp ms k v))) ≡ true
-rise_insert ms k v rise =
+insert_rises ms k v rise =
     ap names_rise (names_of-members_of (insert_entry bytes_cmp ms k v))
     ∙ keys_rise ms k v (sym (ap names_rise (names_of-members_of ms)) ∙ rise)
 
@@ -238,9 +238,9 @@ entries_of-insert_entry [] k v = refl
 entries_of-insert_entry (e ∷ es) k v =
     through (map map_entry) (string_cmp k e.0) _ _ _ ∙ rw (entries_of-insert_entry es k v)
 
-pub seen_insert : (ms : List Member) (i : ℕ) (m : Member)
+pub insert_seen : (ms : List Member) (i : ℕ) (m : Member)
     → map member_of (insert ms i m) ≡ insert (map member_of ms) i (member_of m)
-seen_insert [] zero m = refl
-seen_insert [] (suc i) m = refl
-seen_insert (n ∷ ms) zero m = refl
-seen_insert (n ∷ ms) (suc i) m = ap (λ ns. member_of n ∷ ns) (seen_insert ms i m)
+insert_seen [] zero m = refl
+insert_seen [] (suc i) m = refl
+insert_seen (n ∷ ms) zero m = refl
+insert_seen (n ∷ ms) (suc i) m = ap (λ ns. member_of n ∷ ns) (insert_seen ms i m)

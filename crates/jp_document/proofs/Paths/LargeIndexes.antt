@@ -18,12 +18,12 @@ pub list_any-map : {A B : Type 0} (p : B → Bool) (f : A → B) (xs : List A)
 list_any-map p f [] = refl
 list_any-map p f (x ∷ xs) = ap (λ b. p (f x) || b) (list_any-map p f xs)
 
-large-min : (i : ℕ) → nat_lt largest_exact (min i (suc largest_exact)) ≡ nat_lt largest_exact i
-large-min i = grind (arith, nat_tests)
+min-large : (i : ℕ) → nat_lt largest_exact (min i (suc largest_exact)) ≡ nat_lt largest_exact i
+min-large i = grind (arith, nat_tests)
 
 is_large-capped : (k : Step) → is_large (capped_step k) ≡ is_large k
 is_large-capped (named s) = refl
-is_large-capped (nth i) = large-min i
+is_large-capped (nth i) = min-large i
 
 -- what is read has a large index exactly where the path has one
 pub any_large-capped : (l : Location) → list_any is_large (map capped_step l) ≡ list_any is_large l
@@ -32,12 +32,12 @@ any_large-capped (k ∷ l) =
     ap (λ b. b || list_any is_large (map capped_step l)) (is_large-capped k)
     ∙ ap (λ b. is_large k || b) (any_large-capped l)
 
-small-min : (i : ℕ) → nat_lt largest_exact i ≡ false → min i (suc largest_exact) ≡ i
-small-min i h = grind (arith, nat_tests)
+min-small : (i : ℕ) → nat_lt largest_exact i ≡ false → min i (suc largest_exact) ≡ i
+min-small i h = grind (arith, nat_tests)
 
 small-capped : (k : Step) → is_large k ≡ false → capped_step k ≡ k
 small-capped (named s) h = refl
-small-capped (nth i) h = ap nth (small-min i h)
+small-capped (nth i) h = ap nth (min-small i h)
 
 -- where it has none the path itself was read
 pub all_small-capped : (l : Location) → list_any is_large l ≡ false → map capped_step l ≡ l

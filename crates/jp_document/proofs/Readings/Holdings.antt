@@ -130,14 +130,14 @@ mutual
 
 -- ---- a document's value has no list that is too long
 
-fits_alone : (v : Value) → is_allowed v ≡ true → list_fits v ≡ true
-fits_alone (list vs) h = h
-fits_alone v h = refl
+allowed-list_fits : (v : Value) → is_allowed v ≡ true → list_fits v ≡ true
+allowed-list_fits (list vs) h = h
+allowed-list_fits v h = refl
 
 mutual
   pub fits-allowed : (v : Value) → everywhere is_allowed v ≡ true → everywhere list_fits v ≡ true
   fits-allowed (list vs) h =
-      and_from _ _ (fits_alone (list vs) (and-left _ _ h)) (items_fit-allowed vs (and-right _ _ h))
+      and_from _ _ (allowed-list_fits (list vs) (and-left _ _ h)) (items_fit-allowed vs (and-right _ _ h))
   fits-allowed (object ms) h = members_fit-allowed ms (and-right _ _ h)
   fits-allowed v h = refl
 

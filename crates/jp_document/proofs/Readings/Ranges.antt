@@ -24,7 +24,7 @@ use Rattle.jp_document.proofs.Members.ByName.{bytes_cmp}
 use Rattle.jp_reading.proofs.Conjunctions.{and-left, and-right}
 use Rattle.jp_document.proofs.Utf8.Parsed.{items_texts, json_texts, members_texts}
 use Rattle.jp_document.proofs.Utf8.Parsed.{text_of_texts}
-use Rattle.jp_document.proofs.Members.Inserting.{all_insert, keys_by, keys_rise, through}
+use Rattle.jp_document.proofs.Members.Inserting.{insert_all, keys_by, keys_rise, through}
 use Rattle.jp_document.proofs.Options.{some_from_then}
 
 -- ---- what may be read
@@ -141,7 +141,7 @@ put_fits n d ms name here before =
     ∙ and_from _ _ (keys_rise es n d (and-left _ _ names))
     (keys_by is_utf8 es n d (and-right _ _ names) name))
     (members_fit-entries (put n d ms) ∙ ap (list_all (λ e. data_fits e.1)) same
-    ∙ all_insert data_fits es n d (sym (members_fit-entries ms) ∙ and-right _ _ before) here)
+    ∙ insert_all data_fits es n d (sym (members_fit-entries ms) ∙ and-right _ _ before) here)
 
 -- ---- values
 

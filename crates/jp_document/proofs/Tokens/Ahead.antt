@@ -18,7 +18,7 @@ use Rattle.jp_document.specs.declared.value.Json.{Json}
 use Rattle.jp_document.proofs.Tokens.Rounds.{items_round, items_over, member_round, members_over}
 use Rattle.jp_document.proofs.Members.Inserting.{ReadMember, pair, data_of, put_entry}
 use Rattle.jp_document.proofs.Members.Inserting.{members_of_data-entries, pairs-put_entry}
-use Rattle.jp_document.proofs.Members.Inserting.{data_of-put_entry, rise_insert, sound_insert}
+use Rattle.jp_document.proofs.Members.Inserting.{data_of-put_entry, insert_rises, insert_sound}
 use Rattle.jp_document.proofs.Members.ByName.{bytes_cmp}
 use Rattle.jp_document.proofs.Descent.Inside.{all-items}
 use Rattle.std.proofs.lemmas.Bool.{and_from}
@@ -89,8 +89,8 @@ ahead_member depth initial n k ts s r found v some key x short so =
       ahead = so.ahead ∙ member_round depth n (data_of so.entries) k ts s r v x some key
           ∙ ap (λ old. converted (λ js. of_members js old) (members (value depth) (n - 1) r))
           (sym (data_of-put_entry e so.entries));
-      rise = rise_insert found k v so.rise;
-      short = sound_insert list_fits found k v so.short short;
+      rise = insert_rises found k v so.rise;
+      short = insert_sound list_fits found k v so.short short;
     }
 
 pub ahead_members_end : (depth : ℕ) (initial : List Token) (n : ℕ) (ts r : List Token)

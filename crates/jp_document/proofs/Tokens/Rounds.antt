@@ -27,10 +27,10 @@ use Rattle.jp_document.specs.declared.value.Json.{List as ListOf, Members as Mem
 use Rattle.jp_document.specs.declared.value.Member.{Member}
 use Rattle.jp_document.proofs.Values.{value_of-List, value_of-Members}
 
-same_parts : {B : Type 0} (r s : List Token) (x : Option B) (b : B)
+parts-same : {B : Type 0} (r s : List Token) (x : Option B) (b : B)
     → option_map {U = B × List Token} (λ y. (y, r)) x ≡ Some (b, s) → (r ≡ s) × (x ≡ Some b)
-same_parts r s None b e = absurd (cc)
-same_parts r s (Some y) b e =
+parts-same r s None b e = absurd (cc)
+parts-same r s (Some y) b e =
     let same = some_pair_parts y b r s e in (same.1, ap Some same.0)
 
 -- what was parsed before it was converted
@@ -38,7 +38,7 @@ parsed_before : {A B : Type 0} (f : A → Option B) (o : Option (A × List Token
     (r : List Token) → converted f o ≡ Some (b, r) → (a : A) × (o ≡ Some (a, r)) × (f a ≡ Some b)
 parsed_before f None b r e = absurd (cc)
 parsed_before f (Some p) b r e =
-    let both = same_parts p.1 r (f p.0) b e in (p.0, ap (λ s. Some (p.0, s)) both.0, both.1)
+    let both = parts-same p.1 r (f p.0) b e in (p.0, ap (λ s. Some (p.0, s)) both.0, both.1)
 
 -- ---- a value of one token
 

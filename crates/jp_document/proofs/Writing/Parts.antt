@@ -56,10 +56,10 @@ part_more before whole now part after rest more i next kept begun wrote =
     wrote
 
 -- a name, a colon and a value, written one after another
-pub wrote_member : (before named coloned after name value : List ℕ) → named ≡ before ++ name
+pub member_written : (before named coloned after name value : List ℕ) → named ≡ before ++ name
     → coloned ≡ named ++ char.colon ∷ [] → after ≡ coloned ++ value → after ≡ before
     ++ (name ++ char.colon ∷ value)
-wrote_member before named coloned after name value e f g =
+member_written before named coloned after name value e f g =
     g ∙ ap (λ xs. xs ++ value) (f ∙ ap (λ xs. xs ++ char.colon ∷ []) e)
     ∙ append_assoc (before ++ name) (char.colon ∷ []) value
     ∙ append_assoc before name (char.colon ∷ value)

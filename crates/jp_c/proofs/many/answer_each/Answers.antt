@@ -2,8 +2,8 @@ use Rattle.std.proofs.Common.{◌+◌, ◌<◌, ◌≤◌, [], arith, length, re
 use Rattle.std.proofs.Common.{sym, take}
 use Rattle.std.proofs.lemmas.List.{take_all}
 use Rattle.jp_c.specs.Calls.{IsEvalOutcome}
-use Rattle.jp_c.specs.Many.{AnswersInTurn, none}
-use Rattle.jp_c.proofs.Turns.{still, turn}
+use Rattle.jp_c.specs.Many.{AnswersEach, none}
+use Rattle.jp_c.proofs.Questions.{question-answered, questions-left}
 use Rattle.jp_c.proofs.many.answer_each.Goals as goal
 
 pub loop-question-init : goal.loop-question-init
@@ -11,7 +11,7 @@ loop-question-init c =
     let subject = c.args.subject.now in
     record {
       answered = subst
-          (AnswersInTurn
+          (AnswersEach
           (λ query. IsEvalOutcome subject.form subject.profile query subject.document.now)
           c.args.queries.now [] [])
           (sym c.new-texts.ensures.bytes) none;
@@ -30,14 +30,14 @@ loop-question-preserved c =
     in
     record {
       answered = subst
-          (AnswersInTurn
+          (AnswersEach
           (λ query. IsEvalOutcome subject.form subject.profile query subject.document.now)
           c.args.queries.now (take (i + 1) c.args.questions.now)
           (take (i + 1) (set loop.questions i new)))
           (sym step.2)
-          (turn _ _ c.args.questions.now loop.questions (string_bytes loop.texts) step.0 i _ new
+          (question-answered _ _ c.args.questions.now loop.questions (string_bytes loop.texts) step.0 i _ new
           loop.invariant.answered loop.invariant.rest within step.1);
-      rest = still c.args.questions.now loop.questions i new loop.invariant.rest;
+      rest = questions-left c.args.questions.now loop.questions i new loop.invariant.rest;
     }
 
 pub returns : goal.returns
@@ -50,12 +50,12 @@ returns c =
     omega (arith, c.loop-question-test.false, loop.auto.questions)
     in
     subst
-    (λ xs. AnswersInTurn
+    (λ xs. AnswersEach
     (λ query. IsEvalOutcome subject.form subject.profile query subject.document.now)
     c.args.queries.now xs loop.questions (string_bytes loop.texts))
     (take_all i c.args.questions.now olds)
     (subst
-    (λ ys. AnswersInTurn
+    (λ ys. AnswersEach
     (λ query. IsEvalOutcome subject.form subject.profile query subject.document.now)
     c.args.queries.now (take i c.args.questions.now) ys (string_bytes loop.texts))
     (take_all i loop.questions news) loop.invariant.answered)

@@ -1,6 +1,6 @@
 use Rattle.std.proofs.Common.{◌≡◌, ℕ, List, rules, string_bytes, subst}
 use Rattle.jp_c.specs.Calls.{IsEvalOutcome}
-use Rattle.jp_c.specs.Many.{AnswersInTurn}
+use Rattle.jp_c.specs.Many.{AnswersEach}
 use Rattle.jp_c.specs.Outcome.{filled}
 use Rattle.jp_c.proofs.many.jp_eval_many.Goals as goal
 
@@ -8,16 +8,16 @@ pub returns : goal.returns
 returns c =
     let read = c.read-subject in
     let texts = string_bytes c.answer_each-texts.result in
-    let turns = λ (form : ℕ) (profile : ℕ) (document : List ℕ). AnswersInTurn
+    let each = λ (form : ℕ) (profile : ℕ) (document : List ℕ). AnswersEach
     (λ query. IsEvalOutcome form profile query document) c.args.queries.now
     c.args.questions.now c.answer_each-texts.new.questions texts
     in
     record {
       texts = texts;
-      turns = subst (λ form. turns form c.args.profile c.args.document.now) read.ensures.form
-          (subst (λ profile. turns read.result.form profile c.args.document.now)
+      each = subst (λ form. each form c.args.profile c.args.document.now) read.ensures.form
+          (subst (λ profile. each read.result.form profile c.args.document.now)
           read.ensures.profile
-          (subst (λ document. turns read.result.form read.result.profile document)
+          (subst (λ document. each read.result.form read.result.profile document)
           read.ensures.document c.answer_each-texts.ensures));
       fills = subst (λ t. c.fill.new.out ≡ filled t c.args.out.now) c.as_bytes.ensures.value
           c.fill.ensures;

@@ -11,7 +11,7 @@ use Rattle.jp_document.specs.Value.{object, value_of, items_of, members_of, memb
 use Rattle.jp_document.specs.declared.value.Json.{Json}
 use Rattle.jp_document.specs.declared.value.Member.{Member}
 use Rattle.jp_document.proofs.Writing.Appended.{after, all_of, between, first, nothing}
-use Rattle.jp_document.proofs.Writing.Parts.{joined_more, part_more, wrote_member}
+use Rattle.jp_document.proofs.Writing.Parts.{joined_more, part_more, member_written}
 use Rattle.jp_document.proofs.Values.{member_of_is, value_of-List, value_of-Members}
 use Rattle.jp_document.proofs.text.+text.Goals as goal
 
@@ -93,7 +93,7 @@ push_members-loop-i-preserved t c =
     ++ char.colon ∷ [] =
     search rules in
     let wrote =
-    wrote_member _ _ _ _ _ (text_of (value_of m.value)) name colon c.in_ok-push_value.ensures.ok in
+    member_written _ _ _ _ _ (text_of (value_of m.value)) name colon c.in_ok-push_value.ensures.ok in
     record {
       whole =
           joined_more now _ part _ _
