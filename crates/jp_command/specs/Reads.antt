@@ -3,9 +3,9 @@ use Rattle.std.specs.Prelude.{◌≡◌, ℕ, ◌<◌, List, [], ◌++◌, lengt
 use Rattle.std.specs.Prelude.{Result, Ok, Err}
 
 -- what a read gave: bytes, or None where it failed
-abbrev pub given_by : {E : Type 0} → Result ℕ E → List ℕ → Option (List ℕ)
-given_by (Ok n) buffer = Some (take n buffer)
-given_by (Err e) buffer = None
+abbrev pub bytes_given : {E : Type 0} → Result ℕ E → List ℕ → Option (List ℕ)
+bytes_given (Ok n) buffer = Some (take n buffer)
+bytes_given (Err e) buffer = None
 
 -- `read_gives k (Some bytes) j` says that one read leads from k to j and gave these bytes
 module _ {R : Type 0} (read_gives : R → Option (List ℕ) → R → Type 0) where

@@ -4,7 +4,7 @@ ghost use Rattle.std.specs.Prelude.{◌≡◌, ℕ, ◌<◌, ◌≤◌, Bool, Li
 ghost use Rattle.std.specs.Prelude.{OnOk, OnErr, length, ⊤};
 ghost use Rattle.std.specs.Io.KnownBytes.{ReadConsumes, WriteAppends, Keeps};
 ghost use Rattle.jp_command.specs.Device.{carried, carrier_failed};
-ghost use Rattle.jp_command.specs.Reads.{given_by};
+ghost use Rattle.jp_command.specs.Reads.{bytes_given};
 
 use std::io::{Read, Write};
 
@@ -31,7 +31,7 @@ pub trait Source {
         ensures bytes { ReadConsumes (remaining self.old) (remaining self.new) result buffer.new }
         ensures works { OnOk result (has_failed self.new ≡ has_failed self.old) }
         ensures fails { OnErr result (has_failed self.new ≡ true) }
-        ensures call { read_gives self.old (given_by result buffer.new) self.new };
+        ensures call { read_gives self.old (bytes_given result buffer.new) self.new };
 
     /// Whether a call failed.
     fn failed(&self) -> bool

@@ -14,7 +14,7 @@ use Rattle.jp_document.specs.Value.{Value}
 use Rattle.jp_document.specs.declared.document_value.DocumentValue.{DocumentValue}
 use Rattle.jp_document.specs.declared.location.Step as code
 use Rattle.jp_select.specs.Subtree.{subtree_of}
-use Rattle.jp_select.specs.Walk.{child_subtrees, frame_node, frames_give, given_by, parent}
+use Rattle.jp_select.specs.Walk.{child_subtrees, frame_node, frames_give, frames_give_from, parent}
 use Rattle.jp_select.specs.declared.descent.Frame.{Frame}
 use Rattle.jp_select.proofs.Locations.{nodes-children}
 
@@ -64,7 +64,7 @@ child_gives was fs f s v is =
     let m = node_at (l ++ step_of s ∷ []) (lent_value v) in
     let same : suc f.next ≡ f.next + 1 = omega arith in
     let more = child_subtrees n (f.next + 1) in
-    let rest = given_by (parent l) (reverse fs) in
+    let rest = frames_give_from (parent l) (reverse fs) in
     rw (
       map-append step_of was (s ∷ []),
       reverse-append fs (f ∷ []),
@@ -88,10 +88,10 @@ frame_ends n was is fs f long rest end =
     ap (map step_of) rest ∙ sym (take-map step_of (n - 1) was)
     ∙ ap (λ m. take (m - 1) l) (long ∙ sym (length-map was step_of)) in
     let m = frame_node l f in
-    ap (λ t. given_by t (reverse fs)) up
+    ap (λ t. frames_give_from t (reverse fs)) up
     ∙ sym
-    (ap (given_by l) (reverse-append fs (f ∷ []))
-    ∙ ap (λ ns. flat_map subtree_of ns ++ given_by (parent l) (reverse fs))
+    (ap (frames_give_from l) (reverse-append fs (f ∷ []))
+    ∙ ap (λ ns. flat_map subtree_of ns ++ frames_give_from (parent l) (reverse fs))
     (drop_past (children m) f.next (child_there m f.next None end)))
 
 -- ---- walks

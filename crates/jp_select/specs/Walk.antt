@@ -24,13 +24,13 @@ abbrev pub frame_node : Location → Frame → Node
 frame_node l f = record { location = l; value = lent_value f.value }
 
 -- what frames still give, the last one first: it stands at l, each other one a step before
-abbrev pub given_by : Location → List Frame → List Node
-given_by l [] = []
-given_by l (f ∷ fs) = child_subtrees (frame_node l f) f.next ++ given_by (parent l) fs
+abbrev pub frames_give_from : Location → List Frame → List Node
+frames_give_from l [] = []
+frames_give_from l (f ∷ fs) = child_subtrees (frame_node l f) f.next ++ frames_give_from (parent l) fs
 
 -- the same where these steps are the location of the last one's value
 abbrev pub frames_give : List Step → List Frame → List Node
-frames_give steps fs = given_by (map step_of steps) (reverse fs)
+frames_give steps fs = frames_give_from (map step_of steps) (reverse fs)
 
 -- what a walk still gives: before its first node was given, that node and its descendants; after
 -- that, what its frames give
