@@ -1,13 +1,12 @@
 //! The value at a location of a document, found while the document is read. Of values that stand
 //! elsewhere nothing is kept but unescaped texts.
-ghost use Rattle.std.specs.Prelude.{◌≡◌, ◌<◌, ◌∷◌, IfSome, OnSome, length, option_map};
+ghost use Rattle.std.specs.Prelude.{◌≡◌, ◌<◌, [], IfSome, OnSome, Some, length, option_map};
 ghost use Rattle.std.specs.Cmp.Lexicographic.{slice_cmp};
 ghost use Rattle.std.specs.Ordering.{is_eq, nat_cmp};
 ghost use Rattle.jp_document.specs.Location.{named, nth};
 ghost use Rattle.jp_flat.specs.Flat.{Grows, shown, text_at};
 ghost use Rattle.jp_flat.specs.Private.Found.{Finds, FindsItem, FindsMember, later, location_of};
 ghost use Rattle.jp_flat.specs.Private.Found.{sought_at, whole_location};
-ghost use Rattle.jp_flat.specs.Private.Tokens.{token_of};
 
 use crate::cursor::Cursor;
 use crate::item::{Item, Span};
@@ -44,16 +43,32 @@ pub(crate) fn find(
     ensures text { reader.new.text ≡ reader.old.text }
 {
     match location {
-        Some([]) => {
-            let item = value(tables, pending, reader, depth)?;
-            Some(Some(item))
-        }
+        Some([]) => find_whole(tables, pending, reader, depth),
         Some([step, rest @ ..]) => {
             let sought = Sought { step: *step, rest };
             find_inside(tables, pending, reader, depth, Some(sought))
         }
         None => find_inside(tables, pending, reader, depth, None),
     }
+}
+
+/// Reads the one value that is sought.
+#[inline(never)]
+fn find_whole(
+    tables: &mut Tables<'_>,
+    pending: &mut Pending,
+    reader: &mut Cursor<'_>,
+    depth: usize,
+) -> Option<Option<Item>>
+    requires { reader.old.text ≡ tables.old.text.now }
+    ensures finds { IfSome result (Finds depth reader.old.tokens reader.new.tokens (shown tables.new)
+        (Some [])) }
+    ensures grows { OnSome result (Grows (shown tables.old) (shown tables.new)) }
+    ensures shorter { OnSome result (length reader.new.tokens < length reader.old.tokens) }
+    ensures text { reader.new.text ≡ reader.old.text }
+{
+    let item = value(tables, pending, reader, depth)?;
+    Some(Some(item))
 }
 
 /// Reads one value, and finds what is sought in it, which is not the value itself.
