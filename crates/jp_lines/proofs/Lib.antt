@@ -4,6 +4,7 @@ pub mod Outcomes
 pub mod Kept
 pub mod Going
 pub mod LineLemmas
+pub mod FoundValues
 pub mod Finding
 pub mod Chunks
 pub mod Ending

@@ -2,22 +2,24 @@
 
 ghost use Rattle.std.specs.Prelude.{◌≡◌, ◌++◌, ◌≤◌, IfErr, IfOk, OnOk, codes, false, length};
 ghost use Rattle.std.specs.Prelude.{string_bytes};
-ghost use Rattle.jp_command.specs.Limits.{document_limit};
 ghost use Rattle.std.specs.Fmt.{decimal};
 ghost use Rattle.jp_tree.specs.Views.{query_of};
+ghost use Rattle.jp_command.specs.Found.{found_nodes};
+ghost use Rattle.jp_command.specs.Limits.{document_limit};
 ghost use Rattle.jp_command.specs.Output.{StopsWriting, WritesAll};
 ghost use Rattle.jp_lines.specs.Lines.{is_blank_line};
 ghost use Rattle.jp_lines.specs.Outcome.{lead_of, wanted_output};
 ghost use Rattle.jp_lines.specs.Private.Answers.{AnswersOrRefuses, StopsAnswering, defect_of};
+ghost use Rattle.jp_lines.specs.Private.Answers.{HasNamedLocation, nodes_output};
 
 use crate::count::count_selected;
 use crate::defect::Defect;
 use crate::options::{Options, Wanted};
 use itoa::Buffer;
 use jp_check::Checked;
-use jp_command::{DOCUMENT_LIMIT, Fault, Spare, Writer, write_all, write_selected};
-use jp_document::{Document, DocumentFault};
-use jp_flat::Room;
+use jp_command::{DOCUMENT_LIMIT, Fault, Spare, Writer, write_all, write_found, write_selected};
+use jp_document::{Document, DocumentFault, Step};
+use jp_flat::{Room, flat_value_at, found_value};
 use jp_lent::Printed;
 use std::alloc::{AllocError, Global};
 use std::mem;
@@ -27,6 +29,8 @@ use std::mem;
 pub(crate) struct Asked<'q> {
     pub(crate) alloc: Global,
     pub(crate) query: &'q Checked,
+    /// The location that the query names; None where it names none.
+    pub(crate) location: Option<&'q [Step<'q>]>,
     pub(crate) options: Options,
 }
 
@@ -66,6 +70,7 @@ pub(crate) fn answer<W: Writer>(
     memory: &mut Memory,
     output: &mut W,
 ) -> Result<Option<Defect>, Fault>
+    requires named { HasNamedLocation asked }
     ensures answers { IfOk result (AnswersOrRefuses W.contents W.has_failed asked.entry.options
         (query_of asked.entry.query.now.query) number line.now output.old output.new) }
     ensures stopped { IfErr result (StopsAnswering W.contents W.has_failed asked.entry.options
@@ -77,6 +82,31 @@ pub(crate) fn answer<W: Writer>(
     if is_blank_line(line) {
         return Ok(None);
     }
+    if let Some(location) = asked.location
+        && let Some(found) = flat_value_at(asked.alloc, line, location)
+    {
+        let value = found_value(&found);
+        write_wanted_at(asked, number, location, value, memory, output)?;
+        return Ok(None);
+    }
+    answer_by_tables(asked, number, line, memory, output)
+}
+
+/// The same of a line that is not blank, whatever the query: the whole document is read.
+fn answer_by_tables<W: Writer>(
+    asked: Asked<'_>,
+    number: u64,
+    line: &[u8],
+    memory: &mut Memory,
+    output: &mut W,
+) -> Result<Option<Defect>, Fault>
+    requires few { length line.now ≤ document_limit }
+    requires some { is_blank_line line.now ≡ false }
+    ensures answers { IfOk result (AnswersOrRefuses W.contents W.has_failed asked.entry.options
+        (query_of asked.entry.query.now.query) number line.now output.old output.new) }
+    ensures stopped { IfErr result (StopsAnswering W.contents W.has_failed asked.entry.options
+        (query_of asked.entry.query.now.query) number line.now output.old output.new) }
+{
     let room = mem::replace(&mut memory.room, Room::new(asked.alloc));
     match room.read(line) {
         Ok(flat) => {
@@ -157,6 +187,35 @@ fn write_wanted<'d: 'q, 'q, V: Printed + 'd, W: Writer>(
             let count = count_selected(asked.alloc, root, asked.query, &mut spare.patterns)?;
             write_count(lead.as_str(), count, &mut spare.line, output)
         }
+    }
+}
+
+/// Writes what is asked of a document in which the query selects the value at the location alone, or
+/// nothing where there is none.
+fn write_wanted_at<V: Printed, W: Writer>(
+    asked: Asked<'_>,
+    number: u64,
+    location: &[Step<'_>],
+    value: Option<V>,
+    memory: &mut Memory,
+    output: &mut W,
+) -> Result<(), Fault>
+    ensures ok { OnOk result (WritesAll W.contents W.has_failed output.old output.new
+        (nodes_output asked.entry.options.wanted (lead_of asked.entry.options.numbered number)
+        (found_nodes V.meaning location.now value))) }
+    ensures stopped { IfErr result (StopsWriting W.contents W.has_failed output.old output.new
+        (nodes_output asked.entry.options.wanted (lead_of asked.entry.options.numbered number)
+        (found_nodes V.meaning location.now value))) }
+{
+    let lead = &mut memory.lead;
+    let line = &mut memory.spare.line;
+    set_lead(asked.options.numbered, number, lead)?;
+    let lead = lead.as_str();
+    match asked.options.wanted {
+        Wanted::Nodes(form) => {
+            write_found(asked.alloc, form, lead, location, value, line, output)
+        }
+        Wanted::Count => write_count(lead, u64::from(value.is_some()), line, output),
     }
 }
 

@@ -2,6 +2,7 @@
 
 ghost use Rattle.std.specs.Prelude.{◌≡◌, ◌++◌, [], List, ℕ, IfErr, OnOk, false};
 ghost use Rattle.jp_tree.specs.Views.{query_of};
+ghost use Rattle.jp_lines.specs.Private.Answers.{HasNamedLocation};
 ghost use Rattle.jp_lines.specs.Private.Passing.{EndsLine, Keeps, PassesOn, StopsPassing, kept_of};
 ghost use Rattle.jp_lines.specs.Private.Treating.{StopsEnding};
 
@@ -51,6 +52,7 @@ pub(crate) fn pass<W: Output, E: Writer>(
     output: &mut W,
     faults: &mut E,
 ) -> Result<(), Stop>
+    requires named { HasNamedLocation asked }
     ensures passes { OnOk result ((line : List ℕ) → Keeps progress.old line
         → PassesOn asked.entry.options W.contents W.has_failed E.contents E.has_failed
         (query_of asked.entry.query.now.query) bytes.now progress.old progress.new line
@@ -92,6 +94,7 @@ pub(crate) fn end_line<W: Output, E: Writer>(
     output: &mut W,
     faults: &mut E,
 ) -> Result<(), Stop>
+    requires named { HasNamedLocation asked }
     ensures ended { OnOk result ((line : List ℕ) → Keeps progress.old line
         → EndsLine asked.entry.options W.contents W.has_failed E.contents E.has_failed
         (query_of asked.entry.query.now.query) progress.old progress.new line

@@ -5,6 +5,7 @@ ghost use Rattle.jp_check.specs.declared.profile.Profile.{Profile};
 ghost use Rattle.jp_tree.specs.Views.{query_of};
 ghost use Rattle.jp_command.specs.Limits.{chunk_size};
 ghost use Rattle.jp_command.specs.Run.{IsAsked};
+ghost use Rattle.jp_lines.specs.Private.Answers.{HasNamedLocation};
 ghost use Rattle.jp_lines.specs.Run.{RunsLines};
 
 use crate::answer::Asked;
@@ -13,6 +14,7 @@ use crate::passing::{Progress, end_line, pass};
 use crate::stop::Stop;
 use jp_check::Profile;
 use jp_command::{Fault, Output, Source, Writer, read_within_limit};
+use jp_evaluate::named_location;
 use std::alloc::{AllocError, Global};
 
 /// The most bytes that one read may give.
@@ -24,7 +26,8 @@ const READS: u64 = u64::MAX;
 /// Runs `query`, read in that profile, over the lines of `input`, each of which is one document
 /// (JSON Lines, NDJSON). A line of blanks alone, or of nothing, holds none and is passed over. For
 /// each document in turn, what `options` ask for is written before the next line is read from what
-/// came; one document is in memory at a time.
+/// came; one document is in memory at a time. Where the query names a location, the value there is
+/// found while a line is read, and of the rest of the document nothing is kept.
 ///
 /// Answers whether some line was refused: a line that is no document is told to `faults`, where
 /// `keep_going` asks the run to go on, and is else the `Line` that the run stops with. What can't be
@@ -47,9 +50,11 @@ pub fn run_lines<R: Source, W: Output, E: Writer>(
         input.old input.new output.old output.new faults.old faults.new result }
 {
     let query = read_within_limit(alloc, query, profile).map_err(Fault::from)?;
+    let location = named_location(alloc, &query)?;
     let asked = Asked {
         alloc,
         query: &query,
+        location: location.as_deref(),
         options,
     };
     pass_all(asked, input, output, faults)
@@ -62,6 +67,7 @@ fn pass_all<R: Source, W: Output, E: Writer>(
     output: &mut W,
     faults: &mut E,
 ) -> Result<bool, Stop>
+    requires named { HasNamedLocation asked }
     ensures { (profile : Profile) (text : List ℕ)
         → IsAsked profile text (query_of asked.entry.query.now.query)
         → RunsLines profile asked.entry.options R.remaining R.has_failed R.read_gives

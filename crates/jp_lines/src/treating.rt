@@ -8,6 +8,7 @@ ghost use Rattle.jp_command.specs.declared.fault.Fault.TheVariants as fault;
 ghost use Rattle.jp_lines.specs.Outcome.{refused_for, refused_text};
 ghost use Rattle.jp_lines.specs.Told.{Tells};
 ghost use Rattle.jp_lines.specs.declared.stop.Stop.TheVariants as stop;
+ghost use Rattle.jp_lines.specs.Private.Answers.{HasNamedLocation};
 ghost use Rattle.jp_lines.specs.Private.Passing.{kept_of};
 ghost use Rattle.jp_lines.specs.Private.Treating.{StopsEnding, Treats};
 
@@ -27,6 +28,7 @@ pub(crate) fn treat<W: Output, E: Writer>(
     output: &mut W,
     faults: &mut E,
 ) -> Result<bool, Stop>
+    requires named { HasNamedLocation asked }
     ensures treated { IfOk result (λ refused. (line : List ℕ) → kept.now ≡ kept_of line
         → Treats asked.entry.options W.contents W.has_failed E.contents E.has_failed
         (query_of asked.entry.query.now.query) number line refused

@@ -89,6 +89,49 @@ fn writes_what_its_words_ask_for(rt: HostRuntime) -> Result<(), AllocError> {
     Ok(())
 }
 
+/// Lines with a text at `$.user.name`, none, another value than an object, escapes, a name twice and a
+/// number; the fourth and the seventh are no documents, and the eighth is blank.
+const USERS: &str =
+    "{\"id\":[1,{}],\"user\":{\"name\":\"Ann\",\"x\":null}}\n{\"user\":{\"id\":2}}\nnull\n\
+    {\"user\":{\"name\":4}\n{\"\\u0075ser\":{\"n\\u0061me\":\"\\u0041\\n\"}}\n\
+    {\"user\":{\"name\":0,\"name\":{\"a\":[ ]}}}\n\
+    {\"user\":{\"name\":7},\"more\":[1.5]}\n \r\n{\"user\":{\"name\":9}}";
+
+#[test]
+fn finds_the_value_at_the_location_that_a_query_names(rt: HostRuntime) -> Result<(), AllocError> {
+    let told = "line 4: document refused: NotJson\n\
+        line 7: document refused: NotWhole at $['more'][0]\n";
+    let runs: [(&[&str], &str); 4] = [
+        (
+            &["jp-lines", "eval", "--keep-going", "$.user.name"],
+            "\"Ann\"\n\"A\\n\"\n{\"a\":[]}\n9\n",
+        ),
+        (
+            &[
+                "jp-lines",
+                "both",
+                "--number",
+                "--keep-going",
+                "$['user'].name",
+            ],
+            "1\t$['user']['name']\t\"Ann\"\n5\t$['user']['name']\t\"A\\n\"\n\
+            6\t$['user']['name']\t{\"a\":[]}\n9\t$['user']['name']\t9\n",
+        ),
+        (
+            &["jp-lines", "count", "--keep-going", "$.user.name"],
+            "1\n0\n0\n1\n1\n1\n",
+        ),
+        (
+            &["jp-lines", "count", "--number", "--keep-going", "$.id[1]"],
+            "1\t1\n2\t0\n3\t0\n5\t0\n6\t0\n9\t0\n",
+        ),
+    ];
+    for (line, written) in runs {
+        assert_ends(&rt, rt.alloc(), line, USERS, false, (3, written, told, 1))?;
+    }
+    Ok(())
+}
+
 #[test]
 fn flushes_after_each_document_where_that_is_asked_for(rt: HostRuntime) -> Result<(), AllocError> {
     let mut output = Unflushed {
