@@ -62,6 +62,7 @@ impl<'p> Marking<'p> {
         Ok(Marking {
             pattern,
             sweep: Sweep {
+                c: '\0',
                 marks,
                 rounds,
                 at: 0,
@@ -83,10 +84,11 @@ impl<'p> Marking<'p> {
         ensures kept { tests.old ≤ tests.new }
     {
         let end = self.sweep.at;
+        self.sweep.c = c;
         self.sweep.at = 0;
         self.sweep.round = 0;
         swap(&mut self.sweep.tests, tests);
-        let reach = step_whole(self.pattern, &mut self.sweep, end, entered, c);
+        let reach = step_whole(self.pattern, &mut self.sweep, end, entered);
         swap(&mut self.sweep.tests, tests);
         self.ends = reach.after;
         self.ends_entered = reach.after_entered;

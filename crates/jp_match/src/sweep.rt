@@ -7,10 +7,13 @@ ghost use Rattle.jp_match.specs.Private.Sweeps.{only_if};
 use crate::class_tests::Tests;
 use crate::offsets::is_any;
 
-/// The marks of a pattern, what is kept of its repeats, and where a sweep over its parts stands: it
-/// comes to the positions and to the repeats one after another, so nothing is counted or looked up.
+/// The marks of a pattern, what is kept of its repeats, the character that moves them, and where a
+/// sweep over the parts stands: it comes to the positions and to the repeats one after another, so
+/// nothing is counted or looked up.
 #[derive(Drop)]
 pub(crate) struct Sweep {
+    /// The character that is taken; before the first one, any.
+    pub(crate) c: char,
     /// A mark for each position: its class has taken the last character.
     pub(crate) marks: Vec<bool>,
     /// For each repeat without a most whether a round of it has ended.

@@ -63,15 +63,16 @@ past now positions repeats = record now { at = now.at + positions; round = now.r
 abbrev pub by_none : Bool → Reach
 by_none takes = record { before = false; after = false; after_entered = takes }
 
-pub moves_unmarked : {a : Plain} {c positions repeats : ℕ} {takes : Bool} {now : Sweep}
+pub moves_unmarked : {a : Plain} {positions repeats : ℕ} {takes : Bool} {now : Sweep}
     → size a ≡ positions → rounds_of a ≡ repeats → takes_none a ≡ takes
     → IsUnmarked now positions → Rounds a (drop now.at now.marks.items) (drop now.round
-    now.rounds.items) → Moves a c (at_start false) now (past now positions repeats) (by_none takes)
-moves_unmarked {a} {c} {now = now} sized counted takes none so =
+    now.rounds.items) → Moves a (at_start false) now (past now positions repeats) (by_none takes)
+moves_unmarked {a} {now = now} sized counted takes none so =
     let same = unmarked (size a) now (λ k below. none k (omega (arith, below, sized))) in
-    let step = step_same same same (step_nowhere a c [] no_mark) in
+    let step = step_same same same (step_nowhere a now.c [] no_mark) in
     record {
       over = record {
+        char = refl;
         at = omega (arith, sized);
         round = omega (arith, counted);
         marks = same_outside refl;
@@ -85,18 +86,18 @@ moves_unmarked {a} {c} {now = now} sized counted takes none so =
       so = so;
     }
 
-pub moves_idle_part : {a : Plain} {c positions : ℕ} {e : Bool} {now : Sweep}
+pub moves_idle_part : {a : Plain} {positions : ℕ} {e : Bool} {now : Sweep}
     → IsIdle a now positions e → Rounds a (drop now.at now.marks.items) (drop now.round
-    now.rounds.items) → Moves a c (at_start false) now (record now { at = now.at + positions })
+    now.rounds.items) → Moves a (at_start false) now (record now { at = now.at + positions })
     (by_none e)
-moves_idle_part {a} {c} {positions} {e} {now} idle so =
+moves_idle_part {a} {positions} {e} {now} idle so =
     let round : now.round + 0 ≡ now.round = omega arith in
-    subst (λ r. Moves a c (at_start false) now (record now { at = now.at + positions; round = r })
+    subst (λ r. Moves a (at_start false) now (record now { at = now.at + positions; round = r })
     (by_none e)) round (moves_unmarked idle.sized idle.no_rounds idle.takes idle.no_mark so)
 
-pub moves_idle_next : {a : Plain} {c positions : ℕ} {e : Reach} {now : Sweep} → e.before ≡ false
+pub moves_idle_next : {a : Plain} {positions : ℕ} {e : Reach} {now : Sweep} → e.before ≡ false
     → IsIdle a now positions false → Rounds a (drop now.at now.marks.items) (drop now.round
-    now.rounds.items) → Moves a c e now (record now { at = now.at + positions }) nowhere
+    now.rounds.items) → Moves a e now (record now { at = now.at + positions }) nowhere
 moves_idle_next is idle so = moves_nowhere is (moves_idle_part idle so)
 
 -- copies of a class have the empty word where there may be none

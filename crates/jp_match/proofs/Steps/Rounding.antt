@@ -43,6 +43,7 @@ set_outside at b xs = record {
 
 -- the sweep has gone over one position, by one class test at most
 pub record WalkedOne (now last : Sweep) (next : Bool) : Type 0 where
+  pub char : last.c ≡ now.c
   pub within : now.at < length now.marks.items
   pub at : last.at ≡ now.at + 1
   pub round : last.round ≡ now.round
@@ -51,15 +52,15 @@ pub record WalkedOne (now last : Sweep) (next : Bool) : Type 0 where
   pub counted : last.tests ≤ now.tests + 1
   pub kept : now.tests ≤ last.tests
 
-pub moves_class : {negated : Bool} {items : List ClassElement} {c : ℕ} {e : Bool} {now last : Sweep}
-    {marked next : Bool} → marked ≡ get_or now.marks.items now.at false
-    → next ≡ (e && class_holds negated items c) → WalkedOne now last next
-    → Moves (class negated items) c (at_start e) now last (record {
+pub moves_class : {negated : Bool} {items : List ClassElement} {e : Bool} {now last : Sweep} {marked
+    next : Bool} → marked ≡ get_or now.marks.items now.at false
+    → next ≡ (e && class_holds negated items now.c) → WalkedOne now last next
+    → Moves (class negated items) (at_start e) now last (record {
       before = marked;
       after = next;
       after_entered = next;
     })
-moves_class {negated} {items} {c} {e} {now} {last} {marked} {next} was is moved =
+moves_class {negated} {items} {e} {now} {last} {marked} {next} was is moved =
     let a = class negated items in
     let xs = now.marks.items in
     let written : next ≡ get_or last.marks.items now.at false = sym (ap (λ ys. get_or ys now.at
@@ -71,6 +72,7 @@ moves_class {negated} {items} {c} {e} {now} {last} {marked} {next} was is moved 
     let new : Ends a false (drop now.at last.marks.items) next = ends_same after ends_class in
     record {
       over = record {
+        char = moved.char;
         at = moved.at;
         round = omega (arith, moved.round);
         marks = rw (moved.at, moved.marks) (set_outside now.at next xs);
@@ -85,10 +87,10 @@ moves_class {negated} {items} {c} {e} {now} {last} {marked} {next} was is moved 
     }
 
 -- a class that is repeated needs no round: its mark tells whether one has ended
-pub moves_class_plus : {negated : Bool} {items : List ClassElement} {c : ℕ} {e again : Bool} {now last
+pub moves_class_plus : {negated : Bool} {items : List ClassElement} {e again : Bool} {now last
     : Sweep} {x : Reach} → again ≡ (e || get_or now.marks.items now.at false)
-    → Moves (class negated items) c (at_start again) now last x
-    → Moves (plus (class negated items)) c (at_start e) now last x
+    → Moves (class negated items) (at_start again) now last x
+    → Moves (plus (class negated items)) (at_start e) now last x
 moves_class_plus {e} {now} is h =
     let offset : now.at + 0 ≡ now.at = omega arith in
     let first = get_or-drop now.at now.marks.items 0 false ∙
@@ -149,12 +151,12 @@ ends_rest ends = (
 )
 
 -- and comes out of it: what has become of the round is kept
-pub moves_rounds : {a : Plain} {c : ℕ} {e again : Bool} {now moved : Sweep} {round : ℕ} {rounds : Vec
+pub moves_rounds : {a : Plain} {e again : Bool} {now moved : Sweep} {round : ℕ} {rounds : Vec
     Bool Global} {x : Reach} → own_rounds a ≡ 1 → 1 ≤ size a → IsBefore (plus a) now
     → round ≡ now.round + 1 → again ≡ (e || get_or now.rounds.items now.round false)
-    → Moves a c (at_start again) (inside now round) moved x
+    → Moves a (at_start again) (inside now round) moved x
     → rounds.items ≡ set moved.rounds.items now.round x.after
-    → Moves (plus a) c (at_start e) now (record moved { rounds = rounds }) x
+    → Moves (plus a) (at_start e) now (record moved { rounds = rounds }) x
 moves_rounds {a} {e = e} {again = again} {now} {moved} {round} {rounds} {x} one some is next begins h
     out =
     let f = x.after in
@@ -180,6 +182,7 @@ moves_rounds {a} {e = e} {again = again} {now} {moved} {round} {rounds} {x} one 
     rounds.items (omega (arith, next, one)) (λ k over. sym (others k (omega (arith, next)))) in
     record {
       over = record {
+        char = h.char;
         at = h.at;
         round = omega (arith, h.round, next, one);
         marks = h.marks;
@@ -217,11 +220,11 @@ outside_nothing n m xs ys h = record {
   ]
 
 -- a repeat without positions: a round of it is there only where it is entered
-pub moves_idle : {a : Plain} {c : ℕ} {e again : Bool} (bit : Bool) {now moved : Sweep} {round : ℕ}
-    {x : Reach} → size a ≡ 0 → again ≡ (e || bit)
-    → Moves a c (at_start again) (inside now round) moved x
-    → Moves (plus a) c (at_start e) now (record moved { round = now.round }) (record {
-      before = x.before && e;
+pub moves_idle : {a : Plain} {e again : Bool} (bit : Bool) {now moved : Sweep} {round : ℕ} {x :
+    Reach} → size a ≡ 0 → again ≡ (e || bit) → Moves a (at_start again) (inside now round) moved x
+    → Moves (plus a) (at_start e) now (record moved { round = now.round }) (record {
+      before =
+          x.before && e;
       after = x.after;
       after_entered = x.after_entered;
     })
@@ -233,6 +236,7 @@ moves_idle {a} {e = e} bit {now} {moved} {round} {x} none begins h =
     let no_round : moved.round ≡ round = omega (arith, h.round, still) in
     record {
       over = record {
+        char = h.char;
         at = h.at;
         round = omega (arith, still, own, none);
         marks = h.marks;

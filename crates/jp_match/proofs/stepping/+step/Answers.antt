@@ -259,6 +259,7 @@ step_between-returns t c =
     value) ∙ c.deref_mut.ensures.len) in
     moves_copies c.args.least c.args.most (omega arith) c.in-Some.ensures
     c.holds-holds.ensures.answer c.requires stepped (record {
+      char = refl;
       at = refl;
       round = refl;
       rounds = refl;
