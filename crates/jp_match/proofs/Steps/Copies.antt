@@ -13,6 +13,7 @@ use Rattle.jp_iregexp.specs.Class.{class_holds}
 use Rattle.jp_iregexp.specs.Language.{Power}
 use Rattle.jp_match.specs.declared.sweep.Reach.{Reach}
 use Rattle.jp_match.specs.declared.sweep.Sweep.{Sweep}
+use Rattle.jp_match.specs.Private.ClassTests.{MakesAtMost}
 use Rattle.jp_match.specs.Private.Copies.{enters, IsEndMarked, IsNoneEnough, AreStepped}
 use Rattle.jp_match.specs.Private.Marks.{size, Rest, Ends, Steps}
 use Rattle.jp_match.specs.Private.OneClass.{IsOneClass}
@@ -27,7 +28,7 @@ use Rattle.jp_match.proofs.Steps.Sizes.{size_between, rounds_between, rounds_fre
 use Rattle.jp_match.proofs.Steps.StepParts.{IsSameBefore, ends_same, step_same, step_empty}
 use Rattle.jp_match.proofs.Steps.StepParts.{step_nothing, step_either, step_sequence}
 use Rattle.jp_match.proofs.Steps.Unrolled.{between_to, between_of}
-use Rattle.jp_match.proofs.Steps.Sweeping.{same_outside}
+use Rattle.jp_match.proofs.Steps.Sweeping.{same_outside, tests_up_to}
 
 -- the mark of one position tells whether its end is reached
 mark_ends : (a : Plain) (negated : Bool) (items : List ClassElement) (optional : Bool) (marks : List
@@ -299,8 +300,7 @@ pub record Writes (now last : Sweep) (count : ℕ) (marks : List Bool) : Type 0 
   pub at : last.at ≡ now.at + count
   pub round : last.round ≡ now.round
   pub rounds : last.rounds.items ≡ now.rounds.items
-  pub counted : last.tests ≤ now.tests + 1
-  pub kept : now.tests ≤ last.tests
+  pub tests : MakesAtMost 1 now.tests last.tests
   pub marks_are : last.marks.items ≡ take now.at now.marks.items ++ (marks ++ drop count (drop now.at
       now.marks.items))
 
@@ -352,8 +352,7 @@ moves_copies {a} {negated} {items} {optional} least most {e} {holds} {now} {last
             IsSameOutside now.at end xs (take now.at xs ++ (marks ++ back))) (sym over.at)
             (put_outside now.at most xs marks fit now_long));
         rounds = same_outside over.rounds;
-        counted = omega (arith, over.at, over.counted, some);
-        kept = over.kept;
+        tests = tests_up_to (omega (arith, sized, some)) over.tests;
       };
       step = step_same same there (record {
         left = steps.1.left;

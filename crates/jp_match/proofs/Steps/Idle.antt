@@ -20,7 +20,7 @@ use Rattle.jp_match.proofs.Steps.Kept.{takes_none_is, ends_are_entered, ends_fre
 use Rattle.jp_match.proofs.Steps.Sizes.{size_between, rounds_between}
 use Rattle.jp_match.proofs.Steps.StepParts.{IsSameBefore, rest_none, step_nowhere, step_same}
 use Rattle.jp_match.proofs.Steps.StepParts.{ends_same}
-use Rattle.jp_match.proofs.Steps.Sweeping.{moves_nowhere, same_outside}
+use Rattle.jp_match.proofs.Steps.Sweeping.{moves_nowhere, no_tests, same_outside}
 
 not_true : (b : Bool) → (IsTrue b → ⊥) → false ≡ b
 not_true true never = absurd (never refl)
@@ -77,8 +77,7 @@ moves_unmarked {a} {now = now} sized counted takes none so =
         round = omega (arith, counted);
         marks = same_outside refl;
         rounds = same_outside refl;
-        counted = omega arith;
-        kept = omega arith;
+        tests = no_tests;
       };
       step = step;
       ends = step.ends;

@@ -10,6 +10,7 @@ use Rattle.jp_iregexp.specs.declared.class.ClassElement.{ClassElement}
 use Rattle.jp_iregexp.specs.Class.{class_holds}
 use Rattle.jp_match.specs.declared.sweep.Reach.{Reach}
 use Rattle.jp_match.specs.declared.sweep.Sweep.{Sweep}
+use Rattle.jp_match.specs.Private.ClassTests.{MakesAtMost}
 use Rattle.jp_match.specs.Private.Plain.{Plain, class, plus}
 use Rattle.jp_match.specs.Private.Marks.{size, Rest, Ends}
 use Rattle.jp_match.specs.Private.Sweeps.{own_rounds, rounds_of, IsBefore, IsSameOutside}
@@ -49,8 +50,7 @@ pub record WalkedOne (now last : Sweep) (next : Bool) : Type 0 where
   pub round : last.round ≡ now.round
   pub marks : last.marks.items ≡ set now.marks.items now.at next
   pub rounds : last.rounds.items ≡ now.rounds.items
-  pub counted : last.tests ≤ now.tests + 1
-  pub kept : now.tests ≤ last.tests
+  pub tests : MakesAtMost 1 now.tests last.tests
 
 pub moves_class : {negated : Bool} {items : List ClassElement} {e : Bool} {now last : Sweep} {marked
     next : Bool} → marked ≡ get_or now.marks.items now.at false
@@ -77,8 +77,7 @@ moves_class {negated} {items} {e} {now} {last} {marked} {next} was is moved =
         round = omega (arith, moved.round);
         marks = rw (moved.at, moved.marks) (set_outside now.at next xs);
         rounds = same_outside moved.rounds;
-        counted = omega (arith, moved.at, moved.counted);
-        kept = moved.kept;
+        tests = moved.tests;
       };
       step = step_same before after (step_class is);
       ends = new;
@@ -192,8 +191,7 @@ moves_rounds {a} {e = e} {again = again} {now} {moved} {round} {rounds} {x} one 
           below = λ k under. others k (omega arith) ∙ h.rounds.below k (omega (arith, next));
           above = λ k over. others k (omega (arith, h.round, next)) ∙ h.rounds.above k over;
         };
-        counted = h.counted;
-        kept = h.kept;
+        tests = h.tests;
       };
       step = step_plus (may_begin a e again (get_or now.rounds.items now.round false) (drop now.at
           now.marks.items) begins so) h.step;
@@ -242,8 +240,7 @@ moves_idle {a} {e = e} bit {now} {moved} {round} {x} none begins h =
         marks = h.marks;
         rounds = outside_nothing round now.round now.rounds.items moved.rounds.items (subst (λ end.
             IsSameOutside round end now.rounds.items moved.rounds.items) no_round h.rounds);
-        counted = h.counted;
-        kept = h.kept;
+        tests = h.tests;
       };
       step = step_without none (ends_without none (
         λ i. let q = (and_is x.before e).0 i in (q.1, nil.1 ((word.0 q.0).1)),

@@ -6,6 +6,7 @@ use Rattle.std.proofs.lemmas.List.{get_or-drop}
 use Rattle.jp_iregexp.specs.Tree.{Tree, branches, pieces}
 use Rattle.jp_match.specs.declared.sweep.Reach.{Reach}
 use Rattle.jp_match.specs.declared.sweep.Sweep.{Sweep}
+use Rattle.jp_match.specs.Private.ClassTests.{MakesAtMost}
 use Rattle.jp_match.specs.Private.Plain.{Plain, class, nothing, either, empty, sequence}
 use Rattle.jp_match.specs.Private.Plain.{plus, unrolled}
 use Rattle.jp_match.specs.Private.Marks.{size, Ends}
@@ -77,6 +78,20 @@ same_there first n at m xs ys is same = record {
       sym (get_or-drop n (drop first ys) k false);
 }
 
+pub no_tests : {most now : ℕ} → MakesAtMost most now now
+no_tests = record { counted = omega arith; kept = omega arith }
+
+pub tests_then : {m n first next last : ℕ} → MakesAtMost m first next → MakesAtMost n next last
+    → MakesAtMost (m + n) first last
+tests_then h k = record {
+  counted = omega (arith, h.counted, k.counted);
+  kept = omega (arith, h.kept, k.kept);
+}
+
+pub tests_up_to : {m n first last : ℕ} → m ≤ n → MakesAtMost m first last
+    → MakesAtMost n first last
+tests_up_to few h = record { counted = omega (arith, few, h.counted); kept = h.kept }
+
 over_then : {m n k l : ℕ} {first next last : Sweep} → GoesOver m n first next
     → GoesOver k l next last → GoesOver (m + k) (n + l) first last
 over_then h k = record {
@@ -85,8 +100,7 @@ over_then h k = record {
   round = omega (arith, h.round, k.round);
   marks = outside_then (omega (arith, h.at)) (omega (arith, k.at)) h.marks k.marks;
   rounds = outside_then (omega (arith, h.round)) (omega (arith, k.round)) h.rounds k.rounds;
-  counted = omega (arith, h.counted, k.counted);
-  kept = omega (arith, h.kept, k.kept);
+  tests = tests_then h.tests k.tests;
 }
 
 pub over_none : {sweep : Sweep} → GoesOver 0 0 sweep sweep
@@ -96,8 +110,7 @@ over_none = record {
   round = omega arith;
   marks = same_outside refl;
   rounds = same_outside refl;
-  counted = omega arith;
-  kept = omega arith;
+  tests = no_tests;
 }
 
 -- a part and then another one beside it

@@ -6,6 +6,7 @@ use Rattle.std.proofs.lemmas.List.{get_or_past}
 use Rattle.jp_iregexp.specs.Tree.{Tree, branches}
 use Rattle.jp_match.specs.declared.sweep.Reach.{Reach}
 use Rattle.jp_match.specs.declared.sweep.Sweep.{Sweep}
+use Rattle.jp_match.specs.Private.ClassTests.{MakesAtMost}
 use Rattle.jp_match.specs.Private.Plain.{Plain, nothing, either, unrolled}
 use Rattle.jp_match.specs.Private.Marks.{size, Ends, Steps}
 use Rattle.jp_match.specs.Private.Sweeps.{rounds_of, takes_none, IsUnmarked, Moves, IsAtStart, MovesAll}
@@ -15,6 +16,7 @@ use Rattle.jp_match.proofs.Steps.EndParts.{ends_either, ends_nothing}
 use Rattle.jp_match.proofs.Steps.Idle.{by_none, past, moves_unmarked}
 use Rattle.jp_match.proofs.Steps.StepParts.{step_either, step_nothing}
 use Rattle.jp_match.proofs.Steps.Sweeping.{Swept, moves_entered, before_first, as_sequence}
+use Rattle.jp_match.proofs.Steps.Sweeping.{tests_up_to}
 
 pub all_moved : {a : Plain} (end : ℕ) {e : Bool} {first last : Sweep} {x : Reach}
     → IsAtStart a end first → Moves a (at_start e) first last x → MovesAll a e first last x
@@ -36,18 +38,16 @@ all_moved end {last = last} start m = record {
   ends = m.ends;
   ends_too = m.ends_too;
   so = m.so;
-  counted = omega (arith, m.counted, start.at);
-  kept = m.kept;
+  tests = tests_up_to (omega (arith, m.at, start.at)) m.tests;
 }
 
 -- where nothing is entered and no mark is left, the others stay as they are
 pub all_ended : {whole rest : Plain} (end : ℕ) {begin : Bool} {through : Reach} {first now :
     Sweep} → IsAtStart whole end first → Swept whole rest begin through first now nowhere
     → ((k : ℕ) → now.at ≤ k → get_or now.marks.items k false ≡ get_or first.marks.items k false)
-    → first.tests ≤ now.tests → now.tests ≤ now.at + first.tests → end ≤ now.at → through ≡ nowhere
+    → MakesAtMost now.at first.tests now.tests → end ≤ now.at → through ≡ nowhere
     → MovesAll whole begin first now nowhere
-all_ended {whole} {rest} end {begin} {through} {first} {now} start so_far ahead kept counted over
-    is =
+all_ended {whole} {rest} end {begin} {through} {first} {now} start so_far ahead tests over is =
     let none : (k : ℕ) → now.at ≤ k → IsTrue (get_or now.marks.items k false) → ⊥ = λ k beyond h.
     start.ended k (omega (arith, over, beyond)) (sym (ahead k beyond) ∙ h) in
     let unmarked : IsUnmarked now (size rest) = λ k below. none (now.at + k) (omega arith) in
@@ -66,8 +66,7 @@ all_ended {whole} {rest} end {begin} {through} {first} {now} start so_far ahead 
       ends = all.ends;
       ends_too = all.ends_too;
       so = all.so;
-      counted = counted;
-      kept = kept;
+      tests = tests;
     }
 
 -- a pattern of one branch is as the branch
@@ -97,8 +96,7 @@ all_branch {a} {e} {first} {last} {x} m =
       ends_too = subst (Ends (either a nothing) true after) (or_false x.after_entered) (ends_either
           m.ends_too ends_nothing);
       so = (m.so, tt);
-      counted = m.counted;
-      kept = m.kept;
+      tests = m.tests;
     }
 
 pub start_only : {t u : Tree} {ts : List Tree} {end : ℕ} {sweep : Sweep} → ts ≡ t ∷ [] → t ≡ u

@@ -5,6 +5,7 @@ use Rattle.std.specs.Prelude.{not, nat_le, ⊤, List, [], drop, length, get_or}
 use Rattle.jp_match.specs.declared.sweep.Reach.{Reach}
 use Rattle.jp_match.specs.declared.sweep.Sweep.{Sweep}
 use Rattle.jp_match.specs.Private.Plain.{Plain, class, nothing, either, empty, sequence, plus}
+use Rattle.jp_match.specs.Private.ClassTests.{MakesAtMost}
 use Rattle.jp_match.specs.Private.Marks.{size, Rest, Ends, Steps}
 
 -- a repeat without a most keeps whether a round of it has ended: not where a class is repeated, for
@@ -94,8 +95,7 @@ pub record GoesOver (positions repeats : ℕ) (before after : Sweep) : Type 0 wh
   pub round : after.round ≡ before.round + repeats
   pub marks : IsSameOutside before.at after.at before.marks.items after.marks.items
   pub rounds : IsSameOutside before.round after.round before.rounds.items after.rounds.items
-  pub counted : before.at + after.tests ≤ after.at + before.tests
-  pub kept : before.tests ≤ after.tests
+  pub tests : MakesAtMost positions before.tests after.tests
 
 -- the sweep has gone over a part and moved its marks over its character; told is how the part's end
 -- is reached where its start is reached so
@@ -181,5 +181,4 @@ pub record MovesAll (a : Plain) (entered : Bool) (before after : Sweep) (end : R
   pub ends : Ends a false (drop before.at after.marks.items) end.after
   pub ends_too : Ends a true (drop before.at after.marks.items) end.after_entered
   pub so : Rounds a (drop before.at after.marks.items) (drop before.round after.rounds.items)
-  pub counted : after.tests ≤ after.at + before.tests
-  pub kept : before.tests ≤ after.tests
+  pub tests : MakesAtMost after.at before.tests after.tests

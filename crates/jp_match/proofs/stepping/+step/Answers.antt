@@ -263,8 +263,10 @@ step_between-returns t c =
       at = refl;
       round = refl;
       rounds = refl;
-      counted = omega (arith, c.holds-holds.ensures.counted);
-      kept = c.holds-holds.ensures.kept;
+      tests = record {
+        counted = omega (arith, c.holds-holds.ensures.tests.counted);
+        kept = c.holds-holds.ensures.tests.kept;
+      };
       marks_are = rw value (here ∙ ap put offset);
     })
 

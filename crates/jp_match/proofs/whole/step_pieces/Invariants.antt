@@ -1,5 +1,6 @@
-use Rattle.std.proofs.Common.{◌≡◌, ◌+◌, ◌≤◌, ℕ, false, map, drop, get_or}
+use Rattle.std.proofs.Common.{◌≡◌, ◌≤◌, ℕ, false, map, drop, get_or}
 use Rattle.jp_iregexp.specs.Tree.{tree, pieces}
+use Rattle.jp_match.specs.Private.ClassTests.{MakesAtMost}
 use Rattle.jp_match.specs.Private.Plain.{unrolled}
 use Rattle.jp_match.specs.Private.Sweeps.{nowhere}
 use Rattle.jp_match.proofs.Steps.Sweeping.{Swept}
@@ -11,6 +12,5 @@ invariant-loop-piece l = record {
       l.piece-index l.parts)))) l.entered l.through l.fn.sweep l.sweep nowhere;
   ahead : (k : ℕ) → l.sweep.at ≤ k
       → get_or l.sweep.marks.items k false ≡ get_or l.fn.sweep.marks.items k false;
-  counted : l.sweep.tests ≤ l.sweep.at + l.fn.sweep.tests;
-  kept : l.fn.sweep.tests ≤ l.sweep.tests;
+  tests : MakesAtMost l.sweep.at l.fn.sweep.tests l.sweep.tests;
 }
