@@ -7,22 +7,20 @@ use Rattle.std.specs.Bool.{IsTrue}
 use Rattle.std.proofs.lemmas.Bool.{cases_lt}
 use Rattle.std.proofs.lemmas.List.{get_or-drop, length-set, get_or-set_other, get_or-set_same}
 use Rattle.jp_iregexp.specs.declared.class.ClassElement.{ClassElement}
-use Rattle.jp_iregexp.specs.Class.{class_holds}
 use Rattle.jp_match.specs.declared.sweep.Reach.{Reach}
 use Rattle.jp_match.specs.declared.sweep.Sweep.{Sweep}
-use Rattle.jp_match.specs.Private.ClassTests.{MakesAtMost}
 use Rattle.jp_match.specs.Private.Plain.{Plain, class, plus}
 use Rattle.jp_match.specs.Private.Marks.{size, Rest, Ends}
 use Rattle.jp_match.specs.Private.Sweeps.{own_rounds, rounds_of, IsBefore, IsSameOutside}
 use Rattle.jp_match.specs.Private.Sweeps.{Moves, at_start}
 use Rattle.jp_match.proofs.Bools.{or_is, and_is}
-use Rattle.jp_match.proofs.Steps.EndParts.{ends_class, ends_plus}
+use Rattle.jp_match.proofs.Steps.EndParts.{ends_plus}
 use Rattle.jp_match.proofs.Steps.Repeating.{plus_nil}
 use Rattle.jp_match.proofs.Steps.Sizes.{own_few, rounds_without, rounds_free}
-use Rattle.jp_match.proofs.Steps.StepParts.{IsSameBefore, same_back, step_class, step_same}
-use Rattle.jp_match.proofs.Steps.StepParts.{ends_same, step_plus}
+use Rattle.jp_match.proofs.Steps.StepParts.{IsSameBefore, same_back}
+use Rattle.jp_match.proofs.Steps.StepParts.{step_plus}
 use Rattle.jp_match.proofs.Steps.StepParts.{ends_without, without_ends, step_without}
-use Rattle.jp_match.proofs.Steps.Sweeping.{rounds_same, same_itself, same_outside, same_there}
+use Rattle.jp_match.proofs.Steps.Sweeping.{rounds_same, same_itself, same_there}
 
 pub first_same : (n at : ℕ) (b : Bool) (xs : List Bool) → n ≡ 1 → b ≡ get_or xs at false
     → IsSameBefore n (b ∷ []) (drop at xs)
@@ -41,49 +39,6 @@ set_outside at b xs = record {
   below = λ k under. let ne : k ≢ at = omega arith in rw get_or-set_other refl;
   above = λ k over. let ne : k ≢ at = omega arith in rw get_or-set_other refl;
 }
-
--- the sweep has gone over one position, by one class test at most
-pub record WalkedOne (now last : Sweep) (next : Bool) : Type 0 where
-  pub char : last.c ≡ now.c
-  pub within : now.at < length now.marks.items
-  pub at : last.at ≡ now.at + 1
-  pub round : last.round ≡ now.round
-  pub marks : last.marks.items ≡ set now.marks.items now.at next
-  pub rounds : last.rounds.items ≡ now.rounds.items
-  pub tests : MakesAtMost 1 now.tests last.tests
-
-pub moves_class : {negated : Bool} {items : List ClassElement} {e : Bool} {now last : Sweep} {marked
-    next : Bool} → marked ≡ get_or now.marks.items now.at false
-    → next ≡ (e && class_holds negated items now.c) → WalkedOne now last next
-    → Moves (class negated items) (at_start e) now last (record {
-      before = marked;
-      after = next;
-      after_entered = next;
-    })
-moves_class {negated} {items} {e} {now} {last} {marked} {next} was is moved =
-    let a = class negated items in
-    let xs = now.marks.items in
-    let written : next ≡ get_or last.marks.items now.at false = sym (ap (λ ys. get_or ys now.at
-    false) moved.marks ∙ get_or-set_same xs now.at next false moved.within) in
-    let before : IsSameBefore (size a) (marked ∷ []) (drop now.at xs) = first_same 1 now.at marked
-    xs refl was in
-    let after : IsSameBefore (size a) (next ∷ []) (drop now.at last.marks.items) = first_same 1
-    now.at next last.marks.items refl written in
-    let new : Ends a false (drop now.at last.marks.items) next = ends_same after ends_class in
-    record {
-      over = record {
-        char = moved.char;
-        at = moved.at;
-        round = omega (arith, moved.round);
-        marks = rw (moved.at, moved.marks) (set_outside now.at next xs);
-        rounds = same_outside moved.rounds;
-        tests = moved.tests;
-      };
-      step = step_same before after (step_class is);
-      ends = new;
-      ends_too = ends_same after ends_class;
-      so = tt;
-    }
 
 -- a class that is repeated needs no round: its mark tells whether one has ended
 pub moves_class_plus : {negated : Bool} {items : List ClassElement} {e again : Bool} {now last
