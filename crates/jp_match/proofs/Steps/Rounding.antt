@@ -32,14 +32,6 @@ first_same n at b xs one is = record {
       (is ∙ ap (λ i. get_or xs i false) offset ∙ sym (get_or-drop at xs 0 false));
 }
 
-pub set_outside : (at : ℕ) (b : Bool) (xs : List Bool)
-    → IsSameOutside at (at + 1) xs (set xs at b)
-set_outside at b xs = record {
-  same_length = length-set xs at b;
-  below = λ k under. let ne : k ≢ at = omega arith in rw get_or-set_other refl;
-  above = λ k over. let ne : k ≢ at = omega arith in rw get_or-set_other refl;
-}
-
 -- a class that is repeated needs no round: its mark tells whether one has ended
 pub moves_class_plus : {negated : Bool} {items : List ClassElement} {e again : Bool} {now last
     : Sweep} {x : Reach} → again ≡ (e || get_or now.marks.items now.at false)
