@@ -1,6 +1,6 @@
 //! A sweep over the parts of a pattern, from the left.
 
-ghost use Rattle.std.specs.Prelude.{◌≡◌, ◌+◌, ◌≤◌, IsTrue, false, length, get_or};
+ghost use Rattle.std.specs.Prelude.{◌≡◌, ◌↔◌, ◌+◌, ◌≤◌, IsTrue, false, length, get_or};
 ghost use Rattle.jp_match.specs.Private.Sweeps.{IsUnmarked, at_start, by_either, by_next, nowhere};
 ghost use Rattle.jp_match.specs.Private.Sweeps.{only_if};
 
@@ -29,7 +29,7 @@ impl Sweep {
     #[inline(always)]
     pub(crate) fn is_unmarked(&self, positions: usize) -> bool
         requires { self.now.at + positions ≤ length self.now.marks.items }
-        ensures { IsTrue result → IsUnmarked self.now positions }
+        ensures { IsTrue result ↔ IsUnmarked self.now positions }
     {
         !is_any(&self.marks[self.at..self.at + positions])
     }
@@ -82,7 +82,7 @@ impl Reach {
 
     /// Whether it is reached in no way.
     pub(crate) fn is_nowhere(self) -> bool
-        ensures { IsTrue result → self ≡ nowhere }
+        ensures { IsTrue result ↔ (self ≡ nowhere) }
     {
         !(self.before | self.after | self.after_entered)
     }

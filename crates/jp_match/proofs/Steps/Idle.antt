@@ -2,10 +2,11 @@
 use Rattle.std.proofs.Common.{◌≡◌, ◌↔◌, inl, inr, ℕ, zero, suc, ◌+◌, ◌-◌, ◌<◌, Bool, true, false}
 use Rattle.std.proofs.Common.{List}
 use Rattle.std.proofs.Common.{[], length, drop, take, get_or, nat_eq, Option, Some, refl, sym, ap}
-use Rattle.std.proofs.Common.{◌∙◌, subst, arith}
+use Rattle.std.proofs.Common.{◌∙◌, not, subst, arith}
 use Rattle.std.specs.Bool.{IsTrue}
 use Rattle.std.proofs.Math.Dec.{eqb-suc-zero}
-use Rattle.std.proofs.lemmas.List.{get_or-drop, get_or-take}
+use Rattle.std.proofs.lemmas.Bool.{cases_lt}
+use Rattle.std.proofs.lemmas.List.{get_or-drop, get_or-take, get_or_past, length-take}
 use Rattle.jp_iregexp.specs.declared.class.ClassElement.{ClassElement}
 use Rattle.jp_iregexp.specs.Tree.{Tree, class as class_tree, repeat}
 use Rattle.jp_match.specs.declared.sweep.Reach.{Reach}
@@ -15,7 +16,7 @@ use Rattle.jp_match.specs.Private.Plain.{Plain, class, between, unrolled, counte
 use Rattle.jp_match.specs.Private.Marks.{size, Ends}
 use Rattle.jp_match.specs.Private.Sweeps.{rounds_of, Rounds, takes_none, IsBefore}
 use Rattle.jp_match.specs.Private.Sweeps.{IsIdle, IsUnmarked, Moves, at_start, nowhere}
-use Rattle.jp_match.proofs.Bools.{not_false}
+use Rattle.jp_match.proofs.Bools.{not_both}
 use Rattle.jp_match.proofs.Steps.Kept.{takes_none_is, ends_are_entered, ends_fresh}
 use Rattle.jp_match.proofs.Steps.Sizes.{size_between, rounds_between}
 use Rattle.jp_match.proofs.Steps.StepParts.{IsSameBefore, rest_none, step_nowhere, step_same}
@@ -148,13 +149,21 @@ unfolding unrolled
 class_within t negated items sweep is before =
     let all : IsBefore (class negated items) sweep = rw is at before in omega (arith, all.marks)
 
-pub unmarked_slice : (at n : ℕ) (marks : List Bool) (any : Bool) → any ≡ false
+pub unmarked_slice : (at n : ℕ) (marks : List Bool) (any : Bool)
     → (IsTrue any ↔ ((k : ℕ) × IsTrue (get_or (take (at + n - at) (drop at marks)) k false)))
-    → (k : ℕ) → k < n → IsTrue (get_or marks (at + k) false) → ⊥
-unmarked_slice at n marks any none is k below h =
-    let within : k < at + n - at = omega (arith, below) in
-    not_false any none (is.1 (
-      k,
-      get_or-take (at + n - at) (drop at marks) k false within ∙
-          get_or-drop at marks k false ∙ h,
-    ))
+    → IsTrue (not any) ↔ ((k : ℕ) → k < n → IsTrue (get_or marks (at + k) false) → ⊥)
+unmarked_slice at n marks any is = (
+  λ none k below h. not_both any none (is.1 (k, there k (omega (arith, below)) ∙ h)),
+  λ none. ap not (sym (not_true any (λ h. let (k, marked) = is.0 h in
+      elim (cases_lt k n) [
+        | inl below ↦ none k below (sym (there k (omega (arith, below))) ∙ marked)
+        | inr over ↦
+            let long = length-take (at + n - at) (drop at marks) in
+            let past = get_or_past (take (at + n - at) (drop at marks)) k false (omega arith) in
+            absurd (let e = past in cc)
+      ]))),
+) where
+  there : (k : ℕ) → k < at + n - at
+      → get_or (take (at + n - at) (drop at marks)) k false ≡ get_or marks (at + k) false
+  there k within = get_or-take (at + n - at) (drop at marks) k false within ∙
+      get_or-drop at marks k false

@@ -78,6 +78,7 @@ same_there first n at m xs ys is same = record {
       sym (get_or-drop n (drop first ys) k false);
 }
 
+-- class tests that are made one after another add up
 pub no_tests : {most now : ℕ} → MakesAtMost most now now
 no_tests = record { counted = omega arith; kept = omega arith }
 

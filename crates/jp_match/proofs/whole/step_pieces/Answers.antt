@@ -9,7 +9,7 @@ pub returns-then-is_nowhere : goal.returns-then-is_nowhere
 returns-then-is_nowhere c =
     let so_far = c.loop-piece.invariant in
     rw c.none.ensures (all_ended c.args.end c.requires so_far.swept so_far.ahead so_far.tests
-    (omega (arith, c.if-sweep-end.true)) (c.is_nowhere.ensures c.if-is_nowhere.true))
+    (omega (arith, c.if-sweep-end.true)) (c.is_nowhere.ensures.0 c.if-is_nowhere.true))
 
 pub step_next-through-requires : goal.step_next-through-requires
 step_next-through-requires c =
