@@ -1,13 +1,12 @@
 -- Characters that no word of a pattern begins with, part by part.
-use Rattle.std.proofs.Common.{◌≡◌, ◌↔◌, ◌⊎◌, inl, inr, ℕ, zero, suc, ◌*◌, ◌≤◌, ◌<◌, Bool, true}
+use Rattle.std.proofs.Common.{◌≡◌, ◌↔◌, ◌⊎◌, inl, inr, ℕ, zero, suc, ◌≤◌, Bool, true}
 use Rattle.std.proofs.Common.{false}
 use Rattle.std.proofs.Common.{List, [], ◌∷◌, Option, get_or, refl, subst, arith}
 use Rattle.std.specs.Bool.{IsTrue}
 use Rattle.std.proofs.Math.ListN.{replicate}
-use Rattle.std.proofs.Math.Nat.{le-mul_of_pos_right, mul_comm}
 use Rattle.jp_iregexp.specs.declared.class.ClassElement.{ClassElement}
 use Rattle.jp_iregexp.specs.Class.{class_holds}
-use Rattle.jp_iregexp.specs.Tree.{Tree, class, nothing, either, sequence, repeat}
+use Rattle.jp_iregexp.specs.Tree.{Tree, class, either, sequence, repeat}
 use Rattle.jp_iregexp.specs.Language.{Power, Language}
 use Rattle.jp_match.specs.Scan.{Sought}
 use Rattle.jp_match.specs.Private.Plain.{unrolled}
@@ -26,9 +25,6 @@ never_class negated items c fails = record {
       let same : d ≡ c = cc in
       absurd (let held = subst (λ x. class_holds negated items x ≡ true) same holds in cc);
 }
-
-pub never_nothing : (c : ℕ) → NeverBegins (Language nothing) c
-never_nothing c = record { not_empty = λ h. h; not_first = λ rest h. h }
 
 pub never_either : (a b : Tree) (c : ℕ) → NeverBegins (Language a) c → NeverBegins (Language b) c
     → NeverBegins (Language (either a b)) c
@@ -99,10 +95,6 @@ pub left_never : (t : Tree) (anywhere start : Bool) (row : List Bool) (c : ℕ) 
 left_never t false start row c is none never e = absurd (cc)
 left_never t true start row c is none never (inl r) = rest_none (unrolled t) row [] none r
 left_never t true start row c is none never (inr s) = never.not_empty (nil_suffix (Language t) s.1)
-
--- a repeat of at least one copy has the positions of one
-pub one_of_copies : (copies n : ℕ) → 0 < copies → n ≤ copies * n
-one_of_copies copies n some = subst (λ m. n ≤ m) (mul_comm n copies) (le-mul_of_pos_right n some)
 
 -- a row of false has no mark
 pub none_in : (n k : ℕ) → IsTrue (get_or (replicate n false) k false) → ⊥

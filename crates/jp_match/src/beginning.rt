@@ -1,10 +1,11 @@
 //! Which characters a word of a pattern begins with.
 
-ghost use Rattle.std.specs.Prelude.{◌≡◌, ◌+◌, ◌≤◌, map, false};
+ghost use Rattle.std.specs.Prelude.{◌≡◌, map, false};
 ghost use Rattle.jp_iregexp.specs.Tree.{tree, branches, pieces, repeat};
 ghost use Rattle.jp_iregexp.specs.Language.{Language};
 ghost use Rattle.jp_iregexp.specs.Positions.{positions_of};
 ghost use Rattle.jp_match.specs.Private.Beginning.{NeverBegins};
+ghost use Rattle.jp_match.specs.Private.ClassTests.{MakesAtMost};
 
 use crate::class_tests::Tests;
 use jp_iregexp::Pattern;
@@ -14,8 +15,7 @@ use jp_iregexp::Pattern;
 #[cycle(begins)]
 pub(crate) fn may_begin(pattern: &Pattern, c: char, tests: &mut Tests) -> bool
     ensures never { result ≡ false → NeverBegins (Language (tree pattern.now)) c }
-    ensures counted { tests.new ≤ tests.old + positions_of (tree pattern.now) }
-    ensures kept { tests.old ≤ tests.new }
+    ensures tests { MakesAtMost (positions_of (tree pattern.now)) tests.old tests.new }
 {
     match pattern {
         Pattern::Either(branches) => any_may_begin(branches, c, tests),
@@ -31,8 +31,7 @@ pub(crate) fn may_begin(pattern: &Pattern, c: char, tests: &mut Tests) -> bool
 #[cycle(begins)]
 fn any_may_begin(parts: &[Pattern], c: char, tests: &mut Tests) -> bool
     ensures never { result ≡ false → NeverBegins (Language (branches (map tree parts.now))) c }
-    ensures counted { tests.new ≤ tests.old + positions_of (branches (map tree parts.now)) }
-    ensures kept { tests.old ≤ tests.new }
+    ensures tests { MakesAtMost (positions_of (branches (map tree parts.now))) tests.old tests.new }
 {
     for branch in parts {
         if may_begin(branch, c, tests) {
@@ -46,8 +45,7 @@ fn any_may_begin(parts: &[Pattern], c: char, tests: &mut Tests) -> bool
 #[cycle(begins)]
 fn first_may_begin(parts: &[Pattern], c: char, tests: &mut Tests) -> bool
     ensures never { result ≡ false → NeverBegins (Language (pieces (map tree parts.now))) c }
-    ensures counted { tests.new ≤ tests.old + positions_of (pieces (map tree parts.now)) }
-    ensures kept { tests.old ≤ tests.new }
+    ensures tests { MakesAtMost (positions_of (pieces (map tree parts.now))) tests.old tests.new }
 {
     let [first, ..] = parts else {
         return true;
@@ -65,8 +63,8 @@ fn repeat_may_begin(
     tests: &mut Tests,
 ) -> bool
     ensures never { result ≡ false → NeverBegins (Language (repeat (tree inner.now) least most)) c }
-    ensures counted { tests.new ≤ tests.old + positions_of (repeat (tree inner.now) least most) }
-    ensures kept { tests.old ≤ tests.new }
+    ensures tests { MakesAtMost (positions_of (repeat (tree inner.now) least most)) tests.old
+        tests.new }
 {
     if least == 0 || most == Some(0) {
         return true;

@@ -1,8 +1,8 @@
 //! The count of class tests.
 
-ghost use Rattle.std.specs.Prelude.{◌≡◌, ◌≤◌, ◌&&◌, nat_le};
+ghost use Rattle.std.specs.Prelude.{◌≡◌, ◌&&◌, nat_le};
 ghost use Rattle.jp_iregexp.specs.Class.{class_holds as holds_in};
-ghost use Rattle.jp_match.specs.Private.ClassTests.{count_after};
+ghost use Rattle.jp_match.specs.Private.ClassTests.{Makes};
 
 use jp_iregexp::{CharClass, ClassElement};
 use std::marker::Model;
@@ -39,8 +39,7 @@ impl Tests {
     /// Whether the class holds the character. Every class test of every matcher goes through here.
     pub(crate) fn holds(&mut self, class: &CharClass, c: char) -> bool
         ensures answer { result ≡ holds_in class.now.negated class.now.items.items c }
-        ensures counted { self.new ≡ count_after 1 self.old }
-        ensures kept { self.old ≤ self.new }
+        ensures tests { Makes 1 self.old self.new }
     {
         let Tests { made } = self;
         *made = made.saturating_add(1);

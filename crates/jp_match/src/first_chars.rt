@@ -3,7 +3,7 @@
 ghost use Rattle.std.specs.Prelude.{◌≡◌, ℕ, IsTrue, false, get_or, map};
 ghost use Rattle.jp_iregexp.specs.Tree.{tree, branches, pieces, repeat, class as one_of};
 ghost use Rattle.jp_iregexp.specs.Language.{Language};
-ghost use Rattle.jp_match.specs.Private.Beginning.{RulesOut, IsWithin};
+ghost use Rattle.jp_match.specs.Private.Beginning.{RulesOut, Admits};
 
 use crate::class_tests::class_holds;
 use jp_iregexp::{CharClass, Pattern};
@@ -50,8 +50,7 @@ impl FirstChars {
 /// first, and all where the first part may be left out.
 #[cycle(admits)]
 fn admit(pattern: &Pattern, ruled_out: &mut [bool; 128])
-    ensures fewer { IsWithin ruled_out.new ruled_out.old }
-    ensures never { RulesOut ruled_out.new (Language (tree pattern.now)) }
+    ensures { Admits (Language (tree pattern.now)) ruled_out.old ruled_out.new }
 {
     match pattern {
         Pattern::Either(branches) => admit_each(branches, ruled_out),
@@ -64,8 +63,7 @@ fn admit(pattern: &Pattern, ruled_out: &mut [bool; 128])
 /// The same for branches.
 #[cycle(admits)]
 fn admit_each(parts: &[Pattern], ruled_out: &mut [bool; 128])
-    ensures fewer { IsWithin ruled_out.new ruled_out.old }
-    ensures never { RulesOut ruled_out.new (Language (branches (map tree parts.now))) }
+    ensures { Admits (Language (branches (map tree parts.now))) ruled_out.old ruled_out.new }
 {
     for branch in parts {
         admit(branch, ruled_out);
@@ -75,8 +73,7 @@ fn admit_each(parts: &[Pattern], ruled_out: &mut [bool; 128])
 /// The same for pieces: for the first of them.
 #[cycle(admits)]
 fn admit_first(parts: &[Pattern], ruled_out: &mut [bool; 128])
-    ensures fewer { IsWithin ruled_out.new ruled_out.old }
-    ensures never { RulesOut ruled_out.new (Language (pieces (map tree parts.now))) }
+    ensures { Admits (Language (pieces (map tree parts.now))) ruled_out.old ruled_out.new }
 {
     let [first, ..] = parts else {
         admit_all(ruled_out);
@@ -88,8 +85,7 @@ fn admit_first(parts: &[Pattern], ruled_out: &mut [bool; 128])
 /// The same for a repeat.
 #[cycle(admits)]
 fn admit_repeat(inner: &Pattern, least: u32, most: Option<u32>, ruled_out: &mut [bool; 128])
-    ensures fewer { IsWithin ruled_out.new ruled_out.old }
-    ensures never { RulesOut ruled_out.new (Language (repeat (tree inner.now) least most)) }
+    ensures { Admits (Language (repeat (tree inner.now) least most)) ruled_out.old ruled_out.new }
 {
     if least == 0 || most == Some(0) {
         admit_all(ruled_out);
@@ -100,9 +96,8 @@ fn admit_repeat(inner: &Pattern, least: u32, most: Option<u32>, ruled_out: &mut 
 
 /// The same for a class.
 fn admit_class(class: &CharClass, ruled_out: &mut [bool; 128])
-    ensures fewer { IsWithin ruled_out.new ruled_out.old }
-    ensures never { RulesOut ruled_out.new (Language (one_of class.now.negated
-        class.now.items.items)) }
+    ensures { Admits (Language (one_of class.now.negated class.now.items.items)) ruled_out.old
+        ruled_out.new }
 {
     for code in 0..128u8 {
         let index = usize::from(code);

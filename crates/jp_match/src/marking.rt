@@ -1,10 +1,11 @@
 //! A pattern with a mark for each of its positions.
 
-ghost use Rattle.std.specs.Prelude.{◌≡◌, ◌+◌, ◌^◌, ℕ, ◌≤◌, IsTrue, IfOk, min, length};
+ghost use Rattle.std.specs.Prelude.{◌≡◌, ◌^◌, ℕ, ◌≤◌, IsTrue, IfOk, min, length};
 ghost use Rattle.std.specs.Prelude.{get_or, true, false, ◌||◌};
 ghost use Rattle.jp_iregexp.specs.Tree.{tree};
 ghost use Rattle.jp_iregexp.specs.Positions.{positions_of};
 ghost use Rattle.jp_match.specs.Private.Plain.{unrolled};
+ghost use Rattle.jp_match.specs.Private.ClassTests.{MakesAtMost};
 ghost use Rattle.jp_match.specs.Private.Marks.{Ends, Steps};
 ghost use Rattle.jp_match.specs.Private.Sweeps.{rounds_of, rounds_end, marks_end};
 ghost use Rattle.jp_match.specs.Private.Sweeps.{takes_none};
@@ -62,6 +63,7 @@ impl<'p> Marking<'p> {
         Ok(Marking {
             pattern,
             sweep: Sweep {
+                c: '\0',
                 marks,
                 rounds,
                 at: 0,
@@ -79,14 +81,14 @@ impl<'p> Marking<'p> {
         ensures same { self.new.pattern.now ≡ self.old.pattern.now }
         ensures step { Steps (unrolled (tree self.old.pattern.now)) c entered
             self.old.sweep.marks.items self.new.sweep.marks.items result }
-        ensures counted { tests.new ≤ tests.old + positions_of (tree self.old.pattern.now) }
-        ensures kept { tests.old ≤ tests.new }
+        ensures tests { MakesAtMost (positions_of (tree self.old.pattern.now)) tests.old tests.new }
     {
         let end = self.sweep.at;
+        self.sweep.c = c;
         self.sweep.at = 0;
         self.sweep.round = 0;
         swap(&mut self.sweep.tests, tests);
-        let reach = step_whole(self.pattern, &mut self.sweep, end, entered, c);
+        let reach = step_whole(self.pattern, &mut self.sweep, end, entered);
         swap(&mut self.sweep.tests, tests);
         self.ends = reach.after;
         self.ends_entered = reach.after_entered;

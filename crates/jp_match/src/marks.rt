@@ -1,6 +1,6 @@
 //! The matcher of positions: a scan stepped once over the text.
 
-ghost use Rattle.std.specs.Prelude.{◌≡◌, ◌↔◌, ◌⊎◌, ◌+◌, ◌*◌, ◌≤◌, ℕ, IfOk, IfSome, IsTrue, List, [], ◌∷◌};
+ghost use Rattle.std.specs.Prelude.{◌≡◌, ◌↔◌, ◌+◌, ◌*◌, ◌≤◌, ℕ, IfSome, IsTrue, List, [], ◌∷◌};
 ghost use Rattle.std.specs.Prelude.{length, take};
 ghost use Rattle.std.specs.Str.{chars};
 ghost use Rattle.jp_iregexp.specs.Tree.{tree};
@@ -8,6 +8,8 @@ ghost use Rattle.jp_iregexp.specs.Language.{Language};
 ghost use Rattle.jp_iregexp.specs.Positions.{positions_of};
 ghost use Rattle.jp_match.specs.Part.{HasPart};
 ghost use Rattle.jp_match.specs.Private.Beginning.{RulesOut};
+ghost use Rattle.jp_match.specs.Private.ClassTests.{LeavesRoom, MakesAtMost};
+ghost use Rattle.jp_match.specs.Private.Search.{IsFound};
 ghost use Rattle.jp_match.specs.Scan.{Left, tree_of};
 
 use crate::class_tests::Tests;
@@ -82,11 +84,10 @@ fn whole_of(
     text: &str,
     tests: &mut Tests,
 ) -> Result<bool, AllocError>
-    ensures exact { IfOk result (λ answer. IsTrue answer ↔ Language (tree
-        counted.entry.pattern.now) (chars text.entry.now)) }
+    ensures found { IsFound (λ answer. IsTrue answer ↔ Language (tree counted.entry.pattern.now)
+        (chars text.entry.now)) tests.old tests.new result }
     ensures bound { positions_of (tree counted.entry.pattern.now) ≤ 4096 → tests.new ≤ tests.old +
         positions_of (tree counted.entry.pattern.now) * length (chars text.entry.now) }
-    ensures kept { tests.old ≤ tests.new }
 {
     match Scan::of_counted(alloc, counted, false)? {
         Some(mut scan) => Ok(accepts_whole(&mut scan, text, tests)),
@@ -104,11 +105,10 @@ fn part_of(
 ) -> Result<bool, AllocError>
     requires { IfSome first_chars (λ first. RulesOut first.now (Language (tree
         counted.pattern.now))) }
-    ensures exact { IfOk result (λ answer. IsTrue answer ↔ HasPart (Language (tree
-        counted.entry.pattern.now)) (chars text.entry.now)) }
+    ensures found { IsFound (λ answer. IsTrue answer ↔ HasPart (Language (tree
+        counted.entry.pattern.now)) (chars text.entry.now)) tests.old tests.new result }
     ensures bound { positions_of (tree counted.entry.pattern.now) ≤ 4096 → tests.new ≤ tests.old +
         positions_of (tree counted.entry.pattern.now) * length (chars text.entry.now) }
-    ensures kept { tests.old ≤ tests.new }
 {
     match Scan::of_counted(alloc, counted, true)? {
         Some(mut scan) => Ok(accepts_prefix(&mut scan, first_chars, text, tests)),
@@ -124,9 +124,8 @@ fn whole_of_many(
     text: &str,
     tests: &mut Tests,
 ) -> Result<bool, AllocError>
-    ensures exact { IfOk result (λ answer. IsTrue answer ↔ Language (tree pattern.entry.now) (chars
-        text.entry.now)) }
-    ensures kept { tests.old ≤ tests.new }
+    ensures { IsFound (λ answer. IsTrue answer ↔ Language (tree pattern.entry.now) (chars
+        text.entry.now)) tests.old tests.new result }
 {
     let cut = cut(alloc, pattern, char_count(text))?;
     match Scan::new(alloc, &cut, false)? {
@@ -142,9 +141,8 @@ fn part_of_many(
     text: &str,
     tests: &mut Tests,
 ) -> Result<bool, AllocError>
-    ensures exact { IfOk result (λ answer. IsTrue answer ↔ HasPart (Language (tree
-        pattern.entry.now)) (chars text.entry.now)) }
-    ensures kept { tests.old ≤ tests.new }
+    ensures { IsFound (λ answer. IsTrue answer ↔ HasPart (Language (tree pattern.entry.now)) (chars
+        text.entry.now)) tests.old tests.new result }
 {
     let cut = cut(alloc, pattern, char_count(text))?;
     match Scan::new(alloc, &cut, true)? {
@@ -163,9 +161,8 @@ fn char_count(text: &str) -> usize
 /// Whether the scan accepts once it has taken the text. It ends early where no word is left.
 fn accepts_whole(scan: &mut Scan<'_>, text: &str, tests: &mut Tests) -> bool
     ensures accepted { IsTrue result ↔ Left scan.old (chars text.now) }
-    ensures counted { tests.new ≤ tests.old + positions_of (tree_of scan.old) * length (chars
-        text.now) }
-    ensures kept { tests.old ≤ tests.new }
+    ensures tests { MakesAtMost (positions_of (tree_of scan.old) * length (chars text.now)) tests.old
+        tests.new }
 {
     for c in text.chars() {
         if scan.is_spent() {
@@ -188,9 +185,8 @@ fn accepts_prefix(
     ensures accepted { IsTrue result
         ↔ ((count : ℕ) × (count ≤ length (chars text.now))
         × Left scan.old (take count (chars text.now))) }
-    ensures counted { tests.new ≤ tests.old + positions_of (tree_of scan.old) * length (chars
-        text.now) }
-    ensures kept { tests.old ≤ tests.new }
+    ensures tests { MakesAtMost (positions_of (tree_of scan.old) * length (chars text.now)) tests.old
+        tests.new }
 {
     let mut budget = tests.count();
     for c in text.chars() {
@@ -218,9 +214,7 @@ fn stays_within(
     ensures stays { IsTrue result → (word : List ℕ) → Left scan.now word ↔ Left scan.now (c ∷
         word) }
     ensures refuses { IsTrue result → Left scan.now [] → ⊥ }
-    ensures counted { (tests.new ≤ tests.old) ⊎ (tests.new + positions_of (tree_of scan.now) ≤
-        budget) }
-    ensures kept { tests.old ≤ tests.new }
+    ensures tests { LeavesRoom (positions_of (tree_of scan.now)) budget tests.old tests.new }
 {
     if !scan.is_at_rest() {
         return false;

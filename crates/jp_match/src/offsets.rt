@@ -3,7 +3,7 @@
 ghost use Rattle.std.specs.Prelude.{◌≡◌, ◌↔◌, ◌⊎◌, ℕ, ◌≤◌, IsTrue, IfOk, length};
 ghost use Rattle.jp_iregexp.specs.Tree.{class as class_tree};
 ghost use Rattle.jp_iregexp.specs.Language.{Language};
-ghost use Rattle.jp_match.specs.Private.ClassTests.{count_after};
+ghost use Rattle.jp_match.specs.Private.ClassTests.{Makes};
 ghost use Rattle.jp_match.specs.Private.Offset.{IsOver, Marked, Holds, IsImage, followed_count};
 ghost use Rattle.jp_match.specs.Private.Rows.{IsOnly};
 
@@ -118,8 +118,7 @@ pub(crate) fn shift(class: &CharClass, text: &[char], offsets: &mut Offsets, tes
     requires { IsOver offsets.old.items text.now }
     ensures image { IsImage (Language (class_tree class.now.negated class.now.items.items))
         text.now offsets.old.items offsets.new.items }
-    ensures counted { tests.new ≡ count_after (followed_count text.now offsets.old.items) tests.old }
-    ensures kept { tests.old ≤ tests.new }
+    ensures tests { Makes (followed_count text.now offsets.old.items) tests.old tests.new }
 {
     let mut arrives = false;
     for (i, c) in text.iter().enumerate() {

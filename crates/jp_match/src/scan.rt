@@ -5,6 +5,7 @@ ghost use Rattle.jp_iregexp.specs.Tree.{tree};
 ghost use Rattle.jp_iregexp.specs.Language.{Language};
 ghost use Rattle.jp_iregexp.specs.Positions.{positions_of};
 ghost use Rattle.jp_match.specs.Private.Beginning.{NeverBegins};
+ghost use Rattle.jp_match.specs.Private.ClassTests.{MakesAtMost};
 ghost use Rattle.jp_match.specs.Scan.{Begins, Left, tree_of};
 
 use crate::beginning::may_begin;
@@ -76,8 +77,7 @@ impl<'p> Scan<'p> {
         ensures accepted { IsTrue result ↔ Left self.old [] }
         ensures left { (word : List ℕ) → Left self.new word ↔ Left self.old (c ∷ word) }
         ensures same { tree_of self.new ≡ tree_of self.old }
-        ensures counted { tests.new ≤ tests.old + positions_of (tree_of self.old) }
-        ensures kept { tests.old ≤ tests.new }
+        ensures tests { MakesAtMost (positions_of (tree_of self.old)) tests.old tests.new }
     {
         let ended = self.marking.step(self.at_start, c, tests);
         self.at_start &= self.anywhere;
@@ -124,8 +124,7 @@ impl<'p> Scan<'p> {
     /// position.
     pub(crate) fn may_begin(&self, c: char, tests: &mut Tests) -> bool
         ensures never { result ≡ false → NeverBegins (Language (tree_of self.now)) c }
-        ensures counted { tests.new ≤ tests.old + positions_of (tree_of self.now) }
-        ensures kept { tests.old ≤ tests.new }
+        ensures tests { MakesAtMost (positions_of (tree_of self.now)) tests.old tests.new }
     {
         may_begin(self.marking.pattern, c, tests)
     }

@@ -17,9 +17,9 @@ use jp_iregexp::{CharClass, Pattern};
 /// Moves the marks of a pattern over the character.
 #[cycle(step)]
 #[inline(always)]
-pub(crate) fn step(pattern: &Pattern, sweep: &mut Sweep, entered: bool, c: char) -> Reach
+pub(crate) fn step(pattern: &Pattern, sweep: &mut Sweep, entered: bool) -> Reach
     requires { IsBefore (unrolled (tree pattern.now)) sweep.old }
-    ensures { Moves (unrolled (tree pattern.now)) c (at_start entered) sweep.old sweep.new result }
+    ensures { Moves (unrolled (tree pattern.now)) (at_start entered) sweep.old sweep.new result }
 {
     if !entered && let Some(idle) = idle_part(pattern, sweep) {
         sweep.at += idle.positions;
@@ -30,12 +30,12 @@ pub(crate) fn step(pattern: &Pattern, sweep: &mut Sweep, entered: bool, c: char)
         };
     }
     match pattern {
-        Pattern::Either(branches) => step_either(branches, sweep, entered, c),
-        Pattern::Sequence(pieces) => step_sequence(pieces, sweep, entered, c),
+        Pattern::Either(branches) => step_either(branches, sweep, entered),
+        Pattern::Sequence(pieces) => step_sequence(pieces, sweep, entered),
         Pattern::Repeat { inner, least, most } => {
-            step_repeat(inner, *least, *most, sweep, entered, c)
+            step_repeat(inner, *least, *most, sweep, entered)
         }
-        Pattern::Class(class) => step_class(class, sweep, entered, c),
+        Pattern::Class(class) => step_class(class, sweep, entered),
     }
 }
 
@@ -43,26 +43,26 @@ pub(crate) fn step(pattern: &Pattern, sweep: &mut Sweep, entered: bool, c: char)
 /// and has no mark, as most are, is passed over first.
 #[cycle(step)]
 #[inline(always)]
-pub(crate) fn step_next(part: &Pattern, sweep: &mut Sweep, through: Reach, c: char) -> Reach
+pub(crate) fn step_next(part: &Pattern, sweep: &mut Sweep, through: Reach) -> Reach
     requires { IsBefore (unrolled (tree part.now)) sweep.old }
-    ensures { Moves (unrolled (tree part.now)) c through sweep.old sweep.new result }
+    ensures { Moves (unrolled (tree part.now)) through sweep.old sweep.new result }
 {
     if !through.before && is_idle_class(part, sweep) {
         sweep.at += 1;
         return Reach::none();
     }
-    through.then(step(part, sweep, through.before, c))
+    through.then(step(part, sweep, through.before))
 }
 
 /// The same for a class: its one position.
 #[inline(always)]
-fn step_class(class: &CharClass, sweep: &mut Sweep, entered: bool, c: char) -> Reach
+fn step_class(class: &CharClass, sweep: &mut Sweep, entered: bool) -> Reach
     requires { IsBefore (plain_class class.now.negated class.now.items.items) sweep.old }
-    ensures { Moves (plain_class class.now.negated class.now.items.items) c (at_start entered)
+    ensures { Moves (plain_class class.now.negated class.now.items.items) (at_start entered)
         sweep.old sweep.new result }
 {
     let before = sweep.marks[sweep.at];
-    let after = entered && sweep.tests.holds(class, c);
+    let after = entered && sweep.tests.holds(class, sweep.c);
     sweep.marks[sweep.at] = after;
     sweep.at += 1;
     Reach {
@@ -74,28 +74,28 @@ fn step_class(class: &CharClass, sweep: &mut Sweep, entered: bool, c: char) -> R
 
 /// The same for branches.
 #[cycle(step)]
-pub(crate) fn step_either(parts: &[Pattern], sweep: &mut Sweep, entered: bool, c: char) -> Reach
+pub(crate) fn step_either(parts: &[Pattern], sweep: &mut Sweep, entered: bool) -> Reach
     requires { IsBefore (unrolled (branches (map tree parts.now))) sweep.old }
-    ensures { Moves (unrolled (branches (map tree parts.now))) c (at_start entered) sweep.old
+    ensures { Moves (unrolled (branches (map tree parts.now))) (at_start entered) sweep.old
         sweep.new result }
 {
     let mut ended = Reach::none();
     for branch in parts {
-        ended = ended.or(step(branch, sweep, entered, c));
+        ended = ended.or(step(branch, sweep, entered));
     }
     ended
 }
 
 /// The same for pieces: where one has ended, the next is entered.
 #[cycle(step)]
-fn step_sequence(parts: &[Pattern], sweep: &mut Sweep, entered: bool, c: char) -> Reach
+fn step_sequence(parts: &[Pattern], sweep: &mut Sweep, entered: bool) -> Reach
     requires { IsBefore (unrolled (pieces (map tree parts.now))) sweep.old }
-    ensures { Moves (unrolled (pieces (map tree parts.now))) c (at_start entered) sweep.old sweep.new
+    ensures { Moves (unrolled (pieces (map tree parts.now))) (at_start entered) sweep.old sweep.new
         result }
 {
     let mut through = Reach::at_start(entered);
     for piece in parts {
-        through = step_next(piece, sweep, through, c);
+        through = step_next(piece, sweep, through);
     }
     through
 }
@@ -108,41 +108,33 @@ fn step_repeat(
     most: Option<u32>,
     sweep: &mut Sweep,
     entered: bool,
-    c: char,
 ) -> Reach
     requires { IsBefore (unrolled (repeat (tree inner.now) least most)) sweep.old }
-    ensures { Moves (unrolled (repeat (tree inner.now) least most)) c (at_start entered) sweep.old
+    ensures { Moves (unrolled (repeat (tree inner.now) least most)) (at_start entered) sweep.old
         sweep.new result }
 {
     match most {
-        Some(most) => step_between(inner, least, most, sweep, entered, c),
-        None if least == 0 => { Reach::at_start(entered).or(step_plus(inner, sweep, entered, c)) }
-        None => step_at_least(inner, least, sweep, entered, c),
+        Some(most) => step_between(inner, least, most, sweep, entered),
+        None if least == 0 => { Reach::at_start(entered).or(step_plus(inner, sweep, entered)) }
+        None => step_at_least(inner, least, sweep, entered),
     }
 }
 
 /// The same for a repeat with a most. It may end before each copy, and after the last one, where
 /// there were at least the least. Copies of one class share one test of it.
 #[cycle(step)]
-fn step_between(
-    inner: &Pattern,
-    least: u32,
-    most: u32,
-    sweep: &mut Sweep,
-    entered: bool,
-    c: char,
-) -> Reach
+fn step_between(inner: &Pattern, least: u32, most: u32, sweep: &mut Sweep, entered: bool) -> Reach
     requires { IsBefore (between (unrolled (tree inner.now)) least most) sweep.old }
-    ensures { Moves (between (unrolled (tree inner.now)) least most) c (at_start entered) sweep.old
+    ensures { Moves (between (unrolled (tree inner.now)) least most) (at_start entered) sweep.old
         sweep.new result }
 {
     if most < 2 {
-        return step_copies(inner, least, most, sweep, entered, c);
+        return step_copies(inner, least, most, sweep, entered);
     }
     let Some(one) = one_class(inner) else {
-        return step_copies(inner, least, most, sweep, entered, c);
+        return step_copies(inner, least, most, sweep, entered);
     };
-    let holds = sweep.tests.holds(one.class, c);
+    let holds = sweep.tests.holds(one.class, sweep.c);
     let copies = Copies {
         least: least as usize,
         is_optional: one.is_optional,
@@ -156,16 +148,9 @@ fn step_between(
 /// The same for copies of more than one class, each by itself. Copies without positions are all as
 /// the first.
 #[cycle(step)]
-fn step_copies(
-    inner: &Pattern,
-    least: u32,
-    most: u32,
-    sweep: &mut Sweep,
-    entered: bool,
-    c: char,
-) -> Reach
+fn step_copies(inner: &Pattern, least: u32, most: u32, sweep: &mut Sweep, entered: bool) -> Reach
     requires { IsBefore (between (unrolled (tree inner.now)) least most) sweep.old }
-    ensures { Moves (between (unrolled (tree inner.now)) least most) c (at_start entered) sweep.old
+    ensures { Moves (between (unrolled (tree inner.now)) least most) (at_start entered) sweep.old
         sweep.new result }
 {
     let mut ended = Reach::none();
@@ -175,7 +160,7 @@ fn step_copies(
         ended = ended.or(through.only_if(least <= copies));
         let at = sweep.at;
         let round = sweep.round;
-        through = through.then(step_copy(inner, size, sweep, through.before, c));
+        through = through.then(step_copy(inner, size, sweep, through.before));
         if sweep.at == at {
             return ended.or(through.only_if(least <= most));
         }
@@ -190,13 +175,13 @@ fn step_copies(
 /// The same for one copy. Once the size of copies is known, one that is not entered and has no mark
 /// is passed over.
 #[cycle(step)]
-fn step_copy(inner: &Pattern, size: Size, sweep: &mut Sweep, entered: bool, c: char) -> Reach
+fn step_copy(inner: &Pattern, size: Size, sweep: &mut Sweep, entered: bool) -> Reach
     requires before { IsBefore (unrolled (tree inner.now)) sweep.old }
     requires sized { IsSize (unrolled (tree inner.now)) size.positions size.rounds }
-    ensures { Moves (unrolled (tree inner.now)) c (at_start entered) sweep.old sweep.new result }
+    ensures { Moves (unrolled (tree inner.now)) (at_start entered) sweep.old sweep.new result }
 {
     if entered || size.positions == 0 {
-        return step(inner, sweep, entered, c);
+        return step(inner, sweep, entered);
     }
     let end = sweep.at + size.positions;
     if sweep.is_unmarked(size.positions) {
@@ -208,56 +193,56 @@ fn step_copy(inner: &Pattern, size: Size, sweep: &mut Sweep, entered: bool, c: c
             after_entered: has_empty_word(inner),
         };
     }
-    step(inner, sweep, entered, c)
+    step(inner, sweep, entered)
 }
 
 /// The same for a repeat with a least and no most: the last copy goes on.
 #[cycle(step)]
-fn step_at_least(inner: &Pattern, least: u32, sweep: &mut Sweep, entered: bool, c: char) -> Reach
+fn step_at_least(inner: &Pattern, least: u32, sweep: &mut Sweep, entered: bool) -> Reach
     requires before { IsBefore (at_least (unrolled (tree inner.now)) least) sweep.old }
     requires some { 0 < least }
-    ensures { Moves (at_least (unrolled (tree inner.now)) least) c (at_start entered) sweep.old
+    ensures { Moves (at_least (unrolled (tree inner.now)) least) (at_start entered) sweep.old
         sweep.new result }
 {
     let mut through = Reach::at_start(entered);
     for _ in 1..least {
         let at = sweep.at;
-        through = through.then(step(inner, sweep, through.before, c));
+        through = through.then(step(inner, sweep, through.before));
         if sweep.at == at {
-            return through.then(step_plus(inner, sweep, through.before, c));
+            return through.then(step_plus(inner, sweep, through.before));
         }
     }
-    through.then(step_plus(inner, sweep, through.before, c))
+    through.then(step_plus(inner, sweep, through.before))
 }
 
 /// The same for one or more words of the pattern: where one has ended, the next may begin. The mark
 /// of a class tells whether one has.
 #[cycle(step)]
-fn step_plus(inner: &Pattern, sweep: &mut Sweep, entered: bool, c: char) -> Reach
+fn step_plus(inner: &Pattern, sweep: &mut Sweep, entered: bool) -> Reach
     requires { IsBefore (plus (unrolled (tree inner.now))) sweep.old }
-    ensures { Moves (plus (unrolled (tree inner.now))) c (at_start entered) sweep.old sweep.new result }
+    ensures { Moves (plus (unrolled (tree inner.now))) (at_start entered) sweep.old sweep.new result }
 {
     match inner {
         Pattern::Class(class) => {
             let again = entered | sweep.marks[sweep.at];
-            step_class(class, sweep, again, c)
+            step_class(class, sweep, again)
         }
-        _ => step_rounds(inner, sweep, entered, c),
+        _ => step_rounds(inner, sweep, entered),
     }
 }
 
 /// The same for a pattern that is no class. Without positions it has no round that is kept.
 #[cycle(step)]
-fn step_rounds(inner: &Pattern, sweep: &mut Sweep, entered: bool, c: char) -> Reach
+fn step_rounds(inner: &Pattern, sweep: &mut Sweep, entered: bool) -> Reach
     requires before { IsBefore (plus (unrolled (tree inner.now))) sweep.old }
     requires own { own_rounds (unrolled (tree inner.now)) ≡ min (size (unrolled (tree inner.now))) 1 }
-    ensures { Moves (plus (unrolled (tree inner.now))) c (at_start entered) sweep.old sweep.new result }
+    ensures { Moves (plus (unrolled (tree inner.now))) (at_start entered) sweep.old sweep.new result }
 {
     let at = sweep.at;
     let round = sweep.round;
     let again = entered | sweep.round_has_ended();
     sweep.round = round.saturating_add(1);
-    let reach = step(inner, sweep, again, c);
+    let reach = step(inner, sweep, again);
     if sweep.at == at {
         sweep.round = round;
         return Reach {

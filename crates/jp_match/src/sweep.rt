@@ -1,16 +1,19 @@
 //! A sweep over the parts of a pattern, from the left.
 
-ghost use Rattle.std.specs.Prelude.{◌≡◌, ◌+◌, ◌≤◌, IsTrue, false, length, get_or};
+ghost use Rattle.std.specs.Prelude.{◌≡◌, ◌↔◌, ◌+◌, ◌≤◌, IsTrue, false, length, get_or};
 ghost use Rattle.jp_match.specs.Private.Sweeps.{IsUnmarked, at_start, by_either, by_next, nowhere};
 ghost use Rattle.jp_match.specs.Private.Sweeps.{only_if};
 
 use crate::class_tests::Tests;
 use crate::offsets::is_any;
 
-/// The marks of a pattern, what is kept of its repeats, and where a sweep over its parts stands: it
-/// comes to the positions and to the repeats one after another, so nothing is counted or looked up.
+/// The marks of a pattern, what is kept of its repeats, the character that moves them, and where a
+/// sweep over the parts stands: it comes to the positions and to the repeats one after another, so
+/// nothing is counted or looked up.
 #[derive(Drop)]
 pub(crate) struct Sweep {
+    /// The character that is taken; before the first one, any.
+    pub(crate) c: char,
     /// A mark for each position: its class has taken the last character.
     pub(crate) marks: Vec<bool>,
     /// For each repeat without a most whether a round of it has ended.
@@ -26,7 +29,7 @@ impl Sweep {
     #[inline(always)]
     pub(crate) fn is_unmarked(&self, positions: usize) -> bool
         requires { self.now.at + positions ≤ length self.now.marks.items }
-        ensures { IsTrue result → IsUnmarked self.now positions }
+        ensures { IsTrue result ↔ IsUnmarked self.now positions }
     {
         !is_any(&self.marks[self.at..self.at + positions])
     }
@@ -79,7 +82,7 @@ impl Reach {
 
     /// Whether it is reached in no way.
     pub(crate) fn is_nowhere(self) -> bool
-        ensures { IsTrue result → self ≡ nowhere }
+        ensures { IsTrue result ↔ (self ≡ nowhere) }
     {
         !(self.before | self.after | self.after_entered)
     }

@@ -11,47 +11,41 @@ use jp_iregexp::Pattern;
 
 /// Moves the marks of a whole pattern over the character. There is none from `end` on, so the sweep
 /// may end before the pattern does: where nothing is entered and no mark is left.
-pub(crate) fn step_whole(
-    pattern: &Pattern,
-    sweep: &mut Sweep,
-    end: usize,
-    entered: bool,
-    c: char,
-) -> Reach
+pub(crate) fn step_whole(pattern: &Pattern, sweep: &mut Sweep, end: usize, entered: bool) -> Reach
     requires { IsAtStart (unrolled (tree pattern.now)) end sweep.old }
-    ensures { MovesAll (unrolled (tree pattern.now)) c entered sweep.old sweep.new result }
+    ensures { MovesAll (unrolled (tree pattern.now)) entered sweep.old sweep.new result }
 {
     match pattern {
-        Pattern::Either(branches) => step_branches(branches, sweep, end, entered, c),
-        _ => step(pattern, sweep, entered, c),
+        Pattern::Either(branches) => step_branches(branches, sweep, end, entered),
+        _ => step(pattern, sweep, entered),
     }
 }
 
 /// The same for branches.
-fn step_branches(parts: &[Pattern], sweep: &mut Sweep, end: usize, entered: bool, c: char) -> Reach
+fn step_branches(parts: &[Pattern], sweep: &mut Sweep, end: usize, entered: bool) -> Reach
     requires { IsAtStart (unrolled (branches (map tree parts.now))) end sweep.old }
-    ensures { MovesAll (unrolled (branches (map tree parts.now))) c entered sweep.old sweep.new result }
+    ensures { MovesAll (unrolled (branches (map tree parts.now))) entered sweep.old sweep.new result }
 {
     let [only] = parts else {
-        return step_either(parts, sweep, entered, c);
+        return step_either(parts, sweep, entered);
     };
     match only {
-        Pattern::Sequence(pieces) => step_pieces(pieces, sweep, end, entered, c),
-        _ => step_either(parts, sweep, entered, c),
+        Pattern::Sequence(pieces) => step_pieces(pieces, sweep, end, entered),
+        _ => step_either(parts, sweep, entered),
     }
 }
 
 /// The same for pieces.
-fn step_pieces(parts: &[Pattern], sweep: &mut Sweep, end: usize, entered: bool, c: char) -> Reach
+fn step_pieces(parts: &[Pattern], sweep: &mut Sweep, end: usize, entered: bool) -> Reach
     requires { IsAtStart (unrolled (pieces (map tree parts.now))) end sweep.old }
-    ensures { MovesAll (unrolled (pieces (map tree parts.now))) c entered sweep.old sweep.new result }
+    ensures { MovesAll (unrolled (pieces (map tree parts.now))) entered sweep.old sweep.new result }
 {
     let mut through = Reach::at_start(entered);
     for piece in parts {
         if sweep.at >= end && through.is_nowhere() {
             return Reach::none();
         }
-        through = step_next(piece, sweep, through, c);
+        through = step_next(piece, sweep, through);
     }
     through
 }

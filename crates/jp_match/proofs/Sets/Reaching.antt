@@ -1,6 +1,6 @@
 -- What sets of offsets reach by words of a language.
 use Rattle.std.proofs.Common.{◌≡◌, ◌↔◌, ◌⊎◌, inl, inr, ℕ, suc, Bool, List, [], ◌++◌, length, refl}
-use Rattle.std.proofs.Common.{sym, ap, ◌∙◌, subst, arith, ◌≤◌, Ok, Err}
+use Rattle.std.proofs.Common.{sym, ap, ◌∙◌, subst, arith, ◌≤◌, Ok}
 use Rattle.std.proofs.lemmas.List.{length-append, append_assoc}
 use Rattle.jp_iregexp.specs.Language.{Concatenation}
 use Rattle.jp_match.specs.Private.Offset.{Marked, Holds, Reached, IsImage}
@@ -174,16 +174,6 @@ completes_all {now = now} so_far = record {
   kept = so_far.kept;
 }
 
--- memory ran out
-pub completes_none : {whole rest L : List ℕ → Type 0} {first now next : Search} {T U E : Type 0}
-    {e : E} → Completes whole rest first now → Leads {T = T} {E = E} L now next (Err e)
-    → Leads {T = U} {E = E} whole first next (Err e)
-completes_none so_far led = record {
-  text = led.text ∙ so_far.text;
-  image = tt;
-  kept = omega (arith, so_far.kept, led.kept);
-}
-
 -- what is reached already, with what the rest reaches, is what the whole reaches
 pub record Covers (whole rest : List ℕ → Type 0) (first now : Search) (reached : List Bool) : Type 0
   where
@@ -224,20 +214,3 @@ covers_more so_far text from tests led both =
       );
       kept = omega (arith, so_far.kept, tests, led.kept);
     }
-
--- no branch is left
-pub covers_all : {whole : List ℕ → Type 0} {first now last : Search} {reached : List Bool} {T E :
-    Type 0} {x : T} → Covers whole (λ w. ⊥) first now reached
-    → last.ground.text.now ≡ now.ground.text.now → last.offsets.items ≡ reached
-    → last.tests ≡ now.tests → Leads {T = T} {E = E} whole first last (Ok x)
-covers_all so_far text is tests = record {
-  text = text ∙ so_far.text;
-  image = rw is (record {
-    same_length = so_far.long;
-    reached = λ offset. (
-      λ marked. (so_far.each offset).0 (inl marked),
-      λ r. elim ((so_far.each offset).1 r) [ inl marked ↦ marked | inr none ↦ absurd none.holds ],
-    );
-  });
-  kept = omega (arith, so_far.kept, tests);
-}

@@ -13,6 +13,7 @@ use Rattle.jp_iregexp.specs.Class.{class_holds}
 use Rattle.jp_iregexp.specs.Language.{Power}
 use Rattle.jp_match.specs.declared.sweep.Reach.{Reach}
 use Rattle.jp_match.specs.declared.sweep.Sweep.{Sweep}
+use Rattle.jp_match.specs.Private.ClassTests.{MakesAtMost}
 use Rattle.jp_match.specs.Private.Copies.{enters, IsEndMarked, IsNoneEnough, AreStepped}
 use Rattle.jp_match.specs.Private.Marks.{size, Rest, Ends, Steps}
 use Rattle.jp_match.specs.Private.OneClass.{IsOneClass}
@@ -27,7 +28,7 @@ use Rattle.jp_match.proofs.Steps.Sizes.{size_between, rounds_between, rounds_fre
 use Rattle.jp_match.proofs.Steps.StepParts.{IsSameBefore, ends_same, step_same, step_empty}
 use Rattle.jp_match.proofs.Steps.StepParts.{step_nothing, step_either, step_sequence}
 use Rattle.jp_match.proofs.Steps.Unrolled.{between_to, between_of}
-use Rattle.jp_match.proofs.Steps.Sweeping.{same_outside}
+use Rattle.jp_match.proofs.Steps.Sweeping.{same_outside, tests_up_to}
 
 -- the mark of one position tells whether its end is reached
 mark_ends : (a : Plain) (negated : Bool) (items : List ClassElement) (optional : Bool) (marks : List
@@ -295,21 +296,21 @@ copies_fit {a} least most one before =
 
 -- the sweep has written anew the marks of as many copies
 pub record Writes (now last : Sweep) (count : ℕ) (marks : List Bool) : Type 0 where
+  pub char : last.c ≡ now.c
   pub at : last.at ≡ now.at + count
   pub round : last.round ≡ now.round
   pub rounds : last.rounds.items ≡ now.rounds.items
-  pub counted : last.tests ≤ now.tests + 1
-  pub kept : now.tests ≤ last.tests
+  pub tests : MakesAtMost 1 now.tests last.tests
   pub marks_are : last.marks.items ≡ take now.at now.marks.items ++ (marks ++ drop count (drop now.at
       now.marks.items))
 
-pub moves_copies : {a : Plain} {negated : Bool} {items : List ClassElement} {optional : Bool} {c : ℕ}
+pub moves_copies : {a : Plain} {negated : Bool} {items : List ClassElement} {optional : Bool}
     (least most : ℕ) {e holds : Bool} {now last : Sweep} {marks : List Bool} {x : Reach} → 1 ≤ most
-    → IsOneClass a negated items optional → holds ≡ class_holds negated items c
+    → IsOneClass a negated items optional → holds ≡ class_holds negated items now.c
     → IsBefore (between a least most) now
     → AreStepped optional e holds least (take most (drop now.at now.marks.items)) marks x.before x.after x.after_entered → Writes now last most marks
-    → Moves (between a least most) c (at_start e) now last x
-moves_copies {a} {negated} {items} {optional} {c} least most {e} {holds} {now} {last} {marks} {x}
+    → Moves (between a least most) (at_start e) now last x
+moves_copies {a} {negated} {items} {optional} least most {e} {holds} {now} {last} {marks} {x}
     some one is before stepped over =
     let p = x.before in
     let f = x.after in
@@ -337,21 +338,21 @@ moves_copies {a} {negated} {items} {optional} {c} least most {e} {holds} {now} {
     IsSameBefore (size whole) marks (drop now.at zs)) (sym over.marks_are) (subst (λ n.
     IsSameBefore n marks (drop now.at (take now.at xs ++ (marks ++ back)))) (sym sized)
     (put_there now.at most xs marks back fit now_long)) in
-    let steps = steps_copies a negated items optional one c least most e holds old marks is
+    let steps = steps_copies a negated items optional one now.c least most e holds old marks is
     (λ k below. stepped.moved.each k (omega (arith, long))) in
     let ends_as : (zs : List Bool) (entered ended : Bool) → IsTrue ended ↔ (IsEndMarked optional
     least most zs ⊎ (IsTrue entered × IsNoneEnough optional least most))
     → Ends whole entered zs ended = λ zs. ends_marked a negated items optional one least most zs in
     record {
       over = record {
+        char = over.char;
         at = omega (arith, over.at, sized);
         round = omega (arith, over.round, still);
         marks = subst (λ zs. IsSameOutside now.at last.at xs zs) (sym over.marks_are) (subst (λ end.
             IsSameOutside now.at end xs (take now.at xs ++ (marks ++ back))) (sym over.at)
             (put_outside now.at most xs marks fit now_long));
         rounds = same_outside over.rounds;
-        counted = omega (arith, over.at, over.counted, some);
-        kept = over.kept;
+        tests = tests_up_to (omega (arith, sized, some)) over.tests;
       };
       step = step_same same there (record {
         left = steps.1.left;

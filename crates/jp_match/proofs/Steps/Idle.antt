@@ -2,10 +2,11 @@
 use Rattle.std.proofs.Common.{◌≡◌, ◌↔◌, inl, inr, ℕ, zero, suc, ◌+◌, ◌-◌, ◌<◌, Bool, true, false}
 use Rattle.std.proofs.Common.{List}
 use Rattle.std.proofs.Common.{[], length, drop, take, get_or, nat_eq, Option, Some, refl, sym, ap}
-use Rattle.std.proofs.Common.{◌∙◌, subst, arith}
+use Rattle.std.proofs.Common.{◌∙◌, not, subst, arith}
 use Rattle.std.specs.Bool.{IsTrue}
 use Rattle.std.proofs.Math.Dec.{eqb-suc-zero}
-use Rattle.std.proofs.lemmas.List.{get_or-drop, get_or-take}
+use Rattle.std.proofs.lemmas.Bool.{cases_lt}
+use Rattle.std.proofs.lemmas.List.{get_or-drop, get_or-take, get_or_past, length-take}
 use Rattle.jp_iregexp.specs.declared.class.ClassElement.{ClassElement}
 use Rattle.jp_iregexp.specs.Tree.{Tree, class as class_tree, repeat}
 use Rattle.jp_match.specs.declared.sweep.Reach.{Reach}
@@ -15,12 +16,12 @@ use Rattle.jp_match.specs.Private.Plain.{Plain, class, between, unrolled, counte
 use Rattle.jp_match.specs.Private.Marks.{size, Ends}
 use Rattle.jp_match.specs.Private.Sweeps.{rounds_of, Rounds, takes_none, IsBefore}
 use Rattle.jp_match.specs.Private.Sweeps.{IsIdle, IsUnmarked, Moves, at_start, nowhere}
-use Rattle.jp_match.proofs.Bools.{not_false}
+use Rattle.jp_match.proofs.Bools.{not_both}
 use Rattle.jp_match.proofs.Steps.Kept.{takes_none_is, ends_are_entered, ends_fresh}
 use Rattle.jp_match.proofs.Steps.Sizes.{size_between, rounds_between}
 use Rattle.jp_match.proofs.Steps.StepParts.{IsSameBefore, rest_none, step_nowhere, step_same}
 use Rattle.jp_match.proofs.Steps.StepParts.{ends_same}
-use Rattle.jp_match.proofs.Steps.Sweeping.{moves_nowhere, same_outside}
+use Rattle.jp_match.proofs.Steps.Sweeping.{moves_nowhere, no_tests, same_outside}
 
 not_true : (b : Bool) → (IsTrue b → ⊥) → false ≡ b
 not_true true never = absurd (never refl)
@@ -63,21 +64,21 @@ past now positions repeats = record now { at = now.at + positions; round = now.r
 abbrev pub by_none : Bool → Reach
 by_none takes = record { before = false; after = false; after_entered = takes }
 
-pub moves_unmarked : {a : Plain} {c positions repeats : ℕ} {takes : Bool} {now : Sweep}
+pub moves_unmarked : {a : Plain} {positions repeats : ℕ} {takes : Bool} {now : Sweep}
     → size a ≡ positions → rounds_of a ≡ repeats → takes_none a ≡ takes
     → IsUnmarked now positions → Rounds a (drop now.at now.marks.items) (drop now.round
-    now.rounds.items) → Moves a c (at_start false) now (past now positions repeats) (by_none takes)
-moves_unmarked {a} {c} {now = now} sized counted takes none so =
+    now.rounds.items) → Moves a (at_start false) now (past now positions repeats) (by_none takes)
+moves_unmarked {a} {now = now} sized counted takes none so =
     let same = unmarked (size a) now (λ k below. none k (omega (arith, below, sized))) in
-    let step = step_same same same (step_nowhere a c [] no_mark) in
+    let step = step_same same same (step_nowhere a now.c [] no_mark) in
     record {
       over = record {
+        char = refl;
         at = omega (arith, sized);
         round = omega (arith, counted);
         marks = same_outside refl;
         rounds = same_outside refl;
-        counted = omega arith;
-        kept = omega arith;
+        tests = no_tests;
       };
       step = step;
       ends = step.ends;
@@ -85,18 +86,18 @@ moves_unmarked {a} {c} {now = now} sized counted takes none so =
       so = so;
     }
 
-pub moves_idle_part : {a : Plain} {c positions : ℕ} {e : Bool} {now : Sweep}
+pub moves_idle_part : {a : Plain} {positions : ℕ} {e : Bool} {now : Sweep}
     → IsIdle a now positions e → Rounds a (drop now.at now.marks.items) (drop now.round
-    now.rounds.items) → Moves a c (at_start false) now (record now { at = now.at + positions })
+    now.rounds.items) → Moves a (at_start false) now (record now { at = now.at + positions })
     (by_none e)
-moves_idle_part {a} {c} {positions} {e} {now} idle so =
+moves_idle_part {a} {positions} {e} {now} idle so =
     let round : now.round + 0 ≡ now.round = omega arith in
-    subst (λ r. Moves a c (at_start false) now (record now { at = now.at + positions; round = r })
+    subst (λ r. Moves a (at_start false) now (record now { at = now.at + positions; round = r })
     (by_none e)) round (moves_unmarked idle.sized idle.no_rounds idle.takes idle.no_mark so)
 
-pub moves_idle_next : {a : Plain} {c positions : ℕ} {e : Reach} {now : Sweep} → e.before ≡ false
+pub moves_idle_next : {a : Plain} {positions : ℕ} {e : Reach} {now : Sweep} → e.before ≡ false
     → IsIdle a now positions false → Rounds a (drop now.at now.marks.items) (drop now.round
-    now.rounds.items) → Moves a c e now (record now { at = now.at + positions }) nowhere
+    now.rounds.items) → Moves a e now (record now { at = now.at + positions }) nowhere
 moves_idle_next is idle so = moves_nowhere is (moves_idle_part idle so)
 
 -- copies of a class have the empty word where there may be none
@@ -148,13 +149,21 @@ unfolding unrolled
 class_within t negated items sweep is before =
     let all : IsBefore (class negated items) sweep = rw is at before in omega (arith, all.marks)
 
-pub unmarked_slice : (at n : ℕ) (marks : List Bool) (any : Bool) → any ≡ false
+pub unmarked_slice : (at n : ℕ) (marks : List Bool) (any : Bool)
     → (IsTrue any ↔ ((k : ℕ) × IsTrue (get_or (take (at + n - at) (drop at marks)) k false)))
-    → (k : ℕ) → k < n → IsTrue (get_or marks (at + k) false) → ⊥
-unmarked_slice at n marks any none is k below h =
-    let within : k < at + n - at = omega (arith, below) in
-    not_false any none (is.1 (
-      k,
-      get_or-take (at + n - at) (drop at marks) k false within ∙
-          get_or-drop at marks k false ∙ h,
-    ))
+    → IsTrue (not any) ↔ ((k : ℕ) → k < n → IsTrue (get_or marks (at + k) false) → ⊥)
+unmarked_slice at n marks any is = (
+  λ none k below h. not_both any none (is.1 (k, there k (omega (arith, below)) ∙ h)),
+  λ none. ap not (sym (not_true any (λ h. let (k, marked) = is.0 h in
+      elim (cases_lt k n) [
+        | inl below ↦ none k below (sym (there k (omega (arith, below))) ∙ marked)
+        | inr over ↦
+            let long = length-take (at + n - at) (drop at marks) in
+            let past = get_or_past (take (at + n - at) (drop at marks)) k false (omega arith) in
+            absurd (let e = past in cc)
+      ]))),
+) where
+  there : (k : ℕ) → k < at + n - at
+      → get_or (take (at + n - at) (drop at marks)) k false ≡ get_or marks (at + k) false
+  there k within = get_or-take (at + n - at) (drop at marks) k false within ∙
+      get_or-drop at marks k false

@@ -30,14 +30,14 @@ before_second h = record {
 }
 
 -- a counted repeat may end here once there are enough copies, and else goes on
-swept_here : {whole a : Plain} {c : ℕ} {begin : Bool} (enough : Bool) (least most : ℕ) {through
+swept_here : {whole a : Plain} {begin : Bool} (enough : Bool) (least most : ℕ) {through
     ended : Reach} {first now : Sweep} → IsTrue enough ↔ (least ≡ 0)
-    → Swept whole (between a least (suc most)) c begin through first now ended
-    → Swept whole (sequence a (between a (least - 1) most)) c begin through first now
+    → Swept whole (between a least (suc most)) begin through first now ended
+    → Swept whole (sequence a (between a (least - 1) most)) begin through first now
     (by_either ended (only_if enough through))
 unfolding between
-swept_here {whole} {a} {c} {begin} true zero most {through} {ended} {first} {now} is so_far =
-    let here : Swept whole (either empty (sequence a (between a zero most))) c begin through first
+swept_here {whole} {a} {begin} true zero most {through} {ended} {first} {now} is so_far =
+    let here : Swept whole (either empty (sequence a (between a zero most))) begin through first
     now ended = so_far in
     record {
       before = before_second here.before;
@@ -45,42 +45,42 @@ swept_here {whole} {a} {c} {begin} true zero most {through} {ended} {first} {now
     }
 swept_here false zero most is so_far = absurd (let h = is.1 refl in cc)
 swept_here true (suc least) most is so_far = absurd (let h = is.0 refl in omega arith)
-swept_here {whole} {a} {c} {begin} false (suc least) most {through} {ended} {first} {now} is
+swept_here {whole} {a} {begin} false (suc least) most {through} {ended} {first} {now} is
     so_far =
     let one : suc least - 1 ≡ least = omega arith in
     rw (one, either_nowhere ended) so_far
 
 -- before the first copy
-pub swept_begin : (a : Plain) {c : ℕ} {e : Bool} (least most : ℕ) {sweep : Sweep}
+pub swept_begin : (a : Plain) {e : Bool} (least most : ℕ) {sweep : Sweep}
     → IsBefore (between a least most) sweep → Swept (between a least most)
-    (between a (least - 0) (most - 0)) c e (at_start e) sweep sweep nowhere
+    (between a (least - 0) (most - 0)) e (at_start e) sweep sweep nowhere
 swept_begin a least most before =
     let all : least - 0 ≡ least = omega arith in
     let every : most - 0 ≡ most = omega arith in
     rw (all, every) (swept_none before)
 
 -- one copy more of a counted repeat
-pub swept_copy : {whole a : Plain} {c : ℕ} {begin : Bool} (enough : Bool) (least most done : ℕ)
+pub swept_copy : {whole a : Plain} {begin : Bool} (enough : Bool) (least most done : ℕ)
     {through x ended : Reach} {first now next : Sweep} → done < most → IsTrue enough ↔ (least ≤ done)
-    → Swept whole (between a (least - done) (most - done)) c begin through first now ended
-    → Moves a c (at_start through.before) now next x
-    → Swept whole (between a (least - (done + 1)) (most - (done + 1))) c begin (by_next through x)
+    → Swept whole (between a (least - done) (most - done)) begin through first now ended
+    → Moves a (at_start through.before) now next x
+    → Swept whole (between a (least - (done + 1)) (most - (done + 1))) begin (by_next through x)
     first next (by_either ended (only_if enough through))
-swept_copy {whole} {a} {c} {begin} enough least most done {through} {x} {ended} {first} {now} more
+swept_copy {whole} {a} {begin} enough least most done {through} {x} {ended} {first} {now} more
     is so_far moved =
     let left : most - done ≡ suc (most - (done + 1)) = omega arith in
     let fewer : least - done - 1 ≡ least - (done + 1) = omega arith in
     let here = swept_here enough (least - done) (most - (done + 1)) (
       λ h. let within = is.0 h in omega arith,
       λ z. is.1 (omega arith),
-    ) (subst (λ m. Swept whole (between a (least - done) m) c begin through first now ended) left
+    ) (subst (λ m. Swept whole (between a (least - done) m) begin through first now ended) left
     so_far) in
-    swept_piece (subst (λ l. Swept whole (sequence a (between a l (most - (done + 1)))) c begin
+    swept_piece (subst (λ l. Swept whole (sequence a (between a l (most - (done + 1)))) begin
     through first now (by_either ended (only_if enough through))) fewer here) moved
 
-moves_last : (a : Plain) {c : ℕ} (enough : Bool) (least : ℕ) {through : Reach} {sweep : Sweep}
+moves_last : (a : Plain) (enough : Bool) (least : ℕ) {through : Reach} {sweep : Sweep}
     → IsTrue enough ↔ (least ≡ 0)
-    → Moves (between a least 0) c through sweep sweep (only_if enough through)
+    → Moves (between a least 0) through sweep sweep (only_if enough through)
 unfolding between
 moves_last a true zero is = moves_empty
 moves_last a false zero is = absurd (let h = is.1 refl in cc)
@@ -88,26 +88,26 @@ moves_last a true (suc least) is = absurd (let h = is.0 refl in omega arith)
 moves_last a false (suc least) is = moves_nothing
 
 -- after the last copy it may end, if it may take so many
-pub swept_copies : {whole : Plain} (a : Plain) {c : ℕ} {begin : Bool} (enough : Bool) (least most done : ℕ)
+pub swept_copies : {whole : Plain} (a : Plain) {begin : Bool} (enough : Bool) (least most done : ℕ)
     {through ended : Reach} {first now : Sweep} → most ≤ done → done ≤ most
     → IsTrue enough ↔ (least ≤ most)
-    → Swept whole (between a (least - done) (most - done)) c begin through first now ended
-    → Moves whole c (at_start begin) first now (by_either ended (only_if enough through))
-swept_copies {whole} a {c} {begin} enough least most done {through} {ended} {first} {now} all
+    → Swept whole (between a (least - done) (most - done)) begin through first now ended
+    → Moves whole (at_start begin) first now (by_either ended (only_if enough through))
+swept_copies {whole} a {begin} enough least most done {through} {ended} {first} {now} all
     within is so_far =
     let none : most - done ≡ 0 = omega arith in
-    (subst (λ m. Swept whole (between a (least - done) m) c begin through first now ended) none
+    (subst (λ m. Swept whole (between a (least - done) m) begin through first now ended) none
     so_far).completes now (only_if enough through) (moves_last a enough (least - done) (
       λ h. let few = is.0 h in omega arith,
       λ z. is.1 (omega arith),
     ))
 
 -- without positions nothing moves, and the end is reached by the empty word alone
-moves_without : {a : Plain} {c : ℕ} (through end : Reach) {sweep : Sweep} → size a ≡ 0
+moves_without : {a : Plain} (through end : Reach) {sweep : Sweep} → size a ≡ 0
     → ((marks : List Bool) → Ends a through.before marks end.before)
     → ((marks : List Bool) → Ends a through.after marks end.after)
     → ((marks : List Bool) → Ends a through.after_entered marks end.after_entered)
-    → Moves a c through sweep sweep end
+    → Moves a through sweep sweep end
 moves_without {a} through end {sweep} none before after too =
     let marks = drop sweep.at sweep.marks.items in
     let still = rounds_without a none in
@@ -147,8 +147,8 @@ ends_as none also is ends =
       λ w. word.1 (w.0, is.1 w.1),
     )
 
-moves_as : {a b : Plain} {c : ℕ} {e x : Reach} {first last : Sweep} → size a ≡ 0 → size b ≡ 0
-    → Words a [] ↔ Words b [] → Moves a c e first last x → Moves b c e first last x
+moves_as : {a b : Plain} {e x : Reach} {first last : Sweep} → size a ≡ 0 → size b ≡ 0
+    → Words a [] ↔ Words b [] → Moves a e first last x → Moves b e first last x
 moves_as {a} {b} {first} {last} none also is h =
     let still = rounds_without b also in
     record {
@@ -160,32 +160,31 @@ moves_as {a} {b} {first} {last} none also is h =
     }
 
 -- one copy more of a repeat without a most, and others after it
-pub swept_goes_on : {whole a : Plain} {c : ℕ} {begin : Bool} (least done : ℕ) {through x ended :
-    Reach} {first now next : Sweep} → done < least
-    → Swept whole (at_least a (suc (least - done))) c begin through first now ended
-    → Moves a c (at_start through.before) now next x
-    → Swept whole (at_least a (suc (least - (done + 1)))) c begin (by_next through x) first next
-    ended
+pub swept_goes_on : {whole a : Plain} {begin : Bool} (least done : ℕ) {through x ended : Reach}
+    {first now next : Sweep} → done < least
+    → Swept whole (at_least a (suc (least - done))) begin through first now ended
+    → Moves a (at_start through.before) now next x
+    → Swept whole (at_least a (suc (least - (done + 1)))) begin (by_next through x) first next ended
 unfolding at_least
-swept_goes_on {whole} {a} {c} {begin} least done {through} {ended = ended} {first} {now} more
+swept_goes_on {whole} {a} {begin} least done {through} {ended = ended} {first} {now} more
     so_far moved =
     let left : least - done ≡ suc (least - (done + 1)) = omega arith in
-    let here : Swept whole (sequence a (at_least a (suc (least - (done + 1))))) c begin through
-    first now ended = subst (λ m. Swept whole (at_least a (suc m)) c begin through first now ended)
+    let here : Swept whole (sequence a (at_least a (suc (least - (done + 1))))) begin through
+    first now ended = subst (λ m. Swept whole (at_least a (suc m)) begin through first now ended)
     left so_far in
     swept_piece here moved
 
 -- the last copy goes on
-pub swept_plus : {whole a : Plain} {c : ℕ} {begin : Bool} (least done : ℕ) {through x : Reach}
+pub swept_plus : {whole a : Plain} {begin : Bool} (least done : ℕ) {through x : Reach}
     {first now last : Sweep} → least ≤ done
-    → Swept whole (at_least a (suc (least - done))) c begin through first now nowhere
-    → Moves (plus a) c (at_start through.before) now last x
-    → Moves whole c (at_start begin) first last (by_next through x)
+    → Swept whole (at_least a (suc (least - done))) begin through first now nowhere
+    → Moves (plus a) (at_start through.before) now last x
+    → Moves whole (at_start begin) first last (by_next through x)
 unfolding at_least
-swept_plus {whole} {a} {c} {begin} least done {through} {x} {first} {now} {last} all so_far moved =
+swept_plus {whole} {a} {begin} least done {through} {x} {first} {now} {last} all so_far moved =
     let none : least - done ≡ 0 = omega arith in
-    let here : Swept whole (plus a) c begin through first now nowhere = subst (λ m. Swept whole
-    (at_least a (suc m)) c begin through first now nowhere) none so_far in
+    let here : Swept whole (plus a) begin through first now nowhere = subst (λ m. Swept whole
+    (at_least a (suc m)) begin through first now nowhere) none so_far in
     here.completes last (by_next through x) (moves_entered {e = through} moved)
 
 pub plus_nil : (a : Plain) → Words (plus a) [] ↔ Words a []
@@ -236,18 +235,18 @@ unfolding at_least
 before_star h = before_second h
 
 -- a repeat that may also be left out
-pub moves_star : {a : Plain} {c : ℕ} {e x : Reach} {first last : Sweep}
-    → Moves (plus a) c e first last x → Moves (at_least a 0) c e first last (by_either e x)
+pub moves_star : {a : Plain} {e x : Reach} {first last : Sweep}
+    → Moves (plus a) e first last x → Moves (at_least a 0) e first last (by_either e x)
 unfolding at_least
 moves_star h = moves_either moves_empty h
 
 -- a copy that moved nothing is all that there is to sweep
-pub swept_still : {whole a : Plain} {c : ℕ} {begin : Bool} (enough within : Bool) (least most done :
+pub swept_still : {whole a : Plain} {begin : Bool} (enough within : Bool) (least most done :
     ℕ) {through x ended : Reach} {first now next : Sweep} → done < most
     → IsTrue enough ↔ (least ≤ done) → IsTrue within ↔ (least ≤ most) → next.at ≡ now.at
-    → Swept whole (between a (least - done) (most - done)) c begin through first now ended
-    → Moves a c (at_start through.before) now next x
-    → Moves whole c (at_start begin) first next
+    → Swept whole (between a (least - done) (most - done)) begin through first now ended
+    → Moves a (at_start through.before) now next x
+    → Moves whole (at_start begin) first next
     (by_either (by_either ended (only_if enough through)) (only_if within (by_next through x)))
 swept_still {a} enough within least most done {through} {x} {next = next} more is may still so_far
     moved =
@@ -270,12 +269,11 @@ swept_still {a} enough within least most done {through} {x} {next = next} more i
     (λ marks. ends_copies a end.after_entered within l m none few (λ h. ((without_ends none
     here.ends_too).0 h).1)))
 
-pub swept_still_plus : {whole a : Plain} {c : ℕ} {begin : Bool} (least done : ℕ) {through x x' :
-    Reach} {first now next last : Sweep} → done < least → next.at ≡ now.at
-    → Swept whole (at_least a (suc (least - done))) c begin through first now nowhere
-    → Moves a c (at_start through.before) now next x
-    → Moves (plus a) c (at_start x.before) next last x'
-    → Moves whole c (at_start begin) first last (by_next (by_next through x) x')
+pub swept_still_plus : {whole a : Plain} {begin : Bool} (least done : ℕ) {through x x' : Reach}
+    {first now next last : Sweep} → done < least → next.at ≡ now.at
+    → Swept whole (at_least a (suc (least - done))) begin through first now nowhere
+    → Moves a (at_start through.before) now next x → Moves (plus a) (at_start x.before) next last x'
+    → Moves whole (at_start begin) first last (by_next (by_next through x) x')
 swept_still_plus {a} least done {through} {x} {x'} {last = last} more still so_far moved again =
     let none : size a ≡ 0 = omega (arith, moved.at, still) in
     let n = least - (done + 1) in
@@ -290,10 +288,10 @@ swept_still_plus {a} least done {through} {x} {x'} {last = last} more still so_f
     ) (moves_entered {e = by_next through x} again))
 
 -- without positions a sweep stands before any number of copies
-pub before_still : {whole a : Plain} {c : ℕ} {begin : Bool} (least done : ℕ) {through x ended : Reach}
+pub before_still : {whole a : Plain} {begin : Bool} (least done : ℕ) {through x ended : Reach}
     {first now next : Sweep} → done < least → next.at ≡ now.at
-    → Swept whole (at_least a (suc (least - done))) c begin through first now ended
-    → Moves a c (at_start through.before) now next x → IsBefore (plus a) next
+    → Swept whole (at_least a (suc (least - done))) begin through first now ended
+    → Moves a (at_start through.before) now next x → IsBefore (plus a) next
 before_still {a} least done {next = next} more still so_far moved =
     let none : size a ≡ 0 = omega (arith, moved.at, still) in
     let own = own_few a in

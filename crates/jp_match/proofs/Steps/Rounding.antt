@@ -7,7 +7,6 @@ use Rattle.std.specs.Bool.{IsTrue}
 use Rattle.std.proofs.lemmas.Bool.{cases_lt}
 use Rattle.std.proofs.lemmas.List.{get_or-drop, length-set, get_or-set_other, get_or-set_same}
 use Rattle.jp_iregexp.specs.declared.class.ClassElement.{ClassElement}
-use Rattle.jp_iregexp.specs.Class.{class_holds}
 use Rattle.jp_match.specs.declared.sweep.Reach.{Reach}
 use Rattle.jp_match.specs.declared.sweep.Sweep.{Sweep}
 use Rattle.jp_match.specs.Private.Plain.{Plain, class, plus}
@@ -15,13 +14,13 @@ use Rattle.jp_match.specs.Private.Marks.{size, Rest, Ends}
 use Rattle.jp_match.specs.Private.Sweeps.{own_rounds, rounds_of, IsBefore, IsSameOutside}
 use Rattle.jp_match.specs.Private.Sweeps.{Moves, at_start}
 use Rattle.jp_match.proofs.Bools.{or_is, and_is}
-use Rattle.jp_match.proofs.Steps.EndParts.{ends_class, ends_plus}
+use Rattle.jp_match.proofs.Steps.EndParts.{ends_plus}
 use Rattle.jp_match.proofs.Steps.Repeating.{plus_nil}
 use Rattle.jp_match.proofs.Steps.Sizes.{own_few, rounds_without, rounds_free}
-use Rattle.jp_match.proofs.Steps.StepParts.{IsSameBefore, same_back, step_class, step_same}
-use Rattle.jp_match.proofs.Steps.StepParts.{ends_same, step_plus}
+use Rattle.jp_match.proofs.Steps.StepParts.{IsSameBefore, same_back}
+use Rattle.jp_match.proofs.Steps.StepParts.{step_plus}
 use Rattle.jp_match.proofs.Steps.StepParts.{ends_without, without_ends, step_without}
-use Rattle.jp_match.proofs.Steps.Sweeping.{rounds_same, same_itself, same_outside, same_there}
+use Rattle.jp_match.proofs.Steps.Sweeping.{rounds_same, same_itself, same_there}
 
 pub first_same : (n at : ℕ) (b : Bool) (xs : List Bool) → n ≡ 1 → b ≡ get_or xs at false
     → IsSameBefore n (b ∷ []) (drop at xs)
@@ -33,62 +32,11 @@ first_same n at b xs one is = record {
       (is ∙ ap (λ i. get_or xs i false) offset ∙ sym (get_or-drop at xs 0 false));
 }
 
-pub set_outside : (at : ℕ) (b : Bool) (xs : List Bool)
-    → IsSameOutside at (at + 1) xs (set xs at b)
-set_outside at b xs = record {
-  same_length = length-set xs at b;
-  below = λ k under. let ne : k ≢ at = omega arith in rw get_or-set_other refl;
-  above = λ k over. let ne : k ≢ at = omega arith in rw get_or-set_other refl;
-}
-
--- the sweep has gone over one position, by one class test at most
-pub record WalkedOne (now last : Sweep) (next : Bool) : Type 0 where
-  pub within : now.at < length now.marks.items
-  pub at : last.at ≡ now.at + 1
-  pub round : last.round ≡ now.round
-  pub marks : last.marks.items ≡ set now.marks.items now.at next
-  pub rounds : last.rounds.items ≡ now.rounds.items
-  pub counted : last.tests ≤ now.tests + 1
-  pub kept : now.tests ≤ last.tests
-
-pub moves_class : {negated : Bool} {items : List ClassElement} {c : ℕ} {e : Bool} {now last : Sweep}
-    {marked next : Bool} → marked ≡ get_or now.marks.items now.at false
-    → next ≡ (e && class_holds negated items c) → WalkedOne now last next
-    → Moves (class negated items) c (at_start e) now last (record {
-      before = marked;
-      after = next;
-      after_entered = next;
-    })
-moves_class {negated} {items} {c} {e} {now} {last} {marked} {next} was is moved =
-    let a = class negated items in
-    let xs = now.marks.items in
-    let written : next ≡ get_or last.marks.items now.at false = sym (ap (λ ys. get_or ys now.at
-    false) moved.marks ∙ get_or-set_same xs now.at next false moved.within) in
-    let before : IsSameBefore (size a) (marked ∷ []) (drop now.at xs) = first_same 1 now.at marked
-    xs refl was in
-    let after : IsSameBefore (size a) (next ∷ []) (drop now.at last.marks.items) = first_same 1
-    now.at next last.marks.items refl written in
-    let new : Ends a false (drop now.at last.marks.items) next = ends_same after ends_class in
-    record {
-      over = record {
-        at = moved.at;
-        round = omega (arith, moved.round);
-        marks = rw (moved.at, moved.marks) (set_outside now.at next xs);
-        rounds = same_outside moved.rounds;
-        counted = omega (arith, moved.at, moved.counted);
-        kept = moved.kept;
-      };
-      step = step_same before after (step_class is);
-      ends = new;
-      ends_too = ends_same after ends_class;
-      so = tt;
-    }
-
 -- a class that is repeated needs no round: its mark tells whether one has ended
-pub moves_class_plus : {negated : Bool} {items : List ClassElement} {c : ℕ} {e again : Bool} {now last
+pub moves_class_plus : {negated : Bool} {items : List ClassElement} {e again : Bool} {now last
     : Sweep} {x : Reach} → again ≡ (e || get_or now.marks.items now.at false)
-    → Moves (class negated items) c (at_start again) now last x
-    → Moves (plus (class negated items)) c (at_start e) now last x
+    → Moves (class negated items) (at_start again) now last x
+    → Moves (plus (class negated items)) (at_start e) now last x
 moves_class_plus {e} {now} is h =
     let offset : now.at + 0 ≡ now.at = omega arith in
     let first = get_or-drop now.at now.marks.items 0 false ∙
@@ -149,12 +97,12 @@ ends_rest ends = (
 )
 
 -- and comes out of it: what has become of the round is kept
-pub moves_rounds : {a : Plain} {c : ℕ} {e again : Bool} {now moved : Sweep} {round : ℕ} {rounds : Vec
+pub moves_rounds : {a : Plain} {e again : Bool} {now moved : Sweep} {round : ℕ} {rounds : Vec
     Bool Global} {x : Reach} → own_rounds a ≡ 1 → 1 ≤ size a → IsBefore (plus a) now
     → round ≡ now.round + 1 → again ≡ (e || get_or now.rounds.items now.round false)
-    → Moves a c (at_start again) (inside now round) moved x
+    → Moves a (at_start again) (inside now round) moved x
     → rounds.items ≡ set moved.rounds.items now.round x.after
-    → Moves (plus a) c (at_start e) now (record moved { rounds = rounds }) x
+    → Moves (plus a) (at_start e) now (record moved { rounds = rounds }) x
 moves_rounds {a} {e = e} {again = again} {now} {moved} {round} {rounds} {x} one some is next begins h
     out =
     let f = x.after in
@@ -180,6 +128,7 @@ moves_rounds {a} {e = e} {again = again} {now} {moved} {round} {rounds} {x} one 
     rounds.items (omega (arith, next, one)) (λ k over. sym (others k (omega (arith, next)))) in
     record {
       over = record {
+        char = h.char;
         at = h.at;
         round = omega (arith, h.round, next, one);
         marks = h.marks;
@@ -189,8 +138,7 @@ moves_rounds {a} {e = e} {again = again} {now} {moved} {round} {rounds} {x} one 
           below = λ k under. others k (omega arith) ∙ h.rounds.below k (omega (arith, next));
           above = λ k over. others k (omega (arith, h.round, next)) ∙ h.rounds.above k over;
         };
-        counted = h.counted;
-        kept = h.kept;
+        tests = h.tests;
       };
       step = step_plus (may_begin a e again (get_or now.rounds.items now.round false) (drop now.at
           now.marks.items) begins so) h.step;
@@ -217,11 +165,11 @@ outside_nothing n m xs ys h = record {
   ]
 
 -- a repeat without positions: a round of it is there only where it is entered
-pub moves_idle : {a : Plain} {c : ℕ} {e again : Bool} (bit : Bool) {now moved : Sweep} {round : ℕ}
-    {x : Reach} → size a ≡ 0 → again ≡ (e || bit)
-    → Moves a c (at_start again) (inside now round) moved x
-    → Moves (plus a) c (at_start e) now (record moved { round = now.round }) (record {
-      before = x.before && e;
+pub moves_idle : {a : Plain} {e again : Bool} (bit : Bool) {now moved : Sweep} {round : ℕ} {x :
+    Reach} → size a ≡ 0 → again ≡ (e || bit) → Moves a (at_start again) (inside now round) moved x
+    → Moves (plus a) (at_start e) now (record moved { round = now.round }) (record {
+      before =
+          x.before && e;
       after = x.after;
       after_entered = x.after_entered;
     })
@@ -233,13 +181,13 @@ moves_idle {a} {e = e} bit {now} {moved} {round} {x} none begins h =
     let no_round : moved.round ≡ round = omega (arith, h.round, still) in
     record {
       over = record {
+        char = h.char;
         at = h.at;
         round = omega (arith, still, own, none);
         marks = h.marks;
         rounds = outside_nothing round now.round now.rounds.items moved.rounds.items (subst (λ end.
             IsSameOutside round end now.rounds.items moved.rounds.items) no_round h.rounds);
-        counted = h.counted;
-        kept = h.kept;
+        tests = h.tests;
       };
       step = step_without none (ends_without none (
         λ i. let q = (and_is x.before e).0 i in (q.1, nil.1 ((word.0 q.0).1)),

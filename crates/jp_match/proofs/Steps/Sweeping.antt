@@ -6,6 +6,7 @@ use Rattle.std.proofs.lemmas.List.{get_or-drop}
 use Rattle.jp_iregexp.specs.Tree.{Tree, branches, pieces}
 use Rattle.jp_match.specs.declared.sweep.Reach.{Reach}
 use Rattle.jp_match.specs.declared.sweep.Sweep.{Sweep}
+use Rattle.jp_match.specs.Private.ClassTests.{MakesAtMost}
 use Rattle.jp_match.specs.Private.Plain.{Plain, class, nothing, either, empty, sequence}
 use Rattle.jp_match.specs.Private.Plain.{plus, unrolled}
 use Rattle.jp_match.specs.Private.Marks.{size, Ends}
@@ -77,25 +78,40 @@ same_there first n at m xs ys is same = record {
       sym (get_or-drop n (drop first ys) k false);
 }
 
-over_then : {m n k l : ℕ} {first next last : Sweep} → GoesOver m n first next
-    → GoesOver k l next last → GoesOver (m + k) (n + l) first last
-over_then h k = record {
-  at = omega (arith, h.at, k.at);
-  round = omega (arith, h.round, k.round);
-  marks = outside_then (omega (arith, h.at)) (omega (arith, k.at)) h.marks k.marks;
-  rounds = outside_then (omega (arith, h.round)) (omega (arith, k.round)) h.rounds k.rounds;
+-- class tests that are made one after another add up
+pub no_tests : {most now : ℕ} → MakesAtMost most now now
+no_tests = record { counted = omega arith; kept = omega arith }
+
+pub tests_then : {m n first next last : ℕ} → MakesAtMost m first next → MakesAtMost n next last
+    → MakesAtMost (m + n) first last
+tests_then h k = record {
   counted = omega (arith, h.counted, k.counted);
   kept = omega (arith, h.kept, k.kept);
 }
 
+pub tests_up_to : {m n first last : ℕ} → m ≤ n → MakesAtMost m first last
+    → MakesAtMost n first last
+tests_up_to few h = record { counted = omega (arith, few, h.counted); kept = h.kept }
+
+over_then : {m n k l : ℕ} {first next last : Sweep} → GoesOver m n first next
+    → GoesOver k l next last → GoesOver (m + k) (n + l) first last
+over_then h k = record {
+  char = k.char ∙ h.char;
+  at = omega (arith, h.at, k.at);
+  round = omega (arith, h.round, k.round);
+  marks = outside_then (omega (arith, h.at)) (omega (arith, k.at)) h.marks k.marks;
+  rounds = outside_then (omega (arith, h.round)) (omega (arith, k.round)) h.rounds k.rounds;
+  tests = tests_then h.tests k.tests;
+}
+
 pub over_none : {sweep : Sweep} → GoesOver 0 0 sweep sweep
 over_none = record {
+  char = refl;
   at = omega arith;
   round = omega arith;
   marks = same_outside refl;
   rounds = same_outside refl;
-  counted = omega arith;
-  kept = omega arith;
+  tests = no_tests;
 }
 
 -- a part and then another one beside it
@@ -109,8 +125,8 @@ record Beside (a b : Plain) (first next last : Sweep) : Type 0 where
       Rounds b (drop (size a) (drop first.at last.marks.items))
       (drop (rounds_of a) (drop first.round last.rounds.items))
 
-beside : {a b : Plain} {c : ℕ} {e e' x x' : Reach} {first next last : Sweep}
-    → Moves a c e first next x → Moves b c e' next last x' → Beside a b first next last
+beside : {a b : Plain} {e e' x x' : Reach} {first next last : Sweep}
+    → Moves a e first next x → Moves b e' next last x' → Beside a b first next last
 beside {a} {b} {first} {next} {last} h k =
     let here = same_here first.at (size a) h.at k.marks in
     let after = same_there first.at (size a) next.at (size b) last.marks.items last.marks.items h.at
@@ -130,32 +146,33 @@ beside {a} {b} {first} {next} {last} h k =
 pub same_itself : {n : ℕ} {marks : List Bool} → IsSameBefore n marks marks
 same_itself = record { each = λ k below. refl }
 
-pub moves_sequence : {a b : Plain} {c : ℕ} {e x y : Reach} {first next last : Sweep}
-    → Moves a c e first next x → Moves b c x next last y → Moves (sequence a b) c e first last y
+pub moves_sequence : {a b : Plain} {e x y : Reach} {first next last : Sweep}
+    → Moves a e first next x → Moves b x next last y → Moves (sequence a b) e first last y
 moves_sequence h k =
     let s = beside h k in
     record {
       over = over_then h.over k.over;
-      step = step_sequence (step_same same_itself s.here h.step) (step_same s.before s.after k.step);
+      step = step_sequence (step_same same_itself s.here h.step) (step_same s.before s.after (rw h.char
+          at k.step));
       ends = ends_sequence (ends_same s.here h.ends) (ends_same s.after k.ends);
       ends_too = ends_sequence (ends_same s.here h.ends_too) (ends_same s.after k.ends_too);
       so = s.so;
     }
 
-pub moves_either : {a b : Plain} {c : ℕ} {e x y : Reach} {first next last : Sweep}
-    → Moves a c e first next x → Moves b c e next last y
-    → Moves (either a b) c e first last (by_either x y)
+pub moves_either : {a b : Plain} {e x y : Reach} {first next last : Sweep} → Moves a e first next x
+    → Moves b e next last y → Moves (either a b) e first last (by_either x y)
 moves_either h k =
     let s = beside h k in
     record {
       over = over_then h.over k.over;
-      step = step_either (step_same same_itself s.here h.step) (step_same s.before s.after k.step);
+      step = step_either (step_same same_itself s.here h.step) (step_same s.before s.after (rw h.char at
+          k.step));
       ends = ends_either (ends_same s.here h.ends) (ends_same s.after k.ends);
       ends_too = ends_either (ends_same s.here h.ends_too) (ends_same s.after k.ends_too);
       so = s.so;
     }
 
-pub moves_empty : {c : ℕ} {e : Reach} {sweep : Sweep} → Moves empty c e sweep sweep e
+pub moves_empty : {e : Reach} {sweep : Sweep} → Moves empty e sweep sweep e
 moves_empty = record {
   over = over_none;
   step = step_empty;
@@ -164,7 +181,7 @@ moves_empty = record {
   so = tt;
 }
 
-pub moves_nothing : {c : ℕ} {e : Reach} {sweep : Sweep} → Moves nothing c e sweep sweep nowhere
+pub moves_nothing : {e : Reach} {sweep : Sweep} → Moves nothing e sweep sweep nowhere
 moves_nothing = record {
   over = over_none;
   step = step_nothing;
@@ -187,8 +204,8 @@ ends_reached true {f} {t} off on = record {
 }
 ends_reached {a} false {marks} {f} off on = subst (Ends a false marks) (sym (or_false f)) off
 
-pub moves_entered : {a : Plain} {c : ℕ} {e x : Reach} {first next : Sweep}
-    → Moves a c (at_start e.before) first next x → Moves a c e first next (by_next e x)
+pub moves_entered : {a : Plain} {e x : Reach} {first next : Sweep}
+    → Moves a (at_start e.before) first next x → Moves a e first next (by_next e x)
 moves_entered {e} h = record {
   over = h.over;
   step = h.step;
@@ -201,9 +218,9 @@ by_nowhere : (r : Reach) → by_next r nowhere ≡ nowhere
 by_nowhere r = rw (and_false r.after, and_false r.after_entered) refl
 
 -- where nothing is entered and no mark leads to the end
-pub moves_nowhere : {a : Plain} {c : ℕ} {e : Reach} {first next : Sweep} → e.before ≡ false
-    → Moves a c (at_start false) first next nowhere → Moves a c e first next nowhere
-moves_nowhere {a} {c} {e} {first} {next} is h = subst (Moves a c e first next) (by_nowhere e)
+pub moves_nowhere : {a : Plain} {e : Reach} {first next : Sweep} → e.before ≡ false
+    → Moves a (at_start false) first next nowhere → Moves a e first next nowhere
+moves_nowhere {a} {e} {first} {next} is h = subst (Moves a e first next) (by_nowhere e)
     (moves_entered {e = e} {x = nowhere} (rw is h))
 
 -- the sweep stands before the first of two parts, and once it has gone over it before the other
@@ -214,8 +231,8 @@ before_first h = record {
   so = h.so.0;
 }
 
-before_next : {a b : Plain} {c : ℕ} {e x : Reach} {sweep next : Sweep}
-    → IsBefore (sequence a b) sweep → Moves a c e sweep next x → IsBefore b next
+before_next : {a b : Plain} {e x : Reach} {sweep next : Sweep}
+    → IsBefore (sequence a b) sweep → Moves a e sweep next x → IsBefore b next
 before_next {a} {b} {sweep} {next} h m = record {
   marks = omega (arith, h.marks, m.at, m.marks.same_length);
   rounds = λ some. let fit = h.rounds (omega (arith, some)) in
@@ -233,28 +250,28 @@ as_sequence h = record { marks = h.marks; rounds = h.rounds; so = h.so }
 
 -- a sweep so far, and how the ends of the parts before are reached: whatever the rest does completes
 -- the whole
-pub record Swept (whole todo : Plain) (c : ℕ) (begin : Bool) (through : Reach) (first now : Sweep)
+pub record Swept (whole todo : Plain) (begin : Bool) (through : Reach) (first now : Sweep)
     (ended : Reach) : Type 0 where
   pub before : IsBefore todo now
-  pub completes : (last : Sweep) (end : Reach) → Moves todo c through now last end
-      → Moves whole c (at_start begin) first last (by_either ended end)
+  pub completes : (last : Sweep) (end : Reach) → Moves todo through now last end
+      → Moves whole (at_start begin) first last (by_either ended end)
 
-pub swept_none : {whole : Plain} {c : ℕ} {e : Bool} {sweep : Sweep} → IsBefore whole sweep
-    → Swept whole whole c e (at_start e) sweep sweep nowhere
+pub swept_none : {whole : Plain} {e : Bool} {sweep : Sweep} → IsBefore whole sweep
+    → Swept whole whole e (at_start e) sweep sweep nowhere
 swept_none before = record { before = before; completes = λ last end h. h }
 
-pub swept_next : {whole a b : Plain} {c : ℕ} {begin : Bool} {through x ended : Reach} {first now
-    next : Sweep} → Swept whole (sequence a b) c begin through first now ended
-    → Moves a c through now next x → Swept whole b c begin x first next ended
+pub swept_next : {whole a b : Plain} {begin : Bool} {through x ended : Reach} {first now
+    next : Sweep} → Swept whole (sequence a b) begin through first now ended
+    → Moves a through now next x → Swept whole b begin x first next ended
 swept_next so_far here = record {
   before = before_next so_far.before here;
   completes = λ last end h. so_far.completes last end (moves_sequence here h);
 }
 
-pub swept_piece : {whole a b : Plain} {c : ℕ} {begin : Bool} {through x ended : Reach} {first now
-    next : Sweep} → Swept whole (sequence a b) c begin through first now ended
-    → Moves a c (at_start through.before) now next x
-    → Swept whole b c begin (by_next through x) first next ended
+pub swept_piece : {whole a b : Plain} {begin : Bool} {through x ended : Reach} {first now
+    next : Sweep} → Swept whole (sequence a b) begin through first now ended
+    → Moves a (at_start through.before) now next x
+    → Swept whole b begin (by_next through x) first next ended
 swept_piece {through} so_far moved = swept_next so_far (moves_entered {e = through} moved)
 
 either_assoc : (r s t : Reach) → by_either (by_either r s) t ≡ by_either r (by_either s t)
@@ -268,12 +285,12 @@ pub either_nowhere : (r : Reach) → by_either r nowhere ≡ r
 either_nowhere r = rw (or_false r.before, or_false r.after, or_false r.after_entered) refl
 
 -- the sweep may end here, and goes on
-pub swept_either : {whole a b : Plain} {c : ℕ} {begin : Bool} {through x ended : Reach} {first now
-    next : Sweep} → Swept whole (either a b) c begin through first now ended
-    → Moves a c through now next x → Swept whole b c begin through first next (by_either ended x)
-swept_either {whole} {c} {begin} {x} {ended} {first} so_far here = record {
+pub swept_either : {whole a b : Plain} {begin : Bool} {through x ended : Reach} {first now
+    next : Sweep} → Swept whole (either a b) begin through first now ended
+    → Moves a through now next x → Swept whole b begin through first next (by_either ended x)
+swept_either {whole} {begin} {x} {ended} {first} so_far here = record {
   before = before_next (as_sequence so_far.before) here;
-  completes = λ last end h. subst (Moves whole c (at_start begin) first last) (sym (either_assoc
+  completes = λ last end h. subst (Moves whole (at_start begin) first last) (sym (either_assoc
       ended x end)) (so_far.completes last (by_either x end) (moves_either here h));
 }
 
@@ -287,32 +304,32 @@ pub before_piece : (a : Tree) (others : List Tree) {sweep : Sweep}
 unfolding unrolled
 before_piece a others h = before_first {b = unrolled (pieces others)} h
 
-pub swept_next_branch : {whole : Plain} (a : Tree) (others : List Tree) {c : ℕ} {begin e : Bool}
+pub swept_next_branch : {whole : Plain} (a : Tree) (others : List Tree) {begin e : Bool}
     {x ended : Reach} {first now next : Sweep}
-    → Swept whole (unrolled (branches (a ∷ others))) c begin (at_start e) first now ended
-    → Moves (unrolled a) c (at_start e) now next x
-    → Swept whole (unrolled (branches others)) c begin (at_start e) first next (by_either ended x)
+    → Swept whole (unrolled (branches (a ∷ others))) begin (at_start e) first now ended
+    → Moves (unrolled a) (at_start e) now next x
+    → Swept whole (unrolled (branches others)) begin (at_start e) first next (by_either ended x)
 unfolding unrolled
 swept_next_branch a others so_far moved = swept_either so_far moved
 
-pub swept_next_piece : {whole : Plain} (a : Tree) (others : List Tree) {c : ℕ} {begin : Bool}
+pub swept_next_piece : {whole : Plain} (a : Tree) (others : List Tree) {begin : Bool}
     {through x ended : Reach} {first now next : Sweep}
-    → Swept whole (unrolled (pieces (a ∷ others))) c begin through first now ended
-    → Moves (unrolled a) c through now next x
-    → Swept whole (unrolled (pieces others)) c begin x first next ended
+    → Swept whole (unrolled (pieces (a ∷ others))) begin through first now ended
+    → Moves (unrolled a) through now next x
+    → Swept whole (unrolled (pieces others)) begin x first next ended
 unfolding unrolled
 swept_next_piece a others so_far moved = swept_next so_far moved
 
 -- no branch, or no piece, is left
-pub swept_branches : {whole : Plain} {c : ℕ} {begin : Bool} {through ended : Reach} {first now :
-    Sweep} → Swept whole (unrolled (branches [])) c begin through first now ended
-    → Moves whole c (at_start begin) first now ended
+pub swept_branches : {whole : Plain} {begin : Bool} {through ended : Reach} {first now :
+    Sweep} → Swept whole (unrolled (branches [])) begin through first now ended
+    → Moves whole (at_start begin) first now ended
 unfolding unrolled
-swept_branches {whole} {c} {begin} {ended} {first} {now} so_far = subst (Moves whole c (at_start
+swept_branches {whole} {begin} {ended} {first} {now} so_far = subst (Moves whole (at_start
     begin) first now) (either_nowhere ended) (so_far.completes now nowhere moves_nothing)
 
-pub swept_pieces : {whole : Plain} {c : ℕ} {begin : Bool} {through : Reach} {first now : Sweep}
-    → Swept whole (unrolled (pieces [])) c begin through first now nowhere
-    → Moves whole c (at_start begin) first now through
+pub swept_pieces : {whole : Plain} {begin : Bool} {through : Reach} {first now : Sweep}
+    → Swept whole (unrolled (pieces [])) begin through first now nowhere
+    → Moves whole (at_start begin) first now through
 unfolding unrolled
 swept_pieces {through} {now} so_far = so_far.completes now through moves_empty

@@ -1,10 +1,11 @@
 -- A text that is taken one character at a time.
-use Rattle.std.proofs.Common.{◌≡◌, ◌↔◌, ℕ, ◌*◌, ◌≤◌, ◌<◌, List, [], ◌∷◌, ◌++◌, length, take, drop}
+use Rattle.std.proofs.Common.{◌≡◌, ◌↔◌, ℕ, ◌+◌, ◌*◌, ◌≤◌, ◌<◌, inl, inr, List, [], ◌∷◌, ◌++◌, length, take, drop}
 use Rattle.std.proofs.Common.{get_or, refl, sym, ap, ◌∙◌, subst, arith}
 use Rattle.std.proofs.lemmas.List.{append_assoc, append-nil, length-append, length_push}
 use Rattle.std.proofs.lemmas.List.{take-append-drop, take_all, take_at, take_more}
 use Rattle.std.proofs.Math.Nat.{mul-le-mul_left}
 use Rattle.jp_match.specs.Part.{HasPart}
+use Rattle.jp_match.specs.Private.ClassTests.{LeavesRoom, MakesAtMost}
 use Rattle.jp_match.specs.Scan.{HasSuffix}
 
 pub taken_more : (text taken : List ℕ) (x : ℕ) → taken ≡ take (length taken) text
@@ -44,6 +45,18 @@ left_nil L First taken so_far = (
 -- tests of so many characters are not more than those of all
 pub within_all : (p n all : ℕ) → n ≤ all → p * n ≤ p * all
 within_all p n all h = mul-le-mul_left p h
+
+-- the tests for a character more: where any are made before its step, they leave room for the step's
+pub tests_more : {p budget first before now after : ℕ} (n : ℕ) → budget ≤ first + p * (n + 1)
+    → MakesAtMost (p * n) first before → LeavesRoom p budget before now → MakesAtMost p now after
+    → MakesAtMost (p * (n + 1)) first after
+tests_more n within so_far room step = record {
+  counted = elim room.left [
+    | inl none ↦ omega (arith, none, so_far.counted, step.counted)
+    | inr left ↦ omega (arith, left, within, step.counted)
+  ];
+  kept = omega (arith, so_far.kept, room.kept, step.kept);
+}
 
 -- a part of a text is a suffix of one of its prefixes
 pub part_is : (L : List ℕ → Type 0) (text : List ℕ)

@@ -14,3 +14,8 @@ RulesOut table L = (c : ℕ) → IsTrue (get_or table c false) → NeverBegins L
 -- each character that a table rules out another rules out too
 abbrev pub IsWithin : List Bool → List Bool → Type 0
 IsWithin table other = (c : ℕ) → IsTrue (get_or table c false) → IsTrue (get_or other c false)
+
+-- a table admits more characters, and no word of a language begins with one that it still rules out
+pub record Admits (L : List ℕ → Type 0) (before after : List Bool) : Type 0 where
+  pub fewer : IsWithin after before
+  pub never : RulesOut after L

@@ -5,6 +5,7 @@ use Rattle.std.specs.Prelude.{not, nat_le, ⊤, List, [], drop, length, get_or}
 use Rattle.jp_match.specs.declared.sweep.Reach.{Reach}
 use Rattle.jp_match.specs.declared.sweep.Sweep.{Sweep}
 use Rattle.jp_match.specs.Private.Plain.{Plain, class, nothing, either, empty, sequence, plus}
+use Rattle.jp_match.specs.Private.ClassTests.{MakesAtMost}
 use Rattle.jp_match.specs.Private.Marks.{size, Rest, Ends, Steps}
 
 -- a repeat without a most keeps whether a round of it has ended: not where a class is repeated, for
@@ -87,22 +88,21 @@ by_next r next = record {
 }
 
 -- the sweep has gone over so many positions and so many repeats, by one class test for each position
--- at most; what stands before them and after them is as it was
+-- at most; its character stays, and what stands before them and after them is as it was
 pub record GoesOver (positions repeats : ℕ) (before after : Sweep) : Type 0 where
+  pub char : after.c ≡ before.c
   pub at : after.at ≡ before.at + positions
   pub round : after.round ≡ before.round + repeats
   pub marks : IsSameOutside before.at after.at before.marks.items after.marks.items
   pub rounds : IsSameOutside before.round after.round before.rounds.items after.rounds.items
-  pub counted : before.at + after.tests ≤ after.at + before.tests
-  pub kept : before.tests ≤ after.tests
+  pub tests : MakesAtMost positions before.tests after.tests
 
--- the sweep has gone over a part and moved its marks over the character c; told is how the part's end
+-- the sweep has gone over a part and moved its marks over its character; told is how the part's end
 -- is reached where its start is reached so
-pub record Moves (a : Plain) (c : ℕ) (start : Reach) (before after : Sweep) (end : Reach) :
-    Type 0 where
+pub record Moves (a : Plain) (start : Reach) (before after : Sweep) (end : Reach) : Type 0 where
   pub over : GoesOver (size a) (rounds_of a) before after
   pub open over use *
-  pub step : Steps a c start.before (drop before.at before.marks.items)
+  pub step : Steps a before.c start.before (drop before.at before.marks.items)
       (drop before.at after.marks.items) end.before
   pub ends : Ends a start.after (drop before.at after.marks.items) end.after
   pub ends_too : Ends a start.after_entered (drop before.at after.marks.items) end.after_entered
@@ -169,18 +169,16 @@ pub record IsAtStart (a : Plain) (end : ℕ) (sweep : Sweep) : Type 0 where
   pub sized : length sweep.marks.items ≡ size a
   pub ended : (k : ℕ) → end ≤ k → IsTrue (get_or sweep.marks.items k false) → ⊥
 
--- the sweep has moved the marks of a whole pattern over the character c, and there is none from its
--- end on; told is how the end is reached, as for a part
-pub record MovesAll (a : Plain) (c : ℕ) (entered : Bool) (before after : Sweep) (end : Reach) :
-    Type 0 where
+-- the sweep has moved the marks of a whole pattern over its character, and there is none from its end
+-- on; told is how the end is reached, as for a part
+pub record MovesAll (a : Plain) (entered : Bool) (before after : Sweep) (end : Reach) : Type 0 where
   pub marks : length after.marks.items ≡ length before.marks.items
   pub rounds : length after.rounds.items ≡ length before.rounds.items
   pub within : after.at ≤ size a
   pub none : (k : ℕ) → after.at ≤ k → IsTrue (get_or after.marks.items k false) → ⊥
-  pub step : Steps a c entered (drop before.at before.marks.items)
+  pub step : Steps a before.c entered (drop before.at before.marks.items)
       (drop before.at after.marks.items) end.before
   pub ends : Ends a false (drop before.at after.marks.items) end.after
   pub ends_too : Ends a true (drop before.at after.marks.items) end.after_entered
   pub so : Rounds a (drop before.at after.marks.items) (drop before.round after.rounds.items)
-  pub counted : after.tests ≤ after.at + before.tests
-  pub kept : before.tests ≤ after.tests
+  pub tests : MakesAtMost after.at before.tests after.tests

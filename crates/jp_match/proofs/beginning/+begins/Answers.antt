@@ -35,17 +35,19 @@ any_may_begin-loop-branch-preserved t c =
     record {
       completes = λ never. completes (never_either _ _ _ (c.may_begin.ensures.never
           c.if-may_begin.false) never);
-      counted = omega (arith, counted, c.may_begin.ensures.counted);
-      kept = omega (arith, c.loop-branch.invariant.kept, c.may_begin.ensures.kept);
+      counted = omega (arith, counted, c.may_begin.ensures.tests.counted);
+      kept = omega (arith, c.loop-branch.invariant.kept, c.may_begin.ensures.tests.kept);
     }
 
 pub may_begin-returns-in-Class-clause-never : goal.may_begin-returns-in-Class-clause-never
 may_begin-returns-in-Class-clause-never t c =
     rw (c.in-Class.is, tree_class) (λ e. never_class _ _ _ (sym c.holds.ensures.answer ∙ e))
 
-pub may_begin-returns-in-Class-clause-counted : goal.may_begin-returns-in-Class-clause-counted
-may_begin-returns-in-Class-clause-counted t c =
-    rw (c.in-Class.is, tree_class) (omega (arith, c.holds.ensures.counted))
+pub may_begin-returns-in-Class-clause-tests : goal.may_begin-returns-in-Class-clause-tests
+may_begin-returns-in-Class-clause-tests t c = rw (c.in-Class.is, tree_class) (record {
+  counted = omega (arith, c.holds.ensures.tests.counted);
+  kept = c.holds.ensures.tests.kept;
+})
 
 pub first_may_begin-returns-clause-never : goal.first_may_begin-returns-clause-never
 first_may_begin-returns-clause-never t c =

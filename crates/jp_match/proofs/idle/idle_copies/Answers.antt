@@ -13,4 +13,4 @@ is_unmarked-requires c =
 pub returns-then-is_unmarked : goal.returns-then-is_unmarked
 returns-then-is_unmarked c = idle_of_copies (tree c.args.inner.now) c.args.least c.in-Some.most
     c.args.most _ _ c.args.sweep.now c.in-Some.is (ap tree c.in-Class.is ∙ tree_class
-    c.in-Class.field-0) (c.is_unmarked.ensures c.if-is_unmarked.true)
+    c.in-Class.field-0) (c.is_unmarked.ensures.0 c.if-is_unmarked.true)

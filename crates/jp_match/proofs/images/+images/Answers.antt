@@ -118,7 +118,7 @@ pub image-returns-in-Class : goal.image-returns-in-Class
 image-returns-in-Class t c = record {
   text = refl;
   image = rw (c.in-Class.is, tree_class) c.shift.ensures.image;
-  kept = c.shift.ensures.kept;
+  kept = c.shift.ensures.tests.kept;
 }
 
 pub repeat_image-returns : goal.repeat_image-returns

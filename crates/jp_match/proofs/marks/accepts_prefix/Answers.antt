@@ -7,17 +7,18 @@ use Rattle.std.specs.Str.{chars}
 use Rattle.jp_iregexp.specs.Positions.{positions_of}
 use Rattle.jp_match.specs.Scan.{Left, tree_of}
 use Rattle.jp_match.proofs.Bools.{not_false}
-use Rattle.jp_match.proofs.Texts.Prefixes.{taken_more, left_more, left_nil, within_all}
+use Rattle.jp_match.proofs.Steps.Sweeping.{no_tests, tests_up_to}
+use Rattle.jp_match.proofs.Texts.Prefixes.{taken_more, left_more, left_nil, within_all, tests_more}
 use Rattle.jp_match.proofs.marks.accepts_prefix.Goals as goal
 
-pub returns-then-advance-clause-counted : goal.returns-then-advance-clause-counted
-returns-then-advance-clause-counted c =
+pub returns-then-advance-clause-tests : goal.returns-then-advance-clause-tests
+returns-then-advance-clause-tests c =
     let t = YieldsList-turn (YieldsList-from_chars c.args.text.now c.utf8.text cc) c.loop-c.yielded
     _ c.loop-c.yielded_by _ _ c.in-Some.c c.in-Some.is c.next.ensures.steps in
     let P = positions_of (tree_of c.args.scan.now) in
     let n = length c.loop-c.yielded in
-    let step = rw c.loop-c.invariant.same at c.advance.ensures.counted in
-    let spare = rw c.loop-c.invariant.same at c.stays_within.ensures.counted in
+    let step = rw c.loop-c.invariant.same at c.advance.ensures.tests in
+    let room = rw c.loop-c.invariant.same at c.stays_within.ensures.tests in
     let added = rw c.loop-c.invariant.same at c.positions.ensures in
     let budget : c.saturating_add-budget.result ≤ c.args.tests.now + P * (n + 1) = omega (
       arith,
@@ -26,10 +27,7 @@ returns-then-advance-clause-counted c =
       c.loop-c.invariant.budget,
     ) in
     let all = within_all P (n + 1) (length (chars c.args.text.now)) (omega (arith, t.0)) in
-    elim spare [
-      | inl same ↦ omega (arith, step, same, c.loop-c.invariant.counted, all)
-      | inr fit ↦ omega (arith, step, fit, budget, all)
-    ]
+    tests_up_to all (tests_more n budget c.loop-c.invariant.tests room step)
 
 pub returns-then-advance-clause-accepted : goal.returns-then-advance-clause-accepted
 returns-then-advance-clause-accepted c =
@@ -51,7 +49,7 @@ loop-c-preserved-then-stays_within c =
     let n = length c.loop-c.yielded in
     let more = length_push c.loop-c.yielded c.in-Some.c in
     let last = left_nil _ (Left c.args.scan.now) c.loop-c.yielded c.loop-c.invariant.left in
-    let spare = rw c.loop-c.invariant.same at c.stays_within.ensures.counted in
+    let room = rw c.loop-c.invariant.same at c.stays_within.ensures.tests in
     let added = rw c.loop-c.invariant.same at c.positions.ensures in
     let budget : c.saturating_add-budget.result ≤ c.args.tests.now + P * (n + 1) = omega (
       arith,
@@ -74,20 +72,16 @@ loop-c-preserved-then-stays_within c =
       left = left_more _ _ (Left c.args.scan.now) c.loop-c.yielded c.in-Some.c
           c.loop-c.invariant.left (c.stays_within.ensures.stays c.if-stays_within.true);
       same = c.loop-c.invariant.same;
-      counted = rw more (elim spare [
-        | inl same ↦ omega (arith, same, c.loop-c.invariant.counted)
-        | inr fit ↦ omega (arith, fit, budget)
-      ]);
+      tests = rw more (tests_more n budget c.loop-c.invariant.tests room no_tests);
       budget = rw more budget;
-      kept = omega (arith, c.stays_within.ensures.kept, c.loop-c.invariant.kept);
     }
 
 pub loop-c-preserved : goal.loop-c-preserved
 loop-c-preserved c =
     let P = positions_of (tree_of c.args.scan.now) in
     let n = length c.loop-c.yielded in
-    let step = rw c.loop-c.invariant.same at c.advance.ensures.counted in
-    let spare = rw c.loop-c.invariant.same at c.stays_within.ensures.counted in
+    let step = rw c.loop-c.invariant.same at c.advance.ensures.tests in
+    let room = rw c.loop-c.invariant.same at c.stays_within.ensures.tests in
     let added = rw c.loop-c.invariant.same at c.positions.ensures in
     let budget : c.saturating_add-budget.result ≤ c.args.tests.now + P * (n + 1) = omega (
       arith,
@@ -115,17 +109,8 @@ loop-c-preserved c =
       left = left_more _ _ (Left c.args.scan.now) c.loop-c.yielded c.in-Some.c
           c.loop-c.invariant.left c.advance.ensures.left;
       same = c.advance.ensures.same ∙ c.loop-c.invariant.same;
-      counted = rw more (elim spare [
-        | inl same ↦ omega (arith, step, same, c.loop-c.invariant.counted)
-        | inr fit ↦ omega (arith, step, fit, budget)
-      ]);
+      tests = rw more (tests_more n budget c.loop-c.invariant.tests room step);
       budget = rw more budget;
-      kept = omega (
-        arith,
-        c.advance.ensures.kept,
-        c.stays_within.ensures.kept,
-        c.loop-c.invariant.kept,
-      );
     }
 
 pub returns-clause-accepted : goal.returns-clause-accepted

@@ -35,7 +35,7 @@ loop-i-preserved c = record {
           common_steps,
           c.loop-i.invariant.left c.loop-i.i,
         ))
-        c.loop-i.invariant.counted w.holds-arrives.ensures.counted)
+        c.loop-i.invariant.counted w.holds-arrives.ensures.tests.counted)
     | else-leaves w ↦
         rw w.tests-is (counted_same c.args.offsets.now.items c.loop-i.i c.args.tests.now
         c.loop-i.tests (omega arith) (grind (

@@ -230,7 +230,7 @@ step_copy-returns-then-is_unmarked t c =
     let known : 1 ≤ c.args.size.positions = omega (arith, c.if-size-eq0.false) in
     rw c.if-entered.false (moves_unmarked (c.requires.sized.positions_so known)
     (c.requires.sized.rounds_so known) (takes_empty (tree c.args.inner.now) ∙ sym
-    c.has_empty_word.ensures) (c.is_unmarked.ensures c.if-is_unmarked.true) c.requires.before.so)
+    c.has_empty_word.ensures) (c.is_unmarked.ensures.0 c.if-is_unmarked.true) c.requires.before.so)
 
 pub step_copies-returns : goal.step_copies-returns
 step_copies-returns t c =
@@ -259,11 +259,14 @@ step_between-returns t c =
     value) ∙ c.deref_mut.ensures.len) in
     moves_copies c.args.least c.args.most (omega arith) c.in-Some.ensures
     c.holds-holds.ensures.answer c.requires stepped (record {
+      char = refl;
       at = refl;
       round = refl;
       rounds = refl;
-      counted = omega (arith, c.holds-holds.ensures.counted);
-      kept = c.holds-holds.ensures.kept;
+      tests = record {
+        counted = omega (arith, c.holds-holds.ensures.tests.counted);
+        kept = c.holds-holds.ensures.tests.kept;
+      };
       marks_are = rw value (here ∙ ap put offset);
     })
 

@@ -7,23 +7,23 @@ use Rattle.jp_match.proofs.stepping.+step.Given as goal
 
 abbrev pub invariant-step_either-loop-branch : goal.invariant-step_either-loop-branch
 invariant-step_either-loop-branch l = Swept (unrolled (branches (map tree l.parts)))
-    (unrolled (branches (map tree (drop l.branch-index l.parts)))) l.c l.entered
+    (unrolled (branches (map tree (drop l.branch-index l.parts)))) l.entered
     (at_start l.entered) l.fn.sweep l.sweep l.ended
 
 abbrev pub invariant-step_sequence-loop-piece : goal.invariant-step_sequence-loop-piece
 invariant-step_sequence-loop-piece l = Swept (unrolled (pieces (map tree l.parts)))
-    (unrolled (pieces (map tree (drop l.piece-index l.parts)))) l.c l.entered l.through l.fn.sweep
+    (unrolled (pieces (map tree (drop l.piece-index l.parts)))) l.entered l.through l.fn.sweep
     l.sweep nowhere
 
 abbrev pub invariant-step_copies-loop-copies : goal.invariant-step_copies-loop-copies
 invariant-step_copies-loop-copies l = record {
   swept : Swept (between (unrolled (tree l.inner)) l.least l.most)
-      (between (unrolled (tree l.inner)) (l.least - l.copies) (l.most - l.copies)) l.c l.entered
+      (between (unrolled (tree l.inner)) (l.least - l.copies) (l.most - l.copies)) l.entered
       l.through l.fn.sweep l.sweep l.ended;
   sized : IsSize (unrolled (tree l.inner)) l.size.positions l.size.rounds;
 }
 
 abbrev pub invariant-step_at_least-loop : goal.invariant-step_at_least-loop
 invariant-step_at_least-loop l = Swept (at_least (unrolled (tree l.inner)) l.least)
-    (at_least (unrolled (tree l.inner)) (suc (l.least - l.counter))) l.c l.entered l.through
+    (at_least (unrolled (tree l.inner)) (suc (l.least - l.counter))) l.entered l.through
     l.fn.sweep l.sweep nowhere

@@ -1,14 +1,15 @@
 use Rattle.std.proofs.Common.{◌≡◌, length, drop, ap, ◌∙◌, arith}
 use Rattle.jp_match.proofs.Patterns.Items.{drop_item, drop_all}
 use Rattle.jp_match.proofs.Steps.Sweeping.{before_piece, swept_next_piece, swept_pieces}
+use Rattle.jp_match.proofs.Steps.Sweeping.{tests_then, tests_up_to}
 use Rattle.jp_match.proofs.Steps.Whole.{all_moved, all_ended}
 use Rattle.jp_match.proofs.whole.step_pieces.Goals as goal
 
 pub returns-then-is_nowhere : goal.returns-then-is_nowhere
 returns-then-is_nowhere c =
     let so_far = c.loop-piece.invariant in
-    rw c.none.ensures (all_ended c.args.end c.requires so_far.swept so_far.ahead so_far.kept
-    so_far.counted (omega (arith, c.if-sweep-end.true)) (c.is_nowhere.ensures c.if-is_nowhere.true))
+    rw c.none.ensures (all_ended c.args.end c.requires so_far.swept so_far.ahead so_far.tests
+    (omega (arith, c.if-sweep-end.true)) (c.is_nowhere.ensures.0 c.if-is_nowhere.true))
 
 pub step_next-through-requires : goal.step_next-through-requires
 step_next-through-requires c =
@@ -29,8 +30,8 @@ loop-piece-preserved c =
         moves.at,
         over,
       ));
-      counted = omega (arith, c.loop-piece.invariant.counted, moves.counted);
-      kept = omega (arith, c.loop-piece.invariant.kept, moves.kept);
+      tests = tests_up_to (omega (arith, moves.at)) (tests_then c.loop-piece.invariant.tests
+          moves.tests);
     }
 
 pub returns : goal.returns

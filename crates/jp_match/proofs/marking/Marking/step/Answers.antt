@@ -37,8 +37,11 @@ invariant_of-self c =
       reached_entered = ends_are_entered _ _ _ moves.ends_too;
     }
 
-pub returns-clause-counted : goal.returns-clause-counted
-returns-clause-counted c =
+pub returns-clause-tests : goal.returns-clause-tests
+returns-clause-tests c =
     let sizes = size_unrolled (tree c.args.self.now.pattern.now) in
     let moves = c.step_whole-reach.ensures in
-    omega (arith, moves.counted, moves.within, sizes)
+    record {
+      counted = omega (arith, moves.tests.counted, moves.within, sizes);
+      kept = omega (arith, moves.tests.kept);
+    }
