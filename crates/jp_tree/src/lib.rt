@@ -18,9 +18,13 @@
 //! the ranges of the standard.
 #![tactic(auto)]
 
+mod function;
+mod function_name;
 pub mod laws;
 mod tree;
 
+pub use function::Function;
+pub use function_name::FunctionName;
 pub use tree::{
     Argument, Call, Expr, Literal, Numeral, Op, Operand, Query, Segment, Selector, Slice, Subject,
 };
