@@ -1,5 +1,5 @@
 -- A function is found by the bytes of its name.
-use Rattle.std.proofs.Common.{◌≡◌, cond, Bool, codes, ℕ, List, [], ◌∷◌}
+use Rattle.std.proofs.Common.{◌≡◌, cond, ℕ, List, [], ◌∷◌}
 use Rattle.std.proofs.Common.{Some, refl, sym, ap, ◌∙◌}
 use Rattle.std.specs.Bool.{Decides}
 use Rattle.std.specs.Map.{lookup}

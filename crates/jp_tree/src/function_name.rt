@@ -10,8 +10,8 @@ use crate::function::Function;
 use std::fmt;
 use std::marker::Model;
 
-/// The name of a function as a call writes it, which may be that of none. It is its text for
-/// contracts; the function is found once, when the name is made.
+/// A name as a call writes it, with the function that it is the name of, if there is one. Contracts
+/// see it as its text.
 #[derive(Drop)]
 pub struct FunctionName {
     text: String,
@@ -34,7 +34,7 @@ impl Model for FunctionName {
 }
 
 impl FunctionName {
-    /// The name of that text.
+    /// The name of that text, whose function is looked up here and kept.
     pub fn new(text: String) -> FunctionName
         ensures { result ≡ text }
     {

@@ -15,7 +15,7 @@
 //!
 //! `specs/Tree.antt` has the tree as the definitions speak of it, and which one each value of these
 //! types is. They hold every tree that a query's text spells, and others, such as numbers outside
-//! the ranges of the standard.
+//! the ranges of the standard. `specs/Functions.antt` has the functions and their names.
 #![tactic(auto)]
 
 mod function;
