@@ -19,6 +19,7 @@ use Rattle.jp_query.specs.Components.{operand_components, segment_components}
 use Rattle.jp_query.specs.Components.{segments_components, selector_components}
 use Rattle.jp_query.specs.Components.{selectors_components}
 use Rattle.jp_tree.specs.declared.tree.Numeral.{Numeral}
+use Rattle.jp_tree.specs.Functions.{added_functions, standard_functions}
 use Rattle.jp_tree.specs.Tree.{ArgumentTree, ArgumentTrees, CallTree, ExprTree, ExprTrees}
 use Rattle.jp_tree.specs.Tree.{LiteralTree, OperandTree, QueryTree, SegmentTree, SegmentTrees}
 use Rattle.jp_tree.specs.Tree.{SelectorTree, SelectorTrees, all_of, any_of, argument_then, call}
@@ -32,8 +33,7 @@ use Rattle.jp_check.specs.declared.profile.Profile.{Profile}
 use Rattle.jp_check.specs.declared.profile.Profile.TheVariants.{Standard, Extended}
 use Rattle.jp_check.specs.Accepted.{IsAccepted, IsAcceptedAs}
 use Rattle.jp_check.specs.Faults.{HasCallFault, IsFaultless}
-use Rattle.jp_check.specs.Functions.{added_functions, function_named, signature, signature_named}
-use Rattle.jp_check.specs.Functions.{standard_functions}
+use Rattle.jp_check.specs.Functions.{function_named, signature, signature_named}
 use Rattle.jp_check.specs.Laws.{StandardIsExtended}
 use Rattle.jp_check.specs.Types.{IsMisfit, wanted, wanted_of_arguments}
 use Rattle.jp_check.proofs.Least.{NoFault}
@@ -56,7 +56,7 @@ lookup-more is (e ∷ es) more = decided (is e.0) (lookup-more is es more)
 pub named-extended : (cs : List ℕ)
     → (function_named Standard cs ≡ None)
     ⊎ (function_named Standard cs ≡ function_named Extended cs)
-named-extended cs = lookup-more (bytes_eq cs) standard_functions (added_functions Extended)
+named-extended cs = lookup-more (bytes_eq cs) standard_functions added_functions
 
 -- the name has the same types in both profiles
 abbrev SameTypes : List ℕ → Type 0

@@ -1,63 +1,37 @@
--- A function is found by the bytes of its name.
-use Rattle.std.proofs.Common.{◌≡◌, cond, Bool, true, false, codes, ℕ, List, [], ◌∷◌}
-use Rattle.std.proofs.Common.{Some, None, refl, sym, ap, ◌∙◌}
-use Rattle.std.specs.Bool.{Decides}
-use Rattle.std.specs.Map.{lookup}
-use Rattle.std.specs.Str.{IsUtf8, bytes_eq, chars}
-use lib.Utf8.{encode}
-use Rattle.std.proofs.Math.Utf8.{encodes}
-use Rattle.std.proofs.lemmas.Bool.Decides.{same_from_decides}
-use Rattle.std.proofs.lemmas.Slice.Eq.{bytes_eq-Decides}
-use Rattle.std.proofs.lemmas.Str.{chars_from_encodes, encodes-chars}
-use Rattle.jp_check.specs.declared.functions.Function.TheVariants.{Distinct}
+-- A profile has the functions of its names.
+use Rattle.std.proofs.Common.{◌≡◌, cond, Bool, true, false, ℕ, List, Option, Some, None, codes, refl}
+use Rattle.std.specs.Str.{bytes_eq}
+use Rattle.jp_tree.specs.declared.function.Function.{Function}
+use Rattle.jp_tree.specs.declared.function.Function.TheVariants.{Length, Count, Match, Search}
+use Rattle.jp_tree.specs.declared.function.Function.TheVariants.{ValueOf, Distinct}
+use Rattle.jp_tree.specs.Functions.{function_of_name}
 use Rattle.jp_check.specs.declared.profile.Profile.{Profile}
 use Rattle.jp_check.specs.declared.profile.Profile.TheVariants.{Standard, Extended}
-use Rattle.jp_check.specs.Functions.{added_functions, function_named, functions}
+use Rattle.jp_check.specs.Functions.{function_named}
+use Rattle.jp_check.specs.Private.Calls.{function_within}
 
--- the bytes are the word, which is ASCII, exactly if their characters are
-same-test : (bs word : List ℕ) → IsUtf8 bs → encodes word ≡ word
-    → bytes_eq (chars bs) word ≡ bytes_eq bs word
-same-test bs word utf8 ascii =
-    same_from_decides (bytes_eq (chars bs) word) (bytes_eq bs word) decides
-    (bytes_eq-Decides bs word)
-  where
-    decides : Decides (bytes_eq (chars bs) word) (bs ≡ word)
-    decides = (
-      λ same. sym (encodes-chars bs utf8)
-          ∙ ap encodes ((bytes_eq-Decides (chars bs) word).0 same)
-          ∙ ascii,
-      λ e. (bytes_eq-Decides (chars bs) word).1
-          (sym (chars_from_encodes word bs utf8 (ascii ∙ sym e))),
-    )
+-- the first of five functions whose name it is, or else what is found past them
+first : Bool → Bool → Bool → Bool → Bool → Option Function → Option Function
+first a b c d e rest =
+    cond a (Some Length)
+    (cond b (Some Count) (cond c (Some Match) (cond d (Some Search) (cond e (Some ValueOf) rest))))
 
--- each name is ASCII
-abbrev AllAscii : {X : Type 0} → List (List ℕ × X) → Type 0
-AllAscii [] = Unit {0}
-AllAscii (e ∷ es) = (encodes e.0 ≡ e.0) × AllAscii es
+without-distinct : (a b c d e f : Bool)
+    → function_within Standard (first a b c d e (cond f (Some Distinct) None)) ≡ first a b c d e None
+unfolding first
+without-distinct true b c d e f = refl
+without-distinct false true c d e f = refl
+without-distinct false false true d e f = refl
+without-distinct false false false true e f = refl
+without-distinct false false false false true f = refl
+without-distinct false false false false false true = refl
+without-distinct false false false false false false = refl
 
-same-lookup : {X : Type 0} (bs : List ℕ) (es : List (List ℕ × X)) → IsUtf8 bs → AllAscii es
-    → lookup (bytes_eq (chars bs)) es ≡ lookup (bytes_eq bs) es
-same-lookup bs [] utf8 ascii = refl
-same-lookup bs (e ∷ es) utf8 ascii =
-    ap (λ same. cond same (Some e.1) (lookup (bytes_eq (chars bs)) es))
-    (same-test bs e.0 utf8 ascii.0)
-    ∙ ap (cond (bytes_eq bs e.0) (Some e.1)) (same-lookup bs es utf8 ascii.1)
-
-pub function_named_bytes : (profile : Profile) (bs : List ℕ) → IsUtf8 bs
-    → function_named profile (chars bs) ≡ lookup (bytes_eq bs) (functions profile)
-unfolding encode
-function_named_bytes Standard bs utf8 =
-    same-lookup bs (functions Standard) utf8 (refl, (refl, (refl, (refl, (refl, tt)))))
-function_named_bytes Extended bs utf8 =
-    same-lookup bs (functions Extended) utf8 (refl, (refl, (refl, (refl, (refl, (refl, tt))))))
-
--- another name than `distinct` is that of no function that a profile adds
-pub added-none : (profile : Profile) (bs : List ℕ) → (bs ≡ codes "distinct" → ⊥)
-    → lookup (bytes_eq bs) (added_functions profile) ≡ None
-added-none Standard bs other = refl
-added-none Extended bs other =
-    decided (bytes_eq bs (codes "distinct")) (bytes_eq-Decides bs (codes "distinct"))
-  where
-    decided : (b : Bool) → Decides b (bs ≡ codes "distinct") → cond b (Some Distinct) None ≡ None
-    decided true decides = absurd (other (decides.0 refl))
-    decided false decides = refl
+pub function_within_is : (profile : Profile) (cs : List ℕ)
+    → function_within profile (function_of_name cs) ≡ function_named profile cs
+unfolding first
+function_within_is Standard cs =
+    without-distinct (bytes_eq cs (codes "length")) (bytes_eq cs (codes "count"))
+    (bytes_eq cs (codes "match")) (bytes_eq cs (codes "search")) (bytes_eq cs (codes "value"))
+    (bytes_eq cs (codes "distinct"))
+function_within_is Extended cs = refl

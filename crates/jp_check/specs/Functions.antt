@@ -1,13 +1,14 @@
 -- The functions of each profile, with the types of their parameters and results (RFC 9535 section
 -- 2.4).
-use Rattle.std.specs.Prelude.{ℕ, List, [], ◌∷◌, ◌++◌, Option, codes, option_map}
+use Rattle.std.specs.Prelude.{ℕ, List, [], ◌∷◌, Option, option_map}
 use Rattle.std.specs.Map.{lookup}
 use Rattle.std.specs.Str.{bytes_eq}
+use Rattle.jp_tree.specs.declared.function.Function.{Function}
+use Rattle.jp_tree.specs.declared.function.Function.TheVariants.{Length, Count, Match, Search}
+use Rattle.jp_tree.specs.declared.function.Function.TheVariants.{ValueOf, Distinct}
+use Rattle.jp_tree.specs.Functions.{all_functions, standard_functions}
 use Rattle.jp_check.specs.declared.functions.DataType.{DataType}
 use Rattle.jp_check.specs.declared.functions.DataType.TheVariants.{Value, Logical, Nodes}
-use Rattle.jp_check.specs.declared.functions.Function.{Function}
-use Rattle.jp_check.specs.declared.functions.Function.TheVariants.{Length, Count, Match, Search}
-use Rattle.jp_check.specs.declared.functions.Function.TheVariants.{ValueOf, Distinct}
 use Rattle.jp_check.specs.declared.profile.Profile.{Profile}
 use Rattle.jp_check.specs.declared.profile.Profile.TheVariants.{Standard, Extended}
 
@@ -16,24 +17,11 @@ pub record Signature : Type 0 where
   pub parameters : List DataType
   pub result : DataType
 
--- the functions of the standard and their names (sections 2.4.4 to 2.4.8)
-abbrev pub standard_functions : List (List ℕ × Function)
-standard_functions =
-    (codes "length", Length)
-    ∷ (codes "count", Count)
-    ∷ (codes "match", Match)
-    ∷ (codes "search", Search)
-    ∷ (codes "value", ValueOf)
-    ∷ []
-
--- those that a profile adds to them, as section 2.4 provides for
-abbrev pub added_functions : Profile → List (List ℕ × Function)
-added_functions Standard = []
-added_functions Extended = (codes "distinct", Distinct) ∷ []
-
--- the functions of a profile and their names
+-- the functions of a profile and their names: those of the standard (sections 2.4.4 to 2.4.8), and in
+-- `Extended` also `distinct`, as section 2.4 provides for
 abbrev pub functions : Profile → List (List ℕ × Function)
-functions profile = standard_functions ++ added_functions profile
+functions Standard = standard_functions
+functions Extended = all_functions
 
 -- the types of each (sections 2.4.4 to 2.4.8), and of `distinct`
 abbrev pub signature : Function → Signature

@@ -1,15 +1,15 @@
 //! The functions of each profile and their types (RFC 9535 sections 2.4.1 and 2.4.4 to 2.4.8).
 
-ghost use Rattle.std.specs.Prelude.{◌≡◌, option_map};
+ghost use Rattle.std.specs.Prelude.{◌≡◌, option_map, string_bytes};
 ghost use Rattle.std.specs.Str.{chars};
 ghost use Rattle.jp_tree.specs.Views.{call_of};
 ghost use Rattle.jp_check.specs.Functions.{function_named, signature, signature_named};
-ghost use Rattle.jp_check.specs.Private.Calls.{signature_of, wanted_of_call};
+ghost use Rattle.jp_check.specs.Private.Calls.{function_within, signature_of, wanted_of_call};
 ghost use Rattle.jp_check.specs.Types.{fits};
 
 use crate::functions::DataType::{Logical, Nodes, Value};
 use crate::profile::Profile;
-use jp_tree::Call;
+use jp_tree::{Call, Function, FunctionName};
 
 /// The type of a parameter or of a result (RFC 9535 section 2.4.1).
 #[derive(Debug, Clone, Copy, PartialEq, Eq)]
@@ -29,56 +29,45 @@ pub(crate) struct Signature {
     pub(crate) answer: DataType,
 }
 
-/// A function of JSONPath (RFC 9535 section 2.4).
-#[derive(Debug, Clone, Copy, PartialEq, Eq)]
-pub enum Function {
-    /// `length` (section 2.4.4).
-    Length,
-    /// `count` (section 2.4.5).
-    Count,
-    /// `match` (section 2.4.6).
-    Match,
-    /// `search` (section 2.4.7).
-    Search,
-    /// `value` (section 2.4.8).
-    ValueOf,
-    /// `distinct`, an extension as section 2.4 provides for: the nodes of its argument, each once,
-    /// where it is first.
-    Distinct,
-}
-
-impl Function {
+impl Profile {
     /// The function of that name, if the profile has one.
-    #[tactic(auto, using(crate::proofs::FunctionNames::function_named_bytes))]
-    pub fn named(name: &str, profile: Profile) -> Option<Function>
-        ensures { result ≡ function_named profile (chars name.now) }
+    #[tactic(auto, using(crate::proofs::FunctionNames::function_within_is))]
+    pub fn function_named(self, name: &str) -> Option<Function>
+        ensures { result ≡ function_named self (chars name.now) }
     {
-        match name {
-            "length" => Some(Function::Length),
-            "count" => Some(Function::Count),
-            "match" => Some(Function::Match),
-            "search" => Some(Function::Search),
-            "value" => Some(Function::ValueOf),
-            "distinct" => match profile {
-                Profile::Standard => None,
-                Profile::Extended => Some(Function::Distinct),
-            },
-            _ => None,
-        }
+        self.function_within(Function::of_name(name))
     }
 
-    /// The types of its parameters and of what it answers.
-    fn signature(self) -> Signature
-        ensures { signature_of result ≡ signature self }
+    /// The function of a name that was read, if the profile has one.
+    #[tactic(auto, using(crate::proofs::FunctionNames::function_within_is))]
+    pub(crate) fn function(self, name: &FunctionName) -> Option<Function>
+        ensures { result ≡ function_named self (chars (string_bytes name.now)) }
     {
-        match self {
-            Function::Length => types(&[Value], Value),
-            Function::Count => types(&[Nodes], Value),
-            Function::Match => types(&[Value, Value], Logical),
-            Function::Search => types(&[Value, Value], Logical),
-            Function::ValueOf => types(&[Nodes], Value),
-            Function::Distinct => types(&[Nodes], Nodes),
+        self.function_within(name.function())
+    }
+
+    /// The function that some name has, if the profile has it.
+    fn function_within(self, function: Option<Function>) -> Option<Function>
+        ensures { result ≡ function_within self function }
+    {
+        match (self, function) {
+            (Profile::Standard, Some(Function::Distinct)) => None,
+            _ => function,
         }
+    }
+}
+
+/// The types of a function's parameters and of what it answers.
+fn types_of(function: Function) -> Signature
+    ensures { signature_of result ≡ signature function }
+{
+    match function {
+        Function::Length => types(&[Value], Value),
+        Function::Count => types(&[Nodes], Value),
+        Function::Match => types(&[Value, Value], Logical),
+        Function::Search => types(&[Value, Value], Logical),
+        Function::ValueOf => types(&[Nodes], Value),
+        Function::Distinct => types(&[Nodes], Nodes),
     }
 }
 
@@ -90,11 +79,12 @@ fn types(parameters: &'static [DataType], answer: DataType) -> Signature
 }
 
 /// The types of the function of that name, if the profile has one.
-pub(crate) fn signature_named(name: &str, profile: Profile) -> Option<Signature>
-    ensures { option_map signature_of result ≡ signature_named profile (chars name.now) }
+pub(crate) fn signature_named(name: &FunctionName, profile: Profile) -> Option<Signature>
+    ensures { option_map signature_of result
+        ≡ signature_named profile (chars (string_bytes name.now)) }
 {
-    match Function::named(name, profile) {
-        Some(function) => Some(function.signature()),
+    match profile.function(name) {
+        Some(function) => Some(types_of(function)),
         None => None,
     }
 }

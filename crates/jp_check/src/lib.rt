@@ -31,5 +31,5 @@ mod singular;
 mod tests;
 
 pub use checked::{Checked, check, read_query};
-pub use functions::Function;
+pub use jp_tree::Function;
 pub use profile::Profile;

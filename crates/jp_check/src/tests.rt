@@ -122,10 +122,10 @@ fn functions_are_known_by_their_names(rt: HostRuntime) -> Result<(), Fail> {
         ("Distinct", None),
     ];
     for (name, function) in rows {
-        assert!(rt; Function::named(name, Standard) == function, "{name:?}");
-        assert!(rt; Function::named(name, Extended) == function, "{name:?}");
+        assert!(rt; Standard.function_named(name) == function, "{name:?}");
+        assert!(rt; Extended.function_named(name) == function, "{name:?}");
     }
-    assert!(rt; Function::named("distinct", Standard) == None);
-    assert!(rt; Function::named("distinct", Extended) == Some(Function::Distinct));
+    assert!(rt; Standard.function_named("distinct") == None);
+    assert!(rt; Extended.function_named("distinct") == Some(Function::Distinct));
     Ok(())
 }

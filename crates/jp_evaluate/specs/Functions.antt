@@ -8,9 +8,9 @@ use Rattle.jp_document.specs.Location.{location_cmp}
 use Rattle.jp_document.specs.Node.{Node}
 use Rattle.jp_document.specs.Value.{Value, item_count, list, names_of, object, text, whole}
 use Rattle.jp_iregexp.specs.MatchTests.{has_match, is_match}
-use Rattle.jp_check.specs.declared.functions.Function.{Function}
-use Rattle.jp_check.specs.declared.functions.Function.TheVariants.{Count, Distinct, Length, Match}
-use Rattle.jp_check.specs.declared.functions.Function.TheVariants.{Search, ValueOf}
+use Rattle.jp_tree.specs.declared.function.Function.{Function}
+use Rattle.jp_tree.specs.declared.function.Function.TheVariants.{Count, Distinct, Length, Match}
+use Rattle.jp_tree.specs.declared.function.Function.TheVariants.{Search, ValueOf}
 
 -- how many scalar values a text has, items a list, members an object
 abbrev pub size_of : Option Value → Option ℕ

@@ -9,7 +9,7 @@ use Rattle.jp_document.specs.Value.{NamesRise, Value}
 use Rattle.jp_tree.specs.Singular.{is_singular}
 use Rattle.jp_tree.specs.Tree.{ArgumentTrees, OperandTree, QueryTree, call, call_test}
 use Rattle.jp_check.specs.Functions.{function_named}
-use Rattle.jp_check.specs.declared.functions.Function.TheVariants.{Distinct}
+use Rattle.jp_tree.specs.declared.function.Function.TheVariants.{Distinct}
 use Rattle.jp_check.specs.declared.profile.Profile.TheVariants.{Extended}
 use Rattle.jp_check.specs.declared.profile.Profile.{Profile}
 use Rattle.jp_check.specs.Accepted.{IsAcceptedAs}

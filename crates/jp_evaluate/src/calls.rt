@@ -16,7 +16,7 @@ use crate::length::length_of;
 use crate::operand::{literal_value, whole};
 use crate::pattern::Patterns;
 use crate::selecting::{NodesQuery, Selecting};
-use jp_check::{Function, Profile};
+use jp_check::Function;
 use jp_lent::Selectable;
 use jp_match::Matching;
 use jp_select::Comparable;
@@ -130,7 +130,7 @@ impl<'a, 'q, V: Selectable + 'q, M: Matching> Asking<'a, 'q, V, M> {
 fn function_of(call: &Call) -> Option<Function>
     ensures { result ≡ call_function (call_of call.now) }
 {
-    Function::named(&call.name, Profile::Extended)
+    call.name.function()
 }
 
 /// The query whose nodes an argument stands for, if it stands for nodes.

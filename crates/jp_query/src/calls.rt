@@ -18,7 +18,7 @@ use crate::names::{NameCharacter, name_from};
 use crate::operators::is_before_operator;
 use crate::sides::side;
 use jp_reading::{Reader, Stop};
-use jp_tree::{Argument, Call, Expr, Literal, Operand, Query, Subject};
+use jp_tree::{Argument, Call, Expr, FunctionName, Literal, Operand, Query, Subject};
 use std::alloc::{AllocError, Global};
 
 /// A function expression.
@@ -61,6 +61,7 @@ fn rest_of_call(reader: &mut Reader, levels: u32, name: String) -> Result<Call, 
     let name = name_from(reader, NameCharacter::Function, name)?;
     reader.expect('(')?;
     let arguments = arguments(reader, levels)?;
+    let name = FunctionName::new(name);
     Ok(Call { name, arguments })
 }
 

@@ -1,4 +1,5 @@
 pub mod EqualParts
 pub mod EqualTrees
+pub mod FunctionNames
 pub mod Trees
 pub mod Views

@@ -1,3 +1,4 @@
+pub mod Functions
 pub mod Singular
 pub mod Tree
 pub mod Views

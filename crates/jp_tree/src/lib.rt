@@ -15,12 +15,16 @@
 //!
 //! `specs/Tree.antt` has the tree as the definitions speak of it, and which one each value of these
 //! types is. They hold every tree that a query's text spells, and others, such as numbers outside
-//! the ranges of the standard.
+//! the ranges of the standard. `specs/Functions.antt` has the functions and their names.
 #![tactic(auto)]
 
+mod function;
+mod function_name;
 pub mod laws;
 mod tree;
 
+pub use function::Function;
+pub use function_name::FunctionName;
 pub use tree::{
     Argument, Call, Expr, Literal, Numeral, Op, Operand, Query, Segment, Selector, Slice, Subject,
 };

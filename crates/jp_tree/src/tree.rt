@@ -1,5 +1,7 @@
 //! A query's tree (RFC 9535 sections 2.1 to 2.5).
 
+use crate::function_name::FunctionName;
+
 /// A query: an identifier and segments (RFC 9535 section 2.1).
 #[cycle(tree)]
 #[derive(Debug, PartialEq, Eq, Drop)]
@@ -97,7 +99,7 @@ pub enum Operand {
 #[cycle(tree)]
 #[derive(Debug, PartialEq, Eq, Drop)]
 pub struct Call {
-    pub name: String,
+    pub name: FunctionName,
     pub arguments: Vec<Argument>,
 }
 

@@ -1,12 +1,20 @@
 -- Calls as the code goes through them.
-use Rattle.std.specs.Prelude.{ℕ, List}
+use Rattle.std.specs.Prelude.{ℕ, List, Option, Some, None}
 use Rattle.jp_query.specs.Components.{QueryComponent, arguments_components, count}
+use Rattle.jp_tree.specs.declared.function.Function.{Function}
+use Rattle.jp_tree.specs.declared.function.Function.TheVariants.{Distinct}
 use Rattle.jp_tree.specs.Tree.{ArgumentTree, CallTree, arguments, call}
 use Rattle.jp_check.specs.declared.functions.DataType.{DataType}
 use Rattle.jp_check.specs.declared.functions.Signature as declared
 use Rattle.jp_check.specs.declared.profile.Profile.{Profile}
+use Rattle.jp_check.specs.declared.profile.Profile.TheVariants.{Standard}
 use Rattle.jp_check.specs.Functions.{Signature, signature_named}
 use Rattle.jp_check.specs.Types.{wanted_of_arguments}
+
+-- the function that some name has, if the profile has it
+abbrev pub function_within : Profile → Option Function → Option Function
+function_within Standard (Some Distinct) = None
+function_within profile function = function
 
 -- the types of a function
 abbrev pub signature_of : declared.Signature → Signature

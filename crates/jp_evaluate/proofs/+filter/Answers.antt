@@ -5,7 +5,7 @@ use Rattle.jp_document.specs.Value.{whole}
 use Rattle.jp_tree.specs.declared.tree.Expr.{the_lemmas}
 use Rattle.jp_tree.specs.Tree.{call_test}
 use Rattle.jp_tree.specs.Views.{argument_of, call_of, expr_of}
-use Rattle.jp_check.specs.declared.functions.Function.TheVariants.{Count, ValueOf}
+use Rattle.jp_tree.specs.declared.function.Function.TheVariants.{Count, ValueOf}
 use Rattle.jp_evaluate.specs.Functions.{only_value, value_answer}
 use Rattle.jp_evaluate.specs.Nodelist.{argument_value, holds}
 use Rattle.jp_evaluate.specs.Private.Selecting.{nodes_query}

@@ -17,9 +17,9 @@ use Rattle.jp_tree.specs.Tree.{no_exprs, no_segments, no_selectors, node_value, 
 use Rattle.jp_tree.specs.Tree.{query_argument, segment, segment_then, selector_then}
 use Rattle.jp_check.specs.Functions.{function_named}
 use Rattle.jp_check.specs.declared.profile.Profile.TheVariants.{Extended}
-use Rattle.jp_check.specs.declared.functions.Function.{Function}
-use Rattle.jp_check.specs.declared.functions.Function.TheVariants.{Count, Distinct, Length, Match}
-use Rattle.jp_check.specs.declared.functions.Function.TheVariants.{Search, ValueOf}
+use Rattle.jp_tree.specs.declared.function.Function.{Function}
+use Rattle.jp_tree.specs.declared.function.Function.TheVariants.{Count, Distinct, Length, Match}
+use Rattle.jp_tree.specs.declared.function.Function.TheVariants.{Search, ValueOf}
 use Rattle.jp_select.specs.Comparison.{compared}
 use Rattle.jp_select.specs.Selectors.{candidates}
 use Rattle.jp_select.specs.Subtree.{beyond, nodes_in, subtree_of}

@@ -17,9 +17,9 @@ use Rattle.jp_tree.specs.Tree.{text, true_literal}
 use Rattle.jp_tree.specs.declared.tree.Numeral.TheVariants.{Beyond, Fraction, Whole}
 use Rattle.jp_check.specs.Functions.{function_named}
 use Rattle.jp_check.specs.declared.profile.Profile.TheVariants.{Extended}
-use Rattle.jp_check.specs.declared.functions.Function.{Function}
-use Rattle.jp_check.specs.declared.functions.Function.TheVariants.{Count, Distinct, Length, Match}
-use Rattle.jp_check.specs.declared.functions.Function.TheVariants.{Search, ValueOf}
+use Rattle.jp_tree.specs.declared.function.Function.{Function}
+use Rattle.jp_tree.specs.declared.function.Function.TheVariants.{Count, Distinct, Length, Match}
+use Rattle.jp_tree.specs.declared.function.Function.TheVariants.{Search, ValueOf}
 use Rattle.jp_evaluate.specs.Functions.{length_of, only_value, size_of, value_answer}
 use Rattle.jp_evaluate.specs.Laws.{NamesRiseInSides}
 use Rattle.jp_evaluate.specs.Nodelist.{argument_nodes, argument_value, call_answer, literal_value}

@@ -25,9 +25,9 @@ use Rattle.jp_evaluate.specs.Laws.{SelectsNodesAlone, SingularSelectsOne}
 use Rattle.jp_evaluate.specs.Nodelist.{holds, result, segment_result, selected, selection, start_of}
 use Rattle.jp_evaluate.specs.Nodelist.{visited}
 use Rattle.jp_check.specs.Functions.{function_named}
-use Rattle.jp_check.specs.declared.functions.Function.{Function}
-use Rattle.jp_check.specs.declared.functions.Function.TheVariants.{Count, Distinct, Length, Match}
-use Rattle.jp_check.specs.declared.functions.Function.TheVariants.{Search, ValueOf}
+use Rattle.jp_tree.specs.declared.function.Function.{Function}
+use Rattle.jp_tree.specs.declared.function.Function.TheVariants.{Count, Distinct, Length, Match}
+use Rattle.jp_tree.specs.declared.function.Function.TheVariants.{Search, ValueOf}
 use Rattle.jp_check.specs.declared.profile.Profile.TheVariants.{Extended}
 use Rattle.jp_evaluate.specs.Functions.{nodes_answer, without_repeats}
 use Rattle.jp_evaluate.specs.Nodelist.{argument_nodes, call_nodes}

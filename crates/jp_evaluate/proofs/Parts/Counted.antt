@@ -8,9 +8,9 @@ use Rattle.jp_tree.specs.Tree.{ArgumentTree, ArgumentTrees, CallTree, argument_t
 use Rattle.jp_tree.specs.Tree.{call_argument, call_test, literal_argument, logical_argument}
 use Rattle.jp_tree.specs.Tree.{no_arguments, query_argument}
 use Rattle.jp_check.specs.Functions.{function_named}
-use Rattle.jp_check.specs.declared.functions.Function.{Function}
-use Rattle.jp_check.specs.declared.functions.Function.TheVariants.{Count, Distinct, Length, Match}
-use Rattle.jp_check.specs.declared.functions.Function.TheVariants.{Search, ValueOf}
+use Rattle.jp_tree.specs.declared.function.Function.{Function}
+use Rattle.jp_tree.specs.declared.function.Function.TheVariants.{Count, Distinct, Length, Match}
+use Rattle.jp_tree.specs.declared.function.Function.TheVariants.{Search, ValueOf}
 use Rattle.jp_check.specs.declared.profile.Profile.TheVariants.{Extended}
 use Rattle.jp_evaluate.specs.Functions.{nodes_answer, value_answer, without_repeats}
 use Rattle.jp_evaluate.specs.Laws.{StandardCalls}

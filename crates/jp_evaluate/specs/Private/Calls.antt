@@ -6,8 +6,8 @@ use Rattle.jp_tree.specs.Tree.{call_argument, literal_argument, logical_argument
 use Rattle.jp_tree.specs.Tree.{query_argument}
 use Rattle.jp_check.specs.Functions.{function_named}
 use Rattle.jp_check.specs.declared.profile.Profile.TheVariants.{Extended}
-use Rattle.jp_check.specs.declared.functions.Function.{Function}
-use Rattle.jp_check.specs.declared.functions.Function.TheVariants.{Distinct}
+use Rattle.jp_tree.specs.declared.function.Function.{Function}
+use Rattle.jp_tree.specs.declared.function.Function.TheVariants.{Distinct}
 use Rattle.jp_evaluate.specs.Functions.{without_repeats}
 
 -- the function that a call names
