@@ -1,26 +1,27 @@
 -- What single tokens are read as: for `value`.
-use Rattle.std.proofs.Common.{◌≡◌, ◌-◌, ◌<◌, ℕ, zero, suc, Bool, true, List, [], ◌∷◌, Some, length}
-use Rattle.std.proofs.Common.{option_map, refl, sym, ap, subst, ◌∙◌, arith, false, pos, negsuc, drop}
-use Rattle.std.proofs.Common.{◌==◌, ◌^◌, ◌&&◌, nat_lt, slice_index, None}
+use Rattle.std.proofs.Common.{◌≡◌, ◌-◌, ◌<◌, ℕ, zero, suc, Bool, List, [], ◌∷◌, Some, length}
+use Rattle.std.proofs.Common.{option_map, refl, sym, ap, subst, ◌∙◌, arith, false, pos, negsuc, ℤ}
+use Rattle.std.proofs.Common.{◌^◌, ◌&&◌, nat_lt, None}
 use Rattle.std.specs.Str.Parse.{AllDigits, digits_value}
 use Rattle.std.proofs.lemmas.Bool.{and_from, cond-true, lt-ltb}
 use Rattle.std.proofs.lemmas.Bool.Decides.{nat_tests}
 use Rattle.std.proofs.lemmas.Float.Parse.{scan_numeral-text_of}
 use Rattle.std.proofs.lemmas.List.{append-nil}
 use Rattle.std.proofs.lemmas.Str.Parse.{digit_at}
-use Rattle.fast_float.specs.Text.{IsWellFormed, Parts, digits_of, minus, scan, text_of}
+use Rattle.fast_float.specs.Text.{IsWellFormed, Parts, digits_of, scan, text_of}
 use Rattle.json.specs.Json as json
 use Rattle.json.specs.Json.{after_end_array, items, members, parse_map, value}
 use Rattle.json.specs.Token.{Token}
 use Rattle.json.proofs.Grammar.{value_is, value-begin_array, value-begin_object}
 use Rattle.serde_json.specs.Data as parsed
-use Rattle.serde_json.specs.Data.{negative, unsigned}
+use Rattle.serde_json.specs.Data.{unsigned}
 use Rattle.serde_json.specs.Read.{converted, is_integer, number_from, of_items, of_json, of_members}
+use Rattle.jp_document.specs.Integer.{IsWholeText}
 use Rattle.jp_document.specs.Private.Direct.{ReadsItems, ReadsMembers, ReadsValue}
 use Rattle.jp_document.specs.Value.{Value, null, boolean, text, whole, list, object}
 use Rattle.jp_document.specs.Value.{items_of, members_of}
 use Rattle.jp_reading.proofs.Conjunctions.{and-both}
-use Rattle.jp_document.proofs.Tokens.Rounds.{below_zero_text, converted-map, from_zero_text, one_token}
+use Rattle.jp_document.proofs.Tokens.Rounds.{converted-map, from_zero_text, one_token}
 use Rattle.jp_flat.specs.Flat.{Shown, flat_value, number_of, text_at}
 use Rattle.jp_flat.specs.Private.Reading.{ReadsLeaf, IsWholeItem, ReadsFlat, ReadsFlatItems}
 use Rattle.jp_flat.specs.Private.Reading.{ReadsFlatMembers, with_items}
@@ -61,20 +62,19 @@ below_means (suc n) t h = refl
 
 -- ---- whole numbers
 
-pub above_item : (s : List ℕ) (n : ℕ) (h : Halves) → (slice_index s 0 == minus) ≡ false
-    → number_from false (scan s) ≡ Some (unsigned n) → number_of h ≡ n → IsWholeItem s (code.Above h)
-above_item s n h first read is = record {
+pub above_item : (s : List ℕ) (z : ℤ) (h : Halves) → IsWholeText s z → z ≡ pos (number_of h)
+    → IsWholeItem s (code.Above h)
+above_item s z h written is = record {
   number = pos (number_of h);
-  written = from_zero_text s n (pos (number_of h)) first read (ap pos (sym is));
+  written = subst (IsWholeText s) is written;
   means = λ m t. above_means m t h;
 }
 
-pub below_item : (s : List ℕ) (n : ℕ) (h : Halves) → (slice_index s 0 == minus) ≡ true
-    → number_from true (scan (drop 1 s)) ≡ Some (negative (negsuc n)) → number_of h ≡ n
+pub below_item : (s : List ℕ) (z : ℤ) (h : Halves) → IsWholeText s z → z ≡ negsuc (number_of h)
     → IsWholeItem s (code.Below h)
-below_item s n h first read is = record {
+below_item s z h written is = record {
   number = negsuc (number_of h);
-  written = below_zero_text s (negsuc n) (negsuc (number_of h)) first read (ap negsuc (sym is));
+  written = subst (IsWholeText s) is written;
   means = λ m t. below_means m t h;
 }
 
@@ -112,7 +112,9 @@ pub digits_item : (s : List ℕ) (n : ℕ) (h : Halves) → 0 < length s → All
     → digits_value 10 s ≡ n → n < 2 ^ 64 → number_of h ≡ n → IsWholeItem s (code.Above h)
 digits_item s n h some digits write fits is =
     let first = digit_at s 0 digits some in
-    above_item s n h (grind (arith, nat_tests, first)) (digits_read s n some digits write fits) is
+    above_item s (pos n) h
+    (from_zero_text s n (pos n) (grind (arith, nat_tests, first))
+    (digits_read s n some digits write fits) refl) (ap pos (sym is))
 
 -- ---- tokens
 

@@ -1,14 +1,11 @@
 //! Whole numbers from their characters.
-ghost use Rattle.std.specs.Prelude.{◌≡◌, ◌<◌, ◌==◌, ◌-◌, ◌^◌, ◌<ℤ◌, true, false, negsuc, pos, Some};
-ghost use Rattle.std.specs.Prelude.{IfSome, IsTrue, length, slice_index};
-ghost use Rattle.serde_json.specs.Data.{negative, unsigned};
-ghost use Rattle.serde_json.specs.Read.{number_from};
+ghost use Rattle.std.specs.Prelude.{◌≡◌, ◌<◌, ◌==◌, IfSome, IsTrue, length, slice_index};
 ghost use Rattle.jp_flat.specs.Flat.{number_of};
 ghost use Rattle.jp_flat.specs.Private.Reading.{IsWholeItem};
 ghost use Rattle.jp_flat.specs.Private.Tokens.{IsSized};
 
 use crate::item::{Halves, Item};
-use fast_float::Numeral;
+use jp_document::integer_of;
 
 /// The whole number of 64 bits that these characters of JSON write. `size` is what their digits write,
 /// if they are at most 18.
@@ -27,12 +24,12 @@ pub(crate) fn number(bytes: &[u8], size: u64) -> Option<Item>
 fn long_number(bytes: &[u8]) -> Option<Item>
     ensures { IfSome result (IsWholeItem bytes.now) }
 {
-    if has_minus(bytes) {
-        let below = below_zero(&Numeral::scan(&bytes[1..]))?;
+    let whole = integer_of(bytes)?;
+    if whole < 0 {
+        let below = (-1 - whole) as u64;
         Some(Item::Below(halves(below)))
     } else {
-        let above = from_zero(&Numeral::scan(bytes))?;
-        Some(Item::Above(halves(above)))
+        Some(Item::Above(halves(whole as u64)))
     }
 }
 
@@ -42,24 +39,6 @@ fn has_minus(bytes: &[u8]) -> bool
     ensures some { IsTrue result → 0 < length bytes.now }
 {
     !bytes.is_empty() && bytes[0] == b'-'
-}
-
-fn from_zero(numeral: &Numeral<'_>) -> Option<u64>
-    ensures { IfSome result (λ n. number_from false numeral.now ≡ Some (unsigned n)) }
-{
-    numeral.to_u64()
-}
-
-/// How far below -1 a number below 0 is.
-fn below_zero(numeral: &Numeral<'_>) -> Option<u64>
-    ensures { IfSome result (λ n. number_from true numeral.now ≡ Some (negative (negsuc n))) }
-{
-    let number = numeral.to_i64(true)?;
-    if number < 0 {
-        Some(number.unsigned_abs() - 1)
-    } else {
-        None
-    }
 }
 
 #[inline(always)]
