@@ -18,9 +18,9 @@ use std::alloc::{AllocError, Global};
 /// The most positions of a pattern that there is a scan for.
 pub(crate) const MOST_POSITIONS: u64 = 4_096;
 
-/// A matcher that has taken some characters of a text. It keeps none of them: what it knows is a
-/// mark for each position of the pattern, and one for the start. So it never goes back, and a step
-/// takes no memory.
+/// A matcher that has taken some characters of a text. It keeps no text: what it knows is a mark for
+/// each position of the pattern, and one for the start. So it never goes back, and a step takes no
+/// memory.
 #[derive(Drop)]
 pub struct Scan<'p> {
     marking: Marking<'p>,
