@@ -88,7 +88,7 @@ static int by_ten_calls(void) {
 static int by_one_call(void) {
     struct jp_question questions[TEN];
     for (size_t at = 0; at < TEN; at += 1) {
-        questions[at].place = at * SIZE;
+        questions[at].start = at * SIZE;
         questions[at].size = SIZE;
     }
     jp_eval_many((const uint8_t *)ten, TEN * SIZE, questions, TEN, (const uint8_t *)document, strlen(document),

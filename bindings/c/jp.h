@@ -91,9 +91,9 @@ uint32_t jp_eval(const uint8_t *query, size_t query_length,
                  uint32_t form, uint32_t profile,
                  uint8_t *out, size_t out_length, struct jp_report *report);
 
-/* One of many queries: the bytes of the queries' text from its place on, as many as its size says. */
+/* One of many queries: the bytes of the queries' text from its start on, as many as its size says. */
 struct jp_question {
-    size_t place;
+    size_t start;
     size_t size;
     struct jp_report report; /* which the call fills as jp_eval does, whatever it was */
 };

@@ -80,7 +80,7 @@ class _Report(ctypes.Structure):
 
 class _Question(ctypes.Structure):
     _fields_ = [
-        ("place", ctypes.c_size_t),
+        ("start", ctypes.c_size_t),
         ("size", ctypes.c_size_t),
         ("report", _Report),
     ]
@@ -187,11 +187,11 @@ def evaluate_many(
     refused. The document's errors are raised."""
     texts = [_bytes(query) for query in queries]
     questions = (_Question * max(len(texts), 1))()
-    place = 0
+    start = 0
     for question, text in zip(questions, texts):
-        question.place, question.size = place, len(text)
-        place += len(text)
-    arguments = (b"".join(texts), place, questions, len(texts), document, len(document), form, profile)
+        question.start, question.size = start, len(text)
+        start += len(text)
+    arguments = (b"".join(texts), start, questions, len(texts), document, len(document), form, profile)
     room = _take_room()
     size = _library.jp_eval_many(*arguments, room.buffer, room.size)
     if size > room.size:
@@ -204,11 +204,11 @@ def evaluate_many(
 
 def _answers(queries: Sequence[str], questions, written: bytes) -> List[Union[str, QueryError]]:
     answers: List[Union[str, QueryError]] = []
-    place = 0
+    start = 0
     for query, question in zip(queries, questions):
-        end = place + question.report.length
-        text = written[place:end].decode()
-        place = end
+        end = start + question.report.length
+        text = written[start:end].decode()
+        start = end
         refusal = _refusal(question.report, query, text) if question.report.status else None
         if refusal is not None and not isinstance(refusal, QueryError):
             raise refusal

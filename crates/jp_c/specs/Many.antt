@@ -4,16 +4,16 @@ use Rattle.jp_c.specs.Outcome.{filled, report_of, told_text}
 use Rattle.jp_c.specs.declared.many.Question.{Question}
 use Rattle.jp_c.specs.declared.outcome.Outcome as outcome
 
--- the query that a question asks: of these bytes those from its place on, as many as it says
+-- the query that a question asks: of these bytes those from its start on, as many as it says
 abbrev pub query_asked : List ℕ → Question → List ℕ
-query_asked bytes q = take q.size (drop q.place bytes)
+query_asked bytes q = take q.size (drop q.start bytes)
 
 -- the query has an outcome of that kind, whose report the question gets, and whose text this is
 pub record AnswersOne (IsOutcome : List ℕ → outcome.Outcome → Type 0) (bytes : List ℕ)
     (old new : Question) (text : List ℕ) : Type 0 where
   pub o : outcome.Outcome
   pub is : IsOutcome (query_asked bytes old) o
-  pub reports : new ≡ record { place = old.place; size = old.size; report = report_of o }
+  pub reports : new ≡ record { start = old.start; size = old.size; report = report_of o }
   pub tells : text ≡ told_text o
 
 -- each question is answered so, and the texts stand one after another

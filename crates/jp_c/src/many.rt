@@ -19,7 +19,7 @@ use std::alloc::Global;
 #[derive(Debug, Clone, Copy, PartialEq, Eq)]
 pub struct Question {
     /// The byte at which the query begins.
-    pub place: usize,
+    pub start: usize,
     /// How many bytes it has.
     pub size: usize,
     /// What the call answers.
@@ -28,7 +28,7 @@ pub struct Question {
 
 /// Answers each question in turn as `jp_eval` does, over one document, which is read once where it
 /// is accepted: the report goes into the question. A question's query is the bytes of `queries`
-/// from its place on, as many as it says, or as there are. The buffer gets the texts of all
+/// from its start on, as many as it says, or as there are. The buffer gets the texts of all
 /// questions one after another where it has room for all of them, and is else left as it was.
 /// Answers how many bytes these texts have.
 #[unsafe(no_mangle)]
@@ -126,16 +126,16 @@ fn answer_one(subject: &Subject<'_>, queries: &[u8], question: &mut Question, te
         queries.now question.old question.new text
         × (string_bytes texts.new ≡ string_bytes texts.old ++ text) }
 {
-    let query = part(queries, question.place, question.size);
+    let query = part(queries, question.start, question.size);
     let outcome = told_behind(subject.outcome(query), texts);
     question.report = outcome.report();
 }
 
-/// The bytes from a place on, as many as wanted, or as there are.
-fn part(bytes: &[u8], place: usize, size: usize) -> &[u8]
-    ensures { result.now ≡ take size (drop place bytes.now) }
+/// The bytes from a start on, as many as wanted, or as there are.
+fn part(bytes: &[u8], start: usize, size: usize) -> &[u8]
+    ensures { result.now ≡ take size (drop start bytes.now) }
 {
-    let rest = bytes.get(place..).unwrap_or(&[]);
+    let rest = bytes.get(start..).unwrap_or(&[]);
     rest.get(..size).unwrap_or(rest)
 }
 

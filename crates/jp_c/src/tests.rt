@@ -94,9 +94,9 @@ fn checks_in_a_profile(rt: HostRuntime) {
 }
 
 /// A question that is not answered yet.
-fn asked(place: usize, size: usize) -> Question {
+fn asked(start: usize, size: usize) -> Question {
     Question {
-        place,
+        start,
         size,
         report: done(9),
     }

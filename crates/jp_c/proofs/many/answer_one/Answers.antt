@@ -20,7 +20,7 @@ returns c =
             (λ query. IsEvalOutcome subject.form subject.profile query subject.document.now told)
             c.part-query.ensures kept;
         reports = ap
-            (λ r. record { place = question.place; size = question.size; report = r })
+            (λ r. record { start = question.start; size = question.size; report = r })
             c.report-question.ensures;
         tells = refl;
       },
