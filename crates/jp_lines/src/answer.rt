@@ -82,7 +82,9 @@ pub(crate) fn answer<W: Writer>(
     if is_blank_line(line) {
         return Ok(None);
     }
+    // The root is read as a whole, into memory that is kept.
     if let Some(location) = asked.location
+        && !location.is_empty()
         && let Some(found) = flat_value_at(asked.alloc, line, location)
     {
         let value = found_value(&found);

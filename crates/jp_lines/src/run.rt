@@ -26,8 +26,8 @@ const READS: u64 = u64::MAX;
 /// Runs `query`, read in that profile, over the lines of `input`, each of which is one document
 /// (JSON Lines, NDJSON). A line of blanks alone, or of nothing, holds none and is passed over. For
 /// each document in turn, what `options` ask for is written before the next line is read from what
-/// came; one document is in memory at a time. Where the query names a location, the value there is
-/// found while a line is read, and of the rest of the document nothing is kept.
+/// came; one document is in memory at a time. Where the query names a location below the root, the
+/// value there is found while a line is read, without the rest of the document.
 ///
 /// Answers whether some line was refused: a line that is no document is told to `faults`, where
 /// `keep_going` asks the run to go on, and is else the `Line` that the run stops with. What can't be
