@@ -158,7 +158,7 @@ Decides-layers (Pattern-F.Repeat p least most) (Pattern-F.Repeat q from upto) =
 Decides-layers (Pattern-F.Class c) (Pattern-F.Class d) =
     said
     (Decides-and _ _ (booleans_Decides c.negated d.negated)
-    (Decides-class_elements c.items.items d.items.items))
+    (Decides-class_elements c.elements.items d.elements.items))
     (λ e. cc) (λ e. (cc, cc)) (simp out-roll-Pattern)
 Decides-layers x y =
     unlike

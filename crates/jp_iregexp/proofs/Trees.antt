@@ -11,7 +11,7 @@ use Rattle.jp_iregexp.specs.declared.pattern.Pattern.TheVariants.{rolls-Sequence
 use Rattle.jp_iregexp.specs.declared.pattern.Pattern.TheFolds.{fold-roll-Pattern}
 use Rattle.jp_iregexp.specs.Tree.{Tree, tree, node_tree, class, repeat, branches, pieces}
 
-pub tree_class : (c : CharClass) → tree (pattern.Class c) ≡ class c.negated c.items.items
+pub tree_class : (c : CharClass) → tree (pattern.Class c) ≡ class c.negated c.elements.items
 unfolding tree
 tree_class c = ap tree (sym (rolls-Class c)) ∙ fold-roll-Pattern Tree node_tree (one.Class c)
 

@@ -31,7 +31,7 @@ abbrev pub node_tree : Pattern-F Tree → Tree
 node_tree (one.Either bs) = branches bs.items
 node_tree (one.Sequence ps) = pieces ps.items
 node_tree (one.Repeat inner least most) = repeat inner.value least most
-node_tree (one.Class c) = class c.negated c.items.items
+node_tree (one.Class c) = class c.negated c.elements.items
 
 -- the tree of a pattern
 unfoldable pub tree : Pattern → Tree

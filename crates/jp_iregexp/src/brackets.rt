@@ -56,13 +56,13 @@ fn second_letter(reader: &mut Reader) -> Result<Option<char>, Stop>
 /// A class (charClassExpr).
 #[tactic(auto, unfolding(crate::specs::Private::Reading::class_at))]
 pub(crate) fn class(reader: &mut Reader) -> Result<CharClass, Stop>
-    ensures { Gives (λ c. class c.negated c.items.items) result reader.new (class_at reader.old) }
+    ensures { Gives (λ c. class c.negated c.elements.items) result reader.new (class_at reader.old) }
 {
     reader.expect('[')?;
     let negated = negation(reader);
-    let items = all_elements(reader)?;
+    let elements = all_elements(reader)?;
     reader.expect(']')?;
-    Ok(CharClass { negated, items })
+    Ok(CharClass { negated, elements })
 }
 
 // A `^` right after `[` is always the negation.

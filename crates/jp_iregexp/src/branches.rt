@@ -150,11 +150,11 @@ fn one(alloc: Global, c: char) -> Result<Pattern, AllocError>
 fn plain(alloc: Global, element: ClassElement) -> Result<Pattern, AllocError>
     ensures { IfOk result (λ p. tree p ≡ class false (element ∷ [])) }
 {
-    let mut items = Vec::new(alloc);
-    items.push(element)?;
+    let mut elements = Vec::new(alloc);
+    elements.push(element)?;
     Ok(Pattern::Class(CharClass {
         negated: false,
-        items,
+        elements,
     }))
 }
 
@@ -163,11 +163,11 @@ fn plain(alloc: Global, element: ClassElement) -> Result<Pattern, AllocError>
 fn dot(alloc: Global) -> Result<Pattern, AllocError>
     ensures { IfOk result (λ p. tree p ≡ dot) }
 {
-    let mut items = Vec::new(alloc);
-    items.push(ClassElement::Range('\n', '\n'))?;
-    items.push(ClassElement::Range('\r', '\r'))?;
+    let mut elements = Vec::new(alloc);
+    elements.push(ClassElement::Range('\n', '\n'))?;
+    elements.push(ClassElement::Range('\r', '\r'))?;
     Ok(Pattern::Class(CharClass {
         negated: true,
-        items,
+        elements,
     }))
 }

@@ -11,7 +11,7 @@ use crate::category::Category;
 #[derive(Debug, PartialEq, Eq, Drop)]
 pub struct CharClass {
     pub negated: bool,
-    pub items: Vec<ClassElement>,
+    pub elements: Vec<ClassElement>,
 }
 
 /// An element of a character class.
@@ -28,9 +28,9 @@ impl CharClass {
     /// Whether the class holds the character. The categories are those of the crate `unicode`.
     #[tactic(auto, unfolding(crate::specs::Class::class_holds))]
     pub fn holds(&self, c: char) -> bool
-        ensures { result ≡ class_holds self.now.negated self.now.items.items c }
+        ensures { result ≡ class_holds self.now.negated self.now.elements.items c }
     {
-        is_any_holding(&self.items, c) != self.negated
+        is_any_holding(&self.elements, c) != self.negated
     }
 }
 
@@ -46,8 +46,8 @@ impl ClassElement {
     }
 }
 
-fn is_any_holding(items: &[ClassElement], c: char) -> bool
-    ensures { result ≡ list_any (element_holds c) items.now }
+fn is_any_holding(elements: &[ClassElement], c: char) -> bool
+    ensures { result ≡ list_any (element_holds c) elements.now }
 {
-    items.iter().any(|element| element.holds(c))
+    elements.iter().any(|element| element.holds(c))
 }

@@ -38,7 +38,7 @@ impl Tests {
 
     /// Whether the class holds the character. Every class test of every matcher goes through here.
     pub(crate) fn holds(&mut self, class: &CharClass, c: char) -> bool
-        ensures answer { result ≡ holds_in class.now.negated class.now.items.items c }
+        ensures answer { result ≡ holds_in class.now.negated class.now.elements.items c }
         ensures tests { Makes 1 self.old self.new }
     {
         let Tests { made } = self;
@@ -49,9 +49,9 @@ impl Tests {
 
 /// Whether the class holds the character. A class of one range, as most are, is tested in place.
 pub(crate) fn class_holds(class: &CharClass, c: char) -> bool
-    ensures { result ≡ holds_in class.now.negated class.now.items.items c }
+    ensures { result ≡ holds_in class.now.negated class.now.elements.items c }
 {
-    let [only] = class.items.as_slice() else {
+    let [only] = class.elements.as_slice() else {
         return class.holds(c);
     };
     match *only {

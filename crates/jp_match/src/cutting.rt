@@ -124,12 +124,12 @@ fn cut_least(inner: &Pattern, least: u32, chars: usize) -> Option<Within>
 /// A copy of the class.
 fn copy_of(alloc: Global, class: &CharClass) -> Result<CharClass, AllocError>
     ensures negated { IfOk result (λ copy. copy.negated ≡ class.entry.now.negated) }
-    ensures items { IfOk result (λ copy. copy.items.items ≡ class.entry.now.items.items) }
+    ensures elements { IfOk result (λ copy. copy.elements.items ≡ class.entry.now.elements.items) }
 {
-    let mut items = Vec::new(alloc);
-    items.extend_from_slice(&class.items)?;
+    let mut elements = Vec::new(alloc);
+    elements.extend_from_slice(&class.elements)?;
     Ok(CharClass {
         negated: class.negated,
-        items,
+        elements,
     })
 }

@@ -96,7 +96,7 @@ fn admit_repeat(inner: &Pattern, least: u32, most: Option<u32>, ruled_out: &mut 
 
 /// The same for a class.
 fn admit_class(class: &CharClass, ruled_out: &mut [bool; 128])
-    ensures { Admits (Language (one_of class.now.negated class.now.items.items)) ruled_out.old
+    ensures { Admits (Language (one_of class.now.negated class.now.elements.items)) ruled_out.old
         ruled_out.new }
 {
     for code in 0..128u8 {

@@ -116,7 +116,7 @@ pub(crate) fn remove(offsets: &mut Offsets, other: &[bool])
 /// makes a class test for each offset of the set that a character follows.
 pub(crate) fn shift(class: &CharClass, text: &[char], offsets: &mut Offsets, tests: &mut Tests)
     requires { IsOver offsets.old.items text.now }
-    ensures image { IsImage (Language (class_tree class.now.negated class.now.items.items))
+    ensures image { IsImage (Language (class_tree class.now.negated class.now.elements.items))
         text.now offsets.old.items offsets.new.items }
     ensures tests { Makes (followed_count text.now offsets.old.items) tests.old tests.new }
 {

@@ -19,7 +19,7 @@ pub(crate) struct OneClass<'p> {
 #[cycle(one_class)]
 pub(crate) fn one_class(pattern: &Pattern) -> Option<OneClass<'_>>
     ensures { IfSome result (λ one. IsOneClass (unrolled (tree pattern.now)) one.class.now.negated
-        one.class.now.items.items one.is_optional) }
+        one.class.now.elements.items one.is_optional) }
 {
     match pattern {
         Pattern::Either(branches) => only_class(branches),
@@ -36,9 +36,9 @@ pub(crate) fn one_class(pattern: &Pattern) -> Option<OneClass<'_>>
 #[cycle(one_class)]
 fn only_class(parts: &[Pattern]) -> Option<OneClass<'_>>
     ensures branch { IfSome result (λ one. IsOneClass (unrolled (branches (map tree parts.now)))
-        one.class.now.negated one.class.now.items.items one.is_optional) }
+        one.class.now.negated one.class.now.elements.items one.is_optional) }
     ensures piece { IfSome result (λ one. IsOneClass (unrolled (pieces (map tree parts.now)))
-        one.class.now.negated one.class.now.items.items one.is_optional) }
+        one.class.now.negated one.class.now.elements.items one.is_optional) }
 {
     let [only] = parts else {
         return None;
@@ -50,7 +50,7 @@ fn only_class(parts: &[Pattern]) -> Option<OneClass<'_>>
 #[cycle(one_class)]
 fn optional_class(inner: &Pattern, least: u32, most: Option<u32>) -> Option<OneClass<'_>>
     ensures { IfSome result (λ one. IsOneClass (unrolled (repeat (tree inner.now) least most))
-        one.class.now.negated one.class.now.items.items one.is_optional) }
+        one.class.now.negated one.class.now.elements.items one.is_optional) }
 {
     let most = most?;
     if least != 0 || most != 1 {

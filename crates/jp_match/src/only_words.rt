@@ -125,7 +125,7 @@ fn only_char(pattern: &Pattern) -> Option<char>
     if class.negated {
         return None;
     }
-    let [only] = class.items.as_slice() else {
+    let [only] = class.elements.as_slice() else {
         return None;
     };
     match *only {

@@ -57,8 +57,8 @@ pub(crate) fn step_next(part: &Pattern, sweep: &mut Sweep, through: Reach) -> Re
 /// The same for a class: its one position.
 #[inline(always)]
 fn step_class(class: &CharClass, sweep: &mut Sweep, entered: bool) -> Reach
-    requires { IsBefore (plain_class class.now.negated class.now.items.items) sweep.old }
-    ensures { Moves (plain_class class.now.negated class.now.items.items) (at_start entered)
+    requires { IsBefore (plain_class class.now.negated class.now.elements.items) sweep.old }
+    ensures { Moves (plain_class class.now.negated class.now.elements.items) (at_start entered)
         sweep.old sweep.new result }
 {
     let before = sweep.marks[sweep.at];

@@ -18,7 +18,7 @@ fn answers_a_class_of_a_million_items(rt: HostRuntime) -> Result<(), Fail> {
     let text = format!(in rt.alloc(); "[{items}]")?;
     let pattern = read_pattern(rt.alloc(), text.as_str()).expect(&rt, "a pattern");
     let class = only_class(&pattern).expect(&rt, "a class");
-    assert_eq!(rt; class.items.len(), 1_000_000);
+    assert_eq!(rt; class.elements.len(), 1_000_000);
     Ok(())
 }
 

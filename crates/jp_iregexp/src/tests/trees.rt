@@ -9,56 +9,56 @@ const TREES: [(&str, &str); 11] = [
     (
         "a|",
         "Either([\
-            Sequence([Class(CharClass { negated: false, items: [Range('a', 'a')] })]), \
+            Sequence([Class(CharClass { negated: false, elements: [Range('a', 'a')] })]), \
             Sequence([])])",
     ),
     (
         "a",
-        "Either([Sequence([Class(CharClass { negated: false, items: [Range('a', 'a')] })])])",
+        "Either([Sequence([Class(CharClass { negated: false, elements: [Range('a', 'a')] })])])",
     ),
     (
         "[a-]",
         "Either([Sequence([Class(CharClass { \
-            negated: false, items: [Range('a', 'a'), Range('-', '-')] })])])",
+            negated: false, elements: [Range('a', 'a'), Range('-', '-')] })])])",
     ),
     (
         "[^^]",
-        "Either([Sequence([Class(CharClass { negated: true, items: [Range('^', '^')] })])])",
+        "Either([Sequence([Class(CharClass { negated: true, elements: [Range('^', '^')] })])])",
     ),
     (
         "a*",
         "Either([Sequence([Repeat { \
-            inner: Class(CharClass { negated: false, items: [Range('a', 'a')] }), \
+            inner: Class(CharClass { negated: false, elements: [Range('a', 'a')] }), \
             least: 0, most: None }])])",
     ),
     (
         "a+",
         "Either([Sequence([Repeat { \
-            inner: Class(CharClass { negated: false, items: [Range('a', 'a')] }), \
+            inner: Class(CharClass { negated: false, elements: [Range('a', 'a')] }), \
             least: 1, most: None }])])",
     ),
     (
         "a?",
         "Either([Sequence([Repeat { \
-            inner: Class(CharClass { negated: false, items: [Range('a', 'a')] }), \
+            inner: Class(CharClass { negated: false, elements: [Range('a', 'a')] }), \
             least: 0, most: Some(1) }])])",
     ),
     (
         "a{007}",
         "Either([Sequence([Repeat { \
-            inner: Class(CharClass { negated: false, items: [Range('a', 'a')] }), \
+            inner: Class(CharClass { negated: false, elements: [Range('a', 'a')] }), \
             least: 7, most: Some(7) }])])",
     ),
     (
         "a{2,}",
         "Either([Sequence([Repeat { \
-            inner: Class(CharClass { negated: false, items: [Range('a', 'a')] }), \
+            inner: Class(CharClass { negated: false, elements: [Range('a', 'a')] }), \
             least: 2, most: None }])])",
     ),
     (
         "a{2,3}",
         "Either([Sequence([Repeat { \
-            inner: Class(CharClass { negated: false, items: [Range('a', 'a')] }), \
+            inner: Class(CharClass { negated: false, elements: [Range('a', 'a')] }), \
             least: 2, most: Some(3) }])])",
     ),
 ];

@@ -33,7 +33,7 @@ cut-returns-in_ok-class-in-Class t c = rw (
   c.in-Class.is,
   tree_class c.in-Class.class,
   c.in_ok-class-in-Class.ensures.negated,
-  c.in_ok-class-in-Class.ensures.items,
+  c.in_ok-class-in-Class.ensures.elements,
 ) (same_self _ _)
 
 pub cut_each-loop-part-preserved : goal.cut_each-loop-part-preserved

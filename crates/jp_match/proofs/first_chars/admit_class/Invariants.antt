@@ -8,5 +8,5 @@ abbrev pub invariant-loop-code : goal.invariant-loop-code
 invariant-loop-code l = record {
   fewer : IsWithin l.ruled_out l.fn.ruled_out;
   never : (c : ℕ) → c < l.code → IsTrue (get_or l.ruled_out c false)
-      → class_holds l.class.negated l.class.items.items c ≡ false;
+      → class_holds l.class.negated l.class.elements.items c ≡ false;
 }

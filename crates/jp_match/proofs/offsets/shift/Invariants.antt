@@ -5,7 +5,7 @@ use Rattle.jp_match.proofs.offsets.shift.Given as goal
 
 abbrev pub invariant-loop-i : goal.invariant-loop-i
 invariant-loop-i l =
-    let enters = shifted (class_holds l.class.negated l.class.items.items) l.text l.fn.offsets.items
+    let enters = shifted (class_holds l.class.negated l.class.elements.items) l.text l.fn.offsets.items
     in
     record {
       same_length : length l.offsets.items ≡ length l.fn.offsets.items;

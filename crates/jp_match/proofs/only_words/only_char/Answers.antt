@@ -9,7 +9,7 @@ pub returns-in-Range : goal.returns-in-Range
 returns-in-Range c =
     let only = only_range c.as_slice.result.now _ _ c.in-len1.len_at_least c.in-len1.len_below
     c.in-Range.is in
-    let items : c.in-Class.class.items.items ≡ Range c.in-Range.first c.in-Range.first ∷ [] = sym
+    let items : c.in-Class.class.elements.items ≡ Range c.in-Range.first c.in-Range.first ∷ [] = sym
     c.as_slice.ensures.value ∙ only ∙ ap (λ last. Range c.in-Range.first last ∷ []) (sym
     c.if-first-last.true) in
     rw (c.in-Class.is, tree_class, items, c.if-class.false) (only_class c.in-Range.first)
