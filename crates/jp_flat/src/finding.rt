@@ -1,22 +1,24 @@
 //! The value at a location of a document, found while the document is read. Of values that stand
 //! elsewhere nothing is kept but unescaped texts.
-ghost use Rattle.std.specs.Prelude.{◌≡◌, ◌<◌, [], IfSome, OnSome, Some, length, option_map};
+ghost use Rattle.std.specs.Prelude.{◌≡◌, ◌<◌, IfSome, OnSome, length, option_map};
 ghost use Rattle.std.specs.Cmp.Lexicographic.{slice_cmp};
 ghost use Rattle.std.specs.Ordering.{is_eq, nat_cmp};
 ghost use Rattle.jp_document.specs.Location.{named, nth};
-ghost use Rattle.jp_flat.specs.Flat.{Grows, shown, text_at};
+ghost use Rattle.jp_flat.specs.Flat.{Grows, shown};
 ghost use Rattle.jp_flat.specs.Private.Found.{Finds, FindsItem, FindsMember, later, location_of};
-ghost use Rattle.jp_flat.specs.Private.Found.{sought_at, whole_location};
+ghost use Rattle.jp_flat.specs.Private.Found.{IsSoughtIn, sought_at, whole_location};
+ghost use Rattle.jp_flat.specs.Private.Tokens.{IsSpelledIn};
 
 use crate::cursor::Cursor;
-use crate::item::{Item, Span};
+use crate::item::Item;
 use crate::leaf::leaf;
 use crate::parts::bytes_at;
-use crate::reading::{Pending, value};
+use crate::reading::{Pending, lone_value};
 use crate::spans::text_span;
 use crate::tables::Tables;
-use crate::token::Token;
+use crate::token::{Spelled, Token};
 use jp_document::Step;
+use json::Scratch;
 
 /// What is sought in a list or an object: in its part at a step, the value at the rest of a location.
 #[derive(Clone, Copy)]
@@ -43,32 +45,16 @@ pub(crate) fn find(
     ensures text { reader.new.text ≡ reader.old.text }
 {
     match location {
-        Some([]) => find_whole(tables, pending, reader, depth),
+        Some([]) => {
+            let item = lone_value(tables, pending, reader, depth)?;
+            Some(Some(item))
+        }
         Some([step, rest @ ..]) => {
             let sought = Sought { step: *step, rest };
             find_inside(tables, pending, reader, depth, Some(sought))
         }
         None => find_inside(tables, pending, reader, depth, None),
     }
-}
-
-/// Reads the one value that is sought.
-#[inline(never)]
-fn find_whole(
-    tables: &mut Tables<'_>,
-    pending: &mut Pending,
-    reader: &mut Cursor<'_>,
-    depth: usize,
-) -> Option<Option<Item>>
-    requires { reader.old.text ≡ tables.old.text.now }
-    ensures finds { IfSome result (Finds depth reader.old.tokens reader.new.tokens (shown tables.new)
-        (Some [])) }
-    ensures grows { OnSome result (Grows (shown tables.old) (shown tables.new)) }
-    ensures shorter { OnSome result (length reader.new.tokens < length reader.old.tokens) }
-    ensures text { reader.new.text ≡ reader.old.text }
-{
-    let item = value(tables, pending, reader, depth)?;
-    Some(Some(item))
 }
 
 /// Reads one value, and finds what is sought in it, which is not the value itself.
@@ -151,8 +137,7 @@ fn find_member(
 {
     let mut found = None;
     'members: while let Some(name) = reader.next_name()? {
-        let span = text_span(tables, &mut pending.room, name)?;
-        let inside = member_sought(sought, tables, span);
+        let inside = member_sought(tables, &mut pending.room, sought, name)?;
         let item = find(tables, pending, reader, depth, inside)?;
         found = found_later(found, inside, item);
     }
@@ -179,31 +164,46 @@ fn item_sought<'l>(sought: Option<Sought<'l>>, index: u32) -> Option<&'l [Step<'
     }
 }
 
-/// What is sought in the member whose name stands at this span.
+/// What is sought in the member with this name. None where its escapes are none, or no memory is left
+/// to undo them.
 #[inline(always)]
 fn member_sought<'l>(
+    tables: &mut Tables<'_>,
+    room: &mut Vec<Scratch>,
     sought: Option<Sought<'l>>,
-    tables: &Tables<'_>,
-    name: Span,
-) -> Option<&'l [Step<'l>]>
-    ensures { IfSome (text_at (shown tables.now) name)
-        (λ n. location_of result ≡ sought_at (named n) (option_map whole_location sought.entry)) }
+    name: Spelled<'_>,
+) -> Option<Option<&'l [Step<'l>]>>
+    requires { IsSpelledIn tables.old.text.now name }
+    ensures sought { IfSome result (λ inside. IsSoughtIn name.entry (option_map whole_location
+        sought.entry) (location_of inside)) }
+    ensures grows { OnSome result (Grows (shown tables.old) (shown tables.new)) }
+{
+    match name {
+        Spelled::Plain(_, text) => Some(sought_by(sought, text)),
+        Spelled::Escaped(_) => {
+            let span = text_span(tables, room, name)?;
+            let text = bytes_at(tables, span)?;
+            Some(sought_by(sought, text))
+        }
+    }
+}
+
+/// What is sought in the member with the name of these bytes.
+#[inline(always)]
+fn sought_by<'l>(sought: Option<Sought<'l>>, name: &[u8]) -> Option<&'l [Step<'l>]>
+    ensures { location_of result ≡ sought_at (named name.now) (option_map whole_location sought.entry) }
 {
     let Sought { step, rest } = sought?;
     match step {
-        Step::Name(wanted) if is_named(tables, name, wanted) => Some(rest),
+        Step::Name(wanted) if is_same(wanted, name) => Some(rest),
         _ => None,
     }
 }
 
-/// Whether the name at this span is that one.
+/// Whether the text is these bytes.
 #[inline(always)]
-fn is_named(tables: &Tables<'_>, name: Span, wanted: &str) -> bool
-    ensures { IfSome (text_at (shown tables.now) name)
-        (λ n. result ≡ is_eq (slice_cmp nat_cmp wanted.now n)) }
+fn is_same(text: &str, bytes: &[u8]) -> bool
+    ensures { result ≡ is_eq (slice_cmp nat_cmp text.now bytes.now) }
 {
-    match bytes_at(tables, name) {
-        Some(bytes) => wanted.as_bytes() == bytes,
-        None => false,
-    }
+    text.as_bytes() == bytes
 }

@@ -7,7 +7,7 @@ ghost use Rattle.jp_flat.specs.Private.Reading.{ReadsFlatText};
 use crate::cursor::Cursor;
 use crate::flat_value::FlatValue;
 use crate::item::{Item, Named};
-use crate::reading::{Pending, value};
+use crate::reading::{Pending, lone_value};
 use crate::tables::{MAX_DEPTH, Tables, parts_in};
 use std::alloc::Global;
 
@@ -106,6 +106,6 @@ fn root(tables: &mut Tables<'_>, pending: &mut Pending) -> Option<Item>
     ensures { IfSome result (ReadsFlatText tables.old.text.now (shown tables.new)) }
 {
     let mut reader = Cursor::new(tables.text.as_bytes());
-    let item = value(tables, pending, &mut reader, MAX_DEPTH)?;
+    let item = lone_value(tables, pending, &mut reader, MAX_DEPTH)?;
     if reader.is_done() { Some(item) } else { None }
 }

@@ -25,6 +25,14 @@ pub(crate) fn token_at<'t>(bytes: &'t [u8], from: Point) -> Option<(Token<'t>, P
         return None;
     }
     let byte = bytes[from.at];
+    if byte == b'"' {
+        // Most tokens are names and texts.
+        return if may_begin(from.expected) {
+            text(bytes, from)
+        } else {
+            None
+        };
+    }
     if byte == b'}' || byte == b']' {
         return closed(bytes, from, byte);
     }
@@ -32,7 +40,6 @@ pub(crate) fn token_at<'t>(bytes: &'t [u8], from: Point) -> Option<(Token<'t>, P
         return None;
     }
     match byte {
-        b'"' => text(bytes, from),
         b'{' => Some((Token::BeginObject, begun(bytes, from.at + 1))),
         b'[' => Some((Token::BeginArray, begun(bytes, from.at + 1))),
         b't' => literal(bytes, from, b"true", Token::Bool(true)),

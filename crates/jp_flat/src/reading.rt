@@ -62,10 +62,28 @@ impl Pending {
     }
 }
 
+/// Reads one value, with its parts into the tables: a document's, or one that is sought in it. The code
+/// for values that are parts of others stands where they are read.
+#[inline(never)]
+pub(crate) fn lone_value(
+    tables: &mut Tables<'_>,
+    pending: &mut Pending,
+    reader: &mut Cursor<'_>,
+    depth: usize,
+) -> Option<Item>
+    requires { reader.old.text ≡ tables.old.text.now }
+    ensures reads { IfSome result (λ i. ReadsFlat depth reader.old.tokens reader.new.tokens (shown tables.new) i) }
+    ensures grows { OnSome result (Grows (shown tables.old) (shown tables.new)) }
+    ensures shorter { OnSome result (length reader.new.tokens < length reader.old.tokens) }
+    ensures text { reader.new.text ≡ reader.old.text }
+{
+    value(tables, pending, reader, depth)
+}
+
 /// Reads one value, with its parts into the tables.
 #[cycle(reading)]
 #[inline(always)]
-pub(crate) fn value(
+fn value(
     tables: &mut Tables<'_>,
     pending: &mut Pending,
     reader: &mut Cursor<'_>,

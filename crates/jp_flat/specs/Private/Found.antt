@@ -1,17 +1,19 @@
 -- What is found at a location while the tokens of a document are read.
-use Rattle.std.specs.Prelude.{◌≡◌, ℕ, suc, true, List, [], ◌∷◌, Option, Some, None, length, map}
+use Rattle.std.specs.Prelude.{◌≡◌, ℕ, true, List, ◌∷◌, Option, Some, None, length, map}
 use Rattle.std.specs.Prelude.{if◌then◌else◌, option_map}
 use Rattle.std.specs.Borrow.{Bor}
 use Rattle.std.specs.Ordering.{is_eq}
 use Rattle.json.specs.Token.{Token}
-use Rattle.jp_document.specs.Location.{Location, Step, step_cmp, step_of, value_at}
+use Rattle.jp_document.specs.Location.{Location, Step, named, step_cmp, step_of, value_at}
 use Rattle.jp_document.specs.Private.Direct.{ReadsItems, ReadsMembers, ReadsText, ReadsValue}
 use Rattle.jp_document.specs.Value.{Value, everywhere, everywhere_in_items, everywhere_in_members}
 use Rattle.jp_document.specs.Value.{items_of, list, list_fits, members_of, object}
 use Rattle.jp_document.specs.declared.location.Step as code
 use Rattle.jp_flat.specs.Flat.{Shown, flat_value, most_levels}
+use Rattle.jp_flat.specs.Private.Tokens.{said}
 use Rattle.jp_flat.specs.declared.finding.Sought.{Sought}
 use Rattle.jp_flat.specs.declared.item.Item.{Item}
+use Rattle.jp_flat.specs.declared.token.Spelled.{Spelled}
 
 -- the location of these steps, if there are some
 abbrev pub location_of : Option (Bor (List code.Step)) → Option Location
@@ -25,6 +27,12 @@ whole_location s = step_of s.step ∷ map step_of s.rest.now
 abbrev pub sought_at : Step → Option Location → Option Location
 sought_at k (Some (j ∷ l)) = if is_eq (step_cmp j k) then Some l else None
 sought_at k _ = None
+
+-- the name is spelled so, and that is sought in the member that has it
+pub record IsSoughtIn (name : Spelled) (whole inside : Option Location) : Type 0 where
+  pub text : List ℕ
+  pub says : said name ≡ Some text
+  pub is : inside ≡ sought_at (named text) whole
 
 -- the value at the location in v, if there is one, and if a location is sought
 abbrev pub value_sought : Option Location → Value → Option Value

@@ -1,11 +1,9 @@
-use Rattle.std.proofs.Common.{◌≡◌, ◌∷◌, ◌<◌, ◌∙◌, Some, None, arith, ap, length, rules, subst, IfSome}
-use Rattle.std.proofs.Common.{option_map}
+use Rattle.std.proofs.Common.{◌≡◌, ◌∷◌, ◌<◌, Some, None, arith, length, rules, subst}
 use Rattle.json.specs.Json.{after_end_array, read_key}
 use Rattle.json.specs.Token.{Token}
 use Rattle.json.proofs.Grammar.{read_key-shorter}
 use Rattle.jp_flat.specs.Flat.{shown}
-use Rattle.jp_document.specs.Location.{named as named_step}
-use Rattle.jp_flat.specs.Private.Found.{Finds, location_of, sought_at, whole_location}
+use Rattle.jp_flat.specs.Private.Found.{Finds, location_of}
 use Rattle.jp_flat.specs.Private.Tokens.{ReadsName, token_of}
 use Rattle.jp_flat.proofs.FoundInside.{finds-leaf, finds-list, finds-object, items_begin, items_end}
 use Rattle.jp_flat.proofs.FoundInside.{items_more, members_begin, members_end, members_more}
@@ -82,19 +80,16 @@ find_member-members-init t c = record {
 pub find_member-members-preserved : goal.find_member-members-preserved
 find_member-members-preserved t c =
     let l = c.members in
-    let spanned = c.in_ok-span.ensures.spanned in
-    let k = spanned.text in
+    let sought = c.in_ok-inside.ensures.sought in
+    let k = sought.text in
     let a = c.next_name.new.self.tokens in
     let r = c.find.new.reader.tokens in
     let done = c.in_ok-item.ensures in
     let i = c.in_ok-item.item in
-    let here = location_of c.member_sought-inside.result in
-    let w = shown c.text_span.new.tables in
+    let here = location_of c.in_ok-inside.inside in
+    let w = shown c.member_sought.new.tables in
     let named : read_key l.reader.tokens ≡ Some (Some k, a) =
-    subst (ReadsName l.reader.tokens a) c.in-Some.is c.in_ok-name.ensures.reads k spanned.says in
-    let sought : here ≡ sought_at (named_step k) (option_map whole_location c.args.sought) =
-    subst (λ o. IfSome o (λ n. here ≡ sought_at (named_step n) (option_map whole_location c.args.sought)))
-    spanned.there c.member_sought-inside.ensures in
+    subst (ReadsName l.reader.tokens a) c.in-Some.is c.in_ok-name.ensures.reads k sought.says in
     let less = read_key-shorter l.reader.tokens (Some k) a named in
     let lesser = done.shorter in
     let shorter : length r < length l.reader.tokens = omega arith in
@@ -102,7 +97,7 @@ find_member-members-preserved t c =
       so = rw c.found_later-found.ensures
           (members_more c.args.depth c.args.reader.now.tokens l.reader.tokens a r
           (shown c.args.tables.now) (shown l.tables) w (shown c.find.new.tables) c.args.sought k here
-          l.found i named sought shorter c.in_ok-span.ensures.grows done.grows done.finds
+          l.found i named sought.is shorter c.in_ok-inside.ensures.grows done.grows done.finds
           l.invariant.so);
       text = search rules;
     }

@@ -1,8 +1,7 @@
-use Rattle.std.proofs.Common.{◌≡◌, ◌∙◌, IsUtf8, None, Option, Some, map, refl, rules, subst}
+use Rattle.std.proofs.Common.{◌≡◌, ◌∙◌, IsUtf8, map, refl, rules, subst}
 use Rattle.jp_document.specs.Location.{step_of}
 use Rattle.jp_flat.specs.Flat.{shown}
 use Rattle.jp_flat.specs.Private.Found.{FindsInText}
-use Rattle.jp_flat.specs.declared.item.Item.{Item}
 use Rattle.jp_flat.proofs.Documents.{found-sound, none-found, value-found}
 use Rattle.jp_flat.proofs.value_at.flat_value_at.Goals as goal
 
