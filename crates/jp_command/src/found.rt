@@ -15,6 +15,9 @@ use jp_document::Step;
 use jp_lent::Printed;
 use std::alloc::{AllocError, Global};
 
+/// As many bytes as most lines have at most, so that a line grows at most once.
+const SHORT_LINE: usize = 64;
+
 /// The line of the node at a location, with the value that was found there; no line where none was.
 /// The only error is that memory ran out.
 pub fn lines_at<'d, V: Printed>(
@@ -28,6 +31,7 @@ pub fn lines_at<'d, V: Printed>(
 {
     let mut lines = String::new(alloc);
     if let Some(value) = value {
+        lines.reserve(SHORT_LINE)?;
         push_line(form, &mut Front::new(alloc), location, value, &mut lines)?;
     }
     Ok(lines)
