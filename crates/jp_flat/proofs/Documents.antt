@@ -11,7 +11,7 @@ use Rattle.jp_document.proofs.Tokens.Ahead.{document_from_text}
 use Rattle.jp_document.proofs.Tokens.Rounds.{reads-all}
 use Rattle.jp_flat.specs.Flat.{Shown, is_flat, meaning, most_levels, shown}
 use Rattle.jp_flat.specs.FlatValue.{IsValueAt}
-use Rattle.jp_flat.specs.Private.Found.{Finds, FindsInText}
+use Rattle.jp_flat.specs.Private.Found.{FindsAt, FindsInText}
 use Rattle.jp_flat.specs.Private.Reading.{ReadsFlat, ReadsFlatText}
 use Rattle.jp_flat.specs.declared.flat.Flat.{Flat}
 use Rattle.jp_flat.specs.declared.item.Item.{Item}
@@ -39,7 +39,7 @@ flat-sound bytes t i utf8 x =
 -- ---- one value of a document
 
 pub finds-all : (s : List ℕ) (t : Shown) (l : Location) (i : Option Item)
-    → Finds most_levels (tokens s) [] t (Some l) i → FindsInText s t l i
+    → FindsAt most_levels (tokens s) [] t (Some l) i → FindsInText s t l i
 finds-all s t l i x = record {
   value = x.value;
   reads = reads-all s x.value x.reads;

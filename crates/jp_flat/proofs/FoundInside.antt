@@ -24,7 +24,7 @@ use Rattle.jp_document.proofs.Members.ByName.{child-object_nth}
 use Rattle.jp_document.proofs.Tokens.Ahead.{MembersAhead, ahead_member, ahead_members_end}
 use Rattle.jp_reading.proofs.Conjunctions.{and-both}
 use Rattle.jp_flat.specs.Flat.{Grows, Shown}
-use Rattle.jp_flat.specs.Private.Found.{Finds, FindsItem, FindsMember, IsFoundAs, later, sought_at}
+use Rattle.jp_flat.specs.Private.Found.{FindsAt, FindsItem, FindsMember, IsFoundAs, later, sought_at}
 use Rattle.jp_flat.specs.Private.Found.{value_sought, whole_location}
 use Rattle.jp_flat.specs.Private.Reading.{BeginsValues, ReadsLeaf}
 use Rattle.jp_flat.specs.declared.finding.Sought.{Sought}
@@ -139,7 +139,7 @@ items_begin depth ts t s = record {
 pub items_more : (depth : ℕ) (initial ts r : List Token) (t u w : Shown) (s : Option Sought)
     (index : ℕ) (l : Option Location) (found item : Option Item)
     → index + 1 < 2 ^ 32 → l ≡ sought_at (nth index) (option_map whole_location s)
-    → length r < length ts → Grows u w → Finds depth ts r w l item → ItemsFound depth initial ts t u s index found
+    → length r < length ts → Grows u w → FindsAt depth ts r w l item → ItemsFound depth initial ts t u s index found
     → ItemsFound depth initial r t w s (index + 1) (later l found item)
 items_more depth initial ts r t u w s index l found item few inside less more x so = record {
   values = so.values ++ x.value ∷ [];
@@ -266,7 +266,7 @@ pub members_more : (depth : ℕ) (initial ts a r : List Token) (t u w z : Shown)
     (name : List ℕ) (l : Option Location) (found item : Option Item)
     → read_key ts ≡ Some (Some name, a)
     → l ≡ sought_at (named name) (option_map whole_location s) → length r < length ts → Grows u w
-    → Grows w z → Finds depth a r z l item → MembersFound depth initial ts t u s found
+    → Grows w z → FindsAt depth a r z l item → MembersFound depth initial ts t u s found
     → MembersFound depth initial r t z s (later l found item)
 members_more depth initial ts a r t u w z s name l found item key inside less one two x so =
     let more = grows_on u w z one two in
@@ -306,7 +306,7 @@ members_end depth initial ts r t u s found over so = record {
 
 pub finds-list : (depth : ℕ) (ts q r : List Token) (t : Shown) (l : Option Location)
     (i : Option Item) → 0 < depth → ts ≡ Token.begin_array ∷ q → FindsItem (depth - 1) q r t l i
-    → Finds depth ts r t l i
+    → FindsAt depth ts r t l i
 finds-list depth ts q r t l i deep first x = record {
   value = list (items_of x.values);
   reads = reads_list depth ts q r x.values deep first x.reads;
@@ -320,7 +320,7 @@ finds-list depth ts q r t l i deep first x = record {
 
 pub finds-object : (depth : ℕ) (ts q r : List Token) (t : Shown) (l : Option Location)
     (i : Option Item) → 0 < depth → ts ≡ Token.begin_object ∷ q
-    → FindsMember (depth - 1) q r t l i → Finds depth ts r t l i
+    → FindsMember (depth - 1) q r t l i → FindsAt depth ts r t l i
 finds-object depth ts q r t l i deep first x = record {
   value = object (members_of x.members);
   reads = reads_object depth ts q r x.members deep first x.reads;
@@ -342,7 +342,7 @@ nothing_inside n t (Some s) v alone =
 
 pub finds-leaf : (depth : ℕ) (ts r : List Token) (token : Token) (t : Shown) (i : Item)
     (s : Option Sought) → ts ≡ token ∷ r → ReadsLeaf token t i
-    → Finds depth ts r t (option_map whole_location s) None
+    → FindsAt depth ts r t (option_map whole_location s) None
 finds-leaf depth ts r token t i s first leaf =
     let x = leaf depth r t.items in
     record {

@@ -5,7 +5,7 @@ ghost use Rattle.std.specs.Cmp.Lexicographic.{slice_cmp};
 ghost use Rattle.std.specs.Ordering.{is_eq, nat_cmp};
 ghost use Rattle.jp_document.specs.Location.{named, nth};
 ghost use Rattle.jp_flat.specs.Flat.{Grows, shown};
-ghost use Rattle.jp_flat.specs.Private.Found.{Finds, FindsItem, FindsMember, later, location_of};
+ghost use Rattle.jp_flat.specs.Private.Found.{FindsAt, FindsItem, FindsMember, later, location_of};
 ghost use Rattle.jp_flat.specs.Private.Found.{IsSoughtIn, sought_at, whole_location};
 ghost use Rattle.jp_flat.specs.Private.Tokens.{IsSpelledIn};
 
@@ -38,7 +38,7 @@ pub(crate) fn find(
     location: Option<&[Step<'_>]>,
 ) -> Option<Option<Item>>
     requires { reader.old.text ≡ tables.old.text.now }
-    ensures finds { IfSome result (Finds depth reader.old.tokens reader.new.tokens (shown tables.new)
+    ensures finds { IfSome result (FindsAt depth reader.old.tokens reader.new.tokens (shown tables.new)
         (location_of location.entry)) }
     ensures grows { OnSome result (Grows (shown tables.old) (shown tables.new)) }
     ensures shorter { OnSome result (length reader.new.tokens < length reader.old.tokens) }
@@ -68,7 +68,7 @@ fn find_inside(
     sought: Option<Sought<'_>>,
 ) -> Option<Option<Item>>
     requires { reader.old.text ≡ tables.old.text.now }
-    ensures finds { IfSome result (Finds depth reader.old.tokens reader.new.tokens (shown tables.new)
+    ensures finds { IfSome result (FindsAt depth reader.old.tokens reader.new.tokens (shown tables.new)
         (option_map whole_location sought.entry)) }
     ensures grows { OnSome result (Grows (shown tables.old) (shown tables.new)) }
     ensures shorter { OnSome result (length reader.new.tokens < length reader.old.tokens) }

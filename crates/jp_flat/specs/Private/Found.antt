@@ -52,7 +52,7 @@ IsFoundAs n t o (Some i) = (v : Value) × (o ≡ Some v) × (flat_value n t i �
 
 -- the tokens begin with a value, nested no deeper than the number, and the rest follows; what is
 -- sought in it is found as the item
-pub record Finds (depth : ℕ) (ts rest : List Token) (t : Shown) (l : Option Location)
+pub record FindsAt (depth : ℕ) (ts rest : List Token) (t : Shown) (l : Option Location)
     (i : Option Item) : Type 0 where
   pub value : Value
   pub reads : ReadsValue depth ts rest value

@@ -3,7 +3,7 @@ use Rattle.json.specs.Json.{after_end_array, read_key}
 use Rattle.json.specs.Token.{Token}
 use Rattle.json.proofs.Grammar.{read_key-shorter}
 use Rattle.jp_flat.specs.Flat.{shown}
-use Rattle.jp_flat.specs.Private.Found.{Finds, location_of}
+use Rattle.jp_flat.specs.Private.Found.{FindsAt, location_of}
 use Rattle.jp_flat.specs.Private.Tokens.{ReadsName, token_of}
 use Rattle.jp_flat.proofs.FoundInside.{finds-leaf, finds-list, finds-object, items_begin, items_end}
 use Rattle.jp_flat.proofs.FoundInside.{items_more, members_begin, members_end, members_more}
@@ -54,7 +54,7 @@ find_item-items-preserved t c =
     let r = c.find.new.reader.tokens in
     let w = shown c.find.new.tables in
     let less : length r < length l.reader.tokens = rw (← same) done.shorter in
-    let read : Finds c.args.depth l.reader.tokens r w here i = rw (← same) done.finds in
+    let read : FindsAt c.args.depth l.reader.tokens r w here i = rw (← same) done.finds in
     record {
       so = rw c.in_ok-index.ensures.1
           (rw c.found_later-found.ensures
