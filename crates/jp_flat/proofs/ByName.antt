@@ -14,10 +14,7 @@ use Rattle.jp_flat.specs.Private.Reading.{put_all}
 use Rattle.jp_flat.specs.Private.Sorting.{HoldsByName, PutsByName}
 use Rattle.jp_flat.specs.declared.item.Item.{Item}
 use Rattle.jp_flat.specs.declared.item.Named.{Named}
-use Rattle.jp_flat.proofs.Names.{all_of_last, put_all-push}
-
-abbrev Pair : Type 0
-Pair = List ℕ × Value
+use Rattle.jp_flat.proofs.Names.{Pair, all_of_last, put_all-push}
 
 abbrev Entry : Type 0
 Entry = Bor (List ℕ) × Named

@@ -19,7 +19,8 @@ use Rattle.jp_flat.specs.Private.Reading.{IsAboveLast, put_all}
 use Rattle.jp_flat.specs.declared.item.Item.{Item}
 use Rattle.jp_flat.specs.declared.item.Named.{Named}
 
-abbrev Pair : Type 0
+-- a member: its name and its value
+abbrev pub Pair : Type 0
 Pair = List ℕ × Value
 
 -- one member more goes in last

@@ -25,10 +25,7 @@ use Rattle.jp_flat.specs.Private.Sorting.{Puts, PutsAll}
 use Rattle.jp_flat.specs.declared.item.Item.{Item}
 use Rattle.jp_flat.specs.declared.item.Named.{Named}
 use Rattle.jp_flat.proofs.Growth.{length-all_of}
-use Rattle.jp_flat.proofs.Names.{all_of_last, put_all-push}
-
-abbrev Pair : Type 0
-Pair = List ℕ × Value
+use Rattle.jp_flat.proofs.Names.{Pair, all_of_last, put_all-push}
 
 -- ---- names of members
 
