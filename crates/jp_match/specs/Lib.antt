@@ -1,3 +1,4 @@
+pub mod Bounds
 pub mod Part
 pub mod Scan
 pub mod Private

@@ -4,8 +4,8 @@ ghost use Rattle.std.specs.Prelude.{◌≡◌, map, false};
 ghost use Rattle.jp_iregexp.specs.Tree.{tree, branches, pieces, repeat};
 ghost use Rattle.jp_iregexp.specs.Language.{Language};
 ghost use Rattle.jp_iregexp.specs.Positions.{positions_of};
+ghost use Rattle.jp_match.specs.Bounds.{MakesAtMost};
 ghost use Rattle.jp_match.specs.Private.Beginning.{NeverBegins};
-ghost use Rattle.jp_match.specs.Private.ClassTests.{MakesAtMost};
 
 use crate::class_tests::Tests;
 use jp_iregexp::Pattern;

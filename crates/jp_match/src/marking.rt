@@ -4,8 +4,8 @@ ghost use Rattle.std.specs.Prelude.{◌≡◌, ◌^◌, ℕ, ◌≤◌, IsTrue, 
 ghost use Rattle.std.specs.Prelude.{get_or, true, false, ◌||◌};
 ghost use Rattle.jp_iregexp.specs.Tree.{tree};
 ghost use Rattle.jp_iregexp.specs.Positions.{positions_of};
+ghost use Rattle.jp_match.specs.Bounds.{MakesAtMost};
 ghost use Rattle.jp_match.specs.Private.Plain.{unrolled};
-ghost use Rattle.jp_match.specs.Private.ClassTests.{MakesAtMost};
 ghost use Rattle.jp_match.specs.Private.Marks.{Ends, Steps};
 ghost use Rattle.jp_match.specs.Private.Sweeps.{rounds_of, rounds_end, marks_end};
 ghost use Rattle.jp_match.specs.Private.Sweeps.{takes_none};

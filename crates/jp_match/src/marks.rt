@@ -1,14 +1,15 @@
 //! The matcher of positions: a scan stepped once over the text.
 
-ghost use Rattle.std.specs.Prelude.{◌≡◌, ◌↔◌, ◌+◌, ◌*◌, ◌≤◌, ℕ, IfSome, IsTrue, List, [], ◌∷◌};
+ghost use Rattle.std.specs.Prelude.{◌≡◌, ◌↔◌, ◌*◌, ◌≤◌, ℕ, IfSome, IsTrue, List, [], ◌∷◌};
 ghost use Rattle.std.specs.Prelude.{length, take};
 ghost use Rattle.std.specs.Str.{chars};
 ghost use Rattle.jp_iregexp.specs.Tree.{tree};
 ghost use Rattle.jp_iregexp.specs.Language.{Language};
 ghost use Rattle.jp_iregexp.specs.Positions.{positions_of};
+ghost use Rattle.jp_match.specs.Bounds.{KeepsBound, MakesAtMost};
 ghost use Rattle.jp_match.specs.Part.{HasPart};
 ghost use Rattle.jp_match.specs.Private.Beginning.{RulesOut};
-ghost use Rattle.jp_match.specs.Private.ClassTests.{LeavesRoom, MakesAtMost};
+ghost use Rattle.jp_match.specs.Private.ClassTests.{LeavesRoom};
 ghost use Rattle.jp_match.specs.Private.Search.{IsFound};
 ghost use Rattle.jp_match.specs.Scan.{Left, tree_of};
 
@@ -86,8 +87,8 @@ fn whole_of(
 ) -> Result<bool, AllocError>
     ensures found { IsFound (λ answer. IsTrue answer ↔ Language (tree counted.entry.pattern.now)
         (chars text.entry.now)) tests.old tests.new result }
-    ensures bound { positions_of (tree counted.entry.pattern.now) ≤ 4096 → tests.new ≤ tests.old +
-        positions_of (tree counted.entry.pattern.now) * length (chars text.entry.now) }
+    ensures tests { KeepsBound (tree counted.entry.pattern.now) (chars text.entry.now) tests.old
+        tests.new }
 {
     match Scan::of_counted(alloc, counted, false)? {
         Some(mut scan) => Ok(accepts_whole(&mut scan, text, tests)),
@@ -107,8 +108,8 @@ fn part_of(
         counted.pattern.now))) }
     ensures found { IsFound (λ answer. IsTrue answer ↔ HasPart (Language (tree
         counted.entry.pattern.now)) (chars text.entry.now)) tests.old tests.new result }
-    ensures bound { positions_of (tree counted.entry.pattern.now) ≤ 4096 → tests.new ≤ tests.old +
-        positions_of (tree counted.entry.pattern.now) * length (chars text.entry.now) }
+    ensures tests { KeepsBound (tree counted.entry.pattern.now) (chars text.entry.now) tests.old
+        tests.new }
 {
     match Scan::of_counted(alloc, counted, true)? {
         Some(mut scan) => Ok(accepts_prefix(&mut scan, first_chars, text, tests)),

@@ -1,10 +1,10 @@
 //! What a matcher answers.
 
-ghost use Rattle.std.specs.Prelude.{◌↔◌, ◌+◌, ◌*◌, ◌≤◌, IfOk, IsTrue, length};
+ghost use Rattle.std.specs.Prelude.{◌↔◌, IfOk, IsTrue};
 ghost use Rattle.std.specs.Str.{chars};
 ghost use Rattle.jp_iregexp.specs.Tree.{tree};
 ghost use Rattle.jp_iregexp.specs.Language.{Language};
-ghost use Rattle.jp_iregexp.specs.Positions.{positions_of};
+ghost use Rattle.jp_match.specs.Bounds.{KeepsBound};
 ghost use Rattle.jp_match.specs.Part.{HasPart};
 
 use crate::class_tests::Tests;
@@ -27,9 +27,7 @@ pub trait Matching {
     ) -> Result<bool, AllocError>
         ensures exact { IfOk result (λ answer. IsTrue answer ↔ Language (tree pattern.now) (chars
             text.now)) }
-        ensures bound { positions_of (tree pattern.now) ≤ 4096
-            → tests.new ≤ tests.old + positions_of (tree pattern.now) * length (chars text.now) }
-        ensures kept { tests.old ≤ tests.new };
+        ensures tests { KeepsBound (tree pattern.now) (chars text.now) tests.old tests.new };
 
     /// Whether some part of the text is in the language of the pattern, the empty parts included
     /// (RFC 9535 section 2.4.7).
@@ -42,9 +40,7 @@ pub trait Matching {
     ) -> Result<bool, AllocError>
         ensures exact { IfOk result (λ answer. IsTrue answer ↔ HasPart (Language (tree
             pattern.now)) (chars text.now)) }
-        ensures bound { positions_of (tree pattern.now) ≤ 4096
-            → tests.new ≤ tests.old + positions_of (tree pattern.now) * length (chars text.now) }
-        ensures kept { tests.old ≤ tests.new };
+        ensures tests { KeepsBound (tree pattern.now) (chars text.now) tests.old tests.new };
 
     /// The same as `whole`, for a pattern that was counted before.
     fn whole_counted(
@@ -56,9 +52,7 @@ pub trait Matching {
     ) -> Result<bool, AllocError>
         ensures exact { IfOk result (λ answer. IsTrue answer ↔ Language (tree pattern.now.pattern)
             (chars text.now)) }
-        ensures bound { positions_of (tree pattern.now.pattern) ≤ 4096
-            → tests.new ≤ tests.old + positions_of (tree pattern.now.pattern) * length (chars text.now) }
-        ensures kept { tests.old ≤ tests.new }
+        ensures tests { KeepsBound (tree pattern.now.pattern) (chars text.now) tests.old tests.new }
     {
         self.whole(alloc, pattern.pattern(), text, tests)
     }
@@ -73,9 +67,7 @@ pub trait Matching {
     ) -> Result<bool, AllocError>
         ensures exact { IfOk result (λ answer. IsTrue answer ↔ HasPart (Language (tree
             pattern.now.pattern)) (chars text.now)) }
-        ensures bound { positions_of (tree pattern.now.pattern) ≤ 4096
-            → tests.new ≤ tests.old + positions_of (tree pattern.now.pattern) * length (chars text.now) }
-        ensures kept { tests.old ≤ tests.new }
+        ensures tests { KeepsBound (tree pattern.now.pattern) (chars text.now) tests.old tests.new }
     {
         self.part(alloc, pattern.pattern(), text, tests)
     }

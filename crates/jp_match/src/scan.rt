@@ -1,11 +1,11 @@
 //! A scan, which takes a text one character at a time.
 
-ghost use Rattle.std.specs.Prelude.{◌≡◌, ◌↔◌, ℕ, ◌+◌, ◌≤◌, IfOk, IsTrue, List, [], ◌∷◌, false};
+ghost use Rattle.std.specs.Prelude.{◌≡◌, ◌↔◌, ℕ, IfOk, IsTrue, List, [], ◌∷◌, false};
 ghost use Rattle.jp_iregexp.specs.Tree.{tree};
 ghost use Rattle.jp_iregexp.specs.Language.{Language};
 ghost use Rattle.jp_iregexp.specs.Positions.{positions_of};
+ghost use Rattle.jp_match.specs.Bounds.{MakesAtMost};
 ghost use Rattle.jp_match.specs.Private.Beginning.{NeverBegins};
-ghost use Rattle.jp_match.specs.Private.ClassTests.{MakesAtMost};
 ghost use Rattle.jp_match.specs.Scan.{Begins, Left, tree_of};
 
 use crate::beginning::may_begin;
@@ -66,8 +66,7 @@ impl<'p> Scan<'p> {
     pub fn step(&mut self, c: char, tests: &mut Tests)
         ensures left { (word : List ℕ) → Left self.new word ↔ Left self.old (c ∷ word) }
         ensures same { tree_of self.new ≡ tree_of self.old }
-        ensures counted { tests.new ≤ tests.old + positions_of (tree_of self.old) }
-        ensures kept { tests.old ≤ tests.new }
+        ensures tests { MakesAtMost (positions_of (tree_of self.old)) tests.old tests.new }
     {
         self.advance(c, tests);
     }

@@ -6,7 +6,7 @@ use Rattle.std.proofs.lemmas.List.{get_or-drop}
 use Rattle.jp_iregexp.specs.Tree.{Tree, branches, pieces}
 use Rattle.jp_match.specs.declared.sweep.Reach.{Reach}
 use Rattle.jp_match.specs.declared.sweep.Sweep.{Sweep}
-use Rattle.jp_match.specs.Private.ClassTests.{MakesAtMost}
+use Rattle.jp_match.specs.Bounds.{MakesAtMost}
 use Rattle.jp_match.specs.Private.Plain.{Plain, class, nothing, either, empty, sequence}
 use Rattle.jp_match.specs.Private.Plain.{plus, unrolled}
 use Rattle.jp_match.specs.Private.Marks.{size, Ends}

@@ -6,7 +6,7 @@ use Rattle.std.proofs.lemmas.List.{get_or_past}
 use Rattle.jp_iregexp.specs.Tree.{Tree, branches}
 use Rattle.jp_match.specs.declared.sweep.Reach.{Reach}
 use Rattle.jp_match.specs.declared.sweep.Sweep.{Sweep}
-use Rattle.jp_match.specs.Private.ClassTests.{MakesAtMost}
+use Rattle.jp_match.specs.Bounds.{MakesAtMost}
 use Rattle.jp_match.specs.Private.Plain.{Plain, nothing, either, unrolled}
 use Rattle.jp_match.specs.Private.Marks.{size, Ends, Steps}
 use Rattle.jp_match.specs.Private.Sweeps.{rounds_of, takes_none, IsUnmarked, Moves, IsAtStart, MovesAll}

@@ -5,7 +5,8 @@ use Rattle.std.proofs.lemmas.List.{append_assoc, append-nil, length-append, leng
 use Rattle.std.proofs.lemmas.List.{take-append-drop, take_all, take_at, take_more}
 use Rattle.std.proofs.Math.Nat.{mul-le-mul_left}
 use Rattle.jp_match.specs.Part.{HasPart}
-use Rattle.jp_match.specs.Private.ClassTests.{LeavesRoom, MakesAtMost}
+use Rattle.jp_match.specs.Bounds.{MakesAtMost}
+use Rattle.jp_match.specs.Private.ClassTests.{LeavesRoom}
 use Rattle.jp_match.specs.Scan.{HasSuffix}
 
 pub taken_more : (text taken : List ℕ) (x : ℕ) → taken ≡ take (length taken) text

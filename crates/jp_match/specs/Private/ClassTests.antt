@@ -11,11 +11,6 @@ pub record Makes (made before after : ℕ) : Type 0 where
   pub counted : after ≡ count_after made before
   pub kept : before ≤ after
 
--- at most so many tests are made
-pub record MakesAtMost (most before after : ℕ) : Type 0 where
-  pub counted : after ≤ before + most
-  pub kept : before ≤ after
-
 -- no test is made, or so many more still fit in a budget
 pub record LeavesRoom (room budget before after : ℕ) : Type 0 where
   pub left : (after ≤ before) ⊎ (after + room ≤ budget)

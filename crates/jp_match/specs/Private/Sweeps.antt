@@ -5,7 +5,7 @@ use Rattle.std.specs.Prelude.{not, nat_le, ⊤, List, [], drop, length, get_or}
 use Rattle.jp_match.specs.declared.sweep.Reach.{Reach}
 use Rattle.jp_match.specs.declared.sweep.Sweep.{Sweep}
 use Rattle.jp_match.specs.Private.Plain.{Plain, class, nothing, either, empty, sequence, plus}
-use Rattle.jp_match.specs.Private.ClassTests.{MakesAtMost}
+use Rattle.jp_match.specs.Bounds.{MakesAtMost}
 use Rattle.jp_match.specs.Private.Marks.{size, Rest, Ends, Steps}
 
 -- a repeat without a most keeps whether a round of it has ended: not where a class is repeated, for

@@ -1,7 +1,7 @@
 use Rattle.std.proofs.Common.{◌≡◌, ◌↔◌, ◌+◌, ◌*◌, ◌≤◌, ◌<◌, ◌++◌, ℕ, List, length, take}
 use Rattle.std.specs.Str.{chars}
 use Rattle.jp_iregexp.specs.Positions.{positions_of}
-use Rattle.jp_match.specs.Private.ClassTests.{MakesAtMost}
+use Rattle.jp_match.specs.Bounds.{MakesAtMost}
 use Rattle.jp_match.specs.Scan.{Left, tree_of}
 use Rattle.jp_match.proofs.marks.accepts_prefix.Given as goal
 

@@ -29,9 +29,9 @@ loop-c-preserved c =
       left = left_more _ _ (Left c.args.scan.now) c.loop-c.yielded c.in-Some.c
           c.loop-c.invariant.left c.step.ensures.left;
       same = c.step.ensures.same ∙ c.loop-c.invariant.same;
-      counted = rw more (let step = rw c.loop-c.invariant.same at c.step.ensures.counted in
+      counted = rw more (let step = rw c.loop-c.invariant.same at c.step.ensures.tests.counted in
           omega (arith, step, c.loop-c.invariant.counted));
-      kept = omega (arith, c.step.ensures.kept, c.loop-c.invariant.kept);
+      kept = omega (arith, c.step.ensures.tests.kept, c.loop-c.invariant.kept);
     }
 
 pub returns-clause-accepted : goal.returns-clause-accepted

@@ -1,6 +1,6 @@
 use Rattle.std.proofs.Common.{◌≡◌, ◌≤◌, ℕ, false, map, drop, get_or}
 use Rattle.jp_iregexp.specs.Tree.{tree, pieces}
-use Rattle.jp_match.specs.Private.ClassTests.{MakesAtMost}
+use Rattle.jp_match.specs.Bounds.{MakesAtMost}
 use Rattle.jp_match.specs.Private.Plain.{unrolled}
 use Rattle.jp_match.specs.Private.Sweeps.{nowhere}
 use Rattle.jp_match.proofs.Steps.Sweeping.{Swept}
