@@ -3,6 +3,7 @@ pub mod Along
 pub mod Anywhere
 pub mod Elements
 pub mod Joined
+pub mod Only
 pub mod Repeats
 pub mod Sides
 pub mod Standing

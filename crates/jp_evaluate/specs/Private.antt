@@ -6,5 +6,4 @@ pub mod ReadText
 pub mod Selecting
 pub mod Singular
 pub mod Sizes
-pub mod Steps
 pub mod Walk

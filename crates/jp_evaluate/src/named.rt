@@ -1,9 +1,9 @@
 //! The location that a query names (RFC 9535 section 2.7).
-ghost use Rattle.std.specs.Prelude.{IfOk, IfSome, map};
+ghost use Rattle.std.specs.Prelude.{◌≡◌, IfOk, IfSome, is_some, map, option_map};
 ghost use Rattle.jp_document.specs.Location.{step_of};
 ghost use Rattle.jp_tree.specs.Views.{query_of, segment_of, selector_of};
-ghost use Rattle.jp_evaluate.specs.Named.{NamesLocation};
-ghost use Rattle.jp_evaluate.specs.Private.Steps.{SegmentNames, SelectorNames};
+ghost use Rattle.jp_evaluate.specs.Named.{NamesLocation, location_named, step_of_segment};
+ghost use Rattle.jp_evaluate.specs.Named.{step_of_selector};
 
 use jp_check::Checked;
 use jp_document::Step;
@@ -18,8 +18,10 @@ pub fn named_location<'q>(
     alloc: Global,
     query: &'q Checked,
 ) -> Result<Option<Vec<Step<'q>>>, AllocError>
-    ensures { IfOk result (λ o. IfSome o
+    ensures names { IfOk result (λ o. IfSome o
         (λ l. NamesLocation (query_of query.now.query) (map step_of l.items))) }
+    ensures exact { IfOk result (λ o. option_map (λ l. map step_of l.items) o
+        ≡ location_named (query_of query.now.query)) }
 {
     let query = query.query();
     if !names_steps(query) {
@@ -29,7 +31,9 @@ pub fn named_location<'q>(
 }
 
 /// Whether each segment names a step.
-fn names_steps(query: &Query) -> bool {
+fn names_steps(query: &Query) -> bool
+    ensures { result ≡ is_some (location_named (query_of query.now)) }
+{
     for segment in &query.segments {
         if segment_step(segment).is_none() {
             return false;
@@ -43,8 +47,8 @@ fn location_of_steps<'q>(
     alloc: Global,
     query: &'q Query,
 ) -> Result<Option<Vec<Step<'q>>>, AllocError>
-    ensures { IfOk result (λ o. IfSome o
-        (λ l. NamesLocation (query_of query.now) (map step_of l.items))) }
+    ensures { IfOk result (λ o. option_map (λ l. map step_of l.items) o
+        ≡ location_named (query_of query.now)) }
 {
     let mut location = Vec::with_capacity(alloc, query.segments.len())?;
     for segment in &query.segments {
@@ -59,7 +63,7 @@ fn location_of_steps<'q>(
 /// The step that a segment names, None for a descendant segment, and for one with no selector or
 /// several.
 fn segment_step(segment: &Segment) -> Option<Step<'_>>
-    ensures { IfSome result (λ k. SegmentNames (segment_of segment.now) (step_of k)) }
+    ensures { option_map step_of result ≡ step_of_segment (segment_of segment.now) }
 {
     if segment.descendant || segment.selectors.len() != 1 {
         return None;
@@ -69,7 +73,7 @@ fn segment_step(segment: &Segment) -> Option<Step<'_>>
 
 /// The step that a selector names, None for others than names and indexes from 0 on.
 fn selector_step(selector: &Selector) -> Option<Step<'_>>
-    ensures { IfSome result (λ k. SelectorNames (selector_of selector.now) (step_of k)) }
+    ensures { option_map step_of result ≡ step_of_selector (selector_of selector.now) }
 {
     match selector {
         Selector::Name(name) => Some(Step::Name(name.as_str())),

@@ -1,11 +1,9 @@
 -- The values that singular queries select, step by step.
-use Rattle.std.proofs.Common.{◌≡◌, ◌≢◌, ℕ, Bool, true, false, if◌then◌else◌}
+use Rattle.std.proofs.Common.{◌≡◌, ℕ, Bool, true, false, if◌then◌else◌}
 use Rattle.std.proofs.Common.{List, [], ◌∷◌, ◌++◌, Option, Some, None}
-use Rattle.std.proofs.Common.{length, map, option_map, option_to_list}
-use Rattle.std.proofs.Common.{option_and_then, IsUtf8, refl, ap, sym, ◌∙◌, subst, arith}
-use Rattle.std.specs.List.{slice_get}
+use Rattle.std.proofs.Common.{map, option_map, option_to_list}
+use Rattle.std.proofs.Common.{option_and_then, IsUtf8, refl, ap, sym, ◌∙◌, subst}
 use Rattle.std.specs.Str.{chars, encode_utf8_all}
-use Rattle.std.proofs.lemmas.Option.{same_Some}
 use Rattle.std.proofs.lemmas.Str.{encodes-chars}
 use Rattle.jp_document.specs.Location.{Step, Location}
 use Rattle.jp_document.specs.Node.{Node, node_below, root_of}
@@ -14,17 +12,16 @@ use Rattle.jp_tree.specs.Singular.{are_single}
 use Rattle.jp_tree.specs.Tree.{SegmentTrees, SelectorTree, filter, index, name, no_segments}
 use Rattle.jp_tree.specs.Tree.{no_selectors, segment, segment_then, segments}
 use Rattle.jp_tree.specs.Views.{query_of, segment_of}
-use Rattle.jp_tree.specs.Tree.{selector_then, selectors, slice, wildcard}
-use Rattle.jp_tree.specs.Views.{selector_of}
+use Rattle.jp_tree.specs.Tree.{selector_then, slice, wildcard}
 use Rattle.jp_tree.specs.declared.tree.Query.{Query, out-Query}
-use Rattle.jp_tree.specs.declared.tree.Segment.{Segment, out-Segment}
-use Rattle.jp_tree.specs.declared.tree.Selector.{Selector}
+use Rattle.jp_tree.specs.declared.tree.Segment.{Segment}
 use Rattle.jp_select.specs.Selectors.{single as single_entry}
 use Rattle.jp_evaluate.specs.Nodelist.{nodelist_at, result, single_node_value, start_of}
 use Rattle.jp_evaluate.specs.Functions.{only_value}
 use Rattle.jp_evaluate.specs.Private.Singular.{chosen_value, single_value, values_along}
 use Rattle.jp_evaluate.proofs.Nodelists.Joined.{result-none}
-use Rattle.jp_tree.proofs.Views.{query_of-is, segment_of-is}
+use Rattle.jp_evaluate.proofs.Nodelists.Only.{IsOfOne}
+use Rattle.jp_tree.proofs.Views.{query_of-is}
 
 -- the characters of a text spell its bytes
 pub text-spelled : (bytes text : List ℕ) → IsUtf8 bytes → bytes ≡ text
@@ -35,48 +32,9 @@ text-spelled bytes text utf8 same =
 
 -- ---- one segment
 
-none_of_several : (b : Bool) (xs : List Selector) (v : Value) → length xs ≢ 1
-    → single_value (segment b (selectors (map selector_of xs))) v ≡ None
-none_of_several true xs v not = refl
-none_of_several false [] v not = refl
-none_of_several false (x ∷ []) v not = absurd (not refl)
-none_of_several false (x ∷ y ∷ xs) v not = refl
-
--- segments with several selectors or none, and descendant segments, select no single value
-pub not_single : (s : Segment) (v : Value) → length (out-Segment s).selectors.items ≢ 1
-    → single_value (segment_of s) v ≡ None
-not_single s v not =
-    ap (λ t. single_value t v) (segment_of-is s)
-    ∙ none_of_several (out-Segment s).descendant (out-Segment s).selectors.items v not
-
-chosen_by_only : (b : Bool) (xs : List Selector) (x : Selector) (v : Value) → b ≡ false
-    → length xs ≡ 1 → Some x ≡ slice_get xs 0
-    → chosen_value (selector_of x) v ≡ single_value (segment b (selectors (map selector_of xs))) v
-chosen_by_only true xs x v child one first = absurd (cc)
-chosen_by_only false [] x v child one first = absurd (cc)
-chosen_by_only false (y ∷ []) x v child one first =
-    ap (λ z. chosen_value (selector_of z) v) (same_Some x y first)
-chosen_by_only false (y ∷ z ∷ xs) x v child one first = absurd (omega arith)
-
--- a child segment with one selector selects what the selector does
-pub single : (s : Segment) (x : Selector) (v : Value) → (out-Segment s).descendant ≡ false
-    → length (out-Segment s).selectors.items ≡ 1
-    → Some x ≡ slice_get (out-Segment s).selectors.items 0
-    → chosen_value (selector_of x) v ≡ single_value (segment_of s) v
-single s x v child one first =
-    chosen_by_only (out-Segment s).descendant (out-Segment s).selectors.items x v child one first
-    ∙ sym (ap (λ t. single_value t v) (segment_of-is s))
-
-descends : (b : Bool) (s : List Selector) (v : Value) → b ≡ true
-    → single_value (segment b (selectors (map selector_of s))) v ≡ None
-descends true s v is = refl
-descends false s v is = absurd (cc)
-
-pub not_child : (s : Segment) (v : Value) → (out-Segment s).descendant ≡ true
-    → single_value (segment_of s) v ≡ None
-not_child s v is =
-    ap (λ t. single_value t v) (segment_of-is s)
-    ∙ descends (out-Segment s).descendant (out-Segment s).selectors.items v is
+-- only a child segment with one selector selects a single value
+pub of_one : (v : Value) → IsOfOne (λ s. single_value s v)
+of_one v = record { descends = λ ss. refl; empty = refl; several = λ x y more. refl }
 
 -- ---- the segments of a query
 

@@ -1,8 +1,8 @@
-use Rattle.std.proofs.Common.{◌≡◌, ◌+◌, ◌++◌, [], ◌∷◌, ap, drop, map, subst, sym, ◌∙◌}
+use Rattle.std.proofs.Common.{◌≡◌, ◌+◌, ◌++◌, [], ◌∷◌, ap, drop, map, option_map, subst, sym, ◌∙◌}
 use Rattle.std.proofs.lemmas.List.{drop_more, map-append}
 use Rattle.jp_document.specs.Location.{step_of}
 use Rattle.jp_tree.specs.Views.{query_of}
-use Rattle.jp_evaluate.proofs.Paths.Steps.{LeadOn, lead-next}
+use Rattle.jp_evaluate.proofs.Paths.Steps.{Continues, continues-next}
 use Rattle.jp_evaluate.proofs.named.location_of_steps.Goals as goal
 
 pub loop-segment-preserved : goal.loop-segment-preserved
@@ -19,5 +19,7 @@ loop-segment-preserved c =
     drop_more xs i s c.loop-segment-test.true ∙ ap (λ t. t ∷ rest) (sym c.segment-item.is) in
     let grown : map step_of c.push.new.self.items ≡ l ++ k ∷ [] =
     ap (map step_of) c.in_ok-push.ensures.items ∙ map-append step_of ks (c.in-Some.step ∷ []) in
-    subst (λ m. LeadOn q m rest) (sym grown)
-    (lead-next q l s rest k c.in-Some.ensures (subst (LeadOn q l) here c.loop-segment.invariant))
+    subst (λ m. Continues q m rest) (sym grown)
+    (continues-next q l s rest k (sym c.segment_step.ensures ∙ ap (option_map step_of) c.in-Some.is)
+    (subst (Continues q l) here
+    c.loop-segment.invariant))
