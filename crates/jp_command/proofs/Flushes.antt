@@ -35,13 +35,13 @@ module _ {W : Type 0} (contents : W → Option (List ℕ)) (has_failed : W → B
 module _ (profile : Profile) {R W : Type 0} (remaining : R → Option (List ℕ))
     (has_failed : R → Bool) (read_gives : R → Option (List ℕ) → R → Type 0)
     (contents : W → Option (List ℕ)) (writes_failed : W → Bool) where
-  abbrev Ran : Task → List ℕ → R → R → W → W → Result (Unit {0}) Fault → Type 0
-  Ran = RunsTask profile remaining has_failed read_gives contents writes_failed
+  abbrev RanTask : Task → List ℕ → R → R → W → W → Result (Unit {0}) Fault → Type 0
+  RanTask = RunsTask profile remaining has_failed read_gives contents writes_failed
 
   -- after one that fails a prefix is written
   pub flush-fails : (task : Task) (query : List ℕ) (i j : R) (o p q : W)
-      → Ran task query i j o p (Ok tt) → Keeps (contents p) (contents q)
-      → writes_failed q ≡ true → Ran task query i j o q (Err Write)
+      → RanTask task query i j o p (Ok tt) → Keeps (contents p) (contents q)
+      → writes_failed q ≡ true → RanTask task query i j o q (Err Write)
   flush-fails Check query i j o p q run kept fails =
       (run.0, (output-prefix contents writes_failed _ o p q run.1 kept, fails))
   flush-fails Canon query i j o p q run kept fails =
@@ -51,8 +51,8 @@ module _ (profile : Profile) {R W : Type 0} (remaining : R → Option (List ℕ)
 
   -- after one that is done the output is written
   pub flush-works : (task : Task) (query : List ℕ) (i j : R) (o p q : W)
-      → Ran task query i j o p (Ok tt) → Keeps (contents p) (contents q)
-      → writes_failed q ≡ writes_failed p → Ran task query i j o q (Ok tt)
+      → RanTask task query i j o p (Ok tt) → Keeps (contents p) (contents q)
+      → writes_failed q ≡ writes_failed p → RanTask task query i j o q (Ok tt)
   flush-works Check query i j o p q run kept works =
       (run.0, output-kept contents writes_failed _ o p q run.1 kept works)
   flush-works Canon query i j o p q run kept works =

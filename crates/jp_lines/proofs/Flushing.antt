@@ -22,17 +22,17 @@ module _ (profile : Profile) (options : Options) {R W E : Type 0}
     (read_gives : R → Option (List ℕ) → R → Type 0) (contents : W → Option (List ℕ))
     (writes_failed : W → Bool) (reports : E → Option (List ℕ)) (reports_failed : E → Bool)
     (text : List ℕ) (i j : R) (o p r : W) (u v : E) (kept : Keeps (contents p) (contents r)) where
-  abbrev Runs : W → Result Bool Stop → Type 0
-  Runs output = RunsLines profile options remaining has_failed read_gives contents writes_failed
+  abbrev RunsTo : W → Result Bool Stop → Type 0
+  RunsTo output = RunsLines profile options remaining has_failed read_gives contents writes_failed
       reports reports_failed text i j o output u v
 
-  abbrev Go : QueryTree → ℕ → List (List ℕ) → List LineOutcome → W → Type 0
-  Go q number lines outcomes output =
+  abbrev GoesTo : QueryTree → ℕ → List (List ℕ) → List LineOutcome → W → Type 0
+  GoesTo q number lines outcomes output =
       Goes options contents writes_failed reports reports_failed q number lines outcomes o output u v
 
   goes-kept : (q : QueryTree) (number : ℕ) (lines : List (List ℕ)) (outcomes : List LineOutcome)
-      → writes_failed r ≡ writes_failed p → Go q number lines outcomes p
-      → Go q number lines outcomes r
+      → writes_failed r ≡ writes_failed p → GoesTo q number lines outcomes p
+      → GoesTo q number lines outcomes r
   goes-kept q number lines outcomes works goes = record {
     come = goes.come;
     writes = record {
@@ -45,8 +45,8 @@ module _ (profile : Profile) (options : Options) {R W E : Type 0}
   }
 
   -- after a run that is done
-  pub flush-done : (refused : Bool) → writes_failed r ≡ writes_failed p → Runs p (Ok refused)
-      → Runs r (Ok refused)
+  pub flush-done : (refused : Bool) → writes_failed r ≡ writes_failed p → RunsTo p (Ok refused)
+      → RunsTo r (Ok refused)
   flush-done refused works run = record {
     q = run.q;
     asked = run.asked;
@@ -57,8 +57,8 @@ module _ (profile : Profile) (options : Options) {R W E : Type 0}
     is = run.is;
   }
 
-  pub flush-done-fails : (refused : Bool) → writes_failed r ≡ true → Runs p (Ok refused)
-      → Runs r (Err (stop.Run fault.Write))
+  pub flush-done-fails : (refused : Bool) → writes_failed r ≡ true → RunsTo p (Ok refused)
+      → RunsTo r (Err (stop.Run fault.Write))
   flush-done-fails refused fails run = record {
     q = run.q;
     asked = run.asked;
@@ -81,7 +81,7 @@ module _ (profile : Profile) (options : Options) {R W E : Type 0}
 
   -- after one that a refused line has ended
   pub flush-refused : (line : RefusedLine) → writes_failed r ≡ writes_failed p
-      → Runs p (Err (stop.Line line)) → Runs r (Err (stop.Line line))
+      → RunsTo p (Err (stop.Line line)) → RunsTo r (Err (stop.Line line))
   flush-refused line works run = record {
     q = run.q;
     asked = run.asked;
@@ -103,7 +103,7 @@ module _ (profile : Profile) (options : Options) {R W E : Type 0}
   }
 
   pub flush-refused-fails : (line : RefusedLine) → writes_failed r ≡ true
-      → Runs p (Err (stop.Line line)) → Runs r (Err (stop.Run fault.Write))
+      → RunsTo p (Err (stop.Line line)) → RunsTo r (Err (stop.Run fault.Write))
   flush-refused-fails line fails run = record {
     q = run.q;
     asked = run.asked;

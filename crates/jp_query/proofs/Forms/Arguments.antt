@@ -319,19 +319,19 @@ module _ (I : Nested → Form) where
 
   -- ---- arguments
 
-  abbrev Comma : Form
-  Comma = Blank ⌢ word (codes ",") ⌢ Blank
+  abbrev CommaAmidBlanks : Form
+  CommaAmidBlanks = Blank ⌢ word (codes ",") ⌢ Blank
 
   abbrev End : Form
   End = Blank ⌢ word (codes ")")
 
   next-same : (x : ArgumentTree) → Same (form (opening_form I) rule.next_argument x)
-      (Comma ⌢ Argument I x)
+      (CommaAmidBlanks ⌢ Argument I x)
   unfolding rule.next_argument
   next-same x = after (after (after (argument-same x)) ⨾ back assoc) ⨾ back assoc
 
   some-same : (xs : List ArgumentTree)
-      → Same (form (opening_form I) rule.some_arguments xs) (Separated Comma (Argument I) xs ⌢ End)
+      → Same (form (opening_form I) rule.some_arguments xs) (Separated CommaAmidBlanks (Argument I) xs ⌢ End)
   unfolding rule.some_arguments
   some-same xs =
       then (λ x z. joined (argument-same x)
@@ -340,9 +340,9 @@ module _ (I : Nested → Form) where
       ⨾ made (λ p. back assoc)
       ⨾ record { to = λ s o t h. rw h.same h.is; from = from xs }
     where
-      from : (ys : List ArgumentTree) → Within (Separated Comma (Argument I) ys ⌢ End)
+      from : (ys : List ArgumentTree) → Within (Separated CommaAmidBlanks (Argument I) ys ⌢ End)
           (Made (λ (p : ArgumentTree × List ArgumentTree). p.0 ∷ p.1)
-          (λ p. (Argument I p.0 ⌢ Each (λ z. Comma ⌢ Argument I z) p.1) ⌢ End) ys)
+          (λ p. (Argument I p.0 ⌢ Each (λ z. CommaAmidBlanks ⌢ Argument I z) p.1) ⌢ End) ys)
       from [] s o t h = absurd h.one
       from (y ∷ ys) s o t h = record { part = (y, ys); same = refl; is = h }
 
@@ -357,7 +357,7 @@ module _ (I : Nested → Form) where
   }
 
   arguments-ways : (xs : List ArgumentTree)
-      → Same (Either (Only [] (word []) xs) (Separated Comma (Argument I) xs)) (Arguments I xs)
+      → Same (Either (Only [] (word []) xs) (Separated CommaAmidBlanks (Argument I) xs)) (Arguments I xs)
   arguments-ways xs = record {
     to = ways (λ s o t h. without h.same h.is) (λ s o t. with_some);
     from = λ s o t h. elim h [
