@@ -3,15 +3,20 @@ or with little stack; and their count."""
 import os
 import resource
 import subprocess
+import sys
 
 ROOT = os.path.dirname(os.path.dirname(os.path.realpath(__file__)))
+sys.path.insert(0, os.path.join(ROOT, "tools"))
+
+import jp_tools  # noqa: E402
+
 # How many bytes a document may have.
 LARGEST = 16_777_216
 
 
 def built(crate):
-    """The program that `rt ci` built of a crate."""
-    return os.path.join(ROOT, "crates", crate, "out", crate)
+    """The program of a crate: the proved one, or with --unproved the one built without proofs."""
+    return jp_tools.program(crate, jp_tools.is_proved_wanted())
 
 
 class Runs:
