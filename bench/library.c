@@ -63,7 +63,10 @@ static double measure_jp(const char *query) {
 }
 
 /* Ten queries of as many bytes each, which stand one after another. */
-enum { TEN = 10, SIZE = 21 };
+enum {
+    TEN = 10,
+    SIZE = 21,
+};
 static char ten[TEN * SIZE + 1];
 static uint8_t answer[4096];
 

@@ -18,8 +18,16 @@ struct text {
 };
 
 static const char *const query_kinds[] = {
-    "",           "Syntax",          "TooDeep",       "NotWhole",    "NumberRange",
-    "IndexRange", "UnknownFunction", "ArgumentCount", "NotSingular", "IllTyped",
+    "",
+    "Syntax",
+    "TooDeep",
+    "NotWhole",
+    "NumberRange",
+    "IndexRange",
+    "UnknownFunction",
+    "ArgumentCount",
+    "NotSingular",
+    "IllTyped",
 };
 static const char *const document_kinds[] = {"", "NotJson", "NotWhole", "ListTooLong"};
 
@@ -110,8 +118,11 @@ int main(int count, char **words) {
     say(&report);
     if (status == JP_DONE) {
         fwrite(out, 1, report.length, stdout);
-        fputs(strcmp(call.form, "canon") == 0 ? "\n" : strcmp(call.form, "check") == 0 ? "accepted\n" : "",
-              stdout);
+        if (strcmp(call.form, "canon") == 0) {
+            fputs("\n", stdout);
+        } else if (strcmp(call.form, "check") == 0) {
+            fputs("accepted\n", stdout);
+        }
     }
     if (out != small) {
         free(out);

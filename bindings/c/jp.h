@@ -69,9 +69,9 @@ enum {
 
 /* What is wrong with a document, in `report->kind` where the status is JP_DOCUMENT_REFUSED. */
 enum {
-    JP_NOT_JSON = 1,        /* no JSON, no UTF-8, or deeper than 127 levels */
+    JP_NOT_JSON = 1,         /* no JSON, no UTF-8, or deeper than 127 levels */
     JP_NUMBER_NOT_WHOLE = 2, /* the text is the normalized path of the first number that is not */
-    JP_LIST_TOO_LONG = 3    /* more than (2^53)-1 items */
+    JP_LIST_TOO_LONG = 3     /* more than (2^53)-1 items */
 };
 
 struct jp_report {
@@ -130,7 +130,8 @@ struct jp_handle {
     unsigned char full;
 };
 
-#define JP_EMPTY {0, 0}
+#define JP_EMPTY \
+    { 0, 0 }
 
 /* Keeps the query in place of what the handle kept. The report and the status are those of jp_check;
  * where they are not JP_DONE the handle keeps nothing. */

@@ -26,9 +26,9 @@ struct row {
     const char *text;
 };
 
-#define ROW(query, document, form, status, kind, place, text)                                       \
-    {query, sizeof query - 1, document, sizeof document - 1, form,                                 \
-     {status, kind, place, sizeof text - 1}, text}
+#define ROW(query, document, form, status, kind, place, text)       \
+    { query, sizeof query - 1, document, sizeof document - 1, form, \
+      {status, kind, place, sizeof text - 1}, text }
 
 static const struct row rows[] = {
     ROW("$.a[*]", "{\"a\":[1,[2,{}]]}", JP_BOTH, 0, 0, 0, "$['a'][0]\t1\n$['a'][1]\t[2,{}]\n"),
@@ -69,12 +69,18 @@ static void try_many(size_t room) {
     static const char document[] = "{\"a\":[1,[2,{}]]}";
     static const char text[] = "$['a'][0]\n$['a'][1]\n$['a']\n";
     static const struct jp_report expected[] = {
-        {0, 0, 0, 20}, {JP_QUERY_REFUSED, JP_SYNTAX, 5, 0}, {0, 0, 0, 0},
-        {0, 0, 0, 7}, {JP_QUERY_REFUSED, JP_SYNTAX, 0, 0},
+        {0, 0, 0, 20},
+        {JP_QUERY_REFUSED, JP_SYNTAX, 5, 0},
+        {0, 0, 0, 0},
+        {0, 0, 0, 7},
+        {JP_QUERY_REFUSED, JP_SYNTAX, 0, 0},
     };
     struct jp_question questions[] = {
-        {0, 6, {9, 9, 9, 9}}, {6, 7, {9, 9, 9, 9}}, {13, 3, {9, 9, 9, 9}},
-        {16, 9, {9, 9, 9, 9}}, {99, 9, {9, 9, 9, 9}},
+        {0, 6, {9, 9, 9, 9}},
+        {6, 7, {9, 9, 9, 9}},
+        {13, 3, {9, 9, 9, 9}},
+        {16, 9, {9, 9, 9, 9}},
+        {99, 9, {9, 9, 9, 9}},
     };
     uint8_t *out = malloc(room + 1);
     memset(out, '#', room + 1);
@@ -99,7 +105,8 @@ static void try_many_refused(void) {
     uint8_t out[16] = {0};
     const uint8_t document[] = "[2.5]";
     expect(jp_eval_many((const uint8_t *)"$", 1, questions, 2, document, 5, JP_VALUES, JP_STANDARD,
-                        out, sizeof out) == 4
+                        out, sizeof out)
+                   == 4
                && memcmp(out, "$[0]", 5) == 0,
            "the path of a number", 16);
     expect(questions[0].report.status == JP_DOCUMENT_REFUSED
@@ -107,7 +114,8 @@ static void try_many_refused(void) {
            "the document's report", 16);
     expect(questions[1].report.status == JP_QUERY_REFUSED, "the query's report", 16);
     expect(jp_eval_many((const uint8_t *)"", 0, questions, 0, document, 5, JP_VALUES, JP_STANDARD,
-                        out, sizeof out) == 0,
+                        out, sizeof out)
+               == 0,
            "no queries", 16);
 }
 

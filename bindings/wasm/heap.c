@@ -19,7 +19,11 @@ struct tried {
     void *at;
 };
 
-enum { LEAST_ORDER = 5, LARGEST_ORDER = 40, PAGE = 65536 };
+enum {
+    LEAST_ORDER = 5,
+    LARGEST_ORDER = 40,
+    PAGE = 65536,
+};
 
 extern char __heap_base;
 static struct header *free_blocks[LARGEST_ORDER + 1];

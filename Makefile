@@ -1,0 +1,51 @@
+# One door to the scripts. `make help` lists what can be asked for.
+PREFIX ?= /usr/local
+
+.PHONY: all help prove test test-c test-python test-node test-page test-package test-examples test-hostile \
+    gate fmt lint house package install bench
+
+all: ## the programs from their sources, without proofs and with run-time checks: two minutes (also: make)
+	bin/build --unproved jp
+	bin/build --unproved jp_lines_main
+
+help: ## this list
+	@sed -n 's/^\([a-z-]*\):.*## /  make \1:/p' Makefile | awk -F: '{ printf "%-22s%s\n", $$1, substr($$0, length($$1) + 2) }'
+
+test: ## all tests without proofs, in minutes: bin/test; bin/test CRATE [TEST] runs one
+	bin/test
+prove: ## proves and builds the programs that bin/jp and bin/jp-lines run from then on: half an hour
+	bin/build jp
+	bin/build jp_lines_main
+gate: ## everything: the tests without proofs, all proofs, the edits that must fail, and the tests below: hours
+	.ci/run
+
+test-c test-python test-node test-page test-package test-examples test-hostile install: prove
+test-c: ## the library for C, proved
+	bindings/test c
+test-python: ## the package for Python, over the proved library
+	bindings/test python
+test-node: ## the package for Node, of the proved library
+	page/test node
+test-page: ## the same and the page in Chromium
+	page/test
+test-package: ## the Debian package of the proved programs and library
+	packaging/test
+test-examples: ## the examples of the pages by the proved programs
+	.ci/examples
+test-hostile: ## runs of the proved programs where memory, stack or streams fail
+	bin/build jp_hostile
+	hostile/run
+	hostile/lines
+
+fmt: ## the code in Rattle, as rt fmt writes it
+	for it in crates/*/; do (cd "$$it" && rt fmt) || exit; done
+lint: ## shellcheck, flake8, clang-format and node on all else
+	.ci/lint
+house: ## docs/HOUSE.md and the picture in README.md, from the files
+	.ci/house --write
+package: ## the Debian package, in packaging/out
+	bin/package
+install: ## the proved programs with their pages below PREFIX, and the library if bindings/build made it
+	bin/install "$(PREFIX)"
+bench: ## jp and jp-lines, proved, beside jq and a program by hand
+	bench/run
