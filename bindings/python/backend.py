@@ -50,6 +50,7 @@ def build_wheel(wheel_directory, config_settings=None, metadata_directory=None):
         f"Name: {NAME.replace('_', '-')}\n"
         f"Version: {VERSION}\n"
         "Summary: JSONPath queries (RFC 9535) by the proved engine jp\n"
+        "License: MIT OR Apache-2.0\n"
         "Requires-Python: >=3.8\n"
     )
     wheel = f"Wheel-Version: 1.0\nGenerator: {NAME}\nRoot-Is-Purelib: false\nTag: {_tag()}\n"
