@@ -2,6 +2,7 @@
 or with little stack; and their count."""
 import os
 import resource
+import shutil
 import subprocess
 import sys
 
@@ -72,6 +73,8 @@ def build_refuser(folder):
     library = os.path.join(folder, "refuse.so")
     source = os.path.join(ROOT, "hostile", "refuse.c")
     compiler = os.environ.get("CC", "cc")
+    if shutil.which(compiler) is None:
+        jp_tools.stop(f"there is no C compiler ({compiler}), which makes what refuses memory")
     subprocess.run([compiler, "-shared", "-fPIC", "-O1", "-o", library, source], check=True)
     return library
 
