@@ -1,3 +1,4 @@
+mod CopiedFaults
 mod HeldValues
 mod Outcomes
 mod Selecting

@@ -3,7 +3,8 @@ use Rattle.std.specs.Prelude.{◌≡◌, ◌≢◌, ◌⊎◌, ℕ, List, [], Op
 use Rattle.jp_check.specs.declared.profile.Profile.{Profile}
 use Rattle.jp_command.specs.Lines.{output_of}
 use Rattle.jp_command.specs.declared.lines.Form.{Form}
-use Rattle.jp_document.specs.Document.{document_of, IsDocument, IsDocumentFault}
+use Rattle.jp_document.specs.Document.{IsDocument, IsDocumentFault}
+use Rattle.jp_flat.specs.FlatValue.{document_in}
 use Rattle.jp_document.specs.Value.{Value}
 use Rattle.jp_document.specs.declared.fault.DocumentFault.TheVariants as document
 use Rattle.jp_tree.specs.Tree.{QueryTree}
@@ -30,7 +31,7 @@ query_kept _ = None
 
 -- the document that is kept, if one is
 abbrev pub document_kept : Option Kept → Option Value
-document_kept (Some (kept.Document d)) = Some (document_of d)
+document_kept (Some (kept.Document d)) = Some (document_in d)
 document_kept _ = None
 
 -- of `jp_query_new`: the query is accepted and kept; or it is refused as `jp_check` does, and nothing

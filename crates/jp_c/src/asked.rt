@@ -1,7 +1,7 @@
 //! From bytes to answers.
-ghost use Rattle.std.specs.Prelude.{◌≡◌, ◌⊎◌, IfErr, IfOk, IfSome, string_bytes};
+ghost use Rattle.std.specs.Prelude.{◌≡◌, ◌⊎◌, IfErr, IfOk, string_bytes};
 ghost use Rattle.std.specs.Str.{IsUtf8};
-ghost use Rattle.jp_document.specs.Document.{IsDocument};
+ghost use Rattle.jp_document.specs.Document.{IsDocument, IsDocumentFault};
 ghost use Rattle.jp_flat.specs.FlatValue.{document_in};
 ghost use Rattle.jp_query.specs.declared.refusal.RefusalKind.TheVariants.{NoMemory};
 ghost use Rattle.jp_tree.specs.Views.{query_of};
@@ -12,9 +12,10 @@ ghost use Rattle.jp_c.specs.Asked.{RefusesBytes};
 use jp_canon::canon;
 use jp_check::{Checked, Profile, read_query};
 use jp_command::{Form, lines_at, selected_lines};
-use jp_document::Document;
+use jp_document::DocumentFault;
 use jp_evaluate::named_location;
-use jp_flat::{Flat, flat_document, flat_value_at, found_value};
+use jp_flat::{Flat, found_value};
+use jp_held::{read_flat, read_value_at};
 use jp_query::{Refusal, RefusalKind};
 use jsonpath::FindFault;
 use std::alloc::Global;
@@ -75,36 +76,44 @@ pub(crate) fn answer(
     ensures fault { IfErr result (IsNoAnswer profile query.now document.now) }
 {
     let query = asked(alloc, query, profile)?;
-    if let Some(location) = named_location(alloc, &query)? {
-        if let Some(found) = flat_value_at(alloc, document, &location) {
-            return Ok(lines_at(alloc, form, &location, found_value(&found))?);
+    match named_location(alloc, &query)? {
+        Some(location) => {
+            let found = read_value_at(alloc, document, &location)?;
+            Ok(lines_at(alloc, form, &location, found_value(&found))?)
         }
-    } else if let Some(flat) = flat_document(alloc, document) {
-        return Ok(selected_lines(alloc, form, flat.value(), &query)?);
+        None => {
+            let flat = read_flat(alloc, document)?;
+            Ok(selected_lines(alloc, form, flat.value(), &query)?)
+        }
     }
-    let document = Document::read(alloc, document)?;
-    Ok(selected_lines(alloc, form, document.value(), &query)?)
 }
 
-/// The same where the document may stand in tables already; where it does not, it is read here.
+/// The same where the document was read before. Only where memory ran out it is read again.
 pub(crate) fn answer_from(
     alloc: Global,
     query: &[u8],
-    tables: Option<&Flat<'_>>,
+    read: &Result<Flat<'_>, DocumentFault>,
     document: &[u8],
     form: Form,
     profile: Profile,
 ) -> Result<String, FindFault>
-    requires { IfSome tables (λ f. IsDocument document.now (document_in f.now)) }
+    requires document { IfOk read.now (λ flat. IsDocument document.now (document_in flat)) }
+    requires fault { IfErr read.now (IsDocumentFault document.now) }
     ensures answer { IfOk result (λ text.
         IsAnswer profile form query.now document.now (string_bytes text)) }
     ensures fault { IfErr result (IsNoAnswer profile query.now document.now) }
 {
-    let Some(flat) = tables else {
-        return answer(alloc, query, document, form, profile);
-    };
-    let query = asked(alloc, query, profile)?;
-    Ok(selected_lines(alloc, form, flat.value(), &query)?)
+    match read {
+        Ok(flat) => {
+            let query = asked(alloc, query, profile)?;
+            Ok(selected_lines(alloc, form, flat.value(), &query)?)
+        }
+        Err(DocumentFault::NoMemory) => answer(alloc, query, document, form, profile),
+        Err(fault) => {
+            asked(alloc, query, profile)?;
+            Err(FindFault::Document(fault.copy(alloc)?))
+        }
+    }
 }
 
 /// The canonical text of the query that these bytes are in a profile.

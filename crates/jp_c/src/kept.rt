@@ -1,6 +1,6 @@
 //! What a handle keeps.
 use jp_check::Checked;
-use jp_document::Document;
+use jp_flat::Flat;
 
 /// What a handle keeps.
 #[derive(Drop)]
@@ -8,5 +8,5 @@ pub enum Kept {
     /// A query that is accepted.
     Query(Checked),
     /// A document.
-    Document(Document),
+    Document(Flat<'static>),
 }

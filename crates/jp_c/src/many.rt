@@ -10,7 +10,9 @@ ghost use Rattle.jp_c.specs.declared.outcome.Outcome.TheVariants.{Fault, Usage};
 use crate::asked::answer_from;
 use crate::numbers::{form, profile};
 use crate::outcome::{Outcome, Report, fill};
-use jp_flat::{Flat, flat_document};
+use jp_document::DocumentFault;
+use jp_flat::Flat;
+use jp_held::read_flat;
 use jsonpath::FindFault;
 use std::alloc::Global;
 
@@ -55,7 +57,7 @@ pub extern "C" fn jp_eval_many(
 struct Subject<'d> {
     alloc: Global,
     document: &'d [u8],
-    tables: Option<Flat<'d>>,
+    read: Result<Flat<'d>, DocumentFault>,
     form: u32,
     profile: u32,
 }
@@ -70,7 +72,7 @@ impl<'d> Subject<'d> {
         Subject {
             alloc,
             document,
-            tables: flat_document(alloc, document),
+            read: read_flat(alloc, document),
             form,
             profile,
         }
@@ -88,14 +90,7 @@ impl<'d> Subject<'d> {
         let Some(profile) = profile(self.profile) else {
             return Outcome::Usage;
         };
-        match answer_from(
-            self.alloc,
-            query,
-            self.tables.as_ref(),
-            self.document,
-            form,
-            profile,
-        ) {
+        match answer_from(self.alloc, query, &self.read, self.document, form, profile) {
             Ok(text) => Outcome::Text(text),
             Err(fault) => Outcome::Fault(fault),
         }

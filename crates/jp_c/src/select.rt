@@ -15,7 +15,7 @@ use crate::numbers::{form, profile};
 use crate::outcome::{Outcome, Report, tell};
 use jp_check::Profile;
 use jp_command::selected_lines;
-use jp_document::Document;
+use jp_held::read_flat;
 use jsonpath::FindFault;
 use std::alloc::Global;
 
@@ -94,7 +94,7 @@ fn kept_document(alloc: Global, document: &[u8]) -> Result<Handle, FindFault>
         × (document_kept (kept_by h) ≡ Some d)) }
     ensures fault { IfErr result (IsNoDocument document.now) }
 {
-    let document = Document::read(alloc, document)?;
+    let document = read_flat(alloc, document)?.owned(alloc)?;
     Ok(Handle::keep(alloc, Kept::Document(document))?)
 }
 

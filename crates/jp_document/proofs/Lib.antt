@@ -7,7 +7,6 @@ pub mod Readings
 pub mod Rows
 pub mod Soundness
 pub mod Spellings
-pub mod Tokens
 pub mod Utf8
 pub mod Values
 pub mod Writing

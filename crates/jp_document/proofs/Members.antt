@@ -1,5 +1,4 @@
--- Members of objects, whose names rise: found by a name, and put in their places while an object is
--- read.
+-- Members of objects, whose names rise: found by a name, and with one member more.
 pub mod ByName
 pub mod Inserting
 pub mod TextNames

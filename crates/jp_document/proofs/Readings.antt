@@ -1,4 +1,4 @@
--- What `serde_json` reads from bytes is one document, or has one defect: for `Document::read` and
+-- What `serde_json` reads from bytes is one document, or has one defect: for `parsed_value` and
 -- the law `document_or_defect`.
 pub mod Above
 pub mod Conversion

@@ -11,15 +11,10 @@ use Rattle.jp_document.specs.Location.{Step, named, nth, step_cmp, Location, loc
 use Rattle.jp_document.specs.Path.{path_of}
 use Rattle.jp_document.specs.Value.{Value, null, boolean, whole, text, list, object}
 use Rattle.jp_document.specs.Value.{Items, no_items, item, Members, no_members, member}
-use Rattle.jp_document.specs.Value.{everywhere, list_fits, IsDocumentValue, value_of}
-use Rattle.jp_document.specs.declared.document.Document.{Document}
+use Rattle.jp_document.specs.Value.{everywhere, list_fits, IsDocumentValue}
 use Rattle.jp_document.specs.declared.fault.DocumentFault.{DocumentFault}
 use Rattle.jp_document.specs.declared.fault.DocumentFault.TheVariants.{NotJson, NotWhole}
 use Rattle.jp_document.specs.declared.fault.DocumentFault.TheVariants.{ListTooLong, NoMemory}
-
--- the value that a document holds
-abbrev pub document_of : Document → Value
-document_of d = value_of d.json
 
 -- the bytes are UTF-8, and `serde_json` reads d from them
 pub record IsReading (bytes : List ℕ) (d : Data) : Type 0 where

@@ -3,7 +3,6 @@ pub mod ChildNodes
 pub mod Document
 pub mod DocumentValue
 pub mod Faults
-pub mod Integer
 pub mod Laws
 pub mod Location
 pub mod Node

@@ -21,7 +21,7 @@ impl<'d> DocumentValue<'d> {
     ghost use Rattle.jp_document.specs.Location.{child, child_entry, entries, step_of, named, nth};
 
     /// The value of a document.
-    pub(crate) fn of(json: &'d Json) -> DocumentValue<'d>
+    pub fn of(json: &'d Json) -> DocumentValue<'d>
         requires { IsDocumentValue (value_of json.now) }
         ensures { lent_value result ≡ value_of json.now }
     {
@@ -98,7 +98,7 @@ impl<'d> DocumentValue<'d> {
     }
 
     /// The value at this step inside, None where there is none.
-    pub(crate) fn at_step(self, step: Step) -> Option<DocumentValue<'d>>
+    pub fn at_step(self, step: Step) -> Option<DocumentValue<'d>>
         ensures { option_map lent_value result ≡ child (lent_value self.entry) (step_of step.entry) }
     {
         match step {

@@ -2,7 +2,7 @@
 ghost use Rattle.std.specs.Prelude.{◌≡◌};
 ghost use Rattle.jp_document.specs.declared.fault.DocumentFault.TheVariants.{NoMemory};
 
-use std::alloc::AllocError;
+use std::alloc::{AllocError, Global};
 use std::fmt;
 use thiserror::Error;
 
@@ -46,7 +46,23 @@ impl fmt::Display for DocumentFault {
 }
 
 impl DocumentFault {
+    ghost use Rattle.std.specs.Prelude.{IfOk};
     ghost use Rattle.jp_document.specs.Faults.{document_fault_number, document_fault_name};
+    ghost use Rattle.jp_document.specs.Faults.{document_fault_text};
+
+    /// The same fault. The only error is that memory ran out.
+    pub fn copy(&self, alloc: Global) -> Result<DocumentFault, AllocError>
+        ensures { IfOk result (λ fault. document_fault_text fault ≡ document_fault_text self.now) }
+    {
+        Ok(match self {
+            DocumentFault::NotJson => DocumentFault::NotJson,
+            DocumentFault::NotWhole(path) => {
+                DocumentFault::NotWhole(String::from_str(alloc, path.as_str())?)
+            }
+            DocumentFault::ListTooLong => DocumentFault::ListTooLong,
+            DocumentFault::NoMemory => DocumentFault::NoMemory,
+        })
+    }
 
     /// The number of the fault, from 1 to 4.
     pub fn number(&self) -> u8

@@ -24,7 +24,7 @@ impl OwnedStep {
     ghost use Rattle.jp_document.specs.Location.{step_of, owned_step};
 
     /// The same step, which borrows the name.
-    pub(crate) fn as_step(&self) -> Step<'_>
+    pub fn as_step(&self) -> Step<'_>
         ensures { step_of result ≡ owned_step self.now }
     {
         match self {

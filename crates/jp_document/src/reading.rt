@@ -18,7 +18,7 @@ use serde_json::{Map, Number, Value};
 use std::alloc::{AllocError, Global};
 
 /// The value that `serde_json` parses from bytes that are a document, else what is wrong with them.
-pub(crate) fn parsed_value(alloc: Global, bytes: &[u8]) -> Result<Json, DocumentFault>
+pub fn parsed_value(alloc: Global, bytes: &[u8]) -> Result<Json, DocumentFault>
     ensures ok { IfOk result (λ j. IsDocument bytes.now (value_of j)) }
     ensures fault { IfErr result (IsDocumentFault bytes.now) }
 {
@@ -120,7 +120,7 @@ fn json_members(
 }
 
 /// Whether a list has at most (2^53)-1 items.
-pub(crate) fn is_short(items: &[Json]) -> bool
+fn is_short(items: &[Json]) -> bool
     ensures { result ≡ list_fits (list (items_of (map value_of items.now))) }
 {
     items.len() <= LARGEST_EXACT as usize

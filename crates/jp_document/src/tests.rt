@@ -1,4 +1,2 @@
-//! Rows of documents, nodes and paths.
-mod documents;
+//! Rows of normalized paths.
 mod paths;
-mod two_readers;

@@ -7,8 +7,8 @@ use Rattle.jp_document.specs.Location.{Location}
 use Rattle.jp_document.specs.Value.{IsDocumentValue, null}
 use Rattle.jp_document.proofs.Descent.Nodes.{IsDocumentValue-at}
 use Rattle.jp_reading.proofs.Conjunctions.{and-both}
-use Rattle.jp_document.proofs.Tokens.Ahead.{document_from_text}
-use Rattle.jp_document.proofs.Tokens.Rounds.{reads-all}
+use Rattle.jp_flat.proofs.Ahead.{document_from_text}
+use Rattle.jp_flat.proofs.Rounds.{reads-all}
 use Rattle.jp_flat.specs.Flat.{Shown, is_flat, meaning, most_levels, shown}
 use Rattle.jp_flat.specs.FlatValue.{IsValueAt}
 use Rattle.jp_flat.specs.Private.Found.{FindsAt, FindsInText}

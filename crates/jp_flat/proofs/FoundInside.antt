@@ -15,13 +15,13 @@ use Rattle.json.specs.Json.{after_end_array, read_key}
 use Rattle.json.specs.Token.{Token}
 use Rattle.jp_document.specs.Location.{Location, Step, child, entries, named, nth, step_cmp, step_of}
 use Rattle.jp_document.specs.Location.{value_at}
-use Rattle.jp_document.specs.Private.Direct.{ReadsValue}
+use Rattle.jp_flat.specs.Private.FromTokens.{ReadsValue}
 use Rattle.jp_document.specs.Value.{Value, items_of, list, members_of, object}
 use Rattle.jp_document.proofs.Descent.Items.{child-nth}
 use Rattle.jp_document.proofs.Descent.Steps.{step_same}
 use Rattle.jp_document.proofs.Members.ByName.{bytes_cmp, child-list_named, child-named}
 use Rattle.jp_document.proofs.Members.ByName.{child-object_nth}
-use Rattle.jp_document.proofs.Tokens.Ahead.{MembersAhead, ahead_member, ahead_members_end}
+use Rattle.jp_flat.proofs.Ahead.{MembersAhead, ahead_member, ahead_members_end}
 use Rattle.jp_reading.proofs.Conjunctions.{and-both}
 use Rattle.jp_flat.specs.Flat.{Grows, Shown}
 use Rattle.jp_flat.specs.Private.Found.{FindsAt, FindsItem, FindsMember, IsFoundAs, later, sought_at}

@@ -4,14 +4,14 @@ use Rattle.std.proofs.Common.{◌≡◌, ◌+◌, ◌-◌, ◌≤◌, ◌++◌, 
 use Rattle.std.proofs.Common.{List, [], ◌∷◌, Option, Some, None, cond, leb, length, take, drop}
 use Rattle.std.proofs.Common.{option_map, option_and_then, refl, sym, ap, ◌∙◌, arith}
 use Rattle.std.proofs.Common.{append_assoc, append-nil, length-drop}
-use Rattle.std.proofs.Math.Seq.{drop-append_seam, take-length}
+use Rattle.std.proofs.Math.Seq.{drop-append-add, drop-append_seam, take-length}
 use Rattle.std.proofs.lemmas.Bool.{cond-true, leb-true, le-leb}
 use Rattle.std.proofs.lemmas.List.{drop-append-le, length-append, length-take-le}
 use Rattle.std.proofs.lemmas.List.{take-append-drop, take-append-le}
 use Rattle.std.proofs.lemmas.Option.{cond_some, same_Some}
 use Rattle.jp_document.specs.Value.{Value, text, list, object, items_of, members_of}
 use Rattle.jp_document.proofs.Options.{some_from_both, some_from_map, some_from_then}
-use Rattle.jp_flat.specs.Flat.{BeginsWith, Grows, Shown, all_of, flat_value, member_with, piece}
+use Rattle.jp_flat.specs.Flat.{BeginsWith, Grows, Keeps, Shown, all_of, flat_value, member_with, piece}
 use Rattle.jp_flat.specs.Flat.{text_at, value_with}
 use Rattle.jp_flat.specs.Private.Reading.{IsTheListOf, with_items}
 use Rattle.jp_flat.specs.declared.item.Item.{Item}
@@ -21,7 +21,7 @@ use Rattle.jp_flat.specs.declared.item.Span.{Span}
 
 -- ---- pieces of longer lists
 
-within_more : {A : Type 0} (xs ys more : List A) (first count : ℕ) → piece xs first count ≡ Some ys
+pub within_more : {A : Type 0} (xs ys more : List A) (first count : ℕ) → piece xs first count ≡ Some ys
     → piece (xs ++ more) first count ≡ Some ys
 within_more xs ys more first count is =
     let h = cond_some (leb (first + count) (length xs)) (take count (drop first xs)) ys is in
@@ -33,6 +33,24 @@ within_more xs ys more first count is =
     ap (take count) (drop-append-le first xs more (omega arith))
     ∙ take-append-le count (drop first xs) more less ∙ h.1 in
     cond-true _ _ _ wide ∙ ap Some cut
+
+beyond : {A : Type 0} (front xs : List A) (first : ℕ) → length front ≤ first
+    → drop first (front ++ xs) ≡ drop (first - length front) xs
+beyond front xs first behind =
+    let at : first ≡ length front + (first - length front) = omega arith in
+    ap (λ n. drop n (front ++ xs)) at ∙ drop-append-add front xs (first - length front)
+
+-- a piece behind the front
+pub piece_behind : {A : Type 0} (front xs ys : List A) (first count : ℕ) → length front ≤ first
+    → piece xs (first - length front) count ≡ Some ys → piece (front ++ xs) first count ≡ Some ys
+piece_behind front xs ys first count behind is =
+    let h = cond_some (leb (first - length front + count) (length xs))
+    (take count (drop (first - length front) xs)) ys is in
+    let within : first - length front + count ≤ length xs = leb-true _ _ h.0 in
+    let wide : leb (first + count) (length (front ++ xs)) ≡ true =
+    le-leb _ _ (omega (arith, length-append front xs)) in
+    cond-true _ _ _ wide ∙ ap (λ zs. Some (take count zs)) (beyond front xs first behind)
+    ∙ ap Some h.1
 
 pub piece_grows : {A : Type 0} (whole front ys : List A) (first count : ℕ) → BeginsWith whole front
     → piece front first count ≡ Some ys → piece whole first count ≡ Some ys
@@ -133,58 +151,74 @@ length-all_of f (x ∷ xs) ys is =
     let h = some_from_both (λ y ys. y ∷ ys) (f x) (all_of f xs) ys is in
     ap length (sym h.4) ∙ ap suc (length-all_of f xs h.1 h.3)
 
-pub member_grows : (f g : Item → Option Value) (t s : Shown) → Grows t s
+pub member_kept : (f g : Item → Option Value) (t s : Shown) → Keeps t s
     → ((i : Item) (v : Value) → f i ≡ Some v → g i ≡ Some v) → (m : Named) (p : List ℕ × Value)
     → member_with f t m ≡ Some p → member_with g s m ≡ Some p
-member_grows f g t s more step m p is =
+member_kept f g t s more step m p is =
     let h = some_from_both (λ name v. (name, v)) (text_at t m.name) (f m.item) p is in
     ap (option_and_then (λ name. option_map (λ v. (name, v)) (g m.item)))
-    (text_grows t s m.name h.0 more h.2)
+    (more.texts m.name h.0 h.2)
     ∙ ap (option_map (λ v. (h.0, v))) (step m.item h.1 h.3) ∙ ap Some h.4
 
-with_grows : (f g : Item → Option Value) (t s : Shown) → Grows t s
+with_kept : (f g : Item → Option Value) (t s : Shown) → Keeps t s
     → ((i : Item) (v : Value) → f i ≡ Some v → g i ≡ Some v) → (i : Item) (v : Value)
     → value_with f t i ≡ Some v → value_with g s i ≡ Some v
-with_grows f g t s more step code.Null v is = is
-with_grows f g t s more step (code.Bool b) v is = is
-with_grows f g t s more step (code.Above h) v is = is
-with_grows f g t s more step (code.Below h) v is = is
-with_grows f g t s more step (code.Text p) v is =
+with_kept f g t s more step code.Null v is = is
+with_kept f g t s more step (code.Bool b) v is = is
+with_kept f g t s more step (code.Above h) v is = is
+with_kept f g t s more step (code.Below h) v is = is
+with_kept f g t s more step (code.Text p) v is =
     let h = some_from_map text (text_at t p) v is in
-    ap (option_map text) (text_grows t s p h.0 more h.1) ∙ ap Some h.2
-with_grows f g t s more step (code.List p) v is =
+    ap (option_map text) (more.texts p h.0 h.1) ∙ ap Some h.2
+with_kept f g t s more step (code.List p) v is =
     let h = some_from_map (λ vs. list (items_of vs))
     (option_and_then (all_of f) (piece t.items p.first p.count)) v is in
     let k = some_from_then (all_of f) (piece t.items p.first p.count) h.0 h.1 in
     ap (λ o. option_map (λ vs. list (items_of vs)) (option_and_then (all_of g) o))
     (piece_grows s.items t.items k.0 p.first p.count more.items k.1)
     ∙ ap (option_map (λ vs. list (items_of vs))) (all_of_grows f g k.0 h.0 step k.2) ∙ ap Some h.2
-with_grows f g t s more step (code.Members p) v is =
+with_kept f g t s more step (code.Members p) v is =
     let h = some_from_map (λ ms. object (members_of ms))
     (option_and_then (all_of (member_with f t)) (piece t.members p.first p.count)) v is in
     let k = some_from_then (all_of (member_with f t)) (piece t.members p.first p.count) h.0 h.1 in
     ap (λ o. option_map (λ ms. object (members_of ms)) (option_and_then (all_of (member_with g s)) o))
     (piece_grows s.members t.members k.0 p.first p.count more.members k.1)
     ∙ ap (option_map (λ ms. object (members_of ms)))
-    (all_of_grows (member_with f t) (member_with g s) k.0 h.0 (member_grows f g t s more step) k.2)
+    (all_of_grows (member_with f t) (member_with g s) k.0 h.0 (member_kept f g t s more step) k.2)
     ∙ ap Some h.2
+
+pub value_kept : (n : ℕ) (t s : Shown) → Keeps t s → (i : Item) (v : Value)
+    → flat_value n t i ≡ Some v → flat_value n s i ≡ Some v
+unfolding flat_value
+value_kept zero t s more i v is =
+    with_kept (λ j. None) (λ j. None) t s more (λ j w h. h) i v is
+value_kept (suc n) t s more i v is =
+    with_kept (flat_value n t) (flat_value n s) t s more (value_kept n t s more) i v is
+
+keeps_from : (t s : Shown) → Grows t s → Keeps t s
+keeps_from t s more = record {
+  texts = λ p x. text_grows t s p x more;
+  items = more.items;
+  members = more.members;
+}
+
+pub member_grows : (f g : Item → Option Value) (t s : Shown) → Grows t s
+    → ((i : Item) (v : Value) → f i ≡ Some v → g i ≡ Some v) → (m : Named) (p : List ℕ × Value)
+    → member_with f t m ≡ Some p → member_with g s m ≡ Some p
+member_grows f g t s more = member_kept f g t s (keeps_from t s more)
 
 pub value_grows : (n : ℕ) (t s : Shown) → Grows t s → (i : Item) (v : Value)
     → flat_value n t i ≡ Some v → flat_value n s i ≡ Some v
-unfolding flat_value
-value_grows zero t s more i v is =
-    with_grows (λ j. None) (λ j. None) t s more (λ j w h. h) i v is
-value_grows (suc n) t s more i v is =
-    with_grows (flat_value n t) (flat_value n s) t s more (value_grows n t s more) i v is
+value_grows n t s more = value_kept n t s (keeps_from t s more)
 
 -- what has a value with so many levels has it with one more
 pub flat_deeper : (n : ℕ) (t : Shown) (i : Item) (v : Value) → flat_value n t i ≡ Some v
     → flat_value (suc n) t i ≡ Some v
 unfolding flat_value
 flat_deeper zero t i v is =
-    with_grows (λ j. None) (flat_value zero t) t t (grows_same t) (λ j w h. absurd (cc)) i v is
+    with_kept (λ j. None) (flat_value zero t) t t (keeps_from t t (grows_same t)) (λ j w h. absurd (cc)) i v is
 flat_deeper (suc n) t i v is =
-    with_grows (flat_value n t) (flat_value (suc n) t) t t (grows_same t) (flat_deeper n t) i v is
+    with_kept (flat_value n t) (flat_value (suc n) t) t t (keeps_from t t (grows_same t)) (flat_deeper n t) i v is
 
 -- ---- lists and objects whose parts were appended
 

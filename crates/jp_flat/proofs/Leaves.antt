@@ -1,4 +1,4 @@
--- What single tokens are read as: for `value`.
+-- What single tokens are read as: for `leaf` and `number`.
 use Rattle.std.proofs.Common.{◌≡◌, ◌-◌, ◌<◌, ℕ, zero, suc, Bool, List, [], ◌∷◌, Some, length}
 use Rattle.std.proofs.Common.{option_map, refl, sym, ap, subst, ◌∙◌, arith, false, pos, negsuc, ℤ}
 use Rattle.std.proofs.Common.{◌^◌, ◌&&◌, nat_lt, None}
@@ -16,12 +16,12 @@ use Rattle.json.proofs.Grammar.{value_is, value-begin_array, value-begin_object}
 use Rattle.serde_json.specs.Data as parsed
 use Rattle.serde_json.specs.Data.{unsigned}
 use Rattle.serde_json.specs.Read.{converted, is_integer, number_from, of_items, of_json, of_members}
-use Rattle.jp_document.specs.Integer.{IsWholeText}
-use Rattle.jp_document.specs.Private.Direct.{ReadsItems, ReadsMembers, ReadsValue}
+use Rattle.jp_flat.specs.Private.Integer.{IsWholeText}
+use Rattle.jp_flat.specs.Private.FromTokens.{ReadsItems, ReadsMembers, ReadsValue}
 use Rattle.jp_document.specs.Value.{Value, null, boolean, text, whole, list, object}
 use Rattle.jp_document.specs.Value.{items_of, members_of}
 use Rattle.jp_reading.proofs.Conjunctions.{and-both}
-use Rattle.jp_document.proofs.Tokens.Rounds.{converted-map, from_zero_text, one_token}
+use Rattle.jp_flat.proofs.Rounds.{converted-map, from_zero_text, one_token}
 use Rattle.jp_flat.specs.Flat.{Shown, flat_value, number_of, text_at}
 use Rattle.jp_flat.specs.Private.Reading.{ReadsLeaf, IsWholeItem, ReadsFlat, ReadsFlatItems}
 use Rattle.jp_flat.specs.Private.Reading.{ReadsFlatMembers, with_items}
@@ -42,7 +42,7 @@ unfolding flat_value
 boolean_means zero t b = refl
 boolean_means (suc n) t b = refl
 
-text_means : (n : ℕ) (t : Shown) (p : Span) (x : List ℕ) → text_at t p ≡ Some x
+pub text_means : (n : ℕ) (t : Shown) (p : Span) (x : List ℕ) → text_at t p ≡ Some x
     → flat_value n t (code.Text p) ≡ Some (text x)
 unfolding flat_value
 text_means zero t p x is = ap (option_map text) is
@@ -62,20 +62,20 @@ below_means (suc n) t h = refl
 
 -- ---- whole numbers
 
+pub above_is : (z : ℤ) (h : Halves) → z ≡ pos (number_of h) → (n : ℕ) (t : Shown)
+    → flat_value n t (code.Above h) ≡ Some (whole z)
+above_is z h is n t = above_means n t h ∙ ap (λ z. Some (whole z)) (sym is)
+
+pub below_is : (z : ℤ) (h : Halves) → z ≡ negsuc (number_of h) → (n : ℕ) (t : Shown)
+    → flat_value n t (code.Below h) ≡ Some (whole z)
+below_is z h is n t = below_means n t h ∙ ap (λ z. Some (whole z)) (sym is)
+
 pub above_item : (s : List ℕ) (z : ℤ) (h : Halves) → IsWholeText s z → z ≡ pos (number_of h)
     → IsWholeItem s (code.Above h)
 above_item s z h written is = record {
   number = pos (number_of h);
   written = subst (IsWholeText s) is written;
   means = λ m t. above_means m t h;
-}
-
-pub below_item : (s : List ℕ) (z : ℤ) (h : Halves) → IsWholeText s z → z ≡ negsuc (number_of h)
-    → IsWholeItem s (code.Below h)
-below_item s z h written is = record {
-  number = negsuc (number_of h);
-  written = subst (IsWholeText s) is written;
-  means = λ m t. below_means m t h;
 }
 
 -- digits alone are read as the number that they write

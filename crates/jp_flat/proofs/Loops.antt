@@ -11,12 +11,12 @@ use Rattle.std.proofs.lemmas.List.{length-append}
 use Rattle.std.proofs.lemmas.List.Folds.{list_all-append}
 use Rattle.json.specs.Json.{after_end_array, read_key}
 use Rattle.json.specs.Token.{Token}
-use Rattle.jp_document.specs.Private.Direct.{ReadsItems, ReadsValue}
+use Rattle.jp_flat.specs.Private.FromTokens.{ReadsItems, ReadsValue}
 use Rattle.jp_document.specs.Value.{Value, everywhere, everywhere_in_items, item_count, items_of}
 use Rattle.jp_document.specs.Value.{list, list_fits, members_of, names_rise, object}
 use Rattle.jp_document.proofs.Descent.Inside.{all-items}
-use Rattle.jp_document.proofs.Tokens.Ahead.{MembersAhead, ahead_member, ahead_members_end}
-use Rattle.jp_document.proofs.Tokens.Rounds.{items_over, items_round}
+use Rattle.jp_flat.proofs.Ahead.{MembersAhead, ahead_member, ahead_members_end}
+use Rattle.jp_flat.proofs.Rounds.{items_over, items_round}
 use Rattle.jp_flat.specs.Flat.{Grows, Shown, all_of, flat_value, member_with, text_at}
 use Rattle.jp_flat.specs.Private.Reading.{BeginsItems, BeginsValues, IsAboveLast, ReadsLeaf, IsTheListOf}
 use Rattle.jp_flat.specs.Private.Reading.{ReadsFlat}

@@ -16,7 +16,8 @@ use Rattle.std.proofs.lemmas.Option.{same_Some}
 use Rattle.jp_document.specs.Value.{Value, names_rise, null}
 use Rattle.jp_reading.proofs.Conjunctions.{and-left, and-right}
 use Rattle.jp_document.proofs.Members.ByName.{Less-from_is_lt, bytes_cmp, searchable, sorted_from_rise}
-use Rattle.jp_document.proofs.Members.Inserting.{insert_point, keys_rise}
+use Rattle.jp_document.proofs.Members.Inserting.{keys_rise}
+use Rattle.jp_flat.proofs.Inserting.{insert_point}
 use Rattle.jp_document.proofs.Options.{some_from_both}
 use Rattle.jp_flat.specs.Flat.{Shown, all_of, member_with, text_at}
 use Rattle.jp_flat.specs.Private.Parts.{name_in}

@@ -96,6 +96,19 @@ pub record BeginsWith {A : Type 0} (whole front : List A) : Type 0 where
   pub rest : List A
   pub is : whole ≡ front ++ rest
 
+-- the later tables have the texts of the earlier ones at their spans, and their items and members
+pub record Keeps (before after : Shown) : Type 0 where
+  pub texts : (s : Span) (x : List ℕ) → text_at before s ≡ Some x → text_at after s ≡ Some x
+  pub items : BeginsWith after.items before.items
+  pub members : BeginsWith after.members before.members
+
+-- the same items and members, and the document's text in front of the spare ones
+pub record IsOwned (before after : Shown) : Type 0 where
+  pub source : after.source ≡ []
+  pub spare : after.spare ≡ before.source ++ before.spare
+  pub items : after.items ≡ before.items
+  pub members : after.members ≡ before.members
+
 -- the later tables hold what the earlier ones hold, where it stands there
 pub record Grows (before after : Shown) : Type 0 where
   pub source : after.source ≡ before.source

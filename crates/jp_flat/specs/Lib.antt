@@ -1,3 +1,4 @@
 pub mod Flat
 pub mod FlatValue
 pub mod Private
+pub mod Room

@@ -80,7 +80,11 @@ pub(crate) fn close_object(
 }
 
 /// The object of the members from the base on as they stand, which move to the tables.
-fn object_of(tables: &mut Tables<'_>, members: &mut Vec<Named>, base: usize) -> Option<Item>
+pub(crate) fn object_of(
+    tables: &mut Tables<'_>,
+    members: &mut Vec<Named>,
+    base: usize,
+) -> Option<Item>
     requires { base ≤ length members.old.items }
     ensures object { IfSome result (IsObjectOf (drop base members.old.items) (shown tables.old)
         (shown tables.new)) }

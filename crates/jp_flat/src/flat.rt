@@ -3,15 +3,18 @@ ghost use Rattle.std.specs.Prelude.{◌≡◌, [], true, IfOk, IfSome, OnSome, S
 ghost use Rattle.jp_document.specs.Document.{IsDocument};
 ghost use Rattle.jp_flat.specs.Flat.{is_flat, meaning, shown};
 ghost use Rattle.jp_flat.specs.Private.Reading.{ReadsFlatText};
+ghost use Rattle.jp_flat.specs.Room.{IsIdle};
 
 use crate::cursor::Cursor;
 use crate::flat_value::FlatValue;
 use crate::item::{Item, Named};
+use crate::of_tree::put_value;
 use crate::reading::{Pending, lone_value};
 use crate::tables::{MAX_DEPTH, Tables, parts_in};
-use std::alloc::Global;
+use jp_document::DocumentValue;
+use std::alloc::{AllocError, Global};
 
-/// A document in tables, which are made of its text: `Document` without a tree.
+/// A document in tables, which are made of its text.
 #[derive(Drop)]
 pub struct Flat<'t> {
     pub(crate) tables: Tables<'t>,
@@ -21,7 +24,25 @@ pub struct Flat<'t> {
 }
 
 impl<'t> Flat<'t> {
+    ghost use Rattle.jp_document.specs.DocumentValue.{lent_value};
     ghost use Rattle.jp_flat.specs.FlatValue.{document_in, lent_flat};
+
+    /// The tables of a document's value that is held as a tree. The only error is that memory ran
+    /// out, or that the value is too much for tables: 2^32 bytes, or 127 levels.
+    pub fn of(alloc: Global, value: DocumentValue<'_>) -> Result<Flat<'t>, AllocError>
+        ensures { IfOk result (λ f. document_in f ≡ lent_value value.entry) }
+    {
+        let mut tables = Tables::new(alloc, "");
+        let mut pending = Pending::new(alloc);
+        match put_value(&mut tables, &mut pending, value.json(), MAX_DEPTH) {
+            Some(root) => Ok(Flat {
+                tables,
+                root,
+                pending,
+            }),
+            None => Err(AllocError),
+        }
+    }
 
     /// The document's value, to go on from.
     pub fn value(&self) -> FlatValue<'_, 't>
@@ -30,14 +51,23 @@ impl<'t> Flat<'t> {
         FlatValue::of(&self.tables, self.root)
     }
 
+    /// The same document, which borrows nothing. The only error is that memory ran out.
+    pub fn owned(self, alloc: Global) -> Result<Flat<'static>, AllocError>
+        ensures { IfOk result (λ f. document_in f ≡ document_in self.entry) }
+    {
+        let Flat { tables, root, .. } = self;
+        let tables = tables.owned(alloc)?;
+        let pending = Pending::new(alloc);
+        Ok(Flat {
+            tables,
+            root,
+            pending,
+        })
+    }
+
     /// The memory, for the next document.
     pub fn into_room(self) -> Room {
-        Room {
-            spare: self.tables.spare,
-            items: self.tables.items,
-            members: self.tables.members,
-            pending: self.pending,
-        }
+        Room::of(self.tables, self.pending)
     }
 }
 
@@ -49,13 +79,15 @@ pub fn flat_document(alloc: Global, bytes: &[u8]) -> Option<Flat<'_>>
     Room::new(alloc).read(bytes).ok()
 }
 
-/// Memory to read documents into, which goes from one to the next.
+/// Memory to read documents into, which goes from one to the next. Nothing is being read in it: what
+/// a document left unread is not kept.
 #[derive(Drop)]
 pub struct Room {
     spare: String,
     items: Vec<Item>,
     members: Vec<Named>,
     pending: Pending,
+    ghost idle: { IsIdle pending },
 }
 
 impl Room {
@@ -71,6 +103,17 @@ impl Room {
         }
     }
 
+    /// The memory of these tables and of what was being read.
+    fn of(tables: Tables<'_>, mut pending: Pending) -> Room {
+        pending.clear();
+        Room {
+            spare: tables.spare,
+            items: tables.items,
+            members: tables.members,
+            pending,
+        }
+    }
+
     /// The document that these bytes are, in this memory. An `Err` gives the memory back, and says
     /// nothing of the bytes: they may be no document, too many for tables (2^32), or more than
     /// there is memory for.
@@ -82,7 +125,6 @@ impl Room {
         };
         let mut pending = self.pending;
         let mut tables = Tables::of(text, self.spare, self.items, self.members);
-        pending.clear();
         pending.reserve(parts_in(bytes, 16));
         let read = root(&mut tables, &mut pending);
         match read {
@@ -91,12 +133,7 @@ impl Room {
                 root,
                 pending,
             }),
-            None => Err(Room {
-                spare: tables.spare,
-                items: tables.items,
-                members: tables.members,
-                pending,
-            }),
+            None => Err(Room::of(tables, pending)),
         }
     }
 }

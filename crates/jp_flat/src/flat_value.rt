@@ -1,19 +1,14 @@
 //! Values of documents in tables, wherever they stand.
-ghost use Rattle.std.specs.Prelude.{◌≡◌, ◌++◌, ◌<◌, true, OnOk, OnSome, length, option_map};
-ghost use Rattle.std.specs.Prelude.{slice_get, string_bytes};
-ghost use Rattle.jp_document.specs.Appending.{IsPartAppended};
-ghost use Rattle.jp_document.specs.Text.{text_of};
+ghost use Rattle.std.specs.Prelude.{◌≡◌, ◌<◌, true, OnSome, length, option_map, slice_get};
 ghost use Rattle.jp_document.specs.Value.{list_length};
 ghost use Rattle.jp_flat.specs.Flat.{is_flat, meaning, shown};
 ghost use Rattle.jp_lent.specs.Lending.{bare, seen_value};
 
 use crate::item::Item;
 use crate::parts::{item_at, member_at, members, name_order, text_at};
-use crate::printing::push_item;
-use crate::tables::{MAX_DEPTH, Tables};
+use crate::tables::Tables;
 use jp_document::Step;
 use jp_lent::Seen;
-use std::alloc::AllocError;
 
 /// A value of a document in tables: the document's own, or one that stands inside it. It copies
 /// nothing of it.
@@ -139,16 +134,5 @@ impl<'d, 't> FlatValue<'d, 't> {
             | Item::Text(_)
             | Item::List(_) => None,
         }
-    }
-
-    /// Appends the compact text of the value. Where memory runs out, the text still begins with
-    /// what it held, and only a beginning of the value's text stands after it.
-    pub fn push_value(self, out: &mut String) -> Result<(), AllocError>
-        ensures ok { OnOk result
-            (string_bytes out.new ≡ string_bytes out.old ++ text_of (lent_flat self.entry)) }
-        ensures kept { IsPartAppended (string_bytes out.old) (text_of (lent_flat self.entry))
-            (string_bytes out.new) }
-    {
-        push_item(out, self.tables, self.item, MAX_DEPTH)
     }
 }

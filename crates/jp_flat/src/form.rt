@@ -3,8 +3,7 @@ ghost use Rattle.jp_flat.specs.FlatValue.{lent_flat};
 
 use crate::flat_value::FlatValue;
 use jp_document::Step;
-use jp_lent::{Lent, Printed, Seen, Selectable};
-use std::alloc::AllocError;
+use jp_lent::{Lent, Seen, Selectable};
 
 impl<'v, 't> Lent for FlatValue<'v, 't> {
     ghost meaning = { lent_flat };
@@ -38,11 +37,5 @@ impl<'v, 't> Selectable for FlatValue<'v, 't> {
         Self: 'd,
     {
         FlatValue::member(self, name)
-    }
-}
-
-impl<'v, 't> Printed for FlatValue<'v, 't> {
-    fn push_value(self, out: &mut String) -> Result<(), AllocError> {
-        FlatValue::push_value(self, out)
     }
 }

@@ -1,9 +1,9 @@
-//! JSON documents in flat tables (RFC 9535 section 1.1): most are read more than twice as fast as into
-//! a tree, and in a third of its memory.
+//! JSON documents in flat tables (RFC 9535 section 1.1), which take less time to read than a tree, and
+//! less memory.
 //!
-//! `flat_document` reads one, `Flat::value` is its value, and a `FlatValue` is a `Lent` one, which
-//! `FlatValue::push_value` prints. A `Room` takes the memory from one document to the next, and
-//! `flat_value_at` reads a document for the one value at a location:
+//! `flat_document` reads one, `Flat::value` is its value, and a `FlatValue` is a `Lent` one. A `Room`
+//! takes the memory from one document to the next, and `flat_value_at` reads a document for the one
+//! value at a location:
 //!
 //! ```text
 //! let flat = flat_document(alloc, b"{\"a\":[1,2]}")?;
@@ -14,7 +14,7 @@
 //!
 //! For the layer above: what is read is a document, with its value in `specs/FlatValue.antt`, and
 //! each call at a value answers as at a `DocumentValue`. Where nothing is read, nothing is said of
-//! the bytes: `Document::read` has the answer.
+//! the bytes: `jp_held`, above this crate, tells what is wrong with them.
 #![tactic(auto)]
 
 mod blanks;
@@ -24,13 +24,15 @@ mod finding;
 mod flat;
 mod flat_value;
 mod form;
+mod integer;
 mod item;
+mod key;
 mod leaf;
 mod lexing;
 mod moving;
 mod number;
+mod of_tree;
 mod parts;
-mod printing;
 mod reading;
 mod rising;
 mod runs;

@@ -1,11 +1,12 @@
 //! Whole numbers from their characters.
-ghost use Rattle.std.specs.Prelude.{◌≡◌, ◌<◌, ◌==◌, IfSome, IsTrue, length, slice_index};
-ghost use Rattle.jp_flat.specs.Flat.{number_of};
+ghost use Rattle.std.specs.Prelude.{◌≡◌, ℕ, IfSome, Some};
+ghost use Rattle.jp_document.specs.Value.{whole};
+ghost use Rattle.jp_flat.specs.Flat.{Shown, flat_value, number_of};
 ghost use Rattle.jp_flat.specs.Private.Reading.{IsWholeItem};
 ghost use Rattle.jp_flat.specs.Private.Tokens.{IsSized};
 
+use crate::integer::{has_minus, integer_of};
 use crate::item::{Halves, Item};
-use jp_document::integer_of;
 
 /// The whole number of 64 bits that these characters of JSON write. `size` is what their digits write,
 /// if they are at most 18.
@@ -25,20 +26,21 @@ fn long_number(bytes: &[u8]) -> Option<Item>
     ensures { IfSome result (IsWholeItem bytes.now) }
 {
     let whole = integer_of(bytes)?;
-    if whole < 0 {
-        let below = (-1 - whole) as u64;
-        Some(Item::Below(halves(below)))
-    } else {
-        Some(Item::Above(halves(whole as u64)))
-    }
+    let item = whole_item(whole)?;
+    Some(item)
 }
 
-#[inline(always)]
-fn has_minus(bytes: &[u8]) -> bool
-    ensures value { result ≡ (slice_index bytes.now 0 == 45) }
-    ensures some { IsTrue result → 0 < length bytes.now }
+/// A whole number, None where it has more than 64 bits.
+pub(crate) fn whole_item(number: i128) -> Option<Item>
+    ensures { IfSome result (λ i. (n : ℕ) (t : Shown) → flat_value n t i ≡ Some (whole number)) }
 {
-    !bytes.is_empty() && bytes[0] == b'-'
+    if number < 0 {
+        let below = u64::try_from(-1 - number).ok()?;
+        Some(Item::Below(halves(below)))
+    } else {
+        let above = u64::try_from(number).ok()?;
+        Some(Item::Above(halves(above)))
+    }
 }
 
 #[inline(always)]

@@ -32,7 +32,10 @@ pub(crate) struct Pending {
 }
 
 impl Pending {
-    pub(crate) fn new(alloc: Global) -> Pending {
+    pub(crate) fn new(alloc: Global) -> Pending
+        ensures items { result.items.items ≡ [] }
+        ensures members { result.members.items ≡ [] }
+    {
         Pending {
             items: Vec::new(alloc),
             members: Vec::new(alloc),

@@ -9,6 +9,7 @@ ghost use Rattle.jp_flat.specs.Private.Parts.{name_in};
 ghost use Rattle.jp_flat.specs.Private.Sorting.{Puts, PutsAll, PutsByName};
 
 use crate::item::Named;
+use crate::key::Key;
 use crate::parts::{bytes_at, bytes_order};
 use crate::tables::Tables;
 use std::alloc::Global;
@@ -98,19 +99,19 @@ fn by_name<'d>(
     alloc: Global,
     tables: &'d Tables<'_>,
     members: &[Named],
-) -> Option<BTreeMap<&'d [u8], Named>>
+) -> Option<BTreeMap<Key<'d>, Named>>
     ensures { IfSome result (λ m. PutsByName (shown tables.entry.now) members.now m.entries) }
 {
     let mut found = BTreeMap::new(alloc);
     for member in members {
         let name = bytes_at(tables, member.name)?;
-        found.insert(name, *member).ok()?;
+        found.insert(Key::of(name), *member).ok()?;
     }
     Some(found)
 }
 
 /// Appends the members of a map.
-fn list(named: BTreeMap<&[u8], Named>, found: &mut Vec<Named>) -> Option<()>
+fn list(named: BTreeMap<Key<'_>, Named>, found: &mut Vec<Named>) -> Option<()>
     ensures { OnSome result
         (found.new.items ≡ found.old.items ++ map (λ e. e.1) named.entry.entries) }
 {

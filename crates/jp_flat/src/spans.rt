@@ -74,7 +74,7 @@ fn take_room(room: &mut Vec<Scratch>) -> Option<()> {
 }
 
 /// A new spare text.
-fn spared(tables: &mut Tables<'_>, text: &str) -> Option<Span>
+pub(crate) fn spared(tables: &mut Tables<'_>, text: &str) -> Option<Span>
     ensures spelled { IfSome result (λ s. text_at (shown tables.new) s ≡ Some text.now) }
     ensures grows { OnSome result (Grows (shown tables.old) (shown tables.new)) }
     ensures items { OnSome result (tables.new.items.items ≡ tables.old.items.items) }

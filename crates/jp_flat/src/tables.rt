@@ -1,9 +1,9 @@
 //! The tables of a document.
-ghost use Rattle.std.specs.Prelude.{◌≡◌, []};
-ghost use Rattle.jp_flat.specs.Flat.{shown};
+ghost use Rattle.std.specs.Prelude.{◌≡◌, [], IfOk};
+ghost use Rattle.jp_flat.specs.Flat.{IsOwned, shown};
 
 use crate::item::{Item, Named};
-use std::alloc::Global;
+use std::alloc::{AllocError, Global};
 
 /// The most levels of lists and objects.
 pub(crate) const MAX_DEPTH: usize = 127;
@@ -54,6 +54,22 @@ impl<'t> Tables<'t> {
         tables.members.clear();
         tables.reserve(parts_in(text.as_bytes(), 64));
         tables
+    }
+
+    /// The same tables, which borrow nothing: the document's text is copied in front of the spare
+    /// ones. The only error is that memory ran out.
+    pub(crate) fn owned(self, alloc: Global) -> Result<Tables<'static>, AllocError>
+        ensures { IfOk result (λ tables. IsOwned (shown self.entry) (shown tables)) }
+    {
+        let mut spare = String::with_capacity(alloc, self.text.len())?;
+        spare.push_str(self.text)?;
+        spare.push_str(self.spare.as_str())?;
+        Ok(Tables {
+            text: "",
+            spare,
+            items: self.items,
+            members: self.members,
+        })
     }
 
     /// Takes memory for so many items and members at once. Where there is none, the tables grow as

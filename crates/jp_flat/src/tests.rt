@@ -1,4 +1,4 @@
-//! Documents in tables, beside the same in trees.
+//! Documents in tables.
 mod documents;
 mod locations;
 mod values;

@@ -1,14 +1,18 @@
-//! Calls that the program `jp` does not make, for `hostile/run`, which refuses them memory.
+//! Calls that the program `jp` does not make, for `hostile/run`, which refuses them memory, and for
+//! `hostile/readers`.
 //!
 //! Its word is the task for each line of the standard input. `paths` reads the line as a normalized
 //! path and writes its steps or why it is none; `steps` and `no-steps` read it as a pattern and
 //! write whether a scan accepts 100,000 times `ab`, or the empty text; `descend` reads it as a
-//! document and writes how many nodes it has. The status is 0, 4 where memory ran out, and 5 where
-//! a read or a write failed otherwise.
+//! document and writes how many nodes it has; `documents` reads it by `serde_json` and writes its
+//! compact text or why it is none. The status is 0, 4 where memory ran out, and 5 where a read or a
+//! write failed otherwise.
 #![tactic(auto)]
 
-use jp_document::{Document, DocumentFault, OwnedStep, PathFault, read_path};
+use jp_document::{DocumentFault, OwnedStep, PathFault, parsed_value, read_path};
+use jp_held::Document;
 use jp_iregexp::{PatternFault, read_pattern};
+use jp_lent::value_text;
 use jp_match::{Scan, Tests};
 use jp_select::descend_each;
 use std::alloc::Global;
@@ -40,6 +44,7 @@ fn run(rt: &HostRuntime) -> io::Result<()> {
             "steps" => scanned(alloc, line.as_str(), 100_000)?,
             "no-steps" => scanned(alloc, line.as_str(), 0)?,
             "descend" => nodes_of(alloc, line.as_str())?,
+            "documents" => value_of(alloc, line.as_str())?,
             _ => steps_of(alloc, line.as_str())?,
         };
         println!(rt; "{told}")?;
@@ -80,6 +85,15 @@ fn nodes_of(alloc: Global, text: &str) -> io::Result<String> {
     let mut told = String::new(alloc);
     write!(told, "{count} nodes")?;
     Ok(told)
+}
+
+/// The compact text of the document that a text is, read by `serde_json`, or why it is none.
+fn value_of(alloc: Global, text: &str) -> io::Result<String> {
+    match parsed_value(alloc, text.as_bytes()) {
+        Ok(json) => Ok(value_text(alloc, &json)?),
+        Err(DocumentFault::NoMemory) => Err(Error::from(ErrorKind::OutOfMemory)),
+        Err(fault) => Ok(format!(in alloc; "{fault}")?),
+    }
 }
 
 /// Whether a scan of the pattern that a text is accepts so many times `ab`.

@@ -2,10 +2,9 @@
 ghost use Rattle.jp_document.specs.DocumentValue.{lent_value};
 
 use crate::json_form::{count, seen};
-use crate::lent::{Lent, Printed, Selectable};
+use crate::lent::{Lent, Selectable};
 use crate::seen::Seen;
-use jp_document::{DocumentValue, Step, push_value};
-use std::alloc::AllocError;
+use jp_document::{DocumentValue, Step};
 
 impl<'v> Lent for DocumentValue<'v> {
     ghost meaning = { lent_value };
@@ -39,11 +38,5 @@ impl<'v> Selectable for DocumentValue<'v> {
         Self: 'd,
     {
         DocumentValue::member(self, name)
-    }
-}
-
-impl<'v> Printed for DocumentValue<'v> {
-    fn push_value(self, out: &mut String) -> Result<(), AllocError> {
-        push_value(out, self.json())
     }
 }

@@ -1,15 +1,11 @@
 //! Values that are lent.
-ghost use Rattle.std.specs.Prelude.{◌≡◌, ◌<◌, ◌++◌, OnOk, OnSome, length, option_map, slice_get};
-ghost use Rattle.std.specs.Prelude.{string_bytes};
-ghost use Rattle.jp_document.specs.Appending.{IsPartAppended};
-ghost use Rattle.jp_document.specs.Text.{text_of};
+ghost use Rattle.std.specs.Prelude.{◌≡◌, ◌<◌, OnSome, length, option_map, slice_get};
 ghost use Rattle.jp_document.specs.Location.{child_entry, entries, named};
 ghost use Rattle.jp_document.specs.Value.{Value, list_length};
 ghost use Rattle.jp_lent.specs.Lending.{bare, seen_value, step_with};
 
 use crate::seen::Seen;
 use jp_document::Step;
-use std::alloc::AllocError;
 
 /// A value that is lent. It copies nothing of what it is in, and its names and texts live as long
 /// as that.
@@ -51,15 +47,4 @@ pub trait Selectable: Lent {
         Self: 'd,
         ensures { option_map (step_with Self.meaning) result
             ≡ child_entry (Self.meaning self) (named name.now) };
-}
-
-/// A value that is written.
-pub trait Printed: Selectable {
-    /// Appends the compact text of the value. The only error is that memory ran out; the text still
-    /// begins with what it held then, and only a beginning of the value's text stands after it.
-    fn push_value(self, out: &mut String) -> Result<(), AllocError>
-        ensures ok { OnOk result
-            (string_bytes out.new ≡ string_bytes out.old ++ text_of (Self.meaning self)) }
-        ensures kept { IsPartAppended (string_bytes out.old) (text_of (Self.meaning self))
-            (string_bytes out.new) };
 }

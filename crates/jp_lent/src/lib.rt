@@ -10,13 +10,19 @@
 //! }
 //! ```
 //!
-//! `DocumentValue` is such a form, and so is a `&Json`, which need not be of a document.
+//! `DocumentValue` is such a form, and so is a `&Json`, which need not be of a document. In a document
+//! names rise. Where they do not, `==` (`equals` of jp_select) still goes member by member, in their
+//! order, so that two objects with the same members in another order are not equal.
 #![tactic(auto)]
 
+mod copying;
 mod document_form;
 mod json_form;
 mod lent;
+mod printing;
 mod seen;
 
-pub use lent::{Lent, Printed, Selectable};
+pub use copying::json_of;
+pub use lent::{Lent, Selectable};
+pub use printing::{push_value, value_text};
 pub use seen::Seen;

@@ -3,4 +3,3 @@ pub mod EqualValues
 pub mod Parts
 pub mod Sameness
 pub mod TextOrder
-pub mod Weights

@@ -2,11 +2,11 @@
 //! 2.5.2).
 //!
 //! ```text
-//! let document = Document::read(alloc, b"[5,3,[8]]")?;
-//! let root = document.root(alloc);
+//! let value = parsed_value(alloc, b"[5,3,[8]]")?;
+//! let root = Node::of(Vec::new(alloc), DocumentValue::of(&value));
 //! select_plain(alloc, &root, &Selector::Wildcard)?;   // $[0] $[1] $[2]
 //! descend(alloc, root)?;                              // $ $[0] $[1] $[2] $[2][0]
-//! let five = Comparable::of(document.at(&[Step::Index(0)]));
+//! let five = Comparable::of(Some(&Json::Whole(5)));
 //! compare(Op::Less, Comparable::Whole(3), five);      // true
 //! ```
 //!

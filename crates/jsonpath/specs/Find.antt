@@ -47,9 +47,10 @@ pub record Finds (profile : Profile) (text bytes : List ℕ) (texts : List (List
 abbrev pub RefusesText : Profile → Text → Refusal → Type 0
 RefusesText profile text r = IsNotAccepted profile text × IsRefusedForItself profile text r
 
--- the same, or memory ran out
+-- the same, or memory ran out, which has the place 0
 abbrev pub RefusesOrRanOut : Profile → Text → Refusal → Type 0
-RefusesOrRanOut profile text r = (r.kind ≡ kind.NoMemory) ⊎ RefusesText profile text r
+RefusesOrRanOut profile text r =
+    (r ≡ record { kind = kind.NoMemory; place = 0 }) ⊎ RefusesText profile text r
 
 -- why nothing is found: the query is refused; or it is accepted, and the bytes are no document, with
 -- that fault; running out of memory says nothing of either

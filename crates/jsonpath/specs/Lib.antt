@@ -12,6 +12,7 @@ pub use Rattle.jp_document.specs.Text
 pub use Rattle.jp_document.specs.Value
 pub use Rattle.jp_evaluate.specs.Nodelist
 pub use Rattle.jp_evaluate.specs.Rest
+pub use Rattle.jp_held.specs.Held
 pub use Rattle.jp_query.specs.Refusal
 pub use Rattle.jp_tree.specs.Tree
 pub use Rattle.jp_tree.specs.Views

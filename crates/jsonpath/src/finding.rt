@@ -2,7 +2,8 @@
 ghost use Rattle.std.specs.Prelude.{◌≡◌, IfErr, IfOk, map};
 ghost use Rattle.std.specs.Str.{chars};
 ghost use Rattle.jp_check.specs.Accepted.{IsAcceptedAs};
-ghost use Rattle.jp_document.specs.Document.{document_of};
+ghost use Rattle.jp_flat.specs.FlatValue.{document_in};
+ghost use Rattle.jp_held.specs.Held.{document_of};
 ghost use Rattle.jp_document.specs.Node.{node_of};
 ghost use Rattle.jp_evaluate.specs.Nodelist.{nodelist};
 ghost use Rattle.jp_tree.specs.Views.{query_of};
@@ -10,8 +11,11 @@ ghost use Rattle.jsonpath.specs.Find.{Finds, FindsNot, RefusesOrRanOut, Selects,
 
 use crate::fault::FindFault;
 use jp_check::{Checked, Profile, read_query};
-use jp_document::{Document, Node, path_text, value_text};
-use jp_evaluate::{evaluate, nodes};
+use jp_document::{Node, path_text};
+use jp_evaluate::{evaluate, lent_nodes};
+use jp_flat::Flat;
+use jp_held::{Document, read_flat};
+use jp_lent::value_text;
 use jp_match::Marks;
 use jp_query::{Refusal, RefusalKind};
 use std::alloc::{AllocError, Global};
@@ -42,20 +46,20 @@ pub fn find(
     ensures fault { IfErr result (FindsNot profile text.now bytes.now) }
 {
     let query = asked(alloc, text, profile)?;
-    let document = Document::read(alloc, bytes)?;
-    Ok(matches(alloc, &document, &query)?)
+    let flat = read_flat(alloc, bytes)?;
+    Ok(matches(alloc, &flat, &query)?)
 }
 
 /// The texts of the nodes that a query selects in a document.
-fn matches(alloc: Global, document: &Document, query: &Checked) -> Result<Vec<Match>, AllocError>
+fn matches(alloc: Global, flat: &Flat<'_>, query: &Checked) -> Result<Vec<Match>, AllocError>
     ensures { IfOk result (λ found. map match_texts found.items
-        ≡ map texts_of (nodelist (query_of query.now.query) (document_of document.now))) }
+        ≡ map texts_of (nodelist (query_of query.now.query) (document_in flat.now))) }
 {
     let mut found = Vec::new(alloc);
-    for next in nodes(alloc, document, query, &Marks) {
-        let node = next?;
-        let path = path_text(alloc, node.location())?;
-        let value = value_text(alloc, node.value())?;
+    for next in lent_nodes(alloc, flat.value(), query, &Marks) {
+        let (location, value) = next?;
+        let path = path_text(alloc, &location)?;
+        let value = value_text(alloc, value)?;
         found.push(Match { path, value })?;
     }
     Ok(found)
@@ -63,8 +67,8 @@ fn matches(alloc: Global, document: &Document, query: &Checked) -> Result<Vec<Ma
 
 /// The nodes that the query that `text` is in that profile selects in a document, in the nodelist's
 /// order (RFC 9535 section 2.1.2); a node that is selected twice stands there twice. They borrow
-/// from the document. A refusal says how the query is refused, or by the kind `NoMemory` that memory
-/// ran out.
+/// from the document. A refusal says how the query is refused, or by the kind `NoMemory` at place 0 that
+/// memory ran out.
 pub fn find_nodes<'d>(
     alloc: Global,
     document: &'d Document,

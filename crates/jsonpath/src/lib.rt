@@ -50,9 +50,11 @@ pub use finding::{Match, find, find_nodes};
 pub use jp_canon::canon;
 pub use jp_check::{Checked, Profile, read_query};
 pub use jp_document::{
-    Document, DocumentFault, Json, Member, Node, OwnedLocation, OwnedStep, PathFault, Step,
-    child_at, child_named, children, path_text, read_path, value_text,
+    DocumentFault, Json, Member, Node, OwnedLocation, OwnedStep, PathFault, Step, child_at,
+    child_named, children, path_text, read_path,
 };
 pub use jp_evaluate::{Nodes, evaluate, nodes};
+pub use jp_held::Document;
+pub use jp_lent::value_text;
 pub use jp_match::{Marks, Matching};
 pub use jp_query::{Refusal, RefusalKind};

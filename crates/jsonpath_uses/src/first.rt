@@ -1,6 +1,6 @@
 //! The first node alone, which is looked for no further.
 ghost use Rattle.std.specs.Prelude.{◌≡◌, IfOk};
-ghost use Rattle.jsonpath.specs.Document.{document_of};
+ghost use Rattle.jsonpath.specs.Held.{document_of};
 ghost use Rattle.jsonpath.specs.Nodelist.{has_node, nodelist};
 ghost use Rattle.jsonpath.specs.Views.{query_of};
 ghost use Rattle.jsonpath.specs.Value.{value_of};

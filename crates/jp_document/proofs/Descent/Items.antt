@@ -1,4 +1,4 @@
--- A list's items found by their indexes: for `child_at` and `Document::at`.
+-- A list's items found by their indexes: for `child_at` and `at_step`.
 use Rattle.std.proofs.Common.{◌≡◌, ℕ, zero, suc, ◌+◌, ◌<◌, ◌≤◌, List, [], ◌∷◌}
 use Rattle.std.proofs.Common.{length, get_or, map, inl, inr, Option, Some, None, Equal, Greater}
 use Rattle.std.proofs.Common.{Bor, Global, Vec, is_eq, cond, refl, sym, ap, ◌∙◌, arith}

@@ -10,8 +10,8 @@ use Rattle.std.proofs.lemmas.List.Elements.{All-map}
 use Rattle.std.proofs.lemmas.Option.{slice_get-get_or, slice_get_within, same_Some}
 use Rattle.jp_document.specs.Location.{Step, Location}
 use Rattle.jp_document.specs.Location.{entries, child, value_at}
-use Rattle.jp_document.specs.Node.{IsNodeAt, Node, NodeView, StandsIn}
-use Rattle.jp_document.specs.Node.{child_of, children, node_below, node_of}
+use Rattle.jp_document.specs.Node.{IsNodeAt, Node, StandsIn}
+use Rattle.jp_document.specs.Node.{child_of, children, node_below}
 use Rattle.jp_document.specs.Value.{Value, IsDocumentValue}
 use Rattle.jp_document.proofs.Descent.Inside.{IsDocumentValue-child, value_at-step}
 use Rattle.jp_document.proofs.Options.{some_from_then}
@@ -33,16 +33,16 @@ no_more [] (suc i) is = refl
 no_more (x ∷ xs) zero is = cc
 no_more (x ∷ xs) (suc i) is = ap (λ ys. x ∷ ys) (no_more xs i is)
 
-pub grown : (ns : List NodeView) (n : NodeView) (all : List Node)
-    → map node_of ns ≡ take (length ns) all → Some (node_of n) ≡ slice_get all (length ns)
-    → map node_of (ns ++ n ∷ []) ≡ take (length (ns ++ n ∷ [])) all
-grown ns n all so is =
-    map-append node_of ns (n ∷ []) ∙ ap (λ ps. ps ++ node_of n ∷ []) so
-    ∙ sym (one_more all (length ns) (node_of n) is) ∙ ap (λ k. take k all) (sym (length_push ns n))
+pub grown : {X Y : Type 0} (f : X → Y) (xs : List X) (x : X) (all : List Y)
+    → map f xs ≡ take (length xs) all → Some (f x) ≡ slice_get all (length xs)
+    → map f (xs ++ x ∷ []) ≡ take (length (xs ++ x ∷ [])) all
+grown f xs x all so is =
+    map-append f xs (x ∷ []) ∙ ap (λ ps. ps ++ f x ∷ []) so
+    ∙ sym (one_more all (length xs) (f x) is) ∙ ap (λ k. take k all) (sym (length_push xs x))
 
-pub finished : (ns : List NodeView) (all : List Node) → map node_of ns ≡ take (length ns) all
-    → None ≡ slice_get all (length ns) → map node_of ns ≡ all
-finished ns all so is = so ∙ no_more all (length ns) is
+pub finished : {X Y : Type 0} (f : X → Y) (xs : List X) (all : List Y)
+    → map f xs ≡ take (length xs) all → None ≡ slice_get all (length xs) → map f xs ≡ all
+finished f xs all so is = so ∙ no_more all (length xs) is
 
 -- ---- where the children stand
 

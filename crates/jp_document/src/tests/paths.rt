@@ -1,5 +1,5 @@
-//! Texts that are normalized paths or none, and the values that paths lead to.
-use crate::{Document, OwnedStep, PathFault, read_path, value_text};
+//! Texts that are normalized paths or none.
+use crate::{OwnedStep, PathFault, Step, path_text, push_step, quote, read_path};
 use std::alloc::Global;
 use std::test::Fail;
 
@@ -86,24 +86,19 @@ fn paths_with_large_indexes(rt: HostRuntime) {
     }
 }
 
-/// The compact text of the value that a normalized path leads to in a document, if there is one.
-fn found(alloc: Global, bytes: &[u8], path: &str) -> Result<Option<String>, Fail> {
-    let document = Document::read(alloc, bytes)?;
-    match document.find(&read_path(alloc, path)?) {
-        Some(value) => Ok(Some(value_text(alloc, value)?)),
-        None => Ok(None),
-    }
+#[test]
+fn steps_are_spelled_one_after_another(rt: HostRuntime) -> Result<(), Fail> {
+    let mut path = String::from_str(rt.alloc(), "$")?;
+    push_step(&mut path, Step::Name("it's"))?;
+    push_step(&mut path, Step::Index(0))?;
+    assert_eq!(rt; path.as_str(), r"$['it\'s'][0]");
+    Ok(())
 }
 
 #[test]
-fn finds(rt: HostRuntime) -> Result<(), Fail> {
-    for (path, text) in [
-        (r"$['a'][0]['\'']", Some("true")),
-        ("$['a'][2]", None),
-        ("$[0]", None),
-    ] {
-        let found = found(rt.alloc(), br#"{"a":[{"'":true},"b"]}"#, path)?;
-        assert_eq!(rt; found.as_deref(), text, "{path}");
-    }
+fn paths(rt: HostRuntime) -> Result<(), Fail> {
+    assert_eq!(rt; quote(rt.alloc(), "'")?.as_str(), r"'\''");
+    let path = path_text(rt.alloc(), &[Step::Name("\u{1f}\n'\\"), Step::Index(10)])?;
+    assert_eq!(rt; path.as_str(), r"$['\u001f\n\'\\'][10]");
     Ok(())
 }

@@ -5,7 +5,7 @@ use Rattle.std.specs.Borrow.{Bor}
 use Rattle.std.specs.Ordering.{is_eq}
 use Rattle.json.specs.Token.{Token}
 use Rattle.jp_document.specs.Location.{Location, Step, named, step_cmp, step_of, value_at}
-use Rattle.jp_document.specs.Private.Direct.{ReadsItems, ReadsMembers, ReadsText, ReadsValue}
+use Rattle.jp_flat.specs.Private.FromTokens.{ReadsItems, ReadsMembers, ReadsText, ReadsValue}
 use Rattle.jp_document.specs.Value.{Value, everywhere, everywhere_in_items, everywhere_in_members}
 use Rattle.jp_document.specs.Value.{items_of, list, list_fits, members_of, object}
 use Rattle.jp_document.specs.declared.location.Step as code

@@ -5,9 +5,9 @@ use Rattle.std.specs.Cmp.Lexicographic.{slice_cmp}
 use Rattle.std.specs.Ordering.{is_lt, nat_cmp}
 use Rattle.json.specs.Token.{Token}
 use Rattle.jp_document.specs.Location.{entries}
-use Rattle.jp_document.specs.Integer.{IsWholeText}
-use Rattle.jp_document.specs.Private.Direct.{ReadsItems, ReadsMembers, ReadsText}
-use Rattle.jp_document.specs.Private.Direct.{ReadsValue}
+use Rattle.jp_flat.specs.Private.Integer.{IsWholeText}
+use Rattle.jp_flat.specs.Private.FromTokens.{ReadsItems, ReadsMembers, ReadsText}
+use Rattle.jp_flat.specs.Private.FromTokens.{ReadsValue}
 use Rattle.jp_document.specs.Value.{Value, everywhere, everywhere_in_items, everywhere_in_members}
 use Rattle.jp_document.specs.Value.{items_of, list, list_fits, members_of, object, whole}
 use Rattle.jp_flat.specs.Flat.{Grows, Shown, all_of, flat_value, member_with, most_levels}

@@ -1,6 +1,7 @@
-//! One value of a document, found while the document is read, beside the same in a tree.
+//! One value of a document, found while the document is read.
 use crate::{flat_value_at, found_value};
-use jp_document::{Document, Step, value_text};
+use jp_document::Step;
+use jp_lent::value_text;
 use std::alloc::{AllocError, Global};
 use std::test::Fail;
 
@@ -17,9 +18,7 @@ fn found_text(
     let Some(value) = found_value(&found) else {
         return Ok(Some(None));
     };
-    let mut out = String::new(alloc);
-    value.push_value(&mut out)?;
-    Ok(Some(Some(out)))
+    Ok(Some(Some(value_text(alloc, value)?)))
 }
 
 const STORE: &str =
@@ -51,33 +50,28 @@ fn values_at_locations(rt: HostRuntime) -> Result<(), Fail> {
 
 #[test]
 fn the_root(rt: HostRuntime) -> Result<(), Fail> {
-    let found = found_text(rt.alloc(), STORE, &[])?.ok_or("not read")?;
-    let document = Document::read(rt.alloc(), STORE.as_bytes())?;
-    assert!(rt; found == Some(value_text(rt.alloc(), document.json())?));
+    let found = found_text(rt.alloc(), r#"{"b":[ ],"a":1}"#, &[])?.ok_or("not read")?;
+    assert_eq!(rt; found.as_deref(), Some(r#"{"a":1,"b":[]}"#));
     Ok(())
 }
 
 #[test]
-fn as_in_a_tree(rt: HostRuntime) -> Result<(), Fail> {
+fn the_last_of_equal_names(rt: HostRuntime) -> Result<(), Fail> {
     let location = [Step::Name("a"), Step::Index(1)];
-    for text in [
-        r#"{"a":[0,1],"a":[2,3]}"#,
-        r#"{"a":[0,1],"a":[2]}"#,
-        r#"{"a":[0,1],"b":0,"a":7}"#,
-        r#"{"\u0061":[0,{"z":1,"y":2}],"b":"\n"}"#,
-        r#"{"a":{"1":2},"A":[0,1]}"#,
-        r#"[{"a":[0,1]},1]"#,
-        "0",
+    for (text, wanted) in [
+        (r#"{"a":[0,1],"a":[2,3]}"#, Some("3")),
+        (r#"{"a":[0,1],"a":[2]}"#, None),
+        (r#"{"a":[0,1],"b":0,"a":7}"#, None),
+        (
+            r#"{"\u0061":[0,{"z":1,"y":2}],"b":"\n"}"#,
+            Some(r#"{"y":2,"z":1}"#),
+        ),
+        (r#"{"a":{"1":2},"A":[0,1]}"#, None),
+        (r#"[{"a":[0,1]},1]"#, None),
+        ("0", None),
     ] {
-        let document = Document::read(rt.alloc(), text.as_bytes())?;
-        let wanted = match document.at(&location) {
-            Some(value) => Some(value_text(rt.alloc(), value)?),
-            None => None,
-        };
-        assert!(rt;
-            found_text(rt.alloc(), text, &location)? == Some(wanted),
-            "{text}"
-        );
+        let found = found_text(rt.alloc(), text, &location)?.ok_or("not read")?;
+        assert_eq!(rt; found.as_deref(), wanted, "{text}");
     }
     Ok(())
 }

@@ -1,7 +1,7 @@
 //! Rows of look-ups in documents in tables.
 use crate::{FlatValue, flat_document};
 use jp_document::Step;
-use jp_lent::Seen;
+use jp_lent::{Seen, push_value};
 use std::alloc::{AllocError, Global};
 use std::test::Fail;
 
@@ -20,7 +20,7 @@ fn entry_text(
         Step::Name(name) => write!(text, "{name} ")?,
         Step::Index(index) => write!(text, "{index} ")?,
     }
-    value.push_value(&mut text)?;
+    push_value(&mut text, value)?;
     Ok(text)
 }
 

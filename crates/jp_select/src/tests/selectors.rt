@@ -1,6 +1,8 @@
 //! Rows of selectors and descendants.
+ghost use Rattle.jp_document.specs.Value.{IsDocumentValue, value_of};
+
 use crate::{descend, descend_each, select_plain};
-use jp_document::{Document, Node, path_text};
+use jp_document::{DocumentValue, Json, Node, parsed_value, path_text};
 use jp_tree::{Numeral, Selector, Slice};
 use std::alloc::{AllocError, Global};
 use std::process::Abort;
@@ -9,6 +11,13 @@ use std::test::Fail;
 const LETTERS: &[u8] = br#"["a","b","c","d","e","f","g"]"#;
 
 const NESTED: &[u8] = br#"{"o":{"j":1,"k":2},"a":[5,3,[{"j":4},{"k":6}]]}"#;
+
+/// The root of a document, whose value it is.
+fn root(alloc: Global, value: &Json) -> Node<'_>
+    requires { IsDocumentValue (value_of value.now) }
+{
+    Node::of(Vec::new(alloc), DocumentValue::of(value))
+}
 
 /// The paths of the nodes, each with a blank before it.
 fn paths(alloc: Global, nodes: &[Node]) -> Result<String, AllocError> {
@@ -28,8 +37,8 @@ fn assert_selects(
     selector: &Selector,
     expected: &str,
 ) -> Result<(), Fail> {
-    let document = Document::read(alloc, bytes)?;
-    let nodes = select_plain(alloc, &document.root(alloc), selector)?;
+    let value = parsed_value(alloc, bytes)?;
+    let nodes = select_plain(alloc, &root(alloc, &value), selector)?;
     assert_eq!(rt; paths(alloc, &nodes)?.as_str(), expected);
     Ok(())
 }
@@ -49,8 +58,8 @@ const PATHS: &str = " $ $['a'] $['a'][0] $['a'][1] $['a'][2] $['a'][2][0] $['a']
 #[test]
 fn descendants(rt: HostRuntime) -> Result<(), Fail> {
     let alloc = rt.alloc();
-    let document = Document::read(alloc, NESTED)?;
-    let nodes = descend(alloc, document.root(alloc))?;
+    let value = parsed_value(alloc, NESTED)?;
+    let nodes = descend(alloc, root(alloc, &value))?;
     assert_eq!(rt; paths(alloc, &nodes)?.as_str(), PATHS);
     Ok(())
 }
@@ -58,13 +67,13 @@ fn descendants(rt: HostRuntime) -> Result<(), Fail> {
 #[test]
 fn descendants_one_at_a_time(rt: HostRuntime) -> Result<(), Fail> {
     let alloc = rt.alloc();
-    let document = Document::read(alloc, NESTED)?;
+    let value = parsed_value(alloc, NESTED)?;
     let mut nodes = Vec::new(alloc);
-    for node in descend_each(alloc, document.root(alloc)) {
+    for node in descend_each(alloc, root(alloc, &value)) {
         nodes.push(node?)?;
     }
     assert_eq!(rt; paths(alloc, &nodes)?.as_str(), PATHS);
-    let mut walk = descend_each(alloc, document.root(alloc));
+    let mut walk = descend_each(alloc, root(alloc, &value));
     assert!(rt; walk.next().is_some() && !walk.failed());
     Ok(())
 }
@@ -96,8 +105,8 @@ fn descendants_in_depth(rt: HostRuntime) -> Result<(), Fail> {
         expected.push_str(chain_path(alloc, depth)?.as_str())?;
         expected.push_str("[1]")?;
     }
-    let document = Document::read(alloc, bytes.as_bytes())?;
-    let nodes = descend(alloc, document.root(alloc))?;
+    let value = parsed_value(alloc, bytes.as_bytes())?;
+    let nodes = descend(alloc, root(alloc, &value))?;
     assert_eq!(rt; paths(alloc, &nodes)?.as_str(), expected.as_str());
     Ok(())
 }

@@ -1,6 +1,6 @@
 use Rattle.std.proofs.Common.{◌∙◌, ap, refl, sym}
 use Rattle.jp_command.specs.Lines.{output_of}
-use Rattle.jp_document.specs.Document.{document_of}
+use Rattle.jp_flat.specs.FlatValue.{document_in}
 use Rattle.jp_tree.specs.Views.{query_of}
 use Rattle.jp_c.proofs.Selecting.{document_there, query_there}
 use Rattle.jp_c.proofs.select.select_outcome.Goals as goal
@@ -11,7 +11,7 @@ returns-in-Ok c =
     let q = query_of c.in-Query-Document.query.query in (
       form,
       q,
-      document_of c.in-Query-Document.document,
+      document_in c.in-Query-Document.document,
       record {
         form_is = sym c.form.ensures ∙ c.in-Some.is;
         query_is = query_there _ _ _ _ c.in-Some-Some.is-0 c.deref.ensures c.in-Query-Document.is-0;
@@ -24,7 +24,7 @@ pub returns-in-Err : goal.returns-in-Err
 returns-in-Err c = (
   c.in-Some.form,
   query_of c.in-Query-Document.query.query,
-  document_of c.in-Query-Document.document,
+  document_in c.in-Query-Document.document,
   record {
     form_is = sym c.form.ensures ∙ c.in-Some.is;
     query_is = query_there _ _ _ _ c.in-Some-Some.is-0 c.deref.ensures c.in-Query-Document.is-0;

@@ -15,7 +15,7 @@ loop-step-preserved c =
     let pushed : c.push.new.self.items ≡ ns ++ x ∷ [] = search rules in
     let last : c.len.result ≡ length ns = search rules in
     subst (λ ms. map node_of ms ≡ take (length ms) (children n)) (sym pushed)
-    (grown ns x (children n) c.loop-step.invariant
+    (grown node_of ns x (children n) c.loop-step.invariant
     (ap Some c.in_ok-below.ensures
     ∙ child_at_position n.location (entries n.value) (length ns) _
     (c.in-Some.ensures.entry
@@ -26,7 +26,7 @@ returns c =
     let n = node_of c.args.node.now in
     let ns = c.loop-step.nodes.items in
     let last : c.len.result ≡ length ns = search rules in
-    finished ns (children n) c.loop-step.invariant
+    finished node_of ns (children n) c.loop-step.invariant
     (child_at_position n.location (entries n.value) (length ns) None
     (c.in_default.ensures.entry
     ∙ ap₂ (λ v i. slice_get (entries v) i) c.document_value.ensures last))

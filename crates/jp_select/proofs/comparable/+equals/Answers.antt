@@ -7,7 +7,7 @@ use Rattle.jp_select.specs.Comparison.{equals}
 use Rattle.jp_select.proofs.Comparisons.Parts.{Looks, by_parts, part_missing, part_next, parts_done}
 use Rattle.jp_select.proofs.Comparisons.Parts.{unlike-lengths}
 use Rattle.jp_select.proofs.Comparisons.Sameness.{equals-exact}
-use Rattle.jp_select.proofs.Comparisons.Weights.{part_within, side_less}
+use Rattle.jp_lent.proofs.Weights.{part_within, side_less}
 use Rattle.jp_select.proofs.comparable.+equals.Goals as goal
 
 -- ---- sides

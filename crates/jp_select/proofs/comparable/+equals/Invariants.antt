@@ -3,7 +3,7 @@ use Rattle.jp_document.specs.Location.{entries}
 use Rattle.jp_select.specs.Comparable.{comparable_of}
 use Rattle.jp_select.specs.Private.Parts.{same_parts}
 use Rattle.jp_select.proofs.Comparisons.Parts.{parts_from}
-use Rattle.jp_select.proofs.Comparisons.Weights.{weight, weight_inside, weight_of}
+use Rattle.jp_lent.proofs.Weights.{weight, weight_inside, weight_of}
 use Rattle.jp_select.proofs.comparable.+equals.Given as goal
 
 abbrev pub decreases-Comparable::equals : goal.decreases-Comparable::equals

@@ -1,5 +1,5 @@
 use Rattle.std.proofs.Common.{◌≡◌, ◌++◌, drop, map, string_bytes}
-use Rattle.jsonpath.specs.Document.{document_of}
+use Rattle.jsonpath.specs.Held.{document_of}
 use Rattle.jsonpath.specs.Node.{node_of}
 use Rattle.jsonpath.specs.Nodelist.{nodelist}
 use Rattle.jsonpath.specs.Views.{query_of}

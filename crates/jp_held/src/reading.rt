@@ -1,0 +1,80 @@
+//! From bytes to tables, or to what is wrong with the bytes.
+//!
+//! Tables are made in one pass, which stops at the first number that is not whole. `serde_json`
+//! decides: where a later member of the same name replaces such a number, the bytes are a document.
+ghost use Rattle.std.specs.Prelude.{◌≡◌, IfErr, IfOk, map};
+ghost use Rattle.jp_document.specs.Document.{IsDocument, IsDocumentFault};
+ghost use Rattle.jp_document.specs.Location.{step_of};
+ghost use Rattle.jp_flat.specs.FlatValue.{IsValueAt, document_in};
+
+use crate::document::Document;
+use jp_document::{DocumentFault, Step};
+use jp_flat::{Flat, Room, flat_document, flat_value_at};
+use std::alloc::Global;
+
+/// The document that these bytes are, in tables, else what is wrong with them. `NoMemory` says
+/// nothing of the bytes: memory ran out, or they are too many for tables (2^32).
+pub fn read_flat(alloc: Global, bytes: &[u8]) -> Result<Flat<'_>, DocumentFault>
+    ensures ok { IfOk result (λ f. IsDocument bytes.now (document_in f)) }
+    ensures fault { IfErr result (IsDocumentFault bytes.now) }
+{
+    match flat_document(alloc, bytes) {
+        Some(flat) => Ok(flat),
+        None => read_by_tree(alloc, bytes),
+    }
+}
+
+/// The same in the memory of other documents, which an `Err` gives back.
+pub fn read_into(alloc: Global, room: Room, bytes: &[u8]) -> Result<Flat<'_>, (Room, DocumentFault)>
+    ensures ok { IfOk result (λ f. IsDocument bytes.now (document_in f)) }
+    ensures fault { IfErr result (λ e. IsDocumentFault bytes.now e.1) }
+{
+    match room.read(bytes) {
+        Ok(flat) => Ok(flat),
+        Err(room) => match read_by_tree(alloc, bytes) {
+            Ok(flat) => Ok(flat),
+            Err(fault) => Err((room, fault)),
+        },
+    }
+}
+
+/// The value at this location of the document that these bytes are, None where the document has
+/// none there; else what is wrong with the bytes. It is found while the document is read.
+pub fn read_value_at<'t>(
+    alloc: Global,
+    bytes: &'t [u8],
+    location: &[Step<'_>],
+) -> Result<Option<Flat<'t>>, DocumentFault>
+    ensures ok { IfOk result (IsValueAt bytes.now (map step_of location.now)) }
+    ensures fault { IfErr result (IsDocumentFault bytes.now) }
+{
+    match flat_value_at(alloc, bytes, location) {
+        Some(found) => Ok(found),
+        None => value_by_tree(alloc, bytes, location),
+    }
+}
+
+/// The document that `serde_json` reads from these bytes, in tables, else what is wrong with them.
+fn read_by_tree<'t>(alloc: Global, bytes: &[u8]) -> Result<Flat<'t>, DocumentFault>
+    ensures ok { IfOk result (λ f. IsDocument bytes.now (document_in f)) }
+    ensures fault { IfErr result (IsDocumentFault bytes.now) }
+{
+    let document = Document::parsed(alloc, bytes)?;
+    Ok(Flat::of(alloc, document.value())?)
+}
+
+/// The value at this location of that document, None where it has none there.
+fn value_by_tree<'t>(
+    alloc: Global,
+    bytes: &[u8],
+    location: &[Step<'_>],
+) -> Result<Option<Flat<'t>>, DocumentFault>
+    ensures ok { IfOk result (IsValueAt bytes.now (map step_of location.now)) }
+    ensures fault { IfErr result (IsDocumentFault bytes.now) }
+{
+    let document = Document::parsed(alloc, bytes)?;
+    match document.value_at(location) {
+        Some(value) => Ok(Some(Flat::of(alloc, value)?)),
+        None => Ok(None),
+    }
+}
