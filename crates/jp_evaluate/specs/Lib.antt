@@ -3,5 +3,6 @@ pub mod Laws
 pub mod Lent
 pub mod Named
 pub mod Nodelist
+pub mod Patterns
 pub mod Private
 pub mod Rest

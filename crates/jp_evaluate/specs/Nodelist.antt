@@ -114,6 +114,9 @@ abbrev mutual
   operand_value (node_value q) d c = single_node_value q (nodelist_at q d c)
   operand_value (call_value f) d c = call_answer f d c
 
+  -- The functions of `Extended` are all that there are. Which of them a query may call depends on
+  -- its profile, and is said by what is accepted in it; here each has its meaning.
+
   -- the value that a function answers (section 2.4); a call that is not well-typed as a value has
   -- none
   pub call_answer : CallTree → Value → Node → Option Value
@@ -122,7 +125,7 @@ abbrev mutual
   call_answer (call cs _) d c = None
 
   -- whether a function answers true (section 2.4); a call that is not well-typed as a test is false
-  -- here
+  -- here, and so is one of `distinct`, which answers nodes: as a test it is true where there are some
   pub call_holds : CallTree → Value → Node → Bool
   call_holds (call cs (argument_then x (argument_then y no_arguments))) d c =
       logical_answer (function_named Extended cs) (argument_value x d c) (argument_value y d c)

@@ -1,6 +1,6 @@
 //! The evaluation of a query, node by node.
 ghost use Rattle.std.specs.Prelude.{◌≡◌, IfOk, false, map};
-ghost use Rattle.jp_document.specs.Document.{document_of};
+ghost use Rattle.jp_held.specs.Held.{document_of};
 ghost use Rattle.jp_document.specs.Node.{node_of};
 ghost use Rattle.jp_tree.specs.Views.{query_of};
 ghost use Rattle.jp_evaluate.specs.Nodelist.{nodelist};
@@ -9,7 +9,8 @@ ghost use Rattle.jp_evaluate.specs.Rest.{has_failed, rest_of};
 use crate::each::Nodes;
 use crate::lent::lent_nodes;
 use jp_check::Checked;
-use jp_document::{Document, Node};
+use jp_document::Node;
+use jp_held::Document;
 use jp_match::Matching;
 use std::alloc::{AllocError, Global};
 

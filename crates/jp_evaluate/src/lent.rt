@@ -1,11 +1,12 @@
 //! The nodes of a nodelist as they are lent, to be taken one by one.
-ghost use Rattle.std.specs.Prelude.{◌≡◌, ◌+◌, ◌++◌, IfNone, IfOk, [], false, if◌then◌else◌, length};
-ghost use Rattle.std.specs.Prelude.{map, option_to_list};
+ghost use Rattle.std.specs.Prelude.{◌≡◌, ◌+◌, ◌++◌, IfNone, IfOk, [], false, filter, length};
+ghost use Rattle.std.specs.Prelude.{if◌then◌else◌, map, option_to_list};
 ghost use Rattle.std.specs.Iterator.{at_most};
 ghost use Rattle.jp_tree.specs.Views.{query_of};
 ghost use Rattle.jp_select.specs.Giving.{GivesNextAs};
 ghost use Rattle.jp_evaluate.specs.Lent.{has_failed, lent_node, rest_of};
 ghost use Rattle.jp_evaluate.specs.Nodelist.{nodelist};
+ghost use Rattle.jp_evaluate.specs.Patterns.{is_short, texts_in, texts_kept};
 
 use crate::evaluating::Evaluation;
 use crate::pattern::Patterns;
@@ -54,6 +55,7 @@ pub fn lent_nodes_with<'d: 'q, 'q, V: Selectable + 'd, M: Matching>(
     ensures working { has_failed result ≡ false }
     ensures nodes { rest_of V.meaning result
         ≡ nodelist (query_of query.now.query) (V.meaning root) }
+    ensures patterns { texts_kept result ≡ texts_in patterns }
 {
     LentNodes {
         evaluation: Evaluation {
@@ -78,7 +80,9 @@ impl<'d: 'q, 'q, V: Selectable + 'd, M: Matching> LentNodes<'d, 'q, V, M> {
 
     /// The patterns that were read, for another evaluation: those whose texts have at most 1,024
     /// bytes.
-    pub fn into_patterns(self) -> Patterns {
+    pub fn into_patterns(self) -> Patterns
+        ensures { texts_in result ≡ filter is_short (texts_kept self.entry) }
+    {
         let mut patterns = self.patterns;
         patterns.forget_long();
         patterns

@@ -35,6 +35,8 @@ impl Model for ReadText {
 }
 
 impl ReadText {
+    ghost use Rattle.jp_evaluate.specs.Patterns.{is_short};
+
     fn new(alloc: Global, text: &str) -> Result<ReadText, AllocError>
         ensures { IfOk result (λ r. r ≡ text.now) }
     {
@@ -47,6 +49,13 @@ impl ReadText {
         ensures { IsTrue result ↔ (self.now ≡ text.now) }
     {
         self.text.as_str() == text
+    }
+
+    /// Whether it may go from one evaluation to the next.
+    fn is_short(&self) -> bool
+        ensures { result ≡ is_short self.now }
+    {
+        self.text.len() <= MOST_BYTES_HANDED_ON
     }
 
     fn pattern(&self) -> Option<&CountedPattern>
@@ -77,8 +86,13 @@ pub struct Patterns {
 }
 
 impl Patterns {
+    ghost use Rattle.std.specs.Prelude.{[], filter};
+    ghost use Rattle.jp_evaluate.specs.Patterns.{is_short, texts_in};
+
     /// No text was read yet. It takes no memory.
-    pub fn new(alloc: Global) -> Patterns {
+    pub fn new(alloc: Global) -> Patterns
+        ensures { texts_in result ≡ [] }
+    {
         Patterns {
             read: Vec::new(alloc),
         }
@@ -102,9 +116,10 @@ impl Patterns {
     }
 
     /// Forgets long texts, so that little memory goes from one evaluation to the next.
-    pub(crate) fn forget_long(&mut self) {
-        self.read
-            .retain(|read| read.text.len() <= MOST_BYTES_HANDED_ON);
+    pub(crate) fn forget_long(&mut self)
+        ensures { texts_in self.new ≡ filter is_short (texts_in self.old) }
+    {
+        self.read.retain(|read| read.is_short());
     }
 
     /// The position of a text that is kept.

@@ -1,7 +1,9 @@
 //! Nodelists, and nodes one at a time. Other rows are in jp_command's table.
 use crate::{evaluate, named_location, nodes};
 use jp_check::{Profile, read_query};
-use jp_document::{Document, path_text, value_text};
+use jp_document::path_text;
+use jp_held::Document;
+use jp_lent::value_text;
 use jp_match::Marks;
 use std::alloc::Global;
 use std::test::Fail;

@@ -1,5 +1,5 @@
 use Rattle.std.proofs.Common.{◌≡◌, ◌++◌, false, map}
-use Rattle.jp_document.specs.Document.{document_of}
+use Rattle.jp_held.specs.Held.{document_of}
 use Rattle.jp_document.specs.Node.{node_of}
 use Rattle.jp_tree.specs.Views.{query_of}
 use Rattle.jp_evaluate.specs.Nodelist.{nodelist}
