@@ -4,13 +4,10 @@
 //! `run_line` answers.
 #![tactic(auto)]
 
-use jp_command::{Device, run_line};
-use std::io::{BufWriter, ErrorKind};
+use jp_command::{Device, buffered, run_line, unbuffered};
+use std::io::ErrorKind;
 use std::process::ExitCode;
 use std::{env, io};
-
-/// How many bytes of output are gathered before they are written.
-const OUTPUT_BUFFER: usize = 65_536;
 
 fn main(rt: HostRuntime) -> ExitCode {
     match run(&rt) {
@@ -28,7 +25,10 @@ fn run(rt: &HostRuntime) -> io::Result<u8> {
     let alloc = rt.alloc();
     let words = env::args(rt)?.collect(alloc)?;
     let mut input = Device::new(rt.stdin());
-    let mut output = Device::new(BufWriter::with_capacity(alloc, OUTPUT_BUFFER, rt.stdout())?);
+    let mut output = buffered(alloc, rt.stdout())?;
     let mut faults = Device::new(rt.stderr());
-    Ok(run_line(alloc, words, &mut input, &mut output, &mut faults))
+    let status = run_line(alloc, words, &mut input, &mut output, &mut faults);
+    // A buffer that is dropped writes what a failed write has left in it.
+    let _ = unbuffered(output);
+    Ok(status)
 }

@@ -1,13 +1,15 @@
--- The flush after a run: it leaves what was written.
-use Rattle.std.proofs.Common.{◌≡◌, ℕ, List, Option, Bool, true, Result, Ok, Err, ◌∙◌}
+-- The flush after a run: it leaves what was written, and is the last call.
+use Rattle.std.proofs.Common.{◌≡◌, ℕ, List, [], Option, Some, None, Bool, true, Result, Ok, Err, ◌∙◌}
 use Rattle.std.specs.Io.KnownBytes.{Keeps}
 use Rattle.jp_check.specs.declared.profile.Profile.{Profile}
 use Rattle.jp_command.specs.Line.{RunsTask}
 use Rattle.jp_command.specs.Output.{WritesOutput, WritesPrefix}
+use Rattle.jp_command.specs.Writes.{WritesByCalls}
 use Rattle.jp_command.specs.declared.fault.Fault.{Fault}
 use Rattle.jp_command.specs.declared.fault.Fault.TheVariants.{Write}
 use Rattle.jp_command.specs.declared.words.Task.{Task}
 use Rattle.jp_command.specs.declared.words.Task.TheVariants.{Check, Canon, Eval}
+use Rattle.jp_command.proofs.Calls.{failure-behind, go-flushed}
 use Rattle.jp_command.proofs.Streams.{Appends-keeps, prefix-whole}
 
 module _ {W : Type 0} (contents : W → Option (List ℕ)) (has_failed : W → Bool)
@@ -31,6 +33,18 @@ module _ {W : Type 0} (contents : W → Option (List ℕ)) (has_failed : W → B
       works = works ∙ all.writes.works;
     };
   }
+
+module _ {W : Type 0} (write_takes : W → Option (List ℕ) → W → Type 0) (IsOutput : List ℕ → Type 0)
+  where
+    abbrev Calls : W → W → Result (Unit {0}) Fault → Type 0
+    Calls = WritesByCalls write_takes IsOutput
+
+    pub calls-fail : (o p q : W) → Calls o p (Ok tt) → write_takes p None q → Calls o q (Err Write)
+    calls-fail o p q run fails =
+        (run.0, run.1, failure-behind write_takes o p q run.0 run.2 fails)
+
+    pub calls-work : (o p q : W) → Calls o p (Ok tt) → write_takes p (Some []) q → Calls o q (Ok tt)
+    calls-work o p q run takes = (run.0, run.1, go-flushed write_takes o p q run.0 run.2 takes)
 
 module _ (profile : Profile) {R W : Type 0} (remaining : R → Option (List ℕ))
     (has_failed : R → Bool) (read_gives : R → Option (List ℕ) → R → Type 0)

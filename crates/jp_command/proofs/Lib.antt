@@ -1,3 +1,4 @@
+pub mod Calls
 pub mod Streams
 pub mod Matches
 pub mod Rows

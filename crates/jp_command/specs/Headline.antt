@@ -8,18 +8,21 @@ use Rattle.std.specs.Io.KnownBytes.{Appends}
 use Rattle.jp_canon.specs.Laws.{CanonTellsApart}
 use Rattle.jp_check.specs.Laws.{FaultAtItsComponent, OneAnswer, StandardIsExtended}
 use Rattle.jp_check.specs.declared.profile.Profile.{Profile}
+use Rattle.jp_document.specs.ChildNodes.{ChildrenAreExact}
 use Rattle.jp_document.specs.Document.{IsDocument}
 use Rattle.jp_document.specs.Laws.{DocumentOrDefect, NodesDiffer}
 use Rattle.jp_document.specs.Value.{Value}
+use Rattle.jp_document.specs.declared.fault.DocumentFault.{DocumentFault}
 use Rattle.jp_evaluate.specs.Laws.{PathSelectsItsNode, SelectsNodesAlone}
 use Rattle.jp_query.specs.Laws.{OneRefusal}
 use Rattle.jp_tree.specs.Tree.{QueryTree}
 use Rattle.jp_query.specs.declared.refusal.Refusal.{Refusal}
 use Rattle.jp_command.specs.Canon.{RunsCanon, canon_line}
 use Rattle.jp_command.specs.Check.{RunsCheck, accepted_line}
+use Rattle.jp_command.specs.Input.{ReadsTooMuch}
 use Rattle.jp_command.specs.Limits.{document_limit}
 use Rattle.jp_command.specs.Lines.{output_of}
-use Rattle.jp_command.specs.Run.{IsAsked, RefusesQuery, RunsEval}
+use Rattle.jp_command.specs.Run.{IsAsked, RefusesDocument, RefusesQuery, RunsEval}
 use Rattle.jp_command.specs.declared.fault.Fault.{Fault}
 use Rattle.jp_command.specs.declared.fault.Fault.TheVariants.{Query, Document, DocumentTooLarge}
 use Rattle.jp_command.specs.declared.lines.Form.{Form}
@@ -59,6 +62,18 @@ module _ (profile : Profile) {R W : Type 0} (remaining : R → Option (List ℕ)
   abbrev pub Refuses : List ℕ → Refusal → R → R → W → W → Type 0
   Refuses text r i j o p = RefusesQuery profile text r × (j ≡ i) × (p ≡ o)
 
+  -- what it answers of a document that it refuses: its query is asked, and what was read has that
+  -- fault; nothing is written
+  abbrev pub RefusesRead : List ℕ → DocumentFault → R → R → W → W → Type 0
+  RefusesRead text f i j o p =
+      RefusesDocument profile remaining has_failed read_gives contents writes_failed text i j f
+      × (p ≡ o)
+
+  -- the same of one that is too large, as soon as more was read than a document may have
+  abbrev pub RefusesLarge : List ℕ → R → R → W → W → Type 0
+  RefusesLarge text i j o p = ((q : QueryTree) × IsAsked profile text q)
+      × ReadsTooMuch remaining has_failed read_gives i j × (p ≡ o)
+
   pub record Headline : Type 0 where
     -- Bytes are the document of one value, or have one defect, and not both.
     pub documents : DocumentOrDefect
@@ -78,10 +93,18 @@ module _ (profile : Profile) {R W : Type 0} (remaining : R → Option (List ℕ)
     pub asked : (form : Form) (text : List ℕ) (i j : R) (o p : W)
         → Runs form text i j o p (Ok tt)
         → (q : QueryTree) × IsAsked profile text q
-    -- and refuses a query for what it is.
+    -- and refuses a query for what it is,
     pub refused : (form : Form) (text : List ℕ) (i j : R) (o p : W) (r : Refusal)
         → Runs form text i j o p (Err (Query r))
         → Refuses text r i j o p
+    -- a document for what it is,
+    pub refused_document : (form : Form) (text : List ℕ) (i j : R) (o p : W) (f : DocumentFault)
+        → Runs form text i j o p (Err (Document f))
+        → RefusesRead text f i j o p
+    -- and one that is too large as such.
+    pub refused_large : (form : Form) (text : List ℕ) (i j : R) (o p : W)
+        → Runs form text i j o p (Err DocumentTooLarge)
+        → RefusesLarge text i j o p
     -- What is written of an accepted pair is the lines of its nodelist, and nothing else
     -- (RFC 9535 section 2.1.2).
     pub nodelist : (form : Form) (text : List ℕ) (i j : R) (o p : W) (q : QueryTree) (d : Value)
@@ -90,6 +113,9 @@ module _ (profile : Profile) {R W : Type 0} (remaining : R → Option (List ℕ)
         → Appends (contents o) (contents p) (output_of form q d)
     -- It has nodes of the document alone, each with the value that stands at its location.
     pub own_nodes : SelectsNodesAlone
+    -- The children of a node are the document's nodes one step further on, members in the order of
+    -- their names' bytes and items by their indexes (section 1.1).
+    pub children : ChildrenAreExact
     -- Two nodes of a document have equal normalized paths exactly if they are the same node
     -- (section 2.7),
     pub paths : NodesDiffer

@@ -1,5 +1,5 @@
--- What a run has read of its input: all of it, more than it takes, or what came before a read
--- failed. `Run` says with which answer each holds.
+-- What a run has read of its input: a part, all of it, more than it takes, or what came before a
+-- read failed. `Run` says with which answer each holds.
 use Rattle.std.specs.Prelude.{◌≡◌, ℕ, ◌<◌, ◌≤◌, Bool, true, List, [], ◌++◌, length, Option, Some}
 use Rattle.std.specs.Prelude.{None}
 use Rattle.std.specs.Io.KnownBytes.{Consumes, IsAtEnd}
@@ -9,6 +9,15 @@ use Rattle.jp_command.specs.Reads.{ComeByReads}
 -- i and j are the input before and after, `between` the input before the last read
 module _ {R : Type 0} (remaining : R → Option (List ℕ)) (has_failed : R → Bool)
     (read_gives : R → Option (List ℕ) → R → Type 0) where
+  -- these bytes came, not more than a document may have, by reads that each gave some; no read
+  -- failed
+  pub record ReadsSome (i j : R) : Type 0 where
+    pub bytes : List ℕ
+    pub came : Consumes (remaining i) (remaining j) bytes
+    pub few : length bytes ≤ document_limit
+    pub works : has_failed j ≡ has_failed i
+    pub calls : ComeByReads read_gives i j bytes
+
   -- the input came to its end with these bytes, not more than a document may have, by reads that
   -- each gave some and one that gave none; no read failed
   pub record ReadsAll (i j : R) (bytes : List ℕ) : Type 0 where

@@ -3,6 +3,7 @@ pub mod Device
 pub mod Reads
 pub mod Input
 pub mod Output
+pub mod Writes
 pub mod CommandLine
 pub mod Lines
 pub mod Run

@@ -4,11 +4,13 @@ use Rattle.std.specs.Prelude.{◌≡◌, ℕ, Bool, List, ◌++◌, Option, Some
 use Rattle.jp_check.specs.declared.profile.Profile.{Profile}
 use Rattle.jp_document.specs.Faults.{document_fault_name}
 use Rattle.jp_query.specs.Refusal.{refusal_text}
-use Rattle.jp_command.specs.Canon.{RunsCanon}
-use Rattle.jp_command.specs.Check.{RunsCheck}
+use Rattle.jp_command.specs.Canon.{RunsCanon, canon_line}
+use Rattle.jp_command.specs.Check.{RunsCheck, accepted_line}
 use Rattle.jp_command.specs.CommandLine.{asked}
-use Rattle.jp_command.specs.Run.{RunsEval}
+use Rattle.jp_command.specs.QueryLine.{IsQueryLine}
+use Rattle.jp_command.specs.Run.{IsOutput, RunsEval}
 use Rattle.jp_command.specs.Output.{AppendsPrefix, AppendsSome}
+use Rattle.jp_command.specs.Writes.{WritesByCalls}
 use Rattle.jp_command.specs.declared.fault.Fault.{Fault}
 use Rattle.jp_command.specs.declared.fault.Fault.TheVariants.{Query, Document, DocumentTooLarge}
 use Rattle.jp_command.specs.declared.fault.Fault.TheVariants.{NoMemory, Read, Write}
@@ -51,21 +53,30 @@ module _ (profile : Profile) {R W : Type 0} (remaining : R → Option (List ℕ)
       RunsEval profile remaining has_failed read_gives contents writes_failed form query i j o p
       answer
 
+  -- this is what a task with its query writes
+  abbrev pub IsWrittenBy : Task → List ℕ → R → R → List ℕ → Type 0
+  IsWrittenBy Check query i j = IsQueryLine profile accepted_line query
+  IsWrittenBy Canon query i j = IsQueryLine profile canon_line query
+  IsWrittenBy (Eval form) query i j =
+      IsOutput profile remaining has_failed read_gives contents writes_failed form query i j
+
   -- the task that the words ask for, in that profile, ended with this answer
-  pub record RunsWords {X : Type 0} (words : List (List ℕ)) (i j : R) (o p : W)
-      (answer : Result X Fault) : Type 0 where
+  pub record RunsWords {X : Type 0} (write_takes : W → Option (List ℕ) → W → Type 0)
+      (words : List (List ℕ)) (i j : R) (o p : W) (answer : Result X Fault) : Type 0 where
     pub task : Task
     pub query : List ℕ
     pub asks : asked words ≡ Some (task, query, profile)
     pub runs : RunsTask task query i j o p answer
+    pub calls : WritesByCalls write_takes (IsWrittenBy task query i j) o p answer
 
 -- the same of the whole program
 module _ {R W : Type 0} (remaining : R → Option (List ℕ)) (has_failed : R → Bool)
     (read_gives : R → Option (List ℕ) → R → Type 0) (contents : W → Option (List ℕ))
-    (writes_failed : W → Bool) where
+    (writes_failed : W → Bool) (write_takes : W → Option (List ℕ) → W → Type 0) where
   -- what the words ask for, in that profile, ended with this answer
   abbrev pub EndsAs : Profile → List (List ℕ) → R → R → W → W → Result (Unit {0}) Fault → Type 0
-  EndsAs profile = RunsWords profile remaining has_failed read_gives contents writes_failed
+  EndsAs profile =
+      RunsWords profile remaining has_failed read_gives contents writes_failed write_takes
 
   -- what is said with a status; u and v are what takes the fault's line, before and after. Where
   -- the words are not ones that the command line takes, that is clap's text, of which its contract

@@ -1,11 +1,13 @@
--- Calls of `read`, one after another. The clause `call` of `Source::read` and `Input` cite it.
+-- Calls of `read`, one after another. The clauses `call` of `Source::read` and of `Writer::write`
+-- and `Input` cite it.
 use Rattle.std.specs.Prelude.{◌≡◌, ℕ, ◌<◌, List, [], ◌++◌, length, take, Option, Some, None}
 use Rattle.std.specs.Prelude.{Result, Ok, Err}
 
--- what a read gave: bytes, or None where it failed
-abbrev pub bytes_given : {E : Type 0} → Result ℕ E → List ℕ → Option (List ℕ)
-bytes_given (Ok n) buffer = Some (take n buffer)
-bytes_given (Err e) buffer = None
+-- what a read gave to a buffer, or a write took of one: its first bytes, or None where the call
+-- failed
+abbrev pub bytes_moved : {E : Type 0} → Result ℕ E → List ℕ → Option (List ℕ)
+bytes_moved (Ok n) buffer = Some (take n buffer)
+bytes_moved (Err e) buffer = None
 
 -- `read_gives k (Some bytes) j` says that one read leads from k to j and gave these bytes
 module _ {R : Type 0} (read_gives : R → Option (List ℕ) → R → Type 0) where

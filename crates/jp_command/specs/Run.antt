@@ -1,5 +1,5 @@
 -- What a run of a query, in a profile, over an input says with its answer.
-use Rattle.std.specs.Prelude.{◌≡◌, ◌≢◌, ◌⊎◌, ℕ, ◌<◌, ◌≤◌, Bool, true, List, length, Option, Result}
+use Rattle.std.specs.Prelude.{◌≡◌, ◌≢◌, ℕ, ◌<◌, ◌≤◌, Bool, true, List, length, Option, Result}
 use Rattle.std.specs.Prelude.{Ok, Err}
 use Rattle.std.specs.Str.{chars}
 use Rattle.jp_check.specs.Accepted.{IsAcceptedAs, IsNotAccepted}
@@ -11,8 +11,8 @@ use Rattle.jp_document.specs.declared.fault.DocumentFault.{DocumentFault}
 use Rattle.jp_document.specs.declared.fault.DocumentFault.TheVariants as document
 use Rattle.jp_tree.specs.Tree.{QueryTree}
 use Rattle.jp_query.specs.declared.refusal.Refusal.{Refusal}
-use Rattle.jp_query.specs.declared.refusal.RefusalKind.TheVariants.{TextTooLong}
-use Rattle.jp_command.specs.Input.{FailsToRead, ReadsAll, ReadsTooMuch}
+use Rattle.jp_query.specs.declared.refusal.RefusalKind.TheVariants as kind
+use Rattle.jp_command.specs.Input.{FailsToRead, ReadsAll, ReadsSome, ReadsTooMuch}
 use Rattle.jp_command.specs.Limits.{query_limit}
 use Rattle.jp_command.specs.Lines.{output_of}
 use Rattle.jp_command.specs.Output.{WritesOutput, WritesPrefix}
@@ -26,10 +26,14 @@ pub record IsAsked (profile : Profile) (text : List ℕ) (q : QueryTree) : Type 
   pub short : length text ≤ query_limit
   pub accepted : IsAcceptedAs profile (chars text) q
 
+-- memory ran out, which says nothing of the query
+abbrev pub RanOut : Refusal → Type 0
+RanOut r = r ≡ record { kind = kind.NoMemory; place = 0 }
+
 -- the query is too long, or else in that profile not accepted and refused with r for what it is;
 -- running out of memory is no such refusal
 pub data RefusesQuery (profile : Profile) (text : List ℕ) (r : Refusal) : Type 0 where
-  too_long : query_limit < length text → r ≡ record { kind = TextTooLong; place = 0 }
+  too_long : query_limit < length text → r ≡ record { kind = kind.TextTooLong; place = 0 }
       → RefusesQuery profile text r
   refused : length text ≤ query_limit → IsNotAccepted profile (chars text)
       → IsRefusedForItself profile (chars text) r → RefusesQuery profile text r
@@ -59,6 +63,17 @@ module _ (profile : Profile) {R W : Type 0} (remaining : R → Option (List ℕ)
     pub fault : IsDocumentFault bytes f
     pub known : f ≢ document.NoMemory
 
+  -- memory ran out: for the query, and nothing was read or written; or the query is asked, and it
+  -- was for a read, for the document, or for a node, and then a prefix of the output was written
+  pub data RunsOut (form : Form) (text : List ℕ) (i j : R) (o p : W) : Type 0 where
+    at_the_query : j ≡ i → p ≡ o → RunsOut form text i j o p
+    at_a_read : (q : QueryTree) → IsAsked profile text q
+        → ReadsSome remaining has_failed read_gives i j → p ≡ o → RunsOut form text i j o p
+    at_the_document : (q : QueryTree) (bytes : List ℕ) → IsAsked profile text q
+        → ReadsAll remaining has_failed read_gives i j bytes → p ≡ o → RunsOut form text i j o p
+    at_a_node : WritesPrefix contents writes_failed (IsOutput form text i j) o p
+        → RunsOut form text i j o p
+
   -- what a run says with its answer
   abbrev pub RunsEval : {X : Type 0} → Form → List ℕ → R → R → W → W → Result X Fault → Type 0
   RunsEval form text i j o p (Ok x) =
@@ -70,7 +85,7 @@ module _ (profile : Profile) {R W : Type 0} (remaining : R → Option (List ℕ)
       × (p ≡ o)
   RunsEval form text i j o p (Err NoMemory) =
       (has_failed j ≡ has_failed i) × (writes_failed p ≡ writes_failed o)
-      × ((p ≡ o) ⊎ WritesPrefix contents writes_failed (IsOutput form text i j) o p)
+      × RunsOut form text i j o p
   RunsEval form text i j o p (Err Read) =
       ((q : QueryTree) × IsAsked profile text q) × FailsToRead remaining has_failed read_gives i j
       × (p ≡ o)

@@ -3,6 +3,8 @@
 ghost use Rattle.std.specs.Prelude.{◌≡◌, IfOk, string_bytes};
 ghost use Rattle.jp_tree.specs.Views.{query_of};
 ghost use Rattle.jp_command.specs.Canon.{RunsCanon, canon_line};
+ghost use Rattle.jp_command.specs.QueryLine.{IsQueryLine};
+ghost use Rattle.jp_command.specs.Writes.{WritesByCalls};
 
 use crate::device::Writer;
 use crate::eval::read_within_limit;
@@ -25,7 +27,10 @@ pub fn run_canon<W: Writer>(
     profile: Profile,
     output: &mut W,
 ) -> Result<(), Fault>
-    ensures { RunsCanon profile W.contents W.has_failed query.now output.old output.new result }
+    ensures says { RunsCanon profile W.contents W.has_failed query.now
+        output.old output.new result }
+    ensures calls { WritesByCalls W.write_takes (IsQueryLine profile canon_line query.now)
+        output.old output.new result }
 {
     let query = read_within_limit(alloc, query, profile)?;
     let line = canon_line(alloc, &query)?;

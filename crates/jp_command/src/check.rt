@@ -1,6 +1,8 @@
 //! A run that tells whether a query is accepted.
 
-ghost use Rattle.jp_command.specs.Check.{RunsCheck};
+ghost use Rattle.jp_command.specs.Check.{RunsCheck, accepted_line};
+ghost use Rattle.jp_command.specs.QueryLine.{IsQueryLine};
+ghost use Rattle.jp_command.specs.Writes.{WritesByCalls};
 
 use crate::device::Writer;
 use crate::eval::read_within_limit;
@@ -22,7 +24,10 @@ pub fn run_check<W: Writer>(
     profile: Profile,
     output: &mut W,
 ) -> Result<(), Fault>
-    ensures { RunsCheck profile W.contents W.has_failed query.now output.old output.new result }
+    ensures says { RunsCheck profile W.contents W.has_failed query.now
+        output.old output.new result }
+    ensures calls { WritesByCalls W.write_takes (IsQueryLine profile accepted_line query.now)
+        output.old output.new result }
 {
     read_within_limit(alloc, query, profile)?;
     let Ok(()) = write_all(output, b"accepted\n") else {

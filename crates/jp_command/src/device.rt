@@ -1,10 +1,10 @@
 //! Where the bytes come from and where they go.
 
-ghost use Rattle.std.specs.Prelude.{◌≡◌, ℕ, ◌<◌, ◌≤◌, Bool, List, Option, true, false, IfOk, IsErr};
-ghost use Rattle.std.specs.Prelude.{OnOk, OnErr, length, ⊤};
+ghost use Rattle.std.specs.Prelude.{◌≡◌, ℕ, ◌<◌, ◌≤◌, Bool, List, [], Option, true, false, IfOk, IsErr};
+ghost use Rattle.std.specs.Prelude.{OnOk, OnErr, Some, None, length, ⊤};
 ghost use Rattle.std.specs.Io.KnownBytes.{ReadConsumes, WriteAppends, Keeps};
 ghost use Rattle.jp_command.specs.Device.{carried, carrier_failed};
-ghost use Rattle.jp_command.specs.Reads.{bytes_given};
+ghost use Rattle.jp_command.specs.Reads.{bytes_moved};
 
 use std::io::{Read, Write};
 
@@ -31,7 +31,7 @@ pub trait Source {
         ensures bytes { ReadConsumes (remaining self.old) (remaining self.new) result buffer.new }
         ensures works { OnOk result (has_failed self.new ≡ has_failed self.old) }
         ensures fails { OnErr result (has_failed self.new ≡ true) }
-        ensures call { read_gives self.old (bytes_given result buffer.new) self.new };
+        ensures call { read_gives self.old (bytes_moved result buffer.new) self.new };
 
     /// Whether a call failed.
     fn failed(&self) -> bool
@@ -46,6 +46,10 @@ pub trait Writer {
     // Whether a call failed.
     ghost has_failed: { Self → Bool };
 
+    // What leads from one state to the next where a write took these bytes, or failed (None): so a
+    // contract can speak of each call. A flush takes none.
+    ghost write_takes: { Self → Option (List ℕ) → Self → Type 0 } = { λ _ _ _. ⊤ };
+
     /// Writes some bytes from the start of `bytes` and answers how many, at least one if there are
     /// any. `Failed` where none can be written.
     fn write(&mut self, bytes: &[u8]) -> Result<usize, Failed>
@@ -53,7 +57,8 @@ pub trait Writer {
         ensures some { IfOk result (λ count. 0 < length bytes.now → 0 < count) }
         ensures bytes { WriteAppends (contents self.old) (contents self.new) result bytes.now }
         ensures works { OnOk result (has_failed self.new ≡ has_failed self.old) }
-        ensures fails { OnErr result (has_failed self.new ≡ true) };
+        ensures fails { OnErr result (has_failed self.new ≡ true) }
+        ensures call { write_takes self.old (bytes_moved result bytes.now) self.new };
 
     /// Whether a call failed.
     fn failed(&self) -> bool
@@ -67,7 +72,9 @@ pub trait Output: Writer {
     fn flush(&mut self) -> Result<(), Failed>
         ensures bytes { Keeps (Self.contents self.old) (Self.contents self.new) }
         ensures works { OnOk result (Self.has_failed self.new ≡ Self.has_failed self.old) }
-        ensures fails { OnErr result (Self.has_failed self.new ≡ true) };
+        ensures fails { OnErr result (Self.has_failed self.new ≡ true) }
+        ensures done { OnOk result (Self.write_takes self.old (Some []) self.new) }
+        ensures stopped { OnErr result (Self.write_takes self.old None self.new) };
 }
 
 /// Carries any reader or writer of std and keeps whether a call of it failed. A write that takes
@@ -88,6 +95,13 @@ impl<T> Device<T> {
             inner,
             failed: false,
         }
+    }
+
+    /// What it carries.
+    pub fn into_inner(self) -> T
+        ensures { result ≡ carried self }
+    {
+        self.inner
     }
 
     /// Keeps that a call failed.

@@ -1,9 +1,9 @@
 //! A run of a query over an input.
 
-ghost use Rattle.std.specs.Prelude.{◌≡◌, ◌⊎◌, IfErr, IfOk};
+ghost use Rattle.std.specs.Prelude.{◌⊎◌, IfErr, IfOk};
 ghost use Rattle.jp_tree.specs.Views.{query_of};
-ghost use Rattle.jp_query.specs.declared.refusal.RefusalKind.TheVariants.{NoMemory};
-ghost use Rattle.jp_command.specs.Run.{IsAsked, RefusesQuery, RunsEval};
+ghost use Rattle.jp_command.specs.Run.{IsAsked, IsOutput, RanOut, RefusesQuery, RunsEval};
+ghost use Rattle.jp_command.specs.Writes.{WritesByCalls};
 
 use crate::device::{Source, Writer};
 use crate::fault::Fault;
@@ -12,9 +12,9 @@ use crate::input::read_all;
 use crate::limits::QUERY_LIMIT;
 use crate::lines::{Form, Spare, write_selected};
 use jp_check::{Checked, Profile, read_query};
-use jp_document::Document;
 use jp_evaluate::named_location;
-use jp_flat::{flat_document, flat_value_at, found_value};
+use jp_flat::found_value;
+use jp_held::{read_flat, read_value_at};
 use jp_query::{Refusal, RefusalKind};
 use std::alloc::Global;
 
@@ -30,7 +30,7 @@ use std::alloc::Global;
 /// at whatever step. After `Write` and `NoMemory` a prefix of the output is written.
 ///
 /// Where the query names a location, the value there is found while the document is read; for other
-/// queries a document is read into tables. What fits none is read as a tree.
+/// queries the document is read into tables.
 pub fn run_eval<R: Source, W: Writer>(
     alloc: Global,
     query: &str,
@@ -39,24 +39,26 @@ pub fn run_eval<R: Source, W: Writer>(
     input: &mut R,
     output: &mut W,
 ) -> Result<(), Fault>
-    ensures { RunsEval profile R.remaining R.has_failed R.read_gives W.contents W.has_failed
+    ensures says { RunsEval profile R.remaining R.has_failed R.read_gives W.contents W.has_failed
         form query.now input.old input.new output.old output.new result }
+    ensures calls { WritesByCalls W.write_takes (IsOutput profile R.remaining R.has_failed
+        R.read_gives W.contents W.has_failed form query.now input.old input.new)
+        output.old output.new result }
 {
     let query = read_within_limit(alloc, query, profile)?;
     let bytes = read_all(alloc, input)?;
     let mut spare = Spare::new(alloc);
-    if let Some(location) = named_location(alloc, &query)? {
-        if let Some(found) = flat_value_at(alloc, &bytes, &location) {
+    match named_location(alloc, &query)? {
+        Some(location) => {
+            let found = read_value_at(alloc, &bytes, &location)?;
             let value = found_value(&found);
-            let line = &mut spare.line;
-            return write_found(alloc, form, "", &location, value, line, output);
+            write_found(alloc, form, "", &location, value, &mut spare.line, output)
         }
-    } else if let Some(flat) = flat_document(alloc, &bytes) {
-        return write_selected(alloc, form, "", flat.value(), &query, &mut spare, output);
+        None => {
+            let flat = read_flat(alloc, &bytes)?;
+            write_selected(alloc, form, "", flat.value(), &query, &mut spare, output)
+        }
     }
-    let document = Document::read(alloc, &bytes)?;
-    let root = document.value();
-    write_selected(alloc, form, "", root, &query, &mut spare, output)
 }
 
 /// Reads a query of at most `QUERY_LIMIT` bytes in a profile, as `read_query` does. A longer one is
@@ -64,7 +66,7 @@ pub fn run_eval<R: Source, W: Writer>(
 pub fn read_within_limit(alloc: Global, text: &str, profile: Profile) -> Result<Checked, Refusal>
     ensures asked { IfOk result (λ c. IsAsked profile text.now (query_of c.query)) }
     ensures refused { IfErr result
-        (λ refusal. (refusal.kind ≡ NoMemory) ⊎ RefusesQuery profile text.now refusal) }
+        (λ refusal. RanOut refusal ⊎ RefusesQuery profile text.now refusal) }
 {
     if text.len() > QUERY_LIMIT {
         return Err(Refusal {

@@ -5,6 +5,7 @@ ghost use Rattle.std.specs.List.{flat_map};
 ghost use Rattle.jp_command.specs.Found.{found_nodes};
 ghost use Rattle.jp_command.specs.Lines.{line_behind, lines_of};
 ghost use Rattle.jp_command.specs.Output.{StopsWriting, WritesAll};
+ghost use Rattle.jp_command.specs.Writes.{GoesAs};
 
 use crate::device::Writer;
 use crate::fault::Fault;
@@ -12,7 +13,7 @@ use crate::front::Front;
 use crate::lines::{Form, push_line};
 use crate::output::write_all;
 use jp_document::Step;
-use jp_lent::Printed;
+use jp_lent::Selectable;
 use std::alloc::{AllocError, Global};
 
 /// As many bytes as most lines have at most, so that a line grows at most once.
@@ -20,7 +21,7 @@ const SHORT_LINE: usize = 64;
 
 /// The line of the node at a location, with the value that was found there; no line where none was.
 /// The only error is that memory ran out.
-pub fn lines_at<'d, V: Printed>(
+pub fn lines_at<'d, V: Selectable>(
     alloc: Global,
     form: Form,
     location: &[Step<'d>],
@@ -40,7 +41,7 @@ pub fn lines_at<'d, V: Printed>(
 /// Writes that line, behind the text `lead`; it is made in `line`, and what that held is gone then.
 /// `Write` says that the output failed, and `NoMemory` that memory ran out; after both a prefix of
 /// the line is written. There are no other errors.
-pub fn write_found<'d, V: Printed, W: Writer>(
+pub fn write_found<'d, V: Selectable, W: Writer>(
     alloc: Global,
     form: Form,
     lead: &str,
@@ -53,6 +54,8 @@ pub fn write_found<'d, V: Printed, W: Writer>(
         (flat_map (line_behind lead.now form) (found_nodes V.meaning location.now value))) }
     ensures stopped { IfErr result (StopsWriting W.contents W.has_failed output.old output.new
         (flat_map (line_behind lead.now form) (found_nodes V.meaning location.now value))) }
+    ensures calls { GoesAs W.write_takes output.old output.new
+        (flat_map (line_behind lead.now form) (found_nodes V.meaning location.now value)) result }
 {
     let Some(value) = value else {
         return Ok(());

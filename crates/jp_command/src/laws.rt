@@ -6,22 +6,24 @@ ghost use Rattle.jp_command.specs.Headline.{Headline};
 use crate::device::{Source, Writer};
 use jp_canon::laws::canon_tells_apart;
 use jp_check::laws::{fault_at_its_component, one_answer, standard_is_extended};
-use jp_document::laws::{document_or_defect, paths_differ};
+use jp_document::laws::{children_are_exact, document_or_defect, paths_differ};
 use jp_evaluate::laws::{path_selects_its_node, selects_nodes_alone};
 use jp_query::laws::one_refusal;
 
 /// In each profile, running out of memory and failing streams aside: exactly the documents and
 /// queries of docs/QUERIES.md are accepted; for an accepted pair the nodelist is the one of RFC
-/// 9535's definitions, of nodes of the document alone; two nodes of a document have equal normalized
-/// paths exactly if they are the same node, and each path read as a query selects that node alone;
-/// two accepted queries have equal canonical texts exactly if their trees are equal; and a refusal
-/// stands at its place.
+/// 9535's definitions, of nodes of the document alone, and the members of an object come in the order
+/// of their names' bytes; two nodes of a document have equal normalized paths exactly if they are the
+/// same node, and each path read as a query selects that node alone; two accepted queries have equal
+/// canonical texts exactly if their trees are equal; what is refused is refused for what it is, a
+/// query at its place.
 pub fn headline<R: Source, W: Writer>()
     ensures { (profile : Profile)
         → Headline profile R.remaining R.has_failed R.read_gives W.contents W.has_failed }
 {
     document_or_defect();
     one_answer();
+    children_are_exact();
     paths_differ();
     path_selects_its_node();
     selects_nodes_alone();

@@ -12,6 +12,7 @@
 //! is the whole program over its words; `specs/Line.antt` has what it says with each status.
 #![tactic(auto)]
 
+mod buffer;
 mod canon;
 mod check;
 mod device;
@@ -29,6 +30,7 @@ mod output;
 mod tests;
 mod words;
 
+pub use buffer::{buffered, unbuffered};
 pub use canon::run_canon;
 pub use check::run_check;
 pub use device::{Device, Failed, Output, Source, Writer};

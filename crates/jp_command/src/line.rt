@@ -3,8 +3,8 @@
 ghost use Rattle.std.specs.Prelude.{◌≡◌, ◌≢◌, IfOk, map, string_bytes};
 ghost use Rattle.std.specs.Cow.{cow_str_bytes};
 ghost use Rattle.clap.specs.Words.{kind_of};
-ghost use Rattle.jp_command.specs.Line.{RunsLine, RunsTask, fault_line};
-ghost use Rattle.jp_command.specs.Line.{status_of};
+ghost use Rattle.jp_command.specs.Line.{IsWrittenBy, RunsLine, RunsTask, fault_line, status_of};
+ghost use Rattle.jp_command.specs.Writes.{WritesByCalls};
 ghost use Rattle.jp_command.specs.Output.{AppendsPrefix, AppendsSome};
 
 use crate::canon::run_canon;
@@ -33,8 +33,8 @@ pub fn run_line<R: Source, W: Output, E: Writer>(
     output: &mut W,
     faults: &mut E,
 ) -> u8
-    ensures { RunsLine R.remaining R.has_failed R.read_gives W.contents W.has_failed E.contents
-        (map string_bytes words.items) input.old input.new output.old output.new
+    ensures { RunsLine R.remaining R.has_failed R.read_gives W.contents W.has_failed W.write_takes
+        E.contents (map string_bytes words.items) input.old input.new output.old output.new
         faults.old faults.new result }
 {
     match read_words(alloc, &words) {
@@ -60,8 +60,11 @@ fn run_and_flush<R: Source, W: Output>(
     input: &mut R,
     output: &mut W,
 ) -> Result<(), Fault>
-    ensures { RunsTask profile R.remaining R.has_failed R.read_gives W.contents W.has_failed
+    ensures says { RunsTask profile R.remaining R.has_failed R.read_gives W.contents W.has_failed
         task query.now input.old input.new output.old output.new result }
+    ensures calls { WritesByCalls W.write_takes (IsWrittenBy profile R.remaining R.has_failed
+        R.read_gives W.contents W.has_failed task query.now input.old input.new)
+        output.old output.new result }
 {
     run_task(alloc, task, query, profile, input, output)?;
     match output.flush() {
@@ -79,8 +82,11 @@ fn run_task<R: Source, W: Writer>(
     input: &mut R,
     output: &mut W,
 ) -> Result<(), Fault>
-    ensures { RunsTask profile R.remaining R.has_failed R.read_gives W.contents W.has_failed
+    ensures says { RunsTask profile R.remaining R.has_failed R.read_gives W.contents W.has_failed
         task query.now input.old input.new output.old output.new result }
+    ensures calls { WritesByCalls W.write_takes (IsWrittenBy profile R.remaining R.has_failed
+        R.read_gives W.contents W.has_failed task query.now input.old input.new)
+        output.old output.new result }
 {
     match task {
         Task::Check => run_check(alloc, query, profile, output),

@@ -4,6 +4,7 @@ ghost use Rattle.std.specs.Prelude.{◌≡◌, ◌++◌, IfErr, IfOk, OnOk, fals
 ghost use Rattle.std.specs.List.{flat_map};
 ghost use Rattle.jp_command.specs.Lines.{line_behind, line_of, lines_of, output_behind, output_of};
 ghost use Rattle.jp_command.specs.Output.{StopsWriting, WritesAll};
+ghost use Rattle.jp_command.specs.Writes.{GoesAs};
 ghost use Rattle.jp_command.specs.Private.AsFound.{WritesAsFound};
 ghost use Rattle.jp_command.specs.Private.Fronts.{HasPathText};
 ghost use Rattle.jp_evaluate.specs.Lent.{has_failed, rest_of};
@@ -18,7 +19,7 @@ use crate::output::write_all;
 use jp_check::Checked;
 use jp_document::Step;
 use jp_evaluate::{LentNodes, Patterns, lent_nodes, lent_nodes_with};
-use jp_lent::Printed;
+use jp_lent::{Selectable, push_value};
 use jp_match::Marks;
 use std::alloc::{AllocError, Global};
 use std::mem;
@@ -36,7 +37,7 @@ pub enum Form {
 
 /// Appends the line of the node at this location with this value. After an error nothing is said of
 /// the front.
-pub(crate) fn push_line<'d, V: Printed>(
+pub(crate) fn push_line<'d, V: Selectable>(
     form: Form,
     front: &mut Front<'d>,
     location: &[Step<'d>],
@@ -49,12 +50,12 @@ pub(crate) fn push_line<'d, V: Printed>(
         ++ line_of form (node_at (map step_of location.now) (V.meaning value))) }
 {
     match form {
-        Form::Values => value.push_value(line)?,
+        Form::Values => push_value(line, value)?,
         Form::Paths => front.push_path(location, line)?,
         Form::Both => {
             front.push_path(location, line)?;
             line.push('\t')?;
-            value.push_value(line)?;
+            push_value(line, value)?;
         }
     }
     line.push('\n')
@@ -62,7 +63,7 @@ pub(crate) fn push_line<'d, V: Printed>(
 
 /// The lines of all nodes that the query selects in the document whose value is the root, in the
 /// nodelist's order (RFC 9535 section 2.1.2). The only error is that memory ran out.
-pub fn selected_lines<'d: 'q, 'q, V: Printed + 'd>(
+pub fn selected_lines<'d: 'q, 'q, V: Selectable + 'd>(
     alloc: Global,
     form: Form,
     root: V,
@@ -76,7 +77,7 @@ pub fn selected_lines<'d: 'q, 'q, V: Printed + 'd>(
 }
 
 /// The lines of the nodes that are still to come.
-fn lines_of_rest<'d: 'q, 'q, V: Printed + 'd>(
+fn lines_of_rest<'d: 'q, 'q, V: Selectable + 'd>(
     alloc: Global,
     form: Form,
     nodes: &mut LentNodes<'d, 'q, V, Marks>,
@@ -118,7 +119,7 @@ impl Spare {
 /// the nodelist's order (RFC 9535 section 2.1.2), each behind the text `lead`; a node's line before
 /// the next node is looked for. `Write` says that the output failed, and `NoMemory` that memory ran
 /// out; after both a prefix of the lines is written. There are no other errors.
-pub fn write_selected<'d: 'q, 'q, V: Printed + 'd, W: Writer>(
+pub fn write_selected<'d: 'q, 'q, V: Selectable + 'd, W: Writer>(
     alloc: Global,
     form: Form,
     lead: &str,
@@ -131,6 +132,8 @@ pub fn write_selected<'d: 'q, 'q, V: Printed + 'd, W: Writer>(
         (output_behind lead.now form (query_of query.now.query) (V.meaning root))) }
     ensures stopped { IfErr result (StopsWriting W.contents W.has_failed output.old output.new
         (output_behind lead.now form (query_of query.now.query) (V.meaning root))) }
+    ensures calls { GoesAs W.write_takes output.old output.new
+        (output_behind lead.now form (query_of query.now.query) (V.meaning root)) result }
 {
     let patterns = mem::replace(&mut spare.patterns, Patterns::new(alloc));
     let mut nodes = lent_nodes_with(alloc, root, query, &Marks, patterns);
@@ -141,7 +144,7 @@ pub fn write_selected<'d: 'q, 'q, V: Printed + 'd, W: Writer>(
 
 /// Writes the line of each node before it asks for the next. After a fault a prefix of the lines is
 /// written: those of the nodes that were given, the last of them perhaps in part or not at all.
-pub(crate) fn write_lines<'d: 'q, 'q, V: Printed + 'd, W: Writer>(
+pub(crate) fn write_lines<'d: 'q, 'q, V: Selectable + 'd, W: Writer>(
     alloc: Global,
     form: Form,
     lead: &str,
@@ -154,7 +157,9 @@ pub(crate) fn write_lines<'d: 'q, 'q, V: Printed + 'd, W: Writer>(
         (flat_map (line_behind lead.now form) (rest_of V.meaning nodes.old))) }
     ensures stopped { IfErr result (StopsWriting W.contents W.has_failed output.old output.new
         (flat_map (line_behind lead.now form) (rest_of V.meaning nodes.old))) }
-    ensures as_found { WritesAsFound W.contents (line_behind lead.now form) V.meaning
+    ensures calls { GoesAs W.write_takes output.old output.new
+        (flat_map (line_behind lead.now form) (rest_of V.meaning nodes.old)) result }
+    ensures as_found { WritesAsFound W.contents W.write_takes (line_behind lead.now form) V.meaning
         nodes.old nodes.new output.old output.new result }
 {
     let mut location = Vec::new(alloc);

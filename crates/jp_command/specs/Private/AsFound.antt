@@ -8,18 +8,22 @@ use Rattle.jp_document.specs.Node.{Node}
 use Rattle.jp_document.specs.Value.{Value}
 use Rattle.jp_evaluate.specs.Lent.{has_failed, rest_of}
 use Rattle.jp_evaluate.specs.declared.lent.LentNodes.{LentNodes}
+use Rattle.jp_command.specs.Writes.{GoByCalls, GoesToAFailure}
 use Rattle.jp_command.specs.declared.fault.Fault.{Fault}
 use Rattle.jp_command.specs.declared.fault.Fault.TheVariants.{NoMemory, Write}
 
 -- o and p are the output before and after, and line_of is the line of each node
-module _ {W : Type 0} (contents : W → Option (List ℕ)) (line_of : Node → List ℕ) where
+module _ {W : Type 0} (contents : W → Option (List ℕ))
+    (write_takes : W → Option (List ℕ) → W → Type 0) (line_of : Node → List ℕ) where
   -- all nodes but the rest were given, and the line of each is written
   pub record WritesGiven (all rest : List Node) (o p : W) : Type 0 where
     pub given : List Node
     pub nodes : all ≡ given ++ rest
     pub written : Appends (contents o) (contents p) (flat_map line_of given)
+    pub calls : GoByCalls write_takes o p (flat_map line_of given)
 
-  -- the same of all that were given but the last, of whose line a prefix is written
+  -- the same of all that were given but the last, of whose line a prefix is written before the call
+  -- that fails, the last that is made
   pub record WritesPart (all rest : List Node) (o p : W) : Type 0 where
     pub given : List Node
     pub last : Node
@@ -28,6 +32,9 @@ module _ {W : Type 0} (contents : W → Option (List ℕ)) (line_of : Node → L
     pub left : List ℕ
     pub line : line_of last ≡ prefix ++ left
     pub written : Appends (contents o) (contents p) (flat_map line_of given ++ prefix)
+    pub between : W
+    pub calls : GoByCalls write_takes o between (flat_map line_of given)
+    pub goes : GoesToAFailure write_takes between p (line_of last)
 
   -- The nodes v were asked for, until w were left, where m says what their values stand for, and
   -- each but the last had its line before the next was asked for. Memory runs out for a line, of

@@ -1,6 +1,6 @@
 -- Why an input was not read to its end. The clause `stopped` of `read_all` cites it.
-use Rattle.std.specs.Prelude.{◌≡◌, ℕ, Bool, List, Option}
-use Rattle.jp_command.specs.Input.{FailsToRead, ReadsTooMuch}
+use Rattle.std.specs.Prelude.{ℕ, Bool, List, Option}
+use Rattle.jp_command.specs.Input.{FailsToRead, ReadsSome, ReadsTooMuch}
 use Rattle.jp_command.specs.declared.fault.Fault.{Fault}
 use Rattle.jp_command.specs.declared.fault.Fault.TheVariants.{DocumentTooLarge, NoMemory, Read}
 
@@ -10,5 +10,5 @@ module _ {R : Type 0} (remaining : R → Option (List ℕ)) (has_failed : R → 
   abbrev pub StopsReading : R → R → Fault → Type 0
   StopsReading i j DocumentTooLarge = ReadsTooMuch remaining has_failed read_gives i j
   StopsReading i j Read = FailsToRead remaining has_failed read_gives i j
-  StopsReading i j NoMemory = has_failed j ≡ has_failed i
+  StopsReading i j NoMemory = ReadsSome remaining has_failed read_gives i j
   StopsReading i j _ = ⊥

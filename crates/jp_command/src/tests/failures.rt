@@ -14,43 +14,24 @@ use std::test::Fail;
 const LINE: &str = "$['\\'']['@']\t2\n";
 
 #[test]
-fn tells_no_failure_where_none_came(rt: HostRuntime) {
-    let mut trickle = Trickle::new(NAMES.as_bytes(), 1);
-    let mut drip = Drip::new(rt.alloc(), 1);
-    let mut input = Device::new(&mut trickle);
-    let mut output = Device::new(&mut drip);
-    let run = run_eval(
-        rt.alloc(),
-        IN_QUOTES,
-        Standard,
-        Form::Both,
-        &mut input,
-        &mut output,
-    );
-    let failed = (input.failed(), output.failed());
-    assert_eq!(rt; (run, failed), (Ok(()), (false, false)));
-    assert_eq!(rt;
-        (drip.taken.as_slice(), trickle.calls),
-        (LINE.as_bytes(), NAMES.len().saturating_add(1))
-    );
-}
-
-#[test]
 fn tells_each_write_that_fails(rt: HostRuntime) {
     for taken in 0..LINE.len() {
-        assert_write_fails(&rt, rt.alloc(), taken, false);
-        assert_write_fails(&rt, rt.alloc(), taken, true);
+        assert_writes(&rt, rt.alloc(), taken, false);
+        assert_writes(&rt, rt.alloc(), taken, true);
     }
+    assert_writes(&rt, rt.alloc(), LINE.len(), false);
 }
 
 /// Asserts that a run whose output has taken so many bytes, and whose next write fails or takes
-/// none, tells so and leaves these bytes.
-fn assert_write_fails(rt: &impl Abort, alloc: Global, taken: usize, takes_none: bool) {
+/// none, tells so, leaves these bytes and writes no more; and that it tells no failure where none
+/// came, for its output was written.
+fn assert_writes(rt: &impl Abort, alloc: Global, taken: usize, takes_none: bool) {
     let mut drip = Drip::new(alloc, 1);
     drip.failing = taken.saturating_add(1);
     drip.takes_none = takes_none;
     let mut output = Device::new(&mut drip);
-    let mut input = Device::new(NAMES.as_bytes());
+    let mut trickle = Trickle::new(NAMES.as_bytes(), 1);
+    let mut input = Device::new(&mut trickle);
     let run = run_eval(
         alloc,
         IN_QUOTES,
@@ -60,8 +41,13 @@ fn assert_write_fails(rt: &impl Abort, alloc: Global, taken: usize, takes_none: 
         &mut output,
     );
     let failed = (input.failed(), output.failed());
-    assert_eq!(rt; (run, failed), (Err(Fault::Write), (false, true)));
+    let whole = taken == LINE.len();
+    let ended = if whole { Ok(()) } else { Err(Fault::Write) };
+    assert_eq!(rt; (run, failed), (ended, (false, !whole)));
     assert!(rt; LINE.as_bytes().get(..taken) == Some(drip.taken.as_slice()));
+    let writes = taken.saturating_add(usize::from(!whole));
+    let reads = NAMES.len().saturating_add(1);
+    assert_eq!(rt; (drip.calls, trickle.calls), (writes, reads));
 }
 
 #[test]
@@ -150,7 +136,7 @@ fn keeps_what_was_written_before_a_failing_write(rt: HostRuntime) {
 }
 
 #[test]
-fn tells_why_no_canonical_text_is_written(rt: HostRuntime) {
+fn tells_why_its_one_line_is_not_written(rt: HostRuntime) {
     let mut bytes = Vec::new(rt.alloc());
     let run = run_canon(rt.alloc(), "$.a[", Standard, &mut Device::new(&mut bytes));
     let refusal = Refusal {
@@ -158,34 +144,26 @@ fn tells_why_no_canonical_text_is_written(rt: HostRuntime) {
         place: 4,
     };
     assert_eq!(rt; (run, bytes.len()), (Err(Fault::Query(refusal)), 0));
-}
 
-#[test]
-fn keeps_the_beginning_of_a_canonical_text(rt: HostRuntime) {
-    let mut narrow = Narrow::new(rt.alloc(), 6, true);
-    let run = run_canon(
-        rt.alloc(),
-        "$.ab.c",
-        Standard,
-        &mut Device::new(&mut narrow),
+    let mut canonical = Narrow::new(rt.alloc(), 6, true);
+    let mut accepted = Narrow::new(rt.alloc(), 6, true);
+    let ended = (
+        run_canon(
+            rt.alloc(),
+            "$.ab.c",
+            Standard,
+            &mut Device::new(&mut canonical),
+        ),
+        run_check(
+            rt.alloc(),
+            "$.ab.c",
+            Standard,
+            &mut Device::new(&mut accepted),
+        ),
     );
+    assert_eq!(rt; ended, (Err(Fault::Write), Err(Fault::Write)));
     assert_eq!(rt;
-        (run, narrow.taken.as_slice()),
-        (Err(Fault::Write), b"$['ab'".as_slice())
-    );
-}
-
-#[test]
-fn keeps_the_beginning_of_the_word_accepted(rt: HostRuntime) {
-    let mut narrow = Narrow::new(rt.alloc(), 6, true);
-    let run = run_check(
-        rt.alloc(),
-        "$.ab.c",
-        Standard,
-        &mut Device::new(&mut narrow),
-    );
-    assert_eq!(rt;
-        (run, narrow.taken.as_slice()),
-        (Err(Fault::Write), b"accept".as_slice())
+        (canonical.taken.as_slice(), accepted.taken.as_slice()),
+        (b"$['ab'".as_slice(), b"accept".as_slice())
     );
 }

@@ -2,9 +2,11 @@
 
 use super::rows::{Answer, Asked, expected};
 use jp_check::read_query;
-use jp_document::{Document, DocumentFault, path_text, value_text};
+use jp_document::{DocumentFault, path_text};
 use jp_evaluate::evaluate;
 use jp_flat::flat_document;
+use jp_held::Document;
+use jp_lent::value_text;
 use jp_match::Marks;
 use std::alloc::Global;
 use std::process::Abort;

@@ -2,7 +2,8 @@
 
 use super::devices::Drip;
 use crate::{Device, Fault, Form, lines_at, write_found};
-use jp_document::{Document, DocumentValue, Step};
+use jp_document::{DocumentValue, Step};
+use jp_held::Document;
 use std::test::Fail;
 
 /// What stands before each line.

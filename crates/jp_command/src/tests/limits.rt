@@ -12,32 +12,14 @@ use std::alloc::Global;
 use std::process::Abort;
 use std::test::Fail;
 
-// Queries of the greatest length, which select nothing.
+/// Queries of the greatest length, which select nothing.
 const LONGEST: &[(&str, &str, usize, &str)] = &[
     ("$", ".a", 524_287, ""),
     ("$", "                ", 65_535, "             .a"),
     ("$[?@", ".*", 524_285, "]"),
 ];
 
-#[test]
-fn runs_queries_of_the_longest_length(rt: HostRuntime) -> Result<(), Fail> {
-    let alloc = rt.alloc();
-    for text in LONGEST {
-        let query = nested(alloc, *text, ("", ""))?;
-        assert_gives(
-            &rt,
-            alloc,
-            ("[1]", query.as_str(), Standard),
-            Nodes(&[]),
-            999,
-        )?;
-        let line = ["jp", "check", query.as_str()];
-        assert_ended(&rt, alloc, &line, b"".as_slice(), (0, "accepted\n", ""))?;
-    }
-    Ok(())
-}
-
-// Queries that are longer.
+/// Queries that are longer.
 const LONGER: &[(&str, &str, usize, &str)] = &[
     ("$", "                ", 65_535, "             .ab"),
     ("$", ".a", 524_288, ""),
@@ -45,10 +27,18 @@ const LONGER: &[(&str, &str, usize, &str)] = &[
 ];
 
 #[test]
-fn runs_no_longer_query(rt: HostRuntime) -> Result<(), Fail> {
+fn runs_queries_up_to_the_longest(rt: HostRuntime) -> Result<(), Fail> {
+    let alloc = rt.alloc();
+    for text in LONGEST {
+        let query = nested(alloc, *text, ("", ""))?;
+        let asked = ("[1]", query.as_str(), Standard);
+        assert_gives(&rt, alloc, asked, Nodes(&[]), 999)?;
+        let line = ["jp", "check", query.as_str()];
+        assert_ended(&rt, alloc, &line, b"".as_slice(), (0, "accepted\n", ""))?;
+    }
     for text in LONGER {
-        let query = nested(rt.alloc(), *text, ("", ""))?;
-        assert_too_long(&rt, rt.alloc(), query.as_str())?;
+        let query = nested(alloc, *text, ("", ""))?;
+        assert_too_long(&rt, alloc, query.as_str())?;
     }
     Ok(())
 }
@@ -83,15 +73,11 @@ fn canonical_text(alloc: Global, text: &str) -> Result<String, Fail> {
 #[test]
 fn reads_documents_up_to_the_limit(rt: HostRuntime) -> Result<(), Fail> {
     let line = ["jp", "both", "$"];
-    let input = Blanks(16_777_215);
-    assert_ended(&rt, rt.alloc(), &line, input, (0, "$\t1\n", ""))
-}
-
-#[test]
-fn refuses_a_document_beyond_the_limit(rt: HostRuntime) -> Result<(), Fail> {
-    let line = ["jp", "both", "$"];
     let refused = (3, "", "document refused: DocumentTooLarge\n");
-    assert_ended(&rt, rt.alloc(), &line, Blanks(16_777_216), refused)
+    for (blanks, ended) in [(16_777_215, (0, "$\t1\n", "")), (16_777_216, refused)] {
+        assert_ended(&rt, rt.alloc(), &line, Blanks(blanks), ended)?;
+    }
+    Ok(())
 }
 
 /// Asserts that `read_query` refuses the query so, or that its canonical text is its own.
@@ -118,39 +104,70 @@ fn assert_read(rt: &impl Abort, alloc: Global, text: &str, answer: Answer) -> Re
     Ok(())
 }
 
-#[test]
-fn nests_filters_128_deep(rt: HostRuntime) -> Result<(), Fail> {
-    let alloc = rt.alloc();
-    for (count, answer) in [(128, Nodes(&[])), (129, Query("TooDeep at 386"))] {
-        let query = nested(alloc, ("$", "[?@", count, ""), ("]", ""))?;
-        assert_gives(&rt, alloc, ("[]", query.as_str(), Standard), answer, 999)?;
-        assert_read(&rt, alloc, query.as_str(), answer)?;
-    }
-    Ok(())
-}
-
-// What stands in so many parentheses or calls in a filter, and what that gives over no items.
-const NESTED: &[(&str, usize, &str, Answer)] = &[
-    ("(", 127, "@.a", Nodes(&[])),
-    ("(", 128, "@.a", Query("TooDeep at 130")),
-    ("g(", 127, "1", Query("UnknownFunction at 3")),
-    ("g(", 128, "1", Query("TooDeep at 257")),
-    ("f(", 128, "1", Query("TooDeep at 258")),
-    ("(", 126, "f()", Query("UnknownFunction at 129")),
-    ("(", 127, "f()", Query("TooDeep at 131")),
-    ("(", 127, "!f()", Query("TooDeep at 131")),
-    ("(", 127, "true()", Query("TooDeep at 134")),
-    ("(", 127, "tru)", Query("Syntax at 133")),
-    ("(", 127, "@==true", Nodes(&[])),
-    ("(", 64, "@.a", Canonical("$[?@['a']]")),
-    ("(", 127, "@.a", Canonical("$[?@['a']]")),
+/// A text that begins a query, what is repeated how often, what stands inside, what closes it, and
+/// the query's end; and what that gives over no items.
+const NESTED: &[((&str, &str, usize, &str), (&str, &str), Answer)] = &[
+    (("$", "[?@", 64, ""), ("]", ""), Nodes(&[])),
+    (("$", "[?@", 128, ""), ("]", ""), Nodes(&[])),
+    (("$", "[?@", 129, ""), ("]", ""), Query("TooDeep at 386")),
+    (("$[?", "(", 63, "@.a"), (")", "]"), Canonical("$[?@['a']]")),
+    (("$[?", "(", 64, "@.a"), (")", "]"), Canonical("$[?@['a']]")),
+    (
+        ("$[?", "(", 127, "@.a"),
+        (")", "]"),
+        Canonical("$[?@['a']]"),
+    ),
+    (("$[?", "(", 127, "@.a"), (")", "]"), Nodes(&[])),
+    (("$[?", "(", 127, "@==true"), (")", "]"), Nodes(&[])),
+    (
+        ("$[?", "(", 128, "@.a"),
+        (")", "]"),
+        Query("TooDeep at 130"),
+    ),
+    (
+        ("$[?", "g(", 63, "1"),
+        (")", "]"),
+        Query("UnknownFunction at 3"),
+    ),
+    (
+        ("$[?", "g(", 127, "1"),
+        (")", "]"),
+        Query("UnknownFunction at 3"),
+    ),
+    (("$[?", "g(", 128, "1"), (")", "]"), Query("TooDeep at 257")),
+    (("$[?", "f(", 128, "1"), (")", "]"), Query("TooDeep at 258")),
+    (
+        ("$[?", "(", 126, "f()"),
+        (")", "]"),
+        Query("UnknownFunction at 129"),
+    ),
+    (
+        ("$[?", "(", 127, "f()"),
+        (")", "]"),
+        Query("TooDeep at 131"),
+    ),
+    (
+        ("$[?", "(", 127, "!f()"),
+        (")", "]"),
+        Query("TooDeep at 131"),
+    ),
+    (
+        ("$[?", "(", 127, "true()"),
+        (")", "]"),
+        Query("TooDeep at 134"),
+    ),
+    (
+        ("$[?", "(", 127, "tru)"),
+        (")", "]"),
+        Query("Syntax at 133"),
+    ),
 ];
 
 #[test]
-fn nests_parentheses_and_calls_128_deep(rt: HostRuntime) -> Result<(), Fail> {
+fn nests_filters_parentheses_and_calls_128_deep(rt: HostRuntime) -> Result<(), Fail> {
     let alloc = rt.alloc();
-    for (opening, count, inside, answer) in NESTED {
-        let query = nested(alloc, ("$[?", opening, *count, inside), (")", "]"))?;
+    for (opening, closing, answer) in NESTED {
+        let query = nested(alloc, *opening, *closing)?;
         assert_gives(&rt, alloc, ("[]", query.as_str(), Standard), *answer, 999)?;
         assert_read(&rt, alloc, query.as_str(), *answer)?;
         if let Nodes(_) = answer {

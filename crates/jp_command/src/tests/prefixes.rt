@@ -1,7 +1,8 @@
 //! Prefixes of accepted queries and of documents.
 
 use jp_check::{Profile, read_query};
-use jp_document::{Document, DocumentFault};
+use jp_document::DocumentFault;
+use jp_held::Document;
 use jp_query::{Refusal, RefusalKind};
 use std::alloc::Global;
 use std::process::Abort;

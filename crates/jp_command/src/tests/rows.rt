@@ -28,8 +28,15 @@ pub enum Answer {
     Document(&'static str),
 }
 
-/// Runs each row in both profiles.
-pub fn gives_each(rt: &impl Abort, alloc: Global, rows: &[Row]) -> Result<(), Fail> {
+/// Runs each row of these tables in both profiles.
+pub fn gives_each(rt: &impl Abort, alloc: Global, tables: &[&[Row]]) -> Result<(), Fail> {
+    for rows in tables {
+        gives_rows(rt, alloc, rows)?;
+    }
+    Ok(())
+}
+
+fn gives_rows(rt: &impl Abort, alloc: Global, rows: &[Row]) -> Result<(), Fail> {
     for (document, query, answer) in rows {
         gives(rt, alloc, (document, query, Standard), *answer)?;
         gives(rt, alloc, (document, query, Extended), *answer)?;
@@ -37,12 +44,19 @@ pub fn gives_each(rt: &impl Abort, alloc: Global, rows: &[Row]) -> Result<(), Fa
     Ok(())
 }
 
-/// Runs each row in both profiles, in which it gives different answers.
+/// Runs each row of these tables in both profiles, in which it gives different answers.
 pub fn gives_in_each_profile(
     rt: &impl Abort,
     alloc: Global,
-    rows: &[ProfileRow],
+    tables: &[&[ProfileRow]],
 ) -> Result<(), Fail> {
+    for rows in tables {
+        gives_profile_rows(rt, alloc, rows)?;
+    }
+    Ok(())
+}
+
+fn gives_profile_rows(rt: &impl Abort, alloc: Global, rows: &[ProfileRow]) -> Result<(), Fail> {
     for (document, query, extended, standard) in rows {
         gives(rt, alloc, (document, query, Extended), *extended)?;
         gives(rt, alloc, (document, query, Standard), *standard)?;

@@ -1,10 +1,12 @@
-//! A source that says no more than it must.
+//! A source that says no more than it must, and a source and a writer that tell each of their calls.
 
-ghost use Rattle.std.specs.Prelude.{None, false};
+ghost use Rattle.std.specs.Prelude.{◌≡◌, ◌+◌, ◌++◌, MatchOption, None, Some, false, true};
 
-use crate::{Device, Failed, Fault, Form, Source, run_eval};
+use crate::{Device, Failed, Fault, Form, Source, Writer, run_eval};
 use jp_check::Profile::Standard;
 use jp_document::DocumentFault;
+use std::alloc::Global;
+use std::io::Read;
 
 /// An input of no bytes.
 #[derive(Drop)]
@@ -24,8 +26,88 @@ impl Source for Nothing {
     }
 }
 
+/// An input that counts the reads.
+#[derive(Drop)]
+struct CountedSource<'b> {
+    bytes: &'b [u8],
+    calls: u64,
+    failed: bool,
+}
+
+impl Source for CountedSource<'_> {
+    ghost remaining = { λ source. Some source.bytes.now };
+
+    ghost has_failed = { λ source. source.failed };
+
+    ghost read_gives = { λ before given after. MatchOption given (after.failed ≡ true)
+        (λ bytes. (after.calls ≡ before.calls + 1)
+        × (before.bytes.now ≡ bytes ++ after.bytes.now)) };
+
+    fn read(&mut self, buffer: &mut [u8]) -> Result<usize, Failed> {
+        let Some(calls) = self.calls.checked_add(1) else {
+            self.failed = true;
+            return Err(Failed);
+        };
+        let Ok(count) = self.bytes.read(buffer) else {
+            self.failed = true;
+            return Err(Failed);
+        };
+        self.calls = calls;
+        Ok(count)
+    }
+
+    fn failed(&self) -> bool {
+        self.failed
+    }
+}
+
+/// An output that counts the writes.
+#[derive(Drop)]
+struct CountedWriter {
+    bytes: Vec<u8>,
+    calls: u64,
+    failed: bool,
+}
+
+impl CountedWriter {
+    fn new(alloc: Global) -> CountedWriter {
+        CountedWriter {
+            bytes: Vec::new(alloc),
+            calls: 0,
+            failed: false,
+        }
+    }
+}
+
+impl Writer for CountedWriter {
+    ghost contents = { λ writer. Some writer.bytes.items };
+
+    ghost has_failed = { λ writer. writer.failed };
+
+    ghost write_takes = { λ before taken after. MatchOption taken (after.failed ≡ true)
+        (λ bytes. (after.calls ≡ before.calls + 1)
+        × (after.bytes.items ≡ before.bytes.items ++ bytes)) };
+
+    fn write(&mut self, bytes: &[u8]) -> Result<usize, Failed> {
+        let Some(calls) = self.calls.checked_add(1) else {
+            self.failed = true;
+            return Err(Failed);
+        };
+        if self.bytes.extend_from_slice(bytes).is_err() {
+            self.failed = true;
+            return Err(Failed);
+        }
+        self.calls = calls;
+        Ok(bytes.len())
+    }
+
+    fn failed(&self) -> bool {
+        self.failed
+    }
+}
+
 #[test]
-fn a_source_needs_no_more_than_its_reads_and_whether_one_failed(rt: HostRuntime) {
+fn sources_and_writers_tell_what_they_like_of_their_calls(rt: HostRuntime) {
     let mut written = Vec::new(rt.alloc());
     let run = run_eval(
         rt.alloc(),
@@ -37,4 +119,21 @@ fn a_source_needs_no_more_than_its_reads_and_whether_one_failed(rt: HostRuntime)
     );
     assert_eq!(rt; run, Err(Fault::Document(DocumentFault::NotJson)));
     assert!(rt; written.is_empty());
+
+    let mut input = CountedSource {
+        bytes: b"[1,2]",
+        calls: 0,
+        failed: false,
+    };
+    let mut output = CountedWriter::new(rt.alloc());
+    let run = run_eval(
+        rt.alloc(),
+        "$.*",
+        Standard,
+        Form::Values,
+        &mut input,
+        &mut output,
+    );
+    assert_eq!(rt; (run, input.calls, output.calls), (Ok(()), 2, 2));
+    assert_eq!(rt; output.bytes.as_slice(), b"1\n2\n".as_slice());
 }

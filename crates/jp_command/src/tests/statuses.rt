@@ -9,78 +9,111 @@ use std::io::Read;
 use std::process::Abort;
 use std::test::Fail;
 
-#[test]
-fn refuses_a_document_that_is_no_utf8(rt: HostRuntime) -> Result<(), Fail> {
-    let line = ["jp", "both", "$"];
-    let refused = (3, "", "document refused: NotJson\n");
-    assert_ended(&rt, rt.alloc(), &line, b"\"\xff\"".as_slice(), refused)
-}
+/// A line of words, an input, and how that ends: the status, and what is written to either output.
+type Line = (
+    &'static [&'static str],
+    &'static str,
+    (u8, &'static str, &'static str),
+);
 
-#[test]
-fn writes_a_path_with_each_kind_of_spelling(rt: HostRuntime) -> Result<(), Fail> {
-    let line = ["jp", "paths", "$.*"];
-    let document = br#"{"\u001f\n'\\":1}"#.as_slice();
-    let paths = (0, "$['\\u001f\\n\\'\\\\']\n", "");
-    assert_ended(&rt, rt.alloc(), &line, document, paths)
-}
-
-#[test]
-fn writes_the_form_of_its_subcommand(rt: HostRuntime) -> Result<(), Fail> {
-    for (subcommand, text) in [
-        ("check", "accepted\n"),
-        ("canon", "$['\\'']['@']\n"),
-        ("eval", "2\n"),
-        ("paths", "$['\\'']['@']\n"),
-        ("both", "$['\\'']['@']\t2\n"),
-    ] {
-        let line = ["jp", subcommand, IN_QUOTES];
-        assert_ended(&rt, rt.alloc(), &line, NAMES.as_bytes(), (0, text, ""))?;
-    }
-    Ok(())
-}
+/// What each subcommand writes.
+const FORMS: &[Line] = &[
+    (&["jp", "check", IN_QUOTES], NAMES, (0, "accepted\n", "")),
+    (
+        &["jp", "canon", IN_QUOTES],
+        NAMES,
+        (0, "$['\\'']['@']\n", ""),
+    ),
+    (&["jp", "eval", IN_QUOTES], NAMES, (0, "2\n", "")),
+    (
+        &["jp", "paths", IN_QUOTES],
+        NAMES,
+        (0, "$['\\'']['@']\n", ""),
+    ),
+    (
+        &["jp", "both", IN_QUOTES],
+        NAMES,
+        (0, "$['\\'']['@']\t2\n", ""),
+    ),
+    (
+        &["jp", "paths", "$.*"],
+        r#"{"\u001f\n'\\":1}"#,
+        (0, "$['\\u001f\\n\\'\\\\']\n", ""),
+    ),
+];
 
 /// A document, and a query that `Extended` alone accepts.
 const SOME_OR_NONE: &str = r#"[{"a":0},{}]"#;
 
 const HAS_SOME: &str = "$[?distinct(@.*)]";
 
-#[test]
-fn reads_the_query_of_each_subcommand_in_the_profile_of_its_flag(
-    rt: HostRuntime,
-) -> Result<(), Fail> {
-    let alloc = rt.alloc();
-    let refused = (1, "", "query refused: UnknownFunction at 3\n");
-    for (subcommand, text) in [
-        ("check", "accepted\n"),
-        ("canon", "$[?distinct(@[*])]\n"),
-        ("eval", "{\"a\":0}\n"),
-        ("paths", "$[0]\n"),
-        ("both", "$[0]\t{\"a\":0}\n"),
-    ] {
-        let line = ["jp", subcommand, HAS_SOME, "--extended"];
-        assert_ended(&rt, alloc, &line, SOME_OR_NONE.as_bytes(), (0, text, ""))?;
-        let line = ["jp", subcommand, HAS_SOME];
-        assert_ended(&rt, alloc, &line, SOME_OR_NONE.as_bytes(), refused)?;
-    }
-    Ok(())
-}
+/// What `Standard` says of it.
+const UNKNOWN: (u8, &str, &str) = (1, "", "query refused: UnknownFunction at 3\n");
+
+const NO_QUERY: (u8, &str, &str) = (1, "", "query refused: Syntax at 0\n");
+
+/// What each subcommand says with the flag and without it, on either side of the query.
+const FLAGS: &[Line] = &[
+    (
+        &["jp", "check", HAS_SOME, "--extended"],
+        SOME_OR_NONE,
+        (0, "accepted\n", ""),
+    ),
+    (&["jp", "check", HAS_SOME], SOME_OR_NONE, UNKNOWN),
+    (
+        &["jp", "canon", HAS_SOME, "--extended"],
+        SOME_OR_NONE,
+        (0, "$[?distinct(@[*])]\n", ""),
+    ),
+    (&["jp", "canon", HAS_SOME], SOME_OR_NONE, UNKNOWN),
+    (
+        &["jp", "eval", HAS_SOME, "--extended"],
+        SOME_OR_NONE,
+        (0, "{\"a\":0}\n", ""),
+    ),
+    (&["jp", "eval", HAS_SOME], SOME_OR_NONE, UNKNOWN),
+    (
+        &["jp", "paths", HAS_SOME, "--extended"],
+        SOME_OR_NONE,
+        (0, "$[0]\n", ""),
+    ),
+    (&["jp", "paths", HAS_SOME], SOME_OR_NONE, UNKNOWN),
+    (
+        &["jp", "both", HAS_SOME, "--extended"],
+        SOME_OR_NONE,
+        (0, "$[0]\t{\"a\":0}\n", ""),
+    ),
+    (&["jp", "both", HAS_SOME], SOME_OR_NONE, UNKNOWN),
+    (
+        &["jp", "paths", "--extended", HAS_SOME],
+        SOME_OR_NONE,
+        (0, "$[0]\n", ""),
+    ),
+    (
+        &["jp", "paths", "--extended", "--", HAS_SOME],
+        SOME_OR_NONE,
+        (0, "$[0]\n", ""),
+    ),
+    (
+        &["jp", "paths", "--extended", "--", "-$"],
+        SOME_OR_NONE,
+        NO_QUERY,
+    ),
+    (&["jp", "paths", "--", "-$"], SOME_OR_NONE, NO_QUERY),
+    (&["jp", "paths", "--", "--extended"], SOME_OR_NONE, NO_QUERY),
+];
 
 #[test]
-fn takes_the_flag_on_either_side_of_the_query(rt: HostRuntime) -> Result<(), Fail> {
-    let taken = (0, "$[0]\n", "");
-    let no_query = (1, "", "query refused: Syntax at 0\n");
-    let lines: [(&[&str], (u8, &str, &str)); 6] = [
-        (&["jp", "paths", "--extended", HAS_SOME], taken),
-        (&["jp", "paths", HAS_SOME, "--extended"], taken),
-        (&["jp", "paths", "--extended", "--", HAS_SOME], taken),
-        (&["jp", "paths", "--extended", "--", "-$"], no_query),
-        (&["jp", "paths", "--", "-$"], no_query),
-        (&["jp", "paths", "--", "--extended"], no_query),
-    ];
-    for (line, ended) in lines {
-        assert_ended(&rt, rt.alloc(), line, SOME_OR_NONE.as_bytes(), ended)?;
+fn ends_as_its_words_ask(rt: HostRuntime) -> Result<(), Fail> {
+    for (line, document, ended) in FORMS {
+        assert_ended(&rt, rt.alloc(), line, document.as_bytes(), *ended)?;
     }
-    Ok(())
+    for (line, document, ended) in FLAGS {
+        assert_ended(&rt, rt.alloc(), line, document.as_bytes(), *ended)?;
+    }
+    let line = ["jp", "both", "$"];
+    let refused = (3, "", "document refused: NotJson\n");
+    assert_ended(&rt, rt.alloc(), &line, b"\"\xff\"".as_slice(), refused)
 }
 
 #[test]

@@ -1,10 +1,10 @@
-use Rattle.std.proofs.Common.{◌≡◌, ◌≤◌, ◌++◌, arith, length, rules, sym, take}
+use Rattle.std.proofs.Common.{◌≡◌, ◌≤◌, ◌++◌, arith, length, refl, rules, sym, take}
 use Rattle.std.proofs.Common.{vec_len}
 use Rattle.std.proofs.KnownBytes.{Consumes-trans}
 use Rattle.std.proofs.lemmas.Grind.{common_steps}
 use Rattle.std.proofs.lemmas.List.{length-append, length-take-le}
 use Rattle.jp_command.specs.Limits.{chunk_size}
-use Rattle.jp_command.proofs.Streams.{come-more, come-none}
+use Rattle.jp_command.proofs.Streams.{come-more, come-none, reads-none, stops-for_reading}
 use Rattle.jp_command.proofs.input.read_all.Goals as goal
 
 pub chunks-init : goal.chunks-init
@@ -37,6 +37,30 @@ returns-then-count-len-clause-stopped g c =
       calls = c.chunks.invariant.calls;
       last = c.in-Ok.ensures.call;
     }
+
+pub returns-in_err-chunk-clause-stopped : goal.returns-in_err-chunk-clause-stopped
+returns-in_err-chunk-clause-stopped g c =
+    stops-for_reading _ _ _ _ _ _ (reads-none _ _ _ _) c.from_residual.ensures.1
+
+pub returns-in_err-extend_from_slice-clause-stopped :
+    goal.returns-in_err-extend_from_slice-clause-stopped
+returns-in_err-extend_from_slice-clause-stopped g c =
+    let before = c.chunks.bytes.items in
+    let buffer = c.read.new.buffer in
+    let last = take c.in-Ok.count buffer in
+    let within : c.in-Ok.count ≤ length buffer = c.in-Ok.ensures.bound in
+    let all : length before ≡ vec_len c.chunks.bytes = sym c.chunks.bytes.ok.0 in
+    let rest : length last ≡ c.in-Ok.count = length-take-le _ _ within in
+    stops-for_reading _ _ _ _ _ _
+    (record {
+      bytes = before ++ last;
+      came = Consumes-trans _ _ _ _ _ c.chunks.invariant.came c.in-Ok.ensures.bytes.0;
+      few = rw length-append (omega arith);
+      works = search rules;
+      calls = come-more _ _ _ _ before (before ++ last) buffer c.in-Ok.count
+          c.chunks.invariant.calls c.in-Ok.ensures.call within (search rules) refl;
+    })
+    c.from_residual-in_err-extend_from_slice.ensures.1
 
 pub chunks-preserved : goal.chunks-preserved
 chunks-preserved g c =

@@ -12,9 +12,12 @@ returns g c profile = record {
   no_other = answered-is_accepted profile _ _ _ _ _;
   asked = λ form text i j o p run. (run.is.q, run.is.asked);
   refused = λ form text i j o p r run. run;
+  refused_document = λ form text i j o p f run. run;
+  refused_large = λ form text i j o p run. run;
   nodelist = writes-nodelist profile _ _ _ _ _ c.document_or_defect.ensures
       (c.one_answer.ensures profile);
   own_nodes = c.selects_nodes_alone.ensures;
+  children = c.children_are_exact.ensures;
   paths = c.paths_differ.ensures.nodes;
   path_selects = c.path_selects_its_node.ensures;
   extended = c.standard_is_extended.ensures;

@@ -8,7 +8,8 @@ returns-in-Ok-run_and_flush g c = done c.in-Ok.profile refl
       task = c.in-Ok.task;
       query = c.in-Ok.query.now;
       asks = search rules;
-      runs = c.in-Ok-run_and_flush.ensures;
+      runs = c.in-Ok-run_and_flush.ensures.says;
+      calls = c.in-Ok-run_and_flush.ensures.calls;
     })
     refl
 
@@ -19,7 +20,8 @@ returns-in-Ok g c =
       task = c.in-Ok.task;
       query = c.in-Ok.query.now;
       asks = search rules;
-      runs = c.in-Err-run_and_flush.ensures;
+      runs = c.in-Err-run_and_flush.ensures.says;
+      calls = c.in-Err-run_and_flush.ensures.calls;
     })
     c.report.ensures
 

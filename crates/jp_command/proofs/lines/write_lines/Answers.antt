@@ -1,17 +1,27 @@
 use Rattle.std.proofs.Common.{◌≡◌, rules}
 use Rattle.jp_evaluate.specs.Lent.{lent_node}
 use Rattle.jp_command.specs.Lines.{line_behind}
-use Rattle.jp_command.proofs.LineLemmas.{given_more, given_part, part-is_prefix, stops-for_memory}
+use Rattle.jp_command.proofs.LineLemmas.{given_more, given_none, given_part, goes-for_memory}
+use Rattle.jp_command.proofs.LineLemmas.{part-goes, part-is_prefix, stops-for_memory}
 use Rattle.jp_command.proofs.lines.write_lines.Goals as goal
+
+pub loop-next-init : goal.loop-next-init
+loop-next-init g c = record {
+  front = search rules;
+  working = search rules;
+  written = given_none g.W.Writer.contents g.W.Writer.has_failed g.W.Writer.write_takes
+      (line_behind c.args.lead.now c.args.form) _ _;
+  works = search rules;
+}
 
 pub returns-in_err-value-clause-stopped : goal.returns-in_err-value-clause-stopped
 returns-in_err-value-clause-stopped g c =
-    stops-for_memory g.W.Writer.contents g.W.Writer.has_failed (line_behind c.args.lead.now c.args.form) _ _ _ _ _
+    stops-for_memory g.W.Writer.contents g.W.Writer.has_failed g.W.Writer.write_takes (line_behind c.args.lead.now c.args.form) _ _ _ _ _
     c.loop-next.invariant.written c.loop-next.invariant.works c.from_residual.ensures.1
 
 pub returns-in_err-push_line-clause-stopped : goal.returns-in_err-push_line-clause-stopped
 returns-in_err-push_line-clause-stopped g c =
-    stops-for_memory g.W.Writer.contents g.W.Writer.has_failed (line_behind c.args.lead.now c.args.form) _ _ _ _ _
+    stops-for_memory g.W.Writer.contents g.W.Writer.has_failed g.W.Writer.write_takes (line_behind c.args.lead.now c.args.form) _ _ _ _ _
     c.loop-next.invariant.written c.loop-next.invariant.works
     c.from_residual-in_err-push_line.ensures.1
 
@@ -21,11 +31,24 @@ returns-in_default-write_all-clause-stopped g c =
     let n = lent_node g.V.Lent.meaning (c.next_at.new.location, c.in_ok-value.value) in
     let steps = rw (c.in-Some.is, c.in_ok-value.was) at c.next_at.ensures in
     let line : c.as_bytes.result.now ≡ behind n = search rules in (
-      part-is_prefix g.W.Writer.contents g.W.Writer.has_failed behind _ _ _ _
-          (given_part g.W.Writer.contents g.W.Writer.has_failed behind _ _ _ n _ _ _
-          c.loop-next.invariant.written steps.2 (rw line at c.in_default-write_all.ensures.prefix)),
+      part-is_prefix g.W.Writer.contents g.W.Writer.has_failed g.W.Writer.write_takes behind _ _ _ _
+          (given_part g.W.Writer.contents g.W.Writer.has_failed g.W.Writer.write_takes behind _ _ _ n _ _ _
+          c.loop-next.invariant.written steps.2 (rw line at c.in_default-write_all.ensures.prefix)
+          (rw line at c.in_default-write_all.ensures.stopped)),
       c.in_default-write_all.ensures.failed,
     )
+
+pub returns-in_err-value-clause-calls : goal.returns-in_err-value-clause-calls
+returns-in_err-value-clause-calls g c =
+    goes-for_memory g.W.Writer.contents g.W.Writer.has_failed g.W.Writer.write_takes
+    (line_behind c.args.lead.now c.args.form) _ _ _ _ _
+    c.loop-next.invariant.written c.from_residual.ensures.1
+
+pub returns-in_err-push_line-clause-calls : goal.returns-in_err-push_line-clause-calls
+returns-in_err-push_line-clause-calls g c =
+    goes-for_memory g.W.Writer.contents g.W.Writer.has_failed g.W.Writer.write_takes
+    (line_behind c.args.lead.now c.args.form) _ _ _ _ _
+    c.loop-next.invariant.written c.from_residual-in_err-push_line.ensures.1
 
 pub returns-in_default-write_all-clause-as_found :
     goal.returns-in_default-write_all-clause-as_found
@@ -35,9 +58,16 @@ returns-in_default-write_all-clause-as_found g c =
     let steps = rw (c.in-Some.is, c.in_ok-value.was) at c.next_at.ensures in
     let line : c.as_bytes.result.now ≡ behind n = search rules in (
       steps.1,
-      given_part g.W.Writer.contents g.W.Writer.has_failed behind _ _ _ n _ _ _
-          c.loop-next.invariant.written steps.2 (rw line at c.in_default-write_all.ensures.prefix),
+      given_part g.W.Writer.contents g.W.Writer.has_failed g.W.Writer.write_takes behind _ _ _ n _ _ _
+          c.loop-next.invariant.written steps.2 (rw line at c.in_default-write_all.ensures.prefix)
+          (rw line at c.in_default-write_all.ensures.stopped),
     )
+
+pub returns-in_default-write_all-clause-calls : goal.returns-in_default-write_all-clause-calls
+returns-in_default-write_all-clause-calls g c =
+    let behind = line_behind c.args.lead.now c.args.form in
+    part-goes g.W.Writer.contents g.W.Writer.has_failed g.W.Writer.write_takes behind _ _ _ _
+    (returns-in_default-write_all-clause-as_found g c).1
 
 pub loop-next-preserved : goal.loop-next-preserved
 loop-next-preserved g c =
@@ -48,7 +78,8 @@ loop-next-preserved g c =
     record {
       front = search rules;
       working = steps.1;
-      written = given_more g.W.Writer.contents g.W.Writer.has_failed behind _ _ _ n _ _ _
-          c.loop-next.invariant.written steps.2 (rw line at c.in-Ok.ensures.ok);
+      written = given_more g.W.Writer.contents g.W.Writer.has_failed g.W.Writer.write_takes behind _ _ _ n _ _ _
+          c.loop-next.invariant.written steps.2 (rw line at c.in-Ok.ensures.ok)
+          (rw line at c.in-Ok.ensures.calls);
       works = search rules;
     }

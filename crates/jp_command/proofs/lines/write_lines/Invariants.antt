@@ -10,7 +10,7 @@ abbrev pub invariant-loop-next : goal.invariant-loop-next
 invariant-loop-next g l = record {
   front : HasPathText l.front;
   working : has_failed l.nodes ≡ false;
-  written : WritesGiven g.W.Writer.contents (line_behind l.lead l.form) (rest_of g.V.Lent.meaning l.fn.nodes) (rest_of g.V.Lent.meaning l.nodes)
+  written : WritesGiven g.W.Writer.contents g.W.Writer.write_takes (line_behind l.lead l.form) (rest_of g.V.Lent.meaning l.fn.nodes) (rest_of g.V.Lent.meaning l.nodes)
       l.fn.output l.output;
   works : g.W.Writer.has_failed l.output ≡ g.W.Writer.has_failed l.fn.output;
 }

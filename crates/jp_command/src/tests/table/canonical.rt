@@ -64,11 +64,6 @@ const SEGMENTS: &[Row] = &[
     ("", "$[:2 :\t0 ]", Canonical("$[:2:0]")),
 ];
 
-#[test]
-fn canonical_segments(rt: HostRuntime) -> Result<(), Fail> {
-    gives_each(&rt, rt.alloc(), SEGMENTS)
-}
-
 /// Filters.
 const FILTERS: &[Row] = &[
     ("", "$[?!(@.a)]", Canonical("$[?!@['a']]")),
@@ -157,11 +152,6 @@ const FILTERS: &[Row] = &[
     ),
 ];
 
-#[test]
-fn canonical_filters(rt: HostRuntime) -> Result<(), Fail> {
-    gives_each(&rt, rt.alloc(), FILTERS)
-}
-
 /// Function expressions.
 const FUNCTIONS: &[Row] = &[
     (
@@ -197,6 +187,6 @@ const FUNCTIONS: &[Row] = &[
 ];
 
 #[test]
-fn canonical_functions(rt: HostRuntime) -> Result<(), Fail> {
-    gives_each(&rt, rt.alloc(), FUNCTIONS)
+fn canonical_texts(rt: HostRuntime) -> Result<(), Fail> {
+    gives_each(&rt, rt.alloc(), &[SEGMENTS, FILTERS, FUNCTIONS])
 }

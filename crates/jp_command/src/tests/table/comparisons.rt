@@ -81,5 +81,5 @@ const COMPARISONS: &[Row] = &[
 
 #[test]
 fn comparisons(rt: HostRuntime) -> Result<(), Fail> {
-    gives_each(&rt, rt.alloc(), COMPARISONS)
+    gives_each(&rt, rt.alloc(), &[COMPARISONS])
 }

@@ -159,16 +159,6 @@ const REFUSED: &[ProfileRow] = &[
 ];
 
 #[test]
-fn distinct_nodes(rt: HostRuntime) -> Result<(), Fail> {
-    gives_in_each_profile(&rt, rt.alloc(), DISTINCT)
-}
-
-#[test]
-fn distinct_as_a_test(rt: HostRuntime) -> Result<(), Fail> {
-    gives_in_each_profile(&rt, rt.alloc(), TESTS)
-}
-
-#[test]
-fn refused_calls_of_distinct(rt: HostRuntime) -> Result<(), Fail> {
-    gives_in_each_profile(&rt, rt.alloc(), REFUSED)
+fn distinct(rt: HostRuntime) -> Result<(), Fail> {
+    gives_in_each_profile(&rt, rt.alloc(), &[DISTINCT, TESTS, REFUSED])
 }

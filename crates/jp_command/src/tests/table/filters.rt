@@ -151,11 +151,6 @@ const FILTERS: &[Row] = &[
     ),
 ];
 
-#[test]
-fn filters(rt: HostRuntime) -> Result<(), Fail> {
-    gives_each(&rt, rt.alloc(), FILTERS)
-}
-
 /// Section 2.3.5: filters that are refused.
 const REFUSED_FILTERS: &[Row] = &[
     ("[]", "$.a[?@.b==1", Query("Syntax at 11")),
@@ -205,6 +200,6 @@ const REFUSED_FILTERS: &[Row] = &[
 ];
 
 #[test]
-fn refused_filters(rt: HostRuntime) -> Result<(), Fail> {
-    gives_each(&rt, rt.alloc(), REFUSED_FILTERS)
+fn filters(rt: HostRuntime) -> Result<(), Fail> {
+    gives_each(&rt, rt.alloc(), &[FILTERS, REFUSED_FILTERS])
 }

@@ -128,11 +128,6 @@ const FUNCTIONS: &[Row] = &[
     ),
 ];
 
-#[test]
-fn functions(rt: HostRuntime) -> Result<(), Fail> {
-    gives_each(&rt, rt.alloc(), FUNCTIONS)
-}
-
 /// Section 2.4.3: functions and arguments that are refused.
 const REFUSED_FUNCTIONS: &[Row] = &[
     ("[]", "$[?length(@.*) < 3]", Query("NotSingular at 10")),
@@ -182,6 +177,6 @@ const REFUSED_FUNCTIONS: &[Row] = &[
 ];
 
 #[test]
-fn refused_functions(rt: HostRuntime) -> Result<(), Fail> {
-    gives_each(&rt, rt.alloc(), REFUSED_FUNCTIONS)
+fn functions(rt: HostRuntime) -> Result<(), Fail> {
+    gives_each(&rt, rt.alloc(), &[FUNCTIONS, REFUSED_FUNCTIONS])
 }

@@ -49,5 +49,5 @@ const NAME_SELECTORS: &[Row] = &[
 
 #[test]
 fn names(rt: HostRuntime) -> Result<(), Fail> {
-    gives_each(&rt, rt.alloc(), NAME_SELECTORS)
+    gives_each(&rt, rt.alloc(), &[NAME_SELECTORS])
 }

@@ -21,5 +21,5 @@ const NULL: &[Row] = &[
 
 #[test]
 fn null(rt: HostRuntime) -> Result<(), Fail> {
-    gives_each(&rt, rt.alloc(), NULL)
+    gives_each(&rt, rt.alloc(), &[NULL])
 }

@@ -34,5 +34,5 @@ const NORMALIZED_PATHS: &[Row] = &[
 
 #[test]
 fn normalized_paths(rt: HostRuntime) -> Result<(), Fail> {
-    gives_each(&rt, rt.alloc(), NORMALIZED_PATHS)
+    gives_each(&rt, rt.alloc(), &[NORMALIZED_PATHS])
 }

@@ -27,15 +27,10 @@ const QUERIES: &[Row] = &[
     ("1", " $", Query("Syntax at 0")),
 ];
 
-#[test]
-fn queries(rt: HostRuntime) -> Result<(), Fail> {
-    gives_each(&rt, rt.alloc(), QUERIES)
-}
-
 /// Section 2.2.3: the root.
 const ROOT: &[Row] = &[(r#"{ "k" : "v" }"#, "$", Nodes(&[("$", r#"{"k":"v"}"#)]))];
 
 #[test]
-fn root(rt: HostRuntime) -> Result<(), Fail> {
-    gives_each(&rt, rt.alloc(), ROOT)
+fn queries(rt: HostRuntime) -> Result<(), Fail> {
+    gives_each(&rt, rt.alloc(), &[QUERIES, ROOT])
 }

@@ -88,11 +88,6 @@ const CHILD_SEGMENTS: &[Row] = &[
     ("1", "$.*a", Query("Syntax at 3")),
 ];
 
-#[test]
-fn child_segments(rt: HostRuntime) -> Result<(), Fail> {
-    gives_each(&rt, rt.alloc(), CHILD_SEGMENTS)
-}
-
 /// Section 2.5.2: descendant segments.
 const DESCENDANT_SEGMENTS: &[Row] = &[
     (
@@ -135,6 +130,6 @@ const DESCENDANT_SEGMENTS: &[Row] = &[
 ];
 
 #[test]
-fn descendant_segments(rt: HostRuntime) -> Result<(), Fail> {
-    gives_each(&rt, rt.alloc(), DESCENDANT_SEGMENTS)
+fn segments(rt: HostRuntime) -> Result<(), Fail> {
+    gives_each(&rt, rt.alloc(), &[CHILD_SEGMENTS, DESCENDANT_SEGMENTS])
 }

@@ -49,11 +49,6 @@ const WILDCARDS: &[Row] = &[
     ),
 ];
 
-#[test]
-fn wildcards(rt: HostRuntime) -> Result<(), Fail> {
-    gives_each(&rt, rt.alloc(), WILDCARDS)
-}
-
 /// Section 2.3.3: indexes.
 const INDEXES: &[Row] = &[
     (PAIR, "$[1]", Nodes(&[("$[1]", r#""b""#)])),
@@ -79,11 +74,6 @@ const INDEXES: &[Row] = &[
     ("1", "$..[*, -9007199254740992]", Query("IndexRange at 7")),
     ("1", "$[9007199254740992", Query("Syntax at 18")),
 ];
-
-#[test]
-fn indexes(rt: HostRuntime) -> Result<(), Fail> {
-    gives_each(&rt, rt.alloc(), INDEXES)
-}
 
 /// Section 2.3.4: slices.
 const SLICES: &[Row] = &[
@@ -169,6 +159,6 @@ const SLICES: &[Row] = &[
 ];
 
 #[test]
-fn slices(rt: HostRuntime) -> Result<(), Fail> {
-    gives_each(&rt, rt.alloc(), SLICES)
+fn selectors(rt: HostRuntime) -> Result<(), Fail> {
+    gives_each(&rt, rt.alloc(), &[WILDCARDS, INDEXES, SLICES])
 }
