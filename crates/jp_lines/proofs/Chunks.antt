@@ -1,6 +1,6 @@
 -- How far a run is in its input, as more bytes come.
 use Rattle.std.proofs.Common.{◌≡◌, inr, ℕ, ◌<◌, Bool, true, false, List, [], ◌∷◌, ◌++◌}
-use Rattle.std.proofs.Common.{length, Option, subst, refl, sym, ◌∙◌, ap}
+use Rattle.std.proofs.Common.{length, Option, subst, refl, sym, ◌∙◌, ap, arith}
 use Rattle.std.proofs.lemmas.List.Folds.{list_all-append}
 use Rattle.jp_tree.specs.Tree.{QueryTree}
 use Rattle.jp_command.specs.Limits.{document_limit}
@@ -27,7 +27,7 @@ module _ (options : Options) {W E : Type 0} (contents : W → Option (List ℕ))
   abbrev On : List ℕ → Progress → Progress → List ℕ → W → W → E → E → Type 0
   On = PassesOn options contents writes_failed reports reports_failed q
 
-  abbrev Stops : ℕ → List (List ℕ) → Type 0 → W → W → E → E → Stop → Type 0
+  abbrev Stops : ℕ → List (List ℕ) → Type 0 → ℕ → W → W → E → E → Stop → Type 0
   Stops = StopsAmong options contents writes_failed reports reports_failed q
 
   -- the lines that ended and the one that has begun
@@ -84,11 +84,11 @@ module _ (options : Options) {W E : Type 0} (contents : W → Option (List ℕ))
       → StopsPassing options contents writes_failed reports reports_failed q (taken ++ rest) a line
       o p u v (stop.Run fault.NoMemory)
   on-stops_keeping taken rest a b line o p u v on =
-      subst (λ all. Stops a.number all (false ≡ true) o p u v (stop.Run fault.NoMemory))
+      subst (λ all. Stops a.number all (false ≡ true) 0 o p u v (stop.Run fault.NoMemory))
       (sym (passes-lines options contents writes_failed reports reports_failed q taken rest _ _
       o p u v on.passes)) (
-        part-over options contents writes_failed reports reports_failed q on.passes.lines _ _ _
-            o p u v on.passes.over,
+        part-over options contents writes_failed reports reports_failed q on.passes.lines _ _ 0 _ _
+            o p u v (lines-some (on.next ++ rest)) (omega arith) on.passes.over,
         on.passes.over.goes.writes.works,
       )
 
@@ -100,21 +100,21 @@ module _ (options : Options) {W E : Type 0} (contents : W → Option (List ℕ))
       → StopsPassing options contents writes_failed reports reports_failed q
       (taken ++ newline ∷ rest) a line o r u w why
   on-stops_ending taken rest a b line o p r u v w why on stops =
-      subst (λ all. Stops a.number all (false ≡ true) o r u w why)
+      subst (λ all. Stops a.number all (false ≡ true) 0 o r u w why)
       (sym (passes-lines options contents writes_failed reports reports_failed q taken
       (newline ∷ rest) _ _ o p u v on.passes
       ∙ ap (λ l. on.passes.lines ++ l) (lines-in_line on.next rest on.keeps.0)))
-      (stops-after options contents writes_failed reports reports_failed q on.passes.lines _ _ _ _
-      o p r u v w why on.passes.over
+      (stops-after options contents writes_failed reports reports_failed q on.passes.lines _ _ 0 0
+      _ _ o p r u v w why (omega arith) on.passes.over
       (stops-longer options contents writes_failed reports reports_failed q b.number
-      (on.next ∷ []) (lines_of_input rest) _ _ p r v w why (lines-some rest) stops))
+      (on.next ∷ []) (lines_of_input rest) _ _ 0 p r v w why (lines-some rest) stops))
 
   -- the line has more bytes than a document may have
   pub on-stops_growing : (taken : List ℕ) (a b : Progress) (line : List ℕ) (o p : W) (u v : E)
       → On taken a b line o p u v → document_limit < length b.line.items
       → options.keep_going ≡ false
       → GoesToRefusal options contents writes_failed reports reports_failed q a.number
-      (lines_of_input (line ++ taken)) (false ≡ true) (refused_for b.number TooLarge) o p u v
+      (lines_of_input (line ++ taken)) (false ≡ true) 0 (refused_for b.number TooLarge) o p u v
   on-stops_growing taken a b line o p u v on many stops = record {
     lines = on.passes.lines;
     line = on.next;
@@ -128,5 +128,6 @@ module _ (options : Options) {W E : Type 0} (contents : W → Option (List ℕ))
         on.passes.over.number
         (too_large (kept-many on.next (rw on.keeps.1 at many)));
     complete = inr (inr refl);
+    answered = omega arith;
     stops = stops;
   }

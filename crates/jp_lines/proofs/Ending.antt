@@ -1,26 +1,29 @@
 -- How a run ends, by what came and how far it was passed.
-use Rattle.std.proofs.Common.{◌≡◌, inr, ℕ, ◌<◌, ◌≤◌, Bool, true, false, List, [], ◌∷◌, ◌++◌}
+use Rattle.std.proofs.Common.{◌≡◌, ap, arith, ℕ, ◌<◌, ◌≤◌, Bool, true, false, List, [], ◌∷◌, ◌++◌}
 use Rattle.std.proofs.Common.{length, take, Option, Some, None, Ok, Err, Result, subst, refl, sym, ◌∙◌}
 use Rattle.std.proofs.KnownBytes.{Consumes-kept, Consumes-trans}
-use Rattle.std.proofs.lemmas.List.{append-nil}
+use Rattle.std.proofs.lemmas.List.{append-nil, length-take-le}
 use Rattle.std.specs.Result.{IsErrAnd}
 use Rattle.std.specs.Io.KnownBytes.{Consumes, IsAtEnd, Keeps as KeepsBytes}
 use Rattle.jp_check.specs.declared.profile.Profile.{Profile}
 use Rattle.jp_tree.specs.Tree.{QueryTree}
-use Rattle.jp_command.specs.Reads.{none}
+use Rattle.jp_command.specs.Limits.{chunk_size, document_limit}
+use Rattle.jp_command.specs.Reads.{none, one_more}
 use Rattle.jp_command.specs.Run.{IsAsked}
 use Rattle.jp_command.specs.declared.fault.Fault.TheVariants as fault
-use Rattle.jp_command.proofs.Streams.{come-more}
 use Rattle.jp_lines.specs.Lines.{lines_of_input}
-use Rattle.jp_lines.specs.Reads.{ReadsToFailure, ReadsSome, ReadsToEnd}
-use Rattle.jp_lines.specs.Run.{Goes, RunsLines, StopsAmong}
+use Rattle.jp_lines.specs.Reads.{ReadsMore, ReadsSome, ReadsToEnd, ReadsToFailure, by_one_more}
+use Rattle.jp_lines.specs.Reads.{so_far, to_end}
+use Rattle.jp_lines.specs.Run.{Goes, StopsAmong, StopsAtLine}
+use Rattle.jp_lines.specs.Private.Asking.{RunsAsked}
 use Rattle.jp_lines.specs.Private.Passing.{GoesThrough, Passes, Standing, is_in_line}
 use Rattle.jp_lines.specs.Private.Treating.{StopsEnding}
 use Rattle.jp_lines.specs.declared.options.Options.{Options}
 use Rattle.jp_lines.specs.declared.stop.Stop.{Stop}
 use Rattle.jp_lines.specs.declared.stop.Stop.TheVariants as stop
 use Rattle.jp_lines.proofs.Chunks.{passes-all}
-use Rattle.jp_lines.proofs.Going.{over-more, part-over, passes-lines, stops-after, stops-whole}
+use Rattle.jp_lines.proofs.Going.{over-more, part-over, passes-lines, passes-none, stops-after}
+use Rattle.jp_lines.proofs.Going.{stops-whole}
 
 -- what holds of a failure with this error holds of one whose error is this
 pub err-so : {T E : Type 0} (r : Result T E) (e : E) (P : Result T E → Type 0)
@@ -42,17 +45,31 @@ module _ {R : Type 0} (remaining : R → Option (List ℕ)) (has_failed : R → 
       go None = tt
       go (Some xs) = refl
 
-  -- one read more that gave bytes
+  -- one read more that gave bytes, at most a chunk
   pub reads-more : (i j k : R) (bytes buffer : List ℕ) (n : ℕ)
       → ReadsSome remaining has_failed read_gives i j bytes
       → Consumes (remaining j) (remaining k) (take n buffer) → has_failed k ≡ has_failed j
       → read_gives j (Some (take n buffer)) k → n ≤ length buffer → 0 < n
-      → ReadsSome remaining has_failed read_gives i k (bytes ++ take n buffer)
-  reads-more i j k bytes buffer n reads came works gives within some = record {
+      → length buffer ≡ chunk_size
+      → ReadsMore remaining has_failed read_gives i k bytes (take n buffer)
+  reads-more i j k bytes buffer n reads came works gives within some chunk = record {
     came = Consumes-trans _ _ _ _ _ reads.came came;
     works = works ∙ reads.works;
-    calls = come-more read_gives i j k bytes (bytes ++ take n buffer) buffer n reads.calls gives
-        within some refl;
+    between = j;
+    calls = reads.calls;
+    last = gives;
+    some = rw (length-take-le n buffer within) some;
+    small = rw (length-take-le n buffer within) (omega (arith, within, chunk));
+  }
+
+  -- and so these came
+  pub reads-some : (i k : R) (before rest : List ℕ)
+      → ReadsMore remaining has_failed read_gives i k before rest
+      → ReadsSome remaining has_failed read_gives i k (before ++ rest)
+  reads-some i k before rest more = record {
+    came = more.came;
+    works = more.works;
+    calls = one_more more.between k before rest (before ++ rest) more.calls more.last more.some refl;
   }
 
   -- one that gave none
@@ -92,12 +109,16 @@ module _ (profile : Profile) (options : Options) {R W E : Type 0}
   abbrev Pass : List ℕ → Standing → Standing → W → W → E → E → Type 0
   Pass = Passes options contents writes_failed reports reports_failed q
 
-  abbrev Stops : ℕ → List (List ℕ) → Type 0 → W → W → E → E → Stop → Type 0
+  abbrev Stops : ℕ → List (List ℕ) → Type 0 → ℕ → W → W → E → E → Stop → Type 0
   Stops = StopsAmong options contents writes_failed reports reports_failed q
 
   abbrev Runs : R → R → W → W → E → E → Result Bool Stop → Type 0
-  Runs = RunsLines profile options remaining has_failed read_gives contents writes_failed reports
+  Runs = RunsAsked profile options remaining has_failed read_gives contents writes_failed reports
       reports_failed text
+
+  -- the line that has begun is not too large for a run that does not go on
+  abbrev Few : List ℕ → Type 0
+  Few line = options.keep_going ≡ false → length line ≤ document_limit
 
   -- at the end of the input
   pub runs-end : (i j : R) (bytes : List ℕ) (s t : Standing) (o p r : W) (u v w : E)
@@ -126,8 +147,8 @@ module _ (profile : Profile) (options : Options) {R W E : Type 0}
   -- where a read fails
   pub runs-fail : (i j : R) (bytes : List ℕ) (s : Standing) (o p : W) (u v : E)
       → ReadsToFailure remaining has_failed read_gives i j bytes → Pass bytes at_start s o p u v
-      → is_in_line s.line ≡ true → Runs i j o p u v (Err (stop.Run fault.Read))
-  runs-fail i j bytes s o p u v reads passes in_line = record {
+      → is_in_line s.line ≡ true → Few s.line → Runs i j o p u v (Err (stop.Run fault.Read))
+  runs-fail i j bytes s o p u v reads passes in_line few = record {
     q = q;
     asked = asked;
     bytes = bytes;
@@ -136,119 +157,110 @@ module _ (profile : Profile) (options : Options) {R W E : Type 0}
     last = s.line;
     split = passes-all options contents writes_failed reports reports_failed q bytes at_start s
         o p u v passes in_line;
+    few = few;
     outcomes = passes.over.outcomes;
     goes = passes.over.goes;
   }
 
-  -- why a run stopped among the lines of what came
-  pub runs-stop : (i j : R) (bytes : List ℕ) (o p : W) (u v : E) (why : Stop)
-      → ReadsSome remaining has_failed read_gives i j bytes
-      → Stops 1 (lines_of_input bytes) (false ≡ true) o p u v why
+  -- a run that stopped at a line said so
+  runs-stop : (i j : R) (o p : W) (u v : E) (why : Stop)
+      → StopsAtLine profile options remaining has_failed read_gives contents writes_failed reports
+      reports_failed text i j o p u v why
       → Runs i j o p u v (Err why)
-  runs-stop i j bytes o p u v (stop.Line r) reads stops = record {
-    q = q;
-    asked = asked;
-    bytes = bytes;
-    at_end = false;
-    reads = reads;
-    stops = stops;
-  }
-  runs-stop i j bytes o p u v (stop.Run fault.NoMemory) reads stops = inr (record {
-    q = q;
-    asked = asked;
-    bytes = bytes;
-    at_end = false;
-    reads = reads;
-    stops = stops;
-  })
-  runs-stop i j bytes o p u v (stop.Run fault.Write) reads stops = record {
-    q = q;
-    asked = asked;
-    bytes = bytes;
-    at_end = false;
-    reads = reads;
-    stops = stops;
-  }
-  runs-stop i j bytes o p u v (stop.Run (fault.Query r)) reads stops = absurd stops
-  runs-stop i j bytes o p u v (stop.Run (fault.Document f)) reads stops = absurd stops
-  runs-stop i j bytes o p u v (stop.Run fault.DocumentTooLarge) reads stops = absurd stops
-  runs-stop i j bytes o p u v (stop.Run fault.Read) reads stops = absurd stops
-
-  -- the same at the end of the input
-  pub runs-stop_at_end : (i j : R) (bytes : List ℕ) (o p : W) (u v : E) (why : Stop)
-      → ReadsToEnd remaining has_failed read_gives i j bytes
-      → Stops 1 (lines_of_input bytes) (true ≡ true) o p u v why
-      → Runs i j o p u v (Err why)
-  runs-stop_at_end i j bytes o p u v (stop.Line r) reads stops = record {
-    q = q;
-    asked = asked;
-    bytes = bytes;
-    at_end = true;
-    reads = reads;
-    stops = stops;
-  }
-  runs-stop_at_end i j bytes o p u v (stop.Run fault.NoMemory) reads stops = inr (record {
-    q = q;
-    asked = asked;
-    bytes = bytes;
-    at_end = true;
-    reads = reads;
-    stops = stops;
-  })
-  runs-stop_at_end i j bytes o p u v (stop.Run fault.Write) reads stops = record {
-    q = q;
-    asked = asked;
-    bytes = bytes;
-    at_end = true;
-    reads = reads;
-    stops = stops;
-  }
-  runs-stop_at_end i j bytes o p u v (stop.Run (fault.Query r)) reads stops = absurd stops
-  runs-stop_at_end i j bytes o p u v (stop.Run (fault.Document f)) reads stops = absurd stops
-  runs-stop_at_end i j bytes o p u v (stop.Run fault.DocumentTooLarge) reads stops = absurd stops
-  runs-stop_at_end i j bytes o p u v (stop.Run fault.Read) reads stops = absurd stops
+  runs-stop i j o p u v (stop.Line r) stops = stops
+  runs-stop i j o p u v (stop.Run fault.NoMemory) stops = stops
+  runs-stop i j o p u v (stop.Run fault.Write) stops = stops
+  runs-stop i j o p u v (stop.Run (fault.Query r)) stops = absurd stops.stops
+  runs-stop i j o p u v (stop.Run (fault.Document f)) stops = absurd stops.stops
+  runs-stop i j o p u v (stop.Run fault.DocumentTooLarge) stops = absurd stops.stops
+  runs-stop i j o p u v (stop.Run fault.Read) stops = absurd stops.stops
 
   -- it stopped in the bytes that came last
   pub runs-stop_in : (i j : R) (bytes more : List ℕ) (s : Standing) (o p r : W) (u v w : E)
-      (why : Stop) → ReadsSome remaining has_failed read_gives i j (bytes ++ more)
-      → Pass bytes at_start s o p u v
-      → Stops s.number (lines_of_input (s.line ++ more)) (false ≡ true) p r v w why
+      (why : Stop) → ReadsMore remaining has_failed read_gives i j bytes more
+      → Pass bytes at_start s o p u v → is_in_line s.line ≡ true → Few s.line
+      → Stops s.number (lines_of_input (s.line ++ more)) (false ≡ true) 0 p r v w why
       → Runs i j o r u w (Err why)
-  runs-stop_in i j bytes more s o p r u v w why reads passes stops =
-      runs-stop i j (bytes ++ more) o r u w why reads
-      (subst (λ all. Stops 1 all (false ≡ true) o r u w why)
-      (sym (passes-lines options contents writes_failed reports reports_failed q bytes more at_start
-      s o p u v passes))
-      (stops-after options contents writes_failed reports reports_failed q passes.lines _ _ at_start
-      s o p r u v w why passes.over stops))
+  runs-stop_in i j bytes more s o p r u v w why reads passes in_line few stops =
+      runs-stop i j o r u w why (record {
+        q = q;
+        asked = asked;
+        before = bytes;
+        rest = more;
+        at_end = false;
+        reads = by_one_more reads;
+        ended = passes.lines;
+        begun = s.line;
+        split = passes-all options contents writes_failed reports reports_failed q bytes at_start s
+            o p u v passes in_line;
+        few = few;
+        stops = subst (λ all. Stops 1 all (false ≡ true) (length passes.lines) o r u w why)
+            (sym (passes-lines options contents writes_failed reports reports_failed q bytes more
+            at_start s o p u v passes))
+            (stops-after options contents writes_failed reports reports_failed q passes.lines _ _ 0
+            _ at_start s o p r u v w why (omega arith) passes.over stops);
+      })
 
   -- it stopped at the last line
   pub runs-stop_last : (i j : R) (bytes : List ℕ) (s : Standing) (o p r : W) (u v w : E)
       (why : Stop) → ReadsToEnd remaining has_failed read_gives i j bytes
-      → Pass bytes at_start s o p u v → is_in_line s.line ≡ true
+      → Pass bytes at_start s o p u v → is_in_line s.line ≡ true → Few s.line
       → StopsEnding options contents writes_failed reports reports_failed q s.number s.line
       p r v w why
       → Runs i j o r u w (Err why)
-  runs-stop_last i j bytes s o p r u v w why reads passes in_line stops =
-      runs-stop_at_end i j bytes o r u w why reads
-      (subst (λ all. Stops 1 all (true ≡ true) o r u w why)
-      (sym (passes-all options contents writes_failed reports reports_failed q bytes at_start s
-      o p u v passes in_line))
-      (stops-after options contents writes_failed reports reports_failed q passes.lines _ _ at_start
-      s o p r u v w why passes.over
-      (stops-whole options contents writes_failed reports reports_failed q s.number (s.line ∷ [])
-      _ _ p r v w why refl stops)))
+  runs-stop_last i j bytes s o p r u v w why reads passes in_line few stops =
+      let lines = passes-all options contents writes_failed reports reports_failed q bytes at_start s
+      o p u v passes in_line in
+      runs-stop i j o r u w why (record {
+        q = q;
+        asked = asked;
+        before = bytes;
+        rest = [];
+        at_end = true;
+        reads = to_end refl reads;
+        ended = passes.lines;
+        begun = s.line;
+        split = lines;
+        few = few;
+        stops = subst (λ all. Stops 1 all (true ≡ true) (length passes.lines) o r u w why)
+            (sym (ap lines_of_input (append-nil bytes) ∙ lines))
+            (stops-after options contents writes_failed reports reports_failed q passes.lines _ _ 0
+            _ at_start s o p r u v w why (omega arith) passes.over
+            (stops-whole options contents writes_failed reports reports_failed q s.number
+            (s.line ∷ []) _ _ 0 p r v w why refl stops));
+      })
 
-  -- there are no numbers for more reads
-  pub runs-stop_counting : (i j : R) (bytes : List ℕ) (s : Standing) (o p : W) (u v : E)
+  -- it stopped where all that came was gone over: there is no memory to read, or there are no
+  -- numbers for more reads
+  pub runs-stop_reading : (i j : R) (bytes : List ℕ) (s : Standing) (o p : W) (u v : E)
       → ReadsSome remaining has_failed read_gives i j bytes → Pass bytes at_start s o p u v
-      → is_in_line s.line ≡ true → Runs i j o p u v (Err (stop.Run fault.NoMemory))
-  runs-stop_counting i j bytes s o p u v reads passes in_line =
-      runs-stop i j bytes o p u v (stop.Run fault.NoMemory) reads
-      (subst (λ all. Stops 1 all (false ≡ true) o p u v (stop.Run fault.NoMemory))
-      (sym (passes-all options contents writes_failed reports reports_failed q bytes at_start s
-      o p u v passes in_line)) (
-        part-over options contents writes_failed reports reports_failed q passes.lines _ at_start s
-            o p u v passes.over,
-        passes.over.goes.writes.works,
-      ))
+      → is_in_line s.line ≡ true → Few s.line → Runs i j o p u v (Err (stop.Run fault.NoMemory))
+  runs-stop_reading i j bytes s o p u v reads passes in_line few =
+      let lines = passes-all options contents writes_failed reports reports_failed q bytes at_start s
+      o p u v passes in_line in
+      record {
+        q = q;
+        asked = asked;
+        before = bytes;
+        rest = [];
+        at_end = false;
+        reads = so_far refl reads;
+        ended = passes.lines;
+        begun = s.line;
+        split = lines;
+        few = few;
+        stops = subst
+            (λ ls. Stops 1 ls (false ≡ true) (length passes.lines) o p u v (stop.Run fault.NoMemory))
+            (sym (ap lines_of_input (append-nil bytes) ∙ lines)) (
+              part-over options contents writes_failed reports reports_failed q passes.lines _ _ _
+                  at_start s o p u v (λ is. cc) (omega arith) passes.over,
+              passes.over.goes.writes.works,
+            );
+      }
+
+  -- the same before anything was read
+  pub runs-stop_unread : (i : R) (o : W) (u : E) → Runs i i o o u u (Err (stop.Run fault.NoMemory))
+  runs-stop_unread i o u =
+      runs-stop_reading i i [] at_start o o u u (reads-none remaining has_failed read_gives i)
+      (passes-none options contents writes_failed reports reports_failed q at_start o u) refl
+      (λ is. omega arith)

@@ -1,38 +1,33 @@
 -- Lines gone over after those before.
-use Rattle.std.proofs.Common.{◌≡◌, ◌≢◌, ◌⊎◌, inl, inr, ℕ, ◌+◌, Bool, true, false, ◌||◌, List, []}
+use Rattle.std.proofs.Common.{◌≡◌, ◌≢◌, ◌⊎◌, inl, inr, ℕ, ◌+◌, ◌≤◌, Bool, true, false, ◌||◌, List, []}
 use Rattle.std.proofs.Common.{◌∷◌, ◌++◌, length, Option, subst, refl, sym, ◌∙◌, ap, append_assoc}
 use Rattle.std.proofs.Common.{arith}
+use Rattle.std.proofs.KnownBytes.{Keeps-refl}
 use Rattle.std.proofs.lemmas.Grind.{flat_map-append}
 use Rattle.std.proofs.lemmas.List.{append-nil, length-append}
 use Rattle.std.proofs.lemmas.List.Folds.{list_all-append, list_any-append}
 use Rattle.std.proofs.Math.Bool.{or_assoc, or-false}
+use Rattle.std.specs.Io.KnownBytes.{Keeps}
 use Rattle.jp_tree.specs.Tree.{QueryTree}
-use Rattle.jp_command.specs.Output.{AppendsPrefix, WritesAll}
+use Rattle.jp_command.specs.Output.{WritesAll}
 use Rattle.jp_command.specs.declared.fault.Fault.TheVariants.{Query, Document, DocumentTooLarge}
 use Rattle.jp_command.specs.declared.fault.Fault.TheVariants.{NoMemory, Read, Write}
-use Rattle.jp_command.proofs.Streams.{prefix-whole}
 use Rattle.jp_lines.specs.Lines.{lines_of_input, newline}
-use Rattle.jp_lines.specs.Outcome.{LineOutcome, Refused, ComesTo, ComeTo, none, written_of, told_of}
+use Rattle.jp_lines.specs.Outcome.{LineOutcome, Refused, ComesTo, none, written_of, told_of}
 use Rattle.jp_lines.specs.Outcome.{is_refused, some_refused}
-use Rattle.jp_lines.specs.Run.{Goes, GoesInPart, StopsAmong}
-use Rattle.jp_lines.specs.Told.{Tells, TellsPrefix}
+use Rattle.jp_lines.specs.Run.{Goes, GoesInPart, StopsAmong, WritesInPart}
+use Rattle.jp_lines.specs.Told.{Tells}
 use Rattle.jp_lines.specs.Private.Passing.{GoesThrough, Passes, Standing, ended, is_in_line}
 use Rattle.jp_lines.specs.declared.options.Options.{Options}
 use Rattle.jp_lines.specs.declared.stop.Stop.{Stop}
 use Rattle.jp_lines.specs.declared.stop.Stop.TheVariants.{Run, Line}
-use Rattle.jp_lines.proofs.Outcomes.{come-append}
+use Rattle.jp_lines.proofs.Outcomes.{come-append, none_of}
 use Rattle.jp_lines.proofs.Splitting.{lines-ended}
 use Rattle.jp_lines.proofs.ToldLemmas.{writes-none, writes-more, tells-none, tells-more}
-use Rattle.jp_lines.proofs.ToldLemmas.{prefix-after}
-use Rattle.jp_lines.proofs.ToldLemmas.{tells-prefix-whole, tells-prefix-after}
 
 one_of : (a b : Bool) → (a || b) ≡ true → (a ≡ true) ⊎ (b ≡ true)
 one_of true b is = inl refl
 one_of false b is = inr is
-
-none_of : (a b : Bool) → (a || b) ≡ false → (a ≡ false) × (b ≡ false)
-none_of true b is = cc
-none_of false b is = (refl, is)
 
 neither : (a b : Bool) → a ≡ false → b ≡ false → (a || b) ≡ false
 neither true b first second = cc
@@ -59,7 +54,7 @@ module _ (options : Options) {W E : Type 0} (contents : W → Option (List ℕ))
   abbrev Pass : List ℕ → Standing → Standing → W → W → E → E → Type 0
   Pass = Passes options contents writes_failed reports reports_failed q
 
-  abbrev Stops : ℕ → List (List ℕ) → Type 0 → W → W → E → E → Stop → Type 0
+  abbrev Stops : ℕ → List (List ℕ) → Type 0 → ℕ → W → W → E → E → Stop → Type 0
   Stops = StopsAmong options contents writes_failed reports reports_failed q
 
   pub goes-none : (n : ℕ) (o : W) (u : E) → Go n [] [] o o u u
@@ -169,57 +164,106 @@ module _ (options : Options) {W E : Type 0} (contents : W → Option (List ℕ))
       ∙ append_assoc (ended passes.lines) t.line rest)
       ∙ lines-ended passes.lines (t.line ++ rest) passes.whole
 
-  abbrev Part : ℕ → List (List ℕ) → W → W → E → E → Type 0
+  abbrev Part : ℕ → List (List ℕ) → Type 0 → ℕ → W → W → E → E → Type 0
   Part = GoesInPart options contents writes_failed reports reports_failed q
 
+  abbrev Next : ℕ → List (List ℕ) → Type 0 → W → W → Type 0
+  Next n rest A p r = Keeps (contents p) (contents r)
+      ⊎ WritesInPart options contents writes_failed reports reports_failed q n rest A p r
+
   -- what is gone over is so in part
-  pub part-over : (ls more : List (List ℕ)) (s t : Standing) (o p : W) (u v : E)
-      → Over ls s t o p u v → Part s.number (ls ++ more) o p u v
-  part-over ls more s t o p u v over = record {
+  pub part-over : (ls more : List (List ℕ)) (A : Type 0) (k : ℕ) (s t : Standing) (o p : W) (u v : E)
+      → more ≢ [] → k ≤ length ls → Over ls s t o p u v → Part s.number (ls ++ more) A k o p u v
+  part-over ls more A k s t o p u v some among over = record {
     lines = ls;
     rest = more;
     front = refl;
+    complete = inl some;
     outcomes = over.outcomes;
-    come = over.goes.come;
-    writes = prefix-whole _ _ _ over.goes.writes.written;
-    tells = tells-prefix-whole reports reports_failed u v _ over.goes.tells;
+    between = p;
+    goes = over.goes;
+    answered = among;
+    next = inl (Keeps-refl (contents p));
   }
 
-  part-after : (ls all : List (List ℕ)) (s t : Standing) (o p r : W) (u v w : E)
-      → Over ls s t o p u v → Part t.number all p r v w → Part s.number (ls ++ all) o r u w
-  part-after ls all s t o p r u v w over part = record {
+  part-after : (ls all : List (List ℕ)) (A : Type 0) (j k : ℕ) (s t : Standing) (o p r : W)
+      (u v w : E) → k ≤ length ls → Over ls s t o p u v → Part t.number all A j p r v w
+      → Part s.number (ls ++ all) A k o r u w
+  part-after ls all A j k s t o p r u v w among over part = record {
     lines = ls ++ part.lines;
     rest = part.rest;
     front = ap (λ l. ls ++ l) part.front ∙ sym (append_assoc ls part.lines part.rest);
+    complete = part.complete;
     outcomes = over.outcomes ++ part.outcomes;
-    come = come-append options q s.number ls part.lines over.outcomes part.outcomes
-        over.goes.come
-        (subst (λ n. ComeTo options q n part.lines part.outcomes) over.number part.come);
-    writes = subst (AppendsPrefix (contents o) (contents r))
-        (sym (flat_map-append written_of over.outcomes part.outcomes))
-        (prefix-after _ _ _ _ _ over.goes.writes.written part.writes);
-    tells = subst (TellsPrefix reports reports_failed u w)
-        (sym (flat_map-append told_of over.outcomes part.outcomes))
-        (tells-prefix-after reports reports_failed u v w _ _ over.goes.tells part.tells);
+    between = part.between;
+    goes = goes-more s.number ls part.lines over.outcomes part.outcomes o p part.between u v w
+        over.goes
+        (subst (λ n. Go n part.lines part.outcomes p part.between v w) over.number part.goes);
+    answered = omega (arith, among, length-append ls part.lines);
+    next = subst (λ n. Next n part.rest A part.between r)
+        (omega (arith, over.number, length-append ls part.lines)) part.next;
   }
 
-  part-longer : (n : ℕ) (all more : List (List ℕ)) (o p : W) (u v : E)
-      → Part n all o p u v → Part n (all ++ more) o p u v
-  part-longer n all more o p u v part = record {
+  part-longer : (n : ℕ) (all more : List (List ℕ)) (A B : Type 0) (k : ℕ) (o p : W) (u v : E)
+      → more ≢ [] → Part n all A k o p u v → Part n (all ++ more) B k o p u v
+  part-longer n all more A B k o p u v some part = record {
     lines = part.lines;
     rest = part.rest ++ more;
     front = ap (λ l. l ++ more) part.front ∙ append_assoc part.lines part.rest more;
+    complete = inl (append-some part.rest more some);
     outcomes = part.outcomes;
-    come = part.come;
-    writes = part.writes;
-    tells = part.tells;
+    between = part.between;
+    goes = part.goes;
+    answered = part.answered;
+    next = longer part.next;
   }
+    where
+      longer : Next (n + length part.lines) part.rest A part.between p
+          → Next (n + length part.lines) (part.rest ++ more) B part.between p
+      longer (inl kept) = inl kept
+      longer (inr next) = inr (record {
+        line = next.line;
+        rest = next.rest ++ more;
+        first = ap (λ l. l ++ more) next.first;
+        complete = inl (append-some next.rest more some);
+        output = next.output;
+        comes = next.comes;
+        writes = next.writes;
+      })
 
-  -- why a run stops among these lines is why it stops among them and those before
-  pub stops-after : (ls all : List (List ℕ)) (A : Type 0) (s t : Standing) (o p r : W) (u v w : E)
-      (stop : Stop) → Over ls s t o p u v → Stops t.number all A p r v w stop
-      → Stops s.number (ls ++ all) A o r u w stop
-  stops-after ls all A s t o p r u v w (Line line) over stops = record {
+  part-whole : (n : ℕ) (all : List (List ℕ)) (A B : Type 0) (k : ℕ) (o p : W) (u v : E)
+      → B → Part n all A k o p u v → Part n all B k o p u v
+  part-whole n all A B k o p u v whole part = record {
+    lines = part.lines;
+    rest = part.rest;
+    front = part.front;
+    complete = inr whole;
+    outcomes = part.outcomes;
+    between = part.between;
+    goes = part.goes;
+    answered = part.answered;
+    next = known part.next;
+  }
+    where
+      known : Next (n + length part.lines) part.rest A part.between p
+          → Next (n + length part.lines) part.rest B part.between p
+      known (inl kept) = inl kept
+      known (inr next) = inr (record {
+        line = next.line;
+        rest = next.rest;
+        first = next.first;
+        complete = inr whole;
+        output = next.output;
+        comes = next.comes;
+        writes = next.writes;
+      })
+
+  -- why a run stops among these lines is why it stops among them and those before, of which so many
+  -- had ended before the last read
+  pub stops-after : (ls all : List (List ℕ)) (A : Type 0) (j k : ℕ) (s t : Standing) (o p r : W)
+      (u v w : E) (stop : Stop) → k ≤ length ls → Over ls s t o p u v
+      → Stops t.number all A j p r v w stop → Stops s.number (ls ++ all) A k o r u w stop
+  stops-after ls all A j k s t o p r u v w (Line line) among over stops = record {
     lines = ls ++ stops.lines;
     line = stops.line;
     rest = stops.rest;
@@ -232,21 +276,23 @@ module _ (options : Options) {W E : Type 0} (contents : W → Option (List ℕ))
     comes = subst (λ n. ComesTo options q n stops.line (Refused line))
         (omega (arith, over.number, length-append ls stops.lines)) stops.comes;
     complete = stops.complete;
+    answered = omega (arith, among, length-append ls stops.lines);
     stops = stops.stops;
   }
-  stops-after ls all A s t o p r u v w (Run NoMemory) over stops =
-      (part-after ls all s t o p r u v w over stops.0, stops.1 ∙ over.goes.writes.works)
-  stops-after ls all A s t o p r u v w (Run Write) over stops =
-      (part-after ls all s t o p r u v w over stops.0, stops.1)
-  stops-after ls all A s t o p r u v w (Run (Query f)) over stops = absurd stops
-  stops-after ls all A s t o p r u v w (Run (Document f)) over stops = absurd stops
-  stops-after ls all A s t o p r u v w (Run DocumentTooLarge) over stops = absurd stops
-  stops-after ls all A s t o p r u v w (Run Read) over stops = absurd stops
+  stops-after ls all A j k s t o p r u v w (Run NoMemory) among over stops =
+      (part-after ls all A j k s t o p r u v w among over stops.0, stops.1 ∙ over.goes.writes.works)
+  stops-after ls all A j k s t o p r u v w (Run Write) among over stops =
+      (part-after ls all A j k s t o p r u v w among over stops.0, stops.1)
+  stops-after ls all A j k s t o p r u v w (Run (Query f)) among over stops = absurd stops
+  stops-after ls all A j k s t o p r u v w (Run (Document f)) among over stops = absurd stops
+  stops-after ls all A j k s t o p r u v w (Run DocumentTooLarge) among over stops = absurd stops
+  stops-after ls all A j k s t o p r u v w (Run Read) among over stops = absurd stops
 
   -- and why it stops among them where others follow
-  pub stops-longer : (n : ℕ) (all more : List (List ℕ)) (A B : Type 0) (o p : W) (u v : E)
-      (stop : Stop) → more ≢ [] → Stops n all A o p u v stop → Stops n (all ++ more) B o p u v stop
-  stops-longer n all more A B o p u v (Line line) some stops = record {
+  pub stops-longer : (n : ℕ) (all more : List (List ℕ)) (A B : Type 0) (k : ℕ) (o p : W) (u v : E)
+      (stop : Stop) → more ≢ [] → Stops n all A k o p u v stop
+      → Stops n (all ++ more) B k o p u v stop
+  stops-longer n all more A B k o p u v (Line line) some stops = record {
     lines = stops.lines;
     line = stops.line;
     rest = stops.rest ++ more;
@@ -256,21 +302,22 @@ module _ (options : Options) {W E : Type 0} (contents : W → Option (List ℕ))
     unrefused = stops.unrefused;
     comes = stops.comes;
     complete = inl (append-some stops.rest more some);
+    answered = stops.answered;
     stops = stops.stops;
   }
-  stops-longer n all more A B o p u v (Run NoMemory) some stops =
-      (part-longer n all more o p u v stops.0, stops.1)
-  stops-longer n all more A B o p u v (Run Write) some stops =
-      (part-longer n all more o p u v stops.0, stops.1)
-  stops-longer n all more A B o p u v (Run (Query f)) some stops = absurd stops
-  stops-longer n all more A B o p u v (Run (Document f)) some stops = absurd stops
-  stops-longer n all more A B o p u v (Run DocumentTooLarge) some stops = absurd stops
-  stops-longer n all more A B o p u v (Run Read) some stops = absurd stops
+  stops-longer n all more A B k o p u v (Run NoMemory) some stops =
+      (part-longer n all more A B k o p u v some stops.0, stops.1)
+  stops-longer n all more A B k o p u v (Run Write) some stops =
+      (part-longer n all more A B k o p u v some stops.0, stops.1)
+  stops-longer n all more A B k o p u v (Run (Query f)) some stops = absurd stops
+  stops-longer n all more A B k o p u v (Run (Document f)) some stops = absurd stops
+  stops-longer n all more A B k o p u v (Run DocumentTooLarge) some stops = absurd stops
+  stops-longer n all more A B k o p u v (Run Read) some stops = absurd stops
 
   -- and where the last line is known to be whole
-  pub stops-whole : (n : ℕ) (all : List (List ℕ)) (A B : Type 0) (o p : W) (u v : E)
-      (stop : Stop) → B → Stops n all A o p u v stop → Stops n all B o p u v stop
-  stops-whole n all A B o p u v (Line line) whole stops = record {
+  pub stops-whole : (n : ℕ) (all : List (List ℕ)) (A B : Type 0) (k : ℕ) (o p : W) (u v : E)
+      (stop : Stop) → B → Stops n all A k o p u v stop → Stops n all B k o p u v stop
+  stops-whole n all A B k o p u v (Line line) whole stops = record {
     lines = stops.lines;
     line = stops.line;
     rest = stops.rest;
@@ -280,11 +327,14 @@ module _ (options : Options) {W E : Type 0} (contents : W → Option (List ℕ))
     unrefused = stops.unrefused;
     comes = stops.comes;
     complete = inr (inl whole);
+    answered = stops.answered;
     stops = stops.stops;
   }
-  stops-whole n all A B o p u v (Run NoMemory) whole stops = stops
-  stops-whole n all A B o p u v (Run Write) whole stops = stops
-  stops-whole n all A B o p u v (Run (Query f)) whole stops = absurd stops
-  stops-whole n all A B o p u v (Run (Document f)) whole stops = absurd stops
-  stops-whole n all A B o p u v (Run DocumentTooLarge) whole stops = absurd stops
-  stops-whole n all A B o p u v (Run Read) whole stops = absurd stops
+  stops-whole n all A B k o p u v (Run NoMemory) whole stops =
+      (part-whole n all A B k o p u v whole stops.0, stops.1)
+  stops-whole n all A B k o p u v (Run Write) whole stops =
+      (part-whole n all A B k o p u v whole stops.0, stops.1)
+  stops-whole n all A B k o p u v (Run (Query f)) whole stops = absurd stops
+  stops-whole n all A B k o p u v (Run (Document f)) whole stops = absurd stops
+  stops-whole n all A B k o p u v (Run DocumentTooLarge) whole stops = absurd stops
+  stops-whole n all A B k o p u v (Run Read) whole stops = absurd stops

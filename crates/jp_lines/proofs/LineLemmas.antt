@@ -3,9 +3,11 @@ use Rattle.std.proofs.Common.{◌≡◌, ◌⊎◌, inl, inr, ℕ, suc, ◌≤�
 use Rattle.std.proofs.Common.{◌∷◌, ◌++◌}
 use Rattle.std.proofs.Common.{length, Option, Result, Ok, Err, IfOk, IfErr, codes}
 use Rattle.std.proofs.Common.{subst, refl, sym, ◌∙◌, ap, arith}
+use Rattle.std.proofs.KnownBytes.{Keeps-refl}
 use Rattle.std.proofs.Math.Bool.{or-false}
 use Rattle.std.proofs.lemmas.List.{append-nil}
 use Rattle.std.specs.Io.KnownBytes.{Keeps}
+use Rattle.std.specs.Prelude.{⊤}
 use Rattle.std.specs.Result.{IsErrAnd}
 use Rattle.jp_document.specs.Document.{IsDocument, IsDocumentFault}
 use Rattle.jp_document.specs.Value.{Value}
@@ -20,10 +22,10 @@ use Rattle.jp_command.proofs.Streams.{Appends-keeps, prefix-whole}
 use Rattle.jp_lines.specs.Lines.{is_blank_line}
 use Rattle.jp_lines.specs.Outcome.{LineOutcome, Answered, Refused, ComesTo, blank, document}
 use Rattle.jp_lines.specs.Outcome.{no_document}
-use Rattle.jp_lines.specs.Outcome.{none, lead_of, wanted_output}
+use Rattle.jp_lines.specs.Outcome.{lead_of, wanted_output}
 use Rattle.jp_lines.specs.Outcome.{refused_for, refused_text}
-use Rattle.jp_lines.specs.Run.{Goes, GoesInPart}
-use Rattle.jp_lines.specs.Told.{Tells, TellsPrefix}
+use Rattle.jp_lines.specs.Run.{Goes, GoesInPart, WritesInPart}
+use Rattle.jp_lines.specs.Told.{Tells}
 use Rattle.jp_lines.specs.Private.Answers.{AnswersOrRefuses, AnswersInPart, AnswersLine}
 use Rattle.jp_lines.specs.Private.Answers.{StopsAnswering}
 use Rattle.jp_lines.specs.Private.Answers.{defect_of}
@@ -35,8 +37,7 @@ use Rattle.jp_lines.specs.declared.stop.Stop.{Stop}
 use Rattle.jp_lines.specs.declared.stop.Stop.TheVariants as stop
 use Rattle.jp_lines.proofs.Going.{goes-none}
 use Rattle.jp_lines.proofs.Outcomes.{come-one, comes-kept}
-use Rattle.jp_lines.proofs.ToldLemmas.{prefix-none, tells-none, tells-prefix-none}
-use Rattle.jp_lines.proofs.ToldLemmas.{tells-prefix-whole, writes-none}
+use Rattle.jp_lines.proofs.ToldLemmas.{tells-none, writes-none}
 
 -- an error that is this one
 pub err-is : {T E : Type 0} (r : Result T E) (e : E) (P : E → Type 0) → IsErrAnd r (λ x. x ≡ e) → P e
@@ -137,43 +138,54 @@ module _ (options : Options) {W E : Type 0} (contents : W → Option (List ℕ))
     quiet = λ e. cc;
   }
 
-  -- nothing of the line is written or told
-  part-none : (o p : W) (u v : E) → p ≡ o → v ≡ u
-      → GoesInPart options contents writes_failed reports reports_failed q n (line ∷ []) o p u v
-  part-none o p u v written told =
-      subst (λ r. GoesInPart options contents writes_failed reports reports_failed q n (line ∷ [])
-      o r u v) (sym written)
-      (subst (λ w. GoesInPart options contents writes_failed reports reports_failed q n (line ∷ [])
-      o o u w) (sym told) (record {
-        lines = [];
-        rest = line ∷ [];
-        front = refl;
-        outcomes = [];
-        come = none n;
-        writes = prefix-none (contents o) [];
-        tells = tells-prefix-none reports reports_failed u [];
-      }))
+  -- nothing of the line is told, and of what is to be written of it nothing, or a prefix
+  in-part : (o p : W) (u v : E) → v ≡ u
+      → Keeps (contents o) (contents p)
+      ⊎ WritesInPart options contents writes_failed reports reports_failed q n (line ∷ []) ⊤ o p
+      → GoesInPart options contents writes_failed reports reports_failed q n (line ∷ []) ⊤ 0 o p u v
+  in-part o p u v told next = record {
+    lines = [];
+    rest = line ∷ [];
+    front = refl;
+    complete = inr tt;
+    outcomes = [];
+    between = o;
+    goes = subst (λ w. Goes options contents writes_failed reports reports_failed q n [] [] o o u w)
+        (sym told) (goes-none options contents writes_failed reports reports_failed q n o u);
+    answered = omega arith;
+    next = subst
+        (λ m. Keeps (contents o) (contents p)
+        ⊎ WritesInPart options contents writes_failed reports reports_failed q m (line ∷ []) ⊤ o p)
+        (omega arith) next;
+  }
 
-  -- a prefix of what is to be written of it is written
+  part-none : (o p : W) (u v : E) → p ≡ o → v ≡ u
+      → GoesInPart options contents writes_failed reports reports_failed q n (line ∷ []) ⊤ 0 o p u v
+  part-none o p u v written told =
+      in-part o p u v told
+      (inl (subst (λ r. Keeps (contents o) (contents r)) (sym written) (Keeps-refl (contents o))))
+
   part-written : (text : List ℕ) (o p : W) (u : E) → Comes (Answered text)
       → AppendsPrefix (contents o) (contents p) text
-      → GoesInPart options contents writes_failed reports reports_failed q n (line ∷ []) o p u u
-  part-written text o p u comes writes = record {
-    lines = line ∷ [];
-    rest = [];
-    front = refl;
-    outcomes = Answered text ∷ [];
-    come = come-one options q n line _ (comes-line _ comes);
-    writes = subst (AppendsPrefix (contents o) (contents p)) (sym (append-nil text)) writes;
-    tells = tells-prefix-none reports reports_failed u [];
-  }
+      → GoesInPart options contents writes_failed reports reports_failed q n (line ∷ []) ⊤ 0 o p u u
+  part-written text o p u comes writes =
+      in-part o p u u refl (inr (record {
+        line = line;
+        rest = [];
+        first = refl;
+        complete = inr tt;
+        output = text;
+        comes = comes-line _ comes;
+        writes = writes;
+      }))
 
   pub stops-answering : (f : Fault) (o p : W) (u : E)
       → StopsAnswering contents writes_failed options q n kept o p f → Ends o p u u (stop.Run f)
   stops-answering fault.NoMemory o p u stops = (go stops.0, stops.1)
     where
       go : (p ≡ o) ⊎ AnswersInPart contents writes_failed options q n kept o p
-          → GoesInPart options contents writes_failed reports reports_failed q n (line ∷ []) o p u u
+          → GoesInPart options contents writes_failed reports reports_failed q n (line ∷ []) ⊤ 0
+          o p u u
       go (inl same) = part-none o p u u same refl
       go (inr part) = part-written part.output o p u part.comes part.writes
   stops-answering fault.Write o p u stops =
@@ -217,12 +229,25 @@ module _ (options : Options) {W E : Type 0} (contents : W → Option (List ℕ))
         comes = subst (λ m. ComesTo options q m line (Refused (refused_for n defect)))
             (omega arith) (comes-line _ comes);
         complete = inr (inl tt);
+        answered = omega arith;
         stops = is.1;
       })
 
 module _ (options : Options) {W E : Type 0} (contents : W → Option (List ℕ))
     (writes_failed : W → Bool) (reports : E → Option (List ℕ)) (reports_failed : E → Bool)
     (q : QueryTree) where
+  goes-line : (n : ℕ) (line : List ℕ) (refused : Bool) (o p : W) (u v : E)
+      → (treats : Treats options contents writes_failed reports reports_failed q n line refused o p u v)
+      → Goes options contents writes_failed reports reports_failed q n (line ∷ [])
+      (treats.outcome ∷ []) o p u v
+  goes-line n line refused o p u v treats = record {
+    come = come-one options q n line treats.outcome treats.comes;
+    writes = subst (WritesAll contents writes_failed o p) (sym (append-nil _)) treats.writes;
+    tells = subst (Tells reports reports_failed u v) (sym (append-nil _)) treats.tells;
+    allowed = λ e. treats.allowed (sym (or-false _) ∙ e);
+    quiet = λ e. treats.quiet (sym (or-false _) ∙ e);
+  }
+
   -- a line that is treated is gone over
   pub over-line : (s t : Standing) (refused : Bool) (o p : W) (u v : E)
       → Treats options contents writes_failed reports reports_failed q s.number s.line refused o p u v
@@ -230,13 +255,7 @@ module _ (options : Options) {W E : Type 0} (contents : W → Option (List ℕ))
       → GoesThrough options contents writes_failed reports reports_failed q (s.line ∷ []) s t o p u v
   over-line s t refused o p u v treats number is = record {
     outcomes = treats.outcome ∷ [];
-    goes = record {
-      come = come-one options q s.number s.line treats.outcome treats.comes;
-      writes = subst (WritesAll contents writes_failed o p) (sym (append-nil _)) treats.writes;
-      tells = subst (Tells reports reports_failed u v) (sym (append-nil _)) treats.tells;
-      allowed = λ e. treats.allowed (sym (or-false _) ∙ e);
-      quiet = λ e. treats.quiet (sym (or-false _) ∙ e);
-    };
+    goes = goes-line s.number s.line refused o p u v treats;
     number = number ∙ omega arith;
     refused = is ∙ ap (λ b. s.refused || b) (treats.is ∙ sym (or-false _));
   }
@@ -251,12 +270,12 @@ module _ (options : Options) {W E : Type 0} (contents : W → Option (List ℕ))
       lines = line ∷ [];
       rest = [];
       front = refl;
+      complete = inr tt;
       outcomes = treats.outcome ∷ [];
-      come = come-one options q n line treats.outcome treats.comes;
-      writes = subst (AppendsPrefix (contents o) (contents p)) (sym (append-nil _))
-          (prefix-whole _ _ _ treats.writes.written);
-      tells = subst (TellsPrefix reports reports_failed u v) (sym (append-nil _))
-          (tells-prefix-whole reports reports_failed u v _ treats.tells);
+      between = p;
+      goes = goes-line n line refused o p u v treats;
+      answered = omega arith;
+      next = inl (Keeps-refl (contents p));
     },
     treats.writes.works,
   )

@@ -17,6 +17,7 @@ use Rattle.jp_lines.specs.Outcome.{wanted_output, written_of, written_of_all}
 use Rattle.jp_lines.specs.Reads.{ReadsToEnd}
 use Rattle.jp_lines.specs.declared.options.Options.{Options}
 use Rattle.jp_lines.specs.declared.options.Wanted.TheVariants.{Nodes}
+use Rattle.jp_lines.proofs.Outcomes.{heads, tails}
 
 -- what was consumed up to the end is all
 consumed-all : (a b : Option (List ℕ)) (came bytes : List ℕ) → Consumes a b came → IsAtEnd b
@@ -48,12 +49,6 @@ module _ (options : Options) (q : QueryTree) where
     ap (λ t. x ∷ t) (come-nil (suc m) more rest come (tails l line more [] is)),
     subst (λ t. ComesTo options q m t x) (heads l line more [] is) comes,
   )
-    where
-      tails : (a b : List ℕ) (ms ns : List (List ℕ)) → a ∷ ms ≡ b ∷ ns → ms ≡ ns
-      tails a b ms ns same = cc
-
-      heads : (a b : List ℕ) (ms ns : List (List ℕ)) → a ∷ ms ≡ b ∷ ns → a ≡ b
-      heads a b ms ns same = cc
 
 module _ (profile : Profile) {R W E : Type 0} (remaining : R → Option (List ℕ))
     (has_failed : R → Bool) (read_gives : R → Option (List ℕ) → R → Type 0)

@@ -1,10 +1,10 @@
 -- Outcomes of lines after those of the lines before.
-use Rattle.std.proofs.Common.{◌≡◌, ℕ, suc, ◌+◌, ◌<◌, ◌≤◌, List, [], ◌∷◌, ◌++◌, length, subst}
-use Rattle.std.proofs.Common.{arith}
+use Rattle.std.proofs.Common.{◌≡◌, ℕ, suc, ◌+◌, ◌<◌, ◌≤◌, Bool, true, false, ◌||◌, List, [], ◌∷◌}
+use Rattle.std.proofs.Common.{◌++◌, length, subst, refl, arith}
 use Rattle.std.proofs.lemmas.List.{length-take, take_all}
 use Rattle.jp_command.specs.Limits.{document_limit}
 use Rattle.jp_lines.specs.Outcome.{LineOutcome, ComesTo, ComeTo, none, one_more}
-use Rattle.jp_lines.specs.Outcome.{blank, document, no_document, too_large}
+use Rattle.jp_lines.specs.Outcome.{blank, document, no_document, too_large, is_refused, some_refused}
 use Rattle.jp_lines.specs.Private.Passing.{kept_of}
 use Rattle.jp_lines.specs.declared.options.Options.{Options}
 use Rattle.jp_tree.specs.Tree.{QueryTree}
@@ -13,8 +13,21 @@ use Rattle.jp_tree.specs.Tree.{QueryTree}
 pub kept-all : (l : List ℕ) → length (kept_of l) ≤ document_limit → kept_of l ≡ l
 kept-all l few = take_all (suc document_limit) l (omega (arith, length-take (suc document_limit) l))
 
+pub kept-few : (l : List ℕ) → length (kept_of l) ≤ document_limit → length l ≤ document_limit
+kept-few l few = omega (arith, length-take (suc document_limit) l)
+
 pub kept-many : (l : List ℕ) → document_limit < length (kept_of l) → document_limit < length l
 kept-many l many = omega (arith, length-take (suc document_limit) l)
+
+pub heads : (k l : List ℕ) (ks ls : List (List ℕ)) → k ∷ ks ≡ l ∷ ls → k ≡ l
+heads k l ks ls same = cc
+
+pub tails : (k l : List ℕ) (ks ls : List (List ℕ)) → k ∷ ks ≡ l ∷ ls → ks ≡ ls
+tails k l ks ls same = cc
+
+pub none_of : (a b : Bool) → (a || b) ≡ false → (a ≡ false) × (b ≡ false)
+none_of true b is = cc
+none_of false b is = (refl, is)
 
 module _ (options : Options) (q : QueryTree) where
   pub come-one : (n : ℕ) (l : List ℕ) (x : LineOutcome) → ComesTo options q n l x
@@ -40,3 +53,24 @@ module _ (options : Options) (q : QueryTree) where
   comes-kept n l x (no_document fault few some is known) =
       subst (λ t. ComesTo options q n t x) (kept-all l few) (no_document fault few some is known)
   comes-kept n l x (too_large many) = too_large (kept-many l many)
+
+  -- a line that is not refused is not too large
+  few-one : (n : ℕ) (l : List ℕ) (x : LineOutcome) → ComesTo options q n l x → is_refused x ≡ false
+      → length l ≤ document_limit
+  few-one n l x (blank few is) unrefused = few
+  few-one n l x (document d few some is) unrefused = few
+  few-one n l x (no_document fault few some is known) unrefused = few
+  few-one n l x (too_large many) unrefused = cc
+
+  -- and so the last one of lines that are not refused is not
+  pub few-last : (n : ℕ) (ls : List (List ℕ)) (xs : List LineOutcome) (init : List (List ℕ))
+      (last : List ℕ) → ComeTo options q n ls xs → ls ≡ init ++ last ∷ [] → some_refused xs ≡ false
+      → length last ≤ document_limit
+  few-last n ls xs [] last (none m) is unrefused = cc
+  few-last n ls xs (l ∷ init) last (none m) is unrefused = cc
+  few-last n ls xs [] last (one_more m l more x rest comes come) is unrefused =
+      subst (λ t. length t ≤ document_limit) (heads l last more [] is)
+      (few-one m l x comes (none_of (is_refused x) (some_refused rest) unrefused).0)
+  few-last n ls xs (k ∷ init) last (one_more m l more x rest comes come) is unrefused =
+      few-last (suc m) more rest init last come (tails l k more (init ++ last ∷ []) is)
+      (none_of (is_refused x) (some_refused rest) unrefused).1

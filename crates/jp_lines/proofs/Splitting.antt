@@ -54,6 +54,14 @@ lines-some (byte ∷ bytes) is = go (byte == newline) is
     go true is = cc
     go false is = with_byte-some byte (lines_of_input bytes) is
 
+-- the last of some lines, and those before it
+pub last-line : (ls : List (List ℕ)) → ls ≢ []
+    → (init : List (List ℕ)) × (last : List ℕ) × (ls ≡ init ++ last ∷ [])
+last-line [] some = absurd (some refl)
+last-line (l ∷ []) some = ([], l, refl)
+last-line (l ∷ m ∷ ls) some =
+    let rest = last-line (m ∷ ls) (λ is. cc) in (l ∷ rest.0, rest.1, ap (λ t. l ∷ t) rest.2)
+
 -- a line that is empty, and one that has a byte more, before others
 joined-empty : (ls : List (List ℕ)) → ls ≢ []
     → join_with_byte newline ([] ∷ ls) ≡ newline ∷ join_with_byte newline ls

@@ -5,16 +5,13 @@ use Rattle.std.proofs.lemmas.List.{append-nil}
 use Rattle.std.specs.Io.KnownBytes.{Appends}
 use Rattle.jp_command.specs.Output.{AppendsPrefix, WritesAll}
 use Rattle.jp_command.proofs.Streams.{Appends-twice}
-use Rattle.jp_lines.specs.Told.{Tells, TellsPrefix, whole, part, nothing}
+use Rattle.jp_lines.specs.Told.{Tells, whole, part, nothing}
 
 pub Appends-none : (a : Option (List ℕ)) → Appends a a []
 Appends-none None = tt
 Appends-none (Some xs) = sym (append-nil xs)
 
-pub prefix-none : (a : Option (List ℕ)) (text : List ℕ) → AppendsPrefix a a text
-prefix-none a text = record { prefix = []; rest = text; is = refl; written = Appends-none a }
-
-pub prefix-after : (a b c : Option (List ℕ)) (x y : List ℕ) → Appends a b x → AppendsPrefix b c y
+prefix-after : (a b c : Option (List ℕ)) (x y : List ℕ) → Appends a b x → AppendsPrefix b c y
     → AppendsPrefix a c (x ++ y)
 prefix-after a b c x y first second = record {
   prefix = x ++ second.prefix;
@@ -66,23 +63,3 @@ module _ {E : Type 0} (reports : E → Option (List ℕ)) (has_failed : E → Bo
   tells-more u v w x y (nothing a e) (whole d f g) = cc
   tells-more u v w x y (nothing a e) (part d f g) = cc
   tells-more u v w x y (nothing a e) (nothing d f) = nothing a (f ∙ e)
-
-  pub tells-prefix-whole : (u v : E) (x : List ℕ) → Told u v x → TellsPrefix reports has_failed u v x
-  tells-prefix-whole u v x tells = record {
-    told = x;
-    rest = [];
-    is = sym (append-nil x);
-    tells = tells;
-  }
-
-  pub tells-prefix-after : (u v w : E) (x y : List ℕ) → Told u v x
-      → TellsPrefix reports has_failed v w y → TellsPrefix reports has_failed u w (x ++ y)
-  tells-prefix-after u v w x y first second = record {
-    told = x ++ second.told;
-    rest = second.rest;
-    is = ap (λ t. x ++ t) second.is ∙ sym (append_assoc x second.told second.rest);
-    tells = tells-more u v w x second.told first second.tells;
-  }
-
-  pub tells-prefix-none : (u : E) (text : List ℕ) → TellsPrefix reports has_failed u u text
-  tells-prefix-none u text = record { told = []; rest = text; is = refl; tells = tells-none u }

@@ -3,3 +3,4 @@
 pub mod Answers
 pub mod Passing
 pub mod Treating
+pub mod Asking

@@ -1,14 +1,15 @@
 -- What the program says with its status: the status and the line of each stop, and `RunsProgram`,
 -- which the clause of `run_program` cites.
-use Rattle.std.specs.Prelude.{◌≡◌, ℕ, Bool, true, false, List, ◌++◌, Option, Some, None, Result}
-use Rattle.std.specs.Prelude.{Ok, Err, codes}
+use Rattle.std.specs.Prelude.{◌≡◌, ◌⊎◌, ℕ, Bool, true, false, List, ◌++◌, Option, Some, None}
+use Rattle.std.specs.Prelude.{Result, Ok, Err, codes}
+use Rattle.std.specs.Io.KnownBytes.{Keeps}
 use Rattle.jp_check.specs.declared.profile.Profile.{Profile}
 use Rattle.jp_command.specs.Line.{fault_line, fault_text, status_of}
 use Rattle.jp_command.specs.Output.{AppendsPrefix, AppendsSome}
-use Rattle.jp_command.specs.declared.fault.Fault.TheVariants.{NoMemory}
+use Rattle.jp_command.specs.declared.fault.Fault.TheVariants.{NoMemory, Write}
 use Rattle.jp_lines.specs.CommandLine.{asked}
 use Rattle.jp_lines.specs.Outcome.{refused_text}
-use Rattle.jp_lines.specs.Run.{RunsLines}
+use Rattle.jp_lines.specs.Run.{FailsAtRead, RunsLines, StopsAtLine}
 use Rattle.jp_lines.specs.declared.options.Options.{Options}
 use Rattle.jp_lines.specs.declared.stop.Stop.{Stop}
 use Rattle.jp_lines.specs.declared.stop.Stop.TheVariants.{Run, Line}
@@ -38,6 +39,26 @@ module _ {E : Type 0} (reports : E → Option (List ℕ)) (reports_failed : E �
 module _ {R W E : Type 0} (remaining : R → Option (List ℕ)) (has_failed : R → Bool)
     (read_gives : R → Option (List ℕ) → R → Type 0) (contents : W → Option (List ℕ))
     (writes_failed : W → Bool) (reports : E → Option (List ℕ)) (reports_failed : E → Bool) where
+  -- a read failed, the lines before it were answered, and then the flush of what was written failed
+  pub record FailsToFlush (options : Options) (profile : Profile) (text : List ℕ) (i j : R) (o p : W)
+      (u v : E) : Type 0 where
+    pub between : W
+    pub reads : FailsAtRead profile options remaining has_failed read_gives contents writes_failed
+        reports reports_failed text i j o between u v
+    pub kept : Keeps (contents between) (contents p)
+    pub fails : writes_failed p ≡ true
+
+  -- what a run says that flushes the output in the end
+  abbrev pub RunsAndFlushes : Options → Profile → List ℕ → R → R → W → W → E → E → Result Bool Stop
+      → Type 0
+  RunsAndFlushes options profile text i j o p u v (Err (Run Write)) =
+      StopsAtLine profile options remaining has_failed read_gives contents writes_failed reports
+      reports_failed text i j o p u v (Run Write)
+      ⊎ FailsToFlush options profile text i j o p u v
+  RunsAndFlushes options profile text i j o p u v answer =
+      RunsLines profile options remaining has_failed read_gives contents writes_failed reports
+      reports_failed text i j o p u v answer
+
   -- the run that the words ask for ended with this answer
   pub record RunEnds (words : List (List ℕ)) (i j : R) (o p : W) (u v : E)
       (answer : Result Bool Stop) : Type 0 where
@@ -45,8 +66,7 @@ module _ {R W E : Type 0} (remaining : R → Option (List ℕ)) (has_failed : R 
     pub query : List ℕ
     pub profile : Profile
     pub asks : asked words ≡ Some (options, query, profile)
-    pub runs : RunsLines profile options remaining has_failed read_gives contents writes_failed
-        reports reports_failed query i j o p u v answer
+    pub runs : RunsAndFlushes options profile query i j o p u v answer
 
   -- What is said with a status. Where the words are not ones that the command line takes, clap's
   -- text is told, of which its contract says nothing.

@@ -1,5 +1,5 @@
 -- What is told of lines that are refused.
-use Rattle.std.specs.Prelude.{◌≡◌, ℕ, Bool, true, false, List, ◌++◌, Option}
+use Rattle.std.specs.Prelude.{◌≡◌, ℕ, Bool, true, false, List, Option}
 use Rattle.std.specs.Io.KnownBytes.{Appends}
 use Rattle.jp_command.specs.Output.{AppendsPrefix}
 
@@ -13,10 +13,3 @@ module _ {E : Type 0} (reports : E → Option (List ℕ)) (has_failed : E → Bo
     part : has_failed u ≡ false → has_failed v ≡ true
         → AppendsPrefix (reports u) (reports v) text → Tells u v text
     nothing : has_failed u ≡ true → v ≡ u → Tells u v text
-
-  -- a text with which this one begins is told so
-  pub record TellsPrefix (u v : E) (text : List ℕ) : Type 0 where
-    pub told : List ℕ
-    pub rest : List ℕ
-    pub is : text ≡ told ++ rest
-    pub tells : Tells u v told

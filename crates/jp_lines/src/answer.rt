@@ -1,9 +1,11 @@
 //! What one line comes to.
 
 ghost use Rattle.std.specs.Prelude.{◌≡◌, ◌++◌, ◌≤◌, IfErr, IfOk, OnOk, codes, false, length};
-ghost use Rattle.std.specs.Prelude.{string_bytes};
+ghost use Rattle.std.specs.Prelude.{map, string_bytes};
 ghost use Rattle.std.specs.Fmt.{decimal};
+ghost use Rattle.jp_document.specs.Location.{step_of};
 ghost use Rattle.jp_tree.specs.Views.{query_of};
+ghost use Rattle.jp_evaluate.specs.Named.{NamesLocation};
 ghost use Rattle.jp_command.specs.Found.{found_nodes};
 ghost use Rattle.jp_command.specs.Limits.{document_limit};
 ghost use Rattle.jp_command.specs.Output.{StopsWriting, WritesAll};
@@ -18,9 +20,10 @@ use crate::options::{Options, Wanted};
 use itoa::Buffer;
 use jp_check::Checked;
 use jp_command::{DOCUMENT_LIMIT, Fault, Spare, Writer, write_all, write_found, write_selected};
-use jp_document::{Document, DocumentFault, Step};
-use jp_flat::{Room, flat_value_at, found_value};
-use jp_lent::Printed;
+use jp_document::{DocumentFault, Step};
+use jp_flat::{Room, found_value};
+use jp_held::{read_into, read_value_at};
+use jp_lent::Selectable;
 use std::alloc::{AllocError, Global};
 use std::mem;
 
@@ -82,20 +85,46 @@ pub(crate) fn answer<W: Writer>(
     if is_blank_line(line) {
         return Ok(None);
     }
-    // The root is read as a whole, into memory that is kept.
-    if let Some(location) = asked.location
-        && !location.is_empty()
-        && let Some(found) = flat_value_at(asked.alloc, line, location)
-    {
-        let value = found_value(&found);
-        write_wanted_at(asked, number, location, value, memory, output)?;
-        return Ok(None);
+    match asked.location {
+        // The root is read as a whole, into memory that is kept.
+        Some(location) if !location.is_empty() => {
+            answer_at(asked, number, location, line, memory, output)
+        }
+        _ => answer_whole(asked, number, line, memory, output),
     }
-    answer_by_tables(asked, number, line, memory, output)
+}
+
+/// The same of a line that is not blank, where the query names the location: the value there is
+/// found while the document is read.
+fn answer_at<W: Writer>(
+    asked: Asked<'_>,
+    number: u64,
+    location: &[Step<'_>],
+    line: &[u8],
+    memory: &mut Memory,
+    output: &mut W,
+) -> Result<Option<Defect>, Fault>
+    requires named { NamesLocation (query_of asked.query.now.query)
+        (map step_of location.now) }
+    requires few { length line.now ≤ document_limit }
+    requires some { is_blank_line line.now ≡ false }
+    ensures answers { IfOk result (AnswersOrRefuses W.contents W.has_failed asked.entry.options
+        (query_of asked.entry.query.now.query) number line.now output.old output.new) }
+    ensures stopped { IfErr result (StopsAnswering W.contents W.has_failed asked.entry.options
+        (query_of asked.entry.query.now.query) number line.now output.old output.new) }
+{
+    match read_value_at(asked.alloc, line, location) {
+        Ok(found) => {
+            let value = found_value(&found);
+            write_wanted_at(asked, number, location, value, memory, output)?;
+            Ok(None)
+        }
+        Err(fault) => defect_of(fault),
+    }
 }
 
 /// The same of a line that is not blank, whatever the query: the whole document is read.
-fn answer_by_tables<W: Writer>(
+fn answer_whole<W: Writer>(
     asked: Asked<'_>,
     number: u64,
     line: &[u8],
@@ -110,40 +139,16 @@ fn answer_by_tables<W: Writer>(
         (query_of asked.entry.query.now.query) number line.now output.old output.new) }
 {
     let room = mem::replace(&mut memory.room, Room::new(asked.alloc));
-    match room.read(line) {
+    match read_into(asked.alloc, room, line) {
         Ok(flat) => {
             write_wanted(asked, number, flat.value(), memory, output)?;
             memory.room = flat.into_room();
             Ok(None)
         }
-        Err(room) => {
+        Err((room, fault)) => {
             memory.room = room;
-            answer_by_tree(asked, number, line, memory, output)
+            defect_of(fault)
         }
-    }
-}
-
-/// The same of a line that does not fit the tables, or is no document.
-fn answer_by_tree<W: Writer>(
-    asked: Asked<'_>,
-    number: u64,
-    line: &[u8],
-    memory: &mut Memory,
-    output: &mut W,
-) -> Result<Option<Defect>, Fault>
-    requires few { length line.now ≤ document_limit }
-    requires some { is_blank_line line.now ≡ false }
-    ensures answers { IfOk result (AnswersOrRefuses W.contents W.has_failed asked.entry.options
-        (query_of asked.entry.query.now.query) number line.now output.old output.new) }
-    ensures stopped { IfErr result (StopsAnswering W.contents W.has_failed asked.entry.options
-        (query_of asked.entry.query.now.query) number line.now output.old output.new) }
-{
-    match Document::read(asked.alloc, line) {
-        Ok(document) => {
-            write_wanted(asked, number, document.value(), memory, output)?;
-            Ok(None)
-        }
-        Err(fault) => defect_of(fault),
     }
 }
 
@@ -158,7 +163,7 @@ fn defect_of(fault: DocumentFault) -> Result<Option<Defect>, Fault>
 }
 
 /// Writes what is asked of the document whose value is the root.
-fn write_wanted<'d: 'q, 'q, V: Printed + 'd, W: Writer>(
+fn write_wanted<'d: 'q, 'q, V: Selectable + 'd, W: Writer>(
     asked: Asked<'q>,
     number: u64,
     root: V,
@@ -194,7 +199,7 @@ fn write_wanted<'d: 'q, 'q, V: Printed + 'd, W: Writer>(
 
 /// Writes what is asked of a document in which the query selects the value at the location alone, or
 /// nothing where there is none.
-fn write_wanted_at<V: Printed, W: Writer>(
+fn write_wanted_at<V: Selectable, W: Writer>(
     asked: Asked<'_>,
     number: u64,
     location: &[Step<'_>],

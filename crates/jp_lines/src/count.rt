@@ -7,7 +7,7 @@ ghost use Rattle.jp_evaluate.specs.Nodelist.{nodelist};
 
 use jp_check::Checked;
 use jp_evaluate::{LentNodes, Patterns, lent_nodes_with};
-use jp_lent::Printed;
+use jp_lent::Selectable;
 use jp_match::Marks;
 use std::alloc::{AllocError, Global};
 use std::mem;
@@ -22,7 +22,7 @@ pub(crate) fn number_after(number: u64) -> Result<u64, AllocError>
 
 /// How many nodes the query selects in the document whose value is the root. What was read of the
 /// patterns is kept for the next document.
-pub(crate) fn count_selected<'d: 'q, 'q, V: Printed + 'd>(
+pub(crate) fn count_selected<'d: 'q, 'q, V: Selectable + 'd>(
     alloc: Global,
     root: V,
     query: &'q Checked,
@@ -39,7 +39,7 @@ pub(crate) fn count_selected<'d: 'q, 'q, V: Printed + 'd>(
 }
 
 /// How many nodes are still to come.
-fn count_rest<'d: 'q, 'q, V: Printed + 'd>(
+fn count_rest<'d: 'q, 'q, V: Selectable + 'd>(
     alloc: Global,
     nodes: &mut LentNodes<'d, 'q, V, Marks>,
 ) -> Result<u64, AllocError>

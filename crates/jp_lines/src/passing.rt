@@ -1,7 +1,8 @@
 //! Going over the bytes of an input, line by line.
 
-ghost use Rattle.std.specs.Prelude.{◌≡◌, ◌++◌, [], List, ℕ, IfErr, OnOk, false};
+ghost use Rattle.std.specs.Prelude.{◌≡◌, ◌≤◌, ◌++◌, [], List, ℕ, IfErr, OnOk, false, length};
 ghost use Rattle.jp_tree.specs.Views.{query_of};
+ghost use Rattle.jp_command.specs.Limits.{document_limit};
 ghost use Rattle.jp_lines.specs.Private.Answers.{HasNamedLocation};
 ghost use Rattle.jp_lines.specs.Private.Passing.{EndsLine, Keeps, PassesOn, StopsPassing, kept_of};
 ghost use Rattle.jp_lines.specs.Private.Treating.{StopsEnding};
@@ -57,6 +58,8 @@ pub(crate) fn pass<W: Output, E: Writer>(
         → PassesOn asked.entry.options W.contents W.has_failed E.contents E.has_failed
         (query_of asked.entry.query.now.query) bytes.now progress.old progress.new line
         output.old output.new faults.old faults.new) }
+    ensures few { OnOk result (asked.entry.options.keep_going ≡ false
+        → length progress.new.line.items ≤ document_limit) }
     ensures stopped { IfErr result (λ stop. (line : List ℕ) → Keeps progress.old line
         → StopsPassing asked.entry.options W.contents W.has_failed E.contents E.has_failed
         (query_of asked.entry.query.now.query) bytes.now progress.old line

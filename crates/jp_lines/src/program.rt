@@ -1,17 +1,19 @@
 //! The whole program over its words.
 
-ghost use Rattle.std.specs.Prelude.{◌≡◌, map, string_bytes};
-ghost use Rattle.jp_lines.specs.Program.{RunsProgram, TellsStop, status_of_stop};
-ghost use Rattle.jp_lines.specs.Run.{RunsLines};
+ghost use Rattle.std.specs.Prelude.{◌≡◌, ◌⊎◌, Err, map, string_bytes, true};
+ghost use Rattle.std.specs.Io.KnownBytes.{Keeps};
+ghost use Rattle.jp_command.specs.declared.fault.Fault.TheVariants.{Write};
+ghost use Rattle.jp_lines.specs.Program.{RunsAndFlushes, RunsProgram, TellsStop, status_of_stop};
+ghost use Rattle.jp_lines.specs.declared.stop.Stop.TheVariants.{Run};
 
 use crate::options::Options;
-use crate::run::run_lines;
+use crate::run::run_query;
 use crate::stop::Stop;
 use crate::telling::tell;
 use crate::treating::flush;
 use crate::words::read_words;
 use jp_check::Profile;
-use jp_command::{Output, Source, Writer, refuse_words, report, status};
+use jp_command::{Fault, Output, Source, Writer, read_within_limit, refuse_words, report, status};
 use std::alloc::Global;
 
 /// The status of a run of which some line is refused.
@@ -22,8 +24,8 @@ const LINE_REFUSED: u8 = 3;
 /// line takes, 3 where some line is refused, 4 where the memory did not suffice, 5 where the input
 /// or the output failed. Every status but 0 has its line in `faults`, if it can be written there,
 /// and status 3 after `--keep-going` one for each line that is refused; with status 2 that is clap's
-/// own text. The output is flushed after a run that is done, and where a line is refused before
-/// that is told.
+/// own text. The output is flushed at the end of a run, before anything is told of that, unless a
+/// write has failed; where the flush fails, that is told alone.
 pub fn run_program<R: Source, W: Output, E: Writer>(
     alloc: Global,
     words: Vec<String>,
@@ -50,7 +52,7 @@ pub fn run_program<R: Source, W: Output, E: Writer>(
     }
 }
 
-/// Runs a query over the lines, and flushes the output where that is done or a line is refused.
+/// Runs a query over the lines. The output is flushed before the answer, unless a write has failed.
 fn run_and_flush<R: Source, W: Output, E: Writer>(
     alloc: Global,
     query: &str,
@@ -60,20 +62,28 @@ fn run_and_flush<R: Source, W: Output, E: Writer>(
     output: &mut W,
     faults: &mut E,
 ) -> Result<bool, Stop>
-    ensures { RunsLines profile options R.remaining R.has_failed R.read_gives
-        W.contents W.has_failed E.contents E.has_failed query.now
+    ensures { RunsAndFlushes R.remaining R.has_failed R.read_gives
+        W.contents W.has_failed E.contents E.has_failed options profile query.now
         input.old input.new output.old output.new faults.old faults.new result }
 {
-    match run_lines(alloc, query, profile, options, input, output, faults) {
-        Ok(refused) => {
-            flush(true, output)?;
-            Ok(refused)
-        }
-        Err(Stop::Line(refused)) => {
-            flush(true, output)?;
-            Err(Stop::Line(refused))
-        }
-        Err(Stop::Run(fault)) => Err(Stop::Run(fault)),
+    let query = read_within_limit(alloc, query, profile).map_err(Fault::from)?;
+    let ended = run_query(alloc, &query, options, input, output, faults);
+    flush_ended(ended, output)
+}
+
+/// Flushes the output of a run that has ended, unless a write has failed. Answers how the run ended, or
+/// that the flush failed.
+fn flush_ended<W: Output>(ended: Result<bool, Stop>, output: &mut W) -> Result<bool, Stop>
+    ensures kept { Keeps (W.contents output.old) (W.contents output.new) }
+    ensures ends { ((result ≡ ended) × (W.has_failed output.new ≡ W.has_failed output.old))
+        ⊎ ((result ≡ Err (Run Write)) × (W.has_failed output.new ≡ true)) }
+{
+    if output.failed() {
+        return ended;
+    }
+    match flush(true, output) {
+        Ok(()) => ended,
+        Err(_) => Err(Stop::Run(Fault::Write)),
     }
 }
 

@@ -6,13 +6,14 @@ ghost use Rattle.jp_tree.specs.Views.{query_of};
 ghost use Rattle.jp_command.specs.Limits.{chunk_size};
 ghost use Rattle.jp_command.specs.Run.{IsAsked};
 ghost use Rattle.jp_lines.specs.Private.Answers.{HasNamedLocation};
+ghost use Rattle.jp_lines.specs.Private.Asking.{RunsAsked};
 ghost use Rattle.jp_lines.specs.Run.{RunsLines};
 
 use crate::answer::Asked;
 use crate::options::Options;
 use crate::passing::{Progress, end_line, pass};
 use crate::stop::Stop;
-use jp_check::Profile;
+use jp_check::{Checked, Profile};
 use jp_command::{Fault, Output, Source, Writer, read_within_limit};
 use jp_evaluate::named_location;
 use std::alloc::{AllocError, Global};
@@ -34,7 +35,8 @@ const READS: u64 = u64::MAX;
 /// written to `faults` is left out, and no further write to it is tried. The other errors are those
 /// of a run over one document: `Query` (the input stays unread), `Read`, `Write` and `NoMemory`,
 /// which also says that lines, nodes or reads are more than 2^64. What is written then is a prefix
-/// of the output, after `Line` and `Read` that of all lines before. The output is flushed only where
+/// of the output: after `Line` and `Read` that of all lines before, and after the others that of all
+/// lines that had ended before the last read, or more. The output is flushed only where
 /// `line_buffered` asks for it.
 pub fn run_lines<R: Source, W: Output, E: Writer>(
     alloc: Global,
@@ -50,17 +52,34 @@ pub fn run_lines<R: Source, W: Output, E: Writer>(
         input.old input.new output.old output.new faults.old faults.new result }
 {
     let query = read_within_limit(alloc, query, profile).map_err(Fault::from)?;
-    let location = named_location(alloc, &query)?;
+    run_query(alloc, &query, options, input, output, faults)
+}
+
+/// The same of a query that was read.
+pub(crate) fn run_query<R: Source, W: Output, E: Writer>(
+    alloc: Global,
+    query: &Checked,
+    options: Options,
+    input: &mut R,
+    output: &mut W,
+    faults: &mut E,
+) -> Result<bool, Stop>
+    ensures { (profile : Profile) (text : List ℕ) → IsAsked profile text (query_of query.now.query)
+        → RunsAsked profile options R.remaining R.has_failed R.read_gives
+        W.contents W.has_failed E.contents E.has_failed text
+        input.old input.new output.old output.new faults.old faults.new result }
+{
+    let location = named_location(alloc, query)?;
     let asked = Asked {
         alloc,
-        query: &query,
+        query,
         location: location.as_deref(),
         options,
     };
     pass_all(asked, input, output, faults)
 }
 
-/// The same of a query that was read.
+/// The same where the location that the query names is known.
 fn pass_all<R: Source, W: Output, E: Writer>(
     asked: Asked<'_>,
     input: &mut R,
@@ -70,7 +89,7 @@ fn pass_all<R: Source, W: Output, E: Writer>(
     requires named { HasNamedLocation asked }
     ensures { (profile : Profile) (text : List ℕ)
         → IsAsked profile text (query_of asked.entry.query.now.query)
-        → RunsLines profile asked.entry.options R.remaining R.has_failed R.read_gives
+        → RunsAsked profile asked.entry.options R.remaining R.has_failed R.read_gives
         W.contents W.has_failed E.contents E.has_failed text
         input.old input.new output.old output.new faults.old faults.new result }
 {

@@ -4,14 +4,11 @@
 //! `run_program` answers.
 #![tactic(auto)]
 
-use jp_command::Device;
+use jp_command::{Device, buffered, unbuffered};
 use jp_lines::run_program;
-use std::io::{BufWriter, ErrorKind};
+use std::io::ErrorKind;
 use std::process::ExitCode;
 use std::{env, io};
-
-/// How many bytes of output are gathered before they are written.
-const OUTPUT_BUFFER: usize = 65_536;
 
 fn main(rt: HostRuntime) -> ExitCode {
     match run(&rt) {
@@ -29,7 +26,10 @@ fn run(rt: &HostRuntime) -> io::Result<u8> {
     let alloc = rt.alloc();
     let words = env::args(rt)?.collect(alloc)?;
     let mut input = Device::new(rt.stdin());
-    let mut output = Device::new(BufWriter::with_capacity(alloc, OUTPUT_BUFFER, rt.stdout())?);
+    let mut output = buffered(alloc, rt.stdout())?;
     let mut faults = Device::new(rt.stderr());
-    Ok(run_program(alloc, words, &mut input, &mut output, &mut faults))
+    let status = run_program(alloc, words, &mut input, &mut output, &mut faults);
+    // A buffer that is dropped writes what a failed write has left in it.
+    let _ = unbuffered(output);
+    Ok(status)
 }

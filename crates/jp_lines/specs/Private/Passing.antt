@@ -70,7 +70,7 @@ module _ (options : Options) {W E : Type 0} (contents : W → Option (List ℕ))
   abbrev pub StopsPassing : List ℕ → Progress → List ℕ → W → W → E → E → Stop → Type 0
   StopsPassing bytes a line o p u v stop =
       StopsAmong options contents writes_failed reports reports_failed q a.number
-      (lines_of_input (line ++ bytes)) (false ≡ true) o p u v stop
+      (lines_of_input (line ++ bytes)) (false ≡ true) 0 o p u v stop
 
   -- one line has ended, and the next one begun
   pub record EndsLine (a b : Progress) (line : List ℕ) (o p : W) (u v : E) : Type 0 where

@@ -25,4 +25,4 @@ module _ (options : Options) {W E : Type 0} (contents : W → Option (List ℕ))
   -- why the run stopped at it
   abbrev pub StopsEnding : W → W → E → E → Stop → Type 0
   StopsEnding =
-      StopsAmong options contents writes_failed reports reports_failed q number (line ∷ []) ⊤
+      StopsAmong options contents writes_failed reports reports_failed q number (line ∷ []) ⊤ 0

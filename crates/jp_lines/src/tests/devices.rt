@@ -21,6 +21,20 @@ impl Read for Trickle<'_> {
     }
 }
 
+/// Gives spaces without end, and counts its calls.
+#[derive(Drop)]
+pub struct Endless {
+    pub reads: usize,
+}
+
+impl Read for Endless {
+    fn read(&mut self, buffer: &mut [u8]) -> Result<usize> {
+        self.reads = self.reads.saturating_add(1);
+        buffer.fill(b' ');
+        Ok(buffer.len())
+    }
+}
+
 /// Takes so many bytes, one a call, fails once, and takes all that comes after that; counts how often
 /// it is flushed.
 #[derive(Drop)]

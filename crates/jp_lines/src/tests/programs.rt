@@ -166,7 +166,7 @@ fn ends_with_the_status_of_its_run(rt: HostRuntime) -> Result<(), AllocError> {
         &eval,
         "[1,2]\n[3,4]",
         true,
-        (5, "2\n", "read fault\n", 0),
+        (5, "2\n", "read fault\n", 1),
     )?;
     let extended = ["jp-lines", "count", "$[?distinct(@[*])]"];
     let unknown = "query refused: UnknownFunction at 3\n";
@@ -221,6 +221,47 @@ fn tells_that_a_flush_failed(rt: HostRuntime) -> Result<(), AllocError> {
         assert!(rt; output.taken.as_slice() == "1\n".as_bytes());
         assert!(rt; faults.taken.as_slice() == "write fault\n".as_bytes());
     }
+    Ok(())
+}
+
+#[test]
+fn tells_a_flush_that_failed_after_a_read_that_did(rt: HostRuntime) -> Result<(), AllocError> {
+    let mut output = Unflushed {
+        taken: Vec::new(rt.alloc()),
+    };
+    let mut faults = Narrow::new(rt.alloc(), usize::MAX);
+    let input = Trickle {
+        bytes: b"[1]\n[2",
+        size: 3,
+        fails: true,
+    };
+    let ended = run_program(
+        rt.alloc(),
+        words(rt.alloc(), &["jp-lines", "eval", "$[0]"])?,
+        &mut Device::new(input),
+        &mut Device::new(&mut output),
+        &mut Device::new(&mut faults),
+    );
+    assert_eq!(rt; ended, 5);
+    assert!(rt; output.taken.as_slice() == "1\n".as_bytes());
+    assert!(rt; faults.taken.as_slice() == "write fault\n".as_bytes());
+    Ok(())
+}
+
+#[test]
+fn flushes_no_output_whose_write_failed(rt: HostRuntime) -> Result<(), AllocError> {
+    let mut output = Narrow::new(rt.alloc(), 1);
+    let mut faults = Narrow::new(rt.alloc(), usize::MAX);
+    let ended = run_program(
+        rt.alloc(),
+        words(rt.alloc(), &["jp-lines", "eval", "$[0]"])?,
+        &mut Device::new(b"[1]\n[2]\n".as_slice()),
+        &mut Device::new(&mut output),
+        &mut Device::new(&mut faults),
+    );
+    assert_eq!(rt; (ended, output.flushes), (5, 0));
+    assert!(rt; output.taken.as_slice() == "1".as_bytes());
+    assert!(rt; faults.taken.as_slice() == "write fault\n".as_bytes());
     Ok(())
 }
 

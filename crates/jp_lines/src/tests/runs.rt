@@ -1,7 +1,7 @@
 //! What is written and told of lines of every kind.
 
-use super::devices::{Narrow, Trickle};
-use crate::{Options, Wanted, run_lines};
+use super::devices::{Endless, Narrow, Trickle};
+use crate::{Defect, Options, RefusedLine, Stop, Wanted, run_lines};
 use jp_check::Profile::Standard;
 use jp_command::{Device, Form};
 use std::alloc::{AllocError, Global};
@@ -170,6 +170,86 @@ fn stops_at_a_write_that_fails(rt: HostRuntime) -> Result<(), AllocError> {
         lines,
         ("write fault", "1\n2", "", 0),
     )
+}
+
+/// A document, a line that is none, and a document; the newlines end 8, 10 and 18 bytes.
+const THREE: &str = "{\"a\":1}\nx\n{\"a\":2}\n";
+
+const REFUSED: &str = "line 2: document refused: NotJson\n";
+
+#[test]
+fn tells_each_write_that_fails(rt: HostRuntime) -> Result<(), AllocError> {
+    let rows = ["", "1", "1\n", "1\n1"];
+    for (room, written) in rows.into_iter().enumerate() {
+        let told = if room < 2 { "" } else { REFUSED };
+        let lines = Case {
+            room,
+            ..whole(THREE, 100)
+        };
+        assert_says(
+            &rt,
+            rt.alloc(),
+            COUNTED,
+            lines,
+            ("write fault", written, told, 0),
+        )?;
+    }
+    Ok(())
+}
+
+#[test]
+fn tells_each_read_that_fails(rt: HostRuntime) -> Result<(), AllocError> {
+    let rows = [
+        (0..8, "", ""),
+        (8..10, "1\n", ""),
+        (10..18, "1\n", REFUSED),
+        (18..19, "1\n1\n", REFUSED),
+    ];
+    for (reads, written, told) in rows {
+        for given in reads {
+            let lines = Case {
+                fails: true,
+                ..whole(THREE.get(..given).unwrap_or(""), 1)
+            };
+            assert_says(
+                &rt,
+                rt.alloc(),
+                COUNTED,
+                lines,
+                ("read fault", written, told, 0),
+            )?;
+        }
+    }
+    Ok(())
+}
+
+#[test]
+fn says_nothing_of_a_line_that_is_cut(rt: HostRuntime) -> Result<(), AllocError> {
+    let lines = Case {
+        room: 0,
+        ..whole("{\"a\":1}\n{\"a\":2}\n", 12)
+    };
+    assert_says(&rt, rt.alloc(), COUNTED, lines, ("write fault", "", "", 0))
+}
+
+#[test]
+fn refuses_a_line_before_its_end_where_that_is_too_far(rt: HostRuntime) {
+    let mut endless = Endless { reads: 0 };
+    let run = run_lines(
+        rt.alloc(),
+        "$",
+        Standard,
+        VALUES,
+        &mut Device::new(&mut endless),
+        &mut Device::new(Narrow::new(rt.alloc(), 0)),
+        &mut Device::new(Narrow::new(rt.alloc(), 0)),
+    );
+    let refused = RefusedLine {
+        number: 1,
+        defect: Defect::TooLarge,
+    };
+    // The reads give 65,536 bytes each, and 256 of them as many as a document may have.
+    assert_eq!(rt; (run, endless.reads), (Err(Stop::Line(refused)), 257));
 }
 
 #[test]

@@ -1,13 +1,30 @@
 use Rattle.std.proofs.Common.{◌≡◌, ◌<◌, ◌++◌, [], refl, rules, take, length, arith}
 use Rattle.std.proofs.lemmas.Grind.{common_steps}
 use Rattle.jp_tree.specs.Views.{query_of}
-use Rattle.jp_lines.specs.Run.{RunsLines}
+use Rattle.jp_command.specs.Limits.{chunk_size}
+use Rattle.jp_command.specs.declared.fault.Fault.TheVariants as fault
+use Rattle.jp_lines.specs.Private.Asking.{RunsAsked}
 use Rattle.jp_lines.specs.Private.Passing.{standing}
+use Rattle.jp_lines.specs.declared.stop.Stop.TheVariants as stop
 use Rattle.jp_lines.proofs.Ending.{at_start, err-so, reads-end, reads-fail, reads-more, reads-none}
-use Rattle.jp_lines.proofs.Ending.{runs-end, runs-fail, runs-stop_counting, runs-stop_in}
-use Rattle.jp_lines.proofs.Ending.{runs-stop_last}
+use Rattle.jp_lines.proofs.Ending.{reads-some, runs-end, runs-fail, runs-stop_in, runs-stop_last}
+use Rattle.jp_lines.proofs.Ending.{runs-stop_reading, runs-stop_unread}
 use Rattle.jp_lines.proofs.Going.{passes-kept, passes-more}
+use Rattle.jp_lines.proofs.Outcomes.{kept-few}
 use Rattle.jp_lines.proofs.run.pass_all.Goals as goal
+
+pub returns-in_err-chunk : goal.returns-in_err-chunk
+returns-in_err-chunk g c = λ profile text asked.
+    err-so c.from_residual.result (stop.Run fault.NoMemory)
+    (RunsAsked profile c.args.asked.options g.R.Source.remaining g.R.Source.has_failed
+    g.R.Source.read_gives g.W.Writer.contents g.W.Writer.has_failed g.E.Writer.contents
+    g.E.Writer.has_failed text c.args.input.now c.args.input.now
+    c.args.output.now c.args.output.now c.args.faults.now c.args.faults.now)
+    c.from_residual.ensures.1
+    (runs-stop_unread profile c.args.asked.options g.R.Source.remaining g.R.Source.has_failed
+    g.R.Source.read_gives g.W.Writer.contents g.W.Writer.has_failed g.E.Writer.contents
+    g.E.Writer.has_failed (query_of c.args.asked.query.now.query) text asked
+    c.args.input.now c.args.output.now c.args.faults.now)
 
 pub loop-init : goal.loop-init
 loop-init g c = record {
@@ -15,6 +32,7 @@ loop-init g c = record {
   line = [];
   reads = reads-none g.R.Source.remaining g.R.Source.has_failed g.R.Source.read_gives c.args.input.now;
   keeps = (refl, c.new-progress.ensures.line);
+  few = λ stays. omega arith;
   passes = passes-kept c.args.asked.options g.W.Writer.contents g.W.Writer.has_failed g.E.Writer.contents
       g.E.Writer.has_failed (query_of c.args.asked.query.now.query)
       [] at_start (standing c.new-progress.result []) _ _ c.new-progress.ensures.number
@@ -31,7 +49,7 @@ returns-in_default g c = λ profile text asked.
     (reads-fail g.R.Source.remaining g.R.Source.has_failed g.R.Source.read_gives _ c.loop.input
     c.read.new.self r.bytes r.reads c.in_default.ensures.bytes c.in_default.ensures.fails
     c.in_default.ensures.call)
-    r.passes r.keeps.0
+    r.passes r.keeps.0 r.few
 
 pub returns-in_err-end_line : goal.returns-in_err-end_line
 returns-in_err-end_line g c = λ profile text asked.
@@ -44,7 +62,7 @@ returns-in_err-end_line g c = λ profile text asked.
     c.loop.input c.read.new.self r.bytes r.reads (rw zero at c.in-Ok.ensures.bytes.0)
     (c.in-Ok.ensures.bytes.1 zero some) c.in-Ok.ensures.works (rw zero at c.in-Ok.ensures.call) in
     err-so c.from_residual-in_err-end_line.result c.in_err-end_line.field-0.0
-    (RunsLines profile c.args.asked.options g.R.Source.remaining g.R.Source.has_failed
+    (RunsAsked profile c.args.asked.options g.R.Source.remaining g.R.Source.has_failed
     g.R.Source.read_gives g.W.Writer.contents g.W.Writer.has_failed g.E.Writer.contents
     g.E.Writer.has_failed text c.args.input.now c.read.new.self
     c.args.output.now c.end_line.new.output c.args.faults.now c.end_line.new.faults)
@@ -52,7 +70,7 @@ returns-in_err-end_line g c = λ profile text asked.
     (runs-stop_last profile c.args.asked.options g.R.Source.remaining g.R.Source.has_failed
     g.R.Source.read_gives g.W.Writer.contents g.W.Writer.has_failed g.E.Writer.contents
     g.E.Writer.has_failed (query_of c.args.asked.query.now.query) text asked _ _ r.bytes (standing c.loop.progress r.line) _ _ _ _ _ _
-    c.in_err-end_line.field-0.0 reads r.passes r.keeps.0
+    c.in_err-end_line.field-0.0 reads r.passes r.keeps.0 r.few
     (c.in_err-end_line.ensures.stopped r.line r.keeps))
 
 pub returns-then-count-eq0 : goal.returns-then-count-eq0
@@ -77,11 +95,13 @@ returns-in_err-pass g c = λ profile text asked.
     let buffer = c.read.new.buffer in
     let more = take c.in-Ok.count buffer in
     let same : c.deref.result.now ≡ buffer = grind (arith, common_steps) in
+    let chunk : length buffer ≡ chunk_size =
+    omega (arith, c.read.auto.buffer, c.as_mut_slice.ensures.len, r.room) in
     let reads = reads-more g.R.Source.remaining g.R.Source.has_failed g.R.Source.read_gives c.args.input.now
     c.loop.input c.read.new.self r.bytes buffer c.in-Ok.count r.reads c.in-Ok.ensures.bytes.0
-    c.in-Ok.ensures.works c.in-Ok.ensures.call c.in-Ok.ensures.bound (search rules) in
+    c.in-Ok.ensures.works c.in-Ok.ensures.call c.in-Ok.ensures.bound (search rules) chunk in
     err-so c.from_residual-in_err-pass.result c.in_err-pass.field-0.0
-    (RunsLines profile c.args.asked.options g.R.Source.remaining g.R.Source.has_failed
+    (RunsAsked profile c.args.asked.options g.R.Source.remaining g.R.Source.has_failed
     g.R.Source.read_gives g.W.Writer.contents g.W.Writer.has_failed g.E.Writer.contents
     g.E.Writer.has_failed text c.args.input.now c.read.new.self
     c.args.output.now c.pass.new.output c.args.faults.now c.pass.new.faults)
@@ -89,7 +109,7 @@ returns-in_err-pass g c = λ profile text asked.
     (runs-stop_in profile c.args.asked.options g.R.Source.remaining g.R.Source.has_failed
     g.R.Source.read_gives g.W.Writer.contents g.W.Writer.has_failed g.E.Writer.contents
     g.E.Writer.has_failed (query_of c.args.asked.query.now.query) text asked _ _ r.bytes more (standing c.loop.progress r.line)
-    _ _ _ _ _ _ c.in_err-pass.field-0.0 reads r.passes
+    _ _ _ _ _ _ c.in_err-pass.field-0.0 reads r.passes r.keeps.0 r.few
     (rw same at (c.in_err-pass.ensures.stopped r.line r.keeps)))
 
 pub loop-preserved : goal.loop-preserved
@@ -98,15 +118,19 @@ loop-preserved g c =
     let buffer = c.read.new.buffer in
     let more = take c.in-Ok.count buffer in
     let same : c.deref.result.now ≡ buffer = grind (arith, common_steps) in
+    let chunk : length buffer ≡ chunk_size =
+    omega (arith, c.read.auto.buffer, c.as_mut_slice.ensures.len, r.room) in
     let reads = reads-more g.R.Source.remaining g.R.Source.has_failed g.R.Source.read_gives c.args.input.now
     c.loop.input c.read.new.self r.bytes buffer c.in-Ok.count r.reads c.in-Ok.ensures.bytes.0
-    c.in-Ok.ensures.works c.in-Ok.ensures.call c.in-Ok.ensures.bound (search rules) in
+    c.in-Ok.ensures.works c.in-Ok.ensures.call c.in-Ok.ensures.bound (search rules) chunk in
     let on = rw same at (c.in_ok-pass.ensures.passes r.line r.keeps) in
     record {
       bytes = r.bytes ++ more;
       line = on.next;
-      reads = reads;
+      reads = reads-some g.R.Source.remaining g.R.Source.has_failed g.R.Source.read_gives
+          c.args.input.now c.read.new.self r.bytes more reads;
       keeps = on.keeps;
+      few = λ stays. kept-few on.next (rw on.keeps.1 at (c.in_ok-pass.ensures.few stays));
       passes = passes-more c.args.asked.options g.W.Writer.contents g.W.Writer.has_failed g.E.Writer.contents
           g.E.Writer.has_failed (query_of c.args.asked.query.now.query)
           r.bytes more at_start _ _ _ _ _ _ _ _ r.passes on.passes;
@@ -116,7 +140,7 @@ loop-preserved g c =
 pub returns : goal.returns
 returns g c = λ profile text asked.
     let r = c.loop.invariant in
-    runs-stop_counting profile c.args.asked.options g.R.Source.remaining g.R.Source.has_failed
+    runs-stop_reading profile c.args.asked.options g.R.Source.remaining g.R.Source.has_failed
     g.R.Source.read_gives g.W.Writer.contents g.W.Writer.has_failed g.E.Writer.contents
     g.E.Writer.has_failed (query_of c.args.asked.query.now.query) text asked _ _ r.bytes (standing c.loop.progress r.line) _ _ _ _
-    r.reads r.passes r.keeps.0
+    r.reads r.passes r.keeps.0 r.few
