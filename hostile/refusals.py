@@ -1,5 +1,5 @@
-"""What the hostile runs share: runs of a built program, with each request for memory refused in turn,
-or with little stack; and their count."""
+"""What the hostile runs share: runs of a built program, with each request for memory, each read or each
+write failing in turn, or with little stack; and their count."""
 import os
 import resource
 import shutil
@@ -40,8 +40,9 @@ class Runs:
         return 0 if self.failed == 0 and self.passed > 0 else 1
 
 
-def run(program, words, document, environment=None, marks=None, stack=None):
-    """The status of a run and what it printed on both streams."""
+def run(program, words, document, environment=None, marks=None, stack=None, output=None):
+    """The status of a run and what it printed on both streams, on the first if no other output is
+    given."""
 
     def limit():
         if marks is not None:
@@ -52,14 +53,15 @@ def run(program, words, document, environment=None, marks=None, stack=None):
     done = subprocess.run(
         [program, *words],
         input=document.encode(),
-        capture_output=True,
+        stdout=subprocess.PIPE if output is None else output,
+        stderr=subprocess.PIPE,
         env=environment or {},
         preexec_fn=limit,
         pass_fds=(3,) if marks is not None else (),
         timeout=60,
         check=False,
     )
-    return done.returncode, done.stdout.decode(), done.stderr.decode()
+    return done.returncode, (done.stdout or b"").decode(), done.stderr.decode()
 
 
 def in_shell(line):
@@ -68,10 +70,11 @@ def in_shell(line):
     return done.returncode, done.stdout, done.stderr
 
 
-def build_refuser(folder):
-    """The library that refuses one request for memory, and counts what is held."""
-    library = os.path.join(folder, "refuse.so")
-    source = os.path.join(ROOT, "hostile", "refuse.c")
+def build_library(folder, name):
+    """A library that stands before a program's calls: `refuse`, which refuses one request for memory
+    and counts what is held, or `calls`, which fails one read or one write and counts both."""
+    library = os.path.join(folder, f"{name}.so")
+    source = os.path.join(ROOT, "hostile", f"{name}.c")
     compiler = os.environ.get("CC", "cc")
     if shutil.which(compiler) is None:
         jp_tools.stop(f"there is no C compiler ({compiler}), which makes what refuses memory")
@@ -79,10 +82,10 @@ def build_refuser(folder):
     return library
 
 
-def refused_run(program, library, number, words, document):
+def refused_run(program, library, number, words, document, **environment):
     """Whether the request of this number came and was refused, and what the run gave."""
     inner, outer = os.pipe()
-    environment = {"LD_PRELOAD": library, "REFUSED_REQUEST": str(number)}
+    environment |= {"LD_PRELOAD": library, "REFUSED_REQUEST": str(number)}
     given = run(program, words, document, environment, marks=outer)
     os.close(outer)
     came = os.read(inner, 1) != b""
@@ -100,13 +103,13 @@ def held_at_most(program, library, words, document):
     return given, int(told)
 
 
-def refuse_growths(runs, library, program, words, document, whole):
+def refuse_growths(runs, library, program, words, document, whole, **environment):
     """Refuses each request of a run, one a run: it gives what it gives with ample memory, `whole`, or
     status 4 with its line and a prefix of that on both streams. The statuses of the refused runs."""
     statuses = []
     number = 1
     while True:
-        came, given = refused_run(program, library, number, words, document)
+        came, given = refused_run(program, library, number, words, document, **environment)
         status, printed, line = given
         told = line.removesuffix("want of memory\n")
         is_prefix = whole[1].startswith(printed) and line != told and whole[2].startswith(told)
@@ -122,3 +125,59 @@ def refuse_growths(runs, library, program, words, document, whole):
     what = " ".join([*words, document.strip()])
     print(f"hostile: {len(statuses)} growths refused of {what[:60]}")
     return statuses
+
+
+def counted_run(program, calls, words, document, output=None, **environment):
+    """What a run gave, and how many reads of its input and writes to its output it made."""
+    inner, outer = os.pipe()
+    environment |= {"LD_PRELOAD": calls, "TELL_CALLS": "1"}
+    given = run(program, words, document, environment, marks=outer, output=output)
+    os.close(outer)
+    reads, writes = os.read(inner, 40).split()
+    os.close(inner)
+    return given, int(reads), int(writes)
+
+
+def spoil_output(runs, calls, program, words, document):
+    """Runs whose first write fails: on a full device, on a pipe that its reader has closed, and on a
+    device that fails once. No run writes again."""
+    ended = (5, "", "write fault\n")
+    with open("/dev/full", "wb") as full:
+        given = counted_run(program, calls, words, document, output=full)
+    runs.expect((given[0], given[2]) == (ended, 1), f"{words} on a full device: {given}")
+    inner, outer = os.pipe()
+    os.close(inner)
+    given = counted_run(program, calls, words, document, output=outer)
+    os.close(outer)
+    runs.expect((given[0], given[2]) == (ended, 1), f"{words} on a closed pipe: {given}")
+    given = counted_run(program, calls, words, document, FAILED_WRITE="1")
+    runs.expect((given[0], given[2]) == (ended, 1), f"{words} on a device that fails once: {given}")
+
+
+def fail_writes(runs, calls, program, words, document, ends):
+    """Fails each write of a run, one a run, and no other: it is the last one. `ends` has what the run
+    prints on both streams where it fails at its first write, at its second, and so on, and at none."""
+    for number, (printed, told) in enumerate(ends, 1):
+        given, _, writes = counted_run(program, calls, words, document, FAILED_WRITE=str(number))
+        fails = number < len(ends)
+        ended = (5, printed, told + "write fault\n") if fails else (given[0], printed, told)
+        made = number if fails else number - 1
+        what = f"{words} with write {number} failing: {given[0]} {given[1][:80]!r} {given[2]!r}"
+        runs.expect(given == ended and writes == made, f"{what}, {writes} writes")
+    print(f"hostile: {len(ends) - 1} writes failed of {' '.join(words)[:60]}")
+
+
+def fail_reads(runs, calls, program, words, document, size, end_of):
+    """Fails each read of a run, one a run, of which each gives so many bytes: it is the last one.
+    `end_of` says what the run has printed on both streams after these bytes of the document."""
+    given_bytes = document.encode()
+    reads = len(given_bytes) // size + 1
+    for number in range(1, reads + 1):
+        given, made, _ = counted_run(
+            program, calls, words, document, FAILED_READ=str(number), READ_AT_MOST=str(size)
+        )
+        printed, told = end_of(given_bytes[: (number - 1) * size])
+        ended = (5, printed, told + "read fault\n")
+        what = f"{words} with read {number} failing: {given[0]} {given[1][:80]!r} {given[2]!r}"
+        runs.expect(given == ended and made == number, f"{what}, {made} reads")
+    print(f"hostile: {reads} reads failed of {' '.join(words)[:60]}")
