@@ -18,6 +18,10 @@
  * freed when it returns, but for what a handle keeps.
  *
  * A query has to be UTF-8, as has a document. Numbers in documents are whole, of 64 bits.
+ *
+ * A query and a document may have any length for which there is memory: the limits of the program
+ * jp, 1 MiB and 16 MiB, are not those of a call. A document of more than 2^32 bytes gives
+ * JP_NO_MEMORY. Documents nest 127 levels deep, queries 128.
  */
 #ifndef JP_H
 #define JP_H

@@ -1,8 +1,10 @@
 /* Tests what jp.h promises of buffers, bytes and handles: rooms of 0, of one too little, of the length and
  * of more; a query and a document that are no UTF-8; no text at all; handles that are empty, cleared
- * twice, filled again, used for the other kind. Prints nothing where all is so. */
+ * twice, filled again, used for the other kind, and a million of them, which leave no memory behind.
+ * Prints nothing where all is so. */
 #include "jp.h"
 
+#include <malloc.h>
 #include <stdio.h>
 #include <stdlib.h>
 #include <string.h>
@@ -201,6 +203,45 @@ static void try_no_handles(void) {
     expect(jp_select(&query, &document, JP_VALUES, out, sizeof out, &report) == JP_USAGE, "cleared", 16);
 }
 
+/* How many bytes the program holds, those included that its allocator keeps to hand out again. Under
+ * AddressSanitizer this is 0: there leaks are told at the end. */
+static size_t held(void) {
+    const struct mallinfo2 info = mallinfo2();
+    return info.uordblks + info.hblkhd;
+}
+
+/* Fills handles, asks them, and fills them again or clears them, so many times. */
+static void use_handles(long times) {
+    struct jp_handle query = JP_EMPTY, document = JP_EMPTY;
+    struct jp_report report;
+    uint8_t out[16];
+    for (long time = 0; time < times; time += 1) {
+        keep_query("$.a[1]", &query);
+        keep_document(time % 2 == 0 ? "{\"a\":[1,[2]]}" : "[2.5]", &document);
+        jp_select(&query, &document, JP_VALUES, out, sizeof out, &report);
+        if (time % 3 == 0) {
+            jp_clear(&query);
+            jp_clear(&document);
+        }
+    }
+    jp_clear(&query);
+    jp_clear(&document);
+}
+
+#ifdef __SANITIZE_ADDRESS__
+#define MANY 1000
+#else
+#define MANY 1000000
+#endif
+
+/* A million handles leave nothing behind: what they hold is given back. */
+static void try_many_handles(void) {
+    use_handles(1000);
+    size_t before = held();
+    use_handles(MANY);
+    expect(held() < before + 65536, "as much held after a million handles as before", 16);
+}
+
 int main(void) {
     for (size_t at = 0; at < sizeof rows / sizeof rows[0]; at += 1) {
         size_t length = rows[at].expected.length;
@@ -211,6 +252,7 @@ int main(void) {
         try_handles_as(&rows[at]);
     }
     try_no_handles();
+    try_many_handles();
     const size_t rooms[] = {0, 26, 27, 32};
     for (size_t room = 0; room < 4; room += 1) {
         try_many(rooms[room]);
