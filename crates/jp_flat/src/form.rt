@@ -1,4 +1,5 @@
 //! The values of a document in tables, as values that are lent.
+ghost use Rattle.jp_reading.proofs.Conjunctions.{and-right};
 ghost use Rattle.jp_flat.specs.FlatValue.{lent_flat};
 
 use crate::flat_value::FlatValue;
@@ -38,4 +39,6 @@ impl<'v, 't> Selectable for FlatValue<'v, 't> {
     {
         FlatValue::member(self, name)
     }
+
+    ghost sound = { λ v. and-right _ _ v.sound };
 }

@@ -39,4 +39,6 @@ impl<'v> Selectable for DocumentValue<'v> {
     {
         DocumentValue::member(self, name)
     }
+
+    ghost sound = { λ v. v.sound };
 }

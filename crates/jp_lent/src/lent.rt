@@ -1,7 +1,7 @@
 //! Values that are lent.
 ghost use Rattle.std.specs.Prelude.{◌≡◌, ◌<◌, OnSome, length, option_map, slice_get};
 ghost use Rattle.jp_document.specs.Location.{child_entry, entries, named};
-ghost use Rattle.jp_document.specs.Value.{Value, list_length};
+ghost use Rattle.jp_document.specs.Value.{IsDocumentValue, Value, list_length};
 ghost use Rattle.jp_lent.specs.Lending.{bare, seen_value, step_with};
 
 use crate::seen::Seen;
@@ -34,7 +34,7 @@ pub trait Lent: Copy {
         ensures more { OnSome result (position < usize.MAX) };
 }
 
-/// A value that selectors choose from.
+/// A value of a document, that selectors choose from.
 pub trait Selectable: Lent {
     /// How many items a list has, None of another value.
     fn list_length(self) -> Option<u64>
@@ -47,4 +47,7 @@ pub trait Selectable: Lent {
         Self: 'd,
         ensures { option_map (step_with Self.meaning) result
             ≡ child_entry (Self.meaning self) (named name.now) };
+
+    /// So each of its steps leads to one value alone.
+    ghost sound: { (v : Self) → IsDocumentValue (Self.meaning v) };
 }
