@@ -3,4 +3,5 @@ pub mod Nodelists
 pub mod Parts
 pub mod Paths
 pub mod Rows
+pub mod Settling
 pub mod Walks

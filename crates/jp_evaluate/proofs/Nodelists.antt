@@ -5,5 +5,6 @@ pub mod Elements
 pub mod Joined
 pub mod Only
 pub mod Repeats
+pub mod Sets
 pub mod Sides
 pub mod Standing

@@ -1,8 +1,13 @@
 -- What is left of a walk is what its segments reach.
 pub mod Advances
 pub mod Begun
+pub mod Capped
 pub mod Choices
 pub mod Leaves
 pub mod Reaching
 pub mod Selects
+pub mod Spreading
+pub mod Tallies
+pub mod Tallying
 pub mod Turns
+pub mod WaySums

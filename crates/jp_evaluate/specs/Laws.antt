@@ -1,21 +1,21 @@
 -- Laws of nodes and queries.
 use Rattle.std.specs.Prelude.{◌≡◌, ◌≢◌, ◌≤◌, ℕ, None, List, [], ◌∷◌, ◌++◌, length, Bool, true, false, All, Some}
-use Rattle.std.specs.Prelude.{if◌then◌else◌}
+use Rattle.std.specs.Prelude.{if◌then◌else◌, sum_by}
 use Rattle.std.specs.List.{AllByRecursion, Contains, list_any}
 use Rattle.std.specs.Str.{chars}
 use Rattle.jp_document.specs.Node.{Node, StandsIn}
 use Rattle.jp_document.specs.Path.{path_of}
 use Rattle.jp_document.specs.Value.{NamesRise, Value}
 use Rattle.jp_tree.specs.Singular.{is_singular}
-use Rattle.jp_tree.specs.Tree.{ArgumentTrees, OperandTree, QueryTree, call, call_test}
+use Rattle.jp_tree.specs.Tree.{ArgumentTrees, OperandTree, QueryTree, SegmentTrees, call, call_test}
 use Rattle.jp_check.specs.Functions.{function_named}
 use Rattle.jp_tree.specs.declared.function.Function.TheVariants.{Distinct}
 use Rattle.jp_check.specs.declared.profile.Profile.TheVariants.{Extended}
 use Rattle.jp_check.specs.declared.profile.Profile.{Profile}
 use Rattle.jp_check.specs.Accepted.{IsAcceptedAs}
 use Rattle.jp_evaluate.specs.Functions.{is_same_node, without_repeats}
-use Rattle.jp_evaluate.specs.Nodelist.{call_holds, call_nodes, holds, nodelist, nodelist_at}
-use Rattle.jp_evaluate.specs.Nodelist.{operand_value}
+use Rattle.jp_evaluate.specs.Nodelist.{call_holds, call_nodes, has_node, holds, nodelist}
+use Rattle.jp_evaluate.specs.Nodelist.{nodelist_at, operand_value, result}
 
 -- the normalized path of a node of a document, read as a query, is accepted in each profile and
 -- selects that node alone (RFC 9535 section 2.7)
@@ -41,6 +41,19 @@ abbrev pub NamesRiseInSides : Type 0
 NamesRiseInSides =
     (x : OperandTree) (d : Value) (c : Node) (v : Value) → StandsIn d c
     → operand_value x d c ≡ Some v → NamesRise v
+
+-- whether segments reach a node from a list of nodes depends on the set of these alone, and not on
+-- their order, nor on how often one stands there (section 2.1.2)
+abbrev pub ExistenceGoesBySets : Type 0
+ExistenceGoesBySets =
+    (all : SegmentTrees) (d : Value) (ns ms : List Node) → All (Contains ms) ns → All (Contains ns) ms
+    → has_node (result all d ns) ≡ has_node (result all d ms)
+
+-- segments reach from a list as many nodes as from each of its nodes together (section 2.1.2)
+abbrev pub CountsAddUp : Type 0
+CountsAddUp =
+    (all : SegmentTrees) (d : Value) (ns : List Node)
+    → length (result all d ns) ≡ sum_by (λ n. length (result all d (n ∷ []))) ns
 
 -- a node of the list has the location of n
 abbrev pub is_there : List Node → Node → Bool

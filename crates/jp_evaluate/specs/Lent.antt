@@ -5,7 +5,8 @@ use Rattle.jp_document.specs.Location.{step_of}
 use Rattle.jp_document.specs.Node.{Node, node_at}
 use Rattle.jp_document.specs.Value.{Value}
 use Rattle.jp_document.specs.declared.location.Step.{Step}
-use Rattle.jp_evaluate.specs.Private.Walk.{walk_reaches}
+use Rattle.jp_select.specs.declared.steps.Steps.{Steps}
+use Rattle.jp_evaluate.specs.Private.Segments.{nodes_to_come}
 use Rattle.jp_evaluate.specs.declared.lent.LentNodes.{LentNodes}
 
 -- the node of these steps and this value, where m says what the value stands for
@@ -14,8 +15,12 @@ lent_node m n = node_at (map step_of n.0.items) (m n.1)
 
 -- the nodes that it still has to give, told by what it holds now
 abbrev pub rest_of : {V M : Type 0} → (V → Value) → LentNodes V M → List Node
-rest_of m v = walk_reaches m v.segments.now (m v.evaluation.root) v.walk
+rest_of m v = nodes_to_come m (m v.evaluation.root) v.segments v.walk
 
--- memory ran out for a node, so that no more are given
+-- a node could not be given, for an error, so that no more are given
 abbrev pub has_failed : {V M : Type 0} → LentNodes V M → Bool
 has_failed v = v.failed
+
+-- the steps that it may still make
+abbrev pub steps_of : {V M : Type 0} → LentNodes V M → Steps
+steps_of v = v.work.steps

@@ -6,3 +6,4 @@ pub mod Nodelist
 pub mod Patterns
 pub mod Private
 pub mod Rest
+pub mod Stopping

@@ -10,7 +10,7 @@ texts_in p = p.read.items
 
 -- those that an iterator of nodes keeps now
 abbrev pub texts_kept : {V M : Type 0} → LentNodes V M → List (List ℕ)
-texts_kept v = texts_in v.patterns
+texts_kept v = texts_in v.work.patterns
 
 -- a text has at most so many bytes that it goes from one evaluation to the next
 abbrev pub is_short : List ℕ → Bool

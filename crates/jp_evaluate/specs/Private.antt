@@ -2,8 +2,13 @@
 -- between two calls. Beside `Rest`, the contracts of private functions alone cite it.
 pub mod Asked
 pub mod Calls
+pub mod OnlyNode
+pub mod PathTrees
 pub mod ReadText
+pub mod Segments
 pub mod Selecting
+pub mod Settled
 pub mod Singular
 pub mod Sizes
+pub mod Tally
 pub mod Walk

@@ -1,4 +1,6 @@
 //! The functions of filters (RFC 9535 section 2.4), over their arguments.
+ghost use Rattle.jp_evaluate.specs.Stopping.{StopsSpent};
+ghost use Rattle.jp_select.specs.Steps.{Takes};
 ghost use Rattle.std.specs.Prelude.{◌≡◌, ◌<◌, IfOk, IfSome, length, option_map};
 ghost use Rattle.jp_tree.specs.Views.{argument_of, call_of, query_of};
 ghost use Rattle.jp_select.specs.Comparable.{comparable_of};
@@ -10,41 +12,46 @@ ghost use Rattle.jp_evaluate.specs.Private.Calls.{call_query, counted, only_argu
 ghost use Rattle.jp_evaluate.specs.Private.Selecting.{nodes_query};
 ghost use Rattle.jp_evaluate.specs.Private.Sizes.{argument_size, call_size, query_size};
 
-use crate::evaluating::logical_answer;
+use crate::evaluating::{Work, logical_answer};
+use crate::evaluation_fault::EvaluationFault;
 use crate::filter::Asking;
 use crate::length::length_of;
 use crate::operand::{literal_value, whole};
-use crate::pattern::Patterns;
 use crate::selecting::{NodesQuery, Selecting};
+use crate::tally::{may_meet, tally};
 use jp_check::Function;
 use jp_lent::Selectable;
 use jp_match::Matching;
 use jp_select::Comparable;
 use jp_tree::{Argument, Call};
-use std::alloc::AllocError;
 
 impl<'a, 'q, V: Selectable + 'q, M: Matching> Asking<'a, 'q, V, M> {
     /// The value that a function answers, Nothing where it answers none.
     #[cycle(filter)]
     pub(crate) fn call_value(
         &self,
-        patterns: &mut Patterns,
+        work: &mut Work,
         call: &'q Call,
-    ) -> Result<Comparable<'q, V>, AllocError>
-        ensures { IfOk result
+    ) -> Result<Comparable<'q, V>, EvaluationFault>
+        ensures gives { IfOk result
             (λ value. comparable_of V.meaning value ≡ asked V.meaning self.now (call_answer (call_of call.now))) }
+        ensures takes { Takes work.old.steps work.new.steps }
+        ensures stopped { StopsSpent result work.new.steps }
     {
         let Some(argument) = only_argument(call) else {
             return Ok(Comparable::Nothing);
         };
         match function_of(call) {
-            Some(Function::Length) => Ok(length_of(self.argument_value(patterns, argument)?)),
+            Some(Function::Length) => {
+                let value = self.argument_value(work, argument)?;
+                Ok(length_of(value, &mut work.steps)?)
+            }
             Some(Function::Count) => match argument_query(argument) {
-                Some(nodes) => Ok(whole(self.node_count(patterns, nodes)?)),
+                Some(nodes) => Ok(whole(self.node_count(work, nodes)?)),
                 None => Ok(Comparable::Nothing),
             },
             Some(Function::ValueOf) => match argument_query(argument) {
-                Some(nodes) => Ok(Comparable::of(self.only_value(patterns, nodes)?)),
+                Some(nodes) => Ok(Comparable::of(self.only_value(work, nodes)?)),
                 None => Ok(Comparable::Nothing),
             },
             Some(Function::Match | Function::Search | Function::Distinct) | None => {
@@ -57,47 +64,69 @@ impl<'a, 'q, V: Selectable + 'q, M: Matching> Asking<'a, 'q, V, M> {
     #[cycle(filter)]
     pub(crate) fn call_holds(
         &self,
-        patterns: &mut Patterns,
+        work: &mut Work,
         call: &'q Call,
-    ) -> Result<bool, AllocError>
-        ensures { IfOk result (λ answer. answer ≡ asked V.meaning self.now (call_holds (call_of call.now))) }
+    ) -> Result<bool, EvaluationFault>
+        ensures gives { IfOk result (λ answer. answer ≡ asked V.meaning self.now (call_holds (call_of call.now))) }
+        ensures takes { Takes work.old.steps work.new.steps }
+        ensures stopped { StopsSpent result work.new.steps }
     {
         let Some((first, second)) = both_arguments(call) else {
             return Ok(false);
         };
-        let value = self.argument_value(patterns, first)?;
-        let pattern = self.argument_value(patterns, second)?;
-        logical_answer(self.evaluation, patterns, function_of(call), value, pattern)
+        let value = self.argument_value(work, first)?;
+        let pattern = self.argument_value(work, second)?;
+        logical_answer(self.evaluation, work, function_of(call), value, pattern)
     }
 
     /// The value that an argument stands for, Nothing where it stands for none.
     #[cycle(filter)]
     fn argument_value(
         &self,
-        patterns: &mut Patterns,
+        work: &mut Work,
         argument: &'q Argument,
-    ) -> Result<Comparable<'q, V>, AllocError>
-        ensures { IfOk result (λ value. comparable_of V.meaning value
+    ) -> Result<Comparable<'q, V>, EvaluationFault>
+        ensures gives { IfOk result (λ value. comparable_of V.meaning value
             ≡ asked V.meaning self.now (argument_value (argument_of argument.now))) }
+        ensures takes { Takes work.old.steps work.new.steps }
+        ensures stopped { StopsSpent result work.new.steps }
     {
         match argument {
             Argument::Literal(literal) => Ok(literal_value(literal)),
-            Argument::Query(query) => Ok(Comparable::of(self.node_value(query))),
-            Argument::Call(call) => self.call_value(patterns, call),
+            Argument::Query(query) => {
+                work.steps.take_many(query.segments.len() as u64)?;
+                Ok(Comparable::of(self.node_value(query)))
+            }
+            Argument::Call(call) => self.call_value(work, call),
             Argument::Logical(_) => Ok(Comparable::Nothing),
         }
     }
 
     /// How many nodes a query selects, those alone that are counted.
     #[cycle(filter)]
-    fn node_count(&self, patterns: &mut Patterns, nodes: NodesQuery<'q>) -> Result<u64, AllocError>
-        ensures { IfOk result (λ count. count ≡ length (counted nodes.entry.distinct
+    pub(crate) fn node_count(
+        &self,
+        work: &mut Work,
+        nodes: NodesQuery<'q>,
+    ) -> Result<u64, EvaluationFault>
+        ensures gives { IfOk result (λ count. count ≡ length (counted nodes.entry.distinct
             (asked V.meaning self.now (nodelist_at (query_of nodes.entry.query.now))))) }
+        ensures takes { Takes work.old.steps work.new.steps }
+        ensures stopped { StopsSpent result work.new.steps }
     {
+        let segments = &nodes.query.segments;
+        if !nodes.distinct && may_meet(segments) {
+            let start = self.start(nodes.query);
+            let tallied = tally(self.evaluation, work, segments, start, u64::MAX)?;
+            if tallied.count == u64::MAX {
+                return Err(EvaluationFault::NoMemory);
+            }
+            return Ok(tallied.count);
+        }
         let mut selecting = Selecting::from(self.evaluation.alloc, nodes, self.start(nodes.query));
         let mut count: u64 = 0;
-        while selecting.next(self.evaluation, patterns)?.is_some() {
-            count = count.checked_add(1).ok_or(AllocError)?;
+        while selecting.next(self.evaluation, work)?.is_some() {
+            count = count.checked_add(1).ok_or(EvaluationFault::NoMemory)?;
         }
         Ok(count)
     }
@@ -107,18 +136,29 @@ impl<'a, 'q, V: Selectable + 'q, M: Matching> Asking<'a, 'q, V, M> {
     #[cycle(filter)]
     fn only_value(
         &self,
-        patterns: &mut Patterns,
+        work: &mut Work,
         nodes: NodesQuery<'q>,
-    ) -> Result<Option<V>, AllocError>
-        ensures { IfOk result (λ value. option_map V.meaning value ≡ only_value
+    ) -> Result<Option<V>, EvaluationFault>
+        ensures gives { IfOk result (λ value. option_map V.meaning value ≡ only_value
             (counted nodes.entry.distinct
             (asked V.meaning self.now (nodelist_at (query_of nodes.entry.query.now))))) }
+        ensures takes { Takes work.old.steps work.new.steps }
+        ensures stopped { StopsSpent result work.new.steps }
     {
+        let segments = &nodes.query.segments;
+        if !nodes.distinct && may_meet(segments) {
+            let start = self.start(nodes.query);
+            let tallied = tally(self.evaluation, work, segments, start, 1)?;
+            if tallied.count == 1 {
+                return Ok(tallied.first);
+            }
+            return Ok(None);
+        }
         let mut selecting = Selecting::from(self.evaluation.alloc, nodes, self.start(nodes.query));
-        let Some(reached) = selecting.next(self.evaluation, patterns)? else {
+        let Some(reached) = selecting.next(self.evaluation, work)? else {
             return Ok(None);
         };
-        match selecting.next(self.evaluation, patterns)? {
+        match selecting.next(self.evaluation, work)? {
             Some(_) => Ok(None),
             None => Ok(Some(reached.value)),
         }
@@ -127,7 +167,7 @@ impl<'a, 'q, V: Selectable + 'q, M: Matching> Asking<'a, 'q, V, M> {
 
 /// The function that a call names.
 #[tactic(auto, using(crate::proofs::Parts::Arguments::named_function))]
-fn function_of(call: &Call) -> Option<Function>
+pub(crate) fn function_of(call: &Call) -> Option<Function>
     ensures { result ≡ call_function (call_of call.now) }
 {
     call.name.function()
@@ -135,7 +175,7 @@ fn function_of(call: &Call) -> Option<Function>
 
 /// The query whose nodes an argument stands for, if it stands for nodes.
 #[cycle(arguments)]
-fn argument_query(argument: &Argument) -> Option<NodesQuery<'_>>
+pub(crate) fn argument_query(argument: &Argument) -> Option<NodesQuery<'_>>
     ensures gives { option_map nodes_query result ≡ argument_query (argument_of argument.now) }
     ensures smaller { IfSome result (λ n. query_size (query_of n.query.now)
         < argument_size (argument_of argument.now)) }
@@ -169,7 +209,7 @@ pub(crate) fn call_query(call: &Call) -> Option<NodesQuery<'_>>
 }
 
 /// The argument of a call that has one.
-fn only_argument(call: &Call) -> Option<&Argument>
+pub(crate) fn only_argument(call: &Call) -> Option<&Argument>
     ensures { option_map (λ x. argument_of x.now) result ≡ only_argument (call_of call.now) }
 {
     if call.arguments.len() == 1 {

@@ -1,15 +1,24 @@
 //! What an evaluation goes by, and the functions that ask its matcher.
-ghost use Rattle.std.specs.Prelude.{◌≡◌, IfOk, Some};
+ghost use Rattle.jp_evaluate.specs.Stopping.{StopsSpent};
+ghost use Rattle.jp_select.specs.Steps.{Takes};
+ghost use Rattle.std.specs.Prelude.{◌≡◌, ℕ, List, IfOk, Some};
+ghost use Rattle.std.specs.Str.{chars};
+ghost use Rattle.jp_iregexp.specs.PatternOf.{pattern_of};
+ghost use Rattle.jp_iregexp.specs.Tree.{tree};
 ghost use Rattle.jp_document.specs.Value.{text as text_value};
 ghost use Rattle.jp_select.specs.Comparable.{comparable_of};
 ghost use Rattle.jp_evaluate.specs.Functions.{logical_answer};
 
+use crate::evaluation_fault::EvaluationFault;
 use crate::pattern::Patterns;
 use jp_check::Function;
 use jp_lent::{Lent, Seen};
-use jp_match::{Matching, Tests};
-use jp_select::Comparable;
+use jp_match::{CountedPattern, Matching, Tests};
+use jp_select::{Comparable, Steps};
 use std::alloc::{AllocError, Global};
+
+/// How many class tests a step is for.
+const TESTS_A_STEP: u64 = 4_096;
 
 /// What an evaluation goes by: the value of the root, `$`, and the matcher of patterns.
 #[derive(Drop)]
@@ -19,49 +28,86 @@ pub(crate) struct Evaluation<'q, V, M> {
     pub(crate) matcher: &'q M,
 }
 
+/// What changes while an evaluation goes on: the patterns that were read, and the steps that may
+/// still be made.
+#[derive(Drop)]
+pub(crate) struct Work {
+    pub(crate) patterns: Patterns,
+    pub(crate) steps: Steps,
+}
+
 /// Whether `match` or `search` is true of the values of its arguments; other functions are not.
 pub(crate) fn logical_answer<'q, V: Lent + 'q, M: Matching>(
     evaluation: &Evaluation<'q, V, M>,
-    patterns: &mut Patterns,
+    work: &mut Work,
     function: Option<Function>,
     value: Comparable<'q, V>,
     pattern: Comparable<'q, V>,
-) -> Result<bool, AllocError>
-    ensures { IfOk result (λ answer. answer ≡ logical_answer function
+) -> Result<bool, EvaluationFault>
+    ensures gives { IfOk result (λ answer. answer ≡ logical_answer function
         (comparable_of V.meaning value.entry) (comparable_of V.meaning pattern.entry)) }
+    ensures takes { Takes work.old.steps work.new.steps }
+    ensures stopped { StopsSpent result work.new.steps }
 {
     match (value.seen(), pattern.seen()) {
         (Some(Seen::Text(text)), Some(Seen::Text(pattern))) => text_answer(
-            evaluation, patterns, function, text, pattern,
+            evaluation, work, function, text, pattern,
         ),
         _ => Ok(false),
     }
 }
 
 /// Whether a text matches the pattern of the other, the whole of it for `match` (RFC 9535 section
-/// 2.4.6), some part of it for `search` (section 2.4.7); not so where it spells none.
+/// 2.4.6), some part of it for `search` (section 2.4.7); not so where it spells none. Each byte of
+/// both texts is a step, and so are, where the pattern has more than 4,096 positions, class tests
+/// beyond those of the text's bytes, 4,096 at a time.
 fn text_answer<'q, V, M: Matching>(
     evaluation: &Evaluation<'q, V, M>,
-    patterns: &mut Patterns,
+    work: &mut Work,
     function: Option<Function>,
     text: &str,
     pattern: &'q str,
-) -> Result<bool, AllocError>
-    ensures { IfOk result (λ answer. answer
+) -> Result<bool, EvaluationFault>
+    ensures gives { IfOk result (λ answer. answer
         ≡ logical_answer function (Some (text_value text.now)) (Some (text_value pattern.now))) }
+    ensures takes { Takes work.old.steps work.new.steps }
+    ensures stopped { StopsSpent result work.new.steps }
 {
     let alloc = evaluation.alloc;
-    let Some(pattern) = patterns.of(alloc, pattern)? else {
+    work.steps.take_many(text.len() as u64)?;
+    work.steps.take_many(pattern.len() as u64)?;
+    let Some(pattern) = work.patterns.of(alloc, pattern)? else {
         return Ok(false);
     };
+    let mut tests = Tests::new();
+    let answer = is_matched(evaluation, function, pattern, text, &mut tests)?;
+    work.steps.take_many(steps_beyond(&tests, text))?;
+    Ok(answer)
+}
+
+/// The same of a pattern that was read.
+fn is_matched<V, M: Matching>(
+    evaluation: &Evaluation<'_, V, M>,
+    function: Option<Function>,
+    pattern: &CountedPattern,
+    text: &str,
+    tests: &mut Tests,
+) -> Result<bool, AllocError>
+    ensures { IfOk result (λ answer. (spelled : List ℕ)
+        → pattern_of (chars spelled) ≡ Some (tree pattern.now.pattern)
+        → answer ≡ logical_answer function (Some (text_value text.now)) (Some (text_value spelled))) }
+{
+    let alloc = evaluation.alloc;
+    let matcher = evaluation.matcher;
     match function {
-        Some(Function::Match) => evaluation
-            .matcher
-            .whole_counted(alloc, pattern, text, &mut Tests::new()),
-        Some(Function::Search) => evaluation
-            .matcher
-            .part_counted(alloc, pattern, text, &mut Tests::new()),
+        Some(Function::Match) => matcher.whole_counted(alloc, pattern, text, tests),
+        Some(Function::Search) => matcher.part_counted(alloc, pattern, text, tests),
         Some(Function::Length | Function::Count | Function::ValueOf | Function::Distinct) | None =>
             { Ok(false) }
     }
+}
+
+/// The steps for class tests beyond those that a pattern of 4,096 positions makes over the text.
+fn steps_beyond(tests: &Tests, text: &str) -> u64 {
+    (tests.count() / TESTS_A_STEP).saturating_sub(text.len() as u64)
 }

@@ -17,8 +17,9 @@ use std::alloc::{AllocError, Global};
 /// The nodes that a query selects in a document (RFC 9535 section 2.1.2), to be taken one by one in
 /// the nodelist's order; a node that is selected twice is given twice. The matcher answers `match`
 /// and `search`. It takes no memory before the first is asked for, and then what it holds follows
-/// the depth of the document and the query, and the patterns that were read, of which it keeps 16
-/// at most. The nodes borrow from the document.
+/// the depth of the document and the query, the patterns that were read, of which it keeps 16 at
+/// most, and, where absolute queries stand in its filters, the query's size. The nodes borrow from
+/// the document.
 pub fn nodes<'d: 'q, 'q, M: Matching>(
     alloc: Global,
     document: &'d Document,

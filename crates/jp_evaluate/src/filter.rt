@@ -1,4 +1,6 @@
 //! The truth of the expressions of filters (RFC 9535 section 2.3.5.2).
+ghost use Rattle.jp_evaluate.specs.Stopping.{StopsSpent};
+ghost use Rattle.jp_select.specs.Steps.{Takes};
 ghost use Rattle.std.specs.Prelude.{◌≡◌, ◌⊎◌, IfOk, None, map, true};
 ghost use Rattle.jp_tree.specs.declared.tree.Op.TheVariants.{Greater, Less};
 ghost use Rattle.jp_tree.specs.Tree.{exprs};
@@ -9,15 +11,15 @@ ghost use Rattle.jp_evaluate.specs.Nodelist.{operand_value};
 ghost use Rattle.jp_evaluate.specs.Private.Asked.{asked};
 
 use crate::calls::call_query;
-use crate::evaluating::Evaluation;
+use crate::evaluating::{Evaluation, Work};
+use crate::evaluation_fault::EvaluationFault;
 use crate::operand::literal_value;
-use crate::pattern::Patterns;
+use crate::tally::{may_meet, tally};
 use crate::walk::Walk;
 use jp_lent::{Lent, Selectable};
 use jp_match::Matching;
 use jp_select::{Comparable, compare};
 use jp_tree::{Expr, Op, Operand, Query, Subject};
-use std::alloc::AllocError;
 
 /// What stays the same while an expression is evaluated: what the evaluation goes by, and the value
 /// of the current node, `@`.
@@ -30,37 +32,41 @@ pub(crate) struct Asking<'a, 'q, V, M> {
 impl<'a, 'q, V: Selectable + 'q, M: Matching> Asking<'a, 'q, V, M> {
     /// Whether an expression is true.
     #[cycle(filter)]
-    pub(crate) fn holds(&self, patterns: &mut Patterns, expr: &'q Expr) -> Result<bool, AllocError>
-        ensures { IfOk result (λ answer. answer ≡ asked V.meaning self.now (holds (expr_of expr.now))) }
+    pub(crate) fn holds(&self, work: &mut Work, expr: &'q Expr) -> Result<bool, EvaluationFault>
+        ensures gives { IfOk result (λ answer. answer ≡ asked V.meaning self.now (holds (expr_of expr.now))) }
+        ensures takes { Takes work.old.steps work.new.steps }
+        ensures stopped { StopsSpent result work.new.steps }
     {
         match expr {
-            Expr::AnyOf(parts) => self.any_holds(patterns, parts),
-            Expr::AllOf(parts) => self.all_hold(patterns, parts),
-            Expr::Not(part) => Ok(!self.holds(patterns, part)?),
+            Expr::AnyOf(parts) => self.any_holds(work, parts),
+            Expr::AllOf(parts) => self.all_hold(work, parts),
+            Expr::Not(part) => Ok(!self.holds(work, part)?),
             Expr::Compare { left, op, right } => {
-                let left = self.operand_value(patterns, left)?;
+                let left = self.operand_value(work, left)?;
                 if is_never(*op, &left) {
                     return Ok(false);
                 }
-                let right = self.operand_value(patterns, right)?;
-                Ok(compare(*op, left, right))
+                let right = self.operand_value(work, right)?;
+                Ok(compare(*op, left, right, &mut work.steps)?)
             }
-            Expr::Test(Subject::Query(query)) => self.selects_some(patterns, query),
+            Expr::Test(Subject::Query(query)) => self.selects_some(work, query),
             Expr::Test(Subject::Call(call)) => match call_query(call) {
-                Some(nodes) => self.selects_some(patterns, nodes.query),
-                None => self.call_holds(patterns, call),
+                Some(nodes) => self.selects_some(work, nodes.query),
+                None => self.call_holds(work, call),
             },
         }
     }
 
     /// Whether one of the expressions is true; those after it are not asked.
     #[cycle(filter)]
-    fn any_holds(&self, patterns: &mut Patterns, parts: &'q [Expr]) -> Result<bool, AllocError>
-        ensures { IfOk result
+    fn any_holds(&self, work: &mut Work, parts: &'q [Expr]) -> Result<bool, EvaluationFault>
+        ensures gives { IfOk result
             (λ answer. answer ≡ asked V.meaning self.now (any_holds (exprs (map expr_of parts.now)))) }
+        ensures takes { Takes work.old.steps work.new.steps }
+        ensures stopped { StopsSpent result work.new.steps }
     {
         for part in parts {
-            if self.holds(patterns, part)? {
+            if self.holds(work, part)? {
                 return Ok(true);
             }
         }
@@ -69,12 +75,14 @@ impl<'a, 'q, V: Selectable + 'q, M: Matching> Asking<'a, 'q, V, M> {
 
     /// Whether all of the expressions are true; those after one that is not are not asked.
     #[cycle(filter)]
-    fn all_hold(&self, patterns: &mut Patterns, parts: &'q [Expr]) -> Result<bool, AllocError>
-        ensures { IfOk result
+    fn all_hold(&self, work: &mut Work, parts: &'q [Expr]) -> Result<bool, EvaluationFault>
+        ensures gives { IfOk result
             (λ answer. answer ≡ asked V.meaning self.now (all_hold (exprs (map expr_of parts.now)))) }
+        ensures takes { Takes work.old.steps work.new.steps }
+        ensures stopped { StopsSpent result work.new.steps }
     {
         for part in parts {
-            if !self.holds(patterns, part)? {
+            if !self.holds(work, part)? {
                 return Ok(false);
             }
         }
@@ -83,12 +91,23 @@ impl<'a, 'q, V: Selectable + 'q, M: Matching> Asking<'a, 'q, V, M> {
 
     /// Whether a query selects a node; the walk ends at the first.
     #[cycle(filter)]
-    fn selects_some(&self, patterns: &mut Patterns, query: &'q Query) -> Result<bool, AllocError>
-        ensures { IfOk result
+    pub(crate) fn selects_some(
+        &self,
+        work: &mut Work,
+        query: &'q Query,
+    ) -> Result<bool, EvaluationFault>
+        ensures gives { IfOk result
             (λ answer. answer ≡ has_node (asked V.meaning self.now (nodelist_at (query_of query.now)))) }
+        ensures takes { Takes work.old.steps work.new.steps }
+        ensures stopped { StopsSpent result work.new.steps }
     {
+        if may_meet(&query.segments) {
+            let start = self.start(query);
+            let tallied = tally(self.evaluation, work, &query.segments, start, 0)?;
+            return Ok(tallied.count > 0);
+        }
         let mut walk = Walk::from(self.evaluation.alloc, self.start(query));
-        let first = walk.advance(self.evaluation, patterns, &query.segments)?;
+        let first = walk.advance(self.evaluation, work, &query.segments)?;
         Ok(first.is_some())
     }
 
@@ -98,16 +117,21 @@ impl<'a, 'q, V: Selectable + 'q, M: Matching> Asking<'a, 'q, V, M> {
     #[cycle(filter)]
     fn operand_value(
         &self,
-        patterns: &mut Patterns,
+        work: &mut Work,
         operand: &'q Operand,
-    ) -> Result<Comparable<'q, V>, AllocError>
-        ensures { IfOk result (λ value. comparable_of V.meaning value
+    ) -> Result<Comparable<'q, V>, EvaluationFault>
+        ensures gives { IfOk result (λ value. comparable_of V.meaning value
             ≡ asked V.meaning self.now (operand_value (operand_of operand.now))) }
+        ensures takes { Takes work.old.steps work.new.steps }
+        ensures stopped { StopsSpent result work.new.steps }
     {
         match operand {
             Operand::Literal(literal) => Ok(literal_value(literal)),
-            Operand::Query(query) => Ok(Comparable::of(self.node_value(query))),
-            Operand::Call(call) => self.call_value(patterns, call),
+            Operand::Query(query) => {
+                work.steps.take_many(query.segments.len() as u64)?;
+                Ok(Comparable::of(self.node_value(query)))
+            }
+            Operand::Call(call) => self.call_value(work, call),
         }
     }
 }

@@ -1,7 +1,7 @@
 //! Laws over the definitions.
 
 ghost use Rattle.jp_evaluate.specs.Laws.{DistinctIsExact, NamesRiseInSides, PathSelectsItsNode, SelectsNodesAlone};
-ghost use Rattle.jp_evaluate.specs.Laws.{SingularSelectsOne, StandardCalls};
+ghost use Rattle.jp_evaluate.specs.Laws.{CountsAddUp, ExistenceGoesBySets, SingularSelectsOne, StandardCalls};
 
 /// The normalized path of a node of a document, read as a query, is accepted and selects that node
 /// alone (RFC 9535 section 2.7).
@@ -37,4 +37,15 @@ pub fn distinct_is_exact()
 /// answer is: a query without `distinct` means what it means with the standard's functions alone.
 pub fn standard_calls()
     ensures { StandardCalls }
+{}
+
+/// Whether segments reach a node from a list of nodes depends on the set of these alone (section
+/// 2.1.2).
+pub fn existence_goes_by_sets()
+    ensures { ExistenceGoesBySets }
+{}
+
+/// Segments reach from a list as many nodes as from each of its nodes together (section 2.1.2).
+pub fn counts_add_up()
+    ensures { CountsAddUp }
 {}

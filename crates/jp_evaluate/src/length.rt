@@ -1,19 +1,35 @@
 //! The lengths of values (RFC 9535 section 2.4.4).
-ghost use Rattle.std.specs.Prelude.{◌≡◌, Some, length};
+ghost use Rattle.std.specs.Prelude.{◌≡◌, IfOk, OnErr, Some, length};
 ghost use Rattle.std.specs.Str.{chars};
 ghost use Rattle.jp_select.specs.Comparable.{comparable_of};
+ghost use Rattle.jp_select.specs.Steps.{IsSpent, Takes};
 ghost use Rattle.jp_evaluate.specs.Functions.{length_of, size_of};
 
 use jp_lent::{Lent, Seen};
-use jp_select::Comparable;
+use jp_select::{Comparable, Steps, Stopped};
 
-/// The length of a value, Nothing where it has none.
-pub(crate) fn length_of<'a, V: Lent + 'a>(value: Comparable<'a, V>) -> Comparable<'a, V>
-    ensures { comparable_of V.meaning result ≡ length_of (comparable_of V.meaning value.entry) }
+/// The length of a value, Nothing where it has none. Each byte of a text is a step.
+pub(crate) fn length_of<'a, V: Lent + 'a>(
+    value: Comparable<'a, V>,
+    steps: &mut Steps,
+) -> Result<Comparable<'a, V>, Stopped>
+    ensures value { IfOk result (λ length. comparable_of V.meaning length
+        ≡ length_of (comparable_of V.meaning value.entry)) }
+    ensures takes { Takes steps.old steps.new }
+    ensures stopped { OnErr result (IsSpent steps.new) }
 {
+    steps.take_many(text_bytes(value.seen()))?;
     match size_of(value) {
-        Some(size) => Comparable::Whole(size as i128),
-        None => Comparable::Nothing,
+        Some(size) => Ok(Comparable::Whole(size as i128)),
+        None => Ok(Comparable::Nothing),
+    }
+}
+
+/// How many bytes a text has; other values have none.
+fn text_bytes(seen: Option<Seen<'_>>) -> u64 {
+    match seen {
+        Some(Seen::Text(text)) => text.len() as u64,
+        _ => 0,
     }
 }
 

@@ -1,36 +1,77 @@
 //! The nodes of a nodelist as they are lent, to be taken one by one.
-ghost use Rattle.std.specs.Prelude.{◌≡◌, ◌+◌, ◌++◌, IfNone, IfOk, [], false, filter, length};
+ghost use Rattle.std.specs.Prelude.{◌≡◌, ◌+◌, ◌++◌, IfNone, IfOk, IfSome, OnOk, [], false, filter, length, true};
 ghost use Rattle.std.specs.Prelude.{if◌then◌else◌, map, option_to_list};
 ghost use Rattle.std.specs.Iterator.{at_most};
 ghost use Rattle.jp_tree.specs.Views.{query_of};
 ghost use Rattle.jp_select.specs.Giving.{GivesNextAs};
-ghost use Rattle.jp_evaluate.specs.Lent.{has_failed, lent_node, rest_of};
+ghost use Rattle.jp_select.specs.Steps.{Takes};
+ghost use Rattle.jp_evaluate.specs.Stopping.{StopsSpent};
+ghost use Rattle.jp_evaluate.specs.Lent.{has_failed, lent_node, rest_of, steps_of};
 ghost use Rattle.jp_evaluate.specs.Nodelist.{nodelist};
+ghost use Rattle.jp_evaluate.specs.Private.Segments.{AreOf, followed, is_begun};
 ghost use Rattle.jp_evaluate.specs.Patterns.{is_short, texts_in, texts_kept};
 
-use crate::evaluating::Evaluation;
+use crate::evaluating::{Evaluation, Work};
+use crate::evaluation_fault::EvaluationFault;
 use crate::pattern::Patterns;
+use crate::settled::has_answers_due;
 use crate::walk::Walk;
 use jp_check::Checked;
 use jp_document::Step;
 use jp_lent::Selectable;
 use jp_match::Matching;
-use jp_tree::Segment;
-use std::alloc::{AllocError, Global};
+use jp_select::Steps;
+use jp_tree::{Query, Segment};
+use std::alloc::Global;
 
 /// The nodes that a query selects, one after another, each as the steps to it from the root and its
 /// value, in the form in which the root was lent. What came so far is a prefix of the nodelist.
 #[derive(Drop)]
 pub struct LentNodes<'d, 'q, V, M> {
     evaluation: Evaluation<'q, V, M>,
-    patterns: Patterns,
-    segments: &'q [Segment],
+    work: Work,
+    segments: Segments<'q>,
     walk: Walk<'d, V>,
     failed: bool,
 }
 
+/// The segments that the walk follows.
+#[derive(Drop)]
+enum Segments<'q> {
+    /// Those of a query in whose filters there are absolute queries to be answered, before the walk
+    /// begins.
+    Unsettled(&'q Query),
+    /// The query's own.
+    Lent(&'q [Segment]),
+    /// Those of the query with the answers.
+    Settled(Vec<Segment>),
+}
+
+impl<'q> Segments<'q> {
+    fn of(query: &'q Query) -> Segments<'q>
+        ensures { AreOf result query.now }
+    {
+        if has_answers_due(query) {
+            Segments::Unsettled(query)
+        } else {
+            Segments::Lent(&query.segments)
+        }
+    }
+
+    fn followed(&self) -> &[Segment]
+        ensures { result.now ≡ followed self.now }
+    {
+        match self {
+            Segments::Unsettled(query) => &query.segments,
+            Segments::Lent(segments) => segments,
+            Segments::Settled(segments) => segments,
+        }
+    }
+}
+
 /// The nodes that a query selects in the document whose value is the root (RFC 9535 section 2.1.2),
-/// as `nodes` gives them, but each as the steps to it and its value, in the root's form.
+/// as `nodes` gives them, but each as the steps to it and its value, in the root's form. Absolute
+/// queries inside its filters are answered when the first node is asked for.
 pub fn lent_nodes<'d: 'q, 'q, V: Selectable + 'd, M: Matching>(
     alloc: Global,
     root: V,
@@ -40,22 +81,27 @@ pub fn lent_nodes<'d: 'q, 'q, V: Selectable + 'd, M: Matching>(
     ensures working { has_failed result ≡ false }
     ensures nodes { rest_of V.meaning result
         ≡ nodelist (query_of query.now.query) (V.meaning root) }
+    ensures unlimited { (steps_of result).limited ≡ false }
 {
-    lent_nodes_with(alloc, root, query, matcher, Patterns::new(alloc))
+    let patterns = Patterns::new(alloc);
+    lent_nodes_with(alloc, root, query, matcher, patterns, Steps::unlimited())
 }
 
-/// The same with the patterns that other evaluations have read, which are not read again.
+/// The same with the patterns that other evaluations have read, which are not read again, and with
+/// the steps that it may make.
 pub fn lent_nodes_with<'d: 'q, 'q, V: Selectable + 'd, M: Matching>(
     alloc: Global,
     root: V,
     query: &'q Checked,
     matcher: &'q M,
     patterns: Patterns,
+    steps: Steps,
 ) -> LentNodes<'d, 'q, V, M>
     ensures working { has_failed result ≡ false }
     ensures nodes { rest_of V.meaning result
         ≡ nodelist (query_of query.now.query) (V.meaning root) }
     ensures patterns { texts_kept result ≡ texts_in patterns }
+    ensures steps { steps_of result ≡ steps }
 {
     LentNodes {
         evaluation: Evaluation {
@@ -63,37 +109,49 @@ pub fn lent_nodes_with<'d: 'q, 'q, V: Selectable + 'd, M: Matching>(
             root,
             matcher,
         },
-        patterns,
-        segments: &query.query().segments,
+        work: Work { patterns, steps },
+        segments: Segments::of(query.query()),
         walk: Walk::from(alloc, root),
         failed: false,
     }
 }
 
 impl<'d: 'q, 'q, V: Selectable + 'd, M: Matching> LentNodes<'d, 'q, V, M> {
-    /// Whether a node could not be given because memory ran out. No more are given then.
+    /// Whether a node could not be given, for an error. No more are given then.
     pub fn failed(&self) -> bool
         ensures { result ≡ has_failed self.now }
     {
         self.failed
     }
 
-    /// The patterns that were read, for another evaluation: those whose texts have at most 1,024
-    /// bytes.
-    pub fn into_patterns(self) -> Patterns
-        ensures { texts_in result ≡ filter is_short (texts_kept self.entry) }
+    /// Where it takes its memory.
+    pub(crate) fn alloc(&self) -> Global {
+        self.evaluation.alloc
+    }
+
+    /// What goes on to another evaluation: the patterns that were read whose texts have at most
+    /// 1,024 bytes, and the steps that may still be made.
+    pub fn into_parts(self) -> (Patterns, Steps)
+        ensures patterns { texts_in result.0 ≡ filter is_short (texts_kept self.entry) }
+        ensures steps { result.1 ≡ steps_of self.entry }
     {
-        let mut patterns = self.patterns;
+        let Work {
+            mut patterns,
+            steps,
+        } = self.work;
         patterns.forget_long();
-        patterns
+        (patterns, steps)
     }
 
     /// The next node: its value, and in `location` the steps to it instead of what that held; None
-    /// at the end of the nodelist. An error says that there is no memory for it; there are no more
-    /// then, and `location` may hold anything.
-    pub fn next_at(&mut self, location: &mut Vec<Step<'d>>) -> Option<Result<V, AllocError>>
-        ensures { GivesNextAs (λ v. lent_node V.meaning (location.new, v)) (rest_of V.meaning) has_failed
+    /// at the end of the nodelist. `NoMemory` says that there is no memory for it, `StepsUsedUp` that
+    /// the steps that it was allowed are used up; there are no more then, and `location` may hold
+    /// anything.
+    pub fn next_at(&mut self, location: &mut Vec<Step<'d>>) -> Option<Result<V, EvaluationFault>>
+        ensures gives { GivesNextAs (λ v. lent_node V.meaning (location.new, v)) (rest_of V.meaning) has_failed
             self.old result self.new }
+        ensures takes { Takes (steps_of self.old) (steps_of self.new) }
+        ensures stopped { IfSome result (λ r. StopsSpent r (steps_of self.new)) }
     {
         if self.failed {
             return None;
@@ -108,16 +166,19 @@ impl<'d: 'q, 'q, V: Selectable + 'd, M: Matching> LentNodes<'d, 'q, V, M> {
     }
 
     /// The same, before an error is kept.
-    fn take(&mut self, location: &mut Vec<Step<'d>>) -> Result<Option<V>, AllocError>
+    fn take(&mut self, location: &mut Vec<Step<'d>>) -> Result<Option<V>, EvaluationFault>
         ensures gives { IfOk result (λ o. rest_of V.meaning self.old
             ≡ map (λ v. lent_node V.meaning (location.new, v)) (option_to_list o)
             ++ rest_of V.meaning self.new) }
         ensures end { IfOk result (λ o. IfNone o (rest_of V.meaning self.new ≡ [])) }
         ensures failed { has_failed self.new ≡ has_failed self.old }
+        ensures takes { Takes (steps_of self.old) (steps_of self.new) }
+        ensures stopped { StopsSpent result (steps_of self.new) }
     {
+        self.begin()?;
         match self
             .walk
-            .advance(&self.evaluation, &mut self.patterns, self.segments)?
+            .advance(&self.evaluation, &mut self.work, self.segments.followed())?
         {
             Some(reached) => {
                 self.walk.locate(&reached, location)?;
@@ -126,10 +187,26 @@ impl<'d: 'q, 'q, V: Selectable + 'd, M: Matching> LentNodes<'d, 'q, V, M> {
             None => Ok(None),
         }
     }
+
+    /// Answers what is to be answered before the walk.
+    fn begin(&mut self) -> Result<(), EvaluationFault>
+        ensures rest { OnOk result (rest_of V.meaning self.new ≡ rest_of V.meaning self.old) }
+        ensures begun { OnOk result (is_begun self.new.segments ≡ true) }
+        ensures failed { has_failed self.new ≡ has_failed self.old }
+        ensures takes { Takes (steps_of self.old) (steps_of self.new) }
+        ensures stopped { StopsSpent result (steps_of self.new) }
+    {
+        if let Segments::Unsettled(query) = &self.segments {
+            let query = self.evaluation.settled_query(&mut self.work, query)?;
+            self.segments = Segments::Settled(query.segments);
+            self.walk = Walk::from(self.evaluation.alloc, self.evaluation.root);
+        }
+        Ok(())
+    }
 }
 
 impl<'d: 'q, 'q, V: Selectable + 'd, M: Matching> Iterator for LentNodes<'d, 'q, V, M> {
-    type Item = Result<(Vec<Step<'d>>, V), AllocError>;
+    type Item = Result<(Vec<Step<'d>>, V), EvaluationFault>;
 
     ghost next_gives = { GivesNextAs (lent_node V.meaning) (rest_of V.meaning) has_failed };
 
@@ -139,9 +216,9 @@ impl<'d: 'q, 'q, V: Selectable + 'd, M: Matching> Iterator for LentNodes<'d, 'q,
         (0, None)
     }
 
-    /// The next node, or an error where there is no memory for it, after which there are no more;
-    /// None at the end of the nodelist.
-    fn next(&mut self) -> Option<Result<(Vec<Step<'d>>, V), AllocError>> {
+    /// The next node, or an error where there is no memory for it or the steps are used up, after
+    /// which there are no more; None at the end of the nodelist.
+    fn next(&mut self) -> Option<Result<(Vec<Step<'d>>, V), EvaluationFault>> {
         let mut location = Vec::new(self.evaluation.alloc);
         match self.next_at(&mut location)? {
             Ok(value) => Some(Ok((location, value))),

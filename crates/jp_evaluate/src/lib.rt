@@ -15,12 +15,18 @@
 //! query, selects that node alone, a query selects nodes of the document alone, and a singular one
 //! at most one. Nothing that they give depends on a query's profile: one without `distinct` means
 //! what it means with the standard's functions alone.
+//!
+//! An absolute query inside a filter gives the same at each value, and is asked once, before the
+//! first node is given. A query inside a filter that is tested, or whose nodes `count` or `value` is
+//! given, takes each value once, however many ways lead to it: by `laws` existence goes by sets of
+//! nodes, and counts add up.
 #![tactic(auto)]
 
 mod calls;
 mod each;
 mod evaluating;
 mod evaluation;
+mod evaluation_fault;
 mod filter;
 pub mod laws;
 mod length;
@@ -29,13 +35,16 @@ mod named;
 mod operand;
 mod pattern;
 mod selecting;
+mod settled;
 mod singular;
+mod tally;
 #[cfg(test)]
 mod tests;
 mod walk;
 
 pub use each::Nodes;
 pub use evaluation::{evaluate, nodes};
+pub use evaluation_fault::EvaluationFault;
 pub use lent::{LentNodes, lent_nodes, lent_nodes_with};
 pub use named::named_location;
 pub use pattern::Patterns;

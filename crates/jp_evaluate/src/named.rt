@@ -31,7 +31,7 @@ pub fn named_location<'q>(
 }
 
 /// Whether each segment names a step.
-fn names_steps(query: &Query) -> bool
+pub(crate) fn names_steps(query: &Query) -> bool
     ensures { result ≡ is_some (location_named (query_of query.now)) }
 {
     for segment in &query.segments {

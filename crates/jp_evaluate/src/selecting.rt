@@ -1,11 +1,13 @@
 //! The nodes of a query inside an expression, one by one, each once where that is asked.
+ghost use Rattle.jp_evaluate.specs.Stopping.{StopsSpent};
+ghost use Rattle.jp_select.specs.Steps.{Takes};
 ghost use Rattle.std.specs.Prelude.{◌≡◌, ◌∷◌, [], IfOk, MatchOption, Some};
 ghost use Rattle.jp_tree.specs.declared.tree.Query.{out-Query};
 ghost use Rattle.jp_evaluate.specs.Private.Selecting.{IsFresh, TellsNew, to_come};
 ghost use Rattle.jp_evaluate.specs.Private.Walk.{reached_node, walk_frames};
 
-use crate::evaluating::Evaluation;
-use crate::pattern::Patterns;
+use crate::evaluating::{Evaluation, Work};
+use crate::evaluation_fault::EvaluationFault;
 use crate::walk::{Reached, Walk};
 use jp_document::Step;
 use jp_lent::Selectable;
@@ -26,7 +28,7 @@ pub(crate) struct NodesQuery<'q> {
 #[derive(Drop)]
 pub(crate) struct Selecting<'q, V> {
     segments: &'q [Segment],
-    walk: Walk<'q, V>,
+    pub(crate) walk: Walk<'q, V>,
     seen: Option<BTreeSet<Vec<Step<'q>>>>,
 }
 
@@ -55,14 +57,16 @@ impl<'q, V: Selectable + 'q> Selecting<'q, V> {
     pub(crate) fn next<M: Matching>(
         &mut self,
         evaluation: &Evaluation<'q, V, M>,
-        patterns: &mut Patterns,
-    ) -> Result<Option<Reached<'q, V>>, AllocError>
+        work: &mut Work,
+    ) -> Result<Option<Reached<'q, V>>, EvaluationFault>
         ensures segments { self.new.segments ≡ self.old.segments }
         ensures gives { IfOk result (λ o. let left = to_come V.meaning (V.meaning evaluation.now.root)
             in MatchOption o ((left self.old ≡ []) × (left self.new ≡ []))
             (λ p. left self.old ≡ reached_node V.meaning self.new.walk p ∷ left self.new)) }
+        ensures takes { Takes work.old.steps work.new.steps }
+        ensures stopped { StopsSpent result work.new.steps }
     {
-        while let Some(reached) = self.walk.advance(evaluation, patterns, self.segments)? {
+        while let Some(reached) = self.walk.advance(evaluation, work, self.segments)? {
             if self.is_new(evaluation.alloc, &reached)? {
                 return Ok(Some(reached));
             }

@@ -1,4 +1,8 @@
 //! Nodelists, and nodes one at a time. Other rows are in jp_command's table.
+mod places;
+mod settled;
+mod steps;
+
 use crate::{evaluate, named_location, nodes};
 use jp_check::{Profile, read_query};
 use jp_document::path_text;
@@ -11,7 +15,7 @@ use std::test::Fail;
 const NESTED: &[u8] = br#"{"o":{"j":1,"k":2},"a":[5,3,[{"j":4},{"k":6}]]}"#;
 
 /// The paths of the nodelist, each with a blank before it.
-fn nodelist(alloc: Global, bytes: &[u8], query: &str) -> Result<String, Fail> {
+pub(crate) fn nodelist(alloc: Global, bytes: &[u8], query: &str) -> Result<String, Fail> {
     let query = read_query(alloc, query, Profile::Extended)
         .ok()
         .ok_or("refused")?;

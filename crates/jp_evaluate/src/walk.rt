@@ -1,7 +1,8 @@
 //! The walk of a query through a document, from choice to choice (RFC 9535 section 2.1.2). It keeps
 //! a frame for each value on the way from where it begins to where it stands, and no list of nodes.
+ghost use Rattle.jp_evaluate.specs.Stopping.{StopsSpent};
 ghost use Rattle.std.specs.Prelude.{◌≡◌, ◌↔◌, ◌<◌, ◌++◌, ◌∷◌, [], IfNone, IfOk, IfSome, IsTrue};
-ghost use Rattle.std.specs.Prelude.{MatchOption, OnOk, OnSome, length, map, option_and_then};
+ghost use Rattle.std.specs.Prelude.{MatchOption, None, OnOk, OnSome, length, map, option_and_then};
 ghost use Rattle.std.specs.Prelude.{option_map, slice_get};
 ghost use Rattle.jp_document.specs.Location.{entries, step_of};
 ghost use Rattle.jp_document.specs.Node.{root_of};
@@ -9,6 +10,7 @@ ghost use Rattle.jp_tree.specs.Tree.{segments as segment_trees};
 ghost use Rattle.jp_tree.specs.Views.{expr_of, segment_of, selector_of};
 ghost use Rattle.jp_lent.specs.Lending.{step_with};
 ghost use Rattle.jp_select.specs.Selectors.{candidates};
+ghost use Rattle.jp_select.specs.Steps.{Takes};
 ghost use Rattle.jp_evaluate.specs.Private.Sizes.{expr_size, segments_size, selector_size};
 ghost use Rattle.jp_evaluate.specs.Private.Walk.{choice_at, entered, frame_choices, offered};
 ghost use Rattle.jp_evaluate.specs.Private.Walk.{passes, pending, reached_at, reached_node};
@@ -16,9 +18,9 @@ ghost use Rattle.jp_evaluate.specs.Private.Walk.{segments_left, steps_of, walk_r
 ghost use Rattle.jp_evaluate.specs.Private.Walk.{test_of, turn_of, turn_selector, turns};
 ghost use Rattle.jp_evaluate.specs.Private.Walk.{walk_frames};
 
-use crate::evaluating::Evaluation;
+use crate::evaluating::{Evaluation, Work};
+use crate::evaluation_fault::EvaluationFault;
 use crate::filter::Asking;
-use crate::pattern::Patterns;
 use jp_document::Step;
 use jp_lent::Selectable;
 use jp_match::Matching;
@@ -30,9 +32,9 @@ use std::alloc::{AllocError, Global};
 #[derive(Clone, Copy)]
 pub(crate) struct Reached<'d, V> {
     /// How many segments are before it.
-    done: usize,
+    pub(crate) done: usize,
     /// The step to it from the frame before it, None where the walk begins.
-    step: Option<Step<'d>>,
+    pub(crate) step: Option<Step<'d>>,
     pub(crate) value: V,
 }
 
@@ -47,7 +49,7 @@ impl<'d, V: Selectable + 'd> Reached<'d, V> {
 
 /// A value at which a segment chooses: by which turn, and the position of the next of its choices.
 #[derive(Clone, Copy)]
-struct Frame<'d, V> {
+pub(crate) struct Frame<'d, V> {
     reached: Reached<'d, V>,
     turn: usize,
     next: usize,
@@ -55,8 +57,8 @@ struct Frame<'d, V> {
 
 /// A value to go on from, where the test is passed.
 #[derive(Clone, Copy)]
-struct Offer<'q, 'd, V> {
-    reached: Reached<'d, V>,
+pub(crate) struct Offer<'q, 'd, V> {
+    pub(crate) reached: Reached<'d, V>,
     test: Option<&'q Expr>,
 }
 
@@ -96,27 +98,34 @@ impl<'d, V: Selectable + 'd> Walk<'d, V> {
     pub(crate) fn advance<'q, M: Matching>(
         &mut self,
         evaluation: &Evaluation<'q, V, M>,
-        patterns: &mut Patterns,
+        work: &mut Work,
         segments: &'q [Segment],
-    ) -> Result<Option<Reached<'d, V>>, AllocError>
+    ) -> Result<Option<Reached<'d, V>>, EvaluationFault>
     where
         'd: 'q,
-        ensures { IfOk result (λ o. let left = walk_reaches V.meaning segments.now
+        ensures gives { IfOk result (λ o. let left = walk_reaches V.meaning segments.now
             (V.meaning evaluation.now.root) in MatchOption o
             ((left self.old ≡ []) × (left self.new ≡ []))
             (λ p. left self.old ≡ reached_node V.meaning self.new p ∷ left self.new)) }
+        ensures takes { Takes work.old.steps work.new.steps }
+        ensures stopped { StopsSpent result work.new.steps }
     {
-        while let Some(offer) = self.next_offer(segments) {
-            if offer.passes(evaluation, patterns)? {
+        loop {
+            work.steps.take()?;
+            let Some(offer) = self.next_offer(segments) else {
+                return Ok(None);
+            };
+            if offer.passes(evaluation, work)? {
                 if offer.reached.done >= segments.len() {
                     return Ok(Some(offer.reached));
                 }
                 if !offer.reached.is_leaf() {
+                    work.steps
+                        .take_many(turn_count(segments, offer.reached.done))?;
                     self.enter(offer.reached)?;
                 }
             }
         }
-        Ok(None)
     }
 
     /// The next choice, None at the end.
@@ -237,8 +246,26 @@ fn push_step<'d>(location: &mut Vec<Step<'d>>, step: Option<Step<'d>>) -> Result
     Ok(())
 }
 
+impl<'d, V: Selectable + 'd> Frame<'d, V> {
+    /// A frame at the first choice of the segment after `done` others.
+    pub(crate) fn at(done: usize, value: V) -> Frame<'d, V>
+        ensures { result ≡ entered (record { done = done; step = None; value = value }) }
+    {
+        Frame {
+            reached: Reached {
+                done,
+                step: None,
+                value,
+            },
+            turn: 0,
+            next: 0,
+        }
+    }
+}
+
 /// The next choice of a frame, None where it has no more.
-fn frame_offer<'q, 'd, V: Selectable + 'd>(
+#[inline(always)]
+pub(crate) fn frame_offer<'q, 'd, V: Selectable + 'd>(
     segments: &'q [Segment],
     frame: &mut Frame<'d, V>,
 ) -> Option<Offer<'q, 'd, V>>
@@ -267,8 +294,18 @@ fn frame_offer<'q, 'd, V: Selectable + 'd>(
     None
 }
 
+/// How many turns are tried at a value after `done` segments, the one that is not there included.
+#[inline(always)]
+pub(crate) fn turn_count(segments: &[Segment], done: usize) -> u64 {
+    match segments.get(done) {
+        Some(segment) => (segment.selectors.len() as u64).saturating_add(2),
+        None => 0,
+    }
+}
+
 /// The turn of this number, from 0, of the segment after `done` others, None where there are no
 /// more.
+#[inline(always)]
 fn turn_at<'q>(segments: &'q [Segment], done: usize, number: usize) -> Option<Turn<'q>>
     ensures gives { option_map (turn_of segments.now) result
         ≡ slice_get (turns (segments_left segments.now done)) number }
@@ -297,16 +334,19 @@ fn turn_at<'q>(segments: &'q [Segment], done: usize, number: usize) -> Option<Tu
 impl<'q, 'd, V: Selectable + 'd> Offer<'q, 'd, V> {
     /// Whether the test is passed; without one it is.
     #[cycle(filter)]
-    fn passes<M: Matching>(
+    #[inline(always)]
+    pub(crate) fn passes<M: Matching>(
         &self,
         evaluation: &Evaluation<'q, V, M>,
-        patterns: &mut Patterns,
-    ) -> Result<bool, AllocError>
+        work: &mut Work,
+    ) -> Result<bool, EvaluationFault>
     where
         'd: 'q,
-        ensures { IfOk result (λ answer. answer
+        ensures gives { IfOk result (λ answer. answer
             ≡ passes (option_map (λ e. expr_of e.now) self.now.test)
             (V.meaning evaluation.now.root) (root_of (V.meaning self.now.reached.value))) }
+        ensures takes { Takes work.old.steps work.new.steps }
+        ensures stopped { StopsSpent result work.new.steps }
     {
         let Some(expr) = self.test else {
             return Ok(true);
@@ -315,12 +355,13 @@ impl<'q, 'd, V: Selectable + 'd> Offer<'q, 'd, V> {
             evaluation,
             current: self.reached.value,
         };
-        asking.holds(patterns, expr)
+        asking.holds(work, expr)
     }
 }
 
 impl<'q> Turn<'q> {
     /// The value at this position among those that it chooses from.
+    #[inline(always)]
     fn choice<'d, V: Selectable + 'd>(self, value: V, position: usize) -> Option<(Step<'d>, V)>
         ensures entry { option_map (step_with V.meaning) result
             ≡ slice_get (candidates (turn_selector self.entry) (V.meaning value)) position }
@@ -333,6 +374,7 @@ impl<'q> Turn<'q> {
     }
 
     /// What is asked of its choices.
+    #[inline(always)]
     fn test(self) -> Option<&'q Expr>
         ensures test { option_map (λ e. expr_of e.now) result ≡ test_of (turn_selector self.entry) }
         ensures smaller { IfSome result (λ e. IfSome self.entry.selector (λ s.

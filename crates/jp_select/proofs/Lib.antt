@@ -7,3 +7,4 @@ pub mod Rising
 pub mod Rows
 pub mod Slices
 pub mod Walks
+pub mod Stepping

@@ -7,4 +7,5 @@ pub mod Laws
 pub mod Private
 pub mod Selectors
 pub mod Slice
+pub mod Steps
 pub mod Walk

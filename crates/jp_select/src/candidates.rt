@@ -14,6 +14,7 @@ use jp_tree::{Numeral, Selector, Slice};
 /// its step; None where there are no more. A name has that member, an index that item, a slice its
 /// items in its order, a wildcard and a filter all children, of which a filter takes those for
 /// which its expression is true. A number that is not whole, or beyond 64 bits, chooses nothing.
+#[inline(always)]
 pub fn candidate<'d, V: Selectable + 'd>(
     selector: &Selector,
     value: V,
@@ -57,6 +58,7 @@ fn item<'d, V: Selectable + 'd>(value: V, index: Numeral) -> Option<(Step<'d>, V
 }
 
 /// The item of a list at a position among those that a slice selects (section 2.3.4.2).
+#[inline(always)]
 fn slice_item<'d, V: Selectable + 'd>(
     value: V,
     slice: Slice,

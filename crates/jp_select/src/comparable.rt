@@ -1,11 +1,13 @@
 //! The sides of comparisons (RFC 9535 section 2.3.5.1), and how two of them compare.
-ghost use Rattle.std.specs.Prelude.{◌≡◌, ◌↔◌, IsTrue, MatchOption, Some, chars, false, option_map};
+ghost use Rattle.std.specs.Prelude.{◌≡◌, ◌↔◌, IfOk, IsTrue, MatchOption, OnErr, Some, chars, false, option_map};
 ghost use Rattle.jp_document.specs.Location.{entries, step_of};
 ghost use Rattle.jp_lent.specs.Lending.{bare, seen_value, step_with};
 ghost use Rattle.jp_select.specs.Comparable.{comparable_of};
 ghost use Rattle.jp_select.specs.Comparison.{equals, is_less, precedes};
+ghost use Rattle.jp_select.specs.Steps.{IsSpent, Takes};
 ghost use Rattle.jp_select.specs.Private.Parts.{has_parts, same_key, same_part, same_parts};
 
+use crate::steps::{Steps, Stopped};
 use jp_document::Step;
 use jp_lent::{Lent, Seen};
 
@@ -61,34 +63,58 @@ impl<'a, V: Lent + 'a> Comparable<'a, V> {
     }
 
     /// Whether `self == other`: Nothing equals only Nothing, and values are equal where they are
-    /// the same (RFC 9535 section 2.3.5.2.2).
+    /// the same (RFC 9535 section 2.3.5.2.2). Each pair of values that is compared is a step, and so
+    /// is each byte of the shorter of two texts, names among them.
     #[cycle(equals)]
-    pub fn equals(&self, other: &Comparable<'a, V>) -> bool
-        ensures value { result ≡ equals (comparable_of V.meaning self.now)
-            (comparable_of V.meaning other.now) }
-        ensures same { IsTrue result
-            ↔ (comparable_of V.meaning self.now ≡ comparable_of V.meaning other.now) }
+    pub fn equals(&self, other: &Comparable<'a, V>, steps: &mut Steps) -> Result<bool, Stopped>
+        ensures value { IfOk result (λ answer. answer ≡ equals (comparable_of V.meaning self.now)
+            (comparable_of V.meaning other.now)) }
+        ensures same { IfOk result (λ answer. IsTrue answer
+            ↔ (comparable_of V.meaning self.now ≡ comparable_of V.meaning other.now)) }
+        ensures takes { Takes steps.old steps.new }
+        ensures stopped { OnErr result (IsSpent steps.new) }
     {
-        if !looks_same(self.seen(), other.seen()) {
-            return false;
+        let (left, right) = (self.seen(), other.seen());
+        steps.take_many(steps_to_compare(left, right))?;
+        if !looks_same(left, right) {
+            return Ok(false);
         }
         let Some(left) = self.parts() else {
-            return true;
+            return Ok(true);
         };
         let Some(right) = other.parts() else {
-            return true;
+            return Ok(true);
         };
-        same_parts(left, right)
+        same_parts(left, right, steps)
     }
 
     /// Whether `self < other`: two numbers in order, or two texts in the order of their scalar
-    /// values; else false (RFC 9535 section 2.3.5.2.2).
-    pub fn is_less(&self, other: &Comparable<'a, V>) -> bool
-        ensures { result ≡ is_less (comparable_of V.meaning self.now)
-            (comparable_of V.meaning other.now) }
+    /// values; else false (RFC 9535 section 2.3.5.2.2). It is a step, and so is each byte of the
+    /// shorter of two texts.
+    pub fn is_less(&self, other: &Comparable<'a, V>, steps: &mut Steps) -> Result<bool, Stopped>
+        ensures value { IfOk result (λ answer. answer ≡ is_less (comparable_of V.meaning self.now)
+            (comparable_of V.meaning other.now)) }
+        ensures takes { Takes steps.old steps.new }
+        ensures stopped { OnErr result (IsSpent steps.new) }
     {
-        looks_less(self.seen(), other.seen())
+        let (left, right) = (self.seen(), other.seen());
+        steps.take_many(steps_to_compare(left, right))?;
+        Ok(looks_less(left, right))
     }
+}
+
+/// The steps of comparing two sides, but for what is in them: one, and one for each byte of the
+/// shorter of two texts.
+fn steps_to_compare(left: Option<Seen>, right: Option<Seen>) -> u64 {
+    match (left, right) {
+        (Some(Seen::Text(left)), Some(Seen::Text(right))) => shorter(left, right).saturating_add(1),
+        _ => 1,
+    }
+}
+
+/// How many bytes the shorter of two texts has.
+fn shorter(left: &str, right: &str) -> u64 {
+    left.len().min(right.len()) as u64
 }
 
 /// Whether two sides are the same but for what is in them.
@@ -127,31 +153,53 @@ fn precedes(left: &str, right: &str) -> bool
 
 /// Whether two values have as many parts, each the same as the other's.
 #[cycle(equals)]
-fn same_parts<'a, V: Lent + 'a>(left: V, right: V) -> bool
-    ensures { result ≡ same_parts (entries (V.meaning left)) (entries (V.meaning right)) }
+fn same_parts<'a, V: Lent + 'a>(left: V, right: V, steps: &mut Steps) -> Result<bool, Stopped>
+    ensures value { IfOk result
+        (λ answer. answer ≡ same_parts (entries (V.meaning left)) (entries (V.meaning right))) }
+    ensures takes { Takes steps.old steps.new }
+    ensures stopped { OnErr result (IsSpent steps.new) }
 {
     if left.count() != right.count() {
-        return false;
+        return Ok(false);
     }
     let mut position = 0;
     while let Some(part) = left.child(position) {
         let Some(other) = right.child(position) else {
-            return false;
+            return Ok(false);
         };
-        if !same_part(part, other) {
-            return false;
+        if !same_part(part, other, steps)? {
+            return Ok(false);
         }
         position += 1;
     }
-    true
+    Ok(true)
 }
 
 /// Whether two parts have one step and the same value.
 #[cycle(equals)]
-fn same_part<'a, V: Lent + 'a>(left: (Step<'a>, V), right: (Step<'a>, V)) -> bool
-    ensures { result ≡ same_part (step_with V.meaning left.entry) (step_with V.meaning right.entry) }
+fn same_part<'a, V: Lent + 'a>(
+    left: (Step<'a>, V),
+    right: (Step<'a>, V),
+    steps: &mut Steps,
+) -> Result<bool, Stopped>
+    ensures value { IfOk result (λ answer. answer
+        ≡ same_part (step_with V.meaning left.entry) (step_with V.meaning right.entry)) }
+    ensures takes { Takes steps.old steps.new }
+    ensures stopped { OnErr result (IsSpent steps.new) }
 {
-    same_step(left.0, right.0) && Comparable::Lent(left.1).equals(&Comparable::Lent(right.1))
+    steps.take_many(steps_of_names(left.0, right.0))?;
+    if !same_step(left.0, right.0) {
+        return Ok(false);
+    }
+    Comparable::Lent(left.1).equals(&Comparable::Lent(right.1), steps)
+}
+
+/// The steps of comparing the names of two members: one for each byte of the shorter.
+fn steps_of_names(left: Step, right: Step) -> u64 {
+    match (left, right) {
+        (Step::Name(left), Step::Name(right)) => shorter(left, right),
+        _ => 0,
+    }
 }
 
 fn same_step(left: Step, right: Step) -> bool

@@ -7,7 +7,7 @@
 //! select_plain(alloc, &root, &Selector::Wildcard)?;   // $[0] $[1] $[2]
 //! descend(alloc, root)?;                              // $ $[0] $[1] $[2] $[2][0]
 //! let five = Comparable::of(Some(&Json::Whole(5)));
-//! compare(Op::Less, Comparable::Whole(3), five);      // true
+//! compare(Op::Less, Comparable::Whole(3), five, &mut Steps::at_most(1))?;    // true
 //! ```
 //!
 //! For the layer above: `select_plain` gives the nodes that the standard has for the selector at a
@@ -16,7 +16,8 @@
 //! node stands.
 //! `candidate` is what a selector chooses from at a value, position by position, without a list.
 //! `compare` answers what the standard has for an operator between two values, or Nothing, and
-//! takes no memory. Both take values in whatever form they are lent.
+//! takes no memory. Both take values in whatever form they are lent. `Steps` says how much work may
+//! still be done, and counts it down.
 #![tactic(auto)]
 
 mod candidates;
@@ -26,6 +27,7 @@ mod descent;
 pub mod laws;
 mod selector;
 mod slice;
+mod steps;
 #[cfg(test)]
 mod tests;
 
@@ -34,3 +36,4 @@ pub use comparable::Comparable;
 pub use comparison::{compare, equal, less};
 pub use descent::{Descent, descend, descend_each};
 pub use selector::select_plain;
+pub use steps::{Steps, Stopped};

@@ -10,6 +10,7 @@ use jp_tree::{Numeral, Slice};
 /// The index of the item at this position, from 0, among those that a slice of a list of this
 /// length selects, in its order; None where there are no more. A number that is not whole, or
 /// beyond 64 bits, selects nothing.
+#[inline(always)]
 pub(crate) fn slice_index(length: u64, slice: Slice, position: u64) -> Option<u64>
     ensures index { result ≡ slice_get (indexes_chosen slice length) position }
     ensures more { OnSome result (position < length) }
@@ -25,6 +26,7 @@ pub(crate) fn slice_index(length: u64, slice: Slice, position: u64) -> Option<u6
 }
 
 /// What a slice with a positive step selects: from the lower bound up, below the upper one.
+#[inline(always)]
 fn rising(
     length: u64,
     start: Option<i128>,
@@ -47,6 +49,7 @@ fn rising(
 }
 
 /// What a slice with a negative step selects: from the upper bound down, above the lower one.
+#[inline(always)]
 fn falling(
     length: u64,
     start: Option<i128>,

@@ -32,6 +32,7 @@ use Rattle.jp_evaluate.specs.Nodelist.{call_answer, call_holds, call_nodes, has_
 use Rattle.jp_evaluate.specs.Nodelist.{nodelist_at, some_node}
 use Rattle.jp_evaluate.specs.Nodelist.{operand_value, result, segment_result, selected, selection}
 use Rattle.jp_evaluate.specs.Nodelist.{single_node_value, visited}
+use Rattle.jp_evaluate.specs.Private.Walk.{reaches}
 
 -- ---- lists of nodes further on
 
@@ -272,3 +273,10 @@ pub holds-anywhere : (e : ExprTree) (d : Value) (n : Node) → holds e d n ≡ h
 holds-anywhere e d n =
     ap (λ l. holds e d (node_at l n.value)) (sym (append-nil n.location))
     ∙ holds-beyond e d n.location (root_of n.value)
+
+-- segments reach further on from a node what they reach from its value alone
+pub reaches-anywhere : (all : SegmentTrees) (d : Value) (n : Node)
+    → reaches all d n ≡ map (beyond n.location) (reaches all d (root_of n.value))
+reaches-anywhere all d n =
+    ap (λ l. reaches all d (node_at l n.value)) (sym (append-nil n.location))
+    ∙ result-beyond all d n.location (root_of n.value ∷ [])

@@ -29,8 +29,8 @@ use Rattle.jp_canon.proofs.Forms.{Has, after-blank, before-blank, both, has-as, 
 use Rattle.jp_canon.proofs.Names.{has-quoted}
 use Rattle.jp_canon.proofs.Numbers.{has-decimal}
 use Rattle.jp_canon.proofs.Written.{quoted-encode}
-use Rattle.jp_evaluate.proofs.Paths.PathTrees.{StepFits, StepsFit, path_tree, step_segment}
-use Rattle.jp_evaluate.proofs.Paths.PathTrees.{step_selector}
+use Rattle.jp_evaluate.specs.Private.PathTrees.{path_tree, step_segment, step_selector}
+use Rattle.jp_evaluate.proofs.Paths.PathTrees.{StepFits, StepsFit}
 
 -- ---- the canonical text spells the tree
 

@@ -29,7 +29,8 @@ use Rattle.jp_query.specs.declared.refusal.RefusalKind.{RefusalKind}
 use Rattle.jp_tree.specs.declared.tree.Numeral.TheVariants.{Whole}
 use Rattle.jp_evaluate.specs.Laws.{PathSelectsItsNode}
 use Rattle.jp_evaluate.proofs.Paths.CanonicalPaths.{path-spells}
-use Rattle.jp_evaluate.proofs.Paths.PathTrees.{StepFits, StepsFit, path_tree, step_segment}
+use Rattle.jp_evaluate.specs.Private.PathTrees.{path_tree, step_segment}
+use Rattle.jp_evaluate.proofs.Paths.PathTrees.{StepFits, StepsFit}
 use Rattle.jp_evaluate.specs.Nodelist.{result, segment_result}
 use Rattle.jp_select.proofs.Items.{child-item, item_list, length-item_list}
 use Rattle.std.proofs.lemmas.Str.{encodes-chars}

@@ -34,7 +34,7 @@ Offers means all w o v =
     pending means all w ≡ choice_at (reached_at [] (walk_frames v)) (offered means all o) ∷ pending means all v
 
 -- a test is asked of the value alone
-passes-anywhere : (t : Option ExprTree) (d : Value) (n : Node)
+pub passes-anywhere : (t : Option ExprTree) (d : Value) (n : Node)
     → passes t d n ≡ passes t d (root_of n.value)
 passes-anywhere None d n = refl
 passes-anywhere (Some e) d n = holds-anywhere e d n

@@ -51,7 +51,7 @@ abbrev pub IsLocationOrder : (LocationSteps → LocationSteps → Ordering) → 
 IsLocationOrder cmp = (k l : LocationSteps) → cmp k l ≡ location_cmp (steps_location k) (steps_location l)
 
 -- the order of steps is that of keys
-step-order : (s t : Step) → steps.cmp s t ≡ step_cmp (step_of s) (step_of t)
+pub step-order : (s t : Step) → steps.cmp s t ≡ step_cmp (step_of s) (step_of t)
 step-order (Name s) (Name t) = refl
 step-order (Name s) (Index j) = refl
 step-order (Index i) (Name t) = refl

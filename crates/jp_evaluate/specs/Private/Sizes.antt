@@ -29,7 +29,7 @@ abbrev mutual
   segments_size (segment_then s rest) = segment_size s + segments_size rest
 
   pub query_size : QueryTree → ℕ
-  query_size (query absolute all) = suc (suc (suc (segments_size all)))
+  query_size (query absolute all) = suc (suc (suc (suc (segments_size all))))
 
   pub expr_size : ExprTree → ℕ
   expr_size (any_of es) = suc (exprs_size es)

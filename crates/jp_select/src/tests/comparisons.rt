@@ -1,5 +1,5 @@
 //! Comparisons of a document's values. The standard's rows are in jp_command's table.
-use crate::{Comparable, compare, equal, less};
+use crate::{Comparable, Steps, Stopped, compare, equal, less};
 use jp_document::{Json, parsed_value};
 use jp_tree::Op;
 use std::test::Fail;
@@ -16,21 +16,20 @@ fn item(list: &Json, index: usize) -> Option<&Json> {
 fn comparisons(rt: HostRuntime) -> Result<(), Fail> {
     let list = parsed_value(rt.alloc(), br#"[{"x":"y"},{"x":"y","z":0},null]"#)?;
     let absent = 3;
-    for (left, op, right, expected) in [
-        (absent, Op::LessEqual, absent, true),
-        (absent, Op::Equal, 2, false),
-        (0, Op::GreaterEqual, 0, true),
-        (0, Op::Equal, 1, false),
+    for (left, op, right, expected, count) in [
+        (absent, Op::LessEqual, absent, true, 2),
+        (absent, Op::Equal, 2, false, 1),
+        (0, Op::GreaterEqual, 0, true, 5),
+        (0, Op::Equal, 1, false, 1),
     ] {
-        assert_eq!(rt;
-            compare(
-                op,
-                Comparable::of(item(&list, left)),
-                Comparable::of(item(&list, right))
-            ),
-            expected,
-            "{left} {right}"
-        );
+        let (left, right) = (item(&list, left), item(&list, right));
+        let mut steps = Steps::at_most(count);
+        let answer = compare(op, Comparable::of(left), Comparable::of(right), &mut steps);
+        assert_eq!(rt; answer, Ok(expected), "{expected} in {count}");
+        assert_eq!(rt; steps.left(), 0);
+        let mut fewer = Steps::at_most(count - 1);
+        let stopped = compare(op, Comparable::of(left), Comparable::of(right), &mut fewer);
+        assert_eq!(rt; stopped, Err(Stopped), "{expected} in fewer than {count}");
     }
     Ok(())
 }

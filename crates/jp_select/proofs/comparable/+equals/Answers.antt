@@ -1,4 +1,6 @@
-use Rattle.std.proofs.Common.{◌≡◌, ◌≢◌, ◌<◌, true, false, length, sym, ap₂, ◌∙◌, arith}
+use Rattle.std.proofs.Common.{◌≡◌, ◌≢◌, ◌<◌, true, false, length, sym, ap₂, ◌∙◌, arith, subst, IfOk}
+use Rattle.std.proofs.lemmas.Result.{IfOk-weaker}
+use Rattle.jp_select.proofs.Stepping.{takes_then}
 use Rattle.std.proofs.lemmas.Option.{slice_get_within}
 use Rattle.jp_document.specs.Location.{entries}
 use Rattle.jp_lent.specs.Lending.{step_with}
@@ -24,37 +26,37 @@ Comparable::equals-returns-clause-value g t c =
     let m = g.V.Lent.meaning in
     let a = comparable_of m c.args.self.now in
     let b = comparable_of m c.args.other.now in
-    let looks : Looks true a b = ap₂ equals (sym c.seen.ensures) (sym c.seen-2.ensures) ∙ sym c.looks_same.ensures ∙ c.if-not-looks_same.false in
-    c.same_parts.ensures
-    ∙ by_parts a b (m c.in-Some.left) (m c.in-Some-parts.right) c.in-Some.ensures
-    c.in-Some-parts.ensures looks
+    let looks : Looks true a b = ap₂ equals (sym c.seen-left.ensures) (sym c.seen-right.ensures) ∙ sym c.looks_same.ensures ∙ c.if-not-looks_same.false in
+    subst (λ x. IfOk c.same_parts.result (λ answer. answer ≡ x))
+    (by_parts a b (m c.in-Some.left) (m c.in-Some-parts.right) c.in-Some.ensures
+    c.in-Some-parts.ensures looks) c.same_parts.ensures.value
 
 pub Comparable::equals-returns-clause-same : goal.Comparable::equals-returns-clause-same
 Comparable::equals-returns-clause-same g t c =
     let m = g.V.Lent.meaning in
     let a = comparable_of m c.args.self.now in
     let b = comparable_of m c.args.other.now in
-    let looks : Looks true a b = ap₂ equals (sym c.seen.ensures) (sym c.seen-2.ensures) ∙ sym c.looks_same.ensures ∙ c.if-not-looks_same.false in
-    equals-exact a b c.same_parts.result
-    (c.same_parts.ensures
+    let looks : Looks true a b = ap₂ equals (sym c.seen-left.ensures) (sym c.seen-right.ensures) ∙ sym c.looks_same.ensures ∙ c.if-not-looks_same.false in
+    IfOk-weaker c.same_parts.result _ _
+    (λ answer is. equals-exact a b answer (is
     ∙ by_parts a b (m c.in-Some.left) (m c.in-Some-parts.right) c.in-Some.ensures
-    c.in-Some-parts.ensures looks)
+    c.in-Some-parts.ensures looks)) c.same_parts.ensures.value
 
 -- ---- part by part
 
-pub same_parts-returns-then-count : goal.same_parts-returns-then-count
-same_parts-returns-then-count g t c =
+pub same_parts-returns-then-count-clause-value : goal.same_parts-returns-then-count-clause-value
+same_parts-returns-then-count-clause-value g t c =
     let es = entries (g.V.Lent.meaning c.args.left) in
     let fs = entries (g.V.Lent.meaning c.args.right) in
     let unlike : length es ≢ length fs = λ same. c.if-count.true (c.count.ensures ∙ same ∙ sym c.count-2.ensures) in
     unlike-lengths es fs unlike
 
-pub same_parts-returns-in_default-child : goal.same_parts-returns-in_default-child
-same_parts-returns-in_default-child g t c =
+pub same_parts-returns-in_default-child-clause-value : goal.same_parts-returns-in_default-child-clause-value
+same_parts-returns-in_default-child-clause-value g t c =
     let es = entries (g.V.Lent.meaning c.args.left) in
     let fs = entries (g.V.Lent.meaning c.args.right) in
     sym
-    (sym c.loop-part.invariant
+    (sym c.loop-part.invariant.0
     ∙ part_missing es fs c.loop-part.position (step_with g.V.Lent.meaning c.in-Some.part)
     (sym c.in-Some.ensures.entry) (sym c.in_default-child.ensures.entry))
 
@@ -65,15 +67,15 @@ same_parts-same_part-requires g t c κs within = (
   within,
 )
 
-pub same_parts-returns-then-not-same_part : goal.same_parts-returns-then-not-same_part
-same_parts-returns-then-not-same_part g t c =
+pub same_parts-returns-then-not-branch-clause-value : goal.same_parts-returns-then-not-branch-clause-value
+same_parts-returns-then-not-branch-clause-value g t c =
     let es = entries (g.V.Lent.meaning c.args.left) in
     let fs = entries (g.V.Lent.meaning c.args.right) in
     sym
-    (sym c.loop-part.invariant
+    (sym c.loop-part.invariant.0
     ∙ part_next es fs c.loop-part.position (step_with g.V.Lent.meaning c.in-Some.part)
     (step_with g.V.Lent.meaning c.in-Some-child.other) false (sym c.in-Some.ensures.entry)
-    (sym c.in-Some-child.ensures.entry) (sym c.if-not-same_part.ensures))
+    (sym c.in-Some-child.ensures.entry) (sym c.in_ok-same_part.ensures.value ∙ c.if-not-branch.true))
 
 pub same_parts-loop-part-smaller : goal.same_parts-loop-part-smaller
 same_parts-loop-part-smaller g t c =
@@ -87,17 +89,19 @@ pub same_parts-loop-part-preserved : goal.same_parts-loop-part-preserved
 same_parts-loop-part-preserved g t c =
     let es = entries (g.V.Lent.meaning c.args.left) in
     let fs = entries (g.V.Lent.meaning c.args.right) in
+    let same =
     sym
     (part_next es fs c.loop-part.position (step_with g.V.Lent.meaning c.in-Some.part)
     (step_with g.V.Lent.meaning c.in-Some-child.other) true (sym c.in-Some.ensures.entry)
-    (sym c.in-Some-child.ensures.entry) (sym c.if-not-same_part.ensures))
-    ∙ c.loop-part.invariant
+    (sym c.in-Some-child.ensures.entry) (sym c.in_ok-same_part.ensures.value ∙ c.if-not-branch.false))
+    ∙ c.loop-part.invariant.0 in
+    (same, takes_then c.loop-part.invariant.1 c.same_part.ensures.takes)
 
-pub same_parts-returns : goal.same_parts-returns
-same_parts-returns g t c =
+pub same_parts-returns-clause-value : goal.same_parts-returns-clause-value
+same_parts-returns-clause-value g t c =
     let es = entries (g.V.Lent.meaning c.args.left) in
     let fs = entries (g.V.Lent.meaning c.args.right) in
     let long : length es ≡ length fs =
     sym c.count.ensures ∙ c.if-count.false ∙ c.count-2.ensures in
     sym (parts_done es fs c.loop-part.position long (sym c.in_default.ensures.entry))
-    ∙ c.loop-part.invariant
+    ∙ c.loop-part.invariant.0
