@@ -2,12 +2,15 @@
 
 ghost use Rattle.std.specs.Prelude.{◌≡◌, ◌++◌, IfErr, IfOk, OnOk, false, map, string_bytes};
 ghost use Rattle.std.specs.List.{flat_map};
-ghost use Rattle.jp_command.specs.Lines.{line_behind, line_of, lines_of, output_behind, output_of};
+ghost use Rattle.jp_command.specs.Lines.{line_behind, line_of, output_behind};
 ghost use Rattle.jp_command.specs.Output.{StopsWriting, WritesAll};
 ghost use Rattle.jp_command.specs.Writes.{GoesAs};
 ghost use Rattle.jp_command.specs.Private.AsFound.{WritesAsFound};
 ghost use Rattle.jp_command.specs.Private.Fronts.{HasPathText};
-ghost use Rattle.jp_evaluate.specs.Lent.{has_failed, rest_of};
+ghost use Rattle.jp_evaluate.specs.Lent.{has_failed, lent_node, rest_of, steps_of};
+ghost use Rattle.jp_evaluate.specs.Stopping.{StopsSpent};
+ghost use Rattle.jp_select.specs.Giving.{GivesNextAs};
+ghost use Rattle.jp_select.specs.Steps.{Takes};
 ghost use Rattle.jp_document.specs.Location.{step_of};
 ghost use Rattle.jp_document.specs.Node.{node_at};
 ghost use Rattle.jp_tree.specs.Views.{query_of};
@@ -18,9 +21,10 @@ use crate::front::Front;
 use crate::output::write_all;
 use jp_check::Checked;
 use jp_document::Step;
-use jp_evaluate::{LentNodes, Patterns, lent_nodes, lent_nodes_with};
+use jp_evaluate::{EvaluationFault, LentNodes, Patterns, lent_nodes_with};
 use jp_lent::{Selectable, push_value};
 use jp_match::Marks;
+use jp_select::Steps;
 use std::alloc::{AllocError, Global};
 use std::mem;
 
@@ -62,36 +66,52 @@ pub(crate) fn push_line<'d, V: Selectable>(
 }
 
 /// The lines of all nodes that the query selects in the document whose value is the root, in the
-/// nodelist's order (RFC 9535 section 2.1.2). The only error is that memory ran out.
+/// nodelist's order (RFC 9535 section 2.1.2), each behind the text `lead`. The evaluation takes from
+/// `steps` those that it makes; what was read of the patterns is kept for the next document. The
+/// errors are that memory ran out and that the steps are used up.
 pub fn selected_lines<'d: 'q, 'q, V: Selectable + 'd>(
     alloc: Global,
     form: Form,
+    lead: &str,
     root: V,
     query: &'q Checked,
-) -> Result<String, AllocError>
-    ensures { IfOk result (λ lines. string_bytes lines
-        ≡ output_of form (query_of query.now.query) (V.meaning root)) }
+    patterns: &mut Patterns,
+    steps: &mut Steps,
+) -> Result<String, EvaluationFault>
+    ensures lines { IfOk result (λ lines. string_bytes lines
+        ≡ output_behind lead.now form (query_of query.now.query) (V.meaning root)) }
+    ensures takes { Takes steps.old steps.new }
+    ensures stopped { StopsSpent result steps.new }
 {
-    let mut nodes = lent_nodes(alloc, root, query, &Marks);
-    lines_of_rest(alloc, form, &mut nodes)
+    let read = mem::replace(patterns, Patterns::new(alloc));
+    let mut nodes = lent_nodes_with(alloc, root, query, &Marks, read, *steps);
+    let lines = lines_of_rest(alloc, form, lead, &mut nodes);
+    let (read, left) = nodes.into_parts();
+    *patterns = read;
+    *steps = left;
+    lines
 }
 
 /// The lines of the nodes that are still to come.
 fn lines_of_rest<'d: 'q, 'q, V: Selectable + 'd>(
     alloc: Global,
     form: Form,
+    lead: &str,
     nodes: &mut LentNodes<'d, 'q, V, Marks>,
-) -> Result<String, AllocError>
+) -> Result<String, EvaluationFault>
     requires { has_failed nodes.now ≡ false }
-    ensures { IfOk result (λ lines. string_bytes lines
-        ≡ lines_of form (rest_of V.meaning nodes.old)) }
+    ensures lines { IfOk result (λ lines. string_bytes lines
+        ≡ flat_map (line_behind lead.now form) (rest_of V.meaning nodes.old)) }
+    ensures takes { Takes (steps_of nodes.old) (steps_of nodes.new) }
+    ensures stopped { StopsSpent result (steps_of nodes.new) }
 {
     let mut location = Vec::new(alloc);
     let mut front = Front::new(alloc);
     let mut lines = String::new(alloc);
     while let Some(next) = nodes.next_at(&mut location) {
-        let selected = next?;
-        push_line(form, &mut front, &location, selected, &mut lines)?;
+        let value = next?;
+        lines.push_str(lead)?;
+        push_line(form, &mut front, &location, value, &mut lines)?;
     }
     Ok(lines)
 }
@@ -136,9 +156,9 @@ pub fn write_selected<'d: 'q, 'q, V: Selectable + 'd, W: Writer>(
         (output_behind lead.now form (query_of query.now.query) (V.meaning root)) result }
 {
     let patterns = mem::replace(&mut spare.patterns, Patterns::new(alloc));
-    let mut nodes = lent_nodes_with(alloc, root, query, &Marks, patterns);
+    let mut nodes = lent_nodes_with(alloc, root, query, &Marks, patterns, Steps::unlimited());
     let written = write_lines(alloc, form, lead, &mut nodes, &mut spare.line, output);
-    spare.patterns = nodes.into_patterns();
+    spare.patterns = nodes.into_parts().0;
     written
 }
 
@@ -152,7 +172,8 @@ pub(crate) fn write_lines<'d: 'q, 'q, V: Selectable + 'd, W: Writer>(
     line: &mut String,
     output: &mut W,
 ) -> Result<(), Fault>
-    requires { has_failed nodes.now ≡ false }
+    requires working { has_failed nodes.now ≡ false }
+    requires unlimited { (steps_of nodes.now).limited ≡ false }
     ensures ok { OnOk result (WritesAll W.contents W.has_failed output.old output.new
         (flat_map (line_behind lead.now form) (rest_of V.meaning nodes.old))) }
     ensures stopped { IfErr result (StopsWriting W.contents W.has_failed output.old output.new
@@ -164,7 +185,7 @@ pub(crate) fn write_lines<'d: 'q, 'q, V: Selectable + 'd, W: Writer>(
 {
     let mut location = Vec::new(alloc);
     let mut front = Front::new(alloc);
-    while let Some(next) = nodes.next_at(&mut location) {
+    while let Some(next) = next_unlimited(nodes, &mut location) {
         let value = next?;
         line.clear();
         line.push_str(lead)?;
@@ -174,4 +195,20 @@ pub(crate) fn write_lines<'d: 'q, 'q, V: Selectable + 'd, W: Writer>(
         };
     }
     Ok(())
+}
+
+/// The next node, as `next_at` gives it, of an evaluation that may make all the steps that it takes.
+fn next_unlimited<'d: 'q, 'q, V: Selectable + 'd>(
+    nodes: &mut LentNodes<'d, 'q, V, Marks>,
+    location: &mut Vec<Step<'d>>,
+) -> Option<Result<V, AllocError>>
+    requires { (steps_of nodes.now).limited ≡ false }
+    ensures gives { GivesNextAs (λ v. lent_node V.meaning (location.new, v)) (rest_of V.meaning)
+        has_failed nodes.old result nodes.new }
+    ensures unlimited { (steps_of nodes.new).limited ≡ false }
+{
+    match nodes.next_at(location)? {
+        Ok(value) => Some(Ok(value)),
+        Err(fault) => Some(Err(fault.without_limit())),
+    }
 }

@@ -1,7 +1,7 @@
 -- One line: its answer, its refusal, and why a run stops at it.
 use Rattle.std.proofs.Common.{◌≡◌, ◌⊎◌, inl, inr, ℕ, suc, ◌≤◌, ◌||◌, Bool, true, false, List, []}
 use Rattle.std.proofs.Common.{◌∷◌, ◌++◌}
-use Rattle.std.proofs.Common.{length, Option, Result, Ok, Err, IfOk, IfErr, codes}
+use Rattle.std.proofs.Common.{length, Option, Some, None, Result, Ok, Err, IfOk, IfErr, codes}
 use Rattle.std.proofs.Common.{subst, refl, sym, ◌∙◌, ap, arith}
 use Rattle.std.proofs.KnownBytes.{Keeps-refl}
 use Rattle.std.proofs.Math.Bool.{or-false}
@@ -21,7 +21,7 @@ use Rattle.jp_command.specs.declared.fault.Fault.TheVariants as fault
 use Rattle.jp_command.proofs.Streams.{Appends-keeps, prefix-whole}
 use Rattle.jp_lines.specs.Lines.{is_blank_line}
 use Rattle.jp_lines.specs.Outcome.{LineOutcome, Answered, Refused, ComesTo, blank, document}
-use Rattle.jp_lines.specs.Outcome.{no_document}
+use Rattle.jp_lines.specs.Outcome.{no_document, steps_used_up}
 use Rattle.jp_lines.specs.Outcome.{lead_of, wanted_output}
 use Rattle.jp_lines.specs.Outcome.{refused_for, refused_text}
 use Rattle.jp_lines.specs.Run.{Goes, GoesInPart, WritesInPart}
@@ -29,9 +29,11 @@ use Rattle.jp_lines.specs.Told.{Tells}
 use Rattle.jp_lines.specs.Private.Answers.{AnswersOrRefuses, AnswersInPart, AnswersLine}
 use Rattle.jp_lines.specs.Private.Answers.{StopsAnswering}
 use Rattle.jp_lines.specs.Private.Answers.{defect_of}
+use Rattle.jp_lines.specs.Private.Limits.{WritesOrGivesUp}
 use Rattle.jp_lines.specs.Private.Passing.{GoesThrough, Standing, kept_of}
 use Rattle.jp_lines.specs.Private.Treating.{Treats, StopsEnding}
 use Rattle.jp_lines.specs.declared.defect.Defect.{Defect}
+use Rattle.jp_lines.specs.declared.defect.Defect.TheVariants as defect
 use Rattle.jp_lines.specs.declared.options.Options.{Options}
 use Rattle.jp_lines.specs.declared.stop.Stop.{Stop}
 use Rattle.jp_lines.specs.declared.stop.Stop.TheVariants as stop
@@ -67,6 +69,17 @@ module _ {W : Type 0} (contents : W → Option (List ℕ)) (has_failed : W → B
     comes = document d few some is;
     writes = writes;
   }
+
+  -- it is written, or given up
+  pub answers-wanted : (d : Value) (o p : W) (given : Option Defect) → length line ≤ document_limit
+      → is_blank_line line ≡ false → IsDocument line d
+      → WritesOrGivesUp contents has_failed options.limit (output d) o p given
+      → AnswersOrRefuses contents has_failed options q n line o p given
+  answers-wanted d o p None few some is writes = answers-document d o p few some is writes
+  answers-wanted d o p (Some (defect.StepsUsedUp made)) few some is up =
+      (steps_used_up d made few some is up.0, up.1)
+  answers-wanted d o p (Some (defect.Document f)) few some is up = absurd up
+  answers-wanted d o p (Some defect.TooLarge) few some is up = absurd up
 
   pub stops-document : (d : Value) (o p : W) (f : Fault) → length line ≤ document_limit
       → is_blank_line line ≡ false → IsDocument line d

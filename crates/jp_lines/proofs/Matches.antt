@@ -1,9 +1,18 @@
--- The shape of the words of `jp-lines`.
-use Rattle.std.proofs.Common.{◌≡◌, true, refl}
-use Rattle.clap.specs.Words.{is_simple, is_simple_and_free}
+-- The shape of the words of `jp-lines`, and what clap's matches of them hold.
+use Rattle.std.proofs.Common.{◌≡◌, ◌∙◌, ◌<◌, ◌^◌, ℕ, Bool, true, false, List, Option, Some, None}
+use Rattle.std.proofs.Common.{Result, Ok, Err, codes, if◌then◌else◌, ap, refl, sym, arith}
+use Rattle.std.specs.Prelude.{option_and_then}
+use Rattle.std.specs.Str.Parse.{ParsesUnsigned, digits_value, without_leading_plus}
+use Rattle.clap.specs.Matches.{ReadsOne, one_text}
+use Rattle.clap.specs.ValueTests.{is_unsigned_in}
+use Rattle.clap.specs.Words.{is_simple, is_simple_and_free, rows_of}
+use Rattle.clap.specs.declared.builder.value_parser.ValueParser.TheVariants.{Unsigned}
+use Rattle.clap.specs.declared.parser.matches.Found.{Found}
 use Rattle.clap.proofs.OnLiterals.{clap_on_literals}
+use Rattle.clap.proofs.ValueTestLemmas.{Accepts-accepts, accepts-Accepts}
+use Rattle.clap.proofs.WalkLemmas.{one_text-rows}
 use Rattle.jp_command.specs.CommandLine.{query_app}
-use Rattle.jp_lines.specs.CommandLine.{jp_lines, lines_app}
+use Rattle.jp_lines.specs.CommandLine.{greatest, jp_lines, limit_asked, lines_app, number_in}
 
 pub jp_lines_is_free : is_simple_and_free jp_lines ≡ true
 unfolding clap_on_literals jp_lines lines_app query_app
@@ -12,3 +21,42 @@ jp_lines_is_free = refl
 pub jp_lines_is_simple : is_simple jp_lines ≡ true
 unfolding clap_on_literals jp_lines lines_app query_app
 jp_lines_is_simple = refl
+
+not-true : (b : Bool) → (b ≡ true → ⊥) → b ≡ false
+not-true true other = absurd (other refl)
+not-true false other = refl
+
+-- a number that is read of a text, or none
+number-of_text : (E : Type 0) (t : List ℕ) (value : Option ℕ)
+    → ReadsOne (ParsesUnsigned {E = E} 64 10) t value → value ≡ number_in t
+number-of_text E t (Some v) is =
+    let small = is.0.1 in
+    let fits : is_unsigned_in 0 greatest t ≡ true =
+    Accepts-accepts false (Unsigned 0 greatest) t (is.0.0, small, omega arith, omega arith) in
+    ap Some is.1
+    ∙ sym (ap (λ b. if b then Some (digits_value 10 (without_leading_plus t)) else None) fits)
+number-of_text E t None is =
+    let fails : is_unsigned_in 0 greatest t ≡ false =
+    not-true _ (λ fits.
+    let reads = accepts-Accepts false (Unsigned 0 greatest) t fits in is.1 (reads.0, reads.1)) in
+    sym (ap (λ b. if b then Some (digits_value 10 (without_leading_plus t)) else None) fails)
+
+-- what `get_one` reads of the limit in the matches, as the type's `from_str` reads a text
+pub limit-read : (E : Type 0) (gives : List ℕ → Result ℕ E → Type 0)
+    → ((t : List ℕ) (r : Result ℕ E) → gives t r → ParsesUnsigned 64 10 t r) → (found : Found)
+    (value : Option ℕ) → (one_text found (codes "limit") ≡ None → value ≡ None)
+    → ((t : List ℕ) → one_text found (codes "limit") ≡ Some t → ReadsOne gives t value)
+    → value ≡ limit_asked (rows_of found)
+limit-read E gives parses found value none some =
+    go (one_text found (codes "limit")) refl
+    ∙ ap (option_and_then number_in) (one_text-rows found (codes "limit"))
+  where
+    reads : (t : List ℕ) (o : Option ℕ) → ReadsOne gives t o
+        → ReadsOne (ParsesUnsigned {E = E} 64 10) t o
+    reads t (Some v) is = parses t (Ok v) is
+    reads t None is = (is.0, parses t (Err is.0) is.1)
+
+    go : (text : Option (List ℕ)) → one_text found (codes "limit") ≡ text
+        → value ≡ option_and_then number_in text
+    go None is = none is
+    go (Some t) is = number-of_text E t value (reads t value (some t is))

@@ -4,7 +4,8 @@ use Rattle.std.proofs.Common.{◌++◌, length, subst, refl, arith}
 use Rattle.std.proofs.lemmas.List.{length-take, take_all}
 use Rattle.jp_command.specs.Limits.{document_limit}
 use Rattle.jp_lines.specs.Outcome.{LineOutcome, ComesTo, ComeTo, none, one_more}
-use Rattle.jp_lines.specs.Outcome.{blank, document, no_document, too_large, is_refused, some_refused}
+use Rattle.jp_lines.specs.Outcome.{blank, document, no_document, too_large, steps_used_up}
+use Rattle.jp_lines.specs.Outcome.{is_refused, some_refused}
 use Rattle.jp_lines.specs.Private.Passing.{kept_of}
 use Rattle.jp_lines.specs.declared.options.Options.{Options}
 use Rattle.jp_tree.specs.Tree.{QueryTree}
@@ -53,6 +54,8 @@ module _ (options : Options) (q : QueryTree) where
   comes-kept n l x (no_document fault few some is known) =
       subst (λ t. ComesTo options q n t x) (kept-all l few) (no_document fault few some is known)
   comes-kept n l x (too_large many) = too_large (kept-many l many)
+  comes-kept n l x (steps_used_up d made few some is limit) =
+      subst (λ t. ComesTo options q n t x) (kept-all l few) (steps_used_up d made few some is limit)
 
   -- a line that is not refused is not too large
   few-one : (n : ℕ) (l : List ℕ) (x : LineOutcome) → ComesTo options q n l x → is_refused x ≡ false
@@ -61,6 +64,7 @@ module _ (options : Options) (q : QueryTree) where
   few-one n l x (document d few some is) unrefused = few
   few-one n l x (no_document fault few some is known) unrefused = few
   few-one n l x (too_large many) unrefused = cc
+  few-one n l x (steps_used_up d made few some is limit) unrefused = few
 
   -- and so the last one of lines that are not refused is not
   pub few-last : (n : ℕ) (ls : List (List ℕ)) (xs : List LineOutcome) (init : List (List ℕ))

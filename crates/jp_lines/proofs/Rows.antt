@@ -12,7 +12,13 @@ use Rattle.jp_lines.specs.declared.options.Wanted.TheVariants.{Nodes, Count}
 -- what no flag asks for
 abbrev plain : Wanted → Options
 plain wanted =
-    record { wanted = wanted; numbered = false; keep_going = false; line_buffered = false }
+    record {
+      wanted = wanted;
+      numbered = false;
+      keep_going = false;
+      line_buffered = false;
+      limit = None;
+    }
 
 values : asked (codes "jp-lines" ∷ codes "eval" ∷ codes "$" ∷ [])
     ≡ Some (plain (Nodes Values), codes "$", Standard)
@@ -50,3 +56,26 @@ no_query = refl
 subcommand_of_another_program : asked (codes "jp-lines" ∷ codes "check" ∷ codes "$" ∷ []) ≡ None
 unfolding clap_on_literals jp_lines lines_app query_app
 subcommand_of_another_program = refl
+
+limit :
+    asked (codes "jp-lines" ∷ codes "eval" ∷ codes "--limit" ∷ codes "10000" ∷ codes "$" ∷ [])
+    ≡ Some (record (plain (Nodes Values)) { limit = Some 10000 }, codes "$", Standard)
+unfolding clap_on_literals jp_lines lines_app query_app
+limit = refl
+
+greatest_limit :
+    asked (codes "jp-lines" ∷ codes "count" ∷ codes "$" ∷ codes "--limit=18446744073709551615" ∷ [])
+    ≡ Some (record (plain Count) { limit = Some 18446744073709551615 }, codes "$", Standard)
+unfolding clap_on_literals jp_lines lines_app query_app
+greatest_limit = refl
+
+limit_of_none :
+    asked (codes "jp-lines" ∷ codes "eval" ∷ codes "--limit" ∷ codes "0" ∷ codes "$" ∷ []) ≡ None
+unfolding clap_on_literals jp_lines lines_app query_app
+limit_of_none = refl
+
+limit_too_great :
+    asked (codes "jp-lines" ∷ codes "eval" ∷ codes "--limit" ∷ codes "18446744073709551616"
+    ∷ codes "$" ∷ []) ≡ None
+unfolding clap_on_literals jp_lines lines_app query_app
+limit_too_great = refl

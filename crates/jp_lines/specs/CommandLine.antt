@@ -1,11 +1,15 @@
 -- What the words of a command line ask for: the command line as clap reads it, and what it finds in
 -- the words: how to go over the lines, the query and the profile. `Program` cites it.
-use Rattle.std.specs.Prelude.{true, List, Option, Some, None, codes, if◌then◌else◌}
+use Rattle.std.specs.Prelude.{ℕ, true, List, Option, Some, None, codes, if◌then◌else◌}
 use Rattle.std.specs.Prelude.{option_and_then, option_map}
 use Rattle.std.specs.Str.{bytes_eq}
-use Rattle.clap.specs.Words.{App, Row, Text, fault_of, first_of, new_app, subcommand_of}
-use Rattle.clap.specs.Words.{with_subcommand}
+use Rattle.std.specs.Str.Parse.{digits_value, without_leading_plus}
+use Rattle.clap.specs.Words.{App, Row, Text, fault_of, first_of, new_app, new_rule, one_of}
+use Rattle.clap.specs.Words.{subcommand_of, with_rule, with_subcommand}
+use Rattle.clap.specs.declared.builder.action.ArgAction.TheVariants.{Set}
+use Rattle.clap.specs.declared.builder.value_parser.ValueParser.TheVariants.{Unsigned}
 use Rattle.clap.specs.Simple.{on_top}
+use Rattle.clap.specs.ValueTests.{is_unsigned_in}
 use Rattle.clap.specs.Walk.{is_empty}
 use Rattle.jp_check.specs.declared.profile.Profile.{Profile}
 use Rattle.jp_command.specs.CommandLine.{is_set, profile_asked, query_app, with_flag}
@@ -14,10 +18,23 @@ use Rattle.jp_lines.specs.declared.options.Options.{Options}
 use Rattle.jp_lines.specs.declared.options.Wanted.{Wanted}
 use Rattle.jp_lines.specs.declared.options.Wanted.TheVariants.{Nodes, Count}
 
--- a subcommand with the query, `--extended`, and the flags of a run over lines
+-- the greatest number of 64 bits
+abbrev pub greatest : ℕ
+greatest = 18446744073709551615
+
+-- the command with the option `--limit` more, whose value is a number from 1 to the greatest
+abbrev pub with_limit : App → App
+with_limit app = with_rule app (record (new_rule (codes "limit")) {
+  long = Some (codes "limit");
+  action = Some Set;
+  value_names = 1;
+  parser = Some (Unsigned 1 greatest);
+})
+
+-- a subcommand with the query, `--extended`, and the flags and the option of a run over lines
 unfoldable pub lines_app : Text → App
-lines_app name = with_flag (with_flag (with_flag (query_app name) (codes "number"))
-    (codes "keep-going")) (codes "line-buffered")
+lines_app name = with_limit (with_flag (with_flag (with_flag (query_app name) (codes "number"))
+    (codes "keep-going")) (codes "line-buffered"))
 
 -- the command with one such subcommand more
 abbrev pub with_lines : App → Text → App
@@ -37,13 +54,23 @@ wanted_called name =
     else if bytes_eq name (codes "both") then Some (Nodes Both)
     else if bytes_eq name (codes "count") then Some Count else None
 
--- the same with what the flags ask for
+-- the number of 64 bits that a text writes in decimal
+abbrev pub number_in : Text → Option ℕ
+number_in text = if is_unsigned_in 0 greatest text
+    then Some (digits_value 10 (without_leading_plus text)) else None
+
+-- the most steps over one document, where `--limit` says it
+abbrev pub limit_asked : List Row → Option ℕ
+limit_asked rows = option_and_then number_in (one_of (codes "limit") rows)
+
+-- the same with what the flags and the option ask for
 abbrev pub options_asked : Wanted → List Row → Options
 options_asked wanted rows = record {
   wanted = wanted;
   numbered = is_set (codes "number") rows;
   keep_going = is_set (codes "keep-going") rows;
   line_buffered = is_set (codes "line-buffered") rows;
+  limit = limit_asked rows;
 }
 
 -- the options, the query and the profile of the subcommand that the words name

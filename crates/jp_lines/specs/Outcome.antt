@@ -1,6 +1,6 @@
 -- What the lines of an input come to: a document with what is written of it, nothing, or a defect.
 use Rattle.std.specs.Prelude.{◌≡◌, ◌≢◌, ℕ, suc, ◌<◌, ◌≤◌, Bool, true, false, List, [], ◌∷◌, ◌++◌}
-use Rattle.std.specs.Prelude.{length, codes, if◌then◌else◌}
+use Rattle.std.specs.Prelude.{Some, length, codes, if◌then◌else◌}
 use Rattle.std.specs.Fmt.{decimal}
 use Rattle.std.specs.List.{flat_map, list_any}
 use Rattle.jp_document.specs.Document.{IsDocument, IsDocumentFault}
@@ -14,7 +14,7 @@ use Rattle.jp_evaluate.specs.Nodelist.{nodelist}
 use Rattle.jp_tree.specs.Tree.{QueryTree}
 use Rattle.jp_lines.specs.Lines.{is_blank_line}
 use Rattle.jp_lines.specs.declared.defect.Defect.{Defect}
-use Rattle.jp_lines.specs.declared.defect.Defect.TheVariants.{Document, TooLarge}
+use Rattle.jp_lines.specs.declared.defect.Defect.TheVariants.{Document, TooLarge, StepsUsedUp}
 use Rattle.jp_lines.specs.declared.defect.RefusedLine.{RefusedLine}
 use Rattle.jp_lines.specs.declared.options.Options.{Options}
 use Rattle.jp_lines.specs.declared.options.Wanted.{Wanted}
@@ -26,6 +26,7 @@ use Rattle.jp_lines.specs.declared.options.Wanted.TheVariants.{Nodes, Count}
 abbrev pub defect_text : Defect → List ℕ
 defect_text (Document fault) = codes "document refused: " ++ document_fault_text fault
 defect_text TooLarge = codes "document refused: DocumentTooLarge"
+defect_text (StepsUsedUp made) = codes "document refused: StepsUsedUp"
 
 -- what is said of a line that is refused
 abbrev pub refused_text : RefusedLine → List ℕ
@@ -89,6 +90,10 @@ module _ (options : Options) (q : QueryTree) where
         → ComesTo number line (Refused (refused_for number (Document fault)))
     too_large : document_limit < length line
         → ComesTo number line (Refused (refused_for number TooLarge))
+    -- only where there is a limit: as many steps as it says were made over the document
+    steps_used_up : (d : Value) (made : ℕ) → length line ≤ document_limit
+        → is_blank_line line ≡ false → IsDocument line d → options.limit ≡ Some made
+        → ComesTo number line (Refused (refused_for number (StepsUsedUp made)))
 
   -- the lines, numbered from there on, come to these, each to one
   pub data ComeTo : ℕ → List (List ℕ) → List LineOutcome → Type 0 where

@@ -2,13 +2,16 @@
 
 ghost use Rattle.std.specs.Prelude.{◌≡◌, IfOk, false, length, suc};
 ghost use Rattle.jp_tree.specs.Views.{query_of};
-ghost use Rattle.jp_evaluate.specs.Lent.{has_failed, rest_of};
+ghost use Rattle.jp_select.specs.Steps.{Takes};
+ghost use Rattle.jp_evaluate.specs.Lent.{has_failed, rest_of, steps_of};
 ghost use Rattle.jp_evaluate.specs.Nodelist.{nodelist};
+ghost use Rattle.jp_evaluate.specs.Stopping.{StopsSpent};
 
 use jp_check::Checked;
-use jp_evaluate::{LentNodes, Patterns, lent_nodes_with};
+use jp_evaluate::{EvaluationFault, LentNodes, Patterns, lent_nodes_with};
 use jp_lent::Selectable;
 use jp_match::Marks;
+use jp_select::Steps;
 use std::alloc::{AllocError, Global};
 use std::mem;
 
@@ -20,21 +23,26 @@ pub(crate) fn number_after(number: u64) -> Result<u64, AllocError>
     number.checked_add(1).ok_or(AllocError)
 }
 
-/// How many nodes the query selects in the document whose value is the root. What was read of the
-/// patterns is kept for the next document.
+/// How many nodes the query selects in the document whose value is the root. The evaluation takes
+/// from `steps` those that it makes; what was read of the patterns is kept for the next document.
 pub(crate) fn count_selected<'d: 'q, 'q, V: Selectable + 'd>(
     alloc: Global,
     root: V,
     query: &'q Checked,
     patterns: &mut Patterns,
-) -> Result<u64, AllocError>
-    ensures { IfOk result (λ count. count
+    steps: &mut Steps,
+) -> Result<u64, EvaluationFault>
+    ensures count { IfOk result (λ count. count
         ≡ length (nodelist (query_of query.now.query) (V.meaning root))) }
+    ensures takes { Takes steps.old steps.new }
+    ensures stopped { StopsSpent result steps.new }
 {
     let read = mem::replace(patterns, Patterns::new(alloc));
-    let mut nodes = lent_nodes_with(alloc, root, query, &Marks, read);
+    let mut nodes = lent_nodes_with(alloc, root, query, &Marks, read, *steps);
     let count = count_rest(alloc, &mut nodes);
-    *patterns = nodes.into_patterns();
+    let (read, left) = nodes.into_parts();
+    *patterns = read;
+    *steps = left;
     count
 }
 
@@ -42,9 +50,11 @@ pub(crate) fn count_selected<'d: 'q, 'q, V: Selectable + 'd>(
 fn count_rest<'d: 'q, 'q, V: Selectable + 'd>(
     alloc: Global,
     nodes: &mut LentNodes<'d, 'q, V, Marks>,
-) -> Result<u64, AllocError>
+) -> Result<u64, EvaluationFault>
     requires { has_failed nodes.now ≡ false }
-    ensures { IfOk result (λ count. count ≡ length (rest_of V.meaning nodes.old)) }
+    ensures count { IfOk result (λ count. count ≡ length (rest_of V.meaning nodes.old)) }
+    ensures takes { Takes (steps_of nodes.old) (steps_of nodes.new) }
+    ensures stopped { StopsSpent result (steps_of nodes.new) }
 {
     let mut location = Vec::new(alloc);
     let mut count = 0;

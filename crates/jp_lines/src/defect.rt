@@ -4,13 +4,16 @@ use jp_document::DocumentFault;
 use std::fmt;
 use thiserror::Error;
 
-/// Why a line is no document.
+/// Why a line is refused.
 #[derive(Debug, PartialEq, Drop, Error)]
 pub enum Defect {
     /// Its bytes are no document. Want of memory is no such fault.
     Document(DocumentFault),
     /// It has more than `DOCUMENT_LIMIT` bytes.
     TooLarge,
+    /// It is a document, over which the evaluation was given up after so many steps, all that the
+    /// limit allows.
+    StepsUsedUp(u64),
 }
 
 /// As `jp` tells it, and of a number that is not whole also the path, as
@@ -25,16 +28,17 @@ impl fmt::Display for Defect {
         match self {
             Defect::Document(fault) => write!(f, "document refused: {fault}"),
             Defect::TooLarge => f.write_str("document refused: DocumentTooLarge"),
+            Defect::StepsUsedUp(_) => f.write_str("document refused: StepsUsedUp"),
         }
     }
 }
 
-/// A line that is no document.
+/// A line that is refused.
 #[derive(Debug, PartialEq, Drop, Error)]
 pub struct RefusedLine {
     /// Which line of the input it is, from 1.
     pub number: u64,
-    /// Why it is none.
+    /// Why it is refused.
     pub defect: Defect,
 }
 

@@ -5,8 +5,9 @@
 //! let refused = run_lines(alloc, "$.user.id", Standard, options, &mut input, &mut output, &mut faults)?;
 //! ```
 //!
-//! `Options` say what is written of each document, and whether lines are numbered, a run goes on
-//! after a line that is no document, and the output is flushed after each. `specs/Run.antt` has what
+//! `Options` say what is written of each document, whether lines are numbered, a run goes on after a
+//! line that is refused, and the output is flushed after each, and how many steps the evaluation over
+//! one document may make. `specs/Run.antt` has what
 //! `run_lines` says with each answer, by the outcomes of lines in `specs/Outcome.antt`;
 //! `specs/Lines.antt` says what the lines of an input are. `run_program` is the whole program
 //! `jp-lines` over its words; `specs/Program.antt` has what it says with each status.
@@ -25,6 +26,7 @@ mod telling;
 #[cfg(test)]
 mod tests;
 mod treating;
+mod wanted;
 mod words;
 
 pub use defect::{Defect, RefusedLine};

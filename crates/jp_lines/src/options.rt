@@ -18,8 +18,10 @@ pub struct Options {
     pub wanted: Wanted,
     /// Whether each line of output begins with the number of the input's line, from 1, and a tab.
     pub numbered: bool,
-    /// Whether a run goes on after a line that is no document.
+    /// Whether a run goes on after a line that is refused.
     pub keep_going: bool,
     /// Whether the output is flushed after each document.
     pub line_buffered: bool,
+    /// The most steps that the evaluation over one document may make; None: as many as it takes.
+    pub limit: Option<u64>,
 }

@@ -30,8 +30,10 @@ const READS: u64 = u64::MAX;
 /// came; one document is in memory at a time. Where the query names a location below the root, the
 /// value there is found while a line is read, without the rest of the document.
 ///
-/// Answers whether some line was refused: a line that is no document is told to `faults`, where
-/// `keep_going` asks the run to go on, and is else the `Line` that the run stops with. What can't be
+/// Answers whether some line was refused: a line that is no document, or whose document needs more
+/// steps than `limit` says, is told to `faults`, where `keep_going` asks the run to go on, and is else
+/// the `Line` that the run stops with. Of a line that is refused nothing is written: where there is a
+/// limit, what is written of a document is made in memory first. What can't be
 /// written to `faults` is left out, and no further write to it is tried. The other errors are those
 /// of a run over one document: `Query` (the input stays unread), `Read`, `Write` and `NoMemory`,
 /// which also says that lines, nodes or reads are more than 2^64. What is written then is a prefix

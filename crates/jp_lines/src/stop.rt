@@ -13,7 +13,7 @@ use thiserror::Error;
 /// Why a run over lines stopped before the end of its input.
 #[derive(Debug, PartialEq, Drop, Error)]
 pub enum Stop {
-    /// A line is no document, and the run was not to go on after it.
+    /// A line is refused, and the run was not to go on after it.
     Line(RefusedLine),
     /// What also stops a run over one document, but for its refusal.
     Run(Fault),

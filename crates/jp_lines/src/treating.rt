@@ -18,8 +18,8 @@ use crate::stop::Stop;
 use crate::telling::tell;
 use jp_command::{Fault, Output, Writer};
 
-/// Writes what is asked of a line's document, or tells that it is none; answers whether it is
-/// refused. Of the line it takes what is kept of it.
+/// Writes what is asked of a line's document, or tells that the line is refused; answers whether it
+/// is. Of the line it takes what is kept of it.
 pub(crate) fn treat<W: Output, E: Writer>(
     asked: Asked<'_>,
     number: u64,

@@ -7,11 +7,12 @@ ghost use Rattle.clap.specs.Words.{subcommand_of, subcommand_rows_of};
 ghost use Rattle.clap.specs.declared.builder.command.Command.TheViews.{out-Command};
 ghost use Rattle.clap.specs.declared.error.kind.ErrorKind.TheVariants.{OutOfMemory};
 ghost use Rattle.jp_lines.specs.CommandLine.{asked, asked_by, jp_lines, lines_app};
-ghost use Rattle.jp_lines.specs.CommandLine.{options_asked, wanted_called, with_lines};
+ghost use Rattle.jp_lines.specs.CommandLine.{limit_asked, options_asked, wanted_called, with_limit};
+ghost use Rattle.jp_lines.specs.CommandLine.{with_lines};
 
 use crate::options::{Options, Wanted};
 use clap::error::ErrorKind;
-use clap::{ArgMatches, Command, Error};
+use clap::{Arg, ArgAction, ArgMatches, Command, Error, value_parser};
 use jp_check::Profile;
 use jp_command::{Form, is_set, profile_asked, query_command, with_flag};
 use std::alloc::{AllocError, Global};
@@ -23,7 +24,7 @@ const VERSION: &str = "0.1.0";
 const AFTER_HELP: &str = "\
 Each command takes one QUERY and runs it over each line of standard input, which is one JSON
 document. Lines of blanks alone hold none. A line that is no document ends the run, unless
---keep-going is given.
+--keep-going is given. With --limit, so does one whose document takes more steps than N.
 
 Example: printf '{\"a\":1}\\n{\"a\":2}\\n' | jp-lines eval '$.a'
 
@@ -43,7 +44,22 @@ fn wanted_named(name: &str) -> Option<Wanted>
     }
 }
 
-/// A subcommand with a query and all flags.
+/// The command with the option `--limit` more, whose value is a number from 1 on.
+fn with_limit<'w>(alloc: Global, command: Command<'w>) -> Result<Command<'w>, AllocError>
+    ensures shape { IfOk result (λ more. app_of more ≡ with_limit (app_of command.entry)) }
+    ensures local { IfOk result (λ more.
+        (out-Command more).has_globals ≡ (out-Command command.entry).has_globals) }
+{
+    let limit = Arg::new(alloc, "limit")
+        .long("limit")
+        .value_name("N")
+        .action(ArgAction::Set)
+        .value_parser(value_parser!(u64).range(1..))
+        .help("Gives a document up after N steps of its evaluation");
+    command.arg(limit)
+}
+
+/// A subcommand with a query, all flags and the limit.
 #[tactic(auto, unfolding(crate::specs::CommandLine::lines_app))]
 fn lines_command<'w>(
     alloc: Global,
@@ -64,14 +80,15 @@ fn lines_command<'w>(
         alloc,
         command,
         "keep-going",
-        "Goes on after a line that is no document",
+        "Goes on after a line that is refused",
     )?;
-    with_flag(
+    let command = with_flag(
         alloc,
         command,
         "line-buffered",
         "Flushes the output after each document",
-    )
+    )?;
+    with_limit(alloc, command)
 }
 
 /// The command with one such subcommand more.
@@ -125,6 +142,13 @@ fn matches_of<'w>(alloc: Global, words: &'w [String]) -> Result<ArgMatches<'w>, 
     command.try_get_matches_from(words)
 }
 
+/// The most steps over one document, where the matches of a subcommand say it.
+fn limit_asked(found: &ArgMatches) -> Option<u64>
+    ensures { result ≡ limit_asked (rows_of (found_of found.now)) }
+{
+    found.get_one::<u64>("limit")
+}
+
 /// The options that the matches of a subcommand ask for.
 fn options_asked(wanted: Wanted, found: &ArgMatches) -> Options
     ensures { result ≡ options_asked wanted (rows_of (found_of found.now)) }
@@ -134,6 +158,7 @@ fn options_asked(wanted: Wanted, found: &ArgMatches) -> Options
         numbered: is_set(found, "number"),
         keep_going: is_set(found, "keep-going"),
         line_buffered: is_set(found, "line-buffered"),
+        limit: limit_asked(found),
     }
 }
 

@@ -11,7 +11,7 @@ use std::process::Abort;
 const LINES: &str = "{\"a\":1,\"b\":[2,3]}\n\nx\n[4]\r\n";
 
 /// The words with a subcommand, flags and a query.
-fn words(alloc: Global, line: &[&str]) -> Result<Vec<String>, AllocError> {
+pub fn words(alloc: Global, line: &[&str]) -> Result<Vec<String>, AllocError> {
     let mut words = Vec::new(alloc);
     for word in line {
         words.push(String::from_str(alloc, *word)?)?;
@@ -20,10 +20,10 @@ fn words(alloc: Global, line: &[&str]) -> Result<Vec<String>, AllocError> {
 }
 
 /// How a program ends: its status, what it writes, what it tells, and how often it flushes.
-type Ended<'a> = (u8, &'a str, &'a str, usize);
+pub type Ended<'a> = (u8, &'a str, &'a str, usize);
 
 /// Runs the program over lines, where a read behind them fails if it is to.
-fn assert_ends(
+pub fn assert_ends(
     rt: &impl Abort,
     alloc: Global,
     line: &[&str],
@@ -175,12 +175,19 @@ fn ends_with_the_status_of_its_run(rt: HostRuntime) -> Result<(), AllocError> {
 
 #[test]
 fn refuses_words_that_name_no_run(rt: HostRuntime) -> Result<(), AllocError> {
-    let lines: [&[&str]; 5] = [
+    let lines: [&[&str]; 12] = [
         &["jp-lines"],
         &["jp-lines", "check", "$"],
         &["jp-lines", "eval"],
         &["jp-lines", "eval", "$", "$"],
         &["jp-lines", "eval", "--number", "--number", "$"],
+        &["jp-lines", "eval", "--limit"],
+        &["jp-lines", "eval", "--limit", "$"],
+        &["jp-lines", "eval", "--limit", "0", "$"],
+        &["jp-lines", "eval", "--limit", "1.5", "$"],
+        &["jp-lines", "eval", "--limit=-1", "$"],
+        &["jp-lines", "eval", "--limit", "18446744073709551616", "$"],
+        &["jp-lines", "eval", "--limit", "1", "--limit", "1", "$"],
     ];
     for line in lines {
         let mut input = Trickle {

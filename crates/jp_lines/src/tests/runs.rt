@@ -13,6 +13,7 @@ const VALUES: Options = Options {
     numbered: false,
     keep_going: false,
     line_buffered: false,
+    limit: None,
 };
 
 /// Numbered values of a run that goes on.
@@ -21,6 +22,7 @@ const NUMBERED: Options = Options {
     numbered: true,
     keep_going: true,
     line_buffered: true,
+    limit: None,
 };
 
 const COUNTED: Options = Options {
@@ -28,6 +30,7 @@ const COUNTED: Options = Options {
     numbered: false,
     keep_going: true,
     line_buffered: false,
+    limit: None,
 };
 
 /// Lines, how they come and what takes the output and the refusals.

@@ -1,6 +1,8 @@
 use Rattle.std.proofs.Common.{◌≡◌, ◌++◌, false, length, string_bytes}
-use Rattle.jp_evaluate.specs.Lent.{has_failed, rest_of}
-use Rattle.jp_command.specs.Lines.{lines_of}
+use Rattle.std.specs.List.{flat_map}
+use Rattle.jp_select.specs.Steps.{Takes}
+use Rattle.jp_evaluate.specs.Lent.{has_failed, rest_of, steps_of}
+use Rattle.jp_command.specs.Lines.{line_behind}
 use Rattle.jp_command.specs.Private.Fronts.{HasPathText}
 use Rattle.jp_command.proofs.lines.lines_of_rest.Given as goal
 
@@ -9,8 +11,9 @@ abbrev pub invariant-loop-next : goal.invariant-loop-next
 invariant-loop-next g l = record {
   front : HasPathText l.front;
   working : has_failed l.nodes ≡ false;
-  all : string_bytes l.lines ++ lines_of l.form (rest_of g.V.Lent.meaning l.nodes)
-      ≡ lines_of l.form (rest_of g.V.Lent.meaning l.fn.nodes);
+  all : string_bytes l.lines ++ flat_map (line_behind l.lead l.form) (rest_of g.V.Lent.meaning l.nodes)
+      ≡ flat_map (line_behind l.lead l.form) (rest_of g.V.Lent.meaning l.fn.nodes);
+  taken : Takes (steps_of l.fn.nodes) (steps_of l.nodes);
 }
 
 abbrev pub decreases-loop-next : goal.decreases-loop-next

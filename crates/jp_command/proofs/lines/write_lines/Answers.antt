@@ -9,6 +9,7 @@ pub loop-next-init : goal.loop-next-init
 loop-next-init g c = record {
   front = search rules;
   working = search rules;
+  unlimited = search rules;
   written = given_none g.W.Writer.contents g.W.Writer.has_failed g.W.Writer.write_takes
       (line_behind c.args.lead.now c.args.form) _ _;
   works = search rules;
@@ -28,8 +29,8 @@ returns-in_err-push_line-clause-stopped g c =
 pub returns-in_default-write_all-clause-stopped : goal.returns-in_default-write_all-clause-stopped
 returns-in_default-write_all-clause-stopped g c =
     let behind = line_behind c.args.lead.now c.args.form in
-    let n = lent_node g.V.Lent.meaning (c.next_at.new.location, c.in_ok-value.value) in
-    let steps = rw (c.in-Some.is, c.in_ok-value.was) at c.next_at.ensures in
+    let n = lent_node g.V.Lent.meaning (c.next_unlimited.new.location, c.in_ok-value.value) in
+    let steps = rw (c.in-Some.is, c.in_ok-value.was) at c.next_unlimited.ensures.gives in
     let line : c.as_bytes.result.now ≡ behind n = search rules in (
       part-is_prefix g.W.Writer.contents g.W.Writer.has_failed g.W.Writer.write_takes behind _ _ _ _
           (given_part g.W.Writer.contents g.W.Writer.has_failed g.W.Writer.write_takes behind _ _ _ n _ _ _
@@ -54,8 +55,8 @@ pub returns-in_default-write_all-clause-as_found :
     goal.returns-in_default-write_all-clause-as_found
 returns-in_default-write_all-clause-as_found g c =
     let behind = line_behind c.args.lead.now c.args.form in
-    let n = lent_node g.V.Lent.meaning (c.next_at.new.location, c.in_ok-value.value) in
-    let steps = rw (c.in-Some.is, c.in_ok-value.was) at c.next_at.ensures in
+    let n = lent_node g.V.Lent.meaning (c.next_unlimited.new.location, c.in_ok-value.value) in
+    let steps = rw (c.in-Some.is, c.in_ok-value.was) at c.next_unlimited.ensures.gives in
     let line : c.as_bytes.result.now ≡ behind n = search rules in (
       steps.1,
       given_part g.W.Writer.contents g.W.Writer.has_failed g.W.Writer.write_takes behind _ _ _ n _ _ _
@@ -72,12 +73,13 @@ returns-in_default-write_all-clause-calls g c =
 pub loop-next-preserved : goal.loop-next-preserved
 loop-next-preserved g c =
     let behind = line_behind c.args.lead.now c.args.form in
-    let n = lent_node g.V.Lent.meaning (c.next_at.new.location, c.in_ok-value.value) in
-    let steps = rw (c.in-Some.is, c.in_ok-value.was) at c.next_at.ensures in
+    let n = lent_node g.V.Lent.meaning (c.next_unlimited.new.location, c.in_ok-value.value) in
+    let steps = rw (c.in-Some.is, c.in_ok-value.was) at c.next_unlimited.ensures.gives in
     let line : c.as_bytes.result.now ≡ behind n = search rules in
     record {
       front = search rules;
       working = steps.1;
+      unlimited = c.next_unlimited.ensures.unlimited;
       written = given_more g.W.Writer.contents g.W.Writer.has_failed g.W.Writer.write_takes behind _ _ _ n _ _ _
           c.loop-next.invariant.written steps.2 (rw line at c.in-Ok.ensures.ok)
           (rw line at c.in-Ok.ensures.calls);

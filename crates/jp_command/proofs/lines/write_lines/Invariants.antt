@@ -1,5 +1,5 @@
 use Rattle.std.proofs.Common.{◌≡◌, false, length}
-use Rattle.jp_evaluate.specs.Lent.{has_failed, rest_of}
+use Rattle.jp_evaluate.specs.Lent.{has_failed, rest_of, steps_of}
 use Rattle.jp_command.specs.Lines.{line_behind}
 use Rattle.jp_command.specs.Private.AsFound.{WritesGiven}
 use Rattle.jp_command.specs.Private.Fronts.{HasPathText}
@@ -10,6 +10,7 @@ abbrev pub invariant-loop-next : goal.invariant-loop-next
 invariant-loop-next g l = record {
   front : HasPathText l.front;
   working : has_failed l.nodes ≡ false;
+  unlimited : (steps_of l.nodes).limited ≡ false;
   written : WritesGiven g.W.Writer.contents g.W.Writer.write_takes (line_behind l.lead l.form) (rest_of g.V.Lent.meaning l.fn.nodes) (rest_of g.V.Lent.meaning l.nodes)
       l.fn.output l.output;
   works : g.W.Writer.has_failed l.output ≡ g.W.Writer.has_failed l.fn.output;

@@ -1,7 +1,7 @@
 use Rattle.std.proofs.Common.{◌∙◌, ap, codes}
 use Rattle.std.proofs.lemmas.Result.{IfOk-weaker}
 use Rattle.jp_command.specs.CommandLine.{with_flag}
-use Rattle.jp_lines.specs.CommandLine.{lines_app}
+use Rattle.jp_lines.specs.CommandLine.{lines_app, with_limit}
 use Rattle.jp_lines.proofs.words.lines_command.Goals as goal
 
 pub returns-clause-shape : goal.returns-clause-shape
@@ -11,6 +11,7 @@ returns-clause-shape c =
     ∙ ap (λ a. with_flag a (codes "number")) c.in_ok-command.ensures.shape in
     let going = c.in_ok-command-3.ensures.shape
     ∙ ap (λ a. with_flag a (codes "keep-going")) numbered in
-    IfOk-weaker c.with_flag-3.result _ _
-    (λ more same. same ∙ ap (λ a. with_flag a (codes "line-buffered")) going)
-    c.with_flag-3.ensures.shape
+    let buffered = c.in_ok-command-4.ensures.shape
+    ∙ ap (λ a. with_flag a (codes "line-buffered")) going in
+    IfOk-weaker c.with_limit.result _ _ (λ more same. same ∙ ap with_limit buffered)
+    c.with_limit.ensures.shape

@@ -1,0 +1,31 @@
+-- What a limit of steps allows, and what an evaluation that is given up means for its line. The
+-- clauses of `write_wanted` and of what it calls cite it.
+use Rattle.std.specs.Prelude.{◌≡◌, ℕ, Bool, true, false, List, Option, Some, None, Result, Ok, Err}
+use Rattle.jp_select.specs.declared.steps.Steps.{Steps}
+use Rattle.jp_evaluate.specs.declared.evaluation_fault.EvaluationFault.{EvaluationFault}
+use Rattle.jp_evaluate.specs.declared.evaluation_fault.EvaluationFault.TheVariants as evaluation
+use Rattle.jp_command.specs.Output.{WritesAll}
+use Rattle.jp_command.specs.declared.fault.Fault.{Fault}
+use Rattle.jp_command.specs.declared.fault.Fault.TheVariants.{NoMemory}
+use Rattle.jp_lines.specs.declared.defect.Defect.{Defect}
+use Rattle.jp_lines.specs.declared.defect.Defect.TheVariants.{StepsUsedUp}
+
+-- one evaluation may make these steps
+abbrev pub IsAllowed : Option ℕ → Steps → Type 0
+IsAllowed (Some limit) s = (s.limited ≡ true) × (s.left ≡ limit)
+IsAllowed None s = s.limited ≡ false
+
+-- what it means that an evaluation was given up after so many steps: want of memory is no defect,
+-- and a fault of the run
+abbrev pub stop_of : EvaluationFault → ℕ → Result (Option Defect) Fault
+stop_of evaluation.NoMemory made = Err NoMemory
+stop_of evaluation.StepsUsedUp made = Ok (Some (StepsUsedUp made))
+
+-- o and p are the output before and after
+module _ {W : Type 0} (contents : W → Option (List ℕ)) (has_failed : W → Bool) (limit : Option ℕ)
+    (text : List ℕ) (o p : W) where
+  -- the text is written; or all steps that the limit allows were made, and nothing is written
+  abbrev pub WritesOrGivesUp : Option Defect → Type 0
+  WritesOrGivesUp None = WritesAll contents has_failed o p text
+  WritesOrGivesUp (Some (StepsUsedUp made)) = (limit ≡ Some made) × (p ≡ o)
+  WritesOrGivesUp (Some _) = ⊥
