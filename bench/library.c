@@ -54,7 +54,7 @@ static double measure_jp(const char *query) {
         double start = seconds();
         for (int call = 0; call < 2000; call += 1) {
             jp_eval((const uint8_t *)query, strlen(query), (const uint8_t *)document, strlen(document), JP_VALUES,
-                    JP_STANDARD, out, sizeof out, &report);
+                    JP_STANDARD, JP_NO_LIMIT, out, sizeof out, &report);
         }
         double took = (seconds() - start) / 2000;
         best = took < best ? took : best;
@@ -82,7 +82,7 @@ static int by_ten_calls(void) {
     int is_done = 1;
     for (int at = 0; at < TEN; at += 1) {
         uint32_t status = jp_eval((const uint8_t *)ten + at * SIZE, SIZE, (const uint8_t *)document, strlen(document),
-                                  JP_VALUES, JP_STANDARD, answer, sizeof answer, &report);
+                                  JP_VALUES, JP_STANDARD, JP_NO_LIMIT, answer, sizeof answer, &report);
         is_done = is_done && status == JP_DONE && report.length > 0;
     }
     return is_done;
@@ -95,7 +95,7 @@ static int by_one_call(void) {
         questions[at].size = SIZE;
     }
     jp_eval_many((const uint8_t *)ten, TEN * SIZE, questions, TEN, (const uint8_t *)document, strlen(document),
-                 JP_VALUES, JP_STANDARD, answer, sizeof answer);
+                 JP_VALUES, JP_STANDARD, JP_NO_LIMIT, answer, sizeof answer);
     int is_done = 1;
     for (size_t at = 0; at < TEN; at += 1) {
         is_done = is_done && questions[at].report.status == JP_DONE && questions[at].report.length > 0;
@@ -109,7 +109,8 @@ static int by_handles(void) {
     struct jp_report report;
     int is_done = 1;
     for (int at = 0; at < TEN; at += 1) {
-        uint32_t status = jp_select(&kept_queries[at], &kept_document, JP_VALUES, answer, sizeof answer, &report);
+        uint32_t status = jp_select(&kept_queries[at], &kept_document, JP_VALUES, JP_NO_LIMIT, answer,
+                                    sizeof answer, &report);
         is_done = is_done && status == JP_DONE && report.length > 0;
     }
     return is_done;

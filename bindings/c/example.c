@@ -86,8 +86,8 @@ static uint32_t make(const struct call *call, uint8_t *out, size_t room, struct 
     uint32_t form = strcmp(call->form, "eval") == 0    ? JP_VALUES
                     : strcmp(call->form, "paths") == 0 ? JP_PATHS
                                                        : JP_BOTH;
-    return jp_eval(query, length, call->document.at, call->document.length, form, call->profile, out,
-                   room, report);
+    return jp_eval(query, length, call->document.at, call->document.length, form, call->profile,
+                   JP_NO_LIMIT, out, room, report);
 }
 
 int main(int count, char **words) {

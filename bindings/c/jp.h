@@ -36,14 +36,19 @@ extern "C" {
 /* 65536 times the major number, 256 times the minor one, and the patch. */
 #define JP_VERSION 0x000100
 
-/* Statuses, as the program jp ends with them. */
+/* Statuses, as the program jp ends with them, but for the last, which it has not. */
 enum {
     JP_DONE = 0,
     JP_QUERY_REFUSED = 1,
     JP_USAGE = 2, /* no form or no profile has that number, or a handle keeps no such thing */
     JP_DOCUMENT_REFUSED = 3,
-    JP_NO_MEMORY = 4
+    JP_NO_MEMORY = 4,
+    JP_STEPS_USED_UP = 6 /* the evaluation needs more steps than the limit */
 };
+
+/* Some queries take years over a document of a few bytes. So a call that evaluates takes a limit of
+ * steps, which count its work; docs/QUERIES.md says what a step is. */
+#define JP_NO_LIMIT 0
 
 /* What is written of each node, with a newline after it. */
 enum {
@@ -83,16 +88,18 @@ struct jp_report {
     uint32_t kind;   /* of the refusal, else 0 */
     size_t place;    /* the byte of the query at which it is refused, from 0, else 0 */
     size_t length;   /* how many bytes the text has, else 0 */
+    uint64_t steps;  /* how many steps the evaluation made, at most the limit; 0 where there was none */
 };
 
 /* The version of the library. */
 uint32_t jp_version(void);
 
 /* A line for each node that the query selects in the document, in the nodelist's order; no text
- * where it selects none. The query is read first. */
+ * where it selects none. The query is read first. Where it names one location, as $.a[0] does, it is
+ * answered while the document is read, and makes no steps. */
 uint32_t jp_eval(const uint8_t *query, size_t query_length,
                  const uint8_t *document, size_t document_length,
-                 uint32_t form, uint32_t profile,
+                 uint32_t form, uint32_t profile, uint64_t limit,
                  uint8_t *out, size_t out_length, struct jp_report *report);
 
 /* One of many queries: the bytes of the queries' text from its start on, as many as its size says. */
@@ -106,11 +113,12 @@ struct jp_question {
  * Each question is answered in turn by its own report, also where others are refused. What the reports
  * tell of are texts that stand one after another: a question's begins where the lengths of those before
  * it end. `out` gets all of them if there is room for all, and else is left as it was. Gives how many
- * bytes they have together. A query that the text of the queries ends before is what is there of it. */
+ * bytes they have together. A query that the text of the queries ends before is what is there of it.
+ * Each question has the whole limit. */
 size_t jp_eval_many(const uint8_t *queries, size_t queries_length,
                     struct jp_question *questions, size_t questions_length,
                     const uint8_t *document, size_t document_length,
-                    uint32_t form, uint32_t profile,
+                    uint32_t form, uint32_t profile, uint64_t limit,
                     uint8_t *out, size_t out_length);
 
 /* The canonical text of a query, in which each query has one spelling; no newline after it. */
@@ -150,7 +158,7 @@ uint32_t jp_document_new(const uint8_t *document, size_t document_length,
 
 /* What jp_eval writes for the query that one handle keeps and the document that the other does. Both
  * keep them. */
-uint32_t jp_select(struct jp_handle *query, struct jp_handle *document, uint32_t form,
+uint32_t jp_select(struct jp_handle *query, struct jp_handle *document, uint32_t form, uint64_t limit,
                    uint8_t *out, size_t out_length, struct jp_report *report);
 
 /* Frees what the handle keeps, if anything. It then keeps nothing, and may be filled or cleared again. */

@@ -1,7 +1,7 @@
-/* Tests what jp.h promises of buffers, bytes and handles: rooms of 0, of one too little, of the length and
- * of more; a query and a document that are no UTF-8; no text at all; handles that are empty, cleared
- * twice, filled again, used for the other kind, and a million of them, which leave no memory behind.
- * Prints nothing where all is so. */
+/* Tests what jp.h promises of buffers, bytes, limits and handles: rooms of 0, of one too little, of the
+ * length and of more; a query and a document that are no UTF-8; no text at all; as many steps as are
+ * needed, and one less; handles that are empty, cleared twice, filled again, used for the other kind, and a
+ * million of them, which leave no memory behind. Prints nothing where all is so. */
 #include "jp.h"
 
 #include <malloc.h>
@@ -28,33 +28,33 @@ struct row {
     const char *text;
 };
 
-#define ROW(query, document, form, status, kind, place, text)       \
-    { query, sizeof query - 1, document, sizeof document - 1, form, \
-      {status, kind, place, sizeof text - 1}, text }
+#define ROW(query, document, form, status, kind, place, text, steps) \
+    { query, sizeof query - 1, document, sizeof document - 1, form,  \
+      {status, kind, place, sizeof text - 1, steps}, text }
 
 static const struct row rows[] = {
-    ROW("$.a[*]", "{\"a\":[1,[2,{}]]}", JP_BOTH, 0, 0, 0, "$['a'][0]\t1\n$['a'][1]\t[2,{}]\n"),
-    ROW("$.a[*]", "{\"a\":[1,[2,{}]]}", JP_PATHS, 0, 0, 0, "$['a'][0]\n$['a'][1]\n"),
-    ROW("$.a[*]", "{\"a\":[1,[2,{}]]}", JP_VALUES, 0, 0, 0, "1\n[2,{}]\n"),
-    ROW("$.b", "{\"a\":[1,2]}", JP_VALUES, 0, 0, 0, ""),
-    ROW("$.a[01]", "[1,]", JP_VALUES, 1, JP_SYNTAX, 5, ""),
-    ROW("", "", JP_VALUES, 1, JP_SYNTAX, 0, ""),
-    ROW("$.\xff", "[]", JP_VALUES, 1, JP_SYNTAX, 2, ""),
-    ROW("$['\0']", "[]", JP_VALUES, 1, JP_SYNTAX, 3, ""),
-    ROW("$", "", JP_VALUES, 3, JP_NOT_JSON, 0, ""),
-    ROW("$", "\"\xff\"", JP_VALUES, 3, JP_NOT_JSON, 0, ""),
-    ROW("$", "{\"a\":[0,2.5]}", JP_VALUES, 3, JP_NUMBER_NOT_WHOLE, 0, "$['a'][1]"),
-    ROW("$", "[]", 3, 2, 0, 0, ""),
+    ROW("$.a[*]", "{\"a\":[1,[2,{}]]}", JP_BOTH, 0, 0, 0, "$['a'][0]\t1\n$['a'][1]\t[2,{}]\n", 11),
+    ROW("$.a[*]", "{\"a\":[1,[2,{}]]}", JP_PATHS, 0, 0, 0, "$['a'][0]\n$['a'][1]\n", 11),
+    ROW("$.a[*]", "{\"a\":[1,[2,{}]]}", JP_VALUES, 0, 0, 0, "1\n[2,{}]\n", 11),
+    ROW("$.b[*]", "{\"a\":[1,2]}", JP_VALUES, 0, 0, 0, "", 5),
+    ROW("$.a[01]", "[1,]", JP_VALUES, 1, JP_SYNTAX, 5, "", 0),
+    ROW("", "", JP_VALUES, 1, JP_SYNTAX, 0, "", 0),
+    ROW("$.\xff", "[]", JP_VALUES, 1, JP_SYNTAX, 2, "", 0),
+    ROW("$['\0']", "[]", JP_VALUES, 1, JP_SYNTAX, 3, "", 0),
+    ROW("$", "", JP_VALUES, 3, JP_NOT_JSON, 0, "", 0),
+    ROW("$", "\"\xff\"", JP_VALUES, 3, JP_NOT_JSON, 0, "", 0),
+    ROW("$", "{\"a\":[0,2.5]}", JP_VALUES, 3, JP_NUMBER_NOT_WHOLE, 0, "$['a'][1]", 0),
+    ROW("$", "[]", 3, 2, 0, 0, "", 0),
 };
 
 /* A call with so much room gives the row's report, and fills the buffer whole or leaves it alone. */
 static void try_room(const struct row *row, size_t room) {
     uint8_t *out = malloc(room + 1);
-    struct jp_report report = {9, 9, 9, 9};
+    struct jp_report report = {9, 9, 9, 9, 9};
     memset(out, '#', room + 1);
     uint32_t status = jp_eval((const uint8_t *)row->query, row->query_length,
                               (const uint8_t *)row->document, row->document_length, row->form,
-                              JP_STANDARD, out, room, &report);
+                              JP_STANDARD, JP_NO_LIMIT, out, room, &report);
     expect(status == row->expected.status, "the status", room);
     expect(memcmp(&report, &row->expected, sizeof report) == 0, "the report", room);
     size_t written = room >= row->expected.length ? row->expected.length : 0;
@@ -71,24 +71,24 @@ static void try_many(size_t room) {
     static const char document[] = "{\"a\":[1,[2,{}]]}";
     static const char text[] = "$['a'][0]\n$['a'][1]\n$['a']\n";
     static const struct jp_report expected[] = {
-        {0, 0, 0, 20},
-        {JP_QUERY_REFUSED, JP_SYNTAX, 5, 0},
-        {0, 0, 0, 0},
-        {0, 0, 0, 7},
-        {JP_QUERY_REFUSED, JP_SYNTAX, 0, 0},
+        {0, 0, 0, 20, 11},
+        {JP_QUERY_REFUSED, JP_SYNTAX, 5, 0, 0},
+        {0, 0, 0, 0, 5},
+        {0, 0, 0, 7, 6},
+        {JP_QUERY_REFUSED, JP_SYNTAX, 0, 0, 0},
     };
     struct jp_question questions[] = {
-        {0, 6, {9, 9, 9, 9}},
-        {6, 7, {9, 9, 9, 9}},
-        {13, 3, {9, 9, 9, 9}},
-        {16, 9, {9, 9, 9, 9}},
-        {99, 9, {9, 9, 9, 9}},
+        {0, 6, {9, 9, 9, 9, 9}},
+        {6, 7, {9, 9, 9, 9, 9}},
+        {13, 3, {9, 9, 9, 9, 9}},
+        {16, 9, {9, 9, 9, 9, 9}},
+        {99, 9, {9, 9, 9, 9, 9}},
     };
     uint8_t *out = malloc(room + 1);
     memset(out, '#', room + 1);
     size_t size = jp_eval_many((const uint8_t *)queries, sizeof queries - 1, questions, 5,
                                (const uint8_t *)document, sizeof document - 1, JP_PATHS,
-                               JP_STANDARD, out, room);
+                               JP_STANDARD, 11, out, room);
     expect(size == sizeof text - 1, "the size of all texts", room);
     for (size_t at = 0; at < 5; at += 1) {
         expect(memcmp(&questions[at].report, &expected[at], sizeof expected[at]) == 0, "a report", room);
@@ -103,11 +103,11 @@ static void try_many(size_t room) {
 
 /* Many queries over what is no document, and no queries at all. */
 static void try_many_refused(void) {
-    struct jp_question questions[] = {{0, 1, {9, 9, 9, 9}}, {0, 0, {9, 9, 9, 9}}};
+    struct jp_question questions[] = {{0, 1, {9, 9, 9, 9, 9}}, {0, 0, {9, 9, 9, 9, 9}}};
     uint8_t out[16] = {0};
     const uint8_t document[] = "[2.5]";
     expect(jp_eval_many((const uint8_t *)"$", 1, questions, 2, document, 5, JP_VALUES, JP_STANDARD,
-                        out, sizeof out)
+                        JP_NO_LIMIT, out, sizeof out)
                    == 4
                && memcmp(out, "$[0]", 5) == 0,
            "the path of a number", 16);
@@ -116,7 +116,7 @@ static void try_many_refused(void) {
            "the document's report", 16);
     expect(questions[1].report.status == JP_QUERY_REFUSED, "the query's report", 16);
     expect(jp_eval_many((const uint8_t *)"", 0, questions, 0, document, 5, JP_VALUES, JP_STANDARD,
-                        out, sizeof out)
+                        JP_NO_LIMIT, out, sizeof out)
                == 0,
            "no queries", 16);
 }
@@ -160,7 +160,7 @@ static uint32_t keep_document(const char *document, struct jp_handle *handle) {
 /* Each row's query and document by way of handles: what jp_eval answers, of the document's fault too. */
 static void try_handles_as(const struct row *row) {
     struct jp_handle query = JP_EMPTY, document = JP_EMPTY;
-    struct jp_report report = {9, 9, 9, 9};
+    struct jp_report report = {9, 9, 9, 9, 9};
     uint8_t out[64] = {0};
     uint32_t status = jp_query_new((const uint8_t *)row->query, row->query_length, JP_STANDARD, &query, &report);
     if (status == JP_DONE) {
@@ -168,7 +168,7 @@ static void try_handles_as(const struct row *row) {
                                  sizeof out, &report);
     }
     for (int again = 0; status == JP_DONE && again < 2; again += 1) {
-        uint32_t answered = jp_select(&query, &document, row->form, out, sizeof out, &report);
+        uint32_t answered = jp_select(&query, &document, row->form, JP_NO_LIMIT, out, sizeof out, &report);
         status = again == 1 ? answered : status;
     }
     expect(status == row->expected.status, "the status by handles", sizeof out);
@@ -178,29 +178,82 @@ static void try_handles_as(const struct row *row) {
     jp_clear(&document);
 }
 
+/* The status of jp_select, and the first byte that it writes, or '#' where it writes none. */
+static uint32_t select_from(struct jp_handle *query, struct jp_handle *document, uint8_t *first) {
+    struct jp_report report;
+    uint8_t out[16] = {'#'};
+    uint32_t status = jp_select(query, document, JP_VALUES, JP_NO_LIMIT, out, sizeof out, &report);
+    *first = out[0];
+    return status;
+}
+
 /* Handles that keep nothing, or the other kind, are a status. */
 static void try_no_handles(void) {
     struct jp_handle query = JP_EMPTY, document = JP_EMPTY;
-    struct jp_report report;
-    uint8_t out[16];
-    expect(jp_select(&query, &document, JP_VALUES, out, sizeof out, &report) == JP_USAGE, "empty handles", 16);
+    uint8_t first;
+    expect(select_from(&query, &document, &first) == JP_USAGE, "empty handles", 16);
     jp_clear(&query);
     expect(keep_query("$.a", &query) == JP_DONE, "a query kept", 16);
-    expect(jp_select(&query, &document, JP_VALUES, out, sizeof out, &report) == JP_USAGE, "no document", 16);
+    expect(select_from(&query, &document, &first) == JP_USAGE, "no document", 16);
     expect(keep_document("{\"a\":1}", &document) == JP_DONE, "a document kept", 16);
-    expect(jp_select(&document, &query, JP_VALUES, out, sizeof out, &report) == JP_USAGE, "changed over", 16);
-    expect(jp_select(&query, &document, JP_VALUES, out, sizeof out, &report) == JP_DONE && out[0] == '1',
-           "both kept", 16);
+    expect(select_from(&document, &query, &first) == JP_USAGE, "changed over", 16);
+    expect(select_from(&query, &document, &first) == JP_DONE && first == '1', "both kept", 16);
     expect(keep_document("{\"a\":2}", &document) == JP_DONE, "another in its place", 16);
-    expect(jp_select(&query, &document, JP_VALUES, out, sizeof out, &report) == JP_DONE && out[0] == '2',
-           "the other", 16);
+    expect(select_from(&query, &document, &first) == JP_DONE && first == '2', "the other", 16);
     expect(keep_document("[2.5]", &document) == JP_DOCUMENT_REFUSED, "no document", 16);
-    expect(jp_select(&query, &document, JP_VALUES, out, sizeof out, &report) == JP_USAGE, "refused", 16);
+    expect(select_from(&query, &document, &first) == JP_USAGE, "refused", 16);
     expect(keep_document("{}", &query) == JP_DONE, "a document in place of a query", 16);
     jp_clear(&query);
     jp_clear(&query);
     jp_clear(&document);
-    expect(jp_select(&query, &document, JP_VALUES, out, sizeof out, &report) == JP_USAGE, "cleared", 16);
+    expect(select_from(&query, &document, &first) == JP_USAGE && first == '#', "cleared", 16);
+}
+
+/* The report of one query over one document in at most so many steps: by jp_eval, by jp_eval_many after
+ * another question, and by handles. */
+static void report_within(const char *query, const char *document, uint64_t limit, struct jp_report reports[3]) {
+    const uint8_t *text = (const uint8_t *)query, *bytes = (const uint8_t *)document;
+    size_t length = strlen(query), bytes_length = strlen(document);
+    struct jp_handle kept_query = JP_EMPTY, kept_document = JP_EMPTY;
+    struct jp_question questions[2] = {{0, length, {9, 9, 9, 9, 9}}, {0, length, {9, 9, 9, 9, 9}}};
+    uint8_t out[64];
+    jp_eval(text, length, bytes, bytes_length, JP_PATHS, JP_STANDARD, limit, out, sizeof out, &reports[0]);
+    jp_eval_many(text, length, questions, 2, bytes, bytes_length, JP_PATHS, JP_STANDARD, limit, out, sizeof out);
+    reports[1] = questions[1].report;
+    keep_query(query, &kept_query);
+    keep_document(document, &kept_document);
+    jp_select(&kept_query, &kept_document, JP_PATHS, limit, out, sizeof out, &reports[2]);
+    jp_clear(&kept_query);
+    jp_clear(&kept_document);
+}
+
+/* As many steps as are needed suffice, and one less does not, by each call. */
+static void try_limits(void) {
+    static const struct {
+        const char *query, *document;
+        uint64_t steps;
+    } needed[] = {
+        {"$[*]", "[]", 2},
+        {"$[*]", "[1,2]", 7},
+        {"$..*", "[1,2]", 9},
+        {"$[?@==2]", "[1,2]", 9},
+    };
+    for (size_t at = 0; at < sizeof needed / sizeof needed[0]; at += 1) {
+        uint64_t steps = needed[at].steps;
+        struct jp_report enough[3], fewer[3];
+        report_within(needed[at].query, needed[at].document, steps, enough);
+        report_within(needed[at].query, needed[at].document, steps - 1, fewer);
+        for (size_t call = 0; call < 3; call += 1) {
+            expect(enough[call].status == JP_DONE && enough[call].steps == steps, "a limit that suffices", at);
+            expect(fewer[call].status == JP_STEPS_USED_UP && fewer[call].kind == 0 && fewer[call].place == 0
+                       && fewer[call].length == 0 && fewer[call].steps == steps - 1,
+                   "a limit that is one less", at);
+        }
+    }
+    struct jp_report named[3];
+    report_within("$[1]", "[1,2]", 1, named);
+    expect(named[0].status == JP_DONE && named[0].steps == 0, "a location that is named", 1);
+    expect(named[1].status == JP_STEPS_USED_UP && named[1].steps == 1, "the same of a document that was read", 1);
 }
 
 /* How many bytes the program holds, those included that its allocator keeps to hand out again. Under
@@ -218,7 +271,7 @@ static void use_handles(long times) {
     for (long time = 0; time < times; time += 1) {
         keep_query("$.a[1]", &query);
         keep_document(time % 2 == 0 ? "{\"a\":[1,[2]]}" : "[2.5]", &document);
-        jp_select(&query, &document, JP_VALUES, out, sizeof out, &report);
+        jp_select(&query, &document, JP_VALUES, JP_NO_LIMIT, out, sizeof out, &report);
         if (time % 3 == 0) {
             jp_clear(&query);
             jp_clear(&document);
@@ -252,6 +305,7 @@ int main(void) {
         try_handles_as(&rows[at]);
     }
     try_no_handles();
+    try_limits();
     try_many_handles();
     const size_t rooms[] = {0, 26, 27, 32};
     for (size_t room = 0; room < 4; room += 1) {

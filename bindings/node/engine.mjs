@@ -16,6 +16,8 @@ export const DONE = 0;
 export const QUERY_REFUSED = 1;
 export const DOCUMENT_REFUSED = 3;
 export const NO_MEMORY = 4;
+export const STEPS_USED_UP = 6;
+export const NO_LIMIT = 0n;
 
 /** The kinds of refusal by their numbers, of a query and of a document. */
 export const QUERY_KINDS = [
@@ -32,7 +34,7 @@ export const QUERY_KINDS = [
 ];
 export const DOCUMENT_KINDS = ["", "NotJson", "NotWhole", "ListTooLong"];
 
-const REPORT_LENGTH = 24;
+const REPORT_LENGTH = 32;
 const FIRST_ROOM = 1 << 12;
 
 const encoder = new TextEncoder();
@@ -83,8 +85,8 @@ function lengthInUtf8(code) {
 /**
  * An instance of the module.
  *
- * Each call gives an outcome: `status`, `kind` and `place` as in jp.h, and `text`, the bytes that were
- * written, which are the module's own memory and so good until the next call.
+ * Each call gives an outcome: `status`, `kind`, `place` and `steps` as in jp.h, `steps` as a BigInt, and
+ * `text`, the bytes that were written, which are the module's own memory and so good until the next call.
  */
 export class Engine {
   #module;
@@ -104,10 +106,10 @@ export class Engine {
     return `${number >> 16}.${(number >> 8) & 255}.${number & 255}`;
   }
 
-  /** The lines of the nodes that the query selects in the document. */
-  evaluate(query, document, form, profile) {
+  /** The lines of the nodes that the query selects in the document, in so many steps at most, a BigInt. */
+  evaluate(query, document, form, profile, limit = NO_LIMIT) {
     return this.#answer([query, document], (texts) =>
-      this.#exports.jp_eval(...texts, form, profile, this.#room, BigInt(this.#roomLength), this.#report),
+      this.#exports.jp_eval(...texts, form, profile, limit, this.#room, BigInt(this.#roomLength), this.#report),
     );
   }
 
@@ -187,6 +189,7 @@ export class Engine {
       kind: report.getUint32(4, true),
       place: Number(report.getBigUint64(8, true)),
       length: Number(report.getBigUint64(16, true)),
+      steps: report.getBigUint64(24, true),
     };
   }
 }

@@ -12,6 +12,11 @@ export type Value = string | number | bigint | boolean | null | Value[] | { [nam
 export interface Options {
   /** Lets a query call `distinct`, which RFC 9535 does not have. */
   extended?: boolean;
+  /**
+   * The most steps that a query may make over the document, from 1 to 2^64 - 1; one that needs more throws
+   * `StepsUsedUp`. Without it there is no limit. What is only parsed, checked or made canonical makes no steps.
+   */
+  limit?: number | bigint;
 }
 
 /** A node that a query selects. */
@@ -29,6 +34,7 @@ export class Query {
   constructor(text: string, options?: Options);
   readonly text: string;
   readonly extended: boolean;
+  readonly limit: number | bigint | undefined;
   find(document: Document): Match[];
   paths(document: Document): string[];
   values(document: Document): Value[];
@@ -63,23 +69,31 @@ export class DocumentError extends Error {
   readonly path: string | null;
 }
 
+/** A query that needs more steps over the document than the option `limit` allows. */
+export class StepsUsedUp extends Error {
+  readonly name: "StepsUsedUp";
+  readonly limit: bigint;
+  readonly query: string;
+}
+
 /** The query, to be asked of documents. Throws `QueryError` where it is not accepted. */
 export function parse(query: string, options?: Options): Query;
 
 /**
  * The nodes that the query selects, in the order of RFC 9535; one that is selected twice stands there
- * twice. Throws `QueryError` or `DocumentError`, the query's first, and `RangeError` where memory ran out.
+ * twice. Throws `QueryError` or `DocumentError`, the query's first, `StepsUsedUp` where there is a limit and
+ * the query needs more steps, and `RangeError` where memory ran out.
  */
 export function find(query: string, document: Document, options?: Options): Match[];
 
 /**
- * What `find` gives for each query, over one document. A query that is refused has its `QueryError` in the
- * list, and ends nothing. Throws `DocumentError` where a query that is accepted is asked of what is no
- * document.
+ * What `find` gives for each query, over one document, each with the whole limit. A query that is refused, or
+ * needs more steps than the limit, has its error in the list, and ends nothing. Throws `DocumentError` where a
+ * query that is accepted is asked of what is no document.
  */
 export function findMany(
   queries: Iterable<string>, document: Document, options?: Options,
-): (Match[] | QueryError)[];
+): (Match[] | QueryError | StepsUsedUp)[];
 
 /** The normalized paths of the nodes that `find` gives. */
 export function paths(query: string, document: Document, options?: Options): string[];

@@ -14,11 +14,13 @@ import {
   DOCUMENT_REFUSED,
   EXTENDED,
   Engine,
+  NO_LIMIT,
   NO_MEMORY,
   PATHS,
   QUERY_KINDS,
   QUERY_REFUSED,
   STANDARD,
+  STEPS_USED_UP,
   VALUES,
   bytesOf,
   indexAt,
@@ -69,6 +71,15 @@ export class DocumentError extends Error {
   }
 }
 
+export class StepsUsedUp extends Error {
+  constructor(limit, query) {
+    super(`steps used up: the query needs more than ${limit}`);
+    this.name = "StepsUsedUp";
+    this.limit = limit;
+    this.query = query;
+  }
+}
+
 export class Match {
   constructor(path, text) {
     this.path = path;
@@ -85,6 +96,7 @@ export class Query {
     check(text, options);
     this.text = text;
     this.extended = profileOf(options) === EXTENDED;
+    this.limit = options?.limit;
   }
 
   find(document) {
@@ -120,7 +132,7 @@ export function findMany(queries, document, options) {
     try {
       return find(query, document, options);
     } catch (fault) {
-      if (fault instanceof QueryError) return fault;
+      if (fault instanceof QueryError || fault instanceof StepsUsedUp) return fault;
       throw fault;
     }
   });
@@ -150,14 +162,30 @@ function profileOf(options) {
   return options?.extended ? EXTENDED : STANDARD;
 }
 
+/** The limit of steps as a BigInt, of which 0 is none. */
+function limitOf(options) {
+  const limit = options?.limit ?? null;
+  if (limit === null) {
+    return NO_LIMIT;
+  }
+  if (typeof limit !== "bigint" && !Number.isSafeInteger(limit)) {
+    throw new TypeError("a limit is a whole number of steps, or a BigInt");
+  }
+  if (limit < 1 || limit >= 2n ** 64n) {
+    throw new RangeError("a limit is a number of steps, from 1 to 2^64 - 1");
+  }
+  return BigInt(limit);
+}
+
 function linesOf(query, document, form, options) {
-  const outcome = engine.evaluate(queryBytes(query), documentBytes(document), form, profileOf(options));
+  const profile = profileOf(options);
+  const outcome = engine.evaluate(queryBytes(query), documentBytes(document), form, profile, limitOf(options));
   // Each line ends with a newline, which no path and no value has inside.
   return told(outcome, query).split("\n").slice(0, -1);
 }
 
 /** The text of an outcome, or the error that it stands for. */
-function told({ status, kind, place, text }, query) {
+function told({ status, kind, place, steps, text }, query) {
   switch (status) {
     case QUERY_REFUSED:
       throw new QueryError(QUERY_KINDS[kind], place, query);
@@ -165,6 +193,8 @@ function told({ status, kind, place, text }, query) {
       throw new DocumentError(DOCUMENT_KINDS[kind], textOf(text) || null);
     case NO_MEMORY:
       throw new RangeError("jp ran out of memory");
+    case STEPS_USED_UP:
+      throw new StepsUsedUp(steps, query);
     default:
       return textOf(text);
   }

@@ -160,6 +160,48 @@ test("many queries are answered in turn, and a refused one ends nothing", () => 
   assert.equal(jp.findMany(["$[01]"], "[1.5]").length, 1);
 });
 
+// A query, and how many steps it needs over the document: one for each value that is offered and for the end, a
+// segment's selectors and two more at each value that is gone into, and each comparison.
+for (const [query, steps] of [
+  ["$[*]", 7],
+  ["$..*", 9],
+  ["$[?@==2]", 9],
+]) {
+  test(`a limit that suffices for ${query}, and one less`, () => {
+    for (const call of [jp.find, jp.paths, jp.values]) {
+      const expected = call(query, "[1,2]");
+      assert.deepEqual(call(query, "[1,2]", { limit: steps }), expected);
+      assert.deepEqual(call(query, "[1,2]", { limit: BigInt(steps) }), expected);
+      const stopped = thrown(jp.StepsUsedUp, () => call(query, "[1,2]", { limit: steps - 1 }));
+      assert.deepEqual([stopped.limit, stopped.query], [BigInt(steps - 1), query]);
+    }
+  });
+}
+
+test("limits of queries that are kept, and of many", () => {
+  const query = jp.parse("$..*", { limit: 8 });
+  assert.equal(query.paths("[1]").length, 1);
+  assert.equal(thrown(jp.StepsUsedUp, () => query.paths("[1,2]")).message, "steps used up: the query needs more than 8");
+  const kinds = jp.findMany(["$[*]", "$..*", "$[01]", "$[*]"], "[1,2]", { limit: 8 }).map((answer) => answer.constructor);
+  assert.deepEqual(kinds, [Array, jp.StepsUsedUp, jp.QueryError, Array]);
+});
+
+test("what a limit is", () => {
+  assert.deepEqual(jp.paths("$[0]", "[1]", { limit: 1 }), ["$[0]"]);
+  assert.deepEqual(jp.paths("$[*]", "[1]", { limit: 2n ** 64n - 1n }), ["$[0]"]);
+  for (const limit of [0, -1, 2n ** 64n]) {
+    assert.throws(() => jp.paths("$", "[]", { limit }), RangeError);
+  }
+  for (const limit of [0.5, "1", Infinity]) {
+    assert.throws(() => jp.paths("$", "[]", { limit }), TypeError);
+  }
+});
+
+test("a query that would take years ends at its limit", () => {
+  const query = `$${"..*".repeat(20)}.x`;
+  thrown(jp.StepsUsedUp, () => jp.find(query, "[".repeat(100) + "]".repeat(100), { limit: 100_000 }));
+});
+
 test("calls go on after the stack ran out", () => {
   const deep = (depth) => (depth === 0 ? jp.values("$..[?@..a]", "[1]") : deep(depth - 1));
   for (let depth = 1; depth < 40_000; depth += 1000) {

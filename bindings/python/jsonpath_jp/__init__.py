@@ -10,16 +10,25 @@ A document is JSON text, as `str` or `bytes`, or a Python object, which is writt
 numbers are whole numbers of 64 bits, and are given back exactly. `extended=True` lets a query call
 `distinct`, which RFC 9535 does not have.
 
+Some queries take years over a document of a few bytes. `limit=1_000_000` lets a query make at most a
+million steps over the document, and raises `StepsUsedUp` where it needs more. Without a limit a query
+goes on until it is answered, or Ctrl-C is pressed.
+
+    >>> jp.values("$[?@>1]", [1, 2], limit=100)
+    [2]
+
 Any thread may make any call, at the same time as others; Python's lock is given up meanwhile.
 """
-from ._engine import DocumentError, QueryError, version
+from ._engine import DocumentError, Error, QueryError, StepsUsedUp, version
 from ._queries import Match, Query, canonical, check, find, find_many, parse, paths, values
 
 __all__ = [
     "DocumentError",
+    "Error",
     "Match",
     "Query",
     "QueryError",
+    "StepsUsedUp",
     "canonical",
     "check",
     "find",

@@ -4,14 +4,16 @@ No pointer here is null: an empty `bytes` has the address of a zero byte, and a 
 least. A buffer belongs to one call at a time, and the bytes that are read are Python's own, which
 nobody changes.
 """
+import contextlib
 import ctypes
 import os
-from typing import List, Optional, Sequence, Union
+from typing import Iterator, List, Optional, Sequence, Union
 
 VALUES, PATHS, BOTH = range(3)
 STANDARD, EXTENDED = range(2)
 
 _DONE, _QUERY, _USAGE, _DOCUMENT, _NO_MEMORY = range(5)
+_STEPS_USED_UP = 6
 _QUERY_KINDS = [
     "",
     "Syntax",
@@ -27,9 +29,16 @@ _QUERY_KINDS = [
 _DOCUMENT_KINDS = ["", "NotJson", "NotWhole", "ListTooLong"]
 _FIRST_ROOM = 1 << 12
 _LARGEST_KEPT_ROOM = 1 << 20
+# The steps of the first run of a query, which take less than a second; and of the first runs of many, each.
+_FIRST_RUN = 1 << 24
+_LEAST_RUN = 1 << 12
 
 
-class QueryError(ValueError):
+class Error(Exception):
+    """What this package raises of its own: `QueryError`, `DocumentError` or `StepsUsedUp`."""
+
+
+class QueryError(Error, ValueError):
     """A query that is refused.
 
     kind: the kind of refusal, as "Syntax". place: the byte of the query, in UTF-8, where it goes
@@ -52,7 +61,7 @@ class QueryError(ValueError):
         return f"query refused: {self.kind} at {self.place}\n{line}\n{' ' * self.column}^"
 
 
-class DocumentError(ValueError):
+class DocumentError(Error, ValueError):
     """A document that is refused.
 
     kind: what is wrong with it: "NotJson", "NotWhole" or "ListTooLong". path: of "NotWhole", the
@@ -69,12 +78,28 @@ class DocumentError(ValueError):
         return f"document refused: {self.kind}{at}"
 
 
+class StepsUsedUp(Error):
+    """A query that needs more steps over the document than its caller allows.
+
+    limit: how many are allowed. query: its text.
+    """
+
+    def __init__(self, limit: int, query: str) -> None:
+        super().__init__(limit, query)
+        self.limit = limit
+        self.query = query
+
+    def __str__(self) -> str:
+        return f"steps used up: the query needs more than {self.limit}"
+
+
 class _Report(ctypes.Structure):
     _fields_ = [
         ("status", ctypes.c_uint32),
         ("kind", ctypes.c_uint32),
         ("place", ctypes.c_size_t),
         ("length", ctypes.c_size_t),
+        ("steps", ctypes.c_uint64),
     ]
 
 
@@ -83,6 +108,13 @@ class _Question(ctypes.Structure):
         ("start", ctypes.c_size_t),
         ("size", ctypes.c_size_t),
         ("report", _Report),
+    ]
+
+
+class _Handle(ctypes.Structure):
+    _fields_ = [
+        ("at", ctypes.c_void_p),
+        ("full", ctypes.c_ubyte),
     ]
 
 
@@ -102,16 +134,23 @@ def _load() -> ctypes.CDLL:
     text = [ctypes.c_char_p, ctypes.c_size_t]
     room = [ctypes.POINTER(ctypes.c_char), ctypes.c_size_t, ctypes.POINTER(_Report)]
     number = [ctypes.c_uint32]
+    limit = [ctypes.c_uint64]
+    handle = [ctypes.POINTER(_Handle)]
     library.jp_version.argtypes = []
-    library.jp_eval.argtypes = text + text + number + number + room
+    library.jp_eval.argtypes = text + text + number + number + limit + room
     library.jp_eval_many.argtypes = (
-        text + [ctypes.POINTER(_Question), ctypes.c_size_t] + text + number + number + room[:2]
+        text + [ctypes.POINTER(_Question), ctypes.c_size_t] + text + number + number + limit + room[:2]
     )
     library.jp_eval_many.restype = ctypes.c_size_t
     library.jp_canon.argtypes = text + number + room
     library.jp_check.argtypes = text + number + [ctypes.POINTER(_Report)]
-    for name in ("jp_version", "jp_eval", "jp_canon", "jp_check"):
-        getattr(library, name).restype = ctypes.c_uint32
+    library.jp_query_new.argtypes = text + number + handle + [ctypes.POINTER(_Report)]
+    library.jp_document_new.argtypes = text + handle + room
+    library.jp_select.argtypes = handle + handle + number + limit + room
+    library.jp_clear.argtypes = handle
+    library.jp_clear.restype = None
+    for name in ("version", "eval", "canon", "check", "query_new", "document_new", "select"):
+        getattr(library, f"jp_{name}").restype = ctypes.c_uint32
     return library
 
 
@@ -140,8 +179,9 @@ def _give_back(room: _Room) -> None:
         _spare_rooms.append(room)
 
 
-def _text(call, query: str, *arguments) -> str:
-    """The text that a call writes, called again where the buffer has too little room for it."""
+def _answer(call, query: str, *arguments) -> Union[str, Exception]:
+    """The text that a call writes, or the error in its place. Where the buffer has too little room for
+    the text the call is made again."""
     room = _take_room()
     report = room.report
     status = call(*arguments, *room.arguments)
@@ -152,9 +192,14 @@ def _text(call, query: str, *arguments) -> str:
     text = ctypes.string_at(room.buffer, report.length).decode()
     refusal = _refusal(report, query, text) if status else None
     _give_back(room)
-    if refusal is not None:
-        raise refusal
-    return text
+    return text if refusal is None else refusal
+
+
+def _raised(answer: Union[str, Exception]) -> str:
+    """The text, or raises the error."""
+    if isinstance(answer, Exception):
+        raise answer
+    return answer
 
 
 def _refusal(report: _Report, query: str, text: str) -> Optional[Exception]:
@@ -164,6 +209,8 @@ def _refusal(report: _Report, query: str, text: str) -> Optional[Exception]:
         return DocumentError(_DOCUMENT_KINDS[report.kind], text or None)
     if report.status == _NO_MEMORY:
         return MemoryError("jp ran out of memory")
+    if report.status == _STEPS_USED_UP:
+        return StepsUsedUp(report.steps, query)
     return None
 
 
@@ -172,26 +219,88 @@ def _bytes(query: str) -> bytes:
     return query.encode("utf-8", "surrogatepass")
 
 
-def evaluate(query: str, document: bytes, form: int, profile: int) -> str:
+def _runs(first: int, limit: Optional[int]) -> Iterator[int]:
+    """How many steps a query may make in each of its runs: in each twice as many as in the one before,
+    and in the last, where there is one, as many as its caller allows.
+
+    A call of C sees no signal. So a query is run until it is answered, and between two runs Python
+    raises what a signal asks for, as `KeyboardInterrupt`. The runs before the last cost less than
+    twice what it costs.
+    """
+    while limit is None or first < limit:
+        yield first
+        first *= 2
+    yield limit
+
+
+def evaluate(query: str, document: bytes, form: int, profile: int, limit: Optional[int]) -> str:
     """The lines of the nodes that the query selects in the document."""
     text = _bytes(query)
-    return _text(
-        _library.jp_eval, query, text, len(text), document, len(document), form, profile
+    runs = _runs(_FIRST_RUN, limit)
+    answer = _answer(
+        _library.jp_eval, query, text, len(text), document, len(document), form, profile, next(runs)
     )
+    if isinstance(answer, StepsUsedUp) and answer.limit != limit:
+        with _handle() as kept:
+            _raised(_answer(_library.jp_document_new, query, document, len(document), kept))
+            answer = _selected(query, kept, form, profile, runs)
+    return _raised(answer)
 
 
 def evaluate_many(
-    queries: Sequence[str], document: bytes, form: int, profile: int
-) -> List[Union[str, QueryError]]:
+    queries: Sequence[str], document: bytes, form: int, profile: int, limit: Optional[int]
+) -> List[Union[str, QueryError, StepsUsedUp]]:
     """What `evaluate` answers for each query, with the error in place of the text of one that is
-    refused. The document's errors are raised."""
+    refused or needs more steps than the limit. The document's errors are raised."""
+    first = max(_FIRST_RUN // max(len(queries), 1), _LEAST_RUN)
+    answers = _first_answers(queries, document, form, profile, next(_runs(first, limit)))
+    late = [at for at, it in enumerate(answers) if isinstance(it, StepsUsedUp) and it.limit != limit]
+    if late:
+        with _handle() as kept:
+            _raised(_answer(_library.jp_document_new, "", document, len(document), kept))
+            for at in late:
+                answers[at] = _selected(queries[at], kept, form, profile, _runs(2 * first, limit))
+    return answers
+
+
+def _selected(
+    query: str, document: _Handle, form: int, profile: int, runs: Iterator[int]
+) -> Union[str, Exception]:
+    """What a query that is accepted answers over a document that is kept, at the latest in the last
+    run."""
+    text = _bytes(query)
+    with _handle() as kept:
+        _accepted(_library.jp_query_new, query, text, len(text), profile, kept)
+        for run in runs:
+            answer = _answer(_library.jp_select, query, kept, document, form, run)
+            if not isinstance(answer, StepsUsedUp):
+                break
+    return answer
+
+
+@contextlib.contextmanager
+def _handle() -> Iterator[_Handle]:
+    """A handle that keeps nothing yet. What it keeps in the end is freed."""
+    handle = _Handle()
+    try:
+        yield handle
+    finally:
+        _library.jp_clear(handle)
+
+
+def _first_answers(
+    queries: Sequence[str], document: bytes, form: int, profile: int, limit: int
+) -> List[Union[str, QueryError, StepsUsedUp]]:
+    """The answers of a run of so many steps for each query."""
     texts = [_bytes(query) for query in queries]
     questions = (_Question * max(len(texts), 1))()
     start = 0
     for question, text in zip(questions, texts):
         question.start, question.size = start, len(text)
         start += len(text)
-    arguments = (b"".join(texts), start, questions, len(texts), document, len(document), form, profile)
+    arguments = (
+        b"".join(texts), start, questions, len(texts), document, len(document), form, profile, limit
+    )
     room = _take_room()
     size = _library.jp_eval_many(*arguments, room.buffer, room.size)
     if size > room.size:
@@ -202,15 +311,17 @@ def evaluate_many(
     return _answers(queries, questions, written)
 
 
-def _answers(queries: Sequence[str], questions, written: bytes) -> List[Union[str, QueryError]]:
-    answers: List[Union[str, QueryError]] = []
+def _answers(
+    queries: Sequence[str], questions, written: bytes
+) -> List[Union[str, QueryError, StepsUsedUp]]:
+    answers: List[Union[str, QueryError, StepsUsedUp]] = []
     start = 0
     for query, question in zip(queries, questions):
         end = start + question.report.length
         text = written[start:end].decode()
         start = end
         refusal = _refusal(question.report, query, text) if question.report.status else None
-        if refusal is not None and not isinstance(refusal, QueryError):
+        if refusal is not None and not isinstance(refusal, (QueryError, StepsUsedUp)):
             raise refusal
         answers.append(text if refusal is None else refusal)
     return answers
@@ -219,14 +330,19 @@ def _answers(queries: Sequence[str], questions, written: bytes) -> List[Union[st
 def canonical(query: str, profile: int) -> str:
     """The canonical text of the query."""
     text = _bytes(query)
-    return _text(_library.jp_canon, query, text, len(text), profile)
+    return _raised(_answer(_library.jp_canon, query, text, len(text), profile))
 
 
 def check(query: str, profile: int) -> None:
     """Raises `QueryError` where the query is not accepted."""
     text = _bytes(query)
+    _accepted(_library.jp_check, query, text, len(text), profile)
+
+
+def _accepted(call, query: str, *arguments) -> None:
+    """Raises the error of a call that writes no text."""
     report = _Report()
-    _library.jp_check(text, len(text), profile, ctypes.byref(report))
+    call(*arguments, report)
     refusal = _refusal(report, query, "")
     if refusal is not None:
         raise refusal

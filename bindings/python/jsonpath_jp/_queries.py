@@ -1,9 +1,9 @@
 """Queries over documents, as Python has them."""
 import json
-from typing import Any, Iterable, List, Union
+from typing import Any, Iterable, List, Optional, Union
 
 from . import _engine
-from ._engine import QueryError
+from ._engine import QueryError, StepsUsedUp
 
 # A `str` or `bytes` is JSON text, and anything else is written as JSON.
 Document = Union[str, bytes, bytearray, memoryview, dict, list, tuple, int, bool, None]
@@ -53,14 +53,14 @@ class Query:
         self.text = text
         self.extended = extended
 
-    def find(self, document: Document) -> List[Match]:
-        return find(self.text, document, self.extended)
+    def find(self, document: Document, limit: Optional[int] = None) -> List[Match]:
+        return find(self.text, document, self.extended, limit)
 
-    def paths(self, document: Document) -> List[str]:
-        return paths(self.text, document, self.extended)
+    def paths(self, document: Document, limit: Optional[int] = None) -> List[str]:
+        return paths(self.text, document, self.extended, limit)
 
-    def values(self, document: Document) -> List[Any]:
-        return values(self.text, document, self.extended)
+    def values(self, document: Document, limit: Optional[int] = None) -> List[Any]:
+        return values(self.text, document, self.extended, limit)
 
     def __str__(self) -> str:
         return self.text
@@ -74,34 +74,44 @@ def parse(query: str, extended: bool = False) -> Query:
     return Query(query, extended)
 
 
-def find(query: str, document: Document, extended: bool = False) -> List[Match]:
+def find(
+    query: str, document: Document, extended: bool = False, limit: Optional[int] = None
+) -> List[Match]:
     """The nodes that the query selects, in the order of RFC 9535; one that is selected twice stands
-    there twice. Raises `QueryError` or `DocumentError`, the query's first."""
-    return _matches(_lines(query, document, _engine.BOTH, extended))
+    there twice. Raises `QueryError` or `DocumentError`, the query's first, and `StepsUsedUp` where
+    there is a limit and the query needs more steps."""
+    return _matches(_lines(query, document, _engine.BOTH, extended, limit))
 
 
 def find_many(
-    queries: Iterable[str], document: Document, extended: bool = False
-) -> List[Union[List[Match], QueryError]]:
-    """What `find` gives for each query, over one document that is read once. A query that is refused
-    has its `QueryError` in the list, and ends nothing. Raises `DocumentError` where a query that is
-    accepted is asked of what is no document."""
+    queries: Iterable[str],
+    document: Document,
+    extended: bool = False,
+    limit: Optional[int] = None,
+) -> List[Union[List[Match], QueryError, StepsUsedUp]]:
+    """What `find` gives for each query, over one document, each with the whole limit. A query that is
+    refused, or needs more steps than the limit, has its error in the list, and ends nothing. Raises
+    `DocumentError` where a query that is accepted is asked of what is no document."""
     answers = _engine.evaluate_many(
-        list(queries), _json_bytes(document), _engine.BOTH, _profile(extended)
+        list(queries), _json_bytes(document), _engine.BOTH, _profile(extended), _limit(limit)
     )
     return [
-        answer if isinstance(answer, QueryError) else _matches(_split(answer)) for answer in answers
+        _matches(_split(answer)) if isinstance(answer, str) else answer for answer in answers
     ]
 
 
-def paths(query: str, document: Document, extended: bool = False) -> List[str]:
+def paths(
+    query: str, document: Document, extended: bool = False, limit: Optional[int] = None
+) -> List[str]:
     """The normalized paths of the nodes that `find` gives."""
-    return _lines(query, document, _engine.PATHS, extended)
+    return _lines(query, document, _engine.PATHS, extended, limit)
 
 
-def values(query: str, document: Document, extended: bool = False) -> List[Any]:
+def values(
+    query: str, document: Document, extended: bool = False, limit: Optional[int] = None
+) -> List[Any]:
     """The values of the nodes that `find` gives, as Python objects."""
-    lines = _lines(query, document, _engine.VALUES, extended)
+    lines = _lines(query, document, _engine.VALUES, extended, limit)
     return json.loads(f"[{','.join(lines)}]")
 
 
@@ -124,8 +134,18 @@ def _profile(extended: bool) -> int:
     return _engine.EXTENDED if extended else _engine.STANDARD
 
 
-def _lines(query: str, document: Document, form: int, extended: bool) -> List[str]:
-    return _split(_engine.evaluate(query, _json_bytes(document), form, _profile(extended)))
+def _limit(limit: Optional[int]) -> Optional[int]:
+    if limit is not None and not 0 < limit < 1 << 64:
+        raise ValueError("a limit is a number of steps, from 1 to 2**64 - 1")
+    return limit
+
+
+def _lines(
+    query: str, document: Document, form: int, extended: bool, limit: Optional[int]
+) -> List[str]:
+    return _split(
+        _engine.evaluate(query, _json_bytes(document), form, _profile(extended), _limit(limit))
+    )
 
 
 def _split(text: str) -> List[str]:

@@ -1,10 +1,16 @@
 """What Python users see. Expected values are those of RFC 9535, or by hand."""
 import doctest
 import json
+import signal
+import subprocess
+import sys
 import threading
+import time
 import unittest
+from unittest import mock
 
 import jsonpath_jp as jp
+from jsonpath_jp import _engine
 
 STORE = {
     "store": {
@@ -154,6 +160,80 @@ class Refusals(unittest.TestCase):
     def test_the_query_first(self):
         with self.assertRaises(jp.QueryError):
             jp.find("$[", "[1,")
+
+
+class Limits(unittest.TestCase):
+    # A query, and how many steps it needs over the document: one for each value that is offered and for
+    # the end, a segment's selectors and two more at each value that is gone into, and each comparison.
+    NEEDED = [("$[*]", 7), ("$..*", 9), ("$[?@==2]", 9), ("$[0]", 0)]
+    DOCUMENT = "[1,2]"
+
+    def test_one_that_suffices_and_one_less(self):
+        for query, steps in self.NEEDED:
+            for call in (jp.find, jp.paths, jp.values):
+                expected = call(query, self.DOCUMENT)
+                self.assertEqual(call(query, self.DOCUMENT, limit=max(steps, 1)), expected)
+                if steps > 1:
+                    with self.assertRaises(jp.StepsUsedUp) as caught:
+                        call(query, self.DOCUMENT, limit=steps - 1)
+                    self.assertEqual((caught.exception.limit, caught.exception.query), (steps - 1, query))
+
+    def test_a_query_that_is_kept(self):
+        query = jp.parse("$..*")
+        for call in (query.find, query.paths, query.values):
+            self.assertEqual(len(call(self.DOCUMENT, limit=9)), 2)
+            with self.assertRaises(jp.StepsUsedUp):
+                call(self.DOCUMENT, limit=8)
+
+    def test_each_of_many_queries_has_the_whole_limit(self):
+        queries = ["$[*]", "$..*", "$[01]", "$[?@==2]", "$[*]"]
+        answers = jp.find_many(queries, self.DOCUMENT, limit=8)
+        self.assertEqual([type(answer) for answer in answers],
+                         [list, jp.StepsUsedUp, jp.QueryError, jp.StepsUsedUp, list])
+        self.assertEqual(answers[0], answers[4])
+        self.assertEqual(answers[1].limit, 8)
+
+    def test_what_a_limit_is(self):
+        for limit in (0, -1, 1 << 64):
+            with self.assertRaises(ValueError):
+                jp.find("$", "[]", limit=limit)
+        self.assertEqual(jp.paths("$.*", "[1]", limit=(1 << 64) - 1), ["$[0]"])
+        self.assertEqual(str(jp.StepsUsedUp(8, "$..*")), "steps used up: the query needs more than 8")
+        for error in (jp.QueryError, jp.DocumentError, jp.StepsUsedUp):
+            self.assertTrue(issubclass(error, jp.Error))
+
+    def test_runs_of_ever_more_steps(self):
+        document = list(range(1000))
+        queries = ["$..*", "$[0]", "$[?@<10]"]
+        expected = jp.find_many(queries, document)
+        with mock.patch.multiple(_engine, _FIRST_RUN=3, _LEAST_RUN=1):
+            self.assertEqual(jp.find_many(queries, document), expected)
+            self.assertEqual([jp.find(query, document) for query in queries], expected)
+            self.assertEqual(jp.find("$..*", document, limit=5000), expected[0])
+            for limit in (1, 2, 3, 4, 100):
+                with self.assertRaises(jp.StepsUsedUp) as caught:
+                    jp.find("$..*", document, limit=limit)
+                self.assertEqual(caught.exception.limit, limit)
+                self.assertEqual(jp.find_many(["$..*"], document, limit=limit)[0].limit, limit)
+
+    def test_ctrl_c(self):
+        script = (
+            "import jsonpath_jp as jp\n"
+            "print('begun', flush=True)\n"
+            "jp.find('$' + '..*' * 20 + '.x', '[' * 100 + ']' * 100)\n"
+        )
+        words = [sys.executable, "-c", script]
+        with subprocess.Popen(words, stdout=subprocess.PIPE, stderr=subprocess.PIPE, text=True) as asking:
+            self.assertEqual(asking.stdout.readline(), "begun\n")
+            time.sleep(0.2)
+            start = time.monotonic()
+            asking.send_signal(signal.SIGINT)
+            try:
+                _, said = asking.communicate(timeout=30)
+            finally:
+                asking.kill()
+        self.assertIn("KeyboardInterrupt", said)
+        self.assertLess(time.monotonic() - start, 10)
 
 
 class Threads(unittest.TestCase):

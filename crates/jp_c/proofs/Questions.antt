@@ -29,7 +29,7 @@ same_item olds news i d rest =
     ∙ ap (λ xs. get_or xs 0 d) (sym rest)
     ∙ get_or-drop i news 0 d ∙ ap (λ k. get_or news k d) zero
 
-pub question-answered : (IsOutcome : List ℕ → outcome.Outcome → Type 0) (bytes : List ℕ)
+pub question-answered : (IsOutcome : List ℕ → outcome.Outcome → ℕ → Type 0) (bytes : List ℕ)
     (olds news : List Question) (texts text : List ℕ) (i : ℕ) (d new : Question)
     → AnswersEach IsOutcome bytes (take i olds) (take i news) texts
     → drop i news ≡ drop i olds → i < length news

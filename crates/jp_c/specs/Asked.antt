@@ -15,7 +15,7 @@ use Rattle.jp_query.specs.declared.refusal.RefusalKind.TheVariants.{Syntax}
 use Rattle.jp_tree.specs.Tree.{QueryTree}
 use Rattle.jsonpath.specs.Find.{RefusesText}
 use Rattle.jsonpath.specs.declared.fault.FindFault.{FindFault}
-use Rattle.jsonpath.specs.declared.fault.FindFault.TheVariants.{Query, Document, NoMemory}
+use Rattle.jsonpath.specs.declared.fault.FindFault.TheVariants.{Query, Document, NoMemory, StepsUsedUp}
 
 -- the bytes are a text (RFC 3629), which in the profile is accepted as the tree q
 pub record IsAcceptedInBytes (profile : Profile) (bytes : List ℕ) (q : QueryTree) : Type 0 where
@@ -37,6 +37,7 @@ abbrev pub IsQueryFault : Profile → List ℕ → FindFault → Type 0
 IsQueryFault profile bytes (Query r) = RefusesBytes profile bytes r
 IsQueryFault profile bytes (Document f) = ⊥
 IsQueryFault profile bytes NoMemory = Unit {0}
+IsQueryFault profile bytes StepsUsedUp = ⊥
 
 -- the text is the lines, in that form, of the nodes that the query selects in the document
 pub record IsAnswer (profile : Profile) (form : Form) (query bytes text : List ℕ) : Type 0 where
@@ -47,12 +48,15 @@ pub record IsAnswer (profile : Profile) (form : Form) (query bytes text : List �
   pub lines : text ≡ output_of form q d
 
 -- why there is no answer: the query is refused; or it is accepted and the bytes are no document,
--- with that fault; running out of memory says nothing of either
+-- with that fault; or it is accepted, the bytes are a document, and more steps are needed than are
+-- allowed; running out of memory says nothing of either
 abbrev pub IsNoAnswer : Profile → List ℕ → List ℕ → FindFault → Type 0
 IsNoAnswer profile query bytes (Query r) = RefusesBytes profile query r
 IsNoAnswer profile query bytes (Document f) =
     ((q : QueryTree) × IsAcceptedInBytes profile query q) × IsDocumentFault bytes f
     × (f ≢ document.NoMemory)
+IsNoAnswer profile query bytes StepsUsedUp =
+    ((q : QueryTree) × IsAcceptedInBytes profile query q) × ((d : Value) × IsDocument bytes d)
 IsNoAnswer profile query bytes NoMemory = Unit {0}
 
 -- the text is the canonical one of the query that the bytes are

@@ -47,6 +47,7 @@ abbrev pub IsNoDocument : List ℕ → FindFault → Type 0
 IsNoDocument bytes (find.Query r) = ⊥
 IsNoDocument bytes (find.Document f) = IsDocumentFault bytes f × (f ≢ document.NoMemory)
 IsNoDocument bytes find.NoMemory = Unit {0}
+IsNoDocument bytes find.StepsUsedUp = ⊥
 
 -- of `jp_document_new`: the bytes are a document, which is kept; or why they are none, and nothing is
 -- kept
@@ -65,7 +66,7 @@ pub record IsSelected (form : ℕ) (query document : Option Kept) (f : Form) (q 
 
 -- of `jp_select`: the lines, in that form, of the nodes that the query kept by one handle selects in
 -- the document kept by the other; or no form has that number, or a handle keeps no query or no
--- document; or memory ran out
+-- document; or memory ran out, or the steps are used up
 abbrev pub IsSelectOutcome : ℕ → Option Kept → Option Kept → outcome.Outcome → Type 0
 IsSelectOutcome form query document (Text text) =
     (f : Form) × (q : QueryTree) × (d : Value) × IsSelected form query document f q d
@@ -74,4 +75,4 @@ IsSelectOutcome form query document Usage =
     (form_of form ≡ None) ⊎ (query_kept query ≡ None) ⊎ (document_kept document ≡ None)
 IsSelectOutcome form query document (Fault fault) =
     (f : Form) × (q : QueryTree) × (d : Value) × IsSelected form query document f q d
-    × (fault ≡ find.NoMemory)
+    × ((fault ≡ find.NoMemory) ⊎ (fault ≡ find.StepsUsedUp))

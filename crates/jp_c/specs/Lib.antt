@@ -2,6 +2,7 @@ pub mod Asked
 pub mod Calls
 pub mod Handles
 pub mod Held
+pub mod Limit
 pub mod Many
 pub mod Numbers
 pub mod Outcome

@@ -16,6 +16,7 @@ status_of (Fault (find.Query r)) = 1
 status_of Usage = 2
 status_of (Fault (find.Document f)) = 3
 status_of (Fault find.NoMemory) = 4
+status_of (Fault find.StepsUsedUp) = 6
 
 -- the number of a query's refusal or of a document's fault
 abbrev pub kind_of : outcome.Outcome → ℕ
@@ -34,28 +35,32 @@ told_text (Text text) = string_bytes text
 told_text (Fault (find.Document (NotWhole path))) = string_bytes path
 told_text _ = []
 
-abbrev pub report_of : outcome.Outcome → Report
-report_of o = record {
+-- the report of an outcome for which so many steps were made
+abbrev pub report_of : outcome.Outcome → ℕ → Report
+report_of o made = record {
   status = status_of o;
   kind = kind_of o;
   place = place_of o;
   length = length (told_text o);
+  steps = made;
 }
 
 -- a buffer after a text was written to its start, or as it was where there is no room for all of it
 abbrev pub filled : List ℕ → List ℕ → List ℕ
 filled text old = if nat_le (length text) (length old) then text ++ drop (length text) old else old
 
--- the status, the report and the buffer, which was `old` and is `new`, are those of the outcome
-pub record ReportsOutcome (o : outcome.Outcome) (old new : List ℕ) (report : Report) (status : ℕ)
-    : Type 0 where
-  pub reports : report ≡ report_of o
+-- the status, the report and the buffer, which was `old` and is `new`, are those of the outcome,
+-- for which so many steps were made
+pub record ReportsOutcome (o : outcome.Outcome) (made : ℕ) (old new : List ℕ) (report : Report)
+    (status : ℕ) : Type 0 where
+  pub reports : report ≡ report_of o made
   pub answers : status ≡ status_of o
   pub fills : new ≡ filled (told_text o) old
 
--- a call has an outcome of that kind, and tells it
-pub record Answers (IsOutcome : outcome.Outcome → Type 0) (old new : List ℕ) (report : Report)
+-- a call has an outcome of that kind, by the steps that are made for it, and tells both
+pub record Answers (IsOutcome : outcome.Outcome → ℕ → Type 0) (old new : List ℕ) (report : Report)
     (status : ℕ) : Type 0 where
   pub o : outcome.Outcome
-  pub is : IsOutcome o
-  pub tells : ReportsOutcome o old new report status
+  pub made : ℕ
+  pub is : IsOutcome o made
+  pub tells : ReportsOutcome o made old new report status

@@ -1,22 +1,26 @@
 //! From bytes to answers.
 ghost use Rattle.std.specs.Prelude.{◌≡◌, ◌⊎◌, IfErr, IfOk, string_bytes};
+ghost use Rattle.jp_command.specs.Lines.{output_of};
 ghost use Rattle.std.specs.Str.{IsUtf8};
 ghost use Rattle.jp_document.specs.Document.{IsDocument, IsDocumentFault};
-ghost use Rattle.jp_flat.specs.FlatValue.{document_in};
+ghost use Rattle.jp_flat.specs.FlatValue.{document_in, lent_flat};
 ghost use Rattle.jp_query.specs.declared.refusal.RefusalKind.TheVariants.{NoMemory};
 ghost use Rattle.jp_tree.specs.Views.{query_of};
 ghost use Rattle.jp_c.specs.Asked.{IsAnswer, IsAcceptedInBytes, IsCanonOf, IsNoAnswer, IsNoText};
 ghost use Rattle.jp_c.specs.Asked.{IsQueryFault};
 ghost use Rattle.jp_c.specs.Asked.{RefusesBytes};
+ghost use Rattle.jp_c.specs.Private.Spending.{Spends};
+ghost use Rattle.jsonpath.specs.declared.fault.FindFault.TheVariants as find;
 
 use jp_canon::canon;
 use jp_check::{Checked, Profile, read_query};
 use jp_command::{Form, lines_at, selected_lines};
 use jp_document::DocumentFault;
-use jp_evaluate::named_location;
-use jp_flat::{Flat, found_value};
+use jp_evaluate::{Patterns, named_location};
+use jp_flat::{Flat, FlatValue, found_value};
 use jp_held::{read_flat, read_value_at};
 use jp_query::{Refusal, RefusalKind};
+use jp_select::Steps;
 use jsonpath::FindFault;
 use std::alloc::Global;
 
@@ -62,6 +66,26 @@ fn read_text(alloc: Global, text: &str, profile: Profile) -> Result<Checked, Ref
     read_query(alloc, text, profile)
 }
 
+/// The lines, in that form, of the nodes that a query selects in a document that was read.
+pub(crate) fn lines(
+    alloc: Global,
+    form: Form,
+    root: FlatValue<'_, '_>,
+    query: &Checked,
+    steps: &mut Steps,
+) -> Result<String, FindFault>
+    ensures lines { IfOk result (λ text.
+        string_bytes text ≡ output_of form (query_of query.now.query) (lent_flat root.entry)) }
+    ensures fault { IfErr result (λ fault. (fault ≡ find.NoMemory) ⊎ (fault ≡ find.StepsUsedUp)) }
+    ensures spends { Spends result steps.old steps.new }
+{
+    let mut patterns = Patterns::new(alloc);
+    match selected_lines(alloc, form, "", root, query, &mut patterns, steps) {
+        Ok(text) => Ok(text),
+        Err(fault) => Err(FindFault::from(fault)),
+    }
+}
+
 /// The lines, in that form, of the nodes that a query selects in a document. Both are read here, the
 /// query first.
 pub(crate) fn answer(
@@ -70,10 +94,12 @@ pub(crate) fn answer(
     document: &[u8],
     form: Form,
     profile: Profile,
+    steps: &mut Steps,
 ) -> Result<String, FindFault>
     ensures answer { IfOk result (λ text.
         IsAnswer profile form query.now document.now (string_bytes text)) }
     ensures fault { IfErr result (IsNoAnswer profile query.now document.now) }
+    ensures spends { Spends result steps.old steps.new }
 {
     let query = asked(alloc, query, profile)?;
     match named_location(alloc, &query)? {
@@ -83,7 +109,7 @@ pub(crate) fn answer(
         }
         None => {
             let flat = read_flat(alloc, document)?;
-            Ok(selected_lines(alloc, form, flat.value(), &query)?)
+            lines(alloc, form, flat.value(), &query, steps)
         }
     }
 }
@@ -96,19 +122,21 @@ pub(crate) fn answer_from(
     document: &[u8],
     form: Form,
     profile: Profile,
+    steps: &mut Steps,
 ) -> Result<String, FindFault>
     requires document { IfOk read.now (λ flat. IsDocument document.now (document_in flat)) }
     requires fault { IfErr read.now (IsDocumentFault document.now) }
     ensures answer { IfOk result (λ text.
         IsAnswer profile form query.now document.now (string_bytes text)) }
     ensures fault { IfErr result (IsNoAnswer profile query.now document.now) }
+    ensures spends { Spends result steps.old steps.new }
 {
     match read {
         Ok(flat) => {
             let query = asked(alloc, query, profile)?;
-            Ok(selected_lines(alloc, form, flat.value(), &query)?)
+            lines(alloc, form, flat.value(), &query, steps)
         }
-        Err(DocumentFault::NoMemory) => answer(alloc, query, document, form, profile),
+        Err(DocumentFault::NoMemory) => answer(alloc, query, document, form, profile, steps),
         Err(fault) => {
             asked(alloc, query, profile)?;
             Err(FindFault::Document(fault.copy(alloc)?))

@@ -1,11 +1,13 @@
 //! The calls that C makes.
 ghost use Rattle.std.specs.Prelude.{◌≡◌, []};
 ghost use Rattle.jp_c.specs.Calls.{IsCanonOutcome, IsCheckOutcome, IsEvalOutcome};
+ghost use Rattle.jp_c.specs.Limit.{AtOnce, Within};
 ghost use Rattle.jp_c.specs.Outcome.{Answers};
 
 use crate::asked::{answer, asked, canonical};
+use crate::limit::steps_within;
 use crate::numbers::{form, profile};
-use crate::outcome::{Outcome, Report, tell};
+use crate::outcome::{Answered, Outcome, Report, tell};
 use std::alloc::Global;
 
 /// The version: 65536 times the major number, 256 times the minor one, and the patch.
@@ -21,7 +23,8 @@ pub extern "C" fn jp_version() -> u32
 
 /// Writes a line for each node that the query selects in the document, in the nodelist's order (RFC
 /// 9535 section 2.1.2), in the form (0 values, 1 normalized paths, 2 both with a tab between) and
-/// the profile (0 `Standard`, 1 `Extended`) of these numbers. Answers the report's status.
+/// the profile (0 `Standard`, 1 `Extended`) of these numbers, in at most `limit` steps, where 0 is no
+/// limit. Answers the report's status: 6 where the evaluation needs more steps.
 #[unsafe(no_mangle)]
 pub extern "C" fn jp_eval(
     alloc: Global,
@@ -29,14 +32,15 @@ pub extern "C" fn jp_eval(
     document: &[u8],
     form: u32,
     profile: u32,
+    limit: u64,
     out: &mut [u8],
     report: &mut Report,
 ) -> u32
-    ensures { Answers (IsEvalOutcome form profile query.now document.now)
+    ensures { Answers (Within limit (IsEvalOutcome form profile query.now document.now))
         out.old out.new report.new result }
 {
-    let outcome = eval_outcome(alloc, query, document, form, profile);
-    tell(&outcome, out, report)
+    let answered = eval_outcome(alloc, query, document, form, profile, limit);
+    tell(&answered, out, report)
 }
 
 /// What a query over a document answers.
@@ -46,19 +50,20 @@ fn eval_outcome(
     document: &[u8],
     form_number: u32,
     profile_number: u32,
-) -> Outcome
-    ensures { IsEvalOutcome form_number profile_number query.now document.now result }
+    limit: u64,
+) -> Answered
+    ensures { Within limit (IsEvalOutcome form_number profile_number query.now document.now)
+        result.outcome result.steps }
 {
     let Some(form) = form(form_number) else {
-        return Outcome::Usage;
+        return Answered::at_once(Outcome::Usage);
     };
     let Some(profile) = profile(profile_number) else {
-        return Outcome::Usage;
+        return Answered::at_once(Outcome::Usage);
     };
-    match answer(alloc, query, document, form, profile) {
-        Ok(text) => Outcome::Text(text),
-        Err(fault) => Outcome::Fault(fault),
-    }
+    let mut steps = steps_within(limit);
+    let answer = answer(alloc, query, document, form, profile, &mut steps);
+    Answered::within(limit, steps, answer)
 }
 
 /// Writes the canonical text of the query, read in the profile of this number (RFC 9535 sections 2.1
@@ -71,10 +76,10 @@ pub extern "C" fn jp_canon(
     out: &mut [u8],
     report: &mut Report,
 ) -> u32
-    ensures { Answers (IsCanonOutcome profile query.now) out.old out.new report.new result }
+    ensures { Answers (AtOnce (IsCanonOutcome profile query.now)) out.old out.new report.new result }
 {
-    let outcome = canon_outcome(alloc, query, profile);
-    tell(&outcome, out, report)
+    let answered = Answered::at_once(canon_outcome(alloc, query, profile));
+    tell(&answered, out, report)
 }
 
 /// What asking for a canonical text answers.
@@ -94,10 +99,10 @@ fn canon_outcome(alloc: Global, query: &[u8], profile_number: u32) -> Outcome
 /// 2.1.1). Answers the report's status, 0 where it is.
 #[unsafe(no_mangle)]
 pub extern "C" fn jp_check(alloc: Global, query: &[u8], profile: u32, report: &mut Report) -> u32
-    ensures { Answers (IsCheckOutcome profile query.now) [] [] report.new result }
+    ensures { Answers (AtOnce (IsCheckOutcome profile query.now)) [] [] report.new result }
 {
-    let outcome = check_outcome(alloc, query, profile);
-    tell(&outcome, &mut [], report)
+    let answered = Answered::at_once(check_outcome(alloc, query, profile));
+    tell(&answered, &mut [], report)
 }
 
 /// What asking whether a query is accepted answers.

@@ -8,8 +8,9 @@
 //! what a caller owes, which nothing checks.
 //!
 //! The contract of each: there is an `Outcome` of the kind that the definitions of the crates below
-//! allow (`specs/Calls.antt`), and the status, the report and the buffer are the ones of that
-//! outcome (`specs/Outcome.antt`); and what each handle keeps then (`specs/Handles.antt`).
+//! allow (`specs/Calls.antt`), by no more steps than the call's limit (`specs/Limit.antt`), and the
+//! status, the report and the buffer are the ones of that outcome (`specs/Outcome.antt`); and what
+//! each handle keeps then (`specs/Handles.antt`).
 #![tactic(auto)]
 
 mod asked;
@@ -17,6 +18,7 @@ mod exports;
 mod handle;
 mod held;
 mod kept;
+mod limit;
 mod many;
 mod numbers;
 mod outcome;

@@ -2,14 +2,16 @@
 ghost use Rattle.std.specs.Prelude.{◌≡◌, ◌≢◌, ◌⊎◌, ◌++◌, ℕ, List, drop, string_bytes, take};
 ghost use Rattle.jsonpath.specs.declared.fault.FindFault.TheVariants.{NoMemory};
 ghost use Rattle.jp_c.specs.Calls.{IsEvalOutcome};
+ghost use Rattle.jp_c.specs.Limit.{Within};
 ghost use Rattle.jp_c.specs.Many.{AnswersAll, AnswersEach, AnswersOne};
 ghost use Rattle.jp_c.specs.Outcome.{told_text};
-ghost use Rattle.jp_c.specs.Private.Subjects.{IsSound};
+ghost use Rattle.jp_c.specs.Private.Subjects.{IsAnswered, IsSound};
 ghost use Rattle.jp_c.specs.declared.outcome.Outcome.TheVariants.{Fault, Usage};
 
 use crate::asked::answer_from;
+use crate::limit::steps_within;
 use crate::numbers::{form, profile};
-use crate::outcome::{Outcome, Report, fill};
+use crate::outcome::{Answered, Outcome, Report, fill};
 use jp_document::DocumentFault;
 use jp_flat::Flat;
 use jp_held::read_flat;
@@ -29,7 +31,7 @@ pub struct Question {
 }
 
 /// Answers each question in turn as `jp_eval` does, over one document, which is read once where it
-/// is accepted: the report goes into the question. A question's query is the bytes of `queries`
+/// is accepted: the report goes into the question, and each has the whole limit. A question's query is the bytes of `queries`
 /// from its start on, as many as it says, or as there are. The buffer gets the texts of all
 /// questions one after another where it has room for all of them, and is else left as it was.
 /// Answers how many bytes these texts have.
@@ -41,12 +43,13 @@ pub extern "C" fn jp_eval_many(
     document: &[u8],
     form: u32,
     profile: u32,
+    limit: u64,
     out: &mut [u8],
 ) -> usize
-    ensures { AnswersAll (λ query. IsEvalOutcome form profile query document.now) queries.now
-        questions.old questions.new out.old out.new result }
+    ensures { AnswersAll (λ query. Within limit (IsEvalOutcome form profile query document.now))
+        queries.now questions.old questions.new out.old out.new result }
 {
-    let subject = Subject::read(alloc, document, form, profile);
+    let subject = Subject::read(alloc, document, form, profile, limit);
     let texts = answer_each(&subject, queries, questions);
     fill(texts.as_bytes(), out);
     texts.len()
@@ -60,13 +63,15 @@ struct Subject<'d> {
     read: Result<Flat<'d>, DocumentFault>,
     form: u32,
     profile: u32,
+    limit: u64,
 }
 
 impl<'d> Subject<'d> {
-    fn read(alloc: Global, document: &'d [u8], form: u32, profile: u32) -> Subject<'d>
+    fn read(alloc: Global, document: &'d [u8], form: u32, profile: u32, limit: u64) -> Subject<'d>
         ensures document { result.document.now ≡ document.now }
         ensures form { result.form ≡ form }
         ensures profile { result.profile ≡ profile }
+        ensures limit { result.limit ≡ limit }
         ensures sound { IsSound result }
     {
         Subject {
@@ -75,34 +80,42 @@ impl<'d> Subject<'d> {
             read: read_flat(alloc, document),
             form,
             profile,
+            limit,
         }
     }
 
-    /// What a query answers.
-    fn outcome(&self, query: &[u8]) -> Outcome
+    /// What a query answers, with the whole limit.
+    fn outcome(&self, query: &[u8]) -> Answered
         requires { IsSound self.now }
-        ensures { IsEvalOutcome self.now.form self.now.profile query.now self.now.document.now
-            result }
+        ensures { Within self.now.limit
+            (IsEvalOutcome self.now.form self.now.profile query.now self.now.document.now)
+            result.outcome result.steps }
     {
         let Some(form) = form(self.form) else {
-            return Outcome::Usage;
+            return Answered::at_once(Outcome::Usage);
         };
         let Some(profile) = profile(self.profile) else {
-            return Outcome::Usage;
+            return Answered::at_once(Outcome::Usage);
         };
-        match answer_from(self.alloc, query, &self.read, self.document, form, profile) {
-            Ok(text) => Outcome::Text(text),
-            Err(fault) => Outcome::Fault(fault),
-        }
+        let mut steps = steps_within(self.limit);
+        let answer = answer_from(
+            self.alloc,
+            query,
+            &self.read,
+            self.document,
+            form,
+            profile,
+            &mut steps,
+        );
+        Answered::within(self.limit, steps, answer)
     }
 }
 
 /// Answers all questions, and gives their texts one after another.
 fn answer_each(subject: &Subject<'_>, queries: &[u8], questions: &mut [Question]) -> String
     requires { IsSound subject.now }
-    ensures { AnswersEach
-        (λ query. IsEvalOutcome subject.now.form subject.now.profile query subject.now.document.now)
-        queries.now questions.old questions.new (string_bytes result) }
+    ensures { AnswersEach (IsAnswered subject.now) queries.now questions.old questions.new
+        (string_bytes result) }
 {
     let mut texts = String::new(subject.alloc);
     for question in questions.iter_mut() {
@@ -115,15 +128,12 @@ fn answer_each(subject: &Subject<'_>, queries: &[u8], questions: &mut [Question]
 fn answer_one(subject: &Subject<'_>, queries: &[u8], question: &mut Question, texts: &mut String)
     requires { IsSound subject.now }
     ensures { (text : List ℕ)
-        × AnswersOne
-        (λ query. IsEvalOutcome subject.now.form subject.now.profile query
-        subject.now.document.now)
-        queries.now question.old question.new text
+        × AnswersOne (IsAnswered subject.now) queries.now question.old question.new text
         × (string_bytes texts.new ≡ string_bytes texts.old ++ text) }
 {
     let query = part(queries, question.start, question.size);
-    let outcome = told_behind(subject.outcome(query), texts);
-    question.report = outcome.report();
+    let answered = told_behind(subject.outcome(query), texts);
+    question.report = answered.report();
 }
 
 /// The bytes from a start on, as many as wanted, or as there are.
@@ -136,7 +146,19 @@ fn part(bytes: &[u8], start: usize, size: usize) -> &[u8]
 
 /// Puts the text of an outcome behind the others. Where there is no memory for it, that is the
 /// outcome.
-fn told_behind(outcome: Outcome, texts: &mut String) -> Outcome
+fn told_behind(answered: Answered, texts: &mut String) -> Answered
+    ensures is { (result.outcome ≡ answered.outcome)
+        ⊎ ((result.outcome ≡ Fault NoMemory) × (answered.outcome ≢ Usage)) }
+    ensures steps { result.steps ≡ answered.steps }
+    ensures told { string_bytes texts.new ≡ string_bytes texts.old ++ told_text result.outcome }
+{
+    let Answered { outcome, steps } = answered;
+    let outcome = outcome_behind(outcome, texts);
+    Answered { outcome, steps }
+}
+
+/// The same of the outcome alone.
+fn outcome_behind(outcome: Outcome, texts: &mut String) -> Outcome
     ensures is { (result ≡ outcome) ⊎ ((result ≡ Fault NoMemory) × (outcome ≢ Usage)) }
     ensures told { string_bytes texts.new ≡ string_bytes texts.old ++ told_text result }
 {

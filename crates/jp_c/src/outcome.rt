@@ -1,8 +1,13 @@
 //! What a call answers, and how it is told to C.
-ghost use Rattle.std.specs.Prelude.{◌≡◌};
+ghost use Rattle.std.specs.Prelude.{◌≡◌, MatchResult};
+ghost use Rattle.jp_c.specs.Limit.{MakesSteps};
 ghost use Rattle.jp_c.specs.Outcome.{ReportsOutcome, filled, report_of, told_text};
+ghost use Rattle.jp_c.specs.Private.Spending.{Spends, steps_of_limit};
+ghost use Rattle.jp_c.specs.declared.outcome.Outcome.TheVariants.{Fault, Text};
 
+use crate::limit::steps_made;
 use jp_document::DocumentFault;
+use jp_select::Steps;
 use jsonpath::FindFault;
 
 /// What a call answers.
@@ -12,15 +17,22 @@ pub enum Outcome {
     Text(String),
     /// There is no form or no profile of the number that was given.
     Usage,
-    /// The query or the document is refused, or memory ran out.
+    /// The query or the document is refused, memory ran out, or the steps are used up.
     Fault(FindFault),
+}
+
+/// An outcome, and how many steps were made for it.
+#[derive(Debug, PartialEq, Drop)]
+pub(crate) struct Answered {
+    pub(crate) outcome: Outcome,
+    pub(crate) steps: u64,
 }
 
 /// An outcome in numbers.
 #[repr(C)]
 #[derive(Debug, Clone, Copy, PartialEq, Eq)]
 pub struct Report {
-    /// 0 done, 1 query refused, 2 usage, 3 document refused, 4 want of memory.
+    /// 0 done, 1 query refused, 2 usage, 3 document refused, 4 want of memory, 6 steps used up.
     pub status: u32,
     /// The number of the query's kind of refusal or of the document's fault, else 0.
     pub kind: u32,
@@ -29,6 +41,8 @@ pub struct Report {
     /// How many bytes the text has: the one that was asked for, or the normalized path of the first
     /// number that is not whole; else 0.
     pub length: usize,
+    /// How many steps the evaluation made, 0 where nothing was evaluated.
+    pub steps: u64,
 }
 
 impl Outcome {
@@ -43,9 +57,9 @@ impl Outcome {
         }
     }
 
-    /// The outcome in numbers.
-    pub(crate) fn report(&self) -> Report
-        ensures { result ≡ report_of self.now }
+    /// The outcome in numbers, for which so many steps were made.
+    fn report(&self, steps: u64) -> Report
+        ensures { result ≡ report_of self.now steps }
     {
         let length = self.text().len();
         let (status, kind, place) = match self {
@@ -56,22 +70,62 @@ impl Outcome {
             }
             Outcome::Fault(FindFault::Document(fault)) => (3, fault.number() as u32, 0),
             Outcome::Fault(FindFault::NoMemory) => (4, 0, 0),
+            Outcome::Fault(FindFault::StepsUsedUp) => (6, 0, 0),
         };
         Report {
             status,
             kind,
             place,
             length,
+            steps,
         }
     }
 }
 
-/// Tells an outcome: its numbers, and its text where there is room for all of it.
-pub(crate) fn tell(outcome: &Outcome, out: &mut [u8], report: &mut Report) -> u32
-    ensures { ReportsOutcome outcome.now out.old out.new report.new result }
+impl Answered {
+    /// An outcome for which nothing is evaluated.
+    pub(crate) fn at_once(outcome: Outcome) -> Answered
+        ensures outcome { result.outcome ≡ outcome }
+        ensures steps { result.steps ≡ 0 }
+    {
+        Answered { outcome, steps: 0 }
+    }
+
+    /// The answer of an evaluation that was given the steps of a limit, of which these are left.
+    pub(crate) fn within(limit: u64, left: Steps, answer: Result<String, FindFault>) -> Answered
+        requires { Spends answer (steps_of_limit limit) left }
+        ensures outcome { MatchResult answer (λ text. result.outcome ≡ Text text)
+            (λ fault. result.outcome ≡ Fault fault) }
+        ensures makes { MakesSteps limit result.outcome result.steps }
+    {
+        let steps = steps_made(limit, left);
+        match answer {
+            Ok(text) => Answered {
+                outcome: Outcome::Text(text),
+                steps,
+            },
+            Err(fault) => Answered {
+                outcome: Outcome::Fault(fault),
+                steps,
+            },
+        }
+    }
+
+    /// The numbers of the outcome and the steps.
+    pub(crate) fn report(&self) -> Report
+        ensures { result ≡ report_of self.now.outcome self.now.steps }
+    {
+        self.outcome.report(self.steps)
+    }
+}
+
+/// Tells what is answered: its numbers, and its text where there is room for all of it.
+pub(crate) fn tell(answered: &Answered, out: &mut [u8], report: &mut Report) -> u32
+    ensures { ReportsOutcome answered.now.outcome answered.now.steps out.old out.new report.new
+        result }
 {
-    fill(outcome.text().as_bytes(), out);
-    *report = outcome.report();
+    fill(answered.outcome.text().as_bytes(), out);
+    *report = answered.report();
     report.status
 }
 

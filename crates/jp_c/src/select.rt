@@ -3,18 +3,19 @@ ghost use Rattle.std.specs.Prelude.{◌≡◌, [], IfErr, IfOk, None, Some, opti
 ghost use Rattle.jp_c.specs.Asked.{IsAcceptedInBytes, IsQueryFault};
 ghost use Rattle.jp_c.specs.Handles.{IsDocumentMade, IsNoDocument, IsQueryMade, IsSelectOutcome};
 ghost use Rattle.jp_c.specs.Handles.{document_kept, kept_by, query_kept};
+ghost use Rattle.jp_c.specs.Limit.{AtOnce, Within};
 ghost use Rattle.jp_c.specs.Outcome.{Answers};
 ghost use Rattle.jp_document.specs.Document.{IsDocument};
 ghost use Rattle.jp_tree.specs.Tree.{QueryTree};
 ghost use Rattle.jp_document.specs.Value.{Value};
 
-use crate::asked::asked;
+use crate::asked::{asked, lines};
 use crate::handle::Handle;
 use crate::kept::Kept;
+use crate::limit::steps_within;
 use crate::numbers::{form, profile};
-use crate::outcome::{Outcome, Report, tell};
+use crate::outcome::{Answered, Outcome, Report, tell};
 use jp_check::Profile;
-use jp_command::selected_lines;
 use jp_held::read_flat;
 use jsonpath::FindFault;
 use std::alloc::Global;
@@ -29,12 +30,12 @@ pub extern "C" fn jp_query_new(
     handle: &mut Handle,
     report: &mut Report,
 ) -> u32
-    ensures { Answers (λ o. IsQueryMade profile query.now o (kept_by handle.new)) [] [] report.new
-        result }
+    ensures { Answers (AtOnce (λ o. IsQueryMade profile query.now o (kept_by handle.new))) [] []
+        report.new result }
 {
     let (outcome, made) = query_made(alloc, query, profile);
     *handle = made;
-    tell(&outcome, &mut [], report)
+    tell(&Answered::at_once(outcome), &mut [], report)
 }
 
 /// The outcome of keeping a query, and the handle that keeps it.
@@ -70,12 +71,12 @@ pub extern "C" fn jp_document_new(
     out: &mut [u8],
     report: &mut Report,
 ) -> u32
-    ensures { Answers (λ o. IsDocumentMade document.now o (kept_by handle.new)) out.old out.new
-        report.new result }
+    ensures { Answers (AtOnce (λ o. IsDocumentMade document.now o (kept_by handle.new))) out.old
+        out.new report.new result }
 {
     let (outcome, made) = document_made(alloc, document);
     *handle = made;
-    tell(&outcome, out, report)
+    tell(&Answered::at_once(outcome), out, report)
 }
 
 /// The outcome of keeping a document, and the handle that keeps it.
@@ -99,28 +100,31 @@ fn kept_document(alloc: Global, document: &[u8]) -> Result<Handle, FindFault>
 }
 
 /// Writes a line for each node that the query of one handle selects in the document of the other, in
-/// the nodelist's order (RFC 9535 section 2.1.2), in the form of this number. Both handles keep what
-/// they keep. Answers the report's status: 2 where a handle keeps nothing or the other of the two.
+/// the nodelist's order (RFC 9535 section 2.1.2), in the form of this number and in at most `limit`
+/// steps, where 0 is no limit. Both handles keep what they keep. Answers the report's status: 2 where
+/// a handle keeps nothing or the other of the two, 6 where the evaluation needs more steps.
 #[unsafe(no_mangle)]
 pub extern "C" fn jp_select(
     alloc: Global,
     query: &mut Handle,
     document: &mut Handle,
     form: u32,
+    limit: u64,
     out: &mut [u8],
     report: &mut Report,
 ) -> u32
-    ensures answers { Answers (IsSelectOutcome form (kept_by query.old) (kept_by document.old))
+    ensures answers { Answers
+        (Within limit (IsSelectOutcome form (kept_by query.old) (kept_by document.old)))
         out.old out.new report.new result }
     ensures query { kept_by query.new ≡ kept_by query.old }
     ensures document { kept_by document.new ≡ kept_by document.old }
 {
     let kept_query = Handle::take(alloc, query);
     let kept_document = Handle::take(alloc, document);
-    let outcome = select_outcome(alloc, &kept_query, &kept_document, form);
+    let answered = select_outcome(alloc, &kept_query, &kept_document, form, limit);
     *query = Handle::of_any(alloc, kept_query);
     *document = Handle::of_any(alloc, kept_document);
-    tell(&outcome, out, report)
+    tell(&answered, out, report)
 }
 
 /// What is selected.
@@ -129,23 +133,23 @@ fn select_outcome(
     query: &Option<Box<Kept, Global>>,
     document: &Option<Box<Kept, Global>>,
     form_number: u32,
-) -> Outcome
-    ensures { IsSelectOutcome form_number (option_map (λ b. b.value) query.now)
-        (option_map (λ b. b.value) document.now) result }
+    limit: u64,
+) -> Answered
+    ensures { Within limit (IsSelectOutcome form_number (option_map (λ b. b.value) query.now)
+        (option_map (λ b. b.value) document.now)) result.outcome result.steps }
 {
     let Some(form) = form(form_number) else {
-        return Outcome::Usage;
+        return Answered::at_once(Outcome::Usage);
     };
     let (Some(query), Some(document)) = (query, document) else {
-        return Outcome::Usage;
+        return Answered::at_once(Outcome::Usage);
     };
     let (Kept::Query(query), Kept::Document(document)) = (&**query, &**document) else {
-        return Outcome::Usage;
+        return Answered::at_once(Outcome::Usage);
     };
-    match selected_lines(alloc, form, document.value(), query) {
-        Ok(text) => Outcome::Text(text),
-        Err(_) => Outcome::Fault(FindFault::NoMemory),
-    }
+    let mut steps = steps_within(limit);
+    let answer = lines(alloc, form, document.value(), query, &mut steps);
+    Answered::within(limit, steps, answer)
 }
 
 /// Frees what the handle keeps. It then keeps nothing, and may be filled or cleared again.

@@ -8,13 +8,14 @@ use std::test::Fail;
 
 const DOCUMENT: &[u8] = br#"{"a":[1,[2,{}]]}"#;
 
-/// A report of a text of this length.
-fn done(length: usize) -> Report {
+/// A report of a text of this length, for which so many steps were made.
+fn done(length: usize, steps: u64) -> Report {
     Report {
         status: 0,
         kind: 0,
         place: 0,
         length,
+        steps,
     }
 }
 
@@ -27,8 +28,17 @@ fn evaluated(
     profile: u32,
 ) -> Result<(Report, Vec<u8>), Fail> {
     let mut out = [b'#'; 64];
-    let mut report = done(0);
-    let status = jp_eval(alloc, query, document, form, profile, &mut out, &mut report);
+    let mut report = done(0, 9);
+    let status = jp_eval(
+        alloc,
+        query,
+        document,
+        form,
+        profile,
+        0,
+        &mut out,
+        &mut report,
+    );
     if status != report.status {
         return Err("two statuses")?;
     }
@@ -44,7 +54,7 @@ fn writes_each_form(rt: HostRuntime) -> Result<(), Fail> {
         (2, b"$['a'][0]\t1\n$['a'][1]\t[2,{}]\n"),
     ] {
         let (report, written) = evaluated(rt.alloc(), b"$.a[*]", DOCUMENT, form, 0)?;
-        assert_eq!(rt; report, done(text.len()));
+        assert_eq!(rt; report, done(text.len(), 11));
         assert_eq!(rt; written.as_slice(), text);
     }
     Ok(())
@@ -65,6 +75,7 @@ fn reports_why_there_is_no_text(rt: HostRuntime) -> Result<(), Fail> {
     for (query, document, form, profile, numbers, text) in rows {
         let (report, written) = evaluated(rt.alloc(), query, document, form, profile)?;
         assert_eq!(rt; (report.status, report.kind, report.place), numbers);
+        assert_eq!(rt; report.steps, 0);
         assert_eq!(rt; written.as_slice(), text);
     }
     Ok(())
@@ -74,10 +85,10 @@ fn reports_why_there_is_no_text(rt: HostRuntime) -> Result<(), Fail> {
 fn fills_a_buffer_whole_or_leaves_it(rt: HostRuntime) {
     for (room, text) in [(0, b"######".as_slice()), (5, b"######"), (6, b"$['a']")] {
         let mut out = [b'#'; 6];
-        let mut report = done(0);
+        let mut report = done(0, 9);
         let (part, _) = out.split_at_mut(room);
         let status = jp_canon(rt.alloc(), b"$.a", 0, part, &mut report);
-        assert_eq!(rt; (status, report), (0, done(6)));
+        assert_eq!(rt; (status, report), (0, done(6, 0)));
         assert_eq!(rt; out.as_slice(), text);
     }
 }
@@ -85,9 +96,9 @@ fn fills_a_buffer_whole_or_leaves_it(rt: HostRuntime) {
 #[test]
 fn checks_in_a_profile(rt: HostRuntime) {
     let query = b"$[?distinct(@.*)]";
-    let mut report = done(0);
+    let mut report = done(0, 9);
     assert_eq!(rt; jp_check(rt.alloc(), query, 1, &mut report), 0);
-    assert_eq!(rt; report, done(0));
+    assert_eq!(rt; report, done(0, 0));
     assert_eq!(rt; jp_check(rt.alloc(), query, 0, &mut report), 1);
     assert_eq!(rt; (report.kind, report.place), (6, 3));
     assert_eq!(rt; jp_version(), 256);
@@ -98,7 +109,7 @@ fn asked(start: usize, size: usize) -> Question {
     Question {
         start,
         size,
-        report: done(9),
+        report: done(9, 9),
     }
 }
 
@@ -109,12 +120,79 @@ fn no_query(place: usize) -> Report {
         kind: 1,
         place,
         length: 0,
+        steps: 0,
+    }
+}
+
+/// A report of steps that are used up.
+fn used_up(steps: u64) -> Report {
+    Report {
+        status: 6,
+        kind: 0,
+        place: 0,
+        length: 0,
+        steps,
+    }
+}
+
+#[test]
+fn keeps_to_a_limit(rt: HostRuntime) {
+    for (query, limit, expected) in [
+        (b"$.a[*]".as_slice(), 11, done(9, 11)),
+        (b"$.a[*]", 10, used_up(10)),
+        (b"$.a[*]", 1, used_up(1)),
+        (b"$.a[*]", u64::MAX, done(9, 11)),
+        (b"$.a[0]", 1, done(2, 0)),
+        (b"$.a[01]", 1, no_query(5)),
+    ] {
+        let mut out = [b'#'; 16];
+        let mut report = done(9, 9);
+        jp_eval(
+            rt.alloc(),
+            query,
+            DOCUMENT,
+            0,
+            0,
+            limit,
+            &mut out,
+            &mut report,
+        );
+        assert_eq!(rt; report, expected);
+    }
+}
+
+#[test]
+fn gives_each_question_the_whole_limit(rt: HostRuntime) {
+    let mut questions = [asked(0, 6), asked(6, 4), asked(0, 6)];
+    let mut out = [b'#'; 16];
+    let queries = b"$.a[0]$..*";
+    jp_eval_many(
+        rt.alloc(),
+        queries,
+        &mut questions,
+        DOCUMENT,
+        0,
+        0,
+        10,
+        &mut out,
+    );
+    for (question, report) in questions
+        .iter()
+        .zip([done(2, 10), used_up(10), done(2, 10)])
+    {
+        assert_eq!(rt; question.report, report);
     }
 }
 
 #[test]
 fn answers_many_in_turn(rt: HostRuntime) {
-    let reports = [done(2), no_query(5), done(0), done(11), no_query(0)];
+    let reports = [
+        done(2, 10),
+        no_query(5),
+        done(0, 5),
+        done(11, 6),
+        no_query(0),
+    ];
     for (room, text) in [
         (12, b"##############".as_slice()),
         (13, b"1\n[1,[2,{}]]\n#"),
@@ -129,7 +207,7 @@ fn answers_many_in_turn(rt: HostRuntime) {
         let mut out = [b'#'; 14];
         let (part, _) = out.split_at_mut(room);
         let queries = b"$.a[0]$.a[01]$.b$.a";
-        let size = jp_eval_many(rt.alloc(), queries, &mut questions, DOCUMENT, 0, 0, part);
+        let size = jp_eval_many(rt.alloc(), queries, &mut questions, DOCUMENT, 0, 0, 0, part);
         assert_eq!(rt; size, 13);
         assert_eq!(rt; out.as_slice(), text);
         for (question, report) in questions.iter().zip(reports) {
@@ -142,7 +220,16 @@ fn answers_many_in_turn(rt: HostRuntime) {
 fn answers_many_over_no_document(rt: HostRuntime) {
     let mut questions = [asked(0, 1), asked(0, 0)];
     let mut out = [b'#'; 5];
-    let size = jp_eval_many(rt.alloc(), b"$", &mut questions, b"[2.5]", 0, 0, &mut out);
+    let size = jp_eval_many(
+        rt.alloc(),
+        b"$",
+        &mut questions,
+        b"[2.5]",
+        0,
+        0,
+        1,
+        &mut out,
+    );
     assert_eq!(rt; size, 4);
     assert_eq!(rt; out.as_slice(), b"$[0]#".as_slice());
     let (first, second) = (questions[0].report, questions[1].report);
@@ -153,7 +240,7 @@ fn answers_many_over_no_document(rt: HostRuntime) {
 /// Two handles that keep this query and the document.
 fn kept(alloc: Global, query: &[u8]) -> Result<(Handle, Handle), Fail> {
     let mut handles = (Handle::empty(alloc), Handle::empty(alloc));
-    let mut report = done(9);
+    let mut report = done(9, 9);
     let first = jp_query_new(alloc, query, 0, &mut handles.0, &mut report);
     let second = jp_document_new(alloc, DOCUMENT, &mut handles.1, &mut [], &mut report);
     match (first, second) {
@@ -162,11 +249,11 @@ fn kept(alloc: Global, query: &[u8]) -> Result<(Handle, Handle), Fail> {
     }
 }
 
-/// The status of a selection in form 2 with a buffer of 32 bytes, and the buffer.
+/// The status of a selection in form 2 and 10 steps with a buffer of 32 bytes, and the buffer.
 fn selected(alloc: Global, query: &mut Handle, document: &mut Handle) -> (u32, [u8; 32]) {
     let mut out = [b'#'; 32];
-    let mut report = done(9);
-    let status = jp_select(alloc, query, document, 2, &mut out, &mut report);
+    let mut report = done(9, 9);
+    let status = jp_select(alloc, query, document, 2, 10, &mut out, &mut report);
     (status, out)
 }
 
@@ -177,9 +264,11 @@ fn selects_again_and_again(rt: HostRuntime) -> Result<(), Fail> {
     let lines = (0, *b"$['a'][0]\t1\n####################");
     assert_eq!(rt; selected(alloc, &mut query, &mut document), lines);
     assert_eq!(rt; selected(alloc, &mut query, &mut document), lines);
-    let mut report = done(9);
+    let mut report = done(9, 9);
     jp_query_new(alloc, b"$.b", 0, &mut query, &mut report);
     assert_eq!(rt; selected(alloc, &mut query, &mut document), (0, [b'#'; 32]));
+    jp_query_new(alloc, b"$..*", 0, &mut query, &mut report);
+    assert_eq!(rt; selected(alloc, &mut query, &mut document), (6, [b'#'; 32]));
     Ok(())
 }
 
@@ -201,7 +290,7 @@ fn selects_nothing_of_what_is_not_kept(rt: HostRuntime) -> Result<(), Fail> {
 fn keeps_nothing_of_what_is_refused(rt: HostRuntime) -> Result<(), Fail> {
     let alloc = rt.alloc();
     let (mut query, mut document) = kept(alloc, b"$")?;
-    let mut report = done(9);
+    let mut report = done(9, 9);
     assert_eq!(rt;
         jp_query_new(alloc, b"$.a[01]", 0, &mut query, &mut report),
         1

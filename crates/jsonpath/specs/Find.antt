@@ -1,4 +1,4 @@
--- What `find` and `find_nodes` say with their answers.
+-- What `find`, `find_within` and `find_nodes` say with their answers.
 use Rattle.std.specs.Prelude.{◌≡◌, ◌≢◌, ◌⊎◌, ℕ, List, map, string_bytes}
 use Rattle.std.specs.Str.{chars}
 use Rattle.jp_reading.specs.Texts.{Text}
@@ -16,7 +16,7 @@ use Rattle.jp_query.specs.declared.refusal.Refusal.{Refusal}
 use Rattle.jp_query.specs.declared.refusal.RefusalKind.TheVariants as kind
 use Rattle.jp_tree.specs.Tree.{QueryTree}
 use Rattle.jsonpath.specs.declared.fault.FindFault.{FindFault}
-use Rattle.jsonpath.specs.declared.fault.FindFault.TheVariants.{Query, Document, NoMemory}
+use Rattle.jsonpath.specs.declared.fault.FindFault.TheVariants.{Query, Document, NoMemory, StepsUsedUp}
 use Rattle.jsonpath.specs.declared.finding.Match.{Match}
 
 -- the text is accepted as a query, in that profile, whose nodelist over the document d these nodes
@@ -60,3 +60,10 @@ FindsNot profile text bytes (Document f) =
     ((q : QueryTree) × IsAcceptedAs profile (chars text) q) × IsDocumentFault bytes f
     × (f ≢ document.NoMemory)
 FindsNot profile text bytes NoMemory = Unit {0}
+FindsNot profile text bytes StepsUsedUp = ⊥
+
+-- the same where steps are limited: a query that is accepted over a document may also need more
+abbrev pub FindsNotWithin : Profile → List ℕ → List ℕ → FindFault → Type 0
+FindsNotWithin profile text bytes StepsUsedUp =
+    ((q : QueryTree) × IsAcceptedAs profile (chars text) q) × ((d : Value) × IsDocument bytes d)
+FindsNotWithin profile text bytes fault = FindsNot profile text bytes fault

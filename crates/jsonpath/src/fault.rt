@@ -1,9 +1,10 @@
 //! Why nothing is found.
 ghost use Rattle.std.specs.Prelude.{◌≡◌};
 ghost use Rattle.jsonpath.specs.declared.fault.FindFault.TheVariants.{NoMemory};
-ghost use Rattle.jsonpath.specs.Private.Faults.{fault_of_document, fault_of_refusal};
+ghost use Rattle.jsonpath.specs.Private.Faults.{fault_of_document, fault_of_evaluation, fault_of_refusal};
 
 use jp_document::DocumentFault;
+use jp_evaluate::EvaluationFault;
 use jp_query::{Refusal, RefusalKind};
 use std::alloc::AllocError;
 use thiserror::Error;
@@ -20,6 +21,9 @@ pub enum FindFault {
     /// Memory ran out.
     #[error("want of memory")]
     NoMemory,
+    /// The steps that the caller allowed are used up. Only calls that are given a limit say so.
+    #[error("steps used up")]
+    StepsUsedUp,
 }
 
 impl From<AllocError> for FindFault {
@@ -48,6 +52,17 @@ impl From<DocumentFault> for FindFault {
         match fault {
             DocumentFault::NoMemory => FindFault::NoMemory,
             fault => FindFault::Document(fault),
+        }
+    }
+}
+
+impl From<EvaluationFault> for FindFault {
+    ghost from_gives = { λ fault given. given ≡ fault_of_evaluation fault };
+
+    fn from(fault: EvaluationFault) -> FindFault {
+        match fault {
+            EvaluationFault::NoMemory => FindFault::NoMemory,
+            EvaluationFault::StepsUsedUp => FindFault::StepsUsedUp,
         }
     }
 }

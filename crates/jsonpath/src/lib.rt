@@ -9,6 +9,9 @@
 //! found[0].value;    // 2
 //! ```
 //!
+//! A query from a stranger may need as long as it likes: `find_within` finds in at most a number of
+//! steps, and else says `StepsUsedUp`.
+//!
 //! **Step by step.** A document that is asked more than once is read once, and so is a query:
 //!
 //! ```text
@@ -35,9 +38,9 @@
 //! - Numbers, texts, lists and members stand in a `Json`, to be taken apart by `match`.
 //!
 //! Every call that takes memory takes an allocator, and running out of memory is an error of its
-//! own. The contract for the layer above: `find` and `find_nodes` give exactly the nodelist of the
-//! query that the text is accepted as, over the document that the bytes are, or say why there is
-//! none (`specs/Find.antt`).
+//! own. The contract for the layer above: `find`, `find_within` and `find_nodes` give exactly the
+//! nodelist of the query that the text is accepted as, over the document that the bytes are, or say
+//! why there is none (`specs/Find.antt`).
 #![tactic(auto)]
 
 mod fault;
@@ -46,7 +49,7 @@ mod finding;
 mod tests;
 
 pub use fault::FindFault;
-pub use finding::{Match, find, find_nodes};
+pub use finding::{Match, find, find_nodes, find_within};
 pub use jp_canon::canon;
 pub use jp_check::{Checked, Profile, read_query};
 pub use jp_document::{

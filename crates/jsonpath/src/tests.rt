@@ -1,6 +1,6 @@
 //! The calls of this crate, and that those of the crates below are at hand.
 use crate::Profile::{Extended, Standard};
-use crate::{Document, canon, find, find_nodes, path_text, read_query};
+use crate::{Document, FindFault, canon, find, find_nodes, find_within, path_text, read_query};
 use std::alloc::Global;
 use std::test::Fail;
 
@@ -47,6 +47,18 @@ fn says_what_is_wrong(rt: HostRuntime) -> Result<(), Fail> {
     for (document, query, text) in rows {
         let fault = find(alloc, document, query, Standard).err().ok_or("found")?;
         assert_eq!(rt; format!(in alloc; "{fault}")?.as_str(), text);
+    }
+    Ok(())
+}
+
+#[test]
+fn finds_within_a_limit(rt: HostRuntime) -> Result<(), Fail> {
+    let alloc = rt.alloc();
+    for (query, steps) in [("$", 2), ("$[0]", 6), ("$[*]", 7), ("$..*", 9)] {
+        let found = find_within(alloc, b"[1,2]", query, Standard, steps)?;
+        assert_eq!(rt; found.len(), find(alloc, b"[1,2]", query, Standard)?.len());
+        let fault = find_within(alloc, b"[1,2]", query, Standard, steps - 1).err();
+        assert!(rt; matches!(fault, Some(FindFault::StepsUsedUp)), "{query}");
     }
     Ok(())
 }

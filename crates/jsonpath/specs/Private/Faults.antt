@@ -1,12 +1,14 @@
--- Which `FindFault` a query's refusal or a document's fault becomes: running out of memory is the
--- same in each. The conversions to `FindFault` cite it.
+-- Which `FindFault` a query's refusal, a document's fault or an evaluation's becomes: running out of
+-- memory is the same in each. The conversions to `FindFault` cite it.
 use Rattle.jp_document.specs.declared.fault.DocumentFault.{DocumentFault}
 use Rattle.jp_document.specs.declared.fault.DocumentFault.TheVariants as document
+use Rattle.jp_evaluate.specs.declared.evaluation_fault.EvaluationFault.{EvaluationFault}
+use Rattle.jp_evaluate.specs.declared.evaluation_fault.EvaluationFault.TheVariants as evaluation
 use Rattle.jp_query.specs.declared.refusal.Refusal.{Refusal}
 use Rattle.jp_query.specs.declared.refusal.RefusalKind.{RefusalKind}
 use Rattle.jp_query.specs.declared.refusal.RefusalKind.TheVariants as kind
 use Rattle.jsonpath.specs.declared.fault.FindFault.{FindFault}
-use Rattle.jsonpath.specs.declared.fault.FindFault.TheVariants.{Query, Document, NoMemory}
+use Rattle.jsonpath.specs.declared.fault.FindFault.TheVariants.{Query, Document, NoMemory, StepsUsedUp}
 
 abbrev pub fault_of_kind : RefusalKind → Refusal → FindFault
 fault_of_kind kind.NoMemory r = NoMemory
@@ -18,3 +20,7 @@ fault_of_refusal r = fault_of_kind r.kind r
 abbrev pub fault_of_document : DocumentFault → FindFault
 fault_of_document document.NoMemory = NoMemory
 fault_of_document f = Document f
+
+abbrev pub fault_of_evaluation : EvaluationFault → FindFault
+fault_of_evaluation evaluation.NoMemory = NoMemory
+fault_of_evaluation evaluation.StepsUsedUp = StepsUsedUp

@@ -1,8 +1,8 @@
 use Rattle.std.proofs.Common.{◌+◌, ◌<◌, ◌≤◌, [], arith, length, refl, set, string_bytes, subst}
 use Rattle.std.proofs.Common.{sym, take}
 use Rattle.std.proofs.lemmas.List.{take_all}
-use Rattle.jp_c.specs.Calls.{IsEvalOutcome}
 use Rattle.jp_c.specs.Many.{AnswersEach, none}
+use Rattle.jp_c.specs.Private.Subjects.{IsAnswered}
 use Rattle.jp_c.proofs.Questions.{question-answered, questions-left}
 use Rattle.jp_c.proofs.many.answer_each.Goals as goal
 
@@ -12,7 +12,7 @@ loop-question-init c =
     record {
       answered = subst
           (AnswersEach
-          (λ query. IsEvalOutcome subject.form subject.profile query subject.document.now)
+          (IsAnswered subject)
           c.args.queries.now [] [])
           (sym c.new-texts.ensures.bytes) none;
       rest = refl;
@@ -31,7 +31,7 @@ loop-question-preserved c =
     record {
       answered = subst
           (AnswersEach
-          (λ query. IsEvalOutcome subject.form subject.profile query subject.document.now)
+          (IsAnswered subject)
           c.args.queries.now (take (i + 1) c.args.questions.now)
           (take (i + 1) (set loop.questions i new)))
           (sym step.2)
@@ -51,11 +51,11 @@ returns c =
     in
     subst
     (λ xs. AnswersEach
-    (λ query. IsEvalOutcome subject.form subject.profile query subject.document.now)
+    (IsAnswered subject)
     c.args.queries.now xs loop.questions (string_bytes loop.texts))
     (take_all i c.args.questions.now olds)
     (subst
     (λ ys. AnswersEach
-    (λ query. IsEvalOutcome subject.form subject.profile query subject.document.now)
+    (IsAnswered subject)
     c.args.queries.now (take i c.args.questions.now) ys (string_bytes loop.texts))
     (take_all i loop.questions news) loop.invariant.answered)

@@ -1,5 +1,6 @@
 use Rattle.std.proofs.Common.{◌≡◌, ℕ, List, rules, string_bytes, subst}
 use Rattle.jp_c.specs.Calls.{IsEvalOutcome}
+use Rattle.jp_c.specs.Limit.{Within}
 use Rattle.jp_c.specs.Many.{AnswersEach}
 use Rattle.jp_c.specs.Outcome.{filled}
 use Rattle.jp_c.proofs.many.jp_eval_many.Goals as goal
@@ -8,17 +9,20 @@ pub returns : goal.returns
 returns c =
     let read = c.read-subject in
     let texts = string_bytes c.answer_each-texts.result in
-    let each = λ (form : ℕ) (profile : ℕ) (document : List ℕ). AnswersEach
-    (λ query. IsEvalOutcome form profile query document) c.args.queries.now
+    let each = λ (limit : ℕ) (form : ℕ) (profile : ℕ) (document : List ℕ). AnswersEach
+    (λ query. Within limit (IsEvalOutcome form profile query document)) c.args.queries.now
     c.args.questions.now c.answer_each-texts.new.questions texts
     in
     record {
       texts = texts;
-      each = subst (λ form. each form c.args.profile c.args.document.now) read.ensures.form
-          (subst (λ profile. each read.result.form profile c.args.document.now)
+      each = subst (λ limit. each limit c.args.form c.args.profile c.args.document.now)
+          read.ensures.limit
+          (subst (λ form. each read.result.limit form c.args.profile c.args.document.now)
+          read.ensures.form
+          (subst (λ profile. each read.result.limit read.result.form profile c.args.document.now)
           read.ensures.profile
-          (subst (λ document. each read.result.form read.result.profile document)
-          read.ensures.document c.answer_each-texts.ensures));
+          (subst (λ document. each read.result.limit read.result.form read.result.profile document)
+          read.ensures.document c.answer_each-texts.ensures)));
       fills = subst (λ t. c.fill.new.out ≡ filled t c.args.out.now) c.as_bytes.ensures.value
           c.fill.ensures;
       counts = search rules;

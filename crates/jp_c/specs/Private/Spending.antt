@@ -1,0 +1,26 @@
+-- How the steps go that an answer is given.
+use Rattle.std.specs.Prelude.{◌≡◌, ◌==◌, ◌-◌, ◌^◌, ℕ, IfErr, Result, if◌then◌else◌, not}
+use Rattle.jp_select.specs.Steps.{IsSpent, Takes}
+use Rattle.jp_select.specs.declared.steps.Steps.{Steps}
+use Rattle.jsonpath.specs.declared.fault.FindFault.{FindFault}
+use Rattle.jsonpath.specs.declared.fault.FindFault.TheVariants.{Query, Document, NoMemory, StepsUsedUp}
+
+-- the steps of a limit, of which 0 is none
+abbrev pub steps_of_limit : ℕ → Steps
+steps_of_limit limit = record {
+  left = if limit == 0 then 2 ^ 64 - 1 else limit;
+  limited = not (limit == 0);
+}
+
+-- what is left of the steps after a fault: none of steps that were limited where they are used up,
+-- and all where a query or a document is refused
+abbrev pub SpendsFor : FindFault → Steps → Steps → Type 0
+SpendsFor StepsUsedUp before after = IsSpent after
+SpendsFor NoMemory before after = Unit {0}
+SpendsFor (Query r) before after = after ≡ before
+SpendsFor (Document f) before after = after ≡ before
+
+-- the steps are only taken, and so where there is no answer
+pub record Spends {A : Type 0} (answer : Result A FindFault) (before after : Steps) : Type 0 where
+  pub takes : Takes before after
+  pub fault : IfErr answer (λ f. SpendsFor f before after)
