@@ -1,0 +1,13 @@
+-- What an attempt at a mend has come to.
+use Rattle.std.specs.Prelude.{string_bytes}
+use Rattle.std.specs.Str.{chars}
+use Rattle.jp_check.specs.declared.profile.Profile.{Profile}
+use Rattle.jp_explain.specs.declared.suggestion.Attempt.{Attempt}
+use Rattle.jp_explain.specs.declared.suggestion.Attempt.TheVariants.{Query, Refused, Nothing}
+use Rattle.jp_explain.specs.Suggestion.{IsQuery}
+
+-- what is answered as a query is one
+abbrev pub IsSound : Profile → Attempt → Type 0
+IsSound profile (Query query) = IsQuery profile (chars (string_bytes query))
+IsSound profile (Refused text refusal) = Unit {0}
+IsSound profile Nothing = Unit {0}

@@ -1,0 +1,84 @@
+//! What is told of a refused query.
+
+ghost use Rattle.std.specs.Prelude.{◌≡◌, ◌++◌, IfOk, IfSome, string_bytes};
+ghost use Rattle.std.specs.Str.{chars};
+ghost use Rattle.jp_explain.specs.Explanation.{IsPlacedAt};
+ghost use Rattle.jp_explain.specs.Place.{front_of, rest_of};
+ghost use Rattle.jp_explain.specs.Reasons.{reason_of};
+ghost use Rattle.jp_explain.specs.Suggestion.{IsQuery};
+
+use crate::place::{characters, line_after, line_before, line_feeds, split_at_byte, starting};
+use crate::reason::Reason;
+use crate::reasons::reason_of;
+use crate::shown::show;
+use crate::suggestion::suggestion;
+use crate::writer::Writer;
+use jp_check::Profile;
+use jp_query::Refusal;
+use std::alloc::{AllocError, Global};
+use unicode_width::UnicodeWidthStr;
+
+/// Where a query is refused and why, and what to try instead.
+#[derive(Debug, Drop)]
+pub struct Explanation {
+    /// The number of the line that holds the place, from 1.
+    pub line_number: usize,
+    /// Which character of that line is at the place, from 1.
+    pub column: usize,
+    /// The line as it is shown in a terminal: a control character, or another that a terminal would
+    /// not show as one of the line, stands there as `\n`, `\r`, `\t`, or `\u` and four hex digits.
+    pub line: String,
+    /// How many columns of a terminal the shown line has before the place.
+    pub width_before: usize,
+    /// Why the query is refused.
+    pub reason: Reason,
+    /// A query that is accepted in the profile, where it is plain what was meant.
+    pub suggestion: Option<String>,
+}
+
+/// Explains the refusal of a query's text in the profile.
+///
+/// The place may be any byte: one within a character is the start of that character, and one after
+/// the text is its end. The reason is told by the refusal's kind and by what is at its place. The
+/// suggestion is the text with what is wrong at the place mended, and then at the place where the
+/// mended text is refused, at most eight times in all. Each mended text is read in the profile, and
+/// only one that is accepted is told. The only error is that memory ran out.
+pub fn explain(
+    alloc: Global,
+    text: &str,
+    profile: Profile,
+    refusal: Refusal,
+) -> Result<Explanation, AllocError>
+    ensures place { IfOk result (IsPlacedAt (chars text.now) refusal.place) }
+    ensures reason { IfOk result (λ e. e.reason
+        ≡ reason_of refusal.kind (front_of refusal.place (chars text.now))
+        (rest_of refusal.place (chars text.now))) }
+    ensures suggestion { IfOk result
+        (λ e. IfSome e.suggestion (λ query. IsQuery profile (chars (string_bytes query)))) }
+{
+    let suggestion = suggestion(alloc, text, profile, refusal)?;
+    let characters = characters(alloc, text)?;
+    let (front, rest) = split_at_byte(&characters, refusal.place);
+    let line = line_before(front, rest);
+    let before = show(alloc, line)?;
+    let after = show(alloc, line_after(rest))?;
+    Ok(Explanation {
+        line_number: line_feeds(starting(front, rest)) + 1,
+        column: line.len() + 1,
+        width_before: before.as_str().width(),
+        line: joined(alloc, before.as_str(), after.as_str())?,
+        reason: reason_of(refusal.kind, front, rest),
+        suggestion,
+    })
+}
+
+/// Both texts, one after the other.
+fn joined(alloc: Global, before: &str, after: &str) -> Result<String, AllocError>
+    ensures { IfOk result
+        (λ line. chars (string_bytes line) ≡ chars before.now ++ chars after.now) }
+{
+    let mut line = Writer::new(alloc);
+    line.text(before)?;
+    line.text(after)?;
+    Ok(line.into_text())
+}

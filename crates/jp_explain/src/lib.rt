@@ -1,0 +1,36 @@
+//! Why a query is refused, told to whoever typed it.
+//!
+//! ```text
+//! let text = "$[?@.a = 1]";
+//! let Err(refusal) = read_query(alloc, text, Standard);     // Syntax at 8
+//! let explanation = explain(alloc, text, Standard, refusal)?;
+//! explanation.reason.sentence();            // Values are compared with `==` and `!=`.
+//! explanation.suggestion;                   // $[?@.a == 1]
+//! explanation_text(alloc, &explanation)?;   // the query, a caret, and these two, on four lines
+//! ```
+//!
+//! The contract for the crates above: `explain` tells the line, the column and the width before the
+//! refusal's place by `specs/Place.antt` and `specs/Shown.antt`, the reason by `specs/Reasons.antt`,
+//! and as a suggestion only a text that is accepted in the profile; `explanation_text` writes what
+//! `specs/Explanation.antt` says. Which slip is mended in which way is promised nowhere: a mended text
+//! is read before it is told.
+#![tactic(auto)]
+
+mod class;
+mod explanation;
+pub mod laws;
+mod marks;
+mod mends;
+mod place;
+mod reason;
+mod reasons;
+mod shown;
+mod suggestion;
+#[cfg(test)]
+mod tests;
+mod told;
+mod writer;
+
+pub use explanation::{Explanation, explain};
+pub use reason::Reason;
+pub use told::explanation_text;

@@ -1,0 +1,320 @@
+//! The reasons for which queries are refused, and the sentence for each.
+
+ghost use Rattle.std.specs.Prelude.{◌≡◌};
+ghost use Rattle.jp_explain.specs.Sentences.{sentence_of};
+
+/// What is wrong with a query at the place of its refusal, as far as what is there tells.
+#[derive(Clone, Copy, Debug, PartialEq, Eq)]
+pub enum Reason {
+    /// There is no query at all.
+    Empty,
+    /// A blank or an invisible character before the query.
+    BlankFirst,
+    /// A digit where `$` is wanted: what a shell leaves of `"$[0]"`.
+    ShellNumber,
+    /// A dot where `$` is wanted: jq's form, or what a shell leaves of `"$x.b"`.
+    ShellDot,
+    /// `@` where `$` is wanted.
+    CurrentNode,
+    /// Braces around the query.
+    Braces,
+    /// Quotation marks around the query.
+    Quoted,
+    /// A slash between names.
+    Slash,
+    /// Anything else where `$` is wanted.
+    MissingDollar,
+    /// A blank or an invisible character after the query.
+    BlankLast,
+    /// The end, within brackets.
+    Unclosed,
+    /// A control character between quotation marks.
+    ControlCharacter,
+    /// An invisible character, or a no-break space.
+    Unseen,
+    /// Quotation marks of another kind.
+    Quotes,
+    /// `=<` or `=>`.
+    OrderSign,
+    /// `=~`, or `~` in a filter.
+    Pattern,
+    /// `=` or `===`.
+    Equals,
+    /// `<>`.
+    Unequal,
+    /// A name without quotes in brackets.
+    BracketName,
+    /// `&` or `and`.
+    And,
+    /// `|` or `or`.
+    Or,
+    /// `not`.
+    Not,
+    /// `True`, `None` and the like.
+    Literal,
+    /// `undefined`.
+    Undefined,
+    /// A literal that is compared with nothing.
+    LoneLiteral,
+    /// A text without quotes.
+    TextQuotes,
+    /// A member's name alone in a filter.
+    MissingAt,
+    /// A filter without `?`.
+    MissingQuestionMark,
+    /// `[]`.
+    EmptyBrackets,
+    /// `,]`.
+    LastComma,
+    /// `.[`.
+    DotBracket,
+    /// `...`.
+    ThreeDots,
+    /// A name in quotes after a dot.
+    DotQuote,
+    /// A digit after a dot.
+    DotDigit,
+    /// Another character in a name after a dot.
+    OddName,
+    /// `(` after a name.
+    Call,
+    /// `?` outside of brackets.
+    Optional,
+    /// `|` outside of brackets.
+    Pipe,
+    /// `,` outside of brackets.
+    Union,
+    /// A name right after `$`, `@` or `]`.
+    MissingDot,
+    /// A name after a blank.
+    BlankName,
+    /// `]` without its `[`.
+    StrayBracket,
+    /// A digit after a `0` that begins a number.
+    LeadingZero,
+    /// `+` before a number.
+    Plus,
+    /// `-0` as an index.
+    MinusZero,
+    /// `1.0`, `0..2` or `0-2` in brackets.
+    IndexForm,
+    /// A sign of arithmetic in a filter.
+    Arithmetic,
+    /// A word where an operator is wanted.
+    Operator,
+    /// `**`.
+    DoubleStar,
+    /// `^` or `~` after a path.
+    NoWayUp,
+    /// A comparison where none may be.
+    Comparison,
+    /// `]` where a `)` is wanted.
+    MissingParenthesis,
+    /// `)` without its `(`.
+    StrayParenthesis,
+    /// Anything else where a test begins.
+    WantsTest,
+    /// Anything else after a sign of comparisons.
+    WantsValue,
+    /// Anything else in brackets.
+    InBrackets,
+    /// Anything else after a dot.
+    AfterDot,
+    /// The end, after an odd number of quotation marks.
+    OpenQuote,
+    /// The end.
+    Unfinished,
+    /// Any other character.
+    Unexpected,
+    /// `TooDeep`.
+    TooDeep,
+    /// `NotWhole`.
+    NotWhole,
+    /// `NumberRange`.
+    NumberRange,
+    /// `IndexRange`.
+    IndexRange,
+    /// `distinct` where the profile lacks it.
+    Distinct,
+    /// `len` or `size` for `length`.
+    LengthName,
+    /// `not(..)`.
+    NotCall,
+    /// `exists(..)`.
+    Exists,
+    /// `UnknownFunction`.
+    UnknownFunction,
+    /// `ArgumentCount`.
+    ArgumentCount,
+    /// `length` of several nodes.
+    CountNodes,
+    /// `NotSingular`.
+    NotSingular,
+    /// `match` or `search` as a side of a comparison.
+    MatchCompared,
+    /// `length`, `count` or `value` as a test.
+    ValueAlone,
+    /// `IllTyped`.
+    IllTyped,
+    /// `NoMemory`.
+    NoMemory,
+    /// `TextTooLong`.
+    TextTooLong,
+}
+
+impl Reason {
+    /// The sentence for whoever typed the query, in ASCII and on one line.
+    pub fn sentence(self) -> &'static str
+        ensures { result.now ≡ sentence_of self }
+    {
+        match self {
+            Reason::Empty => "The query is empty: `$` alone selects the whole document.",
+            Reason::BlankFirst => {
+                "A query begins with `$`: no blank, newline or invisible character may stand before it."
+            },
+            Reason::ShellNumber => {
+                "A query begins with `$`; the shell makes a number of \"$[0]\", so put the query in single quotes."
+            },
+            Reason::ShellDot => {
+                "A query begins with `$`; if you typed one, the shell took it, so put the query in single quotes."
+            },
+            Reason::CurrentNode => {
+                "A query begins with `$`: `@` is the current node, and stands in filters alone."
+            },
+            Reason::Braces => "A query begins with `$`: there are no braces around it.",
+            Reason::Quoted => {
+                "A query begins with `$`: quotation marks around it are for the shell, and no part of it."
+            },
+            Reason::Slash => {
+                "Names are separated by dots or stand in brackets: there are no slashes between them."
+            },
+            Reason::MissingDollar => "A query begins with `$`, the whole document.",
+            Reason::BlankLast => {
+                "A query ends with its last segment: no blank, newline or invisible character may stand after it."
+            },
+            Reason::Unclosed => {
+                "The query ends before a bracket, a parenthesis or a quotation mark is closed."
+            },
+            Reason::ControlCharacter => {
+                "A control character in quotes is written as an escape, such as \\n or \\u001b."
+            },
+            Reason::Unseen => "An invisible character, such as a no-break space, stands here.",
+            Reason::Quotes => "Quotation marks are ' or \": this is another one.",
+            Reason::OrderSign => "These comparisons are written `<=` and `>=`.",
+            Reason::Pattern => {
+                "Patterns are matched by match(@.name, \"..\"), the whole text, and search(@.name, \"..\"), a part of it."
+            },
+            Reason::Equals => "Values are compared with `==` and `!=`.",
+            Reason::Unequal => "That two values differ is written `!=`.",
+            Reason::BracketName => {
+                "A name in brackets needs quotes (inside the shell's single quotes, double ones)."
+            },
+            Reason::And => "`and` is written `&&`.",
+            Reason::Or => "`or` is written `||`.",
+            Reason::Not => "`not` is written `!`.",
+            Reason::Literal => "The literals are written `true`, `false` and `null`.",
+            Reason::Undefined => {
+                "Whether there is such a member is tested by `@.name` or `!@.name` alone."
+            },
+            Reason::LoneLiteral => {
+                "A literal alone is no test: compare it, as in `@.name == true`."
+            },
+            Reason::TextQuotes => "A text in a comparison needs quotes.",
+            Reason::MissingAt => {
+                "A filter looks at the current node, `@`: its members are written `@.name`."
+            },
+            Reason::MissingQuestionMark => "A filter begins with `?`, as in `[?@.name == 1]`.",
+            Reason::EmptyBrackets => "Brackets need something in them: `[*]` selects all children.",
+            Reason::LastComma => "No comma may stand before `]`.",
+            Reason::DotBracket => "No dot stands before `[`, but for the two of `..`.",
+            Reason::ThreeDots => "Descendants have two dots, `..`, and no more.",
+            Reason::DotQuote => "A name in quotes stands in brackets, without a dot.",
+            Reason::DotDigit => {
+                "An index stands in brackets, and so does, in quotes, a name that begins with a digit."
+            },
+            Reason::OddName => {
+                "A name with other characters than letters, digits and `_` stands in quotes and brackets."
+            },
+            Reason::Call => {
+                "A function is called in filters alone, before its argument, as in `length(@.name)`."
+            },
+            Reason::Optional => "No `?` is needed here: a path to nothing selects nothing.",
+            Reason::Pipe => "There are no pipes: a query is one path.",
+            Reason::Union => {
+                "A query is one path: several names or indexes stand in one pair of brackets."
+            },
+            Reason::MissingDot => "A name needs a dot before it.",
+            Reason::BlankName => "A name with a blank in it stands in quotes and brackets.",
+            Reason::StrayBracket => "This `]` closes nothing.",
+            Reason::LeadingZero => "A number does not begin with `0`, unless it is 0.",
+            Reason::Plus => "A number has no `+` before it.",
+            Reason::MinusZero => "The index 0 has no `-` before it.",
+            Reason::IndexForm => {
+                "An index is a whole number, and a slice is written `[0:2]`, where the item at its end is left out."
+            },
+            Reason::Arithmetic => {
+                "Filters do not calculate: there is no `+`, `-`, `*`, `/` or `%` in them."
+            },
+            Reason::Operator => {
+                "There is no such operator: there are ==, !=, <, <=, >, >=, &&, || and !."
+            },
+            Reason::DoubleStar => "Any number of steps down is written `..`.",
+            Reason::NoWayUp => {
+                "A query goes down only: there is no step to a parent, and none to a member's name."
+            },
+            Reason::Comparison => {
+                "A comparison has two sides, and neither is a `!`, a parenthesis or another comparison."
+            },
+            Reason::MissingParenthesis => "A `)` is missing before this `]`.",
+            Reason::StrayParenthesis => "This `)` closes nothing.",
+            Reason::WantsTest => {
+                "A test is missing here: a path such as `@.name`, a comparison, or a function call."
+            },
+            Reason::WantsValue => {
+                "A value is missing here: a number, a text in quotes, true, false, null, a path, or a function call."
+            },
+            Reason::InBrackets => {
+                "In brackets stand names in quotes, indexes, slices, `*`, or `?` and a filter."
+            },
+            Reason::AfterDot => "After a dot comes a name or `*`.",
+            Reason::OpenQuote => "The query ends before a quotation mark is closed.",
+            Reason::Unfinished => "The query is not finished.",
+            Reason::Unexpected => "No query goes on with this character here.",
+            Reason::TooDeep => {
+                "Filters, parentheses and calls stand more than 128 deep inside one another."
+            },
+            Reason::NotWhole => "Numbers in queries are whole: write 10, and neither 10.0 nor 1e1.",
+            Reason::NumberRange => {
+                "Numbers in queries go from -9223372036854775808 to 18446744073709551615."
+            },
+            Reason::IndexRange => "Indexes go from -9007199254740991 to 9007199254740991.",
+            Reason::Distinct => {
+                "`distinct` is a function of the extended profile alone: give the option --extended."
+            },
+            Reason::LengthName => {
+                "The length of a text, an array or an object is `length(@.name)`."
+            },
+            Reason::NotCall => "`not` is written `!`.",
+            Reason::Exists => "Whether there is such a node is tested by `@.name` alone.",
+            Reason::UnknownFunction => {
+                "There is no such function: there are length, count, match, search and value, and with --extended distinct."
+            },
+            Reason::ArgumentCount => {
+                "match and search take two arguments, and the other functions take one."
+            },
+            Reason::CountNodes => "`length` takes one value: nodes are counted by `count`.",
+            Reason::NotSingular => {
+                "What is compared or measured has to be one node: without `*`, `..`, slices, filters and commas."
+            },
+            Reason::MatchCompared => {
+                "match and search are true or false by themselves, and are compared with nothing."
+            },
+            Reason::ValueAlone => {
+                "length, count and value answer a value: compare it, as in `count(@.*) > 1`."
+            },
+            Reason::IllTyped => "The function takes no argument of this kind.",
+            Reason::NoMemory => "Memory ran out before the query was read.",
+            Reason::TextTooLong => "The query is longer than the program takes.",
+        }
+    }
+}

@@ -1,0 +1,186 @@
+//! Comparisons in filters.
+
+use super::Row;
+
+pub const ROWS: &[Row] = &[
+    (
+        "$[?@.a = 1]",
+        "        ^",
+        "Values are compared with `==` and `!=`.",
+        "$[?@.a == 1]",
+    ),
+    (
+        "$[?@.a === 1]",
+        "         ^",
+        "Values are compared with `==` and `!=`.",
+        "$[?@.a == 1]",
+    ),
+    (
+        "$[?@.a !== 1]",
+        "         ^",
+        "Values are compared with `==` and `!=`.",
+        "$[?@.a != 1]",
+    ),
+    (
+        "$[?@.a =< 1]",
+        "        ^",
+        "These comparisons are written `<=` and `>=`.",
+        "$[?@.a <= 1]",
+    ),
+    (
+        "$[?@.a => 1]",
+        "        ^",
+        "These comparisons are written `<=` and `>=`.",
+        "$[?@.a >= 1]",
+    ),
+    (
+        "$[?@.a <> 1]",
+        "        ^",
+        "That two values differ is written `!=`.",
+        "$[?@.a != 1]",
+    ),
+    (
+        "$[?@.a =~ /x.*y/]",
+        "        ^",
+        "Patterns are matched by match(@.name, \"..\"), the whole text, and search(@.name, \"..\"), a part of it.",
+        "$[?search(@.a, \"x.*y\")]",
+    ),
+    (
+        "$[?(@.a =~ /^x/)]",
+        "         ^",
+        "Patterns are matched by match(@.name, \"..\"), the whole text, and search(@.name, \"..\"), a part of it.",
+        "",
+    ),
+    (
+        "$[?@.a ~= \"x\"]",
+        "       ^",
+        "Patterns are matched by match(@.name, \"..\"), the whole text, and search(@.name, \"..\"), a part of it.",
+        "",
+    ),
+    (
+        "$[?@.a == foo]",
+        "             ^",
+        "A text in a comparison needs quotes.",
+        "$[?@.a == \"foo\"]",
+    ),
+    (
+        "$[?@.name == fooBar]",
+        "                ^",
+        "A text in a comparison needs quotes.",
+        "$[?@.name == \"fooBar\"]",
+    ),
+    (
+        "$[?@.price < max]",
+        "                ^",
+        "A text in a comparison needs quotes.",
+        "",
+    ),
+    (
+        "$[?@.a == True]",
+        "          ^",
+        "The literals are written `true`, `false` and `null`.",
+        "$[?@.a == true]",
+    ),
+    (
+        "$[?@.a == None]",
+        "          ^",
+        "The literals are written `true`, `false` and `null`.",
+        "$[?@.a == null]",
+    ),
+    (
+        "$[?@.a == nil]",
+        "             ^",
+        "The literals are written `true`, `false` and `null`.",
+        "$[?@.a == null]",
+    ),
+    (
+        "$[?@.a == undefined]",
+        "                   ^",
+        "Whether there is such a member is tested by `@.name` or `!@.name` alone.",
+        "",
+    ),
+    (
+        "$[?@.a == “x”]",
+        "          ^",
+        "Quotation marks are ' or \": this is another one.",
+        "$[?@.a == \"x\"]",
+    ),
+    (
+        "$[?@.a == 10.0]",
+        "          ^",
+        "Numbers in queries are whole: write 10, and neither 10.0 nor 1e1.",
+        "$[?@.a == 10]",
+    ),
+    (
+        "$[?@.a == -10.00]",
+        "          ^",
+        "Numbers in queries are whole: write 10, and neither 10.0 nor 1e1.",
+        "$[?@.a == -10]",
+    ),
+    (
+        "$[?@.a == 0.5]",
+        "          ^",
+        "Numbers in queries are whole: write 10, and neither 10.0 nor 1e1.",
+        "",
+    ),
+    (
+        "$[?@.a == 01]",
+        "           ^",
+        "A number does not begin with `0`, unless it is 0.",
+        "$[?@.a == 1]",
+    ),
+    (
+        "$[?@.a == 18446744073709551616]",
+        "          ^",
+        "Numbers in queries go from -9223372036854775808 to 18446744073709551615.",
+        "",
+    ),
+    (
+        "$[?@.a == [1]]",
+        "          ^",
+        "A value is missing here: a number, a text in quotes, true, false, null, a path, or a function call.",
+        "",
+    ),
+    (
+        "$[?1 < @.a < 5]",
+        "           ^",
+        "A comparison has two sides, and neither is a `!`, a parenthesis or another comparison.",
+        "",
+    ),
+    (
+        "$[?!@.a == 1]",
+        "        ^",
+        "A comparison has two sides, and neither is a `!`, a parenthesis or another comparison.",
+        "",
+    ),
+    (
+        "$[?@.a-1 == 2]",
+        "      ^",
+        "Filters do not calculate: there is no `+`, `-`, `*`, `/` or `%` in them.",
+        "",
+    ),
+    (
+        "$[?@.* == 1]",
+        "   ^",
+        "What is compared or measured has to be one node: without `*`, `..`, slices, filters and commas.",
+        "",
+    ),
+    (
+        "$[?@.a in [1,2]]",
+        "       ^",
+        "There is no such operator: there are ==, !=, <, <=, >, >=, &&, || and !.",
+        "",
+    ),
+    (
+        "$[?@.a == 'b' || 'c']",
+        "                    ^",
+        "A literal alone is no test: compare it, as in `@.name == true`.",
+        "",
+    ),
+    (
+        "$[?@.a == 1 || 2]",
+        "                ^",
+        "A literal alone is no test: compare it, as in `@.name == true`.",
+        "",
+    ),
+];

@@ -1,0 +1,50 @@
+//! Indexes and slices.
+
+use super::Row;
+
+pub const ROWS: &[Row] = &[
+    (
+        "$[01]",
+        "   ^",
+        "A number does not begin with `0`, unless it is 0.",
+        "$[1]",
+    ),
+    ("$[+1]", "  ^", "A number has no `+` before it.", "$[1]"),
+    ("$[-0]", "   ^", "The index 0 has no `-` before it.", "$[0]"),
+    (
+        "$[1.0]",
+        "   ^",
+        "An index is a whole number, and a slice is written `[0:2]`, where the item at its end is left out.",
+        "$[1]",
+    ),
+    (
+        "$[1.5]",
+        "   ^",
+        "An index is a whole number, and a slice is written `[0:2]`, where the item at its end is left out.",
+        "",
+    ),
+    (
+        "$[0..2]",
+        "   ^",
+        "An index is a whole number, and a slice is written `[0:2]`, where the item at its end is left out.",
+        "",
+    ),
+    (
+        "$[0-2]",
+        "   ^",
+        "An index is a whole number, and a slice is written `[0:2]`, where the item at its end is left out.",
+        "",
+    ),
+    (
+        "$[(@.length-1)]",
+        "  ^",
+        "A filter begins with `?`, as in `[?@.name == 1]`.",
+        "$[-1]",
+    ),
+    (
+        "$[9007199254740992]",
+        "  ^",
+        "Indexes go from -9007199254740991 to 9007199254740991.",
+        "",
+    ),
+];

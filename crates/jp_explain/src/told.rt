@@ -1,0 +1,57 @@
+//! The text of an explanation.
+
+ghost use Rattle.std.specs.Prelude.{◌≡◌, ◌++◌, IfOk, OnOk, string_bytes};
+ghost use Rattle.std.specs.Str.{chars};
+ghost use Rattle.jp_explain.specs.Explanation.{explanation_text, suggestion_text};
+
+use crate::explanation::Explanation;
+use crate::place::characters;
+use crate::shown::show;
+use crate::writer::Writer;
+use std::alloc::{AllocError, Global};
+
+/// The text of an explanation: three or four lines, each with a line feed at its end.
+///
+/// ```text
+///   $[?@.a = 1]
+///           ^
+/// Values are compared with `==` and `!=`.
+/// Try: $[?@.a == 1]
+/// ```
+///
+/// The first is the line of the query that holds the place, as it is shown, after two spaces; below
+/// the character at the place stands a caret, by the columns of a terminal; then the sentence for the
+/// reason; and, if there is one, the suggestion, shown as the line is, so that no control character of
+/// the query reaches a terminal. The only error is that memory ran out.
+pub fn explanation_text(alloc: Global, explanation: &Explanation) -> Result<String, AllocError>
+    ensures { IfOk result (λ text. chars (string_bytes text) ≡ explanation_text explanation.now) }
+{
+    let mut out = Writer::new(alloc);
+    out.word("  ")?;
+    out.text(explanation.line.as_str())?;
+    out.word("\n  ")?;
+    out.spaces(explanation.width_before)?;
+    out.word("^\n")?;
+    out.word(explanation.reason.sentence())?;
+    out.word("\n")?;
+    write_suggestion(alloc, &mut out, &explanation.suggestion)?;
+    Ok(out.into_text())
+}
+
+/// Writes the line of the suggestion, if there is one.
+fn write_suggestion(
+    alloc: Global,
+    out: &mut Writer,
+    suggestion: &Option<String>,
+) -> Result<(), AllocError>
+    ensures { OnOk result (out.new ≡ out.old ++ suggestion_text suggestion.now) }
+{
+    let Some(query) = suggestion else {
+        return Ok(());
+    };
+    let characters = characters(alloc, query.as_str())?;
+    let shown = show(alloc, &characters)?;
+    out.word("Try: ")?;
+    out.text(shown.as_str())?;
+    out.word("\n")
+}
