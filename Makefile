@@ -36,6 +36,7 @@ test-hostile: ## runs of the proved programs where memory, stack or streams fail
 	bin/build jp_hostile
 	hostile/run
 	hostile/lines
+	hostile/queries
 	hostile/readers
 
 fmt: ## the code in Rattle, as rt fmt writes it
