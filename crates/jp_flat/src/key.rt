@@ -26,7 +26,30 @@ impl<'d> Key<'d> {
 }
 
 /// The first eight bytes as a number, with zeros behind a shorter name.
+#[inline(always)]
 fn front_of(name: &[u8]) -> u64
+    ensures front { result ≡ front_of 8 name.now }
+    ensures bytes { are_bytes (take 8 name.now) ≡ true }
+{
+    if name.len() < 8 {
+        front_of_short(name)
+    } else {
+        front_by_bytes(name)
+    }
+}
+
+/// The same for names that may be shorter, out of the way of the others: where eight bytes are known
+/// to stand there, none of them is looked for.
+#[inline(never)]
+fn front_of_short(name: &[u8]) -> u64
+    ensures front { result ≡ front_of 8 name.now }
+    ensures bytes { are_bytes (take 8 name.now) ≡ true }
+{
+    front_by_bytes(name)
+}
+
+#[inline(always)]
+fn front_by_bytes(name: &[u8]) -> u64
     ensures front { result ≡ front_of 8 name.now }
     ensures bytes { are_bytes (take 8 name.now) ≡ true }
 {
@@ -40,6 +63,7 @@ fn front_of(name: &[u8]) -> u64
 }
 
 /// The byte at an offset, 0 where the name is shorter.
+#[inline(always)]
 fn byte_at(name: &[u8], at: usize) -> u64
     ensures byte { result ≡ get_or name.now at 0 }
     ensures small { result < 256 }

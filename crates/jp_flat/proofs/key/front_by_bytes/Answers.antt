@@ -1,6 +1,6 @@
 use Rattle.std.proofs.Common.{◌<◌, ℕ, arith, get_or, refl}
 use Rattle.jp_flat.proofs.Fronts.{bytes_by, front_by}
-use Rattle.jp_flat.proofs.key.front_of.Goals as goal
+use Rattle.jp_flat.proofs.key.front_by_bytes.Goals as goal
 
 pub returns-clause-front : goal.returns-clause-front
 returns-clause-front c =
