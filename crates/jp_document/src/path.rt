@@ -75,7 +75,7 @@ pub fn push_step(out: &mut String, step: Step) -> Result<(), AllocError>
 {
     out.push('[')?;
     match step {
-        Step::Name(name) => push_quoted(out, name, b'\'')?,
+        Step::Name(name) => push_quote(out, name)?,
         Step::Index(index) => push_index(out, index)?,
     }
     out.push(']')

@@ -12,6 +12,7 @@ use std::simd::prelude::*;
 
 /// Appends the text between two of these quotes, each character as it is spelled there. What needs
 /// no spelling of its own is copied in whole runs.
+#[inline(always)]
 pub(crate) fn push_quoted(out: &mut String, text: &str, quote: u8) -> Result<(), AllocError>
     requires { quote < 128 }
     ensures ok { OnOk result
@@ -24,6 +25,7 @@ pub(crate) fn push_quoted(out: &mut String, text: &str, quote: u8) -> Result<(),
     out.push(char::from(quote))
 }
 
+#[inline(always)]
 fn push_spelled(out: &mut String, text: &str, quote: u8) -> Result<(), AllocError>
     requires { quote < 128 }
     ensures ok { OnOk result

@@ -5,20 +5,20 @@ use Rattle.jp_document.specs.Location.{step_of}
 use Rattle.jp_document.specs.Path.{index_text, quoted, step_text}
 use Rattle.jp_document.proofs.Writing.Appended.{after, between, first}
 use Rattle.jp_document.proofs.path.push_step.Goals as goal
-use Rattle.jp_document.proofs.path.push_step.Goals.{in-Name+in_ok-push_quoted-in-Name}
+use Rattle.jp_document.proofs.path.push_step.Goals.{in-Name+in_ok-push_quote-in-Name}
 use Rattle.jp_document.proofs.path.push_step.Goals.{in-Index+in_ok-push_index-in-Index}
 
-pub returns-in_err-push_quoted-in-Name-clause-kept :
-    goal.returns-in_err-push_quoted-in-Name-clause-kept
-returns-in_err-push_quoted-in-Name-clause-kept c =
+pub returns-in_err-push_quote-in-Name-clause-kept :
+    goal.returns-in_err-push_quote-in-Name-clause-kept
+returns-in_err-push_quote-in-Name-clause-kept c =
     let name = quoted c.in-Name.name.now in
     let before = string_bytes c.args.out.now in
     let opened : string_bytes c.push.new.self ≡ before ++ char.opening_bracket ∷ [] =
     search rules in
-    subst (λ t. IsPartAppended before t (string_bytes c.push_quoted.new.out))
+    subst (λ t. IsPartAppended before t (string_bytes c.push_quote.new.out))
     (ap (λ s. step_text (step_of s)) (sym c.in-Name.is))
     (after _ (char.opening_bracket ∷ []) (name ++ char.closing_bracket ∷ []) _ _ opened
-    (first _ name (char.closing_bracket ∷ []) _ c.in_err-push_quoted-in-Name.ensures.kept))
+    (first _ name (char.closing_bracket ∷ []) _ c.in_err-push_quote-in-Name.ensures.kept))
 
 pub returns-clause-kept : goal.returns-clause-kept
 returns-clause-kept c =
@@ -29,7 +29,7 @@ returns-clause-kept c =
     (string_bytes c.push-2.new.self) = search rules in
     let P : List ℕ → Type 0 = λ t. IsPartAppended before t (string_bytes c.push-2.new.self) in
     elim c.match-step.branch [
-      | in-Name+in_ok-push_quoted-in-Name w ↦
+      | in-Name+in_ok-push_quote-in-Name w ↦
           let written : string_bytes c.match-step.out ≡ string_bytes c.push.new.self
           ++ quoted w.in-Name.name.now = search rules in
           subst P (ap (λ s. step_text (step_of s)) (sym w.in-Name.is))
