@@ -185,7 +185,7 @@ same_test : {A : Type 0} (b : Bool) (x y z : A) → cond b x z ≡ cond b x (con
 same_test true x y z = refl
 same_test false x y z = refl
 
-is_same : (q k : List ℕ) → is_eq (bytes_cmp q k) ≡ true → q ≡ k
+pub is_same : (q k : List ℕ) → is_eq (bytes_cmp q k) ≡ true → q ≡ k
 is_same q k is = exact_bytes q k (by (bytes_cmp q k) is)
   where
     by : (o : Ordering) → is_eq o ≡ true → o ≡ Equal

@@ -11,13 +11,15 @@ use Rattle.jp_document.specs.Value.{NamesRise, members_of, object}
 use Rattle.jp_reading.proofs.Conjunctions.{and-left}
 use Rattle.jp_document.proofs.Descent.Entries.{at_index, child-entry, document-names_rise, item_entry}
 use Rattle.jp_document.proofs.Descent.Items.{child-nth}
-use Rattle.jp_document.proofs.Members.ByName.{absent_name, bytes_cmp, child-named, sorted_members}
+use Rattle.jp_document.proofs.Descent.Steps.{step_same}
+use Rattle.jp_document.proofs.Members.ByName.{absent, absent_name, bytes_cmp, child-named, sorted_members}
 use Rattle.jp_document.proofs.Options.{some_from_both}
 use Rattle.jp_flat.specs.Flat.{Shown, all_of, flat_value, is_flat, meaning, member_with, piece}
-use Rattle.jp_flat.specs.Private.Parts.{member_at, name_in}
+use Rattle.jp_flat.specs.Private.Parts.{NamesAt, is_named, member_at, name_in}
 use Rattle.jp_flat.specs.declared.item.Item.TheVariants as code
 use Rattle.jp_flat.specs.declared.item.Named.{Named}
 use Rattle.jp_flat.specs.declared.item.Span.{Span}
+use Rattle.jp_flat.proofs.FoundInside.{is_same}
 use Rattle.jp_flat.proofs.Inside.{flat-valid, list_inside, member-there, member_seen, object_inside}
 use Rattle.jp_flat.proofs.Inside.{seen_member}
 
@@ -74,6 +76,20 @@ missed t p q xs i sound there miss =
     (document-names_rise (meaning t (code.Members p)) (flat-valid t (code.Members p) sound)))) in
     ap (λ v. child v (named q)) x.is ∙ child-named q ps
     ∙ absent_name (seen_member t) q xs i sorted miss
+
+-- where each member was looked at
+pub missed_each : (t : Shown) (p : Span) (q : List ℕ) (xs : List Named) → is_flat t (code.Members p) ≡ true
+    → piece t.members p.first p.count ≡ Some xs → NamesAt t q xs None
+    → child (meaning t (code.Members p)) (named q) ≡ None
+missed_each t p q xs sound there none =
+    let x = searched t p xs sound there in
+    ap (λ v. child v (named q)) x.is ∙ child-named q (map (seen_member t) xs) ∙ absent (seen_member t) q xs none
+
+-- a member that has the name compares as equal with it
+pub named_equal : (t : Shown) (q : List ℕ) (m : Named) → is_named t q m ≡ true
+    → bytes_cmp (seen_member t m).0 q ≡ Equal
+named_equal t q m is =
+    subst (λ name. bytes_cmp name q ≡ Equal) (is_same q (name_in t m) is) (step_same (named q))
 
 pub hit : (t : Shown) (p : Span) (q : List ℕ) (xs : List Named) (i : ℕ)
     → is_flat t (code.Members p) ≡ true → piece t.members p.first p.count ≡ Some xs

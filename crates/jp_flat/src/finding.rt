@@ -1,8 +1,6 @@
 //! The value at a location of a document, found while the document is read. Of values that stand
 //! elsewhere nothing is kept but unescaped texts.
 ghost use Rattle.std.specs.Prelude.{◌≡◌, ◌<◌, IfSome, OnSome, length, option_map};
-ghost use Rattle.std.specs.Cmp.Lexicographic.{slice_cmp};
-ghost use Rattle.std.specs.Ordering.{is_eq, nat_cmp};
 ghost use Rattle.jp_document.specs.Location.{named, nth};
 ghost use Rattle.jp_flat.specs.Flat.{Grows, shown};
 ghost use Rattle.jp_flat.specs.Private.Found.{FindsAt, FindsItem, FindsMember, later, location_of};
@@ -12,7 +10,7 @@ ghost use Rattle.jp_flat.specs.Private.Tokens.{IsSpelledIn};
 use crate::cursor::Cursor;
 use crate::item::Item;
 use crate::leaf::leaf;
-use crate::parts::bytes_at;
+use crate::parts::{bytes_at, is_same};
 use crate::reading::{Pending, lone_value};
 use crate::spans::text_span;
 use crate::tables::Tables;
@@ -198,12 +196,4 @@ fn sought_by<'l>(sought: Option<Sought<'l>>, name: &[u8]) -> Option<&'l [Step<'l
         Step::Name(wanted) if is_same(wanted, name) => Some(rest),
         _ => None,
     }
-}
-
-/// Whether the text is these bytes.
-#[inline(always)]
-fn is_same(text: &str, bytes: &[u8]) -> bool
-    ensures { result ≡ is_eq (slice_cmp nat_cmp text.now bytes.now) }
-{
-    text.as_bytes() == bytes
 }

@@ -5,10 +5,13 @@ ghost use Rattle.jp_flat.specs.Flat.{is_flat, meaning, shown};
 ghost use Rattle.jp_lent.specs.Lending.{bare, seen_value};
 
 use crate::item::Item;
-use crate::parts::{item_at, member_at, members, name_order, text_at};
+use crate::parts::{first_named, item_at, member_at, members, name_order, text_at};
 use crate::tables::Tables;
 use jp_document::Step;
 use jp_lent::Seen;
+
+/// The most members that are looked at one by one for a name.
+const FEW: usize = 16;
 
 /// A value of a document in tables: the document's own, or one that stands inside it. It copies
 /// nothing of it.
@@ -122,6 +125,12 @@ impl<'d, 't> FlatValue<'d, 't> {
             Item::Members(span) => {
                 let tables = self.tables;
                 let members = members(tables, span)?;
+                if members.len() <= FEW {
+                    return match first_named(tables, members, name) {
+                        Some(index) => self.child(index),
+                        None => None,
+                    };
+                }
                 match members.binary_search_by(|member| name_order(tables, member, name)) {
                     Ok(index) => self.child(index),
                     Err(_) => None,

@@ -1,10 +1,10 @@
 //! The parts of lists and objects in tables, and texts.
-ghost use Rattle.std.specs.Prelude.{◌≡◌, ◌<◌, OnSome, Some, option_map, slice_get};
+ghost use Rattle.std.specs.Prelude.{◌≡◌, ◌<◌, IfSome, OnSome, Some, length, option_map, slice_get};
 ghost use Rattle.std.specs.Cmp.Lexicographic.{slice_cmp};
-ghost use Rattle.std.specs.Ordering.{nat_cmp};
+ghost use Rattle.std.specs.Ordering.{is_eq, nat_cmp};
 ghost use Rattle.jp_flat.specs.Flat.{piece, shown, text_at};
 ghost use Rattle.jp_flat.specs.Private.Parts.{HoldsText, item_at, items_at, member_at, members_at};
-ghost use Rattle.jp_flat.specs.Private.Parts.{name_in};
+ghost use Rattle.jp_flat.specs.Private.Parts.{NamesAt, is_named, name_in};
 
 use crate::item::{Item, Named, Span};
 use crate::spans::piece;
@@ -82,6 +82,41 @@ pub(crate) fn bytes_order(tables: &Tables<'_>, member: &Named, name: &[u8]) -> O
         Some(bytes) => bytes.cmp(name),
         None => b"".as_slice().cmp(name),
     }
+}
+
+/// The first member of this name, None where there is none.
+#[inline(always)]
+pub(crate) fn first_named(tables: &Tables<'_>, members: &[Named], name: &str) -> Option<usize>
+    ensures found { IfSome result (λ i. i < length members.now) }
+    ensures named { NamesAt (shown tables.now) name.now members.now result }
+{
+    let mut at = 0;
+    'members: while at < members.len() {
+        if is_named(tables, &members[at], name) {
+            return Some(at);
+        }
+        at += 1;
+    }
+    None
+}
+
+/// Whether a member has this name.
+#[inline(always)]
+fn is_named(tables: &Tables<'_>, member: &Named, name: &str) -> bool
+    ensures { result ≡ is_named (shown tables.now) name.now member.now }
+{
+    match bytes_at(tables, member.name) {
+        Some(bytes) => is_same(name, bytes),
+        None => is_same(name, b""),
+    }
+}
+
+/// Whether the text is these bytes.
+#[inline(always)]
+pub(crate) fn is_same(text: &str, bytes: &[u8]) -> bool
+    ensures { result ≡ is_eq (slice_cmp nat_cmp text.now bytes.now) }
+{
+    text.as_bytes() == bytes
 }
 
 /// The text at a span.

@@ -51,7 +51,7 @@ child-named q [] = refl
 child-named q (p ∷ ps) = ap (cond (is_eq (bytes_cmp q p.0)) (Some p.1)) (child-named q ps)
 
 -- a name that no member has
-absent : {X V : Type 0} (f : X → List ℕ × V) (q : List ℕ) (xs : List X)
+pub absent : {X V : Type 0} (f : X → List ℕ × V) (q : List ℕ) (xs : List X)
     → ((k : ℕ) (d : X) → k < length xs → is_eq (bytes_cmp q (f (get_or xs k d)).0) ≡ false)
     → lookup (eq_by_cmp bytes_cmp q) (map f xs) ≡ None
 absent f q [] other = refl

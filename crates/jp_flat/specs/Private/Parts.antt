@@ -1,6 +1,9 @@
 -- The parts of lists and objects in tables, and texts.
-use Rattle.std.specs.Prelude.{◌≡◌, ℕ, List, [], Option, Some, option_and_then, unwrap_or, IsUtf8}
+use Rattle.std.specs.Prelude.{◌≡◌, ◌<◌, ℕ, List, [], Bool, Option, Some, None, false, true, IsUtf8}
+use Rattle.std.specs.Prelude.{get_or, length, option_and_then, unwrap_or}
+use Rattle.std.specs.Cmp.Lexicographic.{slice_cmp}
 use Rattle.std.specs.List.{slice_get}
+use Rattle.std.specs.Ordering.{is_eq, nat_cmp}
 use Rattle.jp_flat.specs.Flat.{Shown, piece, text_at}
 use Rattle.jp_flat.specs.declared.item.Item.{Item}
 use Rattle.jp_flat.specs.declared.item.Named.{Named}
@@ -17,6 +20,15 @@ member_at t s k = option_and_then (λ ms. slice_get ms k) (piece t.members s.fir
 -- the name of a member that has one
 abbrev pub name_in : Shown → Named → List ℕ
 name_in t m = unwrap_or (text_at t m.name) []
+
+-- the member has that name
+abbrev pub is_named : Shown → List ℕ → Named → Bool
+is_named t name m = is_eq (slice_cmp nat_cmp name (name_in t m))
+
+-- the member at that place has the name; where there is none, no member has it
+abbrev pub NamesAt : Shown → List ℕ → List Named → Option ℕ → Type 0
+NamesAt t name ms (Some i) = (m : Named) → is_named t name (get_or ms i m) ≡ true
+NamesAt t name ms None = (i : ℕ) (m : Named) → i < length ms → is_named t name (get_or ms i m) ≡ false
 
 -- at the span stands a text in UTF-8
 pub record HoldsText (t : Shown) (s : Span) : Type 0 where

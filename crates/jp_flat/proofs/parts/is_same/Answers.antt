@@ -1,7 +1,7 @@
 use Rattle.std.proofs.Common.{◌∙◌, ap, sym}
 use Rattle.std.specs.Str.{bytes_eq}
 use Rattle.std.proofs.lemmas.Map.Text.{is_eq-slice_cmp}
-use Rattle.jp_flat.proofs.finding.is_same.Goals as goal
+use Rattle.jp_flat.proofs.parts.is_same.Goals as goal
 
 pub returns : goal.returns
 returns c =
