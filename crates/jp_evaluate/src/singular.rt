@@ -16,6 +16,7 @@ use jp_tree::{Query, Segment};
 impl<'a, 'q, V: Selectable + 'q, M: Matching> Asking<'a, 'q, V, M> {
     /// The value of the node that a singular query selects, None where it selects none. Other
     /// queries have None.
+    #[inline(always)]
     pub(crate) fn node_value(&self, query: &Query) -> Option<V>
         ensures { option_map V.meaning result ≡ single_node_value (query_of query.now)
             (asked V.meaning self.now (nodelist_at (query_of query.now))) }
@@ -42,6 +43,7 @@ impl<'a, 'q, V: Selectable + 'q, M: Matching> Asking<'a, 'q, V, M> {
 
 /// The value that a segment of a singular query selects at a value, None where it selects none.
 /// Other segments have None.
+#[inline(always)]
 fn single_value<V: Selectable>(segment: &Segment, value: V) -> Option<V>
     ensures { option_map V.meaning result
         ≡ single_value (segment_of segment.now) (V.meaning value) }

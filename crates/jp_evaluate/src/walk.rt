@@ -139,7 +139,8 @@ impl<'d, V: Selectable + 'd> Walk<'d, V> {
         ensures smaller { IfSome result (λ o. IfSome o.test (λ e. expr_size (expr_of e.now)
             < segments_size (segment_trees (map segment_of segments.now)))) }
     {
-        if let Some(start) = self.first.take() {
+        if let Some(start) = self.first {
+            self.first = None;
             return Some(Offer {
                 reached: Reached {
                     done: 0,

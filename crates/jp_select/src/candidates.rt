@@ -38,6 +38,7 @@ pub fn candidate<'d, V: Selectable + 'd>(
 
 /// The value that a name or an index selects at a value, with its step (RFC 9535 sections 2.3.1 and
 /// 2.3.3); None where there is none, and for other selectors.
+#[inline(always)]
 pub fn single<'d, V: Selectable + 'd>(selector: &Selector, value: V) -> Option<(Step<'d>, V)>
     ensures { option_map (step_with V.meaning) result
         ≡ single (selector_of selector.now) (V.meaning value) }
@@ -50,6 +51,7 @@ pub fn single<'d, V: Selectable + 'd>(selector: &Selector, value: V) -> Option<(
 }
 
 /// The item of a list that an index selects (section 2.3.3.2).
+#[inline(always)]
 fn item<'d, V: Selectable + 'd>(value: V, index: Numeral) -> Option<(Step<'d>, V)>
     ensures { option_map (step_with V.meaning) result ≡ single (index_tree index) (V.meaning value) }
 {
