@@ -37,7 +37,8 @@ use Rattle.jp_explain.specs.declared.reason.Reason.TheVariants.{NotCall, Exists,
 use Rattle.jp_explain.specs.declared.reason.Reason.TheVariants.{ArgumentCount, CountNodes}
 use Rattle.jp_explain.specs.declared.reason.Reason.TheVariants.{NotSingular, MatchCompared}
 use Rattle.jp_explain.specs.declared.reason.Reason.TheVariants.{ValueAlone, IllTyped, NoMemory}
-use Rattle.jp_explain.specs.declared.reason.Reason.TheVariants.{TextTooLong}
+use Rattle.jp_explain.specs.declared.reason.Reason.TheVariants.{TextTooLong, LastItem, Among}
+use Rattle.jp_explain.specs.declared.reason.Reason.TheVariants.{NextSegment, InnerQuote}
 use Rattle.jp_explain.specs.Marks.{is_empty, is, begins, ends, begins_in, ends_in, begins_as, ends_as}
 use Rattle.jp_explain.specs.Marks.{is_inside, has_more, is_odd, stem, name_at, last_name}
 use Rattle.jp_explain.specs.Marks.{ends_in_one, without_first, without_last, without_name}
@@ -104,6 +105,23 @@ abbrev pub is_quoted : Text → Bool
 is_quoted front =
     is_odd front (codes "'") || is_odd front (codes "\"")
 
+-- whether a selector is wanted after it, and not an argument of a function
+abbrev pub wants_selector : Text → Bool
+wants_selector front =
+    begins_selector front && not (has_more front (codes "(") (codes ")"))
+
+-- whether something is wanted after it, and it is not in a text between quotation marks
+abbrev pub wants_more : Text → Bool
+wants_more front =
+    not (is_quoted front)
+    && (wants_selector front || begins_test (stem front) || begins_value (stem front))
+
+-- whether XPath's call for the last item is next, or a script for an item from the end
+abbrev pub is_last_item : Text → Bool
+is_last_item rest =
+    begins rest (codes "last()") || begins rest (codes "(@.length-")
+    || begins rest (codes "(@.length -")
+
 -- whether the word is next in a filter
 abbrev pub is_operator : Text → Text → Text → Text → Bool
 is_operator front rest word capitals =
@@ -161,7 +179,7 @@ has_mark CurrentNode front rest =
 has_mark Braces front rest =
     is_empty front && begins rest (codes "{")
 has_mark Quoted front rest =
-    is_empty front && begins_in rest (codes "'\"")
+    is_empty front && (begins_in rest (codes "'\"") || begins_as rest Quote)
 has_mark Slash front rest =
     begins rest (codes "/") && not (is_inside front)
 has_mark MissingDollar front rest =
@@ -169,7 +187,7 @@ has_mark MissingDollar front rest =
 has_mark BlankLast front rest =
     is_empty rest && not (is_inside front) && ends_as front Unseen
 has_mark Unclosed front rest =
-    is_empty rest && is_inside front
+    is_empty rest && is_inside front && not (wants_more front)
 has_mark ControlCharacter front rest =
     begins_as rest Unseen && is_quoted front
 has_mark Unseen front rest =
@@ -179,11 +197,13 @@ has_mark Quotes front rest =
 has_mark OrderSign front rest =
     ends_in_equals front && begins_in rest (codes "<>")
 has_mark Pattern front rest =
-    begins rest (codes "~") && is_inside front
+    (begins rest (codes "~") && is_inside front) || (begins rest (codes "/") && is_argument front)
 has_mark Equals front rest =
     ends_in_equals front || is_third_equals front rest
 has_mark Unequal front rest =
     ends front (codes "<") && begins rest (codes ">")
+has_mark LastItem front rest =
+    begins_selector front && is_last_item rest
 has_mark BracketName front rest =
     begins_selector front && begins_as rest NameFirst
 has_mark And front rest =
@@ -233,6 +253,8 @@ has_mark MissingDot front rest =
     ends_in front (codes "$@]") && begins_as rest NameFirst
 has_mark BlankName front rest =
     not (is_inside front) && ends_as front Blank && begins_as rest NameFirst
+has_mark InnerQuote front rest =
+    ends_in front (codes "'\"") && begins_as rest NameFirst
 has_mark StrayBracket front rest =
     begins rest (codes "]") && not (is_inside front)
 has_mark LeadingZero front rest =
@@ -242,9 +264,12 @@ has_mark Plus front rest =
 has_mark MinusZero front rest =
     ends front (codes "-") && begins rest (codes "0")
 has_mark IndexForm front rest =
-    ends_as front Digit && ends_in (before_name front) (codes "[,:") && begins_in rest (codes ".-")
+    ends_as front Digit && ends_in (before_name front) (codes "[,:")
+    && (begins_in rest (codes ".-") || begins_as rest NameFirst)
 has_mark Arithmetic front rest =
     is_inside front && begins_in rest (codes "+-*/%")
+has_mark Among front rest =
+    is_operator front rest (codes "in") (codes "IN")
 has_mark Operator front rest =
     is_inside front && ends_as front Blank && begins_as rest NameFirst
 has_mark DoubleStar front rest =
@@ -260,13 +285,15 @@ has_mark WantsTest front rest =
 has_mark WantsValue front rest =
     begins_value (stem front)
 has_mark InBrackets front rest =
-    begins_selector front
+    wants_selector front
 has_mark AfterDot front rest =
     ends front (codes ".")
 has_mark OpenQuote front rest =
     is_empty rest && is_quoted front
 has_mark Unfinished front rest =
     is_empty rest
+has_mark NextSegment front rest =
+    not (is_inside front)
 has_mark _ front rest = false
 
 -- the reasons of text that is no query, in the order in which they are tried
@@ -274,13 +301,13 @@ abbrev pub syntax_reasons : List Reason
 syntax_reasons =
     Empty ∷ BlankFirst ∷ ShellNumber ∷ ShellDot ∷ CurrentNode ∷ Braces ∷ Quoted ∷ Slash
     ∷ MissingDollar ∷ BlankLast ∷ Unclosed ∷ ControlCharacter ∷ Unseen ∷ Quotes ∷ OrderSign
-    ∷ Pattern ∷ Equals ∷ Unequal ∷ BracketName ∷ And ∷ Or ∷ Not ∷ Literal ∷ Undefined
+    ∷ Pattern ∷ Equals ∷ Unequal ∷ LastItem ∷ BracketName ∷ And ∷ Or ∷ Not ∷ Literal ∷ Undefined
     ∷ MissingParenthesis ∷ LoneLiteral ∷ TextQuotes ∷ MissingAt ∷ MissingQuestionMark
     ∷ EmptyBrackets ∷ LastComma ∷ DotBracket ∷ ThreeDots ∷ DotQuote ∷ DotDigit ∷ OddName ∷ Call
-    ∷ Optional ∷ Pipe ∷ Union ∷ MissingDot ∷ BlankName ∷ StrayBracket ∷ LeadingZero ∷ Plus
-    ∷ MinusZero ∷ IndexForm ∷ Arithmetic ∷ Operator ∷ DoubleStar ∷ NoWayUp ∷ Comparison
-    ∷ StrayParenthesis ∷ WantsTest ∷ WantsValue ∷ InBrackets ∷ AfterDot ∷ OpenQuote ∷ Unfinished
-    ∷ []
+    ∷ Optional ∷ Pipe ∷ Union ∷ MissingDot ∷ BlankName ∷ InnerQuote ∷ StrayBracket ∷ LeadingZero
+    ∷ Plus ∷ MinusZero ∷ IndexForm ∷ Arithmetic ∷ Among ∷ Operator ∷ DoubleStar ∷ NoWayUp
+    ∷ Comparison ∷ StrayParenthesis ∷ WantsTest ∷ WantsValue ∷ InBrackets ∷ AfterDot ∷ OpenQuote
+    ∷ Unfinished ∷ NextSegment ∷ []
 
 -- the reason why the text is no query
 abbrev pub syntax_reason : Text → Text → Reason

@@ -29,7 +29,8 @@ use Rattle.jp_explain.specs.declared.reason.Reason.TheVariants.{NotCall, Exists,
 use Rattle.jp_explain.specs.declared.reason.Reason.TheVariants.{ArgumentCount, CountNodes}
 use Rattle.jp_explain.specs.declared.reason.Reason.TheVariants.{NotSingular, MatchCompared}
 use Rattle.jp_explain.specs.declared.reason.Reason.TheVariants.{ValueAlone, IllTyped, NoMemory}
-use Rattle.jp_explain.specs.declared.reason.Reason.TheVariants.{TextTooLong}
+use Rattle.jp_explain.specs.declared.reason.Reason.TheVariants.{TextTooLong, LastItem, Among}
+use Rattle.jp_explain.specs.declared.reason.Reason.TheVariants.{NextSegment, InnerQuote}
 
 -- what is told of each
 abbrev pub sentence_of : Reason → List ℕ
@@ -64,11 +65,13 @@ sentence_of Quotes =
 sentence_of OrderSign =
     codes "These comparisons are written `<=` and `>=`."
 sentence_of Pattern =
-    codes "Patterns are matched by match(@.name, \"..\"), the whole text, and search(@.name, \"..\"), a part of it."
+    codes "A pattern is tested by match(@.name, \"..\") on the whole text, and by search(@.name, \"..\") on any part of it."
 sentence_of Equals =
     codes "Values are compared with `==` and `!=`."
 sentence_of Unequal =
-    codes "That two values differ is written `!=`."
+    codes "`<>` is written `!=`."
+sentence_of LastItem =
+    codes "A negative index counts from the end: `[-1]` is the last item."
 sentence_of BracketName =
     codes "A name in brackets needs quotes (inside the shell's single quotes, double ones)."
 sentence_of And =
@@ -84,7 +87,7 @@ sentence_of Undefined =
 sentence_of LoneLiteral =
     codes "A literal alone is no test: compare it, as in `@.name == true`."
 sentence_of TextQuotes =
-    codes "A text in a comparison needs quotes."
+    codes "A text in a comparison needs quotes, and a member is written `@.name`."
 sentence_of MissingAt =
     codes "A filter looks at the current node, `@`: its members are written `@.name`."
 sentence_of MissingQuestionMark =
@@ -110,11 +113,13 @@ sentence_of Optional =
 sentence_of Pipe =
     codes "There are no pipes: a query is one path."
 sentence_of Union =
-    codes "A query is one path: several names or indexes stand in one pair of brackets."
+    codes "A query is one path: several names or indexes stand in one pair of brackets, as in `[\"a\", \"b\"]`."
 sentence_of MissingDot =
     codes "A name needs a dot before it."
 sentence_of BlankName =
     codes "A name with a blank in it stands in quotes and brackets."
+sentence_of InnerQuote =
+    codes "Within quotes the same quotation mark is written with `\\` before it."
 sentence_of StrayBracket =
     codes "This `]` closes nothing."
 sentence_of LeadingZero =
@@ -124,9 +129,11 @@ sentence_of Plus =
 sentence_of MinusZero =
     codes "The index 0 has no `-` before it."
 sentence_of IndexForm =
-    codes "An index is a whole number, and a slice is written `[0:2]`, where the item at its end is left out."
+    codes "An index is a whole number, and a slice is written `[0:2]`, which selects the items 0 and 1."
 sentence_of Arithmetic =
     codes "Filters do not calculate: there is no `+`, `-`, `*`, `/` or `%` in them."
+sentence_of Among =
+    codes "`in` is written as comparisons, such as `@.name == 1 || @.name == 2`."
 sentence_of Operator =
     codes "There is no such operator: there are ==, !=, <, <=, >, >=, &&, || and !."
 sentence_of DoubleStar =
@@ -134,25 +141,27 @@ sentence_of DoubleStar =
 sentence_of NoWayUp =
     codes "A query goes down only: there is no step to a parent, and none to a member's name."
 sentence_of Comparison =
-    codes "A comparison has two sides, and neither is a `!`, a parenthesis or another comparison."
+    codes "A comparison has two sides, without parentheses: join two by `&&`, and negate one as in `!(@.name == 1)`."
 sentence_of MissingParenthesis =
     codes "A `)` is missing before this `]`."
 sentence_of StrayParenthesis =
     codes "This `)` closes nothing."
 sentence_of WantsTest =
-    codes "A test is missing here: a path such as `@.name`, a comparison, or a function call."
+    codes "A test belongs here: a path such as `@.name`, a comparison, or a function call."
 sentence_of WantsValue =
-    codes "A value is missing here: a number, a text in quotes, true, false, null, a path, or a function call."
+    codes "A value belongs here: a number, a text in quotes, true, false, null, a path, or a function call."
 sentence_of InBrackets =
     codes "In brackets stand names in quotes, indexes, slices, `*`, or `?` and a filter."
 sentence_of AfterDot =
-    codes "After a dot comes a name or `*`."
+    codes "Right after a dot comes a name or `*`."
 sentence_of OpenQuote =
     codes "The query ends before a quotation mark is closed."
 sentence_of Unfinished =
     codes "The query is not finished."
+sentence_of NextSegment =
+    codes "After a segment comes another one, with `.` or `[`, or the end of the query."
 sentence_of Unexpected =
-    codes "No query goes on with this character here."
+    codes "This character cannot stand here: a sign such as `,`, `]` or `==` may be missing before it."
 sentence_of TooDeep =
     codes "Filters, parentheses and calls stand more than 128 deep inside one another."
 sentence_of NotWhole =
@@ -182,7 +191,7 @@ sentence_of MatchCompared =
 sentence_of ValueAlone =
     codes "length, count and value answer a value: compare it, as in `count(@.*) > 1`."
 sentence_of IllTyped =
-    codes "The function takes no argument of this kind."
+    codes "What stands here does not fit: length, match and search take values, and count, value and distinct take paths."
 sentence_of NoMemory =
     codes "Memory ran out before the query was read."
 sentence_of TextTooLong =

@@ -2,6 +2,7 @@
 //!
 //! Nothing is promised of a mended text: it is a guess, which is read before it is told.
 
+mod cuts;
 mod ends;
 mod names;
 mod numbers;
@@ -9,85 +10,44 @@ mod signs;
 mod starts;
 mod words;
 
-use crate::class::Class;
-use crate::marks::is_among;
 use crate::reason::Reason;
 use std::alloc::{AllocError, Global};
 
+/// The text of a query, cut where it is refused.
+#[derive(Clone, Copy)]
+pub(crate) struct Cut<'t> {
+    pub(crate) front: &'t [char],
+    pub(crate) rest: &'t [char],
+}
+
 /// A piece of a mended text: some of the query, or something new.
 #[derive(Clone, Copy)]
-pub(crate) enum Piece<'t> {
+enum Piece<'t> {
     Kept(&'t [char]),
     New(&'static str),
 }
 
-/// A mended text, if there is one.
+/// A mended text, if there is one. The only error is that memory ran out.
 pub(crate) type Mended = Result<Option<String>, AllocError>;
 
-/// The text with what the reason's slip meant, if that is plain. It is the front and the rest of the
-/// query, without the slip. The only error is that memory ran out.
-pub(crate) fn mended<'t>(
-    alloc: Global,
-    reason: Reason,
-    front: &'t [char],
-    rest: &'t [char],
-) -> Mended {
-    match reason {
-        Reason::Empty
-        | Reason::BlankFirst
-        | Reason::ShellNumber
-        | Reason::ShellDot
-        | Reason::CurrentNode
-        | Reason::Braces
-        | Reason::Quoted
-        | Reason::Slash
-        | Reason::MissingDollar => starts::mended(alloc, reason, front, rest),
-        Reason::BlankLast
-        | Reason::Unclosed
-        | Reason::OpenQuote
-        | Reason::AfterDot
-        | Reason::MissingParenthesis
-        | Reason::StrayParenthesis
-        | Reason::StrayBracket => ends::mended(alloc, reason, front, rest),
-        Reason::Unseen
-        | Reason::Quotes
-        | Reason::OrderSign
-        | Reason::Pattern
-        | Reason::Equals
-        | Reason::Unequal
-        | Reason::And
-        | Reason::Or
-        | Reason::Optional
-        | Reason::Pipe => signs::mended(alloc, reason, front, rest),
-        Reason::Not
-        | Reason::BracketName
-        | Reason::Literal
-        | Reason::TextQuotes
-        | Reason::MissingAt
-        | Reason::MissingQuestionMark
-        | Reason::Call
-        | Reason::LengthName
-        | Reason::NotCall
-        | Reason::Exists
-        | Reason::CountNodes
-        | Reason::MatchCompared => words::mended(alloc, reason, front, rest),
-        Reason::EmptyBrackets
-        | Reason::LastComma
-        | Reason::DotBracket
-        | Reason::ThreeDots
-        | Reason::DotQuote
-        | Reason::DotDigit
-        | Reason::OddName
-        | Reason::MissingDot
-        | Reason::DoubleStar
-        | Reason::BlankName => names::mended(alloc, reason, front, rest),
-        Reason::LeadingZero
-        | Reason::Plus
-        | Reason::MinusZero
-        | Reason::IndexForm
-        | Reason::NotWhole => numbers::mended(alloc, reason, front, rest),
-        _ => Ok(None),
+/// The text with what the reason's slip meant, if that is plain: each file mends some reasons.
+pub(crate) fn mended(alloc: Global, reason: Reason, cut: Cut<'_>) -> Mended {
+    if let Some(text) = starts::mended(alloc, reason, cut)? {
+        return Ok(Some(text));
     }
+    if let Some(text) = ends::mended(alloc, reason, cut)? {
+        return Ok(Some(text));
+    }
+    if let Some(text) = signs::mended(alloc, reason, cut)? {
+        return Ok(Some(text));
+    }
+    if let Some(text) = words::mended(alloc, reason, cut)? {
+        return Ok(Some(text));
+    }
+    if let Some(text) = names::mended(alloc, reason, cut)? {
+        return Ok(Some(text));
+    }
+    numbers::mended(alloc, reason, cut)
 }
 
 /// The pieces, one after the other.
@@ -97,6 +57,21 @@ fn joined(alloc: Global, pieces: &[Piece<'_>]) -> Mended {
         push_piece(&mut text, *piece)?;
     }
     Ok(Some(text))
+}
+
+/// The word, between what is kept before it and after it.
+fn spliced<'t>(alloc: Global, before: &'t [char], word: &'static str, after: &'t [char]) -> Mended {
+    joined(
+        alloc,
+        &[Piece::Kept(before), Piece::New(word), Piece::Kept(after)],
+    )
+}
+
+/// A text between quotation marks, after what is kept before it and before what is kept after it.
+fn quoted<'t>(alloc: Global, before: &'t [char], text: &'t [char], after: &'t [char]) -> Mended {
+    let mark = Piece::New("\"");
+    let (before, text, after) = (Piece::Kept(before), Piece::Kept(text), Piece::Kept(after));
+    joined(alloc, &[before, mark, text, mark, after])
 }
 
 fn push_piece(text: &mut String, piece: Piece<'_>) -> Result<(), AllocError> {
@@ -111,40 +86,4 @@ fn push_characters(text: &mut String, characters: &[char]) -> Result<(), AllocEr
         text.push(*c)?;
     }
     Ok(())
-}
-
-/// The text cut before the first of these signs; None where there is none.
-fn cut_at<'t>(text: &'t [char], signs: &str) -> Option<(&'t [char], &'t [char])> {
-    let mut rest = text;
-    'signs: while let [first, after @ ..] = rest {
-        if is_among(signs, *first) {
-            return Some(text.split_at(text.len() - rest.len()));
-        }
-        rest = after;
-    }
-    None
-}
-
-/// The text cut after the last of these signs; if there is none, all of it is after.
-fn cut_after<'t>(text: &'t [char], signs: &str) -> (&'t [char], &'t [char]) {
-    let mut before = text;
-    'signs: while let [rest @ .., last] = before {
-        if is_among(signs, *last) {
-            break;
-        }
-        before = rest;
-    }
-    text.split_at(before.len())
-}
-
-/// The text cut after the name that it begins with, in which these signs may stand too.
-fn cut_name<'t>(text: &'t [char], signs: &str) -> (&'t [char], &'t [char]) {
-    let mut rest = text;
-    'name: while let [first, after @ ..] = rest {
-        if !Class::Name.holds(*first) && !is_among(signs, *first) {
-            break;
-        }
-        rest = after;
-    }
-    text.split_at(text.len() - rest.len())
 }

@@ -26,7 +26,7 @@ pub enum Reason {
     MissingDollar,
     /// A blank or an invisible character after the query.
     BlankLast,
-    /// The end, within brackets.
+    /// The end, within brackets, where they may be closed or in a text between quotation marks.
     Unclosed,
     /// A control character between quotation marks.
     ControlCharacter,
@@ -36,12 +36,14 @@ pub enum Reason {
     Quotes,
     /// `=<` or `=>`.
     OrderSign,
-    /// `=~`, or `~` in a filter.
+    /// `=~`, or `~` in a filter, or a pattern between slashes as an argument.
     Pattern,
     /// `=` or `===`.
     Equals,
     /// `<>`.
     Unequal,
+    /// `last()` or a script such as `(@.length-1)` in brackets.
+    LastItem,
     /// A name without quotes in brackets.
     BracketName,
     /// `&` or `and`.
@@ -88,6 +90,8 @@ pub enum Reason {
     MissingDot,
     /// A name after a blank.
     BlankName,
+    /// A name right after a quotation mark.
+    InnerQuote,
     /// `]` without its `[`.
     StrayBracket,
     /// A digit after a `0` that begins a number.
@@ -96,11 +100,13 @@ pub enum Reason {
     Plus,
     /// `-0` as an index.
     MinusZero,
-    /// `1.0`, `0..2` or `0-2` in brackets.
+    /// `1.0`, `1e3`, `0..2` or `0-2` in brackets.
     IndexForm,
     /// A sign of arithmetic in a filter.
     Arithmetic,
-    /// A word where an operator is wanted.
+    /// `in` where an operator is wanted.
+    Among,
+    /// Another word where an operator is wanted.
     Operator,
     /// `**`.
     DoubleStar,
@@ -124,6 +130,8 @@ pub enum Reason {
     OpenQuote,
     /// The end.
     Unfinished,
+    /// Anything else outside of brackets.
+    NextSegment,
     /// Any other character.
     Unexpected,
     /// `TooDeep`.
@@ -202,10 +210,11 @@ impl Reason {
             Reason::Quotes => "Quotation marks are ' or \": this is another one.",
             Reason::OrderSign => "These comparisons are written `<=` and `>=`.",
             Reason::Pattern => {
-                "Patterns are matched by match(@.name, \"..\"), the whole text, and search(@.name, \"..\"), a part of it."
+                "A pattern is tested by match(@.name, \"..\") on the whole text, and by search(@.name, \"..\") on any part of it."
             },
             Reason::Equals => "Values are compared with `==` and `!=`.",
-            Reason::Unequal => "That two values differ is written `!=`.",
+            Reason::Unequal => "`<>` is written `!=`.",
+            Reason::LastItem => "A negative index counts from the end: `[-1]` is the last item.",
             Reason::BracketName => {
                 "A name in brackets needs quotes (inside the shell's single quotes, double ones)."
             },
@@ -219,7 +228,9 @@ impl Reason {
             Reason::LoneLiteral => {
                 "A literal alone is no test: compare it, as in `@.name == true`."
             },
-            Reason::TextQuotes => "A text in a comparison needs quotes.",
+            Reason::TextQuotes => {
+                "A text in a comparison needs quotes, and a member is written `@.name`."
+            }
             Reason::MissingAt => {
                 "A filter looks at the current node, `@`: its members are written `@.name`."
             },
@@ -241,20 +252,26 @@ impl Reason {
             Reason::Optional => "No `?` is needed here: a path to nothing selects nothing.",
             Reason::Pipe => "There are no pipes: a query is one path.",
             Reason::Union => {
-                "A query is one path: several names or indexes stand in one pair of brackets."
+                "A query is one path: several names or indexes stand in one pair of brackets, as in `[\"a\", \"b\"]`."
             },
             Reason::MissingDot => "A name needs a dot before it.",
             Reason::BlankName => "A name with a blank in it stands in quotes and brackets.",
+            Reason::InnerQuote => {
+                "Within quotes the same quotation mark is written with `\\` before it."
+            }
             Reason::StrayBracket => "This `]` closes nothing.",
             Reason::LeadingZero => "A number does not begin with `0`, unless it is 0.",
             Reason::Plus => "A number has no `+` before it.",
             Reason::MinusZero => "The index 0 has no `-` before it.",
             Reason::IndexForm => {
-                "An index is a whole number, and a slice is written `[0:2]`, where the item at its end is left out."
+                "An index is a whole number, and a slice is written `[0:2]`, which selects the items 0 and 1."
             },
             Reason::Arithmetic => {
                 "Filters do not calculate: there is no `+`, `-`, `*`, `/` or `%` in them."
             },
+            Reason::Among => {
+                "`in` is written as comparisons, such as `@.name == 1 || @.name == 2`."
+            }
             Reason::Operator => {
                 "There is no such operator: there are ==, !=, <, <=, >, >=, &&, || and !."
             },
@@ -263,23 +280,28 @@ impl Reason {
                 "A query goes down only: there is no step to a parent, and none to a member's name."
             },
             Reason::Comparison => {
-                "A comparison has two sides, and neither is a `!`, a parenthesis or another comparison."
+                "A comparison has two sides, without parentheses: join two by `&&`, and negate one as in `!(@.name == 1)`."
             },
             Reason::MissingParenthesis => "A `)` is missing before this `]`.",
             Reason::StrayParenthesis => "This `)` closes nothing.",
             Reason::WantsTest => {
-                "A test is missing here: a path such as `@.name`, a comparison, or a function call."
-            },
+                "A test belongs here: a path such as `@.name`, a comparison, or a function call."
+            }
             Reason::WantsValue => {
-                "A value is missing here: a number, a text in quotes, true, false, null, a path, or a function call."
+                "A value belongs here: a number, a text in quotes, true, false, null, a path, or a function call."
             },
             Reason::InBrackets => {
                 "In brackets stand names in quotes, indexes, slices, `*`, or `?` and a filter."
             },
-            Reason::AfterDot => "After a dot comes a name or `*`.",
+            Reason::AfterDot => "Right after a dot comes a name or `*`.",
             Reason::OpenQuote => "The query ends before a quotation mark is closed.",
             Reason::Unfinished => "The query is not finished.",
-            Reason::Unexpected => "No query goes on with this character here.",
+            Reason::NextSegment => {
+                "After a segment comes another one, with `.` or `[`, or the end of the query."
+            }
+            Reason::Unexpected => {
+                "This character cannot stand here: a sign such as `,`, `]` or `==` may be missing before it."
+            },
             Reason::TooDeep => {
                 "Filters, parentheses and calls stand more than 128 deep inside one another."
             },
@@ -312,7 +334,9 @@ impl Reason {
             Reason::ValueAlone => {
                 "length, count and value answer a value: compare it, as in `count(@.*) > 1`."
             },
-            Reason::IllTyped => "The function takes no argument of this kind.",
+            Reason::IllTyped => {
+                "What stands here does not fit: length, match and search take values, and count, value and distinct take paths."
+            },
             Reason::NoMemory => "Memory ran out before the query was read.",
             Reason::TextTooLong => "The query is longer than the program takes.",
         }

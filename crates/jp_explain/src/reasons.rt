@@ -9,7 +9,7 @@ ghost use Rattle.jp_explain.specs.Reasons.{ends_in_equals, is_third_equals, is_t
 ghost use Rattle.jp_explain.specs.Reasons.{is_literal_name, is_literal, is_lone_number};
 ghost use Rattle.jp_explain.specs.Reasons.{is_lone_literal, is_quoted, is_operator, is_text};
 ghost use Rattle.jp_explain.specs.Reasons.{is_member, is_odd_name, is_argument, is_matching};
-ghost use Rattle.jp_explain.specs.Reasons.{is_measuring};
+ghost use Rattle.jp_explain.specs.Reasons.{is_measuring, wants_selector, wants_more, is_last_item};
 
 use crate::class::Class;
 use crate::marks::{
@@ -20,7 +20,7 @@ use crate::reason::Reason;
 use jp_query::RefusalKind;
 
 /// The reasons why text is no query, in the order in which they are tried.
-const SYNTAX_REASONS: [Reason; 59] = [
+const SYNTAX_REASONS: [Reason; 63] = [
     Reason::Empty,
     Reason::BlankFirst,
     Reason::ShellNumber,
@@ -39,6 +39,7 @@ const SYNTAX_REASONS: [Reason; 59] = [
     Reason::Pattern,
     Reason::Equals,
     Reason::Unequal,
+    Reason::LastItem,
     Reason::BracketName,
     Reason::And,
     Reason::Or,
@@ -63,12 +64,14 @@ const SYNTAX_REASONS: [Reason; 59] = [
     Reason::Union,
     Reason::MissingDot,
     Reason::BlankName,
+    Reason::InnerQuote,
     Reason::StrayBracket,
     Reason::LeadingZero,
     Reason::Plus,
     Reason::MinusZero,
     Reason::IndexForm,
     Reason::Arithmetic,
+    Reason::Among,
     Reason::Operator,
     Reason::DoubleStar,
     Reason::NoWayUp,
@@ -80,6 +83,7 @@ const SYNTAX_REASONS: [Reason; 59] = [
     Reason::AfterDot,
     Reason::OpenQuote,
     Reason::Unfinished,
+    Reason::NextSegment,
 ];
 
 /// The reason why a text is no query, by the text before the place of its refusal and the text from
@@ -174,18 +178,21 @@ fn has_mark(reason: Reason, front: &[char], rest: &[char]) -> bool
         Reason::ShellDot => front.is_empty() && begins(rest, "."),
         Reason::CurrentNode => front.is_empty() && begins(rest, "@"),
         Reason::Braces => front.is_empty() && begins(rest, "{"),
-        Reason::Quoted => front.is_empty() && begins_in(rest, "'\""),
+        Reason::Quoted => front.is_empty()
+            && (begins_in(rest, "'\"") || begins_as(rest, Class::Quote)),
         Reason::Slash => begins(rest, "/") && !is_inside(front),
         Reason::MissingDollar => front.is_empty(),
         Reason::BlankLast => rest.is_empty() && !is_inside(front) && ends_as(front, Class::Unseen),
-        Reason::Unclosed => rest.is_empty() && is_inside(front),
+        Reason::Unclosed => rest.is_empty() && is_inside(front) && !wants_more(front),
         Reason::ControlCharacter => begins_as(rest, Class::Unseen) && is_quoted(front),
         Reason::Unseen => begins_as(rest, Class::Unseen) && !begins_as(rest, Class::Blank),
         Reason::Quotes => begins_as(rest, Class::Quote),
         Reason::OrderSign => ends_in_equals(front) && begins_in(rest, "<>"),
-        Reason::Pattern => begins(rest, "~") && is_inside(front),
+        Reason::Pattern => (begins(rest, "~") && is_inside(front))
+            || (begins(rest, "/") && is_argument(front)),
         Reason::Equals => ends_in_equals(front) || is_third_equals(front, rest),
         Reason::Unequal => ends(front, "<") && begins(rest, ">"),
+        Reason::LastItem => begins_selector(front) && is_last_item(rest),
         Reason::BracketName => begins_selector(front) && begins_as(rest, Class::NameFirst),
         Reason::And => ends_in_one(front, "&") || is_operator(front, rest, "and", "AND"),
         Reason::Or => ends_in_one(front, "|") || is_operator(front, rest, "or", "OR"),
@@ -213,14 +220,16 @@ fn has_mark(reason: Reason, front: &[char], rest: &[char]) -> bool
         Reason::BlankName => !is_inside(front)
             && ends_as(front, Class::Blank)
             && begins_as(rest, Class::NameFirst),
+        Reason::InnerQuote => ends_in(front, "'\"") && begins_as(rest, Class::NameFirst),
         Reason::StrayBracket => begins(rest, "]") && !is_inside(front),
         Reason::LeadingZero => ends(front, "0") && begins_as(rest, Class::Digit),
         Reason::Plus => begins(rest, "+") && ends_in(stem(front), "[,:=<>("),
         Reason::MinusZero => ends(front, "-") && begins(rest, "0"),
         Reason::IndexForm => ends_as(front, Class::Digit)
             && ends_in(before_name(front), "[,:")
-            && begins_in(rest, ".-"),
+            && (begins_in(rest, ".-") || begins_as(rest, Class::NameFirst)),
         Reason::Arithmetic => is_inside(front) && begins_in(rest, "+-*/%"),
+        Reason::Among => is_operator(front, rest, "in", "IN"),
         Reason::Operator => is_inside(front)
             && ends_as(front, Class::Blank)
             && begins_as(rest, Class::NameFirst),
@@ -230,10 +239,11 @@ fn has_mark(reason: Reason, front: &[char], rest: &[char]) -> bool
         Reason::StrayParenthesis => begins(rest, ")") && !has_more(front, "(", ")"),
         Reason::WantsTest => begins_test(stem(front)),
         Reason::WantsValue => begins_value(stem(front)),
-        Reason::InBrackets => begins_selector(front),
+        Reason::InBrackets => wants_selector(front),
         Reason::AfterDot => ends(front, "."),
         Reason::OpenQuote => rest.is_empty() && is_quoted(front),
         Reason::Unfinished => rest.is_empty(),
+        Reason::NextSegment => !is_inside(front),
         _ => false,
     }
 }
@@ -328,6 +338,28 @@ fn is_quoted(front: &[char]) -> bool
     ensures { result ≡ is_quoted front.now }
 {
     is_odd(front, "'") || is_odd(front, "\"")
+}
+
+/// Whether a selector is wanted after it, and not an argument of a function.
+fn wants_selector(front: &[char]) -> bool
+    ensures { result ≡ wants_selector front.now }
+{
+    begins_selector(front) && !has_more(front, "(", ")")
+}
+
+/// Whether something is wanted after it, and it is not in a text between quotation marks.
+fn wants_more(front: &[char]) -> bool
+    ensures { result ≡ wants_more front.now }
+{
+    !is_quoted(front)
+        && (wants_selector(front) || begins_test(stem(front)) || begins_value(stem(front)))
+}
+
+/// Whether XPath's call for the last item is next, or a script for an item from the end.
+fn is_last_item(rest: &[char]) -> bool
+    ensures { result ≡ is_last_item rest.now }
+{
+    begins(rest, "last()") || begins(rest, "(@.length-") || begins(rest, "(@.length -")
 }
 
 /// Whether the word is next in a filter.

@@ -5,7 +5,7 @@ ghost use Rattle.std.specs.Str.{chars};
 ghost use Rattle.jp_explain.specs.Suggestion.{IsQuery};
 ghost use Rattle.jp_explain.specs.Private.Attempts.{IsSound};
 
-use crate::mends::mended;
+use crate::mends::{Cut, mended};
 use crate::place::{characters, split_at_byte};
 use crate::reasons::reason_of;
 use jp_check::{Profile, read_query};
@@ -63,7 +63,7 @@ fn attempted(
     let characters = characters(alloc, text)?;
     let (front, rest) = split_at_byte(&characters, refusal.place);
     let reason = reason_of(refusal.kind, front, rest);
-    match mended(alloc, reason, front, rest)? {
+    match mended(alloc, reason, Cut { front, rest })? {
         Some(text) => read(alloc, text, profile),
         None => Ok(Attempt::Nothing),
     }

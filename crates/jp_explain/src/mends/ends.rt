@@ -1,76 +1,69 @@
 //! Mends at the end of a query.
 
 use super::Piece::{Kept, New};
-use super::{Mended, cut_at, joined, push_characters};
-use crate::class::{Class, split_prefix, split_suffix};
-use crate::marks::{begins_as, ends, ends_in, is, stem, without_first, without_last};
+use super::cuts::{cut_at, has, past_blanks};
+use super::{Cut, Mended, joined, push_characters, spliced};
+use crate::class::{Class, split_suffix};
+use crate::marks::{begins_as, ends, is, stem, without_first, without_last};
 use crate::reason::Reason;
 use std::alloc::{AllocError, Global};
 
-pub(super) fn mended<'t>(
-    alloc: Global,
-    reason: Reason,
-    front: &'t [char],
-    rest: &'t [char],
-) -> Mended {
+pub(super) fn mended(alloc: Global, reason: Reason, Cut { front, rest }: Cut<'_>) -> Mended {
     match reason {
         Reason::BlankLast => joined(alloc, &[Kept(split_suffix(front, Class::Unseen).0)]),
         Reason::AfterDot if begins_as(rest, Class::Blank) => {
-            joined(
-                alloc,
-                &[Kept(front), Kept(split_prefix(rest, Class::Blank).1)],
-            )
+            joined(alloc, &[Kept(front), Kept(past_blanks(rest))])
         }
         Reason::AfterDot if rest.is_empty() && ends(front, "..") => {
             joined(alloc, &[Kept(front), New("*")])
         }
         Reason::AfterDot if rest.is_empty() => joined(alloc, &[Kept(without_last(front))]),
         Reason::StrayBracket if is(rest, "]") => joined(alloc, &[Kept(front)]),
+        Reason::NextSegment if is(rest, ";") => joined(alloc, &[Kept(front)]),
         Reason::StrayParenthesis => joined(alloc, &[Kept(front), Kept(without_first(rest))]),
-        Reason::MissingParenthesis => joined(alloc, &[Kept(stem(front)), New(")"), Kept(rest)]),
+        Reason::MissingParenthesis => spliced(alloc, stem(front), ")", rest),
         Reason::Unclosed | Reason::OpenQuote => closed(alloc, front),
         _ => Ok(None),
     }
 }
 
 /// What is open at the end of a text: brackets and parentheses, by what closes them, and a text
-/// between quotation marks, by its mark.
+/// between quotation marks, by its mark and by how many characters stand after that.
 #[derive(Drop)]
-struct Open<'t> {
+struct Open {
     closing: Vec<char>,
     mark: Option<char>,
-    quoted: &'t [char],
+    quoted_len: usize,
     is_escaped: bool,
 }
 
-impl<'t> Open<'t> {
-    fn at_end(alloc: Global, text: &'t [char]) -> Result<Open<'t>, AllocError> {
+impl Open {
+    fn at_end(alloc: Global, text: &[char]) -> Result<Open, AllocError> {
         let mut open = Open {
             closing: Vec::new(alloc),
             mark: None,
-            quoted: text,
+            quoted_len: 0,
             is_escaped: false,
         };
-        let mut rest = text;
-        'text: while let [first, after @ ..] = rest {
-            open.pass(*first, after)?;
-            rest = after;
+        for c in text {
+            open.pass(*c)?;
         }
         Ok(open)
     }
 
-    fn pass(&mut self, c: char, after: &'t [char]) -> Result<(), AllocError> {
+    fn pass(&mut self, c: char) -> Result<(), AllocError> {
+        self.quoted_len = self.quoted_len.saturating_add(1);
         match self.mark {
             Some(_) if self.is_escaped => self.is_escaped = false,
             Some(_) if c == '\\' => self.is_escaped = true,
             Some(mark) if c == mark => self.mark = None,
             Some(_) => {}
-            None => self.pass_sign(c, after)?,
+            None => self.pass_sign(c)?,
         }
         Ok(())
     }
 
-    fn pass_sign(&mut self, c: char, after: &'t [char]) -> Result<(), AllocError> {
+    fn pass_sign(&mut self, c: char) -> Result<(), AllocError> {
         match c {
             '[' => self.closing.push(']')?,
             '(' => self.closing.push(')')?,
@@ -79,7 +72,7 @@ impl<'t> Open<'t> {
             }
             '\'' | '"' => {
                 self.mark = Some(c);
-                self.quoted = after;
+                self.quoted_len = 0;
             }
             _ => {}
         }
@@ -87,18 +80,18 @@ impl<'t> Open<'t> {
     }
 }
 
-/// The text with what closes it, unless nothing is in the brackets yet.
+/// The text with what closes it.
 fn closed(alloc: Global, front: &[char]) -> Mended {
     let open = Open::at_end(alloc, front)?;
+    let (before, quoted) = front.split_at(front.len().saturating_sub(open.quoted_len));
     match open.mark {
-        Some('"') => quoted(alloc, front, open.quoted, "\""),
-        Some(_) => quoted(alloc, front, open.quoted, "'"),
-        None if ends_in(stem(front), "[,") => Ok(None),
+        Some('"') => unquoted(alloc, before, quoted, "\""),
+        Some(_) => unquoted(alloc, before, quoted, "'"),
         None => bracketed(alloc, stem(front), &open.closing),
     }
 }
 
-fn bracketed<'t>(alloc: Global, kept: &'t [char], closing: &'t [char]) -> Mended {
+fn bracketed(alloc: Global, kept: &[char], closing: &[char]) -> Mended {
     let mut text = String::new(alloc);
     push_characters(&mut text, kept)?;
     for c in closing.iter().rev() {
@@ -107,21 +100,12 @@ fn bracketed<'t>(alloc: Global, kept: &'t [char], closing: &'t [char]) -> Mended
     Ok(Some(text))
 }
 
-/// The text with the mark before the brackets that it ends with, if no other may be meant.
-fn quoted<'t>(alloc: Global, front: &'t [char], open: &'t [char], mark: &'static str) -> Mended {
-    let (name, _) = cut_closing(open);
-    let (kept, closing) = cut_closing(front);
-    if name.is_empty() || cut_at(name, "])'\"\\").is_some() {
+/// The text with the mark before the first bracket or parenthesis that may close, if no other mark
+/// may be meant.
+fn unquoted<'t>(alloc: Global, before: &'t [char], open: &'t [char], mark: &'static str) -> Mended {
+    let (name, after) = cut_at(open, "])");
+    if name.is_empty() || has(name, "'\"\\") {
         return Ok(None);
     }
-    joined(alloc, &[Kept(kept), New(mark), Kept(closing)])
-}
-
-/// The text cut before the brackets and parentheses that it ends with.
-fn cut_closing(text: &[char]) -> (&[char], &[char]) {
-    let mut before = text;
-    'back: while let [rest @ .., ']' | ')'] = before {
-        before = rest;
-    }
-    text.split_at(before.len())
+    joined(alloc, &[Kept(before), Kept(name), New(mark), Kept(after)])
 }

@@ -1,116 +1,107 @@
 //! Mends of dots, brackets and names after dots.
 
 use super::Piece::{Kept, New};
-use super::{Mended, cut_at, cut_name, joined};
+use super::cuts::{before_bracket, cut_at, cut_name};
+use super::{Cut, Mended, joined, spliced};
 use crate::class::{Class, split_prefix, split_suffix};
-use crate::marks::{begins, begins_as, begins_in, ends, stem, without_first, without_last};
+use crate::marks::{
+    begins, begins_as, begins_in, ends, ends_in, stem, without_first, without_last,
+};
 use crate::reason::Reason;
 use std::alloc::Global;
 
-pub(super) fn mended<'t>(
-    alloc: Global,
-    reason: Reason,
-    front: &'t [char],
-    rest: &'t [char],
-) -> Mended {
+pub(super) fn mended(alloc: Global, reason: Reason, cut: Cut<'_>) -> Mended {
+    let Cut { front, rest } = cut;
     match reason {
-        Reason::EmptyBrackets => joined(alloc, &[Kept(front), New("*"), Kept(rest)]),
+        Reason::EmptyBrackets => spliced(alloc, front, "*", rest),
         Reason::LastComma => joined(alloc, &[Kept(without_last(stem(front))), Kept(rest)]),
         Reason::DotBracket => joined(alloc, &[Kept(without_last(front)), Kept(rest)]),
         Reason::ThreeDots => joined(alloc, &[Kept(front), Kept(without_first(rest))]),
-        Reason::DotQuote => quoted(alloc, front, rest),
-        Reason::DotDigit => digits(alloc, front, rest),
-        Reason::OddName => odd_name(alloc, front, rest),
-        Reason::MissingDot => joined(alloc, &[Kept(front), New("."), Kept(rest)]),
+        Reason::DotQuote => dot_quote(alloc, cut),
+        Reason::DotDigit => digits(alloc, cut),
+        Reason::OddName => odd_name(alloc, cut),
+        Reason::MissingDot => spliced(alloc, front, ".", rest),
+        Reason::NextSegment if ends_in(front, "$]") && begins(rest, "*") => {
+            spliced(alloc, front, ".", rest)
+        }
         Reason::DoubleStar if ends(front, ".*") && begins(rest, "*.") => {
             let kept = without_last(without_last(front));
-            joined(alloc, &[Kept(kept), New("."), Kept(without_first(rest))])
+            spliced(alloc, kept, ".", without_first(rest))
         }
-        Reason::BlankName => blank_name(alloc, front, rest),
+        Reason::BlankName => blank_name(alloc, cut),
         _ => Ok(None),
     }
 }
 
-/// The front without the dot before brackets; the two of descendants stay.
-fn before_bracket(front: &[char]) -> &[char] {
-    if ends(front, "..") {
-        front
+/// A name between quotation marks after a dot.
+fn dot_quote(alloc: Global, Cut { front, rest }: Cut<'_>) -> Mended {
+    let end = if begins(rest, "'") { "'" } else { "\"" };
+    let (name, after) = cut_at(without_first(rest), end);
+    if after.is_empty() {
+        return Ok(None);
+    }
+    let (open, close) = if begins(rest, "'") {
+        ("['", "']")
     } else {
-        without_last(front)
-    }
-}
-
-fn quoted<'t>(alloc: Global, front: &'t [char], rest: &'t [char]) -> Mended {
-    let kept = Kept(before_bracket(front));
-    let (mark, inner) = (rest.split_at(rest.len().min(1)).0, without_first(rest));
-    let end = if begins_in(mark, "'") { "'" } else { "\"" };
-    match cut_at(inner, end) {
-        Some((name, [_, after @ ..])) => {
-            let parts = [
-                kept,
-                New("["),
-                Kept(mark),
-                Kept(name),
-                Kept(mark),
-                New("]"),
-                Kept(after),
-            ];
-            joined(alloc, &parts)
-        }
-        _ => Ok(None),
-    }
+        ("[\"", "\"]")
+    };
+    let parts = [
+        Kept(before_bracket(front)),
+        New(open),
+        Kept(name),
+        New(close),
+        Kept(without_first(after)),
+    ];
+    joined(alloc, &parts)
 }
 
 /// An index after a dot, or a name that begins with a digit.
-fn digits<'t>(alloc: Global, front: &'t [char], rest: &'t [char]) -> Mended {
-    let kept = Kept(before_bracket(front));
+fn digits(alloc: Global, Cut { front, rest }: Cut<'_>) -> Mended {
+    let kept = before_bracket(front);
     let (digits, after) = split_prefix(rest, Class::Digit);
     if begins_as(after, Class::NameFirst) {
-        let (name, after) = split_prefix(rest, Class::Name);
-        joined(
-            alloc,
-            &[kept, New("[\""), Kept(name), New("\"]"), Kept(after)],
-        )
+        bracketed(alloc, kept, &[], "", split_prefix(rest, Class::Name))
     } else if digits.len() > 1 && begins_in(digits, "0") {
         Ok(None)
     } else {
         joined(
             alloc,
-            &[kept, New("["), Kept(digits), New("]"), Kept(after)],
+            &[Kept(kept), New("["), Kept(digits), New("]"), Kept(after)],
         )
     }
 }
 
 /// A name in which signs stand that XML, JSON-LD and others have in names.
-fn odd_name<'t>(alloc: Global, front: &'t [char], rest: &'t [char]) -> Mended {
+fn odd_name(alloc: Global, Cut { front, rest }: Cut<'_>) -> Mended {
     let (dotted, begun) = split_suffix(front, Class::Name);
-    let (name, after) = cut_name(rest, "@$#-:");
-    let kept = Kept(before_bracket(dotted));
-    joined(
-        alloc,
-        &[
-            kept,
-            New("[\""),
-            Kept(begun),
-            Kept(name),
-            New("\"]"),
-            Kept(after),
-        ],
-    )
+    let named = cut_name(rest, "@$#-:");
+    bracketed(alloc, before_bracket(dotted), begun, "", named)
 }
 
 /// A name after a dot with one blank in it.
-fn blank_name<'t>(alloc: Global, front: &'t [char], rest: &'t [char]) -> Mended {
+fn blank_name(alloc: Global, Cut { front, rest }: Cut<'_>) -> Mended {
     let (dotted, begun) = split_suffix(without_last(front), Class::Name);
-    let (name, after) = split_prefix(rest, Class::Name);
-    if begun.is_empty() || !ends(dotted, ".") || !(after.is_empty() || begins_in(after, ".[")) {
+    let named = split_prefix(rest, Class::Name);
+    let ends_name = named.1.is_empty() || begins_in(named.1, ".[");
+    if begun.is_empty() || !ends(dotted, ".") || !ends_name {
         return Ok(None);
     }
+    bracketed(alloc, before_bracket(dotted), begun, " ", named)
+}
+
+/// A name of two parts, with what is between them, in quotes and brackets.
+fn bracketed<'t>(
+    alloc: Global,
+    kept: &'t [char],
+    begun: &'t [char],
+    between: &'static str,
+    (name, after): (&'t [char], &'t [char]),
+) -> Mended {
     let parts = [
-        Kept(before_bracket(dotted)),
+        Kept(kept),
         New("[\""),
         Kept(begun),
-        New(" "),
+        New(between),
         Kept(name),
         New("\"]"),
         Kept(after),

@@ -1,18 +1,14 @@
 //! Mends of numbers.
 
 use super::Piece::Kept;
-use super::{Mended, joined};
+use super::{Cut, Mended, joined};
 use crate::class::{Class, split_prefix};
 use crate::marks::{begins, begins_as, begins_in, without_first, without_last};
 use crate::reason::Reason;
 use std::alloc::Global;
 
-pub(super) fn mended<'t>(
-    alloc: Global,
-    reason: Reason,
-    front: &'t [char],
-    rest: &'t [char],
-) -> Mended {
+pub(super) fn mended(alloc: Global, reason: Reason, cut: Cut<'_>) -> Mended {
+    let Cut { front, rest } = cut;
     match reason {
         Reason::LeadingZero | Reason::MinusZero => {
             joined(alloc, &[Kept(without_last(front)), Kept(rest)])
@@ -20,28 +16,23 @@ pub(super) fn mended<'t>(
         Reason::Plus if begins_as(without_first(rest), Class::Digit) => {
             joined(alloc, &[Kept(front), Kept(without_first(rest))])
         }
-        Reason::IndexForm => without_zeros(alloc, front, &[], &[], rest),
+        Reason::IndexForm => without_zeros(alloc, cut, &[]),
         Reason::NotWhole => {
             let (sign, number) = rest.split_at(usize::from(begins(rest, "-")).min(rest.len()));
             let (digits, after) = split_prefix(number, Class::Digit);
-            without_zeros(alloc, front, sign, digits, after)
+            let (whole, _) = rest.split_at(rest.len().saturating_sub(after.len()));
+            without_zeros(alloc, Cut { front, rest: after }, whole)
         }
         _ => Ok(None),
     }
 }
 
-/// A number whose fraction has zeros alone is the number without it.
-fn without_zeros<'t>(
-    alloc: Global,
-    front: &'t [char],
-    sign: &'t [char],
-    digits: &'t [char],
-    rest: &'t [char],
-) -> Mended {
+/// A number whose fraction has zeros alone is the number without it: of this the whole part.
+fn without_zeros(alloc: Global, Cut { front, rest }: Cut<'_>, whole: &[char]) -> Mended {
     let (zeros, after) = split_prefix(without_first(rest), Class::Digit);
-    let whole = begins(rest, ".") && !zeros.is_empty() && zeros.iter().all(|c| *c == '0');
-    if !whole || begins_in(after, "eE") {
+    let is_whole = begins(rest, ".") && !zeros.is_empty() && zeros.iter().all(|c| *c == '0');
+    if !is_whole || begins_in(after, "eE") {
         return Ok(None);
     }
-    joined(alloc, &[Kept(front), Kept(sign), Kept(digits), Kept(after)])
+    joined(alloc, &[Kept(front), Kept(whole), Kept(after)])
 }

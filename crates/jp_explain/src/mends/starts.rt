@@ -1,18 +1,15 @@
 //! Mends at the start of a query, and of slashes.
 
 use super::Piece::{Kept, New};
-use super::{Mended, cut_at, joined};
+use super::cuts::has;
+use super::{Cut, Mended, joined, spliced};
 use crate::class::{Class, split_prefix};
 use crate::marks::{begins, begins_as, ends, is, without_first, without_last};
 use crate::reason::Reason;
 use std::alloc::Global;
 
-pub(super) fn mended<'t>(
-    alloc: Global,
-    reason: Reason,
-    front: &'t [char],
-    rest: &'t [char],
-) -> Mended {
+pub(super) fn mended(alloc: Global, reason: Reason, cut: Cut<'_>) -> Mended {
+    let rest = cut.rest;
     match reason {
         Reason::Empty => joined(alloc, &[New("$")]),
         Reason::BlankFirst => joined(alloc, &[Kept(split_prefix(rest, Class::Unseen).1)]),
@@ -21,7 +18,7 @@ pub(super) fn mended<'t>(
         Reason::CurrentNode => joined(alloc, &[New("$"), Kept(without_first(rest))]),
         Reason::Braces => joined(alloc, &[Kept(without_braces(rest))]),
         Reason::Quoted => without_quotes(alloc, rest),
-        Reason::Slash => slash(alloc, front, rest),
+        Reason::Slash => slash(alloc, cut),
         Reason::MissingDollar if begins(rest, "[") => joined(alloc, &[New("$"), Kept(rest)]),
         Reason::MissingDollar if begins_as(rest, Class::NameFirst) => {
             joined(alloc, &[New("$."), Kept(rest)])
@@ -41,9 +38,7 @@ fn number(alloc: Global, rest: &[char]) -> Mended {
 
 /// A dot alone is jq's whole document; a bracket has none before it.
 fn dot(alloc: Global, rest: &[char]) -> Mended {
-    if is(rest, ".") {
-        joined(alloc, &[New("$")])
-    } else if begins(rest, ".[") {
+    if is(rest, ".") || begins(rest, ".[") {
         joined(alloc, &[New("$"), Kept(without_first(rest))])
     } else {
         joined(alloc, &[New("$"), Kept(rest)])
@@ -59,14 +54,16 @@ fn without_braces(text: &[char]) -> &[char] {
 
 fn without_quotes(alloc: Global, text: &[char]) -> Mended {
     match text {
-        [first, inner @ .., last] if *first == *last => joined(alloc, &[Kept(inner)]),
+        [first, inner @ .., last] if *first == *last || Class::Quote.holds(*last) => {
+            joined(alloc, &[Kept(inner)])
+        }
         _ => Ok(None),
     }
 }
 
 /// A slash is a dot, and two are two. What brackets and parents are in XPath is another thing.
-fn slash<'t>(alloc: Global, front: &'t [char], rest: &'t [char]) -> Mended {
-    if has_bracket(front) || has_bracket(rest) || ends(front, "..") {
+fn slash(alloc: Global, Cut { front, rest }: Cut<'_>) -> Mended {
+    if has(front, "[") || has(rest, "[") || ends(front, "..") {
         return Ok(None);
     }
     let (dots, after) = if begins(rest, "//") {
@@ -77,12 +74,8 @@ fn slash<'t>(alloc: Global, front: &'t [char], rest: &'t [char]) -> Mended {
     if front.is_empty() {
         joined(alloc, &[New("$"), New(dots), Kept(after)])
     } else if ends(front, ".") {
-        joined(alloc, &[Kept(without_last(front)), New(dots), Kept(after)])
+        spliced(alloc, without_last(front), dots, after)
     } else {
-        joined(alloc, &[Kept(front), New(dots), Kept(after)])
+        spliced(alloc, front, dots, after)
     }
-}
-
-fn has_bracket(text: &[char]) -> bool {
-    cut_at(text, "[").is_some()
 }

@@ -1,77 +1,94 @@
 //! Mends of words: names without quotes, literals of other languages, and functions.
 
 use super::Piece::{Kept, New};
-use super::{Mended, cut_after, cut_name, joined};
+use super::cuts::{cut_at, cut_call, cut_name, cut_side, past_blanks, past_name};
+use super::{Cut, Mended, joined, quoted, spliced};
 use crate::class::{Class, split_prefix, split_suffix};
 use crate::marks::{
-    begins, begins_in, ends, is, last_name, name_at, stem, without_last, without_name,
+    before_name, begins, begins_in, ends, is, last_name, stem, without_first, without_last,
+    without_name,
 };
 use crate::reason::Reason;
 use std::alloc::Global;
 
-pub(super) fn mended<'t>(
-    alloc: Global,
-    reason: Reason,
-    front: &'t [char],
-    rest: &'t [char],
-) -> Mended {
-    let past_name = split_prefix(rest, Class::Name).1;
+pub(super) fn mended(alloc: Global, reason: Reason, cut: Cut<'_>) -> Mended {
+    let Cut { front, rest } = cut;
     match reason {
-        Reason::Not => negation(alloc, front, rest),
-        Reason::BracketName => bracket_name(alloc, front, rest),
-        Reason::Literal => literal(alloc, front, rest),
-        Reason::TextQuotes => text(alloc, front, name_at(rest), past_name),
-        Reason::MissingAt => member(alloc, front, rest),
-        Reason::MissingQuestionMark => filter(alloc, front, rest),
-        Reason::Call => call(alloc, front, rest),
-        Reason::LengthName => joined(alloc, &[Kept(front), New("length"), Kept(past_name)]),
-        Reason::NotCall => joined(alloc, &[Kept(front), New("!"), Kept(past_name)]),
-        Reason::Exists => joined(alloc, &[Kept(front), Kept(past_name)]),
-        Reason::CountNodes => count(alloc, front, rest),
-        Reason::MatchCompared => test(alloc, front, rest),
+        Reason::Not => negation(alloc, cut),
+        Reason::LastItem => last_item(alloc, cut),
+        Reason::BracketName => {
+            let (name, after) = cut_name(rest, "-");
+            quoted(alloc, front, name, after)
+        }
+        Reason::Literal => literal(alloc, cut),
+        Reason::Undefined => presence(alloc, before_name(front), rest),
+        Reason::TextQuotes => text(alloc, cut),
+        Reason::MissingAt => member(alloc, cut),
+        Reason::MissingQuestionMark => spliced(alloc, front, "?", rest),
+        Reason::Call => call(alloc, cut),
+        Reason::LengthName => spliced(alloc, front, "length", past_name(rest)),
+        Reason::NotCall => spliced(alloc, front, "!", past_name(rest)),
+        Reason::Exists => joined(alloc, &[Kept(front), Kept(past_name(rest))]),
+        Reason::CountNodes => spliced(alloc, without_name(without_last(front)), "count(", rest),
+        Reason::MatchCompared => test(alloc, cut),
         _ => Ok(None),
     }
 }
 
 /// `not` before a test, with its blanks.
-fn negation<'t>(alloc: Global, front: &'t [char], rest: &'t [char]) -> Mended {
-    let (kept, after) = if is(last_name(front), "not") {
-        (without_name(front), rest)
+fn negation(alloc: Global, Cut { front, rest }: Cut<'_>) -> Mended {
+    if is(last_name(front), "not") {
+        spliced(alloc, without_name(front), "!", past_blanks(rest))
     } else {
-        (front, split_prefix(rest, Class::Name).1)
-    };
-    let tested = split_prefix(after, Class::Blank).1;
-    joined(alloc, &[Kept(kept), New("!"), Kept(tested)])
-}
-
-/// A name in brackets, of letters, digits, `_` and `-`; XPath's `last()` is the last item.
-fn bracket_name<'t>(alloc: Global, front: &'t [char], rest: &'t [char]) -> Mended {
-    if begins(rest, "last()") {
-        let (_, after) = rest.split_at(rest.len().min(6));
-        return joined(alloc, &[Kept(front), New("-1"), Kept(after)]);
+        spliced(alloc, front, "!", past_blanks(past_name(rest)))
     }
-    let (name, after) = cut_name(rest, "-");
-    joined(
-        alloc,
-        &[Kept(front), New("\""), Kept(name), New("\""), Kept(after)],
-    )
 }
 
-fn literal<'t>(alloc: Global, front: &'t [char], rest: &'t [char]) -> Mended {
+/// XPath's `last()`, and a script such as `(@.length-1)`, as an index.
+fn last_item(alloc: Global, Cut { front, rest }: Cut<'_>) -> Mended {
+    if begins(rest, "last()") {
+        let after = without_first(without_first(past_name(rest)));
+        return spliced(alloc, front, "-1", after);
+    }
+    let (_, less) = cut_at(rest, "-");
+    match split_prefix(past_blanks(without_first(less)), Class::Digit) {
+        (digits, [')', after @ ..]) => {
+            joined(alloc, &[Kept(front), New("-"), Kept(digits), Kept(after)])
+        }
+        _ => Ok(None),
+    }
+}
+
+fn literal(alloc: Global, Cut { front, rest }: Cut<'_>) -> Mended {
     let (name, after) = split_prefix(rest, Class::Name);
     match name {
-        ['T', ..] => joined(alloc, &[Kept(front), New("true"), Kept(after)]),
-        ['F', ..] => joined(alloc, &[Kept(front), New("false"), Kept(after)]),
-        ['N', ..] => joined(alloc, &[Kept(front), New("null"), Kept(after)]),
-        _ => joined(alloc, &[Kept(without_name(front)), New("null"), Kept(rest)]),
+        ['T', ..] => spliced(alloc, front, "true", after),
+        ['F', ..] => spliced(alloc, front, "false", after),
+        ['N', ..] => spliced(alloc, front, "null", after),
+        _ => spliced(alloc, without_name(front), "null", rest),
+    }
+}
+
+/// A comparison with `undefined`, of which this is the text before the word, as a test.
+fn presence<'t>(alloc: Global, compared: &'t [char], rest: &'t [char]) -> Mended {
+    let (before, side) = cut_side(without_last(without_last(compared)));
+    if !begins_in(side, "@$") {
+        Ok(None)
+    } else if ends(compared, "==") {
+        joined(alloc, &[Kept(before), New("!"), Kept(side), Kept(rest)])
+    } else if ends(compared, "!=") {
+        joined(alloc, &[Kept(before), Kept(side), Kept(rest)])
+    } else {
+        Ok(None)
     }
 }
 
 /// A text that is compared for equality, unless it is a value of another language.
-fn text<'t>(alloc: Global, front: &'t [char], next: &'t [char], after: &'t [char]) -> Mended {
+fn text(alloc: Global, Cut { front, rest }: Cut<'_>) -> Mended {
     let (kept, begun) = split_suffix(front, Class::Name);
-    let equality = ends(stem(kept), "==") || ends(stem(kept), "!=");
-    if !equality || is(next, "NaN") {
+    let (next, after) = split_prefix(rest, Class::Name);
+    let is_equality = ends(stem(kept), "==") || ends(stem(kept), "!=");
+    if !is_equality || is(next, "NaN") {
         return Ok(None);
     }
     let parts = [
@@ -86,65 +103,35 @@ fn text<'t>(alloc: Global, front: &'t [char], next: &'t [char], after: &'t [char
 }
 
 /// A member of the current node, which is JavaScript's `this`.
-fn member<'t>(alloc: Global, front: &'t [char], rest: &'t [char]) -> Mended {
+fn member(alloc: Global, Cut { front, rest }: Cut<'_>) -> Mended {
     let (kept, begun) = split_suffix(front, Class::Name);
     if is(begun, "this") {
-        joined(alloc, &[Kept(kept), New("@"), Kept(rest)])
+        spliced(alloc, kept, "@", rest)
     } else {
         joined(alloc, &[Kept(kept), New("@."), Kept(begun), Kept(rest)])
     }
 }
 
-/// A filter without `?`. The script `(@.length-1)` is the index -1.
-fn filter<'t>(alloc: Global, front: &'t [char], rest: &'t [char]) -> Mended {
-    if !begins(rest, "(@.length") {
-        return joined(alloc, &[Kept(front), New("?"), Kept(rest)]);
-    }
-    let (_, after) = rest.split_at(rest.len().min(9));
-    let ['-', less @ ..] = split_prefix(after, Class::Blank).1 else {
-        return Ok(None);
-    };
-    match split_prefix(split_prefix(less, Class::Blank).1, Class::Digit) {
-        (digits, [')', after @ ..]) => {
-            joined(alloc, &[Kept(front), New("-"), Kept(digits), Kept(after)])
-        }
-        _ => Ok(None),
-    }
-}
-
 /// A call of `length` or `size` behind a path.
-fn call<'t>(alloc: Global, front: &'t [char], rest: &'t [char]) -> Mended {
-    let name = last_name(front);
-    let (before, path) = cut_after(without_last(without_name(front)), "?(&|!=<> ");
-    let measures = is(name, "length") || is(name, "size");
-    let ['(', ')', after @ ..] = rest else {
-        return Ok(None);
-    };
-    if !measures || !begins_in(path, "@$") || !ends(without_name(front), ".") || before.is_empty() {
+fn call(alloc: Global, Cut { front, rest }: Cut<'_>) -> Mended {
+    let (dotted, name) = split_suffix(front, Class::Name);
+    let (before, path) = cut_side(without_last(dotted));
+    let is_length = ends(dotted, ".") && (is(name, "length") || is(name, "size"));
+    if !is_length || !begins(rest, "()") || !begins_in(path, "@$") || before.is_empty() {
         return Ok(None);
     }
-    let parts = [
-        Kept(before),
-        New("length("),
-        Kept(path),
-        New(")"),
-        Kept(after),
-    ];
+    let after = Kept(without_first(without_first(rest)));
+    let parts = [Kept(before), New("length("), Kept(path), New(")"), after];
     joined(alloc, &parts)
 }
 
-fn count<'t>(alloc: Global, front: &'t [char], rest: &'t [char]) -> Mended {
-    let kept = without_name(without_last(front));
-    joined(alloc, &[Kept(kept), New("count("), Kept(rest)])
-}
-
 /// A call that is compared with `true`, or with `false`.
-fn test<'t>(alloc: Global, front: &'t [char], rest: &'t [char]) -> Mended {
+fn test(alloc: Global, Cut { front, rest }: Cut<'_>) -> Mended {
     let (call, behind) = cut_call(rest);
-    let ['=', '=', compared @ ..] = split_prefix(behind, Class::Blank).1 else {
+    let ['=', '=', compared @ ..] = past_blanks(behind) else {
         return Ok(None);
     };
-    let (word, after) = split_prefix(split_prefix(compared, Class::Blank).1, Class::Name);
+    let (word, after) = split_prefix(past_blanks(compared), Class::Name);
     if is(word, "true") {
         joined(alloc, &[Kept(front), Kept(call), Kept(after)])
     } else if is(word, "false") {
@@ -152,20 +139,4 @@ fn test<'t>(alloc: Global, front: &'t [char], rest: &'t [char]) -> Mended {
     } else {
         Ok(None)
     }
-}
-
-/// The text cut after the `)` of the call that it begins with; parentheses in texts count too.
-fn cut_call(text: &[char]) -> (&[char], &[char]) {
-    let mut rest = text;
-    let mut open: usize = 0;
-    'call: while let [first, after @ ..] = rest {
-        rest = after;
-        match *first {
-            '(' => open = open.saturating_add(1),
-            ')' if open <= 1 => break,
-            ')' => open -= 1,
-            _ => {}
-        }
-    }
-    text.split_at(text.len() - rest.len())
 }

@@ -36,43 +36,43 @@ pub const ROWS: &[Row] = &[
     (
         "$[?@.a <> 1]",
         "        ^",
-        "That two values differ is written `!=`.",
+        "`<>` is written `!=`.",
         "$[?@.a != 1]",
     ),
     (
         "$[?@.a =~ /x.*y/]",
         "        ^",
-        "Patterns are matched by match(@.name, \"..\"), the whole text, and search(@.name, \"..\"), a part of it.",
+        "A pattern is tested by match(@.name, \"..\") on the whole text, and by search(@.name, \"..\") on any part of it.",
         "$[?search(@.a, \"x.*y\")]",
     ),
     (
         "$[?(@.a =~ /^x/)]",
         "         ^",
-        "Patterns are matched by match(@.name, \"..\"), the whole text, and search(@.name, \"..\"), a part of it.",
+        "A pattern is tested by match(@.name, \"..\") on the whole text, and by search(@.name, \"..\") on any part of it.",
         "",
     ),
     (
         "$[?@.a ~= \"x\"]",
         "       ^",
-        "Patterns are matched by match(@.name, \"..\"), the whole text, and search(@.name, \"..\"), a part of it.",
+        "A pattern is tested by match(@.name, \"..\") on the whole text, and by search(@.name, \"..\") on any part of it.",
         "",
     ),
     (
         "$[?@.a == foo]",
         "             ^",
-        "A text in a comparison needs quotes.",
+        "A text in a comparison needs quotes, and a member is written `@.name`.",
         "$[?@.a == \"foo\"]",
     ),
     (
         "$[?@.name == fooBar]",
         "                ^",
-        "A text in a comparison needs quotes.",
+        "A text in a comparison needs quotes, and a member is written `@.name`.",
         "$[?@.name == \"fooBar\"]",
     ),
     (
         "$[?@.price < max]",
         "                ^",
-        "A text in a comparison needs quotes.",
+        "A text in a comparison needs quotes, and a member is written `@.name`.",
         "",
     ),
     (
@@ -97,7 +97,13 @@ pub const ROWS: &[Row] = &[
         "$[?@.a == undefined]",
         "                   ^",
         "Whether there is such a member is tested by `@.name` or `!@.name` alone.",
-        "",
+        "$[?!@.a]",
+    ),
+    (
+        "$[?@.a != undefined]",
+        "                   ^",
+        "Whether there is such a member is tested by `@.name` or `!@.name` alone.",
+        "$[?@.a]",
     ),
     (
         "$[?@.a == “x”]",
@@ -138,19 +144,25 @@ pub const ROWS: &[Row] = &[
     (
         "$[?@.a == [1]]",
         "          ^",
-        "A value is missing here: a number, a text in quotes, true, false, null, a path, or a function call.",
+        "A value belongs here: a number, a text in quotes, true, false, null, a path, or a function call.",
         "",
     ),
     (
         "$[?1 < @.a < 5]",
         "           ^",
-        "A comparison has two sides, and neither is a `!`, a parenthesis or another comparison.",
-        "",
+        "A comparison has two sides, without parentheses: join two by `&&`, and negate one as in `!(@.name == 1)`.",
+        "$[?1 < @.a && @.a < 5]",
     ),
     (
         "$[?!@.a == 1]",
         "        ^",
-        "A comparison has two sides, and neither is a `!`, a parenthesis or another comparison.",
+        "A comparison has two sides, without parentheses: join two by `&&`, and negate one as in `!(@.name == 1)`.",
+        "$[?@.a != 1]",
+    ),
+    (
+        "$[?(@.a) == 1]",
+        "         ^",
+        "A comparison has two sides, without parentheses: join two by `&&`, and negate one as in `!(@.name == 1)`.",
         "",
     ),
     (
@@ -168,7 +180,7 @@ pub const ROWS: &[Row] = &[
     (
         "$[?@.a in [1,2]]",
         "       ^",
-        "There is no such operator: there are ==, !=, <, <=, >, >=, &&, || and !.",
+        "`in` is written as comparisons, such as `@.name == 1 || @.name == 2`.",
         "",
     ),
     (

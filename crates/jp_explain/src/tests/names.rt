@@ -5,6 +5,12 @@ use super::Row;
 pub const ROWS: &[Row] = &[
     ("$a", " ^", "A name needs a dot before it.", "$.a"),
     (
+        "$*",
+        " ^",
+        "After a segment comes another one, with `.` or `[`, or the end of the query.",
+        "$.*",
+    ),
+    (
         "$.store[book][0][title]",
         "        ^",
         "A name in brackets needs quotes (inside the shell's single quotes, double ones).",
@@ -23,9 +29,21 @@ pub const ROWS: &[Row] = &[
         "$[\"a\", \"b\"]",
     ),
     (
+        "$['a' 'b']",
+        "      ^",
+        "This character cannot stand here: a sign such as `,`, `]` or `==` may be missing before it.",
+        "",
+    ),
+    (
+        "$['it's']",
+        "      ^",
+        "Within quotes the same quotation mark is written with `\\` before it.",
+        "",
+    ),
+    (
         "$.store.book[last()]",
         "             ^",
-        "A name in brackets needs quotes (inside the shell's single quotes, double ones).",
+        "A negative index counts from the end: `[-1]` is the last item.",
         "$.store.book[-1]",
     ),
     (
@@ -77,12 +95,6 @@ pub const ROWS: &[Row] = &[
         "$.a[0].b",
     ),
     (
-        "$..0",
-        "   ^",
-        "An index stands in brackets, and so does, in quotes, a name that begins with a digit.",
-        "$..[0]",
-    ),
-    (
         "$.2fa",
         "  ^",
         "An index stands in brackets, and so does, in quotes, a name that begins with a digit.",
@@ -125,12 +137,6 @@ pub const ROWS: &[Row] = &[
         "$.a.b",
     ),
     (
-        "$.a?",
-        "   ^",
-        "No `?` is needed here: a path to nothing selects nothing.",
-        "$.a",
-    ),
-    (
         "$.a | .b",
         "    ^",
         "There are no pipes: a query is one path.",
@@ -139,7 +145,7 @@ pub const ROWS: &[Row] = &[
     (
         "$.a, $.b",
         "   ^",
-        "A query is one path: several names or indexes stand in one pair of brackets.",
+        "A query is one path: several names or indexes stand in one pair of brackets, as in `[\"a\", \"b\"]`.",
         "",
     ),
     (
@@ -160,7 +166,12 @@ pub const ROWS: &[Row] = &[
         "Names are separated by dots or stand in brackets: there are no slashes between them.",
         "$.a.b",
     ),
-    ("$. a", "  ^", "After a dot comes a name or `*`.", "$.a"),
+    (
+        "$. a",
+        "  ^",
+        "Right after a dot comes a name or `*`.",
+        "$.a",
+    ),
     (
         "$.a^",
         "   ^",

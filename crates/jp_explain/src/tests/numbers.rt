@@ -14,31 +14,37 @@ pub const ROWS: &[Row] = &[
     (
         "$[1.0]",
         "   ^",
-        "An index is a whole number, and a slice is written `[0:2]`, where the item at its end is left out.",
+        "An index is a whole number, and a slice is written `[0:2]`, which selects the items 0 and 1.",
         "$[1]",
     ),
     (
         "$[1.5]",
         "   ^",
-        "An index is a whole number, and a slice is written `[0:2]`, where the item at its end is left out.",
+        "An index is a whole number, and a slice is written `[0:2]`, which selects the items 0 and 1.",
+        "",
+    ),
+    (
+        "$[1e3]",
+        "   ^",
+        "An index is a whole number, and a slice is written `[0:2]`, which selects the items 0 and 1.",
         "",
     ),
     (
         "$[0..2]",
         "   ^",
-        "An index is a whole number, and a slice is written `[0:2]`, where the item at its end is left out.",
+        "An index is a whole number, and a slice is written `[0:2]`, which selects the items 0 and 1.",
         "",
     ),
     (
         "$[0-2]",
         "   ^",
-        "An index is a whole number, and a slice is written `[0:2]`, where the item at its end is left out.",
+        "An index is a whole number, and a slice is written `[0:2]`, which selects the items 0 and 1.",
         "",
     ),
     (
         "$[(@.length-1)]",
         "  ^",
-        "A filter begins with `?`, as in `[?@.name == 1]`.",
+        "A negative index counts from the end: `[-1]` is the last item.",
         "$[-1]",
     ),
     (

@@ -28,12 +28,6 @@ pub const ROWS: &[Row] = &[
         "$[0]",
     ),
     (
-        "12",
-        "^",
-        "A query begins with `$`; the shell makes a number of \"$[0]\", so put the query in single quotes.",
-        "$[12]",
-    ),
-    (
         ".b",
         "^",
         "A query begins with `$`; if you typed one, the shell took it, so put the query in single quotes.",
@@ -68,18 +62,6 @@ pub const ROWS: &[Row] = &[
         "^",
         "A query begins with `$`; if you typed one, the shell took it, so put the query in single quotes.",
         "$.a[*]",
-    ),
-    (
-        ".a.b[0].c",
-        "^",
-        "A query begins with `$`; if you typed one, the shell took it, so put the query in single quotes.",
-        "$.a.b[0].c",
-    ),
-    (
-        ".a | .b",
-        "^",
-        "A query begins with `$`; if you typed one, the shell took it, so put the query in single quotes.",
-        "$.a.b",
     ),
     (
         ".[] | .name",
@@ -124,12 +106,6 @@ pub const ROWS: &[Row] = &[
         "",
     ),
     (
-        "/a/b",
-        "^",
-        "Names are separated by dots or stand in brackets: there are no slashes between them.",
-        "$.a.b",
-    ),
-    (
         "/a/0",
         "^",
         "Names are separated by dots or stand in brackets: there are no slashes between them.",
@@ -155,6 +131,12 @@ pub const ROWS: &[Row] = &[
     ),
     (
         "\"$.a\"",
+        "^",
+        "A query begins with `$`: quotation marks around it are for the shell, and no part of it.",
+        "$.a",
+    ),
+    (
+        "“$.a”",
         "^",
         "A query begins with `$`: quotation marks around it are for the shell, and no part of it.",
         "$.a",

@@ -90,7 +90,7 @@ pub const ROWS: &[Row] = &[
     (
         "$[?@.a == 1 && ]",
         "               ^",
-        "A test is missing here: a path such as `@.name`, a comparison, or a function call.",
+        "A test belongs here: a path such as `@.name`, a comparison, or a function call.",
         "",
     ),
     (
@@ -104,6 +104,12 @@ pub const ROWS: &[Row] = &[
         "               ^",
         "A function is called in filters alone, before its argument, as in `length(@.name)`.",
         "",
+    ),
+    (
+        "$[?match(@.a, /x/)]",
+        "              ^",
+        "A pattern is tested by match(@.name, \"..\") on the whole text, and by search(@.name, \"..\") on any part of it.",
+        "$[?match(@.a, \"x\")]",
     ),
     (
         "$[?distinct(@.a)]",
@@ -156,7 +162,7 @@ pub const ROWS: &[Row] = &[
     (
         "$[?count(1)>1]",
         "         ^",
-        "The function takes no argument of this kind.",
+        "What stands here does not fit: length, match and search take values, and count, value and distinct take paths.",
         "",
     ),
     (

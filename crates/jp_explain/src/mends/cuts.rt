@@ -1,0 +1,76 @@
+//! Where a text is cut to be mended.
+
+use crate::class::{Class, split_prefix};
+use crate::marks::{ends, is_among, stem, without_last};
+
+/// The text cut before that character, or at its end.
+fn cut_before(text: &[char], place: Option<usize>) -> (&[char], &[char]) {
+    text.split_at(place.unwrap_or(text.len()).min(text.len()))
+}
+
+/// The text cut before the first of these signs; if there is none, all of it is before.
+pub(super) fn cut_at<'t>(text: &'t [char], signs: &str) -> (&'t [char], &'t [char]) {
+    cut_before(text, text.iter().position(|c| is_among(signs, *c)))
+}
+
+/// Whether one of these signs stands in the text.
+pub(super) fn has(text: &[char], signs: &str) -> bool {
+    text.iter().any(|c| is_among(signs, *c))
+}
+
+/// The text cut after the last of these signs; if there is none, all of it is after.
+pub(super) fn cut_after<'t>(text: &'t [char], signs: &str) -> (&'t [char], &'t [char]) {
+    let count = text.iter().rev().position(|c| is_among(signs, *c));
+    text.split_at(text.len().saturating_sub(count.unwrap_or(text.len())))
+}
+
+/// The text cut after the name that it begins with, in which these signs may stand too.
+pub(super) fn cut_name<'t>(text: &'t [char], signs: &str) -> (&'t [char], &'t [char]) {
+    let goes_on = |c: char| Class::Name.holds(c) || is_among(signs, c);
+    cut_before(text, text.iter().position(|c| !goes_on(*c)))
+}
+
+/// The text cut before its first quotation mark of another kind than those of queries.
+pub(super) fn cut_at_quote(text: &[char]) -> (&[char], &[char]) {
+    cut_before(text, text.iter().position(|c| Class::Quote.holds(*c)))
+}
+
+/// The text cut before the path or the literal that it ends with, without the blanks after that.
+pub(super) fn cut_side(text: &[char]) -> (&[char], &[char]) {
+    cut_after(stem(text), "?(&|!=<> ")
+}
+
+/// The text cut after the `)` of the call that it begins with; parentheses in texts count too.
+pub(super) fn cut_call(text: &[char]) -> (&[char], &[char]) {
+    let mut open: usize = 0;
+    let mut passed: usize = 0;
+    for c in text {
+        passed = passed.saturating_add(1);
+        match *c {
+            '(' => open = open.saturating_add(1),
+            ')' if open <= 1 => break,
+            ')' => open -= 1,
+            _ => {}
+        }
+    }
+    text.split_at(passed.min(text.len()))
+}
+
+/// The text without the blanks that it begins with.
+pub(super) fn past_blanks(text: &[char]) -> &[char] {
+    split_prefix(text, Class::Blank).1
+}
+
+/// The text without the name that it begins with.
+pub(super) fn past_name(text: &[char]) -> &[char] {
+    split_prefix(text, Class::Name).1
+}
+
+/// The text without the dot that it ends with, where brackets follow; the two of descendants stay.
+pub(super) fn before_bracket(text: &[char]) -> &[char] {
+    if ends(text, "..") {
+        text
+    } else {
+        without_last(text)
+    }
+}
