@@ -18,7 +18,7 @@ use std::alloc::AllocError;
 pub(crate) fn write_call(out: &mut Writer, call: &Call) -> Result<(), AllocError>
     ensures { OnOk result (out.new ≡ out.old ++ call_text (call_of call.now)) }
 {
-    out.name(call.name.as_str())?;
+    out.text(call.name.as_str())?;
     out.word("(")?;
     for (i, argument) in call.arguments.iter().enumerate() {
         out.word_if(i > 0, ",")?;

@@ -1,6 +1,6 @@
 //! A text that is written piece by piece.
 
-ghost use Rattle.std.specs.Prelude.{◌≡◌, ◌++◌, [], if◌then◌else◌, true, string_bytes, OnOk};
+ghost use Rattle.std.specs.Prelude.{◌≡◌, ◌++◌, ◌∷◌, [], if◌then◌else◌, true, string_bytes, OnOk};
 ghost use Rattle.std.specs.Char.{is_ascii};
 ghost use Rattle.std.specs.Fmt.{signed_decimal};
 ghost use Rattle.std.specs.List.{list_all};
@@ -14,7 +14,7 @@ use std::marker::Model;
 
 /// A text as far as it is written. Where memory runs out, a part of the next piece may stand there.
 #[derive(Drop)]
-pub(crate) struct Writer {
+pub struct Writer {
     text: String,
 }
 
@@ -29,7 +29,7 @@ impl Model for Writer {
 
 impl Writer {
     /// Nothing yet.
-    pub(crate) fn new(alloc: Global) -> Writer
+    pub fn new(alloc: Global) -> Writer
         ensures { result ≡ [] }
     {
         Writer {
@@ -38,7 +38,7 @@ impl Writer {
     }
 
     /// The whole text.
-    pub(crate) fn into_text(self) -> String
+    pub fn into_text(self) -> String
         ensures { chars (string_bytes result) ≡ self }
     {
         self.text
@@ -60,11 +60,18 @@ impl Writer {
         if there { self.word(word) } else { Ok(()) }
     }
 
-    /// Writes the name of a function.
-    pub(crate) fn name(&mut self, name: &str) -> Result<(), AllocError>
-        ensures { OnOk result (self.new ≡ self.old ++ chars name.now) }
+    /// Writes a text. The only error is that memory ran out.
+    pub fn text(&mut self, text: &str) -> Result<(), AllocError>
+        ensures { OnOk result (self.new ≡ self.old ++ chars text.now) }
     {
-        self.text.push_str(name)
+        self.text.push_str(text)
+    }
+
+    /// Writes a character. The only error is that memory ran out.
+    pub fn character(&mut self, c: char) -> Result<(), AllocError>
+        ensures { OnOk result (self.new ≡ self.old ++ c ∷ []) }
+    {
+        self.text.push(c)
     }
 
     /// Writes a text between single quotes, spelled as a name in a normalized path.

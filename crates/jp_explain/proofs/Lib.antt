@@ -1,2 +1,2 @@
+pub mod Ascii
 pub mod Cuts
-pub mod Written

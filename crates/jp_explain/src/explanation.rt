@@ -12,7 +12,7 @@ use crate::reason::Reason;
 use crate::reasons::reason_of;
 use crate::shown::show;
 use crate::suggestion::suggestion;
-use crate::writer::Writer;
+use jp_canon::Writer;
 use jp_check::Profile;
 use jp_query::Refusal;
 use std::alloc::{AllocError, Global};

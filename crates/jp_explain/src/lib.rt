@@ -29,7 +29,7 @@ mod suggestion;
 #[cfg(test)]
 mod tests;
 mod told;
-mod writer;
+mod written;
 
 pub use explanation::{Explanation, explain};
 pub use reason::Reason;

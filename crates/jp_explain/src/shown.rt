@@ -4,7 +4,8 @@ ghost use Rattle.std.specs.Prelude.{◌≡◌, ◌<◌, ◌++◌, true, IfOk, On
 ghost use Rattle.std.specs.Str.{chars};
 ghost use Rattle.jp_explain.specs.Shown.{is_hidden, hex_digit, number_shown, shown, shown_character};
 
-use crate::writer::Writer;
+use crate::written::write_word;
+use jp_canon::Writer;
 use std::alloc::{AllocError, Global};
 
 /// Whether a terminal may not show the character as one of the line.
@@ -42,7 +43,7 @@ fn write_number(out: &mut Writer, c: char) -> Result<(), AllocError>
     ensures { OnOk result (out.new ≡ out.old ++ number_shown c) }
 {
     let number = c as u32;
-    out.word("\\u")?;
+    write_word(out, "\\u")?;
     out.character(hex_digit(number / 4096))?;
     out.character(hex_digit(number / 256 % 16))?;
     out.character(hex_digit(number / 16 % 16))?;
@@ -54,9 +55,9 @@ fn write_character(out: &mut Writer, c: char) -> Result<(), AllocError>
     ensures { OnOk result (out.new ≡ out.old ++ shown_character c) }
 {
     match c {
-        '\n' => out.word("\\n"),
-        '\r' => out.word("\\r"),
-        '\t' => out.word("\\t"),
+        '\n' => write_word(out, "\\n"),
+        '\r' => write_word(out, "\\r"),
+        '\t' => write_word(out, "\\t"),
         _ if is_hidden(c) => write_number(out, c),
         _ => out.character(c),
     }

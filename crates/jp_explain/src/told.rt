@@ -7,7 +7,8 @@ ghost use Rattle.jp_explain.specs.Explanation.{explanation_text, suggestion_text
 use crate::explanation::Explanation;
 use crate::place::characters;
 use crate::shown::show;
-use crate::writer::Writer;
+use crate::written::{write_spaces, write_word};
+use jp_canon::Writer;
 use std::alloc::{AllocError, Global};
 
 /// The text of an explanation: three or four lines, each with a line feed at its end.
@@ -27,13 +28,13 @@ pub fn explanation_text(alloc: Global, explanation: &Explanation) -> Result<Stri
     ensures { IfOk result (λ text. chars (string_bytes text) ≡ explanation_text explanation.now) }
 {
     let mut out = Writer::new(alloc);
-    out.word("  ")?;
+    write_word(&mut out, "  ")?;
     out.text(explanation.line.as_str())?;
-    out.word("\n  ")?;
-    out.spaces(explanation.width_before)?;
-    out.word("^\n")?;
-    out.word(explanation.reason.sentence())?;
-    out.word("\n")?;
+    write_word(&mut out, "\n  ")?;
+    write_spaces(&mut out, explanation.width_before)?;
+    write_word(&mut out, "^\n")?;
+    write_word(&mut out, explanation.reason.sentence())?;
+    write_word(&mut out, "\n")?;
     write_suggestion(alloc, &mut out, &explanation.suggestion)?;
     Ok(out.into_text())
 }
@@ -51,7 +52,7 @@ fn write_suggestion(
     };
     let characters = characters(alloc, query.as_str())?;
     let shown = show(alloc, &characters)?;
-    out.word("Try: ")?;
+    write_word(out, "Try: ")?;
     out.text(shown.as_str())?;
-    out.word("\n")
+    write_word(out, "\n")
 }

@@ -1,7 +1,7 @@
 use Rattle.std.specs.Str.{chars}
 use Rattle.std.proofs.lemmas.Str.{encodes-chars}
-use Rattle.jp_explain.proofs.Written.{pushed_str}
-use Rattle.jp_explain.proofs.writer.Writer.text.Goals as goal
+use Rattle.jp_canon.proofs.Written.{pushed_str}
+use Rattle.jp_canon.proofs.writer.Writer.text.Goals as goal
 
 pub returns : goal.returns
 returns c =

@@ -1,8 +1,8 @@
 use Rattle.std.proofs.Common.{[], ◌∷◌}
 use Rattle.std.specs.Char.{encode_utf8}
 use Rattle.std.proofs.lemmas.List.{append-nil}
-use Rattle.jp_explain.proofs.Written.{pushed_str}
-use Rattle.jp_explain.proofs.writer.Writer.character.Goals as goal
+use Rattle.jp_canon.proofs.Written.{pushed_str}
+use Rattle.jp_canon.proofs.writer.Writer.character.Goals as goal
 
 pub returns : goal.returns
 returns c =
