@@ -1,5 +1,5 @@
 -- What is told of a refused query, and how it is written.
-use Rattle.std.specs.Prelude.{◌≡◌, ℕ, ◌+◌, [], ◌++◌, codes, replicate, string_bytes}
+use Rattle.std.specs.Prelude.{◌≡◌, ℕ, [], ◌++◌, codes, replicate, string_bytes}
 use Rattle.std.specs.Prelude.{Option, Some, None, String}
 use Rattle.std.specs.Str.{chars}
 use Rattle.jp_reading.specs.Characters.{space}
