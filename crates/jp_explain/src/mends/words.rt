@@ -22,6 +22,7 @@ pub(super) fn mended(alloc: Global, reason: Reason, cut: Cut<'_>) -> Mended {
         }
         Reason::Literal => literal(alloc, cut),
         Reason::Undefined => presence(alloc, before_name(front), rest),
+        Reason::LoneLiteral => another(alloc, cut),
         Reason::TextQuotes => text(alloc, cut),
         Reason::MissingAt => member(alloc, cut),
         Reason::MissingQuestionMark => spliced(alloc, front, "?", rest),
@@ -81,6 +82,19 @@ fn presence<'t>(alloc: Global, compared: &'t [char], rest: &'t [char]) -> Mended
     } else {
         Ok(None)
     }
+}
+
+/// `@.a == 1 || 2` compares one side with both.
+fn another(alloc: Global, Cut { front, rest }: Cut<'_>) -> Mended {
+    let (kept, literal) = cut_side(front);
+    let (compared, _) = cut_side(without_last(without_last(stem(kept))));
+    let (_, side) = cut_side(without_last(without_last(stem(compared))));
+    let is_another = ends(stem(kept), "||") && ends(stem(compared), "==");
+    if !is_another || !begins_in(side, "@$") {
+        return Ok(None);
+    }
+    let (literal, rest) = (Kept(literal), Kept(rest));
+    joined(alloc, &[Kept(kept), Kept(side), New(" == "), literal, rest])
 }
 
 /// A text that is compared for equality, unless it is a value of another language.

@@ -187,12 +187,12 @@ pub const ROWS: &[Row] = &[
         "$[?@.a == 'b' || 'c']",
         "                    ^",
         "A literal alone is no test: compare it, as in `@.name == true`.",
-        "",
+        "$[?@.a == 'b' || @.a == 'c']",
     ),
     (
         "$[?@.a == 1 || 2]",
         "                ^",
         "A literal alone is no test: compare it, as in `@.name == true`.",
-        "",
+        "$[?@.a == 1 || @.a == 2]",
     ),
 ];
