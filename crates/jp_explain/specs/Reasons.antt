@@ -38,7 +38,7 @@ use Rattle.jp_explain.specs.declared.reason.Reason.TheVariants.{ArgumentCount, C
 use Rattle.jp_explain.specs.declared.reason.Reason.TheVariants.{NotSingular, MatchCompared}
 use Rattle.jp_explain.specs.declared.reason.Reason.TheVariants.{ValueAlone, IllTyped, NoMemory}
 use Rattle.jp_explain.specs.declared.reason.Reason.TheVariants.{TextTooLong, LastItem, Among}
-use Rattle.jp_explain.specs.declared.reason.Reason.TheVariants.{NextSegment, InnerQuote}
+use Rattle.jp_explain.specs.declared.reason.Reason.TheVariants.{NextSegment, InnerQuote, OutsideFilter}
 use Rattle.jp_explain.specs.Marks.{is_empty, is, begins, ends, begins_in, ends_in, begins_as, ends_as}
 use Rattle.jp_explain.specs.Marks.{is_inside, has_more, is_odd, stem, name_at, last_name}
 use Rattle.jp_explain.specs.Marks.{ends_in_one, without_first, without_last, without_name}
@@ -278,6 +278,8 @@ has_mark NoWayUp front rest =
     begins_in rest (codes "^~") && not (is_inside front)
 has_mark Comparison front rest =
     begins_in rest (codes "=<>!") && is_inside front
+has_mark OutsideFilter front rest =
+    begins_in rest (codes "=<>!&") && not (is_inside front)
 has_mark StrayParenthesis front rest =
     begins rest (codes ")") && not (has_more front (codes "(") (codes ")"))
 has_mark WantsTest front rest =
@@ -306,8 +308,8 @@ syntax_reasons =
     ∷ EmptyBrackets ∷ LastComma ∷ DotBracket ∷ ThreeDots ∷ DotQuote ∷ DotDigit ∷ OddName ∷ Call
     ∷ Optional ∷ Pipe ∷ Union ∷ MissingDot ∷ BlankName ∷ InnerQuote ∷ StrayBracket ∷ LeadingZero
     ∷ Plus ∷ MinusZero ∷ IndexForm ∷ Arithmetic ∷ Among ∷ Operator ∷ DoubleStar ∷ NoWayUp
-    ∷ Comparison ∷ StrayParenthesis ∷ WantsTest ∷ WantsValue ∷ InBrackets ∷ AfterDot ∷ OpenQuote
-    ∷ Unfinished ∷ NextSegment ∷ []
+    ∷ Comparison ∷ OutsideFilter ∷ StrayParenthesis ∷ WantsTest ∷ WantsValue ∷ InBrackets ∷ AfterDot
+    ∷ OpenQuote ∷ Unfinished ∷ NextSegment ∷ []
 
 -- the reason why the text is no query
 abbrev pub syntax_reason : Text → Text → Reason

@@ -30,7 +30,7 @@ use Rattle.jp_explain.specs.declared.reason.Reason.TheVariants.{ArgumentCount, C
 use Rattle.jp_explain.specs.declared.reason.Reason.TheVariants.{NotSingular, MatchCompared}
 use Rattle.jp_explain.specs.declared.reason.Reason.TheVariants.{ValueAlone, IllTyped, NoMemory}
 use Rattle.jp_explain.specs.declared.reason.Reason.TheVariants.{TextTooLong, LastItem, Among}
-use Rattle.jp_explain.specs.declared.reason.Reason.TheVariants.{NextSegment, InnerQuote}
+use Rattle.jp_explain.specs.declared.reason.Reason.TheVariants.{NextSegment, InnerQuote, OutsideFilter}
 
 -- what is told of each
 abbrev pub sentence_of : Reason → List ℕ
@@ -119,7 +119,7 @@ sentence_of MissingDot =
 sentence_of BlankName =
     codes "A name with a blank in it stands in quotes and brackets."
 sentence_of InnerQuote =
-    codes "Within quotes the same quotation mark is written with `\\` before it."
+    codes "The quotation mark before this ends the text: one is missing, or this one needs `\\` before it."
 sentence_of StrayBracket =
     codes "This `]` closes nothing."
 sentence_of LeadingZero =
@@ -144,6 +144,8 @@ sentence_of Comparison =
     codes "A comparison has two sides, without parentheses: join two by `&&`, and negate one as in `!(@.name == 1)`."
 sentence_of MissingParenthesis =
     codes "A `)` is missing before this `]`."
+sentence_of OutsideFilter =
+    codes "Tests stand in filters alone, as in `$[?@.name == 1]`."
 sentence_of StrayParenthesis =
     codes "This `)` closes nothing."
 sentence_of WantsTest =

@@ -116,6 +116,8 @@ pub enum Reason {
     Comparison,
     /// `]` where a `)` is wanted.
     MissingParenthesis,
+    /// A sign of comparisons or of logic outside of brackets.
+    OutsideFilter,
     /// `)` without its `(`.
     StrayParenthesis,
     /// Anything else where a test begins.
@@ -257,7 +259,7 @@ impl Reason {
             Reason::MissingDot => "A name needs a dot before it.",
             Reason::BlankName => "A name with a blank in it stands in quotes and brackets.",
             Reason::InnerQuote => {
-                "Within quotes the same quotation mark is written with `\\` before it."
+                "The quotation mark before this ends the text: one is missing, or this one needs `\\` before it."
             }
             Reason::StrayBracket => "This `]` closes nothing.",
             Reason::LeadingZero => "A number does not begin with `0`, unless it is 0.",
@@ -283,6 +285,7 @@ impl Reason {
                 "A comparison has two sides, without parentheses: join two by `&&`, and negate one as in `!(@.name == 1)`."
             },
             Reason::MissingParenthesis => "A `)` is missing before this `]`.",
+            Reason::OutsideFilter => "Tests stand in filters alone, as in `$[?@.name == 1]`.",
             Reason::StrayParenthesis => "This `)` closes nothing.",
             Reason::WantsTest => {
                 "A test belongs here: a path such as `@.name`, a comparison, or a function call."

@@ -20,7 +20,7 @@ use crate::reason::Reason;
 use jp_query::RefusalKind;
 
 /// The reasons why text is no query, in the order in which they are tried.
-const SYNTAX_REASONS: [Reason; 63] = [
+const SYNTAX_REASONS: [Reason; 64] = [
     Reason::Empty,
     Reason::BlankFirst,
     Reason::ShellNumber,
@@ -76,6 +76,7 @@ const SYNTAX_REASONS: [Reason; 63] = [
     Reason::DoubleStar,
     Reason::NoWayUp,
     Reason::Comparison,
+    Reason::OutsideFilter,
     Reason::StrayParenthesis,
     Reason::WantsTest,
     Reason::WantsValue,
@@ -236,6 +237,7 @@ fn has_mark(reason: Reason, front: &[char], rest: &[char]) -> bool
         Reason::DoubleStar => ends(front, "*") && begins(rest, "*"),
         Reason::NoWayUp => begins_in(rest, "^~") && !is_inside(front),
         Reason::Comparison => begins_in(rest, "=<>!") && is_inside(front),
+        Reason::OutsideFilter => begins_in(rest, "=<>!&") && !is_inside(front),
         Reason::StrayParenthesis => begins(rest, ")") && !has_more(front, "(", ")"),
         Reason::WantsTest => begins_test(stem(front)),
         Reason::WantsValue => begins_value(stem(front)),

@@ -49,6 +49,7 @@ fn requoted(alloc: Global, front: &[char], inner: &[char]) -> Mended {
 /// `1 < @.a < 5` is two comparisons, and `!@.a == 1` is the opposite of one.
 fn comparison(alloc: Global, Cut { front, rest }: Cut<'_>) -> Mended {
     let (before, side) = cut_side(front);
+    let (_, left) = front.split_at(before.len().min(front.len()));
     if !begins_in(side, "@$") {
         Ok(None)
     } else if ends(before, "!") && begins(rest, "==") {
@@ -57,8 +58,8 @@ fn comparison(alloc: Global, Cut { front, rest }: Cut<'_>) -> Mended {
             alloc,
             &[
                 Kept(without_last(before)),
-                Kept(side),
-                New(" !="),
+                Kept(left),
+                New("!="),
                 Kept(after),
             ],
         )

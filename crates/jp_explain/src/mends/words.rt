@@ -86,7 +86,8 @@ fn presence<'t>(alloc: Global, compared: &'t [char], rest: &'t [char]) -> Mended
 
 /// `@.a == 1 || 2` compares one side with both.
 fn another(alloc: Global, Cut { front, rest }: Cut<'_>) -> Mended {
-    let (kept, literal) = cut_side(front);
+    let (kept, _) = cut_side(front);
+    let (_, literal) = front.split_at(kept.len().min(front.len()));
     let (compared, _) = cut_side(without_last(without_last(stem(kept))));
     let (_, side) = cut_side(without_last(without_last(stem(compared))));
     let is_another = ends(stem(kept), "||") && ends(stem(compared), "==");

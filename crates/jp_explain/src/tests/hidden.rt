@@ -36,7 +36,7 @@ const TEXTS: &[(&str, Profile, &str)] = &[
     (
         "$['\u{1f600}\u{202e}\u{9b}'].\u{e9}x = 1",
         Standard,
-        "  $['\u{1f600}\\u202e\\u009b'].\u{e9}x = 1\n                         ^\nAfter a segment comes another one, with `.` or `[`, or the end of the query.\n",
+        "  $['\u{1f600}\\u202e\\u009b'].\u{e9}x = 1\n                         ^\nTests stand in filters alone, as in `$[?@.name == 1]`.\n",
     ),
     (
         "$[?@.a ==\u{a0}1]",

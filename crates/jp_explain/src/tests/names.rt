@@ -37,7 +37,7 @@ pub const ROWS: &[Row] = &[
     (
         "$['it's']",
         "      ^",
-        "Within quotes the same quotation mark is written with `\\` before it.",
+        "The quotation mark before this ends the text: one is missing, or this one needs `\\` before it.",
         "",
     ),
     (
