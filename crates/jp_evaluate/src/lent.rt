@@ -4,8 +4,8 @@ ghost use Rattle.std.specs.Prelude.{if◌then◌else◌, map, option_to_list};
 ghost use Rattle.std.specs.Iterator.{at_most};
 ghost use Rattle.jp_tree.specs.Views.{query_of};
 ghost use Rattle.jp_select.specs.Giving.{GivesNextAs};
-ghost use Rattle.jp_select.specs.Steps.{Takes};
-ghost use Rattle.jp_evaluate.specs.Stopping.{StopsSpent};
+ghost use Rattle.jp_select.specs.Steps.{Counts, Takes};
+ghost use Rattle.jp_evaluate.specs.Stopping.{GivenCounts, StopsSpent};
 ghost use Rattle.jp_evaluate.specs.Lent.{has_failed, lent_node, rest_of, steps_of};
 ghost use Rattle.jp_evaluate.specs.Nodelist.{nodelist};
 ghost use Rattle.jp_evaluate.specs.Private.Segments.{AreOf, followed, is_begun};
@@ -150,6 +150,7 @@ impl<'d: 'q, 'q, V: Selectable + 'd, M: Matching> LentNodes<'d, 'q, V, M> {
     pub fn next_at(&mut self, location: &mut Vec<Step<'d>>) -> Option<Result<V, EvaluationFault>>
         ensures gives { GivesNextAs (λ v. lent_node V.meaning (location.new, v)) (rest_of V.meaning) has_failed
             self.old result self.new }
+        ensures counts { IfSome result (λ r. OnOk r (Counts 1 (steps_of self.old) (steps_of self.new))) }
         ensures takes { Takes (steps_of self.old) (steps_of self.new) }
         ensures stopped { IfSome result (λ r. StopsSpent r (steps_of self.new)) }
     {
@@ -171,6 +172,7 @@ impl<'d: 'q, 'q, V: Selectable + 'd, M: Matching> LentNodes<'d, 'q, V, M> {
             ≡ map (λ v. lent_node V.meaning (location.new, v)) (option_to_list o)
             ++ rest_of V.meaning self.new) }
         ensures end { IfOk result (λ o. IfNone o (rest_of V.meaning self.new ≡ [])) }
+        ensures counts { GivenCounts result (steps_of self.old) (steps_of self.new) }
         ensures failed { has_failed self.new ≡ has_failed self.old }
         ensures takes { Takes (steps_of self.old) (steps_of self.new) }
         ensures stopped { StopsSpent result (steps_of self.new) }

@@ -1,6 +1,6 @@
 //! The walk of a query through a document, from choice to choice (RFC 9535 section 2.1.2). It keeps
 //! a frame for each value on the way from where it begins to where it stands, and no list of nodes.
-ghost use Rattle.jp_evaluate.specs.Stopping.{StopsSpent};
+ghost use Rattle.jp_evaluate.specs.Stopping.{GivenCounts, StopsSpent};
 ghost use Rattle.std.specs.Prelude.{◌≡◌, ◌↔◌, ◌<◌, ◌++◌, ◌∷◌, [], IfNone, IfOk, IfSome, IsTrue};
 ghost use Rattle.std.specs.Prelude.{MatchOption, None, OnOk, OnSome, length, map, option_and_then};
 ghost use Rattle.std.specs.Prelude.{option_map, slice_get};
@@ -107,6 +107,7 @@ impl<'d, V: Selectable + 'd> Walk<'d, V> {
             (V.meaning evaluation.now.root) in MatchOption o
             ((left self.old ≡ []) × (left self.new ≡ []))
             (λ p. left self.old ≡ reached_node V.meaning self.new p ∷ left self.new)) }
+        ensures counts { GivenCounts result work.old.steps work.new.steps }
         ensures takes { Takes work.old.steps work.new.steps }
         ensures stopped { StopsSpent result work.new.steps }
     {
