@@ -29,7 +29,7 @@ static const char *const query_kinds[] = {
     "NotSingular",
     "IllTyped",
 };
-static const char *const document_kinds[] = {"", "NotJson", "NotWhole", "ListTooLong"};
+static const char *const document_kinds[] = {"", "NotJson", "NotWhole", "ListTooLong", "", "DocumentTooLarge"};
 
 /* All of a stream. No memory or a failing read ends the program. */
 static struct text read_all(FILE *stream) {

@@ -20,8 +20,8 @@
  * A query has to be UTF-8, as has a document. Numbers in documents are whole, of 64 bits.
  *
  * A query and a document may have any length for which there is memory: the limits of the program
- * jp, 1 MiB and 16 MiB, are not those of a call. A document of more than 2^32 bytes gives
- * JP_NO_MEMORY. Documents nest 127 levels deep, queries 128.
+ * jp, 1 MiB and 16 MiB, are not those of a call. A document of 2^32 bytes or more is refused as
+ * JP_DOCUMENT_TOO_LARGE and not read. Documents nest 127 levels deep, queries 128.
  */
 #ifndef JP_H
 #define JP_H
@@ -78,9 +78,10 @@ enum {
 
 /* What is wrong with a document, in `report->kind` where the status is JP_DOCUMENT_REFUSED. */
 enum {
-    JP_NOT_JSON = 1,         /* no JSON, no UTF-8, or deeper than 127 levels */
-    JP_NUMBER_NOT_WHOLE = 2, /* the text is the normalized path of the first number that is not */
-    JP_LIST_TOO_LONG = 3     /* more than (2^53)-1 items */
+    JP_NOT_JSON = 1,          /* no JSON, no UTF-8, or deeper than 127 levels */
+    JP_NUMBER_NOT_WHOLE = 2,  /* the text is the normalized path of the first number that is not */
+    JP_LIST_TOO_LONG = 3,     /* more than (2^53)-1 items */
+    JP_DOCUMENT_TOO_LARGE = 5 /* 2^32 bytes or more */
 };
 
 struct jp_report {

@@ -1,13 +1,16 @@
 /* Tests what jp.h promises of buffers, bytes, limits and handles: rooms of 0, of one too little, of the
  * length and of more; a query and a document that are no UTF-8; no text at all; as many steps as are
  * needed, and one less; handles that are empty, cleared twice, filled again, used for the other kind, and a
- * million of them, which leave no memory behind. Prints nothing where all is so. */
+ * million of them, which leave no memory behind; a document that is too large. Prints nothing where all is
+ * so. */
+#define _DEFAULT_SOURCE
 #include "jp.h"
 
 #include <malloc.h>
 #include <stdio.h>
 #include <stdlib.h>
 #include <string.h>
+#include <sys/mman.h>
 
 static int failures = 0;
 
@@ -119,6 +122,48 @@ static void try_many_refused(void) {
                         JP_NO_LIMIT, out, sizeof out)
                == 0,
            "no queries", 16);
+}
+
+/* Whether the report is one of a document of that kind. */
+static int is_document_refused(const struct jp_report *report, uint32_t kind) {
+    return report->status == JP_DOCUMENT_REFUSED && report->kind == kind && report->place == 0
+           && report->length == 0 && report->steps == 0;
+}
+
+/* A document of 2^32 bytes is too large for each call, whatever it has; where a query is refused, that is
+ * told. The bytes are zeros, which take no memory until they are written. */
+static void try_too_large(void) {
+    const size_t size = (size_t)1 << 32;
+    const uint8_t query[] = "$..a$.a$";
+    struct jp_report report;
+    struct jp_handle handle = JP_EMPTY;
+    struct jp_question questions[] = {
+        {0, 4, {9, 9, 9, 9, 9}}, {4, 3, {9, 9, 9, 9, 9}}, {1, 2, {9, 9, 9, 9, 9}}};
+    uint8_t out[1];
+    uint8_t *document =
+        mmap(NULL, size, PROT_READ, MAP_PRIVATE | MAP_ANONYMOUS | MAP_NORESERVE, -1, 0);
+    expect(document != MAP_FAILED, "a mapping", size);
+    if (document == MAP_FAILED) {
+        return;
+    }
+    for (size_t at = 0; at < 2; at += 1) {
+        jp_eval(query + questions[at].start, questions[at].size, document, size, JP_VALUES, JP_STANDARD,
+                JP_NO_LIMIT, out, 0, &report);
+        expect(is_document_refused(&report, JP_DOCUMENT_TOO_LARGE), "too large", at);
+    }
+    jp_eval(query + 1, 2, document, size, JP_VALUES, JP_STANDARD, JP_NO_LIMIT, out, 0, &report);
+    expect(report.status == JP_QUERY_REFUSED, "the query first", size);
+    expect(jp_eval_many(query, sizeof query - 1, questions, 3, document, size, JP_VALUES, JP_STANDARD,
+                        JP_NO_LIMIT, out, 0)
+               == 0,
+           "no text", size);
+    expect(is_document_refused(&questions[0].report, JP_DOCUMENT_TOO_LARGE)
+               && is_document_refused(&questions[1].report, JP_DOCUMENT_TOO_LARGE)
+               && questions[2].report.status == JP_QUERY_REFUSED,
+           "too large for many queries", size);
+    jp_document_new(document, size, &handle, out, 0, &report);
+    expect(is_document_refused(&report, JP_DOCUMENT_TOO_LARGE), "too large to be kept", size);
+    munmap(document, size);
 }
 
 /* Canonical texts in the same rooms, and that a query is accepted. */
@@ -312,6 +357,7 @@ int main(void) {
         try_many(rooms[room]);
     }
     try_many_refused();
+    try_too_large();
     try_queries();
     expect(jp_version() == JP_VERSION, "the version", 0);
     return failures == 0 ? 0 : 1;

@@ -26,7 +26,7 @@ _QUERY_KINDS = [
     "NotSingular",
     "IllTyped",
 ]
-_DOCUMENT_KINDS = ["", "NotJson", "NotWhole", "ListTooLong"]
+_DOCUMENT_KINDS = ["", "NotJson", "NotWhole", "ListTooLong", "", "DocumentTooLarge"]
 _FIRST_ROOM = 1 << 12
 _LARGEST_KEPT_ROOM = 1 << 20
 # The steps of the first run of a query, which take less than a second; and of the first runs of many, each.
@@ -64,8 +64,8 @@ class QueryError(Error, ValueError):
 class DocumentError(Error, ValueError):
     """A document that is refused.
 
-    kind: what is wrong with it: "NotJson", "NotWhole" or "ListTooLong". path: of "NotWhole", the
-    normalized path of the first number that is not a whole one of 64 bits, else None.
+    kind: what is wrong with it: "NotJson", "NotWhole", "ListTooLong" or "DocumentTooLarge". path: of
+    "NotWhole", the normalized path of the first number that is not a whole one of 64 bits, else None.
     """
 
     def __init__(self, kind: str, path: Optional[str] = None) -> None:

@@ -1,6 +1,8 @@
 """What Python users see. Expected values are those of RFC 9535, or by hand."""
+import ctypes
 import doctest
 import json
+import mmap
 import signal
 import subprocess
 import sys
@@ -156,6 +158,19 @@ class Refusals(unittest.TestCase):
                     jp.find("$", document)
                 self.assertEqual((refused.exception.kind, refused.exception.path), (kind, path))
         self.assertEqual(str(jp.DocumentError("NotWhole", "$[0]")), "document refused: NotWhole at $[0]")
+
+    def test_a_document_that_is_too_large(self):
+        # So many bytes that are never read take no memory; the package copies what is no `bytes`.
+        size = 1 << 32
+        flags = mmap.MAP_PRIVATE | mmap.MAP_ANONYMOUS | getattr(mmap, "MAP_NORESERVE", 0x4000)
+        with mmap.mmap(-1, size, flags=flags) as mapped:
+            first = ctypes.c_char.from_buffer(mapped)
+            document = ctypes.cast(ctypes.addressof(first), ctypes.c_char_p)
+            for text in (b"$", b"$..a"):
+                fault = _engine._answer(_engine._library.jp_eval, "$", text, len(text), document, size, 0, 0, 0)
+                self.assertIsInstance(fault, jp.DocumentError)
+                self.assertEqual((fault.kind, fault.path), ("DocumentTooLarge", None))
+            del first
 
     def test_the_query_first(self):
         with self.assertRaises(jp.QueryError):

@@ -8,7 +8,8 @@ use Rattle.jp_command.specs.declared.lines.Form.{Form}
 use Rattle.jp_document.specs.Value.{Value}
 use Rattle.jp_tree.specs.Tree.{QueryTree}
 use Rattle.jsonpath.specs.declared.fault.FindFault.{FindFault}
-use Rattle.jsonpath.specs.declared.fault.FindFault.TheVariants.{Query, Document, NoMemory, StepsUsedUp}
+use Rattle.jsonpath.specs.declared.fault.FindFault.TheVariants.{Query, Document, DocumentTooLarge}
+use Rattle.jsonpath.specs.declared.fault.FindFault.TheVariants.{NoMemory, StepsUsedUp}
 use Rattle.jp_c.specs.Calls.{IsEvalOutcome}
 use Rattle.jp_c.specs.Handles.{IsSelected, IsSelectOutcome}
 use Rattle.jp_c.specs.declared.kept.Kept.{Kept}
@@ -43,6 +44,7 @@ makes-within limit steps (Fault NoMemory) makes = makes
 makes-within limit steps (Fault StepsUsedUp) makes = λ _. omega (arith, makes.1)
 makes-within limit steps (Fault (Query r)) makes = λ _. omega (arith, makes)
 makes-within limit steps (Fault (Document f)) makes = λ _. omega (arith, makes)
+makes-within limit steps (Fault DocumentTooLarge) makes = λ _. omega (arith, makes)
 makes-within limit steps Usage makes = λ _. omega (arith, makes)
 
 -- an outcome, or running out of memory in place of one that is told of a form and a profile

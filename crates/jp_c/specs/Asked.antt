@@ -14,8 +14,10 @@ use Rattle.jp_query.specs.declared.refusal.Refusal.{Refusal}
 use Rattle.jp_query.specs.declared.refusal.RefusalKind.TheVariants.{Syntax}
 use Rattle.jp_tree.specs.Tree.{QueryTree}
 use Rattle.jsonpath.specs.Find.{RefusesText}
+use Rattle.jsonpath.specs.Size.{Fits, IsTooLarge}
 use Rattle.jsonpath.specs.declared.fault.FindFault.{FindFault}
-use Rattle.jsonpath.specs.declared.fault.FindFault.TheVariants.{Query, Document, NoMemory, StepsUsedUp}
+use Rattle.jsonpath.specs.declared.fault.FindFault.TheVariants.{Query, Document, DocumentTooLarge}
+use Rattle.jsonpath.specs.declared.fault.FindFault.TheVariants.{NoMemory, StepsUsedUp}
 
 -- the bytes are a text (RFC 3629), which in the profile is accepted as the tree q
 pub record IsAcceptedInBytes (profile : Profile) (bytes : List ℕ) (q : QueryTree) : Type 0 where
@@ -36,8 +38,18 @@ pub data RefusesBytes (profile : Profile) (bytes : List ℕ) (r : Refusal) : Typ
 abbrev pub IsQueryFault : Profile → List ℕ → FindFault → Type 0
 IsQueryFault profile bytes (Query r) = RefusesBytes profile bytes r
 IsQueryFault profile bytes (Document f) = ⊥
+IsQueryFault profile bytes DocumentTooLarge = ⊥
 IsQueryFault profile bytes NoMemory = Unit {0}
 IsQueryFault profile bytes StepsUsedUp = ⊥
+
+-- why no document is read: the bytes are too many, or they are none, with that fault; running out of
+-- memory says nothing of them
+abbrev pub IsNoDocument : List ℕ → FindFault → Type 0
+IsNoDocument bytes (Query r) = ⊥
+IsNoDocument bytes (Document f) = IsDocumentFault bytes f × (f ≢ document.NoMemory) × Fits bytes
+IsNoDocument bytes DocumentTooLarge = IsTooLarge bytes
+IsNoDocument bytes NoMemory = Unit {0}
+IsNoDocument bytes StepsUsedUp = ⊥
 
 -- the text is the lines, in that form, of the nodes that the query selects in the document
 pub record IsAnswer (profile : Profile) (form : Form) (query bytes text : List ℕ) : Type 0 where
@@ -45,18 +57,22 @@ pub record IsAnswer (profile : Profile) (form : Form) (query bytes text : List �
   pub d : Value
   pub asked : IsAcceptedInBytes profile query q
   pub document : IsDocument bytes d
+  pub fits : Fits bytes
   pub lines : text ≡ output_of form q d
 
--- why there is no answer: the query is refused; or it is accepted and the bytes are no document,
--- with that fault; or it is accepted, the bytes are a document, and more steps are needed than are
--- allowed; running out of memory says nothing of either
+-- why there is no answer: the query is refused; or it is accepted and the bytes are too many, or no
+-- document, with that fault; or it is accepted, the bytes are a document, and more steps are needed
+-- than are allowed; running out of memory says nothing of either
 abbrev pub IsNoAnswer : Profile → List ℕ → List ℕ → FindFault → Type 0
 IsNoAnswer profile query bytes (Query r) = RefusesBytes profile query r
 IsNoAnswer profile query bytes (Document f) =
     ((q : QueryTree) × IsAcceptedInBytes profile query q) × IsDocumentFault bytes f
-    × (f ≢ document.NoMemory)
+    × (f ≢ document.NoMemory) × Fits bytes
+IsNoAnswer profile query bytes DocumentTooLarge =
+    ((q : QueryTree) × IsAcceptedInBytes profile query q) × IsTooLarge bytes
 IsNoAnswer profile query bytes StepsUsedUp =
     ((q : QueryTree) × IsAcceptedInBytes profile query q) × ((d : Value) × IsDocument bytes d)
+    × Fits bytes
 IsNoAnswer profile query bytes NoMemory = Unit {0}
 
 -- the text is the canonical one of the query that the bytes are

@@ -1,17 +1,16 @@
 -- What handles keep, how they are filled, and what is selected with two of them.
-use Rattle.std.specs.Prelude.{◌≡◌, ◌≢◌, ◌⊎◌, ℕ, List, [], Option, None, Some, string_bytes}
+use Rattle.std.specs.Prelude.{◌≡◌, ◌⊎◌, ℕ, List, [], Option, None, Some, string_bytes}
 use Rattle.jp_check.specs.declared.profile.Profile.{Profile}
 use Rattle.jp_command.specs.Lines.{output_of}
 use Rattle.jp_command.specs.declared.lines.Form.{Form}
-use Rattle.jp_document.specs.Document.{IsDocument, IsDocumentFault}
+use Rattle.jp_document.specs.Document.{IsDocument}
 use Rattle.jp_flat.specs.FlatValue.{document_in}
 use Rattle.jp_document.specs.Value.{Value}
-use Rattle.jp_document.specs.declared.fault.DocumentFault.TheVariants as document
 use Rattle.jp_tree.specs.Tree.{QueryTree}
 use Rattle.jp_tree.specs.Views.{query_of}
-use Rattle.jsonpath.specs.declared.fault.FindFault.{FindFault}
+use Rattle.jsonpath.specs.Size.{Fits}
 use Rattle.jsonpath.specs.declared.fault.FindFault.TheVariants as find
-use Rattle.jp_c.specs.Asked.{IsAcceptedInBytes}
+use Rattle.jp_c.specs.Asked.{IsAcceptedInBytes, IsNoDocument}
 use Rattle.jp_c.specs.Calls.{IsCheckOutcome}
 use Rattle.jp_c.specs.Numbers.{form_of, profile_of}
 use Rattle.jp_c.specs.declared.handle.Handle.{Handle}
@@ -42,18 +41,12 @@ IsQueryMade profile query (Text text) now =
     × (string_bytes text ≡ []) × (query_kept now ≡ Some q)
 IsQueryMade profile query o now = IsCheckOutcome profile query o × (now ≡ None)
 
--- why no document is read; running out of memory says nothing of the bytes
-abbrev pub IsNoDocument : List ℕ → FindFault → Type 0
-IsNoDocument bytes (find.Query r) = ⊥
-IsNoDocument bytes (find.Document f) = IsDocumentFault bytes f × (f ≢ document.NoMemory)
-IsNoDocument bytes find.NoMemory = Unit {0}
-IsNoDocument bytes find.StepsUsedUp = ⊥
-
 -- of `jp_document_new`: the bytes are a document, which is kept; or why they are none, and nothing is
 -- kept
 abbrev pub IsDocumentMade : List ℕ → outcome.Outcome → Option Kept → Type 0
 IsDocumentMade bytes (Text text) now =
-    (d : Value) × IsDocument bytes d × (string_bytes text ≡ []) × (document_kept now ≡ Some d)
+    (d : Value) × IsDocument bytes d × Fits bytes × (string_bytes text ≡ [])
+    × (document_kept now ≡ Some d)
 IsDocumentMade bytes Usage now = ⊥
 IsDocumentMade bytes (Fault fault) now = IsNoDocument bytes fault × (now ≡ None)
 

@@ -16,6 +16,7 @@ MakesSteps limit (Fault find.NoMemory) steps = IsWithin limit steps
 MakesSteps limit (Fault find.StepsUsedUp) steps = (limit ≢ 0) × (steps ≡ limit)
 MakesSteps limit (Fault (find.Query r)) steps = steps ≡ 0
 MakesSteps limit (Fault (find.Document f)) steps = steps ≡ 0
+MakesSteps limit (Fault find.DocumentTooLarge) steps = steps ≡ 0
 MakesSteps limit Usage steps = steps ≡ 0
 
 -- an outcome of that kind, in as many steps as the limit allows

@@ -15,13 +15,16 @@ status_of (Text text) = 0
 status_of (Fault (find.Query r)) = 1
 status_of Usage = 2
 status_of (Fault (find.Document f)) = 3
+status_of (Fault find.DocumentTooLarge) = 3
 status_of (Fault find.NoMemory) = 4
 status_of (Fault find.StepsUsedUp) = 6
 
--- the number of a query's refusal or of a document's fault
+-- the number of a query's refusal or of a document's fault, of which that it is too large is the next
+-- after those of its bytes
 abbrev pub kind_of : outcome.Outcome → ℕ
 kind_of (Fault (find.Query r)) = number_of r.kind
 kind_of (Fault (find.Document f)) = document_fault_number f
+kind_of (Fault find.DocumentTooLarge) = 5
 kind_of _ = 0
 
 -- the byte of the query at which it is refused

@@ -2,26 +2,25 @@
 ghost use Rattle.std.specs.Prelude.{◌≡◌, ◌⊎◌, IfErr, IfOk, string_bytes};
 ghost use Rattle.jp_command.specs.Lines.{output_of};
 ghost use Rattle.std.specs.Str.{IsUtf8};
-ghost use Rattle.jp_document.specs.Document.{IsDocument, IsDocumentFault};
+ghost use Rattle.jp_document.specs.Document.{IsDocument};
 ghost use Rattle.jp_flat.specs.FlatValue.{document_in, lent_flat};
 ghost use Rattle.jp_query.specs.declared.refusal.RefusalKind.TheVariants.{NoMemory};
 ghost use Rattle.jp_tree.specs.Views.{query_of};
 ghost use Rattle.jp_c.specs.Asked.{IsAnswer, IsAcceptedInBytes, IsCanonOf, IsNoAnswer, IsNoText};
-ghost use Rattle.jp_c.specs.Asked.{IsQueryFault};
-ghost use Rattle.jp_c.specs.Asked.{RefusesBytes};
+ghost use Rattle.jp_c.specs.Asked.{IsNoDocument, IsQueryFault, RefusesBytes};
 ghost use Rattle.jp_c.specs.Private.Spending.{Spends};
+ghost use Rattle.jsonpath.specs.Size.{Fits};
 ghost use Rattle.jsonpath.specs.declared.fault.FindFault.TheVariants as find;
 
 use jp_canon::canon;
 use jp_check::{Checked, Profile, read_query};
 use jp_command::{Form, lines_at, selected_lines};
-use jp_document::DocumentFault;
 use jp_evaluate::{Patterns, named_location};
 use jp_flat::{Flat, FlatValue, found_value};
 use jp_held::{read_flat, read_value_at};
 use jp_query::{Refusal, RefusalKind};
 use jp_select::Steps;
-use jsonpath::FindFault;
+use jsonpath::{FindFault, check_size};
 use std::alloc::Global;
 
 /// The text that these bytes are. Where they are no UTF-8 the place is the first that is none.
@@ -66,6 +65,16 @@ fn read_text(alloc: Global, text: &str, profile: Profile) -> Result<Checked, Ref
     read_query(alloc, text, profile)
 }
 
+/// The document that these bytes are, in tables.
+pub(crate) fn read_document(alloc: Global, bytes: &[u8]) -> Result<Flat<'_>, FindFault>
+    ensures document { IfOk result
+        (λ flat. IsDocument bytes.now (document_in flat) × Fits bytes.now) }
+    ensures fault { IfErr result (IsNoDocument bytes.now) }
+{
+    check_size(bytes)?;
+    Ok(read_flat(alloc, bytes)?)
+}
+
 /// The lines, in that form, of the nodes that a query selects in a document that was read.
 pub(crate) fn lines(
     alloc: Global,
@@ -104,28 +113,31 @@ pub(crate) fn answer(
     let query = asked(alloc, query, profile)?;
     match named_location(alloc, &query)? {
         Some(location) => {
+            check_size(document)?;
             let found = read_value_at(alloc, document, &location)?;
             Ok(lines_at(alloc, form, &location, found_value(&found))?)
         }
         None => {
-            let flat = read_flat(alloc, document)?;
+            let flat = read_document(alloc, document)?;
             lines(alloc, form, flat.value(), &query, steps)
         }
     }
 }
 
-/// The same where the document was read before. Only where memory ran out it is read again.
+/// The same where the document was read before. It is read again only where memory ran out, and its
+/// length is looked at again where it is too large.
 pub(crate) fn answer_from(
     alloc: Global,
     query: &[u8],
-    read: &Result<Flat<'_>, DocumentFault>,
+    read: &Result<Flat<'_>, FindFault>,
     document: &[u8],
     form: Form,
     profile: Profile,
     steps: &mut Steps,
 ) -> Result<String, FindFault>
-    requires document { IfOk read.now (λ flat. IsDocument document.now (document_in flat)) }
-    requires fault { IfErr read.now (IsDocumentFault document.now) }
+    requires document { IfOk read.now
+        (λ flat. IsDocument document.now (document_in flat) × Fits document.now) }
+    requires fault { IfErr read.now (IsNoDocument document.now) }
     ensures answer { IfOk result (λ text.
         IsAnswer profile form query.now document.now (string_bytes text)) }
     ensures fault { IfErr result (IsNoAnswer profile query.now document.now) }
@@ -136,11 +148,11 @@ pub(crate) fn answer_from(
             let query = asked(alloc, query, profile)?;
             lines(alloc, form, flat.value(), &query, steps)
         }
-        Err(DocumentFault::NoMemory) => answer(alloc, query, document, form, profile, steps),
-        Err(fault) => {
+        Err(FindFault::Document(fault)) => {
             asked(alloc, query, profile)?;
             Err(FindFault::Document(fault.copy(alloc)?))
         }
+        Err(_) => answer(alloc, query, document, form, profile, steps),
     }
 }
 

@@ -8,13 +8,11 @@ ghost use Rattle.jp_c.specs.Outcome.{told_text};
 ghost use Rattle.jp_c.specs.Private.Subjects.{IsAnswered, IsSound};
 ghost use Rattle.jp_c.specs.declared.outcome.Outcome.TheVariants.{Fault, Usage};
 
-use crate::asked::answer_from;
+use crate::asked::{answer_from, read_document};
 use crate::limit::steps_within;
 use crate::numbers::{form, profile};
 use crate::outcome::{Answered, Outcome, Report, fill};
-use jp_document::DocumentFault;
 use jp_flat::Flat;
-use jp_held::read_flat;
 use jsonpath::FindFault;
 use std::alloc::Global;
 
@@ -60,7 +58,7 @@ pub extern "C" fn jp_eval_many(
 struct Subject<'d> {
     alloc: Global,
     document: &'d [u8],
-    read: Result<Flat<'d>, DocumentFault>,
+    read: Result<Flat<'d>, FindFault>,
     form: u32,
     profile: u32,
     limit: u64,
@@ -77,7 +75,7 @@ impl<'d> Subject<'d> {
         Subject {
             alloc,
             document,
-            read: read_flat(alloc, document),
+            read: read_document(alloc, document),
             form,
             profile,
             limit,

@@ -10,6 +10,9 @@ use jp_document::DocumentFault;
 use jp_select::Steps;
 use jsonpath::FindFault;
 
+/// The kind of a document that is too large, after those of `DocumentFault`.
+const TOO_LARGE: u32 = 5;
+
 /// What a call answers.
 #[derive(Debug, PartialEq, Drop)]
 pub enum Outcome {
@@ -69,6 +72,7 @@ impl Outcome {
                 (1, refusal.kind.number() as u32, refusal.place)
             }
             Outcome::Fault(FindFault::Document(fault)) => (3, fault.number() as u32, 0),
+            Outcome::Fault(FindFault::DocumentTooLarge) => (3, TOO_LARGE, 0),
             Outcome::Fault(FindFault::NoMemory) => (4, 0, 0),
             Outcome::Fault(FindFault::StepsUsedUp) => (6, 0, 0),
         };

@@ -1,22 +1,22 @@
 //! The calls with handles.
 ghost use Rattle.std.specs.Prelude.{◌≡◌, [], IfErr, IfOk, None, Some, option_map};
-ghost use Rattle.jp_c.specs.Asked.{IsAcceptedInBytes, IsQueryFault};
-ghost use Rattle.jp_c.specs.Handles.{IsDocumentMade, IsNoDocument, IsQueryMade, IsSelectOutcome};
+ghost use Rattle.jp_c.specs.Asked.{IsAcceptedInBytes, IsNoDocument, IsQueryFault};
+ghost use Rattle.jp_c.specs.Handles.{IsDocumentMade, IsQueryMade, IsSelectOutcome};
 ghost use Rattle.jp_c.specs.Handles.{document_kept, kept_by, query_kept};
 ghost use Rattle.jp_c.specs.Limit.{AtOnce, Within};
 ghost use Rattle.jp_c.specs.Outcome.{Answers};
 ghost use Rattle.jp_document.specs.Document.{IsDocument};
+ghost use Rattle.jsonpath.specs.Size.{Fits};
 ghost use Rattle.jp_tree.specs.Tree.{QueryTree};
 ghost use Rattle.jp_document.specs.Value.{Value};
 
-use crate::asked::{asked, lines};
+use crate::asked::{asked, lines, read_document};
 use crate::handle::Handle;
 use crate::kept::Kept;
 use crate::limit::steps_within;
 use crate::numbers::{form, profile};
 use crate::outcome::{Answered, Outcome, Report, tell};
 use jp_check::Profile;
-use jp_held::read_flat;
 use jsonpath::FindFault;
 use std::alloc::Global;
 
@@ -91,11 +91,11 @@ fn document_made(alloc: Global, document: &[u8]) -> (Outcome, Handle)
 
 /// A handle that keeps the document.
 fn kept_document(alloc: Global, document: &[u8]) -> Result<Handle, FindFault>
-    ensures kept { IfOk result (λ h. (d : Value) × IsDocument document.now d
+    ensures kept { IfOk result (λ h. (d : Value) × IsDocument document.now d × Fits document.now
         × (document_kept (kept_by h) ≡ Some d)) }
     ensures fault { IfErr result (IsNoDocument document.now) }
 {
-    let document = read_flat(alloc, document)?.owned(alloc)?;
+    let document = read_document(alloc, document)?.owned(alloc)?;
     Ok(Handle::keep(alloc, Kept::Document(document))?)
 }
 

@@ -16,7 +16,9 @@ use Rattle.jp_query.specs.declared.refusal.Refusal.{Refusal}
 use Rattle.jp_query.specs.declared.refusal.RefusalKind.TheVariants as kind
 use Rattle.jp_tree.specs.Tree.{QueryTree}
 use Rattle.jsonpath.specs.declared.fault.FindFault.{FindFault}
-use Rattle.jsonpath.specs.declared.fault.FindFault.TheVariants.{Query, Document, NoMemory, StepsUsedUp}
+use Rattle.jsonpath.specs.Size.{Fits, IsTooLarge}
+use Rattle.jsonpath.specs.declared.fault.FindFault.TheVariants.{Query, Document, DocumentTooLarge}
+use Rattle.jsonpath.specs.declared.fault.FindFault.TheVariants.{NoMemory, StepsUsedUp}
 use Rattle.jsonpath.specs.declared.finding.Match.{Match}
 
 -- the text is accepted as a query, in that profile, whose nodelist over the document d these nodes
@@ -34,12 +36,14 @@ texts_of n = (path_of n.location, text_of n.value)
 abbrev pub match_texts : Match → List ℕ × List ℕ
 match_texts m = (string_bytes m.path, string_bytes m.value)
 
--- the bytes are a document, and the texts are those of the nodes that the query selects in it
+-- the bytes are a document that is not too large, and the texts are those of the nodes that the query
+-- selects in it
 pub record Finds (profile : Profile) (text bytes : List ℕ) (texts : List (List ℕ × List ℕ))
     : Type 0 where
   pub d : Value
   pub nodes : List Node
   pub document : IsDocument bytes d
+  pub fits : Fits bytes
   pub selected : Selects profile (chars text) d nodes
   pub are : texts ≡ map texts_of nodes
 
@@ -52,13 +56,15 @@ abbrev pub RefusesOrRanOut : Profile → Text → Refusal → Type 0
 RefusesOrRanOut profile text r =
     (r ≡ record { kind = kind.NoMemory; place = 0 }) ⊎ RefusesText profile text r
 
--- why nothing is found: the query is refused; or it is accepted, and the bytes are no document, with
--- that fault; running out of memory says nothing of either
+-- why nothing is found: the query is refused; or it is accepted, and the bytes are too many, or no
+-- document, with that fault; running out of memory says nothing of either
 abbrev pub FindsNot : Profile → List ℕ → List ℕ → FindFault → Type 0
 FindsNot profile text bytes (Query r) = RefusesText profile (chars text) r
 FindsNot profile text bytes (Document f) =
     ((q : QueryTree) × IsAcceptedAs profile (chars text) q) × IsDocumentFault bytes f
-    × (f ≢ document.NoMemory)
+    × (f ≢ document.NoMemory) × Fits bytes
+FindsNot profile text bytes DocumentTooLarge =
+    ((q : QueryTree) × IsAcceptedAs profile (chars text) q) × IsTooLarge bytes
 FindsNot profile text bytes NoMemory = Unit {0}
 FindsNot profile text bytes StepsUsedUp = ⊥
 
@@ -66,4 +72,5 @@ FindsNot profile text bytes StepsUsedUp = ⊥
 abbrev pub FindsNotWithin : Profile → List ℕ → List ℕ → FindFault → Type 0
 FindsNotWithin profile text bytes StepsUsedUp =
     ((q : QueryTree) × IsAcceptedAs profile (chars text) q) × ((d : Value) × IsDocument bytes d)
+    × Fits bytes
 FindsNotWithin profile text bytes fault = FindsNot profile text bytes fault

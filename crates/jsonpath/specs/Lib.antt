@@ -1,5 +1,6 @@
 pub mod Find
 pub mod Private
+pub mod Size
 pub use Rattle.jp_canon.specs.Canon
 pub use Rattle.jp_check.specs.Accepted
 pub use Rattle.jp_check.specs.Refused

@@ -18,6 +18,9 @@ pub enum FindFault {
     /// The bytes are no document.
     #[error("document refused: {0}")]
     Document(DocumentFault),
+    /// The bytes are `TOO_MANY_BYTES` or more; they were not read.
+    #[error("document refused: DocumentTooLarge")]
+    DocumentTooLarge,
     /// Memory ran out.
     #[error("want of memory")]
     NoMemory,

@@ -16,6 +16,7 @@ ghost use Rattle.jsonpath.specs.Find.{match_texts, texts_of};
 ghost use Rattle.jsonpath.specs.declared.fault.FindFault.TheVariants.{StepsUsedUp};
 
 use crate::fault::FindFault;
+use crate::size::check_size;
 use jp_check::{Checked, Profile, read_query};
 use jp_document::{Node, Step, path_text};
 use jp_evaluate::{EvaluationFault, LentNodes, Patterns, evaluate, lent_nodes_with};
@@ -40,8 +41,9 @@ pub struct Match {
 /// in the nodelist's order (RFC 9535 section 2.1.2); a node that is selected twice stands there
 /// twice.
 ///
-/// The query is read first. `Query` says how it is refused, and `Document` why the bytes are no
-/// document. `NoMemory` says nothing of either.
+/// The query is read first. `Query` says how it is refused, `DocumentTooLarge` that the bytes are
+/// `TOO_MANY_BYTES` or more, and `Document` why fewer bytes are no document. `NoMemory` says nothing
+/// of either.
 pub fn find(
     alloc: Global,
     bytes: &[u8],
@@ -86,6 +88,7 @@ fn find_with(
     ensures limited { IfErr result (λ fault. fault ≡ StepsUsedUp → steps.limited ≡ true) }
 {
     let query = asked(alloc, text, profile)?;
+    check_size(bytes)?;
     let flat = read_flat(alloc, bytes)?;
     let patterns = Patterns::new(alloc);
     let mut nodes = lent_nodes_with(alloc, flat.value(), &query, &Marks, patterns, steps);

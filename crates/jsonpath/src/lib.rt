@@ -45,6 +45,7 @@
 
 mod fault;
 mod finding;
+mod size;
 #[cfg(test)]
 mod tests;
 
@@ -61,3 +62,4 @@ pub use jp_held::Document;
 pub use jp_lent::value_text;
 pub use jp_match::{Marks, Matching};
 pub use jp_query::{Refusal, RefusalKind};
+pub use size::{TOO_MANY_BYTES, check_size};

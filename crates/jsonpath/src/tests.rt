@@ -48,6 +48,11 @@ fn says_what_is_wrong(rt: HostRuntime) -> Result<(), Fail> {
         let fault = find(alloc, document, query, Standard).err().ok_or("found")?;
         assert_eq!(rt; format!(in alloc; "{fault}")?.as_str(), text);
     }
+    let fault = FindFault::DocumentTooLarge;
+    assert_eq!(rt;
+        format!(in alloc; "{fault}")?.as_str(),
+        "document refused: DocumentTooLarge"
+    );
     Ok(())
 }
 

@@ -3,7 +3,8 @@ use Rattle.std.specs.Prelude.{◌≡◌, ◌==◌, ◌-◌, ◌^◌, ℕ, IfErr,
 use Rattle.jp_select.specs.Steps.{IsSpent, Takes}
 use Rattle.jp_select.specs.declared.steps.Steps.{Steps}
 use Rattle.jsonpath.specs.declared.fault.FindFault.{FindFault}
-use Rattle.jsonpath.specs.declared.fault.FindFault.TheVariants.{Query, Document, NoMemory, StepsUsedUp}
+use Rattle.jsonpath.specs.declared.fault.FindFault.TheVariants.{Query, Document, DocumentTooLarge}
+use Rattle.jsonpath.specs.declared.fault.FindFault.TheVariants.{NoMemory, StepsUsedUp}
 
 -- the steps of a limit, of which 0 is none
 abbrev pub steps_of_limit : ℕ → Steps
@@ -19,6 +20,7 @@ SpendsFor StepsUsedUp before after = IsSpent after
 SpendsFor NoMemory before after = Unit {0}
 SpendsFor (Query r) before after = after ≡ before
 SpendsFor (Document f) before after = after ≡ before
+SpendsFor DocumentTooLarge before after = after ≡ before
 
 -- the steps are only taken, and so where there is no answer
 pub record Spends {A : Type 0} (answer : Result A FindFault) (before after : Steps) : Type 0 where
