@@ -1,5 +1,5 @@
 //! A query over a document, in one call.
-ghost use Rattle.std.specs.Prelude.{◌≡◌, ◌++◌, ◌∷◌, [], IfErr, IfOk, OnOk, false, map, true};
+ghost use Rattle.std.specs.Prelude.{◌≡◌, ◌≤◌, ◌++◌, ◌∷◌, [], IfErr, IfOk, OnOk, false, length, map, true};
 ghost use Rattle.std.specs.Str.{chars};
 ghost use Rattle.jp_check.specs.Accepted.{IsAcceptedAs};
 ghost use Rattle.jp_flat.specs.FlatValue.{document_in};
@@ -57,7 +57,8 @@ pub fn find(
     find_with(alloc, bytes, text, profile, Steps::unlimited())
 }
 
-/// What `find` gives, in at most `limit` steps: `StepsUsedUp` where the evaluation needs more.
+/// What `find` gives, in at most `limit` steps: `StepsUsedUp` where the evaluation needs more. Each
+/// node that is found takes a step at least, so they are no more than these.
 ///
 /// Reading the query and the document makes no steps, and so they may be refused whatever the limit.
 pub fn find_within(
@@ -70,6 +71,7 @@ pub fn find_within(
     ensures found { IfOk result (λ found.
         Finds profile text.now bytes.now (map match_texts found.items)) }
     ensures fault { IfErr result (FindsNotWithin profile text.now bytes.now) }
+    ensures few { IfOk result (λ found. length found.items ≤ limit) }
 {
     find_with(alloc, bytes, text, profile, Steps::at_most(limit))
 }
@@ -85,6 +87,7 @@ fn find_with(
     ensures found { IfOk result (λ found.
         Finds profile text.now bytes.now (map match_texts found.items)) }
     ensures fault { IfErr result (FindsNotWithin profile text.now bytes.now) }
+    ensures few { IfOk result (λ found. steps.limited ≡ true → length found.items ≤ steps.left) }
     ensures limited { IfErr result (λ fault. fault ≡ StepsUsedUp → steps.limited ≡ true) }
 {
     let query = asked(alloc, text, profile)?;
@@ -103,6 +106,8 @@ fn matches<'d: 'q, 'q, 't: 'd>(
     requires { has_failed nodes.now ≡ false }
     ensures found { IfOk result (λ found. map match_texts found.items
         ≡ map texts_of (rest_of lent_flat nodes.old)) }
+    ensures few { IfOk result (λ found. (steps_of nodes.old).limited ≡ true
+        → length found.items ≤ (steps_of nodes.old).left) }
     ensures limited { IfErr result (λ fault. fault ≡ evaluation.StepsUsedUp
         → (steps_of nodes.old).limited ≡ true) }
 {
