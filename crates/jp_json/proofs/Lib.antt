@@ -1,0 +1,9 @@
+pub mod Accepted
+pub mod Classes
+pub mod Leads
+pub mod Misreadings
+pub mod Places
+pub mod Readings
+pub mod Rest
+pub mod Viable
+pub mod Written

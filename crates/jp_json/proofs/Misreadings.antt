@@ -1,0 +1,241 @@
+-- What is told of bytes, from how far they are read.
+use Rattle.std.proofs.Common.{◌≡◌, ◌⊎◌, ℕ, Bool, true, false, ◌==◌, ◌||◌, List, ◌∷◌, take, inl, inr, refl, ap, ◌∙◌, subst}
+use Rattle.std.proofs.Common.{if◌then◌else◌, Option, Some, None, String, length, min, arith}
+use Rattle.std.proofs.lemmas.List.{length-take}
+use Rattle.std.proofs.lemmas.Str.{utf8_valid_len_le}
+use Rattle.std.specs.Prelude.{IsUtf8, string_bytes}
+use Rattle.std.specs.Str.{chars}
+use Rattle.std.specs.Str.Lossy.{utf8_valid_len}
+use Rattle.jp_reading.specs.Numbers.{is_digit}
+use Rattle.jp_reading.specs.Texts.{Text}
+use Rattle.jp_document.specs.Document.{HasDefect, not_json, not_whole}
+use Rattle.jp_json.specs.declared.misreading.Misreading.{Misreading}
+use Rattle.jp_json.specs.declared.reading.Reading.{Reading}
+use Rattle.jp_json.specs.declared.reading.Stop.TheVariants as stop
+use Rattle.jp_json.specs.declared.reason.JsonReason.{JsonReason}
+use Rattle.jp_json.specs.declared.reason.JsonReason.TheVariants.{NotUtf8, TooManyLevels}
+use Rattle.jp_json.specs.declared.reason.JsonReason.TheVariants.{SingleQuote, Comment, MissingValue}
+use Rattle.jp_json.specs.declared.reason.JsonReason.TheVariants.{WrongNumber, WrongWord, Unexpected}
+use Rattle.jp_json.specs.declared.reason.JsonReason.TheVariants.{TrailingComma, WrongBracket}
+use Rattle.jp_json.specs.declared.reason.JsonReason.TheVariants.{UnquotedName, MissingName, StrayColon}
+use Rattle.jp_json.specs.declared.reason.JsonReason.TheVariants.{MissingComma, AfterValue, LeadingZero}
+use Rattle.jp_json.specs.declared.reason.JsonReason.TheVariants.{MissingColon, EndInNumber}
+use Rattle.jp_json.specs.declared.state.Level.{Level}
+use Rattle.jp_json.specs.declared.state.Level.TheVariants.{Array, Object}
+use Rattle.jp_json.specs.declared.state.Part.{Part}
+use Rattle.jp_json.specs.declared.state.Part.TheVariants.{Minus, Zero, Whole, Point, Fraction}
+use Rattle.jp_json.specs.declared.state.Part.TheVariants.{Exponent, Sign, Power}
+use Rattle.jp_json.specs.declared.state.State.{State}
+use Rattle.jp_json.specs.declared.state.State.TheVariants as state
+use Rattle.jp_json.specs.Misreading.{utf8_text, syntax, scalar, fraction, cause_of, IsCausedBy, IsMisreading}
+use Rattle.jp_json.specs.Place.{column, front_of, line_number}
+use Rattle.jp_json.specs.Private.Reading.{IsReading}
+use Rattle.jp_json.specs.Private.Machine.{ends_number}
+use Rattle.jp_json.specs.Private.Reasons.{is_comment, is_word}
+use Rattle.jp_json.specs.Private.Reasons.{bracket_reason, brace_reason, mark_reason, value_reason}
+use Rattle.jp_json.specs.Private.Reasons.{name_reason, joint_reason, level_reason, after_reason}
+use Rattle.jp_json.specs.Private.Reasons.{past_number_reason, number_reason}
+use Rattle.jp_json.specs.Private.Reasons.{unexpected_reason, open_reason, end_reason, stop_reason}
+use Rattle.jp_json.proofs.Readings.{unexpected-at, too_deep-at, unfinished-at, whole-text}
+use Rattle.jp_json.proofs.Readings.{unfinished-viable, whole-viable}
+
+-- ---- what stands where a text is wrong is a reason of syntax
+
+record IsSyntax (r : JsonReason) : Type 0 where
+  is : cause_of r ≡ syntax
+
+sure : (r : JsonReason) → cause_of r ≡ syntax → IsSyntax r
+sure r h = record { is = h }
+
+-- by a test
+chosen : (b : Bool) (x y : JsonReason) → IsSyntax x → IsSyntax y → IsSyntax (if b then x else y)
+chosen true x y h g = h
+chosen false x y h g = g
+
+past : (b : Bool) (x y : JsonReason) → cause_of x ≡ syntax → IsSyntax y → IsSyntax (if b then x else y)
+past b x y h g = chosen b x y (sure x h) g
+
+bracket-syntax : (l : Option Level) → IsSyntax (bracket_reason l)
+bracket-syntax None = sure _ refl
+bracket-syntax (Some Array) = sure _ refl
+bracket-syntax (Some Object) = sure _ refl
+
+brace-syntax : (l : Option Level) → IsSyntax (brace_reason l)
+brace-syntax None = sure _ refl
+brace-syntax (Some Array) = sure _ refl
+brace-syntax (Some Object) = sure _ refl
+
+mark-syntax : (l : Option Level) → IsSyntax (mark_reason l)
+mark-syntax None = sure _ refl
+mark-syntax (Some l) = sure _ refl
+
+value-syntax : (l : Option Level) (c : ℕ) → IsSyntax (value_reason l c)
+value-syntax l c =
+    chosen (c == 65279) (mark_reason l) _ (mark-syntax l)
+    (past (c == 39) SingleQuote _ refl
+    (past (is_comment c) Comment _ refl
+    (chosen (c == 93) (bracket_reason l) _ (bracket-syntax l)
+    (chosen (c == 125) (brace_reason l) _ (brace-syntax l)
+    (past (c == 44 || c == 58) MissingValue _ refl
+    (past (c == 43 || c == 46) WrongNumber _ refl
+    (past (is_word c) WrongWord _ refl (sure Unexpected refl))))))))
+
+name-syntax : (c : ℕ) → IsSyntax (name_reason c)
+name-syntax c =
+    past (c == 39) SingleQuote _ refl
+    (past (is_comment c) Comment _ refl
+    (past (c == 125) TrailingComma _ refl
+    (past (c == 93) WrongBracket _ refl
+    (past (c == 45 || is_word c) UnquotedName _ refl (sure MissingName refl)))))
+
+joint-syntax : (c : ℕ) → IsSyntax (joint_reason c)
+joint-syntax c =
+    past (c == 93 || c == 125) WrongBracket _ refl (past (c == 58) StrayColon _ refl (sure MissingComma refl))
+
+level-syntax : (l : Option Level) (c : ℕ) → IsSyntax (level_reason l c)
+level-syntax None c = sure AfterValue refl
+level-syntax (Some l) c = joint-syntax c
+
+after-syntax : (l : Option Level) (c : ℕ) → IsSyntax (after_reason l c)
+after-syntax l c = past (is_comment c) Comment (level_reason l c) refl (level-syntax l c)
+
+past_number-syntax : (l : Option Level) (c : ℕ) → IsSyntax (past_number_reason l c)
+past_number-syntax l c =
+    past (is_word c || c == 46 || c == 43 || c == 45) WrongNumber (after_reason l c) refl (after-syntax l c)
+
+number-syntax : (p : Part) (l : Option Level) (c : ℕ) → IsSyntax (number_reason p l c)
+number-syntax Minus l c = past (c == 73) WrongWord _ refl (sure WrongNumber refl)
+number-syntax Zero l c = past (is_digit c) LeadingZero _ refl (past_number-syntax l c)
+number-syntax Whole l c = past_number-syntax l c
+number-syntax Point l c = sure _ refl
+number-syntax Fraction l c = past_number-syntax l c
+number-syntax Exponent l c = sure _ refl
+number-syntax Sign l c = sure _ refl
+number-syntax Power l c = past_number-syntax l c
+
+unexpected-syntax : (l : Option Level) (s : State) (c : ℕ) → IsSyntax (unexpected_reason l s c)
+unexpected-syntax l state.Value c = value-syntax l c
+unexpected-syntax l state.Item c = value-syntax l c
+unexpected-syntax l state.Member c = name-syntax c
+unexpected-syntax l state.Name c = name-syntax c
+unexpected-syntax l state.Colon c = past (is_comment c) Comment _ refl (sure MissingColon refl)
+unexpected-syntax l state.After c = after-syntax l c
+unexpected-syntax l (state.Text r) c = sure _ refl
+unexpected-syntax l (state.Escape r) c = sure _ refl
+unexpected-syntax l (state.Hex r w) c = sure _ refl
+unexpected-syntax l (state.Number p) c = number-syntax p l c
+unexpected-syntax l (state.Letters w) c = sure _ refl
+
+open-syntax : (l : Option Level) → IsSyntax (open_reason l)
+open-syntax None = sure _ refl
+open-syntax (Some Array) = sure _ refl
+open-syntax (Some Object) = sure _ refl
+
+end-syntax : (l : Option Level) (s : State) → IsSyntax (end_reason l s)
+end-syntax l state.Value = open-syntax l
+end-syntax l state.Item = open-syntax l
+end-syntax l state.Member = open-syntax l
+end-syntax l state.Name = open-syntax l
+end-syntax l state.Colon = open-syntax l
+end-syntax l state.After = open-syntax l
+end-syntax l (state.Text r) = sure _ refl
+end-syntax l (state.Escape r) = sure _ refl
+end-syntax l (state.Hex r w) = sure _ refl
+end-syntax l (state.Number p) =
+    chosen (ends_number p) (open_reason l) EndInNumber (open-syntax l) (sure EndInNumber refl)
+end-syntax l (state.Letters w) = sure _ refl
+
+-- where reading stops at a character
+stopped-syntax : (l : Option Level) (s : State) (t : Text) (c : ℕ) (more : Text) → t ≡ c ∷ more
+    → IsSyntax (stop_reason stop.Unexpected l s t)
+stopped-syntax l s t c more is = rw is (unexpected-syntax l s c)
+
+-- ---- what is told
+
+-- a reason at a byte of the front that is UTF-8
+pub told-so : (bytes text : List ℕ) (m : Misreading) (offset : ℕ) (reason : JsonReason)
+    → text ≡ take (utf8_valid_len bytes) bytes → m.offset ≡ offset → m.reason ≡ reason
+    → m.line ≡ line_number (front_of offset (chars text))
+    → m.column ≡ column (front_of offset (chars text))
+    → IsCausedBy (cause_of reason) bytes offset m.path
+    → IsMisreading bytes m
+told-so bytes text m offset reason is offset_is reason_is line_is column_is cause = record {
+  cause = rw (offset_is, reason_is) cause;
+  line = rw offset_is (line_is ∙ ap (λ t. line_number (front_of offset (chars t))) is);
+  column = rw offset_is (column_is ∙ ap (λ t. column (front_of offset (chars t))) is);
+}
+
+-- the front is read so
+read-front : (bytes text : List ℕ) (r : Reading) → text ≡ take (utf8_valid_len bytes) bytes
+    → IsReading (chars text) r
+    → IsReading (utf8_text bytes) r
+read-front bytes text r is h = subst (λ t. IsReading (chars t) r) is h
+
+pub unexpected-cause : {Z : Type 0} (bytes text : List ℕ) (r : Reading) (reason : JsonReason) (path : Option (String Z))
+    → HasDefect bytes not_json → text ≡ take (utf8_valid_len bytes) bytes
+    → IsReading (chars text) r → r.stop ≡ stop.Unexpected
+    → reason ≡ stop_reason r.stop r.top r.state (chars r.rest.now)
+    → IsCausedBy (cause_of reason) bytes r.offset path
+unexpected-cause bytes text r reason path defect is h stops reason_is =
+    let seen = rw stops at h.stops in
+    let whole : reason ≡ stop_reason stop.Unexpected r.top r.state (chars r.rest.now)
+    = rw stops at reason_is in
+    let kind : cause_of reason ≡ syntax
+    = ap cause_of whole ∙ (stopped-syntax r.top r.state (chars r.rest.now) seen.0 seen.1 seen.2).is in
+    rw kind (defect, inl (unexpected-at (utf8_text bytes) r (read-front bytes text r is h) stops))
+
+pub too_deep-cause : {Z : Type 0} (bytes text : List ℕ) (r : Reading) (path : Option (String Z))
+    → HasDefect bytes not_json → text ≡ take (utf8_valid_len bytes) bytes
+    → IsReading (chars text) r → r.stop ≡ stop.TooDeep
+    → IsCausedBy (cause_of TooManyLevels) bytes r.offset path
+too_deep-cause bytes text r path defect is h stops =
+    (defect, too_deep-at (utf8_text bytes) r (read-front bytes text r is h) stops)
+
+pub unfinished-cause : {Z : Type 0} (bytes text : List ℕ) (r : Reading) (reason : JsonReason) (path : Option (String Z))
+    → HasDefect bytes not_json → text ≡ take (utf8_valid_len bytes) bytes → IsUtf8 bytes
+    → IsReading (chars text) r → r.stop ≡ stop.Unfinished
+    → reason ≡ stop_reason r.stop r.top r.state (chars r.rest.now)
+    → IsCausedBy (cause_of reason) bytes r.offset path
+unfinished-cause bytes text r reason path defect is utf8 h stops reason_is =
+    let whole : reason ≡ end_reason r.top r.state = rw stops at reason_is in
+    let kind : cause_of reason ≡ syntax = ap cause_of whole ∙ (end-syntax r.top r.state).is in
+    rw kind (defect, inr (utf8, unfinished-at (utf8_text bytes) r (read-front bytes text r is h) stops))
+
+pub whole-cause : {Z : Type 0} (bytes text : List ℕ) (r : Reading) (reason : JsonReason) (path : Option (String Z))
+    → HasDefect bytes not_json → text ≡ take (utf8_valid_len bytes) bytes → IsUtf8 bytes
+    → IsReading (chars text) r → r.stop ≡ stop.Whole → cause_of reason ≡ scalar
+    → (offset : ℕ)
+    → IsCausedBy (cause_of reason) bytes offset path
+whole-cause bytes text r reason path defect is utf8 h stops kind offset =
+    rw kind (defect, utf8, whole-text (utf8_text bytes) r (read-front bytes text r is h) stops)
+
+-- the bytes are no UTF-8, and what is before is read whole, or as far as it goes
+pub encoding-cause : {Z : Type 0} (bytes text : List ℕ) (r : Reading) (offset : ℕ) (path : Option (String Z))
+    → HasDefect bytes not_json → text ≡ take (utf8_valid_len bytes) bytes → (IsUtf8 bytes → ⊥)
+    → IsReading (chars text) r → (r.stop ≡ stop.Unfinished) ⊎ (r.stop ≡ stop.Whole)
+    → offset ≡ length text
+    → IsCausedBy (cause_of NotUtf8) bytes offset path
+encoding-cause bytes text r offset path defect is none h stops offset_is =
+    let front = read-front bytes text r is h in (
+      defect,
+      record {
+        none = none;
+        place_is = offset_is ∙ ap length is ∙ length-take (utf8_valid_len bytes) bytes ∙ min_eq;
+        is_viable =
+            elim stops [
+              | inl e ↦ unfinished-viable (utf8_text bytes) r front e
+              | inr e ↦ whole-viable (utf8_text bytes) r front e
+            ];
+      },
+    )
+  where
+    min_eq : min (utf8_valid_len bytes) (length bytes) ≡ utf8_valid_len bytes
+    min_eq = let le = utf8_valid_len_le bytes in omega (arith, le)
+
+pub fraction-cause : {Z : Type 0} (bytes : List ℕ) (reason : JsonReason) (offset : ℕ) (p : String Z) (path : Option (String Z))
+    → HasDefect bytes (not_whole (string_bytes p)) → path ≡ Some p → cause_of reason ≡ fraction
+    → IsCausedBy (cause_of reason) bytes offset path
+fraction-cause bytes reason offset p path defect is kind = rw (kind, is) defect
+
+pub not-utf8 : (b : Bool) (bytes : List ℕ) → (IsUtf8 bytes → b ≡ true) → b ≡ false → IsUtf8 bytes → ⊥
+not-utf8 b bytes whole other utf8 = let here = whole utf8 in cc

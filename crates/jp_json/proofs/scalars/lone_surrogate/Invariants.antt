@@ -1,0 +1,11 @@
+use Rattle.std.proofs.Common.{◌≤◌, ◌-◌, length}
+use Rattle.jp_json.proofs.scalars.lone_surrogate.Given as goal
+
+abbrev pub invariant-characters : goal.invariant-characters
+invariant-characters l = record {
+  low : l.from ≤ l.at;
+  high : l.at ≤ length l.text;
+}
+
+abbrev pub decreases-characters : goal.decreases-characters
+decreases-characters l = length l.text - l.at

@@ -1,0 +1,7 @@
+pub mod Grammar
+pub mod Language
+pub mod Misreading
+pub mod Place
+pub mod Sentences
+pub mod ViablePrefix
+pub mod Private

@@ -1,0 +1,76 @@
+-- What is told of bytes that are no document.
+use Rattle.std.specs.Prelude.{◌≡◌, ◌⊎◌, ℕ, List, take, string_bytes, IsUtf8, Option, Some, None, String}
+use Rattle.std.specs.Str.{chars}
+use Rattle.std.specs.Str.Lossy.{utf8_valid_len}
+use Rattle.jp_reading.specs.Texts.{Text}
+use Rattle.jp_document.specs.Document.{HasDefect, not_json, not_whole, list_too_long}
+use Rattle.jp_json.specs.declared.misreading.Misreading.{Misreading}
+use Rattle.jp_json.specs.declared.reason.JsonReason.{JsonReason}
+use Rattle.jp_json.specs.declared.reason.JsonReason.TheVariants.{NotUtf8, TooManyLevels, LoneSurrogate}
+use Rattle.jp_json.specs.declared.reason.JsonReason.TheVariants.{BeyondFloat, HasFraction, NegativeZero}
+use Rattle.jp_json.specs.declared.reason.JsonReason.TheVariants.{OutOfRange, ListTooLong, Unreadable}
+use Rattle.jp_json.specs.Grammar.{json_text}
+use Rattle.jp_json.specs.Place.{column, front_of, line_number}
+use Rattle.jp_json.specs.ViablePrefix.{IsTooDeepAt, IsUnexpectedAt, IsUnfinishedAt}
+use Rattle.jp_json.specs.ViablePrefix.{IsViablePrefix}
+
+-- the longest front of the bytes that is UTF-8, as a text
+abbrev pub utf8_text : List ℕ → Text
+utf8_text bytes = chars (take (utf8_valid_len bytes) bytes)
+
+-- What kind of reason: the bytes are no UTF-8; they are no JSON text; they nest too deep; a string or
+-- a number in them stands for no value; a number is not whole; a list is too long.
+pub data Cause : Type 0 where
+  encoding : Cause
+  syntax : Cause
+  levels : Cause
+  scalar : Cause
+  fraction : Cause
+  length : Cause
+
+abbrev pub cause_of : JsonReason → Cause
+cause_of NotUtf8 = encoding
+cause_of TooManyLevels = levels
+cause_of LoneSurrogate = scalar
+cause_of BeyondFloat = scalar
+cause_of Unreadable = scalar
+cause_of HasFraction = fraction
+cause_of NegativeZero = fraction
+cause_of OutOfRange = fraction
+cause_of ListTooLong = length
+cause_of _ = syntax
+
+-- from that byte on the bytes are no UTF-8, and what is before it goes on to a JSON text
+pub record IsNoUtf8At (bytes : List ℕ) (place : ℕ) : Type 0 where
+  pub none : IsUtf8 bytes → ⊥
+  pub place_is : place ≡ utf8_valid_len bytes
+  pub is_viable : IsViablePrefix 127 (utf8_text bytes)
+
+-- that byte is the first through which no JSON text goes on, or it is the end of bytes that go on to
+-- one
+abbrev pub IsWrongAt : List ℕ → ℕ → Type 0
+IsWrongAt bytes place =
+    IsUnexpectedAt 127 (utf8_text bytes) place
+    ⊎ (IsUtf8 bytes × IsUnfinishedAt 127 (utf8_text bytes) place)
+
+-- the path of the first number that is not whole
+abbrev pub IsFractionPath : {Z : Type 0} → List ℕ → Option (String Z) → Type 0
+IsFractionPath bytes None = ⊥
+IsFractionPath bytes (Some path) = HasDefect bytes (not_whole (string_bytes path))
+
+-- the bytes are no document, by a reason of that kind, at that byte
+abbrev pub IsCausedBy : {Z : Type 0} → Cause → List ℕ → ℕ → Option (String Z) → Type 0
+IsCausedBy encoding bytes place path = HasDefect bytes not_json × IsNoUtf8At bytes place
+IsCausedBy syntax bytes place path = HasDefect bytes not_json × IsWrongAt bytes place
+IsCausedBy levels bytes place path =
+    HasDefect bytes not_json × IsTooDeepAt 127 (utf8_text bytes) place
+IsCausedBy scalar bytes place path =
+    HasDefect bytes not_json × IsUtf8 bytes × json_text 127 (utf8_text bytes)
+IsCausedBy fraction bytes place path = IsFractionPath bytes path
+IsCausedBy length bytes place path = HasDefect bytes list_too_long
+
+-- the bytes are misread so
+pub record IsMisreading (bytes : List ℕ) (m : Misreading) : Type 0 where
+  pub cause : IsCausedBy (cause_of m.reason) bytes m.offset m.path
+  pub line : m.line ≡ line_number (front_of m.offset (utf8_text bytes))
+  pub column : m.column ≡ column (front_of m.offset (utf8_text bytes))

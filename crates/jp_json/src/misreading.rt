@@ -1,0 +1,100 @@
+//! What is told of bytes that are no document.
+
+ghost use Rattle.std.specs.Prelude.{◌≡◌, IfOk, IfNone, IfSome, None, string_bytes};
+ghost use Rattle.std.specs.Str.{chars};
+ghost use Rattle.jp_document.specs.Document.{IsDocument, HasDefect, not_json, not_whole};
+ghost use Rattle.jp_document.specs.Value.{Value};
+ghost use Rattle.jp_json.specs.Misreading.{IsMisreading};
+ghost use Rattle.jp_json.specs.Place.{front_of, line_number, column};
+
+use crate::fractions::fraction_at;
+use crate::place::line_and_column;
+use crate::reading::{Stop, read};
+use crate::reason::JsonReason;
+use crate::reasons::stop_reason;
+use crate::scalars::refused_scalar;
+use crate::utf8::utf8_front;
+use jp_document::{DocumentFault, parsed_value};
+use std::alloc::{AllocError, Global};
+
+/// Why bytes are no document, and where.
+#[derive(Debug, PartialEq, Drop)]
+pub struct Misreading {
+    /// The byte, from 0; the length of the bytes where they end too early.
+    pub offset: usize,
+    /// The number of its line, from 1.
+    pub line: usize,
+    /// Its column in that line, in characters from 1.
+    pub column: usize,
+    pub reason: JsonReason,
+    /// The normalized path of a number that is not whole (RFC 9535 section 2.7); None for other
+    /// reasons.
+    pub path: Option<String>,
+}
+
+/// That reason, at that byte of the text.
+fn told(text: &str, offset: usize, reason: JsonReason, path: Option<String>) -> Misreading
+    ensures offset { result.offset ≡ offset }
+    ensures reason { result.reason ≡ reason }
+    ensures path { result.path ≡ path }
+    ensures line { result.line ≡ line_number (front_of offset (chars text.now)) }
+    ensures column { result.column ≡ column (front_of offset (chars text.now)) }
+{
+    let (line, column) = line_and_column(text, offset);
+    Misreading {
+        offset,
+        line,
+        column,
+        reason,
+        path,
+    }
+}
+
+/// Why bytes hold no JSON value.
+fn not_json(alloc: Global, bytes: &[u8]) -> Result<Misreading, AllocError>
+    requires { HasDefect bytes.now not_json }
+    ensures { IfOk result (IsMisreading bytes.now) }
+{
+    let (text, is_utf8) = utf8_front(bytes);
+    let reading = read(alloc, text)?;
+    match reading.stop {
+        Stop::Unexpected => Ok(told(text, reading.offset, stop_reason(reading), None)),
+        Stop::TooDeep => Ok(told(text, reading.offset, JsonReason::TooManyLevels, None)),
+        Stop::Unfinished if is_utf8 => Ok(told(text, reading.offset, stop_reason(reading), None)),
+        Stop::Whole if is_utf8 => {
+            let (offset, reason) = refused_scalar(alloc, bytes)?;
+            Ok(told(text, offset, reason, None))
+        }
+        Stop::Unfinished => Ok(told(text, text.len(), JsonReason::NotUtf8, None)),
+        Stop::Whole => Ok(told(text, text.len(), JsonReason::NotUtf8, None)),
+    }
+}
+
+/// The first number that is not whole.
+fn not_whole(alloc: Global, bytes: &[u8], path: String) -> Result<Misreading, AllocError>
+    requires { HasDefect bytes.now (not_whole (string_bytes path)) }
+    ensures { IfOk result (IsMisreading bytes.now) }
+{
+    let (text, _) = utf8_front(bytes);
+    let (offset, reason) = fraction_at(alloc, bytes, path.as_str())?;
+    Ok(told(text, offset, reason, Some(path)))
+}
+
+/// Why bytes are no document, and where; None where they are one.
+///
+/// The only error is that memory ran out.
+pub fn find_misreading(alloc: Global, bytes: &[u8]) -> Result<Option<Misreading>, AllocError>
+    ensures none { IfOk result (λ m. IfNone m ((v : Value) × IsDocument bytes.now v)) }
+    ensures some { IfOk result (λ m. IfSome m (IsMisreading bytes.now)) }
+{
+    match parsed_value(alloc, bytes) {
+        Ok(_) => Ok(None),
+        Err(DocumentFault::NoMemory) => Err(AllocError),
+        Err(DocumentFault::NotJson) => Ok(Some(not_json(alloc, bytes)?)),
+        Err(DocumentFault::NotWhole(path)) => Ok(Some(not_whole(alloc, bytes, path)?)),
+        Err(DocumentFault::ListTooLong) => {
+            let (text, _) = utf8_front(bytes);
+            Ok(Some(told(text, text.len(), JsonReason::ListTooLong, None)))
+        }
+    }
+}

@@ -1,0 +1,188 @@
+//! The reason for which reading stops.
+
+ghost use Rattle.std.specs.Prelude.{◌≡◌};
+ghost use Rattle.jp_json.specs.Private.Reasons.{is_word, is_comment, bracket_reason, brace_reason};
+ghost use Rattle.jp_json.specs.Private.Reasons.{mark_reason, value_reason, name_reason, joint_reason};
+ghost use Rattle.jp_json.specs.Private.Reasons.{after_reason, past_number_reason, number_reason};
+ghost use Rattle.jp_json.specs.Private.Reasons.{unexpected_reason, open_reason, end_reason};
+ghost use Rattle.jp_json.specs.Private.Reasons.{stop_reason};
+ghost use Rattle.std.specs.Str.{chars};
+
+use crate::machine::{ends_number, is_digit};
+use crate::reading::{Reading, Stop};
+use crate::reason::JsonReason;
+use crate::state::{Level, Part, State};
+use jp_reading::split_first;
+
+/// Whether the character is a digit, a letter, `_` or `$`.
+fn is_word(c: char) -> bool
+    ensures { result ≡ is_word c }
+{
+    is_digit(c) || matches!(c, 'A'..='Z' | 'a'..='z' | '_' | '$')
+}
+
+fn is_comment(c: char) -> bool
+    ensures { result ≡ is_comment c }
+{
+    matches!(c, '/' | '#')
+}
+
+fn bracket_reason(top: Option<Level>) -> JsonReason
+    ensures { result ≡ bracket_reason top }
+{
+    match top {
+        Some(Level::Array) => JsonReason::TrailingComma,
+        Some(Level::Object) | None => JsonReason::WrongBracket,
+    }
+}
+
+fn brace_reason(top: Option<Level>) -> JsonReason
+    ensures { result ≡ brace_reason top }
+{
+    match top {
+        Some(Level::Object) => JsonReason::MissingValue,
+        Some(Level::Array) | None => JsonReason::WrongBracket,
+    }
+}
+
+fn mark_reason(top: Option<Level>) -> JsonReason
+    ensures { result ≡ mark_reason top }
+{
+    match top {
+        None => JsonReason::ByteOrderMark,
+        Some(_) => JsonReason::Unexpected,
+    }
+}
+
+/// For a character that stands where a value has to.
+fn value_reason(top: Option<Level>, c: char) -> JsonReason
+    ensures { result ≡ value_reason top c }
+{
+    match c {
+        '\u{feff}' => mark_reason(top),
+        '\'' => JsonReason::SingleQuote,
+        _ if is_comment(c) => JsonReason::Comment,
+        ']' => bracket_reason(top),
+        '}' => brace_reason(top),
+        ',' | ':' => JsonReason::MissingValue,
+        '+' | '.' => JsonReason::WrongNumber,
+        _ if is_word(c) => JsonReason::WrongWord,
+        _ => JsonReason::Unexpected,
+    }
+}
+
+/// For a character that stands where a member's name has to.
+fn name_reason(c: char) -> JsonReason
+    ensures { result ≡ name_reason c }
+{
+    match c {
+        '\'' => JsonReason::SingleQuote,
+        _ if is_comment(c) => JsonReason::Comment,
+        '}' => JsonReason::TrailingComma,
+        ']' => JsonReason::WrongBracket,
+        _ if c == '-' || is_word(c) => JsonReason::UnquotedName,
+        _ => JsonReason::MissingName,
+    }
+}
+
+/// For a character after a value in an array or an object.
+fn joint_reason(c: char) -> JsonReason
+    ensures { result ≡ joint_reason c }
+{
+    match c {
+        ']' | '}' => JsonReason::WrongBracket,
+        ':' => JsonReason::StrayColon,
+        _ => JsonReason::MissingComma,
+    }
+}
+
+/// For a character after a value.
+fn after_reason(top: Option<Level>, c: char) -> JsonReason
+    ensures { result ≡ after_reason top c }
+{
+    if is_comment(c) {
+        return JsonReason::Comment;
+    }
+    match top {
+        None => JsonReason::AfterValue,
+        Some(_) => joint_reason(c),
+    }
+}
+
+/// For a character after a part of a number that may end it.
+fn past_number_reason(top: Option<Level>, c: char) -> JsonReason
+    ensures { result ≡ past_number_reason top c }
+{
+    if is_word(c) || c == '.' || c == '+' || c == '-' {
+        JsonReason::WrongNumber
+    } else {
+        after_reason(top, c)
+    }
+}
+
+/// For a character after that part of a number.
+fn number_reason(part: Part, top: Option<Level>, c: char) -> JsonReason
+    ensures { result ≡ number_reason part top c }
+{
+    match part {
+        Part::Minus if c == 'I' => JsonReason::WrongWord,
+        Part::Zero if is_digit(c) => JsonReason::LeadingZero,
+        Part::Zero | Part::Whole | Part::Fraction | Part::Power => past_number_reason(top, c),
+        Part::Minus | Part::Point | Part::Exponent | Part::Sign => JsonReason::WrongNumber,
+    }
+}
+
+/// For a character with which no JSON text goes on.
+fn unexpected_reason(top: Option<Level>, state: State, c: char) -> JsonReason
+    ensures { result ≡ unexpected_reason top state c }
+{
+    match state {
+        State::Value | State::Item => value_reason(top, c),
+        State::Member | State::Name => name_reason(c),
+        State::Colon if is_comment(c) => JsonReason::Comment,
+        State::Colon => JsonReason::MissingColon,
+        State::After => after_reason(top, c),
+        State::Text(_) => JsonReason::ControlCharacter,
+        State::Escape(_) | State::Hex(_, _) => JsonReason::WrongEscape,
+        State::Number(part) => number_reason(part, top, c),
+        State::Letters(_) => JsonReason::WrongWord,
+    }
+}
+
+fn open_reason(top: Option<Level>) -> JsonReason
+    ensures { result ≡ open_reason top }
+{
+    match top {
+        None => JsonReason::Empty,
+        Some(Level::Array) => JsonReason::EndInArray,
+        Some(Level::Object) => JsonReason::EndInObject,
+    }
+}
+
+/// For an end that comes too early.
+fn end_reason(top: Option<Level>, state: State) -> JsonReason
+    ensures { result ≡ end_reason top state }
+{
+    match state {
+        State::Text(_) | State::Escape(_) | State::Hex(_, _) => JsonReason::EndInText,
+        State::Number(part) if !ends_number(part) => JsonReason::EndInNumber,
+        State::Letters(_) => JsonReason::EndInWord,
+        _ => open_reason(top),
+    }
+}
+
+/// The reason for which reading stops.
+pub(crate) fn stop_reason(reading: Reading) -> JsonReason
+    ensures { result ≡ stop_reason reading.entry.stop reading.entry.top reading.entry.state
+        (chars reading.entry.rest.now) }
+{
+    match reading.stop {
+        Stop::Whole => JsonReason::Unreadable,
+        Stop::Unfinished => end_reason(reading.top, reading.state),
+        Stop::TooDeep => JsonReason::TooManyLevels,
+        Stop::Unexpected => match split_first(reading.rest) {
+            Some((next, _)) => unexpected_reason(reading.top, reading.state, next),
+            None => JsonReason::Unreadable,
+        },
+    }
+}

@@ -1,0 +1,146 @@
+//! The strings and numbers of a JSON text.
+
+ghost use Rattle.std.specs.Prelude.{◌≡◌, ◌<◌, ◌≤◌, ◌+◌, true, IfOk, IfSome, length};
+ghost use Rattle.jp_json.specs.Misreading.{cause_of, scalar};
+
+use crate::reason::JsonReason;
+use jp_document::{DocumentFault, parsed_value};
+use std::alloc::{AllocError, Global};
+
+/// Where a string or a number stands in a JSON text: its bytes from `start` up to and without `end`.
+#[derive(Clone, Copy, Debug, PartialEq, Eq)]
+pub(crate) struct Scalar {
+    pub start: usize,
+    pub end: usize,
+}
+
+/// The end of the string whose characters begin at that byte.
+fn string_end(text: &[u8], from: usize) -> usize
+    requires { from ≤ length text.now }
+    ensures low { from ≤ result }
+    ensures high { result ≤ length text.now }
+{
+    let mut at = from;
+    'characters: while at < text.len() {
+        match text[at] {
+            b'"' => return at + 1,
+            b'\\' if at + 1 < text.len() => at += 2,
+            _ => at += 1,
+        }
+    }
+    at
+}
+
+/// The end of the number that goes on at that byte.
+fn number_end(text: &[u8], from: usize) -> usize
+    requires { from ≤ length text.now }
+    ensures low { from ≤ result }
+    ensures high { result ≤ length text.now }
+{
+    let mut at = from;
+    'digits: while at < text.len() {
+        if !matches!(text[at], b'0'..=b'9' | b'.' | b'e' | b'E' | b'+' | b'-') {
+            break;
+        }
+        at += 1;
+    }
+    at
+}
+
+/// The string or the number that begins at that byte, if one does.
+pub(crate) fn scalar_at(text: &[u8], start: usize) -> Option<Scalar>
+    requires { start < length text.now }
+    ensures start { IfSome result (λ s. s.start ≡ start) }
+    ensures end { IfSome result (λ s. (start < s.end) × (s.end ≤ length text.now)) }
+{
+    let end = match text[start] {
+        b'"' => string_end(text, start + 1),
+        b'-' | b'0'..=b'9' => number_end(text, start + 1),
+        _ => return None,
+    };
+    Some(Scalar { start, end })
+}
+
+/// Whether these bytes alone hold no JSON value.
+fn is_refused(alloc: Global, text: &[u8]) -> Result<bool, AllocError> {
+    match parsed_value(alloc, text) {
+        Err(DocumentFault::NotJson) => Ok(true),
+        Err(DocumentFault::NoMemory) => Err(AllocError),
+        _ => Ok(false),
+    }
+}
+
+/// Of a JSON text that holds no value the first string or number that is to blame, and why.
+pub(crate) fn refused_scalar(alloc: Global, text: &[u8]) -> Result<(usize, JsonReason), AllocError>
+    ensures { IfOk result (λ x. cause_of x.1 ≡ scalar) }
+{
+    let mut at = 0;
+    'scalars: while at < text.len() {
+        match scalar_at(text, at) {
+            Some(found) => {
+                if is_refused(alloc, &text[at..found.end])? {
+                    return Ok(blamed(text, found.start));
+                }
+                at = found.end;
+            }
+            None => at += 1,
+        }
+    }
+    Ok((0, JsonReason::Unreadable))
+}
+
+/// The place and the reason in the string or number that begins at that byte.
+fn blamed(text: &[u8], start: usize) -> (usize, JsonReason)
+    requires { start < length text.now }
+    ensures { cause_of result.1 ≡ scalar }
+{
+    if text[start] == b'"' {
+        (lone_surrogate(text, start + 1), JsonReason::LoneSurrogate)
+    } else {
+        (start, JsonReason::BeyondFloat)
+    }
+}
+
+/// The backslash of the first escape of half a surrogate pair, in the string whose characters begin
+/// at that byte.
+fn lone_surrogate(text: &[u8], from: usize) -> usize
+    requires { from ≤ length text.now }
+{
+    let mut at = from;
+    'characters: while at < text.len() {
+        if text[at] != b'\\' {
+            at += 1;
+            continue;
+        }
+        match unit_at(text, at) {
+            Some(0xd800..=0xdbff) if is_low_at(text, at + 6) => at += 12,
+            Some(0xd800..=0xdfff) => return at,
+            Some(_) => at += 6,
+            None if at + 1 < text.len() => at += 2,
+            None => at += 1,
+        }
+    }
+    from
+}
+
+/// Whether an escape of the second half of a surrogate pair stands at that byte.
+fn is_low_at(text: &[u8], at: usize) -> bool
+    ensures { result ≡ true → at + 6 ≤ length text.now }
+{
+    matches!(unit_at(text, at), Some(0xdc00..=0xdfff))
+}
+
+/// The number of the escape by `u` that stands at that byte, if one does.
+fn unit_at(text: &[u8], at: usize) -> Option<u32>
+    ensures { IfSome result (λ _. at + 6 ≤ length text.now) }
+{
+    if at >= text.len() || text.len() - at < 6 || text[at] != b'\\' || text[at + 1] != b'u' {
+        return None;
+    }
+    let mut unit = 0u32;
+    for digit in &text[at + 2..at + 6] {
+        let value = char::from(*digit).to_digit(16)?;
+        unit = (unit * 16 + value) % 0x1_0000;
+    }
+    Some(unit)
+}
