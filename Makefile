@@ -37,6 +37,7 @@ test-hostile: ## runs of the proved programs where memory, stack or streams fail
 	hostile/run
 	hostile/lines
 	hostile/queries
+	hostile/json
 	hostile/readers
 
 fmt: ## the code in Rattle, as rt fmt writes it

@@ -5,13 +5,15 @@
 //! path and writes its steps or why it is none; `steps` and `no-steps` read it as a pattern and
 //! write whether a scan accepts 100,000 times `ab`, or the empty text; `descend` reads it as a
 //! document and writes how many nodes it has; `documents` reads it by `serde_json` and writes its
-//! compact text or why it is none. The status is 0, 4 where memory ran out, and 5 where a read or a
+//! compact text or why it is none; `misread` reads it as bytes, two hexadecimal digits each, and
+//! writes why they are no document, and where. The status is 0, 4 where memory ran out, and 5 where a read or a
 //! write failed otherwise.
 #![tactic(auto)]
 
 use jp_document::{DocumentFault, OwnedStep, PathFault, parsed_value, read_path};
 use jp_held::Document;
 use jp_iregexp::{PatternFault, read_pattern};
+use jp_json::find_misreading;
 use jp_lent::value_text;
 use jp_match::{Scan, Tests};
 use jp_select::descend_each;
@@ -45,6 +47,7 @@ fn run(rt: &HostRuntime) -> io::Result<()> {
             "no-steps" => scanned(alloc, line.as_str(), 0)?,
             "descend" => nodes_of(alloc, line.as_str())?,
             "documents" => value_of(alloc, line.as_str())?,
+            "misread" => misread(alloc, line.as_str())?,
             _ => steps_of(alloc, line.as_str())?,
         };
         println!(rt; "{told}")?;
@@ -94,6 +97,35 @@ fn value_of(alloc: Global, text: &str) -> io::Result<String> {
         Err(DocumentFault::NoMemory) => Err(Error::from(ErrorKind::OutOfMemory)),
         Err(fault) => Ok(format!(in alloc; "{fault}")?),
     }
+}
+
+/// Why the bytes that hexadecimal digits write are no document: the reason, the byte, the line, the
+/// column, and the path of a number.
+fn misread(alloc: Global, digits: &str) -> io::Result<String> {
+    let mut bytes = Vec::new(alloc);
+    let mut high = None;
+    for c in digits.chars() {
+        let Some(digit) = c.to_digit(16) else {
+            return Ok(String::from_str(alloc, "no bytes")?);
+        };
+        match high {
+            None => high = Some(digit),
+            Some(first) => {
+                bytes.push((first * 16 + digit) as u8)?;
+                high = None;
+            }
+        }
+    }
+    let Some(told) = find_misreading(alloc, &bytes)? else {
+        return Ok(String::from_str(alloc, "document")?);
+    };
+    let path = match &told.path {
+        Some(path) => path.as_str(),
+        None => "",
+    };
+    let reason = told.reason;
+    let place = (told.offset, told.line, told.column);
+    Ok(format!(in alloc; "{reason:?} {} {} {} {path}", place.0, place.1, place.2)?)
 }
 
 /// Whether a scan of the pattern that a text is accepts so many times `ab`.
