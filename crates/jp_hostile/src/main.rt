@@ -111,7 +111,7 @@ fn misread(alloc: Global, digits: &str) -> io::Result<String> {
         match high {
             None => high = Some(digit),
             Some(first) => {
-                bytes.push((first * 16 + digit) as u8)?;
+                bytes.push(((first.wrapping_mul(16) | digit) & 0xff) as u8)?;
                 high = None;
             }
         }

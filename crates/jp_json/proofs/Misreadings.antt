@@ -27,7 +27,8 @@ use Rattle.jp_json.specs.declared.state.Part.TheVariants.{Minus, Zero, Whole, Po
 use Rattle.jp_json.specs.declared.state.Part.TheVariants.{Exponent, Sign, Power}
 use Rattle.jp_json.specs.declared.state.State.{State}
 use Rattle.jp_json.specs.declared.state.State.TheVariants as state
-use Rattle.jp_json.specs.Misreading.{utf8_text, syntax, scalar, fraction, cause_of, IsCausedBy, IsMisreading}
+use Rattle.jp_json.specs.Private.Parts.{IsBlamed}
+use Rattle.jp_json.specs.Misreading.{IsNotWhole, utf8_text, syntax, scalar, fraction, cause_of, IsCausedBy, IsMisreading}
 use Rattle.jp_json.specs.Place.{column, front_of, line_number}
 use Rattle.jp_json.specs.Private.Reading.{IsReading}
 use Rattle.jp_json.specs.Private.Machine.{ends_number}
@@ -203,11 +204,16 @@ unfinished-cause bytes text r reason path defect is utf8 h stops reason_is =
 
 pub whole-cause : {Z : Type 0} (bytes text : List ℕ) (r : Reading) (reason : JsonReason) (path : Option (String Z))
     → HasDefect bytes not_json → text ≡ take (utf8_valid_len bytes) bytes → IsUtf8 bytes
-    → IsReading (chars text) r → r.stop ≡ stop.Whole → cause_of reason ≡ scalar
-    → (offset : ℕ)
+    → IsReading (chars text) r → r.stop ≡ stop.Whole
+    → (offset : ℕ) → IsBlamed scalar (λ part. HasDefect part not_json) bytes offset reason
     → IsCausedBy (cause_of reason) bytes offset path
-whole-cause bytes text r reason path defect is utf8 h stops kind offset =
-    rw kind (defect, utf8, whole-text (utf8_text bytes) r (read-front bytes text r is h) stops)
+whole-cause bytes text r reason path defect is utf8 h stops offset blame =
+    elim blame [
+      | inl b ↦
+          rw b.0
+          (defect, utf8, whole-text (utf8_text bytes) r (read-front bytes text r is h) stops, b.1)
+      | inr e ↦ rw e (inl defect)
+    ]
 
 -- the bytes are no UTF-8, and what is before is read whole, or as far as it goes
 pub encoding-cause : {Z : Type 0} (bytes text : List ℕ) (r : Reading) (offset : ℕ) (path : Option (String Z))
@@ -233,9 +239,14 @@ encoding-cause bytes text r offset path defect is none h stops offset_is =
     min_eq = let le = utf8_valid_len_le bytes in omega (arith, le)
 
 pub fraction-cause : {Z : Type 0} (bytes : List ℕ) (reason : JsonReason) (offset : ℕ) (p : String Z) (path : Option (String Z))
-    → HasDefect bytes (not_whole (string_bytes p)) → path ≡ Some p → cause_of reason ≡ fraction
+    → HasDefect bytes (not_whole (string_bytes p)) → path ≡ Some p
+    → IsBlamed fraction IsNotWhole bytes offset reason
     → IsCausedBy (cause_of reason) bytes offset path
-fraction-cause bytes reason offset p path defect is kind = rw (kind, is) defect
+fraction-cause bytes reason offset p path defect is blame =
+    elim blame [
+      | inl b ↦ rw (b.0, is) (defect, b.1)
+      | inr e ↦ rw e (inr (string_bytes p, defect))
+    ]
 
 pub not-utf8 : (b : Bool) (bytes : List ℕ) → (IsUtf8 bytes → b ≡ true) → b ≡ false → IsUtf8 bytes → ⊥
 not-utf8 b bytes whole other utf8 = let here = whole utf8 in cc

@@ -3,5 +3,6 @@ pub mod Language
 pub mod Misreading
 pub mod Place
 pub mod Sentences
+pub mod Told
 pub mod ViablePrefix
 pub mod Private

@@ -1,5 +1,5 @@
 -- What is told of bytes that are no document.
-use Rattle.std.specs.Prelude.{◌≡◌, ◌⊎◌, ℕ, List, take, string_bytes, IsUtf8, Option, Some, None, String}
+use Rattle.std.specs.Prelude.{◌≡◌, ◌⊎◌, ◌≤◌, ℕ, List, length, slice_range, take, string_bytes, IsUtf8, Option, Some, None, String}
 use Rattle.std.specs.Str.{chars}
 use Rattle.std.specs.Str.Lossy.{utf8_valid_len}
 use Rattle.jp_reading.specs.Texts.{Text}
@@ -19,25 +19,26 @@ abbrev pub utf8_text : List ℕ → Text
 utf8_text bytes = chars (take (utf8_valid_len bytes) bytes)
 
 -- What kind of reason: the bytes are no UTF-8; they are no JSON text; they nest too deep; a string or
--- a number in them stands for no value; a number is not whole; a list is too long.
+-- a number in them stands for no value; a number is not whole; a list is too long; or another.
 pub data Cause : Type 0 where
   encoding : Cause
   syntax : Cause
   levels : Cause
   scalar : Cause
   fraction : Cause
-  length : Cause
+  long_list : Cause
+  other : Cause
 
 abbrev pub cause_of : JsonReason → Cause
 cause_of NotUtf8 = encoding
 cause_of TooManyLevels = levels
 cause_of LoneSurrogate = scalar
 cause_of BeyondFloat = scalar
-cause_of Unreadable = scalar
 cause_of HasFraction = fraction
 cause_of NegativeZero = fraction
 cause_of OutOfRange = fraction
-cause_of ListTooLong = length
+cause_of ListTooLong = long_list
+cause_of Unreadable = other
 cause_of _ = syntax
 
 -- from that byte on the bytes are no UTF-8, and what is before it goes on to a JSON text
@@ -53,6 +54,20 @@ IsWrongAt bytes place =
     IsUnexpectedAt 127 (utf8_text bytes) place
     ⊎ (IsUtf8 bytes × IsUnfinishedAt 127 (utf8_text bytes) place)
 
+-- at that byte, or before it, begins a part of the bytes that ends there or after it, and that alone
+-- has such a defect
+pub record IsPartAt (bytes : List ℕ) (place : ℕ) (Has : List ℕ → Type 0) : Type 0 where
+  pub start : ℕ
+  pub end : ℕ
+  pub before : start ≤ place
+  pub after : place ≤ end
+  pub within : end ≤ length bytes
+  pub has : Has (slice_range bytes start end)
+
+-- some number is not whole
+abbrev pub IsNotWhole : List ℕ → Type 0
+IsNotWhole bytes = (path : List ℕ) × HasDefect bytes (not_whole path)
+
 -- the path of the first number that is not whole
 abbrev pub IsFractionPath : {Z : Type 0} → List ℕ → Option (String Z) → Type 0
 IsFractionPath bytes None = ⊥
@@ -65,9 +80,13 @@ IsCausedBy syntax bytes place path = HasDefect bytes not_json × IsWrongAt bytes
 IsCausedBy levels bytes place path =
     HasDefect bytes not_json × IsTooDeepAt 127 (utf8_text bytes) place
 IsCausedBy scalar bytes place path =
-    HasDefect bytes not_json × IsUtf8 bytes × json_text 127 (utf8_text bytes)
-IsCausedBy fraction bytes place path = IsFractionPath bytes path
-IsCausedBy length bytes place path = HasDefect bytes list_too_long
+    HasDefect bytes not_json
+    × IsUtf8 bytes
+    × json_text 127 (utf8_text bytes)
+    × IsPartAt bytes place (λ part. HasDefect part not_json)
+IsCausedBy fraction bytes place path = IsFractionPath bytes path × IsPartAt bytes place IsNotWhole
+IsCausedBy long_list bytes place path = HasDefect bytes list_too_long
+IsCausedBy other bytes place path = HasDefect bytes not_json ⊎ IsNotWhole bytes
 
 -- the bytes are misread so
 pub record IsMisreading (bytes : List ℕ) (m : Misreading) : Type 0 where

@@ -1,3 +1,4 @@
 pub mod Machine
+pub mod Parts
 pub mod Reading
 pub mod Reasons

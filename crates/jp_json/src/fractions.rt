@@ -1,7 +1,9 @@
 //! The first number that is not whole.
 
 ghost use Rattle.std.specs.Prelude.{◌≡◌, ◌≤◌, ◌<◌, IfOk, IfSome, length};
-ghost use Rattle.jp_json.specs.Misreading.{cause_of, fraction};
+ghost use Rattle.std.specs.Prelude.{true};
+ghost use Rattle.jp_json.specs.Misreading.{IsNotWhole, cause_of, fraction};
+ghost use Rattle.jp_json.specs.Private.Parts.{IsBlamed};
 ghost use Rattle.jp_json.specs.Private.Reasons.{fraction_reason, has_fraction, is_zero};
 
 use crate::reason::JsonReason;
@@ -180,24 +182,37 @@ fn fraction_reason(number: &[u8]) -> JsonReason
     }
 }
 
+/// Whether these bytes alone are a number that is not whole.
+fn is_not_whole(alloc: Global, text: &[u8]) -> Result<bool, AllocError>
+    ensures { IfOk result (λ b. b ≡ true → IsNotWhole text.now) }
+{
+    match parsed_value(alloc, text) {
+        Err(DocumentFault::NotWhole(_)) => Ok(true),
+        Err(DocumentFault::NoMemory) => Err(AllocError),
+        _ => Ok(false),
+    }
+}
+
 /// The place of the first number that is not whole, which has that path, and why it is not.
 pub(crate) fn fraction_at(
     alloc: Global,
     text: &[u8],
     path: &str,
 ) -> Result<(usize, JsonReason), AllocError>
-    ensures { IfOk result (λ x. cause_of x.1 ≡ fraction) }
+    ensures { IfOk result (λ x. IsBlamed fraction IsNotWhole text.now x.0 x.1) }
 {
     let location = match read_path(alloc, path) {
         Ok(location) => location,
         Err(PathFault::NoMemory) => return Err(AllocError),
-        Err(_) => return Ok((0, JsonReason::HasFraction)),
+        Err(_) => return Ok((0, JsonReason::Unreadable)),
     };
-    match number_at(alloc, text, location.steps())? {
-        Some(number) => {
-            let reason = fraction_reason(&text[number.start..number.end]);
-            Ok((number.start, reason))
-        }
-        None => Ok((0, JsonReason::HasFraction)),
+    let Some(number) = number_at(alloc, text, location.steps())? else {
+        return Ok((0, JsonReason::Unreadable));
+    };
+    let part = &text[number.start..number.end];
+    if is_not_whole(alloc, part)? {
+        Ok((number.start, fraction_reason(part)))
+    } else {
+        Ok((0, JsonReason::Unreadable))
     }
 }

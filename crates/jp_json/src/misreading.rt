@@ -16,6 +16,7 @@ use crate::scalars::refused_scalar;
 use crate::utf8::utf8_front;
 use jp_document::{DocumentFault, parsed_value};
 use std::alloc::{AllocError, Global};
+use std::fmt;
 
 /// Why bytes are no document, and where.
 #[derive(Debug, PartialEq, Drop)]
@@ -30,6 +31,24 @@ pub struct Misreading {
     /// The normalized path of a number that is not whole (RFC 9535 section 2.7); None for other
     /// reasons.
     pub path: Option<String>,
+}
+
+/// The place, the path of a number, and the sentence, as `line 1, column 4: No comma may come before a
+/// closing bracket.`
+impl fmt::Display for Misreading {
+    ghost use Rattle.std.specs.Prelude.{Some};
+    ghost use Rattle.jp_json.specs.Told.{misreading_text};
+
+    ghost output = { λ m. Some (misreading_text m) };
+
+    fn fmt<W: fmt::Write>(&self, f: &mut fmt::Formatter<W>) -> fmt::Result {
+        let (line, column) = (self.line, self.column);
+        let sentence = self.reason.sentence();
+        match &self.path {
+            Some(path) => write!(f, "line {line}, column {column}, at {path}: {sentence}"),
+            None => write!(f, "line {line}, column {column}: {sentence}"),
+        }
+    }
 }
 
 /// That reason, at that byte of the text.

@@ -1,7 +1,9 @@
 //! The strings and numbers of a JSON text.
 
 ghost use Rattle.std.specs.Prelude.{◌≡◌, ◌<◌, ◌≤◌, ◌+◌, true, IfOk, IfSome, length};
+ghost use Rattle.jp_document.specs.Document.{HasDefect, not_json};
 ghost use Rattle.jp_json.specs.Misreading.{cause_of, scalar};
+ghost use Rattle.jp_json.specs.Private.Parts.{IsBlamed};
 
 use crate::reason::JsonReason;
 use jp_document::{DocumentFault, parsed_value};
@@ -62,7 +64,9 @@ pub(crate) fn scalar_at(text: &[u8], start: usize) -> Option<Scalar>
 }
 
 /// Whether these bytes alone hold no JSON value.
-fn is_refused(alloc: Global, text: &[u8]) -> Result<bool, AllocError> {
+fn is_refused(alloc: Global, text: &[u8]) -> Result<bool, AllocError>
+    ensures { IfOk result (λ b. b ≡ true → HasDefect text.now not_json) }
+{
     match parsed_value(alloc, text) {
         Err(DocumentFault::NotJson) => Ok(true),
         Err(DocumentFault::NoMemory) => Err(AllocError),
@@ -72,14 +76,15 @@ fn is_refused(alloc: Global, text: &[u8]) -> Result<bool, AllocError> {
 
 /// Of a JSON text that holds no value the first string or number that is to blame, and why.
 pub(crate) fn refused_scalar(alloc: Global, text: &[u8]) -> Result<(usize, JsonReason), AllocError>
-    ensures { IfOk result (λ x. cause_of x.1 ≡ scalar) }
+    ensures { IfOk result
+        (λ x. IsBlamed scalar (λ part. HasDefect part not_json) text.now x.0 x.1) }
 {
     let mut at = 0;
     'scalars: while at < text.len() {
         match scalar_at(text, at) {
             Some(found) => {
                 if is_refused(alloc, &text[at..found.end])? {
-                    return Ok(blamed(text, found.start));
+                    return Ok(blamed(&text[..found.end], at));
                 }
                 at = found.end;
             }
@@ -89,10 +94,12 @@ pub(crate) fn refused_scalar(alloc: Global, text: &[u8]) -> Result<(usize, JsonR
     Ok((0, JsonReason::Unreadable))
 }
 
-/// The place and the reason in the string or number that begins at that byte.
+/// The place and the reason in the string or number that begins at that byte and ends the text.
 fn blamed(text: &[u8], start: usize) -> (usize, JsonReason)
     requires { start < length text.now }
-    ensures { cause_of result.1 ≡ scalar }
+    ensures low { start ≤ result.0 }
+    ensures high { result.0 ≤ length text.now }
+    ensures cause { cause_of result.1 ≡ scalar }
 {
     if text[start] == b'"' {
         (lone_surrogate(text, start + 1), JsonReason::LoneSurrogate)
@@ -105,6 +112,8 @@ fn blamed(text: &[u8], start: usize) -> (usize, JsonReason)
 /// at that byte.
 fn lone_surrogate(text: &[u8], from: usize) -> usize
     requires { from ≤ length text.now }
+    ensures low { from ≤ result }
+    ensures high { result ≤ length text.now }
 {
     let mut at = from;
     'characters: while at < text.len() {

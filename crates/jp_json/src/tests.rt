@@ -84,3 +84,24 @@ fn level_128_is_one_too_many(rt: HostRuntime) -> Result<(), Fail> {
     assert_told(&rt, &told, JsonReason::TooManyLevels, (127, 1, 128), None);
     Ok(())
 }
+
+#[test]
+fn is_told_in_one_line(rt: HostRuntime) -> Result<(), Fail> {
+    let alloc = rt.alloc();
+    for (bytes, wanted) in LINES {
+        let told = find_misreading(alloc, bytes)?.ok_or("a document")?;
+        assert_eq!(rt; format!(in alloc; "{told}")?.as_str(), *wanted);
+    }
+    Ok(())
+}
+
+const LINES: &[(&[u8], &str)] = &[
+    (
+        b"[1,\n]",
+        "line 2, column 1: No comma may come before a closing bracket.",
+    ),
+    (
+        b"{\"a\":[1e2]}",
+        "line 1, column 7, at $['a'][0]: A number with a fraction or an exponent is no whole number.",
+    ),
+];

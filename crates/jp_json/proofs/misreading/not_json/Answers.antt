@@ -41,8 +41,8 @@ returns-in_ok-offset-in-Whole c =
     (c.utf8_front-is_utf8.ensures.whole.0 c.if-is_utf8-2.true)
     c.in_ok-reading.ensures
     c.in-Whole.is
-    c.in_ok-offset-in-Whole.ensures
-    _)
+    _
+    c.in_ok-offset-in-Whole.ensures)
 
 pub returns-in-Unfinished-2 : goal.returns-in-Unfinished-2
 returns-in-Unfinished-2 c =

@@ -1,0 +1,19 @@
+-- How a misreading is told in one line.
+use Rattle.std.specs.Prelude.{ℕ, List, ◌++◌, codes, string_bytes, Option, Some, None, String}
+use Rattle.std.specs.Fmt.{decimal}
+use Rattle.jp_json.specs.declared.misreading.Misreading.{Misreading}
+use Rattle.jp_json.specs.declared.reason.JsonReason.{JsonReason}
+use Rattle.jp_json.specs.Sentences.{sentence_of}
+
+-- with the path of a number that is not whole, or without
+abbrev pub told_with : {Z : Type 0} → ℕ → ℕ → JsonReason → Option (String Z) → List ℕ
+told_with line column reason (Some path) =
+    codes "line " ++ (decimal line ++ (codes ", column " ++ (decimal column
+    ++ (codes ", at " ++ (string_bytes path ++ (codes ": " ++ sentence_of reason))))))
+told_with line column reason None =
+    codes "line " ++ (decimal line ++ (codes ", column " ++ (decimal column
+    ++ (codes ": " ++ sentence_of reason))))
+
+-- the line, the column, the path of a number, and the sentence
+abbrev pub misreading_text : Misreading → List ℕ
+misreading_text m = told_with m.line m.column m.reason m.path
