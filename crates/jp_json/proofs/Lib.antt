@@ -2,6 +2,7 @@ pub mod Accepted
 pub mod Classes
 pub mod Leads
 pub mod Misreadings
+pub mod Once
 pub mod Places
 pub mod Readings
 pub mod Rest

@@ -1,5 +1,6 @@
 pub mod Grammar
 pub mod Language
+pub mod Laws
 pub mod Misreading
 pub mod Place
 pub mod Sentences

@@ -14,6 +14,7 @@
 #![tactic(auto)]
 
 mod fractions;
+pub mod laws;
 mod levels;
 mod machine;
 mod misreading;
