@@ -6,5 +6,6 @@ pub mod Once
 pub mod Places
 pub mod Readings
 pub mod Rest
+pub mod Rows
 pub mod Viable
 pub mod Written

@@ -28,7 +28,7 @@ use Rattle.jp_json.specs.declared.state.Part.TheVariants.{Exponent, Sign, Power}
 use Rattle.jp_json.specs.declared.state.State.{State}
 use Rattle.jp_json.specs.declared.state.State.TheVariants as state
 use Rattle.jp_json.specs.Private.Parts.{IsBlamed}
-use Rattle.jp_json.specs.Misreading.{IsNotWhole, utf8_text, syntax, scalar, fraction, cause_of, IsCausedBy, IsMisreading}
+use Rattle.jp_json.specs.Misreading.{IsNoValue, IsNotWhole, utf8_text, syntax, scalar, fraction, cause_of, IsCausedBy, IsMisreading}
 use Rattle.jp_json.specs.Place.{column, front_of, line_number}
 use Rattle.jp_json.specs.Private.Reading.{IsReading}
 use Rattle.jp_json.specs.Private.Machine.{ends_number}
@@ -205,7 +205,7 @@ unfinished-cause bytes text r reason path defect is utf8 h stops reason_is =
 pub whole-cause : {Z : Type 0} (bytes text : List ℕ) (r : Reading) (reason : JsonReason) (path : Option (String Z))
     → HasDefect bytes not_json → text ≡ take (utf8_valid_len bytes) bytes → IsUtf8 bytes
     → IsReading (chars text) r → r.stop ≡ stop.Whole
-    → (offset : ℕ) → IsBlamed scalar (λ part. HasDefect part not_json) bytes offset reason
+    → (offset : ℕ) → IsBlamed scalar IsNoValue bytes offset reason
     → IsCausedBy (cause_of reason) bytes offset path
 whole-cause bytes text r reason path defect is utf8 h stops offset blame =
     elim blame [
@@ -245,7 +245,7 @@ pub fraction-cause : {Z : Type 0} (bytes : List ℕ) (reason : JsonReason) (offs
 fraction-cause bytes reason offset p path defect is blame =
     elim blame [
       | inl b ↦ rw (b.0, is) (defect, b.1)
-      | inr e ↦ rw e (inr (string_bytes p, defect))
+      | inr e ↦ rw (e, is) (inr defect)
     ]
 
 pub not-utf8 : (b : Bool) (bytes : List ℕ) → (IsUtf8 bytes → b ≡ true) → b ≡ false → IsUtf8 bytes → ⊥

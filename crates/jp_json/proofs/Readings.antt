@@ -169,3 +169,10 @@ whole-viable text r h is = read-viable text r h (ended (rw is at h.stops))
   where
     ended : IsStopped Whole (chars r.rest.now) h.open_levels r.state → chars r.rest.now ≡ []
     ended s = s.0
+
+-- a whole text, of bytes
+pub whole-bytes : (bytes text : List ℕ) (r : Reading) → text ≡ bytes → IsReading (chars text) r
+    → r.stop ≡ Whole
+    → json_text 127 (chars bytes)
+whole-bytes bytes text r is h stops =
+    subst (λ t. json_text 127 (chars t)) is (whole-text (chars text) r h stops)

@@ -1,5 +1,8 @@
 -- What is told of bytes that are no document.
-use Rattle.std.specs.Prelude.{◌≡◌, ◌⊎◌, ◌≤◌, ℕ, List, length, slice_range, take, string_bytes, IsUtf8, Option, Some, None, String}
+use Rattle.std.specs.Prelude.{◌≡◌, ◌⊎◌, ◌≤◌, ◌||◌, ◌==◌, ℕ, Bool, true, false, List, [], ◌∷◌, length}
+use Rattle.std.specs.Prelude.{codes, slice_range, take, string_bytes, IsUtf8, Option, Some, None, String}
+use Rattle.jp_reading.specs.Characters.{double_quote, minus}
+use Rattle.jp_reading.specs.Numbers.{is_digit}
 use Rattle.std.specs.Str.{chars}
 use Rattle.std.specs.Str.Lossy.{utf8_valid_len}
 use Rattle.jp_reading.specs.Texts.{Text}
@@ -54,8 +57,7 @@ IsWrongAt bytes place =
     IsUnexpectedAt 127 (utf8_text bytes) place
     ⊎ (IsUtf8 bytes × IsUnfinishedAt 127 (utf8_text bytes) place)
 
--- at that byte, or before it, begins a part of the bytes that ends there or after it, and that alone
--- has such a defect
+-- that byte is in a part of the bytes, or at its end, and the part alone has that property
 pub record IsPartAt (bytes : List ℕ) (place : ℕ) (Has : List ℕ → Type 0) : Type 0 where
   pub start : ℕ
   pub end : ℕ
@@ -64,9 +66,21 @@ pub record IsPartAt (bytes : List ℕ) (place : ℕ) (Has : List ℕ → Type 0)
   pub within : end ≤ length bytes
   pub has : Has (slice_range bytes start end)
 
--- some number is not whole
+-- whether the first byte is a double quote, a minus or a digit
+abbrev pub begins_scalar : List ℕ → Bool
+begins_scalar [] = false
+begins_scalar (b ∷ bs) = b == double_quote || b == minus || is_digit b
+
+-- a string or a number by the grammar, which alone holds no value
+pub record IsNoValue (part : List ℕ) : Type 0 where
+  pub begins : begins_scalar part ≡ true
+  pub utf8 : IsUtf8 part
+  pub text : json_text 127 (chars part)
+  pub defect : HasDefect part not_json
+
+-- a number that is not whole: its path in itself is that of the root
 abbrev pub IsNotWhole : List ℕ → Type 0
-IsNotWhole bytes = (path : List ℕ) × HasDefect bytes (not_whole path)
+IsNotWhole part = HasDefect part (not_whole (codes "$"))
 
 -- the path of the first number that is not whole
 abbrev pub IsFractionPath : {Z : Type 0} → List ℕ → Option (String Z) → Type 0
@@ -83,10 +97,10 @@ IsCausedBy scalar bytes place path =
     HasDefect bytes not_json
     × IsUtf8 bytes
     × json_text 127 (utf8_text bytes)
-    × IsPartAt bytes place (λ part. HasDefect part not_json)
+    × IsPartAt bytes place IsNoValue
 IsCausedBy fraction bytes place path = IsFractionPath bytes path × IsPartAt bytes place IsNotWhole
 IsCausedBy long_list bytes place path = HasDefect bytes list_too_long
-IsCausedBy other bytes place path = HasDefect bytes not_json ⊎ IsNotWhole bytes
+IsCausedBy other bytes place path = HasDefect bytes not_json ⊎ IsFractionPath bytes path
 
 -- the bytes are misread so
 pub record IsMisreading (bytes : List ℕ) (m : Misreading) : Type 0 where

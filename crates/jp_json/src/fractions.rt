@@ -187,7 +187,7 @@ fn is_not_whole(alloc: Global, text: &[u8]) -> Result<bool, AllocError>
     ensures { IfOk result (λ b. b ≡ true → IsNotWhole text.now) }
 {
     match parsed_value(alloc, text) {
-        Err(DocumentFault::NotWhole(_)) => Ok(true),
+        Err(DocumentFault::NotWhole(path)) => Ok(path.as_str() == "$"),
         Err(DocumentFault::NoMemory) => Err(AllocError),
         _ => Ok(false),
     }

@@ -2,12 +2,17 @@
 
 ghost use Rattle.std.specs.Prelude.{◌≡◌, ◌<◌, ◌≤◌, ◌+◌, true, IfOk, IfSome, length};
 ghost use Rattle.jp_document.specs.Document.{HasDefect, not_json};
-ghost use Rattle.jp_json.specs.Misreading.{cause_of, scalar};
+ghost use Rattle.std.specs.Prelude.{IsUtf8};
+ghost use Rattle.std.specs.Str.{chars};
+ghost use Rattle.jp_json.specs.Grammar.{json_text};
+ghost use Rattle.jp_json.specs.Misreading.{IsNoValue, begins_scalar, cause_of, scalar};
 ghost use Rattle.jp_json.specs.Private.Parts.{IsBlamed};
 
+use crate::reading::{Stop, read};
 use crate::reason::JsonReason;
 use jp_document::{DocumentFault, parsed_value};
 use std::alloc::{AllocError, Global};
+use std::str::from_utf8;
 
 /// Where a string or a number stands in a JSON text: its bytes from `start` up to and without `end`.
 #[derive(Clone, Copy, Debug, PartialEq, Eq)]
@@ -63,27 +68,60 @@ pub(crate) fn scalar_at(text: &[u8], start: usize) -> Option<Scalar>
     Some(Scalar { start, end })
 }
 
-/// Whether these bytes alone hold no JSON value.
-fn is_refused(alloc: Global, text: &[u8]) -> Result<bool, AllocError>
-    ensures { IfOk result (λ b. b ≡ true → HasDefect text.now not_json) }
+/// Whether the first byte is a double quote, a minus or a digit.
+#[tactic(auto, unfolding(jp_reading::specs::Numbers::is_digit))]
+fn begins_scalar(part: &[u8]) -> bool
+    ensures { result ≡ begins_scalar part.now }
 {
-    match parsed_value(alloc, text) {
+    match part {
+        [first, ..] => *first == b'"' || *first == b'-' || first.is_ascii_digit(),
+        [] => false,
+    }
+}
+
+/// Whether the bytes are a JSON text by the grammar.
+fn is_text(alloc: Global, part: &[u8]) -> Result<bool, AllocError>
+    ensures { IfOk result (λ b. b ≡ true → IsUtf8 part.now × json_text 127 (chars part.now)) }
+{
+    match from_utf8(part) {
+        Ok(text) => match read(alloc, text)?.stop {
+            Stop::Whole => Ok(true),
+            Stop::Unfinished | Stop::Unexpected | Stop::TooDeep => Ok(false),
+        },
+        Err(_) => Ok(false),
+    }
+}
+
+/// Whether the bytes hold no JSON value.
+fn is_not_json(alloc: Global, part: &[u8]) -> Result<bool, AllocError>
+    ensures { IfOk result (λ b. b ≡ true → HasDefect part.now not_json) }
+{
+    match parsed_value(alloc, part) {
         Err(DocumentFault::NotJson) => Ok(true),
         Err(DocumentFault::NoMemory) => Err(AllocError),
         _ => Ok(false),
     }
 }
 
+/// Whether the bytes are a string or a number that alone holds no value.
+fn is_no_value(alloc: Global, part: &[u8]) -> Result<bool, AllocError>
+    ensures { IfOk result (λ b. b ≡ true → IsNoValue part.now) }
+{
+    let is_text = is_text(alloc, part)?;
+    let is_not_json = is_not_json(alloc, part)?;
+    Ok(begins_scalar(part) && is_text && is_not_json)
+}
+
 /// Of a JSON text that holds no value the first string or number that is to blame, and why.
 pub(crate) fn refused_scalar(alloc: Global, text: &[u8]) -> Result<(usize, JsonReason), AllocError>
     ensures { IfOk result
-        (λ x. IsBlamed scalar (λ part. HasDefect part not_json) text.now x.0 x.1) }
+        (λ x. IsBlamed scalar IsNoValue text.now x.0 x.1) }
 {
     let mut at = 0;
     'scalars: while at < text.len() {
         match scalar_at(text, at) {
             Some(found) => {
-                if is_refused(alloc, &text[at..found.end])? {
+                if is_no_value(alloc, &text[at..found.end])? {
                     return Ok(blamed(&text[..found.end], at));
                 }
                 at = found.end;

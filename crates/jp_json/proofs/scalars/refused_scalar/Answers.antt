@@ -5,7 +5,7 @@ use Rattle.jp_json.proofs.scalars.refused_scalar.Goals as goal
 pub returns-then-branch : goal.returns-then-branch
 returns-then-branch c =
     let high = c.blamed.ensures.high in
-    let refused = c.in_ok-is_refused-in-Some.ensures in
+    let refused = c.in_ok-is_no_value-in-Some.ensures in
     inl (
       c.blamed.ensures.cause,
       record {
