@@ -212,7 +212,9 @@ whole-cause bytes text r reason path defect is utf8 h stops offset blame =
       | inl b ↦
           rw b.0
           (defect, utf8, whole-text (utf8_text bytes) r (read-front bytes text r is h) stops, b.1)
-      | inr e ↦ rw e (inl defect)
+      | inr e ↦
+          rw e
+          (inl (defect, utf8, whole-text (utf8_text bytes) r (read-front bytes text r is h) stops))
     ]
 
 -- the bytes are no UTF-8, and what is before is read whole, or as far as it goes

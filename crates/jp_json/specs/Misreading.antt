@@ -100,7 +100,9 @@ IsCausedBy scalar bytes place path =
     × IsPartAt bytes place IsNoValue
 IsCausedBy fraction bytes place path = IsFractionPath bytes path × IsPartAt bytes place IsNotWhole
 IsCausedBy long_list bytes place path = HasDefect bytes list_too_long
-IsCausedBy other bytes place path = HasDefect bytes not_json ⊎ IsFractionPath bytes path
+IsCausedBy other bytes place path =
+    (HasDefect bytes not_json × IsUtf8 bytes × json_text 127 (utf8_text bytes))
+    ⊎ IsFractionPath bytes path
 
 -- the bytes are misread so
 pub record IsMisreading (bytes : List ℕ) (m : Misreading) : Type 0 where
