@@ -103,9 +103,10 @@ def held_at_most(program, library, words, document):
     return given, int(told)
 
 
-def refuse_growths(runs, library, program, words, document, whole, **environment):
+def refuse_growths(runs, library, program, words, document, whole, less=None, **environment):
     """Refuses each request of a run, one a run: it gives what it gives with ample memory, `whole`, or
-    status 4 with its line and a prefix of that on both streams. The statuses of the refused runs."""
+    status 4 with its line and a prefix of that on both streams; or `less`, where that is given, which
+    lacks what a run can do without. The statuses of the refused runs."""
     statuses = []
     number = 1
     while True:
@@ -115,7 +116,8 @@ def refuse_growths(runs, library, program, words, document, whole, **environment
         is_prefix = whole[1].startswith(printed) and line != told and whole[2].startswith(told)
         stopped = came and status == 4 and is_prefix
         what = f"{words} with request {number} refused: {status} {printed!r} {line!r}"
-        runs.expect(given == whole or stopped, what)
+        lacks = came and given == less
+        runs.expect(given == whole or stopped or lacks, what)
         if not came:
             break
         statuses.append(status)

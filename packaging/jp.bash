@@ -1,4 +1,4 @@
-# Completion of jp for bash: its subcommands and its flag. A query can't be completed.
+# Completion of jp for bash: its subcommands and its flags. A query can't be completed.
 
 _jp() {
     local word=${COMP_WORDS[COMP_CWORD]}
@@ -8,18 +8,18 @@ _jp() {
         compopt -o default
     elif [ "$COMP_CWORD" -eq 1 ]; then
         mapfile -t COMPREPLY < <(compgen -W "check canon eval paths both" -- "$word")
-    elif [[ $word == -* ]] && ! _jp_has_flag; then
-        mapfile -t COMPREPLY < <(compgen -W "--extended" -- "$word")
+    elif [[ $word == -* ]]; then
+        mapfile -t COMPREPLY < <(compgen -W "$(_jp_flags)" -- "$word")
     fi
 }
 
-# Whether the words before this one have the flag, which is taken once, or the word after which there is none.
-_jp_has_flag() {
-    local word
-    for word in "${COMP_WORDS[@]:2:COMP_CWORD-2}"; do
-        case $word in --extended | --) return 0 ;; esac
+# The flags that the words before this one don't have, each of which is taken once; none after `--`.
+_jp_flags() {
+    local flag before=" ${COMP_WORDS[*]:2:COMP_CWORD-2} "
+    [[ $before != *" -- "* ]] || return 0
+    for flag in --extended --explain; do
+        [[ $before == *" $flag "* ]] || echo "$flag"
     done
-    return 1
 }
 
 complete -F _jp jp

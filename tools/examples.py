@@ -1,12 +1,13 @@
 #!/usr/bin/env python3
 """Runs the examples of a page by programs, and compares what they print, on both outputs, with what stands there.
 
-    tools/examples.py [--man] [--jp PROGRAM] [--jp-lines PROGRAM] [--status-of PROGRAM] PAGE
+    tools/examples.py [--man] [--jp PROGRAM] [--jp-lines PROGRAM] [--status-of PROGRAM] [--without WORD] PAGE
 
-An example is an indented line that begins with "$ "; the indented lines after it are what it prints. With --man the
-page is one as `man` shows it, where an empty line ends an example and EXAMPLES stands before them. An example names
-a program as `bin/jp`, or `jp`: it is run in a folder where that is the program given. With --status-of each example
-also has to end with the status with which it ends where that program is `jp`.
+An example is a line that begins with "$ ", indented or in a fence; the lines after it there are what it prints. With
+--man the page is one as `man` shows it, where an empty line ends an example and EXAMPLES stands before them. An
+example names a program as `bin/jp`, or `jp`: it is run in a folder where that is the program given. With --status-of
+each example also has to end with the status with which it ends where that program is `jp`. With --without those
+examples are left out that have the word in them.
 """
 import os
 import re
@@ -19,28 +20,32 @@ MAN = re.compile(r"^EXAMPLES$(.*?)^[A-Z]", re.DOTALL | re.MULTILINE)
 
 def of_page(text):
     """The examples of a page: each a command and what it prints."""
-    found, is_open = [], False
+    found, is_open, is_fenced = [], False, False
     for line in text.splitlines():
-        is_begun = line.startswith("    $ ")
-        is_open = is_begun or (is_open and line.startswith("    "))
+        if line.startswith("```"):
+            is_fenced, is_open = not is_fenced, False
+            continue
+        indent = "" if is_fenced else "    "
+        is_begun = line.startswith(indent + "$ ")
+        is_open = is_begun or (is_open and line.startswith(indent))
         if is_begun:
-            found.append((line[6:], []))
+            found.append((line[len(indent) + 2 :], []))
         elif is_open:
-            found[-1][1].append(line[4:])
+            found[-1][1].append(line[len(indent) :])
     return [(command, "\n".join(printed)) for command, printed in found]
 
 
 def of_man(text):
     """The examples of a page as `man` shows it."""
-    found, is_open = [], False
+    found, is_open, indent = [], False, 0
     for line in MAN.search(text)[1].splitlines():
-        line = line.strip()
-        is_begun = line.startswith("$ ")
-        is_open = is_begun or (is_open and line != "")
+        is_begun = line.lstrip().startswith("$ ")
+        is_open = is_begun or (is_open and line.strip() != "")
         if is_begun:
-            found.append((line[2:], []))
+            indent = len(line) - len(line.lstrip())
+            found.append((line[indent + 2 :], []))
         elif is_open:
-            found[-1][1].append(line)
+            found[-1][1].append(line[indent:])
     return [(command, "\n".join(printed)) for command, printed in found]
 
 
@@ -67,7 +72,7 @@ def faults_of(found, programs, status_of=None):
 
 
 def main(words):
-    programs, status_of, examples_of = {}, None, of_page
+    programs, status_of, without, examples_of = {}, None, None, of_page
     while len(words) > 1:
         word = words.pop(0)
         if word == "--man":
@@ -76,10 +81,12 @@ def main(words):
             programs[word[2:]] = words.pop(0)
         elif word == "--status-of":
             status_of = words.pop(0)
+        elif word == "--without":
+            without = words.pop(0)
         else:
             sys.exit(__doc__)
     with open(words[0], encoding="utf-8") as file:
-        found = examples_of(file.read())
+        found = [example for example in examples_of(file.read()) if without not in example[0].split()]
     faults = list(faults_of(found, programs, status_of))
     print("\n".join(faults), end="\n" if faults else "")
     print(f"examples of {os.path.basename(words[0])}: {len(found) - len(faults)} passed, {len(faults)} failed")

@@ -3,6 +3,8 @@ pub mod Streams
 pub mod Matches
 pub mod Rows
 pub mod Runs
+pub mod Told
+pub mod Explaining
 pub mod LineLemmas
 pub mod Flushes
 pub mod FoundLines

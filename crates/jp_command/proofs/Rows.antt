@@ -12,43 +12,54 @@ use Rattle.jp_tree.specs.declared.tree.Numeral.TheVariants.{Whole}
 use Rattle.jp_command.specs.declared.words.Task.TheVariants.{Check, Canon, Eval}
 
 both : asked (codes "jp" ∷ codes "both" ∷ codes "$" ∷ [])
-    ≡ Some (Eval Both, codes "$", Standard)
+    ≡ Some (Eval Both, codes "$", Standard, false)
 unfolding clap_on_literals jp query_app
 both = refl
 
 values : asked (codes "jp" ∷ codes "eval" ∷ codes "$" ∷ [])
-    ≡ Some (Eval Values, codes "$", Standard)
+    ≡ Some (Eval Values, codes "$", Standard, false)
 unfolding clap_on_literals jp query_app
 values = refl
 
-canonical : asked (codes "jp" ∷ codes "canon" ∷ codes "$" ∷ []) ≡ Some (Canon, codes "$", Standard)
+canonical : asked (codes "jp" ∷ codes "canon" ∷ codes "$" ∷ []) ≡ Some (Canon, codes "$", Standard, false)
 unfolding clap_on_literals jp query_app
 canonical = refl
 
-checked : asked (codes "jp" ∷ codes "check" ∷ codes "$" ∷ []) ≡ Some (Check, codes "$", Standard)
+checked : asked (codes "jp" ∷ codes "check" ∷ codes "$" ∷ []) ≡ Some (Check, codes "$", Standard, false)
 unfolding clap_on_literals jp query_app
 checked = refl
 
 flag_first : asked (codes "jp" ∷ codes "paths" ∷ codes "--extended" ∷ codes "$" ∷ [])
-    ≡ Some (Eval Paths, codes "$", Extended)
+    ≡ Some (Eval Paths, codes "$", Extended, false)
 unfolding clap_on_literals jp query_app
 flag_first = refl
 
 flag_last : asked (codes "jp" ∷ codes "check" ∷ codes "$" ∷ codes "--extended" ∷ [])
-    ≡ Some (Check, codes "$", Extended)
+    ≡ Some (Check, codes "$", Extended, false)
 unfolding clap_on_literals jp query_app
 flag_last = refl
 
 flag_as_query : asked (codes "jp" ∷ codes "canon" ∷ codes "--" ∷ codes "--extended" ∷ [])
-    ≡ Some (Canon, codes "--extended", Standard)
+    ≡ Some (Canon, codes "--extended", Standard, false)
 unfolding clap_on_literals jp query_app
 flag_as_query = refl
 
 flag_before_dashes :
     asked (codes "jp" ∷ codes "eval" ∷ codes "--extended" ∷ codes "--" ∷ codes "-" ∷ [])
-    ≡ Some (Eval Values, codes "-", Extended)
+    ≡ Some (Eval Values, codes "-", Extended, false)
 unfolding clap_on_literals jp query_app
 flag_before_dashes = refl
+
+explained : asked (codes "jp" ∷ codes "check" ∷ codes "--explain" ∷ codes "$" ∷ [])
+    ≡ Some (Check, codes "$", Standard, true)
+unfolding clap_on_literals jp query_app
+explained = refl
+
+both_flags :
+    asked (codes "jp" ∷ codes "eval" ∷ codes "--extended" ∷ codes "$" ∷ codes "--explain" ∷ [])
+    ≡ Some (Eval Values, codes "$", Extended, true)
+unfolding clap_on_literals jp query_app
+both_flags = refl
 
 flag_twice :
     asked (codes "jp" ∷ codes "both" ∷ codes "--extended" ∷ codes "$" ∷ codes "--extended" ∷ [])

@@ -1,5 +1,5 @@
 -- What the words of a command line ask for: the command line as clap reads it, and the task, the
--- query and the profile that it finds in the words. `Line` cites it.
+-- query, the profile and the flag `--explain` that it finds in the words. `Line` cites it.
 use Rattle.std.specs.Prelude.{Bool, true, false, List, Option, Some, None, codes, if◌then◌else◌}
 use Rattle.std.specs.Prelude.{option_and_then, option_map}
 use Rattle.std.specs.Option.{option_map_or}
@@ -26,9 +26,13 @@ query_app name = with_flag
     (with_rule (new_app name) (record (new_rule (codes "QUERY")) { required = true }))
     (codes "extended")
 
+-- a subcommand of `jp`, which also has the flag `--explain`
+abbrev pub task_app : Text → App
+task_app name = with_flag (query_app name) (codes "explain")
+
 -- the command with one such subcommand more
 abbrev pub with_task : App → Text → App
-with_task app name = with_subcommand app (query_app name).top
+with_task app name = with_subcommand app (task_app name).top
 
 -- `jp` with its subcommands, one of which is required, and a version that it tells
 unfoldable pub jp : App
@@ -53,13 +57,15 @@ is_set flag rows = option_map_or (bytes_eq (codes "true")) (one_of flag rows) fa
 abbrev pub profile_asked : List Row → Profile
 profile_asked rows = if is_set (codes "extended") rows then Extended else Standard
 
--- the task, the query and the profile of the subcommand that the words name
-abbrev pub asked_by : Text × List Row → Option (Task × Text × Profile)
+-- the task, the query and the profile of the subcommand that the words name, and whether a query
+-- that is refused is to be explained
+abbrev pub asked_by : Text × List Row → Option (Task × Text × Profile × Bool)
 asked_by entered = option_and_then
-    (λ task. option_map (λ query. (task, query, profile_asked entered.1))
+    (λ task. option_map
+    (λ query. (task, query, profile_asked entered.1, is_set (codes "explain") entered.1))
     (first_of (codes "QUERY") entered.1)) (task_called entered.0)
 
 -- what the words ask for, the program's name among them: nothing where clap finds a fault in them
-abbrev pub asked : List Text → Option (Task × Text × Profile)
+abbrev pub asked : List Text → Option (Task × Text × Profile × Bool)
 asked words = if is_empty (fault_of jp words)
     then option_and_then asked_by (subcommand_of jp words) else None

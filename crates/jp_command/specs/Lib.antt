@@ -10,6 +10,7 @@ pub mod Run
 pub mod QueryLine
 pub mod Canon
 pub mod Check
+pub mod Explained
 pub mod Line
 pub mod Found
 pub mod Headline

@@ -1,12 +1,15 @@
 -- What the program says with its status: the status and the line of each fault, what a task's run
 -- says, and `RunsLine`, which the clause of `run_line` cites.
-use Rattle.std.specs.Prelude.{◌≡◌, ℕ, Bool, List, ◌++◌, Option, Some, None, Result, Ok, Err, codes}
+use Rattle.std.specs.Prelude.{◌≡◌, ℕ, Bool, true, List, ◌++◌, Option, Some, None, Result, Ok, Err}
+use Rattle.std.specs.Prelude.{codes}
 use Rattle.jp_check.specs.declared.profile.Profile.{Profile}
 use Rattle.jp_document.specs.Faults.{document_fault_name}
 use Rattle.jp_query.specs.Refusal.{refusal_text}
+use Rattle.jp_query.specs.declared.refusal.Refusal.{Refusal}
 use Rattle.jp_command.specs.Canon.{RunsCanon, canon_line}
 use Rattle.jp_command.specs.Check.{RunsCheck, accepted_line}
 use Rattle.jp_command.specs.CommandLine.{asked}
+use Rattle.jp_command.specs.Explained.{IsExplanation}
 use Rattle.jp_command.specs.QueryLine.{IsQueryLine}
 use Rattle.jp_command.specs.Run.{IsOutput, RunsEval}
 use Rattle.jp_command.specs.Output.{AppendsPrefix, AppendsSome}
@@ -39,6 +42,18 @@ fault_text Write = codes "write fault"
 abbrev pub fault_line : Fault → List ℕ
 fault_line f = fault_text f ++ codes "\n"
 
+-- the line of a query that is refused with r, and behind it an explanation of that
+pub record IsExplainedLine (profile : Profile) (query : List ℕ) (r : Refusal) (text : List ℕ) : Type 0
+  where
+    pub explanation : List ℕ
+    pub explains : IsExplanation profile query r explanation
+    pub is : text ≡ fault_line (Query r) ++ explanation
+
+-- a prefix of them is told
+abbrev pub TellsExplained : Profile → List ℕ → Refusal → Option (List ℕ) → Option (List ℕ) → Type 0
+TellsExplained profile query r old new =
+    (text : List ℕ) × IsExplainedLine profile query r text × AppendsPrefix old new text
+
 -- i and j are the input before and after a run, o and p the output
 module _ (profile : Profile) {R W : Type 0} (remaining : R → Option (List ℕ))
     (has_failed : R → Bool) (read_gives : R → Option (List ℕ) → R → Type 0)
@@ -60,12 +75,14 @@ module _ (profile : Profile) {R W : Type 0} (remaining : R → Option (List ℕ)
   IsWrittenBy (Eval form) query i j =
       IsOutput profile remaining has_failed read_gives contents writes_failed form query i j
 
-  -- the task that the words ask for, in that profile, ended with this answer
+  -- the task that the words ask for, in that profile, ended with this answer; and whether they ask
+  -- for an explanation of a refused query
   pub record RunsWords {X : Type 0} (write_takes : W → Option (List ℕ) → W → Type 0)
       (words : List (List ℕ)) (i j : R) (o p : W) (answer : Result X Fault) : Type 0 where
     pub task : Task
     pub query : List ℕ
-    pub asks : asked words ≡ Some (task, query, profile)
+    pub explains : Bool
+    pub asks : asked words ≡ Some (task, query, profile, explains)
     pub runs : RunsTask task query i j o p answer
     pub calls : WritesByCalls write_takes (IsWrittenBy task query i j) o p answer
 
@@ -78,9 +95,10 @@ module _ {R W : Type 0} (remaining : R → Option (List ℕ)) (has_failed : R �
   EndsAs profile =
       RunsWords profile remaining has_failed read_gives contents writes_failed write_takes
 
-  -- what is said with a status; u and v are what takes the fault's line, before and after. Where
-  -- the words are not ones that the command line takes, that is clap's text, of which its contract
-  -- says nothing
+  -- what is said with a status; u and v are what takes the fault's line, before and after. Behind
+  -- that of a refused query stands an explanation only where the words ask for it, and then unless
+  -- memory ran out for it. Where the words are not ones that the command line takes, clap's text is
+  -- told, of which its contract says nothing
   pub data RunsLine {E : Type 0} (reports : E → Option (List ℕ)) (words : List (List ℕ))
       (i j : R) (o p : W) (u v : E) (status : ℕ) : Type 0 where
     done : (profile : Profile) → status ≡ 0 → EndsAs profile words i j o p (Ok tt) → v ≡ u
@@ -88,6 +106,10 @@ module _ {R W : Type 0} (remaining : R → Option (List ℕ)) (has_failed : R �
     fault : (profile : Profile) (f : Fault) → status ≡ status_of f
         → EndsAs profile words i j o p (Err f)
         → AppendsPrefix (reports u) (reports v) (fault_line f)
+        → RunsLine reports words i j o p u v status
+    explained : (profile : Profile) (r : Refusal) → status ≡ status_of (Query r)
+        → (run : EndsAs profile words i j o p (Err (Query r))) → run.explains ≡ true
+        → TellsExplained profile run.query r (reports u) (reports v)
         → RunsLine reports words i j o p u v status
     usage : status ≡ 2 → asked words ≡ None → j ≡ i → p ≡ o
         → AppendsSome (reports u) (reports v) → RunsLine reports words i j o p u v status

@@ -9,7 +9,8 @@
 //! `run_eval` runs one query, read in a profile of jp_check, over one input; `specs/Run.antt` has
 //! what it says with each answer. `run_check` tells whether a query is accepted
 //! (`specs/Check.antt`), and `run_canon` writes its canonical text (`specs/Canon.antt`). `run_line`
-//! is the whole program over its words; `specs/Line.antt` has what it says with each status.
+//! is the whole program over its words; `specs/Line.antt` has what it says with each status, and
+//! `specs/Explained.antt` what stands behind the line of a refused query where that is asked for.
 #![tactic(auto)]
 
 mod buffer;
@@ -17,9 +18,11 @@ mod canon;
 mod check;
 mod device;
 mod eval;
+mod explained;
 mod fault;
 mod found;
 mod front;
+mod help;
 mod input;
 pub mod laws;
 mod limits;
@@ -35,8 +38,10 @@ pub use canon::run_canon;
 pub use check::run_check;
 pub use device::{Device, Failed, Output, Source, Writer};
 pub use eval::{read_within_limit, run_eval};
+pub use explained::report_refusal;
 pub use fault::Fault;
 pub use found::{lines_at, write_found};
+pub use help::CommandHelp;
 pub use limits::{DOCUMENT_LIMIT, QUERY_LIMIT};
 pub use line::{refuse_words, report, run_line, status};
 pub use lines::{Form, Spare, selected_lines, write_selected};

@@ -4,6 +4,7 @@ ghost use Rattle.std.specs.Prelude.{◌≡◌, ◌≢◌, IfOk, map, string_byte
 ghost use Rattle.std.specs.Cow.{cow_str_bytes};
 ghost use Rattle.clap.specs.Words.{kind_of};
 ghost use Rattle.jp_command.specs.Line.{IsWrittenBy, RunsLine, RunsTask, fault_line, status_of};
+ghost use Rattle.jp_command.specs.Private.Asked.{TellsFault};
 ghost use Rattle.jp_command.specs.Writes.{WritesByCalls};
 ghost use Rattle.jp_command.specs.Output.{AppendsPrefix, AppendsSome};
 
@@ -11,9 +12,10 @@ use crate::canon::run_canon;
 use crate::check::run_check;
 use crate::device::{Output, Source, Writer};
 use crate::eval::run_eval;
+use crate::explained::report_refusal;
 use crate::fault::Fault;
 use crate::output::write_all;
-use crate::words::{Task, read_words};
+use crate::words::{Asked, Task, read_words};
 use clap::Error;
 use clap::error::ErrorKind;
 use jp_check::Profile;
@@ -24,8 +26,9 @@ use std::borrow::CowStr;
 /// where it is done, 1 where the query is refused, 2 where the words are not ones that the command
 /// line takes, 3 where the document is refused, 4 where the memory did not suffice, 5 where the
 /// input or the output failed. Every status but 0 has its line in `faults`, if it can be written
-/// there; with status 2 that is clap's own text. The output is flushed once, after a run that is
-/// done.
+/// there; with status 2 that is clap's own text. With the flag `--explain` the line of a refused
+/// query has an explanation behind it, if there is memory for that. The output is flushed once, after
+/// a run that is done.
 pub fn run_line<R: Source, W: Output, E: Writer>(
     alloc: Global,
     words: Vec<String>,
@@ -38,12 +41,17 @@ pub fn run_line<R: Source, W: Output, E: Writer>(
         faults.old faults.new result }
 {
     match read_words(alloc, &words) {
-        Ok((task, query, profile)) => match run_and_flush(
-            alloc, task, query, profile, input, output,
+        Ok(asked) => match run_and_flush(
+            alloc,
+            asked.task,
+            asked.query,
+            asked.profile,
+            input,
+            output,
         ) {
             Ok(()) => 0,
             Err(fault) => {
-                report(alloc, &fault, faults);
+                tell(alloc, &asked, &fault, faults);
                 status(&fault)
             }
         },
@@ -92,6 +100,20 @@ fn run_task<R: Source, W: Writer>(
         Task::Check => run_check(alloc, query, profile, output),
         Task::Canon => run_canon(alloc, query, profile, output),
         Task::Eval(form) => run_eval(alloc, query, profile, form, input, output),
+    }
+}
+
+/// Writes the line of a fault, and behind it, where the words ask for that and the query is refused,
+/// why it is.
+fn tell<E: Writer>(alloc: Global, asked: &Asked<'_>, fault: &Fault, faults: &mut E)
+    ensures { TellsFault (E.contents faults.old) (E.contents faults.new) asked.now.is_explaining
+        asked.now.profile asked.now.query.now fault.now }
+{
+    match fault {
+        Fault::Query(refusal) if asked.is_explaining => {
+            report_refusal(alloc, asked.query, asked.profile, *refusal, faults);
+        }
+        _ => report(alloc, fault, faults),
     }
 }
 

@@ -1,6 +1,7 @@
 //! The rows of the table, and what runs do at the limits and where reads and writes fail.
 
 mod devices;
+mod explained;
 mod failures;
 mod forms;
 mod found;

@@ -7,8 +7,11 @@ ghost use Rattle.clap.specs.Words.{subcommand_of, subcommand_rows_of};
 ghost use Rattle.clap.specs.declared.builder.command.Command.TheViews.{out-Command};
 ghost use Rattle.clap.specs.declared.error.kind.ErrorKind.TheVariants.{OutOfMemory};
 ghost use Rattle.jp_command.specs.CommandLine.{asked, asked_by, is_set, jp, profile_asked};
-ghost use Rattle.jp_command.specs.CommandLine.{query_app, task_called, with_flag, with_task};
+ghost use Rattle.jp_command.specs.CommandLine.{query_app, task_app, task_called, with_flag};
+ghost use Rattle.jp_command.specs.CommandLine.{with_task};
+ghost use Rattle.jp_command.specs.Private.Asked.{parts_of};
 
+use crate::help::{AFTER_HELP, BOTH, CANON, CHECK, CommandHelp, EVAL, PATHS};
 use crate::lines::Form;
 use clap::error::ErrorKind;
 use clap::{Arg, ArgAction, ArgMatches, Command, Error};
@@ -17,16 +20,6 @@ use std::alloc::{AllocError, Global};
 
 /// The version of the program.
 const VERSION: &str = "0.1.0";
-
-/// What help says below the subcommands.
-const AFTER_HELP: &str = "\
-Each command takes one QUERY. eval, paths and both read a JSON document from standard input.
-With --extended before or after it, the query may also call the function distinct.
-
-Example: echo '[1,2]' | jp eval '$[-1]'
-
-Statuses: 0 done, 1 query refused, 2 usage or help, 3 document refused,
-4 want of memory, 5 read or write fault";
 
 /// What a subcommand does with its query.
 #[derive(Debug, Clone, Copy, PartialEq, Eq)]
@@ -77,7 +70,7 @@ pub fn with_flag<'w>(
 pub fn query_command<'w>(
     alloc: Global,
     name: &'w str,
-    about: &'w str,
+    help: CommandHelp,
 ) -> Result<Command<'w>, AllocError>
     ensures shape { IfOk result (λ command. app_of command ≡ query_app name.entry.now) }
     ensures local { IfOk result (λ command. (out-Command command).has_globals ≡ false) }
@@ -85,8 +78,30 @@ pub fn query_command<'w>(
     let query = Arg::new(alloc, "QUERY")
         .required(true)
         .help("A JSONPath query, such as $.a[0]");
-    let command = Command::new(alloc, name).about(about).arg(query)?;
+    let command = Command::new(alloc, name)
+        .about(help.about)
+        .override_usage(help.usage)
+        .after_help(help.example)
+        .arg(query)?;
     with_flag(alloc, command, "extended", "Lets the query call distinct")
+}
+
+/// The same with the flag `--explain`.
+fn task_command<'w>(
+    alloc: Global,
+    name: &'w str,
+    help: CommandHelp,
+) -> Result<Command<'w>, AllocError>
+    ensures shape { IfOk result (λ command. app_of command ≡ task_app name.entry.now) }
+    ensures local { IfOk result (λ command. (out-Command command).has_globals ≡ false) }
+{
+    let command = query_command(alloc, name, help)?;
+    with_flag(
+        alloc,
+        command,
+        "explain",
+        "Tells why a refused query is refused",
+    )
 }
 
 /// The command with one such subcommand more.
@@ -94,12 +109,12 @@ fn with_task<'w>(
     alloc: Global,
     command: Command<'w>,
     name: &'w str,
-    about: &'w str,
+    help: CommandHelp,
 ) -> Result<Command<'w>, AllocError>
     ensures { IfOk result (λ more.
         app_of more ≡ with_task (app_of command.entry) name.entry.now) }
 {
-    command.subcommand(query_command(alloc, name, about)?)
+    command.subcommand(task_command(alloc, name, help)?)
 }
 
 /// The whole command line.
@@ -111,16 +126,11 @@ fn jp_command<'w>(alloc: Global) -> Result<Command<'w>, AllocError>
         .version(VERSION)
         .about("Runs JSONPath queries (RFC 9535) over JSON documents")
         .after_help(AFTER_HELP);
-    let command = with_task(alloc, command, "check", "Tells whether a query is accepted")?;
-    let command = with_task(alloc, command, "canon", "Writes a query's canonical text")?;
-    let command = with_task(alloc, command, "eval", "Writes each selected node's value")?;
-    let command = with_task(alloc, command, "paths", "Writes each selected node's path")?;
-    let command = with_task(
-        alloc,
-        command,
-        "both",
-        "Writes each one's path, a tab and its value",
-    )?;
+    let command = with_task(alloc, command, "check", CHECK)?;
+    let command = with_task(alloc, command, "canon", CANON)?;
+    let command = with_task(alloc, command, "eval", EVAL)?;
+    let command = with_task(alloc, command, "paths", PATHS)?;
+    let command = with_task(alloc, command, "both", BOTH)?;
     Ok(command.subcommand_required(true))
 }
 
@@ -154,19 +164,33 @@ pub fn profile_asked(found: &ArgMatches) -> Profile
     }
 }
 
+/// What a command line asks for.
+#[derive(Debug, Clone, Copy)]
+pub(crate) struct Asked<'w> {
+    pub(crate) task: Task,
+    pub(crate) query: &'w str,
+    pub(crate) profile: Profile,
+    /// Whether the flag `--explain` is given.
+    pub(crate) is_explaining: bool,
+}
+
 /// What the subcommand `name` with the matches `found` asks for.
-fn asked_by<'w>(name: &str, found: &ArgMatches<'w>) -> Option<(Task, &'w str, Profile)>
-    ensures { option_map (λ found. (found.0, found.1.now, found.2)) result
-        ≡ asked_by (name.now, rows_of (found_of found.now)) }
+fn asked_by<'w>(name: &str, found: &ArgMatches<'w>) -> Option<Asked<'w>>
+    ensures { option_map parts_of result ≡ asked_by (name.now, rows_of (found_of found.now)) }
 {
     let task = task_named(name)?;
     let query = found.get_str("QUERY")?;
-    Some((task, query, profile_asked(found)))
+    Some(Asked {
+        task,
+        query,
+        profile: profile_asked(found),
+        is_explaining: is_set(found, "explain"),
+    })
 }
 
 /// What the subcommand in `matches` asks for.
-fn asked_in<'w>(matches: &ArgMatches<'w>) -> Option<(Task, &'w str, Profile)>
-    ensures { option_map (λ found. (found.0, found.1.now, found.2)) result
+fn asked_in<'w>(matches: &ArgMatches<'w>) -> Option<Asked<'w>>
+    ensures { option_map parts_of result
         ≡ option_and_then asked_by (subcommand_rows_of matches.now) }
 {
     let (name, found) = matches.subcommand()?;
@@ -174,12 +198,9 @@ fn asked_in<'w>(matches: &ArgMatches<'w>) -> Option<(Task, &'w str, Profile)>
 }
 
 /// What `words`, of which the first is the program's name, ask for, or clap's error.
-pub(crate) fn read_words<'w>(
-    alloc: Global,
-    words: &'w [String],
-) -> Result<(Task, &'w str, Profile), Error>
+pub(crate) fn read_words<'w>(alloc: Global, words: &'w [String]) -> Result<Asked<'w>, Error>
     ensures asked { IfOk result (λ found.
-        asked (map string_bytes words.entry.now) ≡ Some (found.0, found.1.now, found.2)) }
+        asked (map string_bytes words.entry.now) ≡ Some (parts_of found)) }
     ensures refused { IfErr result (λ error. (kind_of error ≡ OutOfMemory)
         ⊎ (asked (map string_bytes words.entry.now) ≡ None)) }
 {

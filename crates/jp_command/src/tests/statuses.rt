@@ -118,7 +118,7 @@ fn ends_as_its_words_ask(rt: HostRuntime) -> Result<(), Fail> {
 
 #[test]
 fn refuses_words_that_it_does_not_take(rt: HostRuntime) -> Result<(), Fail> {
-    let lines: [&[&str]; 17] = [
+    let lines: [&[&str]; 19] = [
         &[],
         &["jp"],
         &["jp", "both"],
@@ -131,6 +131,8 @@ fn refuses_words_that_it_does_not_take(rt: HostRuntime) -> Result<(), Fail> {
         &["jp", "both", "--extended"],
         &["jp", "both", "--extended", "$", "--extended"],
         &["jp", "both", "--extended", "--extended", "$"],
+        &["jp", "both", "--explain"],
+        &["jp", "both", "--explain", "$", "--explain"],
         &["jp", "--extended", "both", "$"],
         &["jp", "both", "--", "$", "--extended"],
         &["jp", "both", "--extended=true", "$"],
@@ -158,6 +160,7 @@ fn tells_of_each_subcommand_and_status_in_its_help(rt: HostRuntime) -> Result<()
         "\n  both ",
         "QUERY",
         "--extended",
+        "--explain",
         "jp eval '$[-1]'",
         "0 done",
         "1 query refused",
@@ -167,6 +170,52 @@ fn tells_of_each_subcommand_and_status_in_its_help(rt: HostRuntime) -> Result<()
         "5 read or write fault",
     ] {
         assert!(rt; help.contains(part), "{part}");
+    }
+    Ok(())
+}
+
+/// Words that clap tells of, and a part of what it tells: an example, or where a file's name goes.
+const TOLD: &[(&[&str], &str)] = &[
+    (
+        &["jp", "check", "--help"],
+        "\nExample: jp check --explain '$[?@.a=1]'\n",
+    ),
+    (
+        &["jp", "canon", "--help"],
+        "\nExample: jp canon '$.a[\"b\"]'\n",
+    ),
+    (
+        &["jp", "eval", "--help"],
+        "\nExample: echo '[1,2]' | jp eval '$[-1]'\n",
+    ),
+    (
+        &["jp", "paths", "--help"],
+        "\nExample: echo '[1,2]' | jp paths '$[?@>1]'\n",
+    ),
+    (
+        &["jp", "both", "--help"],
+        "\nExample: echo '[1,2]' | jp both '$.*'\n",
+    ),
+    (
+        &["jp", "eval", "$", "d.json"],
+        "\nUsage: jp eval [OPTIONS] <QUERY> < FILE\n",
+    ),
+    (
+        &["jp", "paths", "$", "d.json"],
+        "\nUsage: jp paths [OPTIONS] <QUERY> < FILE\n",
+    ),
+    (
+        &["jp", "both", "$", "d.json"],
+        "\nUsage: jp both [OPTIONS] <QUERY> < FILE\n",
+    ),
+];
+
+#[test]
+fn shows_an_example_of_each_subcommand_and_where_a_file_goes(rt: HostRuntime) -> Result<(), Fail> {
+    for (line, part) in TOLD {
+        let (status, _, faults) = ended(rt.alloc(), line, b"[1]".as_slice())?;
+        let text = str::from_utf8(faults.as_slice())?;
+        assert!(rt; status == 2 && text.contains(part), "{part}");
     }
     Ok(())
 }

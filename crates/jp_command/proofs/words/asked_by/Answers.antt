@@ -1,20 +1,24 @@
-use Rattle.std.proofs.Common.{◌∙◌, ap, Some, None, option_map}
+use Rattle.std.proofs.Common.{◌∙◌, ap, Some, None, codes, option_map}
 use Rattle.clap.specs.Words.{found_of, rows_of}
-use Rattle.jp_command.specs.CommandLine.{profile_asked, task_called}
+use Rattle.jp_command.specs.CommandLine.{is_set, profile_asked, task_called}
+use Rattle.jp_command.specs.Private.Asked.{parts_of}
 use Rattle.jp_command.proofs.Matches.{with_query}
 use Rattle.jp_command.proofs.words.asked_by.Goals as goal
 
 pub returns-in_err-query : goal.returns-in_err-query
 returns-in_err-query c =
     let found = found_of c.args.found.now in
-    ap (option_map (λ found. (found.0, found.1.now, found.2))) c.from_residual-in_err-query.ensures
-    ∙ with_query (λ task query. (task, query, profile_asked (rows_of found))) found
-    c.in_ok-task.task (task_called c.args.name.now) None c.in_ok-task.ensures c.in_err-query.ensures
+    let rows = rows_of found in
+    ap (option_map parts_of) c.from_residual-in_err-query.ensures
+    ∙ with_query (λ task query. (task, query, profile_asked rows, is_set (codes "explain") rows))
+    found c.in_ok-task.task (task_called c.args.name.now) None c.in_ok-task.ensures
+    c.in_err-query.ensures
 
 pub returns : goal.returns
 returns c =
     let found = found_of c.args.found.now in
-    rw c.profile_asked.ensures
-    (with_query (λ task query. (task, query, profile_asked (rows_of found))) found
-    c.in_ok-task.task (task_called c.args.name.now) (Some c.in_ok-query.query.now)
+    let rows = rows_of found in
+    rw (c.profile_asked.ensures, c.is_set.ensures)
+    (with_query (λ task query. (task, query, profile_asked rows, is_set (codes "explain") rows))
+    found c.in_ok-task.task (task_called c.args.name.now) (Some c.in_ok-query.query.now)
     c.in_ok-task.ensures c.in_ok-query.ensures)

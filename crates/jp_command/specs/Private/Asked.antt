@@ -1,0 +1,22 @@
+-- What a command line asks for, as the code holds it, and what is told of the fault of its run. The
+-- private functions that read the words, and the one that tells, cite it.
+use Rattle.std.specs.Prelude.{◌≡◌, ℕ, Bool, true, List, Option}
+use Rattle.clap.specs.Words.{Text}
+use Rattle.jp_check.specs.declared.profile.Profile.{Profile}
+use Rattle.jp_query.specs.declared.refusal.Refusal.{Refusal}
+use Rattle.jp_command.specs.Line.{TellsExplained, fault_line}
+use Rattle.jp_command.specs.Output.{AppendsPrefix}
+use Rattle.jp_command.specs.declared.fault.Fault.{Fault}
+use Rattle.jp_command.specs.declared.fault.Fault.TheVariants.{Query}
+use Rattle.jp_command.specs.declared.words.Asked.{Asked}
+use Rattle.jp_command.specs.declared.words.Task.{Task}
+
+abbrev pub parts_of : Asked → Task × Text × Profile × Bool
+parts_of asked = (asked.task, asked.query.now, asked.profile, asked.is_explaining)
+
+-- the line of a fault is told, and behind that of a refused query an explanation where it is asked for
+pub data TellsFault (old new : Option (List ℕ)) (explains : Bool) (profile : Profile)
+    (query : List ℕ) (f : Fault) : Type 0 where
+  line_alone : AppendsPrefix old new (fault_line f) → TellsFault old new explains profile query f
+  with_explanation : (r : Refusal) → f ≡ Query r → explains ≡ true
+      → TellsExplained profile query r old new → TellsFault old new explains profile query f
