@@ -36,7 +36,7 @@ pub const FILTERS: &[Explained] = &[
         "$[?@.a <> 1]",
         "Syntax at 8",
         8,
-        "That two values differ is written `!=`.",
+        "`<>` is written `!=`.",
         "$[?@.a != 1]",
     ),
     (
@@ -50,7 +50,7 @@ pub const FILTERS: &[Explained] = &[
         "$[?@.a =~ \"x\"]",
         "Syntax at 8",
         8,
-        "Patterns are matched by match(@.name, \"..\"), the whole text, and search(@.name, \"..\"), a part of it.",
+        "A pattern is tested by match(@.name, \"..\") on the whole text, and by search(@.name, \"..\") on any part of it.",
         "$[?search(@.a, \"x\")]",
     ),
     (
@@ -99,7 +99,7 @@ pub const FILTERS: &[Explained] = &[
         "$[?@.a == b]",
         "Syntax at 11",
         11,
-        "A text in a comparison needs quotes.",
+        "A text in a comparison needs quotes, and a member is written `@.name`.",
         "$[?@.a == \"b\"]",
     ),
     (
@@ -114,7 +114,7 @@ pub const FILTERS: &[Explained] = &[
         "Syntax at 19",
         19,
         "Whether there is such a member is tested by `@.name` or `!@.name` alone.",
-        "",
+        "$[?!@.a]",
     ),
     (
         "$[?true]",

@@ -176,7 +176,7 @@ pub const PATHS: &[Explained] = &[
         "$.a,b",
         "Syntax at 3",
         3,
-        "A query is one path: several names or indexes stand in one pair of brackets.",
+        "A query is one path: several names or indexes stand in one pair of brackets, as in `[\"a\", \"b\"]`.",
         "",
     ),
     (
@@ -226,7 +226,7 @@ pub const PATHS: &[Explained] = &[
         "$[1.5]",
         "Syntax at 3",
         3,
-        "An index is a whole number, and a slice is written `[0:2]`, where the item at its end is left out.",
+        "An index is a whole number, and a slice is written `[0:2]`, which selects the items 0 and 1.",
         "",
     ),
 ];
