@@ -1,5 +1,6 @@
 pub mod Splitting
 pub mod ToldLemmas
+pub mod Told
 pub mod Outcomes
 pub mod Kept
 pub mod Going

@@ -4,9 +4,10 @@ use Rattle.std.specs.Prelude.{◌≡◌, ◌⊎◌, ℕ, Bool, true, false, List
 use Rattle.std.specs.Prelude.{Result, Ok, Err, codes}
 use Rattle.std.specs.Io.KnownBytes.{Keeps}
 use Rattle.jp_check.specs.declared.profile.Profile.{Profile}
-use Rattle.jp_command.specs.Line.{fault_line, fault_text, status_of}
+use Rattle.jp_command.specs.Line.{TellsExplained, fault_line, fault_text, status_of}
 use Rattle.jp_command.specs.Output.{AppendsPrefix, AppendsSome}
-use Rattle.jp_command.specs.declared.fault.Fault.TheVariants.{NoMemory, Write}
+use Rattle.jp_command.specs.declared.fault.Fault.TheVariants.{NoMemory, Query, Write}
+use Rattle.jp_query.specs.declared.refusal.Refusal.{Refusal}
 use Rattle.jp_lines.specs.CommandLine.{asked}
 use Rattle.jp_lines.specs.Outcome.{refused_text}
 use Rattle.jp_lines.specs.Run.{FailsAtRead, RunsLines, StopsAtLine}
@@ -33,6 +34,11 @@ module _ {E : Type 0} (reports : E → Option (List ℕ)) (reports_failed : E �
   -- a prefix of the stop's line is told, and nothing where a write had failed before
   pub record TellsStop (stop : Stop) (u v : E) : Type 0 where
     pub prefix : AppendsPrefix (reports u) (reports v) (stop_line stop)
+    pub silent : reports_failed u ≡ true → v ≡ u
+
+  -- the same of the line of a refused query with an explanation behind it
+  pub record TellsRefusal (profile : Profile) (query : List ℕ) (r : Refusal) (u v : E) : Type 0 where
+    pub prefix : TellsExplained profile query r (reports u) (reports v)
     pub silent : reports_failed u ≡ true → v ≡ u
 
 -- i and j are the input before and after, o and p the output, u and v what takes refusals
@@ -68,8 +74,9 @@ module _ {R W E : Type 0} (remaining : R → Option (List ℕ)) (has_failed : R 
     pub asks : asked words ≡ Some (options, query, profile)
     pub runs : RunsAndFlushes options profile query i j o p u v answer
 
-  -- What is said with a status. Where the words are not ones that the command line takes, clap's
-  -- text is told, of which its contract says nothing.
+  -- What is said with a status. Behind the line of a refused query stands an explanation, unless
+  -- memory ran out for it. Where the words are not ones that the command line takes, clap's text is
+  -- told, of which its contract says nothing.
   pub data RunsProgram (words : List (List ℕ)) (i j : R) (o p : W) (u v : E) (status : ℕ) : Type 0 where
     none_refused : status ≡ 0 → RunEnds words i j o p u v (Ok false)
         → RunsProgram words i j o p u v status
@@ -78,6 +85,10 @@ module _ {R W E : Type 0} (remaining : R → Option (List ℕ)) (has_failed : R 
     stopped : (stop : Stop) (between : E) → status ≡ status_of_stop stop
         → RunEnds words i j o p u between (Err stop)
         → TellsStop reports reports_failed stop between v
+        → RunsProgram words i j o p u v status
+    explained : (r : Refusal) (between : E) → status ≡ status_of_stop (Run (Query r))
+        → (run : RunEnds words i j o p u between (Err (Run (Query r))))
+        → TellsRefusal reports reports_failed run.profile run.query r between v
         → RunsProgram words i j o p u v status
     usage : status ≡ 2 → asked words ≡ None → j ≡ i → p ≡ o
         → AppendsSome (reports u) (reports v) → RunsProgram words i j o p u v status

@@ -3,6 +3,7 @@
 ghost use Rattle.std.specs.Prelude.{◌≡◌, ◌⊎◌, Err, map, string_bytes, true};
 ghost use Rattle.std.specs.Io.KnownBytes.{Keeps};
 ghost use Rattle.jp_command.specs.declared.fault.Fault.TheVariants.{Write};
+ghost use Rattle.jp_lines.specs.Private.Telling.{TellsRun};
 ghost use Rattle.jp_lines.specs.Program.{RunsAndFlushes, RunsProgram, TellsStop, status_of_stop};
 ghost use Rattle.jp_lines.specs.declared.stop.Stop.TheVariants.{Run};
 
@@ -13,7 +14,9 @@ use crate::telling::tell;
 use crate::treating::flush;
 use crate::words::read_words;
 use jp_check::Profile;
-use jp_command::{Fault, Output, Source, Writer, read_within_limit, refuse_words, report, status};
+use jp_command::{
+    Fault, Output, Source, Writer, read_within_limit, refuse_words, report, report_refusal, status,
+};
 use std::alloc::Global;
 
 /// The status of a run of which some line is refused.
@@ -24,7 +27,8 @@ const LINE_REFUSED: u8 = 3;
 /// line takes, 3 where some line is refused, 4 where the memory did not suffice, 5 where the input
 /// or the output failed. Every status but 0 has its line in `faults`, if it can be written there,
 /// and status 3 after `--keep-going` one for each line that is refused; with status 2 that is clap's
-/// own text. The output is flushed at the end of a run, before anything is told of that, unless a
+/// own text. Behind the line of a refused query stands an explanation, if there is memory for it. The
+/// output is flushed at the end of a run, before anything is told of that, unless a
 /// write has failed; where the flush fails, that is told alone.
 pub fn run_program<R: Source, W: Output, E: Writer>(
     alloc: Global,
@@ -44,7 +48,7 @@ pub fn run_program<R: Source, W: Output, E: Writer>(
             Ok(false) => 0,
             Ok(true) => LINE_REFUSED,
             Err(stop) => {
-                tell_stop(alloc, &stop, faults);
+                tell_stop(alloc, &stop, query, profile, faults);
                 status_of_stop(&stop)
             }
         },
@@ -97,9 +101,22 @@ fn status_of_stop(stop: &Stop) -> u8
     }
 }
 
+/// Writes the line of a stop, and behind that of a refused query why it is refused, unless a write to
+/// `faults` has failed before. What cannot be written, or for which there is no memory, is left out.
+fn tell_stop<E: Writer>(alloc: Global, stop: &Stop, query: &str, profile: Profile, faults: &mut E)
+    ensures { TellsRun E.contents E.has_failed profile query.now stop.now faults.old faults.new }
+{
+    match stop {
+        Stop::Run(Fault::Query(refusal)) if !faults.failed() => {
+            report_refusal(alloc, query, profile, *refusal, faults);
+        }
+        _ => tell_line(alloc, stop, faults),
+    }
+}
+
 /// Writes the line of a stop, unless a write to `faults` has failed before. One that cannot be
 /// written, or for which there is no memory, is left out.
-fn tell_stop<E: Writer>(alloc: Global, stop: &Stop, faults: &mut E)
+fn tell_line<E: Writer>(alloc: Global, stop: &Stop, faults: &mut E)
     ensures { TellsStop E.contents E.has_failed stop.now faults.old faults.new }
 {
     if faults.failed() {

@@ -14,7 +14,7 @@ use crate::options::{Options, Wanted};
 use clap::error::ErrorKind;
 use clap::{Arg, ArgAction, ArgMatches, Command, Error, value_parser};
 use jp_check::Profile;
-use jp_command::{Form, is_set, profile_asked, query_command, with_flag};
+use jp_command::{CommandHelp, Form, is_set, profile_asked, query_command, with_flag};
 use std::alloc::{AllocError, Global};
 
 /// The version of the program.
@@ -30,6 +30,30 @@ Example: printf '{\"a\":1}\\n{\"a\":2}\\n' | jp-lines eval '$.a'
 
 Statuses: 0 done, 1 query refused, 2 usage or help, 3 some line refused,
 4 want of memory, 5 read or write fault";
+
+const EVAL: CommandHelp = CommandHelp {
+    about: "Writes each selected node's value",
+    usage: "jp-lines eval [OPTIONS] <QUERY> < FILE",
+    example: "Example: printf '[1]\\n[2]\\n' | jp-lines eval '$[0]'",
+};
+
+const PATHS: CommandHelp = CommandHelp {
+    about: "Writes each selected node's path",
+    usage: "jp-lines paths [OPTIONS] <QUERY> < FILE",
+    example: "Example: printf '[1]\\n[2]\\n' | jp-lines paths --number '$[?@>1]'",
+};
+
+const BOTH: CommandHelp = CommandHelp {
+    about: "Writes each one's path, a tab and its value",
+    usage: "jp-lines both [OPTIONS] <QUERY> < FILE",
+    example: "Example: printf '[1]\\n[2]\\n' | jp-lines both --number '$.*'",
+};
+
+const COUNT: CommandHelp = CommandHelp {
+    about: "Writes how many nodes each document has selected",
+    usage: "jp-lines count [OPTIONS] <QUERY> < FILE",
+    example: "Example: printf '[1]\\n[2,3]\\n' | jp-lines count '$.*'",
+};
 
 /// What a subcommand's name asks to be written of each document.
 fn wanted_named(name: &str) -> Option<Wanted>
@@ -64,12 +88,12 @@ fn with_limit<'w>(alloc: Global, command: Command<'w>) -> Result<Command<'w>, Al
 fn lines_command<'w>(
     alloc: Global,
     name: &'w str,
-    about: &'w str,
+    help: CommandHelp,
 ) -> Result<Command<'w>, AllocError>
     ensures shape { IfOk result (λ command. app_of command ≡ lines_app name.entry.now) }
     ensures local { IfOk result (λ command. (out-Command command).has_globals ≡ false) }
 {
-    let command = query_command(alloc, name, about)?;
+    let command = query_command(alloc, name, help)?;
     let command = with_flag(
         alloc,
         command,
@@ -96,12 +120,12 @@ fn with_lines<'w>(
     alloc: Global,
     command: Command<'w>,
     name: &'w str,
-    about: &'w str,
+    help: CommandHelp,
 ) -> Result<Command<'w>, AllocError>
     ensures { IfOk result (λ more.
         app_of more ≡ with_lines (app_of command.entry) name.entry.now) }
 {
-    command.subcommand(lines_command(alloc, name, about)?)
+    command.subcommand(lines_command(alloc, name, help)?)
 }
 
 /// The whole command line.
@@ -113,20 +137,10 @@ fn jp_lines_command<'w>(alloc: Global) -> Result<Command<'w>, AllocError>
         .version(VERSION)
         .about("Runs a JSONPath query (RFC 9535) over JSON documents, one a line")
         .after_help(AFTER_HELP);
-    let command = with_lines(alloc, command, "eval", "Writes each selected node's value")?;
-    let command = with_lines(alloc, command, "paths", "Writes each selected node's path")?;
-    let command = with_lines(
-        alloc,
-        command,
-        "both",
-        "Writes each one's path, a tab and its value",
-    )?;
-    let command = with_lines(
-        alloc,
-        command,
-        "count",
-        "Writes how many nodes each document has selected",
-    )?;
+    let command = with_lines(alloc, command, "eval", EVAL)?;
+    let command = with_lines(alloc, command, "paths", PATHS)?;
+    let command = with_lines(alloc, command, "both", BOTH)?;
+    let command = with_lines(alloc, command, "count", COUNT)?;
     Ok(command.subcommand_required(true))
 }
 

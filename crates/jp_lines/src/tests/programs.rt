@@ -5,6 +5,7 @@ use crate::run_program;
 use jp_command::Device;
 use std::alloc::{AllocError, Global};
 use std::process::Abort;
+use std::test::Fail;
 
 /// A document in the first line, none in the second, a fault in the third, and in the fourth a
 /// document before a carriage return.
@@ -169,8 +170,24 @@ fn ends_with_the_status_of_its_run(rt: HostRuntime) -> Result<(), AllocError> {
         (5, "2\n", "read fault\n", 1),
     )?;
     let extended = ["jp-lines", "count", "$[?distinct(@[*])]"];
-    let unknown = "query refused: UnknownFunction at 3\n";
-    assert_ends(&rt, alloc, &extended, "[]\n", false, (1, "", unknown, 0))
+    assert_ends(&rt, alloc, &extended, "[]\n", false, (1, "", UNKNOWN, 0))?;
+    let long = long_query(alloc)?;
+    let too_long = ["jp-lines", "count", long.as_str()];
+    assert_ends(&rt, alloc, &too_long, "[]\n", false, (1, "", TOO_LONG, 0))
+}
+
+/// What is told of a query that `Extended` alone accepts.
+const UNKNOWN: &str = "query refused: UnknownFunction at 3\n  $[?distinct(@[*])]\n     ^\n\
+    `distinct` is a function of the extended profile alone: give the option --extended.\n";
+
+/// What is told of a query that is too long.
+const TOO_LONG: &str =
+    "query refused: TextTooLong at 0\nThe query is longer than the program takes.\n";
+
+/// A query of more than 2^20 bytes.
+fn long_query(alloc: Global) -> Result<String, AllocError> {
+    let segments = ".a".repeat(alloc, 524_288)?;
+    format!(in alloc; "${segments}")
 }
 
 #[test]
@@ -206,6 +223,64 @@ fn refuses_words_that_name_no_run(rt: HostRuntime) -> Result<(), AllocError> {
         );
         assert_eq!(rt; (ended, input.bytes.len(), output.taken.len()), (2, 3, 0));
         assert!(rt; !faults.taken.is_empty());
+    }
+    Ok(())
+}
+
+/// Words that clap tells of, and a part of what it tells: an example, or where a file's name goes.
+const TOLD: &[(&[&str], &str)] = &[
+    (
+        &["jp-lines", "eval", "--help"],
+        "\nExample: printf '[1]\\n[2]\\n' | jp-lines eval '$[0]'\n",
+    ),
+    (
+        &["jp-lines", "paths", "--help"],
+        "\nExample: printf '[1]\\n[2]\\n' | jp-lines paths --number '$[?@>1]'\n",
+    ),
+    (
+        &["jp-lines", "both", "--help"],
+        "\nExample: printf '[1]\\n[2]\\n' | jp-lines both --number '$.*'\n",
+    ),
+    (
+        &["jp-lines", "count", "--help"],
+        "\nExample: printf '[1]\\n[2,3]\\n' | jp-lines count '$.*'\n",
+    ),
+    (
+        &["jp-lines", "eval", "$", "d.jsonl"],
+        "\nUsage: jp-lines eval [OPTIONS] <QUERY> < FILE\n",
+    ),
+];
+
+#[test]
+fn shows_an_example_of_each_subcommand(rt: HostRuntime) -> Result<(), Fail> {
+    for (line, part) in TOLD {
+        let mut faults = Narrow::new(rt.alloc(), usize::MAX);
+        let ended = run_program(
+            rt.alloc(),
+            words(rt.alloc(), line)?,
+            &mut Device::new(b"[1]".as_slice()),
+            &mut Device::new(Narrow::new(rt.alloc(), usize::MAX)),
+            &mut Device::new(&mut faults),
+        );
+        let text = str::from_utf8(faults.taken.as_slice())?;
+        assert!(rt; ended == 2 && text.contains(part), "{part}");
+    }
+    Ok(())
+}
+
+#[test]
+fn explains_a_refused_query_until_a_write_fails(rt: HostRuntime) -> Result<(), AllocError> {
+    for room in 0..=UNKNOWN.len() {
+        let mut faults = Narrow::new(rt.alloc(), room);
+        let ended = run_program(
+            rt.alloc(),
+            words(rt.alloc(), &["jp-lines", "count", "$[?distinct(@[*])]"])?,
+            &mut Device::new(b"[]".as_slice()),
+            &mut Device::new(Narrow::new(rt.alloc(), usize::MAX)),
+            &mut Device::new(&mut faults),
+        );
+        assert_eq!(rt; ended, 1);
+        assert!(rt; UNKNOWN.as_bytes().get(..room) == Some(faults.taken.as_slice()));
     }
     Ok(())
 }

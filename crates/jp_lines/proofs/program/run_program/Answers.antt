@@ -1,10 +1,10 @@
 use Rattle.std.proofs.Common.{rules}
-use Rattle.jp_lines.specs.Program.{stopped}
+use Rattle.jp_lines.proofs.Told.{says-stop}
 use Rattle.jp_lines.proofs.program.run_program.Goals as goal
 
 pub returns-in-Ok : goal.returns-in-Ok
 returns-in-Ok g c =
-    stopped c.in-Err-run_and_flush.stop c.run_and_flush.new.faults c.status_of_stop.ensures
+    says-stop _ _ _ _ _ _ _ _ _ _ _ _ _ c.run_and_flush.new.faults _ _ c.in-Err-run_and_flush.stop
     (record {
       options = c.in-Ok.options;
       query = c.in-Ok.query.now;
@@ -12,4 +12,4 @@ returns-in-Ok g c =
       asks = search rules;
       runs = c.in-Err-run_and_flush.ensures;
     })
-    c.tell_stop.ensures
+    c.status_of_stop.ensures c.tell_stop.ensures

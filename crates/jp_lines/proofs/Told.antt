@@ -1,0 +1,46 @@
+-- What the program says of a run that stopped: its line, or that of a refused query with an
+-- explanation.
+use Rattle.std.proofs.Common.{◌≡◌, ◌⊎◌, inl, inr, ℕ, Bool, true, false, List, Option, Err, subst, sym}
+use Rattle.jp_check.specs.declared.profile.Profile.{Profile}
+use Rattle.jp_command.specs.Line.{TellsExplained, fault_line}
+use Rattle.jp_command.specs.Output.{AppendsPrefix}
+use Rattle.jp_command.specs.declared.fault.Fault.TheVariants.{Query}
+use Rattle.jp_query.specs.declared.refusal.Refusal.{Refusal}
+use Rattle.jp_lines.specs.Private.Telling.{TellsRun, line_alone, with_explanation}
+use Rattle.jp_lines.specs.Program.{RunEnds, RunsProgram, TellsRefusal, explained, status_of_stop}
+use Rattle.jp_lines.specs.Program.{TellsStop, stopped}
+use Rattle.jp_lines.specs.declared.stop.Stop.{Stop}
+use Rattle.jp_lines.specs.declared.stop.Stop.TheVariants.{Run}
+
+-- what is told of a refused query where no write had failed before
+module _ {E : Type 0} (reports : E → Option (List ℕ)) (reports_failed : E → Bool) where
+  pub tells-query : (profile : Profile) (query : List ℕ) (r : Refusal) (stop : Stop) (u v : E)
+      → stop ≡ Run (Query r) → reports_failed u ≡ false
+      → AppendsPrefix (reports u) (reports v) (fault_line (Query r))
+      ⊎ TellsExplained profile query r (reports u) (reports v)
+      → TellsRun reports reports_failed profile query stop u v
+  tells-query profile query r stop u v is works (inl prefix) =
+      line_alone (subst (λ s. TellsStop reports reports_failed s u v) (sym is)
+      (record { prefix = prefix; silent = λ failed. cc }))
+  tells-query profile query r stop u v is works (inr told) =
+      with_explanation r is (record { prefix = told; silent = λ failed. cc })
+
+module _ {R W E : Type 0} (remaining : R → Option (List ℕ)) (has_failed : R → Bool)
+    (read_gives : R → Option (List ℕ) → R → Type 0) (contents : W → Option (List ℕ))
+    (writes_failed : W → Bool) (reports : E → Option (List ℕ)) (reports_failed : E → Bool)
+    (words : List (List ℕ)) (i j : R) (o p : W) (u between v : E) (status : ℕ) where
+  abbrev Ended : Stop → Type 0
+  Ended stop = RunEnds remaining has_failed read_gives contents writes_failed reports reports_failed
+      words i j o p u between (Err stop)
+
+  abbrev Says : Type 0
+  Says = RunsProgram remaining has_failed read_gives contents writes_failed reports reports_failed
+      words i j o p u v status
+
+  pub says-stop : (stop : Stop) (run : Ended stop) → status ≡ status_of_stop stop
+      → TellsRun reports reports_failed run.profile run.query stop between v → Says
+  says-stop stop run is (line_alone told) = stopped stop between is run told
+  says-stop stop run is (with_explanation r same told) =
+      let P : Stop → Type 0 = λ s. (ended : Ended s) → status ≡ status_of_stop s
+      → TellsRefusal reports reports_failed ended.profile ended.query r between v → Says in
+      subst P (sym same) (λ ended is told. explained r between is ended told) run is told
