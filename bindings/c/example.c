@@ -17,20 +17,6 @@ struct text {
     size_t length;
 };
 
-static const char *const query_kinds[] = {
-    "",
-    "Syntax",
-    "TooDeep",
-    "NotWhole",
-    "NumberRange",
-    "IndexRange",
-    "UnknownFunction",
-    "ArgumentCount",
-    "NotSingular",
-    "IllTyped",
-};
-static const char *const document_kinds[] = {"", "NotJson", "NotWhole", "ListTooLong", "", "DocumentTooLarge"};
-
 /* All of a stream. No memory or a failing read ends the program. */
 static struct text read_all(FILE *stream) {
     size_t room = 1 << 16;
@@ -52,12 +38,15 @@ static struct text read_all(FILE *stream) {
 
 /* Says why there is no text, in the words of the program. */
 static void say(const struct jp_report *report) {
+    uint8_t name[32];
+    struct jp_report named;
+    jp_kind_name(report->status, report->kind, name, sizeof name, &named);
     switch (report->status) {
     case JP_QUERY_REFUSED:
-        fprintf(stderr, "query refused: %s at %zu\n", query_kinds[report->kind], report->place);
+        fprintf(stderr, "query refused: %.*s at %zu\n", (int)named.length, (const char *)name, report->place);
         break;
     case JP_DOCUMENT_REFUSED:
-        fprintf(stderr, "document refused: %s\n", document_kinds[report->kind]);
+        fprintf(stderr, "document refused: %.*s\n", (int)named.length, (const char *)name);
         break;
     case JP_NO_MEMORY:
         fputs("want of memory\n", stderr);

@@ -40,7 +40,7 @@ extern "C" {
 enum {
     JP_DONE = 0,
     JP_QUERY_REFUSED = 1,
-    JP_USAGE = 2, /* no form or no profile has that number, or a handle keeps no such thing */
+    JP_USAGE = 2, /* a number stands for nothing, or a handle keeps no such thing */
     JP_DOCUMENT_REFUSED = 3,
     JP_NO_MEMORY = 4,
     JP_STEPS_USED_UP = 6 /* the evaluation needs more steps than the limit */
@@ -61,6 +61,13 @@ enum {
 enum {
     JP_STANDARD = 0, /* those of RFC 9535 */
     JP_EXTENDED = 1  /* also `distinct` */
+};
+
+/* The parts of an explanation. */
+enum {
+    JP_EXPLANATION = 0, /* all of it, each line with a newline at its end */
+    JP_SENTENCE = 1,
+    JP_SUGGESTION = 2
 };
 
 /* Kinds of a query's refusal, in `report->kind` where the status is JP_QUERY_REFUSED. */
@@ -129,6 +136,19 @@ uint32_t jp_canon(const uint8_t *query, size_t query_length, uint32_t profile,
 /* JP_DONE where the query is accepted. There is no text. */
 uint32_t jp_check(const uint8_t *query, size_t query_length, uint32_t profile,
                   struct jp_report *report);
+
+/* Why a query is refused, told to whoever typed it: the line of the query that holds the place, as a
+ * terminal shows it, a caret below the character at the place, a sentence, and, where it is plain what was
+ * meant, `Try: ` and a query that is accepted; or the sentence or that query alone, with no newline after
+ * it. The status is JP_DONE, also where there is no text: of a query that is accepted or is no UTF-8, and of
+ * a suggestion that there is not. What sentences say, and what is suggested, may change. */
+uint32_t jp_explain(const uint8_t *query, size_t query_length, uint32_t profile, uint32_t part,
+                    uint8_t *out, size_t out_length, struct jp_report *report);
+
+/* The name of a kind that a report has beside its status, as "Syntax" or "NotJson", in ASCII. JP_USAGE where
+ * there is no such kind. */
+uint32_t jp_kind_name(uint32_t status, uint32_t kind,
+                      uint8_t *out, size_t out_length, struct jp_report *report);
 
 /* What is kept from one call to the next: a query or a document, or nothing, as of JP_EMPTY. A handle
  * that keeps nothing, or the other of the two, is JP_USAGE where it is asked of, and no harm.

@@ -1,8 +1,8 @@
 /* Tests what jp.h promises of buffers, bytes, limits and handles: rooms of 0, of one too little, of the
  * length and of more; a query and a document that are no UTF-8; no text at all; as many steps as are
  * needed, and one less; handles that are empty, cleared twice, filled again, used for the other kind, and a
- * million of them, which leave no memory behind; a document that is too large. Prints nothing where all is
- * so. */
+ * million of them, which leave no memory behind; a document that is too large; explanations and names of
+ * kinds. Prints nothing where all is so. */
 #define _DEFAULT_SOURCE
 #include "jp.h"
 
@@ -164,6 +164,75 @@ static void try_too_large(void) {
     jp_document_new(document, size, &handle, out, 0, &report);
     expect(is_document_refused(&report, JP_DOCUMENT_TOO_LARGE), "too large to be kept", size);
     munmap(document, size);
+}
+
+/* The parts of explanations, in rooms that just suffice and one less. */
+static void try_explanations(void) {
+    static const char whole[] = "  $[?@.a = 1]\n"
+                                "          ^\n"
+                                "Values are compared with `==` and `!=`.\n"
+                                "Try: $[?@.a == 1]\n";
+    static const struct {
+        const char *query;
+        uint32_t profile, part, status;
+        const char *text;
+    } told[] = {
+        {"$[?@.a = 1]", JP_STANDARD, JP_EXPLANATION, JP_DONE, whole},
+        {"$[?@.a = 1]", JP_STANDARD, JP_SENTENCE, JP_DONE, "Values are compared with `==` and `!=`."},
+        {"$[?@.a = 1]", JP_STANDARD, JP_SUGGESTION, JP_DONE, "$[?@.a == 1]"},
+        {"$[?distinct(@.*)]", JP_EXTENDED, JP_EXPLANATION, JP_DONE, ""},
+        {"$[\xff", JP_STANDARD, JP_EXPLANATION, JP_DONE, ""},
+        {"$[", 2, JP_EXPLANATION, JP_USAGE, ""},
+        {"$[", JP_STANDARD, 3, JP_USAGE, ""},
+    };
+    for (size_t at = 0; at < sizeof told / sizeof told[0]; at += 1) {
+        size_t length = strlen(told[at].text);
+        for (size_t less = 0; less <= (length > 0); less += 1) {
+            uint8_t out[128] = {'#'};
+            struct jp_report report = {9, 9, 9, 9, 9};
+            uint32_t status = jp_explain((const uint8_t *)told[at].query, strlen(told[at].query),
+                                         told[at].profile, told[at].part, out, length - less, &report);
+            expect(status == told[at].status && report.status == status, "the status", length - less);
+            expect(report.length == length && report.kind == 0 && report.place == 0 && report.steps == 0,
+                   "the report", length - less);
+            expect(less > 0 || memcmp(out, told[at].text, length) == 0, "the explanation", length);
+            expect((less == 0 && length > 0) || out[0] == '#', "a buffer left alone", length - less);
+        }
+    }
+}
+
+/* The name of each kind of the header, and that there are no others. */
+static void try_names(void) {
+    static const struct {
+        uint32_t status, kind;
+        const char *name;
+    } named[] = {
+        {JP_QUERY_REFUSED, JP_SYNTAX, "Syntax"},
+        {JP_QUERY_REFUSED, JP_TOO_DEEP, "TooDeep"},
+        {JP_QUERY_REFUSED, JP_NOT_WHOLE, "NotWhole"},
+        {JP_QUERY_REFUSED, JP_NUMBER_RANGE, "NumberRange"},
+        {JP_QUERY_REFUSED, JP_INDEX_RANGE, "IndexRange"},
+        {JP_QUERY_REFUSED, JP_UNKNOWN_FUNCTION, "UnknownFunction"},
+        {JP_QUERY_REFUSED, JP_ARGUMENT_COUNT, "ArgumentCount"},
+        {JP_QUERY_REFUSED, JP_NOT_SINGULAR, "NotSingular"},
+        {JP_QUERY_REFUSED, JP_ILL_TYPED, "IllTyped"},
+        {JP_DOCUMENT_REFUSED, JP_NOT_JSON, "NotJson"},
+        {JP_DOCUMENT_REFUSED, JP_NUMBER_NOT_WHOLE, "NotWhole"},
+        {JP_DOCUMENT_REFUSED, JP_LIST_TOO_LONG, "ListTooLong"},
+        {JP_DOCUMENT_REFUSED, JP_DOCUMENT_TOO_LARGE, "DocumentTooLarge"},
+        {JP_QUERY_REFUSED, 0, NULL},
+        {JP_QUERY_REFUSED, 12, NULL},
+        {JP_DOCUMENT_REFUSED, 6, NULL},
+        {JP_NO_MEMORY, 1, NULL},
+    };
+    for (size_t at = 0; at < sizeof named / sizeof named[0]; at += 1) {
+        const char *name = named[at].name == NULL ? "" : named[at].name;
+        uint8_t out[32];
+        struct jp_report report = {9, 9, 9, 9, 9};
+        uint32_t status = jp_kind_name(named[at].status, named[at].kind, out, sizeof out, &report);
+        expect(status == (uint32_t)(named[at].name == NULL ? JP_USAGE : JP_DONE), "a kind", at);
+        expect(report.length == strlen(name) && memcmp(out, name, report.length) == 0, "a name", at);
+    }
 }
 
 /* Canonical texts in the same rooms, and that a query is accepted. */
@@ -359,6 +428,8 @@ int main(void) {
     try_many_refused();
     try_too_large();
     try_queries();
+    try_explanations();
+    try_names();
     expect(jp_version() == JP_VERSION, "the version", 0);
     return failures == 0 ? 0 : 1;
 }

@@ -19,20 +19,8 @@ export const NO_MEMORY = 4;
 export const STEPS_USED_UP = 6;
 export const NO_LIMIT = 0n;
 
-/** The kinds of refusal by their numbers, of a query and of a document. */
-export const QUERY_KINDS = [
-  "",
-  "Syntax",
-  "TooDeep",
-  "NotWhole",
-  "NumberRange",
-  "IndexRange",
-  "UnknownFunction",
-  "ArgumentCount",
-  "NotSingular",
-  "IllTyped",
-];
-export const DOCUMENT_KINDS = ["", "NotJson", "NotWhole", "ListTooLong"];
+const SENTENCE = 1;
+const SUGGESTION = 2;
 
 const REPORT_LENGTH = 32;
 const FIRST_ROOM = 1 << 12;
@@ -123,6 +111,28 @@ export class Engine {
   /** Whether the query is accepted. */
   check(query, profile) {
     return this.#answer([query], (texts) => this.#exports.jp_check(...texts, profile, this.#report));
+  }
+
+  /**
+   * Why the query is refused, each part of it null where there is none: `sentence`, and `suggestion`, a query
+   * that is accepted.
+   */
+  explain(query, profile) {
+    const [sentence, suggestion] = [SENTENCE, SUGGESTION].map((part) => {
+      const { text } = this.#answer([query], (texts) =>
+        this.#exports.jp_explain(...texts, profile, part, this.#room, BigInt(this.#roomLength), this.#report),
+      );
+      return textOf(text) || null;
+    });
+    return { sentence, suggestion };
+  }
+
+  /** The name of a kind that an outcome of that status has. */
+  kindName(status, kind) {
+    const { text } = this.#answer([], () =>
+      this.#exports.jp_kind_name(status, kind, this.#room, BigInt(this.#roomLength), this.#report),
+    );
+    return textOf(text);
   }
 
   #start() {

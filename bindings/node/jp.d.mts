@@ -41,7 +41,7 @@ export class Query {
   toString(): string;
 }
 
-/** A query that is refused. Its message shows the query with a caret. */
+/** A query that is refused. Its message shows the query with a caret, and the sentence. */
 export class QueryError extends Error {
   readonly name: "QueryError";
   readonly kind:
@@ -59,6 +59,10 @@ export class QueryError extends Error {
   /** The same as an index of `query`. */
   readonly column: number;
   readonly query: string;
+  /** Why it is refused, in words; null of a query with half of a surrogate pair. */
+  readonly sentence: string | null;
+  /** A query that is accepted, where it is plain what was meant. */
+  readonly suggestion: string | null;
 }
 
 /** A document that is refused. */

@@ -10,14 +10,12 @@
 import { readFileSync } from "node:fs";
 import {
   BOTH,
-  DOCUMENT_KINDS,
   DOCUMENT_REFUSED,
   EXTENDED,
   Engine,
   NO_LIMIT,
   NO_MEMORY,
   PATHS,
-  QUERY_KINDS,
   QUERY_REFUSED,
   STANDARD,
   STEPS_USED_UP,
@@ -49,16 +47,18 @@ function start() {
 }
 
 export class QueryError extends Error {
-  constructor(kind, place, query) {
+  constructor(kind, place, query, { sentence = null, suggestion = null } = {}) {
     const column = indexAt(query, place);
     const line = query.replace(/[\n\t\r]/g, " ");
     const before = " ".repeat([...query.slice(0, column)].length);
-    super(`query refused: ${kind} at ${place}\n${line}\n${before}^`);
+    super(`query refused: ${kind} at ${place}\n${line}\n${before}^${sentence === null ? "" : `\n${sentence}`}`);
     this.name = "QueryError";
     this.kind = kind;
     this.place = place;
     this.column = column;
     this.query = query;
+    this.sentence = sentence;
+    this.suggestion = suggestion;
   }
 }
 
@@ -147,11 +147,13 @@ export function values(query, document, options) {
 }
 
 export function canonical(query, options) {
-  return told(engine.canonical(queryBytes(query), profileOf(options)), query);
+  const profile = profileOf(options);
+  return told(engine.canonical(queryBytes(query), profile), query, profile);
 }
 
 export function check(query, options) {
-  told(engine.check(queryBytes(query), profileOf(options)), query);
+  const profile = profileOf(options);
+  told(engine.check(queryBytes(query), profile), query, profile);
 }
 
 export function version() {
@@ -181,22 +183,24 @@ function linesOf(query, document, form, options) {
   const profile = profileOf(options);
   const outcome = engine.evaluate(queryBytes(query), documentBytes(document), form, profile, limitOf(options));
   // Each line ends with a newline, which no path and no value has inside.
-  return told(outcome, query).split("\n").slice(0, -1);
+  return told(outcome, query, profile).split("\n").slice(0, -1);
 }
 
 /** The text of an outcome, or the error that it stands for. */
-function told({ status, kind, place, steps, text }, query) {
+function told({ status, kind, place, steps, text: written }, query, profile) {
+  // Further calls write where this one did.
+  const text = textOf(written);
   switch (status) {
     case QUERY_REFUSED:
-      throw new QueryError(QUERY_KINDS[kind], place, query);
+      throw new QueryError(engine.kindName(status, kind), place, query, engine.explain(queryBytes(query), profile));
     case DOCUMENT_REFUSED:
-      throw new DocumentError(DOCUMENT_KINDS[kind], textOf(text) || null);
+      throw new DocumentError(engine.kindName(status, kind), text || null);
     case NO_MEMORY:
       throw new RangeError("jp ran out of memory");
     case STEPS_USED_UP:
       throw new StepsUsedUp(steps, query);
     default:
-      return textOf(text);
+      return text;
   }
 }
 

@@ -3,18 +3,8 @@ import { indexAt } from "../../bindings/node/engine.mjs";
 import { EXAMPLES } from "./examples.mjs";
 import { placeOf } from "./places.mjs";
 
-const MEANINGS = {
-  Syntax: "no query begins with the text up to and with this character.",
-  TooDeep: "here begins the 129th level inside one another, and a query has at most 128.",
-  NotWhole: "this number has a fraction or an exponent, and numbers are whole.",
-  NumberRange: "this number is outside -(2^63) to (2^64)-1.",
-  IndexRange: "this index or part of a slice is outside -(2^53)+1 to (2^53)-1.",
-  UnknownFunction: "the profile has no function of this name.",
-  ArgumentCount: "this function has another number of parameters.",
-  NotSingular: "this query stands for one value, so it has to be singular: names and indexes alone.",
-  IllTyped: "this does not fit the type that is wanted here.",
-};
-const CUT_SHORT = "the text ends before the query does.";
+// Of such a query alone the engine says nothing, since it is no text.
+const HALF_A_PAIR = "Half of a surrogate pair is no character.";
 const DOCUMENT_MEANINGS = {
   NotJson: "this is not one JSON text within 127 levels.",
   NotWhole: "this number is not whole, or does not fit in 64 bits: ",
@@ -202,7 +192,7 @@ function showQuery({ query }, { query: refused, canonical, fault }) {
 }
 
 /** The query with a caret under its place, which is a byte, and the refusal in words. */
-function refusedQuery(query, { kind, place }) {
+function refusedQuery(query, { kind, place, sentence, suggestion }) {
   const index = indexAt(query, place);
   const line = query.replace(/[\n\t\r]/g, " ");
   const isAtEnd = index >= query.length;
@@ -212,11 +202,23 @@ function refusedQuery(query, { kind, place }) {
     : new Intl.Segmenter("en", { granularity: "grapheme" }).segment(line).containing(index);
   const after = isAtEnd ? "" : line.slice(start + segment.length);
   const pointed = made("pre", "code pointed", line.slice(0, start), made("span", "at", segment), after);
-  const meaning = kind === "Syntax" && isAtEnd ? CUT_SHORT : MEANINGS[kind];
   const column = [...query.slice(0, index)].length;
   const inCharacters = column === place ? "" : ` (character ${column})`;
-  const words = made("p", "refused", made("strong", "", `${kind} at ${place}${inCharacters}: `), meaning);
-  return [pointed, words];
+  const heading = made("strong", "", `${kind} at ${place}${inCharacters}: `);
+  const words = made("p", "refused", heading, sentence ?? HALF_A_PAIR);
+  return suggestion === null ? [pointed, words] : [pointed, words, made("p", "", "Try: ", queryButton(suggestion))];
+}
+
+function queryButton(query) {
+  const button = made("button", "code", query);
+  button.type = "button";
+  button.title = "Ask this query";
+  button.addEventListener("click", () => {
+    queryBox.value = query;
+    queryBox.focus();
+    ask();
+  });
+  return button;
 }
 
 function showDocument({ document: refused }) {

@@ -1,13 +1,11 @@
 /** Asks the engine, away from the page, which so never waits for an answer. */
 import {
   BOTH,
-  DOCUMENT_KINDS,
   DOCUMENT_REFUSED,
   EXTENDED,
   Engine,
   NO_MEMORY,
   PATHS,
-  QUERY_KINDS,
   QUERY_REFUSED,
   STANDARD,
   VALUES,
@@ -52,12 +50,15 @@ function cut(text) {
   return { text: text.slice(0, LONGEST_TEXT), left: Math.max(0, text.length - LONGEST_TEXT) };
 }
 
-function refusal({ status, kind, place, text }) {
+/** Why there is no text, or null; of a query with why it is refused and what to try. */
+function refusal({ status, kind, place, text }, query, profile) {
+  // A further call writes where this one did.
+  const path = status === DOCUMENT_REFUSED ? textOf(text) : "";
   switch (status) {
     case QUERY_REFUSED:
-      return { query: { kind: QUERY_KINDS[kind], place } };
+      return { query: { kind: engine.kindName(status, kind), place, ...engine.explain(query, profile) } };
     case DOCUMENT_REFUSED:
-      return { document: { kind: DOCUMENT_KINDS[kind], path: textOf(text) } };
+      return { document: { kind: engine.kindName(status, kind), path } };
     case NO_MEMORY:
       return { fault: "The memory that this page may use did not suffice." };
     default:
@@ -73,17 +74,19 @@ function timed(call) {
 }
 
 /** The canonical text, and the nodes with the time that they took, or why there are none. */
-function answer({ query, form, profile }) {
+function answer({ query, form, profile: name }) {
   const text = bytesOf(query);
-  const canonical = engine.canonical(text, PROFILES[profile]);
-  if (refusal(canonical)) {
-    return refusal(canonical);
-  }
+  const profile = PROFILES[name];
+  const canonical = engine.canonical(text, profile);
   const accepted = textOf(canonical.text);
-  const evaluate = () => engine.evaluate(text, documentBytes, FORMS[form], PROFILES[profile]);
+  const refused = refusal(canonical, text, profile);
+  if (refused) {
+    return refused;
+  }
+  const evaluate = () => engine.evaluate(text, documentBytes, FORMS[form], profile);
   const first = timed(evaluate);
   const { answered, time } = first.time < SHORT ? timed(evaluate) : first;
-  return { canonical: accepted, time, ...(refusal(answered) ?? rowsOf(answered.text, form)) };
+  return { canonical: accepted, time, ...(refusal(answered, text, profile) ?? rowsOf(answered.text, form)) };
 }
 
 /** Answers a question; the module comes with the first, and the document where it is another one. */

@@ -120,6 +120,14 @@ async function showsRefusedQueries() {
   }
 }
 
+async function suggestsQueries() {
+  await open({ q: "$[?@.a = 1]", d: '[{"a":1}]' });
+  assert.equal(await textOf("#query-outcome .refused"), "Syntax at 8: Values are compared with `==` and `!=`.");
+  await browser.value('document.querySelector("#query-outcome button").click()');
+  await answered();
+  assert.equal(await table(), '$[0]\t{"a":1}\n');
+}
+
 async function showsRefusedDocuments() {
   for (const [document, path] of [['{"a":[0,{"b":2.5}]}', "$['a'][1]['b']"], ["[1,]", null]]) {
     await open({ q: "$.a", d: document });
@@ -229,6 +237,7 @@ async function isWholeInEachWindow() {
 const tests = [
   showsNodes,
   showsRefusedQueries,
+  suggestsQueries,
   showsRefusedDocuments,
   marksByKeyboard,
   answersWhileTyping,

@@ -95,7 +95,26 @@ test("canonical texts, and queries that are kept", () => {
 test("a query that is refused, with its caret", () => {
   const refused = thrown(jp.QueryError, () => jp.find("$.a[01]", "[1,"));
   assert.deepEqual([refused.kind, refused.place, refused.column], ["Syntax", 5, 5]);
-  assert.equal(refused.message, "query refused: Syntax at 5\n$.a[01]\n     ^");
+  const sentence = "A number does not begin with `0`, unless it is 0.";
+  assert.equal(refused.message, `query refused: Syntax at 5\n$.a[01]\n     ^\n${sentence}`);
+  assert.equal(refused.sentence, sentence);
+});
+
+test("a sentence and a suggestion", () => {
+  for (const [query, sentence, suggestion] of [
+    ["$[?@.a = 1]", "Values are compared with `==` and `!=`.", "$[?@.a == 1]"],
+    ["$[?@.é = 1]", "Values are compared with `==` and `!=`.", "$[?@.é == 1]"],
+    ["$[?@.a==1e400]", "Numbers in queries are whole: write 10, and neither 10.0 nor 1e1.", null],
+    ["$.\ud800", null, null],
+  ]) {
+    for (const call of [jp.check, jp.canonical, jp.parse, (text) => jp.find(text, "[]")]) {
+      const refused = thrown(jp.QueryError, () => call(query));
+      assert.deepEqual([refused.sentence, refused.suggestion], [sentence, suggestion]);
+    }
+    const [answer] = jp.findMany([query], "[]");
+    assert.deepEqual([answer.sentence, answer.suggestion], [sentence, suggestion]);
+  }
+  assert.equal(new jp.QueryError("Syntax", 1, "$[").message, "query refused: Syntax at 1\n$[\n ^");
 });
 
 test("places are bytes, and columns are indexes of the query", () => {

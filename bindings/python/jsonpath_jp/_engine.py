@@ -6,27 +6,17 @@ nobody changes.
 """
 import contextlib
 import ctypes
+import functools
 import os
-from typing import Iterator, List, Optional, Sequence, Union
+from typing import Iterator, List, Optional, Sequence, Tuple, Union
 
 VALUES, PATHS, BOTH = range(3)
 STANDARD, EXTENDED = range(2)
+_SENTENCE, _SUGGESTION = 1, 2
 
 _DONE, _QUERY, _USAGE, _DOCUMENT, _NO_MEMORY = range(5)
 _STEPS_USED_UP = 6
-_QUERY_KINDS = [
-    "",
-    "Syntax",
-    "TooDeep",
-    "NotWhole",
-    "NumberRange",
-    "IndexRange",
-    "UnknownFunction",
-    "ArgumentCount",
-    "NotSingular",
-    "IllTyped",
-]
-_DOCUMENT_KINDS = ["", "NotJson", "NotWhole", "ListTooLong", "", "DocumentTooLarge"]
+_NO_MEMORY_TEXT = "jp ran out of memory"
 _FIRST_ROOM = 1 << 12
 _LARGEST_KEPT_ROOM = 1 << 20
 # The steps of the first run of a query, which take less than a second; and of the first runs of many, each.
@@ -42,14 +32,25 @@ class QueryError(Error, ValueError):
     """A query that is refused.
 
     kind: the kind of refusal, as "Syntax". place: the byte of the query, in UTF-8, where it goes
-    wrong, from 0. column: the same as an index of `query`. query: its text.
+    wrong, from 0. column: the same as an index of `query`. query: its text. sentence: why it is
+    refused, in words; None of a query with half of a surrogate pair. suggestion: a query that is
+    accepted, where it is plain what was meant, else None.
     """
 
-    def __init__(self, kind: str, place: int, query: str) -> None:
-        super().__init__(kind, place, query)
+    def __init__(
+        self,
+        kind: str,
+        place: int,
+        query: str,
+        sentence: Optional[str] = None,
+        suggestion: Optional[str] = None,
+    ) -> None:
+        super().__init__(kind, place, query, sentence, suggestion)
         self.kind = kind
         self.place = place
         self.query = query
+        self.sentence = sentence
+        self.suggestion = suggestion
 
     @property
     def column(self) -> int:
@@ -58,7 +59,8 @@ class QueryError(Error, ValueError):
 
     def __str__(self) -> str:
         line = self.query.replace("\n", " ").replace("\t", " ").replace("\r", " ")
-        return f"query refused: {self.kind} at {self.place}\n{line}\n{' ' * self.column}^"
+        sentence = "" if self.sentence is None else f"\n{self.sentence}"
+        return f"query refused: {self.kind} at {self.place}\n{line}\n{' ' * self.column}^{sentence}"
 
 
 class DocumentError(Error, ValueError):
@@ -144,12 +146,15 @@ def _load() -> ctypes.CDLL:
     library.jp_eval_many.restype = ctypes.c_size_t
     library.jp_canon.argtypes = text + number + room
     library.jp_check.argtypes = text + number + [ctypes.POINTER(_Report)]
+    library.jp_explain.argtypes = text + number + number + room
+    library.jp_kind_name.argtypes = number + number + room
     library.jp_query_new.argtypes = text + number + handle + [ctypes.POINTER(_Report)]
     library.jp_document_new.argtypes = text + handle + room
     library.jp_select.argtypes = handle + handle + number + limit + room
     library.jp_clear.argtypes = handle
     library.jp_clear.restype = None
-    for name in ("version", "eval", "canon", "check", "query_new", "document_new", "select"):
+    numbers = ("version", "eval", "canon", "check", "explain", "kind_name", "query_new", "document_new", "select")
+    for name in numbers:
         getattr(library, f"jp_{name}").restype = ctypes.c_uint32
     return library
 
@@ -179,20 +184,39 @@ def _give_back(room: _Room) -> None:
         _spare_rooms.append(room)
 
 
-def _answer(call, query: str, *arguments) -> Union[str, Exception]:
-    """The text that a call writes, or the error in its place. Where the buffer has too little room for
-    the text the call is made again."""
-    room = _take_room()
-    report = room.report
-    status = call(*arguments, *room.arguments)
-    if report.length > room.size:
-        room = _Room(report.length)
-        report = room.report
-        status = call(*arguments, *room.arguments)
-    text = ctypes.string_at(room.buffer, report.length).decode()
-    refusal = _refusal(report, query, text) if status else None
-    _give_back(room)
+def _answer(call, query: str, profile: int, *arguments) -> Union[str, Exception]:
+    """The text that a call writes, or the error in its place."""
+    report, text = _told(call, *arguments)
+    refusal = _refusal(report, query, profile, text) if report.status else None
     return text if refusal is None else refusal
+
+
+def _told(call, *arguments) -> Tuple[_Report, str]:
+    """The report of a call, and the text that it writes. Where the buffer has too little room for the
+    text the call is made again."""
+    room = _take_room()
+    call(*arguments, *room.arguments)
+    if room.report.length > room.size:
+        room = _Room(room.report.length)
+        call(*arguments, *room.arguments)
+    report = _Report.from_buffer_copy(room.report)
+    text = ctypes.string_at(room.buffer, report.length).decode()
+    _give_back(room)
+    return report, text
+
+
+@functools.lru_cache(maxsize=None)
+def _kind_name(status: int, kind: int) -> str:
+    report, name = _told(_library.jp_kind_name, status, kind)
+    if report.status == _NO_MEMORY:
+        raise MemoryError(_NO_MEMORY_TEXT)
+    return name
+
+
+def _part(query: str, profile: int, part: int) -> Optional[str]:
+    """A part of why the query is refused, or None where nothing is told."""
+    text = _bytes(query)
+    return _told(_library.jp_explain, text, len(text), profile, part)[1] or None
 
 
 def _raised(answer: Union[str, Exception]) -> str:
@@ -202,13 +226,14 @@ def _raised(answer: Union[str, Exception]) -> str:
     return answer
 
 
-def _refusal(report: _Report, query: str, text: str) -> Optional[Exception]:
+def _refusal(report: _Report, query: str, profile: int, text: str) -> Optional[Exception]:
     if report.status == _QUERY:
-        return QueryError(_QUERY_KINDS[report.kind], report.place, query)
+        parts = (_part(query, profile, part) for part in (_SENTENCE, _SUGGESTION))
+        return QueryError(_kind_name(_QUERY, report.kind), report.place, query, *parts)
     if report.status == _DOCUMENT:
-        return DocumentError(_DOCUMENT_KINDS[report.kind], text or None)
+        return DocumentError(_kind_name(_DOCUMENT, report.kind), text or None)
     if report.status == _NO_MEMORY:
-        return MemoryError("jp ran out of memory")
+        return MemoryError(_NO_MEMORY_TEXT)
     if report.status == _STEPS_USED_UP:
         return StepsUsedUp(report.steps, query)
     return None
@@ -238,11 +263,11 @@ def evaluate(query: str, document: bytes, form: int, profile: int, limit: Option
     text = _bytes(query)
     runs = _runs(_FIRST_RUN, limit)
     answer = _answer(
-        _library.jp_eval, query, text, len(text), document, len(document), form, profile, next(runs)
+        _library.jp_eval, query, profile, text, len(text), document, len(document), form, profile, next(runs)
     )
     if isinstance(answer, StepsUsedUp) and answer.limit != limit:
         with _handle() as kept:
-            _raised(_answer(_library.jp_document_new, query, document, len(document), kept))
+            _raised(_answer(_library.jp_document_new, query, profile, document, len(document), kept))
             answer = _selected(query, kept, form, profile, runs)
     return _raised(answer)
 
@@ -257,7 +282,7 @@ def evaluate_many(
     late = [at for at, it in enumerate(answers) if isinstance(it, StepsUsedUp) and it.limit != limit]
     if late:
         with _handle() as kept:
-            _raised(_answer(_library.jp_document_new, "", document, len(document), kept))
+            _raised(_answer(_library.jp_document_new, "", profile, document, len(document), kept))
             for at in late:
                 answers[at] = _selected(queries[at], kept, form, profile, _runs(2 * first, limit))
     return answers
@@ -270,9 +295,9 @@ def _selected(
     run."""
     text = _bytes(query)
     with _handle() as kept:
-        _accepted(_library.jp_query_new, query, text, len(text), profile, kept)
+        _accepted(_library.jp_query_new, query, profile, text, len(text), profile, kept)
         for run in runs:
-            answer = _answer(_library.jp_select, query, kept, document, form, run)
+            answer = _answer(_library.jp_select, query, profile, kept, document, form, run)
             if not isinstance(answer, StepsUsedUp):
                 break
     return answer
@@ -308,11 +333,11 @@ def _first_answers(
         size = _library.jp_eval_many(*arguments, room.buffer, room.size)
     written = ctypes.string_at(room.buffer, size)
     _give_back(room)
-    return _answers(queries, questions, written)
+    return _answers(queries, profile, questions, written)
 
 
 def _answers(
-    queries: Sequence[str], questions, written: bytes
+    queries: Sequence[str], profile: int, questions, written: bytes
 ) -> List[Union[str, QueryError, StepsUsedUp]]:
     answers: List[Union[str, QueryError, StepsUsedUp]] = []
     start = 0
@@ -320,7 +345,7 @@ def _answers(
         end = start + question.report.length
         text = written[start:end].decode()
         start = end
-        refusal = _refusal(question.report, query, text) if question.report.status else None
+        refusal = _refusal(question.report, query, profile, text) if question.report.status else None
         if refusal is not None and not isinstance(refusal, (QueryError, StepsUsedUp)):
             raise refusal
         answers.append(text if refusal is None else refusal)
@@ -330,19 +355,19 @@ def _answers(
 def canonical(query: str, profile: int) -> str:
     """The canonical text of the query."""
     text = _bytes(query)
-    return _raised(_answer(_library.jp_canon, query, text, len(text), profile))
+    return _raised(_answer(_library.jp_canon, query, profile, text, len(text), profile))
 
 
 def check(query: str, profile: int) -> None:
     """Raises `QueryError` where the query is not accepted."""
     text = _bytes(query)
-    _accepted(_library.jp_check, query, text, len(text), profile)
+    _accepted(_library.jp_check, query, profile, text, len(text), profile)
 
 
-def _accepted(call, query: str, *arguments) -> None:
+def _accepted(call, query: str, profile: int, *arguments) -> None:
     """Raises the error of a call that writes no text."""
     report = _Report()
     call(*arguments, report)
-    refusal = _refusal(report, query, "")
+    refusal = _refusal(report, query, profile, "")
     if refusal is not None:
         raise refusal

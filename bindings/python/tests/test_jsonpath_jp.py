@@ -3,6 +3,7 @@ import ctypes
 import doctest
 import json
 import mmap
+import pickle
 import signal
 import subprocess
 import sys
@@ -118,8 +119,38 @@ class Refusals(unittest.TestCase):
             jp.find("$.a[01]", "[]")
         fault = refused.exception
         self.assertEqual((fault.kind, fault.place, fault.column), ("Syntax", 5, 5))
-        self.assertEqual(str(fault), "query refused: Syntax at 5\n$.a[01]\n     ^")
+        text = "query refused: Syntax at 5\n$.a[01]\n     ^\nA number does not begin with `0`, unless it is 0."
+        self.assertEqual(str(fault), text)
         self.assertIsInstance(fault, ValueError)
+        self.assertEqual(str(pickle.loads(pickle.dumps(fault))), text)
+
+    def test_a_sentence_and_a_suggestion(self):
+        for query, sentence, suggestion in [
+            ("$[?@.a = 1]", "Values are compared with `==` and `!=`.", "$[?@.a == 1]"),
+            ("$[?@.é = 1]", "Values are compared with `==` and `!=`.", "$[?@.é == 1]"),
+            ("$[?@.a==1e400]", "Numbers in queries are whole: write 10, and neither 10.0 nor 1e1.", None),
+            ("$.\ud800", None, None),
+        ]:
+            for call in (jp.check, jp.canonical, jp.parse, lambda it: jp.find(it, "[]")):
+                with self.assertRaises(jp.QueryError) as refused:
+                    call(query)
+                fault = refused.exception
+                self.assertEqual((fault.sentence, fault.suggestion), (sentence, suggestion))
+            (answer,) = jp.find_many([query], "[]")
+            self.assertEqual((answer.sentence, answer.suggestion), (sentence, suggestion))
+        self.assertEqual(str(jp.QueryError("Syntax", 1, "$[")), "query refused: Syntax at 1\n$[\n ^")
+
+    def test_each_profile_has_its_sentence(self):
+        query = "$[?distinct(@.*) = 1]"
+        with self.assertRaises(jp.QueryError) as refused:
+            jp.check(query)
+        self.assertIn("Values are compared", refused.exception.sentence)
+        with self.assertRaises(jp.QueryError) as refused:
+            jp.check("$[?distinct(@.*)]")
+        self.assertIn("`distinct`", refused.exception.sentence)
+        with self.assertRaises(jp.QueryError) as refused:
+            jp.check("$[?distinct(@.*)==1]", extended=True)
+        self.assertNotIn("--extended", refused.exception.sentence)
 
     def test_the_caret_is_under_a_character(self):
         with self.assertRaises(jp.QueryError) as refused:
@@ -167,7 +198,9 @@ class Refusals(unittest.TestCase):
             first = ctypes.c_char.from_buffer(mapped)
             document = ctypes.cast(ctypes.addressof(first), ctypes.c_char_p)
             for text in (b"$", b"$..a"):
-                fault = _engine._answer(_engine._library.jp_eval, "$", text, len(text), document, size, 0, 0, 0)
+                fault = _engine._answer(
+                    _engine._library.jp_eval, "$", 0, text, len(text), document, size, 0, 0, 0
+                )
                 self.assertIsInstance(fault, jp.DocumentError)
                 self.assertEqual((fault.kind, fault.path), ("DocumentTooLarge", None))
             del first

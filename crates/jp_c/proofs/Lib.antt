@@ -1,5 +1,6 @@
 mod CopiedFaults
 mod HeldValues
+mod KindNames
 mod Outcomes
 mod Selecting
 mod Questions

@@ -3,8 +3,12 @@ use Rattle.std.specs.Prelude.{◌≡◌, ◌⊎◌, ℕ, List, [], Some, None, s
 use Rattle.jp_check.specs.declared.profile.Profile.{Profile}
 use Rattle.jp_command.specs.declared.lines.Form.{Form}
 use Rattle.jp_tree.specs.Tree.{QueryTree}
+use Rattle.jsonpath.specs.declared.fault.FindFault.TheVariants.{NoMemory}
 use Rattle.jp_c.specs.Asked.{IsAnswer, IsAcceptedInBytes, IsCanonOf, IsNoAnswer, IsQueryFault}
-use Rattle.jp_c.specs.Numbers.{form_of, profile_of}
+use Rattle.jp_c.specs.Explained.{Explains}
+use Rattle.jp_c.specs.Names.{IsKindName}
+use Rattle.jp_c.specs.Numbers.{form_of, part_of, profile_of}
+use Rattle.jp_c.specs.declared.explained.Part.{Part}
 use Rattle.jp_c.specs.declared.outcome.Outcome as outcome
 use Rattle.jp_c.specs.declared.outcome.Outcome.TheVariants.{Text, Usage, Fault}
 
@@ -34,3 +38,22 @@ IsCheckOutcome profile query (Text text) =
 IsCheckOutcome profile query Usage = profile_of profile ≡ None
 IsCheckOutcome profile query (Fault fault) =
     (p : Profile) × (profile_of profile ≡ Some p) × IsQueryFault p query fault
+
+-- of `jp_explain`: that part of why the query is refused; or memory ran out
+abbrev pub IsExplainOutcome : ℕ → ℕ → List ℕ → outcome.Outcome → Type 0
+IsExplainOutcome profile part query (Text text) =
+    (p : Profile) × (t : Part) × (profile_of profile ≡ Some p) × (part_of part ≡ Some t)
+    × Explains p t query (string_bytes text)
+IsExplainOutcome profile part query Usage =
+    (profile_of profile ≡ None) ⊎ (part_of part ≡ None)
+IsExplainOutcome profile part query (Fault fault) =
+    (p : Profile) × (t : Part) × (profile_of profile ≡ Some p) × (part_of part ≡ Some t)
+    × (fault ≡ NoMemory)
+
+-- of `jp_kind_name`: the name of the kind beside the status; or there is no such kind; or memory ran
+-- out
+abbrev pub IsNameOutcome : ℕ → ℕ → outcome.Outcome → Type 0
+IsNameOutcome status kind (Text text) = IsKindName status kind (string_bytes text)
+IsNameOutcome status kind Usage = (name : List ℕ) → ¬ IsKindName status kind name
+IsNameOutcome status kind (Fault fault) =
+    ((name : List ℕ) × IsKindName status kind name) × (fault ≡ NoMemory)

@@ -1,9 +1,11 @@
 pub mod Asked
 pub mod Calls
+pub mod Explained
 pub mod Handles
 pub mod Held
 pub mod Limit
 pub mod Many
+pub mod Names
 pub mod Numbers
 pub mod Outcome
 pub mod Private

@@ -1,9 +1,11 @@
--- The numbers of forms and profiles.
+-- The numbers of forms, of profiles, and of the parts of an explanation.
 use Rattle.std.specs.Prelude.{ℕ, ◌==◌, if◌then◌else◌, Option, Some, None}
 use Rattle.jp_check.specs.declared.profile.Profile.{Profile}
 use Rattle.jp_check.specs.declared.profile.Profile.TheVariants.{Standard, Extended}
 use Rattle.jp_command.specs.declared.lines.Form.{Form}
 use Rattle.jp_command.specs.declared.lines.Form.TheVariants.{Values, Paths, Both}
+use Rattle.jp_c.specs.declared.explained.Part.{Part}
+use Rattle.jp_c.specs.declared.explained.Part.TheVariants.{Whole, Sentence, Suggestion}
 
 -- the form of a number, if there is one
 abbrev pub form_of : ℕ → Option Form
@@ -13,3 +15,9 @@ form_of n =
 -- the profile of a number, if there is one
 abbrev pub profile_of : ℕ → Option Profile
 profile_of n = if n == 0 then Some Standard else if n == 1 then Some Extended else None
+
+-- the part of an explanation of a number, if there is one
+abbrev pub part_of : ℕ → Option Part
+part_of n =
+    if n == 0 then Some Whole else if n == 1 then Some Sentence else if n == 2 then Some Suggestion
+    else None

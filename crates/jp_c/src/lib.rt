@@ -14,22 +14,26 @@
 #![tactic(auto)]
 
 mod asked;
+mod explained;
 mod exports;
 mod handle;
 mod held;
 mod kept;
 mod limit;
 mod many;
+mod names;
 mod numbers;
 mod outcome;
 mod select;
 #[cfg(test)]
 mod tests;
 
+pub use explained::{Part, jp_explain};
 pub use exports::{VERSION, jp_canon, jp_check, jp_eval, jp_version};
 pub use handle::Handle;
 pub use held::Held;
 pub use kept::Kept;
 pub use many::{Question, jp_eval_many};
+pub use names::jp_kind_name;
 pub use outcome::{Outcome, Report};
 pub use select::{jp_clear, jp_document_new, jp_query_new, jp_select};

@@ -1,9 +1,13 @@
 //! What the numbers that C gives stand for.
-ghost use Rattle.std.specs.Prelude.{◌≡◌};
-ghost use Rattle.jp_c.specs.Numbers.{form_of, profile_of};
+ghost use Rattle.std.specs.Prelude.{◌≡◌, ◌≢◌, IfSome, None};
+ghost use Rattle.jp_c.specs.Numbers.{form_of, part_of, profile_of};
+ghost use Rattle.jp_query.specs.Refusal.{number_of};
+ghost use Rattle.jp_query.specs.declared.refusal.RefusalKind.{RefusalKind};
 
+use crate::explained::Part;
 use jp_check::Profile;
 use jp_command::Form;
+use jp_query::RefusalKind;
 
 /// The form of this number, if there is one.
 pub(crate) fn form(number: u32) -> Option<Form>
@@ -24,6 +28,39 @@ pub(crate) fn profile(number: u32) -> Option<Profile>
     match number {
         0 => Some(Profile::Standard),
         1 => Some(Profile::Extended),
+        _ => None,
+    }
+}
+
+/// The part of an explanation of this number, if there is one.
+pub(crate) fn part(number: u32) -> Option<Part>
+    ensures { result ≡ part_of number }
+{
+    match number {
+        0 => Some(Part::Whole),
+        1 => Some(Part::Sentence),
+        2 => Some(Part::Suggestion),
+        _ => None,
+    }
+}
+
+/// The kind of a query's refusal of this number, if there is one.
+pub(crate) fn refusal_kind(number: u32) -> Option<RefusalKind>
+    ensures some { IfSome result (λ kind. number_of kind ≡ number) }
+    ensures none { result ≡ None → (kind : RefusalKind) → number_of kind ≢ number }
+{
+    match number {
+        1 => Some(RefusalKind::Syntax),
+        2 => Some(RefusalKind::TooDeep),
+        3 => Some(RefusalKind::NotWhole),
+        4 => Some(RefusalKind::NumberRange),
+        5 => Some(RefusalKind::IndexRange),
+        6 => Some(RefusalKind::UnknownFunction),
+        7 => Some(RefusalKind::ArgumentCount),
+        8 => Some(RefusalKind::NotSingular),
+        9 => Some(RefusalKind::IllTyped),
+        10 => Some(RefusalKind::NoMemory),
+        11 => Some(RefusalKind::TextTooLong),
         _ => None,
     }
 }

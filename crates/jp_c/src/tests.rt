@@ -1,7 +1,7 @@
 //! The calls as C makes them, with values by hand.
 use crate::{
     Handle, Question, Report, jp_canon, jp_check, jp_clear, jp_document_new, jp_eval, jp_eval_many,
-    jp_query_new, jp_select, jp_version,
+    jp_explain, jp_kind_name, jp_query_new, jp_select, jp_version,
 };
 use std::alloc::Global;
 use std::test::Fail;
@@ -102,6 +102,57 @@ fn checks_in_a_profile(rt: HostRuntime) {
     assert_eq!(rt; jp_check(rt.alloc(), query, 0, &mut report), 1);
     assert_eq!(rt; (report.kind, report.place), (6, 3));
     assert_eq!(rt; jp_version(), 256);
+}
+
+#[test]
+fn explains_what_is_refused(rt: HostRuntime) {
+    let whole =
+        b"  $[?@.a = 1]\n          ^\nValues are compared with `==` and `!=`.\nTry: $[?@.a == 1]\n";
+    let rows: [(&[u8], u32, u32, u32, &[u8]); 8] = [
+        (b"$[?@.a = 1]", 0, 0, 0, whole),
+        (
+            b"$[?@.a = 1]",
+            0,
+            1,
+            0,
+            b"Values are compared with `==` and `!=`.",
+        ),
+        (b"$[?@.a = 1]", 0, 2, 0, b"$[?@.a == 1]"),
+        (b"$.a", 0, 0, 0, b""),
+        (b"$[?distinct(@.*)]", 1, 1, 0, b""),
+        (b"$[\xff", 0, 0, 0, b""),
+        (b"$[", 2, 0, 2, b""),
+        (b"$[", 0, 3, 2, b""),
+    ];
+    for (query, profile, part, expected, text) in rows {
+        let mut out = [b'#'; 96];
+        let mut report = done(9, 9);
+        let status = jp_explain(rt.alloc(), query, profile, part, &mut out, &mut report);
+        assert_eq!(rt; (status, report.length), (expected, text.len()));
+        assert_eq!(rt; &out[..text.len()], text);
+    }
+}
+
+#[test]
+fn names_kinds(rt: HostRuntime) {
+    let rows: [(u32, u32, u32, &[u8]); 9] = [
+        (1, 1, 0, b"Syntax"),
+        (1, 9, 0, b"IllTyped"),
+        (3, 1, 0, b"NotJson"),
+        (3, 5, 0, b"DocumentTooLarge"),
+        (1, 0, 2, b""),
+        (1, 12, 2, b""),
+        (3, 6, 2, b""),
+        (0, 1, 2, b""),
+        (4, 1, 2, b""),
+    ];
+    for (status, kind, expected, name) in rows {
+        let mut out = [b'#'; 16];
+        let mut report = done(9, 9);
+        let answer = jp_kind_name(rt.alloc(), status, kind, &mut out, &mut report);
+        assert_eq!(rt; (answer, report.length), (expected, name.len()));
+        assert_eq!(rt; &out[..name.len()], name);
+    }
 }
 
 /// A question that is not answered yet.
