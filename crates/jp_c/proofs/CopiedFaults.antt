@@ -1,9 +1,8 @@
 -- A fault that says the same as the one that the bytes have is theirs: for `answer_from`.
-use Rattle.std.proofs.Common.{◌≡◌, ◌≢◌, ℕ, List, refl, sym, subst, string_bytes}
+use Rattle.std.proofs.Common.{◌≡◌, ◌≢◌, ℕ, List, refl, subst, string_bytes}
 use Rattle.jp_document.specs.Document.{HasDefect, IsDocumentFault, not_whole}
 use Rattle.jp_document.specs.Faults.{document_fault_text}
 use Rattle.jp_document.specs.declared.fault.DocumentFault.{DocumentFault}
-use Rattle.jp_document.specs.declared.fault.DocumentFault.TheVariants as document
 use Rattle.jp_document.specs.declared.fault.DocumentFault.TheVariants.{NotJson, NotWhole}
 use Rattle.jp_document.specs.declared.fault.DocumentFault.TheVariants.{ListTooLong, NoMemory}
 use Rattle.jsonpath.specs.Size.{Fits}

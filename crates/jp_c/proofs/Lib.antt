@@ -1,6 +1,6 @@
 mod CopiedFaults
 mod HeldValues
-mod KindNames
+mod Explaining
 mod Outcomes
 mod Selecting
 mod Questions

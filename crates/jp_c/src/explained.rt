@@ -1,6 +1,9 @@
 //! Why a query is refused, told to whoever typed it.
-ghost use Rattle.std.specs.Prelude.{◌≡◌, IfOk, string_bytes};
-ghost use Rattle.std.specs.Str.{IsUtf8};
+ghost use Rattle.std.specs.Prelude.{◌≡◌, ◌⊎◌, IfOk, string_bytes};
+ghost use Rattle.std.specs.Str.{chars, IsUtf8};
+ghost use Rattle.jp_check.specs.Accepted.{IsNotAccepted};
+ghost use Rattle.jp_check.specs.Refused.{IsRefused};
+ghost use Rattle.jp_query.specs.declared.refusal.RefusalKind.TheVariants.{NoMemory};
 ghost use Rattle.jp_c.specs.Calls.{IsExplainOutcome};
 ghost use Rattle.jp_c.specs.Explained.{Explains, IsPart, suggested};
 ghost use Rattle.jp_c.specs.Limit.{AtOnce};
@@ -10,7 +13,7 @@ use crate::numbers::{part, profile};
 use crate::outcome::{Answered, Outcome, Report, tell};
 use jp_check::{Profile, read_query};
 use jp_explain::{Explanation, explain, explanation_text};
-use jp_query::RefusalKind;
+use jp_query::{Refusal, RefusalKind};
 use jsonpath::FindFault;
 use std::alloc::{AllocError, Global};
 
@@ -89,11 +92,26 @@ fn explained_text(
 {
     match read_query(alloc, query, profile) {
         Ok(_) => Ok(String::new(alloc)),
-        Err(refusal) if refusal.kind == RefusalKind::NoMemory => Err(AllocError),
-        Err(refusal) => {
-            let explanation = explain(alloc, query, profile, refusal)?;
-            told(alloc, &explanation, part)
-        }
+        Err(refusal) => refused_text(alloc, query, profile, part, refusal),
+    }
+}
+
+/// The same of a text that is refused so.
+fn refused_text(
+    alloc: Global,
+    query: &str,
+    profile: Profile,
+    part: Part,
+    refusal: Refusal,
+) -> Result<String, AllocError>
+    requires utf8 { IsUtf8 query.now }
+    requires refused { IsRefused profile (chars query.now) refusal }
+    requires only { (refusal.kind ≡ NoMemory) ⊎ IsNotAccepted profile (chars query.now) }
+    ensures { IfOk result (λ text. Explains profile part query.now (string_bytes text)) }
+{
+    match refusal.kind {
+        RefusalKind::NoMemory => Err(AllocError),
+        _ => told(alloc, &explain(alloc, query, profile, refusal)?, part),
     }
 }
 

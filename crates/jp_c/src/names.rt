@@ -1,12 +1,12 @@
 //! The names of kinds.
-ghost use Rattle.std.specs.Prelude.{◌≡◌, ◌≢◌, ℕ, IfSome, List, None, Some};
+ghost use Rattle.std.specs.Prelude.{◌≡◌, ℕ, IfSome, List, None};
 ghost use Rattle.jp_c.specs.Calls.{IsNameOutcome};
 ghost use Rattle.jp_c.specs.Limit.{AtOnce};
 ghost use Rattle.jp_c.specs.Names.{IsKindName};
 ghost use Rattle.jp_c.specs.Outcome.{Answers};
 
-use crate::numbers::refusal_kind;
-use crate::outcome::{Answered, Outcome, Report, tell};
+use crate::numbers::{document_fault, refusal_kind};
+use crate::outcome::{Answered, Outcome, Report, TOO_LARGE, tell};
 use jsonpath::FindFault;
 use std::alloc::Global;
 
@@ -30,7 +30,7 @@ pub extern "C" fn jp_kind_name(
 fn name_outcome(alloc: Global, status: u32, kind: u32) -> Outcome
     ensures { IsNameOutcome status kind result }
 {
-    let Some(name) = kind_name(status, kind) else {
+    let Some(name) = kind_name(alloc, status, kind) else {
         return Outcome::Usage;
     };
     match String::from_str(alloc, name) {
@@ -40,28 +40,34 @@ fn name_outcome(alloc: Global, status: u32, kind: u32) -> Outcome
 }
 
 /// The name of a kind beside a status, if there is such a kind.
-fn kind_name(status: u32, kind: u32) -> Option<&'static str>
+fn kind_name(alloc: Global, status: u32, kind: u32) -> Option<&'static str>
     ensures some { IfSome result (λ name. IsKindName status kind name.now) }
     ensures none { result ≡ None → (name : List ℕ) → ¬ IsKindName status kind name }
 {
     match status {
-        1 => Some(refusal_kind(kind)?.name()),
-        3 => document_kind_name(kind),
+        1 => query_kind_name(kind),
+        3 => document_kind_name(alloc, kind),
         _ => None,
     }
 }
 
-/// The name of a kind of what is wrong with a document, if there is such a kind.
-fn document_kind_name(kind: u32) -> Option<&'static str>
-    ensures some { IfSome result (λ name. IsKindName 3 kind name.now) }
-    ensures none { result ≡ None → (name : List ℕ) → ¬ IsKindName 3 kind name }
+/// The name of a kind of a query's refusal, if there is such a kind.
+fn query_kind_name(number: u32) -> Option<&'static str>
+    ensures some { IfSome result (λ name. IsKindName 1 number name.now) }
+    ensures none { result ≡ None → (name : List ℕ) → ¬ IsKindName 1 number name }
 {
-    match kind {
-        1 => Some("NotJson"),
-        2 => Some("NotWhole"),
-        3 => Some("ListTooLong"),
-        4 => Some("NoMemory"),
-        5 => Some("DocumentTooLarge"),
-        _ => None,
+    let kind = refusal_kind(number)?;
+    Some(kind.name())
+}
+
+/// The name of a kind of what is wrong with a document, if there is such a kind.
+fn document_kind_name(alloc: Global, number: u32) -> Option<&'static str>
+    ensures some { IfSome result (λ name. IsKindName 3 number name.now) }
+    ensures none { result ≡ None → (name : List ℕ) → ¬ IsKindName 3 number name }
+{
+    if number == TOO_LARGE {
+        return Some("DocumentTooLarge");
     }
+    let fault = document_fault(alloc, number)?;
+    Some(fault.name())
 }

@@ -1,13 +1,17 @@
 //! What the numbers that C gives stand for.
 ghost use Rattle.std.specs.Prelude.{◌≡◌, ◌≢◌, IfSome, None};
 ghost use Rattle.jp_c.specs.Numbers.{form_of, part_of, profile_of};
+ghost use Rattle.jp_document.specs.Faults.{document_fault_number};
+ghost use Rattle.jp_document.specs.declared.fault.DocumentFault.{DocumentFault};
 ghost use Rattle.jp_query.specs.Refusal.{number_of};
 ghost use Rattle.jp_query.specs.declared.refusal.RefusalKind.{RefusalKind};
 
 use crate::explained::Part;
 use jp_check::Profile;
 use jp_command::Form;
+use jp_document::DocumentFault;
 use jp_query::RefusalKind;
+use std::alloc::Global;
 
 /// The form of this number, if there is one.
 pub(crate) fn form(number: u32) -> Option<Form>
@@ -61,6 +65,21 @@ pub(crate) fn refusal_kind(number: u32) -> Option<RefusalKind>
         9 => Some(RefusalKind::IllTyped),
         10 => Some(RefusalKind::NoMemory),
         11 => Some(RefusalKind::TextTooLong),
+        _ => None,
+    }
+}
+
+/// The fault of a document of this number, if there is one: of a number that is not whole with an
+/// empty path.
+pub(crate) fn document_fault(alloc: Global, number: u32) -> Option<DocumentFault>
+    ensures some { IfSome result (λ fault. document_fault_number fault ≡ number) }
+    ensures none { result ≡ None → (fault : DocumentFault) → document_fault_number fault ≢ number }
+{
+    match number {
+        1 => Some(DocumentFault::NotJson),
+        2 => Some(DocumentFault::NotWhole(String::new(alloc))),
+        3 => Some(DocumentFault::ListTooLong),
+        4 => Some(DocumentFault::NoMemory),
         _ => None,
     }
 }

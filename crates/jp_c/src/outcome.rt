@@ -11,7 +11,7 @@ use jp_select::Steps;
 use jsonpath::FindFault;
 
 /// The kind of a document that is too large, after those of `DocumentFault`.
-const TOO_LARGE: u32 = 5;
+pub(crate) const TOO_LARGE: u32 = 5;
 
 /// What a call answers.
 #[derive(Debug, PartialEq, Drop)]
