@@ -129,7 +129,7 @@ fn explains_what_is_refused(rt: HostRuntime) {
         let mut report = done(9, 9);
         let status = jp_explain(rt.alloc(), query, profile, part, &mut out, &mut report);
         assert_eq!(rt; (status, report.length), (expected, text.len()));
-        assert_eq!(rt; &out[..text.len()], text);
+        assert_eq!(rt; out.get(..report.length).unwrap_or(&[]), text);
     }
 }
 
@@ -151,7 +151,7 @@ fn names_kinds(rt: HostRuntime) {
         let mut report = done(9, 9);
         let answer = jp_kind_name(rt.alloc(), status, kind, &mut out, &mut report);
         assert_eq!(rt; (answer, report.length), (expected, name.len()));
-        assert_eq!(rt; &out[..name.len()], name);
+        assert_eq!(rt; out.get(..report.length).unwrap_or(&[]), name);
     }
 }
 
