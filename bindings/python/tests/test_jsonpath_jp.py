@@ -265,7 +265,10 @@ class Limits(unittest.TestCase):
                 self.assertEqual(jp.find_many(["$..*"], document, limit=limit)[0].limit, limit)
 
     def test_ctrl_c(self):
+        # A run in the background of a shell ignores the signal, and so would the child.
         script = (
+            "import signal\n"
+            "signal.signal(signal.SIGINT, signal.default_int_handler)\n"
             "import jsonpath_jp as jp\n"
             "print('begun', flush=True)\n"
             "jp.find('$' + '..*' * 20 + '.x', '[' * 100 + ']' * 100)\n"
