@@ -65,19 +65,6 @@ impl<'t> Flat<'t> {
         })
     }
 
-    /// The same document, without the memory that only reading it took.
-    fn without_room(self, alloc: Global) -> Flat<'t>
-        ensures { document_in result ≡ document_in self.entry }
-    {
-        let Flat { tables, root, .. } = self;
-        let pending = Pending::new(alloc);
-        Flat {
-            tables,
-            root,
-            pending,
-        }
-    }
-
     /// The memory, for the next document.
     pub fn into_room(self) -> Room {
         Room::of(self.tables, self.pending)
@@ -89,8 +76,7 @@ impl<'t> Flat<'t> {
 pub fn flat_document(alloc: Global, bytes: &[u8]) -> Option<Flat<'_>>
     ensures { IfSome result (λ f. IsDocument bytes.now (meaning (shown f.tables) f.root)) }
 {
-    let flat = Room::new(alloc).read(bytes).ok()?;
-    Some(flat.without_room(alloc))
+    Room::new(alloc).read(bytes).ok()
 }
 
 /// Memory to read documents into, which goes from one to the next. Nothing is being read in it: what
