@@ -1,6 +1,6 @@
 -- Lines written one after another.
 use Rattle.std.proofs.Common.{◌≡◌, ℕ, Bool, List, [], ◌∷◌, ◌++◌, Option, Result, Ok, Err, IfErr}
-use Rattle.std.proofs.Common.{subst, refl, sym, ◌∙◌, ap, append_assoc}
+use Rattle.std.proofs.Common.{subst, refl, sym, ◌∙◌, ap, append_assoc, codes}
 use Rattle.std.proofs.lemmas.Grind.{flat_map-append}
 use Rattle.std.proofs.lemmas.List.{append-nil}
 use Rattle.std.proofs.KnownBytes.{Appends-nil}
@@ -8,14 +8,21 @@ use Rattle.std.specs.Io.KnownBytes.{Appends}
 use Rattle.std.specs.List.{flat_map}
 use Rattle.std.specs.Result.{IsErrAnd}
 use Rattle.jp_document.specs.Node.{Node}
+use Rattle.jp_command.specs.Lines.{line_behind, text_in_line}
 use Rattle.jp_command.specs.Output.{AppendsPrefix, StopsWriting, WritesAll}
 use Rattle.jp_command.specs.Private.AsFound.{WritesGiven, WritesPart}
 use Rattle.jp_command.specs.Writes.{GoByCalls, GoesAs, GoesInPart, GoesToAFailure, none}
 use Rattle.jp_command.specs.declared.fault.Fault.{Fault}
+use Rattle.jp_command.specs.declared.lines.Form.{Form}
 use Rattle.jp_command.specs.declared.fault.Fault.TheVariants.{NoMemory}
 use Rattle.jp_command.proofs.Calls.{failure-append, failure-longer, go-append}
 use Rattle.jp_command.proofs.Calls.{part-append, part-none}
 use Rattle.jp_command.proofs.Streams.{Appends-twice}
+
+-- nodes that have the same in their lines have the same lines
+pub line_alike : (lead : List ℕ) (form : Form) (n p : Node) → text_in_line form n ≡ text_in_line form p
+    → line_behind lead form n ≡ line_behind lead form p
+line_alike lead form n p same = ap (λ t. lead ++ t ++ codes "\n") same
 
 -- o and p are the output before and now, and line_of is the line of each node
 module _ {W : Type 0} (contents : W → Option (List ℕ)) (has_failed : W → Bool)

@@ -1,7 +1,8 @@
 -- What the contracts of private functions alone cite: what words ask for, lines written as nodes are
--- found, the front of paths, and how runs stop.
+-- found, the front of paths, what a line shows of a node, and how runs stop.
 pub mod AsFound
 pub mod Asked
 pub mod Faults
 pub mod Fronts
+pub mod Shown
 pub mod Stops

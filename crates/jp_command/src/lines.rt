@@ -1,15 +1,15 @@
 //! Writing a line for each node.
 
-ghost use Rattle.std.specs.Prelude.{◌≡◌, ◌++◌, IfErr, IfOk, OnOk, false, map, string_bytes};
+ghost use Rattle.std.specs.Prelude.{◌≡◌, ◌++◌, IfErr, IfOk, IfSome, OnOk, false, map, string_bytes};
 ghost use Rattle.std.specs.List.{flat_map};
 ghost use Rattle.jp_command.specs.Lines.{line_behind, line_of, output_behind};
 ghost use Rattle.jp_command.specs.Output.{StopsWriting, WritesAll};
 ghost use Rattle.jp_command.specs.Writes.{GoesAs};
 ghost use Rattle.jp_command.specs.Private.AsFound.{WritesAsFound};
 ghost use Rattle.jp_command.specs.Private.Fronts.{HasPathText};
-ghost use Rattle.jp_evaluate.specs.Lent.{has_failed, lent_node, rest_of, steps_of};
+ghost use Rattle.jp_command.specs.Private.Shown.{GivesShown};
+ghost use Rattle.jp_evaluate.specs.Lent.{has_failed, rest_of, steps_of};
 ghost use Rattle.jp_evaluate.specs.Stopping.{StopsSpent};
-ghost use Rattle.jp_select.specs.Giving.{GivesNextAs};
 ghost use Rattle.jp_select.specs.Steps.{Takes};
 ghost use Rattle.jp_document.specs.Location.{step_of};
 ghost use Rattle.jp_document.specs.Node.{node_at};
@@ -108,7 +108,7 @@ fn lines_of_rest<'d: 'q, 'q, V: Selectable + 'd>(
     let mut location = Vec::new(alloc);
     let mut front = Front::new(alloc);
     let mut lines = String::new(alloc);
-    while let Some(next) = nodes.next_at(&mut location) {
+    while let Some(next) = next_shown(form, nodes, &mut location) {
         let value = next?;
         lines.push_str(lead)?;
         push_line(form, &mut front, &location, value, &mut lines)?;
@@ -185,7 +185,7 @@ pub(crate) fn write_lines<'d: 'q, 'q, V: Selectable + 'd, W: Writer>(
 {
     let mut location = Vec::new(alloc);
     let mut front = Front::new(alloc);
-    while let Some(next) = next_unlimited(nodes, &mut location) {
+    while let Some(next) = next_unlimited(form, nodes, &mut location) {
         let value = next?;
         line.clear();
         line.push_str(lead)?;
@@ -197,17 +197,33 @@ pub(crate) fn write_lines<'d: 'q, 'q, V: Selectable + 'd, W: Writer>(
     Ok(())
 }
 
-/// The next node, as `next_at` gives it, of an evaluation that may make all the steps that it takes.
+/// The next node: its value, and in `location` the steps to it, where the form shows them.
+fn next_shown<'d: 'q, 'q, V: Selectable + 'd>(
+    form: Form,
+    nodes: &mut LentNodes<'d, 'q, V, Marks>,
+    location: &mut Vec<Step<'d>>,
+) -> Option<Result<V, EvaluationFault>>
+    ensures gives { GivesShown form V.meaning nodes.old location.new result nodes.new }
+    ensures takes { Takes (steps_of nodes.old) (steps_of nodes.new) }
+    ensures stopped { IfSome result (λ r. StopsSpent r (steps_of nodes.new)) }
+{
+    match form {
+        Form::Values => nodes.next_value(),
+        Form::Paths | Form::Both => nodes.next_at(location),
+    }
+}
+
+/// The same of an evaluation that may make all the steps that it takes.
 fn next_unlimited<'d: 'q, 'q, V: Selectable + 'd>(
+    form: Form,
     nodes: &mut LentNodes<'d, 'q, V, Marks>,
     location: &mut Vec<Step<'d>>,
 ) -> Option<Result<V, AllocError>>
     requires { (steps_of nodes.now).limited ≡ false }
-    ensures gives { GivesNextAs (λ v. lent_node V.meaning (location.new, v)) (rest_of V.meaning)
-        has_failed nodes.old result nodes.new }
+    ensures gives { GivesShown form V.meaning nodes.old location.new result nodes.new }
     ensures unlimited { (steps_of nodes.new).limited ≡ false }
 {
-    match nodes.next_at(location)? {
+    match next_shown(form, nodes, location)? {
         Ok(value) => Some(Ok(value)),
         Err(fault) => Some(Err(fault.without_limit())),
     }

@@ -1,10 +1,11 @@
 -- What an iterator of nodes that are lent still has to give.
-use Rattle.std.specs.Prelude.{List, Bool, Vec, map}
+use Rattle.std.specs.Prelude.{List, Bool, Option, Result, Vec, map}
 use Rattle.std.specs.declared.alloc.Global.{Global}
-use Rattle.jp_document.specs.Location.{step_of}
+use Rattle.jp_document.specs.Location.{Location, step_of}
 use Rattle.jp_document.specs.Node.{Node, node_at}
 use Rattle.jp_document.specs.Value.{Value}
 use Rattle.jp_document.specs.declared.location.Step.{Step}
+use Rattle.jp_select.specs.Giving.{GivesNextAs}
 use Rattle.jp_select.specs.declared.steps.Steps.{Steps}
 use Rattle.jp_evaluate.specs.Private.Segments.{nodes_to_come}
 use Rattle.jp_evaluate.specs.declared.lent.LentNodes.{LentNodes}
@@ -20,6 +21,11 @@ rest_of m v = nodes_to_come m (m v.evaluation.root) v.segments v.walk
 -- a node could not be given, for an error, so that no more are given
 abbrev pub has_failed : {V M : Type 0} → LentNodes V M → Bool
 has_failed v = v.failed
+
+-- what one call gives of the next node where its location is not told: its value, which stands somewhere
+abbrev pub GivesNextValue : {V M E : Type 0} → (V → Value) → LentNodes V M → Option (Result V E)
+    → LentNodes V M → Type 0
+GivesNextValue m v r w = (l : Location) × GivesNextAs (λ x. node_at l (m x)) (rest_of m) has_failed v r w
 
 -- the steps that it may still make
 abbrev pub steps_of : {V M : Type 0} → LentNodes V M → Steps

@@ -1,21 +1,22 @@
 //! The nodes of a nodelist as they are lent, to be taken one by one.
-ghost use Rattle.std.specs.Prelude.{◌≡◌, ◌+◌, ◌++◌, IfNone, IfOk, IfSome, OnOk, [], false, filter, length, true};
-ghost use Rattle.std.specs.Prelude.{if◌then◌else◌, map, option_to_list};
+ghost use Rattle.std.specs.Prelude.{◌≡◌, ◌+◌, ◌++◌, ◌∷◌, IfNone, IfOk, IfSome, OnOk, [], false, filter, length, true};
+ghost use Rattle.std.specs.Prelude.{if◌then◌else◌, MatchOption, map, option_to_list};
 ghost use Rattle.std.specs.Iterator.{at_most};
 ghost use Rattle.jp_tree.specs.Views.{query_of};
 ghost use Rattle.jp_select.specs.Giving.{GivesNextAs};
 ghost use Rattle.jp_select.specs.Steps.{Counts, Takes};
 ghost use Rattle.jp_evaluate.specs.Stopping.{GivenCounts, StopsSpent};
-ghost use Rattle.jp_evaluate.specs.Lent.{has_failed, lent_node, rest_of, steps_of};
+ghost use Rattle.jp_evaluate.specs.Lent.{GivesNextValue, has_failed, lent_node, rest_of, steps_of};
 ghost use Rattle.jp_evaluate.specs.Nodelist.{nodelist};
 ghost use Rattle.jp_evaluate.specs.Private.Segments.{AreOf, followed, is_begun};
+ghost use Rattle.jp_evaluate.specs.Private.Walk.{reached_node};
 ghost use Rattle.jp_evaluate.specs.Patterns.{is_short, texts_in, texts_kept};
 
 use crate::evaluating::{Evaluation, Work};
 use crate::evaluation_fault::EvaluationFault;
 use crate::pattern::Patterns;
 use crate::settled::has_answers_due;
-use crate::walk::Walk;
+use crate::walk::{Reached, Walk};
 use jp_check::Checked;
 use jp_document::Step;
 use jp_lent::Selectable;
@@ -157,16 +158,31 @@ impl<'d: 'q, 'q, V: Selectable + 'd, M: Matching> LentNodes<'d, 'q, V, M> {
         if self.failed {
             return None;
         }
-        match self.take(location) {
-            Ok(next) => Some(Ok(next?)),
-            Err(error) => {
-                self.failed = true;
-                Some(Err(error))
-            }
+        let taken = self.take(location);
+        self.failed = taken.is_err();
+        taken.transpose()
+    }
+
+    /// The value of the next node, as `next_at` gives it, without the steps to it, for which no memory
+    /// is taken.
+    pub fn next_value(&mut self) -> Option<Result<V, EvaluationFault>>
+        ensures gives { GivesNextValue V.meaning self.old result self.new }
+        ensures counts { IfSome result (λ r. OnOk r (Counts 1 (steps_of self.old) (steps_of self.new))) }
+        ensures takes { Takes (steps_of self.old) (steps_of self.new) }
+        ensures stopped { IfSome result (λ r. StopsSpent r (steps_of self.new)) }
+    {
+        if self.failed {
+            return None;
+        }
+        let reached = self.reach();
+        self.failed = reached.is_err();
+        match reached.transpose()? {
+            Ok(reached) => Some(Ok(reached.value)),
+            Err(error) => Some(Err(error)),
         }
     }
 
-    /// The same, before an error is kept.
+    /// The next node, before an error is kept.
     fn take(&mut self, location: &mut Vec<Step<'d>>) -> Result<Option<V>, EvaluationFault>
         ensures gives { IfOk result (λ o. rest_of V.meaning self.old
             ≡ map (λ v. lent_node V.meaning (location.new, v)) (option_to_list o)
@@ -177,17 +193,26 @@ impl<'d: 'q, 'q, V: Selectable + 'd, M: Matching> LentNodes<'d, 'q, V, M> {
         ensures takes { Takes (steps_of self.old) (steps_of self.new) }
         ensures stopped { StopsSpent result (steps_of self.new) }
     {
+        let Some(reached) = self.reach()? else {
+            return Ok(None);
+        };
+        self.walk.locate(&reached, location)?;
+        Ok(Some(reached.value))
+    }
+
+    /// Where the walk reaches the next node.
+    fn reach(&mut self) -> Result<Option<Reached<'d, V>>, EvaluationFault>
+        ensures gives { IfOk result (λ o. let left = rest_of V.meaning in MatchOption o
+            ((left self.old ≡ []) × (left self.new ≡ []))
+            (λ p. left self.old ≡ reached_node V.meaning self.new.walk p ∷ left self.new)) }
+        ensures counts { GivenCounts result (steps_of self.old) (steps_of self.new) }
+        ensures failed { has_failed self.new ≡ has_failed self.old }
+        ensures takes { Takes (steps_of self.old) (steps_of self.new) }
+        ensures stopped { StopsSpent result (steps_of self.new) }
+    {
         self.begin()?;
-        match self
-            .walk
-            .advance(&self.evaluation, &mut self.work, self.segments.followed())?
-        {
-            Some(reached) => {
-                self.walk.locate(&reached, location)?;
-                Ok(Some(reached.value))
-            }
-            None => Ok(None),
-        }
+        self.walk
+            .advance(&self.evaluation, &mut self.work, self.segments.followed())
     }
 
     /// Answers what is to be answered before the walk.

@@ -39,7 +39,7 @@ pub(crate) fn count_selected<'d: 'q, 'q, V: Selectable + 'd>(
 {
     let read = mem::replace(patterns, Patterns::new(alloc));
     let mut nodes = lent_nodes_with(alloc, root, query, &Marks, read, *steps);
-    let count = count_rest(alloc, &mut nodes);
+    let count = count_rest(&mut nodes);
     let (read, left) = nodes.into_parts();
     *patterns = read;
     *steps = left;
@@ -48,7 +48,6 @@ pub(crate) fn count_selected<'d: 'q, 'q, V: Selectable + 'd>(
 
 /// How many nodes are still to come.
 fn count_rest<'d: 'q, 'q, V: Selectable + 'd>(
-    alloc: Global,
     nodes: &mut LentNodes<'d, 'q, V, Marks>,
 ) -> Result<u64, EvaluationFault>
     requires { has_failed nodes.now ≡ false }
@@ -56,9 +55,8 @@ fn count_rest<'d: 'q, 'q, V: Selectable + 'd>(
     ensures takes { Takes (steps_of nodes.old) (steps_of nodes.new) }
     ensures stopped { StopsSpent result (steps_of nodes.new) }
 {
-    let mut location = Vec::new(alloc);
     let mut count = 0;
-    while let Some(next) = nodes.next_at(&mut location) {
+    while let Some(next) = nodes.next_value() {
         next?;
         count = number_after(count)?;
     }

@@ -20,19 +20,17 @@ fn ended(alloc: Global, text: &str, query: &str, limit: u64) -> Result<Ended, Fa
     let patterns = Patterns::new(alloc);
     let steps = Steps::at_most(limit);
     let mut nodes = lent_nodes_with(alloc, document.value(), &query, &Marks, patterns, steps);
-    let (count, fault) = counted(alloc, &mut nodes);
+    let (count, fault) = counted(&mut nodes);
     let (_, steps) = nodes.into_parts();
     Ok((count, fault, steps.left()))
 }
 
 fn counted<'d: 'q, 'q>(
-    alloc: Global,
     nodes: &mut LentNodes<'d, 'q, DocumentValue<'d>, Marks>,
 ) -> (usize, Option<EvaluationFault>) {
-    let mut location = Vec::new(alloc);
     let mut count: usize = 0;
     for _ in 0..100 {
-        match nodes.next_at(&mut location) {
+        match nodes.next_value() {
             Some(Ok(_)) => count = count.saturating_add(1),
             Some(Err(fault)) => return (count, Some(fault)),
             None => break,

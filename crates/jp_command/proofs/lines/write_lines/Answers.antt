@@ -1,7 +1,7 @@
-use Rattle.std.proofs.Common.{◌≡◌, rules}
+use Rattle.std.proofs.Common.{◌≡◌, ◌∙◌, rules, sym}
 use Rattle.jp_evaluate.specs.Lent.{lent_node}
 use Rattle.jp_command.specs.Lines.{line_behind}
-use Rattle.jp_command.proofs.LineLemmas.{given_more, given_none, given_part, goes-for_memory}
+use Rattle.jp_command.proofs.LineLemmas.{given_more, given_none, given_part, goes-for_memory, line_alike}
 use Rattle.jp_command.proofs.LineLemmas.{part-goes, part-is_prefix, stops-for_memory}
 use Rattle.jp_command.proofs.lines.write_lines.Goals as goal
 
@@ -29,9 +29,13 @@ returns-in_err-push_line-clause-stopped g c =
 pub returns-in_default-write_all-clause-stopped : goal.returns-in_default-write_all-clause-stopped
 returns-in_default-write_all-clause-stopped g c =
     let behind = line_behind c.args.lead.now c.args.form in
-    let n = lent_node g.V.Lent.meaning (c.next_unlimited.new.location, c.in_ok-value.value) in
-    let steps = rw (c.in-Some.is, c.in_ok-value.was) at c.next_unlimited.ensures.gives in
-    let line : c.as_bytes.result.now ≡ behind n = search rules in (
+    let gives = c.next_unlimited.ensures.gives in
+    let n = gives.0 c.in_ok-value.value in
+    let steps = rw (c.in-Some.is, c.in_ok-value.was) at gives.1 in
+    let shown : c.as_bytes.result.now
+        ≡ behind (lent_node g.V.Lent.meaning (c.next_unlimited.new.location, c.in_ok-value.value)) =
+        search rules in
+    let line = shown ∙ sym (line_alike c.args.lead.now c.args.form n _ (gives.2 c.in_ok-value.value)) in (
       part-is_prefix g.W.Writer.contents g.W.Writer.has_failed g.W.Writer.write_takes behind _ _ _ _
           (given_part g.W.Writer.contents g.W.Writer.has_failed g.W.Writer.write_takes behind _ _ _ n _ _ _
           c.loop-next.invariant.written steps.2 (rw line at c.in_default-write_all.ensures.prefix)
@@ -55,9 +59,13 @@ pub returns-in_default-write_all-clause-as_found :
     goal.returns-in_default-write_all-clause-as_found
 returns-in_default-write_all-clause-as_found g c =
     let behind = line_behind c.args.lead.now c.args.form in
-    let n = lent_node g.V.Lent.meaning (c.next_unlimited.new.location, c.in_ok-value.value) in
-    let steps = rw (c.in-Some.is, c.in_ok-value.was) at c.next_unlimited.ensures.gives in
-    let line : c.as_bytes.result.now ≡ behind n = search rules in (
+    let gives = c.next_unlimited.ensures.gives in
+    let n = gives.0 c.in_ok-value.value in
+    let steps = rw (c.in-Some.is, c.in_ok-value.was) at gives.1 in
+    let shown : c.as_bytes.result.now
+        ≡ behind (lent_node g.V.Lent.meaning (c.next_unlimited.new.location, c.in_ok-value.value)) =
+        search rules in
+    let line = shown ∙ sym (line_alike c.args.lead.now c.args.form n _ (gives.2 c.in_ok-value.value)) in (
       steps.1,
       given_part g.W.Writer.contents g.W.Writer.has_failed g.W.Writer.write_takes behind _ _ _ n _ _ _
           c.loop-next.invariant.written steps.2 (rw line at c.in_default-write_all.ensures.prefix)
@@ -73,9 +81,13 @@ returns-in_default-write_all-clause-calls g c =
 pub loop-next-preserved : goal.loop-next-preserved
 loop-next-preserved g c =
     let behind = line_behind c.args.lead.now c.args.form in
-    let n = lent_node g.V.Lent.meaning (c.next_unlimited.new.location, c.in_ok-value.value) in
-    let steps = rw (c.in-Some.is, c.in_ok-value.was) at c.next_unlimited.ensures.gives in
-    let line : c.as_bytes.result.now ≡ behind n = search rules in
+    let gives = c.next_unlimited.ensures.gives in
+    let n = gives.0 c.in_ok-value.value in
+    let steps = rw (c.in-Some.is, c.in_ok-value.was) at gives.1 in
+    let shown : c.as_bytes.result.now
+        ≡ behind (lent_node g.V.Lent.meaning (c.next_unlimited.new.location, c.in_ok-value.value)) =
+        search rules in
+    let line = shown ∙ sym (line_alike c.args.lead.now c.args.form n _ (gives.2 c.in_ok-value.value)) in
     record {
       front = search rules;
       working = steps.1;
